@@ -1,10 +1,10 @@
 -- The walk over years and months ends at a day of the calendar.
-use Rattle.std.proofs.Common.{◌≡◌, ℕ, zero, suc, ◌+◌, ◌-◌, ◌*◌, ◌<◌, ◌≤◌, nat_lt, true, false, cond, refl, sym, ◌∙◌, ap, subst, arith, ℤ, pos, negsuc, neg_ℤ, ◌+ℤ◌, ◌<ℤ◌, ◌≤ℤ◌, inl, inr, rules}
+use Rattle.std.proofs.Common.{◌≡◌, ℕ, zero, suc, ◌+◌, ◌-◌, ◌*◌, ◌<◌, ◌≤◌, nat_lt, true, false, cond, refl, ◌∙◌, arith, pos, rules}
 use Rattle.std.proofs.lemmas.Int.{by_lt_z}
 use borrow.Author.Tests.{ltb-true, ltb-false}
-use Rattle.jiff_core.specs.Calendar.{IsCivilDate, days_from_civil, days_in_month, days_in_year, days_of_months, day_count}
+use Rattle.jiff_core.specs.Calendar.{IsCivilDate, days_in_month, days_in_year, days_of_months, day_count}
 use Rattle.jiff_core.proofs.SignedLemmas.{signed_arith}
-use Rattle.jiff_core.proofs.CalendarLemmas.{days_from_civil-day_count, day_count-epoch, day_count-end, day_count-day, day_count-next_month, day_count-next_year, day_count-later_year, days_in_year_bounds, days_in_month_bounds, days_of_months-zero, days_of_months_more, days_of_months_all}
+use Rattle.jiff_core.proofs.CalendarLemmas.{days_from_civil-day_count, day_count-epoch, day_count-end, day_count-day, day_count-next_month, day_count-next_year, day_count-later_year, days_in_year_bounds, days_of_months-zero, days_of_months_more, days_of_months_all}
 use Rattle.civil_dates.specs.declared.days.Day.{Day}
 use Rattle.civil_dates.specs.Days.{IsDay, day_from_month, day_from_year, civil_day}
 

@@ -1,4 +1,4 @@
-use Rattle.std.proofs.Common.{◌≡◌, arith, ◌/◌, ◌%◌, append_assoc}
+use Rattle.std.proofs.Common.{arith, ◌/◌, ◌%◌, append_assoc}
 use Rattle.std.proofs.lemmas.Result.{IfOk-weaker}
 use Rattle.civil_dates.proofs.TextLemmas.{zero_padded, space_padded}
 use Rattle.civil_dates.proofs.dates.imap_date_of.Goals as goal

@@ -1,4 +1,4 @@
-use Rattle.std.proofs.Common.{◌≡◌, ℕ, pos, refl, arith, w8, w16, ◌↔◌, IsSome}
+use Rattle.std.proofs.Common.{refl, arith, w8, w16}
 use Rattle.std.proofs.lemmas.Int.{to_z_pos}
 use Rattle.civil_dates.proofs.DayLemmas.{made_day}
 use Rattle.civil_dates.proofs.days.moment_of.Goals as goal
