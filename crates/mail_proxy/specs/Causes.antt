@@ -6,8 +6,8 @@ use Rattle.undo_outside.specs.declared.fault.Fault.{Fault}
 use Rattle.undo_outside.specs.Calls.{SinkTold}
 use Rattle.mail_proxy.specs.declared.serve.ServeFault.{ServeFault}
 use Rattle.mail_proxy.specs.declared.serve.ServeFault.TheVariants.{Turns}
-use Rattle.mail_proxy.specs.Script.{script_of}
-use Rattle.mail_proxy.specs.Transcript.{transcript_of}
+use Rattle.script_link.specs.Script.{script_of}
+use Rattle.script_link.specs.Transcript.{transcript_of}
 use Rattle.mail_proxy.specs.Reading.{Took, WriteFails, WriteStarves, WritesAll}
 use Rattle.mail_proxy.specs.Play.{IsText, Played, bad_line, too_long, too_many, no_memory}
 

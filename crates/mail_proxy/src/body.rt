@@ -5,7 +5,7 @@ ghost use Rattle.mail_proxy.specs.Dialog.{body_of, return_path, received, store,
 ghost use Rattle.mail_proxy.specs.Stands.{kept_of};
 
 use crate::answer::Answer;
-use crate::date::push_date;
+use civil_dates::push_mail_date;
 use crate::plain::Plain;
 use std::alloc::Global;
 use undo_base::{LAST_NUMBER, NoMemory, Text};
@@ -18,6 +18,7 @@ fn make_body(
     path: &Text,
     text: &Text,
 ) -> Result<Text, NoMemory>
+    requires { at ≤ 253402300799 }
     ensures { IfOk result (λ body. body ≡ body_of at (option_copied client.entry) path.now text.now) }
 {
     let mut body = Text::new(alloc);
@@ -36,12 +37,13 @@ fn push_return_path(out: &mut Text, path: &[u8]) -> Result<(), NoMemory>
 }
 
 fn push_received(alloc: Global, out: &mut Text, at: u64, client: &[u8]) -> Result<(), NoMemory>
+    requires { at ≤ 253402300799 }
     ensures { OnOk result (out.new ≡ out.old ++ received at client.now) }
 {
     out.extend(b"Received: from ")?;
     out.extend(client)?;
     out.extend(b" by mail.test; ")?;
-    push_date(alloc, out, at)?;
+    push_mail_date(alloc, out, at)?;
     out.extend(b"\r\n")
 }
 
@@ -63,7 +65,8 @@ pub fn store_body(
     path: &Text,
     text: &Text,
 ) -> Result<Answer, NoMemory>
-    requires { kept.old.next ≤ 4194304 }
+    requires next { kept.old.next ≤ 4194304 }
+    requires moment { at ≤ 253402300799 }
     ensures next { kept.new.next ≤ 4194304 }
     ensures ok { IfOk result (λ answer. (d : Dialog) → d.client ≡ option_copied client.entry →
         store at (kept_of kept.old) d path.now text.now ≡ says answer (kept_of kept.new) (with_transaction d Idle)) }

@@ -43,7 +43,8 @@ fn serve_lines(
     conn: u32,
     at: u64,
 ) -> Reply
-    requires { kept.old.next ≤ 4194304 }
+    requires next { kept.old.next ≤ 4194304 }
+    requires moment { at ≤ 253402300799 }
     ensures next { kept.new.next ≤ 4194304 }
     ensures turns { (seats : Seats) → (hs : List Hindrance) ×
         TellsSmtp at hs seats (kept_of kept.old) (dialog_of dialog.old) unserved.old conn result (kept_of kept.new) (dialog_of dialog.new) unserved.new }
@@ -74,7 +75,8 @@ pub fn hear(
     at: u64,
     bytes: &[u8],
 ) -> Reply
-    requires { kept.old.next ≤ 4194304 }
+    requires next { kept.old.next ≤ 4194304 }
+    requires moment { at ≤ 253402300799 }
     ensures next { kept.new.next ≤ 4194304 }
     ensures heard { (seats : Seats) → (no_memory : Bool) × (hs : List Hindrance) ×
         (hears no_memory hs at (record { kept = kept_of kept.old; seats = seats }) conn (seat_of session.old) bytes.now

@@ -13,7 +13,7 @@ loop-line-init c =
     record {
       stays = ap (λ (r : Reply). r.closes) reply.ensures;
       conn = ap (λ (r : Reply). r.conn) reply.ensures;
-      next = c.requires;
+      next = c.requires.next;
       rest = refl;
       turns = λ seats.
           subst (λ (said : List ℕ). SoFar c.args.at seats (kept_of c.args.kept.now) (dialog_of c.args.dialog.now) (smtp_lines_of c.args.unserved.now) said
