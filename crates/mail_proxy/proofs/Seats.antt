@@ -29,7 +29,7 @@ pub set_seat : (test : ℕ → Bool) (es : List (ℕ × Session)) (w : Session) 
 set_seat test [] w = refl
 set_seat test (e ∷ es) w =
     elim (test e.0) as (λ b. cond b ((e.0, seat_of w) ∷ seats_of es) ((e.0, seat_of e.1) ∷ set_value test (seats_of es) (seat_of w))
-        ≡ seats_of (cond b ((e.0, w) ∷ es) (e ∷ set_value test es w)))
+    ≡ seats_of (cond b ((e.0, w) ∷ es) (e ∷ set_value test es w)))
     [ true ↦ refl | false ↦ ap (λ l. (e.0, seat_of e.1) ∷ l) (set_seat test es w) ]
 
 -- what is set and then removed was removed

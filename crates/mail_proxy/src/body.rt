@@ -5,8 +5,8 @@ ghost use Rattle.mail_proxy.specs.Dialog.{body_of, return_path, received, store,
 ghost use Rattle.mail_proxy.specs.Stands.{kept_of};
 
 use crate::answer::Answer;
-use civil_dates::push_mail_date;
 use crate::plain::Plain;
+use civil_dates::push_mail_date;
 use std::alloc::Global;
 use undo_base::{LAST_NUMBER, NoMemory, Text};
 

@@ -23,7 +23,7 @@ returns-in_ok-stays-in-len1-up g t c =
     let reply = c.reply-item.result in
     let others = take (length c.args.replies.now - 1) (drop 1 c.args.replies.now) in
     subst (λ (rs : List Reply). (ds : List Delivery) × AreLicensed ds (told c.args.link.now) (told c.deliver_all.new.link)
-        × Sends (delivered ds seats rs) (told c.args.link.now) (told c.deliver_all.new.link) last c.deliver_all.result)
+    × Sends (delivered ds seats rs) (told c.args.link.now) (told c.deliver_all.new.link) last c.deliver_all.result)
     (sym (ap replies_of (first_and_rest c.args.replies.now reply c.in-len1-up.len_at_least c.reply-item.is)))
     (sends_more (told c.args.link.now) (told c.deliver.new.link) (told c.deliver_all.new.link) seats (seats_of c.keep_if.new.connections.entries) last
     (reply_of reply) (replies_of others) c.in_ok-stays-in-len1-up.stays c.deliver_all.result c.in_ok-stays-in-len1-up.ensures c.keep_if.ensures c.deliver_all.ensures)

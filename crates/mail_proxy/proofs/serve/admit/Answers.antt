@@ -14,7 +14,7 @@ returns-in_ok-insert-in-Smtp c kept =
     let es = c.args.connections.now.entries in
     let s : State = record { kept = kept; seats = seats_of es } in
     subst (λ (role : Role). (kept ≡ (admits role s c.args.conn).state.kept) × (seats_of c.insert.new.self.entries ≡ (admits role s c.args.conn).state.seats)
-        × (replies_of c.in_ok-replies-in-Smtp.replies.items ≡ (admits role s c.args.conn).replies)) (sym c.in-Smtp.is) (
+    × (replies_of c.in_ok-replies-in-Smtp.replies.items ≡ (admits role s c.args.conn).replies)) (sym c.in-Smtp.is) (
       refl,
       ap seats_of c.in_ok-insert-in-Smtp.ensures.entries ∙ sym (insert_seat es c.args.conn c.new_session.result)
           ∙ ap (insert_entry nat_cmp (seats_of es) c.args.conn) c.new_session.ensures,

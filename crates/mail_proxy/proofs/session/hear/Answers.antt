@@ -14,5 +14,5 @@ returns-in-Ok-clause-heard c seats =
       heard_alone c.args.at t.0 seats (kept_of c.args.kept.now) (dialog_of s.dialog) (s.unserved ++ c.args.bytes.now) c.args.conn c.serve_lines.result
           (kept_of new.kept) (dialog_of new.dialog) new.unserved
           (subst (λ (stream : List ℕ). TellsSmtp c.args.at t.0 seats (kept_of c.args.kept.now) (dialog_of s.dialog) stream c.args.conn c.serve_lines.result
-              (kept_of new.kept) (dialog_of new.dialog) new.unserved) c.in-Ok.ensures.ok t.1),
+          (kept_of new.kept) (dialog_of new.dialog) new.unserved) c.in-Ok.ensures.ok t.1),
     )

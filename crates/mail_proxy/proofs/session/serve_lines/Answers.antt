@@ -17,7 +17,7 @@ loop-line-init c =
       rest = refl;
       turns = λ seats.
           subst (λ (said : List ℕ). SoFar c.args.at seats (kept_of c.args.kept.now) (dialog_of c.args.dialog.now) (smtp_lines_of c.args.unserved.now) said
-              (kept_of c.args.kept.now) (dialog_of c.args.dialog.now) (smtp_lines_of c.args.unserved.now))
+          (kept_of c.args.kept.now) (dialog_of c.args.dialog.now) (smtp_lines_of c.args.unserved.now))
           (sym (ap (λ (r : Reply). r.said) reply.ensures))
           (so_far_none c.args.at seats (kept_of c.args.kept.now) (dialog_of c.args.dialog.now) (smtp_lines_of c.args.unserved.now));
     }
