@@ -1,0 +1,107 @@
+-- Bytes at whose first places it was seen that no CRLF begins.
+use Rattle.std.proofs.Common.{◌≡◌, ◌⊎◌, ℕ, zero, suc, ◌+◌, ◌-◌, ◌<◌, ◌≤◌, get_or, Bool, true, false, cond, not, ◌&&◌, List, [], ◌∷◌, ◌++◌, length, take, drop, refl, ap, subst, sym, ◌∙◌, inl, inr, arith, add-one}
+use Rattle.std.proofs.lemmas.List.{drop-append-le, length-append}
+use Rattle.smtp_lines.specs.Lines.{is_end, onto_first, onto_rest, lines_of, rest_of}
+use Rattle.smtp_lines.specs.Passed.{passes}
+use Rattle.smtp_lines.proofs.Cut.{Passed, onto_line, onto_last, passed_none}
+
+-- a step of `passes`
+record Step (b c n : ℕ) (s : List ℕ) : Type 0 where
+  apart : is_end b c ≡ false
+  more : passes n (c ∷ s) ≡ true
+
+step_by : (e p : Bool) → (not e && p) ≡ true → (e ≡ false) × (p ≡ true)
+step_by true p wrong = absurd (let w : false ≡ true = wrong in cc)
+step_by false p is = (refl, is)
+
+step : (b c n : ℕ) (s : List ℕ) → passes (suc n) (b ∷ c ∷ s) ≡ true → Step b c n s
+step b c n s seen = let both = step_by (is_end b c) (passes n (c ∷ s)) seen in record { apart = both.0; more = both.1 }
+
+step_back : (b c n : ℕ) (s : List ℕ) → is_end b c ≡ false → passes n (c ∷ s) ≡ true → passes (suc n) (b ∷ c ∷ s) ≡ true
+step_back b c n s apart more = rw apart more
+
+-- more bytes change nothing
+pub seen_append : (n : ℕ) (s t : List ℕ) → passes n s ≡ true → passes n (s ++ t) ≡ true
+seen_append zero s t seen = refl
+seen_append (suc n) [] t seen = absurd (let w : false ≡ true = seen in cc)
+seen_append (suc n) (b ∷ []) t seen = absurd (let w : false ≡ true = seen in cc)
+seen_append (suc n) (b ∷ c ∷ s) t seen =
+    let is = step b c n s seen in
+    step_back b c n (s ++ t) is.apart (seen_append n (c ∷ s) t is.more)
+
+-- the last byte is not among them
+pub seen_within : (n : ℕ) (s : List ℕ) → passes n s ≡ true → (n ≡ 0) ⊎ (n < length s)
+seen_within zero s seen = inl refl
+seen_within (suc n) [] seen = absurd (let w : false ≡ true = seen in cc)
+seen_within (suc n) (b ∷ []) seen = absurd (let w : false ≡ true = seen in cc)
+seen_within (suc n) (b ∷ c ∷ s) seen = by_both (seen_within n (c ∷ s) (step b c n s seen).more)
+  where
+    by_both : (n ≡ 0) ⊎ (n < length (c ∷ s)) → (suc n ≡ 0) ⊎ (suc n < length (b ∷ c ∷ s))
+    by_both (inl none) = inr (omega arith)
+    by_both (inr some) = inr (omega arith)
+
+onto_line_first : (b : ℕ) (front : List ℕ) (lines : List (List ℕ)) → onto_first b (onto_line front lines) ≡ onto_line (b ∷ front) lines
+onto_line_first b front [] = refl
+onto_line_first b front (line ∷ lines) = refl
+
+onto_last_first : (b : ℕ) (front : List ℕ) (lines : List (List ℕ)) (rest : List ℕ) → onto_rest b (onto_line front lines) (onto_last front lines rest) ≡ onto_last (b ∷ front) lines rest
+onto_last_first b front [] rest = refl
+onto_last_first b front (line ∷ lines) rest = refl
+
+passed_first : (b c : ℕ) (s front rest : List ℕ) → is_end b c ≡ false → Passed (c ∷ s) front rest → Passed (b ∷ c ∷ s) (b ∷ front) rest
+passed_first b c s front rest apart p = record {
+  whole = ap (λ l. b ∷ l) p.whole;
+  lines = rw apart (ap (onto_first b) p.lines ∙ onto_line_first b front (lines_of rest));
+  last = rw apart (rw (p.lines, p.last) (onto_last_first b front (lines_of rest) (rest_of rest)));
+}
+
+-- they are passed
+pub seen_passed : (n : ℕ) (s : List ℕ) → passes n s ≡ true → Passed s (take n s) (drop n s)
+seen_passed zero s seen = passed_none s
+seen_passed (suc n) [] seen = absurd (let w : false ≡ true = seen in cc)
+seen_passed (suc n) (b ∷ []) seen = absurd (let w : false ≡ true = seen in cc)
+seen_passed (suc n) (b ∷ c ∷ s) seen =
+    let is = step b c n s seen in
+    passed_first b c s (take n (c ∷ s)) (drop n (c ∷ s)) is.apart (seen_passed n (c ∷ s) is.more)
+
+-- one place more
+seen_next : (n : ℕ) (s : List ℕ) → passes n s ≡ true → 2 ≤ length (drop n s) → is_end (get_or (drop n s) 0 0) (get_or (drop n s) 1 0) ≡ false → passes (suc n) s ≡ true
+seen_next zero [] seen two apart = absurd (omega arith)
+seen_next zero (b ∷ []) seen two apart = absurd (omega arith)
+seen_next zero (b ∷ c ∷ s) seen two apart = step_back b c zero s apart refl
+seen_next (suc n) [] seen two apart = absurd (let w : false ≡ true = seen in cc)
+seen_next (suc n) (b ∷ []) seen two apart = absurd (let w : false ≡ true = seen in cc)
+seen_next (suc n) (b ∷ c ∷ s) seen two apart =
+    let is = step b c n s seen in
+    step_back b c (suc n) s is.apart (seen_next n (c ∷ s) is.more two apart)
+
+pub seen_more : (n : ℕ) (s rest : List ℕ) → passes n s ≡ true → rest ≡ drop n s → 2 ≤ length rest → is_end (get_or rest 0 0) (get_or rest 1 0) ≡ false → passes (n + 1) s ≡ true
+seen_more n s rest seen e two apart =
+    rw add-one (seen_next n s seen (subst (λ r. 2 ≤ length r) e two) (subst (λ r. is_end (get_or r 0 0) (get_or r 1 0) ≡ false) e apart))
+
+-- where less than two bytes are left, all places but the last are seen
+pub seen_all : (n : ℕ) (s rest : List ℕ) → passes n s ≡ true → n + length rest ≡ length s → length rest < 2 → passes (length s - 1) s ≡ true
+seen_all n s rest seen size short = by_both (seen_within n s seen)
+  where
+    by_both : (n ≡ 0) ⊎ (n < length s) → passes (length s - 1) s ≡ true
+    by_both (inl none) = let e : n ≡ length s - 1 = omega arith in subst (λ k. passes k s ≡ true) e seen
+    by_both (inr some) = let e : n ≡ length s - 1 = omega arith in subst (λ k. passes k s ≡ true) e seen
+
+-- so many places are there
+pub seen_short : (n : ℕ) (s : List ℕ) → passes n s ≡ true → n ≤ length s
+seen_short n s seen = by_both (seen_within n s seen)
+  where
+    by_both : (n ≡ 0) ⊎ (n < length s) → n ≤ length s
+    by_both (inl none) = omega arith
+    by_both (inr some) = omega arith
+
+-- bytes are added, or none, behind a front that was given
+pub seen_fed : (ok : Bool) (n given : ℕ) (bytes more new : List ℕ) → given ≤ length bytes → passes n (drop given bytes) ≡ true → new ≡ cond ok (bytes ++ more) bytes
+    → (given ≤ length new) × (passes n (drop given new) ≡ true)
+seen_fed true n given bytes more new within seen is =
+    let all : passes n (drop given (bytes ++ more)) ≡ true =
+    subst (λ s. passes n s ≡ true) (sym (drop-append-le given bytes more within)) (seen_append n (drop given bytes) more seen) in
+    let size : given ≤ length (bytes ++ more) = simp length-append (omega arith) in
+    (subst (λ s. given ≤ length s) (sym is) size, subst (λ s. passes n (drop given s) ≡ true) (sym is) all)
+seen_fed false n given bytes more new within seen is =
+    (subst (λ s. given ≤ length s) (sym is) within, subst (λ s. passes n (drop given s) ≡ true) (sym is) seen)
