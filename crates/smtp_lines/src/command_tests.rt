@@ -139,29 +139,29 @@ fn filled(alloc: Global, front: &[u8], count: usize, back: &[u8]) -> Result<Smtp
     Ok(line)
 }
 
-fn is_refused(alloc: Global, line: &SmtpLine, why: SmtpRefused) -> bool {
-    read_command(alloc, line).err() == Some(why)
-}
-
 #[test]
 fn commands_at_their_limits(rt: HostRuntime) -> Result<(), Fail> {
     let alloc = rt.alloc();
-    let long = SmtpRefused::Long;
-    let argument = SmtpRefused::Argument;
-    assert!(rt; read_command(alloc, &filled(alloc, b"NOOP ", 1017, b"")?).is_ok());
-    assert!(rt; is_refused(alloc, &filled(alloc, b"NOOP ", 1018, b"")?, long));
-    assert!(rt; is_refused(alloc, &filled(alloc, b"NOOP ", 1017, b" ")?, long));
-    assert!(rt; is_refused(alloc, &filled(alloc, b"", 1023, b"")?, long));
-    assert!(rt; read_command(alloc, &filled(alloc, b"HELO ", 200, b"")?).is_ok());
-    assert!(rt; is_refused(alloc, &filled(alloc, b"HELO ", 201, b"")?, argument));
-    assert!(rt; read_command(alloc, &filled(alloc, b"MAIL FROM:<", 254, b">")?).is_ok());
-    assert!(rt; is_refused(alloc, &filled(alloc, b"MAIL FROM:<", 255, b">")?, argument));
-    assert!(rt; read_command(alloc, &filled(alloc, b"RCPT TO:<", 200, b"@b>")?).is_ok());
-    assert!(rt; is_refused(alloc, &filled(alloc, b"RCPT TO:<", 201, b"@b>")?, argument));
-    assert!(rt; read_command(alloc, &filled(alloc, b"RCPT TO:<b@", 200, b">")?).is_ok());
-    assert!(rt; is_refused(alloc, &filled(alloc, b"RCPT TO:<b@", 201, b">")?, argument));
+    let table: [(&[u8], usize, &[u8], Option<SmtpRefused>); 12] = [
+        (b"NOOP ", 1017, b"", None),
+        (b"NOOP ", 1018, b"", Some(SmtpRefused::Long)),
+        (b"NOOP ", 1017, b" ", Some(SmtpRefused::Long)),
+        (b"", 1023, b"", Some(SmtpRefused::Long)),
+        (b"HELO ", 200, b"", None),
+        (b"HELO ", 201, b"", Some(SmtpRefused::Argument)),
+        (b"MAIL FROM:<", 254, b">", None),
+        (b"MAIL FROM:<", 255, b">", Some(SmtpRefused::Argument)),
+        (b"RCPT TO:<", 200, b"@b>", None),
+        (b"RCPT TO:<", 201, b"@b>", Some(SmtpRefused::Argument)),
+        (b"RCPT TO:<b@", 200, b">", None),
+        (b"RCPT TO:<b@", 201, b">", Some(SmtpRefused::Argument)),
+    ];
+    for (front, count, back, refused) in table {
+        let line = filled(alloc, front, count, back)?;
+        assert_eq!(rt; read_command(alloc, &line).err(), refused);
+    }
     let mut cut = line_of(alloc, b"QUIT")?;
     cut.long = true;
-    assert!(rt; is_refused(alloc, &cut, long));
+    assert_eq!(rt; read_command(alloc, &cut).err(), Some(SmtpRefused::Long));
     Ok(())
 }
