@@ -1,0 +1,267 @@
+//! The commands of a mail client (RFC 5321, section 4.1.1).
+ghost use Rattle.std.specs.Prelude.{◌≡◌, true, IfOk, Ok, Err};
+ghost use Rattle.std.specs.Option.{option_copied};
+ghost use Rattle.smtp_lines.specs.Parts.{is_short};
+ghost use Rattle.smtp_lines.specs.Path.{is_recipient};
+ghost use Rattle.smtp_lines.specs.Command.{ReadsCommand, command_of, is_client, greeting, mail_of, rcpt_of, recipient, alone, noop_of, vrfy_of, spoken, words_of, refused_tail, recipient_path};
+ghost use Rattle.smtp_lines.specs.declared.command.SmtpCommand.TheVariants.{Helo, Ehlo};
+
+use crate::SmtpLine;
+use crate::parts::{
+    are_visible, before, before_the_last, behind, behind_the_last, has, has_length_of_name, trim,
+};
+use crate::path::{find_path, is_recipient_path, path_behind};
+use crate::word::{Word, read_word};
+use std::alloc::Global;
+use undo_base::{Name, NoMemory, Text};
+
+/// The most octets of a command line before its CRLF (RFC 5321, section 4.5.3.1.4, allows 510 or more).
+const MOST_COMMAND: usize = 1022;
+
+/// A command, with its arguments as they are spelled.
+#[derive(Debug, Drop)]
+pub enum SmtpCommand {
+    Helo { client: Name },
+    Ehlo { client: Name },
+    Mail { path: Text },
+    Rcpt { local: Name, domain: Option<Name> },
+    Data,
+    Rset,
+    Noop { rest: Text },
+    Vrfy { what: Text },
+    Quit,
+}
+
+/// Why a line is no command: the first of these that holds.
+#[derive(Clone, Copy, Debug, PartialEq, Eq)]
+pub enum SmtpRefused {
+    Long,
+    Unknown,
+    NotDone,
+    Argument,
+    Parameter,
+    NoMemory,
+}
+
+impl From<NoMemory> for SmtpRefused {
+    ghost use Rattle.std.specs.Prelude.{◌≡◌};
+    ghost use Rattle.smtp_lines.specs.declared.command.SmtpRefused.TheVariants.{NoMemory as no_memory};
+
+    ghost from_gives = { λ _ refused. refused ≡ no_memory };
+
+    fn from(_: NoMemory) -> Self {
+        SmtpRefused::NoMemory
+    }
+}
+
+/// The command that a line is. The path of MAIL is the reverse path without its route; RCPT has no domain for
+/// `postmaster` alone.
+pub fn read_command(alloc: Global, line: &SmtpLine) -> Result<SmtpCommand, SmtpRefused>
+    ensures { ReadsCommand (command_of line.now) result }
+{
+    let bytes = line.bytes.bytes();
+    if line.long || bytes.len() > MOST_COMMAND {
+        Err(SmtpRefused::Long)
+    } else {
+        read_words(alloc, trim(bytes))
+    }
+}
+
+fn read_words(alloc: Global, bytes: &[u8]) -> Result<SmtpCommand, SmtpRefused>
+    ensures { ReadsCommand (words_of bytes.now) result }
+{
+    match read_word(before(bytes, b' ')) {
+        Some(word) => read_spoken(alloc, word, behind(bytes, b' ')),
+        None => Err(SmtpRefused::Unknown),
+    }
+}
+
+/// The command of a word and its argument.
+#[tactic(auto, unfolding(crate::specs::Command::spoken))]
+fn read_spoken(alloc: Global, word: Word, argument: &[u8]) -> Result<SmtpCommand, SmtpRefused>
+    ensures { ReadsCommand (spoken word argument.now) result }
+{
+    match word {
+        Word::Helo => read_helo(alloc, argument),
+        Word::Ehlo => read_ehlo(alloc, argument),
+        Word::Mail => read_mail(alloc, argument),
+        Word::Rcpt => read_rcpt(alloc, argument),
+        Word::Data => read_alone(argument, SmtpCommand::Data),
+        Word::Rset => read_alone(argument, SmtpCommand::Rset),
+        Word::Noop => read_noop(alloc, argument),
+        Word::Vrfy => read_vrfy(alloc, argument),
+        Word::Quit => read_alone(argument, SmtpCommand::Quit),
+        Word::Expn => Err(SmtpRefused::NotDone),
+        Word::Help => Err(SmtpRefused::NotDone),
+    }
+}
+
+fn read_alone(argument: &[u8], command: SmtpCommand) -> Result<SmtpCommand, SmtpRefused>
+    ensures { ReadsCommand (alone command argument.now) result }
+{
+    match argument {
+        [] => Ok(command),
+        _ => Err(SmtpRefused::Argument),
+    }
+}
+
+fn is_client_name(bytes: &[u8]) -> bool
+    ensures { result ≡ is_client bytes.now }
+{
+    has_length_of_name(bytes) && are_visible(bytes)
+}
+
+/// Bytes as a name, where they are one.
+fn named(alloc: Global, bytes: &[u8]) -> Result<Name, NoMemory>
+    ensures { IfOk result (λ name. name ≡ bytes.now) }
+{
+    match Name::read(alloc, bytes) {
+        Ok(name) => Ok(name),
+        Err(_) => Err(NoMemory),
+    }
+}
+
+fn read_helo(alloc: Global, argument: &[u8]) -> Result<SmtpCommand, SmtpRefused>
+    ensures { ReadsCommand (greeting Helo argument.now) result }
+{
+    if !is_client_name(argument) {
+        return Err(SmtpRefused::Argument);
+    }
+    match named(alloc, argument) {
+        Ok(client) => Ok(SmtpCommand::Helo { client }),
+        Err(_) => Err(SmtpRefused::NoMemory),
+    }
+}
+
+fn read_ehlo(alloc: Global, argument: &[u8]) -> Result<SmtpCommand, SmtpRefused>
+    ensures { ReadsCommand (greeting Ehlo argument.now) result }
+{
+    if !is_client_name(argument) {
+        return Err(SmtpRefused::Argument);
+    }
+    match named(alloc, argument) {
+        Ok(client) => Ok(SmtpCommand::Ehlo { client }),
+        Err(_) => Err(SmtpRefused::NoMemory),
+    }
+}
+
+fn read_noop(alloc: Global, argument: &[u8]) -> Result<SmtpCommand, SmtpRefused>
+    ensures { ReadsCommand (noop_of argument.now) result }
+{
+    match Text::of(alloc, argument) {
+        Ok(rest) => Ok(SmtpCommand::Noop { rest }),
+        Err(_) => Err(SmtpRefused::NoMemory),
+    }
+}
+
+fn read_vrfy(alloc: Global, argument: &[u8]) -> Result<SmtpCommand, SmtpRefused>
+    ensures { ReadsCommand (vrfy_of argument.now) result }
+{
+    if argument.is_empty() {
+        return Err(SmtpRefused::Argument);
+    }
+    match Text::of(alloc, argument) {
+        Ok(what) => Ok(SmtpCommand::Vrfy { what }),
+        Err(_) => Err(SmtpRefused::NoMemory),
+    }
+}
+
+/// Why what follows a path is refused, if it is.
+fn read_tail(tail: &[u8]) -> Option<SmtpRefused>
+    ensures { result ≡ refused_tail tail.now }
+{
+    match tail {
+        [] => None,
+        [b' ', ..] => Some(SmtpRefused::Parameter),
+        _ => Some(SmtpRefused::Argument),
+    }
+}
+
+fn make_mail(alloc: Global, path: &[u8]) -> Result<SmtpCommand, SmtpRefused>
+    ensures { ReadsCommand (Ok (SmtpCommand.Mail path.now)) result }
+{
+    match Text::of(alloc, path) {
+        Ok(path) => Ok(SmtpCommand::Mail { path }),
+        Err(_) => Err(SmtpRefused::NoMemory),
+    }
+}
+
+fn read_mail(alloc: Global, argument: &[u8]) -> Result<SmtpCommand, SmtpRefused>
+    ensures { ReadsCommand (mail_of argument.now) result }
+{
+    let rest = path_behind(argument, b"FROM:");
+    match find_path(rest) {
+        None => Err(SmtpRefused::Argument),
+        Some(path) => match read_tail(behind(rest, b'>')) {
+            Some(refused) => Err(refused),
+            None => make_mail(alloc, path),
+        },
+    }
+}
+
+fn make_postmaster(alloc: Global, path: &[u8]) -> Result<SmtpCommand, SmtpRefused>
+    ensures { ReadsCommand (Ok (SmtpCommand.Rcpt path.now None)) result }
+{
+    match named(alloc, path) {
+        Ok(local) => Ok(SmtpCommand::Rcpt {
+            local,
+            domain: None,
+        }),
+        Err(_) => Err(SmtpRefused::NoMemory),
+    }
+}
+
+fn make_names(alloc: Global, local: &[u8], domain: &[u8]) -> Result<SmtpCommand, NoMemory>
+    ensures { IfOk result (λ command. command ≡ SmtpCommand.Rcpt local.now (Some domain.now)) }
+{
+    let local = named(alloc, local)?;
+    let domain = named(alloc, domain)?;
+    Ok(SmtpCommand::Rcpt {
+        local,
+        domain: Some(domain),
+    })
+}
+
+fn make_rcpt(alloc: Global, path: &[u8]) -> Result<SmtpCommand, SmtpRefused>
+    ensures { ReadsCommand (Ok (recipient path.now)) result }
+{
+    if !has(path, b'@') {
+        return make_postmaster(alloc, path);
+    }
+    match make_names(
+        alloc,
+        before_the_last(path, b'@'),
+        behind_the_last(path, b'@'),
+    ) {
+        Ok(command) => Ok(command),
+        Err(_) => Err(SmtpRefused::NoMemory),
+    }
+}
+
+fn find_recipient(rest: &[u8]) -> Option<&[u8]>
+    ensures { option_copied result ≡ recipient_path rest.now }
+{
+    match find_path(rest) {
+        None => None,
+        Some(path) => {
+            if is_recipient_path(path) {
+                Some(path)
+            } else {
+                None
+            }
+        }
+    }
+}
+
+fn read_rcpt(alloc: Global, argument: &[u8]) -> Result<SmtpCommand, SmtpRefused>
+    ensures { ReadsCommand (rcpt_of argument.now) result }
+{
+    let rest = path_behind(argument, b"TO:");
+    match find_recipient(rest) {
+        None => Err(SmtpRefused::Argument),
+        Some(path) => match read_tail(behind(rest, b'>')) {
+            Some(refused) => Err(refused),
+            None => make_rcpt(alloc, path),
+        },
+    }
+}
