@@ -1,9 +1,9 @@
 //! The journal.
 ghost use Rattle.std.specs.Prelude.{◌≡◌, ◌<◌, ◌≤◌, ◌+◌, ◌^◌, ◌↔◌, ◌++◌, ◌∷◌, [], List, ℕ, true, IsTrue, IfOk, OnOk, IsErrOf, OnErr, ◌⊎◌, length, slice_range};
-ghost use Rattle.undo_outside.specs.Disk.{WriteCause};
+ghost use Rattle.undo_outside.specs.Disk.{IsOverwritten, WriteCause};
 ghost use Rattle.undo_outside.specs.Moments.{LeavesOnly, OnlyReads};
 ghost use Rattle.seal_log.specs.Causes.{ReadAtCause, SealCause};
-ghost use Rattle.seal_log.specs.Journal.{LiesAt, StandsFor, StandsForFront};
+ghost use Rattle.seal_log.specs.Journal.{frame, LiesAt, StandsFor, StandsForFront};
 ghost use Rattle.seal_log.specs.Settled.{Holds, IsSettled};
 ghost use Rattle.seal_log.specs.Log.{IsClosed, last_gate};
 
@@ -30,6 +30,8 @@ fn put<D: Disk>(alloc: Global, disk: &mut D, gate: u64, payload: &[u8]) -> Resul
     ensures size { (D.told disk.old).size ≤ (D.told disk.new).size }
     ensures grown { OnOk result (gate + 5 + length payload.now < (D.told disk.new).size) }
     ensures honest { (D.told disk.old).honest → (D.told disk.new).honest }
+    ensures written { (D.told disk.old).honest
+        → OnOk result (IsOverwritten (D.told disk.old).content gate (85 ∷ (frame payload.now ++ 0 ∷ [])) (D.told disk.new).content) }
     ensures sealed { (payloads : List (List ℕ)) → IsSettled (D.told disk.old) gate payloads
         → OnOk result (IsSettled (D.told disk.new) (gate + 5 + length payload.now) (payloads ++ payload.now ∷ [])) }
     ensures as_before { (payloads : List (List ℕ)) → IsSettled (D.told disk.old) gate payloads
@@ -81,7 +83,9 @@ impl Log {
         ensures unchanged { IsErrOf result SealFault.NoMemory → self.new ≡ self.old }
         ensures cause { SealCause (D.told disk.old) (D.told disk.new) result }
 
-        // What the disk holds then.
+        // What the disk holds then: an open gate, the frame, and a closed gate over what was there.
+        ensures written { (D.told disk.old).honest
+            → OnOk result (IsOverwritten (D.told disk.old).content (last_gate self.old) (85 ∷ (frame payload.now ++ 0 ∷ [])) (D.told disk.new).content) }
         ensures sealed { (payloads : List (List ℕ)) → IsSettled (D.told disk.old) (last_gate self.old) payloads
             → OnOk result (IsSettled (D.told disk.new) (last_gate self.new) (payloads ++ payload.now ∷ [])) }
         ensures as_before { (payloads : List (List ℕ)) → IsSettled (D.told disk.old) (last_gate self.old) payloads
@@ -163,6 +167,7 @@ pub fn format<D: Disk>(alloc: Global, disk: &mut D, head: &[u8]) -> Result<Log, 
 
     ensures log { IfOk result (λ log. (last_gate log ≡ 5 + length head.now) × (IsClosed log → ⊥)) }
     ensures settled { (D.told disk.old).honest → IfOk result (λ log. IsSettled (D.told disk.new) (last_gate log) (head.now ∷ [])) }
+    ensures written { (D.told disk.old).honest → OnOk result ((D.told disk.new).content ≡ 85 ∷ (frame head.now ++ 0 ∷ [])) }
     ensures cause { SealCause (D.told disk.old) (D.told disk.new) result }
     ensures not_closed { IsErrOf result SealFault.Closed → ⊥ }
 
@@ -182,6 +187,7 @@ fn put_first<D: Disk>(alloc: Global, disk: &mut D, head: &[u8]) -> Result<(), Di
     requires short { length head.now < 2 ^ 32 }
 
     ensures settled { (D.told disk.old).honest → OnOk result (IsSettled (D.told disk.new) (5 + length head.now) (head.now ∷ [])) }
+    ensures written { (D.told disk.old).honest → OnOk result ((D.told disk.new).content ≡ 85 ∷ (frame head.now ++ 0 ∷ [])) }
     ensures cause { WriteCause (D.told disk.old) (D.told disk.new) result }
     ensures grown { OnOk result (5 + length head.now < (D.told disk.new).size) }
     ensures honest { (D.told disk.old).honest → (D.told disk.new).honest }

@@ -5,10 +5,11 @@ use Rattle.undo_outside.specs.declared.fault.Fault.TheVariants.{NoMemory}
 use Rattle.undo_outside.specs.Disk.{IsOverwritten}
 use Rattle.undo_outside.specs.Moments.{LeavesOnly}
 use Rattle.undo_outside.proofs.Moments.{joined, started, weaker}
-use Rattle.seal_log.specs.Journal.{StandsFor, StandsForFront}
+use Rattle.seal_log.specs.Journal.{frame, StandsFor, StandsForFront}
 use Rattle.seal_log.specs.Settled.{IsSettled}
 use Rattle.seal_log.proofs.Frames.{length-sealed-push, front_before}
 use Rattle.seal_log.proofs.Steps.{IsStaged, behind_crash, staged, staged_stands, gate_crash, opened}
+use Rattle.seal_log.proofs.Torn.{two_writes}
 use Rattle.seal_log.proofs.log.put.Given.{Over}
 use Rattle.seal_log.proofs.log.put.Goals.{After-write_synced, After-write_synced-2}
 use Rattle.seal_log.proofs.log.put.Goals as goal
@@ -106,3 +107,14 @@ returns-in_err-write_synced-2-clause-never_there g c payloads s refused =
     (c.write_synced-2.ensures.never_torn kept no_memory)
     (λ f here. here)
     (λ f now. subst (λ (l : List ℕ). StandsFor l payloads) (sym (c.in_ok-write_synced.ensures.durable s.honest f now)) stands)
+
+-- the two writes come to one
+pub returns-clause-written : goal.returns-clause-written
+returns-clause-written g c honest =
+    let old = (g.D.Disk.told c.args.disk.now).content in
+    let mid = (g.D.Disk.told c.write_synced.new.disk).content in
+    let new = (g.D.Disk.told c.write_synced-2.new.disk).content in
+    let size = (g.met.D.Disk.tells_truth c.args.disk.now honest).size_of_content in
+    two_writes old mid new (frame c.args.payload.now ++ 0 ∷ []) c.args.gate 85 (omega (arith, size, c.requires.within))
+    (subst (λ (bytes : List ℕ). IsOverwritten old (c.args.gate + 1) bytes mid) (c.deref.ensures.value ∙ c.in_ok-frame.ensures) (c.in_ok-write_synced.ensures.written honest))
+    (c.in_ok-write_synced-2.ensures.written (c.write_synced.ensures.honest honest))
