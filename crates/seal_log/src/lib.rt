@@ -1,6 +1,22 @@
 //! A sealed journal: frames behind gates, each payload on the disk before its gate is opened.
+//!
+//! `frame` has the bytes, `durable` a write with its sync, `log` formats, seals and reads, `loading` finds what is there;
+//! `run` seals a list; `laws` says what the definitions imply. What carries the crate: `Log::seal`, `any_moment` (a crash at any moment
+//! leaves the payloads from before the call, with the new one or without) and `sealed` (at `Ok` each image has it).
 #![tactic(auto)]
 
+mod durable;
+mod fault;
+mod frame;
+mod laws;
+mod loading;
+mod log;
 mod place;
+mod run;
 
+pub use fault::{LoadFault, ReadFault, SealFault};
+pub use laws::{one_reading, places_stay};
+pub use loading::load;
+pub use log::{Log, format};
 pub use place::{Place, Places};
+pub use run::seal_all;

@@ -1,0 +1,55 @@
+-- Why calls on a journal fail, by the disk's counts of failures.
+use Rattle.std.specs.Prelude.{◌≡◌, ◌⊎◌, ℕ, false, Result, OnOk, IsErrOf}
+use Rattle.undo_outside.specs.Calls.{Rose}
+use Rattle.undo_outside.specs.Disk.{DiskTold}
+use Rattle.seal_log.specs.declared.fault.SealFault.{SealFault}
+use Rattle.seal_log.specs.declared.fault.SealFault.TheVariants.{Disk as seal_disk, NoMemory as seal_no_memory, Closed}
+use Rattle.seal_log.specs.declared.fault.ReadFault.{ReadFault}
+use Rattle.seal_log.specs.declared.fault.ReadFault.TheVariants.{Disk as read_disk, NoMemory as read_no_memory}
+use Rattle.seal_log.specs.declared.fault.LoadFault.{LoadFault}
+use Rattle.seal_log.specs.declared.fault.LoadFault.TheVariants.{Disk as load_disk, NoMemory as load_no_memory, NotFormatted, Damaged}
+
+-- a write or a sync failed, on a disk whose calls may fail
+abbrev pub WriteFailed : DiskTold → DiskTold → Type 0
+WriteFailed old new = Rose old.failed_writes new.failed_writes × (old.is_reliable ≡ false)
+
+-- a read failed, on a disk whose calls may fail
+abbrev pub ReadFailed : DiskTold → DiskTold → Type 0
+ReadFailed old new = Rose old.failed_reads new.failed_reads × (old.is_reliable ≡ false)
+
+-- no call failed
+pub record SameCounts (old new : DiskTold) : Type 0 where
+  pub reads : new.failed_reads ≡ old.failed_reads
+  pub writes : new.failed_writes ≡ old.failed_writes
+
+-- a seal answers `Disk` exactly where a write or a sync failed
+pub record SealCause {T : Type 0} (old new : DiskTold) (result : Result T SealFault) : Type 0 where
+  pub ok : OnOk result (new.failed_writes ≡ old.failed_writes)
+  pub disk : IsErrOf result seal_disk → WriteFailed old new
+  pub no_memory : IsErrOf result seal_no_memory → new.failed_writes ≡ old.failed_writes
+  pub closed : IsErrOf result Closed → new.failed_writes ≡ old.failed_writes
+  pub reads : new.failed_reads ≡ old.failed_reads
+  pub reliable : new.is_reliable ≡ old.is_reliable
+
+-- a read of a payload answers `Disk` exactly where a read failed
+pub record ReadAtCause {T : Type 0} (old new : DiskTold) (result : Result T ReadFault) : Type 0 where
+  pub ok : OnOk result (new.failed_reads ≡ old.failed_reads)
+  pub disk : IsErrOf result read_disk → ReadFailed old new
+  pub no_memory : IsErrOf result read_no_memory → new.failed_reads ≡ old.failed_reads
+
+-- a look at a journal answers `Disk` exactly where a read failed
+pub record LookCause {T : Type 0} (old new : DiskTold) (result : Result T LoadFault) : Type 0 where
+  pub ok : OnOk result (new.failed_reads ≡ old.failed_reads)
+  pub disk : IsErrOf result load_disk → ReadFailed old new
+  pub no_memory : IsErrOf result load_no_memory → new.failed_reads ≡ old.failed_reads
+  pub not_formatted : IsErrOf result NotFormatted → new.failed_reads ≡ old.failed_reads
+  pub damaged : (place : ℕ) → IsErrOf result (Damaged place) → new.failed_reads ≡ old.failed_reads
+
+-- loading answers `Disk` exactly where a call failed
+pub record LoadCause {T : Type 0} (old new : DiskTold) (result : Result T LoadFault) : Type 0 where
+  pub ok : OnOk result (SameCounts old new)
+  pub disk : IsErrOf result load_disk → ReadFailed old new ⊎ WriteFailed old new
+  pub no_memory : IsErrOf result load_no_memory → SameCounts old new
+  pub not_formatted : IsErrOf result NotFormatted → SameCounts old new
+  pub damaged : (place : ℕ) → IsErrOf result (Damaged place) → SameCounts old new
+  pub reliable : new.is_reliable ≡ old.is_reliable

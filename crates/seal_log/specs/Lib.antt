@@ -1,0 +1,6 @@
+pub mod Journal
+pub mod Loading
+pub mod Loads
+pub mod Log
+pub mod Settled
+pub mod Causes
