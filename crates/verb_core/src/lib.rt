@@ -9,13 +9,16 @@ mod bodies;
 mod conf;
 mod copy;
 mod item;
+pub mod laws;
 mod mailbox;
+mod recipients;
 
 pub use ask::{Ask, Refused};
 pub use bodies::{Bodies, BodiesFault};
 pub use conf::{Account, Alias, Conf, Filter, House};
 pub use item::{Act, Aim, Deed, Item, Resolved, Shown, Sight, Way};
 pub use mailbox::{Body, BoxId, Entry, Mailbox};
+pub use recipients::resolve_local;
 use undo_base::Sequence;
 
 /// The entries of a mailbox, by rising UID.
