@@ -1,38 +1,22 @@
 -- Aims are mailboxes that are there, and what was missed is not.
-use Rattle.std.proofs.Common.{◌≡◌, ℕ, ◌+◌, ◌<◌, ◌≤◌, Bool, true, false, not, ◌&&◌, ◌||◌, cond, List, [], ◌∷◌, ◌++◌, map, filter, Option, Some, None, is_some, refl, sym, ap, ap₂, ◌∙◌, subst, arith, true≢false, option_map, unwrap_or, length, bytes_eq, Less, Equal, Greater, eq-eqb, sum_by, is_lt, is_eq, zero-add, ◌≢◌, eqb, eqb-true, ltb-true}
-use Rattle.std.proofs.lemmas.List.Sums.{sum_by-cons, sum_by-append}
+use Rattle.std.proofs.Common.{◌≡◌, ℕ, ◌+◌, ◌<◌, ◌≤◌, Bool, true, false, not, cond, List, [], ◌∷◌, ◌++◌, map, filter, Option, Some, None, refl, sym, ◌∙◌, subst, arith, true≢false, length, eq-eqb, ◌≢◌, eqb, eqb-true, ltb-true}
 use Rattle.std.specs.List.{list_all, enumerate_from}
 use Rattle.std.proofs.lemmas.List.Folds.{list_all-append}
-use Rattle.std.specs.Ordering.{eq_by_cmp}
 use Rattle.std.specs.Cmp.{first_so, second_so}
-use Rattle.std.specs.FinMap.Entries as rows
 use Rattle.undo_base.specs.declared.keys.User.{User}
-use Rattle.undo_base.specs.declared.keys.Key.{Key}
-use Rattle.undo_base.specs.declared.keys.Flags.{Flags}
-use Rattle.undo_base.specs.declared.asks.How.{How}
-use Rattle.undo_base.specs.declared.asks.How.TheVariants.{Add}
-use Rattle.verb_core.specs.declared.item.Item.{Item}
 use Rattle.verb_core.specs.declared.item.Aim.{Aim}
 use Rattle.verb_core.specs.declared.item.Deed.{Deed}
-use Rattle.verb_core.specs.declared.item.Deed.TheVariants.{Deliver, Append, Fetch, Store, Copy, Expunge, Close, Create, Rename, Delete, Act as Acts, Notice}
-use Rattle.verb_core.specs.declared.item.Act.TheVariants.{Remove, Give}
-use Rattle.verb_core.specs.declared.item.Way.{Way}
-use Rattle.verb_core.specs.declared.item.Way.TheVariants.{Plain, NoSource, Merged}
+use Rattle.verb_core.specs.declared.item.Deed.TheVariants.{Deliver, Append, Copy, Act as Acts, Notice}
+use Rattle.verb_core.specs.declared.item.Act.TheVariants.{Give}
 use Rattle.verb_core.specs.declared.conf.Account.{Account}
-use Rattle.verb_core.specs.declared.mailbox.BoxId.{BoxId}
-use Rattle.verb_core.specs.declared.mailbox.Mailbox.{Mailbox}
-use Rattle.verb_core.specs.declared.mailbox.Entry.{Entry}
-use Rattle.verb_core.specs.Names.{inbox, lost_found, is_fixed}
-use Rattle.verb_core.specs.Mailboxes.{no_mail, no_flags, put, put_all, with_entries, emptied, same_key, is_among, changed, reflagged, without}
-use Rattle.verb_core.specs.Boxes.{box_cmp, box_of, same_user, has_row, row_at, change_row, drop_row, add_row, mail_at}
+use Rattle.verb_core.specs.Names.{inbox, lost_found}
+use Rattle.verb_core.specs.Boxes.{box_of, has_row}
 use Rattle.verb_core.specs.Store.{MailStore, IsValid, has_fixed, is_known, users_of}
-use Rattle.verb_core.specs.Items.{actor, text_in, IsWellFormed}
-use Rattle.verb_core.specs.Aims.{Sought, box_aimed, aim_at, into_or, and_postmaster, delivered, sought, sought_by}
+use Rattle.verb_core.specs.Items.{actor}
+use Rattle.verb_core.specs.Aims.{Sought, box_aimed, aim_at, into_or, and_postmaster, delivered, sought}
 use Rattle.verb_core.specs.Recipients.{recipients, some_unknown}
-use Rattle.verb_core.specs.Step.{Boxes, way_of, left, renamed, after_rename, rearranged, new_mail, put_at, step}
-use Rattle.verb_core.specs.Fates.{times_in, times_held, taken, times_taken, times_given}
-use Rattle.verb_core.proofs.Validity.{both, all-filter, all_kept, has_row-change_row, rising-rearranged}
-use Rattle.verb_core.proofs.BoxLaws.{tied, row_at-change_row, row_at-drop_row, rising-drop_row, rising-change_row}
+use Rattle.verb_core.specs.Step.{rearranged}
+use Rattle.verb_core.proofs.Validity.{both, all-filter, all_kept}
 
 -- ---- the aims are there
 

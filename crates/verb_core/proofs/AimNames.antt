@@ -1,5 +1,5 @@
 -- Aims depend on which mailboxes there are, and not on what lies in them.
-use Rattle.std.proofs.Common.{◌≡◌, ℕ, Bool, not, cond, List, [], ◌∷◌, map, filter, Option, Some, None, refl, sym, ap, ap₂, ◌∙◌, unwrap_or, option_map}
+use Rattle.std.proofs.Common.{◌≡◌, ℕ, Bool, not, cond, List, [], ◌∷◌, map, filter, Option, Some, None, refl, ap, ap₂, ◌∙◌, unwrap_or, option_map}
 use Rattle.undo_base.specs.declared.keys.User.{User}
 use Rattle.verb_core.specs.declared.item.Item.{Item}
 use Rattle.verb_core.specs.declared.item.Deed.{Deed}
@@ -15,7 +15,7 @@ use Rattle.verb_core.specs.Store.{MailStore}
 use Rattle.verb_core.specs.Items.{actor, text_in}
 use Rattle.verb_core.specs.Recipients.{recipients, deciding}
 use Rattle.verb_core.specs.Step.{Boxes}
-use Rattle.verb_core.specs.Aims.{Sought, aim_at, into_or, and_postmaster, delivered, sought, sought_by}
+use Rattle.verb_core.specs.Aims.{aim_at, into_or, and_postmaster, delivered, sought, sought_by}
 
 module _ (rs ss : Boxes) (same : (id : BoxId) → has_row id rs ≡ has_row id ss) where
   into_or-same : (name other : List ℕ) (users : List User) → into_or rs name other users ≡ into_or ss name other users

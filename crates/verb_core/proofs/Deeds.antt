@@ -11,7 +11,7 @@ use Rattle.verb_core.specs.declared.item.Act.{Act}
 use Rattle.verb_core.specs.declared.item.Act.TheVariants.{SetAlias, DropAlias, SetFilter, DropFilter, Remove, Give}
 use Rattle.verb_core.specs.declared.item.Shown.{Shown}
 use Rattle.verb_core.specs.declared.item.Shown.TheVariants.{Nothing, Seen, Names as Named, Count, Done, Copied, Put, Left, Way as Went, Moved}
-use Rattle.verb_core.specs.declared.item.Way.TheVariants.{Plain, NoSource, Merged}
+use Rattle.verb_core.specs.declared.item.Way.TheVariants.{NoSource, Merged}
 use Rattle.verb_core.specs.declared.conf.House.{House}
 use Rattle.verb_core.specs.declared.conf.Conf.{Conf}
 use Rattle.verb_core.specs.declared.conf.Alias.{Alias}
@@ -21,15 +21,14 @@ use Rattle.verb_core.specs.declared.mailbox.Mailbox.{Mailbox}
 use Rattle.verb_core.specs.declared.ask.Ask.{Ask}
 use Rattle.verb_core.specs.declared.ask.Ask.TheVariants as ask
 use Rattle.verb_core.specs.declared.ask.Refused.{Refused}
-use Rattle.verb_core.specs.declared.ask.Refused.TheVariants.{NoBox, Exists, Fixed, NameShape, TryCreate, Gone, TooLarge, UidWide, Numbers}
+use Rattle.verb_core.specs.declared.ask.Refused.TheVariants.{NoBox, Fixed, NameShape, TryCreate, Gone, TooLarge, UidWide, Numbers}
 use Rattle.verb_core.specs.Live.{live}
-use Rattle.verb_core.specs.Stamps.{stamps_after, opening_stamps}
 use Rattle.verb_core.specs.Names.{inbox, lost_found}
 use Rattle.verb_core.specs.Mailboxes.{no_mail, no_flags}
 use Rattle.verb_core.specs.Boxes.{box_of, row_at}
-use Rattle.verb_core.specs.Store.{MailStore, opening}
+use Rattle.verb_core.specs.Store.{MailStore}
 use Rattle.verb_core.specs.Recipients.{resolved}
-use Rattle.verb_core.specs.Step.{step, run, answers}
+use Rattle.verb_core.specs.Step.{step}
 
 abbrev ann : User
 ann = record { 0 = 0 }

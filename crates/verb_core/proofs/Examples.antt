@@ -3,32 +3,27 @@ use Rattle.std.proofs.Common.{◌≡◌, ℕ, true, false, List, [], ◌∷◌, 
 use Rattle.undo_base.specs.declared.keys.User.{User}
 use Rattle.undo_base.specs.declared.keys.Key.{Key}
 use Rattle.undo_base.specs.declared.keys.Flags.{Flags}
-use Rattle.undo_base.specs.declared.asks.How.TheVariants.{Add, Take, Replace}
+use Rattle.undo_base.specs.declared.asks.How.TheVariants.{Add}
 use Rattle.verb_core.specs.declared.item.Item.{Item}
 use Rattle.verb_core.specs.declared.item.Deed.{Deed}
-use Rattle.verb_core.specs.declared.item.Deed.TheVariants.{Deliver, Append, Fetch, Store, Copy, List as Names, Status, Select, Expunge, Close, Create, Rename, Delete, Act as Acts, Notice}
-use Rattle.verb_core.specs.declared.item.Act.{Act}
-use Rattle.verb_core.specs.declared.item.Act.TheVariants.{SetAlias, DropAlias, SetFilter, DropFilter, Remove, Give}
-use Rattle.verb_core.specs.declared.item.Shown.{Shown}
-use Rattle.verb_core.specs.declared.item.Shown.TheVariants.{Nothing, Seen, Names as Named, Count, Done, Copied, Put, Left, Way as Went, Moved}
-use Rattle.verb_core.specs.declared.item.Way.TheVariants.{Plain, NoSource, Merged}
+use Rattle.verb_core.specs.declared.item.Deed.TheVariants.{Deliver, Append, Fetch, Store, Copy, Status, Select, Expunge, Create, Rename, Delete, Act as Acts, Notice}
+use Rattle.verb_core.specs.declared.item.Act.TheVariants.{SetFilter}
+use Rattle.verb_core.specs.declared.item.Shown.TheVariants.{Nothing, Seen, Count, Copied, Put, Left, Way as Went, Moved}
+use Rattle.verb_core.specs.declared.item.Way.TheVariants.{Plain}
 use Rattle.verb_core.specs.declared.conf.House.{House}
 use Rattle.verb_core.specs.declared.conf.Conf.{Conf}
-use Rattle.verb_core.specs.declared.conf.Alias.{Alias}
-use Rattle.verb_core.specs.declared.conf.Filter.{Filter}
 use Rattle.verb_core.specs.declared.mailbox.Entry.{Entry}
 use Rattle.verb_core.specs.declared.mailbox.Mailbox.{Mailbox}
 use Rattle.verb_core.specs.declared.ask.Ask.{Ask}
 use Rattle.verb_core.specs.declared.ask.Ask.TheVariants as ask
 use Rattle.verb_core.specs.declared.ask.Refused.{Refused}
-use Rattle.verb_core.specs.declared.ask.Refused.TheVariants.{NoBox, Exists, Fixed, NameShape, TryCreate, Gone, TooLarge, UidWide, Numbers}
+use Rattle.verb_core.specs.declared.ask.Refused.TheVariants.{NoBox, Exists, Fixed, NameShape, TryCreate, Gone, Numbers}
 use Rattle.verb_core.specs.Live.{live}
 use Rattle.verb_core.specs.Stamps.{stamps_after, opening_stamps}
 use Rattle.verb_core.specs.Names.{inbox, lost_found}
 use Rattle.verb_core.specs.Mailboxes.{no_mail, no_flags}
 use Rattle.verb_core.specs.Boxes.{box_of, row_at}
 use Rattle.verb_core.specs.Store.{MailStore, opening}
-use Rattle.verb_core.specs.Recipients.{resolved}
 use Rattle.verb_core.specs.Step.{step, run, answers}
 
 abbrev ann : User

@@ -1,5 +1,5 @@
 -- What a delivery can be refused for.
-use Rattle.std.proofs.Common.{◌≡◌, ℕ, ◌<◌, ◌⊎◌, inl, inr, Bool, true, false, ◌&&◌, ◌==◌, cond, List, [], ◌∷◌, map, filter, length, Option, Result, Ok, Err, refl, sym, ap, ◌∙◌, arith, nat_lt, ltb-true, subst}
+use Rattle.std.proofs.Common.{◌≡◌, ℕ, ◌<◌, ◌⊎◌, inl, inr, Bool, true, false, ◌&&◌, ◌==◌, cond, List, [], ◌∷◌, map, filter, length, Option, Err, refl, ap, ◌∙◌, arith, nat_lt, ltb-true}
 use Rattle.std.specs.Ordering.{eq_by_cmp}
 use Rattle.undo_base.specs.declared.keys.User.{User}
 use Rattle.verb_core.specs.declared.item.Item.{Item}
@@ -15,7 +15,7 @@ use Rattle.verb_core.specs.Mailboxes.{put_all}
 use Rattle.verb_core.specs.Boxes.{box_cmp, same_user, change_row, names_of}
 use Rattle.verb_core.specs.Store.{MailStore}
 use Rattle.verb_core.specs.Aims.{box_aimed, sought_by}
-use Rattle.verb_core.specs.Step.{Boxes, message, new_mail, put_at, step}
+use Rattle.verb_core.specs.Step.{Boxes, new_mail, put_at, step}
 use Rattle.verb_core.specs.Live.{asker, asked_item, overfills, is_uid_wide, if_so, first_of, or_item, answered, live}
 
 -- a change of what stands in a row changes no name

@@ -1,7 +1,7 @@
 -- What holds of whole runs: each message once, and one fate for each.
-use Rattle.std.proofs.Common.{◌≡◌, ◌≢◌, ℕ, ◌+◌, ◌<◌, ◌≤◌, Bool, true, false, not, ◌&&◌, cond, List, [], ◌∷◌, ◌++◌, map, filter, flat_map, Option, Some, None, refl, sym, ap, ap₂, ◌∙◌, subst, arith, sum_by, length, eqb, eqb-true, eq-eqb, unwrap_or, is_none, true≢false, option_map}
-use Rattle.std.specs.List.{AllByRecursion, list_any, list_all, enumerate_from}
-use Rattle.std.proofs.lemmas.List.Sums.{sum_by-cons, sum_by-append, length-filter}
+use Rattle.std.proofs.Common.{◌≡◌, ◌≢◌, ℕ, ◌+◌, ◌≤◌, Bool, true, false, cond, List, [], ◌∷◌, ◌++◌, map, filter, refl, sym, ap, ◌∙◌, subst, arith, sum_by, length, eqb, eqb-true, eq-eqb, true≢false}
+use Rattle.std.specs.List.{AllByRecursion}
+use Rattle.std.proofs.lemmas.List.Sums.{sum_by-cons, length-filter}
 use Rattle.std.proofs.lemmas.List.{length-map}
 use Rattle.std.proofs.lemmas.List.Concat.{length-flat_map}
 use Rattle.undo_base.specs.declared.keys.User.{User}
@@ -12,12 +12,12 @@ use Rattle.verb_core.specs.declared.mailbox.Mailbox.{Mailbox}
 use Rattle.verb_core.specs.declared.mailbox.Entry.{Entry}
 use Rattle.verb_core.specs.Boxes.{same_user, rows_of}
 use Rattle.verb_core.specs.Store.{MailStore, IsValid}
-use Rattle.verb_core.specs.Items.{actor, text_in, IsWellFormed, NumbersApart, IsTimeline}
+use Rattle.verb_core.specs.Items.{IsWellFormed}
 use Rattle.verb_core.specs.Step.{Boxes, step, run}
 use Rattle.verb_core.specs.Fates.{of_key, times_in, times_held, times_given, times_taken, AllOnce, IsFresh, IsBase, places_of, takers, HasOneFate}
 use Rattle.verb_core.proofs.Validity.{step-IsValid}
 use Rattle.verb_core.proofs.FateLaws.{times_held-step, times_taken-le}
-use Rattle.verb_core.proofs.NoTwice.{one_of, times_given-le, once-step, fresh-step}
+use Rattle.verb_core.proofs.NoTwice.{times_given-le, once-step, fresh-step}
 
 -- ---- places are counted
 
