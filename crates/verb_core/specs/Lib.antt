@@ -1,1 +1,13 @@
 pub mod Texts
+pub mod Names
+pub mod Mailboxes
+pub mod Boxes
+pub mod Store
+pub mod Recipients
+pub mod Items
+pub mod Aims
+pub mod Step
+pub mod Touched
+pub mod Live
+pub mod Stamps
+pub mod Fates

@@ -1,6 +1,9 @@
 //! The house, and the configuration in force.
+ghost use Rattle.std.specs.Prelude.{◌≡◌};
+ghost use Rattle.verb_core.specs.Store.{is_house};
+
 use crate::{Accounts, Aliases, Filters};
-use undo_base::{Name, Names, User, Users};
+use undo_base::{LAST_NUMBER, MOST_USERS, Name, Names, User, Users};
 
 /// A user's name and password.
 #[derive(Debug, Drop, PartialEq, Eq)]
@@ -17,6 +20,20 @@ pub struct House {
     pub accounts: Accounts,
     pub postmaster: User,
     pub first: u32,
+}
+
+impl House {
+    /// Whether it has 1 to 200 users, the postmaster among them, and a first number that an item can have.
+    pub fn is_sound(&self) -> bool
+        ensures { result ≡ is_house self.now }
+    {
+        let users = self.accounts.len();
+        1 <= users
+            && users <= MOST_USERS
+            && (self.postmaster.0 as usize) < users
+            && 2 <= self.first
+            && self.first <= LAST_NUMBER
+    }
 }
 
 /// A local part that stands for users.

@@ -9,13 +9,18 @@ mod bodies;
 mod conf;
 mod copy;
 mod item;
+pub mod laws;
 mod mailbox;
+mod recipients;
+mod threads;
 
 pub use ask::{Ask, Refused};
 pub use bodies::{Bodies, BodiesFault};
 pub use conf::{Account, Alias, Conf, Filter, House};
 pub use item::{Act, Aim, Deed, Item, Resolved, Shown, Sight, Way};
 pub use mailbox::{Body, BoxId, Entry, Mailbox};
+pub use recipients::resolve_local;
+pub use threads::types_cross_threads;
 use undo_base::Sequence;
 
 /// The entries of a mailbox, by rising UID.
@@ -44,3 +49,6 @@ pub type Aims = Sequence<Aim>;
 
 /// Items, in order.
 pub type Items = Sequence<Item>;
+
+#[cfg(test)]
+mod tests;
