@@ -1,6 +1,5 @@
 -- What the code's values are in the machine.
 use Rattle.std.specs.Prelude.{ℕ, List, map}
-use Rattle.std.specs.BTreeMap.{BTreeMap}
 use Rattle.mail_proxy.specs.declared.dialog.Dialog.{Dialog as CodeDialog}
 use Rattle.mail_proxy.specs.declared.dialog.Transaction.{Transaction as CodeTransaction}
 use Rattle.mail_proxy.specs.declared.dialog.Transaction.TheVariants as code

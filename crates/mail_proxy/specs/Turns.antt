@@ -5,7 +5,7 @@ use Rattle.smtp_lines.specs.declared.line.SmtpLine.{SmtpLine}
 use Rattle.smtp_lines.specs.Lines.{rest_of}
 use Rattle.smtp_lines.specs.Line.{smtp_lines_of}
 use Rattle.mail_proxy.specs.Answer.{answer_text}
-use Rattle.mail_proxy.specs.State.{Kept, Dialog, Session, Smtp, Seat, State}
+use Rattle.mail_proxy.specs.State.{Dialog, Session, Smtp, Seat, State}
 use Rattle.mail_proxy.specs.Dialog.{Turn}
 use Rattle.mail_proxy.specs.Hindrance.{Hindrance, hindered, first_hindrance, other_hindrances}
 

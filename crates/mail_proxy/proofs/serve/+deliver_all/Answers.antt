@@ -1,5 +1,4 @@
-use Rattle.std.proofs.Common.{◌≡◌, ap, sym, ◌∙◌, refl, subst, [], ◌∷◌, List, ℕ, ◌-◌, length, take, drop, Ok}
-use Rattle.undo_outside.specs.Calls.{LinkTold}
+use Rattle.std.proofs.Common.{ap, sym, refl, subst, List, ◌-◌, length, take, drop, Ok}
 use Rattle.mail_proxy.specs.Machine.{Delivery, Reply, delivered}
 use Rattle.mail_proxy.specs.Did.{AreLicensed, Sends}
 use Rattle.mail_proxy.specs.Stands.{seats_of, reply_of, replies_of}

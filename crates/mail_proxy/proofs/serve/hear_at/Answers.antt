@@ -1,4 +1,4 @@
-use Rattle.mail_proxy.specs.Stands.{seats_of, replies_of}
+use Rattle.mail_proxy.specs.Stands.{replies_of}
 use Rattle.std.proofs.Common.{ap}
 use Rattle.mail_proxy.proofs.Events.{bytes_ignored, bytes_heard}
 use Rattle.mail_proxy.proofs.serve.hear_at.Goals as goal

@@ -1,11 +1,11 @@
-use Rattle.std.proofs.Common.{◌≡◌, ap, sym, ◌∙◌, refl, subst, [], ◌∷◌}
+use Rattle.std.proofs.Common.{◌≡◌, ap, sym, ◌∙◌, refl, subst}
 use Rattle.std.specs.Ordering.{nat_cmp}
 use Rattle.std.specs.Map.{lookup}
 use Rattle.std.specs.BTreeMap.{is_at}
 use Rattle.mail_proxy.specs.State.{State}
 use Rattle.mail_proxy.specs.Machine.{joins, Answered}
 use Rattle.mail_proxy.specs.Did.{Answers}
-use Rattle.mail_proxy.specs.Stands.{seats_of, reply_of, replies_of}
+use Rattle.mail_proxy.specs.Stands.{seats_of, replies_of}
 use Rattle.mail_proxy.proofs.Seats.{lookup_seat, joins_open, joins_shut}
 use Rattle.mail_proxy.proofs.serve.join.Goals as goal
 

@@ -1,4 +1,4 @@
-use Rattle.std.proofs.Common.{◌≡◌, ℕ, List, Bool, true, false, None, Some, ap, sym, ◌∙◌, subst, refl}
+use Rattle.std.proofs.Common.{ℕ, List, true, None, Some, ap, sym, ◌∙◌, subst, refl}
 use Rattle.smtp_lines.specs.declared.line.SmtpLine.{SmtpLine}
 use Rattle.smtp_lines.specs.Lines.{rest_of}
 use Rattle.smtp_lines.specs.Line.{smtp_lines_of}
