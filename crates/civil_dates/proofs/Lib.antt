@@ -1,0 +1,4 @@
+pub mod DayLemmas
+pub mod WalkLemmas
+pub mod TextLemmas
+pub mod Rows

@@ -1,0 +1,21 @@
+use Rattle.std.proofs.Common.{◌≡◌, ◌≤◌, false, length}
+use Rattle.smtp_lines.specs.Lines.{rest_of}
+use Rattle.smtp_lines.specs.Line.{smtp_lines_of}
+use Rattle.mail_proxy.specs.Machine.{Seats}
+use Rattle.mail_proxy.specs.Stands.{kept_of, dialog_of}
+use Rattle.mail_proxy.proofs.Stretch.{SoFar}
+use Rattle.mail_proxy.proofs.session.serve_lines.Given as goal
+
+-- the turns so far, and those of the lines that are left
+abbrev pub invariant-loop-line : goal.invariant-loop-line
+invariant-loop-line l = record {
+  stays : l.reply.closes ≡ false;
+  conn : l.reply.conn ≡ l.conn;
+  next : l.kept.next ≤ 4194304;
+  rest : rest_of l.unserved ≡ rest_of l.fn.unserved;
+  turns : (seats : Seats) → SoFar l.at seats (kept_of l.fn.kept) (dialog_of l.fn.dialog) (smtp_lines_of l.fn.unserved) l.reply.said (kept_of l.kept) (dialog_of l.dialog)
+      (smtp_lines_of l.unserved);
+}
+
+abbrev pub decreases-loop-line : goal.decreases-loop-line
+decreases-loop-line l = length (smtp_lines_of l.unserved)

@@ -1,0 +1,5 @@
+pub mod Pieces
+pub mod Numbers
+pub mod Line
+pub mod Script
+pub mod Transcript

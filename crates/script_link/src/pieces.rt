@@ -1,0 +1,49 @@
+//! Strings cut after each LF.
+ghost use Rattle.std.specs.Prelude.{◌≡◌, ◌≢◌, ◌<◌, ◌≤◌, ℕ, ◌∷◌, length, drop, slice_index, IfNone, IfSome};
+ghost use Rattle.std.specs.Io.BufRead.{strip_last};
+ghost use Rattle.script_link.specs.Pieces.{pieces_of};
+
+const LF: u8 = 10;
+
+/// Where the first LF stands.
+fn find_lf(bytes: &[u8]) -> Option<usize>
+    ensures none { IfNone result ((k : ℕ) → k < length bytes.now → slice_index bytes.now k ≢ 10) }
+    ensures before { IfSome result (λ place. (k : ℕ) → k < place → slice_index bytes.now k ≢ 10) }
+    ensures found { IfSome result (λ place. (place < length bytes.now) × (slice_index bytes.now place ≡ 10)) }
+{
+    for (place, byte) in bytes.iter().enumerate() {
+        if *byte == LF {
+            return Some(place);
+        }
+    }
+    None
+}
+
+pub fn after(bytes: &[u8], count: usize) -> &[u8]
+    requires { count ≤ length bytes.now }
+    ensures { result.now ≡ drop count bytes.now }
+{
+    &bytes[count..]
+}
+
+/// The first piece, and what follows it.
+pub fn first_piece(bytes: &[u8]) -> (&[u8], &[u8])
+    requires { 0 < length bytes.now }
+    ensures pieces { pieces_of bytes.now ≡ result.0.now ∷ pieces_of result.1.now }
+    ensures shorter { length result.1.now < length bytes.now }
+{
+    match find_lf(bytes) {
+        Some(place) => (&bytes[..place + 1], after(bytes, place + 1)),
+        None => (bytes, &[]),
+    }
+}
+
+/// A piece without its LF.
+pub fn without_lf(piece: &[u8]) -> &[u8]
+    ensures { result.now ≡ strip_last 10 piece.now }
+{
+    match piece {
+        [line @ .., LF] => line,
+        _ => piece,
+    }
+}

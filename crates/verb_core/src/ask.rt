@@ -1,0 +1,82 @@
+//! What users ask of the store, and why it is refused.
+use undo_base::{Flags, How, Keys, Name, Names, Text};
+
+/// What is asked of the store. `strict` is true where the messages were named by sequence number.
+#[derive(Debug, Drop, PartialEq, Eq)]
+pub enum Ask {
+    Deliver {
+        from: Text,
+        to: Names,
+        text: Text,
+    },
+    Append {
+        mailbox: Name,
+        flags: Flags,
+        moment: Option<u64>,
+        text: Text,
+    },
+    Fetch {
+        mailbox: Name,
+        keys: Keys,
+        sets_seen: bool,
+        shows_body: bool,
+        strict: bool,
+        asked: u64,
+    },
+    Store {
+        mailbox: Name,
+        keys: Keys,
+        how: How,
+        flags: Flags,
+        strict: bool,
+    },
+    Copy {
+        mailbox: Name,
+        keys: Keys,
+        target: Name,
+        strict: bool,
+    },
+    List {
+        pattern: Text,
+    },
+    Status {
+        mailbox: Name,
+    },
+    Select {
+        mailbox: Name,
+    },
+    Expunge {
+        mailbox: Name,
+    },
+    Close {
+        mailbox: Name,
+        removes: bool,
+    },
+    Create {
+        mailbox: Name,
+    },
+    Rename {
+        mailbox: Name,
+        target: Name,
+    },
+    Delete {
+        mailbox: Name,
+    },
+}
+
+/// Why an ask is refused.
+#[derive(Clone, Copy, Debug, PartialEq, Eq)]
+pub enum Refused {
+    NoBox,
+    Exists,
+    Fixed,
+    NameShape,
+    TryCreate,
+    Gone,
+    TooMany { asked: u64 },
+    TooLarge { asked: u64 },
+    BoxesFull,
+    UidWide,
+    Numbers { next: u32 },
+    NoMemory,
+}

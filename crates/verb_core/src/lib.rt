@@ -1,0 +1,46 @@
+//! The verbs of the mail store: its parts, its items, and what each item does.
+//!
+//! `mailbox` and `conf` are the parts of a store, `item` what is recorded, `ask` what is asked and refused, `bodies`
+//! where texts are read, `copy` the copies. `specs/` says what each item does to the store and what it answers.
+#![tactic(auto)]
+
+mod ask;
+mod bodies;
+mod conf;
+mod copy;
+mod item;
+mod mailbox;
+
+pub use ask::{Ask, Refused};
+pub use bodies::{Bodies, BodiesFault};
+pub use conf::{Account, Alias, Conf, Filter, House};
+pub use item::{Act, Aim, Deed, Item, Resolved, Shown, Sight, Way};
+pub use mailbox::{Body, BoxId, Entry, Mailbox};
+use undo_base::Sequence;
+
+/// The entries of a mailbox, by rising UID.
+pub type Entries = Sequence<Entry>;
+
+/// Mailboxes, by rising user and name.
+pub type Rows = Sequence<(BoxId, Mailbox)>;
+
+/// The UIDVALIDITY of each mailbox, by rising user and name.
+pub type Stamps = Sequence<(BoxId, u32)>;
+
+/// Aliases, by rising local part.
+pub type Aliases = Sequence<Alias>;
+
+/// Filters, in the order in which they are tried.
+pub type Filters = Sequence<Filter>;
+
+/// The accounts of a house: that of the user with number i stands at place i.
+pub type Accounts = Sequence<Account>;
+
+/// Messages as they were shown, in order.
+pub type Sights = Sequence<Sight>;
+
+/// Where new entries go, in order.
+pub type Aims = Sequence<Aim>;
+
+/// Items, in order.
+pub type Items = Sequence<Item>;
