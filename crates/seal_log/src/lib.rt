@@ -20,3 +20,6 @@ pub use loading::load;
 pub use log::{Log, format};
 pub use place::{Place, Places};
 pub use run::seal_all;
+
+#[cfg(test)]
+mod tests;
