@@ -1,21 +1,12 @@
 -- Why calls on a journal fail, by the disk's counts of failures.
-use Rattle.std.specs.Prelude.{◌≡◌, ◌⊎◌, ℕ, false, Result, OnOk, IsErrOf}
-use Rattle.undo_outside.specs.Calls.{Rose}
-use Rattle.undo_outside.specs.Disk.{DiskTold}
+use Rattle.std.specs.Prelude.{◌≡◌, ◌⊎◌, ℕ, Result, OnOk, IsErrOf}
+use Rattle.undo_outside.specs.Disk.{DiskTold, ReadFailed, WriteFailed}
 use Rattle.seal_log.specs.declared.fault.SealFault.{SealFault}
 use Rattle.seal_log.specs.declared.fault.SealFault.TheVariants.{Disk as seal_disk, NoMemory as seal_no_memory, Closed}
 use Rattle.seal_log.specs.declared.fault.ReadFault.{ReadFault}
 use Rattle.seal_log.specs.declared.fault.ReadFault.TheVariants.{Disk as read_disk, NoMemory as read_no_memory}
 use Rattle.seal_log.specs.declared.fault.LoadFault.{LoadFault}
 use Rattle.seal_log.specs.declared.fault.LoadFault.TheVariants.{Disk as load_disk, NoMemory as load_no_memory, NotFormatted, Damaged}
-
--- a write or a sync failed, on a disk whose calls may fail
-abbrev pub WriteFailed : DiskTold → DiskTold → Type 0
-WriteFailed old new = Rose old.failed_writes new.failed_writes × (old.is_reliable ≡ false)
-
--- a read failed, on a disk whose calls may fail
-abbrev pub ReadFailed : DiskTold → DiskTold → Type 0
-ReadFailed old new = Rose old.failed_reads new.failed_reads × (old.is_reliable ≡ false)
 
 -- no call failed
 pub record SameCounts (old new : DiskTold) : Type 0 where

@@ -1,10 +1,10 @@
 ghost use Rattle.std.specs.Prelude.{◌≡◌, ◌≤◌, IfOk, length};
 ghost use Rattle.undo_outside.specs.MemDiskParts.{IsNew};
 
-use crate::{LoadFault, Place, ReadFault, SealFault, format, load};
+use crate::{LoadFault, Place, ReadFault, SealFault, format, load, seal_all};
 use std::alloc::Global;
 use std::test::Fail;
-use undo_base::{Numbers, Text};
+use undo_base::{Numbers, Text, Texts};
 use undo_outside::MemDisk;
 
 // The first record of a house, of 71 bytes, and the creation of a mailbox, of 21.
@@ -203,5 +203,32 @@ fn a_journal_is_loaded(rt: HostRuntime) -> Result<(), Fail> {
             length: 0
         }
     );
+    Ok(())
+}
+
+#[test]
+fn many_and_long_payloads_are_sealed(rt: HostRuntime) -> Result<(), Fail> {
+    let alloc = rt.alloc();
+    let mut disk = disk_of(alloc, b"", &[])?;
+    let mut log = format(alloc, &mut disk, b"")?;
+    let mut payloads = Texts::new(alloc);
+    for byte in 0..150 {
+        payloads.push(Text::of(alloc, &[byte; 3])?)?;
+    }
+    seal_all(alloc, &mut log, &mut disk, payloads.as_slice())?;
+    assert_eq!(rt; disk.writes(), 302);
+    let long = Text::of(alloc, &[7; 400])?;
+    let place = log.seal(alloc, &mut disk, long.bytes())?;
+    assert_eq!(rt;
+        place,
+        Place {
+            gate: 1205,
+            length: 400
+        }
+    );
+    let text = log.read_at(alloc, &mut disk, place, 396, 4)?;
+    assert_eq!(rt; text.bytes(), [7, 7, 7, 7].as_slice());
+    let (_, places) = load(alloc, &mut disk)?;
+    assert_eq!(rt; places.len(), 152);
     Ok(())
 }

@@ -1,5 +1,5 @@
 -- What a disk tells of itself, what its calls do to that, and what a crash may leave.
-use Rattle.std.specs.Prelude.{◌≡◌, ◌⊎◌, ◌+◌, ◌<◌, ◌≤◌, ◌↔◌, ℕ, Bool, false, List, ◌++◌, length, take, drop, max, slice_index}
+use Rattle.std.specs.Prelude.{◌≡◌, ◌⊎◌, ◌+◌, ◌<◌, ◌≤◌, ◌↔◌, ℕ, Bool, true, false, List, ◌++◌, length, take, drop, max, slice_index}
 use Rattle.std.specs.Prelude.{Result, Ok, Err, OnOk, OnErr, IfOk, IsErrOf}
 use Rattle.std.specs.List.{slice_range}
 use Rattle.undo_outside.specs.declared.fault.Failed.{Failed as Failure}
@@ -9,7 +9,8 @@ use Rattle.undo_outside.specs.Calls.{Rose}
 
 -- What a disk tells: whether what it tells of its bytes is true; its length; what reads give; which images a crash now
 -- may leave; the moment, a number that doesn't fall, and which images a crash at some moment since that one may have
--- left; how many reads and calls of `len` have failed, and how many writes and syncs; and whether no call will fail.
+-- left; how many reads and calls of `len` have failed, and how many writes and syncs; whether the last call did that found
+-- memory; and whether no call will fail.
 pub record DiskTold : Type 1 where
   pub honest : Type 0
   pub size : ℕ
@@ -19,6 +20,7 @@ pub record DiskTold : Type 1 where
   pub since : ℕ → List ℕ → Type 0
   pub failed_reads : ℕ
   pub failed_writes : ℕ
+  pub failed_last : Bool
   pub is_reliable : Bool
 
 -- What an honest disk tells fits together: the length is that of what reads give, which is one of the images of now,
@@ -76,17 +78,27 @@ pub record IsLook (old new : DiskTold) : Type 0 where
   pub images : old.honest → SameImages old.images new.images
   pub time : old.honest → CallTime old new
 
--- a read failed only where the count of failed reads rose, and no other count changed
+-- a read failed, on a disk whose calls may fail: its count rose, by one at most, and no call came after it
+abbrev pub ReadFailed : DiskTold → DiskTold → Type 0
+ReadFailed old new = Rose old.failed_reads new.failed_reads × (new.failed_reads ≤ old.failed_reads + 1) × (new.failed_last ≡ true) × (old.is_reliable ≡ false)
+
+-- the same of a write or a sync
+abbrev pub WriteFailed : DiskTold → DiskTold → Type 0
+WriteFailed old new = Rose old.failed_writes new.failed_writes × (new.failed_writes ≤ old.failed_writes + 1) × (new.failed_last ≡ true) × (old.is_reliable ≡ false)
+
+-- a read answers `Failed` exactly where it failed, and no other count changes
 pub record ReadCause {T : Type 0} (old new : DiskTold) (result : Result T Failure) : Type 0 where
   pub ok : OnOk result (new.failed_reads ≡ old.failed_reads)
-  pub failed : OnErr result (Rose old.failed_reads new.failed_reads × (old.is_reliable ≡ false))
+  pub ok_last : OnOk result (new.failed_last ≡ false)
+  pub failed : OnErr result (ReadFailed old new)
   pub writes : new.failed_writes ≡ old.failed_writes
   pub reliable : new.is_reliable ≡ old.is_reliable
 
--- a write failed only where the count of failed writes rose, and no other count changed
+-- the same of a write
 pub record WriteCause {T : Type 0} (old new : DiskTold) (result : Result T Fault) : Type 0 where
   pub ok : OnOk result (new.failed_writes ≡ old.failed_writes)
-  pub failed : IsErrOf result Failed → Rose old.failed_writes new.failed_writes × (old.is_reliable ≡ false)
+  pub ok_last : OnOk result (new.failed_last ≡ false)
+  pub failed : IsErrOf result Failed → WriteFailed old new
   pub no_memory : IsErrOf result NoMemory → new.failed_writes ≡ old.failed_writes
   pub reads : new.failed_reads ≡ old.failed_reads
   pub reliable : new.is_reliable ≡ old.is_reliable
@@ -94,7 +106,8 @@ pub record WriteCause {T : Type 0} (old new : DiskTold) (result : Result T Fault
 -- the same of a sync
 pub record SyncCause {T : Type 0} (old new : DiskTold) (result : Result T Failure) : Type 0 where
   pub ok : OnOk result (new.failed_writes ≡ old.failed_writes)
-  pub failed : OnErr result (Rose old.failed_writes new.failed_writes × (old.is_reliable ≡ false))
+  pub ok_last : OnOk result (new.failed_last ≡ false)
+  pub failed : OnErr result (WriteFailed old new)
   pub reads : new.failed_reads ≡ old.failed_reads
   pub reliable : new.is_reliable ≡ old.is_reliable
 

@@ -17,6 +17,7 @@ told_by disk = record {
   since = image_since disk.start (history disk.writes.items);
   failed_reads = disk.failed_reads;
   failed_writes = disk.failed_writes;
+  failed_last = disk.failed_last;
   is_reliable = length disk.failing == 0;
 }
 

@@ -1,5 +1,5 @@
 //! No disk at all.
-ghost use Rattle.std.specs.Prelude.{◌≡◌, ◌≤◌, ◌+◌, [], false, length, IsErr};
+ghost use Rattle.std.specs.Prelude.{◌≡◌, ◌≤◌, ◌+◌, [], true, false, length, IsErr};
 ghost use Rattle.undo_outside.specs.Disk.{Measures, ReadsAt, Syncs, WritesAt};
 
 use crate::{Disk, DiskFault, Failed, Fault};
@@ -30,6 +30,7 @@ impl Disk for AbsentDisk {
       since = λ _ _. ⊥;
       failed_reads = d.failed_reads;
       failed_writes = d.failed_writes;
+      failed_last = true;
       is_reliable = false;
     } };
 

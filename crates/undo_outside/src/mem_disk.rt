@@ -29,6 +29,7 @@ pub struct MemDisk {
     failing: Numbers,
     failed_reads: u64,
     failed_writes: u64,
+    failed_last: bool,
     ghost kept: { held start latest ≡ content_after start (history writes.items) },
 }
 
@@ -48,6 +49,7 @@ impl MemDisk {
             failing,
             failed_reads: 0,
             failed_writes: 0,
+            failed_last: false,
         }
     }
 
@@ -150,7 +152,8 @@ fn is_due(calls: &mut u32, failing: &Numbers) -> bool
 
 /// Counts one failure more.
 fn count_failure(failures: &mut u64)
-    ensures { Rose failures.old failures.new }
+    ensures rose { Rose failures.old failures.new }
+    ensures once { failures.new ≤ failures.old + 1 }
 {
     *failures = failures.saturating_add(1);
 }
@@ -256,8 +259,10 @@ impl Disk for MemDisk {
     {
         if is_due(&mut self.calls, &self.failing) {
             count_failure(&mut self.failed_reads);
+            self.failed_last = true;
             return Err(Failed);
         }
+        self.failed_last = false;
         Ok(current(&self.start, &self.latest).len() as u64)
     }
 
@@ -269,10 +274,12 @@ impl Disk for MemDisk {
     {
         if is_due(&mut self.calls, &self.failing) {
             count_failure(&mut self.failed_reads);
+            self.failed_last = true;
             return Err(Failed);
         }
         let bytes = &current(&self.start, &self.latest)[place as usize..];
         buf.copy_from_slice(&bytes[..buf.len()]);
+        self.failed_last = false;
         Ok(())
     }
 
@@ -289,6 +296,7 @@ impl Disk for MemDisk {
             write_down(self.alloc, &mut self.writes, place, bytes, false)?;
             self.calls = calls;
             count_failure(&mut self.failed_writes);
+            self.failed_last = true;
             return Err(Fault::Failed);
         }
         write_through(
@@ -300,6 +308,7 @@ impl Disk for MemDisk {
             bytes,
         )?;
         self.calls = calls;
+        self.failed_last = false;
         Ok(())
     }
 
@@ -310,9 +319,11 @@ impl Disk for MemDisk {
     {
         if is_due(&mut self.calls, &self.failing) {
             count_failure(&mut self.failed_writes);
+            self.failed_last = true;
             return Err(Failed);
         }
         mark(&mut self.writes);
+        self.failed_last = false;
         Ok(())
     }
 }

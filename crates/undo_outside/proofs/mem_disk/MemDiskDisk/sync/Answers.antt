@@ -15,5 +15,5 @@ returns-clause-call c =
       durable = λ _ f now. only_marked start old new c.mark.ensures f now ∙ sym c.args.self.now.kept;
       images = λ _. images_marked start old new c.mark.ensures;
       time = λ _. time_marked start old new c.mark.ensures;
-      cause = record { ok = refl; failed = tt; reads = refl; reliable = refl };
+      cause = record { ok = refl; ok_last = refl; failed = tt; reads = refl; reliable = refl };
     }
