@@ -1,3 +1,6 @@
+ghost use Rattle.std.specs.Prelude.{All, OnOk};
+ghost use Rattle.imap_text.specs.Answers.{HasDate, IsDated};
+
 use crate::{
     BoxFacts, FetchPart, FetchParts, FetchValue, date_text, render_expunge, render_fetch,
     render_list, render_select, render_status,
@@ -6,11 +9,18 @@ use std::alloc::Global;
 use std::test::Fail;
 use undo_base::{Flags, Name, Names, NoMemory, Places, StatusAsk, StatusAsks, Text};
 
-fn part(alloc: Global, label: &[u8], value: FetchValue) -> Result<FetchPart, NoMemory> {
-    Ok(FetchPart {
-        label: Text::of(alloc, label)?,
-        value,
-    })
+fn add(
+    alloc: Global,
+    parts: &mut FetchParts,
+    label: &[u8],
+    value: FetchValue,
+) -> Result<(), NoMemory>
+    requires old { All HasDate parts.old }
+    requires dated { IsDated value }
+    ensures { OnOk result (All HasDate parts.new) }
+{
+    let label = Text::of(alloc, label)?;
+    parts.push(FetchPart { label, value })
 }
 
 const FACTS: BoxFacts = BoxFacts {
@@ -34,15 +44,22 @@ fn a_message_and_its_attributes(rt: HostRuntime) -> Result<(), Fail> {
         render_fetch(alloc, 3, &parts)?.bytes(),
         b"* 3 FETCH ()\r\n".as_slice()
     );
-    parts.push(part(alloc, b"FLAGS", FetchValue::Flags(flags))?)?;
-    parts.push(part(alloc, b"UID", FetchValue::Number(4294967296))?)?;
-    parts.push(part(alloc, b"INTERNALDATE", FetchValue::Moment(1105092000))?)?;
-    parts.push(part(
+    add(alloc, &mut parts, b"FLAGS", FetchValue::Flags(flags))?;
+    add(alloc, &mut parts, b"UID", FetchValue::Number(4294967296))?;
+    add(
         alloc,
-        b"BODY[]<0>",
-        FetchValue::Literal(Text::of(alloc, b"Return")?),
-    )?)?;
-    parts.push(part(alloc, b"FLAGS", FetchValue::Flags(Flags::default()))?)?;
+        &mut parts,
+        b"INTERNALDATE",
+        FetchValue::Moment(1105092000),
+    )?;
+    let text = Text::of(alloc, b"Return")?;
+    add(alloc, &mut parts, b"BODY[]<0>", FetchValue::Literal(text))?;
+    add(
+        alloc,
+        &mut parts,
+        b"FLAGS",
+        FetchValue::Flags(Flags::default()),
+    )?;
     assert_eq!(rt;
         render_fetch(alloc, 1, &parts)?.bytes(),
         b"* 1 FETCH (FLAGS (\\Answered \\Deleted) UID 4294967296 INTERNALDATE \" 7-Jan-2005 10:00:00 +0000\" BODY[]<0> {6}\r\nReturn FLAGS ())\r\n".as_slice()

@@ -1,0 +1,28 @@
+-- What a shelf knows of bodies.
+use Rattle.std.specs.Prelude.{◌≡◌, ℕ, ◌==◌, ◌&&◌, ◌<◌, ◌≤◌, Bool, List, [], ◌∷◌, length, max, Option, Some, None, option_map, if◌then◌else◌, slice_index_or}
+use Rattle.std.specs.Ordering.{nat_cmp, ordering_then}
+use Rattle.std.specs.declared.cmp.Ordering.{Ordering}
+use Rattle.std.specs.declared.cmp.Ordering.TheVariants.{Less, Equal}
+use Rattle.verb_core.specs.declared.mailbox.Body.{Body}
+use Rattle.shelf.specs.declared.note.Note.{Note}
+
+-- a shelf: each body that was noted with its last note, and room for so many notes more
+pub record Noted : Type 0 where
+  pub notes : List (Body × Note)
+  pub room : ℕ
+
+abbrev pub same_body : Body → Body → Bool
+same_body a b = (a.origin == b.origin) && (a.rev == b.rev)
+
+-- the note of a body, where there is one
+abbrev pub note_of : List (Body × Note) → Body → Option Note
+note_of [] body = None
+note_of (row ∷ rows) body = if same_body row.0 body then Some row.1 else note_of rows body
+
+-- how many bytes a body has, where it was noted
+abbrev pub size_of : List (Body × Note) → Body → Option ℕ
+size_of rows body = option_map (λ note. note.length) (note_of rows body)
+
+-- one body has the note, and each other what it had
+abbrev pub NotesOnly : List (Body × Note) → List (Body × Note) → Body → Note → Type 0
+NotesOnly old new body note = (other : Body) → note_of new other ≡ (if same_body body other then Some note else note_of old other)

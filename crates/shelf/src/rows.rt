@@ -1,0 +1,106 @@
+//! The notes of bodies.
+ghost use Rattle.std.specs.Prelude.{◌≡◌, ◌≤◌, ◌<◌, ◌+◌, [], IfOk, IfErr, OnOk};
+ghost use Rattle.shelf.specs.Notes as spec;
+ghost use Rattle.shelf.specs.Notes.{NotesOnly, size_of};
+ghost use Rattle.shelf.specs.Rows.{made, IsAt, IsGapFor};
+
+use crate::Note;
+use seal_log::Place;
+use std::alloc::Global;
+use std::marker::Model;
+use undo_base::NoMemory;
+use verb_core::Body;
+
+/// The bodies that are known, each with its last note.
+#[derive(Debug, Drop)]
+pub struct Shelf {
+    rows: Vec<(Body, Note)>,
+}
+
+impl Model for Shelf {
+    ghost use Rattle.std.specs.Prelude.{◌-◌, vec_len, vec_capacity};
+    ghost use Rattle.shelf.specs.Notes.{Noted};
+    ghost use Rattle.shelf.specs.Rows.{IsRising};
+
+    ghost Value = { Noted };
+
+    ghost view = { λ s. record { notes = s.rows.items; room = vec_capacity s.rows - vec_len s.rows } };
+
+    ghost invariant = { λ s. IsRising s.rows.items };
+}
+
+fn made_at(body: Body) -> (u32, u32, u32)
+    ensures { result ≡ made body }
+{
+    (body.origin.max(body.rev), body.origin, body.rev)
+}
+
+impl Shelf {
+    /// A shelf on which nothing is noted, which takes no memory.
+    pub fn new(alloc: Global) -> Shelf
+        ensures { result.notes ≡ [] }
+    {
+        Shelf {
+            rows: Vec::new(alloc),
+        }
+    }
+
+    /// Makes room for at least so many notes more.
+    pub fn note_room(&mut self, count: u32) -> Result<(), NoMemory>
+        ensures ok { OnOk result (count ≤ self.new.room) }
+        ensures room { self.old.room ≤ self.new.room }
+        ensures notes { self.new.notes ≡ self.old.notes }
+    {
+        self.rows.reserve(count as usize)?;
+        Ok(())
+    }
+
+    /// Notes where a body's text lies, in place of an earlier note of that body. It takes no memory, and uses room
+    /// for one note at most.
+    pub fn note(&mut self, body: Body, place: Place, from: u32, length: u32)
+        requires { 0 < self.old.room }
+        ensures notes { NotesOnly self.old.notes self.new.notes body (record { place = place; from = from; length = length }) }
+        ensures room { self.old.room ≤ self.new.room + 1 }
+    {
+        let note = Note {
+            place,
+            from,
+            length,
+        };
+        match self.search(body) {
+            Ok(at) => self.rows[at] = (body, note),
+            Err(at) => self.insert(at, body, note),
+        }
+    }
+
+    /// How many bytes a body has, where it was noted.
+    pub fn size(&self, body: Body) -> Option<u32>
+        ensures { result ≡ size_of self.now.notes body }
+    {
+        match self.search(body) {
+            Ok(at) => Some(self.rows[at].1.length),
+            Err(_) => None,
+        }
+    }
+
+    fn insert(&mut self, at: usize, body: Body, note: Note)
+        requires room { 0 < self.old.room }
+        requires gap { IsGapFor self.old.notes body at }
+        ensures notes { NotesOnly self.old.notes self.new.notes body note }
+        ensures room { self.old.room ≤ self.new.room + 1 }
+    {
+        match self.rows.insert(at, (body, note)) {
+            Ok(()) => {}
+            Err(_) => unreachable!(),
+        }
+    }
+
+    /// Where the body's note is, or where it would go.
+    fn search(&self, body: Body) -> Result<usize, usize>
+        ensures found { IfOk result (IsAt self.now.notes body) }
+        ensures absent { IfErr result (IsGapFor self.now.notes body) }
+    {
+        self.rows
+            .binary_search_by_key(&made_at(body), |row| made_at(row.0))
+    }
+}
