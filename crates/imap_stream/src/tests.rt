@@ -7,9 +7,13 @@ use undo_base::{NoMemory, Places, Text, Texts, Uids};
 fn told(alloc: Global, stream: &[u8], size: usize) -> Result<Text, NoMemory> {
     let mut told = Text::new(alloc);
     let mut pieces = Pieces::new(alloc);
-    for piece in stream.chunks(size) {
+    for piece in stream.chunks(size.max(1)) {
         pieces.feed(piece)?;
-        while tell(&mut told, pieces.next(alloc)?)? {}
+        for _ in 0..100 {
+            if !tell(&mut told, pieces.next(alloc)?)? {
+                break;
+            }
+        }
     }
     Ok(told)
 }
