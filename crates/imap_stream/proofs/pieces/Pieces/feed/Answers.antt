@@ -1,0 +1,14 @@
+use Rattle.std.proofs.Common.{◌≡◌, ap, ◌∙◌}
+use Rattle.std.proofs.lemmas.Result.{on_ok_weaker}
+use Rattle.imap_stream.specs.Commands.{heard}
+use Rattle.imap_stream.specs.Reading.{seen}
+use Rattle.imap_stream.proofs.Readings.{fed_same}
+use Rattle.imap_stream.proofs.pieces.Pieces.feed.Goals as goal
+
+pub returns-clause-ok : goal.returns-clause-ok
+returns-clause-ok c =
+    let more = c.args.bytes.now in
+    let r = c.compact.new.reader in
+    let bytes = c.compact.new.bytes.items in
+    let same : seen r bytes ≡ c.args.self.now = cc in
+    on_ok_weaker c.push_bytes.result (λ e. ap (seen r) e ∙ fed_same r bytes more c.compact.ensures.sound.given ∙ ap (λ h. heard h more) same) c.push_bytes.ensures.ok

@@ -1,0 +1,23 @@
+use Rattle.std.proofs.Common.{◌<◌, ◌+◌, ◌-◌, ◌≤◌, length, arith}
+use Rattle.imap_stream.proofs.Readings.{gives_up_same, none_long, none_short}
+use Rattle.imap_stream.proofs.reader.wait_in_line.Goals as goal
+
+pub returns-then-length-reader-clause-none : goal.returns-then-length-reader-clause-none
+returns-then-length-reader-clause-none c =
+    let long : 65537 < c.args.reader.now.begun.octets + (length c.args.bytes.now - c.args.start) = omega arith in
+    none_long c.args.reader.now c.args.bytes.now c.args.start c.requires.waits c.requires.open long
+
+pub returns-clause-none : goal.returns-clause-none
+returns-clause-none c =
+    let short : c.args.reader.now.begun.octets + (length c.args.bytes.now - c.args.start) ≤ 65537 = (let m = c.requires.waits.sound.begun.most in omega arith) in
+    none_short c.args.reader.now c.args.bytes.now c.args.start c.requires.waits c.requires.open short
+
+pub returns-in_err-give_up-clause-none : goal.returns-in_err-give_up-clause-none
+returns-in_err-give_up-clause-none c =
+    let long : 65537 < c.args.reader.now.begun.octets + (length c.args.bytes.now - c.args.start) = omega arith in
+    none_long c.args.reader.now c.args.bytes.now c.args.start c.requires.waits c.requires.open long
+
+pub returns-then-length-reader-clause-same : goal.returns-then-length-reader-clause-same
+returns-then-length-reader-clause-same c =
+    let long : 65537 < c.args.reader.now.begun.octets + (length c.args.bytes.now - c.args.start) = omega arith in
+    gives_up_same c.args.reader.now c.give_up.new.reader c.args.bytes.now c.args.start c.requires.waits c.requires.open long c.in_ok-give_up.ensures.ok

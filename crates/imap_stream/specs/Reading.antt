@@ -1,0 +1,65 @@
+-- How the code keeps what it has heard of a stream.
+use Rattle.std.specs.Prelude.{◌≡◌, ℕ, ◌+◌, ◌-◌, ◌≤◌, List, [], ◌++◌, length, take, drop, Option, None, Some}
+use Rattle.imap_stream.specs.Commands.{Heard, heard, before, awaited, end_of, last_byte, nothing, with_literal, tag_of_command}
+use Rattle.imap_stream.specs.declared.begun.Awaits.{Awaits}
+use Rattle.imap_stream.specs.declared.begun.Awaits.TheVariants.{Line, Literal, End}
+use Rattle.imap_stream.specs.declared.begun.Begun.{Begun}
+use Rattle.imap_stream.specs.declared.reader.Reader.{Reader}
+
+-- what a command has so far
+pub record IsBegun (begun : Begun) : Type 0 where
+  pub most : begun.octets ≤ 65536
+  pub first : begun.lines ≡ [] → begun.octets ≡ 0
+
+-- At so many places of the line behind a literal of n octets no CRLF begins, whatever comes.
+abbrev pub IsClear : List ℕ → ℕ → ℕ → Type 0
+IsClear held n scanned = (more : List ℕ) → end_of (take (scanned + 1) (drop n (held ++ more))) ≡ None
+
+pub record IsSound (reader : Reader) (bytes : List ℕ) : Type 0 where
+  pub given : reader.given ≤ length bytes
+  pub begun : IsBegun reader.begun
+  pub within : reader.scanned ≤ length (drop (awaited reader.awaits) (drop reader.given bytes))
+  pub clear : IsClear (drop reader.given bytes) (awaited reader.awaits) reader.scanned
+
+-- what the bytes make that are not read yet
+abbrev pub seen : Reader → List ℕ → Heard
+seen reader bytes = heard (before reader.begun reader.awaits) (drop reader.given bytes)
+
+-- no line is given up
+abbrev pub IsOpen : Awaits → Type 0
+IsOpen Line = Unit {0}
+IsOpen (Literal n) = Unit {0}
+IsOpen (End tag) = ⊥
+
+-- the tag of a command whose line is too long
+abbrev pub tag_kept : Awaits → Option (List ℕ)
+tag_kept Line = None
+tag_kept (Literal n) = None
+tag_kept (End tag) = tag
+
+-- the line that begins at a place has so many bytes before its CRLF
+pub record EndsAt (start : ℕ) (bytes : List ℕ) (place : ℕ) : Type 0 where
+  pub within : start + place + 2 ≤ length bytes
+  pub first : end_of (drop start bytes) ≡ Some place
+
+-- the line that begins at a place has not come whole
+pub record Waits (reader : Reader) (bytes : List ℕ) (start : ℕ) : Type 0 where
+  pub sound : IsSound reader bytes
+  pub begins : start ≡ reader.given + awaited reader.awaits
+  pub within : start ≤ length bytes
+  pub open_line : end_of (drop start bytes) ≡ None
+
+-- the line that begins at a place is given up
+pub record GivesUp (old : Reader) (bytes : List ℕ) (start : ℕ) (new : Reader) : Type 0 where
+  pub begun : new.begun ≡ nothing
+  pub awaits : new.awaits ≡ End (tag_of_command old.begun (drop start bytes))
+  pub within : new.given ≤ length bytes
+  pub rest : drop new.given bytes ≡ last_byte (drop start bytes)
+  pub scanned : new.scanned ≡ 0
+
+-- the literal before the line that begins at a place is taken
+pub record Settles (old : Reader) (bytes : List ℕ) (start : ℕ) (new : Reader) : Type 0 where
+  pub begun : new.begun ≡ with_literal old.begun (take (start - old.given) (drop old.given bytes))
+  pub awaits : new.awaits ≡ Line
+  pub given : new.given ≡ start
+  pub scanned : new.scanned ≡ old.scanned

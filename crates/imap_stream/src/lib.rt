@@ -1,0 +1,25 @@
+//! The commands of a mail client's stream (RFC 3501), cut out of it, and the messages that their sets name.
+//!
+//! `next` has what a stream gives; `begun` what is read of a command; `marks` the tags of lines and the marks of
+//! literals; `pieces` cuts a stream that comes in any pieces; `picks` finds the messages of a set.
+//! What carries the crate: `Pieces::next` gives the commands, literal marks and bad lines of the whole stream.
+#![tactic(auto)]
+
+mod begun;
+mod cut;
+mod marks;
+mod next;
+mod picks;
+mod pieces;
+mod reader;
+
+pub use begun::{Awaits, Begun};
+pub use cut::cut_all;
+pub use marks::{Mark, are_digits, number, read_tag};
+pub use next::{BadLine, LineFault, Next, Nexts, RawCommand};
+pub use picks::{PickRefused, SetRange, SetText, Span, pick};
+pub use pieces::Pieces;
+pub use reader::Reader;
+
+#[cfg(test)]
+mod tests;

@@ -1,0 +1,85 @@
+//! A stream that comes in pieces.
+ghost use Rattle.std.specs.Prelude.{◌≡◌, ◌≤◌, ◌++◌, length, drop, IfOk, OnOk, OnErr};
+ghost use Rattle.imap_stream.specs.Commands.{heard, before, nothing, TakesNext};
+ghost use Rattle.imap_stream.specs.Reading.{IsSound, seen};
+ghost use Rattle.imap_stream.specs.declared.begun.Awaits.TheVariants.{Line};
+
+use crate::Next;
+use crate::reader::{Reader, first_reader, take_next};
+use std::alloc::Global;
+use std::marker::Model;
+use undo_base::NoMemory;
+
+/// The bytes of a stream that were not given as commands yet.
+#[derive(Debug, Drop)]
+pub struct Pieces {
+    reader: Reader,
+    bytes: Vec<u8>,
+}
+
+impl Model for Pieces {
+    ghost use Rattle.imap_stream.specs.Commands.{Heard};
+    ghost use Rattle.imap_stream.specs.Reading.{IsSound, seen};
+
+    ghost Value = { Heard };
+
+    ghost view = { λ p. seen p.reader p.bytes.items };
+
+    ghost invariant = { λ p. IsSound p.reader p.bytes.items };
+}
+
+impl Pieces {
+    pub fn new(alloc: Global) -> Pieces
+        ensures { result ≡ before nothing Line }
+    {
+        Pieces {
+            reader: first_reader(alloc),
+            bytes: Vec::new(alloc),
+        }
+    }
+
+    /// Adds bytes to the stream.
+    pub fn feed(&mut self, bytes: &[u8]) -> Result<(), NoMemory>
+        ensures ok { OnOk result (self.new ≡ heard self.old bytes.now) }
+        ensures err { OnErr result (self.new ≡ self.old) }
+    {
+        compact(&mut self.reader, &mut self.bytes);
+        push_bytes(&mut self.bytes, bytes)
+    }
+
+    /// What comes next: a command, a literal to be invited, or a bad line; or else nothing whole is there.
+    pub fn next(&mut self, alloc: Global) -> Result<Next, NoMemory>
+        ensures ok { IfOk result (λ next. TakesNext self.old next self.new) }
+        ensures err { OnErr result (self.new ≡ self.old) }
+    {
+        take_next(alloc, &mut self.reader, &self.bytes)
+    }
+}
+
+/// Takes the first bytes away.
+fn drop_front(bytes: &mut Vec<u8>, count: usize)
+    requires { count ≤ length bytes.old.items }
+    ensures { bytes.new.items ≡ drop count bytes.old.items }
+{
+    bytes.drain(..count);
+}
+
+fn push_bytes(bytes: &mut Vec<u8>, more: &[u8]) -> Result<(), NoMemory>
+    ensures ok { OnOk result (bytes.new.items ≡ bytes.old.items ++ more.now) }
+    ensures err { OnErr result (bytes.new.items ≡ bytes.old.items) }
+{
+    bytes.extend_from_slice(more)?;
+    Ok(())
+}
+
+/// Takes the bytes away that are read, where they are more than the others. So each byte is moved twice at most.
+fn compact(reader: &mut Reader, bytes: &mut Vec<u8>)
+    requires { IsSound reader.old bytes.old.items }
+    ensures sound { IsSound reader.new bytes.new.items }
+    ensures same { seen reader.new bytes.new.items ≡ seen reader.old bytes.old.items }
+{
+    if reader.given > bytes.len() / 2 {
+        drop_front(bytes, reader.given);
+        reader.given = 0;
+    }
+}
