@@ -1,0 +1,3 @@
+mod UserNames
+mod FixedRows
+mod Reached
