@@ -8,13 +8,13 @@ use crate::answer::Answer;
 use crate::plain::Plain;
 use civil_dates::push_mail_date;
 use std::alloc::Global;
-use undo_base::{LAST_NUMBER, NoMemory, Text};
+use undo_base::{LAST_NUMBER, Name, NoMemory, Text};
 
 /// The body that is stored: two trace lines and the text.
 fn make_body(
     alloc: Global,
     at: u64,
-    client: Option<&Text>,
+    client: Option<&Name>,
     path: &Text,
     text: &Text,
 ) -> Result<Text, NoMemory>
@@ -47,7 +47,7 @@ fn push_received(alloc: Global, out: &mut Text, at: u64, client: &[u8]) -> Resul
     out.extend(b"\r\n")
 }
 
-fn client_bytes(client: Option<&Text>) -> &[u8]
+fn client_bytes(client: Option<&Name>) -> &[u8]
     ensures { result.now ≡ unwrap_or (option_copied client.entry) [] }
 {
     match client {
@@ -61,7 +61,7 @@ pub fn store_body(
     alloc: Global,
     kept: &mut Plain,
     at: u64,
-    client: Option<&Text>,
+    client: Option<&Name>,
     path: &Text,
     text: &Text,
 ) -> Result<Answer, NoMemory>
