@@ -1,20 +1,20 @@
 -- What a search finds among rising rows, and what an edit at that place does.
-use Rattle.std.proofs.Common.{◌≡◌, ℕ, ◌+◌, ◌-◌, ◌<◌, ◌≤◌, ◌≢◌, ◌⊎◌, inl, inr, Bool, true, false, List, length, get_or, set, Some, None, Result, Ok, Err, IfOk, IfErr, refl, sym, ap, subst, ◌∙◌, arith, rules}
+use Rattle.std.proofs.Common.{◌≡◌, ℕ, ◌+◌, ◌-◌, ◌<◌, ◌≤◌, inl, inr, List, length, get_or, set, Some, None, Result, Ok, Err, IfOk, IfErr, refl, sym, ap, subst, ◌∙◌, arith, rules}
 use Rattle.std.specs.List.{insert}
 use Rattle.std.specs.List.Sorted.{IsSearchInRange, IsBinarySearchResult, IsNonDecreasingBy}
 use Rattle.std.specs.Ordering.{ordering_index}
 use Rattle.std.specs.declared.cmp.Ordering.{Ordering}
 use Rattle.std.specs.declared.cmp.Ordering.TheVariants.{Less, Equal, Greater}
-use Rattle.std.proofs.lemmas.Cmp.{alike_right, tied_itself}
+use Rattle.std.proofs.lemmas.Cmp.{alike_right}
 use Rattle.std.proofs.lemmas.Bool.{cases_order}
 use Rattle.std.proofs.lemmas.List.{get_or-set_same, get_or-set_other}
 use Rattle.std.proofs.lemmas.List.Edits.{length-insert, get_or-insert_below, get_or-insert_at, get_or-insert_above}
 use Rattle.std.proofs.lemmas.Grind.{common_steps}
 use Rattle.verb_core.specs.declared.mailbox.Body.{Body}
 use Rattle.shelf.specs.declared.note.Note.{Note}
-use Rattle.shelf.specs.Notes.{same_body, note_of, NotesOnly}
+use Rattle.shelf.specs.Notes.{note_of, NotesOnly}
 use Rattle.shelf.specs.Rows.{body_order, IsRising, IsAt, IsGapFor}
-use Rattle.shelf.proofs.OrderLemmas.{body_total, same_if_equal, tested_if_equal, apart, turned_less, turned_greater}
+use Rattle.shelf.proofs.OrderLemmas.{body_total, same_if_equal, tested_if_equal, apart, turned_less}
 use Rattle.shelf.proofs.NoteLemmas.{NoneBefore, note_none, note_there, notes_set, notes_insert}
 
 index_at_most : (o : Ordering) → ordering_index o ≤ 2

@@ -1,4 +1,4 @@
-use Rattle.std.proofs.Common.{◌≡◌, sym, subst, set}
+use Rattle.std.proofs.Common.{sym, subst, set}
 use Rattle.shelf.specs.Notes.{Noted, NotesOnly}
 use Rattle.shelf.specs.Rows.{IsAt}
 use Rattle.shelf.proofs.PlaceLemmas.{rising_set, notes_only_set}
