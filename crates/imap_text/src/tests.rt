@@ -72,6 +72,34 @@ fn a_message_and_its_attributes(rt: HostRuntime) -> Result<(), Fail> {
 }
 
 #[test]
+fn the_first_delivery_is_told(rt: HostRuntime) -> Result<(), Fail> {
+    let alloc = rt.alloc();
+    let text = Text::of(
+        alloc,
+        b"Return-Path: <joe@far.test>\r\nReceived: from client.test by mail.test; 7 Jan 2005 10:00:00 +0000\r\nSubject: hi\r\n\r\n.dot\r\n",
+    )?;
+    let seen = Flags {
+        seen: true,
+        ..Flags::default()
+    };
+    let mut parts = FetchParts::new(alloc);
+    add(alloc, &mut parts, b"BODY[]", FetchValue::Literal(text))?;
+    add(alloc, &mut parts, b"FLAGS", FetchValue::Flags(seen))?;
+    assert_eq!(rt;
+        render_fetch(alloc, 1, &parts)?.bytes(),
+        b"* 1 FETCH (BODY[] {118}\r\nReturn-Path: <joe@far.test>\r\nReceived: from client.test by mail.test; 7 Jan 2005 10:00:00 +0000\r\nSubject: hi\r\n\r\n.dot\r\n FLAGS (\\Seen))\r\n".as_slice()
+    );
+    let mut names = Names::new(alloc);
+    names.push(Name::read(alloc, b"INBOX")?)?;
+    names.push(Name::read(alloc, b"Lost+Found")?)?;
+    assert_eq!(rt;
+        render_list(alloc, b"LIST", &names)?.bytes(),
+        b"* LIST () NIL \"INBOX\"\r\n* LIST () NIL \"Lost+Found\"\r\n".as_slice()
+    );
+    Ok(())
+}
+
+#[test]
 fn what_mailboxes_tell(rt: HostRuntime) -> Result<(), Fail> {
     let alloc = rt.alloc();
     assert_eq!(rt;
