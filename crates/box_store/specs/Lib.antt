@@ -1,3 +1,4 @@
 pub mod Kept
 pub mod Fixed
 pub mod Reaching
+pub mod Effects

@@ -5,10 +5,17 @@
 #![tactic(auto)]
 
 mod aims;
+mod effect;
+mod key_set;
 mod opening;
 mod reach;
+mod spares;
+mod steps;
 mod store;
 
+pub use effect::{Effect, FlagChange, Put, Work};
+pub use key_set::KeySet;
+pub use steps::Steps;
 pub use store::Store;
 
 #[cfg(test)]

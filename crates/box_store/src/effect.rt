@@ -1,0 +1,59 @@
+//! Effects: what an item does, made from a store and applied to it, or to one that has the same mailboxes where the item
+//! touches them.
+use crate::KeySet;
+use undo_base::{Flags, Key, Name, Sequence, User};
+use verb_core::{Act, BoxId, Entries, Shown, Way};
+
+/// New mail for a mailbox, in order. Its UIDs are those that come next there.
+#[derive(Drop)]
+pub struct Put {
+    pub mailbox: BoxId,
+    pub mail: Entries,
+}
+
+/// Other flags for the entry at a place of a mailbox, from 0.
+#[derive(Clone, Copy)]
+pub struct FlagChange {
+    pub place: usize,
+    pub flags: Flags,
+}
+
+/// What an item does to mailboxes, as large as what it changes.
+#[derive(Drop)]
+pub enum Work {
+    /// New mail at the end of mailboxes, one after the other; none where the mailboxes stay as they are.
+    Puts(Sequence<Put>),
+    /// Other flags.
+    Flags {
+        mailbox: BoxId,
+        flags: Sequence<FlagChange>,
+    },
+    /// The entries of these keys that have `\Deleted` go (RFC 3501, section 6.4.3).
+    Expunge { mailbox: BoxId, keys: KeySet },
+    /// The entries of a key go.
+    Remove { mailbox: BoxId, key: Key },
+    /// An empty mailbox comes, where there is none (RFC 3501, section 6.3.3).
+    Create { mailbox: BoxId },
+    /// A mailbox takes another name, or its entries move into another mailbox (RFC 3501, section 6.3.5).
+    Rename {
+        way: Way,
+        user: User,
+        source: Name,
+        target: Name,
+    },
+    /// A mailbox goes with the entries of these keys, and its others move to Lost+Found.
+    Delete {
+        user: User,
+        mailbox: Name,
+        keys: KeySet,
+    },
+}
+
+/// What an item does to the mailboxes and, where it is an operator's act, to the configuration; and what its user is
+/// shown.
+#[derive(Drop)]
+pub struct Effect {
+    pub(crate) work: Work,
+    pub(crate) act: Option<Act>,
+    pub(crate) shown: Shown,
+}
