@@ -1,3 +1,5 @@
 pub mod Lining
 pub mod Tagged
 pub mod Commas
+pub mod Spelling
+pub mod Spelt

@@ -12,6 +12,7 @@ mod command;
 mod dates;
 mod fetch;
 mod flags;
+mod laws;
 mod messages;
 mod parts;
 mod reader;
@@ -27,6 +28,7 @@ pub use imap_stream::{
     BadLine, LineFault, Next, Nexts, PickRefused, Pieces, RawCommand, SetRange, SetText, cut_all,
     pick,
 };
+pub use laws::tokens_are_spelled;
 pub use reader::read_command;
 pub use tokens::{Part, Token, Tokens};
 
