@@ -3,3 +3,5 @@ pub mod Tagged
 pub mod Commas
 pub mod Spelling
 pub mod Spelt
+pub mod Attributes
+pub mod Asked

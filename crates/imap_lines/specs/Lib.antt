@@ -8,6 +8,7 @@ pub mod Flags
 pub mod Dates
 pub mod Asks
 pub mod Fetch
+pub mod Attributes
 pub mod Verbs
 pub mod Messages
 pub mod Append
