@@ -5,3 +5,5 @@ pub mod Spelling
 pub mod Spelt
 pub mod Attributes
 pub mod Asked
+pub mod Items
+pub mod Flagged

@@ -9,6 +9,7 @@ pub mod Dates
 pub mod Asks
 pub mod Fetch
 pub mod Attributes
+pub mod Lists
 pub mod Verbs
 pub mod Messages
 pub mod Append

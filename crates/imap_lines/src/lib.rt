@@ -28,7 +28,7 @@ pub use imap_stream::{
     BadLine, LineFault, Next, Nexts, PickRefused, Pieces, RawCommand, SetRange, SetText, cut_all,
     pick,
 };
-pub use laws::{attributes_are_spelled, tokens_are_spelled};
+pub use laws::{attributes_are_spelled, flags_are_spelled, items_are_spelled, tokens_are_spelled};
 pub use reader::read_command;
 pub use tokens::{Part, Token, Tokens};
 
