@@ -1,11 +1,10 @@
 -- The mark that a line ends with.
-use Rattle.std.proofs.Common.{◌≡◌, ℕ, ◌+◌, ◌-◌, ◌<◌, ◌≤◌, Bool, true, false, cond, not, ◌==◌, ◌&&◌, List, [], ◌∷◌, ◌++◌, length, take, drop, nat_le, Option, None, Some, option_map, refl, ap, sym, ◌∙◌, arith, zero, suc, get_or, subst}
+use Rattle.std.proofs.Common.{◌≡◌, ℕ, ◌+◌, ◌-◌, ◌≤◌, Bool, true, false, cond, not, ◌==◌, ◌&&◌, List, [], ◌∷◌, ◌++◌, length, take, drop, nat_le, Option, None, Some, option_map, refl, ap, sym, ◌∙◌, arith, suc, get_or, subst}
 use Rattle.std.proofs.lemmas.Bool.{leb-true}
 use Rattle.std.proofs.lemmas.Bool.Decides.{Decides-eqb}
-use Rattle.std.proofs.lemmas.List.{append_assoc, length-append, length-take, take_at, drop_at, take_more, take_all, get_or_push}
+use Rattle.std.proofs.lemmas.List.{append_assoc, length-append, take_at, drop_at, take_more, take_all, get_or_push}
 use Rattle.std.proofs.lemmas.Option.{option_and_then_some}
 use Rattle.std.specs.List.{list_all}
-use Rattle.std.specs.Prelude.{slice_index}
 use Rattle.std.specs.Option.{option_or}
 use Rattle.imap_stream.specs.Marks.{is_digit, all_digits, value_of, last_brace, size_in, mark_at, mark_of}
 use Rattle.imap_stream.specs.Streams.{marked_line}

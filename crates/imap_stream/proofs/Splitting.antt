@@ -1,18 +1,17 @@
 -- Each stream is commands and bad lines, and then a rest.
-use Rattle.std.proofs.Common.{◌≡◌, ℕ, ◌+◌, ◌<◌, ◌≤◌, Bool, true, false, List, [], ◌∷◌, ◌++◌, length, take, drop, nat_lt, nat_le, Option, None, Some, refl, ap, sym, ◌∙◌, arith, zero, suc, subst}
+use Rattle.std.proofs.Common.{◌≡◌, ℕ, ◌+◌, ◌<◌, ◌≤◌, Bool, true, false, List, [], ◌∷◌, ◌++◌, length, take, drop, nat_lt, Option, None, Some, refl, ap, sym, ◌∙◌, arith, zero, suc, subst}
 use Rattle.std.specs.List.{AllByRecursion, flat_map}
-use Rattle.std.proofs.lemmas.Bool.{leb-true}
 use Rattle.std.proofs.lemmas.Bool.Decides.{Decides-ltb}
 use Rattle.std.proofs.lemmas.Grind.{flat_map-append}
 use Rattle.std.proofs.lemmas.List.{append_assoc, append-nil, length-append, length-take, length-drop, take-append-drop}
 use Rattle.std.proofs.lemmas.List.Sums.{sum_by_push}
 use Rattle.imap_stream.specs.Marks.{mark_of, mark_at}
 use Rattle.imap_stream.specs.Commands.{end_of, said_of}
-use Rattle.imap_stream.specs.Streams.{Part, Entry, Open, Line as OpenLine, Octets, Rest, marked_line, ended_line, part_bytes, entry_bytes, open_bytes, rest_bytes, octets_of, IsLine, Announces, HasMark, IsPart, AreParts, Ends, IsEntry, Splits, IsReading}
+use Rattle.imap_stream.specs.Streams.{Part, Entry, Line as OpenLine, Octets, Rest, marked_line, ended_line, part_bytes, entry_bytes, rest_bytes, octets_of, IsLine, Announces, HasMark, IsPart, AreParts, Ends, Splits, IsReading}
 use Rattle.imap_stream.specs.declared.marks.Mark.{Mark}
 use Rattle.imap_stream.specs.declared.next.LineFault.{LineFault}
 use Rattle.imap_stream.specs.declared.next.LineFault.TheVariants.{Long, Literal as TooLarge, Many}
-use Rattle.imap_stream.proofs.Lines.{EndsHere, ends, end_of-front}
+use Rattle.imap_stream.proofs.Lines.{ends, end_of-front}
 use Rattle.imap_stream.proofs.Hearing.{ltb-not}
 use Rattle.imap_stream.proofs.Telling.{has_mark, mark_is, split_told}
 

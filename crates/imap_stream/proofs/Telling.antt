@@ -1,20 +1,19 @@
 -- What the commands and bad lines of a stream give, and its rest.
 use Rattle.std.proofs.Common.{◌≡◌, ℕ, ◌+◌, ◌<◌, ◌≤◌, Bool, true, false, cond, ◌==◌, ◌&&◌, List, [], ◌∷◌, ◌++◌, length, map, take, nat_lt, nat_le, Option, None, Some, refl, ap, sym, ◌∙◌, arith, subst}
-use Rattle.std.specs.Prelude.{sum_by}
 use Rattle.std.specs.List.{AllByRecursion, flat_map}
 use Rattle.std.proofs.lemmas.Bool.{le-leb, leb-true}
 use Rattle.std.proofs.lemmas.Bool.Decides.{Decides-ltb}
 use Rattle.std.proofs.lemmas.List.{append_assoc, append-nil, length-append, length-map, map-append, take_at}
 use Rattle.std.proofs.lemmas.List.Sums.{sum_by_push, sum_by-cons}
-use Rattle.imap_stream.specs.Marks.{tag_of, all_digits, value_of, mark_of, mark_at}
-use Rattle.imap_stream.specs.Commands.{is_end, end_of, first_line, nothing, told, closed, bad, asked, marked_or_finished, ended, with_literal, saying, heard, before, said_of}
+use Rattle.imap_stream.specs.Marks.{tag_of, mark_of, mark_at}
+use Rattle.imap_stream.specs.Commands.{end_of, first_line, nothing, told, closed, bad, ended, with_literal, saying, heard, before, said_of}
 use Rattle.imap_stream.specs.Reading.{IsBegun}
 use Rattle.imap_stream.specs.Streams.{Part, Entry, Open, Line as OpenLine, Octets, Rest, marked_line, ended_line, part_bytes, entry_bytes, open_bytes, rest_bytes, octets_of, IsLine, Announces, HasMark, IsPart, AreParts, Ends, IsEntry, IsOpen, IsRest, Splits, told_part, first_of, told_end, told_entry, told_open, told_of, IsReading}
 use Rattle.imap_stream.specs.declared.begun.Begun.{Begun}
 use Rattle.imap_stream.specs.declared.begun.Awaits.TheVariants.{Line, Literal}
 use Rattle.imap_stream.specs.declared.marks.Mark.{Mark}
 use Rattle.imap_stream.specs.declared.next.Next.{Next}
-use Rattle.imap_stream.specs.declared.next.Next.TheVariants.{Command, Ask, Bad}
+use Rattle.imap_stream.specs.declared.next.Next.TheVariants.{Ask, Bad}
 use Rattle.imap_stream.specs.declared.next.LineFault.{LineFault}
 use Rattle.imap_stream.specs.declared.next.LineFault.TheVariants.{Long, Literal as TooLarge, Many}
 use Rattle.imap_stream.proofs.Lines.{end_of-first}

@@ -85,9 +85,8 @@ fn all_pieces_at_once(rt: HostRuntime) -> Result<(), Fail> {
         pieces.push(Text::of(alloc, piece)?)?;
     }
     let mut given = Text::new(alloc);
-    let mut nexts = cut_all(alloc, &pieces)?.into_vec();
-    while !nexts.is_empty() {
-        tell(&mut given, nexts.remove(0))?;
+    for next in cut_all(alloc, &pieces)?.into_vec() {
+        tell(&mut given, next)?;
     }
     assert_eq!(rt; given.bytes(), b"?3\na X ||\r\n.|\nb Y|\n".as_slice());
     Ok(())
