@@ -1,0 +1,60 @@
+-- What STATUS and FETCH ask for (RFC 3501, 9: status-att, fetch-att, section).
+use Rattle.std.specs.Prelude.{codes, ℕ, Bool, true, false, not, ◌+◌, ◌-◌, ◌==◌, ◌&&◌, ◌||◌, List, [], ◌∷◌, ◌++◌, length, take, nat_le, slice_index, Option, None, Some, option_map, option_and_then, if◌then◌else◌}
+use Rattle.std.specs.List.{list_all}
+use Rattle.undo_base.specs.declared.asks.StatusAsk.{StatusAsk}
+use Rattle.undo_base.specs.declared.asks.StatusAsk.TheVariants.{Messages, Recent, UidNext, UidValidity, Unseen}
+use Rattle.imap_lines.specs.Words.{is_word, after_word, number_in, count_in}
+use Rattle.imap_lines.specs.Sets.{cut_at}
+use Rattle.imap_lines.specs.Tokens.{is_space, is_open, is_close, word_of, string_of}
+use Rattle.imap_lines.specs.declared.tokens.Token.{Token}
+
+abbrev pub status_in : List ℕ → Option StatusAsk
+status_in word =
+    if is_word (codes "MESSAGES") word then Some Messages
+    else if is_word (codes "RECENT") word then Some Recent
+    else if is_word (codes "UIDNEXT") word then Some UidNext
+    else if is_word (codes "UIDVALIDITY") word then Some UidValidity
+    else if is_word (codes "UNSEEN") word then Some Unseen
+    else None
+
+abbrev pub status_of : Token → Option StatusAsk
+status_of token = option_and_then status_in (word_of token)
+
+-- what is asked, up to the parenthesis that closes the list and ends the command
+abbrev pub statuses_from : Bool → List StatusAsk → List Token → Option (List StatusAsk)
+statuses_from wanted asks [] = None
+statuses_from wanted asks (token ∷ tokens) =
+    if wanted then option_and_then (λ ask. statuses_from false (asks ++ ask ∷ []) tokens) (status_of token)
+    else if is_space token then statuses_from true asks tokens
+    else if is_close token && (length tokens == 0) then Some asks
+    else None
+
+-- a letter, a digit, - or _
+abbrev pub is_field_byte : ℕ → Bool
+is_field_byte b = (nat_le 48 b && nat_le b 57) || (nat_le 65 b && nat_le b 90) || (nat_le 97 b && nat_le b 122) || b == 45 || b == 95
+
+-- the name of a header field
+abbrev pub is_field : List ℕ → Bool
+is_field bytes = not (length bytes == 0) && nat_le (length bytes) 64 && list_all is_field_byte bytes
+
+abbrev pub field_in : List ℕ → Option (List ℕ)
+field_in bytes = if is_field bytes then Some bytes else None
+
+abbrev pub numbers_in : List ℕ → List ℕ → Option (ℕ × ℕ)
+numbers_in from count = option_and_then (λ a. option_map (λ b. (a, b)) (number_in count)) (count_in from)
+
+-- o.n> of a part
+abbrev pub closed_part_in : List ℕ → Option (ℕ × ℕ)
+closed_part_in bytes =
+    if not (length bytes == 0) && (slice_index bytes (length bytes - 1) == 62)
+    then option_and_then (λ parts. numbers_in parts.0 parts.1) (cut_at 46 (take (length bytes - 1) bytes)) else None
+
+-- <o.n>, or nothing
+abbrev pub part_in : List ℕ → Option (Option (ℕ × ℕ))
+part_in [] = Some None
+part_in (b ∷ bytes) = if b == 60 then option_map Some (closed_part_in bytes) else None
+
+-- ] and a part
+abbrev pub tail_in : List ℕ → Option (Option (ℕ × ℕ))
+tail_in [] = None
+tail_in (b ∷ bytes) = if b == 93 then part_in bytes else None

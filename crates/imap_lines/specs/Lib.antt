@@ -1,0 +1,14 @@
+pub mod Words
+pub mod Parts
+pub mod Tokens
+pub mod Arguments
+pub mod Sets
+pub mod Flags
+pub mod Dates
+pub mod Asks
+pub mod Fetch
+pub mod Verbs
+pub mod Messages
+pub mod Append
+pub mod What
+pub mod Command

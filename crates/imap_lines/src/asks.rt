@@ -1,0 +1,171 @@
+//! What FETCH and STATUS ask for, as it is written.
+ghost use Rattle.std.specs.Prelude.{◌≡◌, [], true, IfOk, option_map};
+ghost use Rattle.std.specs.List.{list_all};
+ghost use Rattle.imap_lines.specs.Asks.{status_in, statuses_from, is_field_byte, is_field, part_in, tail_in};
+ghost use Rattle.imap_lines.specs.Asks as spec;
+
+use crate::sets::find_byte;
+use crate::tokens::{Token, is_close_token, is_space_token, word_in};
+use crate::words::{is_same_word, read_count, read_number};
+use std::alloc::Global;
+use undo_base::{Name, NoMemory, SectionAsk, Sequence, StatusAsk, StatusAsks};
+
+/// An attribute that a FETCH asks for (RFC 3501, section 6.4.5).
+#[derive(Debug, Drop)]
+pub enum FetchAsk {
+    Flags,
+    Uid,
+    InternalDate,
+    Size,
+    Rfc822,
+    Rfc822Header,
+    Rfc822Text,
+    /// FLAGS, INTERNALDATE and RFC822.SIZE; it stands alone.
+    Fast,
+    Body { section: SectionAsk, peek: bool },
+}
+
+pub type FetchAsks = Sequence<FetchAsk>;
+
+fn read_status(word: &[u8]) -> Option<StatusAsk>
+    ensures { result ≡ status_in word.now }
+{
+    if is_same_word(word, b"MESSAGES") {
+        return Some(StatusAsk::Messages);
+    }
+    if is_same_word(word, b"RECENT") {
+        return Some(StatusAsk::Recent);
+    }
+    if is_same_word(word, b"UIDNEXT") {
+        return Some(StatusAsk::UidNext);
+    }
+    if is_same_word(word, b"UIDVALIDITY") {
+        return Some(StatusAsk::UidValidity);
+    }
+    if is_same_word(word, b"UNSEEN") {
+        return Some(StatusAsk::Unseen);
+    }
+    None
+}
+
+fn status_token(token: &Token) -> Option<StatusAsk>
+    ensures { result ≡ spec.status_of token.now }
+{
+    read_status(word_in(token)?)
+}
+
+/// What a STATUS asks, behind the parenthesis that opens its list, which ends the command.
+pub fn read_statuses(alloc: Global, tokens: &[Token]) -> Result<Option<StatusAsks>, NoMemory>
+    ensures { IfOk result (λ asks. asks ≡ statuses_from true [] tokens.now) }
+{
+    let mut asks = StatusAsks::new(alloc);
+    let mut wanted = true;
+    for (place, token) in tokens.iter().enumerate() {
+        if wanted {
+            match status_token(token) {
+                Some(ask) => asks.push(ask)?,
+                None => return Ok(None),
+            }
+            wanted = false;
+        } else if is_space_token(token) {
+            wanted = true;
+        } else if is_close_token(token) && place + 1 == tokens.len() {
+            return Ok(Some(asks));
+        } else {
+            return Ok(None);
+        }
+    }
+    Ok(None)
+}
+
+fn is_field_char(byte: u8) -> bool
+    ensures { result ≡ is_field_byte byte }
+{
+    (48 <= byte && byte <= 57)
+        || (65 <= byte && byte <= 90)
+        || (97 <= byte && byte <= 122)
+        || byte == b'-'
+        || byte == b'_'
+}
+
+fn only_field_chars(bytes: &[u8]) -> bool
+    ensures { result ≡ list_all is_field_byte bytes.now }
+{
+    bytes.iter().all(|byte| is_field_char(*byte))
+}
+
+fn is_field_name(bytes: &[u8]) -> bool
+    ensures { result ≡ is_field bytes.now }
+{
+    !bytes.is_empty() && bytes.len() <= 64 && only_field_chars(bytes)
+}
+
+/// A field's name as a name, which it always is.
+pub fn field_name(alloc: Global, bytes: &[u8]) -> Result<Option<Name>, NoMemory>
+    ensures { IfOk result (λ name. name ≡ spec.field_in bytes.now) }
+{
+    if !is_field_name(bytes) {
+        return Ok(None);
+    }
+    match Name::read(alloc, bytes) {
+        Ok(name) => Ok(Some(name)),
+        Err(_) => Err(NoMemory),
+    }
+}
+
+/// Two numbers of a part: `o.n`.
+fn read_numbers(from: &[u8], count: &[u8]) -> Option<(u32, u32)>
+    ensures { result ≡ spec.numbers_in from.now count.now }
+{
+    let from = read_count(from)?;
+    let count = read_number(count)?;
+    Some((from, count))
+}
+
+/// The numbers of a part, of which this stands behind the `<`.
+fn read_closed_part(bytes: &[u8]) -> Option<(u32, u32)>
+    ensures { result ≡ spec.closed_part_in bytes.now }
+{
+    let [numbers @ .., close] = bytes else {
+        return None;
+    };
+    if *close != b'>' {
+        return None;
+    }
+    let place = find_byte(numbers, b'.')?;
+    read_numbers(&numbers[..place], &numbers[place + 1..])
+}
+
+/// A part, or nothing.
+pub fn read_part(bytes: &[u8]) -> Option<Option<(u32, u32)>>
+    ensures { result ≡ part_in bytes.now }
+{
+    match bytes {
+        [] => Some(None),
+        [open, rest @ ..] => {
+            if *open != b'<' {
+                return None;
+            }
+            match read_closed_part(rest) {
+                Some(part) => Some(Some(part)),
+                None => None,
+            }
+        }
+    }
+}
+
+/// What stands behind a section.
+pub fn read_tail(bytes: &[u8]) -> Option<Option<(u32, u32)>>
+    ensures { result ≡ tail_in bytes.now }
+{
+    match bytes {
+        [] => None,
+        [close, rest @ ..] => {
+            if *close == b']' {
+                read_part(rest)
+            } else {
+                None
+            }
+        }
+    }
+}

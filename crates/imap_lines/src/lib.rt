@@ -1,0 +1,34 @@
+//! The commands of a mail client (RFC 3501, section 6), read from its lines and literals.
+//!
+//! `reader` finds the tag and the word, and `what` reads the arguments of each. Arguments are read from `tokens`, and
+//! `words`, `sets`, `flags`, `dates`, `asks` and `fetch` read what stands in them. The stream is cut by `imap_stream`.
+//! What carries the crate: `read_command` gives the command that the grammar has, or the first refusal that holds.
+#![tactic(auto)]
+
+mod append;
+mod arguments;
+mod asks;
+mod command;
+mod dates;
+mod fetch;
+mod flags;
+mod messages;
+mod parts;
+mod reader;
+mod sets;
+mod tokens;
+mod verbs;
+mod what;
+mod words;
+
+pub use asks::{FetchAsk, FetchAsks};
+pub use command::{ImapCommand, ImapRefused, ImapWhat};
+pub use imap_stream::{
+    BadLine, LineFault, Next, Nexts, PickRefused, Pieces, RawCommand, SetRange, SetText, cut_all,
+    pick,
+};
+pub use reader::read_command;
+pub use tokens::{Part, Token, Tokens};
+
+#[cfg(test)]
+mod tests;

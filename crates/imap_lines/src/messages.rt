@@ -1,0 +1,146 @@
+//! The arguments of FETCH, STORE and COPY (RFC 3501, sections 6.4.5 to 6.4.8).
+ghost use Rattle.std.specs.Prelude.{◌≡◌, [], option_map, IfOk};
+ghost use Rattle.imap_lines.specs.Messages.{how_in, listed_flags, store_flags, change_in, fetch_of, store_of, copy_of};
+
+use crate::ImapWhat;
+use crate::arguments::{behind_space, last_string, next_word};
+use crate::fetch::read_fetch;
+use crate::flags::{read_bare_flags, read_flags};
+use crate::sets::read_set;
+use crate::tokens::{Token, is_open_token};
+use crate::words::is_same_word;
+use std::alloc::Global;
+use undo_base::{Flags, How, NoMemory, Text};
+
+/// How a STORE changes flags, and whether it does so without an answer.
+fn read_how(word: &[u8]) -> Option<(How, bool)>
+    ensures { result ≡ how_in word.now }
+{
+    if is_same_word(word, b"FLAGS") {
+        return Some((How::Replace, false));
+    }
+    if is_same_word(word, b"FLAGS.SILENT") {
+        return Some((How::Replace, true));
+    }
+    if is_same_word(word, b"+FLAGS") {
+        return Some((How::Add, false));
+    }
+    if is_same_word(word, b"+FLAGS.SILENT") {
+        return Some((How::Add, true));
+    }
+    if is_same_word(word, b"-FLAGS") {
+        return Some((How::Take, false));
+    }
+    if is_same_word(word, b"-FLAGS.SILENT") {
+        return Some((How::Take, true));
+    }
+    None
+}
+
+/// Flags in a list that ends the command.
+fn last_flags(tokens: &[Token]) -> Option<Flags>
+    ensures { result ≡ listed_flags tokens.now }
+{
+    let (flags, rest) = read_flags(tokens)?;
+    if rest.is_empty() { Some(flags) } else { None }
+}
+
+/// Flags in a list or without parentheses, which end the command.
+fn read_store_flags(tokens: &[Token]) -> Option<Flags>
+    ensures { result ≡ store_flags tokens.now }
+{
+    match tokens {
+        [] => None,
+        [first, rest @ ..] => {
+            if is_open_token(first) {
+                last_flags(rest)
+            } else {
+                read_bare_flags(tokens)
+            }
+        }
+    }
+}
+
+/// What a STORE changes, and how.
+fn read_change(tokens: &[Token]) -> Option<(How, bool, Flags)>
+    ensures { result ≡ change_in tokens.now }
+{
+    let (word, rest) = next_word(tokens)?;
+    let (how, silent) = read_how(word)?;
+    let flags = read_store_flags(behind_space(rest)?)?;
+    Some((how, silent, flags))
+}
+
+/// The arguments of STORE.
+pub fn read_store(
+    alloc: Global,
+    by_uid: bool,
+    tokens: &[Token],
+) -> Result<Option<ImapWhat>, NoMemory>
+    ensures { IfOk result (λ what. what ≡ store_of by_uid tokens.now) }
+{
+    let Some((word, rest)) = next_word(tokens) else {
+        return Ok(None);
+    };
+    let Some((how, silent, flags)) = read_change(rest) else {
+        return Ok(None);
+    };
+    let Some(set) = read_set(alloc, word)? else {
+        return Ok(None);
+    };
+    Ok(Some(ImapWhat::Store {
+        set,
+        how,
+        silent,
+        flags,
+        by_uid,
+    }))
+}
+
+/// The arguments of FETCH.
+pub fn read_fetch_of(
+    alloc: Global,
+    by_uid: bool,
+    tokens: &[Token],
+) -> Result<Option<ImapWhat>, NoMemory>
+    ensures { IfOk result (λ what. what ≡ fetch_of by_uid tokens.now) }
+{
+    let Some((word, rest)) = next_word(tokens) else {
+        return Ok(None);
+    };
+    let Some(rest) = behind_space(rest) else {
+        return Ok(None);
+    };
+    let Some(set) = read_set(alloc, word)? else {
+        return Ok(None);
+    };
+    let Some(asked) = read_fetch(alloc, rest)? else {
+        return Ok(None);
+    };
+    Ok(Some(ImapWhat::Fetch { set, asked, by_uid }))
+}
+
+/// The arguments of COPY.
+pub fn read_copy(
+    alloc: Global,
+    by_uid: bool,
+    tokens: &[Token],
+) -> Result<Option<ImapWhat>, NoMemory>
+    ensures { IfOk result (λ what. what ≡ copy_of by_uid tokens.now) }
+{
+    let Some((word, rest)) = next_word(tokens) else {
+        return Ok(None);
+    };
+    let Some(target) = last_string(rest) else {
+        return Ok(None);
+    };
+    let Some(set) = read_set(alloc, word)? else {
+        return Ok(None);
+    };
+    let target = Text::of(alloc, target)?;
+    Ok(Some(ImapWhat::Copy {
+        set,
+        target,
+        by_uid,
+    }))
+}
