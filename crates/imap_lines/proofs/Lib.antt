@@ -1,3 +1,12 @@
 pub mod Lining
 pub mod Tagged
 pub mod Commas
+pub mod WrittenTokens
+pub mod WrittenHeads
+pub mod WrittenStrings
+pub mod WrittenNumbers
+pub mod WrittenFlags
+pub mod WrittenFetch
+pub mod WrittenDates
+pub mod WrittenCommands
+pub mod WrittenRows

@@ -12,3 +12,4 @@ pub mod Messages
 pub mod Append
 pub mod What
 pub mod Command
+pub mod Writing

@@ -15,6 +15,7 @@ mod flags;
 mod messages;
 mod parts;
 mod reader;
+mod round_trip;
 mod sets;
 mod tokens;
 mod verbs;
@@ -28,6 +29,7 @@ pub use imap_stream::{
     pick,
 };
 pub use reader::read_command;
+pub use round_trip::reads_what_is_written;
 pub use tokens::{Part, Token, Tokens};
 
 #[cfg(test)]
