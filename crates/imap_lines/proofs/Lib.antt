@@ -10,3 +10,4 @@ pub mod WrittenFetch
 pub mod WrittenDates
 pub mod WrittenCommands
 pub mod WrittenRows
+pub mod WrittenStreams

@@ -28,7 +28,7 @@ use Rattle.imap_lines.specs.declared.verbs.Verb.TheVariants as verb
 use Rattle.imap_lines.specs.declared.tokens.Token.{Token}
 use Rattle.imap_lines.specs.declared.tokens.Token.TheVariants.{Space, Open, Close, Word, Quoted, Literal}
 use Rattle.imap_lines.specs.declared.command.ImapWhat.TheVariants as what
-use Rattle.imap_lines.proofs.WrittenTokens.{apart, IsWhole, AreWhole, EndsWell, is_word_token, is_space_token, starts_word}
+use Rattle.imap_lines.proofs.WrittenTokens.{plain_byte, apart, IsWhole, AreWhole, EndsWell, is_word_token, is_space_token, starts_word}
 use Rattle.imap_lines.proofs.WrittenHeads.{IsRead, read_by}
 use Rattle.imap_lines.proofs.WrittenNumbers.{set_is, number_is, count_is, cut_is, digit_apart, decimal_word, both_true}
 use Rattle.imap_lines.proofs.WrittenStrings.{AreItems, string_argument, spaced_whole, ends_after}
@@ -56,12 +56,12 @@ part_is (Some part) is =
     ap (λ l. option_map Some (closed_part_in l)) bytes
     ∙ ap (option_map Some) (closed_is inner ∙ ap (option_and_then (λ (parts : List ℕ × List ℕ). numbers_in parts.0 parts.1)) cut ∙ numbers_are part.0 part.1 is.0 is.1 is.2)
 
-part_word : (part : Option (ℕ × ℕ)) → IsPart part → list_all is_word_byte (part_text part) ≡ true
+part_word : (part : Option (ℕ × ℕ)) → IsPart part → list_all plain_byte (part_text part) ≡ true
 part_word None is = refl
 part_word (Some part) is =
-    list_all-append is_word_byte (decimal part.0) (46 ∷ decimal part.1 ++ 62 ∷ [])
-    ∙ both_true (list_all is_word_byte (decimal part.0)) (list_all is_word_byte (46 ∷ decimal part.1 ++ 62 ∷ [])) (decimal_word part.0 is.0)
-    (list_all-append is_word_byte (decimal part.1) (62 ∷ []) ∙ both_true (list_all is_word_byte (decimal part.1)) true (decimal_word part.1 is.2) refl)
+    list_all-append plain_byte (decimal part.0) (46 ∷ decimal part.1 ++ 62 ∷ [])
+    ∙ both_true (list_all plain_byte (decimal part.0)) (list_all plain_byte (46 ∷ decimal part.1 ++ 62 ∷ [])) (decimal_word part.0 is.0)
+    (list_all-append plain_byte (decimal part.1) (62 ∷ []) ∙ both_true (list_all plain_byte (decimal part.1)) true (decimal_word part.1 is.2) refl)
 
 -- a list whose reading has come so far
 abbrev at_state : List FetchAsk → Wanted → Kind → List (List ℕ) → Attributes
@@ -193,18 +193,18 @@ whole_append (token ∷ []) back are more seam = (are.0, none (is_word_token tok
     none false t e = refl
 whole_append (token ∷ next ∷ front) back are more seam = (are.0, are.1, whole_append (next ∷ front) back are.2 more seam)
 
-body_whole : (peek : Bool) (section : List ℕ) (part : Option (ℕ × ℕ)) → list_all is_word_byte section ≡ true → IsPart part → AreWhole (whole_tokens peek section part)
+body_whole : (peek : Bool) (section : List ℕ) (part : Option (ℕ × ℕ)) → list_all plain_byte section ≡ true → IsPart part → AreWhole (whole_tokens peek section part)
 body_whole peek section part e is =
     let behind = section ++ 93 ∷ part_text part in
-    let rest : list_all is_word_byte behind ≡ true =
-    list_all-append is_word_byte section (93 ∷ part_text part) ∙ both_true (list_all is_word_byte section) (list_all is_word_byte (93 ∷ part_text part)) e (part_word part is) in
+    let rest : list_all plain_byte behind ≡ true =
+    list_all-append plain_byte section (93 ∷ part_text part) ∙ both_true (list_all plain_byte section) (list_all plain_byte (93 ∷ part_text part)) e (part_word part is) in
     ((some peek behind, bytes peek behind rest), refl, tt)
   where
     some : (p : Bool) (behind : List ℕ) → 0 < length (body_word p ++ behind)
     some true behind = omega arith
     some false behind = omega arith
 
-    bytes : (p : Bool) (behind : List ℕ) → list_all is_word_byte behind ≡ true → list_all is_word_byte (body_word p ++ behind) ≡ true
+    bytes : (p : Bool) (behind : List ℕ) → list_all plain_byte behind ≡ true → list_all plain_byte (body_word p ++ behind) ≡ true
     bytes true behind e = e
     bytes false behind e = e
 

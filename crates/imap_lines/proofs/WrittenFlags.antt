@@ -23,7 +23,7 @@ use Rattle.imap_lines.specs.declared.tokens.Token.{Token}
 use Rattle.imap_lines.specs.declared.tokens.Token.TheVariants.{Space, Open, Close, Word, Quoted, Literal}
 use Rattle.imap_lines.specs.declared.command.ImapWhat.{ImapWhat}
 use Rattle.imap_lines.specs.declared.command.ImapWhat.TheVariants as what
-use Rattle.imap_lines.proofs.WrittenTokens.{IsWhole, AreWhole, EndsWell, is_word_token, is_space_token}
+use Rattle.imap_lines.proofs.WrittenTokens.{plain_byte, IsWhole, AreWhole, EndsWell, is_word_token, is_space_token}
 use Rattle.imap_lines.proofs.WrittenHeads.{IsRead, read_by}
 use Rattle.imap_lines.proofs.WrittenNumbers.{set_is, set_is_word}
 use Rattle.imap_lines.proofs.WrittenStrings.{AreItems, string_argument, and_none, one_string, last_is, next_is, spaced_whole, ends_after}
@@ -32,7 +32,7 @@ items_append : (front back : List Token) → AreItems front → AreItems back �
 items_append [] back are more = more
 items_append (token ∷ front) back are more = (are.0, items_append front back are.1 more)
 
-flag_item : (set : Bool) (word : List ℕ) → list_all is_word_byte (92 ∷ word) ≡ true → AreItems (flag_token set word)
+flag_item : (set : Bool) (word : List ℕ) → list_all plain_byte (92 ∷ word) ≡ true → AreItems (flag_token set word)
 flag_item true word e = (((omega arith, e), refl), tt)
 flag_item false word e = tt
 

@@ -18,7 +18,7 @@ use Rattle.imap_lines.specs.declared.tokens.Token.{Token}
 use Rattle.imap_lines.specs.declared.tokens.Token.TheVariants.{Space, Open, Close, Word, Quoted, Literal}
 use Rattle.imap_lines.specs.declared.command.ImapWhat.{ImapWhat}
 use Rattle.imap_lines.specs.declared.command.ImapCommand.{ImapCommand}
-use Rattle.imap_lines.proofs.WrittenTokens.{and_true, apart, not_false, or_false, IsWhole, AreWhole, EndsWell, is_word_token, starts_word, word_byte, not_space, is_space_token, read_from, written_read, untrimmed}
+use Rattle.imap_lines.proofs.WrittenTokens.{plain_byte, and_true, apart, not_false, or_false, IsWhole, AreWhole, EndsWell, is_word_token, starts_word, word_byte, not_space, is_space_token, read_from, written_read, untrimmed}
 
 -- the word of a command, whether UID stands before it, and its arguments
 abbrev pub word_for : ImapWhat → List ℕ
@@ -35,29 +35,29 @@ abbrev pub StartsSpace : List ℕ → Type 0
 StartsSpace [] = Unit {0}
 StartsSpace (b ∷ line) = (b == 32) ≡ true
 
-space_at : (word line : List ℕ) → list_all is_word_byte word ≡ true → StartsSpace line → position_or_len is_space (word ++ line) ≡ length word
+space_at : (word line : List ℕ) → list_all plain_byte word ≡ true → StartsSpace line → position_or_len is_space (word ++ line) ≡ length word
 space_at [] [] e space = refl
 space_at [] (b ∷ line) e space = rw space refl
 space_at (b ∷ word) line e space =
-    let both = and_true (is_word_byte b) (list_all is_word_byte word) e in
+    let both = and_true (plain_byte b) (list_all plain_byte word) e in
     let more = space_at word line both.1 space in
     let size : 1 + length word ≡ length (b ∷ word) = omega arith in
     rw (not_space b (word_byte b both.0).low) (ap (λ n. 1 + n) more ∙ size)
 
-before_is : (word line : List ℕ) → list_all is_word_byte word ≡ true → StartsSpace line → before_first is_space (word ++ line) ≡ word
+before_is : (word line : List ℕ) → list_all plain_byte word ≡ true → StartsSpace line → before_first is_space (word ++ line) ≡ word
 before_is word line e space = ap (λ n. take n (word ++ line)) (space_at word line e space) ∙ take_at word line (length word) refl
 
-from_is : (word line : List ℕ) → list_all is_word_byte word ≡ true → StartsSpace line → from_space (word ++ line) ≡ line
+from_is : (word line : List ℕ) → list_all plain_byte word ≡ true → StartsSpace line → from_space (word ++ line) ≡ line
 from_is word line e space = ap (λ n. drop n (word ++ line)) (space_at word line e space) ∙ drop_at word line (length word) refl
 
-after_is : (word line : List ℕ) → list_all is_word_byte word ≡ true → after_first is_space (word ++ 32 ∷ line) ≡ line
+after_is : (word line : List ℕ) → list_all plain_byte word ≡ true → after_first is_space (word ++ 32 ∷ line) ≡ line
 after_is word line e =
     let size : length (word ++ 32 ∷ []) ≡ length word + 1 = simp length-append refl in
     ap (λ n. drop (n + 1) (word ++ 32 ∷ line)) (space_at word (32 ∷ line) e refl)
     ∙ ap (drop (length word + 1)) (sym (append_assoc word (32 ∷ []) line)) ∙ drop_at (word ++ 32 ∷ []) line (length word + 1) size
 
 -- a byte of a tag is one of a word
-tag_byte : (b : ℕ) → is_tag_byte b ≡ true → is_word_byte b ≡ true
+tag_byte : (b : ℕ) → is_tag_byte b ≡ true → plain_byte b ≡ true
 tag_byte b e =
     let first = and_true (nat_le 33 b && nat_le b 126) (not (b == 40 || b == 41 || b == 123 || b == 37 || b == 42 || b == 34 || b == 92 || b == 43)) e in
     let none = not_false (b == 40 || b == 41 || b == 123 || b == 37 || b == 42 || b == 34 || b == 92 || b == 43) first.1 in
@@ -68,24 +68,24 @@ tag_byte b e =
     let g = or_false (b == 40 || b == 41 || b == 123) (b == 37) f.0 in
     let h = or_false (b == 40 || b == 41) (b == 123) g.0 in
     let k = or_false (b == 40) (b == 41) h.0 in
-    rw (first.0, k.0, k.1, d.1) refl
+    rw (first.0, k.0, k.1, d.1, h.1) refl
 
-tag_bytes : (tag : List ℕ) → list_all is_tag_byte tag ≡ true → list_all is_word_byte tag ≡ true
+tag_bytes : (tag : List ℕ) → list_all is_tag_byte tag ≡ true → list_all plain_byte tag ≡ true
 tag_bytes [] e = refl
 tag_bytes (b ∷ tag) e =
     let both = and_true (is_tag_byte b) (list_all is_tag_byte tag) e in
     rw (tag_byte b both.0, tag_bytes tag both.1) refl
 
-before_tag : (tag line : List ℕ) → list_all is_word_byte tag ≡ true → before_space (tag ++ 32 ∷ line) ≡ Some tag
+before_tag : (tag line : List ℕ) → list_all plain_byte tag ≡ true → before_space (tag ++ 32 ∷ line) ≡ Some tag
 before_tag [] line e = refl
 before_tag (b ∷ tag) line e =
-    let both = and_true (is_word_byte b) (list_all is_word_byte tag) e in
+    let both = and_true (plain_byte b) (list_all plain_byte tag) e in
     rw (not_space b (word_byte b both.0).low, before_tag tag line both.1) refl
 
 -- a tag is a word
 pub record TagWord (tag : List ℕ) : Type 0 where
   pub some : 0 < length tag
-  pub bytes : list_all is_word_byte tag ≡ true
+  pub bytes : list_all plain_byte tag ≡ true
 
 some_of : (tag : List ℕ) → not (length tag == 0) ≡ true → 0 < length tag
 some_of [] e = absurd (let wrong : false ≡ true = e in cc)
@@ -103,7 +103,7 @@ tag_is tag line e = rw (before_tag tag line (tag_word tag e).bytes, e) refl
 -- What is known of a command that is read as it is meant.
 pub record IsRead (asked : ImapWhat) : Type 0 where
   pub verb : Verb
-  pub word : list_all is_word_byte (word_for asked) ≡ true
+  pub word : list_all plain_byte (word_for asked) ≡ true
   pub some : 0 < length (word_for asked)
   pub no_uid : is_word (codes "UID") (word_for asked) ≡ false
   pub is_verb : verb_in (word_for asked) ≡ Some verb
@@ -121,7 +121,7 @@ said_by v by_uid tokens asked few are ends e = rw few (ap (option_and_then (λ t
 
 -- a word of a command: bytes of a word, and not UID
 abbrev pub is_heading : List ℕ → Bool
-is_heading word = list_all is_word_byte word && nat_lt 0 (length word) && not (is_word (codes "UID") word)
+is_heading word = list_all plain_byte word && nat_lt 0 (length word) && not (is_word (codes "UID") word)
 
 -- arguments begin with a space, if there are any
 abbrev pub starts_spaced : List Token → Bool
@@ -142,8 +142,8 @@ pub read_by : (asked : ImapWhat) (v : Verb) → is_heading (word_for asked) ≡ 
     → takes_all v ≡ false → starts_spaced (arguments_of asked) ≡ true → AreWhole (arguments_of asked) × EndsWell (arguments_of asked)
     → what_in v (is_by_uid asked) (arguments_of asked) ≡ Some asked → IsRead asked
 read_by asked v heading is_verb with_uid few spaced are e =
-    let first = and_true (list_all is_word_byte (word_for asked) && nat_lt 0 (length (word_for asked))) (not (is_word (codes "UID") (word_for asked))) heading in
-    let second = and_true (list_all is_word_byte (word_for asked)) (nat_lt 0 (length (word_for asked))) first.0 in
+    let first = and_true (list_all plain_byte (word_for asked) && nat_lt 0 (length (word_for asked))) (not (is_word (codes "UID") (word_for asked))) heading in
+    let second = and_true (list_all plain_byte (word_for asked)) (nat_lt 0 (length (word_for asked))) first.0 in
     let starts = spaced_line (arguments_of asked) spaced in
     record {
       verb = v;
@@ -211,6 +211,12 @@ tagged_read tag asked r = by_uid (is_by_uid asked) refl
         let said : spoken r.verb false w.line w.lines w.literals ≡ Some asked = ap (λ t. spoken r.verb t w.line w.lines w.literals) (sym none) ∙ r.said in
         (plain, plain_ends, ap (λ h. if_headed tag h w.lines w.literals) (heading_plain asked r) ∙ ap (if_asked tag) said)
 
+-- the tokens of a command with its tag
+pub command_whole : (command : ImapCommand) → is_tag command.tag ≡ true → IsRead command.what → AreWhole (Word command.tag ∷ Space ∷ what_tokens (plain_of command.what))
+command_whole command e r =
+    let is = tag_word command.tag e in
+    ((is.some, is.bytes), refl, (tt, refl, (tagged_read command.tag command.what r).0))
+
 -- what is written is read
 pub write_read : (command : ImapCommand) → is_tag command.tag ≡ true → IsRead command.what → command_of (write command) ≡ Ok command
 unfolding write
@@ -220,7 +226,7 @@ write_read command e r =
     let w = written tokens in
     let t = tagged_read tag command.what r in
     let is = tag_word tag e in
-    let are : AreWhole (Word tag ∷ Space ∷ tokens) = ((is.some, is.bytes), refl, (tt, refl, t.0)) in
+    let are : AreWhole (Word tag ∷ Space ∷ tokens) = command_whole command e r in
     let ends : EndsWell (Word tag ∷ Space ∷ tokens) = ends_tokens tokens t.1 (starts command.what) in
     ap (λ line. of_lines line w.lines w.literals) (untrimmed (Word tag ∷ Space ∷ tokens) are ends)
     ∙ ap (λ o. if_tagged o (tag ++ 32 ∷ w.line) w.lines w.literals) (tag_is tag w.line e)

@@ -15,7 +15,7 @@ use Rattle.imap_lines.specs.Words.{is_word, number_in, count_in}
 use Rattle.imap_lines.specs.Tokens.{is_word_byte}
 use Rattle.imap_lines.specs.Sets.{cut_at, end_in, range_of, two_in, range_by, range_in, onto_first, between_commas, ranges_in, set_in}
 use Rattle.imap_lines.specs.Writing.{end_text, range_text, set_text, IsEnd, IsSet}
-use Rattle.imap_lines.proofs.WrittenTokens.{and_true, apart, not_false}
+use Rattle.imap_lines.proofs.WrittenTokens.{plain_byte, and_true, apart, not_false}
 
 -- the digits of a number and its value, as std has them
 digits_test : IsDigitsTest (λ ds. list_all is_digit ds ≡ true)
@@ -34,10 +34,10 @@ numerals = numerals_by_fold (λ ds. list_all is_digit ds ≡ true) digits_test v
 digits_of : (n : ℕ) → n ≤ 4294967295 → list_all is_digit (decimal n) ≡ true
 digits_of n fits = digits_decimal numerals n (omega arith)
 
-value_is : (n : ℕ) → n ≤ 4294967295 → value_of (decimal n) ≡ n
+pub value_is : (n : ℕ) → n ≤ 4294967295 → value_of (decimal n) ≡ n
 value_is n fits = digits_value-decimal numerals n (omega arith)
 
-all_digits_of : (n : ℕ) → n ≤ 4294967295 → all_digits (decimal n) ≡ true
+pub all_digits_of : (n : ℕ) → n ≤ 4294967295 → all_digits (decimal n) ≡ true
 all_digits_of n fits =
     let some : 0 < length (decimal n) = decimal_nonempty n (omega arith) in
     let few : length (decimal n) ≤ 10 = length-decimal-le 10 n (omega arith) (omega arith) (omega arith) in
@@ -99,7 +99,7 @@ all_imply p q implies (b ∷ bytes) e =
 pub both_true : (a b : Bool) → a ≡ true → b ≡ true → (a && b) ≡ true
 both_true a b e f = ap (λ t. t && b) e ∙ f
 
-not_is : (t : Bool) → t ≡ false → not t ≡ true
+pub not_is : (t : Bool) → t ≡ false → not t ≡ true
 not_is t e = ap not e
 
 digit_end : (b : ℕ) → is_digit b ≡ true → end_byte b ≡ true
@@ -115,12 +115,12 @@ end_range b e =
     let high = leb-true b 57 ends.1 in
     both_true (nat_le 42 b && nat_le b 58) (not (b == 44)) (both_true (nat_le 42 b) (nat_le b 58) ends.0 (le-leb b 58 (omega arith))) first.1
 
-pub set_word : (b : ℕ) → nat_le 42 b && nat_le b 58 ≡ true → is_word_byte b ≡ true
+pub set_word : (b : ℕ) → nat_le 42 b && nat_le b 58 ≡ true → plain_byte b ≡ true
 set_word b e =
     let ends = and_true (nat_le 42 b) (nat_le b 58) e in
     let low = leb-true 42 b ends.0 in
     let high = leb-true b 58 ends.1 in
-    rw (le-leb 33 b (omega arith), le-leb b 126 (omega arith), apart b 40 (λ is. omega arith), apart b 41 (λ is. omega arith), apart b 34 (λ is. omega arith)) refl
+    rw (le-leb 33 b (omega arith), le-leb b 126 (omega arith), apart b 40 (λ is. omega arith), apart b 41 (λ is. omega arith), apart b 34 (λ is. omega arith), apart b 123 (λ is. omega arith)) refl
 
 end_bytes : (o : Option ℕ) → IsEnd o → list_all end_byte (end_text o) ≡ true
 end_bytes None is = refl
@@ -201,14 +201,14 @@ some_set range (next ∷ ranges) =
     omega arith
 
 -- a set is a word
-pub set_is_word : (set : List SetRange) → IsSet set → (0 < length (set_text set)) × (list_all is_word_byte (set_text set) ≡ true)
+pub set_is_word : (set : List SetRange) → IsSet set → (0 < length (set_text set)) × (list_all plain_byte (set_text set) ≡ true)
 set_is_word [] is = absurd (let some = is.0 in omega arith)
 set_is_word (range ∷ ranges) is =
-    (some_set range ranges, all_imply (λ b. nat_le 42 b && nat_le b 58) is_word_byte set_word (set_text (range ∷ ranges)) (set_bytes range ranges is.1))
+    (some_set range ranges, all_imply (λ b. nat_le 42 b && nat_le b 58) plain_byte set_word (set_text (range ∷ ranges)) (set_bytes range ranges is.1))
 
 -- digits are bytes of a word
-pub decimal_word : (n : ℕ) → n ≤ 4294967295 → list_all is_word_byte (decimal n) ≡ true
-decimal_word n fits = all_imply is_digit is_word_byte (λ b e. set_word b (range_set b (end_range b (digit_end b e)))) (decimal n) (digits_of n fits)
+pub decimal_word : (n : ℕ) → n ≤ 4294967295 → list_all plain_byte (decimal n) ≡ true
+decimal_word n fits = all_imply is_digit plain_byte (λ b e. set_word b (range_set b (end_range b (digit_end b e)))) (decimal n) (digits_of n fits)
 
 -- digits are not such a byte
 pub digit_apart : (c n : ℕ) → c < 48 → n ≤ 4294967295 → list_all (λ b. not (b == c)) (decimal n) ≡ true

@@ -22,11 +22,11 @@ use Rattle.imap_lines.specs.declared.tokens.Token.{Token}
 use Rattle.imap_lines.specs.declared.tokens.Token.TheVariants.{Space, Open, Close, Word, Quoted, Literal}
 use Rattle.imap_lines.specs.declared.command.ImapWhat.{ImapWhat}
 use Rattle.imap_lines.specs.declared.command.ImapWhat.TheVariants as what
-use Rattle.imap_lines.proofs.WrittenTokens.{and_true, not_false, or_false, IsWhole, AreWhole, EndsWell, is_word_token, is_space_token, starts_word}
+use Rattle.imap_lines.proofs.WrittenTokens.{plain_byte, and_true, not_false, or_false, IsWhole, AreWhole, EndsWell, is_word_token, is_space_token, starts_word}
 use Rattle.imap_lines.proofs.WrittenHeads.{IsRead, read_by}
 
 -- a byte of an atom is one of a word
-atom_byte : (b : ℕ) → is_atom_byte b ≡ true → is_word_byte b ≡ true
+atom_byte : (b : ℕ) → is_atom_byte b ≡ true → plain_byte b ≡ true
 atom_byte b e =
     let first = and_true (nat_le 33 b && nat_le b 126) (not (b == 40 || b == 41 || b == 123 || b == 37 || b == 42 || b == 34 || b == 92)) e in
     let none = not_false (b == 40 || b == 41 || b == 123 || b == 37 || b == 42 || b == 34 || b == 92) first.1 in
@@ -36,30 +36,30 @@ atom_byte b e =
     let g = or_false (b == 40 || b == 41 || b == 123) (b == 37) f.0 in
     let h = or_false (b == 40 || b == 41) (b == 123) g.0 in
     let k = or_false (b == 40) (b == 41) h.0 in
-    rw (first.0, k.0, k.1, d.1) refl
+    rw (first.0, k.0, k.1, d.1, h.1) refl
 
-pub atom_bytes : (text : List ℕ) → list_all is_atom_byte text ≡ true → list_all is_word_byte text ≡ true
+pub atom_bytes : (text : List ℕ) → list_all is_atom_byte text ≡ true → list_all plain_byte text ≡ true
 atom_bytes [] e = refl
 atom_bytes (b ∷ text) e =
     let both = and_true (is_atom_byte b) (list_all is_atom_byte text) e in
     rw (atom_byte b both.0, atom_bytes text both.1) refl
 
-pattern_byte : (b : ℕ) → is_pattern_byte b ≡ true → is_word_byte b ≡ true
+pattern_byte : (b : ℕ) → is_pattern_byte b ≡ true → plain_byte b ≡ true
 pattern_byte b e = by_atom (is_atom_byte b) refl
   where
-    by_star : (t : Bool) → (b == 42) ≡ t → t ≡ true → is_word_byte b ≡ true
+    by_star : (t : Bool) → (b == 42) ≡ t → t ≡ true → plain_byte b ≡ true
     by_star true is e = (let same : b ≡ 42 = (Decides-eqb b 42).0 is in rw same refl)
     by_star false is e = absurd (let wrong : false ≡ true = e in cc)
 
-    by_percent : (t : Bool) → (b == 37) ≡ t → (t || (b == 42)) ≡ true → is_word_byte b ≡ true
+    by_percent : (t : Bool) → (b == 37) ≡ t → (t || (b == 42)) ≡ true → plain_byte b ≡ true
     by_percent true is e = (let same : b ≡ 37 = (Decides-eqb b 37).0 is in rw same refl)
     by_percent false is e = by_star (b == 42) refl e
 
-    by_atom : (t : Bool) → is_atom_byte b ≡ t → is_word_byte b ≡ true
+    by_atom : (t : Bool) → is_atom_byte b ≡ t → plain_byte b ≡ true
     by_atom true is = atom_byte b is
     by_atom false is = by_percent (b == 37) refl (sym (ap (λ t. (t || b == 37) || b == 42) is) ∙ e)
 
-pattern_bytes : (text : List ℕ) → list_all is_pattern_byte text ≡ true → list_all is_word_byte text ≡ true
+pattern_bytes : (text : List ℕ) → list_all is_pattern_byte text ≡ true → list_all plain_byte text ≡ true
 pattern_bytes [] e = refl
 pattern_bytes (b ∷ text) e =
     let both = and_true (is_pattern_byte b) (list_all is_pattern_byte text) e in

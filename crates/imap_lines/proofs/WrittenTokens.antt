@@ -35,12 +35,16 @@ pub or_false : (a b : Bool) → (a || b) ≡ false → (a ≡ false) × (b ≡ f
 or_false true b e = absurd (let wrong : true ≡ false = e in cc)
 or_false false b e = (refl, e)
 
+-- a byte of a word, and no {
+abbrev pub plain_byte : ℕ → Bool
+plain_byte b = is_word_byte b && not (b == 123)
+
 -- a word has bytes of a word, and a quoted string those of a quoted string
 abbrev pub IsWhole : Token → Type 0
 IsWhole Space = Unit {0}
 IsWhole Open = Unit {0}
 IsWhole Close = Unit {0}
-IsWhole (Word text) = (0 < length text) × (list_all is_word_byte text ≡ true)
+IsWhole (Word text) = (0 < length text) × (list_all plain_byte text ≡ true)
 IsWhole (Quoted text) = list_all is_quoted_byte text ≡ true
 IsWhole (Literal text) = Unit {0}
 
@@ -81,17 +85,27 @@ ends_tail token (next ∷ tokens) e = e
 
 -- what is known of a byte of a word
 pub record WordByte (b : ℕ) : Type 0 where
+  pub is : is_word_byte b ≡ true
+  pub no_brace : (b == 123) ≡ false
   pub low : 33 ≤ b
   pub not_open : (b == 40) ≡ false
   pub not_close : (b == 41) ≡ false
   pub not_quote : (b == 34) ≡ false
 
-pub word_byte : (b : ℕ) → is_word_byte b ≡ true → WordByte b
+pub word_byte : (b : ℕ) → plain_byte b ≡ true → WordByte b
 word_byte b e =
-    let first = and_true (nat_le 33 b && nat_le b 126) (not (b == 40 || b == 41 || b == 34)) e in
+    let both = and_true (is_word_byte b) (not (b == 123)) e in
+    let first = and_true (nat_le 33 b && nat_le b 126) (not (b == 40 || b == 41 || b == 34)) both.0 in
     let others = or_false (b == 40 || b == 41) (b == 34) (not_false (b == 40 || b == 41 || b == 34) first.1) in
     let brackets = or_false (b == 40) (b == 41) others.0 in
-    record { low = leb-true 33 b (and_true (nat_le 33 b) (nat_le b 126) first.0).0; not_open = brackets.0; not_close = brackets.1; not_quote = others.1 }
+    record {
+      is = both.0;
+      no_brace = not_false (b == 123) both.1;
+      low = leb-true 33 b (and_true (nat_le 33 b) (nat_le b 126) first.0).0;
+      not_open = brackets.0;
+      not_close = brackets.1;
+      not_quote = others.1;
+    }
 
 pub not_space : (b : ℕ) → 33 ≤ b → (b == 32) ≡ false
 not_space b low = apart b 32 (λ is. omega arith)
@@ -110,13 +124,13 @@ trimmed_plain line l =
     let whole : trimmed (l.front ++ l.last ∷ []) ≡ l.front ++ l.last ∷ [] = rw none (take_all (length (l.front ++ l.last ∷ []) - 0) (l.front ++ l.last ∷ []) (omega arith)) in
     ap trimmed l.is ∙ whole ∙ sym l.is
 
-last_of_word : (b : ℕ) (text : List ℕ) → list_all is_word_byte (b ∷ text) ≡ true → LastByte (b ∷ text)
-last_of_word b [] e = record { front = []; last = b; is = refl; plain = not_space b (word_byte b (and_true (is_word_byte b) true e).0).low }
+last_of_word : (b : ℕ) (text : List ℕ) → list_all plain_byte (b ∷ text) ≡ true → LastByte (b ∷ text)
+last_of_word b [] e = record { front = []; last = b; is = refl; plain = not_space b (word_byte b (and_true (plain_byte b) true e).0).low }
 last_of_word b (c ∷ text) e =
-    let l = last_of_word c text (and_true (is_word_byte b) (list_all is_word_byte (c ∷ text)) e).1 in
+    let l = last_of_word c text (and_true (plain_byte b) (list_all plain_byte (c ∷ text)) e).1 in
     record { front = b ∷ l.front; last = l.last; is = ap (λ t. b ∷ t) l.is; plain = l.plain }
 
-last_of_text : (text : List ℕ) → 0 < length text → list_all is_word_byte text ≡ true → LastByte (text ++ [])
+last_of_text : (text : List ℕ) → 0 < length text → list_all plain_byte text ≡ true → LastByte (text ++ [])
 last_of_text [] some e = absurd (omega arith)
 last_of_text (b ∷ text) some e = subst LastByte (sym (append-nil (b ∷ text))) (last_of_word b text e)
 
@@ -166,23 +180,23 @@ starts_plain (Word text ∷ tokens) e = absurd (let wrong : true ≡ false = e i
 starts_plain (Quoted text ∷ tokens) e = refl
 starts_plain (Literal text ∷ tokens) e = tt
 
-word_run : (done : List Token) (so_far text line : List ℕ) → list_all is_word_byte text ≡ true → tokens_from done (PartWord so_far) (text ++ line) ≡ tokens_from done (PartWord (so_far ++ text)) line
+word_run : (done : List Token) (so_far text line : List ℕ) → list_all plain_byte text ≡ true → tokens_from done (PartWord so_far) (text ++ line) ≡ tokens_from done (PartWord (so_far ++ text)) line
 word_run done so_far [] line e = ap (λ t. tokens_from done (PartWord t) line) (sym (append-nil so_far))
 word_run done so_far (b ∷ text) line e =
-    let both = and_true (is_word_byte b) (list_all is_word_byte text) e in
-    rw both.0 (word_run done (so_far ++ b ∷ []) text line both.1 ∙ ap (λ t. tokens_from done (PartWord t) line) (append_assoc so_far (b ∷ []) text))
+    let both = and_true (plain_byte b) (list_all plain_byte text) e in
+    rw (word_byte b both.0).is (word_run done (so_far ++ b ∷ []) text line both.1 ∙ ap (λ t. tokens_from done (PartWord t) line) (append_assoc so_far (b ∷ []) text))
 
 word_end : (done : List Token) (text line : List ℕ) → StartsPlain line → tokens_from done (PartWord text) line ≡ tokens_from (done ++ Word text ∷ []) Between line
 word_end done text [] plain = refl
 word_end done text (b ∷ line) plain = rw plain refl
 
-word_read : (done : List Token) (text line : List ℕ) → 0 < length text → list_all is_word_byte text ≡ true → StartsPlain line
+word_read : (done : List Token) (text line : List ℕ) → 0 < length text → list_all plain_byte text ≡ true → StartsPlain line
     → tokens_from done Between (text ++ line) ≡ tokens_from (done ++ Word text ∷ []) Between line
 word_read done [] line some e plain = absurd (omega arith)
 word_read done (b ∷ text) line some e plain =
-    let both = and_true (is_word_byte b) (list_all is_word_byte text) e in
+    let both = and_true (plain_byte b) (list_all plain_byte text) e in
     let is = word_byte b both.0 in
-    rw (both.0, not_space b is.low, is.not_open, is.not_close, is.not_quote) (word_run done (b ∷ []) text line both.1 ∙ word_end done (b ∷ text) line plain)
+    rw (is.is, not_space b is.low, is.not_open, is.not_close, is.not_quote) (word_run done (b ∷ []) text line both.1 ∙ word_end done (b ∷ text) line plain)
 
 -- a byte that a quoted string has as it is
 quote_plain : (done : List Token) (so_far : List ℕ) (b : ℕ) (text line : List ℕ) → (b == 34 || b == 92) ≡ false → is_quoted_byte b ≡ true

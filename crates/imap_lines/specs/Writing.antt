@@ -1,5 +1,5 @@
 -- How a plain client writes a command (RFC 3501, 9): an argument that is no atom is a quoted string, or a literal where it has a byte that no quoted string may have.
-use Rattle.std.specs.Prelude.{◌≡◌, ℕ, Bool, true, false, ◌==◌, ◌||◌, ◌<◌, ◌≤◌, ◌⊎◌, List, [], ◌∷◌, ◌++◌, length, map, codes, Option, None, Some, if◌then◌else◌}
+use Rattle.std.specs.Prelude.{◌≡◌, ℕ, Bool, true, false, ◌+◌, ◌==◌, ◌||◌, ◌<◌, ◌≤◌, ◌⊎◌, List, [], ◌∷◌, ◌++◌, length, map, codes, Option, None, Some, if◌then◌else◌}
 use Rattle.std.specs.Fmt.{decimal}
 use Rattle.std.specs.List.{list_all, AllByRecursion}
 use Rattle.civil_dates.specs.Dates.{imap_date}
@@ -11,6 +11,9 @@ use Rattle.undo_base.specs.declared.asks.Section.{Section}
 use Rattle.undo_base.specs.declared.asks.Section.TheVariants.{Whole, Header, Text, Fields, NotFields}
 use Rattle.undo_base.specs.declared.keys.Flags.{Flags}
 use Rattle.imap_stream.specs.Marks.{is_tag}
+use Rattle.imap_stream.specs.Streams.{marked_line, ended_line}
+use Rattle.imap_stream.specs.declared.next.Next.{Next}
+use Rattle.imap_stream.specs.declared.next.Next.TheVariants.{Ask, Command}
 use Rattle.imap_stream.specs.declared.next.RawCommand.{RawCommand}
 use Rattle.imap_stream.specs.declared.picks.SetRange.{SetRange}
 use Rattle.imap_lines.specs.Asks.{is_field}
@@ -210,6 +213,32 @@ what_tokens p = if p.by_uid then Word (codes "UID") ∷ Space ∷ Word p.word �
 -- a command as a plain client writes it
 unfoldable pub write : ImapCommand → RawCommand
 write command = raw_of (written (Word command.tag ∷ Space ∷ what_tokens (plain_of command.what)))
+
+-- what is sent of lines and of the literals behind them: each line with the mark of its literal
+abbrev pub sent_lines : List (List ℕ) → List (List ℕ) → List ℕ
+sent_lines [] literals = []
+sent_lines (line ∷ lines) [] = ended_line line ++ sent_lines lines []
+sent_lines (line ∷ lines) (literal ∷ literals) = ended_line (marked_line line (decimal (length literal))) ++ (literal ++ sent_lines lines literals)
+
+-- a command on the stream
+abbrev pub sent : RawCommand → List ℕ
+sent raw = sent_lines raw.lines raw.literals
+
+-- how many octets the lines have, with their marks
+abbrev pub octets_of : List (List ℕ) → List (List ℕ) → ℕ
+octets_of [] literals = 0
+octets_of (line ∷ lines) [] = length line + octets_of lines []
+octets_of (line ∷ lines) (literal ∷ literals) = length (marked_line line (decimal (length literal))) + octets_of lines literals
+
+-- A command whose lines and literals are within the limits.
+pub record IsSendable (raw : RawCommand) : Type 0 where
+  pub few : length raw.literals ≤ 8
+  pub small : AllByRecursion (λ literal. length literal ≤ 1048576) raw.literals
+  pub short : octets_of raw.lines raw.literals ≤ 65536
+
+-- what the stream gives of it: the literals to be invited, and the command
+abbrev pub given_of : RawCommand → List Next
+given_of raw = map (λ literal. Ask (length literal)) raw.literals ++ Command raw ∷ []
 
 abbrev pub IsEnd : Option ℕ → Type 0
 IsEnd None = Unit {0}

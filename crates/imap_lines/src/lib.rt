@@ -29,7 +29,7 @@ pub use imap_stream::{
     pick,
 };
 pub use reader::read_command;
-pub use round_trip::reads_what_is_written;
+pub use round_trip::{cuts_what_is_sent, reads_what_is_written};
 pub use tokens::{Part, Token, Tokens};
 
 #[cfg(test)]
