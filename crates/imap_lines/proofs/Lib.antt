@@ -11,3 +11,9 @@ pub mod WrittenDates
 pub mod WrittenCommands
 pub mod WrittenRows
 pub mod WrittenStreams
+pub mod Spelling
+pub mod Spelt
+pub mod Attributes
+pub mod Asked
+pub mod Items
+pub mod Flagged

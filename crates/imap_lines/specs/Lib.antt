@@ -1,12 +1,15 @@
 pub mod Words
 pub mod Parts
 pub mod Tokens
+pub mod Spelling
 pub mod Arguments
 pub mod Sets
 pub mod Flags
 pub mod Dates
 pub mod Asks
 pub mod Fetch
+pub mod Attributes
+pub mod Lists
 pub mod Verbs
 pub mod Messages
 pub mod Append

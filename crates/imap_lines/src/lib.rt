@@ -12,6 +12,7 @@ mod command;
 mod dates;
 mod fetch;
 mod flags;
+mod laws;
 mod messages;
 mod parts;
 mod reader;
@@ -28,6 +29,7 @@ pub use imap_stream::{
     BadLine, LineFault, Next, Nexts, PickRefused, Pieces, RawCommand, SetRange, SetText, cut_all,
     pick,
 };
+pub use laws::{attributes_are_spelled, flags_are_spelled, items_are_spelled, tokens_are_spelled};
 pub use reader::read_command;
 pub use round_trip::{cuts_what_is_sent, reads_what_is_written};
 pub use tokens::{Part, Token, Tokens};
