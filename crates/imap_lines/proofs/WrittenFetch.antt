@@ -16,7 +16,7 @@ use Rattle.imap_lines.specs.Sets.{cut_at, set_in}
 use Rattle.imap_lines.specs.Tokens.{is_word_byte, string_of}
 use Rattle.imap_lines.specs.What.{what_in}
 use Rattle.imap_lines.specs.Words.{number_in, count_in}
-use Rattle.imap_lines.specs.Writing.{spaced, listed, string_token, set_text, part_text, body_word, whole_tokens, field_tokens, section_tokens, ask_tokens, asks_tokens, fetch_tokens, IsSet, IsPart, AreFields, IsSection, IsAsk, AreAsks}
+use Rattle.imap_lines.specs.PlainCommands.{spaced, listed, string_token, set_text, part_text, body_word, whole_tokens, field_tokens, section_tokens, ask_tokens, asks_tokens, fetch_tokens, IsSet, IsPart, AreFields, IsSection, IsAsk, AreAsks}
 use Rattle.imap_lines.specs.declared.asks.FetchAsk.{FetchAsk}
 use Rattle.imap_lines.specs.declared.asks.FetchAsk.TheVariants as ask
 use Rattle.imap_lines.specs.declared.fetch.Wanted.{Wanted}

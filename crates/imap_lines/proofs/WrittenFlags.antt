@@ -16,7 +16,8 @@ use Rattle.imap_lines.specs.Messages.{how_in, listed_flags, store_flags, change_
 use Rattle.imap_lines.specs.Sets.{set_in}
 use Rattle.imap_lines.specs.Tokens.{is_word_byte, is_quoted_byte}
 use Rattle.imap_lines.specs.What.{what_in}
-use Rattle.imap_lines.specs.Writing.{written, spaced, listed, string_token, flag_token, flag_tokens, date_tokens, how_word, set_text, IsSet}
+use Rattle.imap_lines.specs.Writing.{written}
+use Rattle.imap_lines.specs.PlainCommands.{spaced, listed, string_token, flag_token, flag_tokens, date_tokens, how_word, set_text, IsSet}
 use Rattle.imap_lines.specs.declared.verbs.Verb.{Verb}
 use Rattle.imap_lines.specs.declared.verbs.Verb.TheVariants as verb
 use Rattle.imap_lines.specs.declared.tokens.Token.{Token}

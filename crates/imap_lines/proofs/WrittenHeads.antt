@@ -12,7 +12,8 @@ use Rattle.imap_lines.specs.Tokens.{is_word_byte, tokens_with}
 use Rattle.imap_lines.specs.Verbs.{verb_in, message_verb}
 use Rattle.imap_lines.specs.What.{what_in}
 use Rattle.imap_lines.specs.Command.{heading_of, uid_heading_of, takes_all, spoken, if_asked, if_headed, tagged, if_tagged, of_lines, command_of}
-use Rattle.imap_lines.specs.Writing.{Written, raw_of, written, plain_of, what_tokens, write}
+use Rattle.imap_lines.specs.Writing.{Written, raw_of, written}
+use Rattle.imap_lines.specs.PlainCommands.{plain_of, what_tokens, write}
 use Rattle.imap_lines.specs.declared.verbs.Verb.{Verb}
 use Rattle.imap_lines.specs.declared.tokens.Token.{Token}
 use Rattle.imap_lines.specs.declared.tokens.Token.TheVariants.{Space, Open, Close, Word, Quoted, Literal}

@@ -14,7 +14,7 @@ use Rattle.imap_stream.specs.declared.picks.SetRange.{SetRange}
 use Rattle.imap_lines.specs.Words.{is_word, number_in, count_in}
 use Rattle.imap_lines.specs.Tokens.{is_word_byte}
 use Rattle.imap_lines.specs.Sets.{cut_at, end_in, range_of, two_in, range_by, range_in, onto_first, between_commas, ranges_in, set_in}
-use Rattle.imap_lines.specs.Writing.{end_text, range_text, set_text, IsEnd, IsSet}
+use Rattle.imap_lines.specs.PlainCommands.{end_text, range_text, set_text, IsEnd, IsSet}
 use Rattle.imap_lines.proofs.WrittenTokens.{plain_byte, and_true, apart, not_false}
 
 -- the digits of a number and its value, as std has them

@@ -11,7 +11,8 @@ use Rattle.imap_lines.specs.Asks.{status_in as status_in_word, statuses_from}
 use Rattle.imap_lines.specs.Words.{is_atom, is_atom_byte, is_pattern_byte}
 use Rattle.imap_lines.specs.Tokens.{is_word_byte, is_quoted_byte, string_of, pattern_of}
 use Rattle.imap_lines.specs.What.{bare, bare_in, with_mailbox, mailbox_in, login_in, rename_in, list_in, status_in, what_in}
-use Rattle.imap_lines.specs.Writing.{Written, written, spaced, listed, string_token, quoted_token, pattern_token, status_word}
+use Rattle.imap_lines.specs.Writing.{Written, written}
+use Rattle.imap_lines.specs.PlainCommands.{spaced, listed, string_token, quoted_token, pattern_token, status_word}
 use Rattle.imap_lines.specs.declared.verbs.BareVerb.{BareVerb}
 use Rattle.imap_lines.specs.declared.verbs.BareVerb.TheVariants as bare_verb
 use Rattle.imap_lines.specs.declared.verbs.MailboxVerb.{MailboxVerb}

@@ -10,7 +10,8 @@ use Rattle.imap_lines.specs.Parts.{trimmed, line_before}
 use Rattle.imap_lines.specs.Parts as parts
 use Rattle.imap_lines.specs.Words.{is_atom, is_atom_byte}
 use Rattle.imap_lines.specs.Tokens.{is_word_byte, is_quoted_byte, started, in_quotes, escaped, in_word, with_byte, ended, tokens_from, tokens_in, with_first, tokens_of, tokens_with, string_of}
-use Rattle.imap_lines.specs.Writing.{Written, raw_of, escaped_text, with_bytes, with_token, written, string_token}
+use Rattle.imap_lines.specs.Writing.{Written, raw_of, escaped_text, with_bytes, with_token, written}
+use Rattle.imap_lines.specs.PlainCommands.{string_token}
 use Rattle.imap_lines.specs.declared.tokens.Token.{Token}
 use Rattle.imap_lines.specs.declared.tokens.Token.TheVariants.{Space, Open, Close, Word, Quoted, Literal}
 use Rattle.imap_lines.specs.declared.tokens.Part.{Part}

@@ -16,3 +16,4 @@ pub mod Append
 pub mod What
 pub mod Command
 pub mod Writing
+pub mod PlainCommands

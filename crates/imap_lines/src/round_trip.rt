@@ -4,7 +4,8 @@ ghost use Rattle.imap_stream.specs.Commands.{said_of};
 ghost use Rattle.imap_stream.specs.Marks.{is_tag};
 ghost use Rattle.imap_lines.specs.declared.command.ImapCommand.{ImapCommand};
 ghost use Rattle.imap_lines.specs.Command.{command_of};
-ghost use Rattle.imap_lines.specs.Writing.{IsWritable, IsSendable, write, sent, given_of};
+ghost use Rattle.imap_lines.specs.Writing.{IsSendable, sent, given_of};
+ghost use Rattle.imap_lines.specs.PlainCommands.{IsWritable, write};
 
 use civil_dates::in_calendar;
 use imap_stream::one_reading;
