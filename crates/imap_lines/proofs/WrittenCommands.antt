@@ -1,5 +1,5 @@
 -- Each command is read as it is written.
-use Rattle.std.proofs.Common.{◌≡◌, ℕ, ◌≤◌, Bool, Option, None, Some, List}
+use Rattle.std.proofs.Common.{ℕ, ◌≤◌, Option, None, Some}
 use Rattle.imap_lines.specs.PlainCommands.{IsMoment, IsWritable}
 use Rattle.imap_lines.specs.declared.verbs.BareVerb.TheVariants as bare_verb
 use Rattle.imap_lines.specs.declared.verbs.MailboxVerb.TheVariants as mailbox_verb

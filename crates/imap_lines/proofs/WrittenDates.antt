@@ -1,18 +1,16 @@
 -- Dates are read as they are written.
-use Rattle.std.proofs.Common.{◌≡◌, ℕ, ◌+◌, ◌-◌, ◌*◌, ◌/◌, ◌%◌, ◌<◌, ◌≤◌, Bool, true, false, cond, not, ◌==◌, ◌&&◌, ◌||◌, List, [], ◌∷◌, ◌++◌, length, codes, nat_le, nat_lt, min, Option, None, Some, refl, ap, sym, ◌∙◌, arith, subst, zero, suc, ℤ, pos}
-use Rattle.std.specs.Prelude.{option_map, option_and_then, ◌+ℤ◌, ◌-ℤ◌, ◌*ℤ◌}
+use Rattle.std.proofs.Common.{◌≡◌, ℕ, ◌+◌, ◌-◌, ◌*◌, ◌/◌, ◌%◌, ◌<◌, ◌≤◌, Bool, true, false, cond, ◌==◌, ◌&&◌, ◌||◌, List, [], ◌∷◌, length, codes, nat_lt, min, Option, None, Some, refl, ap, sym, ◌∙◌, arith, zero, suc, ℤ, pos}
 use Rattle.std.specs.Fmt.{decimal}
 use Rattle.std.specs.List.{list_all, range_with_len}
-use Rattle.std.proofs.lemmas.Bool.{leb-true, le-leb}
+use Rattle.std.proofs.lemmas.Bool.{le-leb}
 use Rattle.std.proofs.lemmas.Bool.Decides.{Decides-eqb, Decides-ltb}
 use Rattle.std.proofs.lemmas.Fmt.{decimal_digit, decimal_step}
 use Rattle.jiff_core.proofs.SignedLemmas.{signed_arith}
-use Rattle.jiff_core.specs.Calendar.{IsCivilDate, is_leap_year, days_from_civil, days_in_month, days_in_year}
+use Rattle.jiff_core.specs.Calendar.{is_leap_year, days_from_civil, days_in_month, days_in_year}
 use Rattle.civil_dates.specs.declared.days.Day.{Day}
 use Rattle.civil_dates.specs.Days.{IsDay, day_from_month, day_from_year, civil_day, kept, seconds_of}
 use Rattle.civil_dates.specs.Months.{month_name, month_of}
-use Rattle.civil_dates.specs.Dates.{two_places, clock_text, imap_date_of, imap_date}
-use Rattle.civil_dates.specs.Dates as text
+use Rattle.civil_dates.specs.Dates.{two_places, imap_date_of, imap_date}
 use Rattle.imap_stream.specs.Marks.{is_digit}
 use Rattle.imap_lines.specs.Dates.{two_digits, two_below, day_number, year_number, day_of, second_of, is_real, date_in}
 use Rattle.imap_lines.specs.Tokens.{is_quoted_byte}

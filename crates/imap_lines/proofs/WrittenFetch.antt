@@ -1,5 +1,5 @@
 -- FETCH is read as it is written.
-use Rattle.std.proofs.Common.{◌≡◌, ℕ, ◌+◌, ◌-◌, ◌<◌, ◌≤◌, Bool, true, false, cond, not, ◌==◌, ◌&&◌, ◌⊎◌, inl, inr, List, [], ◌∷◌, ◌++◌, length, map, take, codes, get_or, nat_le, Option, None, Some, refl, ap, sym, ◌∙◌, arith, subst, suc}
+use Rattle.std.proofs.Common.{◌≡◌, ℕ, ◌+◌, ◌-◌, ◌<◌, ◌≤◌, Bool, true, false, ◌&&◌, inl, inr, List, [], ◌∷◌, ◌++◌, length, map, take, codes, get_or, Option, None, Some, refl, ap, sym, ◌∙◌, arith, subst, suc}
 use Rattle.std.specs.Prelude.{option_map, option_and_then, slice_get}
 use Rattle.std.specs.Fmt.{decimal}
 use Rattle.std.specs.List.{list_all, AllByRecursion}
@@ -8,27 +8,23 @@ use Rattle.std.proofs.lemmas.List.Folds.{list_all-append}
 use Rattle.undo_base.specs.declared.asks.Section.{Section}
 use Rattle.undo_base.specs.declared.asks.Section.TheVariants.{Whole, Header, Text, Fields, NotFields}
 use Rattle.imap_stream.specs.declared.picks.SetRange.{SetRange}
-use Rattle.imap_lines.specs.Arguments.{behind_space, next_word}
-use Rattle.imap_lines.specs.Asks.{is_field, field_in, numbers_in, closed_part_in, part_in, tail_in}
-use Rattle.imap_lines.specs.Fetch.{whole_in, body_in, begins_in, body_of, begun, with_ask, with_fields, with_token, with_tokens, nothing_asked, whole_asks, asks_in, ends_closed, listed_in, fetch_in}
-use Rattle.imap_lines.specs.Messages.{fetch_of}
-use Rattle.imap_lines.specs.Sets.{cut_at, set_in}
-use Rattle.imap_lines.specs.Tokens.{is_word_byte, string_of}
+use Rattle.imap_lines.specs.Asks.{is_field, numbers_in, closed_part_in, part_in}
+use Rattle.imap_lines.specs.Fetch.{begins_in, body_of, begun, with_fields, with_tokens, whole_asks, asks_in, ends_closed, fetch_in}
+use Rattle.imap_lines.specs.Sets.{cut_at}
 use Rattle.imap_lines.specs.What.{what_in}
-use Rattle.imap_lines.specs.Words.{number_in, count_in}
-use Rattle.imap_lines.specs.PlainCommands.{spaced, listed, string_token, set_text, part_text, body_word, whole_tokens, field_tokens, section_tokens, ask_tokens, asks_tokens, fetch_tokens, IsSet, IsPart, AreFields, IsSection, IsAsk, AreAsks}
+use Rattle.imap_lines.specs.PlainCommands.{spaced, string_token, part_text, body_word, whole_tokens, field_tokens, section_tokens, ask_tokens, asks_tokens, fetch_tokens, IsSet, IsPart, AreFields, IsSection, IsAsk, AreAsks}
 use Rattle.imap_lines.specs.declared.asks.FetchAsk.{FetchAsk}
 use Rattle.imap_lines.specs.declared.asks.FetchAsk.TheVariants as ask
 use Rattle.imap_lines.specs.declared.fetch.Wanted.{Wanted}
-use Rattle.imap_lines.specs.declared.fetch.Wanted.TheVariants.{Attribute, Behind, Gap, Opening, FieldName, BehindName, Tail}
+use Rattle.imap_lines.specs.declared.fetch.Wanted.TheVariants.{Attribute, Behind, FieldName, Tail}
 use Rattle.imap_lines.specs.declared.fetch.Kind.{Kind}
 use Rattle.imap_lines.specs.declared.fetch.Attributes.{Attributes}
 use Rattle.imap_lines.specs.declared.fetch.Begins.TheVariants.{Whole as WholeAsk}
 use Rattle.imap_lines.specs.declared.verbs.Verb.TheVariants as verb
 use Rattle.imap_lines.specs.declared.tokens.Token.{Token}
-use Rattle.imap_lines.specs.declared.tokens.Token.TheVariants.{Space, Open, Close, Word, Quoted, Literal}
+use Rattle.imap_lines.specs.declared.tokens.Token.TheVariants.{Space, Open, Close, Word}
 use Rattle.imap_lines.specs.declared.command.ImapWhat.TheVariants as what
-use Rattle.imap_lines.proofs.WrittenTokens.{plain_byte, apart, IsWhole, AreWhole, EndsWell, is_word_token, is_space_token, starts_word}
+use Rattle.imap_lines.proofs.WrittenTokens.{plain_byte, apart, IsWhole, AreWhole, EndsWell, is_word_token, starts_word}
 use Rattle.imap_lines.proofs.WrittenHeads.{IsRead, read_by}
 use Rattle.imap_lines.proofs.WrittenNumbers.{set_is, number_is, count_is, cut_is, digit_apart, decimal_word, both_true}
 use Rattle.imap_lines.proofs.WrittenStrings.{AreItems, string_argument, spaced_whole, ends_after}

@@ -1,30 +1,27 @@
 -- Commands with flags are read as they are written.
-use Rattle.std.proofs.Common.{◌≡◌, ℕ, ◌+◌, ◌<◌, ◌≤◌, Bool, true, false, cond, not, ◌==◌, ◌&&◌, List, [], ◌∷◌, ◌++◌, length, codes, Option, None, Some, refl, ap, sym, ◌∙◌, arith, subst}
+use Rattle.std.proofs.Common.{◌≡◌, ℕ, Bool, true, false, cond, ◌==◌, List, [], ◌∷◌, ◌++◌, length, codes, Option, None, Some, refl, ap, sym, ◌∙◌, arith, subst}
 use Rattle.std.specs.Prelude.{option_map, option_and_then}
-use Rattle.std.specs.List.{list_all, AllByRecursion}
+use Rattle.std.specs.List.{list_all}
 use Rattle.std.proofs.lemmas.List.{append_assoc}
 use Rattle.civil_dates.specs.Dates.{imap_date}
 use Rattle.imap_stream.specs.declared.picks.SetRange.{SetRange}
 use Rattle.undo_base.specs.declared.asks.How.{How}
 use Rattle.undo_base.specs.declared.asks.How.TheVariants.{Replace, Add, Take}
 use Rattle.undo_base.specs.declared.keys.Flags.{Flags}
-use Rattle.imap_lines.specs.Append.{spaced_flags, first_flags, spaced_date, date_by, first_date, only_literal, message_in, append_in}
-use Rattle.imap_lines.specs.Arguments.{behind_space, next_string, next_word, last_string}
+use Rattle.imap_lines.specs.Append.{spaced_flags, first_date, only_literal, message_in, append_in}
+use Rattle.imap_lines.specs.Arguments.{behind_space}
 use Rattle.imap_lines.specs.Dates.{date_in}
 use Rattle.imap_lines.specs.Flags.{flags_in}
-use Rattle.imap_lines.specs.Messages.{how_in, listed_flags, store_flags, change_in, store_of, copy_of}
+use Rattle.imap_lines.specs.Messages.{how_in, listed_flags, change_in}
 use Rattle.imap_lines.specs.Sets.{set_in}
-use Rattle.imap_lines.specs.Tokens.{is_word_byte, is_quoted_byte}
+use Rattle.imap_lines.specs.Tokens.{is_quoted_byte}
 use Rattle.imap_lines.specs.What.{what_in}
-use Rattle.imap_lines.specs.Writing.{written}
-use Rattle.imap_lines.specs.PlainCommands.{spaced, listed, string_token, flag_token, flag_tokens, date_tokens, how_word, set_text, IsSet}
-use Rattle.imap_lines.specs.declared.verbs.Verb.{Verb}
+use Rattle.imap_lines.specs.PlainCommands.{spaced, string_token, flag_token, flag_tokens, date_tokens, how_word, set_text, IsSet}
 use Rattle.imap_lines.specs.declared.verbs.Verb.TheVariants as verb
 use Rattle.imap_lines.specs.declared.tokens.Token.{Token}
-use Rattle.imap_lines.specs.declared.tokens.Token.TheVariants.{Space, Open, Close, Word, Quoted, Literal}
-use Rattle.imap_lines.specs.declared.command.ImapWhat.{ImapWhat}
+use Rattle.imap_lines.specs.declared.tokens.Token.TheVariants.{Space, Open, Close, Word, Literal}
 use Rattle.imap_lines.specs.declared.command.ImapWhat.TheVariants as what
-use Rattle.imap_lines.proofs.WrittenTokens.{plain_byte, IsWhole, AreWhole, EndsWell, is_word_token, is_space_token}
+use Rattle.imap_lines.proofs.WrittenTokens.{plain_byte, IsWhole, AreWhole, EndsWell, is_word_token}
 use Rattle.imap_lines.proofs.WrittenHeads.{IsRead, read_by}
 use Rattle.imap_lines.proofs.WrittenNumbers.{set_is, set_is_word}
 use Rattle.imap_lines.proofs.WrittenStrings.{AreItems, string_argument, and_none, one_string, last_is, next_is, spaced_whole, ends_after}

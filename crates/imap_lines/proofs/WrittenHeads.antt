@@ -1,25 +1,23 @@
 -- What stands before the arguments of a command that is written.
-use Rattle.std.proofs.Common.{◌≡◌, ℕ, ◌+◌, ◌<◌, ◌≤◌, Bool, true, false, cond, not, ◌==◌, ◌&&◌, ◌||◌, List, [], ◌∷◌, ◌++◌, length, take, drop, codes, nat_le, nat_lt, Option, None, Some, refl, ap, sym, ◌∙◌, arith, subst}
-use Rattle.std.specs.Prelude.{option_map, option_and_then, Ok}
-use Rattle.std.specs.List.{list_all, before_first, after_first, position_or_len, prefix_len}
-use Rattle.std.proofs.lemmas.Bool.{leb-true}
+use Rattle.std.proofs.Common.{◌≡◌, ℕ, ◌+◌, ◌<◌, Bool, true, false, cond, not, ◌==◌, ◌&&◌, ◌||◌, List, [], ◌∷◌, ◌++◌, length, take, drop, codes, nat_le, nat_lt, Some, refl, ap, sym, ◌∙◌, arith}
+use Rattle.std.specs.Prelude.{option_and_then, Ok}
+use Rattle.std.specs.List.{list_all, before_first, after_first, position_or_len}
 use Rattle.std.proofs.lemmas.Bool.Decides.{Decides-ltb}
 use Rattle.std.proofs.lemmas.List.{append_assoc, length-append, take_at, drop_at}
 use Rattle.imap_stream.specs.Marks.{is_tag, is_tag_byte, tag_of, before_space}
-use Rattle.imap_lines.specs.Parts.{is_space, line_before, from_space}
+use Rattle.imap_lines.specs.Parts.{is_space, from_space}
 use Rattle.imap_lines.specs.Words.{is_word}
-use Rattle.imap_lines.specs.Tokens.{is_word_byte, tokens_with}
 use Rattle.imap_lines.specs.Verbs.{verb_in, message_verb}
 use Rattle.imap_lines.specs.What.{what_in}
-use Rattle.imap_lines.specs.Command.{heading_of, uid_heading_of, takes_all, spoken, if_asked, if_headed, tagged, if_tagged, of_lines, command_of}
-use Rattle.imap_lines.specs.Writing.{Written, raw_of, written}
+use Rattle.imap_lines.specs.Command.{heading_of, takes_all, spoken, if_asked, if_headed, tagged, if_tagged, of_lines, command_of}
+use Rattle.imap_lines.specs.Writing.{Written, written}
 use Rattle.imap_lines.specs.PlainCommands.{plain_of, what_tokens, write}
 use Rattle.imap_lines.specs.declared.verbs.Verb.{Verb}
 use Rattle.imap_lines.specs.declared.tokens.Token.{Token}
 use Rattle.imap_lines.specs.declared.tokens.Token.TheVariants.{Space, Open, Close, Word, Quoted, Literal}
 use Rattle.imap_lines.specs.declared.command.ImapWhat.{ImapWhat}
 use Rattle.imap_lines.specs.declared.command.ImapCommand.{ImapCommand}
-use Rattle.imap_lines.proofs.WrittenTokens.{plain_byte, and_true, apart, not_false, or_false, IsWhole, AreWhole, EndsWell, is_word_token, starts_word, word_byte, not_space, is_space_token, read_from, written_read, untrimmed}
+use Rattle.imap_lines.proofs.WrittenTokens.{plain_byte, and_true, not_false, or_false, AreWhole, EndsWell, starts_word, word_byte, not_space, is_space_token, written_read, untrimmed}
 
 -- the word of a command, whether UID stands before it, and its arguments
 abbrev pub word_for : ImapWhat → List ℕ

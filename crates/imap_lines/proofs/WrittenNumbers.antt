@@ -1,19 +1,18 @@
 -- Sets and numbers are read as they are written.
-use Rattle.std.proofs.Common.{◌≡◌, ℕ, ◌+◌, ◌-◌, ◌*◌, ◌^◌, ◌<◌, ◌≤◌, Bool, true, false, cond, not, ◌==◌, ◌&&◌, ◌||◌, List, [], ◌∷◌, ◌++◌, length, codes, get_or, nat_le, nat_lt, Option, None, Some, refl, ap, sym, ◌∙◌, arith, subst, zero, suc}
+use Rattle.std.proofs.Common.{◌≡◌, ℕ, ◌+◌, ◌<◌, ◌≤◌, Bool, true, false, not, ◌==◌, ◌&&◌, List, [], ◌∷◌, ◌++◌, length, get_or, nat_le, nat_lt, Option, None, Some, refl, ap, ◌∙◌, arith, zero, suc}
 use Rattle.std.specs.Prelude.{option_map, option_and_then}
 use Rattle.std.specs.Fmt.{decimal}
 use Rattle.std.specs.List.{list_all, AllByRecursion}
 use Rattle.std.proofs.lemmas.Bool.{leb-true, le-leb}
-use Rattle.std.proofs.lemmas.Bool.Decides.{Decides-eqb, Decides-ltb}
+use Rattle.std.proofs.lemmas.Bool.Decides.{Decides-ltb}
 use Rattle.std.proofs.lemmas.Fmt.{decimal_nonempty, digits_decimal, digits_value-decimal, first_decimal, length-decimal-le, decimal_digit}
-use Rattle.std.proofs.lemmas.List.{append_assoc, append-nil, length-append}
+use Rattle.std.proofs.lemmas.List.{length-append}
 use Rattle.std.proofs.lemmas.List.Folds.{list_all-append}
 use Rattle.std.proofs.lemmas.Str.Parse.{IsDigitsTest, FoldsDigits, IsNumeralModel, numerals_by_fold}
 use Rattle.imap_stream.specs.Marks.{is_digit, all_digits, value_after, value_of}
 use Rattle.imap_stream.specs.declared.picks.SetRange.{SetRange}
 use Rattle.imap_lines.specs.Words.{is_word, number_in, count_in}
-use Rattle.imap_lines.specs.Tokens.{is_word_byte}
-use Rattle.imap_lines.specs.Sets.{cut_at, end_in, range_of, two_in, range_by, range_in, onto_first, between_commas, ranges_in, set_in}
+use Rattle.imap_lines.specs.Sets.{cut_at, end_in, range_by, range_in, between_commas, ranges_in, set_in}
 use Rattle.imap_lines.specs.PlainCommands.{end_text, range_text, set_text, IsEnd, IsSet}
 use Rattle.imap_lines.proofs.WrittenTokens.{plain_byte, and_true, apart, not_false}
 

@@ -1,28 +1,26 @@
 -- What is written of a command is cut out of the stream on which it is sent.
-use Rattle.std.proofs.Common.{◌≡◌, ℕ, ◌+◌, ◌-◌, ◌<◌, ◌≤◌, Bool, true, false, cond, not, ◌==◌, ◌&&◌, ◌||◌, List, [], ◌∷◌, ◌++◌, length, map, nat_le, Option, None, Some, refl, ap, sym, ◌∙◌, arith, subst, zero, suc}
-use Rattle.std.specs.Prelude.{sum_by}
+use Rattle.std.proofs.Common.{◌≡◌, ℕ, ◌+◌, ◌≤◌, Bool, true, false, cond, not, ◌==◌, ◌&&◌, ◌||◌, List, [], ◌∷◌, ◌++◌, length, map, nat_le, None, refl, ap, sym, ◌∙◌, arith, subst, suc}
 use Rattle.std.specs.Fmt.{decimal}
 use Rattle.std.specs.List.{list_all, list_any, AllByRecursion, flat_map}
 use Rattle.std.proofs.lemmas.Bool.{leb-true}
-use Rattle.std.proofs.lemmas.Bool.Decides.{Decides-eqb}
 use Rattle.std.proofs.lemmas.List.{append_assoc, append-nil}
 use Rattle.std.proofs.lemmas.List.Folds.{list_all-append, list_any-append}
 use Rattle.std.proofs.lemmas.List.Sums.{sum_by-cons}
-use Rattle.imap_stream.specs.Marks.{is_tag, is_digit, all_digits, value_of}
-use Rattle.imap_stream.specs.Commands.{is_end, end_of, said_of}
-use Rattle.imap_stream.specs.Streams.{Part, Entry, Line as OpenLine, Rest, marked_line, ended_line, part_bytes, entry_bytes, octets_of as octets_of_parts, IsLine, HasMark, IsPart, AreParts, IsEntry, Splits, told_part, told_of, IsReading}
+use Rattle.imap_stream.specs.Marks.{is_tag, is_digit, all_digits}
+use Rattle.imap_stream.specs.Commands.{end_of, said_of}
+use Rattle.imap_stream.specs.Streams.{Part, Entry, Line as OpenLine, Rest, marked_line, ended_line, part_bytes, entry_bytes, octets_of as octets_of_parts, HasMark, IsPart, AreParts, told_part, IsReading}
 use Rattle.imap_stream.specs.declared.next.Next.{Next}
 use Rattle.imap_stream.specs.declared.next.Next.TheVariants.{Ask, Command}
 use Rattle.imap_stream.specs.declared.next.RawCommand.{RawCommand}
 use Rattle.imap_lines.specs.Tokens.{is_quoted_byte}
-use Rattle.imap_lines.specs.Writing.{Written, raw_of, escaped_text, with_bytes, with_token, written, sent_lines, sent, octets_of, IsSendable, given_of}
+use Rattle.imap_lines.specs.Writing.{Written, raw_of, escaped_text, with_token, written, sent_lines, sent, octets_of, IsSendable, given_of}
 use Rattle.imap_lines.specs.PlainCommands.{plain_of, what_tokens, write}
 use Rattle.imap_lines.specs.declared.tokens.Token.{Token}
 use Rattle.imap_lines.specs.declared.tokens.Token.TheVariants.{Space, Open, Close, Word, Quoted, Literal}
 use Rattle.imap_lines.proofs.WrittenTokens.{plain_byte, and_true, apart, not_false, or_false, IsWhole, AreWhole, word_byte}
 use Rattle.imap_lines.specs.declared.command.ImapCommand.{ImapCommand}
 use Rattle.imap_lines.proofs.WrittenHeads.{IsRead, command_whole}
-use Rattle.imap_lines.proofs.WrittenNumbers.{both_true, not_is, all_digits_of, value_is}
+use Rattle.imap_lines.proofs.WrittenNumbers.{both_true, all_digits_of, value_is}
 
 -- a quotation mark stands in bytes
 abbrev has_quote : List ℕ → Bool

@@ -1,5 +1,5 @@
 -- Commands whose arguments are strings, and STATUS, are read as they are written.
-use Rattle.std.proofs.Common.{◌≡◌, ℕ, ◌+◌, ◌<◌, ◌≤◌, Bool, true, false, cond, not, ◌==◌, ◌&&◌, ◌||◌, List, [], ◌∷◌, ◌++◌, length, map, codes, nat_le, Option, None, Some, refl, ap, sym, ◌∙◌, arith, subst}
+use Rattle.std.proofs.Common.{◌≡◌, ℕ, ◌<◌, Bool, true, false, cond, not, ◌==◌, ◌&&◌, ◌||◌, List, [], ◌∷◌, ◌++◌, length, map, nat_le, Option, Some, refl, ap, sym, ◌∙◌, arith, subst}
 use Rattle.std.specs.Prelude.{option_map, option_and_then}
 use Rattle.std.specs.List.{list_all, AllByRecursion}
 use Rattle.std.proofs.lemmas.Bool.Decides.{Decides-eqb}
@@ -9,21 +9,18 @@ use Rattle.undo_base.specs.declared.asks.StatusAsk.TheVariants.{Messages, Recent
 use Rattle.imap_lines.specs.Arguments.{behind_space, next_string, last_by, last_string, two_strings, first_pattern, string_and_pattern, in_list, string_and_list}
 use Rattle.imap_lines.specs.Asks.{status_in as status_in_word, statuses_from}
 use Rattle.imap_lines.specs.Words.{is_atom, is_atom_byte, is_pattern_byte}
-use Rattle.imap_lines.specs.Tokens.{is_word_byte, is_quoted_byte, string_of, pattern_of}
-use Rattle.imap_lines.specs.What.{bare, bare_in, with_mailbox, mailbox_in, login_in, rename_in, list_in, status_in, what_in}
-use Rattle.imap_lines.specs.Writing.{Written, written}
-use Rattle.imap_lines.specs.PlainCommands.{spaced, listed, string_token, quoted_token, pattern_token, status_word}
+use Rattle.imap_lines.specs.Tokens.{is_quoted_byte, string_of, pattern_of}
+use Rattle.imap_lines.specs.What.{bare, with_mailbox, what_in}
+use Rattle.imap_lines.specs.PlainCommands.{spaced, listed, string_token, pattern_token, status_word}
 use Rattle.imap_lines.specs.declared.verbs.BareVerb.{BareVerb}
 use Rattle.imap_lines.specs.declared.verbs.BareVerb.TheVariants as bare_verb
 use Rattle.imap_lines.specs.declared.verbs.MailboxVerb.{MailboxVerb}
 use Rattle.imap_lines.specs.declared.verbs.MailboxVerb.TheVariants as mailbox_verb
-use Rattle.imap_lines.specs.declared.verbs.Verb.{Verb}
 use Rattle.imap_lines.specs.declared.verbs.Verb.TheVariants as verb
 use Rattle.imap_lines.specs.declared.tokens.Token.{Token}
 use Rattle.imap_lines.specs.declared.tokens.Token.TheVariants.{Space, Open, Close, Word, Quoted, Literal}
-use Rattle.imap_lines.specs.declared.command.ImapWhat.{ImapWhat}
 use Rattle.imap_lines.specs.declared.command.ImapWhat.TheVariants as what
-use Rattle.imap_lines.proofs.WrittenTokens.{plain_byte, and_true, not_false, or_false, IsWhole, AreWhole, EndsWell, is_word_token, is_space_token, starts_word}
+use Rattle.imap_lines.proofs.WrittenTokens.{plain_byte, and_true, not_false, or_false, IsWhole, AreWhole, EndsWell, is_word_token, is_space_token}
 use Rattle.imap_lines.proofs.WrittenHeads.{IsRead, read_by}
 
 -- a byte of an atom is one of a word

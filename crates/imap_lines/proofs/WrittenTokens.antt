@@ -1,21 +1,18 @@
 -- Tokens that are written are read again.
-use Rattle.std.proofs.Common.{◌≡◌, ℕ, ◌+◌, ◌-◌, ◌<◌, ◌≤◌, Bool, true, false, cond, not, ◌==◌, ◌&&◌, ◌||◌, List, [], ◌∷◌, ◌++◌, length, take, drop, nat_le, Option, None, Some, refl, ap, sym, ◌∙◌, arith, subst}
+use Rattle.std.proofs.Common.{◌≡◌, ℕ, ◌-◌, ◌<◌, ◌≤◌, Bool, true, false, not, ◌==◌, ◌&&◌, ◌||◌, List, [], ◌∷◌, ◌++◌, length, drop, nat_le, Option, Some, refl, ap, sym, ◌∙◌, arith, subst}
 use Rattle.std.specs.Prelude.{reverse}
-use Rattle.std.specs.Prelude.{option_map, option_and_then}
+use Rattle.std.specs.Prelude.{option_and_then}
 use Rattle.std.specs.List.{list_all, prefix_len, suffix_len}
 use Rattle.std.proofs.lemmas.Bool.{leb-true}
 use Rattle.std.proofs.lemmas.Bool.Decides.{Decides-eqb}
 use Rattle.std.proofs.lemmas.List.{append_assoc, append-nil, take_all, reverse-append}
 use Rattle.imap_lines.specs.Parts.{trimmed, line_before}
 use Rattle.imap_lines.specs.Parts as parts
-use Rattle.imap_lines.specs.Words.{is_atom, is_atom_byte}
-use Rattle.imap_lines.specs.Tokens.{is_word_byte, is_quoted_byte, started, in_quotes, escaped, in_word, with_byte, ended, tokens_from, tokens_in, with_first, tokens_of, tokens_with, string_of}
-use Rattle.imap_lines.specs.Writing.{Written, raw_of, escaped_text, with_bytes, with_token, written}
-use Rattle.imap_lines.specs.PlainCommands.{string_token}
+use Rattle.imap_lines.specs.Tokens.{is_word_byte, is_quoted_byte, tokens_from, tokens_in, with_first, tokens_of}
+use Rattle.imap_lines.specs.Writing.{Written, escaped_text, with_token, written}
 use Rattle.imap_lines.specs.declared.tokens.Token.{Token}
 use Rattle.imap_lines.specs.declared.tokens.Token.TheVariants.{Space, Open, Close, Word, Quoted, Literal}
-use Rattle.imap_lines.specs.declared.tokens.Part.{Part}
-use Rattle.imap_lines.specs.declared.tokens.Part.TheVariants.{Between, Word as PartWord, Quoted as PartQuoted, Escape}
+use Rattle.imap_lines.specs.declared.tokens.Part.TheVariants.{Between, Word as PartWord, Quoted as PartQuoted}
 
 pub and_true : (a b : Bool) → (a && b) ≡ true → (a ≡ true) × (b ≡ true)
 and_true true b e = (refl, e)
