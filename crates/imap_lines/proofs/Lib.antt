@@ -1,6 +1,16 @@
 pub mod Lining
 pub mod Tagged
 pub mod Commas
+pub mod WrittenTokens
+pub mod WrittenHeads
+pub mod WrittenStrings
+pub mod WrittenNumbers
+pub mod WrittenFlags
+pub mod WrittenFetch
+pub mod WrittenDates
+pub mod WrittenCommands
+pub mod WrittenRows
+pub mod WrittenStreams
 pub mod Spelling
 pub mod Spelt
 pub mod Attributes

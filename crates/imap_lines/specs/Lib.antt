@@ -15,3 +15,5 @@ pub mod Messages
 pub mod Append
 pub mod What
 pub mod Command
+pub mod Writing
+pub mod PlainCommands

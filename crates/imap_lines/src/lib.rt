@@ -16,6 +16,7 @@ mod laws;
 mod messages;
 mod parts;
 mod reader;
+mod round_trip;
 mod sets;
 mod tokens;
 mod verbs;
@@ -30,6 +31,7 @@ pub use imap_stream::{
 };
 pub use laws::{attributes_are_spelled, flags_are_spelled, items_are_spelled, tokens_are_spelled};
 pub use reader::read_command;
+pub use round_trip::{cuts_what_is_sent, reads_what_is_written};
 pub use tokens::{Part, Token, Tokens};
 
 #[cfg(test)]

@@ -1,5 +1,5 @@
 -- Spans of places, and the numbers that stand there.
-use Rattle.std.proofs.Common.{◌≡◌, ℕ, ◌+◌, ◌-◌, ◌<◌, ◌≤◌, Bool, true, false, cond, ◌&&◌, ◌||◌, List, [], ◌∷◌, ◌++◌, length, take, nat_le, nat_lt, min, max, get_or, refl, ap, sym, ◌∙◌, arith, zero, suc, subst, inl, inr, ◌⊎◌}
+use Rattle.std.proofs.Common.{◌≡◌, ℕ, ◌+◌, ◌-◌, ◌<◌, ◌≤◌, Bool, true, false, ◌&&◌, ◌||◌, List, [], ◌∷◌, ◌++◌, length, take, nat_le, nat_lt, min, get_or, refl, ap, sym, ◌∙◌, arith, zero, suc, subst, inl, inr, ◌⊎◌}
 use Rattle.std.proofs.lemmas.Bool.Decides.{leb_tells, Decides-ltb}
 use Rattle.std.proofs.lemmas.Bool.{leb-true, le-leb}
 use Rattle.std.proofs.lemmas.List.{take_more}
@@ -8,8 +8,8 @@ use Rattle.std.specs.List.{list_any}
 use Rattle.std.specs.List.Sorted.{IsStrictlyIncreasing}
 use Rattle.imap_stream.specs.declared.picks.SetRange.{SetRange}
 use Rattle.imap_stream.specs.declared.picks.Span.{Span}
-use Rattle.imap_stream.specs.Sets.{covers, covered, number_at, greatest_of}
-use Rattle.imap_stream.specs.Spans.{in_span, in_any, IsBelow, IsSpanOf, IsRangeSpan, SpansSet}
+use Rattle.imap_stream.specs.Sets.{covers, number_at, greatest_of}
+use Rattle.imap_stream.specs.Spans.{in_span, IsBelow, IsSpanOf, IsRangeSpan, SpansSet}
 
 -- tests of facts that follow from each other
 pub same_test : (s t : Bool) → (s ≡ true → t ≡ true) → (t ≡ true → s ≡ true) → s ≡ t

@@ -1,15 +1,15 @@
 -- Places of spans that are sorted by where they begin, each place once.
 use Rattle.std.proofs.Common.{◌≡◌, ℕ, ◌+◌, ◌-◌, ◌<◌, ◌≤◌, Bool, true, false, cond, ◌&&◌, ◌||◌, List, [], ◌∷◌, ◌++◌, length, take, nat_le, nat_lt, max, get_or, refl, ap, sym, ◌∙◌, arith, zero, suc, subst, inl, inr, ◌⊎◌}
-use Rattle.std.proofs.lemmas.Bool.Decides.{leb_tells, Decides-ltb}
-use Rattle.std.proofs.lemmas.Bool.{leb-true, le-leb}
-use Rattle.std.proofs.lemmas.List.{append_assoc, append-nil, take_more, take_all, get_or_default}
+use Rattle.std.proofs.lemmas.Bool.Decides.{leb_tells}
+use Rattle.std.proofs.lemmas.Bool.{leb-true}
+use Rattle.std.proofs.lemmas.List.{append-nil, take_more, take_all, get_or_default}
 use Rattle.std.proofs.lemmas.List.Folds.{list_any-append}
 use Rattle.std.specs.List.{list_any}
 use Rattle.std.specs.List.Sorted.{IsNonDecreasingBy}
 use Rattle.imap_stream.specs.declared.picks.Span.{Span}
 use Rattle.imap_stream.specs.Sets.{run_from, places_in}
 use Rattle.imap_stream.specs.Spans.{in_span, in_any}
-use Rattle.imap_stream.proofs.Covering.{same_test, le_true, lt_true, true_lt}
+use Rattle.imap_stream.proofs.Covering.{le_true, lt_true, true_lt}
 
 -- tests that agree on the places
 pub places_same : (s t : ℕ → Bool) (from n : ℕ) → ((p : ℕ) → from ≤ p → p < from + n → s p ≡ t p) → places_in s from n ≡ places_in t from n

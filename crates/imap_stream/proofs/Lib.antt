@@ -1,7 +1,11 @@
 pub mod Covering
 pub mod Hearing
 pub mod Joining
+pub mod LineMarks
 pub mod Lines
+pub mod OneWay
 pub mod Whole
 pub mod Readings
+pub mod Splitting
 pub mod Tags
+pub mod Telling

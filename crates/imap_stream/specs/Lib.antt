@@ -3,3 +3,4 @@ pub mod Marks
 pub mod Reading
 pub mod Sets
 pub mod Spans
+pub mod Streams

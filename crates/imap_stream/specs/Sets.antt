@@ -1,9 +1,8 @@
 -- Sets of messages (RFC 3501, 6.4.8 and 9: sequence-set), and the places of their messages in a view.
-use Rattle.std.specs.Prelude.{◌≡◌, ℕ, Bool, true, false, ◌+◌, ◌-◌, ◌<◌, ◌≤◌, ◌==◌, ◌&&◌, List, [], ◌∷◌, length, nat_le, nat_lt, min, max, slice_index, Option, None, Some, Result, Ok, Err, if◌then◌else◌, zero, suc}
+use Rattle.std.specs.Prelude.{◌≡◌, ℕ, Bool, ◌+◌, ◌-◌, ◌==◌, ◌&&◌, List, [], ◌∷◌, length, nat_le, nat_lt, min, max, slice_index, Option, None, Some, Result, Ok, Err, if◌then◌else◌, zero, suc}
 use Rattle.std.specs.Option.{option_or}
 use Rattle.std.specs.List.{list_any}
 use Rattle.imap_stream.specs.declared.picks.SetRange.{SetRange}
-use Rattle.imap_stream.specs.declared.picks.Span.{Span}
 use Rattle.imap_stream.specs.declared.picks.PickRefused.{PickRefused}
 use Rattle.imap_stream.specs.declared.picks.PickRefused.TheVariants.{Number, NoMemory}
 

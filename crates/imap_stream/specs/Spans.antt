@@ -1,9 +1,9 @@
 -- How the code finds the places: by spans of them.
-use Rattle.std.specs.Prelude.{◌≡◌, ℕ, Bool, true, false, ◌+◌, ◌<◌, ◌≤◌, ◌&&◌, List, [], ◌∷◌, length, nat_le, nat_lt, min, max, slice_index}
+use Rattle.std.specs.Prelude.{◌≡◌, ℕ, Bool, ◌<◌, ◌≤◌, ◌&&◌, List, length, nat_le, nat_lt, slice_index}
 use Rattle.std.specs.List.{list_any, All}
 use Rattle.imap_stream.specs.declared.picks.SetRange.{SetRange}
 use Rattle.imap_stream.specs.declared.picks.Span.{Span}
-use Rattle.imap_stream.specs.Sets.{end_at, covers, covered, number_at, greatest_of}
+use Rattle.imap_stream.specs.Sets.{covers, covered, number_at, greatest_of}
 
 -- a place is in a span
 abbrev pub in_span : ℕ → Span → Bool

@@ -2,11 +2,13 @@
 //!
 //! `next` has what a stream gives; `begun` what is read of a command; `marks` the tags of lines and the marks of
 //! literals; `pieces` cuts a stream that comes in any pieces; `picks` finds the messages of a set.
-//! What carries the crate: `Pieces::next` gives the commands, literal marks and bad lines of the whole stream.
+//! What carries the crate: `Pieces::next` gives the commands, literal marks and bad lines of the whole stream, and the
+//! law `one_reading` says what these are.
 #![tactic(auto)]
 
 mod begun;
 mod cut;
+mod laws;
 mod marks;
 mod next;
 mod picks;
@@ -15,6 +17,7 @@ mod reader;
 
 pub use begun::{Awaits, Begun};
 pub use cut::cut_all;
+pub use laws::one_reading;
 pub use marks::{Mark, are_digits, number, read_tag};
 pub use next::{BadLine, LineFault, Next, Nexts, RawCommand};
 pub use picks::{PickRefused, SetRange, SetText, Span, pick};

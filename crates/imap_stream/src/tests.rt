@@ -1,4 +1,4 @@
-use crate::{BadLine, LineFault, Next, PickRefused, Pieces, SetRange, SetText, pick};
+use crate::{BadLine, LineFault, Next, PickRefused, Pieces, SetRange, SetText, cut_all, pick};
 use std::alloc::Global;
 use std::test::Fail;
 use undo_base::{NoMemory, Places, Text, Texts, Uids};
@@ -67,13 +67,28 @@ fn tell(told: &mut Text, next: Next) -> Result<bool, NoMemory> {
 fn commands_do_not_depend_on_the_pieces(rt: HostRuntime) -> Result<(), Fail> {
     let alloc = rt.alloc();
     let stream =
-        b"a NOOP\r\nb LOGIN {3}\r\nx\r\n {003}\r\nabc \r\n\rc\n\r\n{4294967295}\r\nd x {4294967295}\r\ne {5+}\r\nf {0}\r\n\r\n";
+        b"a NOOP\r\nb LOGIN {3}\r\nx\r\n {003}\r\nabc \r\n\rc\n\r\n{4294967295}\r\nd x {4294967295}\r\ne {5+}\r\nf {0}\r\n\r\ng \0\rh\r\r\n{00000000003}\r\n{3} \r\n";
     let wanted =
-        b"a NOOP|\n?3\n?3\nb LOGIN | | |x\r\n|abc|\n\rc\n|\n!4294967295 *\n!4294967295 d\ne {5+}|\n?n\nf |||\n".as_slice();
+        b"a NOOP|\n?3\n?3\nb LOGIN | | |x\r\n|abc|\n\rc\n|\n!4294967295 *\n!4294967295 d\ne {5+}|\n?n\nf |||\ng \0\rh\r|\n{00000000003}|\n{3} |\n".as_slice();
     for size in 1..12 {
         let given = told(alloc, stream, size)?;
         assert_eq!(rt; given.bytes(), wanted);
     }
+    Ok(())
+}
+
+#[test]
+fn all_pieces_at_once(rt: HostRuntime) -> Result<(), Fail> {
+    let alloc = rt.alloc();
+    let mut pieces = Texts::new(alloc);
+    for piece in [b"a X {3}\r".as_slice(), b"\n\r", b"\n.\r\nb Y\r\nc"] {
+        pieces.push(Text::of(alloc, piece)?)?;
+    }
+    let mut given = Text::new(alloc);
+    for next in cut_all(alloc, &pieces)?.into_vec() {
+        tell(&mut given, next)?;
+    }
+    assert_eq!(rt; given.bytes(), b"?3\na X ||\r\n.|\nb Y|\n".as_slice());
     Ok(())
 }
 
@@ -168,6 +183,16 @@ fn a_line_over_the_limit_is_skipped(rt: HostRuntime) -> Result<(), Fail> {
         told(alloc, long.bytes(), 4096)?.bytes(),
         b"!long b\n?n\n".as_slice()
     );
+    let together = line(alloc, b"d {3}\r\n\r\n.", 65531, b"\r\n")?;
+    assert_eq!(rt;
+        told(alloc, together.bytes(), 4096)?.bytes().len(),
+        65531 + 12
+    );
+    let more = line(alloc, b"d {3}\r\n\r\n.", 65532, b"\r\n")?;
+    assert_eq!(rt;
+        told(alloc, more.bytes(), 4096)?.bytes(),
+        b"?3\n!long d\n".as_slice()
+    );
     Ok(())
 }
 
@@ -179,6 +204,9 @@ fn a_ninth_literal_and_a_tag_of_65_bytes(rt: HostRuntime) -> Result<(), Fail> {
         told(alloc, tag.bytes(), 9)?.bytes(),
         b"!4294967295 *\n".as_slice()
     );
+    let named = line(alloc, b"", 64, b" {1048577}\r\n{1048576}\r\n")?;
+    let wanted = line(alloc, b"!literal ", 64, b"\n?n\n")?;
+    assert_eq!(rt; told(alloc, named.bytes(), 9)?.bytes(), wanted.bytes());
     let many = b"t {0}\r\n{0}\r\n{0}\r\n{0}\r\n{0}\r\n{0}\r\n{0}\r\n{0}\r\n{0}\r\n".as_slice();
     let wanted = b"?n\n?n\n?n\n?n\n?n\n?n\n?n\n?n\n!many t\n".as_slice();
     assert_eq!(rt; told(alloc, many, 1)?.bytes(), wanted);
