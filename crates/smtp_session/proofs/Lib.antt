@@ -1,0 +1,6 @@
+pub mod Parts
+pub mod Held
+pub mod Receiving
+pub mod Readings
+pub mod Sizes
+pub mod Stays
