@@ -78,6 +78,13 @@ impl SmtpSession {
         settle_dialog(alloc, &mut self.dialog, outcome)
     }
 
+    /// Whether the outcome of what was asked is due.
+    pub fn is_due(&self) -> bool
+        ensures { result ≡ is_due self.now }
+    {
+        matches!(&self.dialog.transaction, Transaction::Due { .. })
+    }
+
     /// Whether a text is being taken: where `take` finds no memory then, nothing can be answered.
     pub fn is_in_text(&self) -> bool
         ensures { result ≡ is_writing self.now }
