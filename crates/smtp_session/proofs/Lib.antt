@@ -4,3 +4,4 @@ pub mod Receiving
 pub mod Readings
 pub mod Sizes
 pub mod Stays
+pub mod Drafts
