@@ -2,3 +2,6 @@ pub mod Kept
 pub mod Fixed
 pub mod Reaching
 pub mod Effects
+pub mod Places
+pub mod Mail
+pub mod Confs

@@ -5,18 +5,29 @@
 #![tactic(auto)]
 
 mod aims;
+mod apply;
+mod conf_after;
 mod effect;
 mod key_set;
+mod laws;
+mod mail;
 mod opening;
 mod reach;
+mod reserve;
+mod rows;
 mod spares;
 mod steps;
 mod store;
+mod threads;
+mod work;
 
 pub use effect::{Effect, FlagChange, Put, Work};
 pub use key_set::KeySet;
 pub use steps::Steps;
 pub use store::Store;
+pub use threads::types_cross_threads;
 
+#[cfg(test)]
+mod apply_tests;
 #[cfg(test)]
 mod tests;
