@@ -1,3 +1,4 @@
-mod UserNames
 mod FixedRows
+mod Keys
 mod Reached
+mod UserNames

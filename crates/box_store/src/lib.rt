@@ -6,9 +6,11 @@
 
 mod aims;
 mod effect;
+mod key_index;
 mod key_set;
 mod opening;
 mod reach;
+mod shown;
 mod spares;
 mod steps;
 mod store;
