@@ -11,7 +11,7 @@ use Rattle.verb_core.specs.Mailboxes.{is_among, same_key}
 pub at_key : (a b : Key) → is_at (order.cmp-value.it a) b ≡ same_key a b
 at_key a b = search rules
 
-at_keys : (a b : Key) → is_at (order.cmp-value.it a) b ≡ same_key b a
+pub at_keys : (a b : Key) → is_at (order.cmp-value.it a) b ≡ same_key b a
 at_keys a b = search rules
 
 -- a set has the keys of its list

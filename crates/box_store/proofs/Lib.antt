@@ -1,4 +1,5 @@
 mod FixedRows
+mod Indexes
 mod Keys
 mod Reached
 mod UserNames
