@@ -1,5 +1,6 @@
 mod FixedRows
 mod Indexes
 mod Keys
+mod Patterns
 mod Reached
 mod UserNames

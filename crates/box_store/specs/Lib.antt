@@ -3,3 +3,4 @@ pub mod Fixed
 pub mod Reaching
 pub mod Effects
 pub mod Indexed
+pub mod Patterns

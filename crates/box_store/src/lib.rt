@@ -9,6 +9,7 @@ mod effect;
 mod key_index;
 mod key_set;
 mod opening;
+mod pattern;
 mod reach;
 mod shown;
 mod spares;
