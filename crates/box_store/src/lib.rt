@@ -6,6 +6,7 @@
 
 mod aims;
 mod effect;
+mod fixed;
 mod key_index;
 mod key_set;
 mod opening;

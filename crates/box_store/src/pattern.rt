@@ -1,14 +1,14 @@
 //! Names against the patterns of LIST (RFC 3501, section 6.3.8), in time that grows as pattern times name at most.
-ghost use Rattle.std.specs.Prelude.{◌≡◌, option_map};
-ghost use Rattle.verb_core.specs.Names.{is_wildcard as is_wild, some_end, matches};
+ghost use Rattle.std.specs.Prelude.{◌≡◌, ◌++◌, ◌∷◌, ◌&&◌, [], IfOk, OnOk, filter, option_map, if◌then◌else◌};
+ghost use Rattle.std.specs.Str.{str_to_ascii_uppercase};
+ghost use Rattle.verb_core.specs.Boxes.{names_of, same_user};
+ghost use Rattle.verb_core.specs.Names.{some_end, matches, is_listed as is_given};
 ghost use Rattle.box_store.specs.Patterns.{past_front as behind_front};
 
-/// Whether the byte is `*` or `%`, each of which matches any run of bytes.
-fn is_wildcard(byte: u8) -> bool
-    ensures { result ≡ is_wild byte }
-{
-    byte == b'*' || byte == b'%'
-}
+use crate::fixed::{is_inbox, is_wildcard};
+use std::alloc::{AllocError, Global};
+use undo_base::{Name, Names, NoMemory, Text, User};
+use verb_core::{BoxId, Mailbox};
 
 /// What is left of both behind the bytes before the pattern's first wildcard, where the name begins with them.
 fn past_front<'a>(pattern: &'a [u8], name: &'a [u8]) -> Option<(&'a [u8], &'a [u8])>
@@ -75,4 +75,67 @@ fn is_match(pattern: &[u8], name: &[u8]) -> bool
             Some((_, more)) => matches_some_end(more, end),
         },
     }
+}
+
+fn upper(alloc: Global, bytes: &[u8]) -> Result<Vec<u8>, AllocError>
+    ensures { IfOk result (λ upper. upper.items ≡ str_to_ascii_uppercase bytes.now) }
+{
+    bytes
+        .iter()
+        .map(|byte| byte.to_ascii_uppercase())
+        .collect(alloc)
+}
+
+/// Whether LIST gives the name.
+fn is_listed(pattern: &[u8], upper: &[u8], name: &Name) -> bool
+    requires { upper.now ≡ str_to_ascii_uppercase pattern.now }
+    ensures { result ≡ is_given pattern.now name.now }
+{
+    if is_inbox(name) {
+        is_match(upper, name.bytes())
+    } else {
+        is_match(pattern, name.bytes())
+    }
+}
+
+/// Adds the row's name, if it is the user's and LIST gives it.
+fn push_listed(
+    alloc: Global,
+    names: &mut Names,
+    pattern: &[u8],
+    upper: &[u8],
+    user: User,
+    row: &(BoxId, Mailbox),
+) -> Result<(), NoMemory>
+    requires { upper.now ≡ str_to_ascii_uppercase pattern.now }
+    ensures { OnOk result (names.new ≡ names.old ++ (if same_user user row.now.0.user && is_given pattern.now row.now.0.name then row.now.0.name ∷ [] else [])) }
+{
+    if user == row.0.user && is_listed(pattern, upper, &row.0.name) {
+        names.push(row.0.name.copy(alloc)?)?;
+    }
+    Ok(())
+}
+
+/// The user's names that LIST gives, in byte order.
+pub(crate) fn listed(
+    alloc: Global,
+    rows: &[(BoxId, Mailbox)],
+    user: User,
+    pattern: &Text,
+) -> Result<Names, NoMemory>
+    ensures { IfOk result (λ names. names ≡ filter (is_given pattern.now) (names_of user rows.now)) }
+{
+    let upper = upper(alloc, pattern.bytes())?;
+    let mut names = Names::new(alloc);
+    for row in rows {
+        push_listed(
+            alloc,
+            &mut names,
+            pattern.bytes(),
+            upper.as_slice(),
+            user,
+            row,
+        )?;
+    }
+    Ok(names)
 }
