@@ -13,6 +13,7 @@ mod opening;
 mod pattern;
 mod reach;
 mod shown;
+mod sights;
 mod spares;
 mod steps;
 mod store;
