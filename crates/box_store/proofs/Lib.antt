@@ -3,5 +3,6 @@ mod Indexes
 mod Keys
 mod KeysSeen
 mod Patterns
+mod Plans
 mod Reached
 mod UserNames

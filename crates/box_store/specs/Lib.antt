@@ -4,3 +4,4 @@ pub mod Reaching
 pub mod Effects
 pub mod Indexed
 pub mod Patterns
+pub mod Plans

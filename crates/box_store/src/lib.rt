@@ -7,10 +7,12 @@
 mod aims;
 mod effect;
 mod fixed;
+mod flags;
 mod key_index;
 mod key_set;
 mod opening;
 mod pattern;
+mod plan;
 mod reach;
 mod shown;
 mod sights;
