@@ -1,13 +1,14 @@
 -- Keys and entries that are shown: what an index finds is what the mailbox has.
 use Rattle.std.proofs.Common.{◌≡◌, ◌∷◌, ◌++◌, ◌+◌, ◌<◌, ◌==◌, ℕ, Bool, cond, true, false, not, refl, sym, ◌||◌, ◌&&◌, ◌∙◌, ap, ap₂, List, [], Option, Some, None, is_some, option_map, find, filter, filter_map, take, length, get_or, eq-eqb, true≢false}
-use Rattle.std.specs.List.{list_any, cons_option}
+use Rattle.std.specs.List.{list_any, cons_option, enumerate_from}
 use Rattle.std.proofs.lemmas.List.{take_more, append-nil}
 use Rattle.std.proofs.lemmas.List.Elements.{filter_map-append}
 use Rattle.undo_base.specs.declared.keys.Key.{Key}
 use Rattle.verb_core.specs.declared.item.Sight.{Sight}
 use Rattle.verb_core.specs.declared.mailbox.Entry.{Entry}
-use Rattle.verb_core.specs.Mailboxes.{is_among, same_key, entry_of, there, sights, expunged}
+use Rattle.verb_core.specs.Mailboxes.{is_among, same_key, entry_of, there, sights, copies, expunged}
 use Rattle.box_store.specs.Indexed.{found_at, indexed, no_deleted, there_by, sight_at, sights_by}
+use Rattle.box_store.specs.Plans.{copy_by, copies_by}
 use Rattle.box_store.proofs.Indexes.{one_key}
 
 pub itself : (k : Key) → same_key k k ≡ true
@@ -56,6 +57,15 @@ module _ (index : List (Key × Entry)) (keys : List Key) (es : List Entry) (foun
 
   pub sights_are : sights_by index keys ≡ sights es keys
   sights_are = same_looks keys _ _ (λ k is. ap (option_map (λ (e : Entry). record { key = k; rev = e.body.rev })) (entry_found k is)) keys (whole keys)
+
+  copied_from : (number : ℕ) (n : ℕ) (ks : List Key) → Within keys ks
+      → filter_map (copy_by number index) (enumerate_from n ks) ≡ filter_map (λ (k : ℕ × Key). option_map (λ (e : Entry). record e { key = record { item = number; index = k.0 } }) (entry_of es k.1)) (enumerate_from n ks)
+  copied_from number n [] h = refl
+  copied_from number n (k ∷ ks) h =
+      ap₂ cons_option (ap (option_map (λ (e : Entry). record e { key = record { item = number; index = n } })) (entry_found k (first_within keys k ks h))) (copied_from number (n + 1) ks (rest_within keys k ks h))
+
+  pub copies_are : (number : ℕ) → copies_by number index keys ≡ copies number es keys
+  copies_are number = copied_from number 0 keys (whole keys)
 
 -- what is left of the keys' entries are those without `\Deleted`
 module _ (keys : List Key) (k : Key) (is : is_among keys k ≡ true) where

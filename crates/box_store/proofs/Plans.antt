@@ -9,21 +9,24 @@ use Rattle.undo_base.specs.declared.keys.Flags.{Flags}
 use Rattle.undo_base.specs.declared.keys.User.{User}
 use Rattle.undo_base.specs.declared.asks.How.{How}
 use Rattle.verb_core.specs.declared.item.Aim.{Aim}
-use Rattle.verb_core.specs.declared.item.Way.{Way}
+use Rattle.verb_core.specs.declared.item.Act.TheVariants.{Give}
+use Rattle.verb_core.specs.declared.item.Deed.{Deed}
+use Rattle.verb_core.specs.declared.item.Deed.TheVariants.{Deliver, Append, Copy, Act as Acts, Notice}
+use Rattle.verb_core.specs.declared.item.Item.{Item}
 use Rattle.verb_core.specs.declared.item.Way.TheVariants.{Plain, NoSource, Merged}
 use Rattle.verb_core.specs.declared.mailbox.BoxId.{BoxId}
 use Rattle.verb_core.specs.declared.mailbox.Entry.{Entry}
 use Rattle.verb_core.specs.declared.mailbox.Mailbox.{Mailbox}
 use Rattle.verb_core.specs.Names.{lost_found, is_fixed}
-use Rattle.verb_core.specs.Mailboxes.{is_among, same_key, with_entries, reflagged, expunged, without, changed, put_all}
+use Rattle.verb_core.specs.Mailboxes.{is_among, with_entries, reflagged, copies, changed, put_all}
 use Rattle.verb_core.specs.Boxes.{box_cmp, box_of, row_at, mail_at, change_row, drop_row, is_rising}
-use Rattle.verb_core.specs.Step.{Boxes, way_of, after_rename, saved, deleted, put_at}
-use Rattle.verb_core.specs.Touched.{SameAt}
+use Rattle.verb_core.specs.Step.{Boxes, way_of, deleted, new_mail, put_at, rearranged}
+use Rattle.verb_core.specs.Touched.{SameAt, named_boxes}
 use Rattle.verb_core.specs.Aims.{box_aimed}
 use Rattle.verb_core.proofs.BoxLaws.{tied, same_rows, rising-change_row, row_at-change_row, same_box, bytes_eq-refl}
 use Rattle.box_store.specs.declared.effect.FlagChange.{FlagChange}
 use Rattle.box_store.specs.Effects.{all_flags_set, flags_set, put_each}
-use Rattle.box_store.specs.Plans.{changes_from, puts_by}
+use Rattle.box_store.specs.Plans.{after, changes_from, own_message, puts_by}
 
 -- ---- rows
 
@@ -124,3 +127,25 @@ unchanged id (r ∷ rs) = ap₂ (λ (m : Mailbox) (rest : Boxes). (r.0, m) ∷ r
 pub nothing_put : (aims : List Aim) (boxes : Boxes) → put_at (λ index. []) aims boxes ≡ boxes
 nothing_put [] boxes = refl
 nothing_put (a ∷ aims) boxes = ap (put_at (λ index. []) aims) (unchanged (box_aimed a) boxes) ∙ nothing_put aims boxes
+
+module _ (u : User) (i : Item) where
+  nothing_new : (boxes : Boxes) (index at : ℕ) (d : Deed) → own_message at d ≡ None → ((m : List ℕ) (ks : List Key) (t : List ℕ) → d ≡ Copy m ks t → ⊥) → new_mail u i boxes index d ≡ []
+  nothing_new boxes index at (Deliver from to text) h apart = cc
+  nothing_new boxes index at (Append mailbox flags moment text) h apart = cc
+  nothing_new boxes index at (Copy mailbox keys target) h apart = absurd (apart mailbox keys target refl)
+  nothing_new boxes index at (Acts (Give v mailbox text)) h apart = cc
+  nothing_new boxes index at (Notice v text) h apart = cc
+  nothing_new boxes index at _ h apart = refl
+
+  -- what a deed does that brings no mail is all that it does
+  pub nothing_after : (aims : List Aim) (boxes : Boxes) → own_message i.at i.deed ≡ None → ((m : List ℕ) (ks : List Key) (t : List ℕ) → i.deed ≡ Copy m ks t → ⊥) → rearranged u i.deed boxes ≡ after u i aims boxes
+  nothing_after aims boxes h apart =
+      sym (nothing_put aims (rearranged u i.deed boxes)) ∙ ap (λ (mail : ℕ → List Entry). put_at mail aims (rearranged u i.deed boxes)) (λ j index. sym (nothing_new boxes index i.at i.deed h apart) j)
+
+  -- a COPY puts the same, where the same stands
+  pub copies_after : (mailbox : List ℕ) (keys : List Key) (target : List ℕ) (mail : List Entry) (rows boxes : Boxes) (aims : List Aim) → i.deed ≡ Copy mailbox keys target
+      → mail ≡ mail_at (box_of u mailbox) rows → SameAt (named_boxes u i.deed) rows boxes → put_at (λ index. copies i.number mail keys) aims boxes ≡ after u i aims boxes
+  copies_after mailbox keys target mail rows boxes aims is at same =
+      let here : SameAt (box_of u mailbox ∷ []) rows boxes = subst (λ (d : Deed). SameAt (named_boxes u d) rows boxes) is same in
+      ap (λ (es : List Entry). put_at (λ index. copies i.number es keys) aims boxes) (at ∙ ap (λ (o : Option Mailbox). unwrap_or (option_map (λ (m : Mailbox). m.entries) o) []) (first_same (box_of u mailbox) [] rows boxes here))
+      ∙ ap (λ (d : Deed). put_at (λ index. new_mail u i boxes index d) aims (rearranged u d boxes)) (sym is)

@@ -1,15 +1,18 @@
 -- What the parts of planning an item's work give.
-use Rattle.std.specs.Prelude.{◌≡◌, ℕ, ◌+◌, Bool, true, if◌then◌else◌, List, [], ◌∷◌, map, filter_map, Option, option_map}
+use Rattle.std.specs.Prelude.{◌≡◌, ℕ, ◌+◌, Bool, true, if◌then◌else◌, List, [], ◌∷◌, map, filter_map, Option, Some, None, option_map}
 use Rattle.std.specs.List.{enumerate_from}
 use Rattle.undo_base.specs.declared.keys.Key.{Key}
 use Rattle.undo_base.specs.declared.keys.Flags.{Flags}
 use Rattle.undo_base.specs.declared.keys.User.{User}
 use Rattle.undo_base.specs.declared.asks.How.{How}
 use Rattle.verb_core.specs.declared.item.Aim.{Aim}
+use Rattle.verb_core.specs.declared.item.Act.TheVariants.{Give}
+use Rattle.verb_core.specs.declared.item.Deed.{Deed}
+use Rattle.verb_core.specs.declared.item.Deed.TheVariants.{Deliver, Append, Act as Acts, Notice}
 use Rattle.verb_core.specs.declared.item.Item.{Item}
 use Rattle.verb_core.specs.declared.mailbox.BoxId.{BoxId}
 use Rattle.verb_core.specs.declared.mailbox.Entry.{Entry}
-use Rattle.verb_core.specs.Mailboxes.{is_among, changed}
+use Rattle.verb_core.specs.Mailboxes.{is_among, changed, no_flags}
 use Rattle.verb_core.specs.Boxes.{is_rising}
 use Rattle.verb_core.specs.Aims.{box_aimed}
 use Rattle.verb_core.specs.Step.{Boxes, new_mail, put_at, rearranged}
@@ -45,3 +48,11 @@ copy_by number index k = option_map (λ (e : Entry). record e { key = record { i
 
 abbrev pub copies_by : ℕ → List (Key × Entry) → List Key → List Entry
 copies_by number index keys = filter_map (copy_by number index) (enumerate_from 0 keys)
+
+-- the flags and the moment of the message that a deed of this moment brings
+abbrev pub own_message : ℕ → Deed → Option (Flags × ℕ)
+own_message at (Deliver from to text) = Some (no_flags, at)
+own_message at (Append mailbox flags moment text) = Some (flags, moment)
+own_message at (Acts (Give u mailbox text)) = Some (no_flags, at)
+own_message at (Notice u text) = Some (no_flags, at)
+own_message at _ = None

@@ -7,18 +7,18 @@ ghost use Rattle.verb_core.specs.Aims.{box_aimed};
 ghost use Rattle.verb_core.specs.Boxes.{box_of, change_row};
 ghost use Rattle.verb_core.specs.Items.{actor, keys_in};
 ghost use Rattle.verb_core.specs.Mailboxes.{copies, expunged, no_flags, reflagged, with_entries, without};
-ghost use Rattle.verb_core.specs.Step.{after_rename, created, deleted, message, rearranged, way_of};
+ghost use Rattle.verb_core.specs.Step.{after_rename, created, deleted, message, put_at, rearranged, way_of};
 ghost use Rattle.verb_core.specs.Touched.{named_boxes};
 ghost use Rattle.box_store.specs.Effects.{worked};
 ghost use Rattle.box_store.specs.Plans.{Does, after, copies_by, copy_by, puts_by};
 
 use crate::flags::changes_of;
-use crate::key_index::KeyIndex;
+use crate::new_mail::{copy_puts, message_puts, own_message};
 use crate::shown::{mail_of, way_of};
-use crate::{FlagChange, KeySet, Put, Work};
+use crate::{KeySet, Work};
 use std::alloc::Global;
 use undo_base::{Flags, How, Key, Keys, Name, NoMemory, Sequence, User};
-use verb_core::{Act, Aim, Aims, Body, BoxId, Deed, Entries, Entry, Item, Mailbox};
+use verb_core::{Act, Aims, BoxId, Deed, Entry, Item, Mailbox};
 
 fn box_named(alloc: Global, user: User, name: &Name) -> Result<BoxId, NoMemory>
     ensures { IfOk result (λ id. id ≡ box_of user name.now) }
@@ -149,6 +149,35 @@ fn act_work(alloc: Global, user: User, act: &Act) -> Result<Work, NoMemory>
     }
 }
 
+#[tactic(auto, using(crate::proofs::Plans::puts_are))]
+fn message_work(
+    alloc: Global,
+    item: &Item,
+    aims: &Aims,
+    flags: Flags,
+    at: u64,
+) -> Result<Work, NoMemory>
+    ensures { IfOk result (λ w. (boxes : _) → worked w boxes ≡ put_at (λ index. message item.now index flags at ∷ []) aims.now boxes) }
+{
+    let puts = message_puts(alloc, item, aims.as_slice(), flags, at)?;
+    Ok(Work::Puts(puts))
+}
+
+#[tactic(auto, using(crate::proofs::Plans::puts_are))]
+fn copy_work(
+    alloc: Global,
+    entries: &[Entry],
+    number: u32,
+    keys: &Keys,
+    aims: &Aims,
+) -> Result<Work, NoMemory>
+    requires { length keys.now ≤ 65536 }
+    ensures { IfOk result (λ w. (boxes : _) → worked w boxes ≡ put_at (λ _. copies number entries.now keys.now) aims.now boxes) }
+{
+    let puts = copy_puts(alloc, entries, number, keys.as_slice(), aims.as_slice())?;
+    Ok(Work::Puts(puts))
+}
+
 /// What a deed does that brings no mail.
 fn plain_work(
     alloc: Global,
@@ -184,5 +213,27 @@ fn plain_work(
         Deed::Status { .. } => Ok(no_work(alloc)),
         Deed::Select { .. } => Ok(no_work(alloc)),
         Deed::Notice { .. } => Ok(no_work(alloc)),
+    }
+}
+
+/// What an item does to mailboxes whose new mail goes to these aims.
+pub(crate) fn work_of(
+    alloc: Global,
+    rows: &[(BoxId, Mailbox)],
+    user: User,
+    item: &Item,
+    aims: &Aims,
+) -> Result<Work, NoMemory>
+    requires few { length (keys_in item.now.deed) ≤ 65536 }
+    ensures { IfOk result (λ w. Does (named_boxes user item.now.deed) rows.now w (after user item.now aims.now)) }
+{
+    match own_message(item) {
+        Some((flags, at)) => message_work(alloc, item, aims, flags, at),
+        None => match &item.deed {
+            Deed::Copy { mailbox, keys, .. } => {
+                copy_work(alloc, mail_of(rows, user, mailbox), item.number, keys, aims)
+            }
+            _ => plain_work(alloc, rows, user, &item.deed),
+        },
     }
 }
