@@ -2,6 +2,7 @@ mod FixedRows
 mod Indexes
 mod Keys
 mod KeysSeen
+mod Made
 mod Patterns
 mod Plans
 mod Reached

@@ -10,6 +10,7 @@ mod fixed;
 mod flags;
 mod key_index;
 mod key_set;
+mod make;
 mod new_mail;
 mod opening;
 mod pattern;
