@@ -1,7 +1,6 @@
 -- Entries that are looked up by key.
-use Rattle.std.proofs.Common.{◌≡◌, ◌∷◌, ◌++◌, ◌+◌, ◌<◌, ℕ, Bool, cond, true, false, not, refl, sym, ◌||◌, ◌&&◌, ◌∙◌, ap, ap₂, subst, List, [], Option, Some, None, is_some, find, filter, filter_map, take, length, get_or, eqb-true, true≢false}
+use Rattle.std.proofs.Common.{◌≡◌, ◌∷◌, ◌++◌, ◌+◌, ◌<◌, ℕ, Bool, cond, true, false, not, refl, sym, ◌&&◌, ◌∙◌, ap, ap₂, List, [], Option, Some, None, is_some, filter, take, length, get_or, eqb-true, true≢false}
 use Rattle.std.specs.Cmp.{first_so, second_so}
-use Rattle.std.specs.List.{list_any}
 use Rattle.std.specs.Option.{option_or}
 use Rattle.std.specs.Map.{lookup}
 use Rattle.std.specs.BTreeMap.{is_at}
@@ -56,6 +55,7 @@ module _ (keys : List Key) where
       asked : (b : Bool) → (b ≡ true → is_among keys e.key ≡ true) → cond (is_among keys e.key && b) (Some e) None ≡ cond b (Some e) None
       asked true h = rw (h refl) refl
       asked false h = elim (is_among keys e.key) as (λ a. cond (a && false) (Some e) None ≡ None) [ true ↦ refl | false ↦ refl ]
+
       not_asked : (b a : Bool) → (b ≡ true → a ≡ false) → cond (a && b) (Some e) None ≡ None
       not_asked true true h = absurd (true≢false (h refl))
       not_asked true false h = refl

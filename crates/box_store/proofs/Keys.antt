@@ -1,8 +1,7 @@
 -- Keys in order, and keys among others.
-use Rattle.std.proofs.Common.{◌≡◌, ◌∷◌, ◌++◌, Bool, cond, true, false, rules, refl, sym, ◌||◌, ◌∙◌, ap, ap₂, List, []}
+use Rattle.std.proofs.Common.{◌≡◌, ◌∷◌, Bool, cond, true, false, rules, refl, sym, ◌||◌, ◌∙◌, ap, ap₂, List, []}
 use Rattle.std.specs.List.{list_any}
 use Rattle.std.specs.BTreeMap.{is_at}
-use Rattle.std.proofs.lemmas.List.Folds.{list_any-append}
 use Rattle.undo_base.specs.declared.keys.Key.{Key}
 use Rattle.undo_base.specs.contracts.keys.KeyOrd.TheImpl as order
 use Rattle.verb_core.specs.Mailboxes.{is_among, same_key}

@@ -1,10 +1,9 @@
 -- Keys and entries that are shown: what an index finds is what the mailbox has.
-use Rattle.std.proofs.Common.{◌≡◌, ◌∷◌, ◌++◌, ◌+◌, ◌<◌, ◌==◌, ℕ, Bool, cond, true, false, not, refl, sym, ◌||◌, ◌&&◌, ◌∙◌, ap, ap₂, List, [], Option, Some, None, is_some, option_map, find, filter, filter_map, take, length, get_or, eq-eqb, true≢false}
+use Rattle.std.proofs.Common.{◌≡◌, ◌∷◌, ◌++◌, ◌+◌, ◌<◌, ℕ, Bool, cond, true, false, not, refl, sym, ◌||◌, ◌&&◌, ◌∙◌, ap, ap₂, List, [], Option, Some, None, is_some, option_map, find, filter, filter_map, take, length, get_or, eq-eqb, true≢false}
 use Rattle.std.specs.List.{list_any, cons_option, enumerate_from}
-use Rattle.std.proofs.lemmas.List.{take_more, append-nil}
+use Rattle.std.proofs.lemmas.List.{take_more}
 use Rattle.std.proofs.lemmas.List.Elements.{filter_map-append}
 use Rattle.undo_base.specs.declared.keys.Key.{Key}
-use Rattle.verb_core.specs.declared.item.Sight.{Sight}
 use Rattle.verb_core.specs.declared.mailbox.Entry.{Entry}
 use Rattle.verb_core.specs.Mailboxes.{is_among, same_key, entry_of, there, sights, copies, expunged}
 use Rattle.box_store.specs.Indexed.{found_at, indexed, no_deleted, there_by, sight_at, sights_by}

@@ -1,5 +1,5 @@
 -- What is planned on a store is an effect there.
-use Rattle.std.proofs.Common.{◌≡◌, Bool, not, List, ◌++◌, map, refl, sym, ◌∙◌, ap, ap₂, subst, ◌||◌, true, false}
+use Rattle.std.proofs.Common.{◌≡◌, Bool, not, ◌++◌, map, refl, sym, ◌∙◌, ap, ap₂, subst, ◌||◌, true, false}
 use Rattle.std.specs.Ordering.{eq_by_cmp}
 use Rattle.std.proofs.lemmas.List.Folds.{list_any-append}
 use Rattle.undo_base.specs.declared.keys.User.{User}
@@ -7,10 +7,9 @@ use Rattle.verb_core.specs.declared.item.Resolved.{Resolved}
 use Rattle.verb_core.specs.declared.item.Item.{Item}
 use Rattle.verb_core.specs.declared.conf.Conf.{Conf}
 use Rattle.verb_core.specs.declared.conf.House.{House}
-use Rattle.verb_core.specs.declared.mailbox.BoxId.{BoxId}
 use Rattle.verb_core.specs.Names.{is_empty}
 use Rattle.verb_core.specs.Boxes.{box_cmp}
-use Rattle.verb_core.specs.Store.{MailStore, IsValid}
+use Rattle.verb_core.specs.Store.{MailStore}
 use Rattle.verb_core.specs.Items.{actor}
 use Rattle.verb_core.specs.Aims.{Sought, box_aimed}
 use Rattle.verb_core.specs.Step.{Boxes, shown, conf_after}
@@ -36,7 +35,7 @@ pub made : (e : Effect) (what : Resolved) (s : MailStore) (u : User) (rows : Box
 made e what s u rows who there does conf shows = record {
   shown = shows ∙ ap₂ (λ (v : User) (rs : Boxes). shown (not (is_empty what.missed)) v what.item.deed rs) who there;
   elsewhere = λ t house valid same.
-    let here : SameAt (named_boxes (actor what.item.by what.item.deed) what.item.deed) rows t.boxes = subst (λ (rs : Boxes). SameAt (named_boxes (actor what.item.by what.item.deed) what.item.deed) rs t.boxes) (sym there) (named_touched (sought_in what) what.item s.boxes t.boxes same) in
-    let work = subst (λ (v : User). Does (named_boxes v what.item.deed) rows e.work (after v what.item what.aims)) who does in
-    ap₂ (λ (c : Conf) (boxes : Boxes). record t { conf = c; boxes = boxes }) (conf t.house t.conf) (work t.boxes valid.rising here);
+      let here : SameAt (named_boxes (actor what.item.by what.item.deed) what.item.deed) rows t.boxes = subst (λ (rs : Boxes). SameAt (named_boxes (actor what.item.by what.item.deed) what.item.deed) rs t.boxes) (sym there) (named_touched (sought_in what) what.item s.boxes t.boxes same) in
+      let work = subst (λ (v : User). Does (named_boxes v what.item.deed) rows e.work (after v what.item what.aims)) who does in
+      ap₂ (λ (c : Conf) (boxes : Boxes). record t { conf = c; boxes = boxes }) (conf t.house t.conf) (work t.boxes valid.rising here);
 }

@@ -26,6 +26,7 @@ fewer p f (b ∷ bs) h = ap (λ t. f (b ∷ bs) || t) (go (b == p) (f bs) (here 
     here : (cs : List ℕ) → f cs ≡ true → some_end f cs ≡ true
     here [] e = e
     here (c ∷ cs) e = ap (λ t. t || some_end f cs) e
+
     go : (a x : Bool) → (x ≡ true → some_end f bs ≡ true) → (some_end (begins p f) bs ≡ true → some_end f bs ≡ true) → ((a && x) || some_end (begins p f) bs) ≡ true → some_end f bs ≡ true
     go true true first later e = first refl
     go true false first later e = later e
@@ -96,10 +97,10 @@ star_later : (p : ℕ) (ps : List ℕ) (b : ℕ) (bs more end : List ℕ) → is
 star_later p ps b bs more end plain same later = record {
   whole = rw (plain, same) later.whole;
   some =
-    let by_byte : matches (p ∷ ps) ≡ begins p (matches ps) = λ j m. cond (plain j) (some_end (matches ps) m) (begins p (matches ps) m) in
-    ap (λ (f : List ℕ → Bool). some_end f (b ∷ bs)) by_byte
-    ∙ ap (λ c. (c && matches ps bs) || some_end (begins p (matches ps)) bs) same
-    ∙ or_same (matches ps bs) (some_end (begins p (matches ps)) bs) (λ e. later.whole ∙ sym later.some ∙ fewer p (matches ps) bs e) ∙ later.whole;
+      let by_byte : matches (p ∷ ps) ≡ begins p (matches ps) = λ j m. cond (plain j) (some_end (matches ps) m) (begins p (matches ps) m) in
+      ap (λ (f : List ℕ → Bool). some_end f (b ∷ bs)) by_byte
+      ∙ ap (λ c. (c && matches ps bs) || some_end (begins p (matches ps)) bs) same
+      ∙ or_same (matches ps bs) (some_end (begins p (matches ps)) bs) (λ e. later.whole ∙ sym later.some ∙ fewer p (matches ps) bs e) ∙ later.whole;
 }
 
 -- behind the first wildcard the longest end decides

@@ -1,5 +1,5 @@
 -- A work planned on some rows does in others what the item does there.
-use Rattle.std.proofs.Common.{◌≡◌, ◌∷◌, ◌++◌, ◌+◌, ◌<◌, ◌==◌, ℕ, Bool, cond, true, false, not, refl, sym, ◌||◌, ◌&&◌, ◌∙◌, ap, ap₂, subst, List, [], Option, Some, None, is_some, option_map, unwrap_or, filter, map, length, bytes_eq, eq-eqb, arith, length-append}
+use Rattle.std.proofs.Common.{◌≡◌, ◌∷◌, ◌++◌, ◌+◌, ℕ, Bool, cond, true, false, not, refl, sym, ◌||◌, ◌∙◌, ap, ap₂, subst, List, [], Option, Some, None, is_some, option_map, unwrap_or, filter, map, length, bytes_eq, eq-eqb, arith, length-append}
 use Rattle.std.proofs.Math.Seq.{set-append_seam}
 use Rattle.std.proofs.lemmas.List.{append_assoc}
 use Rattle.std.specs.List.{list_any, slice_get, slice_set}
@@ -24,7 +24,6 @@ use Rattle.verb_core.specs.Step.{Boxes, way_of, deleted, new_mail, put_at, rearr
 use Rattle.verb_core.specs.Touched.{SameAt, named_boxes}
 use Rattle.verb_core.specs.Aims.{box_aimed}
 use Rattle.verb_core.proofs.BoxLaws.{tied, same_rows, rising-change_row, row_at-change_row, same_box, bytes_eq-refl}
-use Rattle.box_store.specs.declared.effect.FlagChange.{FlagChange}
 use Rattle.box_store.specs.Effects.{all_flags_set, flags_set, put_each}
 use Rattle.box_store.specs.Plans.{after, changes_from, own_message, puts_by}
 
@@ -76,7 +75,7 @@ module _ (keys : List Key) (how : How) (given : Flags) where
       → all_flags_set (changes_from (length done + 1) keys how given es) (done ++ record e { flags = changed how given e.flags } ∷ es) ≡ done ++ record e { flags = changed how given e.flags } ∷ rs
       → all_flags_set (changes_from (length done + 1) keys how given es) (done ++ e ∷ es) ≡ done ++ e ∷ rs
       → (a : Bool) → all_flags_set (cond a (record { place = length done; flags = changed how given e.flags } ∷ changes_from (length done + 1) keys how given es) (changes_from (length done + 1) keys how given es)) (done ++ e ∷ es)
-        ≡ done ++ cond a (record e { flags = changed how given e.flags }) e ∷ rs
+      ≡ done ++ cond a (record e { flags = changed how given e.flags }) e ∷ rs
   one_set e es rs done new old true = ap (all_flags_set (changes_from (length done + 1) keys how given es)) (set_seam done e es (changed how given e.flags)) ∙ new
   one_set e es rs done new old false = old
 

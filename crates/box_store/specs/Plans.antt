@@ -1,5 +1,5 @@
 -- What the parts of planning an item's work give.
-use Rattle.std.specs.Prelude.{◌≡◌, ℕ, ◌+◌, Bool, true, if◌then◌else◌, List, [], ◌∷◌, map, filter_map, Option, Some, None, option_map}
+use Rattle.std.specs.Prelude.{◌≡◌, ℕ, ◌+◌, true, if◌then◌else◌, List, [], ◌∷◌, map, filter_map, Option, Some, None, option_map}
 use Rattle.std.specs.List.{enumerate_from}
 use Rattle.undo_base.specs.declared.keys.Key.{Key}
 use Rattle.undo_base.specs.declared.keys.Flags.{Flags}
@@ -16,7 +16,7 @@ use Rattle.verb_core.specs.Mailboxes.{is_among, changed, no_flags}
 use Rattle.verb_core.specs.Boxes.{is_rising}
 use Rattle.verb_core.specs.Aims.{box_aimed}
 use Rattle.verb_core.specs.Step.{Boxes, new_mail, put_at, rearranged}
-use Rattle.verb_core.specs.Touched.{named_boxes, SameAt}
+use Rattle.verb_core.specs.Touched.{SameAt}
 use Rattle.box_store.specs.declared.effect.FlagChange.{FlagChange}
 use Rattle.box_store.specs.declared.effect.Put.{Put}
 use Rattle.box_store.specs.declared.effect.Work.{Work}

@@ -47,11 +47,7 @@ impl KeyIndex {
     }
 
     /// The entries of these keys. One pass over the mailbox, each entry looked up among the keys.
-    pub(crate) fn of(
-        alloc: Global,
-        keys: &[Key],
-        entries: &[Entry],
-    ) -> Result<KeyIndex, NoMemory>
+    pub(crate) fn of(alloc: Global, keys: &[Key], entries: &[Entry]) -> Result<KeyIndex, NoMemory>
         ensures { IfOk result (λ index. (key : _) → found_at index key ≡ indexed keys.now entries.now key) }
     {
         let keys = KeySet::of(alloc, keys)?;

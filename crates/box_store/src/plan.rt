@@ -71,12 +71,7 @@ fn seen_work(
     flags_work(alloc, rows, user, mailbox, keys, How::Add, seen)
 }
 
-fn expunge_work(
-    alloc: Global,
-    user: User,
-    mailbox: &Name,
-    keys: &Keys,
-) -> Result<Work, NoMemory>
+fn expunge_work(alloc: Global, user: User, mailbox: &Name, keys: &Keys) -> Result<Work, NoMemory>
     ensures { IfOk result (λ w. (boxes : _) → worked w boxes ≡ change_row (box_of user mailbox.now) (with_entries (expunged keys.now)) boxes) }
 {
     let keys = KeySet::of(alloc, keys.as_slice())?;
@@ -118,12 +113,7 @@ fn rename_work(
     })
 }
 
-fn delete_work(
-    alloc: Global,
-    user: User,
-    mailbox: &Name,
-    keys: &Keys,
-) -> Result<Work, NoMemory>
+fn delete_work(alloc: Global, user: User, mailbox: &Name, keys: &Keys) -> Result<Work, NoMemory>
     ensures { IfOk result (λ w. (boxes : _) → worked w boxes ≡ deleted user mailbox.now keys.now boxes) }
 {
     let keys = KeySet::of(alloc, keys.as_slice())?;

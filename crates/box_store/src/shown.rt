@@ -24,11 +24,7 @@ pub(crate) fn mail_of<'a>(rows: &'a [(BoxId, Mailbox)], user: User, name: &Name)
 }
 
 /// How many entries the mailbox has, where it is there. More than 4,294,967,295 find no memory.
-fn count_of(
-    rows: &[(BoxId, Mailbox)],
-    user: User,
-    name: &Name,
-) -> Result<Option<u32>, NoMemory>
+fn count_of(rows: &[(BoxId, Mailbox)], user: User, name: &Name) -> Result<Option<u32>, NoMemory>
     ensures { IfOk result (λ count. count ≡ option_map (λ (m : TheMailbox). length m.entries) (row_at (box_of user name.now) rows.now)) }
 {
     match find_mailbox(rows, user, name) {
@@ -41,12 +37,7 @@ fn count_of(
 }
 
 /// How a RENAME goes.
-pub(crate) fn way_of(
-    rows: &[(BoxId, Mailbox)],
-    user: User,
-    source: &Name,
-    target: &Name,
-) -> Way
+pub(crate) fn way_of(rows: &[(BoxId, Mailbox)], user: User, source: &Name, target: &Name) -> Way
     ensures { result ≡ way_of user source.now target.now rows.now }
 {
     if is_lost_found(source) || is_fixed(target) || source == target {

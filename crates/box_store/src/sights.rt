@@ -73,11 +73,7 @@ fn sights_in(alloc: Global, index: &KeyIndex, keys: &[Key]) -> Result<Sights, No
 }
 
 /// What FETCH shows of the keys.
-pub(crate) fn sights_of(
-    alloc: Global,
-    entries: &[Entry],
-    keys: &[Key],
-) -> Result<Sights, NoMemory>
+pub(crate) fn sights_of(alloc: Global, entries: &[Entry], keys: &[Key]) -> Result<Sights, NoMemory>
     ensures { IfOk result (λ shown. shown ≡ sights entries.now keys.now) }
 {
     let index = KeyIndex::of(alloc, keys, entries)?;

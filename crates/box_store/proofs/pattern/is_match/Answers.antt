@@ -1,4 +1,4 @@
-use Rattle.std.proofs.Common.{◌≡◌, sym, ◌∙◌}
+use Rattle.std.proofs.Common.{sym, ◌∙◌}
 use Rattle.box_store.proofs.Patterns.{misses, used_up, at_star}
 use Rattle.box_store.proofs.pattern.is_match.Goals as goal
 

@@ -1,5 +1,5 @@
-use Rattle.std.proofs.Common.{◌≡◌, sym, ◌∙◌, Bool, false}
-use Rattle.verb_core.specs.Names.{some_end, matches}
+use Rattle.std.proofs.Common.{◌≡◌, sym, ◌∙◌, false}
+use Rattle.verb_core.specs.Names.{matches}
 use Rattle.box_store.proofs.Patterns.{misses, used_up, at_star, shrinks, next_end, no_end, whole_end}
 use Rattle.box_store.proofs.pattern.matches_some_end.Goals as goal
 use Rattle.box_store.proofs.pattern.matches_some_end.Goals.{in-None, in-Some+in-None-split_first+else-is_empty}

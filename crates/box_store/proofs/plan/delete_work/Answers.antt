@@ -1,4 +1,4 @@
-use Rattle.std.proofs.Common.{◌≡◌, ◌∙◌, ℕ, List, ap₂}
+use Rattle.std.proofs.Common.{◌∙◌, ℕ, List, ap₂}
 use Rattle.undo_base.specs.declared.keys.Key.{Key}
 use Rattle.verb_core.specs.Step.{deleted}
 use Rattle.box_store.proofs.Plans.{deletes}

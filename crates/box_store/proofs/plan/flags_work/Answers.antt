@@ -1,4 +1,4 @@
-use Rattle.std.proofs.Common.{◌≡◌, ◌∙◌, List, ap, ap₂}
+use Rattle.std.proofs.Common.{◌∙◌, List, ap, ap₂}
 use Rattle.undo_base.specs.declared.keys.Key.{Key}
 use Rattle.verb_core.specs.declared.mailbox.BoxId.{BoxId}
 use Rattle.verb_core.specs.Boxes.{box_of, change_row}

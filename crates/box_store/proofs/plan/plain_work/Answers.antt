@@ -1,4 +1,4 @@
-use Rattle.std.proofs.Common.{◌≡◌, IfOk, subst, sym}
+use Rattle.std.proofs.Common.{IfOk, subst, sym}
 use Rattle.std.proofs.lemmas.Result.{IfOk-weaker}
 use Rattle.verb_core.specs.declared.item.Deed.{Deed}
 use Rattle.verb_core.specs.Step.{rearranged}

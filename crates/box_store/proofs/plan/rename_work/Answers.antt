@@ -1,6 +1,6 @@
-use Rattle.std.proofs.Common.{◌≡◌, ◌∙◌, ℕ, List, ap, ap₂}
+use Rattle.std.proofs.Common.{◌∙◌, ℕ, List, ap, ap₂}
 use Rattle.verb_core.specs.declared.item.Way.{Way}
-use Rattle.verb_core.specs.Step.{after_rename, way_of}
+use Rattle.verb_core.specs.Step.{after_rename}
 use Rattle.box_store.proofs.Plans.{same_way}
 use Rattle.box_store.proofs.plan.rename_work.Goals as goal
 

@@ -1,8 +1,5 @@
-use Rattle.std.proofs.Common.{◌≡◌, ◌∙◌, List, ap, sym}
+use Rattle.std.proofs.Common.{◌∙◌, sym}
 use Rattle.std.proofs.lemmas.Result.{IfOk-weaker}
-use Rattle.undo_base.specs.declared.keys.Key.{Key}
-use Rattle.verb_core.specs.Mailboxes.{copies}
-use Rattle.verb_core.specs.Step.{put_at}
 use Rattle.box_store.proofs.Plans.{nothing_after, copies_after}
 use Rattle.box_store.proofs.plan.work_of.Goals as goal
 

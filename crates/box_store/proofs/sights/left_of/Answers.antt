@@ -1,4 +1,4 @@
-use Rattle.std.proofs.Common.{◌≡◌, ◌∙◌}
+use Rattle.std.proofs.Common.{◌∙◌}
 use Rattle.std.proofs.lemmas.Result.{IfOk-weaker}
 use Rattle.box_store.proofs.KeysSeen.{left_is}
 use Rattle.box_store.proofs.sights.left_of.Goals as goal

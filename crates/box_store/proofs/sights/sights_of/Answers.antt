@@ -1,4 +1,4 @@
-use Rattle.std.proofs.Common.{◌≡◌, ◌∙◌}
+use Rattle.std.proofs.Common.{◌∙◌}
 use Rattle.std.proofs.lemmas.Result.{IfOk-weaker}
 use Rattle.box_store.proofs.KeysSeen.{sights_are}
 use Rattle.box_store.proofs.sights.sights_of.Goals as goal

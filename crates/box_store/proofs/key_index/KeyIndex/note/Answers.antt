@@ -1,4 +1,4 @@
-use Rattle.std.proofs.Common.{◌≡◌, ◌&&◌, cond, Some, None, subst, sym}
+use Rattle.std.proofs.Common.{◌≡◌, ◌&&◌, cond, Some, None, subst}
 use Rattle.std.specs.Option.{option_or}
 use Rattle.verb_core.specs.Mailboxes.{is_among, same_key}
 use Rattle.box_store.specs.Indexed.{found_at}

@@ -1,4 +1,3 @@
-use Rattle.std.proofs.Common.{◌≡◌}
 use Rattle.box_store.proofs.Indexes.{indexed_more}
 use Rattle.box_store.proofs.key_index.KeyIndex.of.Goals as goal
 

@@ -1,4 +1,4 @@
-use Rattle.std.proofs.Common.{◌≡◌, ◌∙◌, sym, take}
+use Rattle.std.proofs.Common.{◌∙◌, sym, take}
 use Rattle.std.proofs.lemmas.List.Folds.{list_any_more}
 use Rattle.verb_core.specs.Mailboxes.{same_key}
 use Rattle.box_store.proofs.Keys.{at_end}

@@ -1,4 +1,4 @@
-use Rattle.std.proofs.Common.{◌≡◌, ◌∙◌, Bool, ap}
+use Rattle.std.proofs.Common.{◌∙◌, Bool, ap}
 use Rattle.verb_core.specs.Step.{shown}
 use Rattle.box_store.specs.declared.effect.Effect.{Effect}
 use Rattle.box_store.specs.Kept.{Kept}
