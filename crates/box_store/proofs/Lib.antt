@@ -1,5 +1,10 @@
-mod UserNames
 mod FixedRows
+mod Indexes
+mod Keys
+mod KeysSeen
+mod Made
+mod Patterns
+mod Plans
 mod Reached
 pub mod PlaceLaws
 mod MailLaws
@@ -8,3 +13,4 @@ mod Aimed
 mod GrowLaws
 mod ConfLaws
 pub mod SpareLaws
+mod UserNames

@@ -5,3 +5,6 @@ pub mod Effects
 pub mod Places
 pub mod Mail
 pub mod Confs
+pub mod Indexed
+pub mod Patterns
+pub mod Plans
