@@ -1,5 +1,5 @@
 -- What an effect does to a store: to whichever has the same mailboxes where the item touches them.
-use Rattle.std.specs.Prelude.{◌≡◌, ℕ, ◌+◌, ◌-◌, ◌^◌, ◌≤◌, ◌<◌, Bool, true, false, not, List, [], ◌∷◌, map, length, slice_get, slice_set, Option, Some, None, option_map, unwrap_or, IsTrue, Unit, ⊥}
+use Rattle.std.specs.Prelude.{◌≡◌, ℕ, ◌+◌, ◌-◌, ◌^◌, ◌≤◌, ◌<◌, Bool, true, false, not, List, [], ◌∷◌, map, length, slice_get, slice_set, Option, Some, None, option_map, unwrap_or, IsTrue}
 use Rattle.std.specs.List.{list_all}
 use Rattle.undo_base.specs.declared.keys.Key.{Key}
 use Rattle.undo_base.specs.declared.keys.User.{User}
@@ -89,7 +89,7 @@ mail_in (p ∷ ps) = length p.mail + mail_in ps
 -- the mailboxes that grow, in order, and how many entries each gets at most
 abbrev pub grows : Work → Boxes → List (BoxId × ℕ)
 grows (Puts puts) boxes = map (λ (p : Put). (p.mailbox, mail_in puts)) puts
-grows (Rename way u source target) boxes = (box_of u target, length (mail_at (box_of u source) boxes)) ∷ []
+grows (Rename Merged u source target) boxes = (box_of u target, length (mail_at (box_of u source) boxes)) ∷ []
 grows (Delete u mailbox keys) boxes = (box_of u lost_found, length (mail_at (box_of u mailbox) boxes)) ∷ []
 grows _ boxes = []
 
@@ -97,7 +97,7 @@ grows _ boxes = []
 abbrev pub HasSpares : List (BoxId × ℕ) → List ℕ → Boxes → Type 0
 HasSpares [] spares boxes = Unit {0}
 HasSpares (g ∷ gs) [] boxes = ⊥
-HasSpares (g ∷ gs) (spare ∷ spares) boxes = (length (mail_at g.0 boxes) + g.1 ≤ spare) × (next_at g.0 boxes + g.1 < 2 ^ 64 - 1) × HasSpares gs spares boxes
+HasSpares (g ∷ gs) (spare ∷ spares) boxes = (length (mail_at g.0 boxes) + g.1 ≤ spare) × (next_at g.0 boxes + g.1 < 2 ^ 64) × HasSpares gs spares boxes
 
 -- whether a row is added
 abbrev pub adds_row : Work → Bool

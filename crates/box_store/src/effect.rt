@@ -29,11 +29,19 @@ pub enum Work {
         flags: Sequence<FlagChange>,
     },
     /// The entries of these keys that have `\Deleted` go (RFC 3501, section 6.4.3).
-    Expunge { mailbox: BoxId, keys: KeySet },
+    Expunge {
+        mailbox: BoxId,
+        keys: KeySet,
+    },
     /// The entries of a key go.
-    Remove { mailbox: BoxId, key: Key },
+    Remove {
+        mailbox: BoxId,
+        key: Key,
+    },
     /// An empty mailbox comes, where there is none (RFC 3501, section 6.3.3).
-    Create { mailbox: BoxId },
+    Create {
+        mailbox: BoxId,
+    },
     /// A mailbox takes another name, or its entries move into another mailbox (RFC 3501, section 6.3.5).
     Rename {
         way: Way,

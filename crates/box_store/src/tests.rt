@@ -4,7 +4,7 @@ use std::test::Fail;
 use undo_base::{Name, Names, User};
 use verb_core::{Account, Accounts, Aliases, Conf, Filters, House};
 
-fn name(alloc: Global, bytes: &[u8]) -> Result<Name, Fail> {
+pub(crate) fn name(alloc: Global, bytes: &[u8]) -> Result<Name, Fail> {
     Ok(Name::read(alloc, bytes)?)
 }
 
@@ -27,7 +27,7 @@ fn house(alloc: Global) -> Result<House, Fail> {
     })
 }
 
-fn store(alloc: Global) -> Result<Store, Fail> {
+pub(crate) fn store(alloc: Global) -> Result<Store, Fail> {
     let house = house(alloc)?;
     if !house.is_sound() {
         return Err(Fail::new("the house is not sound"));

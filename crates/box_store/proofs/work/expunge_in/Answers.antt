@@ -1,0 +1,18 @@
+use Rattle.std.proofs.Common.{[], ◌∷◌}
+use Rattle.verb_core.specs.Mailboxes.{with_entries, expunged}
+use Rattle.verb_core.specs.Mailboxes.{without as left_out}
+use Rattle.box_store.specs.Effects.{all_flags_set}
+use Rattle.box_store.proofs.PlaceLaws.{placed, gapped, row_changed, change_missing}
+use Rattle.box_store.proofs.work.expunge_in.Goals as goal
+
+pub returns-in-Ok : goal.returns-in-Ok
+returns-in-Ok c =
+    row_changed c.args.mailbox.now c.args.rows.now.items c.in-Ok.at (with_entries (expunged c.args.keys.now)) c.index_mut.result.now c.expunge.new.mailbox
+    (placed c.args.mailbox.now.user c.bytes.result.now c.args.mailbox.now.name c.as_slice.result.now c.args.rows.now.items c.in-Ok.at c.bytes.ensures.value c.as_slice.ensures.value c.in-Ok.ensures.found)
+    c.requires c.index_mut.ensures.value c.expunge.ensures
+
+pub returns-in_default : goal.returns-in_default
+returns-in_default c =
+    change_missing c.args.mailbox.now c.args.rows.now.items c.in_default.field-0
+    (gapped c.args.mailbox.now.user c.bytes.result.now c.args.mailbox.now.name c.as_slice.result.now c.args.rows.now.items c.in_default.field-0 c.bytes.ensures.value c.as_slice.ensures.value c.in_default.ensures.missing)
+    (with_entries (expunged c.args.keys.now)) c.requires

@@ -1,0 +1,255 @@
+//! Room for an effect, so that applying it takes no memory.
+ghost use Rattle.std.specs.Prelude.{◌≡◌, ◌+◌, ◌-◌, slice_index, ◌≤◌, ◌<◌, ◌^◌, [], ◌∷◌, Option, Some, None, true, IsTrue, IfOk, OnOk, length, map, take, drop, vec_len, vec_capacity};
+ghost use Rattle.verb_core.specs.Names.{lost_found};
+ghost use Rattle.verb_core.specs.Boxes.{box_of, is_rising, mail_at};
+ghost use Rattle.verb_core.specs.declared.item.Act.{Act};
+ghost use Rattle.box_store.specs.Effects.{mail_in, grows, HasSpares, adds_row, conf_by};
+
+use crate::conf_after::conf_after;
+use crate::mail::take_entries;
+use crate::rows::place_of;
+use crate::spares::Spares;
+use crate::{Effect, Put, Store, Work};
+use std::alloc::Global;
+use undo_base::{NoMemory, User};
+use verb_core::{Act, BoxId, Conf, Entries, House, Mailbox, Way};
+
+/// How many entries a mailbox has at most.
+const MOST_ENTRIES: usize = 4_294_967_295;
+
+/// Makes the list of a mailbox ready for so many entries more.
+fn grow(alloc: Global, mailbox: &mut Mailbox, count: usize) -> Result<(), NoMemory>
+    ensures { mailbox.new ≡ mailbox.old }
+{
+    let mut list = take_entries(alloc, mailbox);
+    let grown = list.reserve(count);
+    mailbox.entries = Entries::from_vec(list);
+    grown?;
+    Ok(())
+}
+
+/// Makes the spare list at a place ready for a mailbox that gets so many entries, if its entries and UIDs may be so many.
+fn make_ready(
+    alloc: Global,
+    mailbox: &mut Mailbox,
+    spares: &mut Spares,
+    place: usize,
+    count: usize,
+) -> Result<(), NoMemory>
+    requires { place ≤ length spares.old }
+    ensures mailbox { mailbox.new ≡ mailbox.old }
+    ensures there { OnOk result (place < length spares.new) }
+    ensures room { OnOk result (length mailbox.old.entries + count ≤ slice_index spares.new place) }
+    ensures uids { OnOk result (mailbox.old.next + count < 2 ^ 64) }
+    ensures earlier { OnOk result (take place spares.new ≡ take place spares.old) }
+{
+    let held = mailbox.entries.len();
+    if MOST_ENTRIES < held || MOST_ENTRIES - held < count {
+        return Err(NoMemory);
+    }
+    if u64::MAX - mailbox.next < count as u64 {
+        return Err(NoMemory);
+    }
+    grow(alloc, mailbox, count)?;
+    spares.make_room(alloc, place, held + count)?;
+    Ok(())
+}
+
+/// Makes a spare list ready for no mailbox.
+fn make_spare(
+    alloc: Global,
+    spares: &mut Spares,
+    place: usize,
+    count: usize,
+) -> Result<(), NoMemory>
+    requires { place ≤ length spares.old }
+    ensures there { OnOk result (place < length spares.new) }
+    ensures small { OnOk result (count < 2 ^ 32) }
+    ensures room { OnOk result (count ≤ slice_index spares.new place) }
+    ensures earlier { OnOk result (take place spares.new ≡ take place spares.old) }
+{
+    if MOST_ENTRIES < count {
+        return Err(NoMemory);
+    }
+    spares.make_room(alloc, place, count)?;
+    Ok(())
+}
+
+/// Makes the spare list at a place ready for a mailbox that gets so many entries.
+fn reserve_spare(
+    alloc: Global,
+    rows: &mut Vec<(BoxId, Mailbox)>,
+    spares: &mut Spares,
+    place: usize,
+    user: User,
+    name: &[u8],
+    count: usize,
+) -> Result<(), NoMemory>
+    requires rising { IsTrue (is_rising rows.old.items) }
+    requires place { place ≤ length spares.old }
+    ensures rows { rows.new.items ≡ rows.old.items }
+    ensures len { vec_len rows.new ≡ vec_len rows.old }
+    ensures capacity { vec_capacity rows.new ≡ vec_capacity rows.old }
+    ensures ready { OnOk result (HasSpares ((box_of user name.now, count) ∷ []) (drop place spares.new) rows.old.items) }
+    ensures earlier { OnOk result (take place spares.new ≡ take place spares.old) }
+{
+    match place_of(rows.as_slice(), user, name) {
+        Ok(at) => {
+            make_ready(alloc, &mut rows[at].1, spares, place, count)?;
+            Ok(())
+        }
+        Err(_) => {
+            make_spare(alloc, spares, place, count)?;
+            Ok(())
+        }
+    }
+}
+
+/// How many entries are put.
+fn mail_count(puts: &[Put]) -> Result<usize, NoMemory>
+    ensures { IfOk result (λ count. count ≡ mail_in puts.now) }
+{
+    let mut count: usize = 0;
+    for put in puts {
+        match count.checked_add(put.mail.len()) {
+            None => return Err(NoMemory),
+            Some(sum) => count = sum,
+        }
+    }
+    Ok(count)
+}
+
+fn reserve_puts(
+    alloc: Global,
+    rows: &mut Vec<(BoxId, Mailbox)>,
+    spares: &mut Spares,
+    puts: &[Put],
+) -> Result<(), NoMemory>
+    requires { IsTrue (is_rising rows.old.items) }
+    ensures rows { rows.new.items ≡ rows.old.items }
+    ensures len { vec_len rows.new ≡ vec_len rows.old }
+    ensures capacity { vec_capacity rows.new ≡ vec_capacity rows.old }
+    ensures ready { OnOk result (HasSpares (map (λ p. (p.mailbox, mail_in puts.now)) puts.now) spares.new rows.old.items) }
+{
+    let count = mail_count(puts)?;
+    for (place, put) in puts.iter().enumerate() {
+        let mailbox = &put.mailbox;
+        reserve_spare(
+            alloc,
+            rows,
+            spares,
+            place,
+            mailbox.user,
+            mailbox.name.bytes(),
+            count,
+        )?;
+    }
+    Ok(())
+}
+
+/// How many entries a mailbox has.
+fn held(rows: &[(BoxId, Mailbox)], user: User, name: &[u8]) -> usize
+    requires { IsTrue (is_rising rows.now) }
+    ensures { result ≡ length (mail_at (box_of user name.now) rows.now) }
+{
+    match place_of(rows, user, name) {
+        Ok(at) => rows[at].1.entries.len(),
+        Err(_) => 0,
+    }
+}
+
+/// Makes the first spare list ready for a mailbox that gets the entries of another.
+fn reserve_merge(
+    alloc: Global,
+    rows: &mut Vec<(BoxId, Mailbox)>,
+    spares: &mut Spares,
+    user: User,
+    source: &[u8],
+    target: &[u8],
+) -> Result<(), NoMemory>
+    requires { IsTrue (is_rising rows.old.items) }
+    ensures rows { rows.new.items ≡ rows.old.items }
+    ensures len { vec_len rows.new ≡ vec_len rows.old }
+    ensures capacity { vec_capacity rows.new ≡ vec_capacity rows.old }
+    ensures ready { OnOk result (HasSpares ((box_of user target.now, length (mail_at (box_of user source.now) rows.old.items)) ∷ []) spares.new rows.old.items) }
+{
+    let count = held(rows.as_slice(), user, source);
+    reserve_spare(alloc, rows, spares, 0, user, target, count)?;
+    Ok(())
+}
+
+/// Makes the spare lists ready for the mailboxes that grow.
+fn reserve_mail(
+    alloc: Global,
+    rows: &mut Vec<(BoxId, Mailbox)>,
+    spares: &mut Spares,
+    work: &Work,
+) -> Result<(), NoMemory>
+    requires { IsTrue (is_rising rows.old.items) }
+    ensures rows { rows.new.items ≡ rows.old.items }
+    ensures len { vec_len rows.new ≡ vec_len rows.old }
+    ensures capacity { vec_capacity rows.new ≡ vec_capacity rows.old }
+    ensures ready { OnOk result (HasSpares (grows work.now rows.old.items) spares.new rows.old.items) }
+{
+    match work {
+        Work::Puts(puts) => reserve_puts(alloc, rows, spares, puts.as_slice()),
+        Work::Rename {
+            way,
+            user,
+            source,
+            target,
+        } => match way {
+            Way::Merged => {
+                reserve_merge(alloc, rows, spares, *user, source.bytes(), target.bytes())
+            }
+            Way::Plain => Ok(()),
+            Way::NoSource => Ok(()),
+        },
+        Work::Delete {
+            user,
+            mailbox,
+            keys: _,
+        } => reserve_merge(alloc, rows, spares, *user, mailbox.bytes(), b"Lost+Found"),
+        Work::Flags {
+            mailbox: _,
+            flags: _,
+        } => Ok(()),
+        Work::Expunge {
+            mailbox: _,
+            keys: _,
+        } => Ok(()),
+        Work::Remove { mailbox: _, key: _ } => Ok(()),
+        Work::Create { mailbox: _ } => Ok(()),
+    }
+}
+
+/// The configuration after an act, where there is one.
+fn ready_conf(
+    alloc: Global,
+    house: &House,
+    conf: &Conf,
+    act: &Option<Act>,
+) -> Result<Option<Conf>, NoMemory>
+    ensures { IfOk result (λ ready. (act' : Act) → act.now ≡ Some act' → ready ≡ Some (conf_by house.now act.now conf.now)) }
+{
+    match act {
+        None => Ok(None),
+        Some(act) => Ok(Some(conf_after(alloc, house, conf, act)?)),
+    }
+}
+
+impl Store {
+    ghost use Rattle.box_store.specs.Effects.{IsReady};
+
+    /// Makes room for an effect, so that applying it takes no memory. UIDs or entries that would be too many count as
+    /// want of memory.
+    pub fn reserve(&mut self, alloc: Global, effect: &Effect) -> Result<(), NoMemory>
+        ensures store { self.new.store ≡ self.old.store }
+        ensures ok { OnOk result (IsReady effect.now self.new) }
+    {
+        self.rows.reserve(1)?;
+        reserve_mail(alloc, &mut self.rows, &mut self.spares, &effect.work)?;
+        self.ready = ready_conf(alloc, &self.house, &self.conf, &effect.act)?;
+        Ok(())
+    }
+}
