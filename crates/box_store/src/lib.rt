@@ -9,6 +9,7 @@ mod effect;
 mod key_set;
 mod opening;
 mod reach;
+mod shown;
 mod spares;
 mod steps;
 mod store;
