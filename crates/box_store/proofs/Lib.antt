@@ -1,3 +1,7 @@
 mod UserNames
 mod FixedRows
 mod Reached
+mod KeysThere
+mod Growth
+mod InTurn
+mod Answered

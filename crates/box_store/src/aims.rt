@@ -83,7 +83,7 @@ fn reach_recipients(
 }
 
 /// Where a delivery goes, by the first filter whose needle is in the text.
-fn reach_delivery(
+pub(crate) fn reach_delivery(
     alloc: Global,
     rows: &[(BoxId, Mailbox)],
     house: &House,
@@ -107,7 +107,7 @@ fn reach_delivery(
 }
 
 /// Whoever acts; where nobody does, the first user.
-fn who_acts(by: Option<User>) -> User
+pub(crate) fn who_acts(by: Option<User>) -> User
     ensures { result ≡ unwrap_or by (record { 0 = 0 }) }
 {
     match by {

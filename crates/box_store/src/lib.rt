@@ -5,10 +5,14 @@
 #![tactic(auto)]
 
 mod aims;
+mod asked;
 mod effect;
 mod key_set;
+mod live;
 mod opening;
 mod reach;
+mod refusals;
+mod room;
 mod shown;
 mod spares;
 mod steps;
