@@ -34,9 +34,11 @@ not_above m n h = lt-leb (suc n) m (omega arith)
 -- fewer new entries
 pub outgrows-fewer : (next few many : ℕ) → few ≤ many → outgrows next many ≡ false → outgrows next few ≡ false
 outgrows-fewer next few many le h = no_so (outgrows next few) (λ e.
-    let some : 0 < few = ltb-true 0 few (first_so _ _ e) in
-    let wide : 4294967295 < next + few = ltb-true 4294967295 (next + few) (second_so _ _ e) in
-    true≢false (sym (both _ _ (lt-ltb 0 many (omega arith)) (lt-ltb 4294967295 (next + many) (omega arith))) ∙ h))
+    let some : 0 < few = ltb-true 0 few (first_so (nat_lt 0 few) (nat_lt 4294967295 (next + few)) e) in
+    let wide : 4294967295 < next + few = ltb-true 4294967295 (next + few) (second_so (nat_lt 0 few) (nat_lt 4294967295 (next + few)) e) in
+    let more : 0 < many = omega arith in
+    let wider : 4294967295 < next + many = omega arith in
+    true≢false (sym (both _ _ (lt-ltb 0 many more) (lt-ltb 4294967295 (next + many) wider)) ∙ h))
 
 pub box_outgrows-fewer : (boxes : Boxes) (id : BoxId) (few many : ℕ) → few ≤ many → box_outgrows boxes id many ≡ false → box_outgrows boxes id few ≡ false
 box_outgrows-fewer boxes id few many le h = elim (has_row id boxes) as (λ b. (b && outgrows (next_at id boxes) many) ≡ false → (b && outgrows (next_at id boxes) few) ≡ false) [

@@ -10,7 +10,9 @@ use Rattle.undo_base.specs.declared.keys.User.{User}
 use Rattle.undo_base.specs.declared.keys.Key.{Key}
 use Rattle.undo_base.specs.declared.asks.How.TheVariants.{Add}
 use Rattle.verb_core.specs.declared.item.Item.{Item}
+use Rattle.verb_core.specs.declared.item.Deed.{Deed}
 use Rattle.verb_core.specs.declared.item.Deed.TheVariants as deed
+use Rattle.verb_core.specs.declared.item.Shown.{Shown}
 use Rattle.verb_core.specs.declared.item.Shown.TheVariants.{Put, Copied}
 use Rattle.verb_core.specs.declared.item.Way.{Way}
 use Rattle.verb_core.specs.declared.item.Way.TheVariants.{Plain, NoSource, Merged}
@@ -258,6 +260,13 @@ module _ (s : MailStore) (by : Option User) where
     shown-now (Append mailbox flags moment text) ok = ap (λ b. Put (not (is_empty (map (λ u. aim_at u mailbox 0) (cond (not b) (asker by ∷ []) []))))) (one_missing (has_row (box_of (asker by) mailbox) s.boxes) ok.targets)
     shown-now (Copy mailbox keys target strict) ok = ap (λ b. Copied (there (mail_of s by mailbox) keys) (not (is_empty (map (λ u. aim_at u target 0) (cond (not b) (asker by ∷ []) []))))) (one_missing (has_row (box_of (asker by) target) s.boxes) ok.targets)
     shown-now _ ok = refl
+
+    -- the item with its answer
+    pub item-now : (ask : Ask) (d : Deed) (u : User) (boxes : Boxes) (seen : Shown) → by_names s by ask ≡ None → d ≡ deed_of s by at ask → u ≡ asker by → boxes ≡ s.boxes → seen ≡ shown false u d boxes
+        → record { number = number; at = at; by = by; rev = 0; deed = d; shown = seen } ≡ answered s (asked_item s number at by ask)
+    item-now ask d u boxes seen names deeds users rows is =
+        let answer : seen ≡ (step s (asked_item s number at by ask)).1 = is ∙ (λ j. shown false (users j) (deeds j) (rows j)) ∙ sym (shown-now ask (passes s by ask names)) in
+        λ j. record { number = number; at = at; by = by; rev = 0; deed = deeds j; shown = answer j }
 
 -- where neither names nor keys refuse, what is used up does
 pub last-in_turn : (o p q : Option Refused) → is_some o ≡ false → is_some p ≡ false → q ≡ first_of (o ∷ p ∷ q ∷ [])

@@ -1,7 +1,11 @@
-mod UserNames
+mod Answered
 mod FixedRows
-mod Reached
-mod KeysThere
 mod Growth
 mod InTurn
-mod Answered
+mod Indexes
+mod Keys
+mod KeysSeen
+mod KeysThere
+mod Patterns
+mod Reached
+mod UserNames

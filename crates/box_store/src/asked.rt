@@ -1,39 +1,13 @@
 //! What an ask names.
-ghost use Rattle.std.specs.Prelude.{◌≡◌, ◌||◌, [], not, bytes_eq, option_copied, nat_lt, length, if◌then◌else◌};
+ghost use Rattle.std.specs.Prelude.{◌≡◌, [], option_copied, nat_lt, length, if◌then◌else◌};
 ghost use Rattle.std.specs.List.{cons_option};
-ghost use Rattle.verb_core.specs.Names.{inbox, lost_found, is_fixed, is_new_name, is_wildcard};
+ghost use Rattle.verb_core.specs.Names.{is_new_name};
 ghost use Rattle.verb_core.specs.Live.{new_names, named, targets, is_misshapen, asks_fixed, too_large};
 ghost use Rattle.box_store.specs.Refusing.{adds_name};
 
+use crate::fixed::{is_fixed, is_inbox, is_lost_found, is_wildcard};
 use undo_base::{MOST_FETCHED, MOST_LITERAL, Name, Text};
 use verb_core::Ask;
-
-/// Whether it is INBOX.
-pub(crate) fn is_inbox(name: &Name) -> bool
-    ensures { result ≡ bytes_eq name.now inbox }
-{
-    name.bytes() == b"INBOX".as_slice()
-}
-
-/// Whether it is Lost+Found.
-fn is_lost_found(name: &Name) -> bool
-    ensures { result ≡ bytes_eq name.now lost_found }
-{
-    name.bytes() == b"Lost+Found".as_slice()
-}
-
-/// Whether the mailbox of that name is always there.
-fn is_fixed(name: &Name) -> bool
-    ensures { result ≡ is_fixed name.now }
-{
-    is_inbox(name) || is_lost_found(name)
-}
-
-fn is_wildcard(byte: u8) -> bool
-    ensures { result ≡ is_wildcard byte }
-{
-    byte == b'*' || byte == b'%'
-}
 
 /// Whether a new mailbox can have the name.
 fn is_new_name(name: &Name) -> bool

@@ -7,13 +7,17 @@
 mod aims;
 mod asked;
 mod effect;
+mod fixed;
+mod key_index;
 mod key_set;
 mod live;
 mod opening;
+mod pattern;
 mod reach;
 mod refusals;
 mod room;
 mod shown;
+mod sights;
 mod spares;
 mod steps;
 mod store;

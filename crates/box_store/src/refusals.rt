@@ -1,14 +1,14 @@
 //! Why an ask is refused, by the mailboxes as they are now.
 ghost use Rattle.std.specs.Prelude.{◌≡◌, ◌&&◌, [], IfOk, option_copied, length, count_by, map, filter, if◌then◌else◌};
 ghost use Rattle.std.specs.List.{cons_option};
-ghost use Rattle.verb_core.specs.Mailboxes.{there};
-ghost use Rattle.verb_core.specs.Boxes.{box_of, has_row, names_of};
+ghost use Rattle.verb_core.specs.Boxes.{box_of, has_row};
 ghost use Rattle.verb_core.specs.Live.{asker, mail_of, marked, lacks, is_missing, is_there, is_gone, key_count};
 ghost use Rattle.box_store.specs.Refusing.{by_names, by_keys};
 
 use crate::Store;
 use crate::aims::who_acts;
 use crate::asked::{asks_fixed, is_misshapen, named, new_name, target, too_large};
+use crate::sights::there_of;
 use std::alloc::{AllocError, Global};
 use undo_base::{Key, Keys, MOST_KEYS, Name, NoMemory, User};
 use verb_core::{Ask, Entry, Refused};
@@ -130,7 +130,7 @@ fn close_count(removes: bool, entries: &[Entry]) -> usize
 fn lacks(alloc: Global, entries: &[Entry], keys: &Keys) -> Result<bool, NoMemory>
     ensures { IfOk result (λ lacking. lacking ≡ lacks entries.now keys.now) }
 {
-    let found = keys_there(alloc, entries, keys.as_slice())?;
+    let found = there_of(alloc, entries, keys.as_slice())?;
     Ok(found.len() < keys.len())
 }
 
@@ -203,14 +203,4 @@ pub(crate) fn refused_by_keys(
         Some(asked) => Ok(Some(Refused::TooLarge { asked })),
         None => Ok(None),
     }
-}
-
-/// The keys that are there, in their order.
-pub(crate) fn keys_there(alloc: Global, entries: &[Entry], keys: &[Key]) -> Result<Keys, NoMemory>
-    ensures { IfOk result (λ found. found ≡ there entries.now keys.now) }
-{
-    let _alloc = alloc;
-    let _entries = entries;
-    let _keys = keys;
-    Err(NoMemory)
 }

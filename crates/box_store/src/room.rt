@@ -1,5 +1,5 @@
 //! What an ask would use up: mailboxes, UIDs and numbers.
-ghost use Rattle.std.specs.Prelude.{◌≡◌, ◌≤◌, ◌&&◌, ◌||◌, IsTrue, IfOk, option_map, length, nat_lt, nat_le, bytes_eq};
+ghost use Rattle.std.specs.Prelude.{◌≡◌, ◌≤◌, ◌&&◌, IsTrue, IfOk, option_map, length, bytes_eq};
 ghost use Rattle.std.specs.Ordering.{eq_by_cmp};
 ghost use Rattle.verb_core.specs.declared.conf.Filter.{Filter as TheFilter};
 ghost use Rattle.verb_core.specs.Names.{inbox};
@@ -9,12 +9,14 @@ ghost use Rattle.verb_core.specs.Store.{is_house};
 ghost use Rattle.verb_core.specs.Aims.{delivered, box_aimed};
 ghost use Rattle.verb_core.specs.Recipients.{deciding};
 ghost use Rattle.verb_core.specs.Live.{asker, mail_of, is_wide};
-ghost use Rattle.box_store.specs.Refusing.{adds_name, fills_up, outgrows, box_outgrows, aims_at, aims_outgrow, uses_up, by_room};
+ghost use Rattle.box_store.specs.Refusing.{fills_up, outgrows, box_outgrows, aims_at, aims_outgrow, uses_up, by_room};
 
 use crate::Store;
 use crate::aims::{reach_delivery, who_acts};
-use crate::asked::{adds_name, is_inbox};
-use crate::refusals::{keys_there, mail_of};
+use crate::asked::adds_name;
+use crate::fixed::is_inbox;
+use crate::refusals::mail_of;
+use crate::sights::there_of;
 use std::alloc::Global;
 use undo_base::{Keys, LAST_NUMBER, MOST_BOXES, MOST_UID, Name, Names, NoMemory, Text, User};
 use verb_core::{Aim, Ask, Refused};
@@ -109,7 +111,7 @@ fn copy_outgrows(
     if !box_outgrows(store, who_acts(by), target, keys.len()) {
         return Ok(false);
     }
-    let found = keys_there(alloc, mail_of(store, by, mailbox), keys.as_slice())?;
+    let found = there_of(alloc, mail_of(store, by, mailbox), keys.as_slice())?;
     Ok(box_outgrows(store, who_acts(by), target, found.len()))
 }
 

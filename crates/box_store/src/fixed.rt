@@ -1,0 +1,33 @@
+//! Names that are always there, and bytes that match any run of bytes.
+ghost use Rattle.std.specs.Prelude.{◌≡◌, bytes_eq};
+ghost use Rattle.verb_core.specs.Names.{inbox, lost_found, is_fixed, is_wildcard};
+
+use undo_base::Name;
+
+/// Whether it is INBOX.
+pub(crate) fn is_inbox(name: &Name) -> bool
+    ensures { result ≡ bytes_eq name.now inbox }
+{
+    name.bytes() == b"INBOX".as_slice()
+}
+
+/// Whether it is Lost+Found.
+pub(crate) fn is_lost_found(name: &Name) -> bool
+    ensures { result ≡ bytes_eq name.now lost_found }
+{
+    name.bytes() == b"Lost+Found".as_slice()
+}
+
+/// Whether the mailbox of that name is always there.
+pub(crate) fn is_fixed(name: &Name) -> bool
+    ensures { result ≡ is_fixed name.now }
+{
+    is_inbox(name) || is_lost_found(name)
+}
+
+/// Whether the byte is `*` or `%`, each of which matches any run of bytes.
+pub(crate) fn is_wildcard(byte: u8) -> bool
+    ensures { result ≡ is_wildcard byte }
+{
+    byte == b'*' || byte == b'%'
+}
