@@ -151,7 +151,7 @@ module _ (s : MailStore) (by : Option User) where
     next_there e =
         ap (next_at (box_of (asker by) target)) moved
         ∙ ap (λ (o : Option Mailbox). unwrap_or (option_map (λ (m : Mailbox). m.next) o) 0) (row_at-add_row (box_of (asker by) target) (box_of (asker by) target) (renamed (asker by) mailbox s.boxes) (left (asker by) mailbox s.boxes)
-            ∙ ap (λ b. cond b (Some (renamed (asker by) mailbox s.boxes)) (row_at (box_of (asker by) target) (left (asker by) mailbox s.boxes))) ((eq_by_cmp_equiv boxes_total).refl (box_of (asker by) target)))
+        ∙ ap (λ b. cond b (Some (renamed (asker by) mailbox s.boxes)) (row_at (box_of (asker by) target) (left (asker by) mailbox s.boxes))) ((eq_by_cmp_equiv boxes_total).refl (box_of (asker by) target)))
         ∙ ap (λ b. (cond b (put_all (mail_of s by mailbox) no_mail) (unwrap_or (row_at (box_of (asker by) mailbox) s.boxes) no_mail)).next) e
         ∙ next-put_all (mail_of s by mailbox) no_mail
 
@@ -163,12 +163,12 @@ module _ (s : MailStore) (by : Option User) where
     rename_uses number at = elim (bytes_eq mailbox inbox) as (λ b. bytes_eq mailbox inbox ≡ b →
         list_any (λ id. nat_lt (next_at id s.boxes) (next_at id (rearranged (asker by) (deed.Rename mailbox target) s.boxes)) && nat_lt 4294967295 (next_at id (rearranged (asker by) (deed.Rename mailbox target) s.boxes))) (cond b (box_of (asker by) target ∷ []) [])
         ≡ (b && outgrows 1 (length (mail_of s by mailbox)))) [
-      | true ↦ λ e.
-          or-false _
-          ∙ ap₂ (λ m n. nat_lt m n && nat_lt 4294967295 n) (ap (λ (o : Option Mailbox). unwrap_or (option_map (λ (m : Mailbox). m.next) o) 0) gone) (next_there e)
-          ∙ from_none (length (mail_of s by mailbox))
-      | false ↦ λ e. refl
-    ] refl
+          | true ↦ λ e.
+              or-false _
+              ∙ ap₂ (λ m n. nat_lt m n && nat_lt 4294967295 n) (ap (λ (o : Option Mailbox). unwrap_or (option_map (λ (m : Mailbox). m.next) o) 0) gone) (next_there e)
+              ∙ from_none (length (mail_of s by mailbox))
+          | false ↦ λ e. refl
+        ] refl
 
   -- ---- what each ask would make and use up
 
@@ -203,7 +203,7 @@ module _ (s : MailStore) (by : Option User) where
 
     into : (mailbox : List ℕ) (es : List Entry) → has_row (box_of (asker by) mailbox) s.boxes ≡ true
         → ((nat_lt (next_at (box_of (asker by) mailbox) s.boxes) (next_at (box_of (asker by) mailbox) (change_row (box_of (asker by) (cond (has_row (box_of (asker by) mailbox) s.boxes) mailbox lost_found)) (put_all es) s.boxes))
-            && nat_lt 4294967295 (next_at (box_of (asker by) mailbox) (change_row (box_of (asker by) (cond (has_row (box_of (asker by) mailbox) s.boxes) mailbox lost_found)) (put_all es) s.boxes))) || false)
+        && nat_lt 4294967295 (next_at (box_of (asker by) mailbox) (change_row (box_of (asker by) (cond (has_row (box_of (asker by) mailbox) s.boxes) mailbox lost_found)) (put_all es) s.boxes))) || false)
         ≡ box_outgrows s.boxes (box_of (asker by) mailbox) (length es)
     into mailbox es here =
         or-false _

@@ -1,5 +1,5 @@
 -- What an effect does to a store: to whichever has the same mailboxes where the item touches them.
-use Rattle.std.specs.Prelude.{◌≡◌, ℕ, ◌+◌, ◌-◌, ◌^◌, ◌≤◌, ◌<◌, Bool, true, false, not, List, [], ◌∷◌, map, length, slice_get, slice_set, Option, Some, None, option_map, unwrap_or, IsTrue, Unit, ⊥}
+use Rattle.std.specs.Prelude.{◌≡◌, ℕ, ◌+◌, ◌-◌, ◌^◌, ◌≤◌, ◌<◌, Bool, true, false, not, List, [], ◌∷◌, map, length, slice_get, slice_set, Option, Some, None, option_map, unwrap_or, IsTrue}
 use Rattle.std.specs.List.{list_all}
 use Rattle.undo_base.specs.declared.keys.Key.{Key}
 use Rattle.undo_base.specs.declared.keys.User.{User}

@@ -5,3 +5,4 @@ pub mod Effects
 pub mod Indexed
 pub mod Patterns
 pub mod Refusing
+pub mod Sample

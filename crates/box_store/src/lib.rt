@@ -5,6 +5,7 @@
 #![tactic(auto)]
 
 mod aims;
+mod apart;
 mod asked;
 mod effect;
 mod fixed;
@@ -22,10 +23,13 @@ mod spares;
 mod steps;
 mod store;
 
+pub use apart::stores_keep_users_apart;
 pub use effect::{Effect, FlagChange, Put, Work};
 pub use key_set::KeySet;
 pub use steps::Steps;
 pub use store::Store;
 
+#[cfg(test)]
+mod live_tests;
 #[cfg(test)]
 mod tests;

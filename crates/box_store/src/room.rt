@@ -72,8 +72,7 @@ fn count_aims(aims: &[Aim], aim: &Aim) -> usize
 fn aims_outgrow(store: &Store, aims: &[Aim]) -> bool
     ensures { result ≡ aims_outgrow store.now.store.boxes aims.now }
 {
-    aims.iter()
-        .any(|aim| box_outgrows(store, aim.user, &aim.mailbox, count_aims(aims, aim)))
+    aims.iter().any(|aim| box_outgrows(store, aim.user, &aim.mailbox, count_aims(aims, aim)))
 }
 
 /// Whether a delivery takes a next UID past 32 bits.
@@ -133,12 +132,7 @@ fn rename_outgrows(store: &Store, by: Option<User>, mailbox: &Name) -> bool
 }
 
 /// Whether a mailbox has used up its UIDs, or would.
-fn uses_up(
-    alloc: Global,
-    store: &Store,
-    by: Option<User>,
-    ask: &Ask,
-) -> Result<bool, NoMemory>
+fn uses_up(alloc: Global, store: &Store, by: Option<User>, ask: &Ask) -> Result<bool, NoMemory>
     requires { IsTrue (is_house store.now.store.house) }
     ensures { IfOk result (λ passes. passes ≡ uses_up store.now.store by ask.now) }
 {
