@@ -1,8 +1,12 @@
+mod Answered
 mod FixedRows
+mod Growth
+mod InTurn
 mod Indexes
 mod Keys
 mod KeysSeen
 mod Made
+mod KeysThere
 mod Patterns
 mod Plans
 mod Reached

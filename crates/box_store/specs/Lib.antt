@@ -8,3 +8,5 @@ pub mod Confs
 pub mod Indexed
 pub mod Patterns
 pub mod Plans
+pub mod Refusing
+pub mod Sample

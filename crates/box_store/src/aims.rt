@@ -83,7 +83,7 @@ fn reach_recipients(
 }
 
 /// Where a delivery goes, by the first filter whose needle is in the text.
-fn reach_delivery(
+pub(crate) fn reach_delivery(
     alloc: Global,
     rows: &[(BoxId, Mailbox)],
     house: &House,

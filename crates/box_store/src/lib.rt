@@ -1,11 +1,17 @@
-//! The mail store in memory.
+//! The mail store in memory, which meets the model of verb_core.
 //!
-//! `store` holds the mailboxes in rows and tells what it has, `opening` makes the first store, `reach` and
-//! `aims` find where an item's mail goes. What carries the crate today: `Store::aim` gives the item's aims on this store.
+//! `store` holds the mailboxes in rows (`rows` finds their places) and tells what it has; `opening` makes the first store.
+//! `reach` and `aims` find where an item's mail goes. `make` makes an item's effect: `plan`, `new_mail` and `flags` say
+//! what it does to mailboxes, `shown` what its user is shown, with entries looked up by `key_set` and `key_index`.
+//! `reserve` makes room for it in `spares`; `apply` (with `work`, `mail` and `conf_after`) does it. `live` answers what a
+//! user asks, by `refusals` and `room`. `laws` has what holds of every item.
+//! What carries the crate: `Store::perform` is `step`; `Store::effect`, `reserve` and `apply` are it in three parts, of
+//! which the last takes no memory; `Store::live` is `live`.
 #![tactic(auto)]
 
 mod aims;
 mod apply;
+mod asked;
 mod conf_after;
 mod effect;
 mod fixed;
@@ -13,6 +19,7 @@ mod flags;
 mod key_index;
 mod key_set;
 mod laws;
+mod live;
 mod mail;
 mod make;
 mod new_mail;
@@ -20,7 +27,9 @@ mod opening;
 mod pattern;
 mod plan;
 mod reach;
+mod refusals;
 mod reserve;
+mod room;
 mod rows;
 mod shown;
 mod sights;
@@ -35,8 +44,11 @@ pub use key_set::KeySet;
 pub use steps::Steps;
 pub use store::Store;
 pub use threads::types_cross_threads;
+pub use verb_core::SubmitFault;
 
 #[cfg(test)]
 mod apply_tests;
+#[cfg(test)]
+mod live_tests;
 #[cfg(test)]
 mod tests;

@@ -1,0 +1,206 @@
+//! Why an ask is refused, by the mailboxes as they are now.
+ghost use Rattle.std.specs.Prelude.{◌≡◌, ◌&&◌, [], IfOk, option_copied, length, count_by, map, filter, if◌then◌else◌};
+ghost use Rattle.std.specs.List.{cons_option};
+ghost use Rattle.verb_core.specs.Boxes.{box_of, has_row};
+ghost use Rattle.verb_core.specs.Live.{asker, mail_of, marked, lacks, is_missing, is_there, is_gone, key_count};
+ghost use Rattle.box_store.specs.Refusing.{by_names, by_keys};
+
+use crate::Store;
+use crate::aims::who_acts;
+use crate::asked::{asks_fixed, is_misshapen, named, new_name, target, too_large};
+use crate::sights::there_of;
+use std::alloc::{AllocError, Global};
+use undo_base::{Key, Keys, MOST_KEYS, Name, NoMemory, User};
+use verb_core::{Ask, Entry, Refused};
+
+/// Whether the asker has a mailbox of that name.
+pub(crate) fn has_box(store: &Store, by: Option<User>, name: &Name) -> bool
+    ensures { result ≡ has_row (box_of (asker by) name.now) store.now.store.boxes }
+{
+    store.mailbox(who_acts(by), name).is_some()
+}
+
+/// The asker's mail of that name; none where the mailbox is missing.
+pub(crate) fn mail_of<'a>(store: &'a Store, by: Option<User>, name: &Name) -> &'a [Entry]
+    ensures { result.now ≡ mail_of store.now.store by name.now }
+{
+    match store.mailbox(who_acts(by), name) {
+        None => &[],
+        Some(mailbox) => mailbox.entries.as_slice(),
+    }
+}
+
+/// Whether a mailbox of the asker that is named is missing.
+fn is_missing(store: &Store, by: Option<User>, name: Option<&Name>) -> bool
+    ensures { result ≡ is_missing store.now.store by (cons_option (option_copied name.entry) []) }
+{
+    match name {
+        None => false,
+        Some(name) => !has_box(store, by, name),
+    }
+}
+
+/// Whether a mailbox of the asker that is named is there.
+fn is_there(store: &Store, by: Option<User>, name: Option<&Name>) -> bool
+    ensures { result ≡ is_there store.now.store by (cons_option (option_copied name.entry) []) }
+{
+    match name {
+        None => false,
+        Some(name) => has_box(store, by, name),
+    }
+}
+
+/// The first refusal by the names in an ask, and by the mailboxes that are there.
+pub(crate) fn refused_by_names(store: &Store, by: Option<User>, ask: &Ask) -> Option<Refused>
+    ensures { result ≡ by_names store.now.store by ask.now }
+{
+    if is_misshapen(ask) {
+        return Some(Refused::NameShape);
+    }
+    if asks_fixed(ask) {
+        return Some(Refused::Fixed);
+    }
+    if is_missing(store, by, named(ask)) {
+        return Some(Refused::NoBox);
+    }
+    if is_missing(store, by, target(ask)) {
+        return Some(Refused::TryCreate);
+    }
+    if is_there(store, by, new_name(ask)) {
+        return Some(Refused::Exists);
+    }
+    None
+}
+
+fn marked_keys(alloc: Global, entries: &[Entry]) -> Result<Vec<Key>, AllocError>
+    ensures { IfOk result (λ keys. keys.items ≡ map (λ e. e.key) (filter (λ e. e.flags.deleted) entries.now)) }
+{
+    entries
+        .iter()
+        .filter(|entry| entry.flags.deleted)
+        .map(|entry| entry.key)
+        .collect(alloc)
+}
+
+/// The keys of the entries that have `\Deleted`.
+pub(crate) fn marked(alloc: Global, entries: &[Entry]) -> Result<Keys, NoMemory>
+    ensures { IfOk result (λ keys. keys ≡ marked entries.now) }
+{
+    Ok(Keys::from_vec(marked_keys(alloc, entries)?))
+}
+
+/// How many entries have `\Deleted`.
+fn count_marked(entries: &[Entry]) -> usize
+    ensures { result ≡ count_by (λ e. e.flags.deleted) entries.now }
+{
+    entries.iter().filter(|entry| entry.flags.deleted).count()
+}
+
+/// How many keys the item would hold.
+#[tactic(auto, using(crate::proofs::KeysThere::length_marked))]
+fn key_count(store: &Store, by: Option<User>, ask: &Ask) -> usize
+    ensures { result ≡ key_count store.now.store by ask.now }
+{
+    match ask {
+        Ask::Fetch { keys, .. } => keys.len(),
+        Ask::Store { keys, .. } => keys.len(),
+        Ask::Copy { keys, .. } => keys.len(),
+        Ask::Expunge { mailbox } => count_marked(mail_of(store, by, mailbox)),
+        Ask::Close { mailbox, removes } => close_count(*removes, mail_of(store, by, mailbox)),
+        Ask::Delete { mailbox } => mail_of(store, by, mailbox).len(),
+        Ask::Deliver { .. } => 0,
+        Ask::Append { .. } => 0,
+        Ask::List { .. } => 0,
+        Ask::Status { .. } => 0,
+        Ask::Select { .. } => 0,
+        Ask::Create { .. } => 0,
+        Ask::Rename { .. } => 0,
+    }
+}
+
+/// How many entries a CLOSE removes: none after EXAMINE (RFC 3501, section 6.4.2).
+#[tactic(auto, using(crate::proofs::KeysThere::length_marked))]
+fn close_count(removes: bool, entries: &[Entry]) -> usize
+    ensures { result ≡ length (if removes then marked entries.now else []) }
+{
+    if removes { count_marked(entries) } else { 0 }
+}
+
+/// Whether one of the keys is not there.
+fn lacks(alloc: Global, entries: &[Entry], keys: &Keys) -> Result<bool, NoMemory>
+    ensures { IfOk result (λ lacking. lacking ≡ lacks entries.now keys.now) }
+{
+    let found = there_of(alloc, entries, keys.as_slice())?;
+    Ok(found.len() < keys.len())
+}
+
+/// Whether one of the keys, where they were named by sequence number, is no longer there.
+fn are_gone(alloc: Global, strict: bool, entries: &[Entry], keys: &Keys) -> Result<bool, NoMemory>
+    ensures { IfOk result (λ gone. gone ≡ (strict && lacks entries.now keys.now)) }
+{
+    if strict {
+        lacks(alloc, entries, keys)
+    } else {
+        Ok(false)
+    }
+}
+
+/// Whether messages that were named by sequence number are no longer there.
+fn is_gone(alloc: Global, store: &Store, by: Option<User>, ask: &Ask) -> Result<bool, NoMemory>
+    ensures { IfOk result (λ gone. gone ≡ is_gone store.now.store by ask.now) }
+{
+    match ask {
+        Ask::Fetch {
+            mailbox,
+            keys,
+            strict,
+            ..
+        } => are_gone(alloc, *strict, mail_of(store, by, mailbox), keys),
+        Ask::Store {
+            mailbox,
+            keys,
+            strict,
+            ..
+        } => are_gone(alloc, *strict, mail_of(store, by, mailbox), keys),
+        Ask::Copy {
+            mailbox,
+            keys,
+            strict,
+            ..
+        } => are_gone(alloc, *strict, mail_of(store, by, mailbox), keys),
+        Ask::Deliver { .. } => Ok(false),
+        Ask::Append { .. } => Ok(false),
+        Ask::List { .. } => Ok(false),
+        Ask::Status { .. } => Ok(false),
+        Ask::Select { .. } => Ok(false),
+        Ask::Expunge { .. } => Ok(false),
+        Ask::Close { .. } => Ok(false),
+        Ask::Create { .. } => Ok(false),
+        Ask::Rename { .. } => Ok(false),
+        Ask::Delete { .. } => Ok(false),
+    }
+}
+
+/// The first refusal by the keys of an ask, and by its size.
+pub(crate) fn refused_by_keys(
+    alloc: Global,
+    store: &Store,
+    by: Option<User>,
+    ask: &Ask,
+) -> Result<Option<Refused>, NoMemory>
+    ensures { IfOk result (λ refused. refused ≡ by_keys store.now.store by ask.now) }
+{
+    if is_gone(alloc, store, by, ask)? {
+        return Ok(Some(Refused::Gone));
+    }
+    let count = key_count(store, by, ask);
+    if count > MOST_KEYS {
+        return Ok(Some(Refused::TooMany {
+            asked: count as u64,
+        }));
+    }
+    match too_large(ask) {
+        Some(asked) => Ok(Some(Refused::TooLarge { asked })),
+        None => Ok(None),
+    }
+}

@@ -1,0 +1,183 @@
+//! What an ask would use up: mailboxes, UIDs and numbers.
+ghost use Rattle.std.specs.Prelude.{◌≡◌, ◌≤◌, ◌&&◌, IsTrue, IfOk, option_map, length, bytes_eq};
+ghost use Rattle.std.specs.Ordering.{eq_by_cmp};
+ghost use Rattle.verb_core.specs.declared.conf.Filter.{Filter as TheFilter};
+ghost use Rattle.verb_core.specs.Names.{inbox};
+ghost use Rattle.verb_core.specs.Mailboxes.{there};
+ghost use Rattle.verb_core.specs.Boxes.{box_cmp, box_of, names_of};
+ghost use Rattle.verb_core.specs.Store.{is_house};
+ghost use Rattle.verb_core.specs.Aims.{delivered, box_aimed};
+ghost use Rattle.verb_core.specs.Recipients.{deciding};
+ghost use Rattle.verb_core.specs.Live.{asker, mail_of, is_wide};
+ghost use Rattle.box_store.specs.Refusing.{fills_up, outgrows, box_outgrows, aims_at, aims_outgrow, uses_up, by_room};
+
+use crate::Store;
+use crate::aims::{reach_delivery, who_acts};
+use crate::asked::adds_name;
+use crate::fixed::is_inbox;
+use crate::refusals::mail_of;
+use crate::sights::there_of;
+use std::alloc::Global;
+use undo_base::{Keys, LAST_NUMBER, MOST_BOXES, MOST_UID, Name, Names, NoMemory, Text, User};
+use verb_core::{Aim, Ask, Refused};
+
+/// How many mailboxes the user has.
+#[tactic(auto, using(crate::proofs::KeysThere::length_names))]
+fn count_boxes(store: &Store, user: User) -> usize
+    ensures { result ≡ length (names_of user store.now.store.boxes) }
+{
+    let rows = store.rows.as_slice();
+    rows.iter().filter(|row| row.0.user == user).count()
+}
+
+/// Whether there would be one mailbox more, where the asker has a thousand.
+fn fills_up(store: &Store, by: Option<User>, ask: &Ask) -> bool
+    ensures { result ≡ fills_up store.now.store by ask.now }
+{
+    adds_name(ask) && count_boxes(store, who_acts(by)) >= MOST_BOXES
+}
+
+/// Whether new entries take the next UID past 32 bits.
+fn outgrows(next: u64, more: usize) -> bool
+    ensures { result ≡ outgrows next more }
+{
+    more > 0 && (next > MOST_UID || more as u64 > MOST_UID - next)
+}
+
+/// Whether so many new entries take the next UID of a mailbox past 32 bits.
+fn box_outgrows(store: &Store, user: User, name: &Name, more: usize) -> bool
+    ensures { result ≡ box_outgrows store.now.store.boxes (box_of user name.now) more }
+{
+    match store.mailbox(user, name) {
+        None => false,
+        Some(mailbox) => outgrows(mailbox.next, more),
+    }
+}
+
+/// Whether two aims are one mailbox.
+fn is_same_box(one: &Aim, other: &Aim) -> bool
+    ensures { result ≡ eq_by_cmp box_cmp (box_aimed one.now) (box_aimed other.now) }
+{
+    one.user == other.user && one.mailbox.bytes() == other.mailbox.bytes()
+}
+
+/// How many of the aims are the mailbox of this one.
+fn count_aims(aims: &[Aim], aim: &Aim) -> usize
+    ensures { result ≡ aims_at (box_aimed aim.now) aims.now }
+{
+    aims.iter().filter(|other| is_same_box(other, aim)).count()
+}
+
+/// Whether one message for each aim takes a next UID past 32 bits.
+fn aims_outgrow(store: &Store, aims: &[Aim]) -> bool
+    ensures { result ≡ aims_outgrow store.now.store.boxes aims.now }
+{
+    aims.iter().any(|aim| box_outgrows(store, aim.user, &aim.mailbox, count_aims(aims, aim)))
+}
+
+/// Whether a delivery takes a next UID past 32 bits.
+fn delivery_outgrows(
+    alloc: Global,
+    store: &Store,
+    to: &Names,
+    text: &Text,
+) -> Result<bool, NoMemory>
+    requires { IsTrue (is_house store.now.store.house) }
+    ensures { IfOk result (λ passes. passes ≡ aims_outgrow store.now.store.boxes (delivered store.now.store to.now (option_map (λ (f : TheFilter). f.file) (deciding store.now.store.conf text.now))).aims) }
+{
+    let reach = reach_delivery(
+        alloc,
+        store.rows.as_slice(),
+        &store.house,
+        &store.conf,
+        to,
+        text.bytes(),
+    )?;
+    Ok(aims_outgrow(store, reach.aims.as_slice()))
+}
+
+/// Whether a COPY takes the target's next UID past 32 bits.
+fn copy_outgrows(
+    alloc: Global,
+    store: &Store,
+    by: Option<User>,
+    mailbox: &Name,
+    keys: &Keys,
+    target: &Name,
+) -> Result<bool, NoMemory>
+    ensures { IfOk result (λ passes. passes ≡ box_outgrows store.now.store.boxes (box_of (asker by) target.now) (length (there (mail_of store.now.store by mailbox.now) keys.now))) }
+{
+    if !box_outgrows(store, who_acts(by), target, keys.len()) {
+        return Ok(false);
+    }
+    let found = there_of(alloc, mail_of(store, by, mailbox), keys.as_slice())?;
+    Ok(box_outgrows(store, who_acts(by), target, found.len()))
+}
+
+/// Whether the next UID of the asker's mailbox is past 32 bits.
+fn is_wide(store: &Store, by: Option<User>, name: &Name) -> bool
+    ensures { result ≡ is_wide store.now.store (box_of (asker by) name.now) }
+{
+    match store.mailbox(who_acts(by), name) {
+        None => false,
+        Some(mailbox) => mailbox.next > MOST_UID,
+    }
+}
+
+/// Whether the mail of INBOX takes the next UID of a new mailbox past 32 bits.
+fn rename_outgrows(store: &Store, by: Option<User>, mailbox: &Name) -> bool
+    ensures { result ≡ (bytes_eq mailbox.now inbox && outgrows 1 (length (mail_of store.now.store by mailbox.now))) }
+{
+    is_inbox(mailbox) && outgrows(1, mail_of(store, by, mailbox).len())
+}
+
+/// Whether a mailbox has used up its UIDs, or would.
+fn uses_up(alloc: Global, store: &Store, by: Option<User>, ask: &Ask) -> Result<bool, NoMemory>
+    requires { IsTrue (is_house store.now.store.house) }
+    ensures { IfOk result (λ passes. passes ≡ uses_up store.now.store by ask.now) }
+{
+    match ask {
+        Ask::Deliver { to, text, .. } => delivery_outgrows(alloc, store, to, text),
+        Ask::Append { mailbox, .. } => Ok(box_outgrows(store, who_acts(by), mailbox, 1)),
+        Ask::Copy {
+            mailbox,
+            keys,
+            target,
+            ..
+        } => copy_outgrows(alloc, store, by, mailbox, keys, target),
+        Ask::Rename { mailbox, .. } => Ok(rename_outgrows(store, by, mailbox)),
+        Ask::Status { mailbox } => Ok(is_wide(store, by, mailbox)),
+        Ask::Select { mailbox } => Ok(is_wide(store, by, mailbox)),
+        Ask::Fetch { .. } => Ok(false),
+        Ask::Store { .. } => Ok(false),
+        Ask::List { .. } => Ok(false),
+        Ask::Expunge { .. } => Ok(false),
+        Ask::Close { .. } => Ok(false),
+        Ask::Create { .. } => Ok(false),
+        Ask::Delete { .. } => Ok(false),
+    }
+}
+
+/// The first refusal by what is used up.
+pub(crate) fn refused_by_room(
+    alloc: Global,
+    store: &Store,
+    number: u32,
+    by: Option<User>,
+    ask: &Ask,
+) -> Result<Option<Refused>, NoMemory>
+    requires house { IsTrue (is_house store.now.store.house) }
+    requires number { number ≤ 4194304 }
+    ensures { IfOk result (λ refused. refused ≡ by_room store.now.store number by ask.now) }
+{
+    if fills_up(store, by, ask) {
+        return Ok(Some(Refused::BoxesFull));
+    }
+    if uses_up(alloc, store, by, ask)? {
+        return Ok(Some(Refused::UidWide));
+    }
+    if number > LAST_NUMBER {
+        return Ok(Some(Refused::Numbers { next: number }));
+    }
+    Ok(None)
+}
