@@ -2,6 +2,7 @@
 ghost use Rattle.std.specs.Prelude.{◌≡◌, ◌++◌, ◌∷◌, [], IsTrue, IfOk, OnOk, option_map, unwrap_or};
 ghost use Rattle.verb_core.specs.declared.conf.Filter.{Filter as TheFilter};
 ghost use Rattle.verb_core.specs.Names.{inbox, lost_found};
+ghost use Rattle.verb_core.specs.Boxes.{is_rising};
 ghost use Rattle.verb_core.specs.Store.{is_house};
 ghost use Rattle.verb_core.specs.Recipients.{recipients as names_recipients, deciding};
 ghost use Rattle.verb_core.specs.Aims.{Sought, into_or, and_postmaster, delivered, sought};
@@ -30,6 +31,7 @@ fn reach_one(
     name: &Name,
     user: User,
 ) -> Result<Reach, NoMemory>
+    requires { IsTrue (is_rising rows.now) }
     ensures { IfOk result (λ reach. sought_at reach ≡ into_or rows.now name.now lost_found (user ∷ [])) }
 {
     let lost = lost_found_name(alloc)?;
@@ -38,6 +40,7 @@ fn reach_one(
 
 /// A user's INBOX.
 fn reach_inbox(alloc: Global, rows: &[(BoxId, Mailbox)], user: User) -> Result<Reach, NoMemory>
+    requires { IsTrue (is_rising rows.now) }
     ensures { IfOk result (λ reach. sought_at reach ≡ into_or rows.now inbox inbox (user ∷ [])) }
 {
     let inbox = inbox_name(alloc)?;
@@ -70,7 +73,8 @@ fn reach_recipients(
     to: &Names,
     name: &Name,
 ) -> Result<Reach, NoMemory>
-    requires { IsTrue (is_house house.now) }
+    requires house { IsTrue (is_house house.now) }
+    requires rising { IsTrue (is_rising rows.now) }
     ensures { IfOk result (λ reach. sought_at reach ≡ and_postmaster (record { house = house.now; conf = conf.now; boxes = rows.now }) to.now (into_or rows.now name.now inbox (names_recipients house.now conf.now to.now))) }
 {
     let inbox = inbox_name(alloc)?;
@@ -91,7 +95,8 @@ pub(crate) fn reach_delivery(
     to: &Names,
     text: &[u8],
 ) -> Result<Reach, NoMemory>
-    requires { IsTrue (is_house house.now) }
+    requires house { IsTrue (is_house house.now) }
+    requires rising { IsTrue (is_rising rows.now) }
     ensures { IfOk result (λ reach. sought_at reach ≡ delivered (record { house = house.now; conf = conf.now; boxes = rows.now }) to.now (option_map (λ (f : TheFilter). f.file) (deciding conf.now text.now))) }
 {
     match first_met(conf.filters.as_slice(), text) {
@@ -117,6 +122,7 @@ pub(crate) fn who_acts(by: Option<User>) -> User
 }
 
 fn reach_act(alloc: Global, rows: &[(BoxId, Mailbox)], act: &Act) -> Result<Reach, NoMemory>
+    requires { IsTrue (is_rising rows.now) }
     ensures { IfOk result (λ reach. sought_at reach ≡ act_sought rows.now act.now) }
 {
     match act {
@@ -138,7 +144,8 @@ pub(crate) fn reach_of(
     item: &Item,
     text: &[u8],
 ) -> Result<Reach, NoMemory>
-    requires { IsTrue (is_house house.now) }
+    requires house { IsTrue (is_house house.now) }
+    requires rising { IsTrue (is_rising rows.now) }
     ensures { IfOk result (λ reach. sought_at reach ≡ sought (record { house = house.now; conf = conf.now; boxes = rows.now }) text.now item.now.by item.now.deed) }
 {
     match &item.deed {

@@ -2,13 +2,13 @@
 ghost use Rattle.std.specs.Prelude.{◌≡◌, ℕ, ◌<◌, ◌++◌, ◌∷◌, [], List, not, IsTrue, IfOk, OnOk, option_copied, option_map, find, filter, map, if◌then◌else◌};
 ghost use Rattle.std.specs.List.{list_any};
 ghost use Rattle.verb_core.specs.Names.{is_empty};
-ghost use Rattle.verb_core.specs.Boxes.{box_of, has_row, same_user};
+ghost use Rattle.verb_core.specs.Boxes.{box_of, has_row, is_rising, same_user};
 ghost use Rattle.verb_core.specs.Store.{is_house, users_of};
 ghost use Rattle.verb_core.specs.Aims.{aim_at as makes_aim, into_or};
 ghost use Rattle.box_store.specs.Reaching.{is_among_meanings, sought_at};
 ghost use Rattle.verb_core.specs.Recipients.{occurs as occurs_in, is_met as meets, resolved};
 
-use crate::store::find_mailbox;
+use crate::store::search_mailbox;
 use std::alloc::Global;
 use undo_base::{Name, Names, NoMemory, Sequence, User, Users};
 use verb_core::{Aim, Aims, BoxId, Conf, Filter, House, Mailbox, resolve_local};
@@ -79,9 +79,10 @@ fn has_user(users: &Users, user: User) -> bool
 
 /// Whether the user has a mailbox of that name.
 fn is_there(rows: &[(BoxId, Mailbox)], user: User, name: &Name) -> bool
+    requires { IsTrue (is_rising rows.now) }
     ensures { result ≡ has_row (box_of user name.now) rows.now }
 {
-    find_mailbox(rows, user, name).is_some()
+    search_mailbox(rows, user, name).is_some()
 }
 
 /// The aims of new mail, and what was looked for and is not there.
@@ -111,6 +112,7 @@ fn push_reach(
     other: &Name,
     user: User,
 ) -> Result<(), NoMemory>
+    requires { IsTrue (is_rising rows.now) }
     ensures aims { OnOk result (reach.new.aims ≡ reach.old.aims ++ makes_aim user (if has_row (box_of user name.now) rows.now then name.now else other.now) 0 ∷ []) }
     ensures missed { OnOk result (reach.new.missed ≡ reach.old.missed ++ (if has_row (box_of user name.now) rows.now then [] else makes_aim user name.now 0 ∷ [])) }
 {
@@ -131,6 +133,7 @@ pub(crate) fn reach_each(
     other: &Name,
     users: &[User],
 ) -> Result<Reach, NoMemory>
+    requires { IsTrue (is_rising rows.now) }
     ensures { IfOk result (λ reach. sought_at reach ≡ into_or rows.now name.now other.now users.now) }
 {
     let mut reach = Reach {

@@ -3,12 +3,13 @@ ghost use Rattle.std.specs.Prelude.{◌≡◌, ◌++◌, ◌∷◌, [], List, Is
 ghost use Rattle.std.specs.List.{list_all};
 ghost use Rattle.std.specs.Ordering.{eq_by_cmp};
 ghost use Rattle.verb_core.specs.Store.{MailStore, IsValid, is_house, is_known, opening};
-ghost use Rattle.verb_core.specs.Boxes.{box_cmp, box_of, row_at, names_of, same_user};
+ghost use Rattle.verb_core.specs.Boxes.{box_cmp, box_of, is_rising, row_at, names_of, same_user};
 ghost use Rattle.verb_core.specs.Items.{IsWellFormed};
 ghost use Rattle.verb_core.specs.Aims.{sought};
 
 use crate::aims::reach_of;
 use crate::opening::fixed_rows;
+use crate::rows::place_of;
 use crate::spares::Spares;
 use std::alloc::Global;
 use std::marker::Model;
@@ -63,7 +64,7 @@ fn find_row<'a>(
     rows.iter().find(|row| is_box(row, user, name))
 }
 
-/// The mailbox of that user and name among rows.
+/// The mailbox of that user and name among rows, in whatever order they are.
 pub(crate) fn find_mailbox<'a>(
     rows: &'a [(BoxId, Mailbox)],
     user: User,
@@ -74,6 +75,21 @@ pub(crate) fn find_mailbox<'a>(
     match find_row(rows, user, name) {
         None => None,
         Some(row) => Some(&row.1),
+    }
+}
+
+/// The mailbox of that user and name among rows in order.
+pub(crate) fn search_mailbox<'a>(
+    rows: &'a [(BoxId, Mailbox)],
+    user: User,
+    name: &Name,
+) -> Option<&'a Mailbox>
+    requires { IsTrue (is_rising rows.now) }
+    ensures { option_copied result ≡ row_at (box_of user name.now) rows.now }
+{
+    match place_of(rows, user, name.bytes()) {
+        Ok(place) => Some(&rows[place].1),
+        Err(_) => None,
     }
 }
 
@@ -163,7 +179,7 @@ impl Store {
     pub fn mailbox(&self, user: User, name: &Name) -> Option<&Mailbox>
         ensures { option_copied result ≡ row_at (box_of user name.now) self.now.store.boxes }
     {
-        find_mailbox(self.rows.as_slice(), user, name)
+        search_mailbox(self.rows.as_slice(), user, name)
     }
 
     /// The configuration in force. Takes no memory.
