@@ -1,17 +1,17 @@
 -- Spelled attributes are read.
-use Rattle.std.proofs.Common.{◌≡◌, ℕ, Bool, true, false, cond, List, [], ◌∷◌, ◌++◌, Option, None, Some, option_map, option_and_then, refl, ap, sym, ◌∙◌, subst, ◌⊎◌, inl, inr}
+use Rattle.std.proofs.Common.{◌≡◌, ℕ, List, [], ◌∷◌, ◌++◌, Option, Some, option_map, option_and_then, ap, sym, ◌∙◌, inl, inr}
 use Rattle.std.proofs.lemmas.List.{append_assoc, append-nil}
 use Rattle.imap_lines.specs.Asks.{field_in, tail_in}
-use Rattle.imap_lines.specs.Fetch.{begins_in, body_of, section_of, nothing_asked, with_ask, begun, with_name, with_fields, with_token, with_tokens, is_behind, whole_asks, asks_in}
-use Rattle.imap_lines.specs.Attributes.{Spaced, SpellsField, SpellsWhole, SpellsFields, SpellsAttribute}
-use Rattle.imap_lines.specs.Tokens.{is_space, is_open, is_close, word_of, string_of}
+use Rattle.imap_lines.specs.Fetch.{begins_in, body_of, section_of, nothing_asked, begun, with_name, with_fields, with_tokens, whole_asks, asks_in}
+use Rattle.imap_lines.specs.Attributes.{Spaced, SpellsField, SpellsAttribute}
+use Rattle.imap_lines.specs.Tokens.{string_of}
 use Rattle.imap_lines.specs.declared.asks.FetchAsk.{FetchAsk}
 use Rattle.imap_lines.specs.declared.fetch.Kind.{Kind}
 use Rattle.imap_lines.specs.declared.fetch.Attributes.{Attributes}
 use Rattle.imap_lines.specs.declared.fetch.Begins.{Begins}
 use Rattle.imap_lines.specs.declared.fetch.Begins.TheVariants.{Whole as WholeAsk, Fields as FieldsAsk}
 use Rattle.imap_lines.specs.declared.fetch.Wanted.{Wanted}
-use Rattle.imap_lines.specs.declared.fetch.Wanted.TheVariants.{Attribute, Behind, Gap, Opening, FieldName, BehindName, Tail}
+use Rattle.imap_lines.specs.declared.fetch.Wanted.TheVariants.{Attribute, Behind, FieldName, BehindName, Tail}
 use Rattle.imap_lines.specs.declared.tokens.Token.{Token}
 use Rattle.imap_lines.specs.declared.tokens.Token.TheVariants.{Space, Open, Close, Word}
 

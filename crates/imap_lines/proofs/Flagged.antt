@@ -1,10 +1,9 @@
 -- Flags, and what spells them.
 use Rattle.std.proofs.Common.{◌≡◌, ℕ, Bool, true, false, cond, not, List, [], ◌∷◌, ◌++◌, Option, None, Some, option_and_then, refl, ap, sym, ◌∙◌, subst, ◌⊎◌, inl, inr}
-use Rattle.std.proofs.lemmas.List.{append_assoc, append-nil}
 use Rattle.std.proofs.lemmas.Option.{same_Some}
 use Rattle.undo_base.specs.declared.keys.Flags.{Flags}
 use Rattle.imap_lines.specs.Attributes.{Spaced}
-use Rattle.imap_lines.specs.Flags.{no_flags, unslashed, with_flag, flag_added, token_added, flags_from, flags_in, bare_from}
+use Rattle.imap_lines.specs.Flags.{no_flags, unslashed, with_flag, flag_added, flags_from, flags_in, bare_from}
 use Rattle.imap_lines.specs.Lists.{SpellsFlag, flags_of, SpellsFlags, SpellsList}
 use Rattle.imap_lines.specs.Words.{is_atom}
 use Rattle.imap_lines.specs.declared.tokens.Token.{Token}

@@ -1,10 +1,10 @@
 -- Spelled tokens are read.
-use Rattle.std.proofs.Common.{◌≡◌, ℕ, Bool, true, false, cond, not, ◌==◌, ◌&&◌, ◌||◌, List, [], ◌∷◌, ◌++◌, Option, None, Some, option_map, option_and_then, refl, ap, sym, ◌∙◌}
+use Rattle.std.proofs.Common.{◌≡◌, ℕ, Bool, true, false, cond, ◌==◌, ◌&&◌, ◌||◌, List, [], ◌∷◌, ◌++◌, Option, None, Some, option_map, option_and_then, refl, ap, sym, ◌∙◌}
 use Rattle.std.proofs.lemmas.List.{append_assoc, append-nil}
 use Rattle.std.proofs.lemmas.Bool.{eqb-true}
 use Rattle.std.specs.List.{list_all, flat_map}
-use Rattle.imap_lines.specs.Tokens.{is_word_byte, is_quoted_byte, started, in_word, in_quotes, tokens_from, tokens_in}
-use Rattle.imap_lines.specs.Spelling.{quoted_byte, spelled, is_whole_word, is_spellable, is_word_token, is_apart, are_spellable, Spells}
+use Rattle.imap_lines.specs.Tokens.{is_word_byte, is_quoted_byte, started, in_word, tokens_from}
+use Rattle.imap_lines.specs.Spelling.{quoted_byte, spelled, is_whole_word, is_apart, are_spellable}
 use Rattle.imap_lines.specs.declared.tokens.Token.{Token}
 use Rattle.imap_lines.specs.declared.tokens.Token.TheVariants.{Space, Open, Close, Word, Quoted, Literal}
 use Rattle.imap_lines.specs.declared.tokens.Part.{Part}

@@ -3,10 +3,10 @@ use Rattle.std.proofs.Common.{◌≡◌, ℕ, Bool, true, false, cond, not, ◌=
 use Rattle.std.proofs.lemmas.List.{append_assoc, append-nil}
 use Rattle.std.proofs.lemmas.Bool.{eqb-true}
 use Rattle.std.specs.List.{list_all, flat_map}
-use Rattle.imap_lines.specs.Tokens.{is_word_byte, is_quoted_byte, started, in_word, in_quotes, escaped, with_byte, ended, tokens_from, tokens_in}
-use Rattle.imap_lines.specs.Spelling.{quoted_byte, spelled, is_whole_word, is_spellable, is_word_token, is_apart, are_spellable, Spells}
+use Rattle.imap_lines.specs.Tokens.{is_word_byte, is_quoted_byte, started, with_byte, ended, tokens_from, tokens_in}
+use Rattle.imap_lines.specs.Spelling.{quoted_byte, spelled, is_whole_word, is_spellable, is_word_token, are_spellable, Spells}
 use Rattle.imap_lines.specs.declared.tokens.Token.{Token}
-use Rattle.imap_lines.specs.declared.tokens.Token.TheVariants.{Space, Open, Close, Word, Quoted, Literal}
+use Rattle.imap_lines.specs.declared.tokens.Token.TheVariants.{Space, Open, Close, Word, Quoted}
 use Rattle.imap_lines.specs.declared.tokens.Part.{Part}
 use Rattle.imap_lines.specs.declared.tokens.Part.TheVariants.{Between, Word as PartWord, Quoted as PartQuoted, Escape}
 use Rattle.imap_lines.proofs.Spelling.{and_true}

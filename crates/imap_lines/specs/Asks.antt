@@ -1,11 +1,11 @@
 -- What STATUS and FETCH ask for (RFC 3501, 9: status-att, fetch-att, section).
-use Rattle.std.specs.Prelude.{codes, ℕ, Bool, true, false, not, ◌+◌, ◌-◌, ◌==◌, ◌&&◌, ◌||◌, List, [], ◌∷◌, ◌++◌, length, take, nat_le, slice_index, Option, None, Some, option_map, option_and_then, if◌then◌else◌}
+use Rattle.std.specs.Prelude.{codes, ℕ, Bool, true, false, not, ◌-◌, ◌==◌, ◌&&◌, ◌||◌, List, [], ◌∷◌, ◌++◌, length, take, nat_le, slice_index, Option, None, Some, option_map, option_and_then, if◌then◌else◌}
 use Rattle.std.specs.List.{list_all}
 use Rattle.undo_base.specs.declared.asks.StatusAsk.{StatusAsk}
 use Rattle.undo_base.specs.declared.asks.StatusAsk.TheVariants.{Messages, Recent, UidNext, UidValidity, Unseen}
-use Rattle.imap_lines.specs.Words.{is_word, after_word, number_in, count_in}
+use Rattle.imap_lines.specs.Words.{is_word, number_in, count_in}
 use Rattle.imap_lines.specs.Sets.{cut_at}
-use Rattle.imap_lines.specs.Tokens.{is_space, is_open, is_close, word_of, string_of}
+use Rattle.imap_lines.specs.Tokens.{is_space, is_close, word_of}
 use Rattle.imap_lines.specs.declared.tokens.Token.{Token}
 
 abbrev pub status_in : List ℕ → Option StatusAsk

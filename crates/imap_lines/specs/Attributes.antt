@@ -1,6 +1,5 @@
 -- What spells the attributes of a FETCH (RFC 3501, 9: fetch, fetch-att, section-spec, header-list, header-fld-name).
-use Rattle.std.specs.Prelude.{◌≡◌, ◌⊎◌, ℕ, Bool, true, List, [], ◌∷◌, ◌++◌, Option, Some}
-use Rattle.undo_base.specs.declared.asks.Section.{Section}
+use Rattle.std.specs.Prelude.{◌≡◌, ◌⊎◌, ℕ, List, [], ◌∷◌, ◌++◌, Option, Some}
 use Rattle.imap_lines.specs.declared.asks.FetchAsk.{FetchAsk}
 use Rattle.imap_lines.specs.declared.fetch.Kind.{Kind}
 use Rattle.imap_lines.specs.declared.fetch.Begins.TheVariants.{Whole as WholeAsk, Fields as FieldsAsk}

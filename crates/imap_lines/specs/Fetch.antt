@@ -1,14 +1,12 @@
 -- The attributes of a FETCH (RFC 3501, 6.4.5 and 9: fetch-att, section, header-list).
-use Rattle.std.specs.Prelude.{codes, ℕ, Bool, true, false, not, ◌+◌, ◌-◌, ◌==◌, ◌&&◌, List, [], ◌∷◌, ◌++◌, length, take, slice_get, Option, None, Some, option_map, option_and_then, if◌then◌else◌}
+use Rattle.std.specs.Prelude.{codes, ℕ, Bool, true, false, ◌-◌, ◌==◌, ◌&&◌, List, [], ◌∷◌, ◌++◌, length, take, slice_get, Option, None, Some, option_map, option_and_then, if◌then◌else◌}
 use Rattle.std.specs.Option.{option_map_or}
 use Rattle.undo_base.specs.declared.asks.Section.{Section}
 use Rattle.undo_base.specs.declared.asks.Section.TheVariants.{Whole, Header, Text, Fields, NotFields}
-use Rattle.undo_base.specs.declared.asks.SectionAsk.{SectionAsk}
 use Rattle.imap_lines.specs.declared.asks.FetchAsk.{FetchAsk}
 use Rattle.imap_lines.specs.declared.asks.FetchAsk.TheVariants.{Flags, Uid, InternalDate, Size, Rfc822, Rfc822Header, Rfc822Text, Fast, Body}
 use Rattle.imap_lines.specs.declared.fetch.Wanted.{Wanted}
 use Rattle.imap_lines.specs.declared.fetch.Wanted.TheVariants.{Attribute, Behind, Gap, Opening, FieldName, BehindName, Tail}
-use Rattle.imap_lines.specs.declared.fetch.Kind.{Kind}
 use Rattle.imap_lines.specs.declared.fetch.Attributes.{Attributes}
 use Rattle.imap_lines.specs.declared.fetch.Begins.{Begins}
 use Rattle.imap_lines.specs.declared.fetch.Begins.TheVariants.{Whole as WholeAsk, Fields as FieldsAsk}

@@ -1,5 +1,5 @@
 -- What spells STATUS items and flags (RFC 3501, 9: status, status-att, flag-list, store-att-flags, flag).
-use Rattle.std.specs.Prelude.{◌≡◌, ◌⊎◌, ℕ, Bool, true, List, [], ◌∷◌, ◌++◌, Option, Some}
+use Rattle.std.specs.Prelude.{◌≡◌, ◌⊎◌, ℕ, true, List, [], ◌∷◌, ◌++◌, Some}
 use Rattle.undo_base.specs.declared.asks.StatusAsk.{StatusAsk}
 use Rattle.undo_base.specs.declared.keys.Flags.{Flags}
 use Rattle.imap_lines.specs.Asks.{status_in}

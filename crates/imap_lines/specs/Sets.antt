@@ -1,5 +1,5 @@
 -- Sets as they are written (RFC 3501, 9: sequence-set).
-use Rattle.std.specs.Prelude.{ℕ, Bool, ◌==◌, List, [], ◌∷◌, Option, None, Some, option_map, option_and_then, if◌then◌else◌}
+use Rattle.std.specs.Prelude.{ℕ, ◌==◌, List, [], ◌∷◌, Option, None, Some, option_map, option_and_then, if◌then◌else◌}
 use Rattle.imap_stream.specs.declared.picks.SetRange.{SetRange}
 use Rattle.imap_lines.specs.Words.{is_word, number_in}
 
