@@ -107,12 +107,7 @@ fn rows(alloc: Global) -> Result<Vec<(BoxId, Mailbox)>, Fail>
     let work = in_work(alloc)?;
     let mut rows = Vec::new(alloc);
     rows.push(mailbox(alloc, b"INBOX", 8, inbox)?)?;
-    rows.push(mailbox(
-        alloc,
-        b"Lost+Found",
-        4294967296,
-        Entries::new(alloc),
-    )?)?;
+    rows.push(mailbox(alloc, b"Lost+Found", 4294967296, Entries::new(alloc))?)?;
     rows.push(mailbox(alloc, b"Work", 4294967295, work)?)?;
     Ok(rows)
 }
@@ -183,9 +178,7 @@ fn delete(alloc: Global, mailbox: &[u8]) -> Result<Ask, Fail>
 fn names_refuse_in_order(rt: HostRuntime) -> Result<(), Fail> {
     let alloc = rt.alloc();
     let store = store(alloc)?;
-    let table = [
-        (create(alloc, b"a%")?, Some(Refused::NameShape)),
-    ];
+    let table = [(create(alloc, b"a%")?, Some(Refused::NameShape))];
     for (ask, due) in table {
         assert!(rt; why(alloc, &store, 9, ask) == due);
     }
