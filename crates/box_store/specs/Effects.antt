@@ -1,112 +1,18 @@
--- What an effect does to a store: to whichever has the same mailboxes where the item touches them.
-use Rattle.std.specs.Prelude.{◌≡◌, ℕ, ◌+◌, ◌-◌, ◌^◌, ◌≤◌, ◌<◌, Bool, true, false, not, List, [], ◌∷◌, map, length, slice_get, slice_set, Option, Some, None, option_map, unwrap_or, IsTrue, Unit, ⊥}
-use Rattle.std.specs.List.{list_all}
-use Rattle.undo_base.specs.declared.keys.Key.{Key}
-use Rattle.undo_base.specs.declared.keys.User.{User}
-use Rattle.verb_core.specs.declared.item.Act.{Act}
-use Rattle.verb_core.specs.declared.item.Deed.TheVariants.{Act as Acts}
+-- What an item does to a store (a stub of the chapter that box_store will have).
+use Rattle.std.specs.Prelude.{◌≡◌, ℕ, List, Result, Err, ⊤}
 use Rattle.verb_core.specs.declared.item.Item.{Item}
 use Rattle.verb_core.specs.declared.item.Shown.{Shown}
-use Rattle.verb_core.specs.declared.item.Way.TheVariants.{Plain, NoSource, Merged}
-use Rattle.verb_core.specs.declared.item.Resolved.{Resolved}
-use Rattle.verb_core.specs.declared.conf.Conf.{Conf}
-use Rattle.verb_core.specs.declared.conf.House.{House}
-use Rattle.verb_core.specs.declared.mailbox.BoxId.{BoxId}
-use Rattle.verb_core.specs.declared.mailbox.Entry.{Entry}
-use Rattle.verb_core.specs.declared.mailbox.Mailbox.{Mailbox}
-use Rattle.verb_core.specs.Names.{lost_found}
-use Rattle.verb_core.specs.Mailboxes.{put_all, with_entries, expunged, without}
-use Rattle.verb_core.specs.Boxes.{box_of, has_row, change_row, mail_at, next_at}
-use Rattle.verb_core.specs.Store.{MailStore, IsValid}
-use Rattle.verb_core.specs.Aims.{Sought, sought, box_aimed}
-use Rattle.verb_core.specs.Step.{Boxes, created, after_rename, deleted, step_with, conf_after}
-use Rattle.verb_core.specs.Touched.{touched, SameAt}
-use Rattle.box_store.specs.declared.effect.Effect.{Effect}
-use Rattle.box_store.specs.declared.effect.Put.{Put}
-use Rattle.box_store.specs.declared.effect.FlagChange.{FlagChange}
-use Rattle.box_store.specs.declared.effect.Work.{Work}
-use Rattle.box_store.specs.declared.effect.Work.TheVariants.{Puts, Flags, Expunge, Remove, Create, Rename, Delete}
-use Rattle.box_store.specs.Kept.{Kept, sought_in}
-
--- ---- the mailboxes afterwards
-
--- with other flags of the entry at a place
-abbrev pub flags_set : FlagChange → List Entry → List Entry
-flags_set c entries = unwrap_or (option_map (λ (e : Entry). slice_set entries c.place (record e { flags = c.flags })) (slice_get entries c.place)) entries
-
--- with other flags of the entries at these places
-abbrev pub all_flags_set : List FlagChange → List Entry → List Entry
-all_flags_set [] entries = entries
-all_flags_set (c ∷ cs) entries = all_flags_set cs (flags_set c entries)
-
--- with new mail at the end of mailboxes, one after the other
-abbrev pub put_each : List Put → Boxes → Boxes
-put_each [] boxes = boxes
-put_each (p ∷ ps) boxes = put_each ps (change_row p.mailbox (put_all p.mail) boxes)
-
-abbrev pub worked : Work → Boxes → Boxes
-worked (Puts puts) boxes = put_each puts boxes
-worked (Flags mailbox flags) boxes = change_row mailbox (with_entries (all_flags_set flags)) boxes
-worked (Expunge mailbox keys) boxes = change_row mailbox (with_entries (expunged keys)) boxes
-worked (Remove mailbox key) boxes = change_row mailbox (with_entries (without (key ∷ []))) boxes
-worked (Create mailbox) boxes = created mailbox boxes
-worked (Rename way u source target) boxes = after_rename way u source target boxes
-worked (Delete u mailbox keys) boxes = deleted u mailbox keys boxes
-
--- the configuration after an act, where there is one
-abbrev pub conf_by : House → Option Act → Conf → Conf
-conf_by house None conf = conf
-conf_by house (Some act) conf = conf_after house (Acts act) conf
-
--- a store after an effect
-abbrev pub applied : Effect → MailStore → MailStore
-applied e s = record s { conf = conf_by s.house e.act s.conf; boxes = worked e.work s.boxes }
-
--- ---- what an effect is for
-
--- the aims are some store's of this house, and they hold in this one
-pub record IsAimed (what : Resolved) (s : MailStore) : Type 0 where
-  pub elsewhere : (t : MailStore) × ((text : List ℕ) × ((t.house ≡ s.house) × (sought_in what ≡ sought t text what.item.by what.item.deed)))
-  pub there : IsTrue (list_all (λ a. has_row (box_aimed a) s.boxes) what.aims)
-  pub missing : IsTrue (list_all (λ a. not (has_row (box_aimed a) s.boxes)) what.missed)
-
--- the effect does, in each store that has the same where the item touches it, what the item does there
-pub record IsEffect (e : Effect) (what : Resolved) (s : MailStore) : Type 0 where
-  pub shown : e.shown ≡ (step_with (sought_in what) s what.item).1
-  pub elsewhere : (t : MailStore) → t.house ≡ s.house → IsValid t → SameAt (touched (sought_in what) what.item) s.boxes t.boxes → applied e t ≡ (step_with (sought_in what) t what.item).0
+use Rattle.verb_core.specs.declared.ask.Refused.{Refused}
+use Rattle.verb_core.specs.declared.ask.Refused.TheVariants.{NoMemory}
+use Rattle.verb_core.specs.Store.{MailStore}
+use Rattle.verb_core.specs.Aims.{sought}
+use Rattle.verb_core.specs.Step.{step_with}
 
 -- one item whose text is given beside it
 abbrev pub step_text : MailStore → Item → List ℕ → MailStore × Shown
 step_text s i text = step_with (sought s text i.by i.deed) s i
 
--- ---- what applying it needs
-
--- how many entries are put
-abbrev pub mail_in : List Put → ℕ
-mail_in [] = 0
-mail_in (p ∷ ps) = length p.mail + mail_in ps
-
--- the mailboxes that grow, in order, and how many entries each gets at most
-abbrev pub grows : Work → Boxes → List (BoxId × ℕ)
-grows (Puts puts) boxes = map (λ (p : Put). (p.mailbox, mail_in puts)) puts
-grows (Rename way u source target) boxes = (box_of u target, length (mail_at (box_of u source) boxes)) ∷ []
-grows (Delete u mailbox keys) boxes = (box_of u lost_found, length (mail_at (box_of u mailbox) boxes)) ∷ []
-grows _ boxes = []
-
--- each mailbox that grows has a spare list with room for all of its entries, and UIDs for them
-abbrev pub HasSpares : List (BoxId × ℕ) → List ℕ → Boxes → Type 0
-HasSpares [] spares boxes = Unit {0}
-HasSpares (g ∷ gs) [] boxes = ⊥
-HasSpares (g ∷ gs) (spare ∷ spares) boxes = (length (mail_at g.0 boxes) + g.1 ≤ spare) × (next_at g.0 boxes + g.1 < 2 ^ 64 - 1) × HasSpares gs spares boxes
-
--- whether a row is added
-abbrev pub adds_row : Work → Bool
-adds_row (Create mailbox) = true
-adds_row (Rename Plain u source target) = true
-adds_row _ = false
-
--- applying the effect takes no memory
-pub record IsReady (e : Effect) (k : Kept) : Type 0 where
-  pub row : adds_row e.work ≡ true → 0 < k.room
-  pub spares : HasSpares (grows e.work k.store.boxes) k.spares k.store.boxes
-  pub conf : (act : Act) → e.act ≡ Some act → k.ready ≡ Some (conf_by k.store.house e.act k.store.conf)
+-- the refusal is the one that is due, or want of memory
+abbrev pub IsRefusal : Refused → Result Item Refused → Type 0
+IsRefusal NoMemory due = ⊤
+IsRefusal r due = due ≡ Err r

@@ -5,16 +5,12 @@
 #![tactic(auto)]
 
 mod aims;
-mod effect;
-mod key_set;
 mod opening;
 mod reach;
-mod spares;
 mod steps;
 mod store;
+mod stubs;
 
-pub use effect::{Effect, FlagChange, Put, Work};
-pub use key_set::KeySet;
 pub use steps::Steps;
 pub use store::Store;
 

@@ -9,7 +9,6 @@ ghost use Rattle.verb_core.specs.Aims.{sought};
 
 use crate::aims::reach_of;
 use crate::opening::fixed_rows;
-use crate::spares::Spares;
 use std::alloc::Global;
 use std::marker::Model;
 use undo_base::{Copies, Name, Names, NoMemory, User};
@@ -19,17 +18,13 @@ use verb_core::{BoxId, Conf, House, Item, Mailbox, Resolved, Rows};
 /// The house, the configuration in force, and the mailboxes by rising user and name.
 #[derive(Drop)]
 pub struct Store {
-    pub(crate) house: House,
-    pub(crate) conf: Conf,
-    pub(crate) rows: Vec<(BoxId, Mailbox)>,
-    /// For each mailbox that the next effect makes grow.
-    pub(crate) spares: Spares,
-    /// The configuration that the next effect brings.
-    pub(crate) ready: Option<Conf>,
+    house: House,
+    conf: Conf,
+    rows: Vec<(BoxId, Mailbox)>,
 }
 
 impl Model for Store {
-    ghost use Rattle.std.specs.Prelude.{◌-◌, IsTrue, vec_len, vec_capacity};
+    ghost use Rattle.std.specs.Prelude.{IsTrue};
     ghost use Rattle.verb_core.specs.Boxes.{is_rising};
     ghost use Rattle.verb_core.specs.Store.{MailStore};
     ghost use Rattle.box_store.specs.Kept.{Kept};
@@ -38,9 +33,6 @@ impl Model for Store {
 
     ghost view = { λ s. record {
       store = record { house = s.house; conf = s.conf; boxes = s.rows.items };
-      room = vec_capacity s.rows - vec_len s.rows;
-      spares = s.spares;
-      ready = s.ready;
     } };
 
     ghost invariant = { λ s. IsTrue (is_rising s.rows.items) };
@@ -127,13 +119,7 @@ impl Store {
         let rows = fixed_rows(alloc, house)?;
         let house = house.copy(alloc)?;
         steps_keep_validity();
-        Ok(Store {
-            house,
-            conf,
-            rows,
-            spares: Spares::new(alloc),
-            ready: None,
-        })
+        Ok(Store { house, conf, rows })
     }
 
     /// Where the item's mail goes now. The text is the item's.

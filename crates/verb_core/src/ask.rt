@@ -80,3 +80,11 @@ pub enum Refused {
     Numbers { next: u32 },
     NoMemory,
 }
+
+/// Why a submitted ask has no item: it is refused, a device call failed, or the log is closed.
+#[derive(Clone, Copy, Debug, PartialEq, Eq)]
+pub enum SubmitFault {
+    Refused(Refused),
+    Disk,
+    Closed,
+}

@@ -14,7 +14,7 @@ mod mailbox;
 mod recipients;
 mod threads;
 
-pub use ask::{Ask, Refused};
+pub use ask::{Ask, Refused, SubmitFault};
 pub use bodies::{Bodies, BodiesFault};
 pub use conf::{Account, Alias, Conf, Filter, House};
 pub use item::{Act, Aim, Deed, Item, Resolved, Shown, Sight, Way};

@@ -1,0 +1,16 @@
+-- How the end of a text ends a transaction, for the code that does it.
+use Rattle.std.specs.Prelude.{◌≡◌, ℕ, List, Option, None, Some}
+use Rattle.verb_core.specs.declared.ask.Ask.TheVariants.{Deliver}
+use Rattle.smtp_session.specs.declared.answer.Answer.TheVariants.{TextTooLarge}
+use Rattle.smtp_session.specs.declared.answer.SmtpOut.{SmtpOut}
+use Rattle.smtp_session.specs.declared.answer.SmtpOut.TheVariants.{Say, Mail as Asks}
+use Rattle.smtp_session.specs.declared.dialog.Transaction.{Transaction}
+use Rattle.smtp_session.specs.declared.dialog.Transaction.TheVariants.{Idle, Writing, Due}
+use Rattle.smtp_session.specs.Answer.{answer_text}
+
+-- a transaction with a text ends with its body, or with none where the text was too large
+abbrev pub Ends : List ℕ → Transaction → Option (List ℕ) → SmtpOut → Transaction → Type 0
+Ends host old None out new = (out ≡ Say (answer_text host TextTooLarge)) × (new ≡ Idle)
+Ends host old (Some body) out new =
+    ((path : List ℕ) → (to : List (List ℕ)) → (text : Option (List ℕ)) → old ≡ Writing path to text → out ≡ Asks (Deliver path to body))
+    × (new ≡ Due host)

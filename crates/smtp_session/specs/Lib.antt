@@ -1,0 +1,9 @@
+pub mod Bytes
+pub mod Answer
+pub mod Body
+pub mod Held
+pub mod Recipients
+pub mod Text
+pub mod Dialog
+pub mod Ending
+pub mod Limits

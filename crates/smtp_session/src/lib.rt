@@ -1,0 +1,21 @@
+//! The dialog with a mail client: a function of its state and one line.
+//!
+//! `session` is the session with its two calls, `dialog` its state and what each command does to it, `recipients` and
+//! `draft` are parts of a transaction, `answer` and `body` write texts. What carries the crate: `SmtpSession::take` and
+//! `done` are the functions `turn` and `settle` of specs/Dialog.antt.
+#![tactic(auto)]
+
+mod answer;
+mod body;
+mod commands;
+mod dialog;
+mod draft;
+mod ending;
+mod recipients;
+mod session;
+
+pub use answer::{Answer, SmtpOut, greeting, memory_text};
+pub use session::SmtpSession;
+
+#[cfg(test)]
+mod tests;

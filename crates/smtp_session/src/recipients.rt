@@ -1,0 +1,88 @@
+//! The recipients of a transaction.
+ghost use Rattle.std.specs.Prelude.{◌≡◌, ◌++◌, [], ◌∷◌, length, bytes_eq, OnOk, OnErr, IfOk};
+ghost use Rattle.std.specs.Str.{str_to_ascii_lowercase};
+ghost use Rattle.std.specs.List.{list_any};
+ghost use Rattle.std.specs.Ordering.{nat_cmp};
+ghost use Rattle.std.specs.Cmp.Lexicographic.{slice_cmp};
+ghost use Rattle.std.specs.BTreeSet.{contains};
+ghost use Rattle.smtp_session.specs.Recipients.{put_once};
+
+use std::alloc::Global;
+use std::collections::BTreeSet;
+use std::marker::Model;
+use undo_base::{Name, Names, NoMemory};
+
+/// Names in order, each once, with the set of them.
+#[derive(Drop)]
+pub struct Recipients {
+    names: Vec<Name>,
+    held: BTreeSet<Name>,
+}
+
+impl Model for Recipients {
+    ghost use Rattle.std.specs.Prelude.{List, ℕ};
+    ghost use Rattle.smtp_session.specs.Held.{Holds};
+
+    ghost Value = { List (List ℕ) };
+
+    ghost view = { λ r. r.names.items };
+
+    ghost invariant = { λ r. Holds r.held r.names.items };
+}
+
+impl Recipients {
+    /// No recipients, which takes no memory.
+    pub fn new(alloc: Global) -> Self
+        ensures { result ≡ [] }
+    {
+        Recipients {
+            names: Vec::new(alloc),
+            held: BTreeSet::new(alloc),
+        }
+    }
+
+    /// How many there are.
+    pub fn len(&self) -> usize
+        ensures { result ≡ length self.now }
+    {
+        self.names.len()
+    }
+
+    /// Adds a name at the end, where it is not held yet.
+    pub fn put(&mut self, alloc: Global, name: Name) -> Result<(), NoMemory>
+        ensures ok { OnOk result (self.new ≡ put_once name self.old) }
+        ensures err { OnErr result (self.new ≡ self.old) }
+    {
+        if self.held.contains(&name) {
+            return Ok(());
+        }
+        let copy = name.copy(alloc)?;
+        self.names.push(name)?;
+        match self.held.insert(copy) {
+            Ok(_) => Ok(()),
+            Err(_) => {
+                self.names.pop();
+                Err(NoMemory)
+            }
+        }
+    }
+
+    /// The names, with no memory taken.
+    pub fn into_names(self) -> Names
+        ensures { result ≡ self }
+    {
+        let Recipients { names, held: _ } = self;
+        Names::from_vec(names)
+    }
+}
+
+/// A name in lower case.
+pub(crate) fn lower(alloc: Global, name: &Name) -> Result<Name, NoMemory>
+    ensures { IfOk result (λ lower. lower ≡ str_to_ascii_lowercase name.now) }
+{
+    let bytes = name.bytes().to_ascii_lowercase(alloc)?;
+    match Name::read(alloc, bytes.as_slice()) {
+        Ok(name) => Ok(name),
+        Err(_) => Err(NoMemory),
+    }
+}

@@ -1,0 +1,86 @@
+//! The session of a mail client.
+ghost use Rattle.std.specs.Prelude.{◌≡◌, ◌≤◌, IsTrue, IfOk, OnErr, false, true};
+ghost use Rattle.verb_core.specs.Store.{is_house};
+ghost use Rattle.smtp_session.specs.Dialog.{is_due, is_outcome_of_delivery, is_writing, opening, settle, turn, turns};
+ghost use Rattle.smtp_session.specs.Limits.{AsksWithin};
+
+use crate::answer::SmtpOut;
+use crate::dialog::{Dialog, Transaction, take_line};
+use crate::ending::settle_dialog;
+use smtp_lines::SmtpLine;
+use std::alloc::Global;
+use std::marker::Model;
+use undo_base::{LAST_MOMENT, NoMemory};
+use verb_core::{Conf, House, Item, SubmitFault};
+
+/// The session of a mail client from its greeting to its last answer.
+#[derive(Drop)]
+pub struct SmtpSession {
+    dialog: Dialog,
+}
+
+impl Model for SmtpSession {
+    ghost use Rattle.smtp_session.specs.declared.dialog.Dialog.{Dialog as TheDialog};
+    ghost use Rattle.smtp_session.specs.Limits.{IsWithin};
+
+    ghost Value = { TheDialog };
+
+    ghost view = { λ s. s.dialog };
+
+    ghost invariant = { λ s. IsWithin s.dialog.transaction };
+}
+
+impl SmtpSession {
+    /// A session with no greeting yet, which takes no memory.
+    pub fn new() -> SmtpSession
+        ensures { result ≡ opening }
+    {
+        SmtpSession {
+            dialog: Dialog {
+                client: None,
+                transaction: Transaction::Idle,
+            },
+        }
+    }
+
+    /// Takes one line at a moment. A call that found no memory has changed nothing.
+    pub fn take(
+        &mut self,
+        alloc: Global,
+        house: &House,
+        conf: &Conf,
+        at: u64,
+        line: &SmtpLine,
+    ) -> Result<SmtpOut, NoMemory>
+        requires house { IsTrue (is_house house.now) }
+        requires moment { at ≤ LAST_MOMENT }
+        requires free { is_due self.old ≡ false }
+        ensures ok { IfOk result (λ out. turn house.now conf.now at self.old line.now ≡ turns out self.new) }
+        ensures within { IfOk result AsksWithin }
+        ensures err { OnErr result (self.new ≡ self.old) }
+    {
+        take_line(alloc, house, conf, at, &mut self.dialog, line)
+    }
+
+    /// Takes the outcome of what the last `take` asked. A call that found no memory has changed nothing, and the outcome
+    /// is still due.
+    pub fn done(
+        &mut self,
+        alloc: Global,
+        outcome: &Result<Item, SubmitFault>,
+    ) -> Result<SmtpOut, NoMemory>
+        requires due { is_due self.old ≡ true }
+        requires outcome { is_outcome_of_delivery outcome.now ≡ true }
+        ensures ok { IfOk result (λ out. settle self.old outcome.now ≡ turns out self.new) }
+        ensures err { OnErr result (self.new ≡ self.old) }
+    {
+        settle_dialog(alloc, &mut self.dialog, outcome)
+    }
+
+    /// Whether a text is being taken: where `take` finds no memory then, nothing can be answered.
+    pub fn is_in_text(&self) -> bool
+        ensures { result ≡ is_writing self.now }
+    {
+        matches!(&self.dialog.transaction, Transaction::Writing { .. })
+    }
+}
