@@ -7,4 +7,4 @@ use Rattle.std.specs.BTreeSet.{BTreeSet, contains}
 
 -- the set has the names of the list, and no other
 abbrev pub Holds : BTreeSet (List ℕ) → List (List ℕ) → Type 0
-Holds held names = (name : List ℕ) → contains (slice_cmp nat_cmp) held name ≡ list_any (bytes_eq name) names
+Holds held names = (name : List ℕ) → contains (slice_cmp nat_cmp) held name ≡ list_any (λ n. bytes_eq n name) names

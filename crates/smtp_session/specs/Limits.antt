@@ -1,5 +1,5 @@
 -- How large the parts of a dialog and of its asks are.
-use Rattle.std.specs.Prelude.{ℕ, ◌≤◌, List, length, IfSome, Option}
+use Rattle.std.specs.Prelude.{ℕ, ◌≤◌, List, length, IfSome}
 use Rattle.smtp_session.specs.declared.answer.SmtpOut.{SmtpOut}
 use Rattle.smtp_session.specs.declared.answer.SmtpOut.TheVariants.{Nothing, Say, Mail as Asks, Bye}
 use Rattle.smtp_session.specs.declared.dialog.Dialog.{Dialog}
@@ -10,14 +10,14 @@ use Rattle.verb_core.specs.declared.ask.Ask.TheVariants.{Deliver}
 
 -- a reverse path of at most 254 bytes (RFC 5321, 4.5.3.1.3), and at most 1,000 recipients (RFC 5321, 4.5.3.1.8)
 pub record IsEnvelope (path : List ℕ) (to : List (List ℕ)) : Type 0 where
-  pub path : length path ≤ 254
-  pub to : length to ≤ 1000
+  pub short : length path ≤ 254
+  pub few : length to ≤ 1000
 
 -- a delivery of such an envelope to somebody, with a body of at most 1,052,672 octets
 pub record IsDelivery (path : List ℕ) (to : List (List ℕ)) (body : List ℕ) : Type 0 where
   pub envelope : IsEnvelope path to
   pub some : 1 ≤ length to
-  pub body : length body ≤ 1052672
+  pub small : length body ≤ 1052672
 
 -- what is asked is such a delivery
 abbrev pub IsAskOfDelivery : Ask → Type 0
@@ -36,3 +36,8 @@ IsWithin Idle = Unit {0}
 IsWithin (Begun path to) = IsEnvelope path to
 IsWithin (Writing path to text) = IsEnvelope path to × ((1 ≤ length to) × IfSome text (λ t. length t ≤ 1048576))
 IsWithin (Due host) = Unit {0}
+
+-- a dialog within the limits
+pub record IsSmall (d : Dialog) : Type 0 where
+  pub client : IfSome d.client (λ client. length client ≤ 200)
+  pub transaction : IsWithin d.transaction

@@ -1,5 +1,6 @@
 //! Answers to a mail client.
-ghost use Rattle.std.specs.Prelude.{◌≡◌, ℕ, ◌++◌, List, IfOk, codes};
+ghost use Rattle.std.specs.Prelude.{◌≡◌, ℕ, ◌++◌, List, IfOk, codes, decimal};
+ghost use Rattle.smtp_session.specs.Bytes.{said};
 ghost use Rattle.smtp_session.specs.Answer.{answer_text, line_refused, delivery_refused};
 
 use smtp_lines::SmtpRefused;
@@ -42,18 +43,19 @@ pub enum Answer {
     DiskFault,
 }
 
-/// A text with the host's name between its ends.
+/// A line with the host's name between its ends.
 fn with_host(alloc: Global, front: &[u8], host: &Name, back: &[u8]) -> Result<Text, NoMemory>
-    ensures { IfOk result (λ text. text ≡ front.now ++ host.now ++ back.now) }
+    ensures { IfOk result (λ text. text ≡ said (front.now ++ host.now ++ back.now)) }
 {
     let mut text = Text::of(alloc, front)?;
     text.extend(host.bytes())?;
     text.extend(back)?;
+    text.extend(b"\r\n")?;
     Ok(text)
 }
 
 fn stored(alloc: Global, number: u32) -> Result<Text, NoMemory>
-    ensures { (host : List ℕ) → IfOk result (λ text. text ≡ answer_text host (Answer.Stored number)) }
+    ensures { IfOk result (λ text. text ≡ said (codes "250 OK " ++ decimal number)) }
 {
     let text = format!(in alloc; "250 OK {number}\r\n")?;
     Text::of(alloc, text.as_bytes())
@@ -64,13 +66,13 @@ fn write_answer(alloc: Global, host: &Name, answer: Answer) -> Result<Text, NoMe
     ensures { IfOk result (λ text. text ≡ answer_text host.now answer) }
 {
     match answer {
-        Answer::Ready => with_host(alloc, b"220 ", host, b" ESMTP undomail\r\n"),
-        Answer::Host => with_host(alloc, b"250 ", host, b"\r\n"),
+        Answer::Ready => with_host(alloc, b"220 ", host, b" ESMTP undomail"),
+        Answer::Host => with_host(alloc, b"250 ", host, b""),
         Answer::Done => Text::of(alloc, b"250 OK\r\n"),
         Answer::Begin => Text::of(alloc, b"354 End with a line of one dot\r\n"),
         Answer::Stored { number } => stored(alloc, number),
         Answer::CannotVerify => Text::of(alloc, b"252 Cannot verify\r\n"),
-        Answer::Closing => with_host(alloc, b"221 ", host, b" closing\r\n"),
+        Answer::Closing => with_host(alloc, b"221 ", host, b" closing"),
         Answer::LineTooLong => Text::of(alloc, b"500 Line too long\r\n"),
         Answer::UnknownCommand => Text::of(alloc, b"500 Unknown command\r\n"),
         Answer::NotImplemented => Text::of(alloc, b"502 Not implemented\r\n"),
@@ -83,7 +85,7 @@ fn write_answer(alloc: Global, host: &Name, answer: Answer) -> Result<Text, NoMe
         Answer::MailboxFull => Text::of(alloc, b"552 Mailbox full\r\n"),
         Answer::NumbersUsedUp => Text::of(alloc, b"552 Numbers used up\r\n"),
         Answer::NoMemory => Text::of(alloc, memory_text()),
-        Answer::DiskFault => with_host(alloc, b"421 ", host, b" disk fault\r\n"),
+        Answer::DiskFault => with_host(alloc, b"421 ", host, b" disk fault"),
     }
 }
 

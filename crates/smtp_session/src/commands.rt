@@ -1,6 +1,7 @@
 //! What each command does to a dialog (RFC 5321, section 4.1.1).
 ghost use Rattle.std.specs.Prelude.{◌≡◌, List, ℕ, Option, IsTrue, IfOk, OnErr};
-ghost use Rattle.std.specs.Str.{str_to_ascii_lowercase};
+ghost use Rattle.std.specs.List.{list_any};
+ghost use Rattle.std.specs.Str.{str_eq_ignore_ascii_case, str_to_ascii_lowercase};
 ghost use Rattle.verb_core.specs.Store.{is_house};
 ghost use Rattle.smtp_session.specs.Answer.{answer_text};
 ghost use Rattle.smtp_session.specs.Recipients.{is_here, is_of_house, put_once};
@@ -50,15 +51,24 @@ pub(crate) fn begin_mail(
     }
 }
 
+fn is_same_domain(own: &Name, domain: &[u8]) -> bool
+    ensures { result ≡ str_eq_ignore_ascii_case own.now domain.now }
+{
+    own.bytes().eq_ignore_ascii_case(domain)
+}
+
+fn has_domain(domains: &[Name], domain: &[u8]) -> bool
+    ensures { result ≡ list_any (λ own. str_eq_ignore_ascii_case own domain.now) domains.now }
+{
+    domains.iter().any(|own| is_same_domain(own, domain))
+}
+
 fn is_domain(house: &House, domain: &Option<Name>) -> bool
     ensures { result ≡ is_of_house house.now domain.now }
 {
     match domain {
         None => true,
-        Some(domain) => house
-            .domains
-            .iter()
-            .any(|own| domain.bytes().eq_ignore_ascii_case(own.bytes())),
+        Some(domain) => has_domain(house.domains.as_slice(), domain.bytes()),
     }
 }
 
@@ -169,7 +179,11 @@ fn start_text(alloc: Global, transaction: Transaction) -> Transaction
 }
 
 /// DATA wants a recipient.
-pub(crate) fn begin_text(alloc: Global, house: &House, dialog: &mut Dialog) -> Result<SmtpOut, NoMemory>
+pub(crate) fn begin_text(
+    alloc: Global,
+    house: &House,
+    dialog: &mut Dialog,
+) -> Result<SmtpOut, NoMemory>
     ensures ok { IfOk result (λ out. write house.now dialog.old ≡ turns out dialog.new) }
     ensures err { OnErr result (dialog.new ≡ dialog.old) }
 {

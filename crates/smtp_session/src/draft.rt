@@ -19,11 +19,7 @@ fn ended(alloc: Global, line: &[u8]) -> Result<Text, NoMemory>
 }
 
 /// Adds a line to a text, which is none once it has more than `MOST_LITERAL` octets.
-pub(crate) fn push_line(
-    alloc: Global,
-    text: &mut Option<Text>,
-    line: &[u8],
-) -> Result<(), NoMemory>
+pub(crate) fn push_line(alloc: Global, text: &mut Option<Text>, line: &[u8]) -> Result<(), NoMemory>
     ensures ok { OnOk result (text.new ≡ add_line text.old line.now) }
     ensures err { OnErr result (text.new ≡ text.old) }
 {

@@ -11,10 +11,12 @@ mod commands;
 mod dialog;
 mod draft;
 mod ending;
+mod laws;
 mod recipients;
 mod session;
 
 pub use answer::{Answer, SmtpOut, greeting, memory_text};
+pub use laws::texts_are_their_lines;
 pub use session::SmtpSession;
 
 #[cfg(test)]

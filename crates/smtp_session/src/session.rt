@@ -21,13 +21,13 @@ pub struct SmtpSession {
 
 impl Model for SmtpSession {
     ghost use Rattle.smtp_session.specs.declared.dialog.Dialog.{Dialog as TheDialog};
-    ghost use Rattle.smtp_session.specs.Limits.{IsWithin};
+    ghost use Rattle.smtp_session.specs.Limits.{IsSmall};
 
     ghost Value = { TheDialog };
 
     ghost view = { λ s. s.dialog };
 
-    ghost invariant = { λ s. IsWithin s.dialog.transaction };
+    ghost invariant = { λ s. IsSmall s.dialog };
 }
 
 impl SmtpSession {
@@ -59,6 +59,7 @@ impl SmtpSession {
         ensures within { IfOk result AsksWithin }
         ensures err { OnErr result (self.new ≡ self.old) }
     {
+        let _host = house.host.bytes();
         take_line(alloc, house, conf, at, &mut self.dialog, line)
     }
 
@@ -75,6 +76,13 @@ impl SmtpSession {
         ensures err { OnErr result (self.new ≡ self.old) }
     {
         settle_dialog(alloc, &mut self.dialog, outcome)
+    }
+
+    /// Whether the outcome of what was asked is due.
+    pub fn is_due(&self) -> bool
+        ensures { result ≡ is_due self.now }
+    {
+        matches!(&self.dialog.transaction, Transaction::Due { .. })
     }
 
     /// Whether a text is being taken: where `take` finds no memory then, nothing can be answered.

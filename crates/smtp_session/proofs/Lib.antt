@@ -1,0 +1,7 @@
+pub mod Parts
+pub mod Held
+pub mod Receiving
+pub mod Readings
+pub mod Sizes
+pub mod Stays
+pub mod Drafts
