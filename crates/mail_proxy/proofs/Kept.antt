@@ -1,5 +1,5 @@
 -- What is kept after a delivery.
-use Rattle.std.proofs.Common.{◌≡◌, ◌⊎◌, inl, inr, ℕ, ◌+◌, ◌<◌, ◌≤◌, ◌==◌, Bool, true, false, ◌&&◌, cond, List, [], ◌∷◌, ◌++◌, map, Option, None, Some, is_some, unwrap_or, Result, Ok, Err, refl, ap, subst, sym, ◌∙◌, arith, is_lt, length, nat_le, ◌-◌}
+use Rattle.std.proofs.Common.{◌≡◌, ◌⊎◌, inl, inr, ℕ, ◌+◌, ◌<◌, ◌≤◌, ◌==◌, Bool, true, false, ◌&&◌, cond, List, [], ◌∷◌, ◌++◌, map, Option, None, Some, is_some, Result, Ok, Err, refl, ap, subst, sym, ◌∙◌, arith, is_lt, length, nat_le, ◌-◌}
 use Rattle.std.specs.List.{list_any}
 use Rattle.std.specs.Ordering.{eq_by_cmp}
 use Rattle.std.specs.FinMap.Entries as rows
@@ -28,7 +28,7 @@ use Rattle.verb_core.specs.Step.{Boxes, new_mail, put_at, rearranged, step, run}
 use Rattle.verb_core.specs.Stamps.{opening_stamps, stamps_after}
 use Rattle.verb_core.specs.Live.{is_users, overfills, is_uid_wide, asked_item, if_so, first_of, or_item, answered, live}
 use Rattle.verb_core.proofs.BoxLaws.{same_rows}
-use Rattle.box_store.specs.Effects.{IsRefusal}
+use Rattle.box_store.specs.Refusing.{IsRefusal}
 use Rattle.smtp_session.specs.Dialog.{is_refusal_of_delivery}
 use Rattle.mail_proxy.specs.State.{Kept}
 use Rattle.mail_proxy.specs.Desk.{IsDesk, new_desk, performed, store_of}

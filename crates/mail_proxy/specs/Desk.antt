@@ -1,5 +1,5 @@
 -- The desk: the store is what the items in force leave, and each item that is performed is one of them from then on.
-use Rattle.std.specs.Prelude.{◌≡◌, ℕ, ◌+◌, ◌≤◌, List, [], ◌∷◌, ◌++◌, map, Option, Result, Ok, Err, IsTrue}
+use Rattle.std.specs.Prelude.{◌≡◌, ℕ, ◌+◌, ◌≤◌, [], ◌∷◌, ◌++◌, map, Option, Result, Ok, Err, IsTrue}
 use Rattle.undo_base.specs.declared.keys.User.{User}
 use Rattle.verb_core.specs.declared.ask.Ask.{Ask}
 use Rattle.verb_core.specs.declared.ask.Refused.{Refused}
@@ -14,7 +14,7 @@ use Rattle.verb_core.specs.Store.{MailStore, IsValid, is_house, opening}
 use Rattle.verb_core.specs.Step.{run, step}
 use Rattle.verb_core.specs.Stamps.{opening_stamps, stamps_after}
 use Rattle.verb_core.specs.Live.{live}
-use Rattle.box_store.specs.Effects.{IsRefusal}
+use Rattle.box_store.specs.Refusing.{IsRefusal}
 use Rattle.mail_proxy.specs.State.{Kept}
 
 -- the store: what the items in force leave, one after the other

@@ -105,8 +105,7 @@ fn perform_over<L: Ledger>(
     ensures ok { OnOk result (store.new.store ≡ (step store.old.store item.now).0) }
     ensures err { OnErr result (store.new.store ≡ store.old.store) }
 {
-    let (book, share) = blank.open::<L>();
-    let mut steps = Steps::of(book, share);
+    let mut steps: Steps<L> = Steps::new(blank);
     match store.perform(alloc, item, text_of(&item.deed), &mut steps) {
         Ok(_) => Ok(()),
         Err(NoMemory) => Err(NoMemory),

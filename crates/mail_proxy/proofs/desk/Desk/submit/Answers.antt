@@ -2,7 +2,7 @@ use Rattle.std.proofs.Common.{None, subst}
 use Rattle.verb_core.specs.Store.{MailStore}
 use Rattle.verb_core.specs.Items.{IsWellFormed}
 use Rattle.verb_core.specs.Live.{live}
-use Rattle.box_store.specs.Effects.{IsRefusal}
+use Rattle.box_store.specs.Refusing.{IsRefusal}
 use Rattle.mail_proxy.specs.State.{Kept}
 use Rattle.mail_proxy.specs.Desk.{store_of}
 use Rattle.mail_proxy.proofs.Kept.{asked_delivery, delivery_refused}
