@@ -1,10 +1,17 @@
 -- How a turn of a mail client may go otherwise.
-use Rattle.std.specs.Prelude.{ℕ, List, [], ◌∷◌, codes, None, if◌then◌else◌}
-use Rattle.std.specs.Str.{bytes_eq}
+use Rattle.std.specs.Prelude.{ℕ, List, [], ◌∷◌, Err, if◌then◌else◌}
 use Rattle.smtp_lines.specs.declared.line.SmtpLine.{SmtpLine}
-use Rattle.mail_proxy.specs.declared.answer.Answer.TheVariants.{Nothing, NoMemory}
-use Rattle.mail_proxy.specs.State.{Kept, Dialog, Transaction, Idle, Begun, Addressed, Writing}
-use Rattle.mail_proxy.specs.Dialog.{Turn, turn, says, with_transaction}
+use Rattle.verb_core.specs.declared.ask.Refused.TheVariants.{NoMemory}
+use Rattle.verb_core.specs.declared.ask.SubmitFault.TheVariants.{Refused as IsRefused}
+use Rattle.smtp_session.specs.declared.answer.Answer.TheVariants.{NoMemory as WantOfMemory}
+use Rattle.smtp_session.specs.declared.answer.SmtpOut.{SmtpOut}
+use Rattle.smtp_session.specs.declared.answer.SmtpOut.TheVariants.{Nothing, Say, Mail, Bye}
+use Rattle.smtp_session.specs.declared.dialog.Dialog.{Dialog}
+use Rattle.smtp_session.specs.Answer.{answer_text}
+use Rattle.smtp_session.specs.Dialog as session
+use Rattle.mail_proxy.specs.State.{Kept}
+use Rattle.mail_proxy.specs.Desk.{store_of}
+use Rattle.mail_proxy.specs.Dialog.{Turn, turn, says, ends, settled}
 
 -- How a turn may go otherwise.
 pub data Hindrance : Type 0 where
@@ -19,20 +26,31 @@ pub data Hindrance : Type 0 where
 
 -- no memory was found for a line: it is lost, and the connection closes
 abbrev pub lost : Kept → Turn
-lost kept = record { answer = Nothing; kept = kept; dialog = None }
+lost kept = ends [] kept
 
--- No memory was found before anything was stored. In a text only the last line is answered so, and it ends the transaction.
-abbrev pub refused : Transaction → Kept → Dialog → SmtpLine → Turn
-refused (Writing path text) kept d line = if bytes_eq line.bytes (codes ".") then says NoMemory kept (with_transaction d Idle) else lost kept
-refused Idle kept d line = says NoMemory kept d
-refused (Begun path) kept d line = says NoMemory kept d
-refused (Addressed path) kept d line = says NoMemory kept d
+-- what is told of want of memory
+abbrev pub memory_told : List ℕ
+memory_told = answer_text [] WantOfMemory
+
+-- in a text only its end, which asks the desk, is answered so, and it ends the transaction
+abbrev pub refused_in_text : Kept → SmtpOut → Dialog → Turn
+refused_in_text kept (Mail ask) d = settled d (record { outcome = Err (IsRefused NoMemory); kept = kept })
+refused_in_text kept Nothing d = lost kept
+refused_in_text kept (Say said) d = lost kept
+refused_in_text kept (Bye said) d = lost kept
+
+-- no memory was found before anything was stored
+abbrev pub refused : ℕ → Kept → Dialog → SmtpLine → Turn
+refused at kept d line =
+    if session.is_writing d
+    then (let t = session.turn kept.house (store_of kept).conf at d line in refused_in_text kept t.out t.dialog)
+    else says memory_told kept d
 
 abbrev pub hindered : Hindrance → ℕ → Kept → Dialog → SmtpLine → Turn
 hindered Clear at kept d line = turn at kept d line
-hindered Refused at kept d line = refused d.transaction kept d line
+hindered Refused at kept d line = refused at kept d line
 hindered Unheard at kept d line = lost kept
-hindered Unanswered at kept d line = record { answer = Nothing; kept = (turn at kept d line).kept; dialog = None }
+hindered Unanswered at kept d line = ends [] (turn at kept d line).kept
 
 abbrev pub first_hindrance : List Hindrance → Hindrance
 first_hindrance [] = Clear

@@ -1,22 +1,18 @@
 -- The machine's own records: what is kept, and the sessions of the open connections.
-use Rattle.std.specs.Prelude.{ℕ, List, Option}
+use Rattle.std.specs.Prelude.{ℕ, List}
+use Rattle.verb_core.specs.declared.conf.Conf.{Conf}
+use Rattle.verb_core.specs.declared.conf.House.{House}
+use Rattle.verb_core.specs.declared.item.Item.{Item}
+use Rattle.verb_core.specs.declared.mailbox.BoxId.{BoxId}
+use Rattle.smtp_session.specs.declared.dialog.Dialog.{Dialog}
 
--- what is kept: the bodies of the mail in order, and the next number
+-- what is kept: the house, the configuration at first, the items in force in order, the stamp of each mailbox, and the next number
 pub record Kept : Type 0 where
-  pub bodies : List (List ℕ)
+  pub house : House
+  pub opening : Conf
+  pub timeline : List Item
+  pub stamps : List (BoxId × ℕ)
   pub next : ℕ
-
--- A mail client's transaction (RFC 5321, 3.3): none; begun, with its reverse path; with a recipient; or in its text, which is so far this.
-pub data Transaction : Type 0 where
-  Idle : Transaction
-  Begun : List ℕ → Transaction
-  Addressed : List ℕ → Transaction
-  Writing : List ℕ → List ℕ → Transaction
-
--- a dialog with a mail client: the client's name, once it greeted, and its transaction
-pub record Dialog : Type 0 where
-  pub client : Option (List ℕ)
-  pub transaction : Transaction
 
 -- a session, by what its connection speaks
 pub data Session : Type 0 where

@@ -4,8 +4,8 @@ use Rattle.std.specs.Option.{option_map}
 use Rattle.smtp_lines.specs.declared.line.SmtpLine.{SmtpLine}
 use Rattle.smtp_lines.specs.Lines.{rest_of}
 use Rattle.smtp_lines.specs.Line.{smtp_lines_of}
-use Rattle.mail_proxy.specs.Answer.{answer_text}
-use Rattle.mail_proxy.specs.State.{Dialog, Session, Smtp, Seat, State}
+use Rattle.smtp_session.specs.declared.dialog.Dialog.{Dialog}
+use Rattle.mail_proxy.specs.State.{Session, Smtp, Seat, State}
 use Rattle.mail_proxy.specs.Dialog.{Turn}
 use Rattle.mail_proxy.specs.Hindrance.{Hindrance, hindered, first_hindrance, other_hindrances}
 
@@ -43,7 +43,7 @@ turns one hs s d (u ∷ us) =
 
 -- a mail client's turn touches no other connection
 abbrev pub smtp_outcome : State → Turn → Outcome Dialog
-smtp_outcome s t = record { said = answer_text t.answer; state = record { kept = t.kept; seats = s.seats }; dialog = t.dialog; others = [] }
+smtp_outcome s t = record { said = t.said; state = record { kept = t.kept; seats = s.seats }; dialog = t.dialog; others = [] }
 
 -- a turn of a mail client: a line of its stream
 abbrev pub smtp_turn : ℕ → Hindrance → State → Dialog → SmtpLine → Outcome Dialog

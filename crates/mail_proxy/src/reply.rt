@@ -1,11 +1,13 @@
 //! What a connection is told at the end of an event.
 ghost use Rattle.std.specs.Prelude.{◌≡◌, false, [], IfOk};
-ghost use Rattle.mail_proxy.specs.Answer.{answer_text};
+ghost use Rattle.smtp_session.specs.declared.answer.Answer.TheVariants.{Ready};
+ghost use Rattle.smtp_session.specs.Answer.{answer_text};
 ghost use Rattle.mail_proxy.specs.Took.{Adds};
 
-use crate::answer::{Answer, push_answer};
+use smtp_session::greeting;
 use std::alloc::Global;
 use undo_base::{NoMemory, Text};
+use verb_core::House;
 
 /// What a connection is told at the end of an event, and whether it is closed then.
 #[derive(Debug, Drop)]
@@ -26,12 +28,11 @@ pub fn empty_reply(alloc: Global, conn: u32, closes: bool) -> Reply
     }
 }
 
-/// A greeting.
-pub fn greeting(alloc: Global, conn: u32) -> Result<Reply, NoMemory>
-    ensures { IfOk result (λ reply. reply ≡ record { conn = conn; said = answer_text Answer.Ready; closes = false }) }
+/// The greeting of a mail client.
+pub fn greet(alloc: Global, house: &House, conn: u32) -> Result<Reply, NoMemory>
+    ensures { IfOk result (λ reply. reply ≡ record { conn = conn; said = answer_text house.now.host Ready; closes = false }) }
 {
-    let mut said = Text::new(alloc);
-    push_answer(alloc, &mut said, Answer::Ready)?;
+    let said = greeting(alloc, house)?;
     Ok(Reply {
         conn,
         said,
@@ -39,12 +40,12 @@ pub fn greeting(alloc: Global, conn: u32) -> Result<Reply, NoMemory>
     })
 }
 
-/// Adds an answer. The connection closes after the last one, and where no memory is found for it.
-pub fn add_answer(alloc: Global, reply: &mut Reply, answer: Answer)
-    ensures { Adds answer reply.old reply.new }
+/// Adds a string, whole. The connection closes after the last one, and where no memory is found for it.
+pub fn say(reply: &mut Reply, text: &[u8], last: bool)
+    ensures { Adds text.now last reply.old reply.new }
 {
-    reply.closes = match push_answer(alloc, &mut reply.said, answer) {
-        Ok(()) => answer.is_last(),
+    reply.closes = match reply.said.extend(text) {
+        Ok(()) => last,
         Err(NoMemory) => true,
     };
 }

@@ -3,7 +3,6 @@ use Rattle.smtp_lines.specs.declared.line.SmtpLine.{SmtpLine}
 use Rattle.smtp_lines.specs.Lines.{rest_of}
 use Rattle.smtp_lines.specs.Line.{smtp_lines_of}
 use Rattle.mail_proxy.specs.declared.reply.Reply.{Reply}
-use Rattle.mail_proxy.specs.Stands.{kept_of, dialog_of}
 use Rattle.mail_proxy.proofs.Stretch.{SoFar, so_far_none, so_far_more, closed_after, unheard, all_heard, told_by, seat_stays, seat_goes}
 use Rattle.mail_proxy.proofs.session.serve_lines.Goals as goal
 
@@ -13,36 +12,36 @@ loop-line-init c =
     record {
       stays = ap (λ (r : Reply). r.closes) reply.ensures;
       conn = ap (λ (r : Reply). r.conn) reply.ensures;
-      next = c.requires.next;
+      free = c.requires.free;
       rest = refl;
       turns = λ seats.
-          subst (λ (said : List ℕ). SoFar c.args.at seats (kept_of c.args.kept.now) (dialog_of c.args.dialog.now) (smtp_lines_of c.args.unserved.now) said
-          (kept_of c.args.kept.now) (dialog_of c.args.dialog.now) (smtp_lines_of c.args.unserved.now))
+          subst (λ (said : List ℕ). SoFar c.args.at seats c.args.desk.now c.args.dialog.now (smtp_lines_of c.args.unserved.now) said
+          c.args.desk.now c.args.dialog.now (smtp_lines_of c.args.unserved.now))
           (sym (ap (λ (r : Reply). r.said) reply.ensures))
-          (so_far_none c.args.at seats (kept_of c.args.kept.now) (dialog_of c.args.dialog.now) (smtp_lines_of c.args.unserved.now));
+          (so_far_none c.args.at seats c.args.desk.now c.args.dialog.now (smtp_lines_of c.args.unserved.now));
     }
 
 pub returns-in-Ok-None-clause-turns : goal.returns-in-Ok-None-clause-turns
 returns-in-Ok-None-clause-turns c seats =
     let l = c.loop-line in
     let stream = c.args.unserved.now in
-    let kept = kept_of c.args.kept.now in
-    let d = dialog_of c.args.dialog.now in
+    let kept = c.args.desk.now in
+    let d = c.args.dialog.now in
     let takes = rw c.in-Ok-None.field-0-is at c.in-Ok-None.ensures.next in
-    told_by c.args.at seats kept d stream c.args.conn l.reply (kept_of l.kept) (dialog_of l.dialog) c.next.new.self (Some (dialog_of l.dialog)) l.invariant.conn
-    (all_heard c.args.at seats kept d (smtp_lines_of stream) l.reply.said (kept_of l.kept) (dialog_of l.dialog) (smtp_lines_of l.unserved)
+    told_by c.args.at seats kept d stream c.args.conn l.reply l.desk l.dialog c.next.new.self (Some l.dialog) l.invariant.conn
+    (all_heard c.args.at seats kept d (smtp_lines_of stream) l.reply.said l.desk l.dialog (smtp_lines_of l.unserved)
     (l.invariant.turns seats) takes.0)
-    (seat_stays l.reply.closes (dialog_of l.dialog) (rest_of stream) c.next.new.self l.invariant.stays (sym l.invariant.rest ∙ takes.1 ∙ sym takes.2))
+    (seat_stays l.reply.closes l.dialog (rest_of stream) c.next.new.self l.invariant.stays (sym l.invariant.rest ∙ takes.1 ∙ sym takes.2))
 
 pub returns-in-Err-clause-turns : goal.returns-in-Err-clause-turns
 returns-in-Err-clause-turns c seats =
     let l = c.loop-line in
     let stream = c.args.unserved.now in
-    let kept = kept_of c.args.kept.now in
-    let d = dialog_of c.args.dialog.now in
-    told_by c.args.at seats kept d stream c.args.conn (record { conn = l.reply.conn; said = l.reply.said; closes = true }) (kept_of l.kept) (dialog_of l.dialog) c.next.new.self
+    let kept = c.args.desk.now in
+    let d = c.args.dialog.now in
+    told_by c.args.at seats kept d stream c.args.conn (record { conn = l.reply.conn; said = l.reply.said; closes = true }) l.desk l.dialog c.next.new.self
     None l.invariant.conn
-    (unheard c.args.at seats kept d (smtp_lines_of stream) l.reply.said (kept_of l.kept) (dialog_of l.dialog) (smtp_lines_of l.unserved)
+    (unheard c.args.at seats kept d (smtp_lines_of stream) l.reply.said l.desk l.dialog (smtp_lines_of l.unserved)
     (l.invariant.turns seats) c.in-Err.ensures.err.1)
     refl
 
@@ -50,35 +49,35 @@ pub returns-then-reply-clause-turns : goal.returns-then-reply-clause-turns
 returns-then-reply-clause-turns c seats =
     let l = c.loop-line in
     let stream = c.args.unserved.now in
-    let kept = kept_of c.args.kept.now in
-    let d = dialog_of c.args.dialog.now in
+    let kept = c.args.desk.now in
+    let d = c.args.dialog.now in
     let takes = rw c.in-Ok-Some.field-0-is at c.in-Ok-Some.ensures.next in
     let turn = c.take_line.ensures.turn in
     let new = c.take_line.new in
-    told_by c.args.at seats kept d stream c.args.conn new.reply (kept_of new.kept) (dialog_of new.dialog) c.next.new.self None (turn.1.conn ∙ l.invariant.conn)
-    (closed_after c.args.at seats kept d (smtp_lines_of stream) (kept_of l.kept) (dialog_of l.dialog) c.in-Ok-Some.line (smtp_lines_of c.next.new.self)
-    (kept_of new.kept) (dialog_of new.dialog) l.reply new.reply
-    (subst (λ (ls : List SmtpLine). SoFar c.args.at seats kept d (smtp_lines_of stream) l.reply.said (kept_of l.kept) (dialog_of l.dialog) ls) takes.0 (l.invariant.turns seats))
+    told_by c.args.at seats kept d stream c.args.conn new.reply new.desk new.session c.next.new.self None (turn.1.conn ∙ l.invariant.conn)
+    (closed_after c.args.at seats kept d (smtp_lines_of stream) l.desk l.dialog c.in-Ok-Some.line (smtp_lines_of c.next.new.self)
+    new.desk new.session l.reply new.reply
+    (subst (λ (ls : List SmtpLine). SoFar c.args.at seats kept d (smtp_lines_of stream) l.reply.said l.desk l.dialog ls) takes.0 (l.invariant.turns seats))
     turn.0 turn.1 c.if-reply.true)
-    (seat_goes new.reply.closes (dialog_of new.dialog) c.next.new.self c.if-reply.true)
+    (seat_goes new.reply.closes new.session c.next.new.self c.if-reply.true)
 
 pub loop-line-preserved : goal.loop-line-preserved
 loop-line-preserved c =
     let l = c.loop-line in
     let stream = c.args.unserved.now in
-    let kept = kept_of c.args.kept.now in
-    let d = dialog_of c.args.dialog.now in
+    let kept = c.args.desk.now in
+    let d = c.args.dialog.now in
     let takes = rw c.in-Ok-Some.field-0-is at c.in-Ok-Some.ensures.next in
     let turn = c.take_line.ensures.turn in
     let new = c.take_line.new in
     record {
       stays = c.if-reply.false;
       conn = turn.1.conn ∙ l.invariant.conn;
-      next = c.take_line.ensures.next;
+      free = c.take_line.ensures.free;
       rest = sym takes.1 ∙ l.invariant.rest;
       turns = λ seats.
-          so_far_more c.args.at seats kept d (smtp_lines_of stream) (kept_of l.kept) (dialog_of l.dialog) c.in-Ok-Some.line (smtp_lines_of c.next.new.self)
-          (kept_of new.kept) (dialog_of new.dialog) l.reply new.reply
-          (subst (λ (ls : List SmtpLine). SoFar c.args.at seats kept d (smtp_lines_of stream) l.reply.said (kept_of l.kept) (dialog_of l.dialog) ls) takes.0 (l.invariant.turns seats))
+          so_far_more c.args.at seats kept d (smtp_lines_of stream) l.desk l.dialog c.in-Ok-Some.line (smtp_lines_of c.next.new.self)
+          new.desk new.session l.reply new.reply
+          (subst (λ (ls : List SmtpLine). SoFar c.args.at seats kept d (smtp_lines_of stream) l.reply.said l.desk l.dialog ls) takes.0 (l.invariant.turns seats))
           turn.0 turn.1 c.if-reply.false;
     }

@@ -1,8 +1,8 @@
-use Rattle.std.proofs.Common.{◌≡◌, ◌≤◌, false, length}
+use Rattle.std.proofs.Common.{◌≡◌, false, length}
 use Rattle.smtp_lines.specs.Lines.{rest_of}
 use Rattle.smtp_lines.specs.Line.{smtp_lines_of}
+use Rattle.smtp_session.specs.Dialog.{is_due}
 use Rattle.mail_proxy.specs.Machine.{Seats}
-use Rattle.mail_proxy.specs.Stands.{kept_of, dialog_of}
 use Rattle.mail_proxy.proofs.Stretch.{SoFar}
 use Rattle.mail_proxy.proofs.session.serve_lines.Given as goal
 
@@ -11,10 +11,9 @@ abbrev pub invariant-loop-line : goal.invariant-loop-line
 invariant-loop-line l = record {
   stays : l.reply.closes ≡ false;
   conn : l.reply.conn ≡ l.conn;
-  next : l.kept.next ≤ 4194304;
+  free : is_due l.dialog ≡ false;
   rest : rest_of l.unserved ≡ rest_of l.fn.unserved;
-  turns : (seats : Seats) → SoFar l.at seats (kept_of l.fn.kept) (dialog_of l.fn.dialog) (smtp_lines_of l.fn.unserved) l.reply.said (kept_of l.kept) (dialog_of l.dialog)
-      (smtp_lines_of l.unserved);
+  turns : (seats : Seats) → SoFar l.at seats l.fn.desk l.fn.dialog (smtp_lines_of l.fn.unserved) l.reply.said l.desk l.dialog (smtp_lines_of l.unserved);
 }
 
 abbrev pub decreases-loop-line : goal.decreases-loop-line
