@@ -1,9 +1,8 @@
 //! Answers to a mail client.
 ghost use Rattle.std.specs.Prelude.{◌≡◌, ℕ, ◌++◌, List, IfOk, codes, decimal};
 ghost use Rattle.smtp_session.specs.Bytes.{said};
-ghost use Rattle.smtp_session.specs.Answer.{answer_text, line_refused, delivery_refused};
+ghost use Rattle.smtp_session.specs.Answer.{answer_text, delivery_refused};
 
-use smtp_lines::SmtpRefused;
 use std::alloc::Global;
 use undo_base::{Name, NoMemory, Text};
 use verb_core::{Ask, House, Refused};
@@ -117,20 +116,6 @@ pub fn memory_text() -> &'static [u8]
     ensures { (host : List ℕ) → result.now ≡ answer_text host Answer.NoMemory }
 {
     b"452 No memory\r\n"
-}
-
-/// The answer to a line that is no command.
-pub(crate) fn answer_to_line(refused: SmtpRefused) -> Answer
-    ensures { result ≡ line_refused refused }
-{
-    match refused {
-        SmtpRefused::Long => Answer::LineTooLong,
-        SmtpRefused::Unknown => Answer::UnknownCommand,
-        SmtpRefused::NotDone => Answer::NotImplemented,
-        SmtpRefused::Argument => Answer::BadArgument,
-        SmtpRefused::Parameter => Answer::UnknownParameter,
-        SmtpRefused::NoMemory => Answer::NoMemory,
-    }
 }
 
 /// The answer to a delivery that is refused.

@@ -6,7 +6,7 @@ ghost use Rattle.verb_core.specs.Store.{is_house};
 ghost use Rattle.smtp_session.specs.declared.dialog.Dialog.{Dialog as TheDialog};
 ghost use Rattle.smtp_session.specs.Dialog.{obey, turn, turns};
 
-use crate::answer::{Answer, SmtpOut, answer_to_line, say, say_bye};
+use crate::answer::{Answer, SmtpOut, say, say_bye};
 use crate::commands::{begin_mail, begin_text, greet_client, receive_recipient, reset};
 use crate::draft::{end_draft, push_line};
 use crate::ending::end_transaction;

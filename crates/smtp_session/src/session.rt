@@ -59,6 +59,7 @@ impl SmtpSession {
         ensures within { IfOk result AsksWithin }
         ensures err { OnErr result (self.new ≡ self.old) }
     {
+        // The host's name is short, and so is the body that is asked.
         let _host = house.host.bytes();
         take_line(alloc, house, conf, at, &mut self.dialog, line)
     }

@@ -1,8 +1,11 @@
+ghost use Rattle.std.specs.Prelude.{◌≡◌};
+ghost use Rattle.smtp_session.specs.Dialog.{is_fault_of_delivery, is_outcome_of_delivery, is_refusal_of_delivery};
+
 use crate::{SmtpOut, SmtpSession, greeting, memory_text};
-use smtp_lines::SmtpLine;
+use smtp_lines::{SmtpLine, cut_all};
 use std::alloc::Global;
 use std::test::Fail;
-use undo_base::{Name, Names, NoMemory, Text, User, Users};
+use undo_base::{Name, Names, NoMemory, Text, Texts, User, Users};
 use verb_core::{
     Account, Accounts, Alias, Aliases, Ask, Conf, Deed, Filters, House, Item, Refused, Shown,
     SubmitFault,
@@ -124,14 +127,53 @@ fn make_client(alloc: Global, aliases: u32) -> Result<Client, Fail> {
     })
 }
 
+fn is_refusal(why: Refused) -> bool
+    ensures { result ≡ is_refusal_of_delivery why }
+{
+    match why {
+        Refused::UidWide => true,
+        Refused::Numbers { next: _ } => true,
+        Refused::NoMemory => true,
+        Refused::NoBox => false,
+        Refused::Exists => false,
+        Refused::Fixed => false,
+        Refused::NameShape => false,
+        Refused::TryCreate => false,
+        Refused::Gone => false,
+        Refused::TooMany { asked: _ } => false,
+        Refused::TooLarge { asked: _ } => false,
+        Refused::BoxesFull => false,
+    }
+}
+
+fn is_fault(fault: SubmitFault) -> bool
+    ensures { result ≡ is_fault_of_delivery fault }
+{
+    match fault {
+        SubmitFault::Refused(why) => is_refusal(why),
+        SubmitFault::Disk => true,
+        SubmitFault::Closed => true,
+    }
+}
+
+/// Whether a delivery can have this outcome.
+fn can_come(outcome: &Result<Item, SubmitFault>) -> bool
+    ensures { result ≡ is_outcome_of_delivery outcome.now }
+{
+    match outcome {
+        Ok(_) => true,
+        Err(fault) => is_fault(*fault),
+    }
+}
+
 /// What the client hears of an outcome, with `bye ` before the last answer.
 fn told(
     alloc: Global,
     client: &mut Client,
     outcome: &Result<Item, SubmitFault>,
 ) -> Result<Text, Fail> {
-    if !client.session.is_due() {
-        return Err(Fail::new("no outcome is due"));
+    if !client.session.is_due() || !can_come(outcome) {
+        return Err(Fail::new("no such outcome is due"));
     }
     match client.session.done(alloc, outcome)? {
         SmtpOut::Say(text) => Ok(text),
@@ -355,6 +397,31 @@ fn lines_at_their_limits(rt: HostRuntime) -> Result<(), Fail> {
         let line = filled(alloc, front, count, back)?;
         assert_eq!(rt; hears(alloc, &mut client, &line)?.bytes(), answer);
     }
+    Ok(())
+}
+
+/// All that a client hears of a stream.
+fn hears_stream(alloc: Global, client: &mut Client, stream: &[u8]) -> Result<Text, Fail> {
+    let mut pieces = Texts::new(alloc);
+    pieces.push(Text::of(alloc, stream)?)?;
+    let mut all = Text::new(alloc);
+    for line in cut_all(alloc, &pieces)?.as_slice() {
+        all.extend(hears(alloc, client, line)?.bytes())?;
+    }
+    Ok(all)
+}
+
+#[test]
+fn bare_line_ends_are_bytes(rt: HostRuntime) -> Result<(), Fail> {
+    let alloc = rt.alloc();
+    let mut client = make_client(alloc, 0)?;
+    let stream = b"NOOP x\nQUIT\r\nNOOP\r\r\nQUIT\nQUIT\r\n\r\nQUIT\r\nNOOP";
+    let wanted =
+        b"250 OK\r\n500 Unknown command\r\n500 Unknown command\r\n500 Unknown command\r\nbye 221 mail.test closing\r\n";
+    assert_eq!(rt;
+        hears_stream(alloc, &mut client, stream.as_slice())?.bytes(),
+        wanted.as_slice()
+    );
     Ok(())
 }
 
