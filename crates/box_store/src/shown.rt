@@ -81,41 +81,35 @@ pub(crate) fn shown_by(
 {
     match deed {
         Deed::Append { .. } => Ok(Shown::Put { redirected }),
-        Deed::Fetch { mailbox, keys, .. } => Ok(Shown::Seen(sights_of(
-            alloc,
-            mail_of(rows, user, mailbox),
-            keys.as_slice(),
-        )?)),
-        Deed::Store { mailbox, keys, .. } => Ok(Shown::Done(there_of(
-            alloc,
-            mail_of(rows, user, mailbox),
-            keys.as_slice(),
-        )?)),
-        Deed::Copy { mailbox, keys, .. } => Ok(Shown::Copied {
-            keys: there_of(alloc, mail_of(rows, user, mailbox), keys.as_slice())?,
-            redirected,
-        }),
+        Deed::Fetch { mailbox, keys, .. } => {
+            let mail = mail_of(rows, user, mailbox);
+            Ok(Shown::Seen(sights_of(alloc, mail, keys.as_slice())?))
+        }
+        Deed::Store { mailbox, keys, .. } => {
+            let mail = mail_of(rows, user, mailbox);
+            Ok(Shown::Done(there_of(alloc, mail, keys.as_slice())?))
+        }
+        Deed::Copy { mailbox, keys, .. } => {
+            let mail = mail_of(rows, user, mailbox);
+            let keys = there_of(alloc, mail, keys.as_slice())?;
+            Ok(Shown::Copied { keys, redirected })
+        }
         Deed::List { pattern } => Ok(Shown::Names(listed(alloc, rows, user, pattern)?)),
         Deed::Status { mailbox } => Ok(Shown::Count(count_of(rows, user, mailbox)?)),
         Deed::Select { mailbox } => Ok(Shown::Count(count_of(rows, user, mailbox)?)),
-        Deed::Expunge { mailbox, keys } => Ok(Shown::Left(left_of(
-            alloc,
-            mail_of(rows, user, mailbox),
-            keys.as_slice(),
-        )?)),
-        Deed::Close { mailbox, keys } => Ok(Shown::Left(left_of(
-            alloc,
-            mail_of(rows, user, mailbox),
-            keys.as_slice(),
-        )?)),
+        Deed::Expunge { mailbox, keys } => {
+            let mail = mail_of(rows, user, mailbox);
+            Ok(Shown::Left(left_of(alloc, mail, keys.as_slice())?))
+        }
+        Deed::Close { mailbox, keys } => {
+            let mail = mail_of(rows, user, mailbox);
+            Ok(Shown::Left(left_of(alloc, mail, keys.as_slice())?))
+        }
         Deed::Rename { mailbox, target } => Ok(Shown::Way(way_of(rows, user, mailbox, target))),
-        Deed::Delete { mailbox, keys } => Ok(Shown::Moved(moved_of(
-            alloc,
-            rows,
-            user,
-            mailbox,
-            keys.as_slice(),
-        )?)),
+        Deed::Delete { mailbox, keys } => {
+            let moved = moved_of(alloc, rows, user, mailbox, keys.as_slice())?;
+            Ok(Shown::Moved(moved))
+        }
         Deed::Deliver { .. } => Ok(Shown::Nothing),
         Deed::Create { .. } => Ok(Shown::Nothing),
         Deed::Act(_) => Ok(Shown::Nothing),
