@@ -471,9 +471,24 @@ fn a_thousand_recipients(rt: HostRuntime) -> Result<(), Fail> {
     Ok(())
 }
 
+/// The answer to a text whose delivery has no item, after which the transaction is over.
+fn answer_to(alloc: Global, fault: SubmitFault) -> Result<Text, Fail> {
+    let mut client = make_client(alloc, 0)?;
+    let begun = begin(alloc, &mut client)?;
+    let asked = heard(alloc, &mut client, &line_of(alloc, b".")?)?;
+    if !begun || !matches!(&asked, SmtpOut::Mail(_)) {
+        return Err(Fail::new("nothing is asked"));
+    }
+    let answer = told(alloc, &mut client, &Err(fault))?;
+    let rows: [(&[u8], &[u8]); 2] = [(b"DATA", BAD), (b"MAIL FROM:<>", OK)];
+    if agreed(alloc, &mut client, &rows)? != rows.len() {
+        return Err(Fail::new("the transaction goes on"));
+    }
+    Ok(answer)
+}
+
 #[test]
 fn outcomes_and_their_answers(rt: HostRuntime) -> Result<(), Fail> {
-    let alloc = rt.alloc();
     let table: [(SubmitFault, &[u8]); 5] = [
         (
             SubmitFault::Refused(Refused::UidWide),
@@ -488,13 +503,7 @@ fn outcomes_and_their_answers(rt: HostRuntime) -> Result<(), Fail> {
         (SubmitFault::Closed, b"bye 421 mail.test disk fault\r\n"),
     ];
     for (fault, answer) in table {
-        let mut client = make_client(alloc, 0)?;
-        assert!(rt; begin(alloc, &mut client)?);
-        let asked = heard(alloc, &mut client, &line_of(alloc, b".")?)?;
-        assert!(rt; matches!(&asked, SmtpOut::Mail(_)));
-        assert_eq!(rt; told(alloc, &mut client, &Err(fault))?.bytes(), answer);
-        let rows: [(&[u8], &[u8]); 2] = [(b"DATA", BAD), (b"MAIL FROM:<>", OK)];
-        assert_eq!(rt; agreed(alloc, &mut client, &rows)?, rows.len());
+        assert_eq!(rt; answer_to(rt.alloc(), fault)?.bytes(), answer);
     }
     Ok(())
 }
