@@ -1,15 +1,9 @@
-ghost use Rattle.std.specs.Prelude.{◌≡◌};
-ghost use Rattle.smtp_session.specs.Dialog.{is_fault_of_delivery, is_outcome_of_delivery, is_refusal_of_delivery};
-
-use crate::{SmtpOut, SmtpSession, greeting, memory_text};
+use crate::{SmtpOut, SmtpSession, greeting};
 use smtp_lines::{SmtpLine, cut_all};
 use std::alloc::Global;
 use std::test::Fail;
 use undo_base::{Name, Names, NoMemory, Text, Texts, User, Users};
-use verb_core::{
-    Account, Accounts, Alias, Aliases, Ask, Conf, Deed, Filters, House, Item, Refused, Shown,
-    SubmitFault,
-};
+use verb_core::{Account, Accounts, Alias, Aliases, Ask, Conf, Deed, Filters, House, Item, Shown};
 
 /// 7 January 2005, 10:00:00.
 const AT: u64 = 1105092000;
@@ -127,63 +121,31 @@ fn make_client(alloc: Global, aliases: u32) -> Result<Client, Fail> {
     })
 }
 
-fn is_refusal(why: Refused) -> bool
-    ensures { result ≡ is_refusal_of_delivery why }
-{
-    match why {
-        Refused::UidWide => true,
-        Refused::Numbers { next: _ } => true,
-        Refused::NoMemory => true,
-        Refused::NoBox => false,
-        Refused::Exists => false,
-        Refused::Fixed => false,
-        Refused::NameShape => false,
-        Refused::TryCreate => false,
-        Refused::Gone => false,
-        Refused::TooMany { asked: _ } => false,
-        Refused::TooLarge { asked: _ } => false,
-        Refused::BoxesFull => false,
+/// What the client hears of a kept item.
+fn told(alloc: Global, client: &mut Client, item: Item) -> Result<Text, Fail> {
+    if !client.session.is_due() {
+        return Err(Fail::new("no outcome is due"));
     }
-}
-
-fn is_fault(fault: SubmitFault) -> bool
-    ensures { result ≡ is_fault_of_delivery fault }
-{
-    match fault {
-        SubmitFault::Refused(why) => is_refusal(why),
-        SubmitFault::Disk => true,
-        SubmitFault::Closed => true,
-    }
-}
-
-/// Whether a delivery can have this outcome.
-fn can_come(outcome: &Result<Item, SubmitFault>) -> bool
-    ensures { result ≡ is_outcome_of_delivery outcome.now }
-{
-    match outcome {
-        Ok(_) => true,
-        Err(fault) => is_fault(*fault),
-    }
-}
-
-/// What the client hears of an outcome, with `bye ` before the last answer.
-fn told(
-    alloc: Global,
-    client: &mut Client,
-    outcome: &Result<Item, SubmitFault>,
-) -> Result<Text, Fail> {
-    if !client.session.is_due() || !can_come(outcome) {
-        return Err(Fail::new("no such outcome is due"));
-    }
-    match client.session.done(alloc, outcome)? {
+    match client.session.done(alloc, &Ok(item))? {
         SmtpOut::Say(text) => Ok(text),
-        SmtpOut::Bye(text) => {
-            let mut bye = Text::of(alloc, b"bye ")?;
-            bye.extend(text.bytes())?;
-            Ok(bye)
-        }
         _ => Err(Fail::new("no answer")),
     }
+}
+
+/// What is asked in words, and the answer. The item has the number 2.
+fn asked(alloc: Global, client: &mut Client, ask: Ask) -> Result<Text, Fail> {
+    let words = written(alloc, &ask)?;
+    joined(words, told(alloc, client, item(alloc, 2))?)
+}
+
+fn joined(mut words: Text, answer: Text) -> Result<Text, Fail> {
+    words.extend(answer.bytes())?;
+    Ok(words)
+}
+
+/// The last answer, with `bye ` before it.
+fn parting(alloc: Global, text: Text) -> Result<Text, Fail> {
+    joined(Text::of(alloc, b"bye ")?, text)
 }
 
 fn heard(alloc: Global, client: &mut Client, line: &SmtpLine) -> Result<SmtpOut, Fail> {
@@ -197,22 +159,13 @@ fn heard(alloc: Global, client: &mut Client, line: &SmtpLine) -> Result<SmtpOut,
     )
 }
 
-/// What the client hears of a line: what is asked in words, and then the answer. The item has the number 2.
+/// What the client hears of a line: what is asked in words, and then the answer.
 fn hears(alloc: Global, client: &mut Client, line: &SmtpLine) -> Result<Text, Fail> {
     match heard(alloc, client, line)? {
         SmtpOut::Nothing => Ok(Text::new(alloc)),
         SmtpOut::Say(text) => Ok(text),
-        SmtpOut::Bye(text) => {
-            let mut bye = Text::of(alloc, b"bye ")?;
-            bye.extend(text.bytes())?;
-            Ok(bye)
-        }
-        SmtpOut::Mail(ask) => {
-            let mut words = written(alloc, &ask)?;
-            let answer = told(alloc, client, &Ok(item(alloc, 2)))?;
-            words.extend(answer.bytes())?;
-            Ok(words)
-        }
+        SmtpOut::Bye(text) => parting(alloc, text),
+        SmtpOut::Mail(ask) => asked(alloc, client, ask),
     }
 }
 
@@ -331,8 +284,8 @@ fn begin(alloc: Global, client: &mut Client) -> Result<bool, Fail> {
     Ok(agreed(alloc, client, &rows)? == rows.len())
 }
 
-/// The end of what is heard of a text of 1,048 lines of 1,000 octets and one of so many letters, with the text's length.
-fn end_of_text(alloc: Global, letters: usize) -> Result<(usize, Text), Fail> {
+/// What is heard at the end of a text of 1,048 lines of 1,000 octets and one of so many letters, and of a recipient then.
+fn end_of_text(alloc: Global, letters: usize) -> Result<Text, Fail> {
     let mut client = make_client(alloc, 0)?;
     if !begin(alloc, &mut client)? {
         return Err(Fail::new("no text"));
@@ -342,33 +295,24 @@ fn end_of_text(alloc: Global, letters: usize) -> Result<(usize, Text), Fail> {
         hears(alloc, &mut client, &long)?;
     }
     hears(alloc, &mut client, &filled(alloc, b"", letters, b"")?)?;
-    match heard(alloc, &mut client, &line_of(alloc, b".")?)? {
-        SmtpOut::Mail(Ask::Deliver { text, .. }) => {
-            let answer = told(alloc, &mut client, &Ok(item(alloc, 2)))?;
-            Ok((text.bytes().len(), answer))
-        }
-        SmtpOut::Say(mut text) => {
-            let more = hears(
-                alloc,
-                &mut client,
-                &line_of(alloc, b"RCPT TO:<ann@mail.test>")?,
-            )?;
-            text.extend(more.bytes())?;
-            Ok((0, text))
-        }
-        _ => Err(Fail::new("no answer")),
-    }
+    let end = hears(alloc, &mut client, &line_of(alloc, b".")?)?;
+    let more = hears(
+        alloc,
+        &mut client,
+        &line_of(alloc, b"RCPT TO:<ann@mail.test>")?,
+    )?;
+    joined(end, more)
 }
 
 #[test]
 fn a_text_at_its_limit(rt: HostRuntime) -> Result<(), Fail> {
     let alloc = rt.alloc();
-    let (length, answer) = end_of_text(alloc, 574)?;
-    assert_eq!(rt; length, 1048576 + 75);
-    assert_eq!(rt; answer.bytes(), b"250 OK 2\r\n".as_slice());
-    let (_, answer) = end_of_text(alloc, 575)?;
+    let heard = end_of_text(alloc, 574)?;
+    // What is asked in words, the trace lines and the text, and two answers.
+    assert_eq!(rt; heard.bytes().len(), 13 + 75 + 1048576 + 10 + 18);
+    let heard = end_of_text(alloc, 575)?;
     assert_eq!(rt;
-        answer.bytes(),
+        heard.bytes(),
         b"552 Text too large\r\n503 Bad sequence\r\n".as_slice()
     );
     Ok(())
@@ -468,42 +412,5 @@ fn a_thousand_recipients(rt: HostRuntime) -> Result<(), Fail> {
         (b"DATA", BEGIN),
     ];
     assert_eq!(rt; agreed(alloc, &mut client, &rows)?, rows.len());
-    Ok(())
-}
-
-/// The answer to a text whose delivery has no item, after which the transaction is over.
-fn answer_to(alloc: Global, fault: SubmitFault) -> Result<Text, Fail> {
-    let mut client = make_client(alloc, 0)?;
-    let begun = begin(alloc, &mut client)?;
-    let asked = heard(alloc, &mut client, &line_of(alloc, b".")?)?;
-    if !begun || !matches!(&asked, SmtpOut::Mail(_)) {
-        return Err(Fail::new("nothing is asked"));
-    }
-    let answer = told(alloc, &mut client, &Err(fault))?;
-    let rows: [(&[u8], &[u8]); 2] = [(b"DATA", BAD), (b"MAIL FROM:<>", OK)];
-    if agreed(alloc, &mut client, &rows)? != rows.len() {
-        return Err(Fail::new("the transaction goes on"));
-    }
-    Ok(answer)
-}
-
-#[test]
-fn outcomes_and_their_answers(rt: HostRuntime) -> Result<(), Fail> {
-    let table: [(SubmitFault, &[u8]); 5] = [
-        (
-            SubmitFault::Refused(Refused::UidWide),
-            b"552 Mailbox full\r\n",
-        ),
-        (
-            SubmitFault::Refused(Refused::Numbers { next: 4194304 }),
-            b"552 Numbers used up\r\n",
-        ),
-        (SubmitFault::Refused(Refused::NoMemory), memory_text()),
-        (SubmitFault::Disk, b"bye 421 mail.test disk fault\r\n"),
-        (SubmitFault::Closed, b"bye 421 mail.test disk fault\r\n"),
-    ];
-    for (fault, answer) in table {
-        assert_eq!(rt; answer_to(rt.alloc(), fault)?.bytes(), answer);
-    }
     Ok(())
 }
