@@ -7,7 +7,7 @@ use crate::Store;
 use crate::spares::Spares;
 use std::alloc::Global;
 use std::test::Fail;
-use undo_base::{Flags, Key, Keys, Name, Names, Text, User};
+use undo_base::{Flags, How, Key, Keys, Name, Names, Text, User};
 use verb_core::{
     Account, Accounts, Aliases, Ask, Body, BoxId, Conf, Deed, Entries, Entry, Filters, House, Item,
     Mailbox, Refused, Shown,
@@ -129,8 +129,8 @@ fn store(alloc: Global) -> Result<Store, Fail>
     })
 }
 
-/// What ann asks at moment 9.
-fn asked(alloc: Global, store: &Store, number: u32, ask: Ask) -> Result<Item, Refused>
+/// What ann asks, and at which moment, if it is refused.
+fn ask_of(alloc: Global, store: &Store, number: u32, ask: Ask) -> Result<Item, Refused>
     requires store { store.now.store ≡ sample }
     requires number { number ≤ 4194304 }
     requires users { is_users ask ≡ true }
@@ -138,356 +138,49 @@ fn asked(alloc: Global, store: &Store, number: u32, ask: Ask) -> Result<Item, Re
     store.live(alloc, number, 9, Some(User(0)), ask)
 }
 
-/// Why it is refused.
 fn why(alloc: Global, store: &Store, number: u32, ask: Ask) -> Option<Refused>
     requires store { store.now.store ≡ sample }
     requires number { number ≤ 4194304 }
     requires users { is_users ask ≡ true }
 {
-    match asked(alloc, store, number, ask) {
+    match ask_of(alloc, store, number, ask) {
         Ok(_) => None,
         Err(refused) => Some(refused),
     }
 }
 
-/// That the refusal is the one that is due, or that nothing is refused.
-fn expect(refused: Option<Refused>, due: Option<Refused>) -> Result<(), Fail> {
-    if refused == due {
-        Ok(())
-    } else {
-        Err(Fail::new("another refusal"))
-    }
-}
-
-/// That the item is the one that is due.
-fn expect_item(answer: Result<Item, Refused>, due: Item) -> Result<(), Fail> {
-    if answer == Ok(due) {
-        Ok(())
-    } else {
-        Err(Fail::new("another item"))
-    }
-}
-
-fn create_is(alloc: Global, store: &Store, mailbox: &[u8], due: Option<Refused>) -> Result<(), Fail>
-    requires { store.now.store ≡ sample }
-{
-    let mailbox = name(alloc, mailbox)?;
-    expect(why(alloc, store, 9, Ask::Create { mailbox }), due)
-}
-
-fn delete_is(alloc: Global, store: &Store, mailbox: &[u8], due: Option<Refused>) -> Result<(), Fail>
-    requires { store.now.store ≡ sample }
-{
-    let mailbox = name(alloc, mailbox)?;
-    expect(why(alloc, store, 9, Ask::Delete { mailbox }), due)
-}
-
-fn rename_is(
-    alloc: Global,
-    store: &Store,
-    mailbox: &[u8],
-    target: &[u8],
-    due: Option<Refused>,
-) -> Result<(), Fail>
-    requires { store.now.store ≡ sample }
-{
-    let mailbox = name(alloc, mailbox)?;
-    let target = name(alloc, target)?;
-    expect(why(alloc, store, 9, Ask::Rename { mailbox, target }), due)
-}
-
-fn created(alloc: Global, store: &Store) -> Result<(), Fail>
-    requires { store.now.store ≡ sample }
-{
-    create_is(alloc, store, b"a/b", Some(Refused::NameShape))?;
-    create_is(alloc, store, b"a%", Some(Refused::NameShape))?;
-    create_is(alloc, store, b"INBOX", Some(Refused::Fixed))?;
-    create_is(alloc, store, b"Work", Some(Refused::Exists))?;
-    create_is(alloc, store, b"Old", None)
-}
-
-fn deleted(alloc: Global, store: &Store) -> Result<(), Fail>
-    requires { store.now.store ≡ sample }
-{
-    delete_is(alloc, store, b"Lost+Found", Some(Refused::Fixed))?;
-    delete_is(alloc, store, b"None", Some(Refused::NoBox))?;
-    delete_is(alloc, store, b"Work", None)
-}
-
-fn renamed(alloc: Global, store: &Store) -> Result<(), Fail>
-    requires { store.now.store ≡ sample }
-{
-    rename_is(alloc, store, b"Lost+Found", b"a*", Some(Refused::NameShape))?;
-    rename_is(alloc, store, b"None", b"INBOX", Some(Refused::Fixed))?;
-    rename_is(alloc, store, b"Lost+Found", b"Old", Some(Refused::Fixed))?;
-    rename_is(alloc, store, b"None", b"Work", Some(Refused::NoBox))?;
-    rename_is(alloc, store, b"INBOX", b"Work", Some(Refused::Exists))?;
-    rename_is(alloc, store, b"INBOX", b"Old", None)
-}
-
-#[test]
-fn names_are_refused_in_order(rt: HostRuntime) -> Result<(), Fail> {
-    let alloc = rt.alloc();
-    let store = store(alloc)?;
-    created(alloc, &store)?;
-    deleted(alloc, &store)?;
-    renamed(alloc, &store)
-}
-
-/// So many keys of an item's messages.
-fn keys(alloc: Global, item: u32, count: u32) -> Result<Keys, Fail> {
-    let mut keys = Keys::new(alloc);
-    for _ in 0..count {
-        keys.push(key(item))?;
-    }
-    Ok(keys)
-}
-
-/// A COPY of one message, named by sequence number or by UID.
-fn copy_of(
-    alloc: Global,
-    mailbox: &[u8],
-    item: u32,
-    target: &[u8],
-    strict: bool,
-) -> Result<Ask, Fail>
+fn create(alloc: Global, mailbox: &[u8]) -> Result<Ask, Fail>
     ensures { IfOk result (λ ask. is_users ask ≡ true) }
 {
-    let mailbox = name(alloc, mailbox)?;
-    let target = name(alloc, target)?;
-    let keys = keys(alloc, item, 1)?;
-    Ok(Ask::Copy {
-        mailbox,
-        keys,
-        target,
-        strict,
+    Ok(Ask::Create {
+        mailbox: name(alloc, mailbox)?,
     })
 }
 
-fn strict_copy_is(
-    alloc: Global,
-    store: &Store,
-    mailbox: &[u8],
-    item: u32,
-    target: &[u8],
-    due: Option<Refused>,
-) -> Result<(), Fail>
-    requires { store.now.store ≡ sample }
-{
-    let ask = copy_of(alloc, mailbox, item, target, true)?;
-    expect(why(alloc, store, 9, ask), due)
-}
-
-fn copied(alloc: Global, store: &Store) -> Result<(), Fail>
-    requires { store.now.store ≡ sample }
-{
-    strict_copy_is(alloc, store, b"None", 6, b"Old", Some(Refused::NoBox))?;
-    strict_copy_is(alloc, store, b"INBOX", 6, b"None", Some(Refused::TryCreate))?;
-    strict_copy_is(alloc, store, b"INBOX", 6, b"Work", Some(Refused::Gone))?;
-    strict_copy_is(alloc, store, b"INBOX", 2, b"Work", Some(Refused::UidWide))?;
-    let missing = copy_of(alloc, b"INBOX", 6, b"Work", false)?;
-    expect(why(alloc, store, 9, missing), None)
-}
-
-/// A FETCH of so many messages of an item in INBOX, named by sequence number.
-fn fetch_is(
-    alloc: Global,
-    store: &Store,
-    item: u32,
-    count: u32,
-    asked: u64,
-    due: Option<Refused>,
-) -> Result<(), Fail>
-    requires { store.now.store ≡ sample }
-{
-    let mailbox = name(alloc, b"INBOX")?;
-    let keys = keys(alloc, item, count)?;
-    let ask = Ask::Fetch {
-        mailbox,
-        keys,
-        sets_seen: true,
-        shows_body: true,
-        strict: true,
-        asked,
-    };
-    expect(why(alloc, store, 9, ask), due)
-}
-
-fn fetched(alloc: Global, store: &Store) -> Result<(), Fail>
-    requires { store.now.store ≡ sample }
-{
-    let many = Refused::TooMany { asked: 65537 };
-    let large = Refused::TooLarge { asked: 268435457 };
-    fetch_is(alloc, store, 6, 65537, 268435457, Some(Refused::Gone))?;
-    fetch_is(alloc, store, 2, 65537, 268435457, Some(many))?;
-    fetch_is(alloc, store, 2, 65536, 268435457, Some(large))?;
-    fetch_is(alloc, store, 2, 65536, 268435456, None)
-}
-
-/// An APPEND of so many octets.
-fn append_is(
-    alloc: Global,
-    store: &Store,
-    mailbox: &[u8],
-    octets: usize,
-    due: Option<Refused>,
-) -> Result<(), Fail>
-    requires { store.now.store ≡ sample }
-{
-    let mailbox = name(alloc, mailbox)?;
-    let text = Text::of(alloc, Vec::from_elem(alloc, b'x', octets)?.as_slice())?;
-    let ask = Ask::Append {
-        mailbox,
-        flags: Flags::default(),
-        moment: None,
-        text,
-    };
-    expect(why(alloc, store, 9, ask), due)
-}
-
-fn appended(alloc: Global, store: &Store) -> Result<(), Fail>
-    requires { store.now.store ≡ sample }
-{
-    let large = Refused::TooLarge { asked: 1048577 };
-    append_is(alloc, store, b"None", 1048577, Some(Refused::TryCreate))?;
-    append_is(alloc, store, b"Work", 1048577, Some(large))?;
-    append_is(alloc, store, b"Work", 1048576, Some(Refused::UidWide))?;
-    append_is(alloc, store, b"INBOX", 1048576, None)
-}
-
-#[test]
-fn keys_and_sizes_are_refused_in_order(rt: HostRuntime) -> Result<(), Fail> {
-    let alloc = rt.alloc();
-    let store = store(alloc)?;
-    copied(alloc, &store)?;
-    fetched(alloc, &store)?;
-    appended(alloc, &store)
-}
-
-fn select_is(
-    alloc: Global,
-    store: &Store,
-    number: u32,
-    mailbox: &[u8],
-    due: Option<Refused>,
-) -> Result<(), Fail>
-    requires store { store.now.store ≡ sample }
-    requires number { number ≤ 4194304 }
-{
-    let mailbox = name(alloc, mailbox)?;
-    expect(why(alloc, store, number, Ask::Select { mailbox }), due)
-}
-
-fn selected(alloc: Global, store: &Store) -> Result<(), Fail>
-    requires { store.now.store ≡ sample }
-{
-    let used_up = Refused::Numbers { next: 4194304 };
-    select_is(alloc, store, 4194304, b"None", Some(Refused::NoBox))?;
-    select_is(alloc, store, 4194304, b"Lost+Found", Some(Refused::UidWide))?;
-    select_is(alloc, store, 4194304, b"Work", Some(used_up))?;
-    select_is(alloc, store, 4194303, b"Work", None)
-}
-
-fn subject(alloc: Global) -> Result<Text, Fail> {
-    Ok(Text::of(alloc, b"Subject: hi\r\n\r\n.dot\r\n")?)
-}
-
-fn one_name(alloc: Global, local: &[u8]) -> Result<Names, Fail> {
-    let mut to = Names::new(alloc);
-    to.push(name(alloc, local)?)?;
-    Ok(to)
-}
-
-/// A delivery at moment 9, of number 2.
-fn delivered(alloc: Global, store: &Store, local: &[u8]) -> Result<Result<Item, Refused>, Fail>
-    requires { store.now.store ≡ sample }
-{
-    let to = one_name(alloc, local)?;
-    let from = Text::of(alloc, b"joe@far.test")?;
-    let text = subject(alloc)?;
-    Ok(store.live(alloc, 2, 9, None, Ask::Deliver { from, to, text }))
-}
-
-#[test]
-fn what_is_used_up_is_refused_in_order(rt: HostRuntime) -> Result<(), Fail> {
-    let alloc = rt.alloc();
-    let store = store(alloc)?;
-    selected(alloc, &store)?;
-    match delivered(alloc, &store, b"nobody")? {
-        Ok(_) => Err(Fail::new("an item")),
-        Err(refused) => expect(Some(refused), Some(Refused::UidWide)),
-    }
-}
-
-/// The item of that number at moment 9.
-fn item(number: u32, by: Option<User>, deed: Deed, shown: Shown) -> Item {
-    Item {
-        number,
-        at: 9,
-        by,
-        rev: 0,
-        deed,
-        shown,
-    }
-}
-
-#[test]
-fn the_first_delivery_is_an_item(rt: HostRuntime) -> Result<(), Fail> {
-    let alloc = rt.alloc();
-    let store = store(alloc)?;
-    let deed = Deed::Deliver {
-        from: Text::of(alloc, b"joe@far.test")?,
-        to: one_name(alloc, b"ann")?,
-        text: subject(alloc)?,
-    };
-    let due = item(2, None, deed, Shown::Nothing);
-    expect_item(delivered(alloc, &store, b"ann")?, due)
-}
-
-/// A CLOSE of INBOX, which finds so many keys.
-fn close_is(alloc: Global, store: &Store, removes: bool, count: u32) -> Result<(), Fail>
-    requires { store.now.store ≡ sample }
-{
-    let deed = Deed::Close {
-        mailbox: name(alloc, b"INBOX")?,
-        keys: keys(alloc, 3, count)?,
-    };
-    let due = item(9, Some(User(0)), deed, Shown::Left(Keys::new(alloc)));
-    let mailbox = name(alloc, b"INBOX")?;
-    expect_item(asked(alloc, store, 9, Ask::Close { mailbox, removes }), due)
-}
-
-/// An APPEND to INBOX with no moment.
-fn append_now(alloc: Global) -> Result<Ask, Fail>
+fn rename(alloc: Global, mailbox: &[u8], target: &[u8]) -> Result<Ask, Fail>
     ensures { IfOk result (λ ask. is_users ask ≡ true) }
 {
-    Ok(Ask::Append {
-        mailbox: name(alloc, b"INBOX")?,
-        flags: Flags::default(),
-        moment: None,
-        text: subject(alloc)?,
+    Ok(Ask::Rename {
+        mailbox: name(alloc, mailbox)?,
+        target: name(alloc, target)?,
     })
 }
 
-fn append_takes_now(alloc: Global, store: &Store) -> Result<(), Fail>
-    requires { store.now.store ≡ sample }
+fn delete(alloc: Global, mailbox: &[u8]) -> Result<Ask, Fail>
+    ensures { IfOk result (λ ask. is_users ask ≡ true) }
 {
-    let deed = Deed::Append {
-        mailbox: name(alloc, b"INBOX")?,
-        flags: Flags::default(),
-        moment: 9,
-        text: subject(alloc)?,
-    };
-    let due = item(9, Some(User(0)), deed, Shown::Put { redirected: false });
-    let ask = append_now(alloc)?;
-    expect_item(asked(alloc, store, 9, ask), due)
+    Ok(Ask::Delete {
+        mailbox: name(alloc, mailbox)?,
+    })
 }
 
 #[test]
-fn items_have_what_is_found(rt: HostRuntime) -> Result<(), Fail> {
+fn names_refuse_in_order(rt: HostRuntime) -> Result<(), Fail> {
     let alloc = rt.alloc();
     let store = store(alloc)?;
-    close_is(alloc, &store, true, 1)?;
-    close_is(alloc, &store, false, 0)?;
-    append_takes_now(alloc, &store)
+    let table = [(create(alloc, b"a%")?, Some(Refused::NameShape))];
+    for (ask, due) in table {
+        assert!(rt; why(alloc, &store, 9, ask) == due);
+    }
+    Ok(())
 }
