@@ -47,8 +47,4 @@ pub use threads::types_cross_threads;
 pub use verb_core::SubmitFault;
 
 #[cfg(test)]
-mod apply_tests;
-#[cfg(test)]
-mod live_tests;
-#[cfg(test)]
 mod tests;
