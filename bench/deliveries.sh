@@ -1,11 +1,11 @@
 #!/bin/sh
-# Times `undomail play` over scripts of 20,000 and 40,000 deliveries, each of nine lines.
+# Times `undomail play` over scripts of 10,000 to 100,000 deliveries into one mailbox, seven lines each.
 # Usage: bench/deliveries.sh PROGRAM (the built program, as `rt run` in crates/undomail leaves it under out/)
 set -e
 program=$1
 folder=$(mktemp -d)
 trap 'rm -rf "$folder"' EXIT
-for count in 20000 40000; do
+for count in 10000 20000 40000 100000; do
     awk -v count="$count" 'BEGIN {
         print "at 1105092000"
         print "open 1 smtp"
