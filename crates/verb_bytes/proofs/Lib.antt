@@ -1,0 +1,6 @@
+pub mod Exact
+pub mod FieldLaws
+pub mod RecordLaws
+pub mod Puts
+pub mod TimesLoop
+pub mod Cases

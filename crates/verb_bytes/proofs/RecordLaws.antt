@@ -1,0 +1,495 @@
+-- Each record is read from its fields, and only from these; so it has one spelling, and bytes spell one record at most.
+use Rattle.std.proofs.Common.{◌≡◌, ℕ, zero, suc, ◌+◌, ◌-◌, ◌<◌, ◌≤◌, Bool, true, false, ◌&&◌, List, [], ◌∷◌, ◌++◌, length, Option, Some, None, Result, Ok, Err, refl, sym, ap, subst, ◌∙◌, arith, inl, inr, lit<}
+use Rattle.std.specs.Prelude.{◌==◌, nat_eq}
+use Rattle.std.specs.List.{flat_map}
+use Rattle.std.specs.Int.{w32, w64}
+use Rattle.std.proofs.lemmas.Bool.{cases_lt, and_parts, eqb-true}
+use Rattle.std.proofs.lemmas.List.{append-nil}
+use Rattle.undo_base.specs.declared.keys.User.{User}
+use Rattle.undo_base.specs.declared.keys.Key.{Key}
+use Rattle.undo_base.specs.declared.keys.Flags.{Flags}
+use Rattle.undo_base.specs.declared.asks.How.{How}
+use Rattle.undo_base.specs.declared.asks.How.TheVariants.{Replace, Add, Take}
+use Rattle.verb_core.specs.declared.conf.Account.{Account}
+use Rattle.verb_core.specs.declared.conf.Alias.{Alias}
+use Rattle.verb_core.specs.declared.conf.Filter.{Filter}
+use Rattle.verb_core.specs.declared.conf.House.{House}
+use Rattle.verb_core.specs.declared.conf.Conf.{Conf}
+use Rattle.verb_core.specs.declared.mailbox.Entry.{Entry}
+use Rattle.verb_core.specs.declared.mailbox.Mailbox.{Mailbox}
+use Rattle.verb_core.specs.declared.mailbox.BoxId.{BoxId}
+use Rattle.verb_core.specs.declared.item.Item.{Item}
+use Rattle.verb_core.specs.declared.item.Sight.{Sight}
+use Rattle.verb_core.specs.declared.item.Way.{Way}
+use Rattle.verb_core.specs.declared.item.Way.TheVariants.{Plain, NoSource, Merged}
+use Rattle.verb_core.specs.declared.item.Act.{Act}
+use Rattle.verb_core.specs.declared.item.Act.TheVariants.{SetAlias, DropAlias, SetFilter, DropFilter, Remove, Give}
+use Rattle.verb_core.specs.declared.item.Deed.{Deed}
+use Rattle.verb_core.specs.declared.item.Deed.TheVariants.{Deliver, Append, Fetch, Store, Copy, List as Names, Status, Select, Expunge, Close, Create, Rename, Delete, Act as Acts, Notice}
+use Rattle.verb_core.specs.declared.item.Shown.{Shown}
+use Rattle.verb_core.specs.declared.item.Shown.TheVariants.{Nothing, Seen, Names as Named, Count, Done, Copied, Put, Left, Way as Went, Moved}
+use Rattle.verb_core.specs.Names.{is_empty}
+use Rattle.verb_bytes.specs.declared.decode.BadBytes.{BadBytes}
+use Rattle.verb_bytes.specs.declared.decode.BadBytes.TheVariants.{Place, NoMemory}
+use Rattle.verb_bytes.specs.declared.journal.CycleAsk.{CycleAsk}
+use Rattle.verb_bytes.specs.declared.journal.JournalRecord.{JournalRecord}
+use Rattle.verb_bytes.specs.declared.journal.JournalRecord.TheVariants.{Format, Verb, Operator, Cycle, Snapshot}
+use Rattle.verb_bytes.specs.Fields.{Field, bytes_of, are_in_range, ◌&◌, only_if, byte_field, number_field, name_field, key_field, list_fields, option_fields, bool_field, flags_field, flags_code, worth, u32_field, u64_field, moment_field, any_text_field, body_field, user_field, actor_field, any_list_fields}
+use Rattle.verb_bytes.specs.Spelling.{key_list, account_fields, alias_fields, aliases_fields, filter_fields, entry_fields, row_fields, how_field, deed_fields, sight_fields, way_field, shown_kind, shown_fields, item_fields, act_fields, replace_fields, ask_fields, house_fields, record_fields, record_bytes, Spells}
+use Rattle.verb_bytes.specs.Readers.{Reader, ◌>>=◌, done, read1, read2, read3, read4, read5, read6, times, list_at, nth_case, choice_at, byte_at, option_at, bool_at, name_at, text_at, key_at, actor_at, number_at, u32_at, moment_at, has_bit, flags_of, flags_at, user_of, user_at}
+use Rattle.verb_bytes.specs.Reading.{IsBytes, from_start, refused_behind, first_refused, AnswersAll, Decodes, IsThis, any_list_at, any_text_at, body_at, u64_at, keys_at, account_of, account_at, alias_of, alias_at, aliases_at, filter_of, filter_at, entry_of, entry_at, row_of, row_at, how_at, deed_cases, deed_at, sight_of, sight_at, way_at, shown_cases, shown_at, item_of, item_at, act_cases, act_at, replace_of, replace_at, ask_of, cycle_ask_at, format_of, format_at, snapshot_of, snapshot_at, record_cases, record_at}
+use Rattle.verb_bytes.proofs.Exact.{Takes, Again, Only, Exact, and_true, in_range_parts, in_range_both, bytes_joined, ok_is, again_step, again_made, again_done, only_step, only_made, only_done, only_weaker, again1, only1, again2, only2, again3, only3, again4, only4, again5, only5, again6, only6, list_exact, EachCase, only_case}
+use Rattle.verb_bytes.proofs.FieldLaws.{byte_exact, byte_bounds, wide32, wide64, number_exact, name_exact, text_exact, key_exact, actor_exact, again_alone, choice_exact, option_exact}
+
+-- ---- numbers, texts and lists of a range
+
+u32_exact : Exact u32_at u32_field
+u32_exact = number_exact w32 4294967296 4294967295 wide32 (lit< tt)
+
+u64_exact : Exact u64_at u64_field
+u64_exact = number_exact w64 18446744073709551616 18446744073709551615 wide64 (lit< tt)
+
+moment_exact : Exact moment_at moment_field
+moment_exact = number_exact w64 18446744073709551616 253402300799 wide64 (lit< tt)
+
+any_text_exact : Exact any_text_at any_text_field
+any_text_exact = text_exact 4294967295 (lit< tt)
+
+body_exact : Exact body_at body_field
+body_exact = text_exact 1052672 (lit< tt)
+
+counted : {A : Type 0} {f : Reader A} {F : A → List Field} (most : ℕ) → most < 4294967296 → Exact f F → Exact (list_at most f) (list_fields most F)
+counted most lt e = list_exact (number_exact w32 4294967296 most wide32 lt) e
+
+any_counted : {A : Type 0} {f : Reader A} {F : A → List Field} → Exact f F → Exact (any_list_at f) (any_list_fields F)
+any_counted e = counted 4294967295 (lit< tt) e
+
+keys_exact : Exact keys_at key_list
+keys_exact = counted 65536 (lit< tt) key_exact
+
+-- ---- small choices
+
+bool_again : (x : Bool) → Again bool_at x (bool_field x)
+bool_again false = again_alone 0 1 0 (done false ∷ done true ∷ []) false (again_done false)
+bool_again true = again_alone 0 1 1 (done false ∷ done true ∷ []) true (again_done true)
+
+bool_exact : Exact bool_at bool_field
+bool_exact = choice_exact 0 1 (done false ∷ done true ∷ []) bool_field bool_again (only_done false _ (append-nil (byte_field 0 1 0)), (only_done true _ (append-nil (byte_field 0 1 1)), tt))
+
+how_again : (x : How) → Again how_at x (how_field x)
+how_again Replace = again_alone 0 2 0 (done Replace ∷ done Add ∷ done Take ∷ []) Replace (again_done Replace)
+how_again Add = again_alone 0 2 1 (done Replace ∷ done Add ∷ done Take ∷ []) Add (again_done Add)
+how_again Take = again_alone 0 2 2 (done Replace ∷ done Add ∷ done Take ∷ []) Take (again_done Take)
+
+how_exact : Exact how_at how_field
+how_exact = choice_exact 0 2 (done Replace ∷ done Add ∷ done Take ∷ []) how_field how_again (only_done Replace _ (append-nil (byte_field 0 2 0)), (only_done Add _ (append-nil (byte_field 0 2 1)), (only_done Take _ (append-nil (byte_field 0 2 2)), tt)))
+
+way_again : (x : Way) → Again way_at x (way_field x)
+way_again Plain = again_alone 0 2 0 (done Plain ∷ done NoSource ∷ done Merged ∷ []) Plain (again_done Plain)
+way_again NoSource = again_alone 0 2 1 (done Plain ∷ done NoSource ∷ done Merged ∷ []) NoSource (again_done NoSource)
+way_again Merged = again_alone 0 2 2 (done Plain ∷ done NoSource ∷ done Merged ∷ []) Merged (again_done Merged)
+
+way_exact : Exact way_at way_field
+way_exact = choice_exact 0 2 (done Plain ∷ done NoSource ∷ done Merged ∷ []) way_field way_again (only_done Plain _ (append-nil (byte_field 0 2 0)), (only_done NoSource _ (append-nil (byte_field 0 2 1)), (only_done Merged _ (append-nil (byte_field 0 2 2)), tt)))
+
+-- ---- flags and users
+
+five : (a f d s r : Bool) → flags_of (flags_code (record { answered = a; flagged = f; deleted = d; seen = s; draft = r })) ≡ record { answered = a; flagged = f; deleted = d; seen = s; draft = r }
+five true true true true true = refl
+five true true true true false = refl
+five true true true false true = refl
+five true true true false false = refl
+five true true false true true = refl
+five true true false true false = refl
+five true true false false true = refl
+five true true false false false = refl
+five true false true true true = refl
+five true false true true false = refl
+five true false true false true = refl
+five true false true false false = refl
+five true false false true true = refl
+five true false false true false = refl
+five true false false false true = refl
+five true false false false false = refl
+five false true true true true = refl
+five false true true true false = refl
+five false true true false true = refl
+five false true true false false = refl
+five false true false true true = refl
+five false true false true false = refl
+five false true false false true = refl
+five false true false false false = refl
+five false false true true true = refl
+five false false true true false = refl
+five false false true false true = refl
+five false false true false false = refl
+five false false false true true = refl
+five false false false true false = refl
+five false false false false true = refl
+five false false false false false = refl
+
+all_below : (ℕ → Bool) → ℕ → Bool
+all_below test zero = true
+all_below test (suc k) = test k && all_below test k
+
+below_is : (test : ℕ → Bool) (k n : ℕ) → all_below test k ≡ true → n < k → test n ≡ true
+unfolding all_below
+below_is test zero n h lt = absurd (omega arith)
+below_is test (suc k) n h lt =
+    let p = and_parts (test k) (all_below test k) h in
+    elim (cases_lt n k) [
+      | inl less ↦ below_is test k n p.1 less
+      | inr le ↦ let e : k ≡ n = omega arith in subst (λ (m : ℕ). test m ≡ true) e p.0
+    ]
+
+code_again : (n : ℕ) → n ≤ 31 → flags_code (flags_of n) ≡ n
+unfolding all_below
+code_again n le = eqb-true _ _ (below_is (λ m. flags_code (flags_of m) == m) 32 n refl (omega arith))
+
+flags_exact : Exact flags_at flags_field
+flags_exact = record {
+  again = λ f. subst (λ (g : Flags). Again flags_at g (flags_field f)) (five f.answered f.flagged f.deleted f.seen f.draft) (again1 (byte_exact 0 31) flags_of (flags_code f));
+  only = only_step (byte_exact 0 31) (λ n. done (flags_of n)) (λ f fs. fs ≡ flags_field f) (λ n fits. only_done (flags_of n) (λ f fs. byte_field 0 31 n & fs ≡ flags_field f) (append-nil (byte_field 0 31 n) ∙ ap (byte_field 0 31) (sym (code_again n (byte_bounds 0 31 n fits).1))));
+}
+
+user_exact : Exact user_at user_field
+user_exact = record { again = λ u. again1 (byte_exact 0 199) user_of u.0; only = only1 (byte_exact 0 199) user_of (λ u fs. fs ≡ user_field u) (λ n. refl) }
+
+-- ---- configurations and mailboxes
+
+account_exact : Exact account_at account_fields
+account_exact = record { again = λ q. again2 name_exact name_exact account_of q.name q.password; only = only2 name_exact name_exact account_of (λ q fs. fs ≡ account_fields q) (λ a b. refl) }
+
+alias_exact : Exact alias_at alias_fields
+alias_exact = record { again = λ q. again2 name_exact (any_counted user_exact) alias_of q.local q.users; only = only2 name_exact (any_counted user_exact) alias_of (λ q fs. fs ≡ alias_fields q) (λ a b. refl) }
+
+aliases_exact : Exact aliases_at aliases_fields
+aliases_exact = any_counted alias_exact
+
+filter_exact : Exact filter_at filter_fields
+filter_exact = record { again = λ q. again3 name_exact name_exact (option_exact name_exact) filter_of q.id q.needle q.file; only = only3 name_exact name_exact (option_exact name_exact) filter_of (λ q fs. fs ≡ filter_fields q) (λ a b c. refl) }
+
+entry_exact : Exact entry_at entry_fields
+entry_exact = record { again = λ q. again6 u64_exact key_exact u32_exact u32_exact flags_exact moment_exact entry_of q.uid q.key q.body.origin q.body.rev q.flags q.at; only = only6 u64_exact key_exact u32_exact u32_exact flags_exact moment_exact entry_of (λ q fs. fs ≡ entry_fields q) (λ a b c d x y. refl) }
+
+row_exact : Exact row_at row_fields
+row_exact = record { again = λ q. again4 user_exact name_exact u64_exact (any_counted entry_exact) row_of q.0.user q.0.name q.1.next q.1.entries; only = only4 user_exact name_exact u64_exact (any_counted entry_exact) row_of (λ q fs. fs ≡ row_fields q) (λ a b c d. refl) }
+
+sight_exact : Exact sight_at sight_fields
+sight_exact = record { again = λ q. again2 key_exact u32_exact sight_of q.key q.rev; only = only2 key_exact u32_exact sight_of (λ q fs. fs ≡ sight_fields q) (λ a b. refl) }
+
+replace_exact : Exact replace_at replace_fields
+replace_exact = record { again = λ q. again2 u32_exact body_exact replace_of q.0 q.1; only = only2 u32_exact body_exact replace_of (λ q fs. fs ≡ replace_fields q) (λ a b. refl) }
+
+-- ---- deeds
+
+never : {C : Type 0} (reader : Reader C) (x : C) → Again reader x (only_if false)
+unfolding only_if are_in_range
+never reader x = record { reads = λ rest fits. absurd cc }
+
+deed_case : (n : ℕ) (x : Deed) (fs : List Field) → Again (nth_case (n - 1) deed_cases) x fs → Again deed_at x (byte_field 1 13 n & fs)
+deed_case n x fs h = again_step (byte_exact 1 13) (λ n. nth_case (n - 1) deed_cases) n x fs h
+
+deed_again : (x : Deed) → Again deed_at x (deed_fields x)
+deed_again (Deliver a b c) = deed_case 1 (Deliver a b c) _ (again3 any_text_exact (counted 1000 (lit< tt) name_exact) body_exact Deliver a b c)
+deed_again (Append a b c d) = deed_case 2 (Append a b c d) _ (again4 name_exact flags_exact moment_exact body_exact Append a b c d)
+deed_again (Fetch a b c d) = deed_case 3 (Fetch a b c d) _ (again4 name_exact keys_exact bool_exact bool_exact Fetch a b c d)
+deed_again (Store a b c d) = deed_case 4 (Store a b c d) _ (again4 name_exact keys_exact how_exact flags_exact Store a b c d)
+deed_again (Copy a b c) = deed_case 5 (Copy a b c) _ (again3 name_exact keys_exact name_exact Copy a b c)
+deed_again (Names a) = deed_case 6 (Names a) _ (again1 any_text_exact Names a)
+deed_again (Status a) = deed_case 7 (Status a) _ (again1 name_exact Status a)
+deed_again (Select a) = deed_case 8 (Select a) _ (again1 name_exact Select a)
+deed_again (Expunge a b) = deed_case 9 (Expunge a b) _ (again2 name_exact keys_exact Expunge a b)
+deed_again (Close a b) = deed_case 10 (Close a b) _ (again2 name_exact keys_exact Close a b)
+deed_again (Create a) = deed_case 11 (Create a) _ (again1 name_exact Create a)
+deed_again (Rename a b) = deed_case 12 (Rename a b) _ (again2 name_exact name_exact Rename a b)
+deed_again (Delete a b) = deed_case 13 (Delete a b) _ (again2 name_exact keys_exact Delete a b)
+deed_again (Acts a) = never deed_at (Acts a)
+deed_again (Notice a b) = never deed_at (Notice a b)
+
+deed_exact : Exact deed_at deed_fields
+deed_exact = choice_exact 1 13 deed_cases deed_fields deed_again (
+  only3 any_text_exact (counted 1000 (lit< tt) name_exact) body_exact Deliver _ (λ a b c. refl),
+  (
+    only4 name_exact flags_exact moment_exact body_exact Append _ (λ a b c d. refl),
+    (
+      only4 name_exact keys_exact bool_exact bool_exact Fetch _ (λ a b c d. refl),
+      (
+        only4 name_exact keys_exact how_exact flags_exact Store _ (λ a b c d. refl),
+        (
+          only3 name_exact keys_exact name_exact Copy _ (λ a b c. refl),
+          (
+            only1 any_text_exact Names _ (λ a. refl),
+            (
+              only1 name_exact Status _ (λ a. refl),
+              (
+                only1 name_exact Select _ (λ a. refl),
+                (
+                  only2 name_exact keys_exact Expunge _ (λ a b. refl),
+                  (
+                    only2 name_exact keys_exact Close _ (λ a b. refl),
+                    (
+                      only1 name_exact Create _ (λ a. refl),
+                      (
+                        only2 name_exact name_exact Rename _ (λ a b. refl),
+                        (
+                          only2 name_exact keys_exact Delete _ (λ a b. refl),
+                          tt,
+                        ),
+                      ),
+                    ),
+                  ),
+                ),
+              ),
+            ),
+          ),
+        ),
+      ),
+    ),
+  ),
+)
+
+-- ---- what was shown
+
+shown_case : (kind n : ℕ) (x : Shown) (fs : List Field) → Again (nth_case n shown_cases) x fs → Again (shown_at kind) x (byte_field kind kind n & fs)
+shown_case kind n x fs h = again_step (byte_exact kind kind) (λ n. nth_case n shown_cases) n x fs h
+
+shown_again : (kind : ℕ) (x : Shown) → Again (shown_at kind) x (shown_fields kind x)
+shown_again kind Nothing = subst (λ (fs : List Field). Again (shown_at kind) Nothing fs) (append-nil (byte_field kind kind 0)) (shown_case kind 0 Nothing [] (again_done Nothing))
+shown_again kind (Seen a) = shown_case kind 1 (Seen a) _ (again1 (counted 65536 (lit< tt) sight_exact) Seen a)
+shown_again kind (Named a) = shown_case kind 2 (Named a) _ (again1 (any_counted name_exact) Named a)
+shown_again kind (Count a) = shown_case kind 3 (Count a) _ (again1 (option_exact u32_exact) Count a)
+shown_again kind (Done a) = shown_case kind 4 (Done a) _ (again1 keys_exact Done a)
+shown_again kind (Copied a b) = shown_case kind 5 (Copied a b) _ (again2 keys_exact bool_exact Copied a b)
+shown_again kind (Put a) = shown_case kind 6 (Put a) _ (again1 bool_exact Put a)
+shown_again kind (Left a) = shown_case kind 7 (Left a) _ (again1 keys_exact Left a)
+shown_again kind (Went a) = shown_case kind 8 (Went a) _ (again1 way_exact Went a)
+shown_again kind (Moved a) = shown_case kind 9 (Moved a) _ (again1 keys_exact Moved a)
+
+shown_exact : (kind : ℕ) → Exact (shown_at kind) (shown_fields kind)
+shown_exact kind = record {
+  again = shown_again kind;
+  only = only_step (byte_exact kind kind) (λ n. nth_case n shown_cases) (λ x fs. fs ≡ shown_fields kind x) (λ n fits. only_case shown_cases 0 n n (λ n x fs. byte_field kind kind n & fs ≡ shown_fields kind x) (each kind) (omega arith));
+}
+  where
+    each : (kind : ℕ) → EachCase 0 shown_cases (λ n x fs. byte_field kind kind n & fs ≡ shown_fields kind x)
+    each kind = (
+      only_done Nothing _ (append-nil (byte_field kind kind 0)),
+      (
+        only1 (counted 65536 (lit< tt) sight_exact) Seen _ (λ a. refl),
+        (
+          only1 (any_counted name_exact) Named _ (λ a. refl),
+          (
+            only1 (option_exact u32_exact) Count _ (λ a. refl),
+            (
+              only1 keys_exact Done _ (λ a. refl),
+              (
+                only2 keys_exact bool_exact Copied _ (λ a b. refl),
+                (
+                  only1 bool_exact Put _ (λ a. refl),
+                  (
+                    only1 keys_exact Left _ (λ a. refl),
+                    (
+                      only1 way_exact Went _ (λ a. refl),
+                      (
+                        only1 keys_exact Moved _ (λ a. refl),
+                        tt,
+                      ),
+                    ),
+                  ),
+                ),
+              ),
+            ),
+          ),
+        ),
+      ),
+    )
+
+-- ---- conditions that no byte stands for
+
+only_true : (t : Bool) → are_in_range (only_if t) ≡ true → t ≡ true
+unfolding only_if are_in_range
+only_true t h = and_true t h
+
+no_bytes : (fs : List Field) (t : Bool) (rest : List ℕ) → bytes_of (fs & only_if t) ++ rest ≡ bytes_of fs ++ rest
+unfolding only_if bytes_of
+no_bytes fs t rest = bytes_joined fs (only_if t) rest
+
+again_only : {A C : Type 0} {f : Reader A} {F : A → List Field} → Exact f F → (make : A → C) (a : A) (x : C) (t : Bool) → (t ≡ true → make a ≡ x) → Again (read1 make f) x (F a & only_if t)
+again_only {A} {C} {f} {F} e make a x t h = record {
+  reads = λ rest fits.
+      let p = in_range_parts (F a) (only_if t) fits in
+      ap (read1 make f) (no_bytes (F a) t rest) ∙ (again1 e make a).reads rest p.0 ∙ ap (λ (y : C). Ok (y, rest)) (h (only_true t p.1));
+}
+
+holds : are_in_range (only_if true) ≡ true
+unfolding only_if are_in_range
+holds = refl
+
+only_only : {A C : Type 0} {f : Reader A} {F : A → List Field} → Exact f F → (make : A → C) (Q : C → List Field → Type 0) → ((a : A) → Q (make a) (F a & only_if true)) → Only (read1 make f) Q
+only_only {A} {C} {f} {F} e make Q h = record {
+  takes = λ bytes rest x fits read.
+      let t = (only1 e make (λ c fs. Q c (fs & only_if true)) h).takes bytes rest x fits read in
+      (t.0 & only_if true, record { parts = t.1.parts ∙ sym (no_bytes t.0 true rest); fits = in_range_both t.0 (only_if true) t.1.fits holds; rest_fits = t.1.rest_fits }, t.2);
+}
+
+-- ---- items and acts
+
+no_rev : (n : ℕ) → (n == 0) ≡ true → 0 ≡ n
+no_rev n h = sym (eqb-true _ _ h)
+
+item_exact : Exact item_at item_fields
+item_exact = record {
+  again = λ i. again_step u32_exact (λ n. moment_at >>= λ t. actor_at >>= λ b. deed_at >>= λ d. read1 (item_of n t b d) (shown_at (shown_kind d))) i.number i _
+      (again_step moment_exact (λ t. actor_at >>= λ b. deed_at >>= λ d. read1 (item_of i.number t b d) (shown_at (shown_kind d))) i.at i _
+      (again_step actor_exact (λ b. deed_at >>= λ d. read1 (item_of i.number i.at b d) (shown_at (shown_kind d))) i.by i _
+      (again_step deed_exact (λ d. read1 (item_of i.number i.at i.by d) (shown_at (shown_kind d))) i.deed i _
+      (again_only (shown_exact (shown_kind i.deed)) (item_of i.number i.at i.by i.deed) i.shown i (i.rev == 0)
+      (λ h. ap (λ (r : ℕ). record i { rev = r }) (no_rev i.rev h))))));
+  only = only_step u32_exact (λ n. moment_at >>= λ t. actor_at >>= λ b. deed_at >>= λ d. read1 (item_of n t b d) (shown_at (shown_kind d))) (λ i fs. fs ≡ item_fields i) (λ n fits.
+      only_step moment_exact (λ t. actor_at >>= λ b. deed_at >>= λ d. read1 (item_of n t b d) (shown_at (shown_kind d))) _ (λ t fits.
+      only_step actor_exact (λ b. deed_at >>= λ d. read1 (item_of n t b d) (shown_at (shown_kind d))) _ (λ b fits.
+      only_step deed_exact (λ d. read1 (item_of n t b d) (shown_at (shown_kind d))) _ (λ d fits.
+      only_only (shown_exact (shown_kind d)) (item_of n t b d) _ (λ s. refl)))));
+}
+
+act_case : (n : ℕ) (x : Act) (fs : List Field) → Again (nth_case (n - 1) act_cases) x fs → Again act_at x (byte_field 1 6 n & fs)
+act_case n x fs h = again_step (byte_exact 1 6) (λ n. nth_case (n - 1) act_cases) n x fs h
+
+act_again : (x : Act) → Again act_at x (act_fields x)
+act_again (SetAlias a b) = act_case 1 (SetAlias a b) _ (again2 name_exact (any_counted user_exact) SetAlias a b)
+act_again (DropAlias a) = act_case 2 (DropAlias a) _ (again1 name_exact DropAlias a)
+act_again (SetFilter a) = act_case 3 (SetFilter a) _ (again1 filter_exact SetFilter a)
+act_again (DropFilter a) = act_case 4 (DropFilter a) _ (again1 name_exact DropFilter a)
+act_again (Remove a b c) = act_case 5 (Remove a b c) _ (again3 user_exact name_exact key_exact Remove a b c)
+act_again (Give a b c) = act_case 6 (Give a b c) _ (again3 user_exact name_exact body_exact Give a b c)
+
+act_exact : Exact act_at act_fields
+act_exact = choice_exact 1 6 act_cases act_fields act_again (
+  only2 name_exact (any_counted user_exact) SetAlias _ (λ a b. refl),
+  (
+    only1 name_exact DropAlias _ (λ a. refl),
+    (
+      only1 filter_exact SetFilter _ (λ a. refl),
+      (
+        only1 name_exact DropFilter _ (λ a. refl),
+        (
+          only3 user_exact name_exact key_exact Remove _ (λ a b c. refl),
+          (
+            only3 user_exact name_exact body_exact Give _ (λ a b c. refl),
+            tt,
+          ),
+        ),
+      ),
+    ),
+  ),
+)
+
+-- ---- records
+
+ask_exact : Exact cycle_ask_at ask_fields
+ask_exact = record { again = λ q. again5 name_exact u32_exact (any_counted u32_exact) (any_counted replace_exact) (any_counted act_exact) ask_of q.key q.point q.drops q.replaces q.inserts; only = only5 name_exact u32_exact (any_counted u32_exact) (any_counted replace_exact) (any_counted act_exact) ask_of (λ q fs. fs ≡ ask_fields q) (λ a b c d x. refl) }
+
+empty_is : (fs : List Filter) → is_empty fs ≡ true → [] ≡ fs
+empty_is [] h = refl
+empty_is (f ∷ fs) h = absurd cc
+
+format_again : (h : House) (conf : Conf) → Again format_at (Format h conf) (house_fields h conf)
+format_again h conf =
+    again_step name_exact (λ a. read5 (format_of a) (any_list_at name_at) u32_at (list_at 200 account_at) user_at aliases_at) h.host (Format h conf) _
+    (again_step (any_counted name_exact) (λ b. read4 (format_of h.host b) u32_at (list_at 200 account_at) user_at aliases_at) h.domains (Format h conf) _
+    (again_step u32_exact (λ c. read3 (format_of h.host h.domains c) (list_at 200 account_at) user_at aliases_at) h.first (Format h conf) _
+    (again_step (counted 200 (lit< tt) account_exact) (λ d. read2 (format_of h.host h.domains h.first d) user_at aliases_at) h.accounts (Format h conf) _
+    (again_step user_exact (λ e. read1 (format_of h.host h.domains h.first h.accounts e) aliases_at) h.postmaster (Format h conf) _
+    (again_only aliases_exact (format_of h.host h.domains h.first h.accounts h.postmaster) conf.aliases (Format h conf) (is_empty conf.filters)
+    (λ e. ap (λ (fs : List Filter). Format h (record { aliases = conf.aliases; filters = fs })) (empty_is conf.filters e)))))))
+
+format_only : Only format_at (λ r fs. byte_field 0 4 0 & fs ≡ record_fields r)
+format_only =
+    only_step name_exact (λ a. read5 (format_of a) (any_list_at name_at) u32_at (list_at 200 account_at) user_at aliases_at) _ (λ a fits.
+    only_step (any_counted name_exact) (λ b. read4 (format_of a b) u32_at (list_at 200 account_at) user_at aliases_at) _ (λ b fits.
+    only_step u32_exact (λ c. read3 (format_of a b c) (list_at 200 account_at) user_at aliases_at) _ (λ c fits.
+    only_step (counted 200 (lit< tt) account_exact) (λ d. read2 (format_of a b c d) user_at aliases_at) _ (λ d fits.
+    only_step user_exact (λ e. read1 (format_of a b c d e) aliases_at) _ (λ e fits.
+    only_only aliases_exact (format_of a b c d e) _ (λ x. refl))))))
+
+record_case : (n : ℕ) (x : JournalRecord) (fs : List Field) → Again (nth_case (n - 0) record_cases) x fs → Again record_at x (byte_field 0 4 n & fs)
+record_case n x fs h = again_step (byte_exact 0 4) (λ n. nth_case (n - 0) record_cases) n x fs h
+
+record_again : (x : JournalRecord) → Again record_at x (record_fields x)
+record_again (Format a b) = record_case 0 (Format a b) _ (format_again a b)
+record_again (Verb a) = record_case 1 (Verb a) _ (again1 item_exact Verb a)
+record_again (Operator a b c) = record_case 2 (Operator a b c) _ (again3 u32_exact moment_exact act_exact Operator a b c)
+record_again (Cycle a b c) = record_case 3 (Cycle a b c) _ (again3 u32_exact moment_exact ask_exact Cycle a b c)
+record_again (Snapshot a b c) = record_case 4 (Snapshot a b c) _ (again4 u32_exact aliases_exact (any_counted filter_exact) (any_counted row_exact) snapshot_of a b.aliases b.filters c)
+
+record_exact : Exact record_at record_fields
+record_exact = choice_exact 0 4 record_cases record_fields record_again (
+  format_only,
+  (
+    only1 item_exact Verb _ (λ a. refl),
+    (
+      only3 u32_exact moment_exact act_exact Operator _ (λ a b c. refl),
+      (
+        only3 u32_exact moment_exact ask_exact Cycle _ (λ a b c. refl),
+        (
+          only4 u32_exact aliases_exact (any_counted filter_exact) (any_counted row_exact) snapshot_of _ (λ a b c d. refl),
+          tt,
+        ),
+      ),
+    ),
+  ),
+)
+
+-- ---- the laws
+
+-- what is spelled is read, with nothing behind it
+pub spelled_is_read : (x : JournalRecord) (bytes : List ℕ) → Spells x bytes → record_at bytes ≡ Ok (x, [])
+spelled_is_read x bytes s = ap record_at (s.1 ∙ sym (append-nil (record_bytes x))) ∙ (record_exact.again x).reads [] s.0
+
+-- what is read with nothing behind it was spelled
+pub read_was_spelled : (x : JournalRecord) (bytes : List ℕ) → IsBytes bytes → record_at bytes ≡ Ok (x, []) → Spells x bytes
+read_was_spelled x bytes fits e =
+    let t = record_exact.only.takes bytes [] x fits e in
+    (subst (λ (fs : List Field). are_in_range fs ≡ true) t.2 t.1.fits, t.1.parts ∙ append-nil (bytes_of t.0) ∙ ap bytes_of t.2)
+
+-- bytes spell one record at most
+pub one_record : (x y : JournalRecord) (bytes : List ℕ) → Spells x bytes → Spells y bytes → x ≡ y
+one_record x y bytes s t = ap (λ (p : JournalRecord × List ℕ). p.0) (ok_is (x, []) (y, []) (sym (spelled_is_read x bytes s) ∙ spelled_is_read y bytes t))
+
+-- where a record is read with nothing behind it, nothing is refused
+read_is_accepted : (x : JournalRecord) (bytes : List ℕ) → record_at bytes ≡ Ok (x, []) → first_refused bytes ≡ None
+read_is_accepted x bytes e = ap (λ (r : Result (JournalRecord × List ℕ) ℕ). from_start (length bytes) (refused_behind r)) e
+
+pub spelled_is_accepted : (x : JournalRecord) (bytes : List ℕ) → Spells x bytes → first_refused bytes ≡ None
+spelled_is_accepted x bytes s = read_is_accepted x bytes (spelled_is_read x bytes s)
+
+-- where nothing is refused, a record is read with nothing behind it
+accepted_is_read : (count : ℕ) (r : Result (JournalRecord × List ℕ) ℕ) → from_start count (refused_behind r) ≡ None → (x : JournalRecord) × (r ≡ Ok (x, []))
+accepted_is_read count (Err left) e = absurd cc
+accepted_is_read count (Ok p) e = ended count p.0 p.1 e
+  where
+    ended : (count : ℕ) (x : JournalRecord) (rest : List ℕ) → from_start count (refused_behind (Ok (x, rest))) ≡ None → (y : JournalRecord) × (◌≡◌ {A = Result (JournalRecord × List ℕ) ℕ} (Ok (x, rest)) (Ok (y, [])))
+    ended count x [] e = (x, refl)
+    ended count x (b ∷ rest) e = absurd cc
+
+pub accepted_was_spelled : (bytes : List ℕ) → IsBytes bytes → first_refused bytes ≡ None → (x : JournalRecord) × Spells x bytes
+accepted_was_spelled bytes fits e =
+    let r = accepted_is_read (length bytes) (record_at bytes) e in
+    (r.0, read_was_spelled r.0 bytes fits r.1)
+
+-- ---- what decoding answers
+
+pub decodes : (bytes : List ℕ) (result : Result JournalRecord BadBytes) → IsBytes bytes → AnswersAll bytes result → Decodes bytes result
+decodes bytes (Ok x) fits h = read_was_spelled x bytes fits h
+decodes bytes (Err (Place place)) fits h = h
+decodes bytes (Err NoMemory) fits h = tt
+
+not_both : (o : Option ℕ) (place : ℕ) → o ≡ None → o ≡ Some place → ⊥
+not_both None place e f = absurd cc
+not_both (Some n) place e f = absurd cc
+
+pub is_this : (what : JournalRecord) (bytes : List ℕ) (result : Result JournalRecord BadBytes) → Spells what bytes → AnswersAll bytes result → IsThis what result
+is_this what bytes (Ok x) s h = ap (λ (p : JournalRecord × List ℕ). p.0) (ok_is (x, []) (what, []) (sym h ∙ spelled_is_read what bytes s))
+is_this what bytes (Err (Place place)) s h = not_both (first_refused bytes) place (spelled_is_accepted what bytes s) h
+is_this what bytes (Err NoMemory) s h = tt

@@ -1,0 +1,21 @@
+use Rattle.std.proofs.Common.{◌≡◌, arith}
+use Rattle.verb_bytes.specs.Reading.{record_cases}
+use Rattle.verb_bytes.proofs.Cases.{this_case}
+use Rattle.verb_bytes.proofs.decode.read_case.Goals as goal
+
+pub returns-in-0 : goal.returns-in-0
+returns-in-0 c = this_case 0 record_cases c.args.cursor.now.rest.now c.read_house.new.cursor.rest.now c.args.kind 0 c.read_house.result c.in-0.is c.read_house.ensures
+
+pub returns-in-1 : goal.returns-in-1
+returns-in-1 c = this_case 0 record_cases c.args.cursor.now.rest.now c.read_verb.new.cursor.rest.now c.args.kind 1 c.read_verb.result c.in-1.is c.read_verb.ensures
+
+pub returns-in-2 : goal.returns-in-2
+returns-in-2 c = this_case 0 record_cases c.args.cursor.now.rest.now c.read_operator.new.cursor.rest.now c.args.kind 2 c.read_operator.result c.in-2.is c.read_operator.ensures
+
+pub returns-in-3 : goal.returns-in-3
+returns-in-3 c = this_case 0 record_cases c.args.cursor.now.rest.now c.read_cycle.new.cursor.rest.now c.args.kind 3 c.read_cycle.result c.in-3.is c.read_cycle.ensures
+
+pub returns-in_default : goal.returns-in_default
+returns-in_default c =
+    let last : c.args.kind ≡ 4 = omega arith in
+    this_case 0 record_cases c.args.cursor.now.rest.now c.read_snapshot.new.cursor.rest.now c.args.kind 4 c.read_snapshot.result last c.read_snapshot.ensures

@@ -1,0 +1,113 @@
+-- The fields of a record. A field is its bytes, and whether its value is in the field's range.
+use Rattle.std.specs.Prelude.{ℕ, ◌+◌, Bool, true, false, ◌&&◌, nat_le, nat_lt, if◌then◌else◌, is_none, List, [], ◌∷◌, ◌++◌, length, Option, Some, None}
+use Rattle.std.specs.List.{list_all, flat_map}
+use Rattle.std.specs.Int.{Width, w16, w32, w64, to_be_bytes}
+use Rattle.undo_base.specs.declared.keys.User.{User}
+use Rattle.undo_base.specs.declared.keys.Key.{Key}
+use Rattle.undo_base.specs.declared.keys.Flags.{Flags}
+use Rattle.undo_base.specs.Name.{first_unprintable}
+
+pub record Field : Type 0 where
+  pub bytes : List ℕ
+  pub in_range : Bool
+
+-- the bytes of fields that follow one another
+unfoldable pub bytes_of : List Field → List ℕ
+bytes_of fields = flat_map (λ (f : Field). f.bytes) fields
+
+-- whether each value is in its field's range
+unfoldable pub are_in_range : List Field → Bool
+are_in_range fields = list_all (λ (f : Field). f.in_range) fields
+
+-- these fields, and then those
+infixr 60 ◌&◌
+abbrev pub ◌&◌ : List Field → List Field → List Field
+a & b = a ++ b
+
+-- bytes, with these fields behind them
+unfoldable pub puts : List ℕ → List Field → List ℕ
+puts out fields = out ++ bytes_of fields
+
+-- a condition on the record that no byte stands for
+unfoldable pub only_if : Bool → List Field
+only_if holds = record { bytes = []; in_range = holds } ∷ []
+
+-- a byte from the least to the most
+unfoldable pub byte_field : ℕ → ℕ → ℕ → List Field
+byte_field least most n = record { bytes = n ∷ []; in_range = nat_le least n && nat_le n most } ∷ []
+
+-- a number in big-endian bytes, at most this one
+unfoldable pub number_field : Width → ℕ → ℕ → List Field
+number_field w most n = record { bytes = to_be_bytes w n; in_range = nat_le n most } ∷ []
+
+-- 1 to 200 printable bytes
+abbrev pub is_name : List ℕ → Bool
+is_name bytes = nat_le 1 (length bytes) && nat_le (length bytes) 200 && is_none (first_unprintable bytes)
+
+-- its length in one byte, and the bytes of the name
+unfoldable pub name_field : List ℕ → List Field
+name_field bytes = record { bytes = length bytes ∷ bytes; in_range = is_name bytes } ∷ []
+
+-- its length in four bytes, and the bytes of the text
+unfoldable pub text_field : ℕ → List ℕ → List Field
+text_field most bytes = record { bytes = to_be_bytes w32 (length bytes) ++ bytes; in_range = nat_le (length bytes) most } ∷ []
+
+-- the item's number in four bytes, and the index in two: one field
+unfoldable pub key_field : Key → List Field
+key_field k = record { bytes = to_be_bytes w32 k.item ++ to_be_bytes w16 k.index; in_range = nat_lt k.item 4294967296 && nat_lt k.index 65536 } ∷ []
+
+-- a count of at most this many, and the elements' fields
+abbrev pub list_fields : {A : Type 0} → ℕ → (A → List Field) → List A → List Field
+list_fields most fields xs = number_field w32 most (length xs) & flat_map fields xs
+
+-- 0, or 1 and the value
+abbrev pub option_fields : {A : Type 0} → (A → List Field) → Option A → List Field
+option_fields fields None = byte_field 0 1 0
+option_fields fields (Some x) = byte_field 0 1 1 & fields x
+
+-- 0 or 1
+abbrev pub bool_field : Bool → List Field
+bool_field false = byte_field 0 1 0
+bool_field true = byte_field 0 1 1
+
+-- what a flag adds
+abbrev pub worth : Bool → ℕ → ℕ
+worth set n = if set then n else 0
+
+-- the byte of the flags
+abbrev pub flags_code : Flags → ℕ
+flags_code f = worth f.answered 1 + worth f.flagged 2 + worth f.deleted 4 + worth f.seen 8 + worth f.draft 16
+
+abbrev pub flags_field : Flags → List Field
+flags_field f = byte_field 0 31 (flags_code f)
+
+abbrev pub u32_field : ℕ → List Field
+u32_field n = number_field w32 4294967295 n
+
+abbrev pub u64_field : ℕ → List Field
+u64_field n = number_field w64 18446744073709551615 n
+
+-- seconds since 1970, up to the end of the year 9999
+abbrev pub moment_field : ℕ → List Field
+moment_field at = number_field w64 253402300799 at
+
+-- a text whose length has no range but that of its four bytes
+abbrev pub any_text_field : List ℕ → List Field
+any_text_field bytes = text_field 4294967295 bytes
+
+-- the text of a message as it is stored
+abbrev pub body_field : List ℕ → List Field
+body_field bytes = text_field 1052672 bytes
+
+-- one of 200 users
+abbrev pub user_field : User → List Field
+user_field u = byte_field 0 199 u.0
+
+-- who acted: 255 for nobody
+abbrev pub actor_field : Option User → List Field
+actor_field None = byte_field 255 255 255
+actor_field (Some u) = user_field u
+
+-- a list of any count
+abbrev pub any_list_fields : {A : Type 0} → (A → List Field) → List A → List Field
+any_list_fields fields xs = list_fields 4294967295 fields xs

@@ -1,0 +1,230 @@
+-- How each record is read.
+use Rattle.std.specs.Prelude.{◌≡◌, ℕ, ◌-◌, ◌<◌, List, [], ◌∷◌, length, Option, Some, None, Result, Ok, Err, slice_index}
+use Rattle.undo_base.specs.declared.keys.Key.{Key}
+use Rattle.undo_base.specs.declared.keys.User.{User}
+use Rattle.undo_base.specs.declared.keys.Flags.{Flags}
+use Rattle.undo_base.specs.declared.asks.How.{How}
+use Rattle.undo_base.specs.declared.asks.How.TheVariants.{Replace, Add, Take}
+use Rattle.verb_core.specs.declared.conf.Account.{Account}
+use Rattle.verb_core.specs.declared.conf.Alias.{Alias}
+use Rattle.verb_core.specs.declared.conf.Filter.{Filter}
+use Rattle.verb_core.specs.declared.mailbox.Entry.{Entry}
+use Rattle.verb_core.specs.declared.mailbox.Mailbox.{Mailbox}
+use Rattle.verb_core.specs.declared.mailbox.BoxId.{BoxId}
+use Rattle.verb_core.specs.declared.item.Item.{Item}
+use Rattle.verb_core.specs.declared.item.Sight.{Sight}
+use Rattle.verb_core.specs.declared.item.Way.{Way}
+use Rattle.verb_core.specs.declared.item.Way.TheVariants.{Plain, NoSource, Merged}
+use Rattle.verb_core.specs.declared.item.Act.{Act}
+use Rattle.verb_core.specs.declared.item.Act.TheVariants.{SetAlias, DropAlias, SetFilter, DropFilter, Remove, Give}
+use Rattle.verb_core.specs.declared.item.Deed.{Deed}
+use Rattle.verb_core.specs.declared.item.Deed.TheVariants.{Deliver, Append, Fetch, Store, Copy, List as Names, Status, Select, Expunge, Close, Create, Rename, Delete}
+use Rattle.verb_core.specs.declared.item.Shown.{Shown}
+use Rattle.verb_core.specs.declared.item.Shown.TheVariants.{Nothing, Seen, Names as Named, Count, Done, Copied, Put, Left, Way as Went, Moved}
+use Rattle.verb_bytes.specs.declared.journal.CycleAsk.{CycleAsk}
+use Rattle.verb_bytes.specs.declared.journal.JournalRecord.{JournalRecord}
+use Rattle.verb_bytes.specs.declared.journal.JournalRecord.TheVariants.{Format, Verb, Operator, Cycle, Snapshot}
+use Rattle.verb_bytes.specs.declared.decode.BadBytes.{BadBytes}
+use Rattle.verb_bytes.specs.declared.decode.BadBytes.TheVariants.{Place, NoMemory}
+use Rattle.verb_bytes.specs.Spelling.{Spells, shown_kind}
+use Rattle.std.specs.Int.{w64}
+use Rattle.verb_bytes.specs.Readers.{Reader, done, ◌>>=◌, read1, read2, read3, read4, read5, read6, list_at, nth_case, choice_at, byte_at, option_at, bool_at, name_at, text_at, key_at, actor_at, number_at, u32_at, moment_at, flags_at, user_at}
+
+abbrev pub any_list_at : {A : Type 0} → Reader A → Reader (List A)
+any_list_at one = list_at 4294967295 one
+
+abbrev pub any_text_at : Reader (List ℕ)
+any_text_at = text_at 4294967295
+
+abbrev pub body_at : Reader (List ℕ)
+body_at = text_at 1052672
+
+abbrev pub u64_at : Reader ℕ
+u64_at = number_at w64 18446744073709551615
+
+abbrev pub keys_at : Reader (List Key)
+keys_at = list_at 65536 key_at
+
+-- ---- configurations
+
+abbrev pub account_of : List ℕ → List ℕ → Account
+account_of n p = record { name = n; password = p }
+
+abbrev pub account_at : Reader Account
+account_at = read2 account_of name_at name_at
+
+abbrev pub alias_of : List ℕ → List User → Alias
+alias_of l u = record { local = l; users = u }
+
+abbrev pub alias_at : Reader Alias
+alias_at = read2 alias_of name_at (any_list_at user_at)
+
+abbrev pub aliases_at : Reader (List Alias)
+aliases_at = any_list_at alias_at
+
+abbrev pub filter_of : List ℕ → List ℕ → Option (List ℕ) → Filter
+filter_of i n f = record { id = i; needle = n; file = f }
+
+abbrev pub filter_at : Reader Filter
+filter_at = read3 filter_of name_at name_at (option_at name_at)
+
+-- ---- mailboxes
+
+abbrev pub entry_of : ℕ → Key → ℕ → ℕ → Flags → ℕ → Entry
+entry_of u k o r f t = record { uid = u; key = k; body = record { origin = o; rev = r }; flags = f; at = t }
+
+abbrev pub entry_at : Reader Entry
+entry_at = read6 entry_of u64_at key_at u32_at u32_at flags_at moment_at
+
+abbrev pub row_of : User → List ℕ → ℕ → List Entry → BoxId × Mailbox
+row_of u n x e = (record { user = u; name = n }, record { next = x; entries = e })
+
+abbrev pub row_at : Reader (BoxId × Mailbox)
+row_at = read4 row_of user_at name_at u64_at (any_list_at entry_at)
+
+-- ---- items
+
+abbrev pub how_at : Reader How
+how_at = choice_at 0 2 (done Replace ∷ done Add ∷ done Take ∷ [])
+
+abbrev pub deed_cases : List (Reader Deed)
+deed_cases =
+    read3 Deliver any_text_at (list_at 1000 name_at) body_at
+    ∷ read4 Append name_at flags_at moment_at body_at
+    ∷ read4 Fetch name_at keys_at bool_at bool_at
+    ∷ read4 Store name_at keys_at how_at flags_at
+    ∷ read3 Copy name_at keys_at name_at
+    ∷ read1 Names any_text_at
+    ∷ read1 Status name_at
+    ∷ read1 Select name_at
+    ∷ read2 Expunge name_at keys_at
+    ∷ read2 Close name_at keys_at
+    ∷ read1 Create name_at
+    ∷ read2 Rename name_at name_at
+    ∷ read2 Delete name_at keys_at
+    ∷ []
+
+abbrev pub deed_at : Reader Deed
+deed_at = choice_at 1 13 deed_cases
+
+abbrev pub sight_of : Key → ℕ → Sight
+sight_of k r = record { key = k; rev = r }
+
+abbrev pub sight_at : Reader Sight
+sight_at = read2 sight_of key_at u32_at
+
+abbrev pub way_at : Reader Way
+way_at = choice_at 0 2 (done Plain ∷ done NoSource ∷ done Merged ∷ [])
+
+abbrev pub shown_cases : List (Reader Shown)
+shown_cases =
+    done Nothing
+    ∷ read1 Seen (list_at 65536 sight_at)
+    ∷ read1 Named (any_list_at name_at)
+    ∷ read1 Count (option_at u32_at)
+    ∷ read1 Done keys_at
+    ∷ read2 Copied keys_at bool_at
+    ∷ read1 Put bool_at
+    ∷ read1 Left keys_at
+    ∷ read1 Went way_at
+    ∷ read1 Moved keys_at
+    ∷ []
+
+-- the kind is this one alone
+abbrev pub shown_at : ℕ → Reader Shown
+shown_at kind = byte_at kind kind >>= λ n. nth_case n shown_cases
+
+abbrev pub item_of : ℕ → ℕ → Option User → Deed → Shown → Item
+item_of number at by deed shown = record { number = number; at = at; by = by; rev = 0; deed = deed; shown = shown }
+
+abbrev pub item_at : Reader Item
+item_at = u32_at >>= λ number. moment_at >>= λ at. actor_at >>= λ by. deed_at >>= λ deed. read1 (item_of number at by deed) (shown_at (shown_kind deed))
+
+abbrev pub act_cases : List (Reader Act)
+act_cases =
+    read2 SetAlias name_at (any_list_at user_at)
+    ∷ read1 DropAlias name_at
+    ∷ read1 SetFilter filter_at
+    ∷ read1 DropFilter name_at
+    ∷ read3 Remove user_at name_at key_at
+    ∷ read3 Give user_at name_at body_at
+    ∷ []
+
+abbrev pub act_at : Reader Act
+act_at = choice_at 1 6 act_cases
+
+-- ---- records
+
+abbrev pub replace_of : ℕ → List ℕ → ℕ × List ℕ
+replace_of n t = (n, t)
+
+abbrev pub replace_at : Reader (ℕ × List ℕ)
+replace_at = read2 replace_of u32_at body_at
+
+abbrev pub ask_of : List ℕ → ℕ → List ℕ → List (ℕ × List ℕ) → List Act → CycleAsk
+ask_of k p d r i = record { key = k; point = p; drops = d; replaces = r; inserts = i }
+
+abbrev pub cycle_ask_at : Reader CycleAsk
+cycle_ask_at = read5 ask_of name_at u32_at (any_list_at u32_at) (any_list_at replace_at) (any_list_at act_at)
+
+abbrev pub format_of : List ℕ → List (List ℕ) → ℕ → List Account → User → List Alias → JournalRecord
+format_of h d f a p s = Format (record { host = h; domains = d; accounts = a; postmaster = p; first = f }) (record { aliases = s; filters = [] })
+
+abbrev pub format_at : Reader JournalRecord
+format_at = read6 format_of name_at (any_list_at name_at) u32_at (list_at 200 account_at) user_at aliases_at
+
+abbrev pub snapshot_of : ℕ → List Alias → List Filter → List (BoxId × Mailbox) → JournalRecord
+snapshot_of i a f r = Snapshot i (record { aliases = a; filters = f }) r
+
+abbrev pub snapshot_at : Reader JournalRecord
+snapshot_at = read4 snapshot_of u32_at aliases_at (any_list_at filter_at) (any_list_at row_at)
+
+abbrev pub record_cases : List (Reader JournalRecord)
+record_cases =
+    format_at
+    ∷ read1 Verb item_at
+    ∷ read3 Operator u32_at moment_at act_at
+    ∷ read3 Cycle u32_at moment_at cycle_ask_at
+    ∷ snapshot_at
+    ∷ []
+
+abbrev pub record_at : Reader JournalRecord
+record_at = choice_at 0 4 record_cases
+
+-- where bytes are left behind the last field, they are what is refused
+abbrev pub refused_behind : {A : Type 0} → Result (A × List ℕ) ℕ → Option ℕ
+refused_behind (Err left) = Some left
+refused_behind (Ok (x, [])) = None
+refused_behind (Ok (x, b ∷ rest)) = Some (length (b ∷ rest))
+
+-- of a place from the end, the place from the start
+abbrev pub from_start : ℕ → Option ℕ → Option ℕ
+from_start count None = None
+from_start count (Some left) = Some (count - left)
+
+-- the place of the first field that is cut or out of its range, or the place behind the last field where bytes follow
+abbrev pub first_refused : List ℕ → Option ℕ
+first_refused bytes = from_start (length bytes) (refused_behind (record_at bytes))
+
+-- each is below 256
+abbrev pub IsBytes : List ℕ → Type 0
+IsBytes bytes = (i : ℕ) → slice_index bytes i < 256
+
+-- what reading all of the bytes may answer: the record with nothing behind it, the first place that is refused, or want
+-- of memory
+abbrev pub AnswersAll : List ℕ → Result JournalRecord BadBytes → Type 0
+AnswersAll bytes (Ok what) = record_at bytes ≡ Ok (what, [])
+AnswersAll bytes (Err (Place place)) = first_refused bytes ≡ Some place
+AnswersAll bytes (Err NoMemory) = Unit {0}
+
+-- what decoding may answer: the record that the bytes spell, the first place that is refused, or want of memory
+abbrev pub Decodes : List ℕ → Result JournalRecord BadBytes → Type 0
+Decodes bytes (Ok what) = Spells what bytes
+Decodes bytes (Err (Place place)) = first_refused bytes ≡ Some place
+Decodes bytes (Err NoMemory) = Unit {0}
+
+-- this record, or want of memory
+abbrev pub IsThis : JournalRecord → Result JournalRecord BadBytes → Type 0
+IsThis what (Ok found) = found ≡ what
+IsThis what (Err (Place place)) = ⊥
+IsThis what (Err NoMemory) = Unit {0}

@@ -1,0 +1,131 @@
+//! The operator's acts as parts of records.
+ghost use Rattle.std.specs.Prelude.{◌≤◌, ◌-◌};
+ghost use Rattle.verb_core.specs.declared.item.Act.TheVariants.{SetAlias, DropAlias, SetFilter, DropFilter, Remove, Give};
+ghost use Rattle.verb_bytes.specs.Readers.{Gives, nth_case, read1, read2, read3, name_at, user_at, key_at};
+ghost use Rattle.verb_bytes.specs.Reading.{act_cases, any_list_at, filter_at, body_at};
+
+use crate::cursor::{Cursor, Stop};
+use crate::part::{Part, put_list, read_list};
+use crate::write::{MOST_BODY, put_body, put_byte, put_key, put_name, put_user};
+use std::alloc::Global;
+use undo_base::{NoMemory, Text};
+use verb_core::{Act, Filter};
+
+impl Part for Act {
+    ghost use Rattle.verb_bytes.specs.Spelling.{act_fields};
+    ghost use Rattle.verb_bytes.specs.Reading.{act_at};
+
+    ghost fields = { act_fields };
+
+    ghost reader = { act_at };
+
+    #[tactic(auto, using(crate::proofs::Puts::list_steps))]
+    fn put(&self, out: &mut Text) -> Result<(), NoMemory> {
+        match self {
+            Act::SetAlias { local, users } => {
+                put_byte(out, 1, 6, 1)?;
+                put_name(out, local)?;
+                put_list(u32::MAX, users, out)
+            }
+            Act::DropAlias { local } => {
+                put_byte(out, 1, 6, 2)?;
+                put_name(out, local)
+            }
+            Act::SetFilter(filter) => {
+                put_byte(out, 1, 6, 3)?;
+                filter.put(out)
+            }
+            Act::DropFilter { id } => {
+                put_byte(out, 1, 6, 4)?;
+                put_name(out, id)
+            }
+            Act::Remove { user, mailbox, key } => {
+                put_byte(out, 1, 6, 5)?;
+                put_user(out, *user)?;
+                put_name(out, mailbox)?;
+                put_key(out, *key)
+            }
+            Act::Give {
+                user,
+                mailbox,
+                text,
+            } => {
+                put_byte(out, 1, 6, 6)?;
+                put_user(out, *user)?;
+                put_name(out, mailbox)?;
+                put_body(out, text)
+            }
+        }
+    }
+
+    fn read(alloc: Global, cursor: &mut Cursor<'_>) -> Result<Act, Stop> {
+        let kind = cursor.byte(1, 6)?;
+        read_case(alloc, kind, cursor)
+    }
+}
+
+fn read_case(alloc: Global, kind: u8, cursor: &mut Cursor<'_>) -> Result<Act, Stop>
+    requires low { 1 ≤ kind }
+    requires high { kind ≤ 6 }
+    ensures { Gives (nth_case (kind - 1) act_cases) cursor.old.rest.now cursor.new.rest.now result }
+{
+    match kind {
+        1 => read_set_alias(alloc, cursor),
+        2 => read_drop_alias(alloc, cursor),
+        3 => read_set_filter(alloc, cursor),
+        4 => read_drop_filter(alloc, cursor),
+        5 => read_remove(alloc, cursor),
+        _ => read_give(alloc, cursor),
+    }
+}
+
+fn read_set_alias(alloc: Global, cursor: &mut Cursor<'_>) -> Result<Act, Stop>
+    ensures { Gives (read2 SetAlias name_at (any_list_at user_at)) cursor.old.rest.now cursor.new.rest.now result }
+{
+    let local = cursor.name(alloc)?;
+    let users = read_list(alloc, u32::MAX, cursor)?;
+    Ok(Act::SetAlias { local, users })
+}
+
+fn read_drop_alias(alloc: Global, cursor: &mut Cursor<'_>) -> Result<Act, Stop>
+    ensures { Gives (read1 DropAlias name_at) cursor.old.rest.now cursor.new.rest.now result }
+{
+    let local = cursor.name(alloc)?;
+    Ok(Act::DropAlias { local })
+}
+
+fn read_set_filter(alloc: Global, cursor: &mut Cursor<'_>) -> Result<Act, Stop>
+    ensures { Gives (read1 SetFilter filter_at) cursor.old.rest.now cursor.new.rest.now result }
+{
+    let filter = Filter::read(alloc, cursor)?;
+    Ok(Act::SetFilter(filter))
+}
+
+fn read_drop_filter(alloc: Global, cursor: &mut Cursor<'_>) -> Result<Act, Stop>
+    ensures { Gives (read1 DropFilter name_at) cursor.old.rest.now cursor.new.rest.now result }
+{
+    let id = cursor.name(alloc)?;
+    Ok(Act::DropFilter { id })
+}
+
+fn read_remove(alloc: Global, cursor: &mut Cursor<'_>) -> Result<Act, Stop>
+    ensures { Gives (read3 Remove user_at name_at key_at) cursor.old.rest.now cursor.new.rest.now result }
+{
+    let user = cursor.user()?;
+    let mailbox = cursor.name(alloc)?;
+    let key = cursor.key()?;
+    Ok(Act::Remove { user, mailbox, key })
+}
+
+fn read_give(alloc: Global, cursor: &mut Cursor<'_>) -> Result<Act, Stop>
+    ensures { Gives (read3 Give user_at name_at body_at) cursor.old.rest.now cursor.new.rest.now result }
+{
+    let user = cursor.user()?;
+    let mailbox = cursor.name(alloc)?;
+    let text = cursor.text(alloc, MOST_BODY)?;
+    Ok(Act::Give {
+        user,
+        mailbox,
+        text,
+    })
+}

@@ -1,0 +1,132 @@
+//! Records, read from their bytes.
+ghost use Rattle.std.specs.Prelude.{◌≡◌, ◌≤◌, ◌-◌};
+ghost use Rattle.verb_bytes.specs.declared.journal.JournalRecord.{JournalRecord};
+ghost use Rattle.verb_bytes.specs.declared.journal.JournalRecord.TheVariants.{Verb, Operator, Cycle};
+ghost use Rattle.verb_bytes.specs.Readers.{Gives, nth_case, read1, read3, u32_at, moment_at};
+ghost use Rattle.verb_bytes.specs.Reading.{record_cases, record_at, snapshot_at, act_at, item_at, cycle_ask_at, AnswersAll, Decodes, IsThis};
+ghost use Rattle.verb_bytes.specs.Spelling.{Spells};
+
+use crate::cursor::{Cursor, Stop};
+use crate::part::{Part, read_list};
+use crate::settings::read_house;
+use crate::{CycleAsk, JournalRecord};
+use std::alloc::Global;
+use undo_base::LAST_MOMENT;
+use verb_core::{Act, Conf, Item};
+
+/// Why bytes are not read as a record.
+#[derive(Clone, Copy, Debug, PartialEq, Eq)]
+pub enum BadBytes {
+    /// The start of the first field that is cut or out of its range, or the place behind the last field where bytes
+    /// follow.
+    Place { place: usize },
+    NoMemory,
+}
+
+fn read_verb(alloc: Global, cursor: &mut Cursor<'_>) -> Result<JournalRecord, Stop>
+    ensures { Gives (read1 Verb item_at) cursor.old.rest.now cursor.new.rest.now result }
+{
+    let item = Item::read(alloc, cursor)?;
+    Ok(JournalRecord::Verb(item))
+}
+
+fn read_operator(alloc: Global, cursor: &mut Cursor<'_>) -> Result<JournalRecord, Stop>
+    ensures { Gives (read3 Operator u32_at moment_at act_at) cursor.old.rest.now cursor.new.rest.now result }
+{
+    let number = cursor.u32(u32::MAX)?;
+    let at = cursor.u64(LAST_MOMENT)?;
+    let act = Act::read(alloc, cursor)?;
+    Ok(JournalRecord::Operator { number, at, act })
+}
+
+fn read_ask(alloc: Global, cursor: &mut Cursor<'_>) -> Result<CycleAsk, Stop>
+    ensures { Gives cycle_ask_at cursor.old.rest.now cursor.new.rest.now result }
+{
+    let key = cursor.name(alloc)?;
+    let point = cursor.u32(u32::MAX)?;
+    let drops = read_list(alloc, u32::MAX, cursor)?;
+    let replaces = read_list(alloc, u32::MAX, cursor)?;
+    let inserts = read_list(alloc, u32::MAX, cursor)?;
+    Ok(CycleAsk {
+        key,
+        point,
+        drops,
+        replaces,
+        inserts,
+    })
+}
+
+fn read_cycle(alloc: Global, cursor: &mut Cursor<'_>) -> Result<JournalRecord, Stop>
+    ensures { Gives (read3 Cycle u32_at moment_at cycle_ask_at) cursor.old.rest.now cursor.new.rest.now result }
+{
+    let number = cursor.u32(u32::MAX)?;
+    let at = cursor.u64(LAST_MOMENT)?;
+    let ask = read_ask(alloc, cursor)?;
+    Ok(JournalRecord::Cycle { number, at, ask })
+}
+
+fn read_snapshot(alloc: Global, cursor: &mut Cursor<'_>) -> Result<JournalRecord, Stop>
+    ensures { Gives snapshot_at cursor.old.rest.now cursor.new.rest.now result }
+{
+    let items = cursor.u32(u32::MAX)?;
+    let aliases = read_list(alloc, u32::MAX, cursor)?;
+    let filters = read_list(alloc, u32::MAX, cursor)?;
+    let rows = read_list(alloc, u32::MAX, cursor)?;
+    let conf = Conf { aliases, filters };
+    Ok(JournalRecord::Snapshot { items, conf, rows })
+}
+
+fn read_case(alloc: Global, kind: u8, cursor: &mut Cursor<'_>) -> Result<JournalRecord, Stop>
+    requires { kind ≤ 4 }
+    ensures { Gives (nth_case (kind - 0) record_cases) cursor.old.rest.now cursor.new.rest.now result }
+{
+    match kind {
+        0 => read_house(alloc, cursor),
+        1 => read_verb(alloc, cursor),
+        2 => read_operator(alloc, cursor),
+        3 => read_cycle(alloc, cursor),
+        _ => read_snapshot(alloc, cursor),
+    }
+}
+
+fn read_record(alloc: Global, cursor: &mut Cursor<'_>) -> Result<JournalRecord, Stop>
+    ensures { Gives record_at cursor.old.rest.now cursor.new.rest.now result }
+{
+    let kind = cursor.byte(0, 4)?;
+    read_case(alloc, kind, cursor)
+}
+
+/// A place from the start, for so many bytes left. More than there are is the start.
+fn refused_at(count: usize, left: usize) -> BadBytes
+    ensures { result ≡ BadBytes.Place (count - left) }
+{
+    BadBytes::Place {
+        place: count.saturating_sub(left),
+    }
+}
+
+fn read_all(alloc: Global, bytes: &[u8]) -> Result<JournalRecord, BadBytes>
+    ensures { AnswersAll bytes.now result }
+{
+    let mut cursor = Cursor { rest: bytes };
+    match read_record(alloc, &mut cursor) {
+        Ok(record) => {
+            if cursor.rest.is_empty() {
+                return Ok(record);
+            }
+            Err(refused_at(bytes.len(), cursor.rest.len()))
+        }
+        Err(Stop::At { left }) => Err(refused_at(bytes.len(), left)),
+        Err(Stop::NoMemory) => Err(BadBytes::NoMemory),
+    }
+}
+
+/// Reads a record: the one that the bytes spell.
+pub fn decode_record(alloc: Global, bytes: &[u8]) -> Result<JournalRecord, BadBytes>
+    // What is read is spelled so; and which place is refused.
+    ensures found { Decodes bytes.now result }
+    // What is spelled so is read, unless no memory was found.
+    ensures only { (what : JournalRecord) → Spells what bytes.now → IsThis what result }
+{
+    read_all(alloc, bytes)
+}

@@ -1,0 +1,396 @@
+//! Deeds as parts of records.
+ghost use Rattle.std.specs.Prelude.{◌≡◌, ◌≤◌, ◌-◌, IsTrue, OnOk};
+ghost use Rattle.verb_core.specs.declared.item.Deed.TheVariants.{Deliver, Append, Fetch, Store, Copy, List as Names, Status, Select, Expunge, Close, Create, Rename, Delete};
+ghost use Rattle.verb_bytes.specs.Fields.{puts, are_in_range};
+ghost use Rattle.verb_bytes.specs.Readers.{Gives, nth_case, read1, read2, read3, read4, list_at, name_at, flags_at, moment_at, bool_at};
+ghost use Rattle.verb_bytes.specs.Reading.{deed_cases, any_text_at, body_at, keys_at, how_at};
+ghost use Rattle.verb_bytes.specs.Spelling.{deed_fields, how_field};
+
+use crate::cursor::{Cursor, Stop};
+use crate::part::{Part, put_list, read_list};
+use crate::write::{
+    MOST_BODY, put_any_text, put_body, put_bool, put_byte, put_flags, put_moment, put_name,
+};
+use std::alloc::Global;
+use undo_base::{Flags, How, Keys, LAST_MOMENT, Name, Names, NoMemory, Text};
+use verb_core::Deed;
+
+/// Writes how flags change.
+fn put_how(out: &mut Text, how: How) -> Result<(), NoMemory>
+    ensures { OnOk result (out.new ≡ puts out.old (how_field how)) }
+{
+    match how {
+        How::Replace => put_byte(out, 0, 2, 0),
+        How::Add => put_byte(out, 0, 2, 1),
+        How::Take => put_byte(out, 0, 2, 2),
+    }
+}
+
+/// Reads how flags change.
+fn read_how(cursor: &mut Cursor<'_>) -> Result<How, Stop>
+    ensures { Gives how_at cursor.old.rest.now cursor.new.rest.now result }
+{
+    let byte = cursor.byte(0, 2)?;
+    if byte == 0 {
+        return Ok(How::Replace);
+    }
+    if byte == 1 {
+        return Ok(How::Add);
+    }
+    Ok(How::Take)
+}
+
+impl Part for Deed {
+    ghost use Rattle.verb_bytes.specs.Spelling.{deed_fields};
+    ghost use Rattle.verb_bytes.specs.Reading.{deed_at};
+
+    ghost fields = { deed_fields };
+
+    ghost reader = { deed_at };
+
+    #[tactic(auto, using(crate::proofs::Puts::list_steps))]
+    fn put(&self, out: &mut Text) -> Result<(), NoMemory> {
+        match self {
+            Deed::Deliver { from, to, text } => put_deliver(from, to, text, out),
+            Deed::Append {
+                mailbox,
+                flags,
+                moment,
+                text,
+            } => put_append(mailbox, *flags, *moment, text, out),
+            Deed::Fetch {
+                mailbox,
+                keys,
+                sets_seen,
+                shows_body,
+            } => put_fetch(mailbox, keys, *sets_seen, *shows_body, out),
+            Deed::Store {
+                mailbox,
+                keys,
+                how,
+                flags,
+            } => put_store(mailbox, keys, *how, *flags, out),
+            Deed::Copy {
+                mailbox,
+                keys,
+                target,
+            } => put_copy(mailbox, keys, target, out),
+            Deed::List { pattern } => put_listing(pattern, out),
+            Deed::Status { mailbox } => put_status(mailbox, out),
+            Deed::Select { mailbox } => put_select(mailbox, out),
+            Deed::Expunge { mailbox, keys } => put_expunge(mailbox, keys, out),
+            Deed::Close { mailbox, keys } => put_close(mailbox, keys, out),
+            Deed::Create { mailbox } => put_create(mailbox, out),
+            Deed::Rename { mailbox, target } => put_rename(mailbox, target, out),
+            Deed::Delete { mailbox, keys } => put_delete(mailbox, keys, out),
+            Deed::Act(_) => unreachable!(),
+            Deed::Notice { user: _, text: _ } => unreachable!(),
+        }
+    }
+
+    fn read(alloc: Global, cursor: &mut Cursor<'_>) -> Result<Deed, Stop> {
+        let kind = cursor.byte(1, 13)?;
+        read_case(alloc, kind, cursor)
+    }
+}
+
+fn read_case(alloc: Global, kind: u8, cursor: &mut Cursor<'_>) -> Result<Deed, Stop>
+    requires low { 1 ≤ kind }
+    requires high { kind ≤ 13 }
+    ensures { Gives (nth_case (kind - 1) deed_cases) cursor.old.rest.now cursor.new.rest.now result }
+{
+    match kind {
+        1 => read_deliver(alloc, cursor),
+        2 => read_append(alloc, cursor),
+        3 => read_fetch(alloc, cursor),
+        4 => read_store(alloc, cursor),
+        5 => read_copy(alloc, cursor),
+        6 => read_listing(alloc, cursor),
+        7 => read_status(alloc, cursor),
+        8 => read_select(alloc, cursor),
+        9 => read_expunge(alloc, cursor),
+        10 => read_close(alloc, cursor),
+        11 => read_create(alloc, cursor),
+        12 => read_rename(alloc, cursor),
+        _ => read_delete(alloc, cursor),
+    }
+}
+
+fn read_deliver(alloc: Global, cursor: &mut Cursor<'_>) -> Result<Deed, Stop>
+    ensures { Gives (read3 Deliver any_text_at (list_at 1000 name_at) body_at) cursor.old.rest.now cursor.new.rest.now result }
+{
+    let from = cursor.text(alloc, u32::MAX)?;
+    let to = read_list(alloc, 1000, cursor)?;
+    let text = cursor.text(alloc, MOST_BODY)?;
+    Ok(Deed::Deliver { from, to, text })
+}
+
+fn read_append(alloc: Global, cursor: &mut Cursor<'_>) -> Result<Deed, Stop>
+    ensures { Gives (read4 Append name_at flags_at moment_at body_at) cursor.old.rest.now cursor.new.rest.now result }
+{
+    let mailbox = cursor.name(alloc)?;
+    let flags = cursor.flags()?;
+    let moment = cursor.u64(LAST_MOMENT)?;
+    let text = cursor.text(alloc, MOST_BODY)?;
+    Ok(Deed::Append {
+        mailbox,
+        flags,
+        moment,
+        text,
+    })
+}
+
+fn read_fetch(alloc: Global, cursor: &mut Cursor<'_>) -> Result<Deed, Stop>
+    ensures { Gives (read4 Fetch name_at keys_at bool_at bool_at) cursor.old.rest.now cursor.new.rest.now result }
+{
+    let mailbox = cursor.name(alloc)?;
+    let keys = read_list(alloc, 65536, cursor)?;
+    let sets_seen = cursor.bool()?;
+    let shows_body = cursor.bool()?;
+    Ok(Deed::Fetch {
+        mailbox,
+        keys,
+        sets_seen,
+        shows_body,
+    })
+}
+
+fn read_store(alloc: Global, cursor: &mut Cursor<'_>) -> Result<Deed, Stop>
+    ensures { Gives (read4 Store name_at keys_at how_at flags_at) cursor.old.rest.now cursor.new.rest.now result }
+{
+    let mailbox = cursor.name(alloc)?;
+    let keys = read_list(alloc, 65536, cursor)?;
+    let how = read_how(cursor)?;
+    let flags = cursor.flags()?;
+    Ok(Deed::Store {
+        mailbox,
+        keys,
+        how,
+        flags,
+    })
+}
+
+fn read_copy(alloc: Global, cursor: &mut Cursor<'_>) -> Result<Deed, Stop>
+    ensures { Gives (read3 Copy name_at keys_at name_at) cursor.old.rest.now cursor.new.rest.now result }
+{
+    let mailbox = cursor.name(alloc)?;
+    let keys = read_list(alloc, 65536, cursor)?;
+    let target = cursor.name(alloc)?;
+    Ok(Deed::Copy {
+        mailbox,
+        keys,
+        target,
+    })
+}
+
+fn read_listing(alloc: Global, cursor: &mut Cursor<'_>) -> Result<Deed, Stop>
+    ensures { Gives (read1 Names any_text_at) cursor.old.rest.now cursor.new.rest.now result }
+{
+    let pattern = cursor.text(alloc, u32::MAX)?;
+    Ok(Deed::List { pattern })
+}
+
+fn read_status(alloc: Global, cursor: &mut Cursor<'_>) -> Result<Deed, Stop>
+    ensures { Gives (read1 Status name_at) cursor.old.rest.now cursor.new.rest.now result }
+{
+    let mailbox = cursor.name(alloc)?;
+    Ok(Deed::Status { mailbox })
+}
+
+fn read_select(alloc: Global, cursor: &mut Cursor<'_>) -> Result<Deed, Stop>
+    ensures { Gives (read1 Select name_at) cursor.old.rest.now cursor.new.rest.now result }
+{
+    let mailbox = cursor.name(alloc)?;
+    Ok(Deed::Select { mailbox })
+}
+
+fn read_expunge(alloc: Global, cursor: &mut Cursor<'_>) -> Result<Deed, Stop>
+    ensures { Gives (read2 Expunge name_at keys_at) cursor.old.rest.now cursor.new.rest.now result }
+{
+    let mailbox = cursor.name(alloc)?;
+    let keys = read_list(alloc, 65536, cursor)?;
+    Ok(Deed::Expunge { mailbox, keys })
+}
+
+fn read_close(alloc: Global, cursor: &mut Cursor<'_>) -> Result<Deed, Stop>
+    ensures { Gives (read2 Close name_at keys_at) cursor.old.rest.now cursor.new.rest.now result }
+{
+    let mailbox = cursor.name(alloc)?;
+    let keys = read_list(alloc, 65536, cursor)?;
+    Ok(Deed::Close { mailbox, keys })
+}
+
+fn read_create(alloc: Global, cursor: &mut Cursor<'_>) -> Result<Deed, Stop>
+    ensures { Gives (read1 Create name_at) cursor.old.rest.now cursor.new.rest.now result }
+{
+    let mailbox = cursor.name(alloc)?;
+    Ok(Deed::Create { mailbox })
+}
+
+fn read_rename(alloc: Global, cursor: &mut Cursor<'_>) -> Result<Deed, Stop>
+    ensures { Gives (read2 Rename name_at name_at) cursor.old.rest.now cursor.new.rest.now result }
+{
+    let mailbox = cursor.name(alloc)?;
+    let target = cursor.name(alloc)?;
+    Ok(Deed::Rename { mailbox, target })
+}
+
+fn read_delete(alloc: Global, cursor: &mut Cursor<'_>) -> Result<Deed, Stop>
+    ensures { Gives (read2 Delete name_at keys_at) cursor.old.rest.now cursor.new.rest.now result }
+{
+    let mailbox = cursor.name(alloc)?;
+    let keys = read_list(alloc, 65536, cursor)?;
+    Ok(Deed::Delete { mailbox, keys })
+}
+
+#[tactic(auto, using(crate::proofs::Puts::list_steps))]
+fn put_deliver(from: &Text, to: &Names, text: &Text, out: &mut Text) -> Result<(), NoMemory>
+    requires { IsTrue (are_in_range (deed_fields (Deliver from.now to.now text.now))) }
+    ensures { OnOk result (out.new ≡ puts out.old (deed_fields (Deliver from.now to.now text.now))) }
+{
+    put_byte(out, 1, 13, 1)?;
+    put_any_text(out, from)?;
+    put_list(1000, to, out)?;
+    put_body(out, text)
+}
+
+#[tactic(auto, using(crate::proofs::Puts::list_steps))]
+fn put_append(
+    mailbox: &Name,
+    flags: Flags,
+    moment: u64,
+    text: &Text,
+    out: &mut Text,
+) -> Result<(), NoMemory>
+    requires { IsTrue (are_in_range (deed_fields (Append mailbox.now flags moment text.now))) }
+    ensures { OnOk result (out.new ≡ puts out.old (deed_fields (Append mailbox.now flags moment text.now))) }
+{
+    put_byte(out, 1, 13, 2)?;
+    put_name(out, mailbox)?;
+    put_flags(out, flags)?;
+    put_moment(out, moment)?;
+    put_body(out, text)
+}
+
+#[tactic(auto, using(crate::proofs::Puts::list_steps))]
+fn put_fetch(
+    mailbox: &Name,
+    keys: &Keys,
+    sets_seen: bool,
+    shows_body: bool,
+    out: &mut Text,
+) -> Result<(), NoMemory>
+    requires { IsTrue (are_in_range (deed_fields (Fetch mailbox.now keys.now sets_seen shows_body))) }
+    ensures { OnOk result (out.new ≡ puts out.old (deed_fields (Fetch mailbox.now keys.now sets_seen shows_body))) }
+{
+    put_byte(out, 1, 13, 3)?;
+    put_name(out, mailbox)?;
+    put_list(65536, keys, out)?;
+    put_bool(out, sets_seen)?;
+    put_bool(out, shows_body)
+}
+
+#[tactic(auto, using(crate::proofs::Puts::list_steps))]
+fn put_store(
+    mailbox: &Name,
+    keys: &Keys,
+    how: How,
+    flags: Flags,
+    out: &mut Text,
+) -> Result<(), NoMemory>
+    requires { IsTrue (are_in_range (deed_fields (Store mailbox.now keys.now how flags))) }
+    ensures { OnOk result (out.new ≡ puts out.old (deed_fields (Store mailbox.now keys.now how flags))) }
+{
+    put_byte(out, 1, 13, 4)?;
+    put_name(out, mailbox)?;
+    put_list(65536, keys, out)?;
+    put_how(out, how)?;
+    put_flags(out, flags)
+}
+
+#[tactic(auto, using(crate::proofs::Puts::list_steps))]
+fn put_copy(mailbox: &Name, keys: &Keys, target: &Name, out: &mut Text) -> Result<(), NoMemory>
+    requires { IsTrue (are_in_range (deed_fields (Copy mailbox.now keys.now target.now))) }
+    ensures { OnOk result (out.new ≡ puts out.old (deed_fields (Copy mailbox.now keys.now target.now))) }
+{
+    put_byte(out, 1, 13, 5)?;
+    put_name(out, mailbox)?;
+    put_list(65536, keys, out)?;
+    put_name(out, target)
+}
+
+#[tactic(auto, using(crate::proofs::Puts::list_steps))]
+fn put_listing(pattern: &Text, out: &mut Text) -> Result<(), NoMemory>
+    requires { IsTrue (are_in_range (deed_fields (Names pattern.now))) }
+    ensures { OnOk result (out.new ≡ puts out.old (deed_fields (Names pattern.now))) }
+{
+    put_byte(out, 1, 13, 6)?;
+    put_any_text(out, pattern)
+}
+
+#[tactic(auto, using(crate::proofs::Puts::list_steps))]
+fn put_status(mailbox: &Name, out: &mut Text) -> Result<(), NoMemory>
+    requires { IsTrue (are_in_range (deed_fields (Status mailbox.now))) }
+    ensures { OnOk result (out.new ≡ puts out.old (deed_fields (Status mailbox.now))) }
+{
+    put_byte(out, 1, 13, 7)?;
+    put_name(out, mailbox)
+}
+
+#[tactic(auto, using(crate::proofs::Puts::list_steps))]
+fn put_select(mailbox: &Name, out: &mut Text) -> Result<(), NoMemory>
+    requires { IsTrue (are_in_range (deed_fields (Select mailbox.now))) }
+    ensures { OnOk result (out.new ≡ puts out.old (deed_fields (Select mailbox.now))) }
+{
+    put_byte(out, 1, 13, 8)?;
+    put_name(out, mailbox)
+}
+
+#[tactic(auto, using(crate::proofs::Puts::list_steps))]
+fn put_expunge(mailbox: &Name, keys: &Keys, out: &mut Text) -> Result<(), NoMemory>
+    requires { IsTrue (are_in_range (deed_fields (Expunge mailbox.now keys.now))) }
+    ensures { OnOk result (out.new ≡ puts out.old (deed_fields (Expunge mailbox.now keys.now))) }
+{
+    put_byte(out, 1, 13, 9)?;
+    put_name(out, mailbox)?;
+    put_list(65536, keys, out)
+}
+
+#[tactic(auto, using(crate::proofs::Puts::list_steps))]
+fn put_close(mailbox: &Name, keys: &Keys, out: &mut Text) -> Result<(), NoMemory>
+    requires { IsTrue (are_in_range (deed_fields (Close mailbox.now keys.now))) }
+    ensures { OnOk result (out.new ≡ puts out.old (deed_fields (Close mailbox.now keys.now))) }
+{
+    put_byte(out, 1, 13, 10)?;
+    put_name(out, mailbox)?;
+    put_list(65536, keys, out)
+}
+
+#[tactic(auto, using(crate::proofs::Puts::list_steps))]
+fn put_create(mailbox: &Name, out: &mut Text) -> Result<(), NoMemory>
+    requires { IsTrue (are_in_range (deed_fields (Create mailbox.now))) }
+    ensures { OnOk result (out.new ≡ puts out.old (deed_fields (Create mailbox.now))) }
+{
+    put_byte(out, 1, 13, 11)?;
+    put_name(out, mailbox)
+}
+
+#[tactic(auto, using(crate::proofs::Puts::list_steps))]
+fn put_rename(mailbox: &Name, target: &Name, out: &mut Text) -> Result<(), NoMemory>
+    requires { IsTrue (are_in_range (deed_fields (Rename mailbox.now target.now))) }
+    ensures { OnOk result (out.new ≡ puts out.old (deed_fields (Rename mailbox.now target.now))) }
+{
+    put_byte(out, 1, 13, 12)?;
+    put_name(out, mailbox)?;
+    put_name(out, target)
+}
+
+#[tactic(auto, using(crate::proofs::Puts::list_steps))]
+fn put_delete(mailbox: &Name, keys: &Keys, out: &mut Text) -> Result<(), NoMemory>
+    requires { IsTrue (are_in_range (deed_fields (Delete mailbox.now keys.now))) }
+    ensures { OnOk result (out.new ≡ puts out.old (deed_fields (Delete mailbox.now keys.now))) }
+{
+    put_byte(out, 1, 13, 13)?;
+    put_name(out, mailbox)?;
+    put_list(65536, keys, out)
+}

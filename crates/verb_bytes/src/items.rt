@@ -1,0 +1,45 @@
+//! A user's item as a part of records.
+ghost use Rattle.verb_bytes.specs.Spelling.{item_fields};
+
+use crate::cursor::{Cursor, Stop};
+use crate::part::Part;
+use crate::shown::{kind_of, put_shown, read_shown};
+use crate::write::{put_actor, put_moment, put_u32};
+use std::alloc::Global;
+use undo_base::{LAST_MOMENT, NoMemory, Text};
+use verb_core::{Deed, Item};
+
+impl Part for Item {
+    ghost use Rattle.verb_bytes.specs.Spelling.{item_fields};
+    ghost use Rattle.verb_bytes.specs.Reading.{item_at};
+
+    ghost fields = { item_fields };
+
+    ghost reader = { item_at };
+
+    #[tactic(auto, using(crate::proofs::Puts::list_steps))]
+    fn put(&self, out: &mut Text) -> Result<(), NoMemory> {
+        put_u32(out, self.number)?;
+        put_moment(out, self.at)?;
+        put_actor(out, self.by)?;
+        self.deed.put(out)?;
+        put_shown(kind_of(&self.deed), &self.shown, out)
+    }
+
+    fn read(alloc: Global, cursor: &mut Cursor<'_>) -> Result<Item, Stop> {
+        let number = cursor.u32(u32::MAX)?;
+        let at = cursor.u64(LAST_MOMENT)?;
+        let by = cursor.actor()?;
+        let deed = Deed::read(alloc, cursor)?;
+        let kind = kind_of(&deed);
+        let shown = read_shown(alloc, kind, cursor)?;
+        Ok(Item {
+            number,
+            at,
+            by,
+            rev: 0,
+            deed,
+            shown,
+        })
+    }
+}

@@ -1,0 +1,30 @@
+//! Records of the journal, and their one spelling.
+//!
+//! `journal` is what is recorded; `encode` and `decode` write and read it. Below them `part` is what stands in lists,
+//! `simple`, `settings`, `mailboxes`, `acts`, `deeds`, `shown` and `items` are the parts, and `write` and `cursor` the
+//! fields. `specs/` says the fields of each record, and how fields are read; `laws`, that this is one spelling.
+//! What carries the crate: `encode_record` gives the bytes of the record's fields, and `decode_record` answers the record
+//! that the bytes spell, or the place of the first field that is cut or out of its range.
+#![tactic(auto)]
+
+mod acts;
+mod cursor;
+mod decode;
+mod deeds;
+mod encode;
+mod items;
+mod journal;
+pub mod laws;
+mod mailboxes;
+mod part;
+mod settings;
+mod shown;
+mod simple;
+mod write;
+
+pub use decode::{BadBytes, decode_record};
+pub use encode::encode_record;
+pub use journal::{Acts, CycleAsk, JournalRecord, Replaces};
+
+#[cfg(test)]
+mod tests;

@@ -1,0 +1,67 @@
+//! Mailboxes as parts of records.
+use crate::cursor::{Cursor, Stop};
+use crate::part::{Part, put_list, read_list};
+use crate::write::{put_flags, put_key, put_moment, put_name, put_u32, put_u64, put_user};
+use std::alloc::Global;
+use undo_base::{LAST_MOMENT, NoMemory, Text};
+use verb_core::{Body, BoxId, Entry, Mailbox};
+
+impl Part for Entry {
+    ghost use Rattle.verb_bytes.specs.Spelling.{entry_fields};
+    ghost use Rattle.verb_bytes.specs.Reading.{entry_at};
+
+    ghost fields = { entry_fields };
+
+    ghost reader = { entry_at };
+
+    #[tactic(auto, using(crate::proofs::Puts::list_steps))]
+    fn put(&self, out: &mut Text) -> Result<(), NoMemory> {
+        put_u64(out, self.uid)?;
+        put_key(out, self.key)?;
+        put_u32(out, self.body.origin)?;
+        put_u32(out, self.body.rev)?;
+        put_flags(out, self.flags)?;
+        put_moment(out, self.at)
+    }
+
+    fn read(_alloc: Global, cursor: &mut Cursor<'_>) -> Result<Entry, Stop> {
+        let uid = cursor.u64(u64::MAX)?;
+        let key = cursor.key()?;
+        let origin = cursor.u32(u32::MAX)?;
+        let rev = cursor.u32(u32::MAX)?;
+        let flags = cursor.flags()?;
+        let at = cursor.u64(LAST_MOMENT)?;
+        Ok(Entry {
+            uid,
+            key,
+            body: Body { origin, rev },
+            flags,
+            at,
+        })
+    }
+}
+
+impl Part for (BoxId, Mailbox) {
+    ghost use Rattle.verb_bytes.specs.Spelling.{row_fields};
+    ghost use Rattle.verb_bytes.specs.Reading.{row_at};
+
+    ghost fields = { row_fields };
+
+    ghost reader = { row_at };
+
+    #[tactic(auto, using(crate::proofs::Puts::list_steps))]
+    fn put(&self, out: &mut Text) -> Result<(), NoMemory> {
+        put_user(out, self.0.user)?;
+        put_name(out, &self.0.name)?;
+        put_u64(out, self.1.next)?;
+        put_list(u32::MAX, &self.1.entries, out)
+    }
+
+    fn read(alloc: Global, cursor: &mut Cursor<'_>) -> Result<(BoxId, Mailbox), Stop> {
+        let user = cursor.user()?;
+        let name = cursor.name(alloc)?;
+        let next = cursor.u64(u64::MAX)?;
+        let entries = read_list(alloc, u32::MAX, cursor)?;
+        Ok((BoxId { user, name }, Mailbox { next, entries }))
+    }
+}

@@ -1,0 +1,115 @@
+//! Parts of records, and lists of them.
+ghost use Rattle.std.specs.Prelude.{◌≡◌, ◌≤◌, ℕ, List, Result, IsTrue, OnOk, length, Option};
+ghost use Rattle.std.specs.List.{flat_map};
+ghost use Rattle.verb_bytes.specs.Fields.{Field, puts, are_in_range, list_fields, option_fields};
+ghost use Rattle.verb_bytes.specs.Readers.{Gives, list_at, option_at, read1, times};
+
+use crate::cursor::{Cursor, Stop};
+use crate::write::{put_byte, put_count};
+use std::alloc::Global;
+use undo_base::{NoMemory, Sequence, Text};
+
+/// A part of a record: its fields, and how it is read.
+pub(crate) trait Part: Sized + Drop {
+    /// The fields that spell it.
+    ghost fields: { Self → List Field };
+
+    /// What is read at the front of bytes.
+    ghost reader: { List ℕ → Result (Self × List ℕ) ℕ };
+
+    /// Writes its fields at the end.
+    fn put(&self, out: &mut Text) -> Result<(), NoMemory>
+        requires { IsTrue (are_in_range (fields self.now)) }
+        ensures { OnOk result (out.new ≡ puts out.old (fields self.now)) };
+
+    /// Reads it.
+    fn read(alloc: Global, cursor: &mut Cursor<'_>) -> Result<Self, Stop>
+        ensures { Gives reader cursor.old.rest.now cursor.new.rest.now result };
+}
+
+fn read_times<T: Part>(
+    alloc: Global,
+    count: u32,
+    cursor: &mut Cursor<'_>,
+) -> Result<Sequence<T>, Stop>
+    ensures { Gives (times count T.reader) cursor.old.rest.now cursor.new.rest.now result }
+{
+    let mut items = Sequence::new(alloc);
+    for _ in 0..count {
+        let item = T::read(alloc, cursor)?;
+        items.push(item)?;
+    }
+    Ok(items)
+}
+
+/// Reads a list of at most so many elements. Memory is taken as they come, whatever the count says.
+pub(crate) fn read_list<T: Part>(
+    alloc: Global,
+    most: u32,
+    cursor: &mut Cursor<'_>,
+) -> Result<Sequence<T>, Stop>
+    ensures { Gives (list_at most T.reader) cursor.old.rest.now cursor.new.rest.now result }
+{
+    let count = cursor.u32(most)?;
+    read_times(alloc, count, cursor)
+}
+
+fn put_each<T: Part>(items: &[T], out: &mut Text) -> Result<(), NoMemory>
+    requires { IsTrue (are_in_range (flat_map T.fields items.now)) }
+    ensures { OnOk result (out.new ≡ puts out.old (flat_map T.fields items.now)) }
+{
+    for item in items {
+        item.put(out)?;
+    }
+    Ok(())
+}
+
+/// Writes a list of at most so many elements.
+#[tactic(auto, using(crate::proofs::Puts::list_steps))]
+pub(crate) fn put_list<T: Part>(
+    most: u32,
+    items: &Sequence<T>,
+    out: &mut Text,
+) -> Result<(), NoMemory>
+    requires { IsTrue (are_in_range (list_fields most T.fields items.now)) }
+    ensures { OnOk result (out.new ≡ puts out.old (list_fields most T.fields items.now)) }
+{
+    put_count(out, most, items.len())?;
+    put_each(items.as_slice(), out)
+}
+
+/// Reads 0, or 1 and a value.
+pub(crate) fn read_option<T: Part>(
+    alloc: Global,
+    cursor: &mut Cursor<'_>,
+) -> Result<Option<T>, Stop>
+    ensures { Gives (option_at T.reader) cursor.old.rest.now cursor.new.rest.now result }
+{
+    let byte = cursor.byte(0, 1)?;
+    if byte == 0 {
+        return Ok(None);
+    }
+    read_some(alloc, cursor)
+}
+
+fn read_some<T: Part>(alloc: Global, cursor: &mut Cursor<'_>) -> Result<Option<T>, Stop>
+    ensures { Gives (read1 Some T.reader) cursor.old.rest.now cursor.new.rest.now result }
+{
+    let value = T::read(alloc, cursor)?;
+    Ok(Some(value))
+}
+
+/// Writes 0, or 1 and a value.
+#[tactic(auto, using(crate::proofs::Puts::list_steps))]
+pub(crate) fn put_option<T: Part>(value: &Option<T>, out: &mut Text) -> Result<(), NoMemory>
+    requires { IsTrue (are_in_range (option_fields T.fields value.now)) }
+    ensures { OnOk result (out.new ≡ puts out.old (option_fields T.fields value.now)) }
+{
+    match value {
+        None => put_byte(out, 0, 1, 0),
+        Some(value) => {
+            put_byte(out, 0, 1, 1)?;
+            value.put(out)
+        }
+    }
+}
