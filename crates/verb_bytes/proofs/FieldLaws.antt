@@ -10,9 +10,9 @@ use Rattle.undo_base.specs.declared.keys.User.{User}
 use Rattle.undo_base.specs.declared.keys.Key.{Key}
 use Rattle.undo_base.specs.declared.keys.Flags.{Flags}
 use Rattle.verb_bytes.specs.Fields.{Field, bytes_of, are_in_range, ◌&◌, only_if, byte_field, number_field, is_name, name_field, text_field, key_field, list_fields, option_fields, bool_field, flags_field, flags_code, worth, user_field, actor_field}
-use Rattle.verb_bytes.specs.Reading.{IsBytes}
+use Rattle.verb_bytes.specs.Decoding.{IsBytes}
 use Rattle.verb_bytes.specs.Readers.{Reader, field_or, field_at, cut, when, find_byte, find_number, find_name, find_text, find_key, actor_of, find_actor, byte_at, number_at, name_at, text_at, key_at, actor_at, done, read1, nth_case, choice_at, option_at, bool_at, has_bit, flags_of, flags_at, user_of, user_at}
-use Rattle.verb_bytes.proofs.Exact.{Takes, Again, Only, Exact, again_step, again1, again_done, again_made, only_step, only1, only_made, only_done, only_weaker, EachCase, only_case, and_true}
+use Rattle.verb_bytes.proofs.Exact.{Takes, Again, Sample, Only, Exact, again_step, again1, again_done, again_made, only_step, only1, only_made, only_done, only_weaker, EachCase, only_case, case_shrinks, only_field, again_field, and_true}
 
 -- ---- bytes
 
@@ -76,11 +76,16 @@ byte_takes least most (n ∷ more) rest x fits e =
     let h = when_some (nat_le least n && nat_le n most) (n, more) (x, rest) (found_ok _ _ (x, rest) e) in
     subst (λ (y : ℕ × List ℕ). (fs : List Field) × Takes (n ∷ more) fs y.1 × (fs ≡ byte_field least most y.0)) h.1 (byte_field least most n, record { parts = refl; fits = and_from _ _ h.0 refl; rest_fits = IsBytes-rest n more fits }, refl)
 
-pub byte_exact : (least most : ℕ) → Exact (byte_at least most) (byte_field least most)
+byte_only : (least most : ℕ) → least ≤ most → Only (byte_at least most) (λ n fs. fs ≡ byte_field least most n)
+unfolding byte_field byte_at are_in_range
+byte_only least most le = only_field (find_byte least most) (λ n fs. fs ≡ byte_field least most n) (byte_takes least most)
+    (record { value = least; fields = byte_field least most least; is_such = refl; fits = and_from _ _ (and_from (nat_le least least) (nat_le least most) (le-leb least least (omega arith)) (le-leb least most le)) refl })
+
+pub byte_exact : (least most : ℕ) → least ≤ most → Exact (byte_at least most) (byte_field least most)
 unfolding byte_field byte_at bytes_of are_in_range
-byte_exact least most = record {
-  again = λ n. record { reads = λ rest fits. rw (and_true (nat_le least n && nat_le n most) fits) refl };
-  only = record { takes = byte_takes least most };
+byte_exact least most le = record {
+  again = λ n. again_field n (record { bytes = n ∷ []; in_range = nat_le least n && nat_le n most }) (byte_only least most le).shrinks (λ rest fits. rw (and_true (nat_le least n && nat_le n most) fits) refl);
+  only = byte_only least most le;
 }
 
 pub byte_bounds : (least most n : ℕ) → are_in_range (byte_field least most n) ≡ true → (least ≤ n) × (n ≤ most)
@@ -142,21 +147,26 @@ find_again w limit wide most n rest lt small =
     ∙ ap (λ (m : ℕ). when (nat_le m most) (m, rest)) (wide.again n lt)
     ∙ ap (λ (b : Bool). when b (n, rest)) small
 
+number_takes : (w : Width) (limit most : ℕ) → IsWide w limit → (bytes rest : List ℕ) (x : ℕ) → IsBytes bytes → number_at w most bytes ≡ Ok (x, rest) → (fs : List Field) × Takes bytes fs rest × (fs ≡ number_field w most x)
+unfolding number_field number_at bytes_of are_in_range
+number_takes w limit most wide bytes rest x fits e =
+    let h = found_number w limit wide most bytes x rest fits (found_ok _ _ (x, rest) e) in
+    (number_field w most x, record { parts = h.parts ∙ ap (λ (y : List ℕ). y ++ rest) (sym (append-nil (to_be_bytes w x))); fits = and_from _ _ h.small refl; rest_fits = h.rest_fits }, refl)
+
+number_only : (w : Width) (limit most : ℕ) → IsWide w limit → Only (number_at w most) (λ n fs. fs ≡ number_field w most n)
+unfolding number_field number_at are_in_range
+number_only w limit most wide = only_field (find_number w most) (λ n fs. fs ≡ number_field w most n) (number_takes w limit most wide)
+    (record { value = 0; fields = number_field w most 0; is_such = refl; fits = and_from _ _ (le-leb 0 most (omega arith)) refl })
+
 pub number_exact : (w : Width) (limit most : ℕ) → IsWide w limit → most < limit → Exact (number_at w most) (number_field w most)
 unfolding number_field number_at bytes_of are_in_range
 number_exact w limit most wide lt = record {
-  again = λ n. record {
-    reads = λ rest fits.
-        let small : nat_le n most ≡ true = and_true (nat_le n most) fits in
-        let le : n ≤ most = leb-true _ _ small in
-        let e : bytes_of (number_field w most n) ++ rest ≡ to_be_bytes w n ++ rest = ap (λ (x : List ℕ). x ++ rest) (append-nil (to_be_bytes w n)) in
-        ap (number_at w most) e ∙ ap (field_or (length (to_be_bytes w n ++ rest))) (find_again w limit wide most n rest (omega arith) small);
-  };
-  only = record {
-    takes = λ bytes rest x fits e.
-        let h = found_number w limit wide most bytes x rest fits (found_ok _ _ (x, rest) e) in
-        (number_field w most x, record { parts = h.parts ∙ ap (λ (y : List ℕ). y ++ rest) (sym (append-nil (to_be_bytes w x))); fits = and_from _ _ h.small refl; rest_fits = h.rest_fits }, refl);
-  };
+  again = λ n. again_field n (record { bytes = to_be_bytes w n; in_range = nat_le n most }) (number_only w limit most wide).shrinks (λ rest fits.
+      let small : nat_le n most ≡ true = and_true (nat_le n most) fits in
+      let le : n ≤ most = leb-true _ _ small in
+      let e : bytes_of (number_field w most n) ++ rest ≡ to_be_bytes w n ++ rest = ap (λ (x : List ℕ). x ++ rest) (append-nil (to_be_bytes w n)) in
+      ap (number_at w most) e ∙ ap (field_or (length (to_be_bytes w n ++ rest))) (find_again w limit wide most n rest (omega arith) small));
+  only = number_only w limit most wide;
 }
 
 -- ---- names and texts
@@ -173,44 +183,50 @@ name_takes (n ∷ more) rest x fits e =
     ap (λ (y : List ℕ). n ∷ y) c.parts ∙ ap (λ (k : ℕ). k ∷ (p.0 ++ p.1)) (sym c.count_is) ∙ ap (λ (y : List ℕ). (length p.0 ∷ y) ++ p.1) (sym (append-nil p.0)) in
     subst (λ (y : List ℕ × List ℕ). (fs : List Field) × Takes (n ∷ more) fs y.1 × (fs ≡ name_field y.0)) h.1 (name_field p.0, record { parts = front; fits = and_from _ _ h.0 refl; rest_fits = back_fits }, refl))
 
+name_only : Only name_at (λ x fs. fs ≡ name_field x)
+unfolding name_field name_at are_in_range
+name_only = only_field find_name (λ x fs. fs ≡ name_field x) name_takes (record { value = 97 ∷ []; fields = name_field (97 ∷ []); is_such = refl; fits = refl })
+
 pub name_exact : Exact name_at name_field
 unfolding name_field name_at bytes_of are_in_range
 name_exact = record {
-  again = λ x. record {
-    reads = λ rest fits.
-        let e : bytes_of (name_field x) ++ rest ≡ length x ∷ (x ++ rest) = ap (λ (y : List ℕ). (length x ∷ y) ++ rest) (append-nil x) in
-        let parts = cut_at x rest (length x) refl in
-        ap name_at e ∙ ap (field_or (suc (length (x ++ rest)))) (ap (λ (o : Option (List ℕ × List ℕ)). option_and_then (λ (p : List ℕ × List ℕ). when (is_name p.0) p) o) parts ∙ ap (λ (b : Bool). when b (x, rest)) (and_true (is_name x) fits));
-  };
-  only = record { takes = name_takes };
+  again = λ x. again_field x (record { bytes = length x ∷ x; in_range = is_name x }) name_only.shrinks (λ rest fits.
+      let e : bytes_of (name_field x) ++ rest ≡ length x ∷ (x ++ rest) = ap (λ (y : List ℕ). (length x ∷ y) ++ rest) (append-nil x) in
+      let parts = cut_at x rest (length x) refl in
+      ap name_at e ∙ ap (field_or (suc (length (x ++ rest)))) (ap (λ (o : Option (List ℕ × List ℕ)). option_and_then (λ (p : List ℕ × List ℕ). when (is_name p.0) p) o) parts ∙ ap (λ (b : Bool). when b (x, rest)) (and_true (is_name x) fits)));
+  only = name_only;
 }
 
 text_bytes : (most : ℕ) (x rest : List ℕ) → bytes_of (text_field most x) ++ rest ≡ to_be_bytes w32 (length x) ++ (x ++ rest)
 unfolding text_field bytes_of
 text_bytes most x rest = ap (λ (y : List ℕ). y ++ rest) (append-nil (to_be_bytes w32 (length x) ++ x)) ∙ append_assoc (to_be_bytes w32 (length x)) x rest
 
+text_takes : (most : ℕ) (bytes rest : List ℕ) (x : List ℕ) → IsBytes bytes → text_at most bytes ≡ Ok (x, rest) → (fs : List Field) × Takes bytes fs rest × (fs ≡ text_field most x)
+unfolding text_field text_at bytes_of are_in_range
+text_takes most bytes rest x fits e =
+    option_and_then_some (λ (n : ℕ × List ℕ). cut n.0 n.1) (find_number w32 most bytes) (x, rest) (found_ok _ _ (x, rest) e) (λ n e1 e2.
+    let h = found_number w32 4294967296 wide32 most bytes n.0 n.1 fits e1 in
+    let c = cut_is n.0 n.1 (x, rest) e2 in
+    let len : n.0 ≡ length x = sym c.count_is in
+    let parts : bytes ≡ bytes_of (text_field most x) ++ rest =
+    h.parts ∙ ap (λ (y : List ℕ). to_be_bytes w32 n.0 ++ y) c.parts ∙ ap (λ (k : ℕ). to_be_bytes w32 k ++ (x ++ rest)) len ∙ sym (text_bytes most x rest) in
+    (text_field most x, record { parts = parts; fits = and_from _ _ (subst (λ (k : ℕ). nat_le k most ≡ true) len h.small) refl; rest_fits = subst IsBytes (sym c.back) (IsBytes-drop n.0 n.1 h.rest_fits) }, refl))
+
+text_only : (most : ℕ) → Only (text_at most) (λ x fs. fs ≡ text_field most x)
+unfolding text_field text_at are_in_range
+text_only most = only_field (find_text most) (λ x fs. fs ≡ text_field most x) (text_takes most) (record { value = []; fields = text_field most []; is_such = refl; fits = and_from _ _ (le-leb 0 most (omega arith)) refl })
+
 pub text_exact : (most : ℕ) → most < 4294967296 → Exact (text_at most) (text_field most)
 unfolding text_field text_at bytes_of are_in_range
 text_exact most lt = record {
-  again = λ x. record {
-    reads = λ rest fits.
-        let small : nat_le (length x) most ≡ true = and_true (nat_le (length x) most) fits in
-        let le : length x ≤ most = leb-true _ _ small in
-        let found = find_again w32 4294967296 wide32 most (length x) (x ++ rest) (omega arith) small in
-        let parts = cut_at x rest (length x) refl in
-        ap (text_at most) (text_bytes most x rest)
-        ∙ ap (field_or (length (to_be_bytes w32 (length x) ++ (x ++ rest)))) (ap (λ (o : Option (ℕ × List ℕ)). option_and_then (λ (n : ℕ × List ℕ). cut n.0 n.1) o) found ∙ parts);
-  };
-  only = record {
-    takes = λ bytes rest x fits e.
-        option_and_then_some (λ (n : ℕ × List ℕ). cut n.0 n.1) (find_number w32 most bytes) (x, rest) (found_ok _ _ (x, rest) e) (λ n e1 e2.
-        let h = found_number w32 4294967296 wide32 most bytes n.0 n.1 fits e1 in
-        let c = cut_is n.0 n.1 (x, rest) e2 in
-        let len : n.0 ≡ length x = sym c.count_is in
-        let parts : bytes ≡ bytes_of (text_field most x) ++ rest =
-        h.parts ∙ ap (λ (y : List ℕ). to_be_bytes w32 n.0 ++ y) c.parts ∙ ap (λ (k : ℕ). to_be_bytes w32 k ++ (x ++ rest)) len ∙ sym (text_bytes most x rest) in
-        (text_field most x, record { parts = parts; fits = and_from _ _ (subst (λ (k : ℕ). nat_le k most ≡ true) len h.small) refl; rest_fits = subst IsBytes (sym c.back) (IsBytes-drop n.0 n.1 h.rest_fits) }, refl));
-  };
+  again = λ x. again_field x (record { bytes = to_be_bytes w32 (length x) ++ x; in_range = nat_le (length x) most }) (text_only most).shrinks (λ rest fits.
+      let small : nat_le (length x) most ≡ true = and_true (nat_le (length x) most) fits in
+      let le : length x ≤ most = leb-true _ _ small in
+      let found = find_again w32 4294967296 wide32 most (length x) (x ++ rest) (omega arith) small in
+      let parts = cut_at x rest (length x) refl in
+      ap (text_at most) (text_bytes most x rest)
+      ∙ ap (field_or (length (to_be_bytes w32 (length x) ++ (x ++ rest)))) (ap (λ (o : Option (ℕ × List ℕ)). option_and_then (λ (n : ℕ × List ℕ). cut n.0 n.1) o) found ∙ parts));
+  only = text_only most;
 }
 
 -- ---- keys
@@ -245,24 +261,31 @@ key_small bytes fits =
     let index : (key_of bytes).index < 65536 = omega (arith, back 0, back 1) in
     and_from _ _ (lt-ltb _ _ item) (lt-ltb _ _ index)
 
+key_takes : (bytes rest : List ℕ) (x : Key) → IsBytes bytes → key_at bytes ≡ Ok (x, rest) → (fs : List Field) × Takes bytes fs rest × (fs ≡ key_field x)
+unfolding key_field key_at bytes_of are_in_range
+key_takes bytes rest x fits e =
+    option_and_then_some (λ (p : List ℕ × List ℕ). Some (key_of p.0, p.1)) (cut 6 bytes) (x, rest) (found_ok _ _ (x, rest) e) (λ p e1 e2.
+    let c = cut_is 6 bytes p e1 in
+    let front_fits : IsBytes p.0 = subst IsBytes (sym c.front) (IsBytes-take 6 bytes fits) in
+    let parts : bytes ≡ bytes_of (key_field (key_of p.0)) ++ p.1 = c.parts ∙ ap (λ (y : List ℕ). y ++ p.1) (sym (key_again p.0 c.count_is front_fits)) ∙ sym (key_bytes (key_of p.0) p.1) in
+    subst (λ (y : Key × List ℕ). (fs : List Field) × Takes bytes fs y.1 × (fs ≡ key_field y.0)) (some_is (key_of p.0, p.1) (x, rest) e2) (key_field (key_of p.0), record { parts = parts; fits = and_from _ _ (key_small p.0 front_fits) refl; rest_fits = subst IsBytes (sym c.back) (IsBytes-drop 6 bytes fits) }, refl))
+
+first_key : Key
+first_key = record { item = 0; index = 0 }
+
+key_only : Only key_at (λ x fs. fs ≡ key_field x)
+unfolding key_field key_at are_in_range first_key
+key_only = only_field find_key (λ x fs. fs ≡ key_field x) key_takes (record { value = first_key; fields = key_field first_key; is_such = refl; fits = refl })
+
 pub key_exact : Exact key_at key_field
 unfolding key_field key_at bytes_of are_in_range
 key_exact = record {
-  again = λ k. record {
-    reads = λ rest fits.
-        let h = and_parts (nat_lt k.item 4294967296) (nat_lt k.index 65536) (and_true _ fits) in
-        ap key_at (key_bytes k rest)
-        ∙ ap (field_or (length ((to_be_bytes w32 k.item ++ to_be_bytes w16 k.index) ++ rest))) (ap (λ (o : Option (List ℕ × List ℕ)). option_and_then (λ (p : List ℕ × List ℕ). Some (key_of p.0, p.1)) o) (cut_at (to_be_bytes w32 k.item ++ to_be_bytes w16 k.index) rest 6 refl)
-        ∙ ap (λ (x : Key). Some (x, rest)) (key_back k (ltb-true _ _ h.0) (ltb-true _ _ h.1)));
-  };
-  only = record {
-    takes = λ bytes rest x fits e.
-        option_and_then_some (λ (p : List ℕ × List ℕ). Some (key_of p.0, p.1)) (cut 6 bytes) (x, rest) (found_ok _ _ (x, rest) e) (λ p e1 e2.
-        let c = cut_is 6 bytes p e1 in
-        let front_fits : IsBytes p.0 = subst IsBytes (sym c.front) (IsBytes-take 6 bytes fits) in
-        let parts : bytes ≡ bytes_of (key_field (key_of p.0)) ++ p.1 = c.parts ∙ ap (λ (y : List ℕ). y ++ p.1) (sym (key_again p.0 c.count_is front_fits)) ∙ sym (key_bytes (key_of p.0) p.1) in
-        subst (λ (y : Key × List ℕ). (fs : List Field) × Takes bytes fs y.1 × (fs ≡ key_field y.0)) (some_is (key_of p.0, p.1) (x, rest) e2) (key_field (key_of p.0), record { parts = parts; fits = and_from _ _ (key_small p.0 front_fits) refl; rest_fits = subst IsBytes (sym c.back) (IsBytes-drop 6 bytes fits) }, refl));
-  };
+  again = λ k. again_field k (record { bytes = to_be_bytes w32 k.item ++ to_be_bytes w16 k.index; in_range = nat_lt k.item 4294967296 && nat_lt k.index 65536 }) key_only.shrinks (λ rest fits.
+      let h = and_parts (nat_lt k.item 4294967296) (nat_lt k.index 65536) (and_true _ fits) in
+      ap key_at (key_bytes k rest)
+      ∙ ap (field_or (length ((to_be_bytes w32 k.item ++ to_be_bytes w16 k.index) ++ rest))) (ap (λ (o : Option (List ℕ × List ℕ)). option_and_then (λ (p : List ℕ × List ℕ). Some (key_of p.0, p.1)) o) (cut_at (to_be_bytes w32 k.item ++ to_be_bytes w16 k.index) rest 6 refl)
+      ∙ ap (λ (x : Key). Some (x, rest)) (key_back k (ltb-true _ _ h.0) (ltb-true _ _ h.1))));
+  only = key_only;
 }
 
 -- ---- who acted
@@ -300,24 +323,46 @@ actor_takes (n ∷ more) rest x fits e =
     let h = actor_found n a (n == 255) refl e1 in
     subst (λ (y : Option User × List ℕ). (fs : List Field) × Takes (n ∷ more) fs y.1 × (fs ≡ actor_field y.0)) (some_is (a, more) (x, rest) e2) (actor_field a, record { parts = ap (λ (y : List ℕ). y ++ more) (sym h.1); fits = h.0; rest_fits = IsBytes-rest n more fits }, refl))
 
+actor_only : Only actor_at (λ x fs. fs ≡ actor_field x)
+unfolding actor_at byte_field are_in_range
+actor_only = only_field find_actor (λ x fs. fs ≡ actor_field x) actor_takes (record { value = None; fields = actor_field None; is_such = refl; fits = refl })
+
+actor_again : (a : Option User) → Again actor_at a (actor_field a)
+unfolding byte_field
+actor_again None = again_field None (record { bytes = 255 ∷ []; in_range = nat_le 255 255 && nat_le 255 255 }) actor_only.shrinks (actor_reads None)
+actor_again (Some u) = again_field (Some u) (record { bytes = u.0 ∷ []; in_range = nat_le 0 u.0 && nat_le u.0 199 }) actor_only.shrinks (actor_reads (Some u))
+
 pub actor_exact : Exact actor_at actor_field
-unfolding actor_at byte_field bytes_of are_in_range
-actor_exact = record { again = λ a. record { reads = actor_reads a }; only = record { takes = actor_takes } }
+actor_exact = record { again = actor_again; only = actor_only }
 
 -- ---- choices
 
-pub choice_exact : {C : Type 0} (least most : ℕ) (cases : List (Reader C)) (fields : C → List Field) → ((x : C) → Again (choice_at least most cases) x (fields x)) → EachCase least cases (λ n x fs. byte_field least most n & fs ≡ fields x) → Exact (choice_at least most cases) fields
-choice_exact least most cases fields again each = record {
+-- behind the byte that chooses it, the fields of the value
+abbrev pub Chosen : {C : Type 0} → ℕ → ℕ → (C → List Field) → ℕ → C → List Field → Type 0
+Chosen least most fields n x fs = byte_field least most n & fs ≡ fields x
+
+pub choice_exact : {C : Type 0} (least most : ℕ) → least ≤ most → (cases : List (Reader C)) → length cases ≡ suc (most - least) → (fields : C → List Field) → ((x : C) → Again (choice_at least most cases) x (fields x)) → EachCase least cases (Chosen least most fields) → Exact (choice_at least most cases) fields
+choice_exact least most le cases all fields again each = record {
   again = again;
-  only = only_step (byte_exact least most) (λ n. nth_case (n - least) cases) (λ x fs. fs ≡ fields x) (λ n fits. only_case cases least (n - least) n (λ n x fs. byte_field least most n & fs ≡ fields x) each (let le = (byte_bounds least most n fits).0 in omega arith));
+  only = only_step (byte_exact least most le) (λ n. nth_case (n - least) cases) (λ x fs. fs ≡ fields x) (λ n fits.
+      let h = byte_bounds least most n fits in
+      only_case cases least (n - least) n (Chosen least most fields) each (omega arith) (omega arith));
 }
 
-pub again_alone : {C : Type 0} (least most n : ℕ) (cases : List (Reader C)) (c : C) → Again (nth_case (n - least) cases) c [] → Again (choice_at least most cases) c (byte_field least most n)
-again_alone least most n cases c h = subst (λ (fs : List Field). Again (choice_at least most cases) c fs) (append-nil (byte_field least most n)) (again_step (byte_exact least most) (λ k. nth_case (k - least) cases) n c [] h)
+-- a case with the byte that chooses it
+pub again_case : {C : Type 0} (least most : ℕ) → least ≤ most → (cases : List (Reader C)) (Q : ℕ → C → List Field → Type 0) → EachCase least cases Q → (n : ℕ) (c : C) (fs : List Field) → Again (nth_case (n - least) cases) c fs → Again (choice_at least most cases) c (byte_field least most n & fs)
+again_case least most le cases Q each n c fs h = again_step (byte_exact least most le) (λ k. nth_case (k - least) cases) (λ k fits. case_shrinks cases least (k - least) Q each) n c fs h
+
+-- a case that is its byte alone
+pub again_alone : {C : Type 0} (least most : ℕ) → least ≤ most → (cases : List (Reader C)) (Q : ℕ → C → List Field → Type 0) → EachCase least cases Q → (n : ℕ) (c : C) → Again (nth_case (n - least) cases) c [] → Again (choice_at least most cases) c (byte_field least most n)
+again_alone least most le cases Q each n c h = subst (λ (fs : List Field). Again (choice_at least most cases) c fs) (append-nil (byte_field least most n)) (again_case least most le cases Q each n c [] h)
 
 pub option_exact : {A : Type 0} {f : Reader A} {F : A → List Field} → Exact f F → Exact (option_at f) (option_fields F)
-option_exact {A} {f} {F} e = choice_exact 0 1 (done None ∷ read1 Some f ∷ []) (option_fields F) again (only_done None _ (append-nil (byte_field 0 1 0)), (only1 e Some _ (λ x. refl), tt))
+option_exact {A} {f} {F} e = choice_exact 0 1 (omega arith) (done None ∷ read1 Some f ∷ []) refl (option_fields F) again each
   where
+    each : EachCase 0 (done None ∷ read1 Some f ∷ []) (Chosen 0 1 (option_fields F))
+    each = (only_done None _ (append-nil (byte_field 0 1 0)), (only1 e Some _ (λ x. refl), tt))
+
     again : (x : Option A) → Again (option_at f) x (option_fields F x)
-    again None = again_alone 0 1 0 (done None ∷ read1 Some f ∷ []) None (again_done None)
-    again (Some x) = again_step (byte_exact 0 1) (λ n. nth_case (n - 0) (done None ∷ read1 Some f ∷ [])) 1 (Some x) (F x) (again1 e Some x)
+    again None = again_alone 0 1 (omega arith) (done None ∷ read1 Some f ∷ []) (Chosen 0 1 (option_fields F)) each 0 None (again_done None)
+    again (Some x) = again_case 0 1 (omega arith) (done None ∷ read1 Some f ∷ []) (Chosen 0 1 (option_fields F)) each 1 (Some x) (F x) (again1 e Some x)

@@ -1,6 +1,7 @@
 pub mod Exact
 pub mod FieldLaws
 pub mod RecordLaws
+pub mod Refusals
 pub mod Puts
 pub mod TimesLoop
 pub mod Cases

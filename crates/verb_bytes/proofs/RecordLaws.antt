@@ -1,4 +1,4 @@
--- Each record is read from its fields, and only from these; so it has one spelling, and bytes spell one record at most.
+-- Each record is read from its fields, and only from these.
 use Rattle.std.proofs.Common.{◌≡◌, ℕ, zero, suc, ◌+◌, ◌-◌, ◌<◌, ◌≤◌, Bool, true, false, ◌&&◌, List, [], ◌∷◌, ◌++◌, length, Option, Some, None, Result, Ok, Err, refl, sym, ap, subst, ◌∙◌, arith, inl, inr, lit<}
 use Rattle.std.specs.Prelude.{◌==◌, nat_eq}
 use Rattle.std.specs.List.{flat_map}
@@ -37,9 +37,9 @@ use Rattle.verb_bytes.specs.declared.journal.JournalRecord.TheVariants.{Format, 
 use Rattle.verb_bytes.specs.Fields.{Field, bytes_of, are_in_range, ◌&◌, only_if, byte_field, number_field, name_field, key_field, list_fields, option_fields, bool_field, flags_field, flags_code, worth, u32_field, u64_field, moment_field, any_text_field, body_field, user_field, actor_field, any_list_fields}
 use Rattle.verb_bytes.specs.Spelling.{key_list, account_fields, alias_fields, aliases_fields, filter_fields, entry_fields, row_fields, how_field, deed_fields, sight_fields, way_field, shown_kind, shown_fields, item_fields, act_fields, replace_fields, ask_fields, house_fields, record_fields, record_bytes, Spells}
 use Rattle.verb_bytes.specs.Readers.{Reader, ◌>>=◌, done, read1, read2, read3, read4, read5, read6, times, list_at, nth_case, choice_at, byte_at, option_at, bool_at, name_at, text_at, key_at, actor_at, number_at, u32_at, moment_at, has_bit, flags_of, flags_at, user_of, user_at}
-use Rattle.verb_bytes.specs.Reading.{IsBytes, from_start, refused_behind, first_refused, AnswersAll, Decodes, IsThis, any_list_at, any_text_at, body_at, u64_at, keys_at, account_of, account_at, alias_of, alias_at, aliases_at, filter_of, filter_at, entry_of, entry_at, row_of, row_at, how_at, deed_cases, deed_at, sight_of, sight_at, way_at, shown_cases, shown_at, item_of, item_at, act_cases, act_at, replace_of, replace_at, ask_of, cycle_ask_at, format_of, format_at, snapshot_of, snapshot_at, record_cases, record_at}
-use Rattle.verb_bytes.proofs.Exact.{Takes, Again, Only, Exact, and_true, in_range_parts, in_range_both, bytes_joined, ok_is, again_step, again_made, again_done, only_step, only_made, only_done, only_weaker, again1, only1, again2, only2, again3, only3, again4, only4, again5, only5, again6, only6, list_exact, EachCase, only_case}
-use Rattle.verb_bytes.proofs.FieldLaws.{byte_exact, byte_bounds, wide32, wide64, number_exact, name_exact, text_exact, key_exact, actor_exact, again_alone, choice_exact, option_exact}
+use Rattle.verb_bytes.specs.Reading.{any_list_at, any_text_at, body_at, u64_at, keys_at, account_of, account_at, alias_of, alias_at, aliases_at, filter_of, filter_at, entry_of, entry_at, row_of, row_at, how_at, deed_cases, deed_at, sight_of, sight_at, way_at, shown_cases, shown_at, item_of, item_at, act_cases, act_at, replace_of, replace_at, ask_of, cycle_ask_at, format_of, format_at, snapshot_of, snapshot_at, record_cases, record_at}
+use Rattle.verb_bytes.proofs.Exact.{Takes, Shrinks, Again, Only, Exact, and_true, no_front, ok_is, shrinks_done, shrinks_step, shrinks1, shrinks2, shrinks3, shrinks4, shrinks5, again_step, again_made, again_done, only_step, only_made, only_done, only_weaker, again1, only1, again2, only2, again3, only3, again4, only4, again5, only5, again6, only6, list_exact, EachCase, only_case, case_shrinks}
+use Rattle.verb_bytes.proofs.FieldLaws.{Chosen, again_case, byte_exact, byte_bounds, wide32, wide64, number_exact, name_exact, text_exact, key_exact, actor_exact, again_alone, choice_exact, option_exact}
 
 -- ---- numbers, texts and lists of a range
 
@@ -69,28 +69,37 @@ keys_exact = counted 65536 (lit< tt) key_exact
 
 -- ---- small choices
 
+bool_each : EachCase 0 (done false ∷ done true ∷ []) (Chosen 0 1 bool_field)
+bool_each = (only_done false _ (append-nil (byte_field 0 1 0)), (only_done true _ (append-nil (byte_field 0 1 1)), tt))
+
 bool_again : (x : Bool) → Again bool_at x (bool_field x)
-bool_again false = again_alone 0 1 0 (done false ∷ done true ∷ []) false (again_done false)
-bool_again true = again_alone 0 1 1 (done false ∷ done true ∷ []) true (again_done true)
+bool_again false = again_alone 0 1 (omega arith) (done false ∷ done true ∷ []) (Chosen 0 1 bool_field) bool_each 0 false (again_done false)
+bool_again true = again_alone 0 1 (omega arith) (done false ∷ done true ∷ []) (Chosen 0 1 bool_field) bool_each 1 true (again_done true)
 
 bool_exact : Exact bool_at bool_field
-bool_exact = choice_exact 0 1 (done false ∷ done true ∷ []) bool_field bool_again (only_done false _ (append-nil (byte_field 0 1 0)), (only_done true _ (append-nil (byte_field 0 1 1)), tt))
+bool_exact = choice_exact 0 1 (omega arith) (done false ∷ done true ∷ []) refl bool_field bool_again bool_each
+
+how_each : EachCase 0 (done Replace ∷ done Add ∷ done Take ∷ []) (Chosen 0 2 how_field)
+how_each = (only_done Replace _ (append-nil (byte_field 0 2 0)), (only_done Add _ (append-nil (byte_field 0 2 1)), (only_done Take _ (append-nil (byte_field 0 2 2)), tt)))
 
 how_again : (x : How) → Again how_at x (how_field x)
-how_again Replace = again_alone 0 2 0 (done Replace ∷ done Add ∷ done Take ∷ []) Replace (again_done Replace)
-how_again Add = again_alone 0 2 1 (done Replace ∷ done Add ∷ done Take ∷ []) Add (again_done Add)
-how_again Take = again_alone 0 2 2 (done Replace ∷ done Add ∷ done Take ∷ []) Take (again_done Take)
+how_again Replace = again_alone 0 2 (omega arith) (done Replace ∷ done Add ∷ done Take ∷ []) (Chosen 0 2 how_field) how_each 0 Replace (again_done Replace)
+how_again Add = again_alone 0 2 (omega arith) (done Replace ∷ done Add ∷ done Take ∷ []) (Chosen 0 2 how_field) how_each 1 Add (again_done Add)
+how_again Take = again_alone 0 2 (omega arith) (done Replace ∷ done Add ∷ done Take ∷ []) (Chosen 0 2 how_field) how_each 2 Take (again_done Take)
 
 how_exact : Exact how_at how_field
-how_exact = choice_exact 0 2 (done Replace ∷ done Add ∷ done Take ∷ []) how_field how_again (only_done Replace _ (append-nil (byte_field 0 2 0)), (only_done Add _ (append-nil (byte_field 0 2 1)), (only_done Take _ (append-nil (byte_field 0 2 2)), tt)))
+how_exact = choice_exact 0 2 (omega arith) (done Replace ∷ done Add ∷ done Take ∷ []) refl how_field how_again how_each
+
+way_each : EachCase 0 (done Plain ∷ done NoSource ∷ done Merged ∷ []) (Chosen 0 2 way_field)
+way_each = (only_done Plain _ (append-nil (byte_field 0 2 0)), (only_done NoSource _ (append-nil (byte_field 0 2 1)), (only_done Merged _ (append-nil (byte_field 0 2 2)), tt)))
 
 way_again : (x : Way) → Again way_at x (way_field x)
-way_again Plain = again_alone 0 2 0 (done Plain ∷ done NoSource ∷ done Merged ∷ []) Plain (again_done Plain)
-way_again NoSource = again_alone 0 2 1 (done Plain ∷ done NoSource ∷ done Merged ∷ []) NoSource (again_done NoSource)
-way_again Merged = again_alone 0 2 2 (done Plain ∷ done NoSource ∷ done Merged ∷ []) Merged (again_done Merged)
+way_again Plain = again_alone 0 2 (omega arith) (done Plain ∷ done NoSource ∷ done Merged ∷ []) (Chosen 0 2 way_field) way_each 0 Plain (again_done Plain)
+way_again NoSource = again_alone 0 2 (omega arith) (done Plain ∷ done NoSource ∷ done Merged ∷ []) (Chosen 0 2 way_field) way_each 1 NoSource (again_done NoSource)
+way_again Merged = again_alone 0 2 (omega arith) (done Plain ∷ done NoSource ∷ done Merged ∷ []) (Chosen 0 2 way_field) way_each 2 Merged (again_done Merged)
 
 way_exact : Exact way_at way_field
-way_exact = choice_exact 0 2 (done Plain ∷ done NoSource ∷ done Merged ∷ []) way_field way_again (only_done Plain _ (append-nil (byte_field 0 2 0)), (only_done NoSource _ (append-nil (byte_field 0 2 1)), (only_done Merged _ (append-nil (byte_field 0 2 2)), tt)))
+way_exact = choice_exact 0 2 (omega arith) (done Plain ∷ done NoSource ∷ done Merged ∷ []) refl way_field way_again way_each
 
 -- ---- flags and users
 
@@ -146,14 +155,20 @@ code_again : (n : ℕ) → n ≤ 31 → flags_code (flags_of n) ≡ n
 unfolding all_below
 code_again n le = eqb-true _ _ (below_is (λ m. flags_code (flags_of m) == m) 32 n refl (omega arith))
 
+five_bits : Exact (byte_at 0 31) (byte_field 0 31)
+five_bits = byte_exact 0 31 (omega arith)
+
+one_of_users : Exact (byte_at 0 199) (byte_field 0 199)
+one_of_users = byte_exact 0 199 (omega arith)
+
 flags_exact : Exact flags_at flags_field
 flags_exact = record {
-  again = λ f. subst (λ (g : Flags). Again flags_at g (flags_field f)) (five f.answered f.flagged f.deleted f.seen f.draft) (again1 (byte_exact 0 31) flags_of (flags_code f));
-  only = only_step (byte_exact 0 31) (λ n. done (flags_of n)) (λ f fs. fs ≡ flags_field f) (λ n fits. only_done (flags_of n) (λ f fs. byte_field 0 31 n & fs ≡ flags_field f) (append-nil (byte_field 0 31 n) ∙ ap (byte_field 0 31) (sym (code_again n (byte_bounds 0 31 n fits).1))));
+  again = λ f. subst (λ (g : Flags). Again flags_at g (flags_field f)) (five f.answered f.flagged f.deleted f.seen f.draft) (again1 five_bits flags_of (flags_code f));
+  only = only_step five_bits (λ n. done (flags_of n)) (λ f fs. fs ≡ flags_field f) (λ n fits. only_done (flags_of n) (λ f fs. byte_field 0 31 n & fs ≡ flags_field f) (append-nil (byte_field 0 31 n) ∙ ap (byte_field 0 31) (sym (code_again n (byte_bounds 0 31 n fits).1))));
 }
 
 user_exact : Exact user_at user_field
-user_exact = record { again = λ u. again1 (byte_exact 0 199) user_of u.0; only = only1 (byte_exact 0 199) user_of (λ u fs. fs ≡ user_field u) (λ n. refl) }
+user_exact = record { again = λ u. again1 one_of_users user_of u.0; only = only1 one_of_users user_of (λ u fs. fs ≡ user_field u) (λ n. refl) }
 
 -- ---- configurations and mailboxes
 
@@ -185,30 +200,10 @@ replace_exact = record { again = λ q. again2 u32_exact body_exact replace_of q.
 
 never : {C : Type 0} (reader : Reader C) (x : C) → Again reader x (only_if false)
 unfolding only_if are_in_range
-never reader x = record { reads = λ rest fits. absurd cc }
+never reader x = record { reads = λ rest fits. absurd cc; passes = λ front back bytes rest fit fits cut begins. absurd cc }
 
-deed_case : (n : ℕ) (x : Deed) (fs : List Field) → Again (nth_case (n - 1) deed_cases) x fs → Again deed_at x (byte_field 1 13 n & fs)
-deed_case n x fs h = again_step (byte_exact 1 13) (λ n. nth_case (n - 1) deed_cases) n x fs h
-
-deed_again : (x : Deed) → Again deed_at x (deed_fields x)
-deed_again (Deliver a b c) = deed_case 1 (Deliver a b c) _ (again3 any_text_exact (counted 1000 (lit< tt) name_exact) body_exact Deliver a b c)
-deed_again (Append a b c d) = deed_case 2 (Append a b c d) _ (again4 name_exact flags_exact moment_exact body_exact Append a b c d)
-deed_again (Fetch a b c d) = deed_case 3 (Fetch a b c d) _ (again4 name_exact keys_exact bool_exact bool_exact Fetch a b c d)
-deed_again (Store a b c d) = deed_case 4 (Store a b c d) _ (again4 name_exact keys_exact how_exact flags_exact Store a b c d)
-deed_again (Copy a b c) = deed_case 5 (Copy a b c) _ (again3 name_exact keys_exact name_exact Copy a b c)
-deed_again (Names a) = deed_case 6 (Names a) _ (again1 any_text_exact Names a)
-deed_again (Status a) = deed_case 7 (Status a) _ (again1 name_exact Status a)
-deed_again (Select a) = deed_case 8 (Select a) _ (again1 name_exact Select a)
-deed_again (Expunge a b) = deed_case 9 (Expunge a b) _ (again2 name_exact keys_exact Expunge a b)
-deed_again (Close a b) = deed_case 10 (Close a b) _ (again2 name_exact keys_exact Close a b)
-deed_again (Create a) = deed_case 11 (Create a) _ (again1 name_exact Create a)
-deed_again (Rename a b) = deed_case 12 (Rename a b) _ (again2 name_exact name_exact Rename a b)
-deed_again (Delete a b) = deed_case 13 (Delete a b) _ (again2 name_exact keys_exact Delete a b)
-deed_again (Acts a) = never deed_at (Acts a)
-deed_again (Notice a b) = never deed_at (Notice a b)
-
-deed_exact : Exact deed_at deed_fields
-deed_exact = choice_exact 1 13 deed_cases deed_fields deed_again (
+deed_each : EachCase 1 deed_cases (Chosen 1 13 deed_fields)
+deed_each = (
   only3 any_text_exact (counted 1000 (lit< tt) name_exact) body_exact Deliver _ (λ a b c. refl),
   (
     only4 name_exact flags_exact moment_exact body_exact Append _ (λ a b c d. refl),
@@ -249,10 +244,70 @@ deed_exact = choice_exact 1 13 deed_cases deed_fields deed_again (
   ),
 )
 
+deed_case : (n : ℕ) (x : Deed) (fs : List Field) → Again (nth_case (n - 1) deed_cases) x fs → Again deed_at x (byte_field 1 13 n & fs)
+deed_case n x fs h = again_case 1 13 (omega arith) deed_cases (Chosen 1 13 deed_fields) deed_each n x fs h
+
+deed_again : (x : Deed) → Again deed_at x (deed_fields x)
+deed_again (Deliver a b c) = deed_case 1 (Deliver a b c) _ (again3 any_text_exact (counted 1000 (lit< tt) name_exact) body_exact Deliver a b c)
+deed_again (Append a b c d) = deed_case 2 (Append a b c d) _ (again4 name_exact flags_exact moment_exact body_exact Append a b c d)
+deed_again (Fetch a b c d) = deed_case 3 (Fetch a b c d) _ (again4 name_exact keys_exact bool_exact bool_exact Fetch a b c d)
+deed_again (Store a b c d) = deed_case 4 (Store a b c d) _ (again4 name_exact keys_exact how_exact flags_exact Store a b c d)
+deed_again (Copy a b c) = deed_case 5 (Copy a b c) _ (again3 name_exact keys_exact name_exact Copy a b c)
+deed_again (Names a) = deed_case 6 (Names a) _ (again1 any_text_exact Names a)
+deed_again (Status a) = deed_case 7 (Status a) _ (again1 name_exact Status a)
+deed_again (Select a) = deed_case 8 (Select a) _ (again1 name_exact Select a)
+deed_again (Expunge a b) = deed_case 9 (Expunge a b) _ (again2 name_exact keys_exact Expunge a b)
+deed_again (Close a b) = deed_case 10 (Close a b) _ (again2 name_exact keys_exact Close a b)
+deed_again (Create a) = deed_case 11 (Create a) _ (again1 name_exact Create a)
+deed_again (Rename a b) = deed_case 12 (Rename a b) _ (again2 name_exact name_exact Rename a b)
+deed_again (Delete a b) = deed_case 13 (Delete a b) _ (again2 name_exact keys_exact Delete a b)
+deed_again (Acts a) = never deed_at (Acts a)
+deed_again (Notice a b) = never deed_at (Notice a b)
+
+deed_exact : Exact deed_at deed_fields
+deed_exact = choice_exact 1 13 (omega arith) deed_cases refl deed_fields deed_again deed_each
+
 -- ---- what was shown
 
+-- what reads the shown of this kind
+abbrev OfKind : ℕ → ℕ → Shown → List Field → Type 0
+OfKind kind n x fs = byte_field kind kind n & fs ≡ shown_fields kind x
+
+shown_each : (kind : ℕ) → EachCase 0 shown_cases (OfKind kind)
+shown_each kind = (
+  only_done Nothing _ (append-nil (byte_field kind kind 0)),
+  (
+    only1 (counted 65536 (lit< tt) sight_exact) Seen _ (λ a. refl),
+    (
+      only1 (any_counted name_exact) Named _ (λ a. refl),
+      (
+        only1 (option_exact u32_exact) Count _ (λ a. refl),
+        (
+          only1 keys_exact Done _ (λ a. refl),
+          (
+            only2 keys_exact bool_exact Copied _ (λ a b. refl),
+            (
+              only1 bool_exact Put _ (λ a. refl),
+              (
+                only1 keys_exact Left _ (λ a. refl),
+                (
+                  only1 way_exact Went _ (λ a. refl),
+                  (
+                    only1 keys_exact Moved _ (λ a. refl),
+                    tt,
+                  ),
+                ),
+              ),
+            ),
+          ),
+        ),
+      ),
+    ),
+  ),
+)
+
 shown_case : (kind n : ℕ) (x : Shown) (fs : List Field) → Again (nth_case n shown_cases) x fs → Again (shown_at kind) x (byte_field kind kind n & fs)
-shown_case kind n x fs h = again_step (byte_exact kind kind) (λ n. nth_case n shown_cases) n x fs h
+shown_case kind n x fs h = again_step (byte_exact kind kind (omega arith)) (λ n. nth_case n shown_cases) (λ n fits. case_shrinks shown_cases 0 n (OfKind kind) (shown_each kind)) n x fs h
 
 shown_again : (kind : ℕ) (x : Shown) → Again (shown_at kind) x (shown_fields kind x)
 shown_again kind Nothing = subst (λ (fs : List Field). Again (shown_at kind) Nothing fs) (append-nil (byte_field kind kind 0)) (shown_case kind 0 Nothing [] (again_done Nothing))
@@ -266,44 +321,31 @@ shown_again kind (Left a) = shown_case kind 7 (Left a) _ (again1 keys_exact Left
 shown_again kind (Went a) = shown_case kind 8 (Went a) _ (again1 way_exact Went a)
 shown_again kind (Moved a) = shown_case kind 9 (Moved a) _ (again1 keys_exact Moved a)
 
-shown_exact : (kind : ℕ) → Exact (shown_at kind) (shown_fields kind)
-shown_exact kind = record {
+shown_exact : (kind : ℕ) → kind ≤ 9 → Exact (shown_at kind) (shown_fields kind)
+shown_exact kind le = record {
   again = shown_again kind;
-  only = only_step (byte_exact kind kind) (λ n. nth_case n shown_cases) (λ x fs. fs ≡ shown_fields kind x) (λ n fits. only_case shown_cases 0 n n (λ n x fs. byte_field kind kind n & fs ≡ shown_fields kind x) (each kind) (omega arith));
+  only = only_step (byte_exact kind kind (omega arith)) (λ n. nth_case n shown_cases) (λ x fs. fs ≡ shown_fields kind x) (λ n fits.
+      let h = byte_bounds kind kind n fits in
+      let all : length shown_cases ≡ 10 = refl in
+      only_case shown_cases 0 n n (OfKind kind) (shown_each kind) (omega arith) (omega arith));
 }
-  where
-    each : (kind : ℕ) → EachCase 0 shown_cases (λ n x fs. byte_field kind kind n & fs ≡ shown_fields kind x)
-    each kind = (
-      only_done Nothing _ (append-nil (byte_field kind kind 0)),
-      (
-        only1 (counted 65536 (lit< tt) sight_exact) Seen _ (λ a. refl),
-        (
-          only1 (any_counted name_exact) Named _ (λ a. refl),
-          (
-            only1 (option_exact u32_exact) Count _ (λ a. refl),
-            (
-              only1 keys_exact Done _ (λ a. refl),
-              (
-                only2 keys_exact bool_exact Copied _ (λ a b. refl),
-                (
-                  only1 bool_exact Put _ (λ a. refl),
-                  (
-                    only1 keys_exact Left _ (λ a. refl),
-                    (
-                      only1 way_exact Went _ (λ a. refl),
-                      (
-                        only1 keys_exact Moved _ (λ a. refl),
-                        tt,
-                      ),
-                    ),
-                  ),
-                ),
-              ),
-            ),
-          ),
-        ),
-      ),
-    )
+
+kind_fits : (d : Deed) → shown_kind d ≤ 9
+kind_fits (Deliver a b c) = omega arith
+kind_fits (Append a b c d) = omega arith
+kind_fits (Fetch a b c d) = omega arith
+kind_fits (Store a b c d) = omega arith
+kind_fits (Copy a b c) = omega arith
+kind_fits (Names a) = omega arith
+kind_fits (Status a) = omega arith
+kind_fits (Select a) = omega arith
+kind_fits (Expunge a b) = omega arith
+kind_fits (Close a b) = omega arith
+kind_fits (Create a) = omega arith
+kind_fits (Rename a b) = omega arith
+kind_fits (Delete a b) = omega arith
+kind_fits (Acts a) = omega arith
+kind_fits (Notice a b) = omega arith
 
 -- ---- conditions that no byte stands for
 
@@ -311,61 +353,84 @@ only_true : (t : Bool) → are_in_range (only_if t) ≡ true → t ≡ true
 unfolding only_if are_in_range
 only_true t h = and_true t h
 
-no_bytes : (fs : List Field) (t : Bool) (rest : List ℕ) → bytes_of (fs & only_if t) ++ rest ≡ bytes_of fs ++ rest
+-- the bytes of the first of no bytes
+no_bytes : (t : Bool) (front back : List Field) → only_if t ≡ front & back → bytes_of front ≡ []
 unfolding only_if bytes_of
-no_bytes fs t rest = bytes_joined fs (only_if t) rest
+no_bytes t [] back cut = refl
+no_bytes t (f ∷ front) back cut =
+    let same : f ≡ record { bytes = []; in_range = t } = cc in
+    let others : [] ≡ front & back = cc in
+    ap (λ (g : Field). g.bytes ++ bytes_of front) same ∙ ap bytes_of (no_front front back others)
+
+again_if : {C : Type 0} (y x : C) (t : Bool) → (t ≡ true → y ≡ x) → Again (done y) x (only_if t)
+again_if {C} y x t h = record {
+  reads = λ rest fits. ap (λ (b : List ℕ). done y (b ++ rest)) (no_bytes t (only_if t) [] (sym (append-nil (only_if t)))) ∙ ap (λ (z : C). Ok (z, rest)) (h (only_true t fits));
+  passes = λ front back bytes rest fit fits cut begins.
+      let same : bytes ≡ rest = begins ∙ ap (λ (b : List ℕ). b ++ rest) (no_bytes t front back cut) in
+      let e : length bytes ≡ length rest = ap length same in
+      omega arith;
+}
 
 again_only : {A C : Type 0} {f : Reader A} {F : A → List Field} → Exact f F → (make : A → C) (a : A) (x : C) (t : Bool) → (t ≡ true → make a ≡ x) → Again (read1 make f) x (F a & only_if t)
-again_only {A} {C} {f} {F} e make a x t h = record {
-  reads = λ rest fits.
-      let p = in_range_parts (F a) (only_if t) fits in
-      ap (read1 make f) (no_bytes (F a) t rest) ∙ (again1 e make a).reads rest p.0 ∙ ap (λ (y : C). Ok (y, rest)) (h (only_true t p.1));
-}
+again_only e make a x t h = again_step e (λ z. done (make z)) (λ z fits. shrinks_done (make z)) a x (only_if t) (again_if (make a) x t h)
 
-holds : are_in_range (only_if true) ≡ true
-unfolding only_if are_in_range
-holds = refl
+only_if_true : {C : Type 0} (c : C) (Q : C → List Field → Type 0) → Q c (only_if true) → Only (done c) Q
+unfolding only_if bytes_of are_in_range
+only_if_true {C} c Q q = record {
+  takes = λ bytes rest x fits read.
+      subst (λ (y : C × List ℕ). (fs : List Field) × Takes bytes fs y.1 × Q y.0 fs) (ok_is (c, bytes) (x, rest) read) (only_if true, record { parts = refl; fits = refl; rest_fits = fits }, q);
+  stops = λ bytes left fits stopped. absurd cc;
+  shrinks = shrinks_done c;
+  sample = record { value = c; fields = only_if true; is_such = q; fits = refl };
+}
 
 only_only : {A C : Type 0} {f : Reader A} {F : A → List Field} → Exact f F → (make : A → C) (Q : C → List Field → Type 0) → ((a : A) → Q (make a) (F a & only_if true)) → Only (read1 make f) Q
-only_only {A} {C} {f} {F} e make Q h = record {
-  takes = λ bytes rest x fits read.
-      let t = (only1 e make (λ c fs. Q c (fs & only_if true)) h).takes bytes rest x fits read in
-      (t.0 & only_if true, record { parts = t.1.parts ∙ sym (no_bytes t.0 true rest); fits = in_range_both t.0 (only_if true) t.1.fits holds; rest_fits = t.1.rest_fits }, t.2);
-}
+only_only {A} {C} {f} {F} e make Q h = only_step e (λ z. done (make z)) Q (λ a fits. only_if_true (make a) (λ c fs. Q c (F a & fs)) (h a))
 
 -- ---- items and acts
 
 no_rev : (n : ℕ) → (n == 0) ≡ true → 0 ≡ n
 no_rev n h = sym (eqb-true _ _ h)
 
+shown_of : (d : Deed) → Exact (shown_at (shown_kind d)) (shown_fields (shown_kind d))
+shown_of d = shown_exact (shown_kind d) (kind_fits d)
+
+-- what is read behind the actor, behind the moment and behind the number
+abbrev from_deed : ℕ → ℕ → Option User → Reader Item
+from_deed n t b = deed_at >>= λ d. read1 (item_of n t b d) (shown_at (shown_kind d))
+
+abbrev from_actor : ℕ → ℕ → Reader Item
+from_actor n t = actor_at >>= λ b. from_deed n t b
+
+abbrev from_moment : ℕ → Reader Item
+from_moment n = moment_at >>= λ t. from_actor n t
+
+deed_shrinks : (n t : ℕ) (b : Option User) → Shrinks (from_deed n t b)
+deed_shrinks n t b = shrinks_step deed_exact (λ d. read1 (item_of n t b d) (shown_at (shown_kind d))) (λ d fits. shrinks1 (shown_of d) (item_of n t b d))
+
+actor_shrinks : (n t : ℕ) → Shrinks (from_actor n t)
+actor_shrinks n t = shrinks_step actor_exact (from_deed n t) (λ b fits. deed_shrinks n t b)
+
+moment_shrinks : (n : ℕ) → Shrinks (from_moment n)
+moment_shrinks n = shrinks_step moment_exact (from_actor n) (λ t fits. actor_shrinks n t)
+
 item_exact : Exact item_at item_fields
 item_exact = record {
-  again = λ i. again_step u32_exact (λ n. moment_at >>= λ t. actor_at >>= λ b. deed_at >>= λ d. read1 (item_of n t b d) (shown_at (shown_kind d))) i.number i _
-      (again_step moment_exact (λ t. actor_at >>= λ b. deed_at >>= λ d. read1 (item_of i.number t b d) (shown_at (shown_kind d))) i.at i _
-      (again_step actor_exact (λ b. deed_at >>= λ d. read1 (item_of i.number i.at b d) (shown_at (shown_kind d))) i.by i _
-      (again_step deed_exact (λ d. read1 (item_of i.number i.at i.by d) (shown_at (shown_kind d))) i.deed i _
-      (again_only (shown_exact (shown_kind i.deed)) (item_of i.number i.at i.by i.deed) i.shown i (i.rev == 0)
+  again = λ i. again_step u32_exact from_moment (λ n fits. moment_shrinks n) i.number i _
+      (again_step moment_exact (from_actor i.number) (λ t fits. actor_shrinks i.number t) i.at i _
+      (again_step actor_exact (from_deed i.number i.at) (λ b fits. deed_shrinks i.number i.at b) i.by i _
+      (again_step deed_exact (λ d. read1 (item_of i.number i.at i.by d) (shown_at (shown_kind d))) (λ d fits. shrinks1 (shown_of d) (item_of i.number i.at i.by d)) i.deed i _
+      (again_only (shown_of i.deed) (item_of i.number i.at i.by i.deed) i.shown i (i.rev == 0)
       (λ h. ap (λ (r : ℕ). record i { rev = r }) (no_rev i.rev h))))));
-  only = only_step u32_exact (λ n. moment_at >>= λ t. actor_at >>= λ b. deed_at >>= λ d. read1 (item_of n t b d) (shown_at (shown_kind d))) (λ i fs. fs ≡ item_fields i) (λ n fits.
-      only_step moment_exact (λ t. actor_at >>= λ b. deed_at >>= λ d. read1 (item_of n t b d) (shown_at (shown_kind d))) _ (λ t fits.
-      only_step actor_exact (λ b. deed_at >>= λ d. read1 (item_of n t b d) (shown_at (shown_kind d))) _ (λ b fits.
+  only = only_step u32_exact from_moment (λ i fs. fs ≡ item_fields i) (λ n fits.
+      only_step moment_exact (from_actor n) _ (λ t fits.
+      only_step actor_exact (from_deed n t) _ (λ b fits.
       only_step deed_exact (λ d. read1 (item_of n t b d) (shown_at (shown_kind d))) _ (λ d fits.
-      only_only (shown_exact (shown_kind d)) (item_of n t b d) _ (λ s. refl)))));
+      only_only (shown_of d) (item_of n t b d) _ (λ s. refl)))));
 }
 
-act_case : (n : ℕ) (x : Act) (fs : List Field) → Again (nth_case (n - 1) act_cases) x fs → Again act_at x (byte_field 1 6 n & fs)
-act_case n x fs h = again_step (byte_exact 1 6) (λ n. nth_case (n - 1) act_cases) n x fs h
-
-act_again : (x : Act) → Again act_at x (act_fields x)
-act_again (SetAlias a b) = act_case 1 (SetAlias a b) _ (again2 name_exact (any_counted user_exact) SetAlias a b)
-act_again (DropAlias a) = act_case 2 (DropAlias a) _ (again1 name_exact DropAlias a)
-act_again (SetFilter a) = act_case 3 (SetFilter a) _ (again1 filter_exact SetFilter a)
-act_again (DropFilter a) = act_case 4 (DropFilter a) _ (again1 name_exact DropFilter a)
-act_again (Remove a b c) = act_case 5 (Remove a b c) _ (again3 user_exact name_exact key_exact Remove a b c)
-act_again (Give a b c) = act_case 6 (Give a b c) _ (again3 user_exact name_exact body_exact Give a b c)
-
-act_exact : Exact act_at act_fields
-act_exact = choice_exact 1 6 act_cases act_fields act_again (
+act_each : EachCase 1 act_cases (Chosen 1 6 act_fields)
+act_each = (
   only2 name_exact (any_counted user_exact) SetAlias _ (λ a b. refl),
   (
     only1 name_exact DropAlias _ (λ a. refl),
@@ -385,6 +450,20 @@ act_exact = choice_exact 1 6 act_cases act_fields act_again (
   ),
 )
 
+act_case : (n : ℕ) (x : Act) (fs : List Field) → Again (nth_case (n - 1) act_cases) x fs → Again act_at x (byte_field 1 6 n & fs)
+act_case n x fs h = again_case 1 6 (omega arith) act_cases (Chosen 1 6 act_fields) act_each n x fs h
+
+act_again : (x : Act) → Again act_at x (act_fields x)
+act_again (SetAlias a b) = act_case 1 (SetAlias a b) _ (again2 name_exact (any_counted user_exact) SetAlias a b)
+act_again (DropAlias a) = act_case 2 (DropAlias a) _ (again1 name_exact DropAlias a)
+act_again (SetFilter a) = act_case 3 (SetFilter a) _ (again1 filter_exact SetFilter a)
+act_again (DropFilter a) = act_case 4 (DropFilter a) _ (again1 name_exact DropFilter a)
+act_again (Remove a b c) = act_case 5 (Remove a b c) _ (again3 user_exact name_exact key_exact Remove a b c)
+act_again (Give a b c) = act_case 6 (Give a b c) _ (again3 user_exact name_exact body_exact Give a b c)
+
+act_exact : Exact act_at act_fields
+act_exact = choice_exact 1 6 (omega arith) act_cases refl act_fields act_again act_each
+
 -- ---- records
 
 ask_exact : Exact cycle_ask_at ask_fields
@@ -394,37 +473,33 @@ empty_is : (fs : List Filter) → is_empty fs ≡ true → [] ≡ fs
 empty_is [] h = refl
 empty_is (f ∷ fs) h = absurd cc
 
+domains_exact : Exact (any_list_at name_at) (any_list_fields name_field)
+domains_exact = any_counted name_exact
+
+accounts_exact : Exact (list_at 200 account_at) (list_fields 200 account_fields)
+accounts_exact = counted 200 (lit< tt) account_exact
+
 format_again : (h : House) (conf : Conf) → Again format_at (Format h conf) (house_fields h conf)
 format_again h conf =
-    again_step name_exact (λ a. read5 (format_of a) (any_list_at name_at) u32_at (list_at 200 account_at) user_at aliases_at) h.host (Format h conf) _
-    (again_step (any_counted name_exact) (λ b. read4 (format_of h.host b) u32_at (list_at 200 account_at) user_at aliases_at) h.domains (Format h conf) _
-    (again_step u32_exact (λ c. read3 (format_of h.host h.domains c) (list_at 200 account_at) user_at aliases_at) h.first (Format h conf) _
-    (again_step (counted 200 (lit< tt) account_exact) (λ d. read2 (format_of h.host h.domains h.first d) user_at aliases_at) h.accounts (Format h conf) _
-    (again_step user_exact (λ e. read1 (format_of h.host h.domains h.first h.accounts e) aliases_at) h.postmaster (Format h conf) _
+    again_step name_exact (λ a. read5 (format_of a) (any_list_at name_at) u32_at (list_at 200 account_at) user_at aliases_at) (λ a fits. shrinks5 domains_exact u32_exact accounts_exact user_exact aliases_exact (format_of a)) h.host (Format h conf) _
+    (again_step domains_exact (λ b. read4 (format_of h.host b) u32_at (list_at 200 account_at) user_at aliases_at) (λ b fits. shrinks4 u32_exact accounts_exact user_exact aliases_exact (format_of h.host b)) h.domains (Format h conf) _
+    (again_step u32_exact (λ c. read3 (format_of h.host h.domains c) (list_at 200 account_at) user_at aliases_at) (λ c fits. shrinks3 accounts_exact user_exact aliases_exact (format_of h.host h.domains c)) h.first (Format h conf) _
+    (again_step accounts_exact (λ d. read2 (format_of h.host h.domains h.first d) user_at aliases_at) (λ d fits. shrinks2 user_exact aliases_exact (format_of h.host h.domains h.first d)) h.accounts (Format h conf) _
+    (again_step user_exact (λ e. read1 (format_of h.host h.domains h.first h.accounts e) aliases_at) (λ e fits. shrinks1 aliases_exact (format_of h.host h.domains h.first h.accounts e)) h.postmaster (Format h conf) _
     (again_only aliases_exact (format_of h.host h.domains h.first h.accounts h.postmaster) conf.aliases (Format h conf) (is_empty conf.filters)
     (λ e. ap (λ (fs : List Filter). Format h (record { aliases = conf.aliases; filters = fs })) (empty_is conf.filters e)))))))
 
 format_only : Only format_at (λ r fs. byte_field 0 4 0 & fs ≡ record_fields r)
 format_only =
     only_step name_exact (λ a. read5 (format_of a) (any_list_at name_at) u32_at (list_at 200 account_at) user_at aliases_at) _ (λ a fits.
-    only_step (any_counted name_exact) (λ b. read4 (format_of a b) u32_at (list_at 200 account_at) user_at aliases_at) _ (λ b fits.
+    only_step domains_exact (λ b. read4 (format_of a b) u32_at (list_at 200 account_at) user_at aliases_at) _ (λ b fits.
     only_step u32_exact (λ c. read3 (format_of a b c) (list_at 200 account_at) user_at aliases_at) _ (λ c fits.
-    only_step (counted 200 (lit< tt) account_exact) (λ d. read2 (format_of a b c d) user_at aliases_at) _ (λ d fits.
+    only_step accounts_exact (λ d. read2 (format_of a b c d) user_at aliases_at) _ (λ d fits.
     only_step user_exact (λ e. read1 (format_of a b c d e) aliases_at) _ (λ e fits.
     only_only aliases_exact (format_of a b c d e) _ (λ x. refl))))))
 
-record_case : (n : ℕ) (x : JournalRecord) (fs : List Field) → Again (nth_case (n - 0) record_cases) x fs → Again record_at x (byte_field 0 4 n & fs)
-record_case n x fs h = again_step (byte_exact 0 4) (λ n. nth_case (n - 0) record_cases) n x fs h
-
-record_again : (x : JournalRecord) → Again record_at x (record_fields x)
-record_again (Format a b) = record_case 0 (Format a b) _ (format_again a b)
-record_again (Verb a) = record_case 1 (Verb a) _ (again1 item_exact Verb a)
-record_again (Operator a b c) = record_case 2 (Operator a b c) _ (again3 u32_exact moment_exact act_exact Operator a b c)
-record_again (Cycle a b c) = record_case 3 (Cycle a b c) _ (again3 u32_exact moment_exact ask_exact Cycle a b c)
-record_again (Snapshot a b c) = record_case 4 (Snapshot a b c) _ (again4 u32_exact aliases_exact (any_counted filter_exact) (any_counted row_exact) snapshot_of a b.aliases b.filters c)
-
-record_exact : Exact record_at record_fields
-record_exact = choice_exact 0 4 record_cases record_fields record_again (
+record_each : EachCase 0 record_cases (Chosen 0 4 record_fields)
+record_each = (
   format_only,
   (
     only1 item_exact Verb _ (λ a. refl),
@@ -441,55 +516,15 @@ record_exact = choice_exact 0 4 record_cases record_fields record_again (
   ),
 )
 
--- ---- the laws
+record_case : (n : ℕ) (x : JournalRecord) (fs : List Field) → Again (nth_case (n - 0) record_cases) x fs → Again record_at x (byte_field 0 4 n & fs)
+record_case n x fs h = again_case 0 4 (omega arith) record_cases (Chosen 0 4 record_fields) record_each n x fs h
 
--- what is spelled is read, with nothing behind it
-pub spelled_is_read : (x : JournalRecord) (bytes : List ℕ) → Spells x bytes → record_at bytes ≡ Ok (x, [])
-spelled_is_read x bytes s = ap record_at (s.1 ∙ sym (append-nil (record_bytes x))) ∙ (record_exact.again x).reads [] s.0
+record_again : (x : JournalRecord) → Again record_at x (record_fields x)
+record_again (Format a b) = record_case 0 (Format a b) _ (format_again a b)
+record_again (Verb a) = record_case 1 (Verb a) _ (again1 item_exact Verb a)
+record_again (Operator a b c) = record_case 2 (Operator a b c) _ (again3 u32_exact moment_exact act_exact Operator a b c)
+record_again (Cycle a b c) = record_case 3 (Cycle a b c) _ (again3 u32_exact moment_exact ask_exact Cycle a b c)
+record_again (Snapshot a b c) = record_case 4 (Snapshot a b c) _ (again4 u32_exact aliases_exact (any_counted filter_exact) (any_counted row_exact) snapshot_of a b.aliases b.filters c)
 
--- what is read with nothing behind it was spelled
-pub read_was_spelled : (x : JournalRecord) (bytes : List ℕ) → IsBytes bytes → record_at bytes ≡ Ok (x, []) → Spells x bytes
-read_was_spelled x bytes fits e =
-    let t = record_exact.only.takes bytes [] x fits e in
-    (subst (λ (fs : List Field). are_in_range fs ≡ true) t.2 t.1.fits, t.1.parts ∙ append-nil (bytes_of t.0) ∙ ap bytes_of t.2)
-
--- bytes spell one record at most
-pub one_record : (x y : JournalRecord) (bytes : List ℕ) → Spells x bytes → Spells y bytes → x ≡ y
-one_record x y bytes s t = ap (λ (p : JournalRecord × List ℕ). p.0) (ok_is (x, []) (y, []) (sym (spelled_is_read x bytes s) ∙ spelled_is_read y bytes t))
-
--- where a record is read with nothing behind it, nothing is refused
-read_is_accepted : (x : JournalRecord) (bytes : List ℕ) → record_at bytes ≡ Ok (x, []) → first_refused bytes ≡ None
-read_is_accepted x bytes e = ap (λ (r : Result (JournalRecord × List ℕ) ℕ). from_start (length bytes) (refused_behind r)) e
-
-pub spelled_is_accepted : (x : JournalRecord) (bytes : List ℕ) → Spells x bytes → first_refused bytes ≡ None
-spelled_is_accepted x bytes s = read_is_accepted x bytes (spelled_is_read x bytes s)
-
--- where nothing is refused, a record is read with nothing behind it
-accepted_is_read : (count : ℕ) (r : Result (JournalRecord × List ℕ) ℕ) → from_start count (refused_behind r) ≡ None → (x : JournalRecord) × (r ≡ Ok (x, []))
-accepted_is_read count (Err left) e = absurd cc
-accepted_is_read count (Ok p) e = ended count p.0 p.1 e
-  where
-    ended : (count : ℕ) (x : JournalRecord) (rest : List ℕ) → from_start count (refused_behind (Ok (x, rest))) ≡ None → (y : JournalRecord) × (◌≡◌ {A = Result (JournalRecord × List ℕ) ℕ} (Ok (x, rest)) (Ok (y, [])))
-    ended count x [] e = (x, refl)
-    ended count x (b ∷ rest) e = absurd cc
-
-pub accepted_was_spelled : (bytes : List ℕ) → IsBytes bytes → first_refused bytes ≡ None → (x : JournalRecord) × Spells x bytes
-accepted_was_spelled bytes fits e =
-    let r = accepted_is_read (length bytes) (record_at bytes) e in
-    (r.0, read_was_spelled r.0 bytes fits r.1)
-
--- ---- what decoding answers
-
-pub decodes : (bytes : List ℕ) (result : Result JournalRecord BadBytes) → IsBytes bytes → AnswersAll bytes result → Decodes bytes result
-decodes bytes (Ok x) fits h = read_was_spelled x bytes fits h
-decodes bytes (Err (Place place)) fits h = h
-decodes bytes (Err NoMemory) fits h = tt
-
-not_both : (o : Option ℕ) (place : ℕ) → o ≡ None → o ≡ Some place → ⊥
-not_both None place e f = absurd cc
-not_both (Some n) place e f = absurd cc
-
-pub is_this : (what : JournalRecord) (bytes : List ℕ) (result : Result JournalRecord BadBytes) → Spells what bytes → AnswersAll bytes result → IsThis what result
-is_this what bytes (Ok x) s h = ap (λ (p : JournalRecord × List ℕ). p.0) (ok_is (x, []) (what, []) (sym h ∙ spelled_is_read what bytes s))
-is_this what bytes (Err (Place place)) s h = not_both (first_refused bytes) place (spelled_is_accepted what bytes s) h
-is_this what bytes (Err NoMemory) s h = tt
+pub record_exact : Exact record_at record_fields
+record_exact = choice_exact 0 4 (omega arith) record_cases refl record_fields record_again record_each

@@ -1,4 +1,5 @@
 pub mod Fields
 pub mod Spelling
+pub mod Decoding
 pub mod Readers
 pub mod Reading

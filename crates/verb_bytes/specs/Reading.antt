@@ -1,5 +1,5 @@
--- How each record is read.
-use Rattle.std.specs.Prelude.{◌≡◌, ℕ, ◌-◌, ◌<◌, List, [], ◌∷◌, length, Option, Some, None, Result, Ok, Err, slice_index}
+-- How the code reads each record, from left to right. What it answers is said in Decoding, without this.
+use Rattle.std.specs.Prelude.{◌≡◌, ℕ, ◌-◌, List, [], ◌∷◌, length, Option, Some, None, Result, Ok, Err}
 use Rattle.undo_base.specs.declared.keys.Key.{Key}
 use Rattle.undo_base.specs.declared.keys.User.{User}
 use Rattle.undo_base.specs.declared.keys.Flags.{Flags}
@@ -26,7 +26,7 @@ use Rattle.verb_bytes.specs.declared.journal.JournalRecord.{JournalRecord}
 use Rattle.verb_bytes.specs.declared.journal.JournalRecord.TheVariants.{Format, Verb, Operator, Cycle, Snapshot}
 use Rattle.verb_bytes.specs.declared.decode.BadBytes.{BadBytes}
 use Rattle.verb_bytes.specs.declared.decode.BadBytes.TheVariants.{Place, NoMemory}
-use Rattle.verb_bytes.specs.Spelling.{Spells, shown_kind}
+use Rattle.verb_bytes.specs.Spelling.{shown_kind}
 use Rattle.std.specs.Int.{w64}
 use Rattle.verb_bytes.specs.Readers.{Reader, done, ◌>>=◌, read1, read2, read3, read4, read5, read6, list_at, nth_case, choice_at, byte_at, option_at, bool_at, name_at, text_at, key_at, actor_at, number_at, u32_at, moment_at, flags_at, user_at}
 
@@ -206,25 +206,9 @@ from_start count (Some left) = Some (count - left)
 abbrev pub first_refused : List ℕ → Option ℕ
 first_refused bytes = from_start (length bytes) (refused_behind (record_at bytes))
 
--- each is below 256
-abbrev pub IsBytes : List ℕ → Type 0
-IsBytes bytes = (i : ℕ) → slice_index bytes i < 256
-
 -- what reading all of the bytes may answer: the record with nothing behind it, the first place that is refused, or want
 -- of memory
 abbrev pub AnswersAll : List ℕ → Result JournalRecord BadBytes → Type 0
 AnswersAll bytes (Ok what) = record_at bytes ≡ Ok (what, [])
 AnswersAll bytes (Err (Place place)) = first_refused bytes ≡ Some place
 AnswersAll bytes (Err NoMemory) = Unit {0}
-
--- what decoding may answer: the record that the bytes spell, the first place that is refused, or want of memory
-abbrev pub Decodes : List ℕ → Result JournalRecord BadBytes → Type 0
-Decodes bytes (Ok what) = Spells what bytes
-Decodes bytes (Err (Place place)) = first_refused bytes ≡ Some place
-Decodes bytes (Err NoMemory) = Unit {0}
-
--- this record, or want of memory
-abbrev pub IsThis : JournalRecord → Result JournalRecord BadBytes → Type 0
-IsThis what (Ok found) = found ≡ what
-IsThis what (Err (Place place)) = ⊥
-IsThis what (Err NoMemory) = Unit {0}

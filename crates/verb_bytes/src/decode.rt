@@ -3,7 +3,8 @@ ghost use Rattle.std.specs.Prelude.{◌≡◌, ◌≤◌, ◌-◌};
 ghost use Rattle.verb_bytes.specs.declared.journal.JournalRecord.{JournalRecord};
 ghost use Rattle.verb_bytes.specs.declared.journal.JournalRecord.TheVariants.{Verb, Operator, Cycle};
 ghost use Rattle.verb_bytes.specs.Readers.{Gives, nth_case, read1, read3, u32_at, moment_at};
-ghost use Rattle.verb_bytes.specs.Reading.{record_cases, record_at, snapshot_at, act_at, item_at, cycle_ask_at, AnswersAll, Decodes, IsThis};
+ghost use Rattle.verb_bytes.specs.Decoding.{Decodes, IsThis};
+ghost use Rattle.verb_bytes.specs.Reading.{record_cases, record_at, snapshot_at, act_at, item_at, cycle_ask_at, AnswersAll};
 ghost use Rattle.verb_bytes.specs.Spelling.{Spells};
 
 use crate::cursor::{Cursor, Stop};
@@ -123,7 +124,7 @@ fn read_all(alloc: Global, bytes: &[u8]) -> Result<JournalRecord, BadBytes>
 
 /// Reads a record: the one that the bytes spell.
 pub fn decode_record(alloc: Global, bytes: &[u8]) -> Result<JournalRecord, BadBytes>
-    // What is read is spelled so; and which place is refused.
+    // What is read is spelled so; or where the bytes are refused.
     ensures found { Decodes bytes.now result }
     // What is spelled so is read, unless no memory was found.
     ensures only { (what : JournalRecord) → Spells what bytes.now → IsThis what result }

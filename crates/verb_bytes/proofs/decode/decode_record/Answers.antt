@@ -1,5 +1,5 @@
 use Rattle.std.proofs.Common.{arith}
-use Rattle.verb_bytes.proofs.RecordLaws.{decodes, is_this}
+use Rattle.verb_bytes.proofs.Refusals.{decodes, is_this}
 use Rattle.verb_bytes.proofs.decode.decode_record.Goals as goal
 
 pub returns-clause-found : goal.returns-clause-found
