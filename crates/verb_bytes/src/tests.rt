@@ -150,7 +150,10 @@ fn a_field_out_of_its_range_is_refused_at_its_start(rt: HostRuntime) -> Result<(
         (HOUSE, 1, 201, Some(1)),
         (HOUSE, 2, 0x1f, Some(1)),
         (HOUSE, 10, 0x7f, Some(1)),
+        (HOUSE, 15, 0, Some(15)),
         (HOUSE, 32, 201, Some(29)),
+        (HOUSE, 33, 0, Some(33)),
+        (HOUSE, 38, 0x7f, Some(37)),
         (HOUSE, 55, 200, Some(55)),
         (HOUSE, 55, 199, None),
         (HOUSE, 70, 200, Some(70)),
@@ -186,7 +189,7 @@ fn ranges_end_where_they_should(rt: HostRuntime) -> Result<(), Fail> {
         let want = want.map(|_| 14);
         assert_eq!(rt; place(alloc, &bytes)?, want);
     }
-    let table: [(&[u8], Option<usize>); 10] = [
+    let table: [(&[u8], Option<usize>); 15] = [
         (
             b"\x02\x00\x00\x00\x09\x00\x00\x00\x3a\xff\xf4\x41\x80\x04\x01f",
             Some(5),
@@ -224,10 +227,31 @@ fn ranges_end_where_they_should(rt: HostRuntime) -> Result<(), Fail> {
             b"\x01\x00\x00\x00\x02\x00\x00\x00\x00\x00\x00\x00\x00\x00\x09\x01m\x00\x00\x00\x02\x00\x00\x00\x01\x00\x01\x00\x00\x00\x01\x00",
             Some(27),
         ),
-        // a count of 4,294,967,295 in a record of 30 bytes
+        // 1,001 recipients, 65,537 keys, a body and a replaced text of 1,052,673 bytes
+        (
+            b"\x01\x00\x00\x00\x02\x00\x00\x00\x00\x00\x00\x00\x00\xff\x01\x00\x00\x00\x00\x00\x00\x03\xe9\x01a",
+            Some(19),
+        ),
+        (
+            b"\x01\x00\x00\x00\x02\x00\x00\x00\x00\x00\x00\x00\x00\x00\x03\x01m\x00\x01\x00\x01\x00",
+            Some(17),
+        ),
+        (
+            b"\x01\x00\x00\x00\x02\x00\x00\x00\x00\x00\x00\x00\x00\x00\x02\x01m\x00\x00\x00\x00\x00\x00\x00\x00\x00\x00\x10\x10\x01a",
+            Some(26),
+        ),
+        (
+            b"\x03\x00\x00\x00\x09\x00\x00\x00\x00\x00\x00\x00\x00\x01k\x00\x00\x00\x00\x00\x00\x00\x00\x00\x00\x00\x01\x00\x00\x00\x03\x00\x10\x10\x01a",
+            Some(31),
+        ),
+        // a count of 4,294,967,295 in records of 30 and 23 bytes
         (
             b"\x00\x09mail.test\xff\xff\xff\xff\x09mail.test\x04abcd",
             Some(30),
+        ),
+        (
+            b"\x03\x00\x00\x00\x09\x00\x00\x00\x00\x00\x00\x00\x00\x01k\x00\x00\x00\x00\xff\xff\xff\xff",
+            Some(23),
         ),
     ];
     for (bytes, want) in table {
