@@ -1,0 +1,4 @@
+pub mod Cut
+pub mod Fusion
+pub mod Heads
+pub mod Reading

@@ -1,0 +1,9 @@
+use Rattle.std.proofs.Common.{◌-◌, length}
+use Rattle.console_head.specs.Coming.{AreFirst}
+use Rattle.console_head.proofs.lines.Lines.find_head.Given as goal
+
+abbrev pub invariant-loop-head : goal.invariant-loop-head
+invariant-loop-head l = AreFirst l.self l.bytes
+
+abbrev pub decreases-loop-head : goal.decreases-loop-head
+decreases-loop-head l = length l.bytes - l.self.start

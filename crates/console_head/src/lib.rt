@@ -1,0 +1,18 @@
+//! Requests to the console, cut out of a connection's bytes as far as the bytes alone decide (RFC 9112).
+//!
+//! `lines` finds where a head ends, also where its bytes come one by one; `grammar` has the head read by `httparse`;
+//! `lengths` tells how many octets of a body are announced; `request` puts them together.
+//! What carries the crate: `Coming::read` answers what `Says` says of the bytes that came, and what it has learnt of
+//! them stays true when more come (`IsKnown`), so that no byte of a head is searched twice.
+#![tactic(auto)]
+
+mod grammar;
+mod lengths;
+mod lines;
+mod request;
+
+pub use lines::Lines;
+pub use request::{Coming, HeadRefused, MOST_BODY, MOST_FIELDS, MOST_HEAD, Request};
+
+#[cfg(test)]
+mod tests;
