@@ -22,3 +22,6 @@ pub type Attributes = undo_base::Sequence<Attribute>;
 
 /// Messages of a view, in rising order.
 pub type Messages = undo_base::Sequence<Message>;
+
+#[cfg(test)]
+mod tests;
