@@ -1,5 +1,5 @@
 -- Each field that is spelled is read back, and a field that is read was spelled so.
-use Rattle.std.proofs.Common.{◌≡◌, ℕ, zero, suc, ◌+◌, ◌*◌, ◌-◌, ◌/◌, ◌%◌, ◌<◌, ◌≤◌, ◌^◌, Bool, true, false, cond, ltb, leb, eqb, ◌&&◌, List, [], ◌∷◌, ◌++◌, length, get_or, take, drop, Option, Some, None, Result, Ok, Err, refl, sym, ap, subst, ◌∙◌, append_assoc, arith, inl, inr, ◌⊎◌}
+use Rattle.std.proofs.Common.{◌≡◌, ℕ, suc, ◌+◌, ◌-◌, ◌<◌, ◌≤◌, Bool, true, false, cond, ltb, ◌&&◌, List, [], ◌∷◌, ◌++◌, length, take, drop, Option, Some, None, Ok, refl, sym, ap, subst, ◌∙◌, append_assoc, arith, inl, inr}
 use Rattle.std.specs.Prelude.{◌==◌, nat_le, nat_lt, option_and_then}
 use Rattle.std.specs.Int.{Width, w16, w32, w64, byte_len, from_be_bytes, to_be_bytes}
 use Rattle.std.proofs.lemmas.Bool.{cases_lt, ltb-false, le-ltb, leb-true, le-leb, lt-ltb, ltb-true, eqb-true, and_parts, and_from}
@@ -8,11 +8,10 @@ use Rattle.std.proofs.lemmas.List.{append-nil, take_at, drop_at, take-append-dro
 use Rattle.std.proofs.lemmas.Nat.{be_bytes_2, be_bytes_4, be_bytes_8, from_be_bytes-to_be_bytes_2, from_be_bytes-to_be_bytes_4, from_be_bytes-to_be_bytes_8}
 use Rattle.undo_base.specs.declared.keys.User.{User}
 use Rattle.undo_base.specs.declared.keys.Key.{Key}
-use Rattle.undo_base.specs.declared.keys.Flags.{Flags}
-use Rattle.verb_bytes.specs.Fields.{Field, bytes_of, are_in_range, ◌&◌, only_if, byte_field, number_field, is_name, name_field, text_field, key_field, list_fields, option_fields, bool_field, flags_field, flags_code, worth, user_field, actor_field}
+use Rattle.verb_bytes.specs.Fields.{Field, bytes_of, are_in_range, ◌&◌, byte_field, number_field, is_name, name_field, text_field, key_field, option_fields, actor_field}
 use Rattle.verb_bytes.specs.Decoding.{IsBytes}
-use Rattle.verb_bytes.specs.Readers.{Reader, field_or, field_at, cut, when, find_byte, find_number, find_name, find_text, find_key, actor_of, find_actor, byte_at, number_at, name_at, text_at, key_at, actor_at, done, read1, nth_case, choice_at, option_at, bool_at, has_bit, flags_of, flags_at, user_of, user_at}
-use Rattle.verb_bytes.proofs.Exact.{Takes, Again, Sample, Only, Exact, again_step, again1, again_done, again_made, only_step, only1, only_made, only_done, only_weaker, EachCase, only_case, case_shrinks, only_field, again_field, and_true}
+use Rattle.verb_bytes.specs.Readers.{Reader, field_or, cut, when, find_byte, find_number, find_name, find_text, find_key, actor_of, find_actor, byte_at, number_at, name_at, text_at, key_at, actor_at, done, read1, nth_case, choice_at, option_at, user_of}
+use Rattle.verb_bytes.proofs.Exact.{Takes, Again, Only, Exact, again_step, again1, again_done, only_step, only1, only_done, EachCase, only_case, case_shrinks, only_field, again_field, and_true}
 
 -- ---- bytes
 

@@ -1,25 +1,17 @@
 -- Each record is read from its fields, and only from these.
-use Rattle.std.proofs.Common.{◌≡◌, ℕ, zero, suc, ◌+◌, ◌-◌, ◌<◌, ◌≤◌, Bool, true, false, ◌&&◌, List, [], ◌∷◌, ◌++◌, length, Option, Some, None, Result, Ok, Err, refl, sym, ap, subst, ◌∙◌, arith, inl, inr, lit<}
-use Rattle.std.specs.Prelude.{◌==◌, nat_eq}
-use Rattle.std.specs.List.{flat_map}
+use Rattle.std.proofs.Common.{◌≡◌, ℕ, zero, suc, ◌-◌, ◌<◌, ◌≤◌, Bool, true, false, ◌&&◌, List, [], ◌∷◌, ◌++◌, length, Option, Ok, refl, sym, ap, subst, ◌∙◌, arith, inl, inr, lit<}
+use Rattle.std.specs.Prelude.{◌==◌}
 use Rattle.std.specs.Int.{w32, w64}
 use Rattle.std.proofs.lemmas.Bool.{cases_lt, and_parts, eqb-true}
 use Rattle.std.proofs.lemmas.List.{append-nil}
 use Rattle.undo_base.specs.declared.keys.User.{User}
-use Rattle.undo_base.specs.declared.keys.Key.{Key}
 use Rattle.undo_base.specs.declared.keys.Flags.{Flags}
 use Rattle.undo_base.specs.declared.asks.How.{How}
 use Rattle.undo_base.specs.declared.asks.How.TheVariants.{Replace, Add, Take}
-use Rattle.verb_core.specs.declared.conf.Account.{Account}
-use Rattle.verb_core.specs.declared.conf.Alias.{Alias}
 use Rattle.verb_core.specs.declared.conf.Filter.{Filter}
 use Rattle.verb_core.specs.declared.conf.House.{House}
 use Rattle.verb_core.specs.declared.conf.Conf.{Conf}
-use Rattle.verb_core.specs.declared.mailbox.Entry.{Entry}
-use Rattle.verb_core.specs.declared.mailbox.Mailbox.{Mailbox}
-use Rattle.verb_core.specs.declared.mailbox.BoxId.{BoxId}
 use Rattle.verb_core.specs.declared.item.Item.{Item}
-use Rattle.verb_core.specs.declared.item.Sight.{Sight}
 use Rattle.verb_core.specs.declared.item.Way.{Way}
 use Rattle.verb_core.specs.declared.item.Way.TheVariants.{Plain, NoSource, Merged}
 use Rattle.verb_core.specs.declared.item.Act.{Act}
@@ -29,16 +21,13 @@ use Rattle.verb_core.specs.declared.item.Deed.TheVariants.{Deliver, Append, Fetc
 use Rattle.verb_core.specs.declared.item.Shown.{Shown}
 use Rattle.verb_core.specs.declared.item.Shown.TheVariants.{Nothing, Seen, Names as Named, Count, Done, Copied, Put, Left, Way as Went, Moved}
 use Rattle.verb_core.specs.Names.{is_empty}
-use Rattle.verb_bytes.specs.declared.decode.BadBytes.{BadBytes}
-use Rattle.verb_bytes.specs.declared.decode.BadBytes.TheVariants.{Place, NoMemory}
-use Rattle.verb_bytes.specs.declared.journal.CycleAsk.{CycleAsk}
 use Rattle.verb_bytes.specs.declared.journal.JournalRecord.{JournalRecord}
 use Rattle.verb_bytes.specs.declared.journal.JournalRecord.TheVariants.{Format, Verb, Operator, Cycle, Snapshot}
-use Rattle.verb_bytes.specs.Fields.{Field, bytes_of, are_in_range, ◌&◌, only_if, byte_field, number_field, name_field, key_field, list_fields, option_fields, bool_field, flags_field, flags_code, worth, u32_field, u64_field, moment_field, any_text_field, body_field, user_field, actor_field, any_list_fields}
-use Rattle.verb_bytes.specs.Spelling.{key_list, account_fields, alias_fields, aliases_fields, filter_fields, entry_fields, row_fields, how_field, deed_fields, sight_fields, way_field, shown_kind, shown_fields, item_fields, act_fields, replace_fields, ask_fields, house_fields, record_fields, record_bytes, Spells}
-use Rattle.verb_bytes.specs.Readers.{Reader, ◌>>=◌, done, read1, read2, read3, read4, read5, read6, times, list_at, nth_case, choice_at, byte_at, option_at, bool_at, name_at, text_at, key_at, actor_at, number_at, u32_at, moment_at, has_bit, flags_of, flags_at, user_of, user_at}
-use Rattle.verb_bytes.specs.Reading.{any_list_at, any_text_at, body_at, u64_at, keys_at, account_of, account_at, alias_of, alias_at, aliases_at, filter_of, filter_at, entry_of, entry_at, row_of, row_at, how_at, deed_cases, deed_at, sight_of, sight_at, way_at, shown_cases, shown_at, item_of, item_at, act_cases, act_at, replace_of, replace_at, ask_of, cycle_ask_at, format_of, format_at, snapshot_of, snapshot_at, record_cases, record_at}
-use Rattle.verb_bytes.proofs.Exact.{Takes, Shrinks, Again, Only, Exact, and_true, no_front, ok_is, shrinks_done, shrinks_step, shrinks1, shrinks2, shrinks3, shrinks4, shrinks5, again_step, again_made, again_done, only_step, only_made, only_done, only_weaker, again1, only1, again2, only2, again3, only3, again4, only4, again5, only5, again6, only6, list_exact, EachCase, only_case, case_shrinks}
+use Rattle.verb_bytes.specs.Fields.{Field, bytes_of, are_in_range, ◌&◌, only_if, byte_field, name_field, list_fields, bool_field, flags_field, flags_code, u32_field, u64_field, moment_field, any_text_field, body_field, user_field, any_list_fields}
+use Rattle.verb_bytes.specs.Spelling.{key_list, account_fields, alias_fields, aliases_fields, filter_fields, entry_fields, row_fields, how_field, deed_fields, sight_fields, way_field, shown_kind, shown_fields, item_fields, act_fields, replace_fields, ask_fields, house_fields, record_fields}
+use Rattle.verb_bytes.specs.Readers.{Reader, ◌>>=◌, done, read1, read2, read3, read4, read5, list_at, nth_case, byte_at, bool_at, name_at, actor_at, u32_at, moment_at, flags_of, flags_at, user_of, user_at}
+use Rattle.verb_bytes.specs.Reading.{any_list_at, any_text_at, body_at, u64_at, keys_at, account_of, account_at, alias_of, alias_at, aliases_at, filter_of, filter_at, entry_of, entry_at, row_of, row_at, how_at, deed_cases, deed_at, sight_of, sight_at, way_at, shown_cases, shown_at, item_of, item_at, act_cases, act_at, replace_of, replace_at, ask_of, cycle_ask_at, format_of, format_at, snapshot_of, record_cases, record_at}
+use Rattle.verb_bytes.proofs.Exact.{Takes, Shrinks, Again, Only, Exact, and_true, no_front, ok_is, shrinks_done, shrinks_step, shrinks1, shrinks2, shrinks3, shrinks4, shrinks5, again_step, again_done, only_step, only_done, again1, only1, again2, only2, again3, only3, again4, only4, again5, only5, again6, only6, list_exact, EachCase, only_case, case_shrinks}
 use Rattle.verb_bytes.proofs.FieldLaws.{Chosen, again_case, byte_exact, byte_bounds, wide32, wide64, number_exact, name_exact, text_exact, key_exact, actor_exact, again_alone, choice_exact, option_exact}
 
 -- ---- numbers, texts and lists of a range

@@ -1,11 +1,11 @@
 -- A record has one spelling, bytes spell one record at most, and bytes that spell none are refused at one place.
-use Rattle.std.proofs.Common.{◌≡◌, ℕ, ◌+◌, ◌-◌, ◌≤◌, ◌⊎◌, inl, inr, true, List, [], ◌∷◌, ◌++◌, length, Option, Some, None, Result, Ok, Err, refl, sym, ap, subst, ◌∙◌, arith}
+use Rattle.std.proofs.Common.{◌≡◌, ℕ, ◌-◌, ◌≤◌, ◌⊎◌, inl, inr, true, List, [], ◌∷◌, ◌++◌, length, Option, Some, None, Result, Ok, Err, refl, sym, ap, subst, ◌∙◌, arith}
 use Rattle.std.proofs.lemmas.List.{append-nil, length-append}
 use Rattle.verb_bytes.specs.declared.decode.BadBytes.{BadBytes}
 use Rattle.verb_bytes.specs.declared.decode.BadBytes.TheVariants.{Place, NoMemory}
 use Rattle.verb_bytes.specs.declared.journal.JournalRecord.{JournalRecord}
 use Rattle.verb_bytes.specs.Fields.{Field, bytes_of, are_in_range}
-use Rattle.verb_bytes.specs.Spelling.{HasSpelling, Spells, record_bytes, record_fields}
+use Rattle.verb_bytes.specs.Spelling.{Spells, record_bytes, record_fields}
 use Rattle.verb_bytes.specs.Decoding.{Reaches, IsRefusedAt, IsSpelled, IsRefused, IsBytes, Decodes, IsThis}
 use Rattle.verb_bytes.specs.Reading.{from_start, refused_behind, first_refused, record_at, AnswersAll}
 use Rattle.verb_bytes.proofs.Exact.{ok_is, left_of}

@@ -84,7 +84,7 @@ impl Part for Deed {
             Deed::Rename { mailbox, target } => put_rename(mailbox, target, out),
             Deed::Delete { mailbox, keys } => put_delete(mailbox, keys, out),
             Deed::Act(_) => unreachable!(),
-            Deed::Notice { user: _, text: _ } => unreachable!(),
+            Deed::Notice { .. } => unreachable!(),
         }
     }
 

@@ -1,8 +1,12 @@
 //! What holds of every record and its bytes. These functions do nothing: their contracts are laws of the definitions.
-ghost use Rattle.std.specs.Prelude.{◌≡◌, ℕ, ◌⊎◌, List};
+ghost use Rattle.std.specs.Prelude.{◌≡◌, ℕ, ◌≤◌, ◌⊎◌, List};
+ghost use Rattle.verb_core.specs.declared.conf.Conf.{Conf};
+ghost use Rattle.verb_core.specs.declared.conf.House.{House};
 ghost use Rattle.verb_bytes.specs.declared.journal.JournalRecord.{JournalRecord};
+ghost use Rattle.verb_bytes.specs.declared.journal.JournalRecord.TheVariants.{Format, Verb};
 ghost use Rattle.verb_bytes.specs.Decoding.{IsBytes, IsRefused, IsRefusedAt, IsSpelled};
-ghost use Rattle.verb_bytes.specs.Spelling.{Spells};
+ghost use Rattle.verb_bytes.specs.Limits.{delivery, IsMail, IsOpening};
+ghost use Rattle.verb_bytes.specs.Spelling.{HasSpelling, Spells};
 
 /// Bytes spell one record at most, and a record has one spelling. Bytes spell a record or are refused, at one place.
 pub fn one_spelling()
@@ -10,4 +14,14 @@ pub fn one_spelling()
     ensures one_spelling { (what : JournalRecord) (first second : List ℕ) → Spells what first → Spells what second → first ≡ second }
     ensures one_place { (bytes : List ℕ) (first second : ℕ) → IsRefusedAt bytes first → IsRefusedAt bytes second → first ≡ second }
     ensures spelled_or_refused { (bytes : List ℕ) → IsBytes bytes → IsSpelled bytes ⊎ IsRefused bytes }
+{}
+
+/// A house and its first aliases have a spelling, which the first record of a journal is.
+pub fn openings_have_spellings()
+    ensures { (house : House) (conf : Conf) → IsOpening house conf → HasSpelling (Format house conf) }
+{}
+
+/// A delivery of such mail has a spelling.
+pub fn deliveries_have_spellings()
+    ensures { (number at : ℕ) (from : List ℕ) (to : List (List ℕ)) (text : List ℕ) → number ≤ 4294967295 → at ≤ 253402300799 → IsMail from to text → HasSpelling (Verb (delivery number at from to text)) }
 {}

@@ -2,9 +2,10 @@
 //!
 //! `journal` is what is recorded; `encode` and `decode` write and read it. Below them `part` is what stands in lists,
 //! `simple`, `settings`, `mailboxes`, `acts`, `deeds`, `shown` and `items` are the parts, and `write` and `cursor` the
-//! fields. `specs/` says the fields of each record, and how fields are read; `laws`, that this is one spelling.
+//! fields. Of `specs/`, Fields, Spelling and Decoding say the fields of each record and what bytes are read as; Readers
+//! and Reading, how the parts read. `laws` says that this is one spelling.
 //! What carries the crate: `encode_record` gives the bytes of the record's fields, and `decode_record` answers the record
-//! that the bytes spell, or the place of the first field that is cut or out of its range.
+//! that the bytes spell, or the place where they are refused.
 #![tactic(auto)]
 
 mod acts;

@@ -65,56 +65,21 @@ pub(crate) fn kind_of(deed: &Deed) -> u8
     ensures most { result ≤ 9 }
 {
     match deed {
-        Deed::Deliver {
-            from: _,
-            to: _,
-            text: _,
-        } => 0,
-        Deed::Append {
-            mailbox: _,
-            flags: _,
-            moment: _,
-            text: _,
-        } => 6,
-        Deed::Fetch {
-            mailbox: _,
-            keys: _,
-            sets_seen: _,
-            shows_body: _,
-        } => 1,
-        Deed::Store {
-            mailbox: _,
-            keys: _,
-            how: _,
-            flags: _,
-        } => 4,
-        Deed::Copy {
-            mailbox: _,
-            keys: _,
-            target: _,
-        } => 5,
-        Deed::List { pattern: _ } => 2,
-        Deed::Status { mailbox: _ } => 3,
-        Deed::Select { mailbox: _ } => 3,
-        Deed::Expunge {
-            mailbox: _,
-            keys: _,
-        } => 7,
-        Deed::Close {
-            mailbox: _,
-            keys: _,
-        } => 7,
-        Deed::Create { mailbox: _ } => 0,
-        Deed::Rename {
-            mailbox: _,
-            target: _,
-        } => 8,
-        Deed::Delete {
-            mailbox: _,
-            keys: _,
-        } => 9,
+        Deed::Deliver { .. } => 0,
+        Deed::Append { .. } => 6,
+        Deed::Fetch { .. } => 1,
+        Deed::Store { .. } => 4,
+        Deed::Copy { .. } => 5,
+        Deed::List { .. } => 2,
+        Deed::Status { .. } => 3,
+        Deed::Select { .. } => 3,
+        Deed::Expunge { .. } => 7,
+        Deed::Close { .. } => 7,
+        Deed::Create { .. } => 0,
+        Deed::Rename { .. } => 8,
+        Deed::Delete { .. } => 9,
         Deed::Act(_) => 0,
-        Deed::Notice { user: _, text: _ } => 0,
+        Deed::Notice { .. } => 0,
     }
 }
 

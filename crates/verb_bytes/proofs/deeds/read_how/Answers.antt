@@ -1,4 +1,4 @@
-use Rattle.std.proofs.Common.{◌≡◌, List, [], ◌∷◌, Ok, refl, arith}
+use Rattle.std.proofs.Common.{◌≡◌, [], ◌∷◌, Ok, refl, arith}
 use Rattle.undo_base.specs.declared.asks.How.TheVariants.{Replace, Add, Take}
 use Rattle.verb_bytes.specs.Readers.{done}
 use Rattle.verb_bytes.proofs.Cases.{chosen}

@@ -1,4 +1,4 @@
-use Rattle.std.proofs.Common.{◌≡◌, List, [], ◌∷◌, Some, None, arith}
+use Rattle.std.proofs.Common.{◌≡◌, [], ◌∷◌, Some, None, arith}
 use Rattle.verb_bytes.specs.Readers.{done, read1}
 use Rattle.verb_bytes.proofs.Cases.{chosen}
 use Rattle.verb_bytes.proofs.part.read_option.Goals as goal

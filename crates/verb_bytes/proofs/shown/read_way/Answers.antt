@@ -1,4 +1,4 @@
-use Rattle.std.proofs.Common.{◌≡◌, List, [], ◌∷◌, Ok, refl, arith}
+use Rattle.std.proofs.Common.{◌≡◌, [], ◌∷◌, Ok, refl, arith}
 use Rattle.verb_core.specs.declared.item.Way.TheVariants.{Plain, NoSource, Merged}
 use Rattle.verb_bytes.specs.Readers.{done}
 use Rattle.verb_bytes.proofs.Cases.{chosen}

@@ -1,4 +1,4 @@
-use Rattle.std.proofs.Common.{◌≡◌, true, false, List, [], ◌∷◌, Ok, refl, arith}
+use Rattle.std.proofs.Common.{◌≡◌, true, false, [], ◌∷◌, Ok, refl, arith}
 use Rattle.verb_bytes.specs.Readers.{done}
 use Rattle.verb_bytes.proofs.Cases.{chosen}
 use Rattle.verb_bytes.proofs.cursor.Cursor.bool.Goals as goal

@@ -1,0 +1,87 @@
+-- Fields are in their ranges where plain facts say so.
+use Rattle.std.proofs.Common.{◌≡◌, ℕ, ◌≤◌, true, ◌&&◌, List, [], ◌∷◌, length, refl, sym, ap, subst, arith}
+use Rattle.std.specs.Prelude.{nat_le, is_none}
+use Rattle.std.specs.List.{flat_map, AllByRecursion}
+use Rattle.std.specs.Int.{Width, w32, w64}
+use Rattle.std.proofs.lemmas.Bool.{and_from, le-leb}
+use Rattle.undo_base.specs.declared.keys.User.{User}
+use Rattle.undo_base.specs.Name.{IsName, first_unprintable}
+use Rattle.verb_core.specs.declared.conf.Account.{Account}
+use Rattle.verb_core.specs.declared.conf.Alias.{Alias}
+use Rattle.verb_core.specs.declared.conf.Filter.{Filter}
+use Rattle.verb_core.specs.declared.conf.House.{House}
+use Rattle.verb_core.specs.declared.conf.Conf.{Conf}
+use Rattle.verb_core.specs.Names.{is_empty}
+use Rattle.verb_bytes.specs.declared.journal.JournalRecord.TheVariants.{Format, Verb}
+use Rattle.verb_bytes.specs.Fields.{Field, are_in_range, ◌&◌, only_if, byte_field, number_field, name_field, text_field, list_fields, any_list_fields, user_field}
+use Rattle.verb_bytes.specs.Spelling.{HasSpelling, account_fields, alias_fields, house_fields}
+use Rattle.verb_bytes.specs.Limits.{AreMany, IsUser, IsAccount, IsAlias, IsOpening, IsMail, delivery}
+use Rattle.verb_bytes.proofs.Exact.{in_range_both}
+
+byte_fits : (least most n : ℕ) → least ≤ n → n ≤ most → are_in_range (byte_field least most n) ≡ true
+unfolding byte_field are_in_range
+byte_fits least most n low high = and_from _ _ (and_from (nat_le least n) (nat_le n most) (le-leb _ _ low) (le-leb _ _ high)) refl
+
+number_fits : (w : Width) (most n : ℕ) → n ≤ most → are_in_range (number_field w most n) ≡ true
+unfolding number_field are_in_range
+number_fits w most n le = and_from _ _ (le-leb _ _ le) refl
+
+text_fits : (most : ℕ) (bytes : List ℕ) → length bytes ≤ most → are_in_range (text_field most bytes) ≡ true
+unfolding text_field are_in_range
+text_fits most bytes le = and_from _ _ (le-leb _ _ le) refl
+
+name_fits : (bytes : List ℕ) → IsName bytes → are_in_range (name_field bytes) ≡ true
+unfolding name_field are_in_range
+name_fits bytes name =
+    let printable : is_none (first_unprintable bytes) ≡ true = ap is_none name.printable in
+    let long : nat_le 1 (length bytes) ≡ true = le-leb _ _ name.some in
+    let short : nat_le (length bytes) 200 ≡ true = le-leb _ _ name.most in
+    rw (long, short, printable) refl
+
+holds : are_in_range (only_if true) ≡ true
+unfolding only_if are_in_range
+holds = refl
+
+user_fits : (u : User) → IsUser u → are_in_range (user_field u) ≡ true
+user_fits u le = byte_fits 0 199 u.0 (omega arith) le
+
+each_fits : {A : Type 0} (F : A → List Field) (P : A → Type 0) → ((x : A) → P x → are_in_range (F x) ≡ true) → (xs : List A) → AllByRecursion P xs → are_in_range (flat_map F xs) ≡ true
+unfolding are_in_range
+each_fits F P h [] all = refl
+each_fits F P h (x ∷ xs) all = in_range_both (F x) (flat_map F xs) (h x all.0) (each_fits F P h xs all.1)
+
+list_fits : {A : Type 0} (most : ℕ) (F : A → List Field) (P : A → Type 0) → ((x : A) → P x → are_in_range (F x) ≡ true) → (xs : List A) → AllByRecursion P xs → length xs ≤ most → are_in_range (list_fields most F xs) ≡ true
+list_fits most F P h xs all few = in_range_both (number_field w32 most (length xs)) (flat_map F xs) (number_fits w32 most (length xs) few) (each_fits F P h xs all)
+
+many_fit : {A : Type 0} (F : A → List Field) (P : A → Type 0) → ((x : A) → P x → are_in_range (F x) ≡ true) → (xs : List A) → AreMany P xs → are_in_range (any_list_fields F xs) ≡ true
+many_fit F P h xs all = list_fits 4294967295 F P h xs all.each all.few
+
+account_fits : (a : Account) → IsAccount a → are_in_range (account_fields a) ≡ true
+account_fits a h = in_range_both _ _ (name_fits a.name h.name) (name_fits a.password h.password)
+
+alias_fits : (a : Alias) → IsAlias a → are_in_range (alias_fields a) ≡ true
+alias_fits a h = in_range_both _ _ (name_fits a.local h.local) (many_fit user_field IsUser user_fits a.users h.users)
+
+no_filter : (fs : List Filter) → fs ≡ [] → are_in_range (only_if (is_empty fs)) ≡ true
+no_filter fs e = subst (λ (gs : List Filter). are_in_range (only_if (is_empty gs)) ≡ true) (sym e) holds
+
+pub opening_is_spelled : (h : House) (conf : Conf) → IsOpening h conf → HasSpelling (Format h conf)
+opening_is_spelled h conf o =
+    in_range_both _ _ (byte_fits 0 4 0 (omega arith) (omega arith))
+    (in_range_both _ _ (name_fits h.host o.host)
+    (in_range_both _ _ (many_fit name_field IsName name_fits h.domains o.domains)
+    (in_range_both _ _ (number_fits w32 4294967295 h.first o.first)
+    (in_range_both _ _ (list_fits 200 account_fields IsAccount account_fits h.accounts o.accounts o.few)
+    (in_range_both _ _ (user_fits h.postmaster o.postmaster)
+    (in_range_both _ _ (many_fit alias_fields IsAlias alias_fits conf.aliases o.aliases) (no_filter conf.filters o.filters)))))))
+
+pub delivery_is_spelled : (number at : ℕ) (from : List ℕ) (to : List (List ℕ)) (text : List ℕ) → number ≤ 4294967295 → at ≤ 253402300799 → IsMail from to text → HasSpelling (Verb (delivery number at from to text))
+delivery_is_spelled number at from to text number_le at_le mail =
+    in_range_both _ _ (byte_fits 0 4 1 (omega arith) (omega arith))
+    (in_range_both _ _ (number_fits w32 4294967295 number number_le)
+    (in_range_both _ _ (number_fits w64 253402300799 at at_le)
+    (in_range_both _ _ (byte_fits 255 255 255 (omega arith) (omega arith))
+    (in_range_both _ _ (in_range_both _ _ (byte_fits 1 13 1 (omega arith) (omega arith))
+    (in_range_both _ _ (text_fits 4294967295 from mail.from_fits)
+    (in_range_both _ _ (list_fits 1000 name_field IsName name_fits to mail.names mail.few) (text_fits 1052672 text mail.small))))
+    (in_range_both _ _ (byte_fits 0 0 0 (omega arith) (omega arith)) holds)))))
