@@ -14,3 +14,5 @@ mod request;
 pub use console_head::Coming;
 pub use request::{Asked, HttpRefused, Route, read_coming, read_request};
 
+#[cfg(test)]
+mod tests;

@@ -66,11 +66,7 @@ fn read_number_part(alloc: Global, part: &[u8]) -> Result<Option<u32>, NoMemory>
 }
 
 /// A path's user and name of a mailbox.
-fn read_box_parts(
-    alloc: Global,
-    house: &House,
-    parts: &[u8],
-) -> Result<Option<Route>, NoMemory>
+fn read_box_parts(alloc: Global, house: &House, parts: &[u8]) -> Result<Option<Route>, NoMemory>
     requires { IsTrue (is_house house.now) }
     ensures { IfOk result (λ route. route ≡ box_in house.now parts.now) }
 {
@@ -128,12 +124,7 @@ fn read_mailbox(alloc: Global, house: &House, parts: &[u8]) -> Result<Route, Htt
     }
 }
 
-fn read_acted(
-    alloc: Global,
-    house: &House,
-    parts: &[u8],
-    body: &[u8],
-) -> Result<Route, HttpRefused>
+fn read_acted(alloc: Global, house: &House, parts: &[u8], body: &[u8]) -> Result<Route, HttpRefused>
     requires { IsTrue (is_house house.now) }
     ensures { Found (alone_at (acted (act_in house.now body.now)) parts.now) result }
 {
