@@ -1,0 +1,28 @@
+-- What the bytes ask, by the request that they are.
+use Rattle.std.proofs.Common.{◌≡◌, ℕ, List, Option, Some, None}
+use Rattle.std.specs.Prelude.{Result, Ok, Err}
+use Rattle.verb_core.specs.declared.conf.House.{House}
+use Rattle.console_head.specs.Request.{Request, Says}
+use Rattle.console_head.specs.declared.request.HeadRefused.{HeadRefused}
+use Rattle.console_head.specs.declared.request.HeadRefused.TheVariants.{Head as BadHead, Size as TooLarge}
+use Rattle.console_http.specs.declared.request.Asked.{Asked}
+use Rattle.console_http.specs.declared.request.Asked.TheVariants.{NotYet, Whole}
+use Rattle.console_http.specs.declared.request.HttpRefused.{HttpRefused}
+use Rattle.console_http.specs.declared.request.HttpRefused.TheVariants.{Head, Size, Route, Json, NoMemory}
+use Rattle.console_http.specs.Requests.{Asks, AsksOf, told_of}
+
+pub asks_of : (house : House) (bytes : List ℕ) (o : Option Request) (r : Result Asked HttpRefused) → Says bytes (Ok o) → AsksOf house o r → Asks house bytes r
+asks_of house bytes None (Ok NotYet) says e = says
+asks_of house bytes None (Ok (Whole route)) says e = absurd e
+asks_of house bytes None (Err x) says e = absurd e
+asks_of house bytes (Some q) (Ok NotYet) says e = absurd e
+asks_of house bytes (Some q) (Ok (Whole route)) says e = record { request = q; says = says; route = e }
+asks_of house bytes (Some q) (Err Head) says e = absurd e
+asks_of house bytes (Some q) (Err Size) says e = absurd e
+asks_of house bytes (Some q) (Err Route) says e = record { request = q; says = says; route = e }
+asks_of house bytes (Some q) (Err Json) says e = record { request = q; says = says; route = e }
+asks_of house bytes (Some q) (Err NoMemory) says e = record { request = q; says = says }
+
+pub asks_refused : (house : House) (bytes : List ℕ) (e : HeadRefused) → Says bytes (Err e) → Asks house bytes (Err (told_of e))
+asks_refused house bytes BadHead says = says
+asks_refused house bytes TooLarge says = says

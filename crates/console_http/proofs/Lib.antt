@@ -1,0 +1,5 @@
+pub mod Counts
+pub mod Lists
+pub mod Digits
+pub mod Bodies
+pub mod Asking

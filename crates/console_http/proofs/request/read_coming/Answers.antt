@@ -1,0 +1,8 @@
+use Rattle.console_http.proofs.Asking.{asks_of, asks_refused}
+use Rattle.console_http.proofs.request.read_coming.Goals as goal
+
+pub returns-in-Ok-clause-asks : goal.returns-in-Ok-clause-asks
+returns-in-Ok-clause-asks c = asks_of c.args.house.now c.args.bytes.now _ c.read_asked.result c.in-Ok.ensures.says c.read_asked.ensures
+
+pub returns-in-Err-clause-asks : goal.returns-in-Err-clause-asks
+returns-in-Err-clause-asks c = rw c.head_refused.ensures (asks_refused c.args.house.now c.args.bytes.now c.in-Err.refused c.in-Err.ensures.says)

@@ -1,0 +1,5 @@
+pub mod Parts
+pub mod Members
+pub mod Acts
+pub mod Routes
+pub mod Requests

@@ -1,0 +1,58 @@
+-- What the console answers to the bytes of a connection, as far as no store is needed.
+use Rattle.std.specs.Prelude.{◌≡◌, List, ℕ, Option, Some, None, Result, Ok, Err}
+use Rattle.verb_core.specs.declared.conf.House.{House}
+use Rattle.console_head.specs.Request.{Request, Says}
+use Rattle.console_head.specs.declared.request.HeadRefused.{HeadRefused}
+use Rattle.console_head.specs.declared.request.HeadRefused.TheVariants.{Head as BadHead, Size as TooLarge}
+use Rattle.console_http.specs.declared.request.Asked.{Asked}
+use Rattle.console_http.specs.declared.request.Asked.TheVariants.{NotYet, Whole}
+use Rattle.console_http.specs.declared.request.HttpRefused.{HttpRefused}
+use Rattle.console_http.specs.declared.request.HttpRefused.TheVariants.{Head, Size, Route, Json, NoMemory}
+use Rattle.console_http.specs.Routes.{Choice, route_of}
+
+-- the route that is due is found, or why there is none, or no memory
+abbrev pub Found : Choice → Choice → Type 0
+Found due (Ok route) = due ≡ Ok route
+Found due (Err Head) = ⊥
+Found due (Err Size) = ⊥
+Found due (Err Route) = due ≡ Err Route
+Found due (Err Json) = due ≡ Err Json
+Found due (Err NoMemory) = Unit {0}
+
+abbrev pub told_of : HeadRefused → HttpRefused
+told_of BadHead = Head
+told_of TooLarge = Size
+
+-- what is asked by a request, or by none yet
+abbrev pub AsksOf : House → Option Request → Result Asked HttpRefused → Type 0
+AsksOf house None (Ok NotYet) = Unit {0}
+AsksOf house None (Ok (Whole route)) = ⊥
+AsksOf house None (Err e) = ⊥
+AsksOf house (Some r) (Ok NotYet) = ⊥
+AsksOf house (Some r) (Ok (Whole route)) = route_of house r ≡ Ok route
+AsksOf house (Some r) (Err Head) = ⊥
+AsksOf house (Some r) (Err Size) = ⊥
+AsksOf house (Some r) (Err Route) = route_of house r ≡ Err Route
+AsksOf house (Some r) (Err Json) = route_of house r ≡ Err Json
+AsksOf house (Some r) (Err NoMemory) = Unit {0}
+
+-- the bytes are a request, and this is its route, or why it has none
+pub record Chooses (house : House) (bytes : List ℕ) (choice : Choice) : Type 0 where
+  pub request : Request
+  pub says : Says bytes (Ok (Some request))
+  pub route : route_of house request ≡ choice
+
+-- the bytes are a request, for which no memory was found
+pub record FindsNone (bytes : List ℕ) : Type 0 where
+  pub request : Request
+  pub says : Says bytes (Ok (Some request))
+
+-- what is asked, or the first refusal that holds; no memory is wanted for anything but a request
+abbrev pub Asks : House → List ℕ → Result Asked HttpRefused → Type 0
+Asks house bytes (Ok NotYet) = Says bytes (Ok None)
+Asks house bytes (Ok (Whole route)) = Chooses house bytes (Ok route)
+Asks house bytes (Err Head) = Says bytes (Err BadHead)
+Asks house bytes (Err Size) = Says bytes (Err TooLarge)
+Asks house bytes (Err Route) = Chooses house bytes (Err Route)
+Asks house bytes (Err Json) = Chooses house bytes (Err Json)
+Asks house bytes (Err NoMemory) = FindsNone bytes

@@ -1,0 +1,18 @@
+//! The operator's console: what a request asks.
+//!
+//! `parts` reads the parts of paths and the names in members; `members` the members of a JSON object, `acts` the acts
+//! that they make; `pages` which page a path is of; `request` puts them together over `console_head`.
+//! What carries the crate: `read_request` answers what `Asks` says of a connection's bytes, up to want of memory.
+#![tactic(auto)]
+
+mod acts;
+mod members;
+mod pages;
+mod parts;
+mod request;
+
+pub use console_head::Coming;
+pub use request::{Asked, HttpRefused, Route, read_coming, read_request};
+
+#[cfg(test)]
+mod tests;

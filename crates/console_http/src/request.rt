@@ -1,0 +1,230 @@
+//! What the bytes of a connection ask of the console.
+ghost use Rattle.std.specs.Prelude.{◌≡◌, ◌≤◌, ◌++◌, List, ℕ, IsTrue, IfOk, Ok, option_map};
+ghost use Rattle.verb_core.specs.Store.{is_house};
+ghost use Rattle.console_head.specs.Coming.{IsKnown};
+ghost use Rattle.console_head.specs.Seen.{parts_seen};
+ghost use Rattle.console_http.specs.Acts.{act_in};
+ghost use Rattle.console_http.specs.Routes.{number_in, box_in, alone as alone_at, taken, acted, route_on, route_of};
+ghost use Rattle.console_http.specs.Requests.{Asks, AsksOf, Found, told_of};
+
+use crate::acts::read_act;
+use crate::pages::{Page, find_page};
+use crate::parts::{before_slash, behind_slash, find_user, read_box, read_number, read_part};
+use console_head::{Coming, HeadRefused, Request};
+use std::alloc::Global;
+use undo_base::{Name, NoMemory, User};
+use verb_core::{Act, House};
+
+/// What a request asks for.
+#[derive(Debug, Drop, PartialEq, Eq)]
+pub enum Route {
+    Status,
+    Timeline { start: u32 },
+    Box { user: User, name: Name },
+    Body { number: u32 },
+    Conf,
+    Act(Act),
+    Stop,
+}
+
+/// What the bytes of a connection ask, if they are a request already.
+#[derive(Debug, Drop, PartialEq, Eq)]
+pub enum Asked {
+    NotYet,
+    Whole { route: Route },
+}
+
+/// Why a request is refused: its head, something too large, its route, its JSON; or no memory was found.
+#[derive(Clone, Copy, Debug, PartialEq, Eq)]
+pub enum HttpRefused {
+    Head,
+    Size,
+    Route,
+    Json,
+    NoMemory,
+}
+
+impl From<NoMemory> for HttpRefused {
+    ghost use Rattle.std.specs.Prelude.{◌≡◌};
+    ghost use Rattle.console_http.specs.declared.request.HttpRefused.TheVariants.{NoMemory as no_memory};
+
+    ghost from_gives = { λ _ e. e ≡ no_memory };
+
+    fn from(_: NoMemory) -> Self {
+        HttpRefused::NoMemory
+    }
+}
+
+/// A path's one number.
+fn read_number_part(alloc: Global, part: &[u8]) -> Result<Option<u32>, NoMemory>
+    ensures { IfOk result (λ number. number ≡ number_in part.now) }
+{
+    match read_part(alloc, part)? {
+        None => Ok(None),
+        Some(text) => Ok(read_number(text.as_slice())),
+    }
+}
+
+/// A path's user and name of a mailbox.
+fn read_box_parts(alloc: Global, house: &House, parts: &[u8]) -> Result<Option<Route>, NoMemory>
+    requires { IsTrue (is_house house.now) }
+    ensures { IfOk result (λ route. route ≡ box_in house.now parts.now) }
+{
+    let Some(name) = read_part(alloc, before_slash(parts))? else {
+        return Ok(None);
+    };
+    let Some(user) = find_user(house, name.as_slice()) else {
+        return Ok(None);
+    };
+    let Some(text) = read_part(alloc, behind_slash(parts))? else {
+        return Ok(None);
+    };
+    let Some(name) = read_box(alloc, text.as_slice())? else {
+        return Ok(None);
+    };
+    Ok(Some(Route::Box { user, name }))
+}
+
+/// The route of a path that has no parts.
+fn alone(route: Route, parts: &[u8]) -> Result<Route, HttpRefused>
+    ensures { result ≡ alone_at (Ok route) parts.now }
+{
+    if parts.is_empty() {
+        Ok(route)
+    } else {
+        Err(HttpRefused::Route)
+    }
+}
+
+fn read_timeline(alloc: Global, parts: &[u8]) -> Result<Route, HttpRefused>
+    ensures { Found (taken (option_map (λ start. Route.Timeline start) (number_in parts.now))) result }
+{
+    match read_number_part(alloc, parts)? {
+        None => Err(HttpRefused::Route),
+        Some(start) => Ok(Route::Timeline { start }),
+    }
+}
+
+fn read_body(alloc: Global, parts: &[u8]) -> Result<Route, HttpRefused>
+    ensures { Found (taken (option_map (λ number. Route.Body number) (number_in parts.now))) result }
+{
+    match read_number_part(alloc, parts)? {
+        None => Err(HttpRefused::Route),
+        Some(number) => Ok(Route::Body { number }),
+    }
+}
+
+fn read_mailbox(alloc: Global, house: &House, parts: &[u8]) -> Result<Route, HttpRefused>
+    requires { IsTrue (is_house house.now) }
+    ensures { Found (taken (box_in house.now parts.now)) result }
+{
+    match read_box_parts(alloc, house, parts)? {
+        None => Err(HttpRefused::Route),
+        Some(route) => Ok(route),
+    }
+}
+
+fn read_acted(alloc: Global, house: &House, parts: &[u8], body: &[u8]) -> Result<Route, HttpRefused>
+    requires { IsTrue (is_house house.now) }
+    ensures { Found (alone_at (acted (act_in house.now body.now)) parts.now) result }
+{
+    if !parts.is_empty() {
+        return Err(HttpRefused::Route);
+    }
+    match read_act(alloc, house, body)? {
+        None => Err(HttpRefused::Json),
+        Some(act) => Ok(Route::Act(act)),
+    }
+}
+
+/// The route of a page, by the parts of its path and the body.
+fn read_parts(
+    alloc: Global,
+    house: &House,
+    page: Page,
+    parts: &[u8],
+    body: &[u8],
+) -> Result<Route, HttpRefused>
+    requires { IsTrue (is_house house.now) }
+    ensures { Found (route_on house.now page parts.now body.now) result }
+{
+    match page {
+        Page::Status => alone(Route::Status, parts),
+        Page::Timeline => read_timeline(alloc, parts),
+        Page::Box => read_mailbox(alloc, house, parts),
+        Page::Body => read_body(alloc, parts),
+        Page::Conf => alone(Route::Conf, parts),
+        Page::Act => read_acted(alloc, house, parts, body),
+        Page::Stop => alone(Route::Stop, parts),
+    }
+}
+
+/// The route that a request takes.
+fn read_route(alloc: Global, house: &House, request: Request<'_>) -> Result<Route, HttpRefused>
+    requires { IsTrue (is_house house.now) }
+    ensures { Found (route_of house.now (parts_seen request.entry)) result }
+{
+    let Some(page) = find_page(request.target) else {
+        return Err(HttpRefused::Route);
+    };
+    if request.method != page.method() {
+        return Err(HttpRefused::Route);
+    }
+    match request.target.strip_prefix(page.front()) {
+        None => Err(HttpRefused::Route),
+        Some(parts) => read_parts(alloc, house, page, parts, request.body),
+    }
+}
+
+/// What is asked by a request, or by none yet.
+fn read_asked(
+    alloc: Global,
+    house: &House,
+    request: Option<Request<'_>>,
+) -> Result<Asked, HttpRefused>
+    requires { IsTrue (is_house house.now) }
+    ensures { AsksOf house.now (option_map parts_seen request.entry) result }
+{
+    match request {
+        None => Ok(Asked::NotYet),
+        Some(request) => match read_route(alloc, house, request) {
+            Ok(route) => Ok(Asked::Whole { route }),
+            Err(refused) => Err(refused),
+        },
+    }
+}
+
+fn head_refused(refused: HeadRefused) -> HttpRefused
+    ensures { result ≡ told_of refused }
+{
+    match refused {
+        HeadRefused::Head => HttpRefused::Head,
+        HeadRefused::Size => HttpRefused::Size,
+    }
+}
+
+/// What is asked by the bytes of a connection, of which some may have been read before.
+pub fn read_coming(
+    alloc: Global,
+    coming: &mut Coming,
+    house: &House,
+    bytes: &[u8],
+) -> Result<Asked, HttpRefused>
+    requires house { IsTrue (is_house house.now) }
+    requires known { IsKnown coming.old bytes.now }
+    ensures asks { Asks house.now bytes.now result }
+    ensures known { (more : List ℕ) → IsKnown coming.new (bytes.now ++ more) }
+{
+    match coming.read(bytes) {
+        Ok(request) => read_asked(alloc, house, request),
+        Err(refused) => Err(head_refused(refused)),
+    }
+}
+
+/// What is asked by the bytes of a connection: the one definition that `read_coming` keeps too.
+pub fn read_request(alloc: Global, house: &House, bytes: &[u8]) -> Result<Asked, HttpRefused>
+    requires { IsTrue (is_house house.now) }
+    ensures { Asks house.now bytes.now result }
+{
+    read_coming(alloc, &mut Coming::new(), house, bytes)
+}

@@ -1,0 +1,269 @@
+//! What requests ask, and each refusal.
+use crate::{Asked, HttpRefused, Route, read_request};
+use std::alloc::{AllocError, Global};
+use std::test::Fail;
+use undo_base::{Name, Names, NoMemory, User};
+use verb_core::{Account, Accounts, Act, House};
+
+fn name(alloc: Global, text: &str) -> Result<Name, NoMemory> {
+    match Name::read(alloc, text.as_bytes()) {
+        Ok(name) => Ok(name),
+        Err(_) => Err(NoMemory),
+    }
+}
+
+fn account(alloc: Global, text: &str) -> Result<Account, NoMemory> {
+    Ok(Account {
+        name: name(alloc, text)?,
+        password: name(alloc, "p")?,
+    })
+}
+
+fn house(alloc: Global) -> Result<House, NoMemory> {
+    let mut accounts = Accounts::new(alloc);
+    accounts.push(account(alloc, "ann")?)?;
+    accounts.push(account(alloc, "bob")?)?;
+    Ok(House {
+        host: name(alloc, "mail.test")?,
+        domains: Names::new(alloc),
+        accounts,
+        postmaster: User(0),
+        first: 2,
+    })
+}
+
+fn request(alloc: Global, method: &str, target: &str, body: &[u8]) -> Result<Vec<u8>, AllocError> {
+    let head = format!(in alloc;
+        "{} {} HTTP/1.1\r\nContent-Length: {}\r\n\r\n",
+        method,
+        target,
+        body.len()
+    )?;
+    let mut bytes = Vec::from_slice(alloc, head.as_bytes())?;
+    bytes.extend_from_slice(body)?;
+    Ok(bytes)
+}
+
+/// What a request asks, in words; the number, the user or the word of the act beside it.
+fn told(asked: &Result<Asked, HttpRefused>) -> (&'static str, u32) {
+    match asked {
+        Ok(Asked::NotYet) => ("not yet", 0),
+        Ok(Asked::Whole { route }) => route_told(route),
+        Err(HttpRefused::Head) => ("head", 0),
+        Err(HttpRefused::Size) => ("size", 0),
+        Err(HttpRefused::Route) => ("route", 0),
+        Err(HttpRefused::Json) => ("json", 0),
+        Err(HttpRefused::NoMemory) => ("memory", 0),
+    }
+}
+
+fn route_told(route: &Route) -> (&'static str, u32) {
+    match route {
+        Route::Status => ("status", 0),
+        Route::Timeline { start } => ("timeline", *start),
+        Route::Box { user, name } => ("box", 256 * name.bytes().len() as u32 + user.0 as u32),
+        Route::Body { number } => ("body", *number),
+        Route::Conf => ("conf", 0),
+        Route::Act(act) => act_told(act),
+        Route::Stop => ("stop", 0),
+    }
+}
+
+fn act_told(act: &Act) -> (&'static str, u32) {
+    match act {
+        Act::SetAlias { users, .. } => ("alias", users.len() as u32),
+        Act::DropAlias { .. } => ("unalias", 0),
+        Act::SetFilter(filter) => ("filter", filter.file.is_some() as u32),
+        Act::DropFilter { .. } => ("unfilter", 0),
+        Act::Remove { key, .. } => ("remove", key.item),
+        Act::Give { text, .. } => ("give", text.bytes().len() as u32),
+    }
+}
+
+fn asked(alloc: Global, house: &House, bytes: &[u8]) -> (&'static str, u32) {
+    told(&read_request(alloc, house, bytes))
+}
+
+#[test]
+fn paths(rt: HostRuntime) -> Result<(), Fail> {
+    let house = house(rt.alloc())?;
+    let rows = [
+        ("GET", "/status", ("status", 0)),
+        ("POST", "/status", ("route", 0)),
+        ("get", "/status", ("route", 0)),
+        ("GET", "/status?x", ("route", 0)),
+        ("GET", "/status/", ("route", 0)),
+        ("GET", "/", ("route", 0)),
+        ("GET", "/timeline/0", ("timeline", 0)),
+        ("GET", "/timeline/4294967295", ("timeline", 4294967295)),
+        ("GET", "/timeline/4294967296", ("route", 0)),
+        ("GET", "/timeline/01", ("route", 0)),
+        ("GET", "/timeline/", ("route", 0)),
+        ("GET", "/timeline/1/", ("route", 0)),
+        ("GET", "/timeline/%31%30", ("timeline", 10)),
+        ("GET", "/timeline/%2531", ("route", 0)),
+        ("GET", "/body/7", ("body", 7)),
+        ("GET", "/box/ann/INBOX", ("box", 1280)),
+        ("GET", "/box/%62ob/Lost+Found", ("box", 2561)),
+        ("GET", "/box/bob/a%2Fb%20c", ("box", 1281)),
+        ("GET", "/box/bob/a/b", ("route", 0)),
+        ("GET", "/box/Ann/INBOX", ("route", 0)),
+        ("GET", "/box/eve/INBOX", ("route", 0)),
+        ("GET", "/box/ann/", ("route", 0)),
+        ("GET", "/box/ann", ("route", 0)),
+        ("GET", "/box/ann/%", ("route", 0)),
+        ("GET", "/box/ann/%4", ("route", 0)),
+        ("GET", "/box/ann/%4g", ("route", 0)),
+        ("GET", "/box/ann/%0a", ("route", 0)),
+        ("GET", "/conf", ("conf", 0)),
+        ("POST", "/stop", ("stop", 0)),
+        ("GET", "/stop", ("route", 0)),
+        ("GET", "/act", ("route", 0)),
+        ("POST", "/act", ("json", 0)),
+        ("POST", "/act/", ("route", 0)),
+        ("POST", "/cycle", ("route", 0)),
+        ("GET", "/plan/2", ("route", 0)),
+    ];
+    for (method, target, answer) in rows {
+        let bytes = request(rt.alloc(), method, target, b"not looked at")?;
+        assert_eq!(rt; asked(rt.alloc(), &house, bytes.as_slice()), answer);
+    }
+    Ok(())
+}
+
+#[test]
+fn acts(rt: HostRuntime) -> Result<(), Fail> {
+    let house = house(rt.alloc())?;
+    let rows = [
+        (
+            "{\"act\":\"alias\",\"local\":\"a.b-c_9\",\"users\":[\"ann\",\"bob\"]}",
+            ("alias", 2),
+        ),
+        (
+            " {\"users\":[\"ann\"],\"local\":\"x\",\"local\":\"y\",\"act\":\"alias\"} ",
+            ("alias", 1),
+        ),
+        (
+            "{\"act\":\"alias\",\"local\":\"A\",\"users\":[\"ann\"]}",
+            ("json", 0),
+        ),
+        (
+            "{\"act\":\"alias\",\"local\":\"a\",\"users\":[]}",
+            ("json", 0),
+        ),
+        (
+            "{\"act\":\"alias\",\"local\":\"a\",\"users\":[\"eve\"]}",
+            ("json", 0),
+        ),
+        (
+            "{\"act\":\"alias\",\"local\":\"a\",\"users\":[\"ann\",1]}",
+            ("json", 0),
+        ),
+        (
+            "{\"act\":\"alias\",\"local\":\"a\",\"users\":[\"ann\"],\"x\":1}",
+            ("json", 0),
+        ),
+        ("{\"act\":\"unalias\",\"local\":\"a\"}", ("unalias", 0)),
+        ("{\"act\":\"unalias\"}", ("json", 0)),
+        (
+            "{\"act\":\"filter\",\"file\":null,\"name\":\"f\",\"needle\":\"offer\"}",
+            ("filter", 0),
+        ),
+        (
+            "{\"act\":\"filter\",\"file\":\"inbox\",\"name\":\"f\",\"needle\":\"x\"}",
+            ("filter", 1),
+        ),
+        (
+            "{\"act\":\"filter\",\"name\":\"f\",\"needle\":\"x\"}",
+            ("json", 0),
+        ),
+        (
+            "{\"act\":\"filter\",\"file\":null,\"name\":\"\",\"needle\":\"x\"}",
+            ("json", 0),
+        ),
+        ("{\"act\":\"unfilter\",\"name\":\"f\"}", ("unfilter", 0)),
+        (
+            "{\"act\":\"remove\",\"box\":\"B\",\"index\":65535,\"item\":4294967295,\"user\":\"ann\"}",
+            ("remove", 4294967295),
+        ),
+        (
+            "{\"act\":\"remove\",\"box\":\"B\",\"index\":65536,\"item\":2,\"user\":\"ann\"}",
+            ("json", 0),
+        ),
+        (
+            "{\"act\":\"remove\",\"box\":\"B\",\"index\":0,\"item\":1.0,\"user\":\"ann\"}",
+            ("json", 0),
+        ),
+        (
+            "{\"act\":\"remove\",\"box\":\"B\",\"index\":-0,\"item\":1,\"user\":\"ann\"}",
+            ("json", 0),
+        ),
+        (
+            "{\"act\":\"give\",\"body\":\"aGk=\",\"box\":\"B\",\"user\":\"bob\"}",
+            ("give", 2),
+        ),
+        (
+            "{\"act\":\"give\",\"body\":\"aGk\",\"box\":\"B\",\"user\":\"bob\"}",
+            ("json", 0),
+        ),
+        (
+            "{\"act\":\"give\",\"body\":\"aGl=\",\"box\":\"B\",\"user\":\"bob\"}",
+            ("json", 0),
+        ),
+        (
+            "{\"act\":\"ALIAS\",\"local\":\"a\",\"users\":[\"ann\"]}",
+            ("json", 0),
+        ),
+        ("[]", ("json", 0)),
+        ("", ("json", 0)),
+        ("{\"act\":\"unfilter\",\"name\":\"f\"}x", ("json", 0)),
+        (
+            "{\"act\":\"unfilter\",\"name\":\"\\u0041\\\"\"}",
+            ("unfilter", 0),
+        ),
+        ("{\"act\":\"unfilter\",\"name\":\"\\u00e9\"}", ("json", 0)),
+    ];
+    for (body, answer) in rows {
+        let bytes = request(rt.alloc(), "POST", "/act", body.as_bytes())?;
+        assert_eq!(rt; asked(rt.alloc(), &house, bytes.as_slice()), answer);
+    }
+    Ok(())
+}
+
+#[test]
+fn deep_json_and_a_body_that_is_short(rt: HostRuntime) -> Result<(), Fail> {
+    let house = house(rt.alloc())?;
+    let mut deep = Vec::new(rt.alloc());
+    for _ in 0..100_000 {
+        deep.push(b'[')?;
+    }
+    let bytes = request(rt.alloc(), "POST", "/act", deep.as_slice())?;
+    assert_eq!(rt; asked(rt.alloc(), &house, bytes.as_slice()), ("json", 0));
+    let short = &bytes[..bytes.len() - 1];
+    assert_eq!(rt; asked(rt.alloc(), &house, short), ("not yet", 0));
+    let not_utf8 = request(rt.alloc(), "POST", "/act", b"{\"act\":\"\xff\"}")?;
+    assert_eq!(rt; asked(rt.alloc(), &house, not_utf8.as_slice()), ("json", 0));
+    assert_eq!(rt; asked(rt.alloc(), &house, b"G\x01T\n\n"), ("head", 0));
+    Ok(())
+}
+
+/// The name of the mailbox that bytes ask for.
+fn named(alloc: Global, house: &House, bytes: &[u8]) -> Result<Name, NoMemory> {
+    match read_request(alloc, house, bytes) {
+        Ok(
+            Asked::Whole {
+                route: Route::Box { name, .. },
+            },
+        ) => Ok(name),
+        _ => Err(NoMemory),
+    }
+}
+
+#[test]
+fn inbox_is_kept_in_capitals(rt: HostRuntime) -> Result<(), Fail> {
+    let house = house(rt.alloc())?;
+    let bytes = request(rt.alloc(), "GET", "/box/bob/in%62OX", b"")?;
+    let name = named(rt.alloc(), &house, bytes.as_slice())?;
+    assert_eq!(rt; name.bytes(), b"INBOX".as_slice());
+    Ok(())
+}
