@@ -2,9 +2,7 @@ use crate::{
     Attribute, Attributes, FetchForm, Message, Messages, StoreForm, attributes_of, body_sections,
     fetch_lines, octets_asked, sets_seen, shows_body, store_lines,
 };
-use imap_lines::{
-    FetchAsk, FetchAsks, ImapCommand, ImapRefused, ImapWhat, RawCommand, read_command,
-};
+use imap_lines::{FetchAsk, FetchAsks};
 use std::alloc::Global;
 use std::test::Fail;
 use undo_base::{Flags, How, Key, NoMemory, Section, SectionAsk, Text, Texts};
@@ -203,40 +201,6 @@ fn attributes_stand_in_the_order_asked(rt: HostRuntime) -> Result<(), Fail> {
             *line
         );
     }
-    Ok(())
-}
-
-/// How the STORE that was read is told.
-fn form_of(read: Result<ImapCommand, ImapRefused>) -> Option<StoreForm> {
-    let command = read.ok()?;
-    match command.what {
-        ImapWhat::Store {
-            how,
-            flags,
-            by_uid,
-            ..
-        } => Some(StoreForm { how, flags, by_uid }),
-        _ => None,
-    }
-}
-
-fn store_form(alloc: Global, line: &[u8]) -> Result<Option<StoreForm>, NoMemory> {
-    let mut lines = Texts::new(alloc);
-    lines.push(Text::of(alloc, line)?)?;
-    let literals = Texts::new(alloc);
-    let raw = RawCommand { lines, literals };
-    Ok(form_of(read_command(alloc, &raw)))
-}
-
-#[test]
-fn an_ignored_keyword_is_not_told(rt: HostRuntime) -> Result<(), Fail> {
-    let alloc = rt.alloc();
-    let rows = one_row(alloc, message(1, 1, 118, NO_FLAGS))?;
-    let form = store_form(alloc, b"e STORE 1 +FLAGS ($Label1 \\Flagged)")?.ok_or(NoMemory)?;
-    assert_eq!(rt;
-        store_lines(alloc, form, &rows)?.bytes(),
-        b"* 1 FETCH (FLAGS (\\Flagged))\r\n".as_slice()
-    );
     Ok(())
 }
 
