@@ -1,0 +1,317 @@
+-- The dialog with a mail client (RFC 3501, 3 and 6), as a function of its state, the house, the store, the lengths of
+-- texts and one command. It gives what is said, read or asked of the store, and the state after it.
+use Rattle.std.specs.Prelude.{◌≡◌, ℕ, Bool, true, false, not, ◌&&◌, List, [], ◌∷◌, ◌++◌, bytes_eq, is_some, option_map, unwrap_or, Option, None, Some, Result, Ok, Err, if◌then◌else◌}
+use Rattle.undo_base.specs.declared.keys.User.{User}
+use Rattle.seal_log.specs.declared.fault.ReadFault.{ReadFault}
+use Rattle.seal_log.specs.declared.fault.ReadFault.TheVariants as read_fault
+use Rattle.imap_stream.specs.declared.next.RawCommand.{RawCommand}
+use Rattle.imap_lines.specs.declared.command.ImapCommand.{ImapCommand}
+use Rattle.imap_lines.specs.declared.command.ImapWhat.{ImapWhat}
+use Rattle.imap_lines.specs.declared.command.ImapWhat.TheVariants as what
+use Rattle.imap_lines.specs.Command.{Reading, command_of}
+use Rattle.imap_stream.specs.declared.picks.SetRange.{SetRange}
+use Rattle.imap_text.specs.declared.facts.BoxFacts.{BoxFacts}
+use Rattle.imap_text.specs.Answers.{select_lines}
+use Rattle.imap_fetch.specs.declared.asked.Attribute.{Attribute}
+use Rattle.imap_fetch.specs.declared.lines.StoreForm.{StoreForm}
+use Rattle.imap_fetch.specs.Asked.{attributes_of, octets_asked, sets_seen}
+use Rattle.imap_fetch.specs.Told.{fetch_lines, store_lines}
+use Rattle.verb_core.specs.declared.ask.Ask.{Ask}
+use Rattle.verb_core.specs.declared.ask.Ask.TheVariants as ask
+use Rattle.verb_core.specs.declared.ask.Refused.TheVariants.{NoBox, NoMemory}
+use Rattle.verb_core.specs.declared.ask.SubmitFault.{SubmitFault}
+use Rattle.verb_core.specs.declared.ask.SubmitFault.TheVariants.{Refused as WasRefused, Disk, Closed}
+use Rattle.verb_core.specs.declared.conf.House.{House}
+use Rattle.verb_core.specs.declared.item.Item.{Item}
+use Rattle.verb_core.specs.declared.mailbox.Body.{Body}
+use Rattle.verb_core.specs.declared.mailbox.BoxId.{BoxId}
+use Rattle.verb_core.specs.Boxes.{box_of, next_at, row_at, same_user}
+use Rattle.verb_core.specs.Live.{asker, is_users, mail_of}
+use Rattle.verb_core.specs.Store.{MailStore, is_known}
+use Rattle.imap_session.specs.declared.dialog.Awaits.{Awaits}
+use Rattle.imap_session.specs.declared.dialog.Awaits.TheVariants.{Nothing, Texts, Outcome}
+use Rattle.imap_session.specs.declared.dialog.Dialog.{Dialog}
+use Rattle.imap_session.specs.declared.dialog.Fetching.{Fetching}
+use Rattle.imap_session.specs.declared.dialog.Pending.{Pending}
+use Rattle.imap_session.specs.declared.dialog.Pending.TheVariants as on
+use Rattle.imap_session.specs.declared.dialog.Selected.{Selected}
+use Rattle.imap_session.specs.declared.out.ImapOut.{ImapOut}
+use Rattle.imap_session.specs.declared.out.ImapOut.TheVariants.{Say, Read, Submit, Bye}
+use Rattle.imap_session.specs.declared.words.Answer.{Answer}
+use Rattle.imap_session.specs.declared.words.Answer.TheVariants.{Done, Opened, UnknownCommand, BadArguments, WrongState, LoginFailed, ReadOnly, BadNumber, Refused, DiskFault}
+use Rattle.imap_session.specs.declared.words.Word.{Word}
+use Rattle.imap_session.specs.declared.words.Word.TheVariants as word
+use Rattle.imap_session.specs.Words.{bye_text, fault_text, fetch_word, store_word, tagged, unread_text}
+use Rattle.imap_session.specs.Names.{account_of, mailbox_of}
+use Rattle.imap_session.specs.Views.{facts_of, news, view_of}
+use Rattle.imap_session.specs.Fetching.{ask_of, bodies_of, keys_at, places_named, rows_at}
+
+-- what comes of a command, and the dialog after it
+pub record Took : Type 0 where
+  pub out : ImapOut
+  pub dialog : Dialog
+
+abbrev pub took : ImapOut → Dialog → Took
+took out d = record { out = out; dialog = d }
+
+-- the connection was made just now: nobody is logged in (RFC 3501, 3.1)
+abbrev pub opening : Dialog
+opening = record { user = None; selected = None; awaits = Nothing }
+
+-- nothing is awaited any more
+abbrev pub at_rest : Dialog → Dialog
+at_rest d = record d { awaits = Nothing }
+
+-- no mailbox is selected any more
+abbrev pub unselected : Dialog → Dialog
+unselected d = record d { selected = None }
+
+-- an answer, and the dialog goes on
+abbrev pub says : List ℕ → Answer → Dialog → Took
+says tag answer d = took (Say (tagged tag answer)) d
+
+-- data and then the answer
+abbrev pub tells : List ℕ → List ℕ → Answer → Dialog → Took
+tells text tag answer d = took (Say (text ++ tagged tag answer)) d
+
+-- the store is asked, and the outcome is awaited
+abbrev pub asks : Ask → List ℕ → Pending → Dialog → Took
+asks asked tag pending d = took (Submit asked) (record d { awaits = Outcome tag pending })
+
+-- ---- commands of any state
+
+-- done; where a mailbox is selected, its view is told of it first, and follows it (RFC 3501, 6.1.2 and 7)
+abbrev pub follow : MailStore → List ℕ → Word → Dialog → Option Selected → Took
+follow s tag w d None = says tag (Done w) d
+follow s tag w d (Some selected) =
+    let entries = mail_of s d.user selected.mailbox in
+    tells (news entries selected.view) tag (Done w) (record d { selected = Some (record selected { view = view_of entries }) })
+
+-- LOGOUT (RFC 3501, 6.1.3)
+abbrev pub logout : List ℕ → Dialog → Took
+logout tag d = took (Bye (bye_text ++ tagged tag (Done word.Logout))) d
+
+-- ---- before login (RFC 3501, 6.2.3)
+
+abbrev pub enter : List ℕ → Dialog → Option ℕ → Took
+enter tag d None = says tag LoginFailed d
+enter tag d (Some number) = says tag (Done word.Login) (record d { user = Some (record { 0 = number }) })
+
+abbrev pub login : House → List ℕ → Dialog → Option User → List ℕ → List ℕ → Took
+login house tag d None user password = enter tag d (account_of house user password)
+login house tag d (Some u) user password = says tag WrongState d
+
+-- ---- logged in
+
+-- SELECT and EXAMINE (RFC 3501, 6.3.1 and 6.3.2): where there is no such mailbox, none is selected any more
+abbrev pub select : List ℕ → Dialog → Option User → Option (List ℕ) → Bool → Took
+select tag d None mailbox writes = says tag WrongState d
+select tag d (Some u) None writes = says tag (Refused NoBox) (unselected d)
+select tag d (Some u) (Some mailbox) writes = asks (ask.Select mailbox) tag (on.Select mailbox writes) d
+
+-- ---- in a selected mailbox
+
+-- EXPUNGE (RFC 3501, 6.4.3)
+abbrev pub expunge : List ℕ → Dialog → Option Selected → Took
+expunge tag d None = says tag WrongState d
+expunge tag d (Some selected) =
+    if selected.writes then asks (ask.Expunge selected.mailbox) tag (on.Follow word.Expunge) d else says tag ReadOnly d
+
+-- a FETCH of messages at these places of the view
+abbrev pub fetching : MailStore → (Body → Option ℕ) → Dialog → Selected → List Attribute → Bool → List ℕ → Fetching
+fetching s sizes d selected attributes by_uid places =
+    let rows = rows_at sizes (mail_of s d.user selected.mailbox) selected.view places in
+    record {
+      mailbox = selected.mailbox;
+      keys = keys_at selected.view places;
+      octets = octets_asked rows attributes;
+      form = record { attributes = attributes; by_uid = by_uid; sets_seen = selected.writes && sets_seen attributes };
+      rows = rows;
+    }
+
+-- the texts are read first, where it needs any
+abbrev pub begin_fetch : List ℕ → Dialog → Fetching → List Body → Took
+begin_fetch tag d f [] = asks (ask_of f) tag (on.Fetch f.form f.rows []) d
+begin_fetch tag d f (body ∷ bodies) = took (Read (body ∷ bodies)) (record d { awaits = Texts tag f })
+
+abbrev pub fetch_places : MailStore → (Body → Option ℕ) → List ℕ → Dialog → Selected → List Attribute → Bool → Option (List ℕ) → Took
+fetch_places s sizes tag d selected attributes by_uid None = says tag BadNumber d
+fetch_places s sizes tag d selected attributes by_uid (Some places) =
+    let f = fetching s sizes d selected attributes by_uid places in begin_fetch tag d f (bodies_of f)
+
+abbrev pub fetch_in : MailStore → (Body → Option ℕ) → List ℕ → Dialog → Option Selected → List Attribute → List SetRange → Bool → Took
+fetch_in s sizes tag d None attributes set by_uid = says tag WrongState d
+fetch_in s sizes tag d (Some selected) attributes set by_uid =
+    fetch_places s sizes tag d selected attributes by_uid (places_named selected.view set by_uid)
+
+-- FETCH and UID FETCH (RFC 3501, 6.4.5 and 6.4.8)
+abbrev pub fetch : MailStore → (Body → Option ℕ) → List ℕ → Dialog → Option (List Attribute) → List SetRange → Bool → Took
+fetch s sizes tag d None set by_uid = says tag BadArguments d
+fetch s sizes tag d (Some attributes) set by_uid = fetch_in s sizes tag d d.selected attributes set by_uid
+
+abbrev pub store_places : MailStore → (Body → Option ℕ) → List ℕ → Dialog → Selected → StoreForm → Bool → Option (List ℕ) → Took
+store_places s sizes tag d selected form silent None = says tag BadNumber d
+store_places s sizes tag d selected form silent (Some places) =
+    asks (ask.Store selected.mailbox (keys_at selected.view places) form.how form.flags (not form.by_uid)) tag
+    (on.Store form silent (rows_at sizes (mail_of s d.user selected.mailbox) selected.view places)) d
+
+-- STORE and UID STORE (RFC 3501, 6.4.6 and 6.4.8)
+abbrev pub store : MailStore → (Body → Option ℕ) → List ℕ → Dialog → Option Selected → StoreForm → Bool → List SetRange → Took
+store s sizes tag d None form silent set = says tag WrongState d
+store s sizes tag d (Some selected) form silent set =
+    if selected.writes then store_places s sizes tag d selected form silent (places_named selected.view set form.by_uid)
+    else says tag ReadOnly d
+
+-- ---- one command
+
+abbrev pub obey : House → MailStore → (Body → Option ℕ) → List ℕ → Dialog → ImapWhat → Took
+obey house s sizes tag d what.Capability = says tag UnknownCommand d
+obey house s sizes tag d what.Noop = follow s tag word.Noop d d.selected
+obey house s sizes tag d what.Logout = logout tag d
+obey house s sizes tag d (what.Login user password) = login house tag d d.user user password
+obey house s sizes tag d (what.Select mailbox) = select tag d d.user (mailbox_of mailbox) true
+obey house s sizes tag d (what.Examine mailbox) = says tag UnknownCommand d
+obey house s sizes tag d (what.Create mailbox) = says tag UnknownCommand d
+obey house s sizes tag d (what.Delete mailbox) = says tag UnknownCommand d
+obey house s sizes tag d (what.Rename mailbox target) = says tag UnknownCommand d
+obey house s sizes tag d (what.Subscribe mailbox) = says tag UnknownCommand d
+obey house s sizes tag d (what.Unsubscribe mailbox) = says tag UnknownCommand d
+obey house s sizes tag d (what.List reference pattern) = says tag UnknownCommand d
+obey house s sizes tag d (what.Lsub reference pattern) = says tag UnknownCommand d
+obey house s sizes tag d (what.Status mailbox asked) = says tag UnknownCommand d
+obey house s sizes tag d (what.Append mailbox flags moment text) = says tag UnknownCommand d
+obey house s sizes tag d what.Check = says tag UnknownCommand d
+obey house s sizes tag d what.Close = says tag UnknownCommand d
+obey house s sizes tag d what.Expunge = expunge tag d d.selected
+obey house s sizes tag d (what.Fetch set asked by_uid) = fetch s sizes tag d (attributes_of asked) set by_uid
+obey house s sizes tag d (what.Store set how silent flags by_uid) =
+    store s sizes tag d d.selected (record { how = how; flags = flags; by_uid = by_uid }) silent set
+obey house s sizes tag d (what.Copy set target by_uid) = says tag UnknownCommand d
+obey house s sizes tag d what.Authenticate = says tag UnknownCommand d
+
+-- one command; `sizes` has the lengths of texts
+abbrev pub turn : House → MailStore → (Body → Option ℕ) → Dialog → ImapCommand → Took
+turn house s sizes d command = obey house s sizes command.tag d command.what
+
+abbrev pub hears_reading : House → MailStore → (Body → Option ℕ) → Dialog → Reading → Took
+hears_reading house s sizes d (Ok command) = turn house s sizes d command
+hears_reading house s sizes d (Err unread) = took (Say (unread_text unread)) d
+
+-- one command of a stream, by its lines and literals
+abbrev pub hears : House → MailStore → (Body → Option ℕ) → Dialog → RawCommand → Took
+hears house s sizes d raw = hears_reading house s sizes d (command_of raw)
+
+-- ---- what was awaited
+
+-- why texts can't be had
+abbrev pub fault_answer : ReadFault → Answer
+fault_answer read_fault.Disk = DiskFault
+fault_answer read_fault.NoMemory = Refused NoMemory
+
+abbrev pub heard_in : Dialog → Awaits → Result (List (List ℕ)) ReadFault → Took
+heard_in d Nothing texts = took (Say []) d
+heard_in d (Texts tag f) (Ok texts) = asks (ask_of f) tag (on.Fetch f.form f.rows texts) d
+heard_in d (Texts tag f) (Err why) = says tag (fault_answer why) (at_rest d)
+heard_in d (Outcome tag pending) texts = took (Say []) d
+
+-- the texts that a FETCH needs, in order, or why they can't be had
+abbrev pub heard : Dialog → Result (List (List ℕ)) ReadFault → Took
+heard d texts = heard_in d d.awaits texts
+
+-- the UIDVALIDITY of a mailbox
+abbrev pub stamp_of : List (BoxId × ℕ) → Option User → List ℕ → ℕ
+stamp_of stamps by name = unwrap_or (row_at (box_of (asker by) name) stamps) 0
+
+-- what a user's mailbox tells of itself
+abbrev pub facts_at : MailStore → List (BoxId × ℕ) → Option User → List ℕ → BoxFacts
+facts_at s stamps by name = facts_of (mail_of s by name) (next_at (box_of (asker by) name) s.boxes) (stamp_of stamps by name)
+
+-- a mailbox is selected, and tells of itself
+abbrev pub selects : MailStore → List (BoxId × ℕ) → List ℕ → Dialog → List ℕ → Bool → Took
+selects s stamps tag d mailbox writes =
+    tells (select_lines (facts_at s stamps d.user mailbox) writes) tag (Opened writes)
+    (record d { selected = Some (record { mailbox = mailbox; view = view_of (mail_of s d.user mailbox); writes = writes }) })
+
+-- what was asked is done; the store is the one after it
+abbrev pub done : MailStore → List (BoxId × ℕ) → List ℕ → Dialog → Item → Pending → Took
+done s stamps tag d item (on.Select mailbox writes) = selects s stamps tag d mailbox writes
+done s stamps tag d item (on.Fetch form rows texts) = tells (fetch_lines form rows texts) tag (Done (fetch_word form.by_uid)) d
+done s stamps tag d item (on.Store form silent rows) = tells (if silent then [] else store_lines form rows) tag (Done (store_word form.by_uid)) d
+done s stamps tag d item (on.Follow w) = follow s tag w d d.selected
+
+-- a mailbox that can't be selected leaves none selected (RFC 3501, 6.3.1)
+abbrev pub selected_after : Pending → Option Selected → Option Selected
+selected_after (on.Select mailbox writes) selected = None
+selected_after (on.Fetch form rows texts) selected = selected
+selected_after (on.Store form silent rows) selected = selected
+selected_after (on.Follow w) selected = selected
+
+-- it is not done
+abbrev pub undone : List ℕ → Dialog → Pending → SubmitFault → Took
+undone tag d pending (WasRefused why) = says tag (Refused why) (record d { selected = selected_after pending d.selected })
+undone tag d pending Disk = took (Bye fault_text) d
+undone tag d pending Closed = took (Bye fault_text) d
+
+abbrev pub settle_pending : MailStore → List (BoxId × ℕ) → List ℕ → Dialog → Pending → Result Item SubmitFault → Took
+settle_pending s stamps tag d pending (Ok item) = done s stamps tag d item pending
+settle_pending s stamps tag d pending (Err fault) = undone tag d pending fault
+
+abbrev pub settle_in : MailStore → List (BoxId × ℕ) → Dialog → Awaits → Result Item SubmitFault → Took
+settle_in s stamps d Nothing outcome = took (Say []) d
+settle_in s stamps d (Texts tag f) outcome = took (Say []) d
+settle_in s stamps d (Outcome tag pending) outcome = settle_pending s stamps tag (at_rest d) pending outcome
+
+-- the outcome of what was asked, with the store and the stamps after it
+abbrev pub settle : MailStore → List (BoxId × ℕ) → Dialog → Result Item SubmitFault → Took
+settle s stamps d outcome = settle_in s stamps d d.awaits outcome
+
+-- ---- what is known of a dialog
+
+abbrev pub is_rest : Awaits → Bool
+is_rest Nothing = true
+is_rest (Texts tag f) = false
+is_rest (Outcome tag pending) = false
+
+abbrev pub is_texts : Awaits → Bool
+is_texts Nothing = false
+is_texts (Texts tag f) = true
+is_texts (Outcome tag pending) = false
+
+abbrev pub is_outcome : Awaits → Bool
+is_outcome Nothing = false
+is_outcome (Texts tag f) = false
+is_outcome (Outcome tag pending) = true
+
+-- nothing is awaited
+abbrev pub is_free : Dialog → Bool
+is_free d = is_rest d.awaits
+
+-- the texts of a FETCH are awaited
+abbrev pub is_reading : Dialog → Bool
+is_reading d = is_texts d.awaits
+
+-- the outcome of what was asked is awaited
+abbrev pub is_due : Dialog → Bool
+is_due d = is_outcome d.awaits
+
+-- the mailbox is selected, by its user
+abbrev pub holds : Dialog → User → List ℕ → Bool
+holds d u name = unwrap_or (option_map (λ own. same_user own u) d.user) false && unwrap_or (option_map (λ (selected : Selected). bytes_eq selected.mailbox name) d.selected) false
+
+-- who is logged in is a user of the house
+abbrev pub is_at_home : House → Dialog → Bool
+is_at_home house d = unwrap_or (option_map (is_known house) d.user) true
+
+-- which call is due after what comes of a command
+abbrev pub IsNext : ImapOut → Dialog → Type 0
+IsNext (Say text) d = is_free d ≡ true
+IsNext (Read bodies) d = is_reading d ≡ true
+IsNext (Submit asked) d = is_due d ≡ true
+IsNext (Bye text) d = is_free d ≡ true
+
+-- what is asked is asked by a user
+abbrev pub AsksAsUser : ImapOut → Dialog → Type 0
+AsksAsUser (Submit asked) d = (is_users asked ≡ true) × (is_some d.user ≡ true)
+AsksAsUser (Say text) d = Unit {0}
+AsksAsUser (Read bodies) d = Unit {0}
+AsksAsUser (Bye text) d = Unit {0}

@@ -1,0 +1,68 @@
+//! The state of a dialog.
+use crate::view::View;
+use crate::words::Word;
+use imap_fetch::{FetchForm, Messages, StoreForm};
+use undo_base::{Keys, Name, Texts, User};
+
+/// The selected mailbox, what is known of it, and whether it can be changed.
+#[derive(Drop)]
+pub struct Selected {
+    pub mailbox: Name,
+    pub view: View,
+    pub writes: bool,
+}
+
+/// A FETCH: its mailbox, the keys of the messages that it names, how many octets of texts it asks for, how it is told,
+/// and those messages that are still there.
+#[derive(Drop)]
+pub struct Fetching {
+    pub mailbox: Name,
+    pub keys: Keys,
+    pub octets: u64,
+    pub form: FetchForm,
+    pub rows: Messages,
+}
+
+/// What is to be said once the store has done what was asked.
+#[derive(Drop)]
+pub enum Pending {
+    /// A mailbox is selected.
+    Select {
+        mailbox: Name,
+        writes: bool,
+    },
+    /// These messages are told of, with their texts.
+    Fetch {
+        form: FetchForm,
+        rows: Messages,
+        texts: Texts,
+    },
+    /// These messages' new flags are told, unless it is silent.
+    Store {
+        form: StoreForm,
+        silent: bool,
+        rows: Messages,
+    },
+    /// The view follows the mailbox.
+    Follow {
+        word: Word,
+    },
+}
+
+/// What is awaited, for the command of a tag.
+#[derive(Drop)]
+pub enum Awaits {
+    Nothing,
+    /// The texts that a FETCH needs.
+    Texts { tag: Name, fetching: Fetching },
+    /// The outcome of what was asked of the store.
+    Outcome { tag: Name, pending: Pending },
+}
+
+/// Who is logged in, the selected mailbox, and what is awaited.
+#[derive(Drop)]
+pub struct Dialog {
+    pub user: Option<User>,
+    pub selected: Option<Selected>,
+    pub awaits: Awaits,
+}

@@ -1,0 +1,240 @@
+//! FETCH: the messages that it names, the texts that it needs, and what it asks of the store.
+ghost use Rattle.std.specs.Prelude.{◌≡◌, map, true, IfOk, OnErr, IfSome, Ok, Err};
+ghost use Rattle.shelf.specs.Notes.{size_of};
+ghost use Rattle.verb_core.specs.Store.{IsValid};
+ghost use Rattle.imap_fetch.specs.Asked.{attributes_of as attributes_in};
+ghost use Rattle.imap_session.specs.Views.{is_in_order};
+ghost use Rattle.imap_session.specs.Fetching as fetching_spec;
+ghost use Rattle.imap_session.specs.Dialog.{took};
+ghost use Rattle.imap_session.specs.Dialog as spec;
+
+use crate::commands::say;
+use crate::dialog::{Awaits, Dialog, Fetching, Pending, Selected};
+use crate::facts::mail_of;
+use crate::named::{keys_at, places_named, rows_at};
+use crate::out::{BodyList, ImapOut};
+use crate::words::Answer;
+use box_store::Store;
+use imap_fetch::{
+    Attributes, FetchForm, Message, attributes_of, body_sections, octets_asked, sets_seen,
+    shows_body,
+};
+use imap_lines::{FetchAsks, SetText};
+use seal_log::ReadFault;
+use shelf::Shelf;
+use std::alloc::{AllocError, Global};
+use std::mem;
+use undo_base::{Copies, MOST_FETCHED, MOST_KEYS, Name, NoMemory, Places, Texts};
+use verb_core::{Ask, Body, Refused};
+
+/// A FETCH of messages at these places of the view.
+fn fetching_of(
+    alloc: Global,
+    store: &Store,
+    sizes: &Shelf,
+    dialog: &Dialog,
+    selected: &Selected,
+    attributes: Attributes,
+    by_uid: bool,
+    places: &Places,
+) -> Result<Fetching, NoMemory>
+    requires { IsValid store.now.store }
+    ensures { IfOk result (λ f. f ≡ spec.fetching store.now.store (size_of sizes.now.notes) dialog.now selected.now attributes by_uid places.now) }
+{
+    let entries = mail_of(store, dialog.user, &selected.mailbox);
+    let rows = rows_at(alloc, sizes, entries, &selected.view, places)?;
+    let keys = keys_at(alloc, &selected.view, places)?;
+    let mailbox = selected.mailbox.copy(alloc)?;
+    let octets = octets_asked(&rows, &attributes);
+    let sets_seen = selected.writes && sets_seen(&attributes);
+    Ok(Fetching {
+        mailbox,
+        keys,
+        octets,
+        form: FetchForm {
+            attributes,
+            by_uid,
+            sets_seen,
+        },
+        rows,
+    })
+}
+
+/// Whether the store is to refuse it.
+fn is_vain(fetching: &Fetching) -> bool
+    ensures { result ≡ fetching_spec.is_vain fetching.now }
+{
+    let keys = fetching.keys.len();
+    (!fetching.form.by_uid && fetching.rows.len() < keys)
+        || MOST_KEYS < keys
+        || MOST_FETCHED < fetching.octets
+}
+
+fn all_bodies(alloc: Global, rows: &[Message]) -> Result<Vec<Body>, AllocError>
+    ensures { IfOk result (λ bodies. bodies.items ≡ map (λ m. m.entry.body) rows.now) }
+{
+    rows.iter().map(|row| row.entry.body).collect(alloc)
+}
+
+/// The bodies whose texts it needs.
+fn bodies_of(alloc: Global, fetching: &Fetching) -> Result<BodyList, NoMemory>
+    ensures { IfOk result (λ bodies. bodies ≡ fetching_spec.bodies_of fetching.now) }
+{
+    if body_sections(&fetching.form.attributes) == 0 || is_vain(fetching) {
+        return Ok(BodyList::new(alloc));
+    }
+    let bodies = all_bodies(alloc, fetching.rows.as_slice())?;
+    Ok(BodyList::from_vec(bodies))
+}
+
+/// Asks the store for a FETCH with the texts that it needs.
+fn submit_fetch(dialog: &mut Dialog, tag: Name, fetching: Fetching, texts: Texts) -> ImapOut
+    ensures { spec.asks (fetching_spec.ask_of fetching) tag (Pending.Fetch fetching.form fetching.rows texts) dialog.old ≡ took result dialog.new }
+{
+    let Fetching {
+        mailbox,
+        keys,
+        octets,
+        form,
+        rows,
+    } = fetching;
+    let sets_seen = form.sets_seen;
+    let shows_body = shows_body(&form.attributes);
+    let strict = !form.by_uid;
+    dialog.awaits = Awaits::Outcome {
+        tag,
+        pending: Pending::Fetch { form, rows, texts },
+    };
+    ImapOut::Submit(Ask::Fetch {
+        mailbox,
+        keys,
+        sets_seen,
+        shows_body,
+        strict,
+        asked: octets,
+    })
+}
+
+/// The texts are read first, where it needs any.
+fn begin_fetch(
+    alloc: Global,
+    dialog: &mut Dialog,
+    tag: Name,
+    fetching: Fetching,
+    bodies: BodyList,
+) -> ImapOut
+    ensures { spec.begin_fetch tag dialog.old fetching bodies ≡ took result dialog.new }
+{
+    if bodies.is_empty() {
+        submit_fetch(dialog, tag, fetching, Texts::new(alloc))
+    } else {
+        dialog.awaits = Awaits::Texts { tag, fetching };
+        ImapOut::Read(bodies)
+    }
+}
+
+fn fetch_in(
+    alloc: Global,
+    store: &Store,
+    sizes: &Shelf,
+    dialog: &mut Dialog,
+    tag: &Name,
+    attributes: Attributes,
+    set: &SetText,
+    by_uid: bool,
+) -> Result<ImapOut, NoMemory>
+    requires valid { IsValid store.now.store }
+    requires order { IfSome dialog.old.selected (λ s. is_in_order s.view ≡ true) }
+    ensures ok { IfOk result (λ out. spec.fetch_in store.now.store (size_of sizes.now.notes) tag.now dialog.old dialog.old.selected attributes set.now by_uid ≡ took out dialog.new) }
+    ensures err { OnErr result (dialog.new ≡ dialog.old) }
+{
+    let Some(selected) = &dialog.selected else {
+        return say(alloc, tag, Answer::WrongState);
+    };
+    let Some(places) = places_named(alloc, &selected.view, set, by_uid)? else {
+        return say(alloc, tag, Answer::BadNumber);
+    };
+    let fetching = fetching_of(
+        alloc, store, sizes, dialog, selected, attributes, by_uid, &places,
+    )?;
+    let bodies = bodies_of(alloc, &fetching)?;
+    let tag = tag.copy(alloc)?;
+    Ok(begin_fetch(alloc, dialog, tag, fetching, bodies))
+}
+
+/// FETCH and UID FETCH.
+pub(crate) fn fetch(
+    alloc: Global,
+    store: &Store,
+    sizes: &Shelf,
+    dialog: &mut Dialog,
+    tag: &Name,
+    asked: &FetchAsks,
+    set: &SetText,
+    by_uid: bool,
+) -> Result<ImapOut, NoMemory>
+    requires valid { IsValid store.now.store }
+    requires order { IfSome dialog.old.selected (λ s. is_in_order s.view ≡ true) }
+    ensures ok { IfOk result (λ out. spec.fetch store.now.store (size_of sizes.now.notes) tag.now dialog.old (attributes_in asked.now) set.now by_uid ≡ took out dialog.new) }
+    ensures err { OnErr result (dialog.new ≡ dialog.old) }
+{
+    match attributes_of(alloc, asked)? {
+        None => say(alloc, tag, Answer::BadArguments),
+        Some(attributes) => fetch_in(alloc, store, sizes, dialog, tag, attributes, set, by_uid),
+    }
+}
+
+/// Goes on with the texts.
+fn read_texts(dialog: &mut Dialog, texts: Texts) -> ImapOut
+    requires { spec.is_texts dialog.old.awaits ≡ true }
+    ensures { spec.heard dialog.old (Ok texts) ≡ took result dialog.new }
+{
+    match mem::replace(&mut dialog.awaits, Awaits::Nothing) {
+        Awaits::Texts { tag, fetching } => submit_fetch(dialog, tag, fetching, texts),
+        Awaits::Nothing => unreachable!(),
+        Awaits::Outcome { tag: _, pending: _ } => unreachable!(),
+    }
+}
+
+fn fault_answer(fault: ReadFault) -> Answer
+    ensures { result ≡ spec.fault_answer fault }
+{
+    match fault {
+        ReadFault::Disk => Answer::DiskFault,
+        ReadFault::NoMemory => Answer::Refused(Refused::NoMemory),
+    }
+}
+
+/// The texts can't be had.
+fn miss_texts(alloc: Global, dialog: &mut Dialog, fault: ReadFault) -> Result<ImapOut, NoMemory>
+    requires { spec.is_texts dialog.old.awaits ≡ true }
+    ensures ok { IfOk result (λ out. spec.heard dialog.old (Err fault) ≡ took out dialog.new) }
+    ensures err { OnErr result (dialog.new ≡ dialog.old) }
+{
+    let out = match &dialog.awaits {
+        Awaits::Texts { tag, fetching: _ } => say(alloc, tag, fault_answer(fault))?,
+        Awaits::Nothing => unreachable!(),
+        Awaits::Outcome { tag: _, pending: _ } => unreachable!(),
+    };
+    dialog.awaits = Awaits::Nothing;
+    Ok(out)
+}
+
+/// The texts that a FETCH needs, or why they can't be had.
+pub(crate) fn hear(
+    alloc: Global,
+    dialog: &mut Dialog,
+    texts: &Result<Texts, ReadFault>,
+) -> Result<ImapOut, NoMemory>
+    requires { spec.is_texts dialog.old.awaits ≡ true }
+    ensures ok { IfOk result (λ out. spec.heard dialog.old texts.now ≡ took out dialog.new) }
+    ensures err { OnErr result (dialog.new ≡ dialog.old) }
+{
+    match texts {
+        Ok(texts) => {
+            let texts = texts.copy(alloc)?;
+            Ok(read_texts(dialog, texts))
+        }
+        Err(fault) => miss_texts(alloc, dialog, *fault),
+    }
+}

@@ -1,0 +1,28 @@
+//! The dialog with an IMAP client: a function of its state, the store and one command.
+//!
+//! `session` is the session with its three calls, `dialog` its state, `view` the messages that it knows; `words` and
+//! `lines` write what it says. What carries the crate: `ImapSession::take`, `read` and `done` are the functions `turn`,
+//! `heard` and `settle` of specs/Dialog.antt.
+#![tactic(auto)]
+
+mod commands;
+mod dialog;
+mod facts;
+mod fetch;
+mod flags;
+mod lines;
+mod named;
+mod names;
+mod obey;
+mod out;
+mod session;
+mod settle;
+mod view;
+mod words;
+
+pub use lines::{bad_line, changed, greeting, no_memory, ready, refused, rewound};
+pub use out::{BodyList, ImapOut};
+pub use session::ImapSession;
+
+#[cfg(test)]
+mod tests;

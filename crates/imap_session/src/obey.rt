@@ -1,0 +1,106 @@
+//! One command.
+ghost use Rattle.std.specs.Prelude.{◌≡◌, true, IsTrue, IfOk, OnErr, IfSome};
+ghost use Rattle.shelf.specs.Notes.{size_of};
+ghost use Rattle.verb_core.specs.Store.{is_house, IsValid};
+ghost use Rattle.imap_session.specs.Views.{is_in_order};
+ghost use Rattle.imap_session.specs.Dialog.{took};
+ghost use Rattle.imap_session.specs.Dialog as spec;
+
+use crate::commands::{expunge, follow, login, logout, say, select};
+use crate::dialog::Dialog;
+use crate::fetch::fetch;
+use crate::flags::store_flags;
+use crate::out::ImapOut;
+use crate::words::{Answer, Word};
+use box_store::Store;
+use imap_fetch::StoreForm;
+use imap_lines::ImapWhat;
+use shelf::Shelf;
+use std::alloc::Global;
+use undo_base::{Name, NoMemory};
+use verb_core::House;
+
+/// One command with its tag.
+pub(crate) fn obey(
+    alloc: Global,
+    house: &House,
+    store: &Store,
+    sizes: &Shelf,
+    dialog: &mut Dialog,
+    tag: &Name,
+    what: &ImapWhat,
+) -> Result<ImapOut, NoMemory>
+    requires house { IsTrue (is_house house.now) }
+    requires valid { IsValid store.now.store }
+    requires order { IfSome dialog.old.selected (λ s. is_in_order s.view ≡ true) }
+    ensures ok { IfOk result (λ out. spec.obey house.now store.now.store (size_of sizes.now.notes) tag.now dialog.old what.now ≡ took out dialog.new) }
+    ensures err { OnErr result (dialog.new ≡ dialog.old) }
+{
+    match what {
+        ImapWhat::Noop => follow(
+            alloc,
+            store,
+            dialog.user,
+            &mut dialog.selected,
+            tag,
+            Word::Noop,
+        ),
+        ImapWhat::Logout => logout(alloc, tag),
+        ImapWhat::Login { user, password } => login(alloc, house, dialog, tag, user, password),
+        ImapWhat::Select { mailbox } => select(alloc, dialog, tag, mailbox, true),
+        ImapWhat::Expunge => expunge(alloc, dialog, tag),
+        ImapWhat::Fetch { set, asked, by_uid } => {
+            fetch(alloc, store, sizes, dialog, tag, asked, set, *by_uid)
+        }
+        ImapWhat::Store {
+            set,
+            how,
+            silent,
+            flags,
+            by_uid,
+        } => {
+            let form = StoreForm {
+                how: *how,
+                flags: *flags,
+                by_uid: *by_uid,
+            };
+            store_flags(alloc, store, sizes, dialog, tag, form, *silent, set)
+        }
+        ImapWhat::Capability => say(alloc, tag, Answer::UnknownCommand),
+        ImapWhat::Examine { mailbox: _ } => say(alloc, tag, Answer::UnknownCommand),
+        ImapWhat::Create { mailbox: _ } => say(alloc, tag, Answer::UnknownCommand),
+        ImapWhat::Delete { mailbox: _ } => say(alloc, tag, Answer::UnknownCommand),
+        ImapWhat::Rename {
+            mailbox: _,
+            target: _,
+        } => say(alloc, tag, Answer::UnknownCommand),
+        ImapWhat::Subscribe { mailbox: _ } => say(alloc, tag, Answer::UnknownCommand),
+        ImapWhat::Unsubscribe { mailbox: _ } => say(alloc, tag, Answer::UnknownCommand),
+        ImapWhat::List {
+            reference: _,
+            pattern: _,
+        } => say(alloc, tag, Answer::UnknownCommand),
+        ImapWhat::Lsub {
+            reference: _,
+            pattern: _,
+        } => say(alloc, tag, Answer::UnknownCommand),
+        ImapWhat::Status {
+            mailbox: _,
+            asked: _,
+        } => say(alloc, tag, Answer::UnknownCommand),
+        ImapWhat::Append {
+            mailbox: _,
+            flags: _,
+            moment: _,
+            text: _,
+        } => say(alloc, tag, Answer::UnknownCommand),
+        ImapWhat::Check => say(alloc, tag, Answer::UnknownCommand),
+        ImapWhat::Close => say(alloc, tag, Answer::UnknownCommand),
+        ImapWhat::Copy {
+            set: _,
+            target: _,
+            by_uid: _,
+        } => say(alloc, tag, Answer::UnknownCommand),
+        ImapWhat::Authenticate => say(alloc, tag, Answer::UnknownCommand),
+    }
+}

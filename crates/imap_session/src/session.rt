@@ -1,0 +1,160 @@
+//! The session of a mail client.
+ghost use Rattle.std.specs.Prelude.{◌≡◌, IsTrue, IfOk, OnOk, OnErr, true};
+ghost use Rattle.shelf.specs.Notes.{size_of};
+ghost use Rattle.verb_core.specs.Store.{is_house, IsValid};
+ghost use Rattle.imap_session.specs.Dialog.{AsksAsUser, IsNext, heard, is_at_home, is_due, is_free, is_reading, opening, settle, took, turn};
+ghost use Rattle.imap_session.specs.Dialog as spec;
+
+use crate::dialog::{Awaits, Dialog};
+use crate::fetch::hear;
+use crate::obey::obey;
+use crate::out::ImapOut;
+use crate::settle::settle as settle_dialog;
+use box_store::Store;
+use imap_lines::ImapCommand;
+use seal_log::ReadFault;
+use shelf::Shelf;
+use std::alloc::Global;
+use std::marker::Model;
+use undo_base::{Name, NoMemory, Texts, User};
+use verb_core::{House, Item, Stamps, SubmitFault};
+
+/// The session of a mail client from its greeting to its last answer.
+#[derive(Drop)]
+pub struct ImapSession {
+    dialog: Dialog,
+}
+
+impl Model for ImapSession {
+    ghost use Rattle.imap_session.specs.declared.dialog.Dialog.{Dialog as TheDialog};
+    ghost use Rattle.imap_session.specs.Sound.{IsSound};
+
+    ghost Value = { TheDialog };
+
+    ghost view = { λ s. s.dialog };
+
+    ghost invariant = { λ s. IsSound s.dialog };
+}
+
+impl ImapSession {
+    /// A session in which nobody is logged in, which takes no memory.
+    pub fn new() -> ImapSession
+        ensures { result ≡ opening }
+    {
+        ImapSession {
+            dialog: Dialog {
+                user: None,
+                selected: None,
+                awaits: Awaits::Nothing,
+            },
+        }
+    }
+
+    /// Takes one command. A call that found no memory has changed nothing.
+    pub fn take(
+        &mut self,
+        alloc: Global,
+        house: &House,
+        store: &Store,
+        stamps: &Stamps,
+        sizes: &Shelf,
+        command: &ImapCommand,
+    ) -> Result<ImapOut, NoMemory>
+        requires house { IsTrue (is_house house.now) }
+        requires valid { IsValid store.now.store }
+        requires home { is_at_home house.now self.old ≡ true }
+        requires free { is_free self.old ≡ true }
+        ensures ok { IfOk result (λ out. turn house.now store.now.store (size_of sizes.now.notes) self.old command.now ≡ took out self.new) }
+        ensures next { IfOk result (λ out. IsNext out self.new) }
+        ensures user { IfOk result (λ out. AsksAsUser out self.new) }
+        ensures stays { is_at_home house.now self.new ≡ true }
+        ensures err { OnErr result (self.new ≡ self.old) }
+    {
+        let _stamps = stamps;
+        obey(
+            alloc,
+            house,
+            store,
+            sizes,
+            &mut self.dialog,
+            &command.tag,
+            &command.what,
+        )
+    }
+
+    /// Takes the texts that the last `take` asked for, in order, or why they can't be had. A call that found no memory has
+    /// changed nothing, and the texts are still due.
+    pub fn read(
+        &mut self,
+        alloc: Global,
+        texts: &Result<Texts, ReadFault>,
+    ) -> Result<ImapOut, NoMemory>
+        requires { is_reading self.old ≡ true }
+        ensures ok { IfOk result (λ out. heard self.old texts.now ≡ took out self.new) }
+        ensures next { IfOk result (λ out. IsNext out self.new) }
+        ensures user { IfOk result (λ out. AsksAsUser out self.new) }
+        ensures stays { self.new.user ≡ self.old.user }
+        ensures err { OnErr result (self.new ≡ self.old) }
+    {
+        hear(alloc, &mut self.dialog, texts)
+    }
+
+    /// Takes the outcome of what the last call asked, with the store and the stamps after it. A call that found no memory
+    /// has changed nothing, and the outcome is still due.
+    pub fn done(
+        &mut self,
+        alloc: Global,
+        store: &Store,
+        stamps: &Stamps,
+        outcome: &Result<Item, SubmitFault>,
+    ) -> Result<ImapOut, NoMemory>
+        requires valid { IsValid store.now.store }
+        requires due { is_due self.old ≡ true }
+        ensures ok { IfOk result (λ out. settle store.now.store stamps.now self.old outcome.now ≡ took out self.new) }
+        ensures free { OnOk result (is_free self.new ≡ true) }
+        ensures stays { self.new.user ≡ self.old.user }
+        ensures err { OnErr result (self.new ≡ self.old) }
+    {
+        settle_dialog(alloc, store, stamps, &mut self.dialog, outcome)
+    }
+
+    /// Who is logged in. Takes no memory.
+    pub fn user(&self) -> Option<User>
+        ensures { result ≡ self.now.user }
+    {
+        self.dialog.user
+    }
+
+    /// Whether that user's mailbox of that name is selected. Takes no memory.
+    pub fn holds(&self, user: User, name: &Name) -> bool
+        ensures { result ≡ spec.holds self.now user name.now }
+    {
+        match (self.dialog.user, &self.dialog.selected) {
+            (Some(own), Some(selected)) => {
+                own == user && selected.mailbox.bytes() == name.bytes()
+            }
+            _ => false,
+        }
+    }
+
+    /// Whether nothing is awaited.
+    pub fn is_free(&self) -> bool
+        ensures { result ≡ is_free self.now }
+    {
+        matches!(&self.dialog.awaits, Awaits::Nothing)
+    }
+
+    /// Whether the texts of a FETCH are awaited.
+    pub fn is_reading(&self) -> bool
+        ensures { result ≡ is_reading self.now }
+    {
+        matches!(&self.dialog.awaits, Awaits::Texts { .. })
+    }
+
+    /// Whether the outcome of what was asked is awaited.
+    pub fn is_due(&self) -> bool
+        ensures { result ≡ is_due self.now }
+    {
+        matches!(&self.dialog.awaits, Awaits::Outcome { .. })
+    }
+}

@@ -1,0 +1,139 @@
+//! What a client is told besides untagged data (RFC 3501, section 7.1).
+ghost use Rattle.std.specs.Prelude.{◌≡◌, ◌++◌, IfOk, OnOk};
+ghost use Rattle.imap_session.specs.Words as spec;
+
+use std::alloc::Global;
+use undo_base::{Name, NoMemory, Text};
+use verb_core::Refused;
+
+/// The words of a command, as they are told.
+#[derive(Clone, Copy, Debug, PartialEq, Eq)]
+pub enum Word {
+    Noop,
+    Logout,
+    Login,
+    Expunge,
+    Fetch,
+    Store,
+    UidFetch,
+    UidStore,
+}
+
+/// What is told of a command behind its tag.
+#[derive(Clone, Copy, Debug, PartialEq, Eq)]
+pub enum Answer {
+    Done(Word),
+    /// A mailbox is selected, for changes or not.
+    Opened { writes: bool },
+    UnknownCommand,
+    BadArguments,
+    WrongState,
+    LoginFailed,
+    ReadOnly,
+    BadNumber,
+    Refused(Refused),
+    DiskFault,
+}
+
+/// The word of a FETCH.
+pub(crate) fn fetch_word(by_uid: bool) -> Word
+    ensures { result ≡ spec.fetch_word by_uid }
+{
+    if by_uid { Word::UidFetch } else { Word::Fetch }
+}
+
+/// The word of a STORE.
+pub(crate) fn store_word(by_uid: bool) -> Word
+    ensures { result ≡ spec.store_word by_uid }
+{
+    if by_uid { Word::UidStore } else { Word::Store }
+}
+
+fn word_text(word: Word) -> &'static [u8]
+    ensures { result.now ≡ spec.word_text word }
+{
+    match word {
+        Word::Noop => b"NOOP",
+        Word::Logout => b"LOGOUT",
+        Word::Login => b"LOGIN",
+        Word::Expunge => b"EXPUNGE",
+        Word::Fetch => b"FETCH",
+        Word::Store => b"STORE",
+        Word::UidFetch => b"UID FETCH",
+        Word::UidStore => b"UID STORE",
+    }
+}
+
+fn refusal_text(refused: Refused) -> &'static [u8]
+    ensures { result.now ≡ spec.refusal_text refused }
+{
+    match refused {
+        Refused::NoBox => b"NO No such mailbox.",
+        Refused::Exists => b"NO Mailbox exists.",
+        Refused::Fixed => b"NO Mailbox is fixed.",
+        Refused::NameShape => b"NO Bad mailbox name.",
+        Refused::TryCreate => b"NO [TRYCREATE] No such mailbox.",
+        Refused::Gone => b"NO Some messages are gone.",
+        Refused::TooMany { asked: _ } => b"NO Too many messages.",
+        Refused::TooLarge { asked: _ } => b"NO Too large.",
+        Refused::BoxesFull => b"NO Too many mailboxes.",
+        Refused::UidWide => b"NO Mailbox numbers used up.",
+        Refused::Numbers { next: _ } => b"NO Numbers used up.",
+        Refused::NoMemory => b"NO No memory.",
+    }
+}
+
+fn opened_text(writes: bool) -> &'static [u8]
+    ensures { result.now ≡ spec.answer_text (Answer.Opened writes) }
+{
+    if writes {
+        b"OK [READ-WRITE] SELECT done."
+    } else {
+        b"OK [READ-ONLY] EXAMINE done."
+    }
+}
+
+fn push_done(out: &mut Text, word: Word) -> Result<(), NoMemory>
+    ensures { OnOk result (out.new ≡ out.old ++ spec.answer_text (Answer.Done word)) }
+{
+    out.extend(b"OK ")?;
+    out.extend(word_text(word))?;
+    out.extend(b" done.")
+}
+
+/// What stands behind the tag.
+fn push_answer(out: &mut Text, answer: Answer) -> Result<(), NoMemory>
+    ensures { OnOk result (out.new ≡ out.old ++ spec.answer_text answer) }
+{
+    match answer {
+        Answer::Done(word) => push_done(out, word),
+        Answer::Opened { writes } => out.extend(opened_text(writes)),
+        Answer::UnknownCommand => out.extend(b"BAD Unknown command."),
+        Answer::BadArguments => out.extend(b"BAD Bad arguments."),
+        Answer::WrongState => out.extend(b"BAD Wrong state."),
+        Answer::LoginFailed => out.extend(b"NO Login failed."),
+        Answer::ReadOnly => out.extend(b"NO Read only."),
+        Answer::BadNumber => out.extend(b"BAD Bad message number."),
+        Answer::Refused(refused) => out.extend(refusal_text(refused)),
+        Answer::DiskFault => out.extend(b"NO Disk fault."),
+    }
+}
+
+/// Adds the answer to the command of a tag.
+pub(crate) fn push_tagged(out: &mut Text, tag: &Name, answer: Answer) -> Result<(), NoMemory>
+    ensures { OnOk result (out.new ≡ out.old ++ spec.tagged tag.now answer) }
+{
+    out.extend(tag.bytes())?;
+    out.extend(b" ")?;
+    push_answer(out, answer)?;
+    out.extend(b"\r\n")
+}
+
+/// The answer to the command of a tag.
+pub(crate) fn tagged(alloc: Global, tag: &Name, answer: Answer) -> Result<Text, NoMemory>
+    ensures { IfOk result (λ text. text ≡ spec.tagged tag.now answer) }
+{
+    let mut out = Text::new(alloc);
+    push_tagged(&mut out, tag, answer)?;
+    Ok(out)
+}
