@@ -2,3 +2,4 @@ pub mod Lists
 pub mod Each
 pub mod Listed
 pub mod Sound
+pub mod Played

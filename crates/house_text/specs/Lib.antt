@@ -1,3 +1,4 @@
 pub mod Documents
 pub mod Words
 pub mod Configuration
+pub mod Playing

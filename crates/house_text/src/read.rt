@@ -71,10 +71,6 @@ fn config_in(alloc: Global, table: &Table) -> Result<Option<(House, Conf)>, NoMe
     Ok(Some((house, conf)))
 }
 
-/// The configuration of the house that `play` has.
-pub const HOUSE: &[u8] =
-    b"host = \"mail.test\"\ndomains = [\"mail.test\"]\npostmaster = \"ann\"\n[[user]]\nname = \"ann\"\npassword = \"a1\"\n[[user]]\nname = \"bob\"\npassword = \"b2\"\n[[user]]\nname = \"carl\"\npassword = \"c3\"\n[aliases]\nteam = [\"ann\", \"bob\"]\n";
-
 /// The house and the opening configuration of a text.
 #[tactic(auto, unfolding(crate::specs::Configuration::configured))]
 pub fn read_config(alloc: Global, bytes: &[u8]) -> Result<(House, Conf), ConfigRefused>

@@ -1,4 +1,4 @@
-use crate::{ConfigRefused, HOUSE, read_config};
+use crate::{ConfigRefused, HOUSE, playing_config, read_config};
 use std::alloc::Global;
 use std::test::Fail;
 use undo_base::{Name, NameRefused, Names, NoMemory, Text, User, Users};
@@ -59,19 +59,58 @@ fn the_text_of_the_house_that_plays(rt: HostRuntime) -> Result<(), Fail> {
 }
 
 #[test]
+fn the_house_that_plays(rt: HostRuntime) -> Result<(), Fail> {
+    let (house_known, conf_known) = playing_config(rt.alloc())?;
+    assert!(rt; house_known == house(rt.alloc())?);
+    assert!(rt; conf_known == conf(rt.alloc())?);
+    Ok(())
+}
+
+fn far_domains(alloc: Global) -> Result<Names, NameRefused> {
+    let mut domains = Names::new(alloc);
+    domains.push(Name::read(alloc, b"far.test")?)?;
+    domains.push(Name::read(alloc, b"mail.test")?)?;
+    Ok(domains)
+}
+
+fn far_accounts(alloc: Global) -> Result<Accounts, NameRefused> {
+    let mut accounts = Accounts::new(alloc);
+    accounts.push(account(alloc, b"a", b"A b")?)?;
+    accounts.push(account(alloc, b"b", b"~")?)?;
+    Ok(accounts)
+}
+
+fn far_house(alloc: Global) -> Result<House, NameRefused> {
+    let host = Name::read(alloc, b"Mail")?;
+    let domains = far_domains(alloc)?;
+    let accounts = far_accounts(alloc)?;
+    Ok(House {
+        host,
+        domains,
+        accounts,
+        postmaster: User(1),
+        first: 16,
+    })
+}
+
+fn far_conf(alloc: Global) -> Result<Conf, NameRefused> {
+    let mut aliases = Aliases::new(alloc);
+    aliases.push(alias(alloc, b"desk", &[0, 1])?)?;
+    aliases.push(alias(alloc, b"zed", &[1])?)?;
+    Ok(Conf {
+        aliases,
+        filters: Filters::new(alloc),
+    })
+}
+
+#[test]
 fn domains_are_lowered_and_aliases_are_sets(rt: HostRuntime) -> Result<(), Fail> {
-    let alloc = rt.alloc();
     let (house, conf) = read_config(
-        alloc,
+        rt.alloc(),
         b"aliases = {zed = [\"b\"], desk = [\"b\", \"a\", \"b\"]}\nfirst = 0x10\nuser = [{name = \"a\", password = \"A b\"}, {password = \"~\", name = \"b\"}]\npostmaster = \"b\"\ndomains = [\"Far.TEST\", \"mail.test\"]\nhost = 'Mail'",
     )?;
-    let desk = alias(alloc, b"desk", &[0, 1])?;
-    assert_eq!(rt; house.first, 16);
-    assert!(rt; house.postmaster == User(1));
-    assert!(rt; house.domains.get(0) == Some(&Name::read(alloc, b"far.test")?));
-    assert!(rt; house.host == Name::read(alloc, b"Mail")?);
-    assert!(rt; conf.aliases.get(0) == Some(&desk));
-    assert_eq!(rt; conf.aliases.len(), 2);
+    assert!(rt; house == far_house(rt.alloc())?);
+    assert!(rt; conf == far_conf(rt.alloc())?);
     Ok(())
 }
 
