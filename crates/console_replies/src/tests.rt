@@ -1,4 +1,7 @@
 //! Answers byte for byte.
+ghost use Rattle.std.specs.Prelude.{IsTrue};
+ghost use Rattle.console_replies.specs.Reply.{is_status};
+
 use crate::{
     Counts, ErrorWord, body_json, box_json, conf_json, error_json, number_json, numbers_json,
     point_json, render, status_json, stopped_json, timeline_json,
@@ -80,25 +83,30 @@ fn flags_in_their_order(rt: HostRuntime) -> Result<(), Fail> {
     Ok(())
 }
 
+/// An answer without a body.
+fn bare(alloc: Global, status: u16) -> Result<Text, NoMemory>
+    requires { IsTrue (is_status status) }
+{
+    render(alloc, status, b"text/plain", b"")
+}
+
 #[test]
 fn reasons(rt: HostRuntime) -> Result<(), Fail> {
-    let rows: [(u16, &[u8]); 7] = [
-        (400, b"HTTP/1.1 400 Bad Request\r\n"),
-        (404, b"HTTP/1.1 404 Not Found\r\n"),
-        (413, b"HTTP/1.1 413 Content Too Large\r\n"),
-        (422, b"HTTP/1.1 422 Unprocessable Content\r\n"),
-        (500, b"HTTP/1.1 500 Internal Server Error\r\n"),
-        (503, b"HTTP/1.1 503 Service Unavailable\r\n"),
-        (507, b"HTTP/1.1 507 Insufficient Storage\r\n"),
+    let alloc = rt.alloc();
+    let rows: [(Text, &[u8]); 7] = [
+        (bare(alloc, 400)?, b"HTTP/1.1 400 Bad Request\r\n"),
+        (bare(alloc, 404)?, b"HTTP/1.1 404 Not Found\r\n"),
+        (bare(alloc, 413)?, b"HTTP/1.1 413 Content Too Large\r\n"),
+        (bare(alloc, 422)?, b"HTTP/1.1 422 Unprocessable Content\r\n"),
+        (bare(alloc, 500)?, b"HTTP/1.1 500 Internal Server Error\r\n"),
+        (bare(alloc, 503)?, b"HTTP/1.1 503 Service Unavailable\r\n"),
+        (bare(alloc, 507)?, b"HTTP/1.1 507 Insufficient Storage\r\n"),
     ];
-    for (status, line) in rows {
-        let whole = render(rt.alloc(), status, b"text/plain", b"")?;
+    let end =
+        b"\r\nContent-Type: text/plain\r\nContent-Length: 0\r\nConnection: close\r\n\r\n".as_slice();
+    for (whole, line) in &rows {
         assert!(rt; whole.bytes().starts_with(line));
-        assert!(rt;
-            whole.bytes().ends_with(
-                b"\r\nContent-Type: text/plain\r\nContent-Length: 0\r\nConnection: close\r\n\r\n"
-            )
-        );
+        assert!(rt; whole.bytes().ends_with(end));
     }
     Ok(())
 }
