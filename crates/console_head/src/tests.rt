@@ -1,5 +1,8 @@
 //! Requests of bytes, each refusal in its order, and heads that come byte by byte.
-use crate::{Coming, HeadRefused, MOST_HEAD};
+ghost use Rattle.std.specs.Prelude.{List, ℕ, ◌++◌, OnOk};
+ghost use Rattle.console_head.specs.Coming.{IsKnown};
+
+use crate::{Coming, HeadRefused};
 use std::alloc::{AllocError, Global};
 use std::test::Fail;
 
@@ -87,38 +90,83 @@ fn many_header_lines_are_too_large_before_a_bad_head(rt: HostRuntime) -> Result<
     Ok(())
 }
 
-#[test]
-fn a_head_ends_within_16384_octets(rt: HostRuntime) -> Result<(), Fail> {
-    let mut head = Vec::from_slice(rt.alloc(), b"GET /")?;
-    for _ in head.len()..MOST_HEAD {
+/// `GET /`, so many bytes, and an end.
+fn long_head(alloc: Global, fill: usize, end: &[u8]) -> Result<Vec<u8>, AllocError> {
+    let mut head = Vec::from_slice(alloc, b"GET /")?;
+    for _ in 0..fill {
         head.push(b'a')?;
     }
-    assert_eq!(rt; told(&head[..MOST_HEAD - 1]), "not yet");
-    assert_eq!(rt; told(head.as_slice()), "size");
+    head.extend_from_slice(end)?;
+    Ok(head)
+}
+
+#[test]
+fn a_head_ends_within_16384_octets(rt: HostRuntime) -> Result<(), Fail> {
     let end = b" HTTP/1.0\n\n".as_slice();
-    for (place, byte) in end.iter().enumerate() {
-        head[MOST_HEAD - end.len() + place] = *byte;
+    assert_eq!(rt;
+        told(long_head(rt.alloc(), 16_378, b"")?.as_slice()),
+        "not yet"
+    );
+    assert_eq!(rt;
+        told(long_head(rt.alloc(), 16_379, b"")?.as_slice()),
+        "size"
+    );
+    assert_eq!(rt;
+        told(long_head(rt.alloc(), 16_368, end)?.as_slice()),
+        "request"
+    );
+    assert_eq!(rt;
+        told(long_head(rt.alloc(), 16_369, end)?.as_slice()),
+        "size"
+    );
+    Ok(())
+}
+
+/// What bytes are, of which some were read before.
+fn told_more(
+    coming: &mut Coming,
+    bytes: &mut Vec<u8>,
+    more: &[u8],
+) -> Result<&'static str, AllocError>
+    requires { (rest : List ℕ) → IsKnown coming.old (bytes.old.items ++ rest) }
+    ensures { OnOk result ((rest : List ℕ) → IsKnown coming.new (bytes.new.items ++ rest)) }
+{
+    bytes.extend_from_slice(more)?;
+    match coming.read(bytes.as_slice()) {
+        Ok(None) => Ok("not yet"),
+        Ok(Some(_)) => Ok("request"),
+        Err(_) => Ok("refused"),
     }
-    assert_eq!(rt; told(head.as_slice()), "request");
-    assert_eq!(rt; told(&head[..MOST_HEAD - 1]), "not yet");
-    head[MOST_HEAD - 1] = b' ';
-    head.extend_from_slice(b"\n\n")?;
-    assert_eq!(rt; told(head.as_slice()), "size");
+}
+
+#[test]
+fn bytes_that_come_in_pieces(rt: HostRuntime) -> Result<(), Fail> {
+    let mut coming = Coming::new();
+    let mut bytes = Vec::new(rt.alloc());
+    assert_eq!(rt;
+        told_more(&mut coming, &mut bytes, b"\nPOST /act HT")?,
+        "not yet"
+    );
+    assert_eq!(rt;
+        told_more(&mut coming, &mut bytes, b"TP/1.1\r\nContent-Length: 2\r")?,
+        "not yet"
+    );
+    assert_eq!(rt; told_more(&mut coming, &mut bytes, b"\n\r")?, "not yet");
+    assert_eq!(rt; told_more(&mut coming, &mut bytes, b"\n")?, "not yet");
+    assert_eq!(rt; told_more(&mut coming, &mut bytes, b"{")?, "not yet");
+    assert_eq!(rt; told_more(&mut coming, &mut bytes, b"}more")?, "request");
     Ok(())
 }
 
 #[test]
-fn bytes_that_come_one_by_one(rt: HostRuntime) {
-    let bytes = b"\nPOST /act HTTP/1.1\r\nContent-Length: 2\r\n\r\n{}more";
-    let mut coming = Coming::new();
-    for end in 0..bytes.len() - 4 {
-        assert!(rt; matches!(coming.read(&bytes[..end]), Ok(None)));
+fn the_parts_of_a_request(rt: HostRuntime) {
+    let bytes = b"\nPOST /act HTTP/1.1\r\nContent-Length: 2\r\n\r\n{}more".as_slice();
+    match Coming::new().read(bytes) {
+        Ok(Some(request)) => {
+            assert_eq!(rt; request.method, b"POST".as_slice());
+            assert_eq!(rt; request.target, b"/act".as_slice());
+            assert_eq!(rt; request.body, b"{}".as_slice());
+        }
+        _ => assert!(rt; false),
     }
-    let Ok(Some(request)) = coming.read(bytes.as_slice()) else {
-        assert!(rt; false);
-        return;
-    };
-    assert_eq!(rt; request.method, b"POST".as_slice());
-    assert_eq!(rt; request.target, b"/act".as_slice());
-    assert_eq!(rt; request.body, b"{}".as_slice());
 }

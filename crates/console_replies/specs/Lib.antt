@@ -1,0 +1,5 @@
+pub mod Reply
+pub mod Bodies
+pub mod Timeline
+pub mod Mailboxes
+pub mod Confs

@@ -1,0 +1,108 @@
+//! Configurations.
+ghost use Rattle.std.specs.Prelude.{◌≡◌, IfOk, OnOk, map, string_bytes};
+ghost use Rattle.serde_json.specs.View.{view, items_view, items_of, members_view};
+ghost use Rattle.serde_json.specs.Written.{compact_text};
+ghost use Rattle.console_replies.specs.Confs.{user_data, users_data, put_alias as with_alias, aliases_members, file_data, filter_data, conf_data};
+
+use crate::text::{name_text, text_of};
+use crate::timeline::user_name;
+use serde_json::{Map, Value, json};
+use std::alloc::{AllocError, Global};
+use undo_base::{Name, NoMemory, Text, User};
+use verb_core::{Alias, Conf, Filter, House};
+
+fn user_value(alloc: Global, house: &House, user: User) -> Result<Value, AllocError>
+    ensures { IfOk result (λ v. view v ≡ user_data house.now user) }
+{
+    let name = user_name(alloc, house, user)?;
+    Ok(Value::String(name))
+}
+
+fn user_values(alloc: Global, house: &House, users: &[User]) -> Result<Vec<Value>, AllocError>
+    ensures { IfOk result (λ v. items_view v.items ≡ items_of (map (user_data house.now) users.now)) }
+{
+    let mut values = Vec::new(alloc);
+    for user in users {
+        values.push(user_value(alloc, house, *user)?)?;
+    }
+    Ok(values)
+}
+
+fn users_value(alloc: Global, house: &House, users: &[User]) -> Result<Value, AllocError>
+    ensures { IfOk result (λ v. view v ≡ users_data house.now users.now) }
+{
+    Ok(Value::Array(user_values(alloc, house, users)?))
+}
+
+fn put_alias(
+    alloc: Global,
+    house: &House,
+    members: &mut Map<String, Value>,
+    alias: &Alias,
+) -> Result<(), AllocError>
+    ensures { OnOk result (members_view members.new.entries ≡ with_alias house.now (members_view members.old.entries) alias.now) }
+{
+    let users = users_value(alloc, house, alias.users.as_slice())?;
+    let local = name_text(alloc, &alias.local)?;
+    members.insert(local, users)?;
+    Ok(())
+}
+
+#[tactic(auto, using(crate::proofs::Members::aliases_more))]
+fn alias_values(
+    alloc: Global,
+    house: &House,
+    aliases: &[Alias],
+) -> Result<Map<String, Value>, AllocError>
+    ensures { IfOk result (λ m. members_view m.entries ≡ aliases_members house.now aliases.now) }
+{
+    let mut members = Map::new(alloc);
+    for alias in aliases {
+        put_alias(alloc, house, &mut members, alias)?;
+    }
+    Ok(members)
+}
+
+fn file_value(alloc: Global, file: &Option<Name>) -> Result<Value, AllocError>
+    ensures { IfOk result (λ v. view v ≡ file_data file.now) }
+{
+    match file {
+        None => Ok(Value::Null),
+        Some(name) => Ok(Value::String(name_text(alloc, name)?)),
+    }
+}
+
+fn filter_value(alloc: Global, filter: &Filter) -> Result<Value, AllocError>
+    ensures { IfOk result (λ v. view v ≡ filter_data filter.now) }
+{
+    let file = file_value(alloc, &filter.file)?;
+    let name = name_text(alloc, &filter.id)?;
+    let needle = name_text(alloc, &filter.needle)?;
+    json!(in alloc; {"file": file, "name": name, "needle": needle})
+}
+
+fn filter_values(alloc: Global, filters: &[Filter]) -> Result<Vec<Value>, AllocError>
+    ensures { IfOk result (λ v. items_view v.items ≡ items_of (map filter_data filters.now)) }
+{
+    let mut values = Vec::new(alloc);
+    for filter in filters {
+        values.push(filter_value(alloc, filter)?)?;
+    }
+    Ok(values)
+}
+
+fn conf_value(alloc: Global, house: &House, conf: &Conf) -> Result<Value, AllocError>
+    ensures { IfOk result (λ v. view v ≡ conf_data house.now conf.now) }
+{
+    let aliases = alias_values(alloc, house, conf.aliases.as_slice())?;
+    let filters = filter_values(alloc, conf.filters.as_slice())?;
+    json!(in alloc; {"aliases": aliases, "filters": filters})
+}
+
+/// The answer to GET /conf.
+#[tactic(auto, using(crate::proofs::Floats::conf_has_none))]
+pub fn conf_json(alloc: Global, house: &House, conf: &Conf) -> Result<Text, NoMemory>
+    ensures { IfOk result (λ text. text ≡ compact_text (conf_data house.now conf.now)) }
+{
+    text_of(alloc, conf_value(alloc, house, conf)?)
+}
