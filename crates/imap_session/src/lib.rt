@@ -5,12 +5,15 @@
 //! `heard` and `settle` of specs/Dialog.antt.
 #![tactic(auto)]
 
+mod append;
+mod boxes;
 mod commands;
 mod dialog;
 mod facts;
 mod fetch;
 mod flags;
 mod lines;
+mod lists;
 mod named;
 mod names;
 mod obey;
