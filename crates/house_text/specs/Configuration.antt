@@ -1,7 +1,7 @@
 -- The house and the opening configuration of a TOML document.
-use Rattle.std.specs.Prelude.{◌≡◌, ℕ, ◌+◌, Bool, ◌==◌, ◌&&◌, not, false, ℤ, pos, negsuc, List, [], ◌∷◌, length, map, filter, position, nat_le, nat_lt, bytes_eq, codes, Option, None, Some, option_map, option_and_then, if◌then◌else◌, Result, Ok, Err, IsUtf8}
+use Rattle.std.specs.Prelude.{◌≡◌, ℕ, ◌+◌, Bool, ◌==◌, ◌&&◌, not, false, ℤ, pos, negsuc, List, [], length, map, filter, position, nat_le, nat_lt, bytes_eq, codes, Option, None, Some, option_map, if◌then◌else◌, Result, Ok, Err, IsUtf8}
 use Rattle.std.specs.List.{list_all, list_any, enumerate_from}
-use Rattle.std.specs.Option.{option_map_or, is_some}
+use Rattle.std.specs.Option.{option_map_or}
 use Rattle.std.specs.Str.{str_to_ascii_lowercase}
 use Rattle.toml.specs.Data.{Data, Members, get_member, as_str, as_integer, as_array, as_table}
 use Rattle.toml.specs.Parse.{parse_document}
@@ -13,7 +13,7 @@ use Rattle.verb_core.specs.declared.conf.House.{House}
 use Rattle.house_text.specs.declared.read.ConfigRefused.{ConfigRefused}
 use Rattle.house_text.specs.declared.read.ConfigRefused.TheVariants.{Text, NoMemory}
 use Rattle.house_text.specs.Documents.{◌>>=◌, items_list, entries_list, each_of}
-use Rattle.house_text.specs.Words.{is_host, is_password, is_local, is_postmaster, is_user_name, are_distinct}
+use Rattle.house_text.specs.Words.{is_host, is_password, is_user_name, are_distinct}
 
 -- the value that a test passes
 abbrev pub if_passes : {A : Type 0} → (A → Bool) → A → Option A

@@ -1,5 +1,5 @@
 -- Lines that are all the same.
-use Rattle.std.proofs.Common.{◌≡◌, ℕ, zero, suc, ◌+◌, ◌-◌, List, [], ◌∷◌, ◌++◌, replicate, refl, sym, ap, ◌∙◌, add-one}
+use Rattle.std.proofs.Common.{◌≡◌, ℕ, zero, suc, ◌+◌, ◌-◌, List, ◌++◌, replicate, sym, ap, ◌∙◌, add-one}
 use Rattle.std.specs.List.{flat_map}
 use Rattle.script_link.specs.Line.{said, filling}
 use Rattle.std.proofs.lemmas.List.{append_assoc, append-nil}

@@ -1,11 +1,11 @@
 -- What is written of bytes is read as these bytes.
-use Rattle.std.proofs.Common.{◌≡◌, ℕ, ◌+◌, ◌*◌, ◌/◌, ◌%◌, ◌<◌, true, false, ◌==◌, List, [], ◌∷◌, ◌++◌, refl, ap, ◌∙◌, Option, Some, None, option_map, arith, inl, inr}
-use Rattle.std.proofs.Math.Nat.{div-add-mod, mod-lt, div-lt_iff_lt-mul}
+use Rattle.std.proofs.Common.{◌≡◌, ℕ, ◌+◌, ◌*◌, ◌/◌, ◌%◌, ◌<◌, true, ◌==◌, List, [], ◌∷◌, ◌++◌, refl, ap, ◌∙◌, Some, option_map, arith, inl, inr}
+use Rattle.std.proofs.Math.Nat.{div-add-mod}
 use Rattle.std.specs.List.{All, flat_map}
 use Rattle.std.proofs.lemmas.List.Elements.{All-head, All-tail}
 use Rattle.std.proofs.lemmas.Bool.{cases_Bool}
 use Rattle.std.proofs.lemmas.Bool.Decides.{nat_tests}
-use Rattle.script_link.specs.Texts.{is_plain, is_hex, hex_value, hex_digit, numbered, spelled, unspelled}
+use Rattle.script_link.specs.Texts.{is_plain, is_hex, hex_value, hex_digit, spelled, unspelled}
 use Rattle.script_link.proofs.Spelling.{plain_some, named_by}
 
 hex_digit-is_hex : (n : ℕ) → n < 16 → is_hex (hex_digit n) ≡ true
