@@ -1,5 +1,5 @@
 //! APPEND, CHECK, CLOSE and COPY (RFC 3501, sections 6.3.11, 6.4.1, 6.4.2 and 6.4.7).
-ghost use Rattle.std.specs.Prelude.{◌≡◌, ◌++◌, true, not, Some, IfOk, OnErr, IfSome};
+ghost use Rattle.std.specs.Prelude.{◌≡◌, true, not, IfOk, OnErr, IfSome};
 ghost use Rattle.verb_core.specs.Store.{IsValid};
 ghost use Rattle.imap_session.specs.declared.dialog.Awaits.{Awaits as TheAwaits};
 ghost use Rattle.imap_session.specs.Names.{mailbox_of as mailbox_named};
