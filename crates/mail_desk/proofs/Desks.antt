@@ -1,8 +1,8 @@
 -- The desk at first, and what every desk has.
-use Rattle.std.proofs.Common.{◌≡◌, ℕ, ◌+◌, ◌-◌, ◌<◌, ◌≤◌, Bool, true, false, ◌&&◌, List, [], ◌∷◌, ◌++◌, map, flat_map, refl, ap, sym, subst, ◌∙◌, arith, length, nat_le, nat_lt}
+use Rattle.std.proofs.Common.{◌≡◌, ℕ, ◌+◌, ◌-◌, ◌<◌, ◌≤◌, Bool, true, false, ◌&&◌, List, [], ◌∷◌, ◌++◌, map, flat_map, option_map, refl, ap, sym, subst, ◌∙◌, arith, length, nat_le, nat_lt}
 use Rattle.std.specs.List.{list_all}
 use Rattle.std.specs.Cmp.{first_so, second_so}
-use Rattle.std.proofs.lemmas.Bool.{leb-true, ltb-so}
+use Rattle.std.proofs.lemmas.Bool.{leb-true, lt-ltb}
 use Rattle.undo_base.specs.declared.keys.User.{User}
 use Rattle.verb_core.specs.declared.conf.House.{House}
 use Rattle.verb_core.specs.declared.conf.Conf.{Conf}
@@ -16,6 +16,9 @@ use Rattle.verb_core.specs.Boxes.{box_of}
 use Rattle.verb_core.specs.Store.{MailStore, IsValid, is_house, is_known, opening, users_of}
 use Rattle.verb_core.specs.Step.{Boxes, step, run}
 use Rattle.verb_core.specs.Stamps.{opening_stamps}
+use Rattle.verb_core.specs.Items.{text_of}
+use Rattle.shelf.specs.declared.note.Note.{Note}
+use Rattle.shelf.specs.Notes.{size_of}
 use Rattle.mail_desk.specs.Kept.{Kept}
 use Rattle.mail_desk.specs.Desk.{IsDesk, new_desk, store_of}
 use Rattle.mail_desk.specs.Timeline.{numbers_rise, has_text, all_bodies}
@@ -65,6 +68,10 @@ new_desk_holds house conf store kept sound valid made is named =
       next = omega arith;
       stamps = named;
       formed = tt;
-      rising = ltb-so (house.first - 1) house.first below;
+      rising = lt-ltb (house.first - 1) house.first below;
       texts = empty_boxes (has_text []) (users_of house);
     }))
+
+-- nothing is noted, and no item brought a text
+pub nothing_known : (notes : List (Body × Note)) (t : List Item) → notes ≡ [] → t ≡ [] → (body : Body) → size_of notes body ≡ option_map length (text_of t body)
+nothing_known notes t none empty body = ap (λ (n : List (Body × Note)). size_of n body) none ∙ sym (ap (λ (s : List Item). option_map length (text_of s body)) empty)

@@ -12,6 +12,7 @@ ghost use Rattle.shelf.specs.Notes.{size_of};
 ghost use Rattle.mail_desk.specs.Desk.{new_desk, store_of};
 ghost use Rattle.mail_desk.specs.Timeline.{all_bodies, has_sizes, has_text, numbers_rise};
 
+use crate::stamps::is_row;
 use box_store::Store;
 use shelf::Shelf;
 use std::alloc::Global;
@@ -64,12 +65,6 @@ fn first_stamps(alloc: Global, rows: &[(BoxId, Mailbox)], first: u32) -> Result<
         stamps.push((row.0.copy(alloc)?, first - 1))?;
     }
     Ok(stamps)
-}
-
-fn is_row(row: &(BoxId, u32), user: User, name: &Name) -> bool
-    ensures { result ≡ eq_by_cmp box_cmp (box_of user name.now) row.now.0 }
-{
-    user == row.0.user && name.bytes() == row.0.name.bytes()
 }
 
 fn find_stamp<'a>(stamps: &'a [(BoxId, u32)], user: User, name: &Name) -> Option<&'a (BoxId, u32)>

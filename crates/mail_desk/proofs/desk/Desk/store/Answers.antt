@@ -6,4 +6,7 @@ use Rattle.mail_desk.proofs.desk.Desk.store.Goals as goal
 
 pub returns-clause-house : goal.returns-clause-house
 returns-clause-house c =
-    ap (λ (s : MailStore). s.house) c.self.invariant.desk.store_is ∙ house_stays _ ∙ ap (λ (h : Held). h.kept.house) c.self.view_is
+    let d = c.self.inside in
+    ap (λ (s : MailStore). s.house) c.self.invariant.desk.store_is
+    ∙ house_stays (record { house = d.house; opening = d.opening; timeline = d.timeline.items; stamps = d.stamps; next = d.next })
+    ∙ ap (λ (h : Held). h.kept.house) c.self.view_is

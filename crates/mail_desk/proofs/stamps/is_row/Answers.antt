@@ -1,7 +1,7 @@
 use Rattle.std.proofs.Common.{◌∙◌, ap, ap₂, bytes_eq, ◌&&◌}
 use Rattle.verb_core.specs.Boxes.{box_of}
 use Rattle.verb_core.proofs.BoxLaws.{same_box}
-use Rattle.mail_desk.proofs.desk.is_row.Goals as goal
+use Rattle.mail_desk.proofs.stamps.is_row.Goals as goal
 
 pub returns-then-eq : goal.returns-then-eq
 returns-then-eq c =
