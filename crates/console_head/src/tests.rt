@@ -2,13 +2,13 @@
 ghost use Rattle.std.specs.Prelude.{List, ℕ, ◌++◌, OnOk};
 ghost use Rattle.console_head.specs.Coming.{IsKnown};
 
-use crate::{Coming, HeadRefused};
+use crate::{Coming, HeadRefused, read_once};
 use std::alloc::{AllocError, Global};
 use std::test::Fail;
 
 /// What bytes are, in words.
 fn told(bytes: &[u8]) -> &'static str {
-    match Coming::new().read(bytes) {
+    match read_once(bytes) {
         Ok(None) => "not yet",
         Ok(Some(_)) => "request",
         Err(HeadRefused::Head) => "head",
@@ -140,6 +140,7 @@ fn told_more(
 }
 
 #[test]
+#[tactic(auto, using(crate::proofs::Reading::fresh_known))]
 fn bytes_that_come_in_pieces(rt: HostRuntime) -> Result<(), Fail> {
     let mut coming = Coming::new();
     let mut bytes = Vec::new(rt.alloc());
@@ -161,7 +162,7 @@ fn bytes_that_come_in_pieces(rt: HostRuntime) -> Result<(), Fail> {
 #[test]
 fn the_parts_of_a_request(rt: HostRuntime) {
     let bytes = b"\nPOST /act HTTP/1.1\r\nContent-Length: 2\r\n\r\n{}more".as_slice();
-    match Coming::new().read(bytes) {
+    match read_once(bytes) {
         Ok(Some(request)) => {
             assert_eq!(rt; request.method, b"POST".as_slice());
             assert_eq!(rt; request.target, b"/act".as_slice());

@@ -87,6 +87,20 @@ fn asked(alloc: Global, house: &House, bytes: &[u8]) -> (&'static str, u32) {
     told(&read_request(alloc, house, bytes))
 }
 
+/// What is told of a request with a whole body.
+fn sent(
+    alloc: Global,
+    house: &House,
+    method: &str,
+    target: &str,
+    body: &[u8],
+) -> (&'static str, u32) {
+    match request(alloc, method, target, body) {
+        Ok(bytes) => asked(alloc, house, bytes.as_slice()),
+        Err(_) => ("no memory", 0),
+    }
+}
+
 fn without_last(bytes: &[u8]) -> &[u8] {
     match bytes {
         [front @ .., _] => front,
@@ -135,8 +149,10 @@ fn paths(rt: HostRuntime) -> Result<(), Fail> {
         ("GET", "/plan/2", ("route", 0)),
     ];
     for (method, target, answer) in rows {
-        let bytes = request(rt.alloc(), method, target, b"not looked at")?;
-        assert_eq!(rt; asked(rt.alloc(), &house, bytes.as_slice()), answer);
+        assert_eq!(rt;
+            sent(rt.alloc(), &house, method, target, b"not looked at"),
+            answer
+        );
     }
     Ok(())
 }
@@ -234,25 +250,35 @@ fn acts(rt: HostRuntime) -> Result<(), Fail> {
         ("{\"act\":\"unfilter\",\"name\":\"\\u00e9\"}", ("json", 0)),
     ];
     for (body, answer) in rows {
-        let bytes = request(rt.alloc(), "POST", "/act", body.as_bytes())?;
-        assert_eq!(rt; asked(rt.alloc(), &house, bytes.as_slice()), answer);
+        assert_eq!(rt;
+            sent(rt.alloc(), &house, "POST", "/act", body.as_bytes()),
+            answer
+        );
     }
     Ok(())
+}
+
+/// A request whose JSON is nested too deep.
+fn deep_request(alloc: Global) -> Result<Vec<u8>, AllocError> {
+    let mut deep = Vec::new(alloc);
+    for _ in 0..100_000 {
+        deep.push(b'[')?;
+    }
+    request(alloc, "POST", "/act", deep.as_slice())
 }
 
 #[test]
 fn deep_json_and_a_body_that_is_short(rt: HostRuntime) -> Result<(), Fail> {
     let house = house(rt.alloc())?;
-    let mut deep = Vec::new(rt.alloc());
-    for _ in 0..100_000 {
-        deep.push(b'[')?;
-    }
-    let bytes = request(rt.alloc(), "POST", "/act", deep.as_slice())?;
+    let bytes = deep_request(rt.alloc())?;
     assert_eq!(rt; asked(rt.alloc(), &house, bytes.as_slice()), ("json", 0));
     let short = without_last(bytes.as_slice());
     assert_eq!(rt; asked(rt.alloc(), &house, short), ("not yet", 0));
-    let not_utf8 = request(rt.alloc(), "POST", "/act", b"{\"act\":\"\xff\"}")?;
-    assert_eq!(rt; asked(rt.alloc(), &house, not_utf8.as_slice()), ("json", 0));
+    let not_utf8 = b"{\"act\":\"\xff\"}";
+    assert_eq!(rt;
+        sent(rt.alloc(), &house, "POST", "/act", not_utf8),
+        ("json", 0)
+    );
     assert_eq!(rt; asked(rt.alloc(), &house, b"G\x01T\n\n"), ("head", 0));
     Ok(())
 }
