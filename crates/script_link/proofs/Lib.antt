@@ -1,3 +1,6 @@
 pub mod Cuts
 pub mod Digits
 pub mod Runs
+mod Spelling
+mod Written
+mod Fillings

@@ -11,7 +11,15 @@ is_decimal text = nat_le 1 (length text) && ((length text == 1) || not (slice_in
 abbrev pub number_of : List ℕ → ℕ
 number_of text = fold (λ n d. 10 * n + (d - 48)) 0 text
 
+-- a number of at most twelve digits, from low to high
+abbrev pub number_between : ℕ → ℕ → List ℕ → Option ℕ
+number_between low high text =
+    if is_decimal text && nat_le (length text) 12 && nat_le low (number_of text) && nat_le (number_of text) high then Some (number_of text) else None
+
 -- a moment up to the end of the year 9999
 abbrev pub moment_of : List ℕ → Option ℕ
-moment_of text =
-    if is_decimal text && nat_le (length text) 12 && nat_le (number_of text) 253402300799 then Some (number_of text) else None
+moment_of text = number_between 0 253402300799 text
+
+-- the number of a connection
+abbrev pub conn_of : List ℕ → Option ℕ
+conn_of text = number_between 1 1000 text

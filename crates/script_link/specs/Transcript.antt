@@ -4,6 +4,7 @@ use Rattle.std.specs.List.{flat_map, ends_with}
 use Rattle.undo_outside.specs.declared.event.LinkNote.{LinkNote}
 use Rattle.undo_outside.specs.declared.event.LinkNote.TheVariants.{Came, Sent, Missed, Closed}
 use Rattle.script_link.specs.Pieces.{pieces_of}
+use Rattle.script_link.specs.Texts.{spelled}
 
 abbrev pub lf : List ℕ
 lf = 10 ∷ []
@@ -11,11 +12,11 @@ lf = 10 ∷ []
 abbrev pub crlf : List ℕ
 crlf = 13 ∷ 10 ∷ []
 
--- a piece that ends in CRLF, without it, or any other piece
+-- a piece that ends in CRLF, without it, or any other piece, as bytes are written
 abbrev pub piece_text : ℕ → List ℕ → List ℕ
 piece_text conn piece =
-    if ends_with nat_eq piece crlf then decimal conn ++ codes "< " ++ take (length piece - 2) piece ++ lf
-    else decimal conn ++ codes "+ " ++ piece ++ lf
+    if ends_with nat_eq piece crlf then decimal conn ++ codes "< " ++ flat_map spelled (take (length piece - 2) piece) ++ lf
+    else decimal conn ++ codes "+ " ++ flat_map spelled piece ++ lf
 
 -- what is written of a note
 abbrev pub note_text : LinkNote → List ℕ

@@ -1,7 +1,9 @@
 //! Strings cut after each LF.
-ghost use Rattle.std.specs.Prelude.{◌≡◌, ◌≢◌, ◌<◌, ◌≤◌, ℕ, ◌∷◌, length, drop, slice_index, IfNone, IfSome};
+ghost use Rattle.std.specs.Prelude.{◌≡◌, ◌≢◌, ◌<◌, ◌≤◌, ℕ, ◌∷◌, ◌==◌, length, drop, slice_index, IfNone, IfSome};
 ghost use Rattle.std.specs.Io.BufRead.{strip_last};
+ghost use Rattle.std.specs.List.{position_or_len};
 ghost use Rattle.script_link.specs.Pieces.{pieces_of};
+ghost use Rattle.script_link.specs.Line.{first_part, other_parts};
 
 const LF: u8 = 10;
 
@@ -45,5 +47,37 @@ pub fn without_lf(piece: &[u8]) -> &[u8]
     match piece {
         [line @ .., LF] => line,
         _ => piece,
+    }
+}
+
+/// Where a byte stands first, or the length where it doesn't stand.
+fn place_of(bytes: &[u8], byte: u8) -> usize
+    ensures within { result ≤ length bytes.now }
+    ensures value { result ≡ position_or_len (λ b. b == byte) bytes.now }
+{
+    for (place, b) in bytes.iter().enumerate() {
+        if *b == byte {
+            return place;
+        }
+    }
+    bytes.len()
+}
+
+/// What stands before the first space.
+pub fn before_space(bytes: &[u8]) -> &[u8]
+    ensures { result.now ≡ first_part bytes.now }
+{
+    &bytes[..place_of(bytes, b' ')]
+}
+
+/// What follows the first space, or nothing.
+pub fn behind_space(bytes: &[u8]) -> &[u8]
+    ensures { result.now ≡ other_parts bytes.now }
+{
+    let place = place_of(bytes, b' ');
+    if place < bytes.len() {
+        after(bytes, place + 1)
+    } else {
+        &[]
     }
 }

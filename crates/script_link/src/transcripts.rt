@@ -2,9 +2,11 @@
 ghost use Rattle.std.specs.Prelude.{◌≡◌, ◌++◌, ◌-◌, IfOk, OnOk, IsTrue, decimal, nat_eq, length, take, ◌≤◌};
 ghost use Rattle.std.specs.List.{flat_map, ends_with};
 ghost use Rattle.script_link.specs.Pieces.{pieces_of};
+ghost use Rattle.script_link.specs.Texts.{spelled};
 ghost use Rattle.script_link.specs.Transcript.{lf, crlf, piece_text, note_text, transcript_of};
 
 use crate::pieces::first_piece;
+use crate::texts::write_bytes;
 use std::alloc::Global;
 use undo_base::{NoMemory, Text};
 use undo_outside::{LinkNote, LinkNotes};
@@ -77,11 +79,11 @@ fn write_marked(
     mark: &[u8],
     text: &[u8],
 ) -> Result<(), NoMemory>
-    ensures { OnOk result (out.new ≡ out.old ++ (decimal conn ++ mark.now ++ text.now ++ lf)) }
+    ensures { OnOk result (out.new ≡ out.old ++ (decimal conn ++ mark.now ++ flat_map spelled text.now ++ lf)) }
 {
     write_number(alloc, out, conn)?;
     out.extend(mark)?;
-    out.extend(text)?;
+    write_bytes(out, text)?;
     out.extend(b"\n")
 }
 
