@@ -1,6 +1,6 @@
 -- What comes of texts and of outcomes keeps what holds of each dialog.
-use Rattle.std.proofs.Common.{◌≡◌, ℕ, true, false, List, refl, sym, subst, true≢false, Option, None, Some, Result, Ok, Err, is_some}
-use Rattle.std.specs.Prelude.{IfOk, OnErr}
+use Rattle.std.proofs.Common.{◌≡◌, ℕ, Bool, true, false, List, refl, sym, subst, true≢false, Option, None, Some, Result, Ok, Err, is_some}
+use Rattle.std.specs.Prelude.{if◌then◌else◌, IfOk, OnErr}
 use Rattle.verb_core.specs.declared.ask.SubmitFault.{SubmitFault}
 use Rattle.verb_core.specs.declared.ask.SubmitFault.TheVariants.{Refused as WasRefused, Disk, Closed}
 use Rattle.verb_core.specs.declared.item.Item.{Item}
@@ -14,7 +14,7 @@ use Rattle.imap_session.specs.declared.dialog.Pending.TheVariants as on
 use Rattle.imap_session.specs.declared.dialog.Selected.{Selected}
 use Rattle.imap_session.specs.declared.out.ImapOut.{ImapOut}
 use Rattle.imap_session.specs.declared.words.Word.{Word}
-use Rattle.imap_session.specs.Dialog.{AsksAsUser, IsNext, Took, done, follow, is_free, is_outcome, is_rest, settle_in, settle_pending, took, undone}
+use Rattle.imap_session.specs.Dialog.{AsksAsUser, IsNext, Took, done, follow, is_on, is_free, is_outcome, is_rest, settle_in, settle_pending, took, undone}
 use Rattle.imap_session.specs.Sound.{IsSound}
 use Rattle.imap_session.proofs.Turns.{view_in_order}
 
@@ -43,6 +43,10 @@ module _ (s : MailStore) (valid : IsValid s) (d : Dialog) (sound : IsSound d) (u
     stays = refl;
   }
 
+  kept_sound : (b : Bool) → IsSound (record d { selected = if b then None else d.selected })
+  kept_sound true = record { view = tt; selected = λ h. user; awaits = sound.awaits }
+  kept_sound false = record { view = sound.view; selected = λ h. user; awaits = sound.awaits }
+
   fine_done : (stamps : List (BoxId × ℕ)) (tag : List ℕ) (item : Item) (pending : Pending) → is_free d ≡ true → IsSettled d (done s stamps tag d item pending)
   fine_done stamps tag item (on.Select mailbox writes) free = record {
     sound = record { view = view_in_order s d.user mailbox valid; selected = λ h. user; awaits = sound.awaits };
@@ -52,6 +56,21 @@ module _ (s : MailStore) (valid : IsValid s) (d : Dialog) (sound : IsSound d) (u
   }
   fine_done stamps tag item (on.Fetch form rows texts) free = record { sound = sound; next = free; user = tt; stays = refl }
   fine_done stamps tag item (on.Store form silent rows) free = record { sound = sound; next = free; user = tt; stays = refl }
+  fine_done stamps tag item (on.Plain w) free = record { sound = sound; next = free; user = tt; stays = refl }
+  fine_done stamps tag item (on.Leave w mailbox) free = record {
+    sound = kept_sound (is_on mailbox d.selected);
+    next = free;
+    user = tt;
+    stays = refl;
+  }
+  fine_done stamps tag item on.Close free = record {
+    sound = record { view = tt; selected = λ h. user; awaits = sound.awaits };
+    next = free;
+    user = tt;
+    stays = refl;
+  }
+  fine_done stamps tag item (on.List subscribed) free = record { sound = sound; next = free; user = tt; stays = refl }
+  fine_done stamps tag item (on.Status mailbox asked) free = record { sound = sound; next = free; user = tt; stays = refl }
   fine_done stamps tag item (on.Follow w) free = fine_follow tag w d.selected free
 
   fine_undone : (tag : List ℕ) (pending : Pending) (fault : SubmitFault) → is_free d ≡ true → IsSettled d (undone tag d pending fault)
@@ -63,6 +82,11 @@ module _ (s : MailStore) (valid : IsValid s) (d : Dialog) (sound : IsSound d) (u
   }
   fine_undone tag (on.Fetch form rows texts) (WasRefused why) free = record { sound = sound; next = free; user = tt; stays = refl }
   fine_undone tag (on.Store form silent rows) (WasRefused why) free = record { sound = sound; next = free; user = tt; stays = refl }
+  fine_undone tag (on.Plain w) (WasRefused why) free = record { sound = sound; next = free; user = tt; stays = refl }
+  fine_undone tag (on.Leave w mailbox) (WasRefused why) free = record { sound = sound; next = free; user = tt; stays = refl }
+  fine_undone tag on.Close (WasRefused why) free = record { sound = sound; next = free; user = tt; stays = refl }
+  fine_undone tag (on.List subscribed) (WasRefused why) free = record { sound = sound; next = free; user = tt; stays = refl }
+  fine_undone tag (on.Status mailbox asked) (WasRefused why) free = record { sound = sound; next = free; user = tt; stays = refl }
   fine_undone tag (on.Follow w) (WasRefused why) free = record { sound = sound; next = free; user = tt; stays = refl }
   fine_undone tag pending Disk free = record { sound = sound; next = free; user = tt; stays = refl }
   fine_undone tag pending Closed free = record { sound = sound; next = free; user = tt; stays = refl }

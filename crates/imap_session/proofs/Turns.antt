@@ -1,5 +1,7 @@
 -- What comes of a command keeps what holds of each dialog, and says which call is due.
 use Rattle.std.proofs.Common.{◌≡◌, ℕ, Bool, true, false, cond, nat_lt, List, [], ◌∷◌, length, refl, Option, None, Some, is_some, map}
+use Rattle.undo_base.specs.declared.asks.StatusAsk.{StatusAsk}
+use Rattle.undo_base.specs.declared.keys.Flags.{Flags}
 use Rattle.undo_base.specs.declared.keys.User.{User}
 use Rattle.imap_stream.specs.declared.picks.SetRange.{SetRange}
 use Rattle.imap_lines.specs.declared.command.ImapWhat.{ImapWhat}
@@ -27,17 +29,20 @@ use Rattle.imap_session.specs.declared.words.Word.TheVariants as word
 use Rattle.imap_session.specs.Names.{mailbox_of}
 use Rattle.imap_session.specs.Views.{is_in_order, rises_above, uids_of, view_of}
 use Rattle.imap_session.specs.Fetching.{bodies_of, places_named}
-use Rattle.imap_session.specs.Dialog.{AsksAsUser, IsNext, Took, asks, begin_fetch, enter, expunge, fetch, fetch_in, fetch_places, fetching, follow, is_at_home, is_free, login, logout, obey, says, select, store, store_places, took}
+use Rattle.imap_session.specs.Dialog.{AsksAsUser, IsNext, ReadsOf, Took, append, asks, begin_fetch, check, close, copy, copy_places, create, delete, enter, expunge, fetch, fetch_in, fetch_places, fetching, follow, holds_all, is_at_home, is_free, list, login, logout, obey, rename, says, select, status, store, store_places, subscribe, took}
 use Rattle.imap_session.specs.Sound.{IsSound}
 use Rattle.std.specs.Cmp.{first_so, second_so}
 use Rattle.verb_core.proofs.Validity.{both}
+use Rattle.std.specs.List.{list_all}
 use Rattle.imap_session.proofs.Mail.{mail_by_uid}
+use Rattle.imap_session.proofs.Wanted.{bodies_are}
 
 -- what holds of what comes of a command
-pub record IsFine (house : House) (old : Dialog) (t : Took) : Type 0 where
+pub record IsFine (house : House) (s : MailStore) (old : Dialog) (t : Took) : Type 0 where
   pub sound : IsSound t.dialog
   pub next : IsNext t.out t.dialog
   pub user : AsksAsUser t.out t.dialog
+  pub reads : ReadsOf s t.out
   pub home : is_at_home house old ≡ true → is_at_home house t.dialog ≡ true
 
 -- a view of what lies by rising UID is in order
@@ -48,124 +53,191 @@ view_rises low (e ∷ entries) h = both _ _ (first_so _ _ h) (view_rises e.uid e
 pub view_in_order : (s : MailStore) (by : Option User) (name : List ℕ) → IsValid s → is_in_order (view_of (mail_of s by name)) ≡ true
 view_in_order s by name valid = view_rises 0 (mail_of s by name) (mail_by_uid s.house (box_of (asker by) name) s.boxes valid.rows)
 
-module _ (house : House) (d : Dialog) (sound : IsSound d) (free : is_free d ≡ true) where
-  fine_say : (text : List ℕ) → IsFine house d (took (Say text) d)
-  fine_say text = record { sound = sound; next = free; user = tt; home = λ h. h }
+module _ (house : House) (s : MailStore) (d : Dialog) (sound : IsSound d) (free : is_free d ≡ true) where
+  fine_say : (text : List ℕ) → IsFine house s d (took (Say text) d)
+  fine_say text = record { sound = sound; next = free; user = tt; reads = tt; home = λ h. h }
 
-  fine_asks : (asked : Ask) (tag : List ℕ) (pending : Pending) → is_users asked ≡ true → is_some d.user ≡ true → IsFine house d (asks asked tag pending d)
+  fine_asks : (asked : Ask) (tag : List ℕ) (pending : Pending) → is_users asked ≡ true → is_some d.user ≡ true → IsFine house s d (asks asked tag pending d)
   fine_asks asked tag pending users user = record {
     sound = record { view = sound.view; selected = sound.selected; awaits = λ h. user };
     next = refl;
     user = (users, user);
+    reads = tt;
     home = λ h. h;
   }
 
-  fine_follow : (s : MailStore) (tag : List ℕ) (w : Word) → IsValid s → (selected : Option Selected) → (is_some selected ≡ true → is_some d.user ≡ true)
-      → IsFine house d (follow s tag w d selected)
-  fine_follow s tag w valid None user = fine_say _
-  fine_follow s tag w valid (Some selected) user = record {
+  fine_follow : (tag : List ℕ) (w : Word) → IsValid s → (selected : Option Selected) → (is_some selected ≡ true → is_some d.user ≡ true)
+      → IsFine house s d (follow s tag w d selected)
+  fine_follow tag w valid None user = fine_say _
+  fine_follow tag w valid (Some selected) user = record {
     sound = record { view = view_in_order s d.user selected.mailbox valid; selected = λ h. user refl; awaits = sound.awaits };
     next = free;
     user = tt;
+    reads = tt;
     home = λ h. h;
   }
 
-  fine_logout : (tag : List ℕ) → IsFine house d (logout tag d)
-  fine_logout tag = record { sound = sound; next = free; user = tt; home = λ h. h }
+  fine_logout : (tag : List ℕ) → IsFine house s d (logout tag d)
+  fine_logout tag = record { sound = sound; next = free; user = tt; reads = tt; home = λ h. h }
 
-  fine_enter : (tag : List ℕ) (b : Bool) (number : ℕ) → nat_lt number (length house.accounts) ≡ b → IsFine house d (enter tag d (cond b (Some number) None))
+  fine_enter : (tag : List ℕ) (b : Bool) (number : ℕ) → nat_lt number (length house.accounts) ≡ b → IsFine house s d (enter tag d (cond b (Some number) None))
   fine_enter tag true number known = record {
     sound = record { view = sound.view; selected = λ h. refl; awaits = λ h. refl };
     next = free;
     user = tt;
+    reads = tt;
     home = λ h. known;
   }
   fine_enter tag false number known = fine_say _
 
-  fine_login : (tag : List ℕ) (u : Option User) (name password : List ℕ) → IsFine house d (login house tag d u name password)
+  fine_login : (tag : List ℕ) (u : Option User) (name password : List ℕ) → IsFine house s d (login house tag d u name password)
   fine_login tag (Some u) name password = fine_say _
   fine_login tag None name password = fine_enter tag _ _ refl
 
   fine_select : (tag : List ℕ) (u : Option User) (mailbox : Option (List ℕ)) (writes : Bool) → (is_some u ≡ true → is_some d.user ≡ true)
-      → IsFine house d (select tag d u mailbox writes)
+      → IsFine house s d (select tag d u mailbox writes)
   fine_select tag None mailbox writes user = fine_say _
   fine_select tag (Some u) None writes user = record {
     sound = record { view = tt; selected = λ h. user refl; awaits = sound.awaits };
     next = free;
     user = tt;
+    reads = tt;
     home = λ h. h;
   }
   fine_select tag (Some u) (Some mailbox) writes user = fine_asks _ tag _ refl (user refl)
 
-  fine_if : (b : Bool) (x y : Took) → IsFine house d x → IsFine house d y → IsFine house d (cond b x y)
+  fine_if : (b : Bool) (x y : Took) → IsFine house s d x → IsFine house s d y → IsFine house s d (cond b x y)
   fine_if true x y f g = f
   fine_if false x y f g = g
 
-  fine_expunge : (tag : List ℕ) (selected : Option Selected) → (is_some selected ≡ true → is_some d.user ≡ true) → IsFine house d (expunge tag d selected)
+  fine_expunge : (tag : List ℕ) (selected : Option Selected) → (is_some selected ≡ true → is_some d.user ≡ true) → IsFine house s d (expunge tag d selected)
   fine_expunge tag None user = fine_say _
   fine_expunge tag (Some selected) user = fine_if selected.writes (asks (ask.Expunge selected.mailbox) tag (on.Follow word.Expunge) d) (says tag ReadOnly d) (fine_asks _ tag _ refl (user refl)) (fine_say _)
 
-  fine_begin : (tag : List ℕ) (f : Fetching) (bodies : List Body) → is_some d.user ≡ true → IsFine house d (begin_fetch tag d f bodies)
-  fine_begin tag f [] user = fine_asks _ tag _ refl user
-  fine_begin tag f (body ∷ bodies) user = record {
+  fine_begin : (tag : List ℕ) (f : Fetching) (bodies : List Body) → is_some d.user ≡ true → ((test : Body → Bool) → holds_all test s.boxes ≡ true → list_all test bodies ≡ true)
+      → IsFine house s d (begin_fetch tag d f bodies)
+  fine_begin tag f [] user held = fine_asks _ tag _ refl user
+  fine_begin tag f (body ∷ bodies) user held = record {
     sound = record { view = sound.view; selected = sound.selected; awaits = λ h. user };
     next = refl;
     user = tt;
+    reads = held;
     home = λ h. h;
   }
 
-  fine_fetch_places : (s : MailStore) (sizes : Body → Option ℕ) (tag : List ℕ) (selected : Selected) (attributes : List Attribute) (by_uid : Bool) (places : Option (List ℕ))
-      → is_some d.user ≡ true → IsFine house d (fetch_places s sizes tag d selected attributes by_uid places)
-  fine_fetch_places s sizes tag selected attributes by_uid None user = fine_say _
-  fine_fetch_places s sizes tag selected attributes by_uid (Some places) user =
-      fine_begin tag (fetching s sizes d selected attributes by_uid places) (bodies_of (fetching s sizes d selected attributes by_uid places)) user
+  fine_fetch_places : (sizes : Body → Option ℕ) (tag : List ℕ) (selected : Selected) (attributes : List Attribute) (by_uid : Bool) (places : Option (List ℕ))
+      → is_some d.user ≡ true → IsFine house s d (fetch_places s sizes tag d selected attributes by_uid places)
+  fine_fetch_places sizes tag selected attributes by_uid None user = fine_say _
+  fine_fetch_places sizes tag selected attributes by_uid (Some places) user =
+      let f = fetching s sizes d selected attributes by_uid places in
+      fine_begin tag f (bodies_of f) user (λ test held. bodies_are test sizes (box_of (asker d.user) selected.mailbox) s.boxes f selected.view places refl held)
 
-  fine_fetch_in : (s : MailStore) (sizes : Body → Option ℕ) (tag : List ℕ) (selected : Option Selected) (attributes : List Attribute) (set : List SetRange) (by_uid : Bool)
-      → (is_some selected ≡ true → is_some d.user ≡ true) → IsFine house d (fetch_in s sizes tag d selected attributes set by_uid)
-  fine_fetch_in s sizes tag None attributes set by_uid user = fine_say _
-  fine_fetch_in s sizes tag (Some selected) attributes set by_uid user =
-      fine_fetch_places s sizes tag selected attributes by_uid (places_named selected.view set by_uid) (user refl)
+  fine_fetch_in : (sizes : Body → Option ℕ) (tag : List ℕ) (selected : Option Selected) (attributes : List Attribute) (set : List SetRange) (by_uid : Bool)
+      → (is_some selected ≡ true → is_some d.user ≡ true) → IsFine house s d (fetch_in s sizes tag d selected attributes set by_uid)
+  fine_fetch_in sizes tag None attributes set by_uid user = fine_say _
+  fine_fetch_in sizes tag (Some selected) attributes set by_uid user =
+      fine_fetch_places sizes tag selected attributes by_uid (places_named selected.view set by_uid) (user refl)
 
-  fine_fetch : (s : MailStore) (sizes : Body → Option ℕ) (tag : List ℕ) (attributes : Option (List Attribute)) (set : List SetRange) (by_uid : Bool)
-      → IsFine house d (fetch s sizes tag d attributes set by_uid)
-  fine_fetch s sizes tag None set by_uid = fine_say _
-  fine_fetch s sizes tag (Some attributes) set by_uid = fine_fetch_in s sizes tag d.selected attributes set by_uid sound.selected
+  fine_fetch : (sizes : Body → Option ℕ) (tag : List ℕ) (attributes : Option (List Attribute)) (set : List SetRange) (by_uid : Bool)
+      → IsFine house s d (fetch s sizes tag d attributes set by_uid)
+  fine_fetch sizes tag None set by_uid = fine_say _
+  fine_fetch sizes tag (Some attributes) set by_uid = fine_fetch_in sizes tag d.selected attributes set by_uid sound.selected
 
-  fine_store_places : (s : MailStore) (sizes : Body → Option ℕ) (tag : List ℕ) (selected : Selected) (form : StoreForm) (silent : Bool) (places : Option (List ℕ))
-      → is_some d.user ≡ true → IsFine house d (store_places s sizes tag d selected form silent places)
-  fine_store_places s sizes tag selected form silent None user = fine_say _
-  fine_store_places s sizes tag selected form silent (Some places) user = fine_asks _ tag _ refl user
+  fine_store_places : (sizes : Body → Option ℕ) (tag : List ℕ) (selected : Selected) (form : StoreForm) (silent : Bool) (places : Option (List ℕ))
+      → is_some d.user ≡ true → IsFine house s d (store_places s sizes tag d selected form silent places)
+  fine_store_places sizes tag selected form silent None user = fine_say _
+  fine_store_places sizes tag selected form silent (Some places) user = fine_asks _ tag _ refl user
 
-  fine_store : (s : MailStore) (sizes : Body → Option ℕ) (tag : List ℕ) (selected : Option Selected) (form : StoreForm) (silent : Bool) (set : List SetRange)
-      → (is_some selected ≡ true → is_some d.user ≡ true) → IsFine house d (store s sizes tag d selected form silent set)
-  fine_store s sizes tag None form silent set user = fine_say _
-  fine_store s sizes tag (Some selected) form silent set user =
+  fine_store : (sizes : Body → Option ℕ) (tag : List ℕ) (selected : Option Selected) (form : StoreForm) (silent : Bool) (set : List SetRange)
+      → (is_some selected ≡ true → is_some d.user ≡ true) → IsFine house s d (store s sizes tag d selected form silent set)
+  fine_store sizes tag None form silent set user = fine_say _
+  fine_store sizes tag (Some selected) form silent set user =
       fine_if selected.writes (store_places s sizes tag d selected form silent (places_named selected.view set form.by_uid)) (says tag ReadOnly d)
-      (fine_store_places s sizes tag selected form silent (places_named selected.view set form.by_uid) (user refl)) (fine_say _)
+      (fine_store_places sizes tag selected form silent (places_named selected.view set form.by_uid) (user refl)) (fine_say _)
 
-  pub fine_obey : (s : MailStore) (sizes : Body → Option ℕ) (tag : List ℕ) (asked : ImapWhat) → IsValid s → IsFine house d (obey house s sizes tag d asked)
-  fine_obey s sizes tag what.Capability valid = fine_say _
-  fine_obey s sizes tag what.Noop valid = fine_follow s tag word.Noop valid d.selected sound.selected
-  fine_obey s sizes tag what.Logout valid = fine_logout tag
-  fine_obey s sizes tag (what.Login user password) valid = fine_login tag d.user user password
-  fine_obey s sizes tag (what.Select mailbox) valid = fine_select tag d.user (mailbox_of mailbox) true (λ h. h)
-  fine_obey s sizes tag (what.Examine mailbox) valid = fine_say _
-  fine_obey s sizes tag (what.Create mailbox) valid = fine_say _
-  fine_obey s sizes tag (what.Delete mailbox) valid = fine_say _
-  fine_obey s sizes tag (what.Rename mailbox target) valid = fine_say _
-  fine_obey s sizes tag (what.Subscribe mailbox) valid = fine_say _
-  fine_obey s sizes tag (what.Unsubscribe mailbox) valid = fine_say _
-  fine_obey s sizes tag (what.List reference pattern) valid = fine_say _
-  fine_obey s sizes tag (what.Lsub reference pattern) valid = fine_say _
-  fine_obey s sizes tag (what.Status mailbox asked) valid = fine_say _
-  fine_obey s sizes tag (what.Append mailbox flags moment text) valid = fine_say _
-  fine_obey s sizes tag what.Check valid = fine_say _
-  fine_obey s sizes tag what.Close valid = fine_say _
-  fine_obey s sizes tag what.Expunge valid = fine_expunge tag d.selected sound.selected
-  fine_obey s sizes tag (what.Fetch set asked by_uid) valid = fine_fetch s sizes tag (attributes_of asked) set by_uid
-  fine_obey s sizes tag (what.Store set how silent flags by_uid) valid = fine_store s sizes tag d.selected (record { how = how; flags = flags; by_uid = by_uid }) silent set sound.selected
-  fine_obey s sizes tag (what.Copy set target by_uid) valid = fine_say _
-  fine_obey s sizes tag what.Authenticate valid = fine_say _
+  fine_create : (tag : List ℕ) (u : Option User) (mailbox : Option (List ℕ)) → (is_some u ≡ true → is_some d.user ≡ true) → IsFine house s d (create tag d u mailbox)
+  fine_create tag None mailbox user = fine_say _
+  fine_create tag (Some u) None user = fine_say _
+  fine_create tag (Some u) (Some mailbox) user = fine_asks _ tag _ refl (user refl)
+
+  fine_delete : (tag : List ℕ) (u : Option User) (mailbox : Option (List ℕ)) → (is_some u ≡ true → is_some d.user ≡ true) → IsFine house s d (delete tag d u mailbox)
+  fine_delete tag None mailbox user = fine_say _
+  fine_delete tag (Some u) None user = fine_say _
+  fine_delete tag (Some u) (Some mailbox) user = fine_asks _ tag _ refl (user refl)
+
+  fine_rename : (tag : List ℕ) (u : Option User) (target mailbox : Option (List ℕ)) → (is_some u ≡ true → is_some d.user ≡ true) → IsFine house s d (rename tag d u target mailbox)
+  fine_rename tag None target mailbox user = fine_say _
+  fine_rename tag (Some u) None mailbox user = fine_say _
+  fine_rename tag (Some u) (Some target) None user = fine_say _
+  fine_rename tag (Some u) (Some target) (Some mailbox) user = fine_asks _ tag _ refl (user refl)
+
+  fine_subscribe : (tag : List ℕ) (u : Option User) (w : Word) → IsFine house s d (subscribe tag d u w)
+  fine_subscribe tag None w = fine_say _
+  fine_subscribe tag (Some u) w = fine_say _
+
+  fine_list : (tag : List ℕ) (u : Option User) (subscribed : Bool) (reference pattern : List ℕ) → (is_some u ≡ true → is_some d.user ≡ true) → IsFine house s d (list tag d u subscribed reference pattern)
+  fine_list tag None subscribed reference pattern user = fine_say _
+  fine_list tag (Some u) subscribed reference [] user = fine_say _
+  fine_list tag (Some u) subscribed reference (b ∷ pattern) user = fine_asks _ tag _ refl (user refl)
+
+  fine_status : (tag : List ℕ) (u : Option User) (mailbox : Option (List ℕ)) (asked : List StatusAsk) → (is_some u ≡ true → is_some d.user ≡ true) → IsFine house s d (status tag d u mailbox asked)
+  fine_status tag None mailbox asked user = fine_say _
+  fine_status tag (Some u) None asked user = fine_say _
+  fine_status tag (Some u) (Some mailbox) asked user = fine_asks _ tag _ refl (user refl)
+
+  fine_append : (tag : List ℕ) (u : Option User) (mailbox : Option (List ℕ)) (flags : Flags) (moment : Option ℕ) (text : List ℕ) → (is_some u ≡ true → is_some d.user ≡ true)
+      → IsFine house s d (append tag d u mailbox flags moment text)
+  fine_append tag None mailbox flags moment text user = fine_say _
+  fine_append tag (Some u) None flags moment text user = fine_say _
+  fine_append tag (Some u) (Some mailbox) flags moment text user = fine_asks _ tag _ refl (user refl)
+
+  fine_check : (tag : List ℕ) → IsValid s → (selected : Option Selected) → (is_some selected ≡ true → is_some d.user ≡ true) → IsFine house s d (check s tag d selected)
+  fine_check tag valid None user = fine_say _
+  fine_check tag valid (Some selected) user = fine_follow tag word.Check valid (Some selected) user
+
+  fine_close : (tag : List ℕ) (selected : Option Selected) → (is_some selected ≡ true → is_some d.user ≡ true) → IsFine house s d (close tag d selected)
+  fine_close tag None user = fine_say _
+  fine_close tag (Some selected) user = fine_asks _ tag _ refl (user refl)
+
+  fine_copy_places : (tag : List ℕ) (selected : Selected) (target : Option (List ℕ)) (by_uid : Bool) (places : Option (List ℕ)) → is_some d.user ≡ true
+      → IsFine house s d (copy_places tag d selected target by_uid places)
+  fine_copy_places tag selected target by_uid None user = fine_say _
+  fine_copy_places tag selected None by_uid (Some places) user = fine_say _
+  fine_copy_places tag selected (Some target) by_uid (Some places) user = fine_asks _ tag _ refl user
+
+  fine_copy : (tag : List ℕ) (selected : Option Selected) (set : List SetRange) (target : Option (List ℕ)) (by_uid : Bool) → (is_some selected ≡ true → is_some d.user ≡ true)
+      → IsFine house s d (copy tag d selected set target by_uid)
+  fine_copy tag None set target by_uid user = fine_say _
+  fine_copy tag (Some selected) set target by_uid user = fine_copy_places tag selected target by_uid (places_named selected.view set by_uid) (user refl)
+
+  pub fine_obey : (sizes : Body → Option ℕ) (tag : List ℕ) (asked : ImapWhat) → IsValid s → IsFine house s d (obey house s sizes tag d asked)
+  fine_obey sizes tag what.Capability valid = fine_say _
+  fine_obey sizes tag what.Noop valid = fine_follow tag word.Noop valid d.selected sound.selected
+  fine_obey sizes tag what.Logout valid = fine_logout tag
+  fine_obey sizes tag (what.Login user password) valid = fine_login tag d.user user password
+  fine_obey sizes tag (what.Select mailbox) valid = fine_select tag d.user (mailbox_of mailbox) true (λ h. h)
+  fine_obey sizes tag (what.Examine mailbox) valid = fine_select tag d.user (mailbox_of mailbox) false (λ h. h)
+  fine_obey sizes tag (what.Create mailbox) valid = fine_create tag d.user (mailbox_of mailbox) (λ h. h)
+  fine_obey sizes tag (what.Delete mailbox) valid = fine_delete tag d.user (mailbox_of mailbox) (λ h. h)
+  fine_obey sizes tag (what.Rename mailbox target) valid = fine_rename tag d.user (mailbox_of target) (mailbox_of mailbox) (λ h. h)
+  fine_obey sizes tag (what.Subscribe mailbox) valid = fine_subscribe tag d.user word.Subscribe
+  fine_obey sizes tag (what.Unsubscribe mailbox) valid = fine_subscribe tag d.user word.Unsubscribe
+  fine_obey sizes tag (what.List reference pattern) valid = fine_list tag d.user false reference pattern (λ h. h)
+  fine_obey sizes tag (what.Lsub reference pattern) valid = fine_list tag d.user true reference pattern (λ h. h)
+  fine_obey sizes tag (what.Status mailbox asked) valid = fine_status tag d.user (mailbox_of mailbox) asked (λ h. h)
+  fine_obey sizes tag (what.Append mailbox flags moment text) valid = fine_append tag d.user (mailbox_of mailbox) flags moment text (λ h. h)
+  fine_obey sizes tag what.Check valid = fine_check tag valid d.selected sound.selected
+  fine_obey sizes tag what.Close valid = fine_close tag d.selected sound.selected
+  fine_obey sizes tag what.Expunge valid = fine_expunge tag d.selected sound.selected
+  fine_obey sizes tag (what.Fetch set asked by_uid) valid = fine_fetch sizes tag (attributes_of asked) set by_uid
+  fine_obey sizes tag (what.Store set how silent flags by_uid) valid = fine_store sizes tag d.selected (record { how = how; flags = flags; by_uid = by_uid }) silent set sound.selected
+  fine_obey sizes tag (what.Copy set target by_uid) valid = fine_copy tag d.selected set (mailbox_of target) by_uid sound.selected
+  fine_obey sizes tag what.Authenticate valid = fine_say _
+
+-- CHECK, by what the view is told
+pub check_is : (house : House) (s : MailStore) (sizes : Body → Option ℕ) (tag : List ℕ) (d : Dialog) (asked : ImapWhat) (t : Took) → asked ≡ what.Check
+    → check s tag d d.selected ≡ t → obey house s sizes tag d asked ≡ t
+check_is house s sizes tag d asked t e h = rw e h
 
 -- NOOP, by what the view is told
 pub noop_is : (house : House) (s : MailStore) (sizes : Body → Option ℕ) (tag : List ℕ) (d : Dialog) (asked : ImapWhat) (t : Took) → asked ≡ what.Noop

@@ -1,6 +1,9 @@
 -- The dialog with a mail client (RFC 3501, 3 and 6), as a function of its state, the house, the store, the lengths of
 -- texts and one command. It gives what is said, read or asked of the store, and the state after it.
 use Rattle.std.specs.Prelude.{◌≡◌, ℕ, Bool, true, false, not, ◌&&◌, List, [], ◌∷◌, ◌++◌, bytes_eq, is_some, option_map, unwrap_or, Option, None, Some, Result, Ok, Err, if◌then◌else◌}
+use Rattle.std.specs.List.{list_all}
+use Rattle.undo_base.specs.declared.asks.StatusAsk.{StatusAsk}
+use Rattle.undo_base.specs.declared.keys.Flags.{Flags}
 use Rattle.undo_base.specs.declared.keys.User.{User}
 use Rattle.seal_log.specs.declared.fault.ReadFault.{ReadFault}
 use Rattle.seal_log.specs.declared.fault.ReadFault.TheVariants as read_fault
@@ -11,21 +14,27 @@ use Rattle.imap_lines.specs.declared.command.ImapWhat.TheVariants as what
 use Rattle.imap_lines.specs.Command.{Reading, command_of}
 use Rattle.imap_stream.specs.declared.picks.SetRange.{SetRange}
 use Rattle.imap_text.specs.declared.facts.BoxFacts.{BoxFacts}
-use Rattle.imap_text.specs.Answers.{select_lines}
+use Rattle.imap_text.specs.Answers.{list_lines, select_lines, status_line}
 use Rattle.imap_fetch.specs.declared.asked.Attribute.{Attribute}
 use Rattle.imap_fetch.specs.declared.lines.StoreForm.{StoreForm}
 use Rattle.imap_fetch.specs.Asked.{attributes_of, octets_asked, sets_seen}
 use Rattle.imap_fetch.specs.Told.{fetch_lines, store_lines}
 use Rattle.verb_core.specs.declared.ask.Ask.{Ask}
 use Rattle.verb_core.specs.declared.ask.Ask.TheVariants as ask
-use Rattle.verb_core.specs.declared.ask.Refused.TheVariants.{NoBox, NoMemory}
+use Rattle.verb_core.specs.declared.ask.Refused.{Refused as Refusal}
+use Rattle.verb_core.specs.declared.ask.Refused.TheVariants.{NoBox, NameShape, Fixed, TryCreate, NoMemory}
 use Rattle.verb_core.specs.declared.ask.SubmitFault.{SubmitFault}
 use Rattle.verb_core.specs.declared.ask.SubmitFault.TheVariants.{Refused as WasRefused, Disk, Closed}
 use Rattle.verb_core.specs.declared.conf.House.{House}
 use Rattle.verb_core.specs.declared.item.Item.{Item}
+use Rattle.verb_core.specs.declared.item.Shown.{Shown}
+use Rattle.verb_core.specs.declared.item.Shown.TheVariants.{Names}
 use Rattle.verb_core.specs.declared.mailbox.Body.{Body}
 use Rattle.verb_core.specs.declared.mailbox.BoxId.{BoxId}
+use Rattle.verb_core.specs.declared.mailbox.Entry.{Entry}
+use Rattle.verb_core.specs.declared.mailbox.Mailbox.{Mailbox}
 use Rattle.verb_core.specs.Boxes.{box_of, next_at, row_at, same_user}
+use Rattle.verb_core.specs.Names.{inbox, is_fixed, is_new_name}
 use Rattle.verb_core.specs.Live.{asker, is_users, mail_of}
 use Rattle.verb_core.specs.Store.{MailStore, is_known}
 use Rattle.imap_session.specs.declared.dialog.Awaits.{Awaits}
@@ -38,10 +47,10 @@ use Rattle.imap_session.specs.declared.dialog.Selected.{Selected}
 use Rattle.imap_session.specs.declared.out.ImapOut.{ImapOut}
 use Rattle.imap_session.specs.declared.out.ImapOut.TheVariants.{Say, Read, Submit, Bye}
 use Rattle.imap_session.specs.declared.words.Answer.{Answer}
-use Rattle.imap_session.specs.declared.words.Answer.TheVariants.{Done, Opened, UnknownCommand, BadArguments, WrongState, LoginFailed, ReadOnly, BadNumber, Refused, DiskFault}
+use Rattle.imap_session.specs.declared.words.Answer.TheVariants.{Done, Opened, BadArguments, NotOffered, WrongState, LoginFailed, ReadOnly, BadNumber, Refused, DiskFault}
 use Rattle.imap_session.specs.declared.words.Word.{Word}
 use Rattle.imap_session.specs.declared.words.Word.TheVariants as word
-use Rattle.imap_session.specs.Words.{bye_text, fault_text, fetch_word, store_word, tagged, unread_text}
+use Rattle.imap_session.specs.Words.{bye_text, capability_text, copy_word, fault_text, fetch_word, list_word, no_names_text, store_word, tagged, unread_text, word_text}
 use Rattle.imap_session.specs.Names.{account_of, mailbox_of}
 use Rattle.imap_session.specs.Views.{facts_of, news, view_of}
 use Rattle.imap_session.specs.Fetching.{ask_of, bodies_of, keys_at, places_named, rows_at}
@@ -87,6 +96,10 @@ follow s tag w d (Some selected) =
     let entries = mail_of s d.user selected.mailbox in
     tells (news entries selected.view) tag (Done w) (record d { selected = Some (record selected { view = view_of entries }) })
 
+-- CAPABILITY (RFC 3501, 6.1.1)
+abbrev pub capability : List ℕ → Dialog → Took
+capability tag d = tells capability_text tag (Done word.Capability) d
+
 -- LOGOUT (RFC 3501, 6.1.3)
 abbrev pub logout : List ℕ → Dialog → Took
 logout tag d = took (Bye (bye_text ++ tagged tag (Done word.Logout))) d
@@ -109,7 +122,70 @@ select tag d None mailbox writes = says tag WrongState d
 select tag d (Some u) None writes = says tag (Refused NoBox) (unselected d)
 select tag d (Some u) (Some mailbox) writes = asks (ask.Select mailbox) tag (on.Select mailbox writes) d
 
+-- CREATE (RFC 3501, 6.3.3)
+abbrev pub create : List ℕ → Dialog → Option User → Option (List ℕ) → Took
+create tag d None mailbox = says tag WrongState d
+create tag d (Some u) None = says tag (Refused NameShape) d
+create tag d (Some u) (Some mailbox) = asks (ask.Create mailbox) tag (on.Plain word.Create) d
+
+-- DELETE (RFC 3501, 6.3.4)
+abbrev pub delete : List ℕ → Dialog → Option User → Option (List ℕ) → Took
+delete tag d None mailbox = says tag WrongState d
+delete tag d (Some u) None = says tag (Refused NoBox) d
+delete tag d (Some u) (Some mailbox) = asks (ask.Delete mailbox) tag (on.Leave word.Delete mailbox) d
+
+-- why a mailbox that is not there can't get a name
+abbrev pub target_refused : List ℕ → Refusal
+target_refused target = if not (is_new_name target) then NameShape else if is_fixed target then Fixed else NoBox
+
+-- what follows a RENAME: INBOX stays where it is
+abbrev pub after_rename : List ℕ → Pending
+after_rename mailbox = if bytes_eq mailbox inbox then on.Plain word.Rename else on.Leave word.Rename mailbox
+
+abbrev pub rename_to : List ℕ → Dialog → List ℕ → Option (List ℕ) → Took
+rename_to tag d target None = says tag (Refused (target_refused target)) d
+rename_to tag d target (Some mailbox) = asks (ask.Rename mailbox target) tag (after_rename mailbox) d
+
+-- RENAME (RFC 3501, 6.3.5)
+abbrev pub rename : List ℕ → Dialog → Option User → Option (List ℕ) → Option (List ℕ) → Took
+rename tag d None target mailbox = says tag WrongState d
+rename tag d (Some u) None mailbox = says tag (Refused NameShape) d
+rename tag d (Some u) (Some target) mailbox = rename_to tag d target mailbox
+
+-- SUBSCRIBE and UNSUBSCRIBE, which change nothing (RFC 3501, 6.3.6 and 6.3.7)
+abbrev pub subscribe : List ℕ → Dialog → Option User → Word → Took
+subscribe tag d None w = says tag WrongState d
+subscribe tag d (Some u) w = says tag (Done w) d
+
+-- LIST and LSUB: the reference stands before the pattern (RFC 3501, 6.3.8 and 6.3.9)
+abbrev pub list : List ℕ → Dialog → Option User → Bool → List ℕ → List ℕ → Took
+list tag d None subscribed reference pattern = says tag WrongState d
+list tag d (Some u) subscribed reference [] = tells (no_names_text subscribed) tag (Done (list_word subscribed)) d
+list tag d (Some u) subscribed reference (b ∷ pattern) = asks (ask.List (reference ++ b ∷ pattern)) tag (on.List subscribed) d
+
+-- STATUS (RFC 3501, 6.3.10)
+abbrev pub status : List ℕ → Dialog → Option User → Option (List ℕ) → List StatusAsk → Took
+status tag d None mailbox asked = says tag WrongState d
+status tag d (Some u) None asked = says tag (Refused NoBox) d
+status tag d (Some u) (Some mailbox) asked = asks (ask.Status mailbox) tag (on.Status mailbox asked) d
+
+-- APPEND (RFC 3501, 6.3.11)
+abbrev pub append : List ℕ → Dialog → Option User → Option (List ℕ) → Flags → Option ℕ → List ℕ → Took
+append tag d None mailbox flags moment text = says tag WrongState d
+append tag d (Some u) None flags moment text = says tag (Refused TryCreate) d
+append tag d (Some u) (Some mailbox) flags moment text = asks (ask.Append mailbox flags moment text) tag (on.Follow word.Append) d
+
 -- ---- in a selected mailbox
+
+-- CHECK (RFC 3501, 6.4.1)
+abbrev pub check : MailStore → List ℕ → Dialog → Option Selected → Took
+check s tag d None = says tag WrongState d
+check s tag d (Some selected) = follow s tag word.Check d (Some selected)
+
+-- CLOSE, which removes nothing after EXAMINE (RFC 3501, 6.4.2)
+abbrev pub close : List ℕ → Dialog → Option Selected → Took
+close tag d None = says tag WrongState d
+close tag d (Some selected) = asks (ask.Close selected.mailbox selected.writes) tag on.Close d
 
 -- EXPUNGE (RFC 3501, 6.4.3)
 abbrev pub expunge : List ℕ → Dialog → Option Selected → Took
@@ -162,32 +238,43 @@ store s sizes tag d (Some selected) form silent set =
     if selected.writes then store_places s sizes tag d selected form silent (places_named selected.view set form.by_uid)
     else says tag ReadOnly d
 
+abbrev pub copy_places : List ℕ → Dialog → Selected → Option (List ℕ) → Bool → Option (List ℕ) → Took
+copy_places tag d selected target by_uid None = says tag BadNumber d
+copy_places tag d selected None by_uid (Some places) = says tag (Refused TryCreate) d
+copy_places tag d selected (Some target) by_uid (Some places) =
+    asks (ask.Copy selected.mailbox (keys_at selected.view places) target (not by_uid)) tag (on.Follow (copy_word by_uid)) d
+
+-- COPY and UID COPY (RFC 3501, 6.4.7 and 6.4.8)
+abbrev pub copy : List ℕ → Dialog → Option Selected → List SetRange → Option (List ℕ) → Bool → Took
+copy tag d None set target by_uid = says tag WrongState d
+copy tag d (Some selected) set target by_uid = copy_places tag d selected target by_uid (places_named selected.view set by_uid)
+
 -- ---- one command
 
 abbrev pub obey : House → MailStore → (Body → Option ℕ) → List ℕ → Dialog → ImapWhat → Took
-obey house s sizes tag d what.Capability = says tag UnknownCommand d
+obey house s sizes tag d what.Capability = capability tag d
 obey house s sizes tag d what.Noop = follow s tag word.Noop d d.selected
 obey house s sizes tag d what.Logout = logout tag d
 obey house s sizes tag d (what.Login user password) = login house tag d d.user user password
 obey house s sizes tag d (what.Select mailbox) = select tag d d.user (mailbox_of mailbox) true
-obey house s sizes tag d (what.Examine mailbox) = says tag UnknownCommand d
-obey house s sizes tag d (what.Create mailbox) = says tag UnknownCommand d
-obey house s sizes tag d (what.Delete mailbox) = says tag UnknownCommand d
-obey house s sizes tag d (what.Rename mailbox target) = says tag UnknownCommand d
-obey house s sizes tag d (what.Subscribe mailbox) = says tag UnknownCommand d
-obey house s sizes tag d (what.Unsubscribe mailbox) = says tag UnknownCommand d
-obey house s sizes tag d (what.List reference pattern) = says tag UnknownCommand d
-obey house s sizes tag d (what.Lsub reference pattern) = says tag UnknownCommand d
-obey house s sizes tag d (what.Status mailbox asked) = says tag UnknownCommand d
-obey house s sizes tag d (what.Append mailbox flags moment text) = says tag UnknownCommand d
-obey house s sizes tag d what.Check = says tag UnknownCommand d
-obey house s sizes tag d what.Close = says tag UnknownCommand d
+obey house s sizes tag d (what.Examine mailbox) = select tag d d.user (mailbox_of mailbox) false
+obey house s sizes tag d (what.Create mailbox) = create tag d d.user (mailbox_of mailbox)
+obey house s sizes tag d (what.Delete mailbox) = delete tag d d.user (mailbox_of mailbox)
+obey house s sizes tag d (what.Rename mailbox target) = rename tag d d.user (mailbox_of target) (mailbox_of mailbox)
+obey house s sizes tag d (what.Subscribe mailbox) = subscribe tag d d.user word.Subscribe
+obey house s sizes tag d (what.Unsubscribe mailbox) = subscribe tag d d.user word.Unsubscribe
+obey house s sizes tag d (what.List reference pattern) = list tag d d.user false reference pattern
+obey house s sizes tag d (what.Lsub reference pattern) = list tag d d.user true reference pattern
+obey house s sizes tag d (what.Status mailbox asked) = status tag d d.user (mailbox_of mailbox) asked
+obey house s sizes tag d (what.Append mailbox flags moment text) = append tag d d.user (mailbox_of mailbox) flags moment text
+obey house s sizes tag d what.Check = check s tag d d.selected
+obey house s sizes tag d what.Close = close tag d d.selected
 obey house s sizes tag d what.Expunge = expunge tag d d.selected
 obey house s sizes tag d (what.Fetch set asked by_uid) = fetch s sizes tag d (attributes_of asked) set by_uid
 obey house s sizes tag d (what.Store set how silent flags by_uid) =
     store s sizes tag d d.selected (record { how = how; flags = flags; by_uid = by_uid }) silent set
-obey house s sizes tag d (what.Copy set target by_uid) = says tag UnknownCommand d
-obey house s sizes tag d what.Authenticate = says tag UnknownCommand d
+obey house s sizes tag d (what.Copy set target by_uid) = copy tag d d.selected set (mailbox_of target) by_uid
+obey house s sizes tag d what.Authenticate = says tag NotOffered d
 
 -- one command; `sizes` has the lengths of texts
 abbrev pub turn : House → MailStore → (Body → Option ℕ) → Dialog → ImapCommand → Took
@@ -232,11 +319,30 @@ selects s stamps tag d mailbox writes =
     tells (select_lines (facts_at s stamps d.user mailbox) writes) tag (Opened writes)
     (record d { selected = Some (record { mailbox = mailbox; view = view_of (mail_of s d.user mailbox); writes = writes }) })
 
+-- the mailbox is selected
+abbrev pub is_on : List ℕ → Option Selected → Bool
+is_on mailbox None = false
+is_on mailbox (Some selected) = bytes_eq selected.mailbox mailbox
+
+-- a mailbox stays selected, unless it is the one that is no more
+abbrev pub kept_beside : List ℕ → Option Selected → Option Selected
+kept_beside mailbox selected = if is_on mailbox selected then None else selected
+
+-- the names that a LIST was shown
+abbrev pub names_in : Shown → List (List ℕ)
+names_in (Names names) = names
+names_in _ = []
+
 -- what was asked is done; the store is the one after it
 abbrev pub done : MailStore → List (BoxId × ℕ) → List ℕ → Dialog → Item → Pending → Took
 done s stamps tag d item (on.Select mailbox writes) = selects s stamps tag d mailbox writes
 done s stamps tag d item (on.Fetch form rows texts) = tells (fetch_lines form rows texts) tag (Done (fetch_word form.by_uid)) d
 done s stamps tag d item (on.Store form silent rows) = tells (if silent then [] else store_lines form rows) tag (Done (store_word form.by_uid)) d
+done s stamps tag d item (on.Plain w) = says tag (Done w) d
+done s stamps tag d item (on.Leave w mailbox) = says tag (Done w) (record d { selected = kept_beside mailbox d.selected })
+done s stamps tag d item on.Close = says tag (Done word.Close) (unselected d)
+done s stamps tag d item (on.List subscribed) = tells (list_lines (word_text (list_word subscribed)) (names_in item.shown)) tag (Done (list_word subscribed)) d
+done s stamps tag d item (on.Status mailbox asked) = tells (status_line mailbox asked (facts_at s stamps d.user mailbox)) tag (Done word.Status) d
 done s stamps tag d item (on.Follow w) = follow s tag w d d.selected
 
 -- a mailbox that can't be selected leaves none selected (RFC 3501, 6.3.1)
@@ -244,6 +350,11 @@ abbrev pub selected_after : Pending → Option Selected → Option Selected
 selected_after (on.Select mailbox writes) selected = None
 selected_after (on.Fetch form rows texts) selected = selected
 selected_after (on.Store form silent rows) selected = selected
+selected_after (on.Plain w) selected = selected
+selected_after (on.Leave w mailbox) selected = selected
+selected_after on.Close selected = selected
+selected_after (on.List subscribed) selected = selected
+selected_after (on.Status mailbox asked) selected = selected
 selected_after (on.Follow w) selected = selected
 
 -- it is not done
@@ -308,6 +419,17 @@ IsNext (Say text) d = is_free d ≡ true
 IsNext (Read bodies) d = is_reading d ≡ true
 IsNext (Submit asked) d = is_due d ≡ true
 IsNext (Bye text) d = is_free d ≡ true
+
+-- the bodies of all messages of a store pass a test
+abbrev pub holds_all : (Body → Bool) → List (BoxId × Mailbox) → Bool
+holds_all test boxes = list_all (λ (r : BoxId × Mailbox). list_all (λ (e : Entry). test e.body) r.1.entries) boxes
+
+-- what is to be read are texts of messages of the store: whatever all of these pass, they pass
+abbrev pub ReadsOf : MailStore → ImapOut → Type 0
+ReadsOf s (Read bodies) = (test : Body → Bool) → holds_all test s.boxes ≡ true → list_all test bodies ≡ true
+ReadsOf s (Say text) = Unit {0}
+ReadsOf s (Submit asked) = Unit {0}
+ReadsOf s (Bye text) = Unit {0}
 
 -- what is asked is asked by a user
 abbrev pub AsksAsUser : ImapOut → Dialog → Type 0

@@ -11,7 +11,7 @@ use Rattle.imap_lines.specs.declared.command.ImapRefused.TheVariants as unread
 use Rattle.imap_session.specs.declared.words.Word.{Word}
 use Rattle.imap_session.specs.declared.words.Word.TheVariants as word
 use Rattle.imap_session.specs.declared.words.Answer.{Answer}
-use Rattle.imap_session.specs.declared.words.Answer.TheVariants.{Done, Opened, UnknownCommand, BadArguments, WrongState, LoginFailed, ReadOnly, BadNumber, Refused as IsRefused, DiskFault}
+use Rattle.imap_session.specs.declared.words.Answer.TheVariants.{Done, Opened, UnknownCommand, BadArguments, NotOffered, WrongState, LoginFailed, ReadOnly, BadNumber, Refused as IsRefused, DiskFault}
 
 abbrev pub crlf : List ℕ
 crlf = 13 ∷ 10 ∷ []
@@ -22,14 +22,28 @@ said line = line ++ crlf
 
 -- the words of a command, as they are told
 abbrev pub word_text : Word → List ℕ
+word_text word.Capability = codes "CAPABILITY"
 word_text word.Noop = codes "NOOP"
 word_text word.Logout = codes "LOGOUT"
 word_text word.Login = codes "LOGIN"
+word_text word.Create = codes "CREATE"
+word_text word.Delete = codes "DELETE"
+word_text word.Rename = codes "RENAME"
+word_text word.Subscribe = codes "SUBSCRIBE"
+word_text word.Unsubscribe = codes "UNSUBSCRIBE"
+word_text word.List = codes "LIST"
+word_text word.Lsub = codes "LSUB"
+word_text word.Status = codes "STATUS"
+word_text word.Append = codes "APPEND"
+word_text word.Check = codes "CHECK"
+word_text word.Close = codes "CLOSE"
 word_text word.Expunge = codes "EXPUNGE"
 word_text word.Fetch = codes "FETCH"
 word_text word.Store = codes "STORE"
+word_text word.Copy = codes "COPY"
 word_text word.UidFetch = codes "UID FETCH"
 word_text word.UidStore = codes "UID STORE"
+word_text word.UidCopy = codes "UID COPY"
 
 -- the form with UIDs, or that with sequence numbers
 abbrev pub fetch_word : Bool → Word
@@ -37,6 +51,13 @@ fetch_word by_uid = if by_uid then word.UidFetch else word.Fetch
 
 abbrev pub store_word : Bool → Word
 store_word by_uid = if by_uid then word.UidStore else word.Store
+
+abbrev pub copy_word : Bool → Word
+copy_word by_uid = if by_uid then word.UidCopy else word.Copy
+
+-- LSUB gives what LIST gives: every mailbox is subscribed to
+abbrev pub list_word : Bool → Word
+list_word subscribed = if subscribed then word.Lsub else word.List
 
 -- why the store refuses
 abbrev pub refusal_text : Refused → List ℕ
@@ -59,6 +80,7 @@ answer_text (Done w) = codes "OK " ++ word_text w ++ codes " done."
 answer_text (Opened writes) = if writes then codes "OK [READ-WRITE] SELECT done." else codes "OK [READ-ONLY] EXAMINE done."
 answer_text UnknownCommand = codes "BAD Unknown command."
 answer_text BadArguments = codes "BAD Bad arguments."
+answer_text NotOffered = codes "NO Not offered."
 answer_text WrongState = codes "BAD Wrong state."
 answer_text LoginFailed = codes "NO Login failed."
 answer_text ReadOnly = codes "NO Read only."
@@ -73,6 +95,14 @@ tagged tag answer = said (tag ++ codes " " ++ answer_text answer)
 -- what a new connection is told (RFC 3501, 7.1.1)
 abbrev pub greeting_text : House → List ℕ
 greeting_text house = said (codes "* OK " ++ house.host ++ codes " IMAP4rev1 undomail")
+
+-- what is offered (RFC 3501, 7.2.1)
+abbrev pub capability_text : List ℕ
+capability_text = said (codes "* CAPABILITY IMAP4rev1")
+
+-- the answer to a LIST without a pattern: there is no delimiter (RFC 3501, 6.3.8)
+abbrev pub no_names_text : Bool → List ℕ
+no_names_text subscribed = said (codes "* " ++ word_text (list_word subscribed) ++ codes " (\\Noselect) NIL \"\"")
 
 -- a literal is invited (RFC 3501, 7.5)
 abbrev pub ready_text : List ℕ

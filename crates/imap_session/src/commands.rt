@@ -36,7 +36,7 @@ pub(crate) fn tell(mut text: Text, tag: &Name, answer: Answer) -> Result<ImapOut
     Ok(ImapOut::Say(text))
 }
 
-fn follow_view(
+pub(crate) fn follow_view(
     alloc: Global,
     store: &Store,
     user: Option<User>,
@@ -78,6 +78,22 @@ pub(crate) fn follow(
         None => say(alloc, tag, Answer::Done(word)),
         Some(selected) => follow_view(alloc, store, user, selected, tag, word),
     }
+}
+
+/// The store is asked, and the outcome is awaited.
+pub(crate) fn submit(dialog: &mut Dialog, tag: Name, asked: Ask, pending: Pending) -> ImapOut
+    ensures { spec.asks asked tag pending dialog.old ≡ took result dialog.new }
+{
+    dialog.awaits = Awaits::Outcome { tag, pending };
+    ImapOut::Submit(asked)
+}
+
+/// CAPABILITY.
+pub(crate) fn capability(alloc: Global, tag: &Name) -> Result<ImapOut, NoMemory>
+    ensures { IfOk result (λ out. out ≡ ImapOut.Say (words.capability_text ++ words.tagged tag.now (Answer.Done Word.Capability))) }
+{
+    let text = Text::of(alloc, b"* CAPABILITY IMAP4rev1\r\n")?;
+    tell(text, tag, Answer::Done(Word::Capability))
 }
 
 /// LOGOUT.

@@ -2,7 +2,7 @@
 use crate::view::View;
 use crate::words::Word;
 use imap_fetch::{FetchForm, Messages, StoreForm};
-use undo_base::{Keys, Name, Texts, User};
+use undo_base::{Keys, Name, StatusAsks, Texts, User};
 
 /// The selected mailbox, what is known of it, and whether it can be changed.
 #[derive(Drop)]
@@ -42,6 +42,26 @@ pub enum Pending {
         form: StoreForm,
         silent: bool,
         rows: Messages,
+    },
+    /// No more than that it is done.
+    Plain {
+        word: Word,
+    },
+    /// This mailbox is no more: where it is selected, none is selected any more.
+    Leave {
+        word: Word,
+        mailbox: Name,
+    },
+    /// No mailbox is selected any more.
+    Close,
+    /// The names are told.
+    List {
+        subscribed: bool,
+    },
+    /// A mailbox is told of.
+    Status {
+        mailbox: Name,
+        asked: StatusAsks,
     },
     /// The view follows the mailbox.
     Follow {

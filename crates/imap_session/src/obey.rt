@@ -6,10 +6,13 @@ ghost use Rattle.imap_session.specs.Views.{is_in_order};
 ghost use Rattle.imap_session.specs.Dialog.{took};
 ghost use Rattle.imap_session.specs.Dialog as spec;
 
-use crate::commands::{expunge, follow, login, logout, say, select};
+use crate::append::{append, check, close, copy};
+use crate::boxes::{create, delete, rename, subscribe};
+use crate::commands::{capability, expunge, follow, login, logout, say, select};
 use crate::dialog::Dialog;
 use crate::fetch::fetch;
 use crate::flags::store_flags;
+use crate::lists::{list, status};
 use crate::out::ImapOut;
 use crate::words::{Answer, Word};
 use box_store::Store;
@@ -66,41 +69,31 @@ pub(crate) fn obey(
             };
             store_flags(alloc, store, sizes, dialog, tag, form, *silent, set)
         }
-        ImapWhat::Capability => say(alloc, tag, Answer::UnknownCommand),
-        ImapWhat::Examine { mailbox: _ } => say(alloc, tag, Answer::UnknownCommand),
-        ImapWhat::Create { mailbox: _ } => say(alloc, tag, Answer::UnknownCommand),
-        ImapWhat::Delete { mailbox: _ } => say(alloc, tag, Answer::UnknownCommand),
-        ImapWhat::Rename {
-            mailbox: _,
-            target: _,
-        } => say(alloc, tag, Answer::UnknownCommand),
-        ImapWhat::Subscribe { mailbox: _ } => say(alloc, tag, Answer::UnknownCommand),
-        ImapWhat::Unsubscribe { mailbox: _ } => say(alloc, tag, Answer::UnknownCommand),
-        ImapWhat::List {
-            reference: _,
-            pattern: _,
-        } => say(alloc, tag, Answer::UnknownCommand),
-        ImapWhat::Lsub {
-            reference: _,
-            pattern: _,
-        } => say(alloc, tag, Answer::UnknownCommand),
-        ImapWhat::Status {
-            mailbox: _,
-            asked: _,
-        } => say(alloc, tag, Answer::UnknownCommand),
+        ImapWhat::Capability => capability(alloc, tag),
+        ImapWhat::Examine { mailbox } => select(alloc, dialog, tag, mailbox, false),
+        ImapWhat::Create { mailbox } => create(alloc, dialog, tag, mailbox),
+        ImapWhat::Delete { mailbox } => delete(alloc, dialog, tag, mailbox),
+        ImapWhat::Rename { mailbox, target } => rename(alloc, dialog, tag, mailbox, target),
+        ImapWhat::Subscribe { mailbox: _ } => subscribe(alloc, dialog, tag, Word::Subscribe),
+        ImapWhat::Unsubscribe { mailbox: _ } => subscribe(alloc, dialog, tag, Word::Unsubscribe),
+        ImapWhat::List { reference, pattern } => list(
+            alloc, dialog, tag, false, reference, pattern,
+        ),
+        ImapWhat::Lsub { reference, pattern } => list(alloc, dialog, tag, true, reference, pattern),
+        ImapWhat::Status { mailbox, asked } => status(alloc, dialog, tag, mailbox, asked),
         ImapWhat::Append {
-            mailbox: _,
-            flags: _,
-            moment: _,
-            text: _,
-        } => say(alloc, tag, Answer::UnknownCommand),
-        ImapWhat::Check => say(alloc, tag, Answer::UnknownCommand),
-        ImapWhat::Close => say(alloc, tag, Answer::UnknownCommand),
+            mailbox,
+            flags,
+            moment,
+            text,
+        } => append(alloc, dialog, tag, mailbox, *flags, *moment, text),
+        ImapWhat::Check => check(alloc, store, dialog.user, &mut dialog.selected, tag),
+        ImapWhat::Close => close(alloc, dialog, tag),
         ImapWhat::Copy {
-            set: _,
-            target: _,
-            by_uid: _,
-        } => say(alloc, tag, Answer::UnknownCommand),
-        ImapWhat::Authenticate => say(alloc, tag, Answer::UnknownCommand),
+            set,
+            target,
+            by_uid,
+        } => copy(alloc, dialog, tag, set, target, *by_uid),
+        ImapWhat::Authenticate => say(alloc, tag, Answer::NotOffered),
     }
 }

@@ -2,7 +2,7 @@
 ghost use Rattle.std.specs.Prelude.{◌≡◌, IsTrue, IfOk, OnOk, OnErr, true};
 ghost use Rattle.shelf.specs.Notes.{size_of};
 ghost use Rattle.verb_core.specs.Store.{is_house, IsValid};
-ghost use Rattle.imap_session.specs.Dialog.{AsksAsUser, IsNext, heard, is_at_home, is_due, is_free, is_reading, opening, settle, took, turn};
+ghost use Rattle.imap_session.specs.Dialog.{AsksAsUser, IsNext, ReadsOf, heard, is_at_home, is_due, is_free, is_reading, opening, settle, took, turn};
 ghost use Rattle.imap_session.specs.Dialog as spec;
 
 use crate::dialog::{Awaits, Dialog};
@@ -67,6 +67,7 @@ impl ImapSession {
         ensures ok { IfOk result (λ out. turn house.now store.now.store (size_of sizes.now.notes) self.old command.now ≡ took out self.new) }
         ensures next { IfOk result (λ out. IsNext out self.new) }
         ensures user { IfOk result (λ out. AsksAsUser out self.new) }
+        ensures reads { IfOk result (λ out. ReadsOf store.now.store out) }
         ensures stays { is_at_home house.now self.new ≡ true }
         ensures err { OnErr result (self.new ≡ self.old) }
     {

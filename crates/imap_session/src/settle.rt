@@ -1,5 +1,5 @@
 //! The outcome of what was asked of the store.
-ghost use Rattle.std.specs.Prelude.{◌≡◌, ◌++◌, true, if◌then◌else◌, [], IfOk, OnErr, IfSome};
+ghost use Rattle.std.specs.Prelude.{◌≡◌, ◌++◌, true, if◌then◌else◌, [], IfOk, OnOk, OnErr, IfSome, None};
 ghost use Rattle.verb_core.specs.Store.{IsValid};
 ghost use Rattle.verb_core.specs.Live.{mail_of as mail_in};
 ghost use Rattle.imap_fetch.specs.Told.{fetch_lines as told_lines, store_lines as stored_lines};
@@ -12,9 +12,10 @@ ghost use Rattle.imap_session.specs.Dialog as spec;
 use crate::commands::{follow, say, tell};
 use crate::dialog::{Awaits, Dialog, Pending, Selected};
 use crate::facts::{facts_of, mail_of};
+use crate::lists::{counted, listed};
 use crate::out::ImapOut;
 use crate::view::view_of;
-use crate::words::{Answer, fetch_word, store_word};
+use crate::words::{Answer, Word, fetch_word, store_word};
 use box_store::Store;
 use imap_fetch::{FetchForm, Messages, StoreForm, fetch_lines, store_lines};
 use imap_text::render_select;
@@ -108,6 +109,45 @@ fn stored(
     tell(text, tag, Answer::Done(store_word(form.by_uid)))
 }
 
+fn is_on(mailbox: &Name, selected: &Option<Selected>) -> bool
+    ensures { result ≡ spec.is_on mailbox.now selected.now }
+{
+    match selected {
+        None => false,
+        Some(selected) => selected.mailbox.bytes() == mailbox.bytes(),
+    }
+}
+
+/// A mailbox is no more: where it is selected, none is selected any more.
+fn leave(
+    alloc: Global,
+    selected: &mut Option<Selected>,
+    tag: &Name,
+    word: Word,
+    mailbox: &Name,
+) -> Result<ImapOut, NoMemory>
+    ensures said { IfOk result (λ out. out ≡ ImapOut.Say (words.tagged tag.now (Answer.Done word))) }
+    ensures kept { OnOk result (selected.new ≡ spec.kept_beside mailbox.now selected.old) }
+    ensures err { OnErr result (selected.new ≡ selected.old) }
+{
+    let out = say(alloc, tag, Answer::Done(word))?;
+    if is_on(mailbox, selected) {
+        *selected = None;
+    }
+    Ok(out)
+}
+
+/// No mailbox is selected any more.
+fn close(alloc: Global, selected: &mut Option<Selected>, tag: &Name) -> Result<ImapOut, NoMemory>
+    ensures said { IfOk result (λ out. out ≡ ImapOut.Say (words.tagged tag.now (Answer.Done Word.Close))) }
+    ensures none { OnOk result (selected.new ≡ None) }
+    ensures err { OnErr result (selected.new ≡ selected.old) }
+{
+    let out = say(alloc, tag, Answer::Done(Word::Close))?;
+    *selected = None;
+    Ok(out)
+}
+
 /// What was asked is done.
 fn done(
     alloc: Global,
@@ -126,13 +166,19 @@ fn done(
         ≡ took out (record { user = user; selected = selected.new; awaits = AtRest })) }
     ensures err { OnErr result (selected.new ≡ selected.old) }
 {
-    let _item = item;
     match pending {
         Pending::Select { mailbox, writes } => selects(
             alloc, store, stamps, user, selected, tag, mailbox, *writes,
         ),
         Pending::Fetch { form, rows, texts } => fetched(alloc, tag, form, rows, texts),
         Pending::Store { form, silent, rows } => stored(alloc, tag, *form, *silent, rows),
+        Pending::Plain { word } => say(alloc, tag, Answer::Done(*word)),
+        Pending::Leave { word, mailbox } => leave(alloc, selected, tag, *word, mailbox),
+        Pending::Close => close(alloc, selected, tag),
+        Pending::List { subscribed } => listed(alloc, tag, *subscribed, &item.shown),
+        Pending::Status { mailbox, asked } => {
+            counted(alloc, store, stamps, user, tag, mailbox, asked)
+        }
         Pending::Follow { word } => follow(alloc, store, user, selected, tag, *word),
     }
 }
@@ -155,6 +201,17 @@ fn give_up(selected: &mut Option<Selected>, pending: &Pending)
             form: _,
             silent: _,
             rows: _,
+        } => {}
+        Pending::Plain { word: _ } => {}
+        Pending::Leave {
+            word: _,
+            mailbox: _,
+        } => {}
+        Pending::Close => {}
+        Pending::List { subscribed: _ } => {}
+        Pending::Status {
+            mailbox: _,
+            asked: _,
         } => {}
         Pending::Follow { word: _ } => {}
     }

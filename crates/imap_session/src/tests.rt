@@ -62,13 +62,20 @@ fn stamps(alloc: Global) -> Result<Stamps, Fail> {
     Ok(stamps)
 }
 
-fn command(alloc: Global, line: &[u8]) -> Result<ImapCommand, Fail> {
+/// A line; behind an APPEND stands a literal.
+fn raw(alloc: Global, line: &[u8]) -> Result<RawCommand, Fail> {
     let mut lines = Texts::new(alloc);
+    let mut literals = Texts::new(alloc);
     lines.push(Text::of(alloc, line)?)?;
-    let raw = RawCommand {
-        lines,
-        literals: Texts::new(alloc),
-    };
+    if line.ends_with(b" ") {
+        lines.push(Text::new(alloc))?;
+        literals.push(Text::of(alloc, b"Subject: hi\r\n")?)?;
+    }
+    Ok(RawCommand { lines, literals })
+}
+
+fn command(alloc: Global, line: &[u8]) -> Result<ImapCommand, Fail> {
+    let raw = raw(alloc, line)?;
     match read_command(alloc, &raw) {
         Ok(command) => Ok(command),
         Err(_) => Err(Fail::new("no command")),
@@ -227,6 +234,78 @@ fn commands_are_answered_by_the_state(rt: HostRuntime) -> Result<(), Fail> {
         (b"o EXPUNGE", b"o BAD Wrong state.\r\n"),
         (b"p SELECT \"\"", b"p NO No such mailbox.\r\n"),
         (b"q LOGOUT", b"* BYE Bye.\r\nq OK LOGOUT done.\r\n"),
+    ];
+    assert_eq!(rt; agreed_at_first(rt.alloc(), rows)?, rows.len());
+    Ok(())
+}
+
+#[test]
+fn mailboxes_are_named_and_listed(rt: HostRuntime) -> Result<(), Fail> {
+    let rows: Rows = &[
+        (
+            b"a CAPABILITY",
+            b"* CAPABILITY IMAP4rev1\r\na OK CAPABILITY done.\r\n",
+        ),
+        (b"b AUTHENTICATE PLAIN", b"b NO Not offered.\r\n"),
+        (b"c LIST \"\" *", b"c BAD Wrong state.\r\n"),
+        (b"d LOGIN ann a1", b"d OK LOGIN done.\r\n"),
+        (
+            b"e LIST \"\" *",
+            b"* LIST () NIL \"INBOX\"\r\n* LIST () NIL \"Lost+Found\"\r\ne OK LIST done.\r\n",
+        ),
+        (
+            b"f LIST \"\" \"\"",
+            b"* LIST (\\Noselect) NIL \"\"\r\nf OK LIST done.\r\n",
+        ),
+        (
+            b"g LSUB inb %",
+            b"* LSUB () NIL \"INBOX\"\r\ng OK LSUB done.\r\n",
+        ),
+        (b"h CREATE inbox", b"h NO Mailbox is fixed.\r\n"),
+        (b"i CREATE a/b", b"i NO Bad mailbox name.\r\n"),
+        (b"j DELETE None", b"j NO No such mailbox.\r\n"),
+        (b"k RENAME None inbox", b"k NO Mailbox is fixed.\r\n"),
+        (b"l RENAME \"\" \"a*b\"", b"l NO Bad mailbox name.\r\n"),
+        (b"m RENAME \"\" Lost+Found", b"m NO Mailbox is fixed.\r\n"),
+        (b"n RENAME \"\" Work", b"n NO No such mailbox.\r\n"),
+        (b"o CREATE \"\"", b"o NO Bad mailbox name.\r\n"),
+        (b"p CREATE Work", b"p OK CREATE done.\r\n"),
+        (b"q SUBSCRIBE \"\"", b"q OK SUBSCRIBE done.\r\n"),
+        (b"r UNSUBSCRIBE Work", b"r OK UNSUBSCRIBE done.\r\n"),
+        (
+            b"s STATUS inbox (MESSAGES UIDNEXT UIDVALIDITY UNSEEN RECENT)",
+            b"* STATUS \"INBOX\" (MESSAGES 0 UIDNEXT 1 UIDVALIDITY 1 UNSEEN 0 RECENT 0)\r\ns OK STATUS done.\r\n",
+        ),
+        (b"t STATUS \"\" (RECENT)", b"t NO No such mailbox.\r\n"),
+        (b"u APPEND INBOX ", b"u OK APPEND done.\r\n"),
+        (b"v APPEND Work ", b"v NO [TRYCREATE] No such mailbox.\r\n"),
+    ];
+    assert_eq!(rt; agreed_at_first(rt.alloc(), rows)?, rows.len());
+    Ok(())
+}
+
+#[test]
+fn examined_mailboxes_stay(rt: HostRuntime) -> Result<(), Fail> {
+    let rows: Rows = &[
+        (b"a LOGIN ann a1", b"a OK LOGIN done.\r\n"),
+        (b"b CHECK", b"b BAD Wrong state.\r\n"),
+        (b"c COPY 1 INBOX", b"c BAD Wrong state.\r\n"),
+        (
+            b"d EXAMINE INBOX",
+            b"* FLAGS (\\Answered \\Flagged \\Deleted \\Seen \\Draft)\r\n* 0 EXISTS\r\n* 0 RECENT\r\n* OK [PERMANENTFLAGS ()] Kept.\r\n* OK [UIDNEXT 1] Next.\r\n* OK [UIDVALIDITY 1] Stamp.\r\nd OK [READ-ONLY] EXAMINE done.\r\n",
+        ),
+        (b"e STORE 1 FLAGS \\Seen", b"e NO Read only.\r\n"),
+        (b"f EXPUNGE", b"f NO Read only.\r\n"),
+        (b"g CHECK", b"g OK CHECK done.\r\n"),
+        (b"h UID COPY 1 INBOX", b"h OK UID COPY done.\r\n"),
+        (b"i COPY 1 None", b"i BAD Bad message number.\r\n"),
+        (
+            b"j UID COPY 1 \"\"",
+            b"j NO [TRYCREATE] No such mailbox.\r\n",
+        ),
+        (b"k RENAME INBOX Old", b"k OK RENAME done.\r\n"),
+        (b"l CLOSE", b"l OK CLOSE done.\r\n"),
+        (b"m CLOSE", b"m BAD Wrong state.\r\n"),
     ];
     assert_eq!(rt; agreed_at_first(rt.alloc(), rows)?, rows.len());
     Ok(())

@@ -9,14 +9,28 @@ use verb_core::Refused;
 /// The words of a command, as they are told.
 #[derive(Clone, Copy, Debug, PartialEq, Eq)]
 pub enum Word {
+    Capability,
     Noop,
     Logout,
     Login,
+    Create,
+    Delete,
+    Rename,
+    Subscribe,
+    Unsubscribe,
+    List,
+    Lsub,
+    Status,
+    Append,
+    Check,
+    Close,
     Expunge,
     Fetch,
     Store,
+    Copy,
     UidFetch,
     UidStore,
+    UidCopy,
 }
 
 /// What is told of a command behind its tag.
@@ -27,6 +41,7 @@ pub enum Answer {
     Opened { writes: bool },
     UnknownCommand,
     BadArguments,
+    NotOffered,
     WrongState,
     LoginFailed,
     ReadOnly,
@@ -49,18 +64,46 @@ pub(crate) fn store_word(by_uid: bool) -> Word
     if by_uid { Word::UidStore } else { Word::Store }
 }
 
-fn word_text(word: Word) -> &'static [u8]
+/// The word of a COPY.
+pub(crate) fn copy_word(by_uid: bool) -> Word
+    ensures { result ≡ spec.copy_word by_uid }
+{
+    if by_uid { Word::UidCopy } else { Word::Copy }
+}
+
+/// The word of LIST, or of LSUB.
+pub(crate) fn list_word(subscribed: bool) -> Word
+    ensures { result ≡ spec.list_word subscribed }
+{
+    if subscribed { Word::Lsub } else { Word::List }
+}
+
+pub(crate) fn word_text(word: Word) -> &'static [u8]
     ensures { result.now ≡ spec.word_text word }
 {
     match word {
+        Word::Capability => b"CAPABILITY",
         Word::Noop => b"NOOP",
         Word::Logout => b"LOGOUT",
         Word::Login => b"LOGIN",
+        Word::Create => b"CREATE",
+        Word::Delete => b"DELETE",
+        Word::Rename => b"RENAME",
+        Word::Subscribe => b"SUBSCRIBE",
+        Word::Unsubscribe => b"UNSUBSCRIBE",
+        Word::List => b"LIST",
+        Word::Lsub => b"LSUB",
+        Word::Status => b"STATUS",
+        Word::Append => b"APPEND",
+        Word::Check => b"CHECK",
+        Word::Close => b"CLOSE",
         Word::Expunge => b"EXPUNGE",
         Word::Fetch => b"FETCH",
         Word::Store => b"STORE",
+        Word::Copy => b"COPY",
         Word::UidFetch => b"UID FETCH",
         Word::UidStore => b"UID STORE",
+        Word::UidCopy => b"UID COPY",
     }
 }
 
@@ -110,6 +153,7 @@ fn push_answer(out: &mut Text, answer: Answer) -> Result<(), NoMemory>
         Answer::Opened { writes } => out.extend(opened_text(writes)),
         Answer::UnknownCommand => out.extend(b"BAD Unknown command."),
         Answer::BadArguments => out.extend(b"BAD Bad arguments."),
+        Answer::NotOffered => out.extend(b"NO Not offered."),
         Answer::WrongState => out.extend(b"BAD Wrong state."),
         Answer::LoginFailed => out.extend(b"NO Login failed."),
         Answer::ReadOnly => out.extend(b"NO Read only."),

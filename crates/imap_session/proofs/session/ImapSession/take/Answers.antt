@@ -1,7 +1,7 @@
 use Rattle.std.proofs.Common.{◌≡◌, subst, sym, true}
 use Rattle.shelf.specs.Notes.{size_of}
 use Rattle.imap_session.specs.declared.dialog.Dialog.{Dialog}
-use Rattle.imap_session.specs.Dialog.{AsksAsUser, IsNext, is_at_home, is_free, turn}
+use Rattle.imap_session.specs.Dialog.{AsksAsUser, IsNext, ReadsOf, is_at_home, is_free, turn}
 use Rattle.imap_session.specs.Sound.{IsSound}
 use Rattle.imap_session.proofs.Turns.{fine_obey}
 use Rattle.imap_session.proofs.Settled.{dialog_after, out_after}
@@ -10,19 +10,24 @@ use Rattle.imap_session.proofs.session.ImapSession.take.Goals as goal
 pub invariant_of-self : goal.invariant_of-self
 invariant_of-self c =
     dialog_after c.obey.result (turn c.args.house.now c.args.store.now.store (size_of c.args.sizes.now.notes) c.self.inside.dialog c.args.command.now) c.self.inside.dialog c.obey.new.dialog c.obey.ensures.ok c.obey.ensures.err IsSound
-    (fine_obey c.args.house.now c.self.inside.dialog c.self.invariant (subst (λ (d : Dialog). is_free d ≡ true) (sym c.self.view_is) c.requires.free) c.args.store.now.store (size_of c.args.sizes.now.notes) c.args.command.now.tag c.args.command.now.what c.requires.valid).sound c.self.invariant
+    (fine_obey c.args.house.now c.args.store.now.store c.self.inside.dialog c.self.invariant (subst (λ (d : Dialog). is_free d ≡ true) (sym c.self.view_is) c.requires.free) (size_of c.args.sizes.now.notes) c.args.command.now.tag c.args.command.now.what c.requires.valid).sound c.self.invariant
 
 pub returns-clause-next : goal.returns-clause-next
 returns-clause-next c =
     out_after c.obey.result (turn c.args.house.now c.args.store.now.store (size_of c.args.sizes.now.notes) c.self.inside.dialog c.args.command.now) c.obey.new.dialog c.obey.ensures.ok IsNext
-    (fine_obey c.args.house.now c.self.inside.dialog c.self.invariant (subst (λ (d : Dialog). is_free d ≡ true) (sym c.self.view_is) c.requires.free) c.args.store.now.store (size_of c.args.sizes.now.notes) c.args.command.now.tag c.args.command.now.what c.requires.valid).next
+    (fine_obey c.args.house.now c.args.store.now.store c.self.inside.dialog c.self.invariant (subst (λ (d : Dialog). is_free d ≡ true) (sym c.self.view_is) c.requires.free) (size_of c.args.sizes.now.notes) c.args.command.now.tag c.args.command.now.what c.requires.valid).next
 
 pub returns-clause-user : goal.returns-clause-user
 returns-clause-user c =
     out_after c.obey.result (turn c.args.house.now c.args.store.now.store (size_of c.args.sizes.now.notes) c.self.inside.dialog c.args.command.now) c.obey.new.dialog c.obey.ensures.ok AsksAsUser
-    (fine_obey c.args.house.now c.self.inside.dialog c.self.invariant (subst (λ (d : Dialog). is_free d ≡ true) (sym c.self.view_is) c.requires.free) c.args.store.now.store (size_of c.args.sizes.now.notes) c.args.command.now.tag c.args.command.now.what c.requires.valid).user
+    (fine_obey c.args.house.now c.args.store.now.store c.self.inside.dialog c.self.invariant (subst (λ (d : Dialog). is_free d ≡ true) (sym c.self.view_is) c.requires.free) (size_of c.args.sizes.now.notes) c.args.command.now.tag c.args.command.now.what c.requires.valid).user
+
+pub returns-clause-reads : goal.returns-clause-reads
+returns-clause-reads c =
+    out_after c.obey.result (turn c.args.house.now c.args.store.now.store (size_of c.args.sizes.now.notes) c.self.inside.dialog c.args.command.now) c.obey.new.dialog c.obey.ensures.ok (λ out d. ReadsOf c.args.store.now.store out)
+    (fine_obey c.args.house.now c.args.store.now.store c.self.inside.dialog c.self.invariant (subst (λ (d : Dialog). is_free d ≡ true) (sym c.self.view_is) c.requires.free) (size_of c.args.sizes.now.notes) c.args.command.now.tag c.args.command.now.what c.requires.valid).reads
 
 pub returns-clause-stays : goal.returns-clause-stays
 returns-clause-stays c =
     dialog_after c.obey.result (turn c.args.house.now c.args.store.now.store (size_of c.args.sizes.now.notes) c.self.inside.dialog c.args.command.now) c.self.inside.dialog c.obey.new.dialog c.obey.ensures.ok c.obey.ensures.err (λ (d : Dialog). is_at_home c.args.house.now d ≡ true)
-    ((fine_obey c.args.house.now c.self.inside.dialog c.self.invariant (subst (λ (d : Dialog). is_free d ≡ true) (sym c.self.view_is) c.requires.free) c.args.store.now.store (size_of c.args.sizes.now.notes) c.args.command.now.tag c.args.command.now.what c.requires.valid).home (subst (λ (d : Dialog). is_at_home c.args.house.now d ≡ true) (sym c.self.view_is) c.requires.home)) (subst (λ (d : Dialog). is_at_home c.args.house.now d ≡ true) (sym c.self.view_is) c.requires.home)
+    ((fine_obey c.args.house.now c.args.store.now.store c.self.inside.dialog c.self.invariant (subst (λ (d : Dialog). is_free d ≡ true) (sym c.self.view_is) c.requires.free) (size_of c.args.sizes.now.notes) c.args.command.now.tag c.args.command.now.what c.requires.valid).home (subst (λ (d : Dialog). is_at_home c.args.house.now d ≡ true) (sym c.self.view_is) c.requires.home)) (subst (λ (d : Dialog). is_at_home c.args.house.now d ≡ true) (sym c.self.view_is) c.requires.home)

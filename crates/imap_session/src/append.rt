@@ -1,0 +1,157 @@
+//! APPEND, CHECK, CLOSE and COPY (RFC 3501, sections 6.3.11, 6.4.1, 6.4.2 and 6.4.7).
+ghost use Rattle.std.specs.Prelude.{◌≡◌, true, not, IfOk, OnErr, IfSome};
+ghost use Rattle.verb_core.specs.Store.{IsValid};
+ghost use Rattle.imap_session.specs.declared.dialog.Awaits.{Awaits as TheAwaits};
+ghost use Rattle.imap_session.specs.Names.{mailbox_of as mailbox_named};
+ghost use Rattle.imap_session.specs.Views.{is_in_order};
+ghost use Rattle.imap_session.specs.Words as words;
+ghost use Rattle.imap_session.specs.Dialog.{took};
+ghost use Rattle.imap_session.specs.Dialog as spec;
+
+use crate::commands::{follow_view, say, submit};
+use crate::dialog::{Dialog, Pending, Selected};
+use crate::named::{keys_at, places_named};
+use crate::names::mailbox_of;
+use crate::out::ImapOut;
+use crate::words::{Answer, Word, copy_word};
+use box_store::Store;
+use imap_lines::SetText;
+use std::alloc::Global;
+use undo_base::{Flags, Keys, Name, NoMemory, Text, User};
+use verb_core::{Ask, Refused};
+
+fn submit_append(
+    alloc: Global,
+    dialog: &mut Dialog,
+    tag: &Name,
+    mailbox: Name,
+    flags: Flags,
+    moment: Option<u64>,
+    text: &Text,
+) -> Result<ImapOut, NoMemory>
+    ensures ok { IfOk result (λ out. spec.asks (Ask.Append mailbox flags moment text.now) tag.now (Pending.Follow Word.Append) dialog.old ≡ took out dialog.new) }
+    ensures err { OnErr result (dialog.new ≡ dialog.old) }
+{
+    let tag = tag.copy(alloc)?;
+    let text = text.copy(alloc)?;
+    let asked = Ask::Append {
+        mailbox,
+        flags,
+        moment,
+        text,
+    };
+    let pending = Pending::Follow { word: Word::Append };
+    Ok(submit(dialog, tag, asked, pending))
+}
+
+/// APPEND.
+pub(crate) fn append(
+    alloc: Global,
+    dialog: &mut Dialog,
+    tag: &Name,
+    mailbox: &Text,
+    flags: Flags,
+    moment: Option<u64>,
+    text: &Text,
+) -> Result<ImapOut, NoMemory>
+    ensures ok { IfOk result (λ out. spec.append tag.now dialog.old dialog.old.user (mailbox_named mailbox.now) flags moment text.now ≡ took out dialog.new) }
+    ensures err { OnErr result (dialog.new ≡ dialog.old) }
+{
+    match dialog.user {
+        None => say(alloc, tag, Answer::WrongState),
+        Some(_) => match mailbox_of(alloc, mailbox)? {
+            None => say(alloc, tag, Answer::Refused(Refused::TryCreate)),
+            Some(mailbox) => submit_append(alloc, dialog, tag, mailbox, flags, moment, text),
+        },
+    }
+}
+
+/// CHECK.
+pub(crate) fn check(
+    alloc: Global,
+    store: &Store,
+    user: Option<User>,
+    selected: &mut Option<Selected>,
+    tag: &Name,
+) -> Result<ImapOut, NoMemory>
+    requires valid { IsValid store.now.store }
+    requires order { IfSome selected.old (λ s. is_in_order s.view ≡ true) }
+    ensures ok { IfOk result (λ out. (awaits : TheAwaits) →
+        spec.check store.now.store tag.now (record { user = user; selected = selected.old; awaits = awaits }) selected.old
+        ≡ took out (record { user = user; selected = selected.new; awaits = awaits })) }
+    ensures err { OnErr result (selected.new ≡ selected.old) }
+{
+    match selected {
+        None => say(alloc, tag, Answer::WrongState),
+        Some(selected) => follow_view(alloc, store, user, selected, tag, Word::Check),
+    }
+}
+
+/// CLOSE, which removes nothing after EXAMINE.
+pub(crate) fn close(alloc: Global, dialog: &mut Dialog, tag: &Name) -> Result<ImapOut, NoMemory>
+    ensures ok { IfOk result (λ out. spec.close tag.now dialog.old dialog.old.selected ≡ took out dialog.new) }
+    ensures err { OnErr result (dialog.new ≡ dialog.old) }
+{
+    match &dialog.selected {
+        None => say(alloc, tag, Answer::WrongState),
+        Some(selected) => {
+            let mailbox = selected.mailbox.copy(alloc)?;
+            let removes = selected.writes;
+            let tag = tag.copy(alloc)?;
+            let asked = Ask::Close { mailbox, removes };
+            Ok(submit(dialog, tag, asked, Pending::Close))
+        }
+    }
+}
+
+fn submit_copy(
+    alloc: Global,
+    dialog: &mut Dialog,
+    tag: &Name,
+    mailbox: Name,
+    keys: Keys,
+    target: Name,
+    by_uid: bool,
+) -> Result<ImapOut, NoMemory>
+    ensures ok { IfOk result (λ out. spec.asks (Ask.Copy mailbox keys target (not by_uid)) tag.now (Pending.Follow (words.copy_word by_uid)) dialog.old ≡ took out dialog.new) }
+    ensures err { OnErr result (dialog.new ≡ dialog.old) }
+{
+    let tag = tag.copy(alloc)?;
+    let asked = Ask::Copy {
+        mailbox,
+        keys,
+        target,
+        strict: !by_uid,
+    };
+    let pending = Pending::Follow {
+        word: copy_word(by_uid),
+    };
+    Ok(submit(dialog, tag, asked, pending))
+}
+
+/// COPY and UID COPY.
+pub(crate) fn copy(
+    alloc: Global,
+    dialog: &mut Dialog,
+    tag: &Name,
+    set: &SetText,
+    target: &Text,
+    by_uid: bool,
+) -> Result<ImapOut, NoMemory>
+    requires { IfSome dialog.old.selected (λ s. is_in_order s.view ≡ true) }
+    ensures ok { IfOk result (λ out. spec.copy tag.now dialog.old dialog.old.selected set.now (mailbox_named target.now) by_uid ≡ took out dialog.new) }
+    ensures err { OnErr result (dialog.new ≡ dialog.old) }
+{
+    let Some(selected) = &dialog.selected else {
+        return say(alloc, tag, Answer::WrongState);
+    };
+    let Some(places) = places_named(alloc, &selected.view, set, by_uid)? else {
+        return say(alloc, tag, Answer::BadNumber);
+    };
+    let Some(target) = mailbox_of(alloc, target)? else {
+        return say(alloc, tag, Answer::Refused(Refused::TryCreate));
+    };
+    let keys = keys_at(alloc, &selected.view, &places)?;
+    let mailbox = selected.mailbox.copy(alloc)?;
+    submit_copy(alloc, dialog, tag, mailbox, keys, target, by_uid)
+}

@@ -1,0 +1,199 @@
+//! CREATE, DELETE, RENAME, SUBSCRIBE and UNSUBSCRIBE (RFC 3501, sections 6.3.3 to 6.3.7).
+ghost use Rattle.std.specs.Prelude.{◌≡◌, ◌||◌, ◌==◌, not, IfOk, OnErr};
+ghost use Rattle.verb_core.specs.Names.{is_fixed as is_fixed_name, is_new_name as is_new, is_wildcard};
+ghost use Rattle.imap_session.specs.Names.{mailbox_of as mailbox_named};
+ghost use Rattle.imap_session.specs.Dialog.{took};
+ghost use Rattle.imap_session.specs.Dialog as spec;
+
+use crate::commands::{say, submit};
+use crate::dialog::{Dialog, Pending};
+use crate::names::mailbox_of;
+use crate::out::ImapOut;
+use crate::words::{Answer, Word};
+use std::alloc::Global;
+use undo_base::{Name, NoMemory, Text};
+use verb_core::{Ask, Refused};
+
+fn create_named(
+    alloc: Global,
+    dialog: &mut Dialog,
+    tag: &Name,
+    mailbox: Name,
+) -> Result<ImapOut, NoMemory>
+    ensures ok { IfOk result (λ out. spec.asks (Ask.Create mailbox) tag.now (Pending.Plain Word.Create) dialog.old ≡ took out dialog.new) }
+    ensures err { OnErr result (dialog.new ≡ dialog.old) }
+{
+    let tag = tag.copy(alloc)?;
+    let pending = Pending::Plain { word: Word::Create };
+    Ok(submit(dialog, tag, Ask::Create { mailbox }, pending))
+}
+
+/// CREATE.
+pub(crate) fn create(
+    alloc: Global,
+    dialog: &mut Dialog,
+    tag: &Name,
+    mailbox: &Text,
+) -> Result<ImapOut, NoMemory>
+    ensures ok { IfOk result (λ out. spec.create tag.now dialog.old dialog.old.user (mailbox_named mailbox.now) ≡ took out dialog.new) }
+    ensures err { OnErr result (dialog.new ≡ dialog.old) }
+{
+    match dialog.user {
+        None => say(alloc, tag, Answer::WrongState),
+        Some(_) => match mailbox_of(alloc, mailbox)? {
+            None => say(alloc, tag, Answer::Refused(Refused::NameShape)),
+            Some(mailbox) => create_named(alloc, dialog, tag, mailbox),
+        },
+    }
+}
+
+fn delete_named(
+    alloc: Global,
+    dialog: &mut Dialog,
+    tag: &Name,
+    mailbox: Name,
+) -> Result<ImapOut, NoMemory>
+    ensures ok { IfOk result (λ out. spec.asks (Ask.Delete mailbox) tag.now (Pending.Leave Word.Delete mailbox) dialog.old ≡ took out dialog.new) }
+    ensures err { OnErr result (dialog.new ≡ dialog.old) }
+{
+    let tag = tag.copy(alloc)?;
+    let copy = mailbox.copy(alloc)?;
+    let pending = Pending::Leave {
+        word: Word::Delete,
+        mailbox: copy,
+    };
+    Ok(submit(dialog, tag, Ask::Delete { mailbox }, pending))
+}
+
+/// DELETE.
+pub(crate) fn delete(
+    alloc: Global,
+    dialog: &mut Dialog,
+    tag: &Name,
+    mailbox: &Text,
+) -> Result<ImapOut, NoMemory>
+    ensures ok { IfOk result (λ out. spec.delete tag.now dialog.old dialog.old.user (mailbox_named mailbox.now) ≡ took out dialog.new) }
+    ensures err { OnErr result (dialog.new ≡ dialog.old) }
+{
+    match dialog.user {
+        None => say(alloc, tag, Answer::WrongState),
+        Some(_) => match mailbox_of(alloc, mailbox)? {
+            None => say(alloc, tag, Answer::Refused(Refused::NoBox)),
+            Some(mailbox) => delete_named(alloc, dialog, tag, mailbox),
+        },
+    }
+}
+
+fn is_plain(byte: u8) -> bool
+    ensures { result ≡ not (is_wildcard byte || byte == 47) }
+{
+    byte != b'*' && byte != b'%' && byte != b'/'
+}
+
+fn is_new_name(name: &[u8]) -> bool
+    ensures { result ≡ is_new name.now }
+{
+    name.iter().all(|byte| is_plain(*byte))
+}
+
+fn is_fixed(name: &[u8]) -> bool
+    ensures { result ≡ is_fixed_name name.now }
+{
+    name == b"INBOX".as_slice() || name == b"Lost+Found".as_slice()
+}
+
+/// Why a mailbox that is not there can't get a name.
+fn target_refused(target: &Name) -> Refused
+    ensures { result ≡ spec.target_refused target.now }
+{
+    let target = target.bytes();
+    if !is_new_name(target) {
+        return Refused::NameShape;
+    }
+    if is_fixed(target) {
+        return Refused::Fixed;
+    }
+    Refused::NoBox
+}
+
+/// What follows a RENAME: INBOX stays where it is.
+fn after_rename(alloc: Global, mailbox: &Name) -> Result<Pending, NoMemory>
+    ensures { IfOk result (λ pending. pending ≡ spec.after_rename mailbox.now) }
+{
+    if mailbox.bytes() == b"INBOX".as_slice() {
+        return Ok(Pending::Plain { word: Word::Rename });
+    }
+    Ok(Pending::Leave {
+        word: Word::Rename,
+        mailbox: mailbox.copy(alloc)?,
+    })
+}
+
+fn rename_named(
+    alloc: Global,
+    dialog: &mut Dialog,
+    tag: &Name,
+    mailbox: Name,
+    target: Name,
+) -> Result<ImapOut, NoMemory>
+    ensures ok { IfOk result (λ out. spec.asks (Ask.Rename mailbox target) tag.now (spec.after_rename mailbox) dialog.old ≡ took out dialog.new) }
+    ensures err { OnErr result (dialog.new ≡ dialog.old) }
+{
+    let tag = tag.copy(alloc)?;
+    let pending = after_rename(alloc, &mailbox)?;
+    Ok(submit(dialog, tag, Ask::Rename { mailbox, target }, pending))
+}
+
+fn rename_to(
+    alloc: Global,
+    dialog: &mut Dialog,
+    tag: &Name,
+    mailbox: Option<Name>,
+    target: Name,
+) -> Result<ImapOut, NoMemory>
+    ensures ok { IfOk result (λ out. spec.rename_to tag.now dialog.old target mailbox ≡ took out dialog.new) }
+    ensures err { OnErr result (dialog.new ≡ dialog.old) }
+{
+    match mailbox {
+        None => say(alloc, tag, Answer::Refused(target_refused(&target))),
+        Some(mailbox) => rename_named(alloc, dialog, tag, mailbox, target),
+    }
+}
+
+/// RENAME.
+pub(crate) fn rename(
+    alloc: Global,
+    dialog: &mut Dialog,
+    tag: &Name,
+    mailbox: &Text,
+    target: &Text,
+) -> Result<ImapOut, NoMemory>
+    ensures ok { IfOk result (λ out. spec.rename tag.now dialog.old dialog.old.user (mailbox_named target.now) (mailbox_named mailbox.now) ≡ took out dialog.new) }
+    ensures err { OnErr result (dialog.new ≡ dialog.old) }
+{
+    match dialog.user {
+        None => say(alloc, tag, Answer::WrongState),
+        Some(_) => match mailbox_of(alloc, target)? {
+            None => say(alloc, tag, Answer::Refused(Refused::NameShape)),
+            Some(target) => {
+                let mailbox = mailbox_of(alloc, mailbox)?;
+                rename_to(alloc, dialog, tag, mailbox, target)
+            }
+        },
+    }
+}
+
+/// SUBSCRIBE and UNSUBSCRIBE, which change nothing.
+pub(crate) fn subscribe(
+    alloc: Global,
+    dialog: &Dialog,
+    tag: &Name,
+    word: Word,
+) -> Result<ImapOut, NoMemory>
+    ensures { IfOk result (λ out. spec.subscribe tag.now dialog.now dialog.now.user word ≡ took out dialog.now) }
+{
+    match dialog.user {
+        None => say(alloc, tag, Answer::WrongState),
+        Some(_) => say(alloc, tag, Answer::Done(word)),
+    }
+}

@@ -1,0 +1,179 @@
+//! LIST, LSUB and STATUS (RFC 3501, sections 6.3.8 to 6.3.10).
+ghost use Rattle.std.specs.Prelude.{◌≡◌, ◌++◌, [], IfOk, OnErr};
+ghost use Rattle.verb_core.specs.Store.{IsValid};
+ghost use Rattle.imap_text.specs.Answers.{list_lines, status_line};
+ghost use Rattle.imap_session.specs.Names.{mailbox_of as mailbox_named};
+ghost use Rattle.imap_session.specs.Words as words;
+ghost use Rattle.imap_session.specs.Dialog.{took};
+ghost use Rattle.imap_session.specs.Dialog as spec;
+
+use crate::commands::{say, submit, tell};
+use crate::dialog::{Dialog, Pending};
+use crate::facts::facts_of;
+use crate::names::mailbox_of;
+use crate::out::ImapOut;
+use crate::words::{Answer, Word, list_word, word_text};
+use box_store::Store;
+use imap_text::{render_list, render_status};
+use std::alloc::Global;
+use undo_base::{Name, Names, NoMemory, StatusAsks, Text, User};
+use verb_core::{Ask, Refused, Shown, Stamps};
+
+/// The answer to a LIST without a pattern.
+fn no_names(alloc: Global, tag: &Name, subscribed: bool) -> Result<ImapOut, NoMemory>
+    ensures { IfOk result (λ out. out ≡ ImapOut.Say (words.no_names_text subscribed ++ words.tagged tag.now (Answer.Done (words.list_word subscribed)))) }
+{
+    let mut text = Text::of(alloc, b"* ")?;
+    text.extend(word_text(list_word(subscribed)))?;
+    text.extend(b" (\\Noselect) NIL \"\"\r\n")?;
+    tell(text, tag, Answer::Done(list_word(subscribed)))
+}
+
+/// The reference and the pattern behind it.
+fn joined(alloc: Global, reference: &Text, pattern: &Text) -> Result<Text, NoMemory>
+    ensures { IfOk result (λ text. text ≡ reference.now ++ pattern.now) }
+{
+    let mut text = reference.copy(alloc)?;
+    text.extend(pattern.bytes())?;
+    Ok(text)
+}
+
+fn submit_list(
+    alloc: Global,
+    dialog: &mut Dialog,
+    tag: &Name,
+    subscribed: bool,
+    reference: &Text,
+    pattern: &Text,
+) -> Result<ImapOut, NoMemory>
+    ensures ok { IfOk result (λ out. spec.asks (Ask.List (reference.now ++ pattern.now)) tag.now (Pending.List subscribed) dialog.old ≡ took out dialog.new) }
+    ensures err { OnErr result (dialog.new ≡ dialog.old) }
+{
+    let tag = tag.copy(alloc)?;
+    let pattern = joined(alloc, reference, pattern)?;
+    let pending = Pending::List { subscribed };
+    Ok(submit(dialog, tag, Ask::List { pattern }, pending))
+}
+
+/// LIST and LSUB.
+pub(crate) fn list(
+    alloc: Global,
+    dialog: &mut Dialog,
+    tag: &Name,
+    subscribed: bool,
+    reference: &Text,
+    pattern: &Text,
+) -> Result<ImapOut, NoMemory>
+    ensures ok { IfOk result (λ out. spec.list tag.now dialog.old dialog.old.user subscribed reference.now pattern.now ≡ took out dialog.new) }
+    ensures err { OnErr result (dialog.new ≡ dialog.old) }
+{
+    match dialog.user {
+        None => say(alloc, tag, Answer::WrongState),
+        Some(_) => {
+            if pattern.bytes().len() == 0 {
+                no_names(alloc, tag, subscribed)
+            } else {
+                submit_list(alloc, dialog, tag, subscribed, reference, pattern)
+            }
+        }
+    }
+}
+
+/// The names that a LIST was shown, or these, which are none.
+fn names_in<'a>(shown: &'a Shown, none: &'a Names) -> &'a Names
+    requires { none.now ≡ [] }
+    ensures { result.now ≡ spec.names_in shown.entry.now }
+{
+    match shown {
+        Shown::Names(names) => names,
+        Shown::Nothing => none,
+        Shown::Seen(_) => none,
+        Shown::Count(_) => none,
+        Shown::Done(_) => none,
+        Shown::Copied {
+            keys: _,
+            redirected: _,
+        } => none,
+        Shown::Put { redirected: _ } => none,
+        Shown::Left(_) => none,
+        Shown::Way(_) => none,
+        Shown::Moved(_) => none,
+    }
+}
+
+/// The names that a LIST was shown are told.
+pub(crate) fn listed(
+    alloc: Global,
+    tag: &Name,
+    subscribed: bool,
+    shown: &Shown,
+) -> Result<ImapOut, NoMemory>
+    ensures { IfOk result (λ out. out ≡ ImapOut.Say (list_lines (words.word_text (words.list_word subscribed)) (spec.names_in shown.now) ++ words.tagged tag.now (Answer.Done (words.list_word subscribed)))) }
+{
+    let none = Names::new(alloc);
+    let word = word_text(list_word(subscribed));
+    let text = render_list(alloc, word, names_in(shown, &none))?;
+    tell(text, tag, Answer::Done(list_word(subscribed)))
+}
+
+fn copy_asks(alloc: Global, asked: &StatusAsks) -> Result<StatusAsks, NoMemory>
+    ensures { IfOk result (λ copy. copy ≡ asked.now) }
+{
+    Ok(StatusAsks::from_vec(Vec::from_slice(alloc, asked.as_slice())?))
+}
+
+fn submit_status(
+    alloc: Global,
+    dialog: &mut Dialog,
+    tag: &Name,
+    mailbox: Name,
+    asked: &StatusAsks,
+) -> Result<ImapOut, NoMemory>
+    ensures ok { IfOk result (λ out. spec.asks (Ask.Status mailbox) tag.now (Pending.Status mailbox asked.now) dialog.old ≡ took out dialog.new) }
+    ensures err { OnErr result (dialog.new ≡ dialog.old) }
+{
+    let tag = tag.copy(alloc)?;
+    let pending = Pending::Status {
+        mailbox: mailbox.copy(alloc)?,
+        asked: copy_asks(alloc, asked)?,
+    };
+    Ok(submit(dialog, tag, Ask::Status { mailbox }, pending))
+}
+
+/// STATUS.
+pub(crate) fn status(
+    alloc: Global,
+    dialog: &mut Dialog,
+    tag: &Name,
+    mailbox: &Text,
+    asked: &StatusAsks,
+) -> Result<ImapOut, NoMemory>
+    ensures ok { IfOk result (λ out. spec.status tag.now dialog.old dialog.old.user (mailbox_named mailbox.now) asked.now ≡ took out dialog.new) }
+    ensures err { OnErr result (dialog.new ≡ dialog.old) }
+{
+    match dialog.user {
+        None => say(alloc, tag, Answer::WrongState),
+        Some(_) => match mailbox_of(alloc, mailbox)? {
+            None => say(alloc, tag, Answer::Refused(Refused::NoBox)),
+            Some(mailbox) => submit_status(alloc, dialog, tag, mailbox, asked),
+        },
+    }
+}
+
+/// A mailbox is told of.
+pub(crate) fn counted(
+    alloc: Global,
+    store: &Store,
+    stamps: &Stamps,
+    user: Option<User>,
+    tag: &Name,
+    mailbox: &Name,
+    asked: &StatusAsks,
+) -> Result<ImapOut, NoMemory>
+    requires { IsValid store.now.store }
+    ensures { IfOk result (λ out. out ≡ ImapOut.Say (status_line mailbox.now asked.now (spec.facts_at store.now.store stamps.now user mailbox.now) ++ words.tagged tag.now (Answer.Done Word.Status))) }
+{
+    let facts = facts_of(store, stamps, user, mailbox)?;
+    let text = render_status(alloc, mailbox, asked, &facts)?;
+    tell(text, tag, Answer::Done(Word::Status))
+}
