@@ -1,0 +1,126 @@
+-- The texts of bodies, by the items that brought them.
+use Rattle.std.proofs.Common.{◌≡◌, ◌≢◌, ℕ, ◌+◌, ◌<◌, ◌≤◌, ◌==◌, Bool, true, false, ◌&&◌, cond, List, [], ◌∷◌, ◌++◌, length, find, Option, None, Some, is_some, option_map, option_and_then, refl, ap, ap₂, sym, subst, ◌∙◌, arith, nat_lt}
+use Rattle.std.specs.List.{AllByRecursion}
+use Rattle.std.specs.Cmp.{first_so, second_so}
+use Rattle.std.proofs.lemmas.Bool.{ltb-true}
+use Rattle.std.proofs.lemmas.Bool.Decides.{nat_tests}
+use Rattle.verb_core.specs.declared.item.Item.{Item}
+use Rattle.verb_core.specs.declared.mailbox.Body.{Body}
+use Rattle.verb_core.specs.Items.{NumbersApart, text_in, text_of}
+use Rattle.shelf.specs.declared.note.Note.{Note}
+use Rattle.shelf.specs.Notes.{same_body, size_of}
+use Rattle.mail_desk.specs.Timeline.{numbers_rise, item_of, body_of, has_text, told_by, NotesText}
+use Rattle.mail_desk.proofs.Timelines.{low_below, unequal}
+
+-- whether an item brought the text of a body
+abbrev brings : Body → Item → Bool
+brings body i = (i.number == body.origin) && (i.rev == body.rev) && is_some (text_in i.deed)
+
+-- no item of these has the body's number
+none_numbered : (t : List Item) (body : Body) (number : ℕ) → AllByRecursion (λ (j : Item). number ≢ j.number) t → number ≡ body.origin → text_of t body ≡ None
+none_numbered [] body number apart is = refl
+none_numbered (j ∷ t) body number apart is =
+    let no : (j.number == body.origin) ≡ false = unequal j.number body.origin (λ e. apart.0 (is ∙ sym e)) in
+    rw no (none_numbered t body number apart.1 is)
+
+-- the item of the body's number tells the text
+by_item : (i : Item) (body : Body) (rest : Option (List ℕ)) (same : Bool) (o : Option (List ℕ)) → text_in i.deed ≡ o → rest ≡ None
+    → cond (true && same && is_some o) o rest ≡ cond same o None
+by_item i body rest true (Some text) is none = refl
+by_item i body rest true None is none = none
+by_item i body rest false (Some text) is none = none
+by_item i body rest false None is none = none
+
+through : {A B : Type 0} (f : A → Option B) (b : Bool) (x : A) (o : Option A) → option_and_then f (cond b (Some x) o) ≡ cond b (f x) (option_and_then f o)
+through f true x o = refl
+through f false x o = refl
+
+pub text_by_item : (t : List Item) → NumbersApart t → (body : Body) → text_of t body ≡ option_and_then (told_by body) (item_of t body.origin)
+text_by_item [] apart body = refl
+text_by_item (i ∷ t) apart body =
+    through (λ (j : Item). text_in j.deed) (brings body i) i (find (brings body) t)
+    ∙ elim (i.number == body.origin) as (λ b. (i.number == body.origin) ≡ b → cond (b && (i.rev == body.rev) && is_some (text_in i.deed)) (text_in i.deed) (text_of t body) ≡ option_and_then (told_by body) (cond b (Some i) (item_of t body.origin))) [
+      | true ↦ λ e. by_item i body (text_of t body) (i.rev == body.rev) (text_in i.deed) refl (none_numbered t body i.number apart.0 (let same : i.number ≡ body.origin = grind (arith, nat_tests) in same))
+      | false ↦ λ e. text_by_item t apart.1 body
+    ] refl
+
+-- ---- an item more
+
+-- a body of a number that comes later has no text
+pub text_none : (low : ℕ) (t : List Item) (next : ℕ) (body : Body) → numbers_rise low t next ≡ true → next ≤ body.origin → text_of t body ≡ None
+text_none low [] next body rise later = refl
+text_none low (i ∷ t) next body rise later =
+    let rest = second_so (nat_lt low i.number) _ rise in
+    let below : i.number < next = low_below i.number t next rest in
+    let no : (i.number == body.origin) ≡ false = unequal i.number body.origin (λ e. let wrong : i.number ≡ body.origin = e in absurd (omega arith)) in
+    rw no (text_none i.number t next body rest later)
+
+-- of the first that brings the text, or else of the last
+first_or : (b : Bool) (o rest last : Option (List ℕ)) → (b ≡ true → is_some o ≡ true) → cond b o (cond (is_some rest) rest last) ≡ cond (is_some (cond b o rest)) (cond b o rest) last
+first_or true o rest last some = ap (λ s. cond s o last) (sym (some refl))
+first_or false o rest last some = refl
+
+pub text_more : (t : List Item) (i : Item) (body : Body) → text_of (t ++ i ∷ []) body ≡ cond (is_some (text_of t body)) (text_of t body) (text_of (i ∷ []) body)
+text_more [] i body = refl
+text_more (j ∷ t) i body =
+    through (λ (k : Item). text_in k.deed) (brings body j) j (find (brings body) (t ++ i ∷ []))
+    ∙ ap (cond (brings body j) (text_in j.deed)) (text_more t i body)
+    ∙ first_or (brings body j) (text_in j.deed) (text_of t body) (text_of (i ∷ []) body) (λ e. second_so ((j.number == body.origin) && (j.rev == body.rev)) (is_some (text_in j.deed)) e)
+    ∙ ap (λ (o : Option (List ℕ)). cond (is_some o) o (text_of (i ∷ []) body)) (sym (through (λ (k : Item). text_in k.deed) (brings body j) j (find (brings body) t)))
+
+alone : (same : Bool) (o : Option (List ℕ)) → cond (same && is_some o) o None ≡ cond same o None
+alone true None = refl
+alone true (Some text) = refl
+alone false None = refl
+alone false (Some text) = refl
+
+-- of one item
+pub text_single : (i : Item) (body : Body) → text_of (i ∷ []) body ≡ cond (same_body (body_of i) body) (text_in i.deed) None
+text_single i body = through (λ (k : Item). text_in k.deed) (brings body i) i None ∙ alone (same_body (body_of i) body) (text_in i.deed)
+
+-- a text stays
+pub text_stays : (t : List Item) (i : Item) (body : Body) → has_text t body ≡ true → has_text (t ++ i ∷ []) body ≡ true
+text_stays t i body has = ap is_some (text_more t i body ∙ ap (λ b. cond b (text_of t body) (text_of (i ∷ []) body)) has) ∙ has
+
+or_there : (o : Option (List ℕ)) (last : Option (List ℕ)) → is_some last ≡ true → is_some (cond (is_some o) o last) ≡ true
+or_there None last some = some
+or_there (Some text) last some = refl
+
+itself : (i : Item) → same_body (body_of i) (body_of i) ≡ true
+itself i = grind (arith, nat_tests)
+
+-- an item's own text is there
+pub text_added : (t : List Item) (i : Item) → is_some (text_in i.deed) ≡ true → has_text (t ++ i ∷ []) (body_of i) ≡ true
+text_added t i some =
+    ap is_some (text_more t i (body_of i)) ∙ or_there (text_of t (body_of i)) (text_of (i ∷ []) (body_of i))
+    (ap is_some (text_single i (body_of i) ∙ ap (λ b. cond b (text_in i.deed) None) (itself i)) ∙ some)
+
+-- ---- sizes
+
+abbrev pub SizesOf : List (Body × Note) → List Item → Type 0
+SizesOf notes t = (body : Body) → size_of notes body ≡ option_map length (text_of t body)
+
+or_none : (o : Option (List ℕ)) → cond (is_some o) o None ≡ o
+or_none None = refl
+or_none (Some text) = refl
+
+none_either : (b : Bool) → ◌≡◌ {A = Option (List ℕ)} (cond b None None) None
+none_either true = refl
+none_either false = refl
+
+-- the sizes of the texts that were there, and of the one that an item of the next number brings
+pub sizes_on : (low : ℕ) (t : List Item) (next : ℕ) (i : Item) (old new : List (Body × Note)) → numbers_rise low t next ≡ true → i.number ≡ next
+    → (o : Option (List ℕ)) → text_in i.deed ≡ o → NotesText o (body_of i) old new → SizesOf old t → SizesOf new (t ++ i ∷ [])
+sizes_on low t next i old new rise is None brought noted sizes body =
+    ap (λ (n : List (Body × Note)). size_of n body) noted ∙ sizes body
+    ∙ ap (option_map length) (sym (text_more t i body ∙ ap (λ o. cond (is_some (text_of t body)) (text_of t body) o) (text_single i body ∙ ap (λ o. cond (same_body (body_of i) body) o None) brought ∙ none_either (same_body (body_of i) body)) ∙ or_none (text_of t body)))
+sizes_on low t next i old new rise is (Some text) brought noted sizes body =
+    noted body
+    ∙ elim (same_body (body_of i) body) as (λ b. same_body (body_of i) body ≡ b → cond b (Some (length text)) (size_of old body) ≡ option_map length (cond (is_some (text_of t body)) (text_of t body) (cond b (Some text) None))) [
+      | true ↦ λ e.
+          let same : i.number ≡ body.origin = grind (arith, nat_tests) in
+          let none : text_of t body ≡ None = text_none low t next body rise (omega arith) in
+          ap (λ (o : Option (List ℕ)). option_map length (cond (is_some o) o (Some text))) (sym none)
+      | false ↦ λ e. sizes body ∙ ap (option_map length) (sym (or_none (text_of t body)))
+    ] refl
+    ∙ ap (option_map length) (sym (text_more t i body ∙ ap (λ o. cond (is_some (text_of t body)) (text_of t body) o) (text_single i body ∙ ap (λ o. cond (same_body (body_of i) body) o None) brought)))

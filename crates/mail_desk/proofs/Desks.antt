@@ -1,0 +1,77 @@
+-- The desk at first, and what every desk has.
+use Rattle.std.proofs.Common.{◌≡◌, ℕ, ◌+◌, ◌-◌, ◌<◌, ◌≤◌, Bool, true, false, ◌&&◌, List, [], ◌∷◌, ◌++◌, map, flat_map, option_map, refl, ap, sym, subst, ◌∙◌, arith, length, nat_le, nat_lt}
+use Rattle.std.specs.List.{list_all}
+use Rattle.std.specs.Cmp.{first_so, second_so}
+use Rattle.std.proofs.lemmas.Bool.{leb-true, lt-ltb}
+use Rattle.undo_base.specs.declared.keys.User.{User}
+use Rattle.verb_core.specs.declared.conf.House.{House}
+use Rattle.verb_core.specs.declared.conf.Conf.{Conf}
+use Rattle.verb_core.specs.declared.item.Item.{Item}
+use Rattle.verb_core.specs.declared.mailbox.Body.{Body}
+use Rattle.verb_core.specs.declared.mailbox.BoxId.{BoxId}
+use Rattle.verb_core.specs.declared.mailbox.Mailbox.{Mailbox}
+use Rattle.verb_core.specs.Mailboxes.{no_mail}
+use Rattle.verb_core.specs.Names.{inbox, lost_found}
+use Rattle.verb_core.specs.Boxes.{box_of}
+use Rattle.verb_core.specs.Store.{MailStore, IsValid, is_house, is_known, opening, users_of}
+use Rattle.verb_core.specs.Step.{Boxes, step, run}
+use Rattle.verb_core.specs.Stamps.{opening_stamps}
+use Rattle.verb_core.specs.Items.{text_of}
+use Rattle.shelf.specs.declared.note.Note.{Note}
+use Rattle.shelf.specs.Notes.{size_of}
+use Rattle.mail_desk.specs.Kept.{Kept}
+use Rattle.mail_desk.specs.Desk.{IsDesk, new_desk, store_of}
+use Rattle.mail_desk.specs.Timeline.{numbers_rise, has_text, all_bodies}
+
+-- a run keeps the house
+run-house : (base : MailStore) (t : List Item) → (run base t).house ≡ base.house
+run-house base [] = refl
+run-house base (i ∷ t) = run-house (step base i).0 t
+
+pub house_stays : (kept : Kept) → (store_of kept).house ≡ kept.house
+house_stays kept = run-house (opening kept.house kept.opening) kept.timeline
+
+-- empty mailboxes name no body
+empty_boxes : (test : Body → Bool) (users : List User) →
+    all_bodies test (flat_map (λ (u : User). (box_of u inbox, no_mail) ∷ (box_of u lost_found, no_mail) ∷ []) users) ≡ true
+empty_boxes test [] = refl
+empty_boxes test (u ∷ users) = empty_boxes test users
+
+first_bounds : (house : House) → is_house house ≡ true → record { low : 2 ≤ house.first; high : house.first ≤ 4194303 }
+first_bounds house sound =
+    let whole = nat_le 1 (length house.accounts) && nat_le (length house.accounts) 200 && is_known house house.postmaster in
+    record {
+      low = leb-true 2 house.first (second_so whole (nat_le 2 house.first) (first_so (whole && nat_le 2 house.first) (nat_le house.first 4194303) sound));
+      high = leb-true house.first 4194303 (second_so (whole && nat_le 2 house.first) (nat_le house.first 4194303) sound);
+    }
+
+-- the parts of a new desk, as they were made
+pub new_desk_is : (house : House) (conf copied : Conf) (store : MailStore) (rows : Boxes) (stamps : List (BoxId × ℕ)) (timeline : List Item)
+    → copied ≡ conf → store ≡ opening house copied → rows ≡ store.boxes → stamps ≡ map (λ (r : BoxId × Mailbox). (r.0, house.first - 1)) rows → timeline ≡ []
+    → ◌≡◌ {A = Kept} (record { house = house; opening = conf; timeline = timeline; stamps = stamps; next = house.first }) (new_desk house conf)
+new_desk_is house conf copied store rows stamps timeline same made told stamped empty =
+    let is = stamped ∙ ap (λ (rs : Boxes). map (λ (r : BoxId × Mailbox). (r.0, house.first - 1)) rs) (told ∙ ap (λ (s : MailStore). s.boxes) (made ∙ ap (opening house) same)) in
+    λ j. record { house = house; opening = conf; timeline = empty j; stamps = is j; next = house.first }
+
+-- they are a desk
+pub new_desk_holds : (house : House) (conf : Conf) (store : MailStore) (kept : Kept) → is_house house ≡ true → IsValid store → store ≡ opening house conf
+    → kept ≡ new_desk house conf
+    → map (λ (r : BoxId × ℕ). r.0) (opening_stamps (opening house conf)) ≡ map (λ (r : BoxId × Mailbox). r.0) (opening house conf).boxes
+    → IsDesk store kept
+new_desk_holds house conf store kept sound valid made is named =
+    let bounds = first_bounds house sound in
+    let below : house.first - 1 < house.first = omega arith in
+    subst (λ (k : Kept). IsDesk store k) (sym is) (subst (λ (s : MailStore). IsDesk s (new_desk house conf)) (sym made) (record {
+      house = sound;
+      store_is = refl;
+      valid = subst IsValid made valid;
+      next = omega arith;
+      stamps = named;
+      formed = tt;
+      rising = lt-ltb (house.first - 1) house.first below;
+      texts = empty_boxes (has_text []) (users_of house);
+    }))
+
+-- nothing is noted, and no item brought a text
+pub nothing_known : (notes : List (Body × Note)) (t : List Item) → notes ≡ [] → t ≡ [] → (body : Body) → size_of notes body ≡ option_map length (text_of t body)
+nothing_known notes t none empty body = ap (λ (n : List (Body × Note)). size_of n body) none ∙ sym (ap (λ (s : List Item). option_map length (text_of s body)) empty)

@@ -1,0 +1,77 @@
+-- What is known of an item that is asked for, and of one for which all is ready.
+use Rattle.std.proofs.Common.{◌≡◌, ℕ, ◌+◌, ◌-◌, ◌<◌, ◌≤◌, ◌==◌, Bool, true, false, List, [], ◌∷◌, ◌++◌, Option, None, Some, Result, Ok, Err, IfOk, OnOk, unwrap_or, nat_lt, option_map, refl, ap, sym, subst, ◌∙◌, arith}
+use Rattle.std.proofs.lemmas.Bool.Decides.{nat_tests}
+use Rattle.undo_base.specs.declared.keys.User.{User}
+use Rattle.undo_base.specs.declared.memory.NoMemory.{NoMemory}
+use Rattle.verb_core.specs.declared.ask.Ask.{Ask}
+use Rattle.verb_core.specs.declared.ask.Refused.{Refused}
+use Rattle.verb_core.specs.declared.ask.Refused.TheVariants.{NameShape, Fixed, NoBox, TryCreate, Exists, Gone, TooMany, TooLarge, BoxesFull, UidWide, Numbers}
+use Rattle.verb_core.specs.declared.item.Item.{Item}
+use Rattle.verb_core.specs.Items.{IsWellFormed}
+use Rattle.verb_core.specs.Live.{asked_item, answered, asks_fixed, first_of, if_so, is_gone, is_misshapen, is_missing, is_there, is_uid_wide, key_count, live, named, new_names, or_item, overfills, targets, too_large}
+use Rattle.verb_core.specs.Stamps.{stamps_after}
+use Rattle.verb_core.specs.Step.{step}
+use Rattle.verb_core.specs.Store.{MailStore}
+use Rattle.box_store.specs.Effects.{IsReady, applied}
+use Rattle.mail_desk.specs.declared.ready.Ready.{Ready}
+use Rattle.mail_desk.specs.Desk.{store_of}
+use Rattle.mail_desk.specs.Entering.{CanEnter}
+use Rattle.mail_desk.specs.Held.{Held}
+
+-- ---- what is asked for
+
+-- an item that no refusal stops
+passed : (others : List (Option Refused)) (used : Bool) (r : Refused) (i j : Item) → or_item (first_of (others ++ if_so used r ∷ [])) i ≡ Ok j → (j ≡ i) × (used ≡ false)
+passed [] true r i j e = absurd (let wrong : ◌≡◌ {A = Result Item Refused} (Err r) (Ok j) = e in cc)
+passed [] false r i j e = (let is : ◌≡◌ {A = Result Item Refused} (Ok i) (Ok j) = e in cc, refl)
+passed (None ∷ others) used r i j e = passed others used r i j e
+passed (Some q ∷ others) used r i j e = absurd (let wrong : ◌≡◌ {A = Result Item Refused} (Err q) (Ok j) = e in cc)
+
+pub asked_is : (s : MailStore) (number at : ℕ) (by : Option User) (ask : Ask) (j : Item) → live s number at by ask ≡ Ok j → (j ≡ answered s (asked_item s number at by ask)) × ((number == 4194304) ≡ false)
+asked_is s number at by ask j e =
+    let i = asked_item s number at by ask in
+    passed (
+    if_so (is_misshapen ask) NameShape
+    ∷ if_so (asks_fixed ask) Fixed
+    ∷ if_so (is_missing s by (named ask)) NoBox
+    ∷ if_so (is_missing s by (targets ask)) TryCreate
+    ∷ if_so (is_there s by (new_names ask)) Exists
+    ∷ if_so (is_gone s by ask) Gone
+    ∷ if_so (nat_lt 65536 (key_count s by ask)) (TooMany (key_count s by ask))
+    ∷ option_map TooLarge (too_large ask)
+    ∷ if_so (overfills s by (asked_item s number at by ask)) BoxesFull
+    ∷ if_so (is_uid_wide s by ask (asked_item s number at by ask)) UidWide
+    ∷ []) (number == 4194304) (Numbers number) (answered s (asked_item s number at by ask)) j e
+
+pub number_asked : (r : Result Item Refused) (s : MailStore) (number at : ℕ) (by : Option User) (ask : Ask) → IfOk r (λ item. live s number at by ask ≡ Ok item) → IfOk r (λ item. item.number ≡ number)
+number_asked (Ok item) s number at by ask is = ap (λ (i : Item). i.number) (asked_is s number at by ask item is).0
+number_asked (Err why) s number at by ask is = tt
+
+pub number_left : (r : Result Item Refused) (s : MailStore) (number at : ℕ) (by : Option User) (ask : Ask) → number ≤ 4194304 → IfOk r (λ item. live s number at by ask ≡ Ok item) → OnOk r (number < 4194304)
+number_left (Ok item) s number at by ask most is = let no = (asked_is s number at by ask item is).1 in grind (arith, nat_tests)
+number_left (Err why) s number at by ask most is = tt
+
+-- ---- what is ready
+
+pub can_enter : (r : Result Ready NoMemory) (held : Held) (item : Item) → IsWellFormed held.kept.house item → item.number ≡ held.kept.next → held.kept.next < 4194304
+    → IfOk r (λ ready. ready.item ≡ item)
+    → IfOk r (λ ready. applied ready.effect (store_of held.kept) ≡ (step (store_of held.kept) item).0)
+    → IfOk r (λ ready. unwrap_or ready.stamps held.kept.stamps ≡ stamps_after item.number (step (store_of held.kept) item).0.boxes held.kept.stamps)
+    → IfOk r (λ ready. IsReady ready.effect held.room.store)
+    → OnOk r (0 < held.room.items) → OnOk r (0 < held.room.notes)
+    → IfOk r (λ ready. CanEnter ready held)
+can_enter (Ok ready) held item formed number left is does stamps effect items notes = record {
+  formed = subst (λ (i : Item). IsWellFormed held.kept.house i) (sym is) formed;
+  number = ap (λ (i : Item). i.number) is ∙ number;
+  left = left;
+  does = does ∙ ap (λ (i : Item). (step (store_of held.kept) i).0) (sym is);
+  stamps = stamps ∙ ap (λ (i : Item). stamps_after i.number (step (store_of held.kept) i).0.boxes held.kept.stamps) (sym is);
+  effect = effect;
+  items = items;
+  notes = notes;
+}
+can_enter (Err why) held item formed number left is does stamps effect items notes = tt
+
+pub some_room : {T E : Type 0} (r : Result T E) (len capacity : ℕ) → OnOk r (len < capacity) → OnOk r (0 < capacity - len)
+some_room (Ok x) len capacity lt = omega arith
+some_room (Err e) len capacity lt = tt

@@ -1,0 +1,73 @@
+-- The desk: the store is what the items in force leave, and each item that is performed is one of them from then on.
+use Rattle.std.specs.Prelude.{◌≡◌, ℕ, ◌+◌, ◌-◌, ◌≤◌, [], ◌∷◌, ◌++◌, map, Option, Result, Ok, Err, IsTrue}
+use Rattle.std.specs.List.{AllByRecursion}
+use Rattle.undo_base.specs.declared.keys.User.{User}
+use Rattle.verb_core.specs.declared.ask.Ask.{Ask}
+use Rattle.verb_core.specs.declared.ask.Refused.{Refused}
+use Rattle.verb_core.specs.declared.ask.SubmitFault.{SubmitFault}
+use Rattle.verb_core.specs.declared.ask.SubmitFault.TheVariants.{Refused as IsRefused, Disk, Closed}
+use Rattle.verb_core.specs.declared.conf.Conf.{Conf}
+use Rattle.verb_core.specs.declared.conf.House.{House}
+use Rattle.verb_core.specs.declared.item.Item.{Item}
+use Rattle.verb_core.specs.declared.mailbox.BoxId.{BoxId}
+use Rattle.verb_core.specs.declared.mailbox.Mailbox.{Mailbox}
+use Rattle.verb_core.specs.Items.{IsWellFormed}
+use Rattle.verb_core.specs.Store.{MailStore, IsValid, is_house, opening}
+use Rattle.verb_core.specs.Step.{run, step}
+use Rattle.verb_core.specs.Stamps.{opening_stamps, stamps_after}
+use Rattle.verb_core.specs.Live.{live}
+use Rattle.box_store.specs.Refusing.{IsRefusal}
+use Rattle.mail_desk.specs.Kept.{Kept}
+use Rattle.mail_desk.specs.Timeline.{numbers_rise, has_text, all_bodies}
+
+-- the store: what the items in force leave, one after the other
+abbrev pub store_of : Kept → MailStore
+store_of kept = run (opening kept.house kept.opening) kept.timeline
+
+-- a desk on which nothing was done yet
+abbrev pub new_desk : House → Conf → Kept
+new_desk house conf = record {
+  house = house;
+  opening = conf;
+  timeline = [];
+  stamps = opening_stamps (opening house conf);
+  next = house.first;
+}
+
+-- the item is performed, and is the last of those in force
+abbrev pub performed : Kept → Item → Kept
+performed kept item = record kept {
+  timeline = kept.timeline ++ item ∷ [];
+  stamps = stamps_after item.number (step (store_of kept) item).0.boxes kept.stamps;
+  next = kept.next + 1;
+}
+
+-- a store that is kept beside what led to it
+pub record IsDesk (store : MailStore) (kept : Kept) : Type 0 where
+  pub house : IsTrue (is_house kept.house)
+  pub store_is : store ≡ store_of kept
+  pub valid : IsValid store
+  pub next : kept.next ≤ 4194304
+  pub stamps : map (λ (r : BoxId × ℕ). r.0) kept.stamps ≡ map (λ (r : BoxId × Mailbox). r.0) store.boxes
+  pub formed : AllByRecursion (IsWellFormed kept.house) kept.timeline
+  pub rising : IsTrue (numbers_rise (kept.house.first - 1) kept.timeline kept.next)
+  pub texts : IsTrue (all_bodies (has_text kept.timeline) store.boxes)
+
+-- what became of an ask: the item or why there is none, and what is kept
+pub record Submitted : Type 0 where
+  pub outcome : Result Item SubmitFault
+  pub kept : Kept
+
+abbrev pub submitted_as : Kept → Result Item Refused → Submitted
+submitted_as kept (Ok item) = record { outcome = Ok item; kept = performed kept item }
+submitted_as kept (Err why) = record { outcome = Err (IsRefused why); kept = kept }
+
+-- an ask at a moment
+abbrev pub submitted : Kept → ℕ → Option User → Ask → Submitted
+submitted kept at by ask = submitted_as kept (live (store_of kept) kept.next at by ask)
+
+-- a fault that an ask may have: the refusal that is due, or want of memory
+abbrev pub IsFaultOf : SubmitFault → Result Item Refused → Type 0
+IsFaultOf (IsRefused why) due = IsRefusal why due
+IsFaultOf Disk due = ⊥
+IsFaultOf Closed due = ⊥

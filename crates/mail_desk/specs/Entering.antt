@@ -1,0 +1,22 @@
+-- An item that can be entered with no memory taken.
+use Rattle.std.specs.Prelude.{◌≡◌, ℕ, ◌<◌, List, unwrap_or}
+use Rattle.verb_core.specs.declared.mailbox.BoxId.{BoxId}
+use Rattle.verb_core.specs.Items.{IsWellFormed}
+use Rattle.verb_core.specs.Step.{step}
+use Rattle.verb_core.specs.Stamps.{stamps_after}
+use Rattle.box_store.specs.Effects.{IsReady, applied}
+use Rattle.mail_desk.specs.declared.ready.Ready.{Ready}
+use Rattle.mail_desk.specs.Desk.{store_of}
+use Rattle.mail_desk.specs.Held.{Held}
+
+-- The item has the next number, the effect is what it does, the stamps are those after it, where they change, and there
+-- is room for all of it.
+pub record CanEnter (ready : Ready) (held : Held) : Type 0 where
+  pub formed : IsWellFormed held.kept.house ready.item
+  pub number : ready.item.number ≡ held.kept.next
+  pub left : held.kept.next < 4194304
+  pub does : applied ready.effect (store_of held.kept) ≡ (step (store_of held.kept) ready.item).0
+  pub stamps : unwrap_or ready.stamps held.kept.stamps ≡ stamps_after ready.item.number (step (store_of held.kept) ready.item).0.boxes held.kept.stamps
+  pub effect : IsReady ready.effect held.room.store
+  pub items : 0 < held.room.items
+  pub notes : 0 < held.room.notes

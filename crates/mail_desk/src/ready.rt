@@ -1,0 +1,295 @@
+//! Items that are asked for: found, made ready, and entered.
+ghost use Rattle.std.specs.Prelude.{◌≡◌, ℕ, ◌<◌, ◌↔◌, map, ◌++◌, ◌∷◌, [], IsTrue, IsSome, IfOk, IfErr, OnOk, OnErr, unwrap_or, vec_len, vec_capacity};
+ghost use Rattle.std.specs.List.{list_all, cons_option};
+ghost use Rattle.verb_core.specs.declared.mailbox.BoxId.{BoxId as TheBoxId};
+ghost use Rattle.verb_core.specs.declared.mailbox.Mailbox.{Mailbox as TheMailbox};
+ghost use Rattle.verb_core.specs.Items.{IsWellFormed, text_in};
+ghost use Rattle.verb_core.specs.Stamps.{stamps_after};
+ghost use Rattle.verb_core.specs.Live.{is_users, live};
+ghost use Rattle.verb_core.specs.Step.{step};
+ghost use Rattle.verb_core.specs.Store.{IsValid, is_known};
+ghost use Rattle.box_store.specs.Effects.{IsReady, applied};
+ghost use Rattle.box_store.specs.Refusing.{IsRefusal};
+ghost use Rattle.mail_desk.specs.Desk.{IsFaultOf, performed, store_of, submitted};
+ghost use Rattle.mail_desk.specs.Entering.{CanEnter};
+ghost use Rattle.mail_desk.specs.Timeline.{NotesText, body_of};
+
+use crate::Desk;
+use crate::stamps::changed_stamps;
+use crate::texts::{text_bytes, text_in};
+use box_store::{Effect, Steps, Store};
+use seal_log::Place;
+use shelf::Shelf;
+use std::alloc::Global;
+use std::marker::Brand;
+use std::sync::ledger::{Blank, Ledger};
+use undo_base::{Copies, NoMemory, User};
+use verb_core::laws::{mail_is_kept, stamps_name_mailboxes, steps_keep_validity};
+use verb_core::{Ask, Body, Item, Refused, Stamps, SubmitFault};
+
+/// An item that a desk can enter with no memory taken: its effect, and the stamps after it where they change.
+#[derive(Drop)]
+pub struct Ready {
+    pub(crate) item: Item,
+    pub(crate) effect: Effect,
+    pub(crate) stamps: Option<Stamps>,
+}
+
+impl Ready {
+    /// The item that is to be entered.
+    pub fn item(&self) -> &Item
+        ensures { result.now ≡ self.now.item }
+    {
+        &self.item
+    }
+}
+
+/// Makes what an item does, and all room that the store needs for it.
+fn ready_effect(alloc: Global, store: &mut Store, item: &Item) -> Result<Effect, NoMemory>
+    requires valid { IsValid store.old.store }
+    requires formed { IsWellFormed store.old.store.house item.now }
+    ensures same { store.new.store ≡ store.old.store }
+    ensures ready { IfOk result (λ effect. IsReady effect store.new) }
+    ensures does { IfOk result (λ effect. applied effect store.old.store ≡ (step store.old.store item.now).0) }
+{
+    let what = store.aim(alloc, item, text_bytes(&item.deed))?;
+    let effect = store.effect(alloc, &what)?;
+    store.reserve(alloc, &effect)?;
+    Ok(effect)
+}
+
+/// Applies an effect over a counter that is made of the blank ledger.
+fn apply_over<L: Ledger>(store: &mut Store, effect: Effect, blank: Blank)
+    requires name { blank.name ≡ L.name }
+    requires parts { blank.parts ≡ L.parts }
+    requires some { 0 < blank.parts }
+    requires ready { IsReady effect store.old }
+    ensures { store.new.store ≡ applied effect store.old.store }
+{
+    let mut steps: Steps<L> = Steps::new(blank);
+    let _shown = store.apply(effect, &mut steps);
+}
+
+/// Applies an effect, and counts nothing.
+fn apply_alone(store: &mut Store, effect: Effect)
+    requires { IsReady effect store.old }
+    ensures { store.new.store ≡ applied effect store.old.store }
+{
+    apply_over::<Brand>(store, effect, Blank::new(1))
+}
+
+fn make_room(timeline: &mut Vec<Item>) -> Result<(), NoMemory>
+    ensures items { timeline.new.items ≡ timeline.old.items }
+    ensures ok { OnOk result (vec_len timeline.new < vec_capacity timeline.new) }
+{
+    timeline.reserve(1)?;
+    Ok(())
+}
+
+/// Adds an item for which there is room.
+fn push_within(timeline: &mut Vec<Item>, item: Item)
+    requires { vec_len timeline.old < vec_capacity timeline.old }
+    ensures { timeline.new.items ≡ timeline.old.items ++ item ∷ [] }
+{
+    match timeline.push(item) {
+        Ok(()) => {}
+        Err(_) => unreachable!(),
+    }
+}
+
+fn change_stamps(stamps: &mut Stamps, changed: Option<Stamps>)
+    ensures { stamps.new ≡ unwrap_or changed stamps.old }
+{
+    if let Some(changed) = changed {
+        *stamps = changed;
+    }
+}
+
+/// Notes the size of the text that an item brings. There is room for a note.
+fn note_text(shelf: &mut Shelf, item: &Item)
+    requires { 0 < shelf.old.room }
+    ensures { NotesText (text_in item.now.deed) (body_of item.now) shelf.old.notes shelf.new.notes }
+{
+    let place = Place { gate: 0, length: 0 };
+    if let Some(text) = text_in(&item.deed) {
+        let body = Body {
+            origin: item.number,
+            rev: item.rev,
+        };
+        shelf.note(body, place, 0, text.bytes().len() as u32);
+    }
+}
+
+/// What an item does, and the stamps after it where they change.
+type Parts = (Effect, Option<Stamps>);
+
+/// Makes what an item does, and all room for it.
+fn make_parts(
+    alloc: Global,
+    store: &mut Store,
+    stamps: &Stamps,
+    timeline: &mut Vec<Item>,
+    shelf: &mut Shelf,
+    item: &Item,
+) -> Result<Parts, NoMemory>
+    requires valid { IsValid store.old.store }
+    requires formed { IsWellFormed store.old.store.house item.now }
+    requires named { map (λ (r : TheBoxId × ℕ). r.0) stamps.now ≡ map (λ (r : TheBoxId × TheMailbox). r.0) store.old.store.boxes }
+    ensures store { store.new.store ≡ store.old.store }
+    ensures timeline { timeline.new.items ≡ timeline.old.items }
+    ensures shelf { shelf.new.notes ≡ shelf.old.notes }
+    ensures does { IfOk result (λ parts. applied parts.0 store.old.store ≡ (step store.old.store item.now).0) }
+    ensures stamps { IfOk result (λ parts. unwrap_or parts.1 stamps.now ≡ stamps_after item.now.number (step store.old.store item.now).0.boxes stamps.now) }
+    ensures effect { IfOk result (λ parts. IsReady parts.0 store.new) }
+    ensures items { OnOk result (vec_len timeline.new < vec_capacity timeline.new) }
+    ensures notes { OnOk result (0 < shelf.new.room) }
+{
+    make_room(timeline)?;
+    shelf.note_room(1)?;
+    let stamps = changed_stamps(alloc, store, stamps, item)?;
+    let effect = ready_effect(alloc, store, item)?;
+    Ok((effect, stamps))
+}
+
+/// Makes all ready for an item.
+fn make_ready(
+    alloc: Global,
+    store: &mut Store,
+    stamps: &Stamps,
+    timeline: &mut Vec<Item>,
+    shelf: &mut Shelf,
+    item: Item,
+) -> Result<Ready, NoMemory>
+    requires valid { IsValid store.old.store }
+    requires formed { IsWellFormed store.old.store.house item }
+    requires named { map (λ (r : TheBoxId × ℕ). r.0) stamps.now ≡ map (λ (r : TheBoxId × TheMailbox). r.0) store.old.store.boxes }
+    ensures store { store.new.store ≡ store.old.store }
+    ensures timeline { timeline.new.items ≡ timeline.old.items }
+    ensures shelf { shelf.new.notes ≡ shelf.old.notes }
+    ensures item { IfOk result (λ ready. ready.item ≡ item) }
+    ensures does { IfOk result (λ ready. applied ready.effect store.old.store ≡ (step store.old.store item).0) }
+    ensures stamps { IfOk result (λ ready. unwrap_or ready.stamps stamps.now ≡ stamps_after item.number (step store.old.store item).0.boxes stamps.now) }
+    ensures effect { IfOk result (λ ready. IsReady ready.effect store.new) }
+    ensures items { OnOk result (vec_len timeline.new < vec_capacity timeline.new) }
+    ensures notes { OnOk result (0 < shelf.new.room) }
+{
+    match make_parts(alloc, store, stamps, timeline, shelf, &item) {
+        Ok((effect, stamps)) => Ok(Ready {
+            item,
+            effect,
+            stamps,
+        }),
+        Err(NoMemory) => Err(NoMemory),
+    }
+}
+
+impl Desk {
+    /// The item that is asked for now, or why there is none.
+    fn asked(&self, alloc: Global, at: u64, by: Option<User>, ask: Ask) -> Result<Item, Refused>
+        requires by { IsSome by ↔ IsTrue (is_users ask) }
+        requires known { IsTrue (list_all (is_known self.now.kept.house) (cons_option by [])) }
+        ensures item { IfOk result (λ item. live (store_of self.now.kept) self.now.kept.next at by ask ≡ Ok item) }
+        ensures formed { IfOk result (λ item. IsWellFormed self.now.kept.house item) }
+        ensures number { IfOk result (λ item. item.number ≡ self.now.kept.next) }
+        ensures left { OnOk result (self.now.kept.next < 4194304) }
+        ensures refused { IfErr result (λ refused. IsRefusal refused (live (store_of self.now.kept) self.now.kept.next at by ask)) }
+    {
+        self.store.live(alloc, self.next, at, by, ask)
+    }
+
+    /// Finds what is asked for at a moment, and makes all room for it. The desk stays as it was but for its room.
+    pub fn ready(
+        &mut self,
+        alloc: Global,
+        at: u64,
+        by: Option<User>,
+        ask: Ask,
+    ) -> Result<Ready, Refused>
+        requires by { IsSome by ↔ IsTrue (is_users ask) }
+        requires known { IsTrue (list_all (is_known self.old.kept.house) (cons_option by [])) }
+        ensures kept { self.new.kept ≡ self.old.kept }
+        ensures item { IfOk result (λ ready. live (store_of self.old.kept) self.old.kept.next at by ask ≡ Ok ready.item) }
+        ensures ready { IfOk result (λ ready. CanEnter ready self.new) }
+        ensures refused { IfErr result (λ refused. IsRefusal refused (live (store_of self.old.kept) self.old.kept.next at by ask)) }
+    {
+        let item = self.asked(alloc, at, by, ask)?;
+        match self.ready_item(alloc, item) {
+            Ok(ready) => Ok(ready),
+            Err(NoMemory) => Err(Refused::NoMemory),
+        }
+    }
+
+    /// Makes all room for an item of the next number. The desk stays as it was but for its room.
+    pub fn ready_item(&mut self, alloc: Global, item: Item) -> Result<Ready, NoMemory>
+        requires formed { IsWellFormed self.old.kept.house item }
+        requires number { item.number ≡ self.old.kept.next }
+        requires left { self.old.kept.next < 4194304 }
+        ensures kept { self.new.kept ≡ self.old.kept }
+        ensures item { IfOk result (λ ready. ready.item ≡ item) }
+        ensures ready { IfOk result (λ ready. CanEnter ready self.new) }
+    {
+        make_ready(
+            alloc,
+            &mut self.store,
+            &self.stamps,
+            &mut self.timeline,
+            &mut self.shelf,
+            item,
+        )
+    }
+
+    /// Enters an item for which all is ready. It takes no memory.
+    pub fn enter(&mut self, ready: Ready)
+        requires { CanEnter ready self.old }
+        ensures { self.new.kept ≡ performed self.old.kept ready.item }
+    {
+        let Ready {
+            item,
+            effect,
+            stamps,
+        } = ready;
+        steps_keep_validity();
+        stamps_name_mailboxes();
+        mail_is_kept();
+        apply_alone(&mut self.store, effect);
+        change_stamps(&mut self.stamps, stamps);
+        note_text(&mut self.shelf, &item);
+        push_within(&mut self.timeline, item);
+        self.next += 1;
+    }
+
+    /// Enters an item, of which a copy is made before.
+    fn enter_copied(&mut self, alloc: Global, ready: Ready) -> Result<Item, NoMemory>
+        requires { CanEnter ready self.old }
+        ensures item { IfOk result (λ item. item ≡ ready.item) }
+        ensures ok { OnOk result (self.new.kept ≡ performed self.old.kept ready.item) }
+        ensures err { OnErr result (self.new.kept ≡ self.old.kept) }
+    {
+        let item = ready.item.copy(alloc)?;
+        self.enter(ready);
+        Ok(item)
+    }
+
+    /// Asks for something at a moment. Where there is no item nothing has changed.
+    pub fn submit(
+        &mut self,
+        alloc: Global,
+        at: u64,
+        by: Option<User>,
+        ask: Ask,
+    ) -> Result<Item, SubmitFault>
+        requires by { IsSome by ↔ IsTrue (is_users ask) }
+        requires known { IsTrue (list_all (is_known self.old.kept.house) (cons_option by [])) }
+        ensures ok { IfOk result (λ item. submitted self.old.kept at by ask ≡ record { outcome = Ok item; kept = self.new.kept }) }
+        ensures err { OnErr result (self.new.kept ≡ self.old.kept) }
+        ensures refused { IfErr result (λ fault. IsFaultOf fault (live (store_of self.old.kept) self.old.kept.next at by ask)) }
+    {
+        match self.ready(alloc, at, by, ask) {
+            Ok(ready) => match self.enter_copied(alloc, ready) {
+                Ok(item) => Ok(item),
+                Err(NoMemory) => Err(SubmitFault::Refused(Refused::NoMemory)),
+            },
+            Err(refused) => Err(SubmitFault::Refused(refused)),
+        }
+    }
+}

@@ -1,0 +1,167 @@
+//! The texts that items bring, and the texts of bodies.
+ghost use Rattle.std.specs.Prelude.{◌≡◌, [], ◌∷◌, ◌++◌, unwrap_or, Some, IsTrue, IfOk, OnOk, option_copied};
+ghost use Rattle.std.specs.List.{list_all};
+ghost use Rattle.verb_core.specs.declared.item.Deed.TheVariants as deeds;
+ghost use Rattle.verb_core.specs.Items.{text_in as brought, text_of};
+ghost use Rattle.mail_desk.specs.Timeline.{NumbersRise, has_text, item_of, rev_of, texts_of, told_by};
+
+use crate::Desk;
+use std::alloc::Global;
+use undo_base::{NoMemory, Text, Texts};
+use verb_core::{Act, Body, Deed, Item};
+
+fn act_text(act: &Act) -> Option<&Text>
+    ensures { option_copied result ≡ brought (deeds.Act act.now) }
+{
+    match act {
+        Act::Give { text, .. } => Some(text),
+        Act::SetAlias { .. } => None,
+        Act::DropAlias { .. } => None,
+        Act::SetFilter(_) => None,
+        Act::DropFilter { .. } => None,
+        Act::Remove { .. } => None,
+    }
+}
+
+/// The text that a deed brings.
+pub(crate) fn text_in(deed: &Deed) -> Option<&Text>
+    ensures { option_copied result ≡ brought deed.now }
+{
+    match deed {
+        Deed::Deliver { text, .. } => Some(text),
+        Deed::Append { text, .. } => Some(text),
+        Deed::Notice { text, .. } => Some(text),
+        Deed::Act(act) => act_text(act),
+        Deed::Fetch { .. } => None,
+        Deed::Store { .. } => None,
+        Deed::Copy { .. } => None,
+        Deed::List { .. } => None,
+        Deed::Status { .. } => None,
+        Deed::Select { .. } => None,
+        Deed::Expunge { .. } => None,
+        Deed::Close { .. } => None,
+        Deed::Create { .. } => None,
+        Deed::Rename { .. } => None,
+        Deed::Delete { .. } => None,
+    }
+}
+
+/// The bytes of the text that a deed brings, none where it brings none.
+pub(crate) fn text_bytes(deed: &Deed) -> &[u8]
+    ensures { result.now ≡ unwrap_or (brought deed.now) [] }
+{
+    match text_in(deed) {
+        Some(text) => text.bytes(),
+        None => &[],
+    }
+}
+
+/// The item of a number, found in about as many steps as the length of the timeline has digits.
+fn find_item(timeline: &[Item], number: u32) -> Option<&Item>
+    requires { NumbersRise timeline.now }
+    ensures { option_copied result ≡ item_of timeline.now number }
+{
+    match timeline.binary_search_by_key(&number, |item| item.number) {
+        Ok(place) => Some(&timeline[place]),
+        Err(_) => None,
+    }
+}
+
+/// The text that an item of the body's number tells of it.
+fn told(item: &Item, body: Body) -> Option<&Text>
+    ensures { option_copied result ≡ told_by body item.now }
+{
+    if item.rev == body.rev {
+        text_in(&item.deed)
+    } else {
+        None
+    }
+}
+
+fn find_text(timeline: &[Item], body: Body) -> Option<&Text>
+    requires { NumbersRise timeline.now }
+    ensures { option_copied result ≡ text_of timeline.now body }
+{
+    match find_item(timeline, body.origin) {
+        Some(item) => told(item, body),
+        None => None,
+    }
+}
+
+/// Adds a copy of a body's text.
+fn push_text(
+    alloc: Global,
+    texts: &mut Texts,
+    timeline: &[Item],
+    body: Body,
+) -> Result<(), NoMemory>
+    requires rise { NumbersRise timeline.now }
+    requires there { IsTrue (has_text timeline.now body) }
+    ensures { OnOk result (texts.new ≡ texts.old ++ unwrap_or (text_of timeline.now body) [] ∷ []) }
+{
+    match find_text(timeline, body) {
+        Some(text) => texts.push(text.copy(alloc)?),
+        None => unreachable!(),
+    }
+}
+
+fn copied_texts(alloc: Global, timeline: &[Item], bodies: &[Body]) -> Result<Texts, NoMemory>
+    requires rise { NumbersRise timeline.now }
+    requires there { IsTrue (list_all (has_text timeline.now) bodies.now) }
+    ensures { IfOk result (λ texts. texts ≡ texts_of timeline.now bodies.now) }
+{
+    let mut texts = Texts::new(alloc);
+    for body in bodies {
+        push_text(alloc, &mut texts, timeline, *body)?;
+    }
+    Ok(texts)
+}
+
+fn copied_text(alloc: Global, timeline: &[Item], body: Body) -> Result<Text, NoMemory>
+    requires rise { NumbersRise timeline.now }
+    requires there { IsTrue (has_text timeline.now body) }
+    ensures { IfOk result (λ text. text_of timeline.now body ≡ Some text) }
+{
+    match find_text(timeline, body) {
+        Some(text) => text.copy(alloc),
+        None => unreachable!(),
+    }
+}
+
+fn find_rev(timeline: &[Item], number: u32) -> Option<u32>
+    requires { NumbersRise timeline.now }
+    ensures { result ≡ rev_of timeline.now number }
+{
+    match find_item(timeline, number) {
+        Some(item) => match text_in(&item.deed) {
+            Some(_) => Some(item.rev),
+            None => None,
+        },
+        None => None,
+    }
+}
+
+impl Desk {
+    /// The text of a body.
+    pub fn text(&self, alloc: Global, body: Body) -> Result<Text, NoMemory>
+        requires { IsTrue (has_text self.now.kept.timeline body) }
+        ensures { IfOk result (λ text. text_of self.now.kept.timeline body ≡ Some text) }
+    {
+        copied_text(alloc, self.timeline.as_slice(), body)
+    }
+
+    /// The texts of bodies, in order.
+    pub fn texts(&self, alloc: Global, bodies: &[Body]) -> Result<Texts, NoMemory>
+        requires { IsTrue (list_all (has_text self.now.kept.timeline) bodies.now) }
+        ensures { IfOk result (λ texts. texts ≡ texts_of self.now.kept.timeline bodies.now) }
+    {
+        copied_texts(alloc, self.timeline.as_slice(), bodies)
+    }
+
+    /// The rev of the item of a number, where it has a text.
+    pub fn rev(&self, number: u32) -> Option<u32>
+        ensures { result ≡ rev_of self.now.kept.timeline number }
+    {
+        find_rev(self.timeline.as_slice(), number)
+    }
+}
