@@ -1,6 +1,5 @@
 -- The desk at first, and what every desk has.
-use Rattle.std.proofs.Common.{◌≡◌, ℕ, ◌+◌, ◌-◌, ◌<◌, ◌≤◌, Bool, true, false, ◌&&◌, List, [], ◌∷◌, ◌++◌, map, flat_map, option_map, refl, ap, sym, subst, ◌∙◌, arith, length, nat_le, nat_lt}
-use Rattle.std.specs.List.{list_all}
+use Rattle.std.proofs.Common.{◌≡◌, ℕ, ◌-◌, ◌<◌, ◌≤◌, Bool, true, ◌&&◌, List, [], ◌∷◌, map, flat_map, option_map, refl, ap, sym, subst, ◌∙◌, arith, length, nat_le}
 use Rattle.std.specs.Cmp.{first_so, second_so}
 use Rattle.std.proofs.lemmas.Bool.{leb-true, lt-ltb}
 use Rattle.undo_base.specs.declared.keys.User.{User}
@@ -21,7 +20,7 @@ use Rattle.shelf.specs.declared.note.Note.{Note}
 use Rattle.shelf.specs.Notes.{size_of}
 use Rattle.mail_desk.specs.Kept.{Kept}
 use Rattle.mail_desk.specs.Desk.{IsDesk, new_desk, store_of}
-use Rattle.mail_desk.specs.Timeline.{numbers_rise, has_text, all_bodies}
+use Rattle.mail_desk.specs.Timeline.{has_text, all_bodies}
 
 -- a run keeps the house
 run-house : (base : MailStore) (t : List Item) → (run base t).house ≡ base.house

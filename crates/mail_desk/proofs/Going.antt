@@ -1,5 +1,5 @@
 -- A desk goes on by an item.
-use Rattle.std.proofs.Common.{◌≡◌, ℕ, ◌+◌, ◌-◌, ◌<◌, ◌≤◌, Bool, true, false, not, ◌&&◌, cond, List, [], ◌∷◌, ◌++◌, map, filter_map, find, Option, None, Some, is_some, option_map, unwrap_or, sum_by, refl, ap, sym, subst, ◌∙◌, arith, length, zero-add}
+use Rattle.std.proofs.Common.{◌≡◌, ℕ, ◌+◌, ◌-◌, ◌<◌, Bool, true, false, not, ◌&&◌, cond, List, [], ◌∷◌, ◌++◌, map, filter_map, Option, None, Some, is_some, option_map, unwrap_or, sum_by, refl, ap, sym, subst, ◌∙◌, arith, zero-add}
 use Rattle.std.proofs.lemmas.List.Sums.{sum_by-cons}
 use Rattle.std.specs.List.{list_all, cons_option, enumerate_from, AllByRecursion}
 use Rattle.std.specs.Cmp.{first_so, second_so}
@@ -7,7 +7,6 @@ use Rattle.std.specs.Ordering.{eq_by_cmp}
 use Rattle.undo_base.specs.declared.keys.User.{User}
 use Rattle.undo_base.specs.declared.keys.Key.{Key}
 use Rattle.verb_core.specs.declared.conf.House.{House}
-use Rattle.verb_core.specs.declared.conf.Conf.{Conf}
 use Rattle.verb_core.specs.declared.item.Act.TheVariants.{SetAlias, DropAlias, SetFilter, DropFilter, Remove, Give}
 use Rattle.verb_core.specs.declared.item.Aim.{Aim}
 use Rattle.verb_core.specs.declared.item.Deed.{Deed}
@@ -21,14 +20,14 @@ use Rattle.verb_core.specs.Aims.{sought_by}
 use Rattle.verb_core.specs.Boxes.{box_cmp, box_of, row_at, mail_at, same_user}
 use Rattle.verb_core.specs.Fates.{IgnoresUid, IgnoresFlags, sets_flags, count_in, count_held, count_given, count_taken}
 use Rattle.verb_core.specs.Items.{IsWellFormed, actor, text_in}
-use Rattle.verb_core.specs.Mailboxes.{entry_of, copies, same_key}
+use Rattle.verb_core.specs.Mailboxes.{entry_of, same_key}
 use Rattle.verb_core.specs.Stamps.{stamps_after}
-use Rattle.verb_core.specs.Step.{Boxes, new_mail, put_at, rearranged, step, run}
+use Rattle.verb_core.specs.Step.{Boxes, new_mail, step, run}
 use Rattle.verb_core.specs.Store.{MailStore, IsValid, opening}
 use Rattle.verb_core.proofs.BoxLaws.{same_user-refl}
 use Rattle.verb_core.proofs.FateLaws.{count_in-cons}
 use Rattle.verb_core.proofs.Validity.{all_kept}
-use Rattle.mail_desk.specs.Desk.{IsDesk, performed, store_of}
+use Rattle.mail_desk.specs.Desk.{IsDesk}
 use Rattle.mail_desk.specs.Kept.{Kept}
 use Rattle.mail_desk.specs.Timeline.{all_bodies, body_of, has_text}
 use Rattle.mail_desk.proofs.BodyTexts.{text_added, text_stays}

@@ -1,11 +1,13 @@
 -- What is known of an item that is asked for, and of one for which all is ready.
-use Rattle.std.proofs.Common.{◌≡◌, ℕ, ◌+◌, ◌-◌, ◌<◌, ◌≤◌, ◌==◌, Bool, true, false, List, [], ◌∷◌, ◌++◌, Option, None, Some, Result, Ok, Err, IfOk, OnOk, unwrap_or, nat_lt, option_map, refl, ap, sym, subst, ◌∙◌, arith}
+use Rattle.std.proofs.Common.{◌≡◌, ℕ, ◌-◌, ◌<◌, ◌≤◌, ◌==◌, Bool, true, false, List, [], ◌∷◌, ◌++◌, Option, None, Some, Result, Ok, Err, IfOk, IfErr, OnOk, unwrap_or, nat_lt, option_map, refl, ap, sym, subst, ◌∙◌, arith}
 use Rattle.std.proofs.lemmas.Bool.Decides.{nat_tests}
 use Rattle.undo_base.specs.declared.keys.User.{User}
-use Rattle.undo_base.specs.declared.memory.NoMemory.{NoMemory}
+use Rattle.undo_base.specs.declared.memory.NoMemory.{NoMemory as MemoryWant}
 use Rattle.verb_core.specs.declared.ask.Ask.{Ask}
 use Rattle.verb_core.specs.declared.ask.Refused.{Refused}
-use Rattle.verb_core.specs.declared.ask.Refused.TheVariants.{NameShape, Fixed, NoBox, TryCreate, Exists, Gone, TooMany, TooLarge, BoxesFull, UidWide, Numbers}
+use Rattle.verb_core.specs.declared.ask.Refused.TheVariants.{NameShape, Fixed, NoBox, TryCreate, Exists, Gone, TooMany, TooLarge, BoxesFull, UidWide, Numbers, NoMemory}
+use Rattle.verb_core.specs.declared.ask.SubmitFault.{SubmitFault}
+use Rattle.verb_core.specs.declared.ask.SubmitFault.TheVariants.{Refused as IsRefused}
 use Rattle.verb_core.specs.declared.item.Item.{Item}
 use Rattle.verb_core.specs.Items.{IsWellFormed}
 use Rattle.verb_core.specs.Live.{asked_item, answered, asks_fixed, first_of, if_so, is_gone, is_misshapen, is_missing, is_there, is_uid_wide, key_count, live, named, new_names, or_item, overfills, targets, too_large}
@@ -14,7 +16,8 @@ use Rattle.verb_core.specs.Step.{step}
 use Rattle.verb_core.specs.Store.{MailStore}
 use Rattle.box_store.specs.Effects.{IsReady, applied}
 use Rattle.mail_desk.specs.declared.ready.Ready.{Ready}
-use Rattle.mail_desk.specs.Desk.{store_of}
+use Rattle.mail_desk.specs.Desk.{IsFaultOf, performed, store_of, submitted_as}
+use Rattle.mail_desk.specs.Kept.{Kept}
 use Rattle.mail_desk.specs.Entering.{CanEnter}
 use Rattle.mail_desk.specs.Held.{Held}
 
@@ -53,7 +56,7 @@ number_left (Err why) s number at by ask most is = tt
 
 -- ---- what is ready
 
-pub can_enter : (r : Result Ready NoMemory) (held : Held) (item : Item) → IsWellFormed held.kept.house item → item.number ≡ held.kept.next → held.kept.next < 4194304
+pub can_enter : (r : Result Ready MemoryWant) (held : Held) (item : Item) → IsWellFormed held.kept.house item → item.number ≡ held.kept.next → held.kept.next < 4194304
     → IfOk r (λ ready. ready.item ≡ item)
     → IfOk r (λ ready. applied ready.effect (store_of held.kept) ≡ (step (store_of held.kept) item).0)
     → IfOk r (λ ready. unwrap_or ready.stamps held.kept.stamps ≡ stamps_after item.number (step (store_of held.kept) item).0.boxes held.kept.stamps)
@@ -75,3 +78,14 @@ can_enter (Err why) held item formed number left is does stamps effect items not
 pub some_room : {T E : Type 0} (r : Result T E) (len capacity : ℕ) → OnOk r (len < capacity) → OnOk r (0 < capacity - len)
 some_room (Ok x) len capacity lt = omega arith
 some_room (Err e) len capacity lt = tt
+
+-- ---- what becomes of it
+
+pub submitted_ok : (r : Result Item SubmitFault) (kept new : Kept) (due : Result Item Refused) (item : Item) → due ≡ Ok item → IfOk r (λ i. i ≡ item) → OnOk r (new ≡ performed kept item)
+    → IfOk r (λ i. submitted_as kept due ≡ record { outcome = Ok i; kept = new })
+submitted_ok (Ok i) kept new due item is same does = ap (submitted_as kept) is ∙ (λ j. record { outcome = Ok (sym same j); kept = sym does j })
+submitted_ok (Err fault) kept new due item is same does = tt
+
+pub refused_memory : (r : Result Item SubmitFault) (due : Result Item Refused) → IfErr r (λ fault. fault ≡ IsRefused NoMemory) → IfErr r (λ fault. IsFaultOf fault due)
+refused_memory (Ok i) due is = tt
+refused_memory (Err fault) due is = subst (λ (f : SubmitFault). IsFaultOf f due) (sym is) tt

@@ -1,13 +1,11 @@
 -- The stamps after an item, by its deed.
-use Rattle.std.proofs.Common.{◌≡◌, ℕ, suc, Bool, true, false, not, ◌&&◌, ◌||◌, cond, List, [], ◌∷◌, ◌++◌, map, take, drop, length, take_while, unwrap_or, Option, None, Some, is_some, refl, ap, ap₂, sym, subst, ◌∙◌, is_lt, is_gt, is_eq, bytes_eq, Less, Equal, Greater}
+use Rattle.std.proofs.Common.{◌≡◌, ℕ, Bool, true, false, not, ◌&&◌, ◌||◌, cond, List, [], ◌∷◌, ◌++◌, map, take, drop, length, take_while, unwrap_or, Option, None, Some, is_some, refl, ap, sym, ◌∙◌, is_lt, is_eq, bytes_eq, Less, Equal, Greater}
 use Rattle.std.specs.List.{list_any, prefix_len}
 use Rattle.std.proofs.Math.Numerals.{one-add}
 use Rattle.std.specs.Ordering.{eq_by_cmp}
-use Rattle.std.specs.declared.cmp.Ordering.{Ordering}
 use Rattle.std.specs.FinMap.Entries as rows
 use Rattle.undo_base.specs.declared.keys.User.{User}
 use Rattle.verb_core.specs.declared.item.Aim.{Aim}
-use Rattle.verb_core.specs.declared.item.Act.{Act}
 use Rattle.verb_core.specs.declared.item.Act.TheVariants.{SetAlias, DropAlias, SetFilter, DropFilter, Remove, Give}
 use Rattle.verb_core.specs.declared.item.Deed.{Deed}
 use Rattle.verb_core.specs.declared.item.Deed.TheVariants.{Deliver, Append, Fetch, Store, Copy, List as Names, Status, Select, Expunge, Close, Create, Rename, Delete, Act as Acts, Notice}
@@ -23,7 +21,7 @@ use Rattle.verb_core.specs.Aims.{box_aimed}
 use Rattle.verb_core.specs.Items.{actor}
 use Rattle.verb_core.specs.Step.{Boxes, put_at, rearranged, created, left, renamed, way_of, after_rename, deleted, saved}
 use Rattle.verb_core.specs.Stamps.{stamps_after}
-use Rattle.verb_core.proofs.BoxLaws.{boxes_total, tied, same_rows, row_at-add_row, row_at-drop_row, rising-add_row, rising-drop_row}
+use Rattle.verb_core.proofs.BoxLaws.{tied, same_rows, row_at-add_row, row_at-drop_row, rising-add_row, rising-drop_row}
 use Rattle.verb_core.proofs.Validity.{has_row-change_row, rising-rearranged}
 use Rattle.mail_desk.specs.Stamping.{StampRows, stands_before, past_row, stamps_left, renamed_stamps, stamps_by}
 

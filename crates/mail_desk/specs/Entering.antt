@@ -1,6 +1,5 @@
 -- An item that can be entered with no memory taken.
-use Rattle.std.specs.Prelude.{◌≡◌, ℕ, ◌<◌, List, unwrap_or}
-use Rattle.verb_core.specs.declared.mailbox.BoxId.{BoxId}
+use Rattle.std.specs.Prelude.{◌≡◌, ◌<◌, unwrap_or}
 use Rattle.verb_core.specs.Items.{IsWellFormed}
 use Rattle.verb_core.specs.Step.{step}
 use Rattle.verb_core.specs.Stamps.{stamps_after}

@@ -259,15 +259,20 @@ impl Desk {
     }
 
     /// Enters an item, of which a copy is made before.
-    fn enter_copied(&mut self, alloc: Global, ready: Ready) -> Result<Item, NoMemory>
+    fn enter_copied(&mut self, alloc: Global, ready: Ready) -> Result<Item, SubmitFault>
         requires { CanEnter ready self.old }
         ensures item { IfOk result (λ item. item ≡ ready.item) }
         ensures ok { OnOk result (self.new.kept ≡ performed self.old.kept ready.item) }
         ensures err { OnErr result (self.new.kept ≡ self.old.kept) }
+        ensures why { IfErr result (λ fault. fault ≡ SubmitFault.Refused Refused.NoMemory) }
     {
-        let item = ready.item.copy(alloc)?;
-        self.enter(ready);
-        Ok(item)
+        match ready.item.copy(alloc) {
+            Ok(item) => {
+                self.enter(ready);
+                Ok(item)
+            }
+            Err(NoMemory) => Err(SubmitFault::Refused(Refused::NoMemory)),
+        }
     }
 
     /// Asks for something at a moment. Where there is no item nothing has changed.
@@ -285,10 +290,7 @@ impl Desk {
         ensures refused { IfErr result (λ fault. IsFaultOf fault (live (store_of self.old.kept) self.old.kept.next at by ask)) }
     {
         match self.ready(alloc, at, by, ask) {
-            Ok(ready) => match self.enter_copied(alloc, ready) {
-                Ok(item) => Ok(item),
-                Err(NoMemory) => Err(SubmitFault::Refused(Refused::NoMemory)),
-            },
+            Ok(ready) => self.enter_copied(alloc, ready),
             Err(refused) => Err(SubmitFault::Refused(refused)),
         }
     }

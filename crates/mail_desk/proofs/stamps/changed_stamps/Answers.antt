@@ -1,4 +1,4 @@
-use Rattle.std.proofs.Common.{◌≡◌, ℕ, IfOk, ap, ◌∙◌, subst, sym, unwrap_or}
+use Rattle.std.proofs.Common.{◌≡◌, IfOk, ap, ◌∙◌, subst, sym, unwrap_or}
 use Rattle.undo_base.specs.declared.keys.User.{User}
 use Rattle.verb_core.specs.Aims.{sought_by}
 use Rattle.verb_core.specs.Items.{actor}

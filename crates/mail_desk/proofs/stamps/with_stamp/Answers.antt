@@ -1,4 +1,4 @@
-use Rattle.std.proofs.Common.{◌≡◌, ℕ, List, [], ◌∷◌, ◌++◌, ap, ap₂, ◌∙◌, take, drop}
+use Rattle.std.proofs.Common.{ℕ, List, [], ◌∷◌, ◌++◌, ap, ap₂, ◌∙◌, take, drop}
 use Rattle.verb_core.specs.Boxes.{box_of}
 use Rattle.mail_desk.specs.Stamping.{StampRows, past_row}
 use Rattle.mail_desk.proofs.Stampings.{row_placed}

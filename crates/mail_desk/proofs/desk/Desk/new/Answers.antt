@@ -1,12 +1,7 @@
-use Rattle.std.proofs.Common.{◌≡◌, ℕ, ◌-◌, ◌∙◌, [], List, ap, ap₂, length, map, option_map}
-use Rattle.verb_core.specs.declared.item.Item.{Item}
-use Rattle.verb_core.specs.declared.mailbox.Body.{Body}
+use Rattle.std.proofs.Common.{◌-◌, ◌∙◌, ap, map}
 use Rattle.verb_core.specs.declared.mailbox.BoxId.{BoxId}
 use Rattle.verb_core.specs.declared.mailbox.Mailbox.{Mailbox}
-use Rattle.verb_core.specs.Items.{text_of}
 use Rattle.verb_core.specs.Store.{opening}
-use Rattle.shelf.specs.declared.note.Note.{Note}
-use Rattle.shelf.specs.Notes.{size_of}
 use Rattle.mail_desk.specs.Kept.{Kept}
 use Rattle.mail_desk.proofs.Desks.{new_desk_holds, new_desk_is, nothing_known}
 use Rattle.mail_desk.proofs.desk.Desk.new.Goals as goal

@@ -1,4 +1,4 @@
-use Rattle.std.proofs.Common.{◌≡◌, ◌-◌, ◌<◌, List, IfOk, Ok, ap, subst, sym, ◌∙◌, length, option_map, unwrap_or, vec_len, vec_capacity}
+use Rattle.std.proofs.Common.{◌≡◌, ◌-◌, ◌<◌, List, IfOk, ap, subst, sym, ◌∙◌, length, option_map, unwrap_or, vec_len, vec_capacity}
 use Rattle.verb_core.specs.declared.conf.House.{House}
 use Rattle.verb_core.specs.declared.item.Item.{Item}
 use Rattle.verb_core.specs.declared.mailbox.Body.{Body}
