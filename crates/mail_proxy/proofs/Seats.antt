@@ -1,10 +1,13 @@
 -- The table of connections.
 use Rattle.std.proofs.Common.{◌≡◌, ℕ, Bool, true, false, cond, List, [], ◌∷◌, None, Some, Option, is_some, suc, ◌<◌, ◌≤◌, ◌-◌, length, take, drop, get_or, arith, refl, ap, sym, ◌∙◌}
 use Rattle.std.proofs.lemmas.List.{take_all}
+use Rattle.std.proofs.lemmas.List.Elements.{All-nil}
 use Rattle.std.specs.Map.{remove_entry, set_value}
+use Rattle.verb_core.specs.declared.conf.House.{House}
 use Rattle.undo_outside.specs.declared.event.Role.{Role}
 use Rattle.mail_proxy.specs.State.{Seat, State}
 use Rattle.mail_proxy.specs.Machine.{joins, admits, ignored}
+use Rattle.mail_proxy.specs.Stands.{AreHome, IsHome}
 
 -- what is set and then removed was removed
 pub remove_set : {X : Type 0} → (test : ℕ → Bool) (es : List (ℕ × X)) (w : X) → remove_entry test (set_value test es w) ≡ remove_entry test es
@@ -35,3 +38,7 @@ pub first_and_rest : {X : Type 0} → (xs : List X) (x : X) → 1 ≤ length xs 
 first_and_rest [] x h is = absurd (omega arith)
 first_and_rest (y ∷ xs) x h is =
     ap (λ z. z ∷ xs) (sym is) ∙ ap (λ l. x ∷ l) (sym (take_all (length (y ∷ xs) - 1) xs (let more : length (y ∷ xs) ≡ suc (length xs) = refl in omega arith)))
+
+-- no connection is open
+pub none_home : (house : House) → AreHome house []
+none_home house = All-nil (IsHome house)

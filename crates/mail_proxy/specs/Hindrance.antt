@@ -1,4 +1,4 @@
--- How a turn of a mail client may go otherwise.
+-- How a turn may go otherwise, and what follows for a mail client.
 use Rattle.std.specs.Prelude.{ℕ, List, [], ◌∷◌, Err, if◌then◌else◌}
 use Rattle.smtp_lines.specs.declared.line.SmtpLine.{SmtpLine}
 use Rattle.verb_core.specs.declared.ask.Refused.TheVariants.{NoMemory}
@@ -9,8 +9,8 @@ use Rattle.smtp_session.specs.declared.answer.SmtpOut.TheVariants.{Nothing, Say,
 use Rattle.smtp_session.specs.declared.dialog.Dialog.{Dialog}
 use Rattle.smtp_session.specs.Answer.{answer_text}
 use Rattle.smtp_session.specs.Dialog as session
-use Rattle.mail_proxy.specs.State.{Kept}
-use Rattle.mail_proxy.specs.Desk.{store_of}
+use Rattle.mail_desk.specs.Kept.{Kept}
+use Rattle.mail_desk.specs.Desk.{store_of}
 use Rattle.mail_proxy.specs.Dialog.{Turn, turn, says, ends, settled}
 
 -- How a turn may go otherwise.
@@ -19,13 +19,17 @@ pub data Hindrance : Type 0 where
   Clear : Hindrance
   -- no memory was found before anything was stored, and the client is told
   Refused : Hindrance
+  -- no memory was found for the texts that a mail reader's command wants, and the client is told
+  Unread : Hindrance
+  -- no memory was found for what a mail reader's command asks of the desk, or for telling why that is refused, and the client is told
+  Unstored : Hindrance
   -- no memory was found for the line, for a line of a text, or for telling the client of want of memory
   Unheard : Hindrance
   -- no memory was found for the answer to a text that is stored
   Unanswered : Hindrance
 
 -- no memory was found for a line: it is lost, and the connection closes
-abbrev pub lost : Kept → Turn
+abbrev pub lost : {D : Type 0} → Kept → Turn D
 lost kept = ends [] kept
 
 -- what is told of want of memory
@@ -33,22 +37,24 @@ abbrev pub memory_told : List ℕ
 memory_told = answer_text [] WantOfMemory
 
 -- in a text only its end, which asks the desk, is answered so, and it ends the transaction
-abbrev pub refused_in_text : Kept → SmtpOut → Dialog → Turn
+abbrev pub refused_in_text : Kept → SmtpOut → Dialog → Turn Dialog
 refused_in_text kept (Mail ask) d = settled d (record { outcome = Err (IsRefused NoMemory); kept = kept })
 refused_in_text kept Nothing d = lost kept
 refused_in_text kept (Say said) d = lost kept
 refused_in_text kept (Bye said) d = lost kept
 
 -- no memory was found before anything was stored
-abbrev pub refused : ℕ → Kept → Dialog → SmtpLine → Turn
+abbrev pub refused : ℕ → Kept → Dialog → SmtpLine → Turn Dialog
 refused at kept d line =
     if session.is_writing d
     then (let t = session.turn kept.house (store_of kept).conf at d line in refused_in_text kept t.out t.dialog)
     else says memory_told kept d
 
-abbrev pub hindered : Hindrance → ℕ → Kept → Dialog → SmtpLine → Turn
+abbrev pub hindered : Hindrance → ℕ → Kept → Dialog → SmtpLine → Turn Dialog
 hindered Clear at kept d line = turn at kept d line
 hindered Refused at kept d line = refused at kept d line
+hindered Unread at kept d line = turn at kept d line
+hindered Unstored at kept d line = turn at kept d line
 hindered Unheard at kept d line = lost kept
 hindered Unanswered at kept d line = ends [] (turn at kept d line).kept
 

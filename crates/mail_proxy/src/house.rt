@@ -2,7 +2,7 @@
 ghost use Rattle.std.specs.Prelude.{◌≡◌, IfOk};
 ghost use Rattle.mail_proxy.specs.Play.{configured, house, opening};
 
-use crate::desk::Desk;
+use mail_desk::Desk;
 use std::alloc::Global;
 use undo_base::{Name, Names, NoMemory, User, Users};
 use verb_core::{Account, Accounts, Alias, Aliases, Conf, Filters, House};
@@ -68,9 +68,9 @@ fn make_conf(alloc: Global) -> Result<Conf, NoMemory>
 
 /// The desk on which a script is played.
 pub fn playing_desk(alloc: Global) -> Result<Desk, NoMemory>
-    ensures { IfOk result (λ desk. desk ≡ opening) }
+    ensures { IfOk result (λ desk. desk.kept ≡ opening) }
 {
     let house = make_house(alloc)?;
     let conf = make_conf(alloc)?;
-    Desk::opening(alloc, house, conf)
+    Desk::new(alloc, house, conf)
 }

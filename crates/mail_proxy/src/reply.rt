@@ -2,6 +2,7 @@
 ghost use Rattle.std.specs.Prelude.{◌≡◌, false, [], IfOk};
 ghost use Rattle.smtp_session.specs.declared.answer.Answer.TheVariants.{Ready};
 ghost use Rattle.smtp_session.specs.Answer.{answer_text};
+ghost use Rattle.imap_session.specs.Words.{greeting_text};
 ghost use Rattle.mail_proxy.specs.Took.{Adds};
 
 use smtp_session::greeting;
@@ -33,6 +34,18 @@ pub fn greet(alloc: Global, house: &House, conn: u32) -> Result<Reply, NoMemory>
     ensures { IfOk result (λ reply. reply ≡ record { conn = conn; said = answer_text house.now.host Ready; closes = false }) }
 {
     let said = greeting(alloc, house)?;
+    Ok(Reply {
+        conn,
+        said,
+        closes: false,
+    })
+}
+
+/// The greeting of a mail reader.
+pub fn greet_reader(alloc: Global, house: &House, conn: u32) -> Result<Reply, NoMemory>
+    ensures { IfOk result (λ reply. reply ≡ record { conn = conn; said = greeting_text house.now; closes = false }) }
+{
+    let said = imap_session::greeting(alloc, house)?;
     Ok(Reply {
         conn,
         said,

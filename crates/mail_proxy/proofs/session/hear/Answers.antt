@@ -1,22 +1,21 @@
-use Rattle.std.proofs.Common.{◌≡◌, List, ℕ, false, ◌++◌, subst}
-use Rattle.mail_proxy.specs.State.{Seat, Smtp}
-use Rattle.mail_proxy.specs.Machine.{hears}
-use Rattle.mail_proxy.specs.Took.{TellsSmtp, answered_alone}
-use Rattle.mail_proxy.proofs.Stretch.{heard_alone}
+use Rattle.std.proofs.Common.{ap, sym, ◌∙◌}
+use Rattle.mail_desk.specs.Held.{Held}
+use Rattle.mail_proxy.specs.State.{Imap, Smtp}
+use Rattle.mail_proxy.specs.Stands.{seat_of}
+use Rattle.mail_proxy.proofs.Stretch.{heard_same}
+use Rattle.mail_proxy.proofs.session.hear.Goals.{in-Smtp, in-Imap}
 use Rattle.mail_proxy.proofs.session.hear.Goals as goal
 
-pub returns-in-Ok : goal.returns-in-Ok
-returns-in-Ok c = record {
-  heard = λ seats.
-      let t = c.serve_lines.ensures.turns seats in
-      let s = c.session.inside in
-      let new = c.serve_lines.new in
-      let kept = c.args.desk.now in (
-        false,
-        t.0,
-        subst (λ (seat : Seat). hears false t.0 c.args.at (record { kept = kept; seats = seats }) c.args.conn seat c.args.bytes.now
-            ≡ answered_alone c.args.conn c.serve_lines.result new.desk (record { unserved = new.unserved; session = Smtp new.dialog }) seats) c.session.view_is
-            (heard_alone c.args.at t.0 seats kept s.dialog (s.unserved ++ c.args.bytes.now) c.args.conn c.serve_lines.result new.desk new.dialog new.unserved
-            (subst (λ (stream : List ℕ). TellsSmtp c.args.at t.0 seats kept s.dialog stream c.args.conn c.serve_lines.result new.desk new.dialog new.unserved) c.in-Ok.ensures.ok t.1)),
-      );
-}
+pub returns-clause-heard : goal.returns-clause-heard
+returns-clause-heard c seats = elim c.match-session.branch [
+  | in-Smtp w ↦
+      heard_same c.args.at c.args.desk.now.kept seats c.args.conn (Smtp w.in-Smtp.unserved w.in-Smtp.dialog) c.args.session.now c.args.bytes.now w.hear_client.result c.match-session.result
+      w.hear_client.new.desk.kept c.match-session.desk.kept (Smtp w.hear_client.new.unserved w.hear_client.new.dialog) (seat_of c.match-session.session-inside.kind)
+      (ap seat_of (sym w.in-Smtp.is) ∙ c.session.view_is) w.result-is (ap (λ (h : Held). h.kept) w.desk-is) (ap (λ s. seat_of s.kind) w.session-inside-is)
+      (w.hear_client.ensures.heard seats)
+  | in-Imap w ↦
+      heard_same c.args.at c.args.desk.now.kept seats c.args.conn (Imap w.in-Imap.stream w.in-Imap.dialog) c.args.session.now c.args.bytes.now w.hear_reader.result c.match-session.result
+      w.hear_reader.new.desk.kept c.match-session.desk.kept (Imap w.hear_reader.new.stream w.hear_reader.new.dialog) (seat_of c.match-session.session-inside.kind)
+      (ap seat_of (sym w.in-Imap.is) ∙ c.session.view_is) w.result-is (ap (λ (h : Held). h.kept) w.desk-is) (ap (λ s. seat_of s.kind) w.session-inside-is)
+      (w.hear_reader.ensures.heard seats)
+]

@@ -4,6 +4,7 @@ use Rattle.smtp_lines.specs.Line.{smtp_lines_of}
 use Rattle.smtp_session.specs.Dialog.{is_due}
 use Rattle.mail_proxy.specs.Machine.{Seats}
 use Rattle.mail_proxy.proofs.Stretch.{SoFar}
+use Rattle.mail_proxy.proofs.Turns.{line_at}
 use Rattle.mail_proxy.proofs.session.serve_lines.Given as goal
 
 -- the turns so far, and those of the lines that are left
@@ -12,8 +13,9 @@ invariant-loop-line l = record {
   stays : l.reply.closes ≡ false;
   conn : l.reply.conn ≡ l.conn;
   free : is_due l.dialog ≡ false;
+  house : l.desk.kept.house ≡ l.fn.desk.kept.house;
   rest : rest_of l.unserved ≡ rest_of l.fn.unserved;
-  turns : (seats : Seats) → SoFar l.at seats l.fn.desk l.fn.dialog (smtp_lines_of l.fn.unserved) l.reply.said l.desk l.dialog (smtp_lines_of l.unserved);
+  turns : (seats : Seats) → SoFar (line_at l.at) seats l.fn.desk.kept l.fn.dialog (smtp_lines_of l.fn.unserved) l.reply.said l.desk.kept l.dialog (smtp_lines_of l.unserved);
 }
 
 abbrev pub decreases-loop-line : goal.decreases-loop-line
