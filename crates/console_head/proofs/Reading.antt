@@ -108,7 +108,3 @@ known_behind c bytes front head old e first stays le least = record {
 -- what is known where no head was found yet
 pub known_none : (c : Coming) (bytes front : List ℕ) → front ≡ take 16384 bytes → AreFirst c.lines front → c.least ≤ length bytes → IsKnown c bytes
 known_none c bytes front e first le = record { lines = rw e at first; least = λ more lt. absurd (omega (arith, le, lt)) }
-
--- what is known of all bytes is known of these
-pub fresh_known : (c : Coming) (bytes : List ℕ) → ((all : List ℕ) → IsKnown c all) → IsKnown c bytes
-fresh_known c bytes known = known bytes

@@ -1,8 +1,5 @@
-//! Requests of bytes, each refusal in its order, and heads that come byte by byte.
-ghost use Rattle.std.specs.Prelude.{List, ℕ, ◌++◌, OnOk};
-ghost use Rattle.console_head.specs.Coming.{IsKnown};
-
-use crate::{Coming, HeadRefused, read_once};
+//! What bytes are: each refusal in its order, the limits, and the parts of a request.
+use crate::{HeadRefused, read_once};
 use std::alloc::{AllocError, Global};
 use std::test::Fail;
 
@@ -119,43 +116,6 @@ fn a_head_ends_within_16384_octets(rt: HostRuntime) -> Result<(), Fail> {
         told(long_head(rt.alloc(), 16_369, end)?.as_slice()),
         "size"
     );
-    Ok(())
-}
-
-/// What bytes are, of which some were read before.
-fn told_more(
-    coming: &mut Coming,
-    bytes: &mut Vec<u8>,
-    more: &[u8],
-) -> Result<&'static str, AllocError>
-    requires { (rest : List ℕ) → IsKnown coming.old (bytes.old.items ++ rest) }
-    ensures { OnOk result ((rest : List ℕ) → IsKnown coming.new (bytes.new.items ++ rest)) }
-{
-    bytes.extend_from_slice(more)?;
-    match coming.read(bytes.as_slice()) {
-        Ok(None) => Ok("not yet"),
-        Ok(Some(_)) => Ok("request"),
-        Err(_) => Ok("refused"),
-    }
-}
-
-#[test]
-#[tactic(auto, using(crate::proofs::Reading::fresh_known))]
-fn bytes_that_come_in_pieces(rt: HostRuntime) -> Result<(), Fail> {
-    let mut coming = Coming::new();
-    let mut bytes = Vec::new(rt.alloc());
-    assert_eq!(rt;
-        told_more(&mut coming, &mut bytes, b"\nPOST /act HT")?,
-        "not yet"
-    );
-    assert_eq!(rt;
-        told_more(&mut coming, &mut bytes, b"TP/1.1\r\nContent-Length: 2\r")?,
-        "not yet"
-    );
-    assert_eq!(rt; told_more(&mut coming, &mut bytes, b"\n\r")?, "not yet");
-    assert_eq!(rt; told_more(&mut coming, &mut bytes, b"\n")?, "not yet");
-    assert_eq!(rt; told_more(&mut coming, &mut bytes, b"{")?, "not yet");
-    assert_eq!(rt; told_more(&mut coming, &mut bytes, b"}more")?, "request");
     Ok(())
 }
 
