@@ -1,43 +1,18 @@
 -- What a command gives of a mail reader's dialog: whose texts it wants, and what follows once it has them.
-use Rattle.std.proofs.Common.{◌≡◌, ◌==◌, ◌+◌, ◌&&◌, ◌||◌, ℕ, Bool, cond, true, false, not, nat_lt, List, [], ◌∷◌, ◌++◌, map, filter_map, find, length, slice_get, Option, None, Some, option_map, option_and_then, unwrap_or, Result, Ok, Err, IsTrue, refl, ap, subst, sym, ◌∙◌}
+use Rattle.std.proofs.Common.{◌≡◌, ◌&&◌, ℕ, Bool, true, false, List, [], Option, None, Some, option_map, unwrap_or, Ok, Err, refl, ap, subst, ◌∙◌}
 use Rattle.std.specs.List.{list_all, cons_option}
-use Rattle.std.specs.Ordering.{eq_by_cmp}
-use Rattle.std.specs.FinMap.Entries as rows
 use Rattle.undo_base.specs.declared.keys.User.{User}
 use Rattle.seal_log.specs.declared.fault.ReadFault.{ReadFault}
 use Rattle.seal_log.specs.declared.fault.ReadFault.TheVariants as read_fault
 use Rattle.verb_core.specs.declared.conf.House.{House}
-use Rattle.verb_core.specs.declared.mailbox.Body.{Body}
-use Rattle.verb_core.specs.declared.mailbox.BoxId.{BoxId}
-use Rattle.verb_core.specs.declared.mailbox.Entry.{Entry}
-use Rattle.verb_core.specs.declared.mailbox.Mailbox.{Mailbox}
-use Rattle.verb_core.specs.Boxes.{box_cmp, box_of, mail_at, row_at}
-use Rattle.verb_core.specs.Live.{asker, mail_of}
 use Rattle.verb_core.specs.Store.{MailStore, is_known}
-use Rattle.imap_fetch.specs.declared.asked.Attribute.{Attribute}
-use Rattle.imap_fetch.specs.declared.lines.StoreForm.{StoreForm}
-use Rattle.imap_fetch.specs.declared.messages.Message.{Message}
-use Rattle.imap_fetch.specs.Asked.{attributes_of, body_sections}
-use Rattle.imap_lines.specs.declared.command.ImapCommand.{ImapCommand}
-use Rattle.imap_lines.specs.declared.command.ImapWhat.{ImapWhat}
-use Rattle.imap_lines.specs.declared.command.ImapWhat.TheVariants as what
-use Rattle.imap_stream.specs.declared.picks.SetRange.{SetRange}
 use Rattle.imap_session.specs.declared.dialog.Awaits.{Awaits}
 use Rattle.imap_session.specs.declared.dialog.Awaits.TheVariants.{Nothing, Texts, Outcome}
 use Rattle.imap_session.specs.declared.dialog.Dialog.{Dialog}
-use Rattle.imap_session.specs.declared.dialog.Fetching.{Fetching}
-use Rattle.imap_session.specs.declared.dialog.Selected.{Selected}
 use Rattle.imap_session.specs.declared.out.ImapOut.{ImapOut}
 use Rattle.imap_session.specs.declared.out.ImapOut.TheVariants.{Say, Read, Submit, Bye}
-use Rattle.imap_session.specs.declared.view.Known.{Known}
-use Rattle.imap_session.specs.declared.words.Answer.TheVariants.{ReadOnly}
-use Rattle.imap_session.specs.declared.words.Word.{Word}
-use Rattle.imap_session.specs.declared.words.Word.TheVariants as word
-use Rattle.imap_session.specs.Names.{account_of, mailbox_of}
-use Rattle.imap_session.specs.Fetching.{ask_of, bodies_of, is_vain, keys_at, message_at, places_named, rows_at}
-use Rattle.imap_session.specs.Views.{entry_of, is_message}
 use Rattle.imap_session.specs.Dialog as session
-use Rattle.imap_session.specs.Dialog.{ReadsOf, Took, is_at_home, is_due, is_free, is_reading, is_texts}
+use Rattle.imap_session.specs.Dialog.{ReadsOf, Took, is_at_home, is_free, is_reading, is_texts}
 use Rattle.mail_desk.specs.Kept.{Kept}
 use Rattle.mail_desk.specs.Desk.{store_of}
 use Rattle.mail_desk.specs.Timeline.{all_bodies, has_text}
