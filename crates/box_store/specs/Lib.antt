@@ -9,3 +9,4 @@ pub mod Indexed
 pub mod Patterns
 pub mod Plans
 pub mod Refusing
+pub mod Sample

@@ -96,10 +96,9 @@ pub(crate) fn asks_fixed(ask: &Ask) -> bool
     ensures { result ≡ asks_fixed ask.now }
 {
     match ask {
-        Ask::Create { mailbox } => is_fixed(mailbox.bytes()),
-        Ask::Delete { mailbox } => is_fixed(mailbox.bytes()),
-        Ask::Rename { mailbox, target } => is_lost_found(mailbox.bytes())
-            || is_fixed(target.bytes()),
+        Ask::Create { mailbox } => is_fixed(mailbox),
+        Ask::Delete { mailbox } => is_fixed(mailbox),
+        Ask::Rename { mailbox, target } => is_lost_found(mailbox) || is_fixed(target),
         Ask::Deliver { .. } => false,
         Ask::Append { .. } => false,
         Ask::Fetch { .. } => false,
@@ -163,7 +162,7 @@ pub(crate) fn adds_name(ask: &Ask) -> bool
 {
     match ask {
         Ask::Create { .. } => true,
-        Ask::Rename { mailbox, .. } => is_inbox(mailbox.bytes()),
+        Ask::Rename { mailbox, .. } => is_inbox(mailbox),
         Ask::Deliver { .. } => false,
         Ask::Append { .. } => false,
         Ask::Fetch { .. } => false,
