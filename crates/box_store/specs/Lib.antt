@@ -9,4 +9,3 @@ pub mod Indexed
 pub mod Patterns
 pub mod Plans
 pub mod Refusing
-pub mod Sample

@@ -96,9 +96,10 @@ pub(crate) fn asks_fixed(ask: &Ask) -> bool
     ensures { result ≡ asks_fixed ask.now }
 {
     match ask {
-        Ask::Create { mailbox } => is_fixed(mailbox),
-        Ask::Delete { mailbox } => is_fixed(mailbox),
-        Ask::Rename { mailbox, target } => is_lost_found(mailbox) || is_fixed(target),
+        Ask::Create { mailbox } => is_fixed(mailbox.bytes()),
+        Ask::Delete { mailbox } => is_fixed(mailbox.bytes()),
+        Ask::Rename { mailbox, target } => is_lost_found(mailbox.bytes())
+            || is_fixed(target.bytes()),
         Ask::Deliver { .. } => false,
         Ask::Append { .. } => false,
         Ask::Fetch { .. } => false,
@@ -162,7 +163,7 @@ pub(crate) fn adds_name(ask: &Ask) -> bool
 {
     match ask {
         Ask::Create { .. } => true,
-        Ask::Rename { mailbox, .. } => is_inbox(mailbox),
+        Ask::Rename { mailbox, .. } => is_inbox(mailbox.bytes()),
         Ask::Deliver { .. } => false,
         Ask::Append { .. } => false,
         Ask::Fetch { .. } => false,

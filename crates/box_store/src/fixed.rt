@@ -2,24 +2,22 @@
 ghost use Rattle.std.specs.Prelude.{◌≡◌, bytes_eq};
 ghost use Rattle.verb_core.specs.Names.{inbox, lost_found, is_fixed, is_wildcard};
 
-use undo_base::Name;
-
 /// Whether it is INBOX.
-pub(crate) fn is_inbox(name: &Name) -> bool
+pub(crate) fn is_inbox(name: &[u8]) -> bool
     ensures { result ≡ bytes_eq name.now inbox }
 {
-    name.bytes() == b"INBOX".as_slice()
+    name == b"INBOX".as_slice()
 }
 
 /// Whether it is Lost+Found.
-pub(crate) fn is_lost_found(name: &Name) -> bool
+pub(crate) fn is_lost_found(name: &[u8]) -> bool
     ensures { result ≡ bytes_eq name.now lost_found }
 {
-    name.bytes() == b"Lost+Found".as_slice()
+    name == b"Lost+Found".as_slice()
 }
 
 /// Whether the mailbox of that name is always there.
-pub(crate) fn is_fixed(name: &Name) -> bool
+pub(crate) fn is_fixed(name: &[u8]) -> bool
     ensures { result ≡ is_fixed name.now }
 {
     is_inbox(name) || is_lost_found(name)

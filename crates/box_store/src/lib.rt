@@ -45,6 +45,3 @@ pub use steps::Steps;
 pub use store::Store;
 pub use threads::types_cross_threads;
 pub use verb_core::SubmitFault;
-
-#[cfg(test)]
-mod tests;

@@ -91,7 +91,7 @@ fn is_listed(pattern: &[u8], upper: &[u8], name: &Name) -> bool
     requires { upper.now ≡ str_to_ascii_uppercase pattern.now }
     ensures { result ≡ is_given pattern.now name.now }
 {
-    if is_inbox(name) {
+    if is_inbox(name.bytes()) {
         is_match(upper, name.bytes())
     } else {
         is_match(pattern, name.bytes())

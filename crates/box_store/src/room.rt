@@ -128,7 +128,7 @@ fn is_wide(store: &Store, by: Option<User>, name: &Name) -> bool
 fn rename_outgrows(store: &Store, by: Option<User>, mailbox: &Name) -> bool
     ensures { result ≡ (bytes_eq mailbox.now inbox && outgrows 1 (length (mail_of store.now.store by mailbox.now))) }
 {
-    is_inbox(mailbox) && outgrows(1, mail_of(store, by, mailbox).len())
+    is_inbox(mailbox.bytes()) && outgrows(1, mail_of(store, by, mailbox).len())
 }
 
 /// Whether a mailbox has used up its UIDs, or would.

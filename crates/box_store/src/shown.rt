@@ -40,7 +40,7 @@ fn count_of(rows: &[(BoxId, Mailbox)], user: User, name: &Name) -> Result<Option
 pub(crate) fn way_of(rows: &[(BoxId, Mailbox)], user: User, source: &Name, target: &Name) -> Way
     ensures { result ≡ way_of user source.now target.now rows.now }
 {
-    if is_lost_found(source) || is_fixed(target) || source == target {
+    if is_lost_found(source.bytes()) || is_fixed(target.bytes()) || source == target {
         return Way::NoSource;
     }
     if find_mailbox(rows, user, source).is_none() {
@@ -63,7 +63,7 @@ fn moved_of(
 ) -> Result<Keys, NoMemory>
     ensures { IfOk result (λ moved. moved ≡ keys_of (saved user name.now keys.now rows.now)) }
 {
-    if is_fixed(name) {
+    if is_fixed(name.bytes()) {
         return Ok(Keys::new(alloc));
     }
     others_of(alloc, mail_of(rows, user, name), keys)

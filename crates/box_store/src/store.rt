@@ -131,6 +131,7 @@ fn names_in(alloc: Global, user: User, rows: &[(BoxId, Mailbox)]) -> Result<Name
 
 impl Store {
     ghost use Rattle.box_store.specs.Kept.{sought_in};
+    ghost use Rattle.box_store.specs.Effects.{IsAimed};
 
     /// Each user's fixed mailboxes, empty. The configuration has no filter.
     pub fn opening(alloc: Global, house: &House, conf: Conf) -> Result<Store, NoMemory>
@@ -158,6 +159,7 @@ impl Store {
         requires formed { IsWellFormed self.now.store.house item.now }
         ensures item { IfOk result (λ what. what.item ≡ item.now) }
         ensures sought { IfOk result (λ what. sought_in what ≡ sought self.now.store text.now item.now.by item.now.deed) }
+        ensures aimed { IfOk result (λ what. IsAimed what self.now.store) }
     {
         let reach = reach_of(
             alloc,

@@ -6,6 +6,7 @@ ghost use Rattle.verb_core.specs.Boxes.{box_of, is_rising, row_at, mail_at, chan
 ghost use Rattle.verb_core.specs.Step.{created, left, renamed, after_rename, deleted};
 ghost use Rattle.box_store.specs.Effects.{all_flags_set, put_each as puts_each, mail_in, grows, HasSpares, adds_row, worked};
 
+use crate::fixed::{is_fixed, is_inbox};
 use crate::mail::{begun_anew, expunge, put_mail, remove, set_flags, take_entries, without};
 use crate::rows::{insert_row, place_of, put_row, take_row};
 use crate::spares::Spares;
@@ -128,18 +129,6 @@ fn empty_row(rows: &mut Vec<(BoxId, Mailbox)>, user: User, name: &[u8]) -> Optio
         }
         Err(_) => None,
     }
-}
-
-fn is_inbox(name: &[u8]) -> bool
-    ensures { result ≡ bytes_eq name.now inbox }
-{
-    name == b"INBOX".as_slice()
-}
-
-fn is_fixed(name: &[u8]) -> bool
-    ensures { result ≡ is_fixed_name name.now }
-{
-    is_inbox(name) || name == b"Lost+Found".as_slice()
 }
 
 /// Leaves a mailbox: INBOX is emptied and keeps its next UID, another goes. What was there comes back.

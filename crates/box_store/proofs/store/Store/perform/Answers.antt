@@ -1,11 +1,8 @@
 use Rattle.std.proofs.Common.{◌∙◌, ap}
 use Rattle.verb_core.specs.declared.item.Shown.{Shown}
 use Rattle.verb_core.specs.Store.{MailStore}
-use Rattle.box_store.proofs.Aimed.{aimed, same_answer, own_step}
+use Rattle.box_store.proofs.Aimed.{same_answer, own_step}
 use Rattle.box_store.proofs.store.Store.perform.Goals as goal
-
-pub effect-requires-clause-aimed : goal.effect-requires-clause-aimed
-effect-requires-clause-aimed g c = aimed c.args.self.now.store c.args.item.now c.args.text.now c.in_ok-what.what c.requires.valid c.requires.formed c.in_ok-what.ensures.item c.in_ok-what.ensures.sought
 
 pub returns-clause-shown : goal.returns-clause-shown
 returns-clause-shown g c = c.apply.ensures.shown ∙ same_answer c.args.self.now.store c.args.item.now c.args.text.now c.in_ok-what.what c.in_ok-effect.effect.shown c.in_ok-what.ensures.item c.in_ok-what.ensures.sought c.in_ok-effect.ensures.shown

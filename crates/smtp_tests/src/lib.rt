@@ -1,0 +1,6 @@
+//! Tests of smtp_session's `done`: what a mail client hears of each outcome of its delivery. They stand in a crate of
+//! their own, since a crate with tests is proved twice.
+#![tactic(auto)]
+
+#[cfg(test)]
+mod tests;
