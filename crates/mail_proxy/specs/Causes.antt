@@ -4,8 +4,8 @@ use Rattle.undo_outside.specs.declared.event.Event.{Event}
 use Rattle.undo_outside.specs.declared.event.LinkNote.{LinkNote}
 use Rattle.undo_outside.specs.declared.fault.Fault.{Fault}
 use Rattle.undo_outside.specs.Calls.{SinkTold}
-use Rattle.mail_proxy.specs.declared.serve.ServeFault.{ServeFault}
-use Rattle.mail_proxy.specs.declared.serve.ServeFault.TheVariants.{Turns}
+use Rattle.mail_loop.specs.declared.serve.ServeFault.{ServeFault}
+use Rattle.mail_loop.specs.declared.serve.ServeFault.TheVariants.{Turns}
 use Rattle.script_link.specs.Script.{script_of}
 use Rattle.script_link.specs.Transcript.{transcript_of}
 use Rattle.mail_proxy.specs.Reading.{Took, WriteFails, WriteStarves, WritesAll}

@@ -60,6 +60,13 @@ impl Log {
         }
     }
 
+    /// Whether a write or a sync through this log failed. Takes no memory.
+    pub fn is_closed(&self) -> bool
+        ensures { IsTrue result ↔ IsClosed self.now }
+    {
+        self.closed
+    }
+
     /// Seals a payload. At `Ok` it is on the disk. At `Disk` the log is closed, and the payload may be there or not.
     pub fn seal<D: Disk>(
         &mut self,

@@ -1,0 +1,10 @@
+pub mod Links
+pub mod Refusals
+pub mod Turns
+pub mod Commands
+pub mod Readers
+pub mod Nexts
+pub mod Stretch
+pub mod Seats
+pub mod Events
+pub mod Runs

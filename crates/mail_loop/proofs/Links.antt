@@ -1,0 +1,169 @@
+-- What the link did, call after call.
+use Rattle.std.proofs.Common.{◌≡◌, ℕ, zero, suc, ◌+◌, Bool, true, false, not, List, [], ◌∷◌, ◌++◌, None, Some, Option, Result, Ok, Err, refl, ap, subst, sym, ◌∙◌, arith, add-zero, zero-add}
+use Rattle.std.proofs.lemmas.List.{append-nil, append_assoc}
+use Rattle.undo_outside.specs.declared.fault.Fault.{Fault}
+use Rattle.undo_outside.specs.declared.fault.Fault.TheVariants.{Failed, NoMemory}
+use Rattle.undo_outside.specs.declared.event.LinkNote.{LinkNote}
+use Rattle.undo_outside.specs.declared.event.LinkNote.TheVariants.{Sent}
+use Rattle.undo_outside.specs.Calls.{LinkTold, Rose, then_told, Sends as LinkSends}
+use Rattle.undo_base.specs.declared.memory.NoMemory.{NoMemory as WantOfMemory}
+use Rattle.mail_loop.specs.Machine.{Seats, Delivery, Arrives, IsMissed, IsLeftOut, Reply, string_notes, close_notes, reply_notes, after_reply, delivered, remains}
+use Rattle.mail_loop.specs.Did.{Goes, RoseBy, AreLicensed, Told, Replied, Did, Sends, missed_by, missed_of}
+
+-- nothing more is told
+pub then_told-nil : {A : Type 0} (told : Option (List A)) → then_told told [] ≡ told
+then_told-nil None = refl
+then_told-nil (Some xs) = ap Some (append-nil xs)
+
+pub then_told-append : {A : Type 0} (told : Option (List A)) (xs ys : List A) → then_told (then_told told xs) ys ≡ then_told told (xs ++ ys)
+then_told-append None xs ys = refl
+then_told-append (Some zs) xs ys = ap Some (append_assoc zs xs ys)
+
+pub goes_none : (t : LinkTold) → Goes t t []
+goes_none t = record { log = sym (then_told-nil t.log); coming = refl; faults = refl; reliable = refl }
+
+pub goes_on_goes : (a b c : LinkTold) (xs ys : List LinkNote) → Goes a b xs → Goes b c ys → Goes a c (xs ++ ys)
+goes_on_goes a b c xs ys g h = record {
+  log = h.log ∙ ap (λ l. then_told l ys) g.log ∙ then_told-append a.log xs ys;
+  coming = h.coming ∙ g.coming;
+  faults = h.faults ∙ g.faults;
+  reliable = h.reliable ∙ g.reliable;
+}
+
+-- a count that rose by some and then by more
+pub rose_add : (m n a b c : ℕ) → RoseBy m a b → RoseBy n b c → RoseBy (m + n) a c
+rose_add zero n a b c e r = subst (λ k. RoseBy k a c) (sym (zero-add n)) (subst (λ x. RoseBy n x c) e r)
+rose_add (suc m) zero a b c r e = subst (λ k. RoseBy k a c) (sym (add-zero (suc m))) (subst (λ x. RoseBy (suc m) a x) (sym e) r)
+rose_add (suc m) (suc n) a b c (r, r') (q, q') =
+    let whole : suc m + suc n ≡ suc (m + suc n) = omega arith in
+    subst (λ k. RoseBy k a c) (sym whole) (omega arith, omega arith)
+
+-- a count that rose
+pub rose_one : (a b : ℕ) → Rose a b → RoseBy (1 + 0) a b
+rose_one a b (r, q) = (r, q)
+
+pub none_licensed : (a b : LinkTold) → b.missed ≡ a.missed → AreLicensed [] a b
+none_licensed a b e = record { rose = e; reliable = λ _. refl }
+
+-- one string more
+pub licensed_more : (d : Delivery) (ds : List Delivery) (a b c : LinkTold) → AreLicensed (d ∷ []) a b → b.is_reliable ≡ a.is_reliable → AreLicensed ds b c → AreLicensed (d ∷ ds) a c
+licensed_more d ds a b c l same m = record {
+  rose = subst (λ k. RoseBy (k + missed_of ds) a.missed c.missed) (add-zero (missed_by d)) (rose_add (missed_by d + 0) (missed_of ds) a.missed b.missed c.missed l.rose m.rose);
+  reliable = λ e. let one = l.reliable e in let more = m.reliable (same ∙ e) in omega arith;
+}
+
+-- a string arrives or is left out
+arrives_licensed : (a b : LinkTold) → b.missed ≡ a.missed → AreLicensed (Arrives ∷ []) a b
+arrives_licensed a b e = record { rose = e; reliable = λ _. refl }
+
+left_out_licensed : (a b : LinkTold) → b.missed ≡ a.missed → AreLicensed (IsLeftOut ∷ []) a b
+left_out_licensed a b e = record { rose = e; reliable = λ _. refl }
+
+-- a note more in the log, and nothing else
+pub one_note : (old new : LinkTold) (note : LinkNote) → new ≡ record old { log = then_told old.log (note ∷ []) } → Goes old new (note ∷ [])
+one_note old new note e = record {
+  log = ap (λ (t : LinkTold). t.log) e;
+  coming = ap (λ (t : LinkTold). t.coming) e;
+  faults = ap (λ (t : LinkTold). t.faults) e;
+  reliable = ap (λ (t : LinkTold). t.is_reliable) e;
+}
+
+-- nothing to say
+pub told_nothing : (told : LinkTold) (r : Reply) → r.said ≡ [] → Told told told r (not r.closes)
+told_nothing told r none = record {
+  delivery = Arrives;
+  licensed = arrives_licensed told told refl;
+  stays_is = ap (λ said. remains Arrives said r.closes) (sym none);
+  goes = subst (λ said. Goes told told (string_notes Arrives r.conn said)) (sym none) (goes_none told);
+}
+
+-- the string went out
+pub told_sent : (old new : LinkTold) (conn : ℕ) (said : List ℕ) (closes : Bool) → (said ≡ [] → ⊥) → LinkSends old new conn said (Ok tt)
+    → Told old new (record { conn = conn; said = said; closes = closes }) (not closes)
+told_sent old new conn [] closes some sent = absurd (some refl)
+told_sent old new conn (b ∷ bytes) closes some sent = record {
+  delivery = Arrives;
+  licensed = arrives_licensed old new (ap (λ (t : LinkTold). t.missed) sent);
+  stays_is = refl;
+  goes = one_note old new (Sent conn (b ∷ bytes)) sent;
+}
+
+-- the string was missed, or no memory was found for it
+pub told_not : (old new : LinkTold) (conn : ℕ) (said : List ℕ) (closes : Bool) (fault : Fault) → (said ≡ [] → ⊥) → LinkSends old new conn said (Err fault)
+    → Told old new (record { conn = conn; said = said; closes = closes }) false
+told_not old new conn [] closes fault some sent = absurd (some refl)
+told_not old new conn (b ∷ bytes) closes Failed some sent = record {
+  delivery = IsMissed;
+  licensed = record { rose = rose_one old.missed new.missed sent.1; reliable = λ e. absurd (let wrong : true ≡ false = sym e ∙ sent.2 in cc) };
+  stays_is = refl;
+  goes = record {
+    log = ap (λ (t : LinkTold). t.log) sent.0;
+    coming = ap (λ (t : LinkTold). t.coming) sent.0;
+    faults = ap (λ (t : LinkTold). t.faults) sent.0;
+    reliable = ap (λ (t : LinkTold). t.is_reliable) sent.0;
+  };
+}
+told_not old new conn (b ∷ bytes) closes NoMemory some sent = record {
+  delivery = IsLeftOut;
+  licensed = left_out_licensed old new (ap (λ (t : LinkTold). t.missed) sent);
+  stays_is = refl;
+  goes = subst (λ t. Goes old t []) (sym sent) (goes_none old);
+}
+
+-- a reply whose close found no memory
+pub replied_unclosed : (old mid new : LinkTold) (r : Reply) (stays : Bool) (w : WantOfMemory) (result : Result Bool WantOfMemory) → result ≡ Err w
+    → Told old mid r stays → new ≡ mid → Replied old new r result
+replied_unclosed old mid new r stays w result failed t same =
+    subst (Replied old new r) (sym failed)
+    (subst (λ m. Replied old m r (Err w)) (sym same)
+    (t.delivery, t.licensed, close_notes r.conn (remains t.delivery r.said r.closes), string_notes t.delivery r.conn r.said, refl, t.goes))
+
+-- the link did more after this
+did_more : (all more : List LinkNote) (old mid new : LinkTold) (result : Result (Unit {0}) WantOfMemory) → Goes old mid all → Did more mid new result → Did (all ++ more) old new result
+did_more all more old mid new (Ok x) g d = record {
+  notes = all ++ d.notes;
+  goes = goes_on_goes old mid new all d.notes g d.goes;
+  whole = ap (λ n. all ++ n) d.whole;
+}
+did_more all more old mid new (Err e) g d = record {
+  notes = all ++ d.notes;
+  goes = goes_on_goes old mid new all d.notes g d.goes;
+  whole = (d.whole.0, ap (λ n. all ++ n) d.whole.1 ∙ sym (append_assoc all d.notes d.whole.0));
+}
+
+-- no reply is to be sent
+pub sends_none : (told : LinkTold) (seats seats' : Seats) → seats' ≡ seats
+    → (ds : List Delivery) × AreLicensed ds told told × Sends (delivered ds seats []) told told seats' (Ok tt)
+sends_none told seats seats' same =
+    ([], none_licensed told told refl, record { did = record { notes = []; goes = goes_none told; whole = refl }; seats_are = same })
+
+-- a reply went out, and then the others
+pub sends_more : (old mid new : LinkTold) (seats seats1 seats2 : Seats) (r : Reply) (rs : List Reply) (stays : Bool) (result : Result (Unit {0}) WantOfMemory)
+    → Replied old mid r (Ok stays) → seats1 ≡ after_reply stays r.conn seats
+    → (ds : List Delivery) × AreLicensed ds mid new × Sends (delivered ds seats1 rs) mid new seats2 result
+    → (ds : List Delivery) × AreLicensed ds old new × Sends (delivered ds seats (r ∷ rs)) old new seats2 result
+sends_more old mid new seats seats1 seats2 r rs stays result (d, licensed, is, goes) kept (ds, more, s) =
+    let same : seats1 ≡ after_reply (remains d r.said r.closes) r.conn seats = kept ∙ ap (λ b. after_reply b r.conn seats) is in
+    let s' = subst (λ l. Sends (delivered ds l rs) mid new seats2 result) same s in (
+      d ∷ ds,
+      licensed_more d ds old mid new licensed goes.reliable more,
+      record {
+        did = did_more (reply_notes d r) (delivered ds (after_reply (remains d r.said r.closes) r.conn seats) rs).notes old mid new result goes s'.did;
+        seats_are = s'.seats_are;
+      },
+    )
+
+-- a reply's close found no memory
+pub sends_stopped : (old new : LinkTold) (seats seats2 : Seats) (r : Reply) (rs : List Reply) (w v : WantOfMemory) (result : Result (Unit {0}) WantOfMemory) → result ≡ Err v
+    → Replied old new r (Err w)
+    → (ds : List Delivery) × AreLicensed ds old new × Sends (delivered ds seats (r ∷ rs)) old new seats2 result
+sends_stopped old new seats seats2 r rs w v result failed (d, licensed, more, notes, e, goes) =
+    let rest = (delivered [] (after_reply (remains d r.said r.closes) r.conn seats) rs).notes in (
+      d ∷ [],
+      licensed,
+      subst (λ q. Sends (delivered (d ∷ []) seats (r ∷ rs)) old new seats2 q) (sym failed)
+          (record {
+            did = record { notes = notes; goes = goes; whole = (more ++ rest, ap (λ n. n ++ rest) e ∙ append_assoc notes more rest) };
+            seats_are = tt;
+          }),
+    )

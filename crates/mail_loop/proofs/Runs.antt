@@ -1,0 +1,206 @@
+-- Runs of the machine, step after step.
+use Rattle.std.proofs.Common.{◌≡◌, ℕ, ◌+◌, min, true, false, List, [], ◌∷◌, ◌++◌, length, None, Some, Option, Result, MatchResult, Ok, Err, refl, ap, subst, sym, inr, ◌∙◌, arith}
+use Rattle.std.specs.List.{AllByRecursion}
+use Rattle.std.proofs.lemmas.List.{append-nil, append_assoc, length-append}
+use Rattle.undo_base.specs.declared.memory.NoMemory.{NoMemory as WantOfMemory}
+use Rattle.undo_outside.specs.declared.event.Event.{Event}
+use Rattle.undo_outside.specs.declared.event.What.{What}
+use Rattle.undo_outside.specs.declared.event.What.TheVariants.{Joined, Bytes, Left, Idle, End}
+use Rattle.undo_outside.specs.declared.event.LinkNote.{LinkNote}
+use Rattle.undo_outside.specs.declared.event.LinkNote.TheVariants.{Came}
+use Rattle.undo_outside.specs.Calls.{LinkTold, then_told, IsNext, Comes}
+use Rattle.mail_loop.specs.declared.serve.ServeFault.TheVariants.{NoMemory}
+use Rattle.mail_desk.specs.Kept.{Kept}
+use Rattle.mail_loop.specs.State.{State}
+use Rattle.mail_loop.specs.Machine.{Seats, Hindrances, Outcome, outcome, delivered, happens, answers, ignored}
+use Rattle.mail_loop.specs.Did.{RoseBy, AreLicensed, Leads, missed_of}
+use Rattle.mail_loop.specs.Serving.{Step, is_end, after_notes, run, at_first, NoEnd, missed_in, ComeInOrder, events_of, ServedOver}
+use Rattle.mail_loop.proofs.Links.{then_told-nil, then_told-append, rose_add}
+
+-- one element more has it too
+all_more : {A : Type 0} (P : A → Type 0) (xs : List A) (x : A) → AllByRecursion P xs → P x → AllByRecursion P (xs ++ x ∷ [])
+all_more P [] x all here = (here, tt)
+all_more P (y ∷ xs) x all here = (all.0, all_more P xs x all.1 here)
+
+-- what one step more leaves
+abbrev pub then_step : Outcome → Step → Outcome
+then_step o step =
+    let p = happens step.hindrances o.state step.event in
+    record { state = p.state; notes = o.notes ++ Came step.event ∷ p.notes }
+
+run_more : (steps : List Step) (s : State) (step : Step) → run (steps ++ step ∷ []) s ≡ then_step (run steps s) step
+run_more [] s step =
+    let p = happens step.hindrances s step.event in
+    ap (λ (notes : List LinkNote). record { state = p.state; notes = notes }) (append-nil (Came step.event ∷ p.notes))
+run_more (first ∷ steps) s step =
+    let o = happens first.hindrances s first.event in
+    let q = run steps o.state in
+    let p = happens step.hindrances q.state step.event in
+    ap (after_notes (Came first.event ∷ o.notes)) (run_more steps o.state step)
+    ∙ ap (λ (notes : List LinkNote). record { state = p.state; notes = notes }) (sym (append_assoc (Came first.event ∷ o.notes) q.notes (Came step.event ∷ p.notes)))
+
+order_more : (coming mid new : Option (List Event)) (events : List Event) (event : Event)
+    → ComeInOrder coming events mid → IsNext mid event new → ComeInOrder coming (events ++ event ∷ []) new
+order_more None mid new [] event is next = tt
+order_more (Some []) mid new [] event is next = tt
+order_more (Some (x ∷ rest)) mid new [] event is next = subst (λ c. IsNext c event new) is next
+order_more None mid new (f ∷ events) event is next = tt
+order_more (Some []) mid new (f ∷ events) event is next = tt
+order_more (Some (x ∷ rest)) mid new (f ∷ events) event is next = (is.0, order_more (Some rest) mid new events event is.1 next)
+
+events_more : (steps : List Step) (step : Step) → events_of (steps ++ step ∷ []) ≡ events_of steps ++ step.event ∷ []
+events_more [] step = refl
+events_more (s ∷ steps) step = ap (λ l. s.event ∷ l) (events_more steps step)
+
+missed_more : (steps : List Step) (step : Step) → missed_in (steps ++ step ∷ []) ≡ missed_in steps + missed_of step.hindrances.deliveries
+missed_more [] step = omega arith
+missed_more (s ∷ steps) step = let more = missed_more steps step in omega arith
+
+-- what serving has done after so many turns
+pub record SoServed (turns : ℕ) (old new : LinkTold) (kept : Kept) (state : State) : Type 0 where
+  pub steps : List Step
+  pub notes : List LinkNote
+  pub count : length steps ≡ turns
+  pub no_end : NoEnd steps
+  pub leaves : run steps (at_first kept) ≡ record { state = state; notes = notes }
+  pub log : new.log ≡ then_told old.log notes
+  pub order : ComeInOrder old.coming (events_of steps) new.coming
+  pub missed : RoseBy (missed_in steps) old.missed new.missed
+  pub none_missed : old.is_reliable ≡ true → missed_in steps ≡ 0
+  pub reliable : new.is_reliable ≡ old.is_reliable
+  pub faults : new.faults ≡ old.faults
+
+pub so_served_none : (told : LinkTold) (kept : Kept) (seats : Seats) → seats ≡ [] → SoServed 0 told told kept (record { kept = kept; seats = seats })
+so_served_none told kept seats none = record {
+  steps = [];
+  notes = [];
+  count = refl;
+  no_end = tt;
+  leaves = ap (λ (c : Seats). record { state = record { kept = kept; seats = c }; notes = [] }) (sym none);
+  log = sym (then_told-nil told.log);
+  order = refl;
+  missed = refl;
+  none_missed = λ _. refl;
+  reliable = refl;
+  faults = refl;
+}
+
+-- the log after an event and what the link did for it
+log_more : {A : Type 0} (old mid got new : Option (List A)) (notes more : List A) (x : A)
+    → mid ≡ then_told old notes → got ≡ then_told mid (x ∷ []) → new ≡ then_told got more → new ≡ then_told old (notes ++ x ∷ more)
+log_more old mid got new notes more x e f g =
+    g ∙ ap (λ o. then_told o more) (f ∙ ap (λ o. then_told o (x ∷ [])) e ∙ then_told-append old notes (x ∷ []))
+    ∙ then_told-append old (notes ++ x ∷ []) more ∙ ap (then_told old) (append_assoc notes (x ∷ []) more)
+
+-- strings that one step more missed
+rose_more : (steps : List Step) (step : Step) (old mid got new : ℕ) → RoseBy (missed_in steps) old mid → got ≡ mid → RoseBy (missed_of step.hindrances.deliveries) got new
+    → RoseBy (missed_in (steps ++ step ∷ [])) old new
+rose_more steps step old mid got new before same more =
+    subst (λ n. RoseBy n old new) (sym (missed_more steps step))
+    (rose_add (missed_in steps) (missed_of step.hindrances.deliveries) old mid new before (subst (λ m. RoseBy (missed_of step.hindrances.deliveries) m new) same more))
+
+none_more : (steps : List Step) (step : Step) → missed_in steps ≡ 0 → missed_of step.hindrances.deliveries ≡ 0 → missed_in (steps ++ step ∷ []) ≡ 0
+none_more steps step before here = missed_more steps step ∙ (omega arith)
+
+-- one step more
+pub so_more : (turns : ℕ) (old mid got new : LinkTold) (kept after : Kept) (s : State) (seats : Seats) (event : Event) (r : Result (Unit {0}) WantOfMemory)
+    → SoServed turns old mid kept s → Comes mid got (Ok event) → is_end event.what ≡ false
+    → (h : Hindrances) × AreLicensed h.deliveries got new × Leads (happens h s event) got new after seats r
+    → r ≡ Ok tt
+    → SoServed (turns + 1) old new kept (record { kept = after; seats = seats })
+so_more turns old mid got new kept after s seats event r so came goes (h, licensed, leads) ok =
+    let step : Step = record { event = event; hindrances = h } in
+    let o = happens h s event in
+    let did = leads.did in
+    let whole = subst (λ q. MatchResult q (λ _. o.notes ≡ did.notes) (λ _. (more : List LinkNote) × (o.notes ≡ did.notes ++ more))) ok did.whole in
+    let open' = subst (λ q. MatchResult q (λ _. seats ≡ o.state.seats) (λ _. Unit {0})) ok leads.seats_are in
+    record {
+      steps = so.steps ++ step ∷ [];
+      notes = so.notes ++ Came event ∷ did.notes;
+      count = length-append so.steps (step ∷ []) ∙ (omega (arith, so.count));
+      no_end = all_more (λ t. is_end t.event.what ≡ false) so.steps step so.no_end goes;
+      leaves =
+          run_more so.steps (at_first kept) step
+          ∙ ap (λ q. then_step q step) so.leaves
+          ∙ ap (λ (k : Kept). record { state = record { kept = k; seats = o.state.seats }; notes = so.notes ++ Came event ∷ o.notes }) (sym leads.kept_is)
+          ∙ ap (λ (c : Seats). record { state = record { kept = after; seats = c }; notes = so.notes ++ Came event ∷ o.notes }) (sym open')
+          ∙ ap (λ (n : List LinkNote). record { state = record { kept = after; seats = seats }; notes = so.notes ++ Came event ∷ n }) whole;
+      log = log_more old.log mid.log got.log new.log so.notes did.notes (Came event) so.log came.0 did.goes.log;
+      order = rw events_more (subst (λ c. ComeInOrder old.coming (events_of so.steps ++ event ∷ []) c) (sym did.goes.coming)
+          (order_more old.coming mid.coming got.coming (events_of so.steps) event so.order came.1));
+      missed = rose_more so.steps step old.missed mid.missed got.missed new.missed so.missed came.3 licensed.rose;
+      none_missed = λ e. none_more so.steps step (so.none_missed e) (licensed.reliable (came.4 ∙ so.reliable ∙ e));
+      reliable = did.goes.reliable ∙ came.4 ∙ so.reliable;
+      faults = did.goes.faults ∙ came.2 ∙ so.faults;
+    }
+
+-- the end changes nothing
+end_ignored : (h : Hindrances) (s : State) (conn at : ℕ) (what : What) → is_end what ≡ true → answers what h.unfed h.turns at s conn ≡ ignored s
+end_ignored h s conn at End e = refl
+end_ignored h s conn at (Joined role) e = absurd (let wrong : false ≡ true = e in cc)
+end_ignored h s conn at (Bytes bytes) e = absurd (let wrong : false ≡ true = e in cc)
+end_ignored h s conn at Left e = absurd (let wrong : false ≡ true = e in cc)
+end_ignored h s conn at Idle e = absurd (let wrong : false ≡ true = e in cc)
+
+abbrev pub unhindered : Hindrances
+unhindered = record { unfed = false; turns = []; deliveries = [] }
+
+-- the end came
+pub so_ended : (turns limit : ℕ) (old mid got : LinkTold) (kept : Kept) (s : State) (event : Event)
+    → SoServed turns old mid kept s → Comes mid got (Ok event) → is_end event.what ≡ true
+    → (steps : List Step) × (notes : List LinkNote) × ServedOver limit steps notes old got kept s.kept (Ok tt)
+so_ended turns limit old mid got kept s event so came ends =
+    let step : Step = record { event = event; hindrances = unhindered } in
+    let nothing : happens unhindered s event ≡ record { state = s; notes = [] } =
+    ap (λ a. outcome a.state.kept (delivered [] a.state.seats a.replies)) (end_ignored unhindered s event.conn (min event.at 253402300799) event.what ends) in
+    let leaves : run (so.steps ++ step ∷ []) (at_first kept) ≡ record { state = s; notes = so.notes ++ Came event ∷ [] } =
+    run_more so.steps (at_first kept) step ∙ ap (λ o. then_step o step) so.leaves
+    ∙ ap (λ (p : Outcome). record { state = p.state; notes = so.notes ++ Came event ∷ p.notes }) nothing in (
+      so.steps ++ step ∷ [],
+      so.notes ++ Came event ∷ [],
+      record {
+        served = (
+          record { notes_are = sym (ap (λ (o : Outcome). o.notes) leaves); kept_is = sym (ap (λ (o : Outcome). o.state.kept) leaves) },
+          (so.steps, step, refl, so.no_end, ends),
+        );
+        log = came.0 ∙ ap (λ o. then_told o (Came event ∷ [])) so.log ∙ then_told-append old.log so.notes (Came event ∷ []);
+        order = rw events_more (order_more old.coming mid.coming got.coming (events_of so.steps) event so.order came.1);
+        missed = rose_more so.steps step old.missed mid.missed got.missed got.missed so.missed came.3 refl;
+        none_missed = λ e. none_more so.steps step (so.none_missed e) refl;
+        faults = came.2 ∙ so.faults;
+      },
+    )
+
+-- memory was wanted in an event
+pub so_starved : (turns limit : ℕ) (old mid got new : LinkTold) (kept after : Kept) (s : State) (seats : Seats) (event : Event) (r : Result (Unit {0}) WantOfMemory) (w : WantOfMemory)
+    → SoServed turns old mid kept s → Comes mid got (Ok event) → is_end event.what ≡ false
+    → (h : Hindrances) × AreLicensed h.deliveries got new × Leads (happens h s event) got new after seats r
+    → r ≡ Err w
+    → (steps : List Step) × (notes : List LinkNote) × ServedOver limit steps notes old new kept after (Err NoMemory)
+so_starved turns limit old mid got new kept after s seats event r w so came goes (h, licensed, leads) starved =
+    let step : Step = record { event = event; hindrances = h } in
+    let o = happens h s event in
+    let did = leads.did in
+    let more = subst (λ q. MatchResult q (λ _. o.notes ≡ did.notes) (λ _. (more : List LinkNote) × (o.notes ≡ did.notes ++ more))) starved did.whole in
+    let leaves = run_more so.steps (at_first kept) step ∙ ap (λ q. then_step q step) so.leaves in
+    let notes = so.notes ++ Came event ∷ did.notes in (
+      so.steps ++ step ∷ [],
+      notes,
+      record {
+        served = (
+          more.0,
+          record {
+            notes_are = append_assoc so.notes (Came event ∷ did.notes) more.0 ∙ ap (λ n. so.notes ++ Came event ∷ n) (sym more.1) ∙ sym (ap (λ (q : Outcome). q.notes) leaves);
+            kept_is = leads.kept_is ∙ sym (ap (λ (q : Outcome). q.state.kept) leaves);
+          },
+          all_more (λ t. is_end t.event.what ≡ false) so.steps step so.no_end goes,
+          inr (so.steps, step, did.notes, refl, ap (λ (q : Outcome). (happens h q.state event).notes) so.leaves ∙ more.1),
+        );
+        log = log_more old.log mid.log got.log new.log so.notes did.notes (Came event) so.log came.0 did.goes.log;
+        order = rw events_more (subst (λ c. ComeInOrder old.coming (events_of so.steps ++ event ∷ []) c) (sym did.goes.coming)
+            (order_more old.coming mid.coming got.coming (events_of so.steps) event so.order came.1));
+        missed = rose_more so.steps step old.missed mid.missed got.missed new.missed so.missed came.3 licensed.rose;
+        none_missed = λ e. none_more so.steps step (so.none_missed e) (licensed.reliable (came.4 ∙ so.reliable ∙ e));
+        faults = did.goes.faults ∙ came.2 ∙ so.faults;
+      },
+    )

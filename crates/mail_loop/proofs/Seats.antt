@@ -1,0 +1,44 @@
+-- The table of connections.
+use Rattle.std.proofs.Common.{◌≡◌, ℕ, Bool, true, false, cond, List, [], ◌∷◌, None, Some, Option, is_some, suc, ◌<◌, ◌≤◌, ◌-◌, length, take, drop, get_or, arith, refl, ap, sym, ◌∙◌}
+use Rattle.std.proofs.lemmas.List.{take_all}
+use Rattle.std.proofs.lemmas.List.Elements.{All-nil}
+use Rattle.std.specs.Map.{remove_entry, set_value}
+use Rattle.verb_core.specs.declared.conf.House.{House}
+use Rattle.undo_outside.specs.declared.event.Role.{Role}
+use Rattle.mail_loop.specs.State.{Seat, State}
+use Rattle.mail_loop.specs.Machine.{joins, admits, ignored}
+use Rattle.mail_loop.specs.Stands.{AreHome, IsHome}
+
+-- what is set and then removed was removed
+pub remove_set : {X : Type 0} → (test : ℕ → Bool) (es : List (ℕ × X)) (w : X) → remove_entry test (set_value test es w) ≡ remove_entry test es
+remove_set test [] w = refl
+remove_set {X} test (e ∷ es) w = by_test (test e.0) refl (remove_set test es w)
+  where
+    by_test : (b : Bool) → test e.0 ≡ b → remove_entry test (set_value test es w) ≡ remove_entry test es
+        → remove_entry test (cond b ((e.0, w) ∷ es) (e ∷ set_value test es w)) ≡ cond b es (e ∷ remove_entry test es)
+    by_test true is more = ap (λ c. cond c es ((e.0, w) ∷ remove_entry test es)) is
+    by_test false is more = ap (λ c. cond c (set_value test es w) (e ∷ remove_entry test (set_value test es w))) is ∙ ap (λ l. e ∷ l) more
+
+-- a client joins on a connection that is open, or is not
+pub joins_open : (o : Option Seat) (role : Role) (s : State) (conn : ℕ) → is_some o ≡ true → joins o role s conn ≡ ignored s
+joins_open None role s conn wrong = absurd (let w : false ≡ true = wrong in cc)
+joins_open (Some x) role s conn is = refl
+
+pub joins_shut : (o : Option Seat) (role : Role) (s : State) (conn : ℕ) → is_some o ≡ false → joins o role s conn ≡ admits role s conn
+joins_shut None role s conn is = refl
+joins_shut (Some x) role s conn wrong = absurd (let w : true ≡ false = wrong in cc)
+
+-- a list of none
+pub no_items : {X : Type 0} → (xs : List X) → length xs < 1 → xs ≡ []
+no_items [] h = refl
+no_items (x ∷ xs) h = absurd (let more : length (x ∷ xs) ≡ suc (length xs) = refl in omega arith)
+
+-- a list of one or more is its first and the others
+pub first_and_rest : {X : Type 0} → (xs : List X) (x : X) → 1 ≤ length xs → x ≡ get_or xs 0 x → xs ≡ x ∷ take (length xs - 1) (drop 1 xs)
+first_and_rest [] x h is = absurd (omega arith)
+first_and_rest (y ∷ xs) x h is =
+    ap (λ z. z ∷ xs) (sym is) ∙ ap (λ l. x ∷ l) (sym (take_all (length (y ∷ xs) - 1) xs (let more : length (y ∷ xs) ≡ suc (length xs) = refl in omega arith)))
+
+-- no connection is open
+pub none_home : (house : House) → AreHome house []
+none_home house = All-nil (IsHome house)

@@ -1,0 +1,195 @@
+-- Turns of a stretch of a stream: those so far, and those to come.
+use Rattle.std.proofs.Common.{◌≡◌, ℕ, Bool, true, false, is_none, List, [], ◌∷◌, ◌++◌, None, Some, Option, MatchOption, refl, ap, sym, ◌∙◌}
+use Rattle.std.specs.Option.{option_map}
+use Rattle.std.proofs.lemmas.List.{append-nil, append_assoc}
+use Rattle.mail_loop.specs.declared.reply.Reply.{Reply}
+use Rattle.mail_desk.specs.Kept.{Kept}
+use Rattle.mail_loop.specs.State.{Seat, State}
+use Rattle.mail_loop.specs.Dialog.{Turn}
+use Rattle.mail_loop.specs.Hindrance.{Hindrance, Clear, Unheard}
+use Rattle.mail_loop.specs.Turns.{Other, Outcome, Heard, after, goes_on, turns, outcome_of, heard_by, hears_seat}
+use Rattle.mail_loop.specs.Machine.{Seats, heard, hears, seated}
+use Rattle.mail_loop.specs.Took.{Takes, Tells, seat_left, answered_alone}
+
+-- what is kept, beside seats that no turn touches
+abbrev beside : Seats → Kept → State
+beside seats kept = record { kept = kept; seats = seats }
+
+-- a turn of a kind of session that touches no other connection
+abbrev pub alone : {D U : Type 0} → (Hindrance → Kept → D → U → Turn D) → Hindrance → State → D → U → Outcome D
+alone one h s d u = outcome_of s (one h s.kept d u)
+
+-- what the turns of all leave
+abbrev all_turns : {D U : Type 0} → (Hindrance → Kept → D → U → Turn D) → Seats → List Hindrance → Kept → D → List U → Outcome D
+all_turns one seats hs kept d us = turns (alone one) hs (beside seats kept) d us
+
+-- an outcome of such turns
+abbrev pub left : {D : Type 0} → Seats → List ℕ → Kept → Option D → Outcome D
+left seats said kept o = record { said = said; state = record { kept = kept; seats = seats }; dialog = o; others = [] }
+
+-- the turns of all say this text, and then what the turns of those to come say
+pub record SoFar {D U : Type 0} (one : Hindrance → Kept → D → U → Turn D) (seats : Seats) (kept : Kept) (d : D) (all : List U) (text : List ℕ) (kept' : Kept) (d' : D) (us : List U) : Type 0 where
+  pub before : List Hindrance
+  pub split : (more : List Hindrance) → turns (alone one) (before ++ more) (record { kept = kept; seats = seats }) d all
+      ≡ after text [] (turns (alone one) more (record { kept = kept'; seats = seats }) d' us)
+
+pub so_far_none : {D U : Type 0} → (one : Hindrance → Kept → D → U → Turn D) (seats : Seats) (kept : Kept) (d : D) (us : List U) → SoFar one seats kept d us [] kept d us
+so_far_none one seats kept d us = record { before = []; split = λ more. refl }
+
+-- all turns, up to the next, which leaves the dialog o
+up_to : {D U : Type 0} → (one : Hindrance → Kept → D → U → Turn D) (seats : Seats) (kept : Kept) (d : D) (all : List U) (text : List ℕ) (kept' : Kept) (d' : D) (u : U) (us : List U)
+    → (s : SoFar one seats kept d all text kept' d' (u ∷ us)) → (h : Hindrance) (more : List Hindrance) (o : Option D)
+    → (one h kept' d' u).dialog ≡ o
+    → all_turns one seats ((s.before ++ h ∷ []) ++ more) kept d all
+    ≡ after text [] (goes_on (alone one h (beside seats kept') d' u) o (λ s e. turns (alone one) more s e us))
+up_to one seats kept d all text kept' d' u us s h more o e =
+    ap (λ hs. all_turns one seats hs kept d all) (append_assoc s.before (h ∷ []) more) ∙ s.split (h ∷ more)
+    ∙ ap (λ p. after text [] (goes_on (alone one h (beside seats kept') d' u) p (λ s e. turns (alone one) more s e us))) e
+
+-- one turn more, after which the connection is open
+pub so_far_more : {D U : Type 0} → (one : Hindrance → Kept → D → U → Turn D) (seats : Seats) (kept : Kept) (d : D) (all : List U) (kept' : Kept) (d' : D) (u : U) (us : List U)
+    (new : Kept) (e : D) (old reply : Reply)
+    → SoFar one seats kept d all old.said kept' d' (u ∷ us) → (h : Hindrance) → Takes (one h kept' d' u) old new e reply → reply.closes ≡ false
+    → SoFar one seats kept d all reply.said new e us
+so_far_more {D} {U} one seats kept d all kept' d' u us new e old reply s h took stays = by_dialog (one h kept' d' u).dialog refl took.dialog_is
+  where
+    by_dialog : (o : Option D) → (one h kept' d' u).dialog ≡ o → MatchOption o (reply.closes ≡ true) (λ f. (e ≡ f) × (reply.closes ≡ false))
+        → SoFar one seats kept d all reply.said new e us
+    by_dialog None is shut = absurd (let wrong : true ≡ false = sym shut ∙ stays in cc)
+    by_dialog (Some f) is goes = record {
+      before = s.before ++ h ∷ [];
+      split = λ more.
+          up_to one seats kept d all old.said kept' d' u us s h more (Some f) is
+          ∙ regroup more f
+          ∙ ap (λ said. after said [] (all_turns one seats more (one h kept' d' u).kept f us)) (sym took.said)
+          ∙ ap (λ k. after reply.said [] (all_turns one seats more k f us)) (sym took.kept_is)
+          ∙ ap (λ g. after reply.said [] (all_turns one seats more new g us)) (sym goes.0);
+    }
+      where
+        regroup : (more : List Hindrance) (f : D)
+            → after old.said [] (after (one h kept' d' u).said [] (all_turns one seats more (one h kept' d' u).kept f us))
+            ≡ after (old.said ++ (one h kept' d' u).said) [] (all_turns one seats more (one h kept' d' u).kept f us)
+        regroup more f =
+            let t = all_turns one seats more (one h kept' d' u).kept f us in
+            ap (λ (said : List ℕ). record { said = said; state = t.state; dialog = t.dialog; others = t.others })
+            (sym (append_assoc old.said (one h kept' d' u).said t.said))
+
+-- the last turn, after which the connection is closed
+pub closed_after : {D U : Type 0} → (one : Hindrance → Kept → D → U → Turn D) (seats : Seats) (kept : Kept) (d : D) (all : List U) (kept' : Kept) (d' : D) (u : U) (us : List U)
+    (new : Kept) (e : D) (old reply : Reply)
+    → SoFar one seats kept d all old.said kept' d' (u ∷ us) → (h : Hindrance) → Takes (one h kept' d' u) old new e reply → reply.closes ≡ true
+    → (hs : List Hindrance) × (turns (alone one) hs (record { kept = kept; seats = seats }) d all ≡ left seats reply.said new None)
+closed_after {D} {U} one seats kept d all kept' d' u us new e old reply s h took shut = by_dialog (one h kept' d' u).dialog refl took.dialog_is
+  where
+    by_dialog : (o : Option D) → (one h kept' d' u).dialog ≡ o → MatchOption o (reply.closes ≡ true) (λ f. (e ≡ f) × (reply.closes ≡ false))
+        → (hs : List Hindrance) × (turns (alone one) hs (record { kept = kept; seats = seats }) d all ≡ left seats reply.said new None)
+    by_dialog None is shuts = (
+      (s.before ++ h ∷ []) ++ [],
+      up_to one seats kept d all old.said kept' d' u us s h [] None is
+          ∙ ap (λ (said : List ℕ). left seats said (one h kept' d' u).kept None) (sym took.said)
+          ∙ ap (λ (k : Kept). left seats reply.said k None) (sym took.kept_is),
+    )
+    by_dialog (Some f) is goes = absurd (let wrong : true ≡ false = sym shut ∙ goes.1 in cc)
+
+-- a turn for which no memory is found, and which is lost
+pub unheard : {D U : Type 0} → (one : Hindrance → Kept → D → U → Turn D) (seats : Seats) (kept : Kept) (d : D) (all : List U) (text : List ℕ) (kept' : Kept) (d' : D) (us : List U)
+    → SoFar one seats kept d all text kept' d' us → (us ≡ [] → ⊥)
+    → ((u : U) → one Unheard kept' d' u ≡ record { said = []; kept = kept'; dialog = None })
+    → (hs : List Hindrance) × (turns (alone one) hs (record { kept = kept; seats = seats }) d all ≡ left seats text kept' None)
+unheard one seats kept d all text kept' d' [] s some lost = absurd (some refl)
+unheard {D} one seats kept d all text kept' d' (u ∷ us) s some lost = (
+  s.before ++ Unheard ∷ [],
+  s.split (Unheard ∷ [])
+      ∙ ap (λ (t : Turn D). after text [] (goes_on (outcome_of (beside seats kept') t) t.dialog (λ s e. turns (alone one) [] s e us))) (lost u)
+      ∙ ap (λ (said : List ℕ). left seats said kept' None) (append-nil text),
+)
+
+-- no turn is to come
+pub all_heard : {D U : Type 0} → (one : Hindrance → Kept → D → U → Turn D) (seats : Seats) (kept : Kept) (d : D) (all : List U) (text : List ℕ) (kept' : Kept) (d' : D) (us : List U)
+    → SoFar one seats kept d all text kept' d' us → us ≡ []
+    → (hs : List Hindrance) × (turns (alone one) hs (record { kept = kept; seats = seats }) d all ≡ left seats text kept' (Some d'))
+all_heard one seats kept d all text kept' d' us s none = (
+  s.before ++ [],
+  s.split [] ∙ ap (λ ls. after text [] (all_turns one seats [] kept' d' ls)) none
+      ∙ ap (λ (said : List ℕ). left seats said kept' (Some d')) (append-nil text),
+)
+
+-- the last turn is to come, which says nothing
+pub last_heard : {D U : Type 0} → (one : Hindrance → Kept → D → U → Turn D) (seats : Seats) (kept : Kept) (d : D) (all : List U) (text : List ℕ) (kept' : Kept) (d' : D) (us : List U) (u : U)
+    → SoFar one seats kept d all text kept' d' us → us ≡ u ∷ [] → one Clear kept' d' u ≡ record { said = []; kept = kept'; dialog = Some d' }
+    → (hs : List Hindrance) × (turns (alone one) hs (record { kept = kept; seats = seats }) d all ≡ left seats text kept' (Some d'))
+last_heard {D} one seats kept d all text kept' d' us u s last quiet = (
+  s.before ++ [],
+  s.split [] ∙ ap (λ ls. after text [] (all_turns one seats [] kept' d' ls)) last
+      ∙ ap (λ (t : Turn D). after text [] (goes_on (outcome_of (beside seats kept') t) t.dialog (λ s e. turns (alone one) [] s e []))) quiet
+      ∙ ap (λ (said : List ℕ). left seats said kept' (Some d')) (append-nil text),
+)
+
+-- what the turns say is what the connection is told
+pub told_by : {D U : Type 0} → (one : Hindrance → Kept → D → U → Turn D) (seat_of : D → Seat) (seats : Seats) (kept : Kept) (d : D) (all : List U) (conn : ℕ) (reply : Reply)
+    (kept' : Kept) (seat : Seat) (o : Option D)
+    → reply.conn ≡ conn
+    → (hs : List Hindrance) × (turns (alone one) hs (record { kept = kept; seats = seats }) d all ≡ left seats reply.said kept' o)
+    → option_map seat_of o ≡ seat_left reply.closes seat
+    → (hs : List Hindrance) × Tells (heard_by seat_of (turns (alone one) hs (record { kept = kept; seats = seats }) d all)) seats conn reply kept' seat
+told_by one seat_of seats kept d all conn reply kept' seat o same (hs, is) left_is = (
+  hs,
+  record {
+    conn_is = same;
+    heard_is = ap (heard_by seat_of) is
+        ∙ ap (λ (s : Option Seat). record { said = reply.said; state = record { kept = kept'; seats = seats }; seat = s; others = [] }) left_is;
+  },
+)
+
+none_left : (closes : Bool) (seat : Seat) → is_none (seat_left closes seat) ≡ closes
+none_left true seat = refl
+none_left false seat = refl
+
+-- the answers of the turns are the one reply
+pub heard_alone : (h : Heard) (seats : Seats) (conn : ℕ) (reply : Reply) (kept : Kept) (seat : Seat)
+    → Tells h seats conn reply kept seat
+    → heard conn h ≡ answered_alone conn reply kept seat seats
+heard_alone h seats conn reply kept seat t =
+    ap (heard conn) t.heard_is
+    ∙ ap (λ (b : Bool). record {
+      state = record { kept = kept; seats = seated conn (seat_left reply.closes seat) seats };
+      replies = record { conn = conn; said = reply.said; closes = b } ∷ [];
+    }) (none_left reply.closes seat)
+    ∙ ap (λ (n : ℕ). record {
+      state = record { kept = kept; seats = seated conn (seat_left reply.closes seat) seats };
+      replies = record { conn = n; said = reply.said; closes = reply.closes } ∷ [];
+    }) (sym t.conn_is)
+
+-- no memory was found for the bytes
+pub unfed_alone : (hs : List Hindrance) (at : ℕ) (kept : Kept) (seats : Seats) (conn : ℕ) (seat seat' : Seat) (bytes : List ℕ) (reply : Reply)
+    → reply ≡ record { conn = conn; said = []; closes = true }
+    → hears true hs at (record { kept = kept; seats = seats }) conn seat bytes ≡ answered_alone conn reply kept seat' seats
+unfed_alone hs at kept seats conn seat seat' bytes reply e =
+    sym (ap (λ (r : Reply). answered_alone conn r kept seat' seats) e)
+
+-- the seat of a connection that stays open
+pub seat_stays : (closes : Bool) (seat seat' : Seat) → closes ≡ false → seat ≡ seat' → Some seat ≡ seat_left closes seat'
+seat_stays true seat seat' wrong e = absurd (let w : true ≡ false = wrong in cc)
+seat_stays false seat seat' open' e = ap Some e
+
+-- the seat of a connection that is closed
+pub seat_goes : (closes : Bool) (seat : Seat) → closes ≡ true → ◌≡◌ {A = Option Seat} None (seat_left closes seat)
+seat_goes true seat shut = refl
+seat_goes false seat shut = absurd (let w : false ≡ true = shut in cc)
+
+-- the bytes of a connection are heard, and this is its reply, what is kept and its seat then
+abbrev pub HeardAlone : ℕ → Kept → Seats → ℕ → Seat → List ℕ → Reply → Kept → Seat → Type 0
+HeardAlone at kept seats conn seat bytes reply kept' seat' =
+    (no_memory : Bool) × (hs : List Hindrance) × (hears no_memory hs at (record { kept = kept; seats = seats }) conn seat bytes ≡ answered_alone conn reply kept' seat' seats)
+
+pub heard_same : (at : ℕ) (kept : Kept) (seats : Seats) (conn : ℕ) (seat seat0 : Seat) (bytes : List ℕ) (reply reply0 : Reply) (kept' kept0 : Kept) (seat' seat'' : Seat)
+    → seat ≡ seat0 → reply0 ≡ reply → kept0 ≡ kept' → seat'' ≡ seat'
+    → HeardAlone at kept seats conn seat bytes reply kept' seat' → HeardAlone at kept seats conn seat0 bytes reply0 kept0 seat''
+heard_same at kept seats conn seat seat0 bytes reply reply0 kept' kept0 seat' seat'' s r k t (b, hs, is) = (
+  b,
+  hs,
+  ap (λ (x : Seat). hears b hs at (record { kept = kept; seats = seats }) conn x bytes) (sym s) ∙ is
+      ∙ ap (λ (x : Reply). answered_alone conn x kept' seat' seats) (sym r)
+      ∙ ap (λ (x : Kept). answered_alone conn reply0 x seat' seats) (sym k)
+      ∙ ap (λ (x : Seat). answered_alone conn reply0 kept0 x seats) (sym t),
+)

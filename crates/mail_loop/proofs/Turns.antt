@@ -1,0 +1,311 @@
+-- Turns of a mail client: what its session gives, and what is asked of the desk.
+use Rattle.std.proofs.Common.{◌≡◌, ◌⊎◌, ℕ, Bool, cond, [], true, false, List, ◌++◌, None, Some, Option, Result, Ok, Err, IfOk, OnErr, IfErr, length, nat_le, codes, bytes_eq, option_map, unwrap_or, refl, ap, subst, sym, ◌∙◌, inl, inr}
+use Rattle.std.proofs.lemmas.List.{append-nil}
+use Rattle.smtp_lines.specs.declared.line.SmtpLine.{SmtpLine}
+use Rattle.smtp_lines.specs.declared.command.SmtpCommand.TheVariants.{Helo, Ehlo, Mail, Rcpt, Data, Rset, Noop, Vrfy, Quit}
+use Rattle.smtp_lines.specs.Command.{Reading, command_of}
+use Rattle.verb_core.specs.declared.ask.Ask.{Ask}
+use Rattle.verb_core.specs.declared.ask.Refused.{Refused}
+use Rattle.verb_core.specs.declared.ask.Refused.TheVariants.{NoMemory}
+use Rattle.verb_core.specs.declared.ask.SubmitFault.{SubmitFault}
+use Rattle.verb_core.specs.declared.ask.SubmitFault.TheVariants.{Refused as IsRefused, Disk, Closed}
+use Rattle.verb_core.specs.declared.conf.House.{House}
+use Rattle.verb_core.specs.declared.conf.Conf.{Conf}
+use Rattle.verb_core.specs.declared.item.Item.{Item}
+use Rattle.verb_core.specs.Live.{is_users, live}
+use Rattle.smtp_session.specs.declared.answer.SmtpOut.{SmtpOut}
+use Rattle.smtp_session.specs.declared.answer.SmtpOut.TheVariants.{Nothing, Say, Mail as Asks, Bye}
+use Rattle.smtp_session.specs.declared.dialog.Dialog.{Dialog}
+use Rattle.smtp_session.specs.declared.dialog.Transaction.{Transaction}
+use Rattle.smtp_session.specs.declared.dialog.Transaction.TheVariants.{Idle, Begun, Writing, Due}
+use Rattle.smtp_session.specs.Body.{body_of}
+use Rattle.smtp_session.specs.Recipients.{is_here, put_once}
+use Rattle.smtp_session.specs.Text.{add_line}
+use Rattle.smtp_session.specs.declared.answer.Answer.TheVariants.{Done, Begin, BadSequence, TooManyRecipients, NoMailbox}
+use Rattle.std.specs.Str.{str_to_ascii_lowercase}
+use Rattle.smtp_session.specs.Dialog as session
+use Rattle.mail_loop.specs.declared.reply.Reply.{Reply}
+use Rattle.mail_desk.specs.Kept.{Kept}
+use Rattle.mail_desk.specs.Desk.{Submitted, IsFaultOf, store_of, submitted, submitted_as}
+use Rattle.mail_loop.specs.Dialog.{Turn, says, ends, settled_as, settled, followed}
+use Rattle.mail_loop.specs.Hindrance.{Hindrance, Clear, Refused as IsTold452, Unread, Unstored, Unheard, Unanswered, hindered, memory_told, refused_in_text}
+use Rattle.mail_loop.specs.Took.{Adds, IsTold, IsAsked, Takes, SettlesAgain, Settles, hindered_after}
+use Rattle.mail_loop.proofs.Refusals.{due_or_starved}
+
+-- a turn of a mail client at a moment
+abbrev pub line_at : ℕ → Hindrance → Kept → Dialog → SmtpLine → Turn Dialog
+line_at at h kept d line = hindered h at kept d line
+
+-- ---- what is told
+
+pub told_whole : {D : Type 0} → (said : List ℕ) (kept : Kept) (d : D) (old new : Reply) → new ≡ record old { said = old.said ++ said; closes = false } → Takes (says said kept d) old kept d new
+told_whole said kept d old new e =
+    subst (λ (r : Reply). Takes (says said kept d) old kept d r) (sym e) (record { conn = refl; said = refl; kept_is = refl; dialog_is = (refl, refl) })
+
+pub told_last : {D : Type 0} → (said : List ℕ) (kept : Kept) (d : D) (old new : Reply) → new ≡ record old { said = old.said ++ said; closes = true } → Takes (ends said kept) old kept d new
+told_last said kept d old new e =
+    subst (λ (r : Reply). Takes (ends said kept) old kept d r) (sym e) (record { conn = refl; said = refl; kept_is = refl; dialog_is = refl })
+
+pub told_nothing : {D : Type 0} → (kept : Kept) (d : D) (old new : Reply) → old.closes ≡ false → new ≡ old → Takes (says [] kept d) old kept d new
+told_nothing kept d old new stays e =
+    subst (λ (r : Reply). Takes (says [] kept d) old kept d r) (sym e)
+    (record { conn = refl; said = sym (append-nil old.said); kept_is = refl; dialog_is = (refl, stays) })
+
+-- a connection that closes with no answer
+pub closed : {D : Type 0} → (kept kept' : Kept) (d : D) (old new : Reply) → kept' ≡ kept → new ≡ record old { closes = true } → Takes (ends [] kept) old kept' d new
+closed kept kept' d old new same e =
+    subst (λ (r : Reply). Takes (ends [] kept) old kept' d r) (sym e)
+    (record { conn = refl; said = sym (append-nil old.said); kept_is = same; dialog_is = refl })
+
+out_told : (out : SmtpOut) (kept : Kept) (d : Dialog) (old new : Reply) → old.closes ≡ false → IsTold out old new
+    → Takes (settled_as out kept d) old kept d new ⊎ Takes (ends [] kept) old kept d new
+out_told Nothing kept d old new stays is = inl (told_nothing kept d old new stays is)
+out_told (Say said) kept d old new stays (inl e) = inl (told_whole said kept d old new e)
+out_told (Say said) kept d old new stays (inr e) = inr (closed kept kept d old new refl e)
+out_told (Bye said) kept d old new stays (inl e) = inl (told_last said kept d old new e)
+out_told (Bye said) kept d old new stays (inr e) = inr (closed kept kept d old new refl e)
+out_told (Asks ask) kept d old new stays is = inl (told_nothing kept d old new stays is)
+
+-- ---- what became of an ask
+
+-- no outcome is due once it was told
+pub free_after : (d e : Dialog) (outcome : Result Item SubmitFault) (out : SmtpOut) → session.settle d outcome ≡ session.turns out e → session.is_due e ≡ false
+free_after d e outcome out is = sym (ap (λ (t : session.Turn). session.is_due t.dialog) is)
+
+settled_told : (outcome : Result Item SubmitFault) (kept : Kept) (d e : Dialog) (out : SmtpOut) (old new : Reply) → old.closes ≡ false
+    → session.settle d outcome ≡ session.turns out e → IsTold out old new
+    → Takes (settled d (record { outcome = outcome; kept = kept })) old kept e new ⊎ Takes (ends [] kept) old kept e new
+settled_told outcome kept d e out old new stays is told =
+    subst (λ (t : session.Turn). Takes (settled_as t.out kept t.dialog) old kept e new ⊎ Takes (ends [] kept) old kept e new) (sym is) (out_told out kept e old new stays told)
+
+-- the session was told of its ask's outcome
+pub settles_told : (outcome : Result Item SubmitFault) (kept : Kept) (d e : Dialog) (out : SmtpOut) (old new : Reply) → old.closes ≡ false
+    → session.settle d outcome ≡ session.turns out e → IsTold out old new → Settles outcome kept d old e new
+settles_told outcome kept d e out old new stays is told = by_told (settled_told outcome kept d e out old new stays is told)
+  where
+    by_told : Takes (settled d (record { outcome = outcome; kept = kept })) old kept e new ⊎ Takes (ends [] kept) old kept e new → Settles outcome kept d old e new
+    by_told (inl t) = inl t
+    by_told (inr t) = inr (inl t)
+
+-- the session was told of want of memory in the place of a refusal
+pub again_told : (was_refused : Bool) (kept : Kept) (d e : Dialog) (out : SmtpOut) (old new : Reply) → old.closes ≡ false → was_refused ≡ true
+    → session.settle d (Err (IsRefused NoMemory)) ≡ session.turns out e → IsTold out old new → SettlesAgain was_refused kept d old e new
+again_told was_refused kept d e out old new stays refused is told = by_told (settled_told (Err (IsRefused NoMemory)) kept d e out old new stays is told)
+  where
+    by_told : Takes (settled d (record { outcome = Err (IsRefused NoMemory); kept = kept })) old kept e new ⊎ Takes (ends [] kept) old kept e new
+        → SettlesAgain was_refused kept d old e new
+    by_told (inl t) = inr (refused, t)
+    by_told (inr t) = inl t
+
+kept_told : (out : SmtpOut) (kept : Kept) (d : Dialog) → (settled_as out kept d).kept ≡ kept
+kept_told Nothing kept d = refl
+kept_told (Say said) kept d = refl
+kept_told (Bye said) kept d = refl
+kept_told (Asks ask) kept d = refl
+
+kept_settled : (d : Dialog) (s : Submitted) → (settled d s).kept ≡ s.kept
+kept_settled d s = kept_told (session.settle d s.outcome).out s.kept (session.settle d s.outcome).dialog
+
+-- what is asked of the desk is a turn, hindered or not
+pub asked_turn : (at : ℕ) (kept kept' : Kept) (ask : Ask) (d e : Dialog) (outcome : Result Item SubmitFault) (old new : Reply)
+    → IfOk outcome (λ item. submitted kept at None ask ≡ record { outcome = Ok item; kept = kept' })
+    → OnErr outcome (kept' ≡ kept)
+    → IfErr outcome (λ fault. IsFaultOf fault (live (store_of kept) kept.next at None ask))
+    → Settles outcome kept' d old e new
+    → (h : Hindrance) × Takes (hindered_after h at kept (Asks ask) d) old kept' e new
+asked_turn at kept kept' ask d e (Ok item) old new ok err due (inl t) =
+    (Clear, subst (λ (s : Submitted). Takes (settled d s) old kept' e new) (sym ok) t)
+asked_turn at kept kept' ask d e (Ok item) old new ok err due (inr (inl t)) =
+    let same : kept' ≡ (settled d (submitted kept at None ask)).kept = sym (kept_settled d (submitted kept at None ask) ∙ ap (λ (s : Submitted). s.kept) ok) in
+    (Unanswered, subst (λ (k : Kept). Takes (ends [] k) old kept' e new) same t)
+asked_turn at kept kept' ask d e (Ok item) old new ok err due (inr (inr t)) = absurd (let wrong : false ≡ true = t.0 in cc)
+asked_turn at kept kept' ask d e (Err Disk) old new ok err due s = absurd due
+asked_turn at kept kept' ask d e (Err Closed) old new ok err due s = absurd due
+asked_turn at kept kept' ask d e (Err (IsRefused why)) old new ok err due s = by_way s
+  where
+    starved : Takes (settled d (record { outcome = Err (IsRefused NoMemory); kept = kept' })) old kept' e new
+        → (h : Hindrance) × Takes (hindered_after h at kept (Asks ask) d) old kept' e new
+    starved t = (IsTold452, subst (λ (k : Kept). Takes (settled d (record { outcome = Err (IsRefused NoMemory); kept = k })) old kept' e new) err t)
+
+    by_cause : (why ≡ NoMemory) ⊎ (live (store_of kept) kept.next at None ask ≡ Err why) → Takes (settled d (record { outcome = Err (IsRefused why); kept = kept' })) old kept' e new
+        → (h : Hindrance) × Takes (hindered_after h at kept (Asks ask) d) old kept' e new
+    by_cause (inl is) t = starved (subst (λ (r : Refused). Takes (settled d (record { outcome = Err (IsRefused r); kept = kept' })) old kept' e new) is t)
+    by_cause (inr is) t = (
+      Clear,
+      subst (λ (r : Result Item Refused). Takes (settled d (submitted_as kept r)) old kept' e new) (sym is)
+          (subst (λ (k : Kept). Takes (settled d (record { outcome = Err (IsRefused why); kept = k })) old kept' e new) err t),
+    )
+
+    by_way : Settles (Err (IsRefused why)) kept' d old e new → (h : Hindrance) × Takes (hindered_after h at kept (Asks ask) d) old kept' e new
+    by_way (inl t) = by_cause (due_or_starved why (live (store_of kept) kept.next at None ask) due) t
+    by_way (inr (inl t)) = (Unheard, subst (λ (k : Kept). Takes (ends [] k) old kept' e new) err t)
+    by_way (inr (inr t)) = starved t.1
+
+-- what a session gives without asking is a turn
+pub nothing_turn : (at : ℕ) (kept : Kept) (out : SmtpOut) (d : Dialog) (reply : Reply) → out ≡ Nothing → reply.closes ≡ false
+    → (h : Hindrance) × Takes (hindered_after h at kept out d) reply kept d reply
+nothing_turn at kept out d reply is stays =
+    (Clear, subst (λ (o : SmtpOut). Takes (followed at kept o d) reply kept d reply) (sym is) (told_nothing kept d reply reply stays refl))
+
+pub say_turn : (at : ℕ) (kept : Kept) (out : SmtpOut) (d : Dialog) (text said : List ℕ) (old new : Reply) → out ≡ Say text → said ≡ text → Adds said false old new
+    → (h : Hindrance) × Takes (hindered_after h at kept out d) old kept d new
+say_turn at kept out d text said old new is same (inl e) =
+    (Clear, subst (λ (o : SmtpOut). Takes (followed at kept o d) old kept d new) (sym (is ∙ ap Say (sym same))) (told_whole said kept d old new e))
+say_turn at kept out d text said old new is same (inr e) = (Unheard, closed kept kept d old new refl e)
+
+pub bye_turn : (at : ℕ) (kept : Kept) (out : SmtpOut) (d : Dialog) (text said : List ℕ) (old new : Reply) → out ≡ Bye text → said ≡ text → Adds said true old new
+    → (h : Hindrance) × Takes (hindered_after h at kept out d) old kept d new
+bye_turn at kept out d text said old new is same (inl e) =
+    (Clear, subst (λ (o : SmtpOut). Takes (followed at kept o d) old kept d new) (sym (is ∙ ap Bye (sym same))) (told_last said kept d old new e))
+bye_turn at kept out d text said old new is same (inr e) = (Unheard, closed kept kept d old new refl e)
+
+-- ---- where a session asks
+
+-- something is asked at the end of a text alone, and by no user, and then its outcome is due; else none is due
+abbrev pub AsksAtEnd : Dialog → SmtpOut → Dialog → Type 0
+AsksAtEnd d Nothing e = session.is_due e ≡ false
+AsksAtEnd d (Say said) e = session.is_due e ≡ false
+AsksAtEnd d (Bye said) e = session.is_due e ≡ false
+AsksAtEnd d (Asks ask) e = (session.is_writing d ≡ true) × (session.is_due e ≡ true) × (is_users ask ≡ false)
+
+-- nothing is asked, and no outcome is due
+abbrev IsQuietOut : SmtpOut → Dialog → Type 0
+IsQuietOut Nothing e = session.is_due e ≡ false
+IsQuietOut (Say said) e = session.is_due e ≡ false
+IsQuietOut (Bye said) e = session.is_due e ≡ false
+IsQuietOut (Asks ask) e = ⊥
+
+abbrev IsQuiet : session.Turn → Type 0
+IsQuiet t = IsQuietOut t.out t.dialog
+
+quiet_if : (b : Bool) (t u : session.Turn) → IsQuiet t → IsQuiet u → IsQuiet (cond b t u)
+quiet_if true t u first second = first
+quiet_if false t u first second = second
+
+quiet_asks : (d : Dialog) (out : SmtpOut) (e : Dialog) → IsQuietOut out e → AsksAtEnd d out e
+quiet_asks d Nothing e is = is
+quiet_asks d (Say said) e is = is
+quiet_asks d (Bye said) e is = is
+quiet_asks d (Asks ask) e is = absurd is
+
+begin_quiet : (house : House) (client : Option (List ℕ)) (t : Transaction) (path : List ℕ) → session.is_due_in t ≡ false → IsQuiet (session.begin house client t path)
+begin_quiet house (Some client) Idle path free = refl
+begin_quiet house (Some client) (Begun sent to) path free = free
+begin_quiet house (Some client) (Writing sent to text) path free = free
+begin_quiet house (Some client) (Due host) path free = free
+begin_quiet house None Idle path free = free
+begin_quiet house None (Begun sent to) path free = free
+begin_quiet house None (Writing sent to text) path free = free
+begin_quiet house None (Due host) path free = free
+
+receive_quiet : (house : House) (d : Dialog) (t : Transaction) (local : List ℕ) (known : Bool) → session.is_due d ≡ false → IsQuiet (session.receive house d t local known)
+receive_quiet house d Idle local known free = free
+receive_quiet house d (Writing path to text) local known free = free
+receive_quiet house d (Due host) local known free = free
+receive_quiet house d (Begun path to) local known free =
+    let added = session.says house Done (session.with_transaction d (Begun path (put_once (str_to_ascii_lowercase local) to))) in
+    let unknown = session.says house NoMailbox d in
+    quiet_if (nat_le 1000 (length to)) (session.says house TooManyRecipients d) (cond known added unknown) free (quiet_if known added unknown refl free)
+
+due_with_text : (t : Transaction) → session.is_due_in (session.with_text t) ≡ session.is_due_in t
+due_with_text Idle = refl
+due_with_text (Begun path to) = refl
+due_with_text (Writing path to text) = refl
+due_with_text (Due host) = refl
+
+write_quiet : (house : House) (d : Dialog) → session.is_due d ≡ false → IsQuiet (session.write house d)
+write_quiet house d free =
+    quiet_if (session.has_recipient d.transaction) (session.says house Begin (session.with_transaction d (session.with_text d.transaction))) (session.says house BadSequence d)
+    (due_with_text d.transaction ∙ free) free
+
+obey_quiet : (house : House) (conf : Conf) (d : Dialog) (r : Reading) → session.is_due d ≡ false → IsQuiet (session.obey house conf d r)
+obey_quiet house conf d (Ok (Helo client)) free = refl
+obey_quiet house conf d (Ok (Ehlo client)) free = refl
+obey_quiet house conf d (Ok (Mail path)) free = begin_quiet house d.client d.transaction path free
+obey_quiet house conf d (Ok (Rcpt local domain)) free = receive_quiet house d d.transaction local (is_here house conf local domain) free
+obey_quiet house conf d (Ok Data) free = write_quiet house d free
+obey_quiet house conf d (Ok Rset) free = refl
+obey_quiet house conf d (Ok (Noop rest)) free = free
+obey_quiet house conf d (Ok (Vrfy what)) free = free
+obey_quiet house conf d (Ok Quit) free = free
+obey_quiet house conf d (Err refused) free = free
+
+obey_asks : (house : House) (conf : Conf) (d : Dialog) (r : Reading) → session.is_due d ≡ false
+    → AsksAtEnd d (session.obey house conf d r).out (session.obey house conf d r).dialog
+obey_asks house conf d r free = quiet_asks d (session.obey house conf d r).out (session.obey house conf d r).dialog (obey_quiet house conf d r free)
+
+end_asks : (house : House) (d : Dialog) (path : List ℕ) (to : List (List ℕ)) (body : Option (List ℕ)) → session.is_writing d ≡ true
+    → AsksAtEnd d (session.end_text house d path to body).out (session.end_text house d path to body).dialog
+end_asks house d path to None writing = refl
+end_asks house d path to (Some body) writing = (writing, refl, refl)
+
+text_asks : (house : House) (at : ℕ) (d : Dialog) (path : List ℕ) (to : List (List ℕ)) (text : Option (List ℕ)) (line : List ℕ) → session.is_writing d ≡ true
+    → AsksAtEnd d (session.take_text house at d path to text line).out (session.take_text house at d path to text line).dialog
+text_asks house at d path to text line writing =
+    let body = option_map (body_of house.host at (unwrap_or d.client []) path) text in
+    let ends = session.end_text house d path to body in
+    let goes_on = session.turns Nothing (session.with_transaction d (Writing path to (add_line text line))) in
+    elim (bytes_eq line (codes ".")) as (λ b. AsksAtEnd d (cond b ends goes_on).out (cond b ends goes_on).dialog)
+    [ true ↦ end_asks house d path to body writing | false ↦ refl ]
+
+line_asks : (house : House) (conf : Conf) (at : ℕ) (client : Option (List ℕ)) (t : Transaction) (line : SmtpLine) → session.is_due_in t ≡ false
+    → AsksAtEnd (record { client = client; transaction = t }) (session.turn house conf at (record { client = client; transaction = t }) line).out
+    (session.turn house conf at (record { client = client; transaction = t }) line).dialog
+line_asks house conf at client Idle line free = obey_asks house conf (record { client = client; transaction = Idle }) (command_of line) free
+line_asks house conf at client (Begun path to) line free = obey_asks house conf (record { client = client; transaction = Begun path to }) (command_of line) free
+line_asks house conf at client (Due host) line free = obey_asks house conf (record { client = client; transaction = Due host }) (command_of line) free
+line_asks house conf at client (Writing path to text) line free =
+    text_asks house at (record { client = client; transaction = Writing path to text }) path to text line.bytes refl
+
+-- what a line gives
+pub line_gives : (house : House) (conf : Conf) (at : ℕ) (d e : Dialog) (line : SmtpLine) (out : SmtpOut) → session.is_due d ≡ false
+    → session.turn house conf at d line ≡ session.turns out e → AsksAtEnd d out e
+line_gives house conf at d e line out free is =
+    subst (λ (t : session.Turn). AsksAtEnd d t.out t.dialog) is (line_asks house conf at d.client d.transaction line free)
+
+pub asked_of : (d : Dialog) (out : SmtpOut) (e : Dialog) → AsksAtEnd d out e → IsAsked out e
+asked_of d Nothing e is = is
+asked_of d (Say said) e is = is
+asked_of d (Bye said) e is = is
+asked_of d (Asks ask) e is = (is.1, is.2)
+
+-- ---- a line
+
+-- what follows from what a line gives is its turn
+pub line_turn : (at : ℕ) (kept kept' : Kept) (d e e' : Dialog) (line : SmtpLine) (out : SmtpOut) (old new : Reply)
+    → session.turn kept.house (store_of kept).conf at d line ≡ session.turns out e
+    → AsksAtEnd d out e
+    → (h : Hindrance) × Takes (hindered_after h at kept out e) old kept' e' new
+    → (h : Hindrance) × Takes (hindered h at kept d line) old kept' e' new
+line_turn at kept kept' d e e' line out old new is asks (Clear, t) =
+    (Clear, subst (λ (u : session.Turn). Takes (followed at kept u.out u.dialog) old kept' e' new) (sym is) t)
+line_turn at kept kept' d e e' line out old new is asks (Unread, t) =
+    (Clear, subst (λ (u : session.Turn). Takes (followed at kept u.out u.dialog) old kept' e' new) (sym is) t)
+line_turn at kept kept' d e e' line out old new is asks (Unstored, t) =
+    (Clear, subst (λ (u : session.Turn). Takes (followed at kept u.out u.dialog) old kept' e' new) (sym is) t)
+line_turn at kept kept' d e e' line out old new is asks (Unheard, t) = (Unheard, t)
+line_turn at kept kept' d e e' line out old new is asks (Unanswered, t) =
+    (Unanswered, subst (λ (u : session.Turn). Takes (ends [] (followed at kept u.out u.dialog).kept) old kept' e' new) (sym is) t)
+line_turn at kept kept' d e e' line Nothing old new is asks (IsTold452, t) = (Unheard, t)
+line_turn at kept kept' d e e' line (Say said) old new is asks (IsTold452, t) = (Unheard, t)
+line_turn at kept kept' d e e' line (Bye said) old new is asks (IsTold452, t) = (Unheard, t)
+line_turn at kept kept' d e e' line (Asks ask) old new is asks (IsTold452, t) = (
+  IsTold452,
+  subst (λ b. Takes (cond b (let u = session.turn kept.house (store_of kept).conf at d line in refused_in_text kept u.out u.dialog) (says memory_told kept d)) old kept' e' new) (sym asks.0)
+      (subst (λ (u : session.Turn). Takes (refused_in_text kept u.out u.dialog) old kept' e' new) (sym is) t),
+)
+
+-- no memory was found for a line of a text
+pub starved_writing : (at : ℕ) (kept : Kept) (d e : Dialog) (line : SmtpLine) (old new : Reply) → new ≡ record old { closes = true }
+    → (h : Hindrance) × Takes (hindered h at kept d line) old kept e new
+starved_writing at kept d e line old new shut = (Unheard, closed kept kept e old new refl shut)
+
+-- no memory was found for a command
+pub starved_outside : (at : ℕ) (kept : Kept) (d : Dialog) (line : SmtpLine) (text : List ℕ) (old new : Reply) → session.is_writing d ≡ false → text ≡ memory_told
+    → Adds text false old new → (h : Hindrance) × Takes (hindered h at kept d line) old kept d new
+starved_outside at kept d line text old new outside is (inl e) = (
+  IsTold452,
+  subst (λ b. Takes (cond b (let u = session.turn kept.house (store_of kept).conf at d line in refused_in_text kept u.out u.dialog) (says memory_told kept d)) old kept d new) (sym outside)
+      (told_whole memory_told kept d old new (e ∙ ap (λ (s : List ℕ). record { conn = old.conn; said = old.said ++ s; closes = false }) is)),
+)
+starved_outside at kept d line text old new outside is (inr e) = (Unheard, closed kept kept d old new refl e)

@@ -1,0 +1,10 @@
+use Rattle.mail_loop.specs.Stands.{AreHome}
+use Rattle.mail_loop.proofs.Runs.{SoServed}
+use Rattle.mail_loop.proofs.serve.serve_events.Given as goal
+
+-- the machine's steps so far, and who is logged in is known
+abbrev pub invariant-loop : goal.invariant-loop
+invariant-loop g l = record {
+  served : SoServed l.counter (g.L.Link.told l.fn.link) (g.L.Link.told l.link) l.fn.desk.kept (record { kept = l.desk.kept; seats = l.connections.entries });
+  home : AreHome l.desk.kept.house l.connections.entries;
+}

@@ -1,0 +1,18 @@
+use Rattle.std.proofs.Common.{◌≡◌, List, ℕ, false, ◌++◌, subst}
+use Rattle.mail_loop.specs.State.{Smtp, State}
+use Rattle.mail_loop.specs.Turns.{hears_lines, hears_seat}
+use Rattle.mail_loop.specs.Took.{Tells}
+use Rattle.mail_loop.proofs.Stretch.{heard_alone}
+use Rattle.mail_loop.proofs.session.hear_client.Goals as goal
+
+pub returns-in-Ok-clause-heard : goal.returns-in-Ok-clause-heard
+returns-in-Ok-clause-heard c seats =
+    let t = c.serve_lines.ensures.turns seats in
+    let d = c.args.dialog.now in
+    let new = c.serve_lines.new in
+    let s : State = record { kept = c.args.desk.now.kept; seats = seats } in (
+      false,
+      t.0,
+      heard_alone (hears_seat t.0 c.args.at s (Smtp c.args.unserved.now d) c.args.bytes.now) seats c.args.conn c.serve_lines.result new.desk.kept (Smtp new.unserved new.dialog)
+          (subst (λ (stream : List ℕ). Tells (hears_lines t.0 c.args.at s d stream) seats c.args.conn c.serve_lines.result new.desk.kept (Smtp new.unserved new.dialog)) c.in-Ok.ensures.ok t.1),
+    )

@@ -1,0 +1,95 @@
+use Rattle.std.proofs.Common.{ℕ, List, [], ◌∷◌, ◌++◌, true, None, Some, ap, sym, ◌∙◌, subst, refl}
+use Rattle.imap_stream.specs.Commands.{Heard, emptied}
+use Rattle.imap_stream.specs.declared.next.Next.{Next}
+use Rattle.imap_stream.specs.declared.next.Next.TheVariants.{NotYet}
+use Rattle.mail_loop.specs.declared.reply.Reply.{Reply}
+use Rattle.mail_loop.specs.State.{Imap}
+use Rattle.mail_loop.proofs.Nexts.{is_emptied, none_taken, some_last, taken}
+use Rattle.mail_loop.proofs.Readers.{next_at}
+use Rattle.mail_loop.proofs.Stretch.{SoFar, so_far_none, so_far_more, closed_after, unheard, last_heard, told_by, seat_stays, seat_goes}
+use Rattle.mail_loop.proofs.session.serve_commands.Goals as goal
+
+pub loop-next-init : goal.loop-next-init
+loop-next-init c =
+    let reply = c.empty_reply-reply in
+    let all = c.args.stream.now.said ++ NotYet ∷ [] in
+    record {
+      stays = ap (λ (r : Reply). r.closes) reply.ensures;
+      conn = ap (λ (r : Reply). r.conn) reply.ensures;
+      free = c.requires.free;
+      home = c.requires.home;
+      house = refl;
+      rest = refl;
+      turns = λ seats.
+          subst (λ (said : List ℕ). SoFar (next_at c.args.at) seats c.args.desk.now.kept c.args.dialog.now all said c.args.desk.now.kept c.args.dialog.now all)
+          (sym (ap (λ (r : Reply). r.said) reply.ensures))
+          (so_far_none (next_at c.args.at) seats c.args.desk.now.kept c.args.dialog.now all);
+    }
+
+pub returns-then-is_not_yet-clause-turns : goal.returns-then-is_not_yet-clause-turns
+returns-then-is_not_yet-clause-turns c seats =
+    let l = c.loop-next in
+    let stream = c.args.stream.now in
+    let kept = c.args.desk.now.kept in
+    let d = c.args.dialog.now in
+    let all = stream.said ++ NotYet ∷ [] in
+    let none = none_taken l.stream c.next.new.self c.in-Ok.next c.in-Ok.ensures.ok (sym c.is_not_yet.ensures ∙ c.if-is_not_yet.true) in
+    told_by (next_at c.args.at) (Imap (emptied stream)) seats kept d all c.args.conn l.reply l.desk.kept (Imap c.next.new.self l.dialog) (Some l.dialog) l.invariant.conn
+    (last_heard (next_at c.args.at) seats kept d all l.reply.said l.desk.kept l.dialog (l.stream.said ++ NotYet ∷ []) NotYet
+    (l.invariant.turns seats) (ap (λ (nexts : List Next). nexts ++ NotYet ∷ []) none.0) refl)
+    (seat_stays l.reply.closes (Imap (emptied stream) l.dialog) (Imap c.next.new.self l.dialog) l.invariant.stays
+    (ap (λ (h : Heard). Imap h l.dialog) (sym l.invariant.rest ∙ is_emptied l.stream none.0 ∙ sym none.1)))
+
+pub returns-in-Err-clause-turns : goal.returns-in-Err-clause-turns
+returns-in-Err-clause-turns c seats =
+    let l = c.loop-next in
+    let stream = c.args.stream.now in
+    let kept = c.args.desk.now.kept in
+    let d = c.args.dialog.now in
+    let all = stream.said ++ NotYet ∷ [] in
+    told_by (next_at c.args.at) (Imap (emptied stream)) seats kept d all c.args.conn (record { conn = l.reply.conn; said = l.reply.said; closes = true }) l.desk.kept
+    (Imap c.next.new.self l.dialog) None l.invariant.conn
+    (unheard (next_at c.args.at) seats kept d all l.reply.said l.desk.kept l.dialog (l.stream.said ++ NotYet ∷ [])
+    (l.invariant.turns seats) (some_last l.stream.said) (λ u. refl))
+    refl
+
+pub returns-then-reply-clause-turns : goal.returns-then-reply-clause-turns
+returns-then-reply-clause-turns c seats =
+    let l = c.loop-next in
+    let stream = c.args.stream.now in
+    let kept = c.args.desk.now.kept in
+    let d = c.args.dialog.now in
+    let all = stream.said ++ NotYet ∷ [] in
+    let some = taken l.stream c.next.new.self c.in-Ok.next c.in-Ok.ensures.ok (sym c.is_not_yet.ensures ∙ c.if-is_not_yet.false) in
+    let turn = c.take_next.ensures.turn in
+    let new = c.take_next.new in
+    told_by (next_at c.args.at) (Imap (emptied stream)) seats kept d all c.args.conn new.reply new.desk.kept (Imap c.next.new.self new.session) None (turn.1.conn ∙ l.invariant.conn)
+    (closed_after (next_at c.args.at) seats kept d all l.desk.kept l.dialog c.in-Ok.next (c.next.new.self.said ++ NotYet ∷ [])
+    new.desk.kept new.session l.reply new.reply
+    (subst (λ (nexts : List Next). SoFar (next_at c.args.at) seats kept d all l.reply.said l.desk.kept l.dialog (nexts ++ NotYet ∷ [])) some.0 (l.invariant.turns seats))
+    turn.0 turn.1 c.if-reply.true)
+    (seat_goes new.reply.closes (Imap c.next.new.self new.session) c.if-reply.true)
+
+pub loop-next-preserved : goal.loop-next-preserved
+loop-next-preserved c =
+    let l = c.loop-next in
+    let stream = c.args.stream.now in
+    let kept = c.args.desk.now.kept in
+    let d = c.args.dialog.now in
+    let all = stream.said ++ NotYet ∷ [] in
+    let some = taken l.stream c.next.new.self c.in-Ok.next c.in-Ok.ensures.ok (sym c.is_not_yet.ensures ∙ c.if-is_not_yet.false) in
+    let turn = c.take_next.ensures.turn in
+    let new = c.take_next.new in
+    record {
+      stays = c.if-reply.false;
+      conn = turn.1.conn ∙ l.invariant.conn;
+      free = c.take_next.ensures.free;
+      home = c.take_next.ensures.home;
+      house = c.take_next.ensures.house ∙ l.invariant.house;
+      rest = sym some.1 ∙ l.invariant.rest;
+      turns = λ seats.
+          so_far_more (next_at c.args.at) seats kept d all l.desk.kept l.dialog c.in-Ok.next (c.next.new.self.said ++ NotYet ∷ [])
+          new.desk.kept new.session l.reply new.reply
+          (subst (λ (nexts : List Next). SoFar (next_at c.args.at) seats kept d all l.reply.said l.desk.kept l.dialog (nexts ++ NotYet ∷ [])) some.0 (l.invariant.turns seats))
+          turn.0 turn.1 c.if-reply.false;
+    }

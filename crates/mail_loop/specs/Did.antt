@@ -1,0 +1,71 @@
+-- What calls of the serving loop do to the link, in the machine's words.
+use Rattle.std.specs.Prelude.{◌≡◌, ℕ, zero, suc, ◌+◌, ◌-◌, ◌^◌, ◌≤◌, min, Bool, true, List, [], ◌∷◌, ◌++◌, Result, Ok, Err, MatchResult}
+use Rattle.undo_base.specs.declared.memory.NoMemory.{NoMemory as WantOfMemory}
+use Rattle.undo_outside.specs.declared.event.LinkNote.{LinkNote}
+use Rattle.undo_outside.specs.Calls.{LinkTold, then_told}
+use Rattle.mail_desk.specs.Kept.{Kept}
+use Rattle.mail_loop.specs.Machine.{Seats, Delivery, Arrives, IsMissed, IsLeftOut, Reply, Answered, Delivered, Outcome, string_notes, reply_notes, remains}
+
+-- the link did this, and gave no event
+pub record Goes (old new : LinkTold) (notes : List LinkNote) : Type 0 where
+  pub log : new.log ≡ then_told old.log notes
+  pub coming : new.coming ≡ old.coming
+  pub faults : new.faults ≡ old.faults
+  pub reliable : new.is_reliable ≡ old.is_reliable
+
+-- how many strings were missed
+abbrev pub missed_by : Delivery → ℕ
+missed_by IsMissed = 1
+missed_by Arrives = 0
+missed_by IsLeftOut = 0
+
+abbrev pub missed_of : List Delivery → ℕ
+missed_of [] = 0
+missed_of (d ∷ ds) = missed_by d + missed_of ds
+
+-- a count rose by so many at least, or stands at its last value; by none, it is as it was
+abbrev pub RoseBy : ℕ → ℕ → ℕ → Type 0
+RoseBy zero before now = now ≡ before
+RoseBy (suc n) before now = (before ≤ now) × (min (before + suc n) (2 ^ 64 - 1) ≤ now)
+
+-- strings are missed only where the link counted each, and not on a link that misses none
+pub record AreLicensed (ds : List Delivery) (old new : LinkTold) : Type 0 where
+  pub rose : RoseBy (missed_of ds) old.missed new.missed
+  pub reliable : old.is_reliable ≡ true → missed_of ds ≡ 0
+
+-- the string of a reply went out, was missed or was left out; whether the connection stays open
+pub record Told (old new : LinkTold) (r : Reply) (stays : Bool) : Type 0 where
+  pub delivery : Delivery
+  pub licensed : AreLicensed (delivery ∷ []) old new
+  pub stays_is : stays ≡ remains delivery r.said r.closes
+  pub goes : Goes old new (string_notes delivery r.conn r.said)
+
+-- a reply went out: its string, and its close where it is to be closed; or no memory was found for the close
+abbrev pub Replied : LinkTold → LinkTold → Reply → Result Bool WantOfMemory → Type 0
+Replied old new r (Ok stays) =
+    (delivery : Delivery) × AreLicensed (delivery ∷ []) old new × (stays ≡ remains delivery r.said r.closes) × Goes old new (reply_notes delivery r)
+Replied old new r (Err e) =
+    (delivery : Delivery) × AreLicensed (delivery ∷ []) old new × (more : List LinkNote) × (notes : List LinkNote)
+    × (reply_notes delivery r ≡ notes ++ more) × Goes old new notes
+
+-- the link did all of this, or memory was wanted before it had done all
+pub record Did (all : List LinkNote) (old new : LinkTold) (result : Result (Unit {0}) WantOfMemory) : Type 0 where
+  pub notes : List LinkNote
+  pub goes : Goes old new notes
+  pub whole : MatchResult result (λ _. all ≡ notes) (λ _. (more : List LinkNote) × (all ≡ notes ++ more))
+
+-- replies went out, and these are the open connections then, unless memory was wanted
+pub record Sends (d : Delivered) (old new : LinkTold) (seats : Seats) (result : Result (Unit {0}) WantOfMemory) : Type 0 where
+  pub did : Did d.notes old new result
+  pub seats_are : MatchResult result (λ _. seats ≡ d.seats) (λ _. Unit {0})
+
+-- an event led to this outcome, or memory was wanted before the link had done all of it
+pub record Leads (o : Outcome) (old new : LinkTold) (kept : Kept) (seats : Seats) (result : Result (Unit {0}) WantOfMemory) : Type 0 where
+  pub did : Did o.notes old new result
+  pub kept_is : kept ≡ o.state.kept
+  pub seats_are : MatchResult result (λ _. seats ≡ o.state.seats) (λ _. Unit {0})
+
+-- what an event leaves before its strings are sent, or memory was wanted for the replies
+abbrev pub Answers : {T : Type 0} → Answered → Kept → Seats → (T → List Reply) → Result T WantOfMemory → Type 0
+Answers a kept seats view (Ok replies) = (kept ≡ a.state.kept) × (seats ≡ a.state.seats) × (view replies ≡ a.replies)
+Answers a kept seats view (Err e) = kept ≡ a.state.kept

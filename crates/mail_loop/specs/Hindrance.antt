@@ -1,0 +1,67 @@
+-- How a turn may go otherwise, and what follows for a mail client.
+use Rattle.std.specs.Prelude.{ℕ, List, [], ◌∷◌, Err, if◌then◌else◌}
+use Rattle.smtp_lines.specs.declared.line.SmtpLine.{SmtpLine}
+use Rattle.verb_core.specs.declared.ask.Refused.TheVariants.{NoMemory}
+use Rattle.verb_core.specs.declared.ask.SubmitFault.TheVariants.{Refused as IsRefused}
+use Rattle.smtp_session.specs.declared.answer.Answer.TheVariants.{NoMemory as WantOfMemory}
+use Rattle.smtp_session.specs.declared.answer.SmtpOut.{SmtpOut}
+use Rattle.smtp_session.specs.declared.answer.SmtpOut.TheVariants.{Nothing, Say, Mail, Bye}
+use Rattle.smtp_session.specs.declared.dialog.Dialog.{Dialog}
+use Rattle.smtp_session.specs.Answer.{answer_text}
+use Rattle.smtp_session.specs.Dialog as session
+use Rattle.mail_desk.specs.Kept.{Kept}
+use Rattle.mail_desk.specs.Desk.{store_of}
+use Rattle.mail_loop.specs.Dialog.{Turn, turn, says, ends, settled}
+
+-- How a turn may go otherwise.
+pub data Hindrance : Type 0 where
+  -- it goes as it should
+  Clear : Hindrance
+  -- no memory was found before anything was stored, and the client is told
+  Refused : Hindrance
+  -- no memory was found for the texts that a mail reader's command wants, and the client is told
+  Unread : Hindrance
+  -- no memory was found for what a mail reader's command asks of the desk, or for telling why that is refused, and the client is told
+  Unstored : Hindrance
+  -- no memory was found for the line, for a line of a text, or for telling the client of want of memory
+  Unheard : Hindrance
+  -- no memory was found for the answer to a text that is stored
+  Unanswered : Hindrance
+
+-- no memory was found for a line: it is lost, and the connection closes
+abbrev pub lost : {D : Type 0} → Kept → Turn D
+lost kept = ends [] kept
+
+-- what is told of want of memory
+abbrev pub memory_told : List ℕ
+memory_told = answer_text [] WantOfMemory
+
+-- in a text only its end, which asks the desk, is answered so, and it ends the transaction
+abbrev pub refused_in_text : Kept → SmtpOut → Dialog → Turn Dialog
+refused_in_text kept (Mail ask) d = settled d (record { outcome = Err (IsRefused NoMemory); kept = kept })
+refused_in_text kept Nothing d = lost kept
+refused_in_text kept (Say said) d = lost kept
+refused_in_text kept (Bye said) d = lost kept
+
+-- no memory was found before anything was stored
+abbrev pub refused : ℕ → Kept → Dialog → SmtpLine → Turn Dialog
+refused at kept d line =
+    if session.is_writing d
+    then (let t = session.turn kept.house (store_of kept).conf at d line in refused_in_text kept t.out t.dialog)
+    else says memory_told kept d
+
+abbrev pub hindered : Hindrance → ℕ → Kept → Dialog → SmtpLine → Turn Dialog
+hindered Clear at kept d line = turn at kept d line
+hindered Refused at kept d line = refused at kept d line
+hindered Unread at kept d line = turn at kept d line
+hindered Unstored at kept d line = turn at kept d line
+hindered Unheard at kept d line = lost kept
+hindered Unanswered at kept d line = ends [] (turn at kept d line).kept
+
+abbrev pub first_hindrance : List Hindrance → Hindrance
+first_hindrance [] = Clear
+first_hindrance (h ∷ hs) = h
+
+abbrev pub other_hindrances : List Hindrance → List Hindrance
+other_hindrances [] = []
+other_hindrances (h ∷ hs) = hs

@@ -1,0 +1,12 @@
+pub mod State
+pub mod Dialog
+pub mod Hindrance
+pub mod Reader
+pub mod ReaderHindrance
+pub mod Turns
+pub mod Machine
+pub mod Stands
+pub mod Took
+pub mod Read
+pub mod Did
+pub mod Serving

@@ -1,0 +1,204 @@
+-- The machine: what an event does to the state, and what the link does for it.
+use Rattle.std.specs.Prelude.{ℕ, Bool, true, false, not, min, List, [], ◌∷◌, ◌++◌, map, is_none, nat_lt, if◌then◌else◌, Option, None, Some}
+use Rattle.std.specs.Ordering.{nat_cmp}
+use Rattle.std.specs.Map.{lookup, remove_entry, set_value}
+use Rattle.std.specs.BTreeMap.{insert_entry, is_at}
+use Rattle.undo_outside.specs.declared.event.Event.{Event}
+use Rattle.undo_outside.specs.declared.event.What.{What}
+use Rattle.undo_outside.specs.declared.event.What.TheVariants.{Joined, Bytes, Left, Idle as NoEvent, End}
+use Rattle.undo_outside.specs.declared.event.Role.{Role}
+use Rattle.undo_outside.specs.declared.event.Role.TheVariants.{Smtp as SmtpRole, Imap as ImapRole, Http}
+use Rattle.undo_outside.specs.declared.event.LinkNote.{LinkNote}
+use Rattle.undo_outside.specs.declared.event.LinkNote.TheVariants.{Sent, Missed, Closed}
+use Rattle.smtp_session.specs.declared.answer.Answer.TheVariants.{Ready}
+use Rattle.smtp_session.specs.Answer.{answer_text}
+use Rattle.smtp_session.specs.Dialog.{opening}
+use Rattle.imap_stream.specs.Commands.{before, nothing}
+use Rattle.imap_stream.specs.declared.begun.Awaits.TheVariants.{Line}
+use Rattle.imap_session.specs.Dialog as imap
+use Rattle.imap_session.specs.Words.{greeting_text}
+use Rattle.mail_desk.specs.Kept.{Kept}
+use Rattle.mail_loop.specs.State.{Seat, Smtp, Imap, State}
+use Rattle.mail_loop.specs.Hindrance.{Hindrance}
+use Rattle.mail_loop.specs.Turns.{Other, Heard, hears_seat}
+
+-- How the string for a connection may go.
+pub data Delivery : Type 0 where
+  Arrives : Delivery
+  -- the link missed it
+  IsMissed : Delivery
+  -- no memory was found for it
+  IsLeftOut : Delivery
+
+-- What hinders an event: no memory for its bytes, what hinders its turns, and how each string goes.
+pub record Hindrances : Type 0 where
+  pub unfed : Bool
+  pub turns : List Hindrance
+  pub deliveries : List Delivery
+
+-- the open connections, by rising number
+abbrev pub Seats : Type 0
+Seats = List (ℕ × Seat)
+
+-- the seat of a connection, where it is open
+abbrev pub seat_at : ℕ → Seats → Option Seat
+seat_at conn seats = lookup (is_at (nat_cmp conn)) seats
+
+-- a connection is opened
+abbrev pub with_new_seat : ℕ → Seat → Seats → Seats
+with_new_seat conn seat seats = insert_entry nat_cmp seats conn seat
+
+-- an open connection as it is now
+abbrev pub with_seat : ℕ → Seat → Seats → Seats
+with_seat conn seat seats = set_value (is_at (nat_cmp conn)) seats seat
+
+-- a connection is no longer open
+abbrev pub without_seat : ℕ → Seats → Seats
+without_seat conn seats = remove_entry (is_at (nat_cmp conn)) seats
+
+-- What a connection is told at the end of an event, and whether it is closed then.
+pub record Reply : Type 0 where
+  pub conn : ℕ
+  pub said : List ℕ
+  pub closes : Bool
+
+-- what an event leaves before its strings are sent: the state, and the replies by rising connection
+pub record Answered : Type 0 where
+  pub state : State
+  pub replies : List Reply
+
+abbrev pub ignored : State → Answered
+ignored s = record { state = s; replies = [] }
+
+-- a reply in its place among others, by connection
+abbrev pub with_reply : Reply → List Reply → List Reply
+with_reply r [] = r ∷ []
+with_reply r (q ∷ qs) = if nat_lt r.conn q.conn then r ∷ q ∷ qs else q ∷ with_reply r qs
+
+-- others are told, and closed
+abbrev pub closing : Other → Reply
+closing o = record { conn = o.conn; said = o.said; closes = true }
+
+-- a connection's seat after its turns, or none where it is to be closed
+abbrev pub seated : ℕ → Option Seat → Seats → Seats
+seated conn None seats = without_seat conn seats
+seated conn (Some seat) seats = with_seat conn seat seats
+
+-- a connection has its turns' answers, and the others whom they close are told; the replies stand by rising connection
+abbrev pub heard : ℕ → Heard → Answered
+heard conn h = record {
+  state = record { kept = h.state.kept; seats = seated conn h.seat h.state.seats };
+  replies = with_reply (record { conn = conn; said = h.said; closes = is_none h.seat }) (map closing h.others);
+}
+
+-- no memory was found for the bytes that came: the connection is closed without an answer
+abbrev pub unfed : ℕ → State → Answered
+unfed conn s = heard conn (record { said = []; state = s; seat = None; others = [] })
+
+-- bytes come over an open connection, and find memory or none
+abbrev pub hears : Bool → List Hindrance → ℕ → State → ℕ → Seat → List ℕ → Answered
+hears true hs at s conn seat bytes = unfed conn s
+hears false hs at s conn seat bytes = heard conn (hears_seat hs at s seat bytes)
+
+-- bytes for a connection that is not open are ignored
+abbrev pub hears_at : Option Seat → Bool → List Hindrance → ℕ → State → ℕ → List ℕ → Answered
+hears_at None no_memory hs at s conn bytes = ignored s
+hears_at (Some seat) no_memory hs at s conn bytes = hears no_memory hs at s conn seat bytes
+
+-- a mail client's connection that was just opened
+abbrev pub fresh : Seat
+fresh = Smtp [] opening
+
+-- a mail reader's connection that was just opened
+abbrev pub fresh_reader : Seat
+fresh_reader = Imap (before nothing Line) imap.opening
+
+-- a connection is opened, and its client is greeted
+abbrev pub greeted : State → ℕ → Seat → List ℕ → Answered
+greeted s conn seat greeting = record {
+  state = record { kept = s.kept; seats = with_new_seat conn seat s.seats };
+  replies = record { conn = conn; said = greeting; closes = false } ∷ [];
+}
+
+-- a client of a kind that is served is greeted
+abbrev pub admits : Role → State → ℕ → Answered
+admits SmtpRole s conn = greeted s conn fresh (answer_text s.kept.house.host Ready)
+admits ImapRole s conn = greeted s conn fresh_reader (greeting_text s.kept.house)
+admits Http s conn = ignored s
+
+-- a client joins; on a connection that is open this is ignored
+abbrev pub joins : Option Seat → Role → State → ℕ → Answered
+joins None role s conn = admits role s conn
+joins (Some seat) role s conn = ignored s
+
+-- what happens on a connection at a moment
+abbrev pub answers : What → Bool → List Hindrance → ℕ → State → ℕ → Answered
+answers (Joined role) no_memory hs at s conn = joins (seat_at conn s.seats) role s conn
+answers (Bytes bytes) no_memory hs at s conn = hears_at (seat_at conn s.seats) no_memory hs at s conn bytes
+answers Left no_memory hs at s conn = ignored (record { kept = s.kept; seats = without_seat conn s.seats })
+answers NoEvent no_memory hs at s conn = ignored s
+answers End no_memory hs at s conn = ignored s
+
+-- what an event leaves before its strings are sent; a moment past the year 9999 is taken as its last
+abbrev pub answered : Bool → List Hindrance → State → Event → Answered
+answered no_memory hs s event = answers event.what no_memory hs (min event.at 253402300799) s event.conn
+
+-- what the link does with a string: nothing where there is nothing to say
+abbrev pub string_notes : Delivery → ℕ → List ℕ → List LinkNote
+string_notes delivery conn [] = []
+string_notes Arrives conn (b ∷ bytes) = Sent conn (b ∷ bytes) ∷ []
+string_notes IsMissed conn (b ∷ bytes) = Missed conn (b ∷ bytes) ∷ []
+string_notes IsLeftOut conn (b ∷ bytes) = []
+
+-- whether a connection stays open: where its string arrives, or it has none, and it is not to be closed
+abbrev pub remains : Delivery → List ℕ → Bool → Bool
+remains delivery [] closes = not closes
+remains Arrives (b ∷ bytes) closes = not closes
+remains IsMissed (b ∷ bytes) closes = false
+remains IsLeftOut (b ∷ bytes) closes = false
+
+abbrev pub close_notes : ℕ → Bool → List LinkNote
+close_notes conn stays = if stays then [] else Closed conn ∷ []
+
+-- what the link does for a reply: its string, and then its close
+abbrev pub reply_notes : Delivery → Reply → List LinkNote
+reply_notes delivery r = string_notes delivery r.conn r.said ++ close_notes r.conn (remains delivery r.said r.closes)
+
+-- the open connections after a reply
+abbrev pub after_reply : Bool → ℕ → Seats → Seats
+after_reply stays conn seats = if stays then seats else without_seat conn seats
+
+abbrev pub first_delivery : List Delivery → Delivery
+first_delivery [] = Arrives
+first_delivery (d ∷ ds) = d
+
+abbrev pub other_deliveries : List Delivery → List Delivery
+other_deliveries [] = []
+other_deliveries (d ∷ ds) = ds
+
+-- what replies leave: the open connections, and what the link did
+pub record Delivered : Type 0 where
+  pub seats : Seats
+  pub notes : List LinkNote
+
+-- replies go out, one after the other, each as its delivery says
+abbrev pub delivered : List Delivery → Seats → List Reply → Delivered
+delivered ds seats [] = record { seats = seats; notes = [] }
+delivered ds seats (r ∷ rs) =
+    let d = first_delivery ds in
+    let more = delivered (other_deliveries ds) (after_reply (remains d r.said r.closes) r.conn seats) rs in
+    record { seats = more.seats; notes = reply_notes d r ++ more.notes }
+
+-- what an event leaves: the state, and what the link did for it
+pub record Outcome : Type 0 where
+  pub state : State
+  pub notes : List LinkNote
+
+abbrev pub outcome : Kept → Delivered → Outcome
+outcome kept d = record { state = record { kept = kept; seats = d.seats }; notes = d.notes }
+
+-- an event
+abbrev pub happens : Hindrances → State → Event → Outcome
+happens h s event =
+    let a = answered h.unfed h.turns s event in
+    outcome a.state.kept (delivered h.deliveries a.state.seats a.replies)

@@ -1,0 +1,67 @@
+-- A turn of a mail reader: a command, a literal mark or a bad line of its stream, what the dialog makes of it, and what it asks of the desk.
+use Rattle.std.specs.Prelude.{ℕ, List, [], length, option_map, Option, Result, Ok, Err}
+use Rattle.undo_base.specs.declared.keys.User.{User}
+use Rattle.seal_log.specs.declared.fault.ReadFault.{ReadFault}
+use Rattle.verb_core.specs.declared.ask.Ask.{Ask}
+use Rattle.verb_core.specs.declared.mailbox.Body.{Body}
+use Rattle.verb_core.specs.Items.{text_of}
+use Rattle.imap_stream.specs.declared.next.Next.{Next}
+use Rattle.imap_stream.specs.declared.next.Next.TheVariants.{Command, Ask as Mark, Bad, NotYet}
+use Rattle.imap_session.specs.declared.dialog.Dialog.{Dialog}
+use Rattle.imap_session.specs.declared.out.ImapOut.{ImapOut}
+use Rattle.imap_session.specs.declared.out.ImapOut.TheVariants.{Say, Read, Submit, Bye}
+use Rattle.imap_session.specs.Dialog as session
+use Rattle.imap_session.specs.Words.{bad_line_text, ready_text}
+use Rattle.mail_desk.specs.Kept.{Kept}
+use Rattle.mail_desk.specs.Desk.{Submitted, store_of, submitted}
+use Rattle.mail_desk.specs.Timeline.{texts_of}
+use Rattle.mail_loop.specs.Dialog.{Turn, says, ends}
+
+-- how long a body is that an item in force brought
+abbrev pub size_in : Kept → Body → Option ℕ
+size_in kept body = option_map length (text_of kept.timeline body)
+
+-- How the desk serves a command: the texts that it gives, and what becomes of an ask.
+pub record Service : Type 0 where
+  pub texts : List Body → Result (List (List ℕ)) ReadFault
+  pub asked : Option User → Ask → Submitted
+
+-- it gives the texts of the items in force, and does what is asked
+abbrev pub service : ℕ → Kept → Service
+service at kept = record { texts = λ bodies. Ok (texts_of kept.timeline bodies); asked = λ by ask. submitted kept at by ask }
+
+-- what an outcome is answered; it leads to no ask
+abbrev pub settled_as : ImapOut → Kept → Dialog → Turn Dialog
+settled_as (Say said) kept d = says said kept d
+settled_as (Bye said) kept d = ends said kept
+settled_as (Read bodies) kept d = says [] kept d
+settled_as (Submit ask) kept d = says [] kept d
+
+-- the dialog is told what became of its ask, with the store and the stamps after it
+abbrev pub settled : Dialog → Submitted → Turn Dialog
+settled d s = let t = session.settle (store_of s.kept) s.kept.stamps d s.outcome in settled_as t.out s.kept t.dialog
+
+-- what the dialog gives once it has its texts; it wants none again
+abbrev pub submits : Service → Kept → ImapOut → Dialog → Turn Dialog
+submits desk kept (Say said) d = says said kept d
+submits desk kept (Bye said) d = ends said kept
+submits desk kept (Read bodies) d = says [] kept d
+submits desk kept (Submit ask) d = settled d (desk.asked d.user ask)
+
+-- what the dialog gives, and what is asked by it of the desk
+abbrev pub followed : Service → Kept → ImapOut → Dialog → Turn Dialog
+followed desk kept (Say said) d = says said kept d
+followed desk kept (Bye said) d = ends said kept
+followed desk kept (Read bodies) d = let t = session.heard d (desk.texts bodies) in submits desk kept t.out t.dialog
+followed desk kept (Submit ask) d = settled d (desk.asked d.user ask)
+
+-- a command, or what is none; a literal is invited, and a bad line is refused
+abbrev pub served : Service → Kept → Dialog → Next → Turn Dialog
+served desk kept d (Command raw) = let t = session.hears kept.house (store_of kept) (size_in kept) d raw in followed desk kept t.out t.dialog
+served desk kept d (Mark length) = says ready_text kept d
+served desk kept d (Bad line) = says (bad_line_text line) kept d
+served desk kept d NotYet = says [] kept d
+
+-- one command, literal mark or bad line at a moment
+abbrev pub turn : ℕ → Kept → Dialog → Next → Turn Dialog
+turn at kept d next = served (service at kept) kept d next

@@ -1,0 +1,102 @@
+-- Serving: the machine over a whole run of events.
+use Rattle.std.specs.Prelude.{◌≡◌, ◌⊎◌, ℕ, ◌<◌, ◌≤◌, Bool, true, false, List, [], ◌∷◌, ◌++◌, length, map, ◌+◌, Option, None, Some, Result, Ok, Err}
+use Rattle.std.specs.List.{AllByRecursion}
+use Rattle.undo_outside.specs.declared.event.Event.{Event}
+use Rattle.undo_outside.specs.declared.event.What.{What}
+use Rattle.undo_outside.specs.declared.event.What.TheVariants.{Joined, Bytes, Left, Idle, End}
+use Rattle.undo_outside.specs.declared.event.LinkNote.{LinkNote}
+use Rattle.undo_outside.specs.declared.event.LinkNote.TheVariants.{Came}
+use Rattle.undo_outside.specs.Calls.{LinkTold, Rose, then_told}
+use Rattle.mail_loop.specs.declared.serve.ServeFault.{ServeFault}
+use Rattle.mail_loop.specs.declared.serve.ServeFault.TheVariants.{Link, Turns, NoMemory}
+use Rattle.mail_desk.specs.Kept.{Kept}
+use Rattle.mail_loop.specs.State.{State}
+use Rattle.mail_loop.specs.Machine.{Hindrances, Outcome, happens}
+use Rattle.mail_loop.specs.Did.{RoseBy, missed_of}
+
+-- an event that came, and what hindered it
+pub record Step : Type 0 where
+  pub event : Event
+  pub hindrances : Hindrances
+
+abbrev pub is_end : What → Bool
+is_end End = true
+is_end (Joined role) = false
+is_end (Bytes bytes) = false
+is_end Left = false
+is_end Idle = false
+
+-- an outcome after what the link did before
+abbrev pub after_notes : List LinkNote → Outcome → Outcome
+after_notes notes o = record { state = o.state; notes = notes ++ o.notes }
+
+-- what steps leave, one after the other
+abbrev pub run : List Step → State → Outcome
+run [] s = record { state = s; notes = [] }
+run (step ∷ steps) s =
+    let o = happens step.hindrances s step.event in
+    after_notes (Came step.event ∷ o.notes) (run steps o.state)
+
+-- nothing served yet: no connection is open
+abbrev pub at_first : Kept → State
+at_first kept = record { kept = kept; seats = [] }
+
+-- no step is the end
+abbrev pub NoEnd : List Step → Type 0
+NoEnd steps = AllByRecursion (λ step. is_end step.event.what ≡ false) steps
+
+-- the last step is the end, and no other
+abbrev pub Ends : List Step → Type 0
+Ends steps = (before : List Step) × (last : Step) × (steps ≡ before ++ last ∷ []) × NoEnd before × (is_end last.event.what ≡ true)
+
+-- what the link did is what it does for the steps, and what is kept is the machine's
+pub record Serves (steps : List Step) (old : Kept) (notes : List LinkNote) (new : Kept) : Type 0 where
+  pub notes_are : notes ≡ (run steps (at_first old)).notes
+  pub kept_is : new ≡ (run steps (at_first old)).state.kept
+
+-- what the link did not do: nothing, or some of what the last step's event leads to
+abbrev pub IsLeftOfLast : List Step → Kept → List LinkNote → Type 0
+IsLeftOfLast steps old more =
+    (more ≡ [])
+    ⊎ ((before : List Step) × (last : Step) × (front : List LinkNote) × (steps ≡ before ++ last ∷ [])
+    × ((happens last.hindrances (run before (at_first old)).state last.event).notes ≡ front ++ more))
+
+-- Serving ended: with the end; after so many turns without it; where the link failed; or where memory was wanted, somewhere in the last step.
+abbrev pub Served : ℕ → List Step → Kept → List LinkNote → Kept → Result (Unit {0}) ServeFault → Type 0
+Served turns steps old notes new (Ok x) = Serves steps old notes new × Ends steps
+Served turns steps old notes new (Err Turns) = Serves steps old notes new × NoEnd steps × (length steps ≡ turns)
+Served turns steps old notes new (Err Link) = Serves steps old notes new × NoEnd steps × (length steps < turns)
+Served turns steps old notes new (Err NoMemory) =
+    (more : List LinkNote) × Serves steps old (notes ++ more) new × NoEnd steps × IsLeftOfLast steps old more
+
+-- how many strings the steps missed
+abbrev pub missed_in : List Step → ℕ
+missed_in [] = 0
+missed_in (step ∷ steps) = missed_of step.hindrances.deliveries + missed_in steps
+
+-- the events are those that were to come, as far as these were told
+abbrev pub ComeInOrder : Option (List Event) → List Event → Option (List Event) → Type 0
+ComeInOrder coming [] now = now ≡ coming
+ComeInOrder (Some (x ∷ rest)) (event ∷ events) now = (event ≡ x) × ComeInOrder (Some rest) events now
+ComeInOrder (Some []) (event ∷ events) now = Unit {0}
+ComeInOrder None (event ∷ events) now = Unit {0}
+
+abbrev pub events_of : List Step → List Event
+events_of steps = map (λ step. step.event) steps
+
+-- The last `next` failed, it alone, and the link counted that; or none failed, and the count is as it was.
+abbrev pub CountsFaults : Result (Unit {0}) ServeFault → LinkTold → LinkTold → Type 0
+CountsFaults (Err Link) old new = Rose old.faults new.faults × (old.is_reliable ≡ false) × (new.failed_last ≡ true) × (new.faults ≤ old.faults + 1)
+CountsFaults (Ok x) old new = new.faults ≡ old.faults
+CountsFaults (Err Turns) old new = new.faults ≡ old.faults
+CountsFaults (Err NoMemory) old new = new.faults ≡ old.faults
+
+-- How serving went: the machine's steps for the events that came, in order, and what the link did. A string was missed, and `next` failed,
+-- only where the link counted it.
+pub record ServedOver (turns : ℕ) (steps : List Step) (notes : List LinkNote) (old new : LinkTold) (kept kept' : Kept) (result : Result (Unit {0}) ServeFault) : Type 0 where
+  pub served : Served turns steps kept notes kept' result
+  pub log : new.log ≡ then_told old.log notes
+  pub order : ComeInOrder old.coming (events_of steps) new.coming
+  pub missed : RoseBy (missed_in steps) old.missed new.missed
+  pub none_missed : old.is_reliable ≡ true → missed_in steps ≡ 0
+  pub faults : CountsFaults result old new

@@ -1,0 +1,36 @@
+-- What the code's replies and sessions are in the machine. A desk is seen as what is kept.
+use Rattle.std.specs.Prelude.{◌≡◌, List, map, false, true}
+use Rattle.std.specs.List.{All}
+use Rattle.std.specs.Map.{values_of}
+use Rattle.verb_core.specs.declared.conf.House.{House}
+use Rattle.mail_loop.specs.declared.reply.Reply.{Reply as CodeReply}
+use Rattle.mail_loop.specs.declared.session.Kind.{Kind}
+use Rattle.mail_loop.specs.declared.session.Kind.TheVariants as kind
+use Rattle.smtp_session.specs.Dialog.{is_due}
+use Rattle.imap_session.specs.Dialog.{is_at_home, is_free}
+use Rattle.mail_loop.specs.State.{Seat, Smtp, Imap}
+use Rattle.mail_loop.specs.Machine.{Reply, Seats}
+
+abbrev pub reply_of : CodeReply → Reply
+reply_of r = record { conn = r.conn; said = r.said; closes = r.closes }
+
+abbrev pub replies_of : List CodeReply → List Reply
+replies_of replies = map reply_of replies
+
+-- the seat of a session
+abbrev pub seat_of : Kind → Seat
+seat_of (kind.Smtp unserved d) = Smtp unserved d
+seat_of (kind.Imap stream d) = Imap stream d
+
+-- between two turns nothing is awaited
+abbrev pub IsFree : Kind → Type 0
+IsFree (kind.Smtp unserved d) = is_due d ≡ false
+IsFree (kind.Imap stream d) = is_free d ≡ true
+
+-- who is logged in is a user of the house
+abbrev pub IsHome : House → Seat → Type 0
+IsHome house (Smtp unserved d) = Unit {0}
+IsHome house (Imap stream d) = is_at_home house d ≡ true
+
+abbrev pub AreHome : House → Seats → Type 0
+AreHome house seats = All (IsHome house) (values_of seats)

@@ -1,0 +1,82 @@
+-- What the code's answers and replies are in the machine.
+use Rattle.std.specs.Prelude.{◌≡◌, ◌⊎◌, ℕ, Bool, true, false, List, [], ◌∷◌, ◌++◌, Option, None, Some, MatchOption, Result, Err, is_err}
+use Rattle.mail_loop.specs.declared.reply.Reply.{Reply}
+use Rattle.verb_core.specs.declared.ask.Refused.TheVariants.{NoMemory}
+use Rattle.verb_core.specs.declared.ask.SubmitFault.{SubmitFault}
+use Rattle.verb_core.specs.declared.ask.SubmitFault.TheVariants.{Refused as IsRefused}
+use Rattle.verb_core.specs.declared.item.Item.{Item}
+use Rattle.verb_core.specs.Live.{is_users}
+use Rattle.smtp_session.specs.declared.answer.SmtpOut.{SmtpOut}
+use Rattle.smtp_session.specs.declared.answer.SmtpOut.TheVariants.{Nothing, Say, Mail, Bye}
+use Rattle.smtp_session.specs.declared.dialog.Dialog.{Dialog}
+use Rattle.smtp_session.specs.Dialog.{is_due}
+use Rattle.mail_desk.specs.Kept.{Kept}
+use Rattle.mail_loop.specs.State.{Seat}
+use Rattle.mail_loop.specs.Dialog.{Turn, ends, followed, settled}
+use Rattle.mail_loop.specs.Hindrance.{Hindrance, Clear, Refused, Unread, Unstored, Unheard, Unanswered, lost, refused_in_text}
+use Rattle.mail_loop.specs.Turns.{Heard}
+use Rattle.mail_loop.specs.Machine.{Seats, Answered as AnsweredEvent, seated}
+use Rattle.mail_loop.specs.Stands.{reply_of}
+
+-- A string is added, whole, and the connection closes after the last one; or no memory is found for it, and the connection closes.
+abbrev pub Adds : List ℕ → Bool → Reply → Reply → Type 0
+Adds said last old new =
+    ((new ≡ record old { said = old.said ++ said; closes = last }) ⊎ (new ≡ record old { closes = true }))
+
+-- what is said is in the reply, or no memory was found for it
+abbrev pub IsTold : SmtpOut → Reply → Reply → Type 0
+IsTold Nothing old new = new ≡ old
+IsTold (Say said) old new = Adds said false old new
+IsTold (Bye said) old new = Adds said true old new
+IsTold (Mail ask) old new = new ≡ old
+
+-- something is asked that is no user's ask, and its outcome is due; or no outcome is due
+abbrev pub IsAsked : SmtpOut → Dialog → Type 0
+IsAsked Nothing d = is_due d ≡ false
+IsAsked (Say said) d = is_due d ≡ false
+IsAsked (Bye said) d = is_due d ≡ false
+IsAsked (Mail ask) d = (is_due d ≡ true) × (is_users ask ≡ false)
+
+-- what follows from what the dialog gives, hindered or not
+abbrev pub hindered_after : Hindrance → ℕ → Kept → SmtpOut → Dialog → Turn Dialog
+hindered_after Clear at kept out d = followed at kept out d
+hindered_after Refused at kept out d = refused_in_text kept out d
+hindered_after Unread at kept out d = followed at kept out d
+hindered_after Unstored at kept out d = followed at kept out d
+hindered_after Unheard at kept out d = lost kept
+hindered_after Unanswered at kept out d = ends [] (followed at kept out d).kept
+
+-- a turn is in the reply
+pub record Takes {D : Type 0} (t : Turn D) (old : Reply) (kept : Kept) (d : D) (new : Reply) : Type 0 where
+  pub conn : new.conn ≡ old.conn
+  pub said : new.said ≡ old.said ++ t.said
+  pub kept_is : kept ≡ t.kept
+  pub dialog_is : MatchOption t.dialog (new.closes ≡ true) (λ e. (d ≡ e) × (new.closes ≡ false))
+
+-- the connection closes with no answer, or an ask that was refused is settled as one for which no memory was found
+abbrev pub SettlesAgain : Bool → Kept → Dialog → Reply → Dialog → Reply → Type 0
+SettlesAgain was_refused kept d old d' new =
+    Takes (ends [] kept) old kept d' new
+    ⊎ ((was_refused ≡ true) × Takes (settled d (record { outcome = Err (IsRefused NoMemory); kept = kept })) old kept d' new)
+
+-- the dialog is told what became of its ask, or that in its place
+abbrev pub Settles : Result Item SubmitFault → Kept → Dialog → Reply → Dialog → Reply → Type 0
+Settles outcome kept d old d' new =
+    Takes (settled d (record { outcome = outcome; kept = kept })) old kept d' new ⊎ SettlesAgain (is_err outcome) kept d old d' new
+
+-- the seat of a connection that stays open
+abbrev pub seat_left : Bool → Seat → Option Seat
+seat_left true seat = None
+seat_left false seat = Some seat
+
+-- The turns of a connection's stream are in the reply, they touch no other connection, and this is its seat then.
+pub record Tells (h : Heard) (seats : Seats) (conn : ℕ) (reply : Reply) (kept : Kept) (seat : Seat) : Type 0 where
+  pub conn_is : reply.conn ≡ conn
+  pub heard_is : h ≡ record { said = reply.said; state = record { kept = kept; seats = seats }; seat = seat_left reply.closes seat; others = [] }
+
+-- a connection has this reply, and its seat is now this one, or none where it is closed; no other connection is touched
+abbrev pub answered_alone : ℕ → Reply → Kept → Seat → Seats → AnsweredEvent
+answered_alone conn reply kept seat seats = record {
+  state = record { kept = kept; seats = seated conn (seat_left reply.closes seat) seats };
+  replies = reply_of reply ∷ [];
+}

@@ -1,0 +1,340 @@
+//! The turns of a mail reader: what its session makes of a command, and what that asks of the desk.
+ghost use Rattle.std.specs.Prelude.{◌≡◌, ◌≤◌, ℕ, Ok, true, false, IsTrue};
+ghost use Rattle.std.specs.List.{list_all};
+ghost use Rattle.verb_core.specs.declared.conf.House.{House as TheHouse};
+ghost use Rattle.imap_lines.specs.Command.{ReadsCommand, Reading, command_of};
+ghost use Rattle.imap_session.specs.Dialog.{AsksAsUser, IsNext, is_at_home, is_due, is_free, is_reading};
+ghost use Rattle.mail_desk.specs.Kept.{Kept};
+ghost use Rattle.mail_desk.specs.Timeline.{has_text, texts_of};
+ghost use Rattle.mail_loop.specs.Hindrance.{Hindrance};
+ghost use Rattle.mail_loop.specs.Reader.{followed, submits, settled};
+ghost use Rattle.mail_loop.specs.ReaderHindrance.{imap_hindered};
+ghost use Rattle.mail_loop.specs.Took.{Takes};
+ghost use Rattle.mail_loop.specs.Read.{AreThere, IsAnswered, IsAwaitedLast, IsReaderTold, ReadsNone, Settles, SettlesAgain, obeyed_under, under};
+
+use crate::reply::{Reply, say};
+use imap_lines::{ImapCommand, ImapRefused, read_command};
+use imap_session::{BodyList, ImapOut, ImapSession, bad_line, no_memory, ready, refused};
+use imap_stream::{Next, RawCommand};
+use mail_desk::Desk;
+use seal_log::ReadFault;
+use std::alloc::Global;
+use undo_base::{NoMemory, Text, Texts};
+use verb_core::{Ask, Item, Refused, SubmitFault};
+
+/// The connection closes, with no answer, and the session is over.
+fn close(session: &mut ImapSession, reply: &mut Reply)
+    ensures free { is_free session.new ≡ true }
+    ensures home { (house : TheHouse) → is_at_home house session.new ≡ true }
+    ensures closed { reply.new ≡ record reply.old { closes = true } }
+{
+    *session = ImapSession::new();
+    reply.closes = true;
+}
+
+/// What is said goes into the reply.
+fn tell(reply: &mut Reply, out: &ImapOut)
+    ensures { IsReaderTold out.now reply.old reply.new }
+{
+    match out {
+        ImapOut::Say(text) => say(reply, text.bytes(), false),
+        ImapOut::Bye(text) => say(reply, text.bytes(), true),
+        ImapOut::Read(_) => {}
+        ImapOut::Submit(_) => {}
+    }
+}
+
+/// Tells what was made for it, or closes the connection where no memory was found for that.
+fn answer(session: &mut ImapSession, text: Result<Text, NoMemory>, reply: &mut Reply)
+    requires free { is_free session.old ≡ true }
+    ensures free { is_free session.new ≡ true }
+    ensures home { (house : TheHouse) → is_at_home house session.old ≡ true → is_at_home house session.new ≡ true }
+    ensures answered { IsAnswered text session.old reply.old session.new reply.new }
+{
+    match text {
+        Ok(text) => say(reply, text.bytes(), false),
+        Err(NoMemory) => close(session, reply),
+    }
+}
+
+/// Tells the session of want of memory, where its ask was refused. An item that is kept is left unanswered.
+fn settle_again(
+    alloc: Global,
+    desk: &Desk,
+    session: &mut ImapSession,
+    was_refused: bool,
+    reply: &mut Reply,
+)
+    requires due { is_due session.old ≡ true }
+    requires stays { reply.old.closes ≡ false }
+    requires home { is_at_home desk.now.kept.house session.old ≡ true }
+    ensures free { is_free session.new ≡ true }
+    ensures home { is_at_home desk.now.kept.house session.new ≡ true }
+    ensures settled { SettlesAgain was_refused desk.now.kept session.old reply.old session.new reply.new }
+{
+    if !was_refused {
+        return close(session, reply);
+    }
+    let outcome = Err(SubmitFault::Refused(Refused::NoMemory));
+    match session.done(alloc, desk.store(), desk.stamps(), &outcome) {
+        Ok(out) => tell(reply, &out),
+        Err(NoMemory) => close(session, reply),
+    }
+}
+
+/// Tells the session what became of its ask.
+fn settle(
+    alloc: Global,
+    desk: &Desk,
+    session: &mut ImapSession,
+    outcome: &Result<Item, SubmitFault>,
+    reply: &mut Reply,
+)
+    requires due { is_due session.old ≡ true }
+    requires stays { reply.old.closes ≡ false }
+    requires home { is_at_home desk.now.kept.house session.old ≡ true }
+    ensures free { is_free session.new ≡ true }
+    ensures home { is_at_home desk.now.kept.house session.new ≡ true }
+    ensures settled { Settles outcome.now desk.now.kept session.old reply.old session.new reply.new }
+{
+    match session.done(alloc, desk.store(), desk.stamps(), outcome) {
+        Ok(out) => tell(reply, &out),
+        Err(NoMemory) => settle_again(alloc, desk, session, outcome.is_err(), reply),
+    }
+}
+
+/// Asks the desk for the user who is logged in, and tells the session what became of that.
+fn submit(
+    alloc: Global,
+    desk: &mut Desk,
+    session: &mut ImapSession,
+    at: u64,
+    ask: Ask,
+    reply: &mut Reply,
+)
+    requires due { is_due session.old ≡ true }
+    requires user { AsksAsUser (ImapOut.Submit ask) session.old }
+    requires stays { reply.old.closes ≡ false }
+    requires home { is_at_home desk.old.kept.house session.old ≡ true }
+    ensures free { is_free session.new ≡ true }
+    ensures home { is_at_home desk.new.kept.house session.new ≡ true }
+    ensures house { desk.new.kept.house ≡ desk.old.kept.house }
+    ensures turn { (h : Hindrance) ×
+        Takes (under h at desk.old.kept (λ service. settled session.old (service.asked session.old.user ask))) reply.old desk.new.kept session.new reply.new }
+{
+    let outcome = desk.submit(alloc, at, session.user(), ask);
+    settle(alloc, desk, session, &outcome, reply);
+}
+
+/// Does what comes of a command that has its texts.
+fn go_on(
+    alloc: Global,
+    desk: &mut Desk,
+    session: &mut ImapSession,
+    at: u64,
+    out: ImapOut,
+    reply: &mut Reply,
+)
+    requires awaited { IsAwaitedLast out session.old }
+    requires user { AsksAsUser out session.old }
+    requires stays { reply.old.closes ≡ false }
+    requires home { is_at_home desk.old.kept.house session.old ≡ true }
+    ensures free { is_free session.new ≡ true }
+    ensures home { is_at_home desk.new.kept.house session.new ≡ true }
+    ensures house { desk.new.kept.house ≡ desk.old.kept.house }
+    ensures turn { (h : Hindrance) ×
+        Takes (under h at desk.old.kept (λ service. submits service desk.old.kept out session.old)) reply.old desk.new.kept session.new reply.new }
+{
+    match out {
+        ImapOut::Say(text) => say(reply, text.bytes(), false),
+        ImapOut::Bye(text) => say(reply, text.bytes(), true),
+        ImapOut::Read(_) => unreachable!(),
+        ImapOut::Submit(ask) => submit(alloc, desk, session, at, ask, reply),
+    }
+}
+
+/// Tells the session that no memory was found for its texts.
+fn read_none(alloc: Global, session: &mut ImapSession, reply: &mut Reply)
+    requires reading { is_reading session.old ≡ true }
+    requires stays { reply.old.closes ≡ false }
+    ensures free { is_free session.new ≡ true }
+    ensures home { (house : TheHouse) → is_at_home house session.old ≡ true → is_at_home house session.new ≡ true }
+    ensures read { (kept : Kept) → ReadsNone kept session.old reply.old session.new reply.new }
+{
+    match session.read(alloc, &Err(ReadFault::NoMemory)) {
+        Ok(out) => tell(reply, &out),
+        Err(NoMemory) => close(session, reply),
+    }
+}
+
+/// Hands the session the texts that it wants.
+fn take_texts(
+    alloc: Global,
+    desk: &mut Desk,
+    session: &mut ImapSession,
+    at: u64,
+    bodies: &BodyList,
+    texts: Texts,
+    reply: &mut Reply,
+)
+    requires texts { texts ≡ texts_of desk.old.kept.timeline bodies.now }
+    requires reading { is_reading session.old ≡ true }
+    requires stays { reply.old.closes ≡ false }
+    requires home { is_at_home desk.old.kept.house session.old ≡ true }
+    ensures free { is_free session.new ≡ true }
+    ensures home { is_at_home desk.new.kept.house session.new ≡ true }
+    ensures house { desk.new.kept.house ≡ desk.old.kept.house }
+    ensures turn { (h : Hindrance) ×
+        Takes (under h at desk.old.kept (λ service. followed service desk.old.kept (ImapOut.Read bodies.now) session.old)) reply.old desk.new.kept session.new reply.new }
+{
+    match session.read(alloc, &Ok(texts)) {
+        Ok(out) => go_on(alloc, desk, session, at, out, reply),
+        Err(NoMemory) => read_none(alloc, session, reply),
+    }
+}
+
+/// Reads the texts that the session wants, and hands them to it.
+fn read(
+    alloc: Global,
+    desk: &mut Desk,
+    session: &mut ImapSession,
+    at: u64,
+    bodies: &BodyList,
+    reply: &mut Reply,
+)
+    requires reading { is_reading session.old ≡ true }
+    requires there { IsTrue (list_all (has_text desk.old.kept.timeline) bodies.now) }
+    requires stays { reply.old.closes ≡ false }
+    requires home { is_at_home desk.old.kept.house session.old ≡ true }
+    ensures free { is_free session.new ≡ true }
+    ensures home { is_at_home desk.new.kept.house session.new ≡ true }
+    ensures house { desk.new.kept.house ≡ desk.old.kept.house }
+    ensures turn { (h : Hindrance) ×
+        Takes (under h at desk.old.kept (λ service. followed service desk.old.kept (ImapOut.Read bodies.now) session.old)) reply.old desk.new.kept session.new reply.new }
+{
+    match desk.texts(alloc, bodies.as_slice()) {
+        Ok(texts) => take_texts(alloc, desk, session, at, bodies, texts, reply),
+        Err(NoMemory) => read_none(alloc, session, reply),
+    }
+}
+
+/// Does what comes of a command.
+fn follow(
+    alloc: Global,
+    desk: &mut Desk,
+    session: &mut ImapSession,
+    at: u64,
+    out: ImapOut,
+    reply: &mut Reply,
+)
+    requires awaited { IsNext out session.old }
+    requires user { AsksAsUser out session.old }
+    requires there { AreThere desk.old.kept out }
+    requires stays { reply.old.closes ≡ false }
+    requires home { is_at_home desk.old.kept.house session.old ≡ true }
+    ensures free { is_free session.new ≡ true }
+    ensures home { is_at_home desk.new.kept.house session.new ≡ true }
+    ensures house { desk.new.kept.house ≡ desk.old.kept.house }
+    ensures turn { (h : Hindrance) ×
+        Takes (under h at desk.old.kept (λ service. followed service desk.old.kept out session.old)) reply.old desk.new.kept session.new reply.new }
+{
+    match out {
+        ImapOut::Say(text) => say(reply, text.bytes(), false),
+        ImapOut::Bye(text) => say(reply, text.bytes(), true),
+        ImapOut::Read(bodies) => read(alloc, desk, session, at, &bodies, reply),
+        ImapOut::Submit(ask) => submit(alloc, desk, session, at, ask, reply),
+    }
+}
+
+/// Serves a command.
+fn take_command(
+    alloc: Global,
+    desk: &mut Desk,
+    session: &mut ImapSession,
+    at: u64,
+    command: &ImapCommand,
+    reply: &mut Reply,
+)
+    requires free { is_free session.old ≡ true }
+    requires stays { reply.old.closes ≡ false }
+    requires home { is_at_home desk.old.kept.house session.old ≡ true }
+    ensures free { is_free session.new ≡ true }
+    ensures home { is_at_home desk.new.kept.house session.new ≡ true }
+    ensures house { desk.new.kept.house ≡ desk.old.kept.house }
+    ensures turn { (h : Hindrance) ×
+        Takes (obeyed_under h at desk.old.kept session.old (Ok command.now)) reply.old desk.new.kept session.new reply.new }
+{
+    desk.stands();
+    let (house, store, stamps, sizes) = (desk.house(), desk.store(), desk.stamps(), desk.shelf());
+    match session.take(alloc, house, store, stamps, sizes, command) {
+        Ok(out) => follow(alloc, desk, session, at, out, reply),
+        Err(NoMemory) => answer(session, no_memory(alloc, &command.tag), reply),
+    }
+}
+
+/// Refuses lines that are no command. Where no memory was found for reading them nothing can be said.
+fn refuse(alloc: Global, session: &mut ImapSession, why: &ImapRefused, reply: &mut Reply)
+    requires free { is_free session.old ≡ true }
+    requires stays { reply.old.closes ≡ false }
+    ensures free { is_free session.new ≡ true }
+    ensures home { (house : TheHouse) → is_at_home house session.old ≡ true → is_at_home house session.new ≡ true }
+    ensures turn { (at : ℕ) → (kept : Kept) → (reading : Reading) → ReadsCommand reading (Err why.now) → (h : Hindrance) ×
+        Takes (obeyed_under h at kept session.old reading) reply.old kept session.new reply.new }
+{
+    match why {
+        ImapRefused::NoMemory => close(session, reply),
+        ImapRefused::NoTag => answer(session, refused(alloc, why), reply),
+        ImapRefused::Unknown { tag: _ } => answer(session, refused(alloc, why), reply),
+        ImapRefused::Argument { tag: _ } => answer(session, refused(alloc, why), reply),
+    }
+}
+
+/// Serves a command as it stands in the stream.
+fn take_raw(
+    alloc: Global,
+    desk: &mut Desk,
+    session: &mut ImapSession,
+    at: u64,
+    raw: &RawCommand,
+    reply: &mut Reply,
+)
+    requires free { is_free session.old ≡ true }
+    requires stays { reply.old.closes ≡ false }
+    requires home { is_at_home desk.old.kept.house session.old ≡ true }
+    ensures free { is_free session.new ≡ true }
+    ensures home { is_at_home desk.new.kept.house session.new ≡ true }
+    ensures house { desk.new.kept.house ≡ desk.old.kept.house }
+    ensures turn { (h : Hindrance) ×
+        Takes (obeyed_under h at desk.old.kept session.old (command_of raw.now)) reply.old desk.new.kept session.new reply.new }
+{
+    match read_command(alloc, raw) {
+        Ok(command) => take_command(alloc, desk, session, at, &command, reply),
+        Err(why) => refuse(alloc, session, &why, reply),
+    }
+}
+
+/// Serves one command, literal mark or bad line, and adds its answer to the reply.
+pub fn take_next(
+    alloc: Global,
+    desk: &mut Desk,
+    session: &mut ImapSession,
+    at: u64,
+    next: Next,
+    reply: &mut Reply,
+)
+    requires free { is_free session.old ≡ true }
+    requires stays { reply.old.closes ≡ false }
+    requires home { is_at_home desk.old.kept.house session.old ≡ true }
+    ensures free { is_free session.new ≡ true }
+    ensures home { is_at_home desk.new.kept.house session.new ≡ true }
+    ensures house { desk.new.kept.house ≡ desk.old.kept.house }
+    ensures turn { (h : Hindrance) ×
+        Takes (imap_hindered h at desk.old.kept session.old next) reply.old desk.new.kept session.new reply.new }
+{
+    match next {
+        Next::Command(raw) => take_raw(alloc, desk, session, at, &raw, reply),
+        Next::Ask { length: _ } => say(reply, ready(), false),
+        Next::Bad(line) => answer(session, bad_line(alloc, &line), reply),
+        Next::NotYet => {}
+    }
+}

@@ -1,0 +1,243 @@
+//! The serving loop.
+ghost use Rattle.std.specs.Prelude.{◌≡◌, ◌≤◌, Bool, List, [], ◌∷◌, IfOk};
+ghost use Rattle.undo_outside.specs.declared.event.LinkNote.{LinkNote};
+ghost use Rattle.mail_loop.specs.Hindrance.{Hindrance};
+ghost use Rattle.mail_loop.specs.Machine.{Hindrances, Delivery, admits, after_reply, answered, delivered, happens, hears_at, joins, seat_at};
+ghost use Rattle.verb_core.specs.declared.conf.House.{House as TheHouse};
+ghost use Rattle.mail_loop.specs.Stands.{AreHome, reply_of, replies_of};
+ghost use Rattle.mail_loop.specs.Did.{AreLicensed, Told, Replied, Sends, Leads, Answers};
+ghost use Rattle.mail_loop.specs.Serving.{Step, ServedOver, is_end};
+
+use crate::reply::{Reply, greet, greet_reader};
+use crate::session::{Session, hear, new_reader, new_session};
+use mail_desk::Desk;
+use std::alloc::Global;
+use std::collections::BTreeMap;
+use undo_base::{LAST_MOMENT, NoMemory};
+use undo_outside::{Event, Fault, Link, Role, What};
+
+/// Why serving ended before the end.
+#[derive(Clone, Copy, Debug, PartialEq, Eq)]
+pub enum ServeFault {
+    Link,
+    Turns,
+    NoMemory,
+}
+
+/// The open connections, by number.
+type Connections = BTreeMap<u32, Session>;
+
+/// Sends the string of a reply, if there is one. Answers whether the connection stays open.
+fn tell<L: Link>(link: &mut L, reply: &Reply) -> bool
+    ensures { Told (L.told link.old) (L.told link.new) (reply_of reply.now) result }
+{
+    let bytes = reply.said.bytes();
+    if bytes.is_empty() {
+        return !reply.closes;
+    }
+    match link.send(reply.conn, bytes) {
+        Ok(()) => !reply.closes,
+        Err(_) => false,
+    }
+}
+
+/// Sends the string of a reply, if there is one, and closes the connection where it is to be closed. Answers whether it stays open.
+fn deliver<L: Link>(link: &mut L, reply: &Reply) -> Result<bool, NoMemory>
+    ensures { Replied (L.told link.old) (L.told link.new) (reply_of reply.now) result }
+{
+    let stays = tell(link, reply);
+    if !stays {
+        link.close(reply.conn)?;
+    }
+    Ok(stays)
+}
+
+/// Sends the strings of an event, each followed by its close.
+fn deliver_all<L: Link>(
+    connections: &mut Connections,
+    link: &mut L,
+    replies: &[Reply],
+) -> Result<(), NoMemory>
+    ensures home { (house : TheHouse) → AreHome house connections.old.entries → AreHome house connections.new.entries }
+    ensures sends { (ds : List Delivery) × AreLicensed ds (L.told link.old) (L.told link.new) ×
+        Sends (delivered ds connections.old.entries (replies_of replies.now)) (L.told link.old) (L.told link.new) connections.new.entries result }
+{
+    match replies {
+        [] => Ok(()),
+        [reply, others @ ..] => {
+            let stays = deliver(link, reply)?;
+            keep_if(connections, reply.conn, stays);
+            deliver_all(connections, link, others)
+        }
+    }
+}
+
+/// Forgets a connection, unless it stays open.
+fn keep_if(connections: &mut Connections, conn: u32, stays: bool)
+    ensures entries { connections.new.entries ≡ after_reply stays conn connections.old.entries }
+    ensures home { (house : TheHouse) → AreHome house connections.old.entries → AreHome house connections.new.entries }
+{
+    if !stays {
+        connections.remove(&conn);
+    }
+}
+
+/// One reply.
+fn alone(alloc: Global, reply: Reply) -> Result<Vec<Reply>, NoMemory>
+    ensures { IfOk result (λ replies. replies_of replies.items ≡ reply_of reply ∷ []) }
+{
+    let mut replies = Vec::new(alloc);
+    replies.push(reply)?;
+    Ok(replies)
+}
+
+/// Opens a connection of a kind that is served, and greets the client.
+fn admit(
+    alloc: Global,
+    desk: &Desk,
+    connections: &mut Connections,
+    conn: u32,
+    role: Role,
+) -> Result<Vec<Reply>, NoMemory>
+    ensures home { (house : TheHouse) → AreHome house connections.old.entries → AreHome house connections.new.entries }
+    ensures answers { Answers (admits role (record { kept = desk.now.kept; seats = connections.old.entries }) conn)
+        desk.now.kept connections.new.entries (λ replies. replies_of replies.items) result }
+{
+    match role {
+        Role::Smtp => {
+            let replies = alone(alloc, greet(alloc, desk.house(), conn)?)?;
+            connections.insert(conn, new_session(alloc))?;
+            Ok(replies)
+        }
+        Role::Imap => {
+            let replies = alone(alloc, greet_reader(alloc, desk.house(), conn)?)?;
+            connections.insert(conn, new_reader(alloc))?;
+            Ok(replies)
+        }
+        Role::Http => Ok(Vec::new(alloc)),
+    }
+}
+
+/// A client joins. On a connection that is open this is ignored.
+fn join(
+    alloc: Global,
+    desk: &Desk,
+    connections: &mut Connections,
+    conn: u32,
+    role: Role,
+) -> Result<Vec<Reply>, NoMemory>
+    ensures home { (house : TheHouse) → AreHome house connections.old.entries → AreHome house connections.new.entries }
+    ensures answers { Answers (joins (seat_at conn connections.old.entries) role (record { kept = desk.now.kept; seats = connections.old.entries }) conn)
+        desk.now.kept connections.new.entries (λ replies. replies_of replies.items) result }
+{
+    if connections.contains_key(&conn) {
+        Ok(Vec::new(alloc))
+    } else {
+        admit(alloc, desk, connections, conn, role)
+    }
+}
+
+/// Serves bytes that came over a connection. Where it is not open they are ignored.
+fn hear_at(
+    alloc: Global,
+    desk: &mut Desk,
+    connections: &mut Connections,
+    conn: u32,
+    at: u64,
+    bytes: &[u8],
+) -> Result<Vec<Reply>, NoMemory>
+    requires moment { at ≤ 253402300799 }
+    requires home { AreHome desk.old.kept.house connections.old.entries }
+    ensures home { AreHome desk.new.kept.house connections.new.entries }
+    ensures answers { (no_memory : Bool) × (hs : List Hindrance) ×
+        Answers (hears_at (seat_at conn connections.old.entries) no_memory hs at (record { kept = desk.old.kept; seats = connections.old.entries }) conn bytes.now)
+        desk.new.kept connections.new.entries (λ replies. replies_of replies.items) result }
+{
+    let reply = match connections.get_mut(&conn) {
+        None => return Ok(Vec::new(alloc)),
+        Some(session) => hear(alloc, desk, session, conn, at, bytes),
+    };
+    keep_if(connections, conn, !reply.closes);
+    alone(alloc, reply)
+}
+
+/// What an event leaves before its strings are sent: the replies by rising connection.
+fn answer_event(
+    alloc: Global,
+    desk: &mut Desk,
+    connections: &mut Connections,
+    event: &Event,
+) -> Result<Vec<Reply>, NoMemory>
+    requires home { AreHome desk.old.kept.house connections.old.entries }
+    ensures home { AreHome desk.new.kept.house connections.new.entries }
+    ensures answers { (no_memory : Bool) × (hs : List Hindrance) ×
+        Answers (answered no_memory hs (record { kept = desk.old.kept; seats = connections.old.entries }) event.now)
+        desk.new.kept connections.new.entries (λ replies. replies_of replies.items) result }
+{
+    let conn = event.conn;
+    match &event.what {
+        What::Joined(role) => join(alloc, desk, connections, conn, *role),
+        What::Bytes(bytes) => {
+            let at = event.at.min(LAST_MOMENT);
+            hear_at(alloc, desk, connections, conn, at, bytes.bytes())
+        }
+        What::Left => {
+            keep_if(connections, conn, false);
+            Ok(Vec::new(alloc))
+        }
+        What::Idle => Ok(Vec::new(alloc)),
+        What::End => Ok(Vec::new(alloc)),
+    }
+}
+
+/// Serves one event.
+fn serve_event<L: Link>(
+    alloc: Global,
+    desk: &mut Desk,
+    connections: &mut Connections,
+    link: &mut L,
+    event: &Event,
+) -> Result<(), NoMemory>
+    requires home { AreHome desk.old.kept.house connections.old.entries }
+    ensures home { AreHome desk.new.kept.house connections.new.entries }
+    ensures leads { (h : Hindrances) × AreLicensed h.deliveries (L.told link.old) (L.told link.new) ×
+        Leads (happens h (record { kept = desk.old.kept; seats = connections.old.entries }) event.now) (L.told link.old) (L.told link.new)
+        desk.new.kept connections.new.entries result }
+{
+    let replies = answer_event(alloc, desk, connections, event)?;
+    deliver_all(connections, link, replies.as_slice())
+}
+
+/// Serves the events of a link until the end comes, at most so many.
+pub fn serve_events<L: Link>(
+    alloc: Global,
+    desk: &mut Desk,
+    link: &mut L,
+    turns: u64,
+) -> Result<(), ServeFault>
+    ensures serves { (steps : List Step) × (notes : List LinkNote) ×
+        ServedOver turns steps notes (L.told link.old) (L.told link.new) desk.old.kept desk.new.kept result }
+{
+    let mut connections = BTreeMap::new(alloc);
+    for _ in 0..turns {
+        let event = match link.next() {
+            Ok(event) => event,
+            Err(Fault::Failed) => return Err(ServeFault::Link),
+            Err(Fault::NoMemory) => return Err(ServeFault::NoMemory),
+        };
+        if is_end_of(&event) {
+            return Ok(());
+        }
+        match serve_event(alloc, desk, &mut connections, link, &event) {
+            Ok(()) => {}
+            Err(NoMemory) => return Err(ServeFault::NoMemory),
+        }
+    }
+    Err(ServeFault::Turns)
+}
+
+fn is_end_of(event: &Event) -> bool
+    ensures { result ≡ is_end event.now.what }
+{
+    matches!(&event.what, What::End)
+}

@@ -1,0 +1,230 @@
+//! The sessions of open connections.
+ghost use Rattle.std.specs.Prelude.{◌≡◌, ◌≤◌, ◌++◌, Bool, List, ℕ, false, true};
+ghost use Rattle.smtp_session.specs.Dialog.{is_due};
+ghost use Rattle.imap_session.specs.Dialog.{is_at_home, is_free};
+ghost use Rattle.mail_loop.specs.State.{State, Smtp as SmtpSeat, Imap as ImapSeat};
+ghost use Rattle.mail_loop.specs.Hindrance.{Hindrance};
+ghost use Rattle.mail_loop.specs.Turns.{hears_lines, hears_commands};
+ghost use Rattle.mail_loop.specs.Machine.{Seats, fresh, fresh_reader, hears};
+ghost use Rattle.mail_loop.specs.Read.{is_not_yet};
+ghost use Rattle.mail_loop.specs.Stands.{IsHome};
+ghost use Rattle.mail_loop.specs.Took.{Tells, answered_alone};
+
+use crate::dialog::take_line;
+use crate::reader::take_next;
+use crate::reply::{Reply, empty_reply};
+use imap_session::ImapSession;
+use imap_stream::{Next, Pieces};
+use mail_desk::Desk;
+use smtp_lines::Cutter;
+use smtp_session::SmtpSession;
+use std::alloc::Global;
+use std::marker::Model;
+use undo_base::NoMemory;
+
+/// What a connection speaks, with its stream as far as it was not served, and its dialog.
+#[derive(Drop)]
+enum Kind {
+    Smtp {
+        unserved: Cutter,
+        dialog: SmtpSession,
+    },
+    Imap {
+        stream: Pieces,
+        dialog: ImapSession,
+    },
+}
+
+/// The session of an open connection.
+#[derive(Drop)]
+pub struct Session {
+    kind: Kind,
+}
+
+impl Model for Session {
+    ghost use Rattle.mail_loop.specs.State.{Seat};
+    ghost use Rattle.mail_loop.specs.Stands.{IsFree, seat_of};
+
+    ghost Value = { Seat };
+
+    ghost view = { λ s. seat_of s.kind };
+
+    ghost invariant = { λ s. IsFree s.kind };
+}
+
+/// A mail client's session at first.
+pub fn new_session(alloc: Global) -> Session
+    ensures { result ≡ fresh }
+{
+    Session {
+        kind: Kind::Smtp {
+            unserved: Cutter::new(alloc),
+            dialog: SmtpSession::new(),
+        },
+    }
+}
+
+/// A mail reader's session at first.
+pub fn new_reader(alloc: Global) -> Session
+    ensures { result ≡ fresh_reader }
+{
+    Session {
+        kind: Kind::Imap {
+            stream: Pieces::new(alloc),
+            dialog: ImapSession::new(),
+        },
+    }
+}
+
+/// Serves the lines that are whole, each of which is a turn.
+fn serve_lines(
+    alloc: Global,
+    desk: &mut Desk,
+    unserved: &mut Cutter,
+    dialog: &mut SmtpSession,
+    conn: u32,
+    at: u64,
+) -> Reply
+    requires moment { at ≤ 253402300799 }
+    requires free { is_due dialog.old ≡ false }
+    ensures free { is_due dialog.new ≡ false }
+    ensures house { desk.new.kept.house ≡ desk.old.kept.house }
+    ensures turns { (seats : Seats) → (hs : List Hindrance) ×
+        Tells (hears_lines hs at (record { kept = desk.old.kept; seats = seats }) dialog.old unserved.old) seats conn result desk.new.kept (SmtpSeat unserved.new dialog.new) }
+{
+    let mut reply = empty_reply(alloc, conn, false);
+    loop {
+        let line = match unserved.next(alloc) {
+            Ok(Some(line)) => line,
+            Ok(None) => return reply,
+            Err(NoMemory) => {
+                reply.closes = true;
+                return reply;
+            }
+        };
+        take_line(alloc, desk, dialog, at, &line, &mut reply);
+        if reply.closes {
+            return reply;
+        }
+    }
+}
+
+/// Serves the bytes that came over a mail client's connection.
+fn hear_client(
+    alloc: Global,
+    desk: &mut Desk,
+    unserved: &mut Cutter,
+    dialog: &mut SmtpSession,
+    conn: u32,
+    at: u64,
+    bytes: &[u8],
+) -> Reply
+    requires moment { at ≤ 253402300799 }
+    requires free { is_due dialog.old ≡ false }
+    ensures free { is_due dialog.new ≡ false }
+    ensures house { desk.new.kept.house ≡ desk.old.kept.house }
+    ensures heard { (seats : Seats) → (no_memory : Bool) × (hs : List Hindrance) ×
+        (hears no_memory hs at (record { kept = desk.old.kept; seats = seats }) conn (SmtpSeat unserved.old dialog.old) bytes.now
+        ≡ answered_alone conn result desk.new.kept (SmtpSeat unserved.new dialog.new) seats) }
+{
+    match unserved.feed(bytes) {
+        Ok(()) => serve_lines(alloc, desk, unserved, dialog, conn, at),
+        Err(NoMemory) => empty_reply(alloc, conn, true),
+    }
+}
+
+fn is_not_yet(next: &Next) -> bool
+    ensures { result ≡ is_not_yet next.now }
+{
+    matches!(next, Next::NotYet)
+}
+
+/// Serves the commands, literal marks and bad lines that are whole, each of which is a turn.
+fn serve_commands(
+    alloc: Global,
+    desk: &mut Desk,
+    stream: &mut Pieces,
+    dialog: &mut ImapSession,
+    conn: u32,
+    at: u64,
+) -> Reply
+    requires moment { at ≤ 253402300799 }
+    requires free { is_free dialog.old ≡ true }
+    requires home { is_at_home desk.old.kept.house dialog.old ≡ true }
+    ensures free { is_free dialog.new ≡ true }
+    ensures home { is_at_home desk.new.kept.house dialog.new ≡ true }
+    ensures house { desk.new.kept.house ≡ desk.old.kept.house }
+    ensures turns { (seats : Seats) → (hs : List Hindrance) ×
+        Tells (hears_commands hs at (record { kept = desk.old.kept; seats = seats }) dialog.old stream.old) seats conn result desk.new.kept (ImapSeat stream.new dialog.new) }
+{
+    let mut reply = empty_reply(alloc, conn, false);
+    loop {
+        let next = match stream.next(alloc) {
+            Ok(next) => next,
+            Err(NoMemory) => {
+                reply.closes = true;
+                return reply;
+            }
+        };
+        if is_not_yet(&next) {
+            return reply;
+        }
+        take_next(alloc, desk, dialog, at, next, &mut reply);
+        if reply.closes {
+            return reply;
+        }
+    }
+}
+
+/// Serves the bytes that came over a mail reader's connection.
+fn hear_reader(
+    alloc: Global,
+    desk: &mut Desk,
+    stream: &mut Pieces,
+    dialog: &mut ImapSession,
+    conn: u32,
+    at: u64,
+    bytes: &[u8],
+) -> Reply
+    requires moment { at ≤ 253402300799 }
+    requires free { is_free dialog.old ≡ true }
+    requires home { is_at_home desk.old.kept.house dialog.old ≡ true }
+    ensures free { is_free dialog.new ≡ true }
+    ensures home { is_at_home desk.new.kept.house dialog.new ≡ true }
+    ensures house { desk.new.kept.house ≡ desk.old.kept.house }
+    ensures heard { (seats : Seats) → (no_memory : Bool) × (hs : List Hindrance) ×
+        (hears no_memory hs at (record { kept = desk.old.kept; seats = seats }) conn (ImapSeat stream.old dialog.old) bytes.now
+        ≡ answered_alone conn result desk.new.kept (ImapSeat stream.new dialog.new) seats) }
+{
+    match stream.feed(bytes) {
+        Ok(()) => serve_commands(alloc, desk, stream, dialog, conn, at),
+        Err(NoMemory) => empty_reply(alloc, conn, true),
+    }
+}
+
+/// Serves the bytes that came over a connection.
+pub fn hear(
+    alloc: Global,
+    desk: &mut Desk,
+    session: &mut Session,
+    conn: u32,
+    at: u64,
+    bytes: &[u8],
+) -> Reply
+    requires moment { at ≤ 253402300799 }
+    requires home { IsHome desk.old.kept.house session.old }
+    ensures home { IsHome desk.new.kept.house session.new }
+    ensures house { desk.new.kept.house ≡ desk.old.kept.house }
+    ensures heard { (seats : Seats) → (no_memory : Bool) × (hs : List Hindrance) ×
+        (hears no_memory hs at (record { kept = desk.old.kept; seats = seats }) conn session.old bytes.now
+        ≡ answered_alone conn result desk.new.kept session.new seats) }
+{
+    match &mut session.kind {
+        Kind::Smtp { unserved, dialog } => {
+            hear_client(alloc, desk, unserved, dialog, conn, at, bytes)
+        }
+        Kind::Imap { stream, dialog } => {
+            hear_reader(alloc, desk, stream, dialog, conn, at, bytes)
+        }
+    }
+}

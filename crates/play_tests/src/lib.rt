@@ -1,0 +1,9 @@
+//! Tests of the top call and of the serving loop, in a crate of their own, since a crate with tests is proved twice.
+//!
+//! `tests` has mail clients, bad input and failing calls, `reader_tests` mail readers.
+#![tactic(auto)]
+
+#[cfg(test)]
+mod reader_tests;
+#[cfg(test)]
+mod tests;
