@@ -1,0 +1,5 @@
+pub mod Lasting
+pub mod Records
+pub mod Sealing
+pub mod Making
+pub mod Submitting

@@ -1,0 +1,39 @@
+//! What the operator does.
+ghost use Rattle.std.specs.Prelude.{◌≡◌, ◌↔◌, ℕ, [], ◌∷◌, IsTrue, IfOk, OnOk, IfErr, OnErr, IsErrOf};
+ghost use Rattle.std.specs.List.{list_all};
+ghost use Rattle.verb_core.specs.declared.item.Deed.TheVariants.{Act as Acts};
+ghost use Rattle.verb_core.specs.Items.{users_in};
+ghost use Rattle.verb_core.specs.Store.{is_known};
+ghost use Rattle.verb_bytes.specs.declared.journal.JournalRecord.TheVariants.{Operator};
+ghost use Rattle.mail_desk.specs.Desk.{performed};
+ghost use Rattle.time_desk.specs.Records.{act_item};
+ghost use Rattle.time_desk.specs.Sealing.{Seals};
+ghost use Rattle.time_desk.specs.Submitting.{ActsNone};
+
+use crate::{ActFault, Desk};
+use std::alloc::Global;
+use undo_base::LAST_NUMBER;
+use undo_outside::Disk;
+use verb_core::Act;
+
+impl<D: Disk> Desk<D> {
+    /// Does an act at a moment, and answers the number of its item. Each answer leaves what it leaves of `submit`.
+    pub fn act(&mut self, alloc: Global, at: u64, act: Act) -> Result<u32, ActFault>
+        requires { IsTrue (list_all (is_known self.old.kept.house) (users_in (Acts act))) }
+        ensures number { IfOk result (λ number. number ≡ self.old.kept.next) }
+        ensures ok { OnOk result (self.new.kept ≡ performed self.old.kept (act_item self.old.kept.next at act)) }
+        ensures sealed { OnOk result (Seals D.told (Operator self.old.kept.next at act ∷ []) [] self.old self.new) }
+        ensures err { OnErr result (self.new.kept ≡ self.old.kept) }
+        ensures why { IfErr result (λ fault. ActsNone D.told at act self.old self.new fault) }
+        ensures closed { IsErrOf result ActFault.Closed ↔ IsTrue self.old.closed }
+    {
+        if self.log.is_closed() {
+            return Err(ActFault::Closed);
+        }
+        let next = self.desk.next();
+        if next > LAST_NUMBER {
+            return Err(ActFault::Numbers { next });
+        }
+        Err(ActFault::NoMemory)
+    }
+}

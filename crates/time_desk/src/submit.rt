@@ -1,0 +1,38 @@
+//! What users ask.
+ghost use Rattle.std.specs.Prelude.{◌≡◌, ◌↔◌, [], ◌∷◌, Ok, false, IsTrue, IsSome, IfOk, IfErr, OnErr, IsErrOf};
+ghost use Rattle.std.specs.List.{list_all, cons_option};
+ghost use Rattle.verb_core.specs.Live.{is_users, live};
+ghost use Rattle.verb_core.specs.Store.{is_known};
+ghost use Rattle.box_store.specs.Refusing.{IsRefusal};
+ghost use Rattle.verb_bytes.specs.declared.journal.JournalRecord.TheVariants.{Verb};
+ghost use Rattle.verb_bytes.specs.Spelling.{record_bytes};
+ghost use Rattle.mail_desk.specs.Desk.{store_of, submitted};
+ghost use Rattle.mail_desk.specs.Entering.{CanEnter};
+ghost use Rattle.time_desk.specs.Records.{after_record};
+ghost use Rattle.time_desk.specs.Sealing.{Seals};
+ghost use Rattle.time_desk.specs.Submitting.{SubmitsNone};
+
+use crate::Desk;
+use std::alloc::Global;
+use undo_base::User;
+use undo_outside::Disk;
+use verb_core::{Ask, Item, Refused, SubmitFault};
+
+impl<D: Disk> Desk<D> {
+    /// Asks for something at a moment. At `Ok` the item is sealed and performed. At `Disk` the desk is closed from then on,
+    /// and the item may be in the journal or not; what is kept is as before.
+    pub fn submit(&mut self, alloc: Global, at: u64, by: Option<User>, ask: Ask) -> Result<Item, SubmitFault>
+        requires by { IsSome by ↔ IsTrue (is_users ask) }
+        requires known { IsTrue (list_all (is_known self.old.kept.house) (cons_option by [])) }
+        ensures ok { IfOk result (λ item. submitted self.old.kept at by ask ≡ record { outcome = Ok item; kept = self.new.kept }) }
+        ensures sealed { IfOk result (λ item. Seals D.told (Verb item ∷ []) [] self.old self.new) }
+        ensures err { OnErr result (self.new.kept ≡ self.old.kept) }
+        ensures why { IfErr result (λ fault. SubmitsNone D.told (live (store_of self.old.kept) self.old.kept.next at by ask) self.old self.new fault) }
+        ensures closed { IsErrOf result SubmitFault.Closed ↔ IsTrue self.old.closed }
+    {
+        if self.log.is_closed() {
+            return Err(SubmitFault::Closed);
+        }
+        Err(SubmitFault::Refused(Refused::NoMemory))
+    }
+}
