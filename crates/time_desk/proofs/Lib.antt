@@ -1,1 +1,3 @@
-pub mod Sealings
+pub mod Payloads
+pub mod Runs
+pub mod Standing

@@ -1,5 +1,5 @@
 -- What contracts see of a desk over a disk.
-use Rattle.std.specs.Prelude.{ℕ, Bool}
+use Rattle.std.specs.Prelude.{◌≡◌, ℕ, Bool}
 use Rattle.seal_log.specs.declared.log.Log.{Log}
 use Rattle.seal_log.specs.Log.{last_gate}
 use Rattle.mail_desk.specs.Held.{Held, Room}
@@ -17,3 +17,10 @@ pub record Lasting (D : Type 0) : Type 0 where
 -- of a desk in memory, a disk, and the end of the journal on it
 abbrev pub lasting : {D : Type 0} → Held → D → Log → Lasting D
 lasting held disk log = record { kept = held.kept; room = held.room; disk = disk; gate = last_gate log; closed = log.closed }
+
+-- from old to new nothing was kept and nothing was written
+pub record IsUnwritten {D : Type 0} (old new : Lasting D) : Type 0 where
+  pub kept : new.kept ≡ old.kept
+  pub disk : new.disk ≡ old.disk
+  pub gate : new.gate ≡ old.gate
+  pub closed : new.closed ≡ old.closed

@@ -5,9 +5,18 @@ use Rattle.undo_outside.specs.Moments.{LeavesOnly}
 use Rattle.seal_log.specs.Journal.{StandsForFront}
 use Rattle.seal_log.specs.Settled.{IsSettled}
 use Rattle.verb_core.specs.Names.{is_empty}
+use Rattle.verb_core.specs.declared.item.Item.{Item}
 use Rattle.verb_bytes.specs.declared.journal.JournalRecord.{JournalRecord}
+use Rattle.verb_bytes.specs.Spelling.{record_bytes}
+use Rattle.mail_desk.specs.Kept.{Kept}
+use Rattle.mail_desk.specs.Desk.{performed}
 use Rattle.time_desk.specs.Lasting.{Lasting}
-use Rattle.time_desk.specs.Records.{after_records, payloads_of}
+use Rattle.time_desk.specs.Records.{after_record, after_records, payloads_of}
+
+-- the record of an item: these are its bytes, and it leaves the item performed
+pub record IsRecordOf (what : JournalRecord) (bytes : List ℕ) (kept : Kept) (item : Item) : Type 0 where
+  pub bytes_are : record_bytes what ≡ bytes
+  pub can_stand : after_record kept what ≡ Some (performed kept item)
 
 -- a write or a sync failed exactly where there is something whose sealing failed
 abbrev pub FailsFor : List (List ℕ) → DiskTold → DiskTold → Type 0

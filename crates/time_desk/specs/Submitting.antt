@@ -4,6 +4,7 @@ use Rattle.undo_outside.specs.Disk.{DiskTold}
 use Rattle.verb_core.specs.declared.ask.Refused.{Refused}
 use Rattle.verb_core.specs.declared.ask.SubmitFault.{SubmitFault}
 use Rattle.verb_core.specs.declared.ask.SubmitFault.TheVariants.{Refused as IsRefused, Disk, Closed}
+use Rattle.verb_core.specs.declared.ask.Refused.TheVariants.{NoMemory}
 use Rattle.verb_core.specs.declared.item.Act.{Act}
 use Rattle.verb_core.specs.declared.item.Item.{Item}
 use Rattle.verb_bytes.specs.declared.journal.JournalRecord.{JournalRecord}
@@ -15,6 +16,18 @@ use Rattle.time_desk.specs.declared.fault.ActFault.{ActFault}
 use Rattle.time_desk.specs.declared.fault.ActFault.TheVariants as act_faults
 use Rattle.time_desk.specs.Lasting.{Lasting}
 use Rattle.time_desk.specs.Sealing.{Seals}
+
+-- a fault of sealing, as a fault of an ask
+abbrev pub IsOutcomeOf : SealFault → SubmitFault → Type 0
+IsOutcomeOf log_faults.Disk fault = fault ≡ Disk
+IsOutcomeOf log_faults.NoMemory fault = fault ≡ IsRefused NoMemory
+IsOutcomeOf log_faults.Closed fault = ⊥
+
+-- the same as a fault of an act
+abbrev pub IsActOutcomeOf : SealFault → ActFault → Type 0
+IsActOutcomeOf log_faults.Disk fault = fault ≡ act_faults.Disk
+IsActOutcomeOf log_faults.NoMemory fault = fault ≡ act_faults.NoMemory
+IsActOutcomeOf log_faults.Closed fault = ⊥
 
 module _ {D : Type 0} (told : D → DiskTold) where
   -- nothing was sealed, and nothing is lost

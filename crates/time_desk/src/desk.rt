@@ -31,11 +31,11 @@ pub struct Desk<D: Disk> {
 impl<D: Disk> Model for Desk<D> {
     ghost use Rattle.std.specs.Prelude.{◌<◌};
     ghost use Rattle.seal_log.specs.Log.{last_gate};
-    ghost use Rattle.time_desk.specs.Lasting.{Lasting};
+    ghost use Rattle.time_desk.specs.Lasting.{Lasting, lasting};
 
     ghost Value = { Lasting D };
 
-    ghost view = { λ d. record { kept = d.desk.kept; room = d.desk.room; disk = d.disk; gate = last_gate d.log; closed = d.log.closed } };
+    ghost view = { λ d. lasting d.desk d.disk d.log };
 
     ghost invariant = { λ d. last_gate d.log < (D.told d.disk).size };
 }
@@ -54,5 +54,103 @@ impl<D: Disk> Desk<D> {
         ensures sound { IsTrue (is_house result.now) }
     {
         self.desk.house()
+    }
+
+    /// The configuration at first.
+    pub fn opening(&self) -> &Conf
+        ensures { result.now ≡ self.now.kept.opening }
+    {
+        self.desk.opening()
+    }
+
+    /// The configuration in force.
+    pub fn conf(&self) -> &Conf
+        ensures { result.now ≡ (store_of self.now.kept).conf }
+    {
+        self.desk.conf()
+    }
+
+    /// The store that the items in force leave.
+    pub fn store(&self) -> &Store
+        ensures value { result.now.store ≡ store_of self.now.kept }
+        ensures valid { IsValid result.now.store }
+        ensures house { result.now.store.house ≡ self.now.kept.house }
+    {
+        self.desk.store()
+    }
+
+    /// The stamp of each mailbox, by rising user and name.
+    pub fn stamps(&self) -> &Stamps
+        ensures value { result.now ≡ self.now.kept.stamps }
+        ensures named { map (λ (r : TheBoxId × ℕ). r.0) result.now ≡ map (λ (r : TheBoxId × TheMailbox). r.0) (store_of self.now.kept).boxes }
+    {
+        self.desk.stamps()
+    }
+
+    /// The stamp of the mailbox of that user and name, where it is there.
+    pub fn stamp(&self, user: User, name: &Name) -> Option<u32>
+        ensures { result ≡ row_at (box_of user name.now) self.now.kept.stamps }
+    {
+        self.desk.stamp(user, name)
+    }
+
+    /// The size of each body that has a text.
+    pub fn shelf(&self) -> &Shelf
+        ensures sizes { (body : TheBody) → size_of result.now.notes body ≡ option_map length (text_of self.now.kept.timeline body) }
+        ensures known { IsTrue (has_sizes result.now.notes (store_of self.now.kept).boxes) }
+    {
+        self.desk.shelf()
+    }
+
+    /// The number that the next item gets.
+    pub fn next(&self) -> u32
+        ensures { result ≡ self.now.kept.next }
+    {
+        self.desk.next()
+    }
+
+    /// The text of a body.
+    pub fn text(&self, alloc: Global, body: Body) -> Result<Text, NoMemory>
+        requires { IsTrue (has_text self.now.kept.timeline body) }
+        ensures { IfOk result (λ text. text_of self.now.kept.timeline body ≡ Some text) }
+    {
+        self.desk.text(alloc, body)
+    }
+
+    /// The texts of bodies, in order.
+    pub fn texts(&self, alloc: Global, bodies: &[Body]) -> Result<Texts, NoMemory>
+        requires { IsTrue (list_all (has_text self.now.kept.timeline) bodies.now) }
+        ensures { IfOk result (λ texts. texts ≡ texts_of self.now.kept.timeline bodies.now) }
+    {
+        self.desk.texts(alloc, bodies)
+    }
+
+    /// The rev of the item of a number, where it has a text.
+    pub fn rev(&self, number: u32) -> Option<u32>
+        ensures { result ≡ rev_of self.now.kept.timeline number }
+    {
+        self.desk.rev(number)
+    }
+
+    /// What holds of each desk: this does nothing.
+    pub fn stands(&self)
+        ensures house { IsTrue (is_house self.now.kept.house) }
+        ensures valid { IsValid (store_of self.now.kept) }
+        ensures house_stays { (store_of self.now.kept).house ≡ self.now.kept.house }
+        ensures timeline { IsTimeline self.now.kept.house self.now.kept.timeline }
+        ensures rising { IsTrue (numbers_rise (self.now.kept.house.first - 1) self.now.kept.timeline self.now.kept.next) }
+        ensures next { self.now.kept.next ≤ 4194304 }
+        ensures texts { IsTrue (all_bodies (has_text self.now.kept.timeline) (store_of self.now.kept).boxes) }
+        ensures within { self.now.gate < (D.told self.now.disk).size }
+    {
+        self.desk.stands();
+    }
+
+    /// The disk as it is.
+    pub fn into_disk(self) -> D
+        ensures { result ≡ self.disk }
+    {
+        let Desk { disk, .. } = self;
+        disk
     }
 }

@@ -10,6 +10,7 @@
 mod act;
 mod desk;
 mod fault;
+pub mod laws;
 mod make;
 mod seal;
 mod spelling;

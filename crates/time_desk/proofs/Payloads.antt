@@ -1,9 +1,9 @@
--- How what calls seal joins.
+-- What one call seals, and how what calls seal joins.
 use Rattle.std.proofs.Common.{◌≡◌, ◌≤◌, ◌+◌, ℕ, List, [], ◌∷◌, ◌++◌, subst, sym, ap, refl, ◌∙◌, append_assoc, append-nil}
 use Rattle.undo_outside.specs.Calls.{Rose}
 use Rattle.undo_outside.specs.Disk.{DiskTold, IsHonest, WriteFailed}
 use Rattle.undo_outside.specs.Moments.{LeavesOnly}
-use Rattle.undo_outside.proofs.Moments.{images_now, joined, weaker}
+use Rattle.undo_outside.proofs.Moments.{images_now, joined, started, weaker}
 use Rattle.seal_log.specs.Journal.{StandsFor, StandsForFront}
 use Rattle.seal_log.specs.Settled.{IsSettled}
 use Rattle.seal_log.proofs.Frames.{front_before, front_within}
@@ -97,3 +97,10 @@ payloads_then added more failed old mid new gate middle next first second = reco
   reliable = second.reliable ∙ first.reliable;
   honest = λ h. second.honest (first.honest h);
 }
+
+-- a disk to which nothing was done
+pub payloads_none : (disk : DiskTold) → (disk.honest → IsHonest disk) → (gate : ℕ) → SealsPayloads [] [] disk disk gate gate
+payloads_none disk truth gate =
+    none_sealed disk disk gate gate (λ payloads s. s)
+    (λ payloads s. started disk (λ image. StandsFor image payloads) (λ c left. s.images c ((truth s.honest).only_now c left)))
+    refl refl refl (λ h. h)
