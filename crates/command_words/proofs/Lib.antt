@@ -1,0 +1,4 @@
+mod Takes
+mod Readings
+mod Digits
+mod Counting

@@ -1,5 +1,5 @@
 -- Numbers in digits.
-use Rattle.std.specs.Prelude.{ℕ, ◌+◌, ◌-◌, ◌*◌, Bool, ◌==◌, ◌&&◌, ◌||◌, not, List, length, fold, slice_index, nat_le, Option, None, Some, if◌then◌else◌}
+use Rattle.std.specs.Prelude.{ℕ, ◌+◌, ◌-◌, ◌*◌, Bool, ◌==◌, ◌&&◌, ◌||◌, not, List, length, fold, slice_index, nat_le, nat_lt, Option, None, Some, if◌then◌else◌}
 use Rattle.std.specs.List.{list_all}
 use Rattle.std.specs.Char.{is_ascii_digit}
 
@@ -10,6 +10,10 @@ is_decimal text = nat_le 1 (length text) && ((length text == 1) || not (slice_in
 -- what digits stand for
 abbrev pub number_of : List ℕ → ℕ
 number_of text = fold (λ n d. 10 * n + (d - 48)) 0 text
+
+-- what digits stand for, where it is below 2^32
+abbrev pub small : List ℕ → Option ℕ
+small text = if nat_lt (number_of text) 4294967296 then Some (number_of text) else None
 
 -- a number from low to high
 abbrev pub number_between : ℕ → ℕ → List ℕ → Option ℕ

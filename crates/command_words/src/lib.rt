@@ -2,12 +2,18 @@
 //!
 //! `commands` has the command that words are; `program` is the same for `clap`, which reads the words first; `shapes` finds
 //! the command by the words themselves; `numbers` reads ports and rounds; `reading` puts them together.
-//! What carries the crate: `read_words` answers a command exactly where `command_of` of specs/ gives it, and `Usage` exactly
-//! where it gives none.
+//! What carries the crate: `read_words` answers a command only where `command_of` of specs/ gives it, and `Usage` only where
+//! it gives none, so that only want of memory keeps either back.
 #![tactic(auto)]
 
 mod commands;
+mod numbers;
+mod program;
 mod reading;
+mod shapes;
 
 pub use commands::{Command, WordsRefused};
-pub use reading::read_words;
+pub use reading::{ports, read_words, store_path};
+
+#[cfg(test)]
+mod tests;
