@@ -1,5 +1,5 @@
 -- Lists of words by their number.
-use Rattle.std.proofs.Common.{◌≡◌, ℕ, List, [], ◌∷◌, map, length, get_or, ◌<◌, ◌≤◌, Option, Some, None, arith, refl}
+use Rattle.std.proofs.Common.{◌≡◌, ℕ, List, [], ◌∷◌, map, length, get_or, ◌<◌, ◌≤◌, None, arith, refl}
 use Rattle.command_words.specs.Usage.{with_ports, by_number}
 
 -- five words

@@ -1,18 +1,17 @@
 -- What `parse` reads of digits.
-use Rattle.std.proofs.Common.{◌≡◌, ℕ, List, Bool, true, false, ◌&&◌, ◌==◌, ◌||◌, not, cond, fold, ◌+◌, ◌-◌, ◌*◌, ◌^◌, ◌<◌, length, slice_index, nat_le, nat_lt, arith, rules, refl, Option, Some, None, Result, Ok, Err, sym, ap, ◌∙◌}
+use Rattle.std.proofs.Common.{◌≡◌, ℕ, List, true, ◌&&◌, ◌==◌, ◌||◌, not, fold, ◌+◌, ◌-◌, ◌*◌, ◌<◌, length, slice_index, nat_le, nat_lt, arith, rules, refl, Some, None, Result, Ok, Err, ap}
 use Rattle.std.specs.List.{list_all}
 use Rattle.std.specs.Char.{is_ascii_digit}
-use Rattle.std.specs.Result.{OkIff}
 use Rattle.std.specs.Str.Parse.{ParsesUnsigned}
 use Rattle.std.proofs.lemmas.Bool.{and_parts, leb-true, lt-ltb, false_from_ne_true, ltb-true}
 use Rattle.std.proofs.lemmas.Str.Parse.{IsNumeralModel, numerals_by_fold, parse_digits}
 use Rattle.command_words.specs.Numbers.{is_decimal, number_of, small}
 
-own : IsNumeralModel (λ ds. list_all is_ascii_digit ds ≡ true) number_of
+pub own : IsNumeralModel (λ ds. list_all is_ascii_digit ds ≡ true) number_of
 own = numerals_by_fold (λ ds. list_all is_ascii_digit ds ≡ true) (search rules) (λ n ds. fold (λ n d. 10 * n + (d - 48)) n ds) (search rules)
 
 -- digits stand there, one at least
-digits_in : (text : List ℕ) → is_decimal text ≡ true → (0 < length text) × (list_all is_ascii_digit text ≡ true)
+pub digits_in : (text : List ℕ) → is_decimal text ≡ true → (0 < length text) × (list_all is_ascii_digit text ≡ true)
 digits_in text h =
     let (front, digits) = and_parts (nat_le 1 (length text) && ((length text == 1) || not (slice_index text 0 == 48))) (list_all is_ascii_digit text) h in
     let (some, first) = and_parts (nat_le 1 (length text)) ((length text == 1) || not (slice_index text 0 == 48)) front in

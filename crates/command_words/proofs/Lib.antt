@@ -2,3 +2,5 @@ mod Takes
 mod Readings
 mod Digits
 mod Counting
+mod Written
+mod Sayings

@@ -1,5 +1,5 @@
 -- What is a command, `clap` takes.
-use Rattle.std.proofs.Common.{◌≡◌, ℕ, List, [], ◌∷◌, Bool, true, false, cond, not, ◌&&◌, ◌==◌, refl, codes, bytes_eq, Option, Some, None, is_some, option_map, Result, Ok, Err, sym, ap, subst, ◌∙◌}
+use Rattle.std.proofs.Common.{◌≡◌, ℕ, List, [], ◌∷◌, Bool, true, false, cond, ◌==◌, refl, codes, bytes_eq, Option, Some, None, is_some, option_map, Result, Ok, Err, sym, ap, subst, ◌∙◌}
 use Rattle.std.specs.List.{list_all}
 use Rattle.std.proofs.lemmas.Bool.{false≢true, true≢false, not-true, and_parts}
 use Rattle.std.proofs.lemmas.Slice.Eq.{bytes_eq-Decides}
@@ -19,7 +19,7 @@ Takes words = takes program words ≡ true
 -- ---- tests
 
 -- a text that is found to be another
-named : (name text : List ℕ) → bytes_eq name text ≡ true → text ≡ name
+pub named : (name text : List ℕ) → bytes_eq name text ≡ true → text ≡ name
 named name text e = sym ((bytes_eq-Decides name text).0 e)
 
 -- a word that may stand
@@ -28,7 +28,7 @@ word [] h = absurd (false≢true h)
 word (b ∷ t) h = not-true (b == 45) h
 
 -- no command is some command
-no_command : (P : Type 0) (c : Command) → None ≡ Some c → P
+pub no_command : (P : Type 0) (c : Command) → None ≡ Some c → P
 no_command P c e = absurd (false≢true (ap is_some e))
 
 -- what follows where a test holds, and where it does not and the other is some command

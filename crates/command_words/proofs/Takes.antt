@@ -1,5 +1,5 @@
 -- `clap` takes the words of each shape.
-use Rattle.std.proofs.Common.{◌≡◌, ℕ, List, [], ◌∷◌, true, false, refl, codes, Some, None, inl, inr, Bool, ◌&&◌, sym, ap, subst, ◌∙◌}
+use Rattle.std.proofs.Common.{◌≡◌, ℕ, List, [], ◌∷◌, true, false, refl, codes, Some, None, Bool, ◌&&◌, sym, ap, subst, ◌∙◌}
 use Rattle.std.specs.Bool.{◌==◌}
 use Rattle.clap.specs.Words.{Text, Row, Shape, takes}
 use Rattle.clap.specs.Walk.{Walk, walked, walk, finished, walk_from, nothing_held, idle, reading_by}
@@ -7,7 +7,6 @@ use Rattle.clap.specs.Takes.{turn_passes, walk_passes, settle_passes, default_pa
 use Rattle.std.specs.List.{list_all}
 use Rattle.clap.specs.Simple.{built_leaf, inherited, on_top, with_leaf_noted, marked_built}
 use Rattle.clap.specs.declared.parser.matches.ValueSource.TheVariants.{CommandLine}
-use Rattle.clap.specs.Faults.{is_simple_and_free}
 use Rattle.clap.proofs.OnLiterals.{clap_on_literals}
 use Rattle.command_words.specs.Program.{program, taking, word_rule}
 

@@ -1,5 +1,5 @@
 -- The program's command line.
-use Rattle.std.specs.Prelude.{◌≡◌, ◌==◌, ◌⊎◌, List, [], ◌∷◌, true, false, Some, codes}
+use Rattle.std.specs.Prelude.{List, [], ◌∷◌, true, Some, codes}
 use Rattle.clap.specs.Words.{Text, Rule, App, Shape, new_rule, new_app, with_rule, with_subcommand}
 use Rattle.clap.specs.Simple.{new_shape}
 use Rattle.clap.specs.declared.builder.action.ArgAction.TheVariants.{Set}

@@ -1,4 +1,4 @@
-use Rattle.std.proofs.Common.{◌∙◌, string_bytes}
+use Rattle.std.proofs.Common.{string_bytes}
 use Rattle.command_words.proofs.Counting.{five, between, above}
 use Rattle.command_words.proofs.shapes.by_number.Goals as goal
 
