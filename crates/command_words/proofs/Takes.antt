@@ -15,6 +15,8 @@ abbrev pub IsWord : Text → Type 0
 IsWord [] = ⊥
 IsWord (b ∷ t) = (b == 45) ≡ false
 
+-- ---- the commands of one word or two are taken
+
 pub takes-play : takes program (codes "play" ∷ []) ≡ true
 unfolding clap_on_literals
 takes-play = refl
@@ -73,6 +75,7 @@ w3 a b c = at 4 (given (codes "STORE") a ∷ given (codes "SMTP") b ∷ []) (cod
 abbrev w4 : Text → Text → Text → Text → Walk
 w4 a b c d = at 5 (given (codes "STORE") a ∷ given (codes "SMTP") b ∷ given (codes "IMAP") c ∷ []) (codes "HTTP") d
 
+-- a word, and the walk after it
 step-1 : (a : Text) → IsWord a → walked leaf.rules [] (walk_from nothing_held) a ≡ w1 a
 unfolding clap_on_literals
 step-1 [] h = absurd h
@@ -93,6 +96,7 @@ unfolding clap_on_literals
 step-4 a b c [] h = absurd h
 step-4 a b c (w ∷ d) h = simp h
 
+-- each of the four words passes
 turn-1 : (a : Text) → IsWord a → turn_passes leaf [] (walk_from nothing_held) a ≡ true
 unfolding clap_on_literals
 turn-1 [] h = absurd h
@@ -116,6 +120,7 @@ turn-4 a b c (w ∷ d) h = simp h
 both : (p q : Bool) → p ≡ true → q ≡ true → (p && q) ≡ true
 both p q e f = rw (e, f) refl
 
+-- the leaf passes words from a walk on
 abbrev Passes : List Text → Walk → Type 0
 Passes words w = walk_passes leaf [] w words ≡ true
 
@@ -127,6 +132,7 @@ passes a b c d h i j k =
     (both _ _ (turn-3 a b c j) (subst (Passes (d ∷ [])) (sym (step-3 a b c j))
     (both _ _ (turn-4 a b c d k) (subst (Passes []) (sym (step-4 a b c d k)) refl)))))))
 
+-- where the walk ends
 ends : (a b c d : Text) → IsWord a → IsWord b → IsWord c → IsWord d → walk leaf.rules [] nothing_held (a ∷ b ∷ c ∷ d ∷ []) ≡ w4 a b c d
 ends a b c d h i j k =
     let next : Text → Walk → Walk = λ t w. walked leaf.rules [] w t in
@@ -141,6 +147,7 @@ end_well a b c d = refl
 level : (a b c d : Text) → IsWord a → IsWord b → IsWord c → IsWord d → level_passes leaf [] nothing_held (a ∷ b ∷ c ∷ d ∷ []) false ≡ true
 level a b c d h i j k = both _ _ (passes a b c d h i j k) (subst EndsWell (sym (ends a b c d h i j k)) (end_well a b c d))
 
+-- `serve` with four words is taken
 pub takes-serve : (a b c d : Text) → IsWord a → IsWord b → IsWord c → IsWord d → takes program (codes "serve" ∷ a ∷ b ∷ c ∷ d ∷ []) ≡ true
 unfolding clap_on_literals
 takes-serve a b c d h i j k = both _ _ (level a b c d h i j k) refl

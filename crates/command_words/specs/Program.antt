@@ -1,4 +1,4 @@
--- The program's command line.
+-- The program as `clap` is told of it.
 use Rattle.std.specs.Prelude.{List, [], ◌∷◌, true, Some, codes}
 use Rattle.clap.specs.Words.{Text, Rule, App, Shape, new_rule, new_app, with_rule, with_subcommand}
 use Rattle.clap.specs.Simple.{new_shape}
@@ -13,6 +13,7 @@ abbrev pub with_words : App → List Text → App
 with_words a [] = a
 with_words a (id ∷ ids) = with_words (with_rule a (word_rule id)) ids
 
+-- such a command by its name
 abbrev pub taking : Text → List Text → Shape
 taking name ids = (with_words (new_app name) ids).top
 
@@ -27,6 +28,7 @@ bare_program = record (new_app (codes "undomail")) {
   };
 }
 
+-- the first three subcommands
 abbrev pub first_half : App
 first_half =
     with_subcommand (with_subcommand (with_subcommand bare_program
@@ -34,6 +36,7 @@ first_half =
     (taking (codes "serve") (codes "STORE" ∷ codes "SMTP" ∷ codes "IMAP" ∷ codes "HTTP" ∷ [])))
     (taking (codes "script") (codes "STORE" ∷ []))
 
+-- all six
 abbrev pub program : App
 program =
     with_subcommand (with_subcommand (with_subcommand first_half

@@ -1,5 +1,6 @@
 //! The program as `clap` is told of it.
-ghost use Rattle.std.specs.Prelude.{◌≡◌, ◌∷◌, [], Err, IfOk, codes, false, map, string_bytes};
+ghost use Rattle.std.specs.Prelude.{◌≡◌, ◌∷◌, [], Err, IfOk, IsErr, codes, false, map, string_bytes};
+ghost use Rattle.clap.specs.Faults.{fault_of};
 ghost use Rattle.clap.specs.Words.{app_of, shape_of, takes, with_rule, with_subcommand, new_app};
 ghost use Rattle.clap.specs.declared.error.kind.ErrorKind.TheVariants.{OutOfMemory};
 ghost use Rattle.clap.specs.declared.builder.command.Command.TheViews.{out-Command};
@@ -96,7 +97,8 @@ fn program<'a>(alloc: Global) -> Result<Command<'a>, AllocError>
 
 /// A refusal of `clap` for another cause than memory means that the words are of no stated shape.
 fn refused(kind: ErrorKind) -> Result<(), WordsRefused>
-    ensures { result ≡ Err Usage → ¬ (kind ≡ OutOfMemory) }
+    ensures refuses { IsErr result }
+    ensures usage { result ≡ Err Usage → ¬ (kind ≡ OutOfMemory) }
 {
     if kind == ErrorKind::OutOfMemory {
         Err(WordsRefused::NoMemory)
@@ -105,9 +107,10 @@ fn refused(kind: ErrorKind) -> Result<(), WordsRefused>
     }
 }
 
-/// Has `clap` read words; nothing is kept of what it finds.
+/// Has `clap` read words; nothing is kept of what it finds. It takes them only where it finds no fault in them.
 pub fn let_clap_read(alloc: Global, words: &[String]) -> Result<(), WordsRefused>
-    ensures { result ≡ Err Usage → takes spec.program (map string_bytes words.now) ≡ false }
+    ensures taken { IfOk result (λ nothing. fault_of spec.program (map string_bytes words.now) ≡ []) }
+    ensures usage { result ≡ Err Usage → takes spec.program (map string_bytes words.now) ≡ false }
 {
     let Ok(program) = program(alloc) else {
         return Err(WordsRefused::NoMemory);

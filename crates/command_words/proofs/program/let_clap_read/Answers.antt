@@ -4,8 +4,8 @@ use Rattle.clap.specs.Words.{App, takes}
 use Rattle.command_words.specs.Program.{program}
 use Rattle.command_words.proofs.program.let_clap_read.Goals as goal
 
-pub returns : goal.returns
-returns c = λ refused.
+pub returns-clause-usage : goal.returns-clause-usage
+returns-clause-usage c = λ refused.
     let words = map string_bytes c.args.words.now in
     false_from_ne_true (takes program words)
-    (λ taken. c.refused.ensures refused (c.kind.ensures ∙ c.in-Err.ensures.passes (ap (λ (a : App). takes a words) c.in-Ok.ensures ∙ taken)))
+    (λ taken. c.refused.ensures.usage refused (c.kind.ensures ∙ c.in-Err.ensures.passes (ap (λ (a : App). takes a words) c.in-Ok.ensures ∙ taken)))
