@@ -1,16 +1,13 @@
 -- What the bytes that were read say of an image.
-use Rattle.std.proofs.Common.{◌≡◌, inl, inr, Bool, true, false, ℕ, ◌+◌, ◌-◌, ◌<◌, ◌≤◌, ◌^◌, List, [], ◌∷◌, ◌++◌, length, take, drop, refl, sym, ◌∙◌, ap, subst, arith, append_assoc, length-append, length-drop, take-append-drop, length-take-le}
+use Rattle.std.proofs.Common.{◌≡◌, Bool, true, false, ℕ, ◌+◌, ◌-◌, ◌<◌, ◌≤◌, ◌^◌, List, [], ◌∷◌, ◌++◌, length, take, drop, refl, sym, ◌∙◌, ap, subst, arith, append_assoc, length-append, length-drop, take-append-drop, length-take-le}
 use Rattle.std.proofs.lemmas.List.{drop-drop, drop_at}
 use Rattle.std.proofs.lemmas.Nat.{from_be_bytes-to_be_bytes_4}
-use Rattle.std.specs.Prelude.{◌⊎◌}
 use Rattle.std.specs.List.{slice_range}
 use Rattle.std.specs.Int.{w32, to_be_bytes, from_be_bytes}
 use Rattle.std.specs.List.{AllByRecursion}
 use Rattle.seal_log.specs.declared.place.Place.{Place}
-use Rattle.undo_outside.specs.Disk.{DiskTold, Only}
-use Rattle.seal_log.specs.Journal.{frame, sealed, BeginsClosed, IsPayload, StandsFor}
-use Rattle.seal_log.specs.Loading.{BeginsCut, BeginsCutOrClosed, BeginsWhole, FindsPayloads, IsDamagedAt, IsNotFormatted, places_from}
-use Rattle.seal_log.specs.Loads.{Ends, IsLoaded, IsSurveyed}
+use Rattle.seal_log.specs.Journal.{frame, sealed, BeginsClosed, IsPayload}
+use Rattle.seal_log.specs.Loading.{BeginsCut, BeginsWhole, FindsPayloads, IsNotFormatted, places_from}
 use Rattle.seal_log.proofs.Frames.{all-push, length-frame, length-sealed-push, sealed-push}
 
 range_is : (image : List ℕ) (place count : ℕ) → slice_range image place (place + count) ≡ take count (drop place image)

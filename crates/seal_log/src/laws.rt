@@ -25,9 +25,6 @@ pub fn readings_agree()
 pub fn places_stay()
     ensures lie { (payloads : List (List ℕ)) (i : ℕ) (place : Place) → slice_get (places_from 0 payloads) i ≡ Some place
         → (payload : List ℕ) × (slice_get payloads i ≡ Some payload) × LiesAt payloads place.gate place.length payload }
-    ensures lie_behind { (before payloads : List (List ℕ)) (i : ℕ) (place : Place)
-        → slice_get (places_from (length (sealed before)) payloads) i ≡ Some place
-        → (payload : List ℕ) × (slice_get payloads i ≡ Some payload) × LiesAt (before ++ payloads) place.gate place.length payload }
     ensures stay { (payloads more : List (List ℕ)) (gate count : ℕ) (payload : List ℕ)
         → LiesAt payloads gate count payload → LiesAt (payloads ++ more) gate count payload }
 {}

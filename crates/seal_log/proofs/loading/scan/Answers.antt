@@ -1,7 +1,6 @@
 use Rattle.std.proofs.Common.{◌+◌, ◌<◌, ◌∙◌, ℕ, List, drop, sym, subst, arith}
 use Rattle.std.proofs.lemmas.Grind.{common_steps}
 use Rattle.undo_outside.proofs.Moments.{reads_joined}
-use Rattle.seal_log.specs.declared.seen.Found.{Found}
 use Rattle.seal_log.specs.Loading.{BeginsWhole, FindsFrame, IsFollowed}
 use Rattle.seal_log.proofs.Looks.{HasRead, read_more}
 use Rattle.seal_log.proofs.loading.scan.Given.{Over}
