@@ -1,3 +1,4 @@
+pub mod Beginnings
 pub mod Payloads
 pub mod Runs
-pub mod Standing
+pub mod Submits

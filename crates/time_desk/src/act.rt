@@ -12,6 +12,7 @@ ghost use Rattle.time_desk.specs.Lasting.{lasting};
 ghost use Rattle.time_desk.specs.Records.{act_item};
 ghost use Rattle.time_desk.specs.Sealing.{IsRecordOf, Seals};
 ghost use Rattle.time_desk.specs.Submitting.{ActsNone, IsActOutcomeOf};
+ghost use Rattle.time_desk.specs.declared.fault.ActFault.TheVariants as act_faults;
 
 use crate::seal::seal_ready;
 use crate::spelling::act_bytes;
@@ -34,6 +35,20 @@ fn item_of(number: u32, at: u64, act: Act) -> Item
         rev: 0,
         deed: Deed::Act(act),
         shown: Shown::Nothing,
+    }
+}
+
+/// The number of the next item, where one is left.
+fn next_number(desk: &mail_desk::Desk) -> Result<u32, ActFault>
+    ensures ok { IfOk result (λ number. (number ≡ desk.now.kept.next) × (number < 4194304)) }
+    ensures err { IfErr result (λ fault. (fault ≡ act_faults.Numbers desk.now.kept.next) × (desk.now.kept.next ≡ 4194304)) }
+{
+    desk.stands();
+    let next = desk.next();
+    if next <= LAST_NUMBER {
+        Ok(next)
+    } else {
+        Err(ActFault::Numbers { next })
     }
 }
 
@@ -72,7 +87,7 @@ fn fault_of(fault: SealFault) -> ActFault
 }
 
 /// Does an act for which a number is left.
-fn do_act<D: Disk>(
+fn act_numbered<D: Disk>(
     alloc: Global,
     log: &mut Log,
     disk: &mut D,
@@ -100,6 +115,35 @@ fn do_act<D: Disk>(
     }
 }
 
+/// Does an act on a desk that is not closed.
+fn act_open<D: Disk>(
+    alloc: Global,
+    log: &mut Log,
+    disk: &mut D,
+    desk: &mut mail_desk::Desk,
+    at: u64,
+    act: Act,
+) -> Result<u32, ActFault>
+    requires end { last_gate log.old < (D.told disk.old).size }
+    requires open { log.old.closed ≡ false }
+    requires known { IsTrue (list_all (is_known desk.old.kept.house) (users_in (Acts act))) }
+    ensures number { IfOk result (λ number. number ≡ desk.old.kept.next) }
+    ensures ok { OnOk result (Seals D.told (Operator desk.old.kept.next at act ∷ []) [] (lasting desk.old disk.old log.old) (lasting desk.new disk.new log.new)) }
+    ensures performed { OnOk result (desk.new.kept ≡ performed desk.old.kept (act_item desk.old.kept.next at act)) }
+    ensures err { IfErr result (λ fault. ActsNone D.told at act (lasting desk.old disk.old log.old) (lasting desk.new disk.new log.new) fault) }
+    ensures same { OnErr result (desk.new.kept ≡ desk.old.kept) }
+    ensures not_closed { IsErrOf result ActFault.Closed → ⊥ }
+    ensures within { last_gate log.new < (D.told disk.new).size }
+{
+    match next_number(desk) {
+        Ok(number) => match act_numbered(alloc, log, disk, desk, at, act) {
+            Ok(()) => Ok(number),
+            Err(fault) => Err(fault),
+        },
+        Err(fault) => Err(fault),
+    }
+}
+
 impl<D: Disk> Desk<D> {
     /// Does an act at a moment, and answers the number of its item. Each answer leaves what it leaves of `submit`.
     pub fn act(&mut self, alloc: Global, at: u64, act: Act) -> Result<u32, ActFault>
@@ -114,13 +158,13 @@ impl<D: Disk> Desk<D> {
         if self.log.is_closed() {
             return Err(ActFault::Closed);
         }
-        let next = self.desk.next();
-        if next > LAST_NUMBER {
-            return Err(ActFault::Numbers { next });
-        }
-        match do_act(alloc, &mut self.log, &mut self.disk, &mut self.desk, at, act) {
-            Ok(()) => Ok(next),
-            Err(fault) => Err(fault),
-        }
+        act_open(
+            alloc,
+            &mut self.log,
+            &mut self.disk,
+            &mut self.desk,
+            at,
+            act,
+        )
     }
 }

@@ -122,6 +122,34 @@ fn seal_found<D: Disk>(
     }
 }
 
+/// Asks for something of a desk that is not closed.
+fn submit_open<D: Disk>(
+    alloc: Global,
+    log: &mut Log,
+    disk: &mut D,
+    desk: &mut mail_desk::Desk,
+    at: u64,
+    by: Option<User>,
+    ask: Ask,
+) -> Result<Item, SubmitFault>
+    requires by { IsSome by ↔ IsTrue (is_users ask) }
+    requires known { IsTrue (list_all (is_known desk.old.kept.house) (cons_option by [])) }
+    requires end { last_gate log.old < (D.told disk.old).size }
+    requires open { log.old.closed ≡ false }
+    ensures ok { IfOk result (λ item. submitted desk.old.kept at by ask ≡ record { outcome = Ok item; kept = desk.new.kept }) }
+    ensures sealed { IfOk result (λ item. Seals D.told (Verb item ∷ []) [] (lasting desk.old disk.old log.old) (lasting desk.new disk.new log.new)) }
+    ensures err { OnErr result (desk.new.kept ≡ desk.old.kept) }
+    ensures why { IfErr result (λ fault. SubmitsNone D.told (live (store_of desk.old.kept) desk.old.kept.next at by ask)
+        (lasting desk.old disk.old log.old) (lasting desk.new disk.new log.new) fault) }
+    ensures not_closed { IsErrOf result SubmitFault.Closed → ⊥ }
+    ensures within { last_gate log.new < (D.told disk.new).size }
+{
+    match find(alloc, desk, at, by, ask) {
+        Ok(found) => seal_found(alloc, log, disk, desk, found),
+        Err(refused) => Err(SubmitFault::Refused(refused)),
+    }
+}
+
 impl<D: Disk> Desk<D> {
     /// Asks for something at a moment. At `Ok` the item is sealed and performed. At `Disk` the desk is closed from then on,
     /// and the item may be in the journal or not; what is kept is as before.
@@ -143,9 +171,14 @@ impl<D: Disk> Desk<D> {
         if self.log.is_closed() {
             return Err(SubmitFault::Closed);
         }
-        match find(alloc, &mut self.desk, at, by, ask) {
-            Ok(found) => seal_found(alloc, &mut self.log, &mut self.disk, &mut self.desk, found),
-            Err(refused) => Err(SubmitFault::Refused(refused)),
-        }
+        submit_open(
+            alloc,
+            &mut self.log,
+            &mut self.disk,
+            &mut self.desk,
+            at,
+            by,
+            ask,
+        )
     }
 }
