@@ -5,4 +5,3 @@ pub mod Effects
 pub mod Stampings
 pub mod Going
 pub mod Readied
-pub mod Counts

@@ -3,5 +3,4 @@ pub mod Timeline
 pub mod Desk
 pub mod Held
 pub mod Entering
-pub mod Counting
 pub mod Stamping
