@@ -3,3 +3,4 @@ pub mod Each
 pub mod Listed
 pub mod Sound
 pub mod Played
+pub mod Beginnings

@@ -1,6 +1,6 @@
 -- The houses and opening configurations that a text can give.
-use Rattle.std.specs.Prelude.{ℕ, Bool, ◌&&◌, not, true, List, [], ◌∷◌, map, nat_le, nat_lt}
-use Rattle.std.specs.List.{list_all}
+use Rattle.std.specs.Prelude.{ℕ, Bool, ◌&&◌, not, true, List, [], ◌∷◌, map, nat_le, nat_lt, bytes_eq}
+use Rattle.std.specs.List.{list_all, list_any}
 use Rattle.std.specs.Cmp.Lexicographic.{slice_cmp}
 use Rattle.std.specs.Ordering.{nat_cmp, is_lt}
 use Rattle.undo_base.specs.declared.keys.User.{User}
@@ -33,6 +33,11 @@ is_account a = is_user_name a.name && is_password a.password
 -- users, no two of one name
 abbrev pub are_accounts : List Account → Bool
 are_accounts accounts = list_all is_account accounts && are_distinct (map (λ a. a.name) accounts)
+
+-- the same, told user by user
+abbrev pub have_own_names : List Account → Bool
+have_own_names [] = true
+have_own_names (a ∷ as_) = not (list_any (λ b. bytes_eq a.name b.name) as_) && have_own_names as_
 
 -- ---- the aliases
 

@@ -7,10 +7,12 @@
 //! nothing has changed and the refusal is the due one or want of memory; `Desk::enter` takes no memory.
 #![tactic(auto)]
 
+mod counts;
 mod desk;
 mod ready;
 mod stamps;
 mod texts;
 
+pub use counts::Counts;
 pub use desk::Desk;
 pub use ready::Ready;

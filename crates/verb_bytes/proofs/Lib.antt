@@ -7,3 +7,4 @@ pub mod RangeLaws
 pub mod Puts
 pub mod TimesLoop
 pub mod Cases
+pub mod Forms
