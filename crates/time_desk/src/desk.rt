@@ -8,17 +8,21 @@ ghost use Rattle.verb_core.specs.Boxes.{box_of, row_at};
 ghost use Rattle.verb_core.specs.Items.{IsTimeline, text_of};
 ghost use Rattle.verb_core.specs.Store.{IsValid, is_house};
 ghost use Rattle.shelf.specs.Notes.{size_of};
+ghost use Rattle.store_digest.specs.Snapshots.{digest_of};
+ghost use Rattle.mail_desk.specs.Counting.{counts_of, listed};
 ghost use Rattle.mail_desk.specs.Desk.{store_of};
 ghost use Rattle.mail_desk.specs.Timeline.{all_bodies, has_sizes, has_text, numbers_rise, rev_of, texts_of};
 
 use box_store::Store;
+use mail_desk::Counts;
 use seal_log::Log;
 use shelf::Shelf;
 use std::alloc::Global;
 use std::marker::Model;
+use store_digest::digest;
 use undo_base::{Name, NoMemory, Text, Texts, User};
 use undo_outside::Disk;
-use verb_core::{Body, Conf, House, Stamps};
+use verb_core::{Body, Conf, House, Items, Stamps};
 
 /// A desk in memory, the disk that its journal lies on, and the end of that journal.
 #[derive(Drop)]
@@ -107,6 +111,28 @@ impl<D: Disk> Desk<D> {
         ensures { result ≡ self.now.kept.next }
     {
         self.desk.next()
+    }
+
+    /// The counts, with no memory taken.
+    pub fn counts(&self) -> Counts
+        ensures { result ≡ counts_of self.now.kept }
+    {
+        self.desk.counts()
+    }
+
+    /// At most a thousand items from a place on (0 is the first), without their texts.
+    pub fn timeline(&self, alloc: Global, from: u32) -> Result<Items, NoMemory>
+        ensures { IfOk result (λ items. items ≡ listed self.now.kept.timeline from) }
+    {
+        self.desk.timeline(alloc, from)
+    }
+
+    /// The digest of the store, of 64 digits.
+    pub fn digest(&self, alloc: Global) -> Result<Text, NoMemory>
+        ensures { IfOk result (λ text. text ≡ digest_of (store_of self.now.kept) (length self.now.kept.timeline)) }
+    {
+        let items = self.desk.counts().items;
+        digest(alloc, self.desk.store(), items)
     }
 
     /// The text of a body.
