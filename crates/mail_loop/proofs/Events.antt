@@ -6,11 +6,12 @@ use Rattle.std.specs.BTreeMap.{is_at}
 use Rattle.undo_base.specs.declared.memory.NoMemory.{NoMemory as WantOfMemory}
 use Rattle.undo_outside.specs.declared.event.Event.{Event}
 use Rattle.undo_outside.specs.Calls.{LinkTold}
+use Rattle.mail_loop.specs.declared.letters.Letter.{Letter}
 use Rattle.mail_loop.specs.declared.reply.Reply.{Reply as CodeReply}
 use Rattle.mail_desk.specs.Kept.{Kept}
 use Rattle.mail_loop.specs.State.{Seat, State}
 use Rattle.mail_loop.specs.Hindrance.{Hindrance}
-use Rattle.mail_loop.specs.Machine.{Seats, Delivery, Hindrances, Reply, Answered, answered, hears, hears_at, seat_at, seated, after_reply, delivered, happens}
+use Rattle.mail_loop.specs.Machine.{Seats, Delivery, closed_others, with_reply, Hindrances, Reply, Answered, answered, hears, hears_at, seat_at, seated, after_reply, delivered, happens}
 use Rattle.mail_loop.specs.Stands.{reply_of, replies_of}
 use Rattle.mail_loop.specs.Took.{seat_left, answered_alone}
 use Rattle.mail_loop.specs.Did.{AreLicensed, Sends, Leads, Answers}
@@ -18,7 +19,7 @@ use Rattle.mail_loop.proofs.Links.{goes_none, none_licensed}
 use Rattle.mail_loop.proofs.Seats.{remove_set}
 
 -- bytes for a connection that is not open
-pub bytes_ignored : (conn at : ℕ) (kept : Kept) (es es' : Seats) (bytes : List ℕ) (items : List CodeReply)
+pub bytes_ignored : (conn at : ℕ) (kept : Kept) (es es' : Seats) (bytes : List ℕ) (items : List Letter)
     → None ≡ lookup (is_at (nat_cmp conn)) es → es' ≡ es → items ≡ []
     → (b : Bool) × (hs : List Hindrance) × ((kept ≡ (hears_at (seat_at conn es) b hs at (record { kept = kept; seats = es }) conn bytes).state.kept)
     × (es' ≡ (hears_at (seat_at conn es) b hs at (record { kept = kept; seats = es }) conn bytes).state.seats)
@@ -48,7 +49,7 @@ pub bytes_heard : {T : Type 0} → (conn at : ℕ) (kept kept' : Kept) (es lent 
     → es' ≡ after_reply (not reply.closes) conn lent
     → ((seats : Seats) → (b : Bool) × (hs : List Hindrance) × (hears b hs at (record { kept = kept; seats = seats }) conn s bytes
     ≡ answered_alone conn reply kept' s' seats))
-    → IfOk result (λ replies. view replies ≡ reply_of reply ∷ [])
+    → IfOk result (λ replies. view replies ≡ with_reply (reply_of reply) (closed_others conn reply.changed es'))
     → (b : Bool) × (hs : List Hindrance)
     × Answers (hears_at (seat_at conn es) b hs at (record { kept = kept; seats = es }) conn bytes) kept' es' view result
 bytes_heard {T} conn at kept kept' es lent es' s s' bytes reply view result present wrote stays heard alone =
@@ -59,9 +60,12 @@ bytes_heard {T} conn at kept kept' es lent es' s s' bytes reply view result pres
       subst (λ (a : Answered). Answers a kept' es' view result) (sym whole) (by_result result alone),
     )
   where
-    by_result : (r : Result T WantOfMemory) → IfOk r (λ replies. view replies ≡ reply_of reply ∷ [])
+    left_is : es' ≡ seated conn (seat_left reply.closes s') es
+    left_is = seats_after conn es lent es' s' reply.closes wrote stays
+
+    by_result : (r : Result T WantOfMemory) → IfOk r (λ replies. view replies ≡ with_reply (reply_of reply) (closed_others conn reply.changed es'))
         → Answers (answered_alone conn reply kept' s' es) kept' es' view r
-    by_result (Ok replies) one = (refl, seats_after conn es lent es' s' reply.closes wrote stays, one)
+    by_result (Ok replies) those = (refl, left_is, those ∙ ap (λ (l : Seats). with_reply (reply_of reply) (closed_others conn reply.changed l)) left_is)
     by_result (Err w) one = refl
 
 -- memory was wanted before a string was sent

@@ -8,3 +8,4 @@ pub mod Stretch
 pub mod Seats
 pub mod Events
 pub mod Runs
+pub mod Placing

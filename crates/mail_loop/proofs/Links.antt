@@ -132,13 +132,13 @@ did_more all more old mid new (Err e) g d = record {
 }
 
 -- no reply is to be sent
-pub sends_none : (told : LinkTold) (seats seats' : Seats) → seats' ≡ seats
+sends_none : (told : LinkTold) (seats seats' : Seats) → seats' ≡ seats
     → (ds : List Delivery) × AreLicensed ds told told × Sends (delivered ds seats []) told told seats' (Ok tt)
 sends_none told seats seats' same =
     ([], none_licensed told told refl, record { did = record { notes = []; goes = goes_none told; whole = refl }; seats_are = same })
 
 -- a reply went out, and then the others
-pub sends_more : (old mid new : LinkTold) (seats seats1 seats2 : Seats) (r : Reply) (rs : List Reply) (stays : Bool) (result : Result (Unit {0}) WantOfMemory)
+sends_more : (old mid new : LinkTold) (seats seats1 seats2 : Seats) (r : Reply) (rs : List Reply) (stays : Bool) (result : Result (Unit {0}) WantOfMemory)
     → Replied old mid r (Ok stays) → seats1 ≡ after_reply stays r.conn seats
     → (ds : List Delivery) × AreLicensed ds mid new × Sends (delivered ds seats1 rs) mid new seats2 result
     → (ds : List Delivery) × AreLicensed ds old new × Sends (delivered ds seats (r ∷ rs)) old new seats2 result
@@ -154,7 +154,7 @@ sends_more old mid new seats seats1 seats2 r rs stays result (d, licensed, is, g
     )
 
 -- a reply's close found no memory
-pub sends_stopped : (old new : LinkTold) (seats seats2 : Seats) (r : Reply) (rs : List Reply) (w v : WantOfMemory) (result : Result (Unit {0}) WantOfMemory) → result ≡ Err v
+sends_stopped : (old new : LinkTold) (seats seats2 : Seats) (r : Reply) (rs : List Reply) (w v : WantOfMemory) (result : Result (Unit {0}) WantOfMemory) → result ≡ Err v
     → Replied old new r (Err w)
     → (ds : List Delivery) × AreLicensed ds old new × Sends (delivered ds seats (r ∷ rs)) old new seats2 result
 sends_stopped old new seats seats2 r rs w v result failed (d, licensed, more, notes, e, goes) =
@@ -167,3 +167,32 @@ sends_stopped old new seats seats2 r rs w v result failed (d, licensed, more, no
             seats_are = tt;
           }),
     )
+
+-- ---- replies in a loop
+
+-- the strings of these replies went out, or as far as memory was found
+abbrev pub SendsAll : List Reply → Seats → LinkTold → LinkTold → Seats → Result (Unit {0}) WantOfMemory → Type 0
+SendsAll rs seats old new seats' result = (ds : List Delivery) × AreLicensed ds old new × Sends (delivered ds seats rs) old new seats' result
+
+-- what the replies that are left lead to from now on is what all lead to
+abbrev pub SendsOn : LinkTold → LinkTold → Seats → Seats → List Reply → List Reply → Type 0
+SendsOn old mid seats seats1 left all =
+    (new : LinkTold) (seats' : Seats) (result : Result (Unit {0}) WantOfMemory) → SendsAll left seats1 mid new seats' result → SendsAll all seats old new seats' result
+
+-- one reply more went out
+pub sends_on_more : (old mid mid' : LinkTold) (seats seats1 seats2 : Seats) (r : Reply) (left rs all : List Reply) (stays : Bool) → left ≡ r ∷ rs
+    → Replied mid mid' r (Ok stays) → seats2 ≡ after_reply stays r.conn seats1
+    → SendsOn old mid seats seats1 left all → SendsOn old mid' seats seats2 rs all
+sends_on_more old mid mid' seats seats1 seats2 r left rs all stays is replied kept before new seats' result s =
+    before new seats' result (subst (λ (l : List Reply). SendsAll l seats1 mid new seats' result) (sym is) (sends_more mid mid' new seats1 seats2 seats' r rs stays result replied kept s))
+
+-- all went out
+pub sends_on_all : (old mid : LinkTold) (seats seats1 : Seats) (left all : List Reply) → left ≡ [] → SendsOn old mid seats seats1 left all → SendsAll all seats old mid seats1 (Ok tt)
+sends_on_all old mid seats seats1 left all none before =
+    before mid seats1 (Ok tt) (subst (λ (l : List Reply). SendsAll l seats1 mid mid seats1 (Ok tt)) (sym none) (sends_none mid seats1 seats1 refl))
+
+-- the close of the next found no memory
+pub sends_on_stopped : (old mid new : LinkTold) (seats seats1 seats' : Seats) (r : Reply) (left rs all : List Reply) (w v : WantOfMemory) (result : Result (Unit {0}) WantOfMemory) → left ≡ r ∷ rs
+    → result ≡ Err v → Replied mid new r (Err w) → SendsOn old mid seats seats1 left all → SendsAll all seats old new seats' result
+sends_on_stopped old mid new seats seats1 seats' r left rs all w v result is failed replied before =
+    before new seats' result (subst (λ (l : List Reply). SendsAll l seats1 mid new seats' result) (sym is) (sends_stopped mid new seats1 seats' r rs w v result failed replied))

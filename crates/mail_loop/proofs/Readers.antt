@@ -1,4 +1,5 @@
 -- Turns of a mail reader: what its session gives, and what is asked of the desk.
+use Rattle.std.proofs.lemmas.List.{append-nil}
 use Rattle.std.proofs.Common.{◌≡◌, ◌⊎◌, ℕ, Bool, [], true, false, List, ◌++◌, None, Some, Option, Result, Ok, Err, IfOk, OnErr, IfErr, refl, ap, subst, sym, ◌∙◌, inl, inr}
 use Rattle.undo_base.specs.declared.memory.NoMemory.{NoMemory as WantOfMemory}
 use Rattle.undo_base.specs.declared.keys.User.{User}
@@ -11,6 +12,7 @@ use Rattle.verb_core.specs.declared.ask.SubmitFault.TheVariants.{Refused as IsRe
 use Rattle.verb_core.specs.declared.conf.House.{House}
 use Rattle.verb_core.specs.declared.item.Item.{Item}
 use Rattle.verb_core.specs.declared.mailbox.Body.{Body}
+use Rattle.verb_core.specs.declared.mailbox.BoxId.{BoxId}
 use Rattle.verb_core.specs.Live.{live}
 use Rattle.verb_core.specs.Store.{MailStore}
 use Rattle.imap_lines.specs.Command.{Reading, command_of}
@@ -31,11 +33,11 @@ use Rattle.mail_desk.specs.Desk.{Submitted, IsFaultOf, store_of, submitted, subm
 use Rattle.mail_desk.specs.Timeline.{texts_of}
 use Rattle.mail_loop.specs.declared.reply.Reply.{Reply}
 use Rattle.mail_loop.specs.Dialog.{Turn, says, ends}
-use Rattle.mail_loop.specs.Hindrance.{Hindrance, Clear, Refused as IsToldWant, Unread, Unstored, Unheard, Unanswered}
-use Rattle.mail_loop.specs.Reader.{Service, service, followed, settled, settled_as, size_in, submits}
+use Rattle.mail_loop.specs.Hindrance.{Hindrance, Clear, Refused as IsToldWant, Unread, Unstored, Unheard, Unanswered, unanswered}
+use Rattle.mail_loop.specs.Reader.{Service, changing, done, service, followed, settled, settled_as, size_in, submits, taken_by}
 use Rattle.mail_loop.specs.ReaderHindrance.{imap_hindered, memory_told, without_items, without_texts}
 use Rattle.mail_loop.specs.Took.{Adds, Takes}
-use Rattle.mail_loop.specs.Read.{IsAnswered, IsReaderTold, ReadsNone, Settles, SettlesAgain, obeyed, obeyed_under, under}
+use Rattle.mail_loop.specs.Read.{IsAnswered, IsReaderTold, ReadsNone, Settles, SettlesAgain, obeyed, obeyed_under, under, where_done}
 use Rattle.mail_loop.proofs.Commands.{IsOnlySaid, heard_not}
 use Rattle.mail_loop.proofs.Refusals.{due_or_starved}
 use Rattle.mail_loop.proofs.Turns.{closed, told_last, told_nothing, told_whole}
@@ -59,7 +61,7 @@ out_told (Submit ask) kept d old new stays is = inl (told_nothing kept d old new
 pub said_turn : (said text : List ℕ) (kept : Kept) (d : Dialog) (old new : Reply) (f : Hindrance → Turn Dialog)
     → text ≡ said → f Clear ≡ says said kept d → f Unheard ≡ ends [] kept → Adds text false old new → (h : Hindrance) × Takes (f h) old kept d new
 said_turn said text kept d old new f same clear lost (inl e) =
-    (Clear, subst (λ (t : Turn Dialog). Takes t old kept d new) (sym clear) (told_whole said kept d old new (e ∙ ap (λ (s : List ℕ). record { conn = old.conn; said = old.said ++ s; closes = false }) same)))
+    (Clear, subst (λ (t : Turn Dialog). Takes t old kept d new) (sym clear) (told_whole said kept d old new (e ∙ ap (λ (s : List ℕ). record old { said = old.said ++ s; closes = false }) same)))
 said_turn said text kept d old new f same clear lost (inr e) =
     (Unheard, subst (λ (t : Turn Dialog). Takes t old kept d new) (sym lost) (closed kept kept d old new refl e))
 
@@ -71,7 +73,7 @@ answered_turn said (Ok text) kept d d' old new f h same clear lost (stays, inl e
   h,
   subst (λ (t : Turn Dialog). Takes t old kept d' new) (sym clear)
       (subst (λ (g : Dialog). Takes (says said kept d) old kept g new) (sym stays)
-      (told_whole said kept d old new (e ∙ ap (λ (s : List ℕ). record { conn = old.conn; said = old.said ++ s; closes = false }) same))),
+      (told_whole said kept d old new (e ∙ ap (λ (s : List ℕ). record old { said = old.said ++ s; closes = false }) same))),
 )
 answered_turn said (Ok text) kept d d' old new f h same clear lost (stays, inr e) =
     (Unheard, subst (λ (t : Turn Dialog). Takes t old kept d' new) (sym lost) (closed kept kept d' old new refl e))
@@ -127,37 +129,68 @@ house_stays kept kept' at by ask (Ok item) ok err =
     sym (ap (λ (s : Submitted). s.kept.house) ok) ∙ house_as kept (live (store_of kept) kept.next at by ask)
 house_stays kept kept' at by ask (Err fault) ok err = ap (λ (k : Kept). k.house) err
 
+none_told : (out : ImapOut) (kept : Kept) (d : Dialog) → (settled_as out kept d).changed ≡ []
+none_told (Say said) kept d = refl
+none_told (Bye said) kept d = refl
+none_told (Read bodies) kept d = refl
+none_told (Submit ask) kept d = refl
+
+none_changed : (d : Dialog) (s : Submitted) → (settled d s).changed ≡ []
+none_changed d s =
+    let t = session.settle (store_of s.kept) s.kept.stamps d s.outcome in
+    none_told t.out s.kept t.dialog
+
+-- the mailboxes were noted before
+noted : (t : Turn Dialog) (ids : List BoxId) (old old' : Reply) (kept : Kept) (e : Dialog) (new : Reply) → old' ≡ record old { changed = old.changed ++ ids } → t.changed ≡ []
+    → Takes t old' kept e new → Takes (record t { changed = ids }) old kept e new
+noted t ids old old' kept e new is none takes = record {
+  conn = takes.conn ∙ ap (λ (r : Reply). r.conn) is;
+  said = takes.said ∙ ap (λ (r : Reply). r.said ++ t.said) is;
+  kept_is = takes.kept_is;
+  dialog_is = takes.dialog_is;
+  changed = takes.changed ∙ ap (λ (l : List BoxId). old'.changed ++ l) none ∙ append-nil old'.changed ∙ ap (λ (r : Reply). r.changed) is;
+}
+
 -- what is asked of the desk is a turn, hindered or not
-pub asked_turn : (at : ℕ) (kept kept' : Kept) (ask : Ask) (d e : Dialog) (outcome : Result Item SubmitFault) (old new : Reply)
+pub asked_turn : (at : ℕ) (kept kept' : Kept) (ask : Ask) (d e : Dialog) (outcome : Result Item SubmitFault) (old old' new : Reply)
+    → old' ≡ record old { changed = old.changed ++ where_done outcome (taken_by d.user ask) }
     → IfOk outcome (λ item. submitted kept at d.user ask ≡ record { outcome = Ok item; kept = kept' })
     → OnErr outcome (kept' ≡ kept)
     → IfErr outcome (λ fault. IsFaultOf fault (live (store_of kept) kept.next at d.user ask))
-    → Settles outcome kept' d old e new
-    → (h : Hindrance) × Takes (under h at kept (λ desk. settled d (desk.asked d.user ask))) old kept' e new
-asked_turn at kept kept' ask d e (Ok item) old new ok err due (inl t) =
-    (Clear, subst (λ (s : Submitted). Takes (settled d s) old kept' e new) (sym ok) t)
-asked_turn at kept kept' ask d e (Ok item) old new ok err due (inr (inl t)) =
-    let same : kept' ≡ (settled d (submitted kept at d.user ask)).kept = sym (kept_settled d (submitted kept at d.user ask) ∙ ap (λ (s : Submitted). s.kept) ok) in
-    (Unanswered, subst (λ (k : Kept). Takes (ends [] k) old kept' e new) same t)
-asked_turn at kept kept' ask d e (Ok item) old new ok err due (inr (inr t)) = absurd (let wrong : false ≡ true = t.0 in cc)
-asked_turn at kept kept' ask d e (Err Disk) old new ok err due s = absurd due
-asked_turn at kept kept' ask d e (Err Closed) old new ok err due s = absurd due
-asked_turn at kept kept' ask d e (Err (IsRefused why)) old new ok err due s = by_way s
+    → Settles outcome kept' d old' e new
+    → (h : Hindrance) × Takes (under h at kept (λ desk. done d ask (desk.asked d.user ask))) old kept' e new
+asked_turn at kept kept' ask d e (Ok item) old old' new is ok err due (inl t) =
+    let s : Submitted = record { outcome = Ok item; kept = kept' } in
+    (Clear, subst (λ (s : Submitted). Takes (done d ask s) old kept' e new) (sym ok) (noted (settled d s) (taken_by d.user ask) old old' kept' e new is (none_changed d s) t))
+asked_turn at kept kept' ask d e (Ok item) old old' new is ok err due (inr (inl t)) =
+    let s : Submitted = record { outcome = Ok item; kept = kept' } in
+    let ids = taken_by d.user ask in (
+      Unanswered,
+      subst (λ (s : Submitted). Takes (unanswered (done d ask s)) old kept' e new) (sym ok)
+          (subst (λ (k : Kept). Takes (record { said = []; kept = k; dialog = None; changed = ids }) old kept' e new) (sym (kept_settled d s))
+          (noted (ends [] kept') ids old old' kept' e new is refl t)),
+    )
+asked_turn at kept kept' ask d e (Ok item) old old' new is ok err due (inr (inr t)) = absurd (let wrong : false ≡ true = t.0 in cc)
+asked_turn at kept kept' ask d e (Err Disk) old old' new is ok err due s = absurd due
+asked_turn at kept kept' ask d e (Err Closed) old old' new is ok err due s = absurd due
+asked_turn at kept kept' ask d e (Err (IsRefused why)) old old' new is ok err due s =
+    by_way (subst (λ (r : Reply). Settles (Err (IsRefused why)) kept' d r e new)
+    (is ∙ ap (λ (ids : List BoxId). record old { changed = ids }) (append-nil old.changed)) s)
   where
     starved : Takes (settled d (record { outcome = Err (IsRefused NoMemory); kept = kept' })) old kept' e new
-        → (h : Hindrance) × Takes (under h at kept (λ desk. settled d (desk.asked d.user ask))) old kept' e new
+        → (h : Hindrance) × Takes (under h at kept (λ desk. done d ask (desk.asked d.user ask))) old kept' e new
     starved t = (Unstored, subst (λ (k : Kept). Takes (settled d (record { outcome = Err (IsRefused NoMemory); kept = k })) old kept' e new) err t)
 
     by_cause : (why ≡ NoMemory) ⊎ (live (store_of kept) kept.next at d.user ask ≡ Err why) → Takes (settled d (record { outcome = Err (IsRefused why); kept = kept' })) old kept' e new
-        → (h : Hindrance) × Takes (under h at kept (λ desk. settled d (desk.asked d.user ask))) old kept' e new
+        → (h : Hindrance) × Takes (under h at kept (λ desk. done d ask (desk.asked d.user ask))) old kept' e new
     by_cause (inl is) t = starved (subst (λ (r : Refused). Takes (settled d (record { outcome = Err (IsRefused r); kept = kept' })) old kept' e new) is t)
     by_cause (inr is) t = (
       Clear,
-      subst (λ (r : Result Item Refused). Takes (settled d (submitted_as kept r)) old kept' e new) (sym is)
+      subst (λ (r : Result Item Refused). Takes (done d ask (submitted_as kept r)) old kept' e new) (sym is)
           (subst (λ (k : Kept). Takes (settled d (record { outcome = Err (IsRefused why); kept = k })) old kept' e new) err t),
     )
 
-    by_way : Settles (Err (IsRefused why)) kept' d old e new → (h : Hindrance) × Takes (under h at kept (λ desk. settled d (desk.asked d.user ask))) old kept' e new
+    by_way : Settles (Err (IsRefused why)) kept' d old e new → (h : Hindrance) × Takes (under h at kept (λ desk. done d ask (desk.asked d.user ask))) old kept' e new
     by_way (inl t) = by_cause (due_or_starved why (live (store_of kept) kept.next at d.user ask) due) t
     by_way (inr (inl t)) = (Unheard, subst (λ (k : Kept). Takes (ends [] k) old kept' e new) err t)
     by_way (inr (inr t)) = starved t.1
@@ -168,20 +201,20 @@ asked_turn at kept kept' ask d e (Err (IsRefused why)) old new ok err due s = by
 pub bye_turn : (said text : List ℕ) (kept : Kept) (d : Dialog) (old new : Reply) (f : Hindrance → Turn Dialog)
     → text ≡ said → f Clear ≡ ends said kept → f Unheard ≡ ends [] kept → Adds text true old new → (h : Hindrance) × Takes (f h) old kept d new
 bye_turn said text kept d old new f same clear lost (inl e) =
-    (Clear, subst (λ (t : Turn Dialog). Takes t old kept d new) (sym clear) (told_last said kept d old new (e ∙ ap (λ (s : List ℕ). record { conn = old.conn; said = old.said ++ s; closes = true }) same)))
+    (Clear, subst (λ (t : Turn Dialog). Takes t old kept d new) (sym clear) (told_last said kept d old new (e ∙ ap (λ (s : List ℕ). record old { said = old.said ++ s; closes = true }) same)))
 bye_turn said text kept d old new f same clear lost (inr e) =
     (Unheard, subst (λ (t : Turn Dialog). Takes t old kept d new) (sym lost) (closed kept kept d old new refl e))
 
 -- an ask of a command that has its texts
 pub submits_turn : (at : ℕ) (kept kept' : Kept) (out : ImapOut) (ask : Ask) (d e : Dialog) (old new : Reply) → out ≡ Submit ask
-    → (h : Hindrance) × Takes (under h at kept (λ desk. settled d (desk.asked d.user ask))) old kept' e new
+    → (h : Hindrance) × Takes (under h at kept (λ desk. done d ask (desk.asked d.user ask))) old kept' e new
     → (h : Hindrance) × Takes (under h at kept (λ desk. submits desk kept out d)) old kept' e new
 submits_turn at kept kept' out ask d e old new is t =
     subst (λ (o : ImapOut). (h : Hindrance) × Takes (under h at kept (λ desk. submits desk kept o d)) old kept' e new) (sym is) t
 
 -- what comes of a command that wants no texts
 pub followed_turn : (at : ℕ) (kept kept' : Kept) (out : ImapOut) (ask : Ask) (d e : Dialog) (old new : Reply) → out ≡ Submit ask
-    → (h : Hindrance) × Takes (under h at kept (λ desk. settled d (desk.asked d.user ask))) old kept' e new
+    → (h : Hindrance) × Takes (under h at kept (λ desk. done d ask (desk.asked d.user ask))) old kept' e new
     → (h : Hindrance) × Takes (under h at kept (λ desk. followed desk kept out d)) old kept' e new
 followed_turn at kept kept' out ask d e old new is t =
     subst (λ (o : ImapOut). (h : Hindrance) × Takes (under h at kept (λ desk. followed desk kept o d)) old kept' e new) (sym is) t
@@ -210,7 +243,7 @@ texts_turn at kept kept' bodies out d e e' old new is (Unstored, t) =
     (Unstored, subst (λ (u : Took). Takes (submits (without_items kept (service at kept)) kept u.out u.dialog) old kept' e' new) (sym is) t)
 texts_turn at kept kept' bodies out d e e' old new is (Unheard, t) = (Unheard, t)
 texts_turn at kept kept' bodies out d e e' old new is (Unanswered, t) =
-    (Unanswered, subst (λ (u : Took). Takes (ends [] (submits (service at kept) kept u.out u.dialog).kept) old kept' e' new) (sym is) t)
+    (Unanswered, subst (λ (u : Took). Takes (unanswered (submits (service at kept) kept u.out u.dialog)) old kept' e' new) (sym is) t)
 
 -- the session was told that there is no memory for its texts
 pub read_not : (kept : Kept) (d e : Dialog) (out : ImapOut) (old new : Reply) → old.closes ≡ false
@@ -253,7 +286,7 @@ command_turn at kept kept' command out d e e' old new is (Unstored, t) =
     (Unstored, subst (λ (u : Took). Takes (followed (without_items kept (service at kept)) kept u.out u.dialog) old kept' e' new) (sym is) t)
 command_turn at kept kept' command out d e e' old new is (Unheard, t) = (Unheard, t)
 command_turn at kept kept' command out d e e' old new is (Unanswered, t) =
-    (Unanswered, subst (λ (u : Took). Takes (ends [] (followed (service at kept) kept u.out u.dialog).kept) old kept' e' new) (sym is) t)
+    (Unanswered, subst (λ (u : Took). Takes (unanswered (followed (service at kept) kept u.out u.dialog)) old kept' e' new) (sym is) t)
 
 -- the refusal of lines, where it is no want of memory
 pub refusal_turn : (at : ℕ) (kept : Kept) (d d' : Dialog) (reading : Reading) (why : ImapRefused) (text : Result (List ℕ) WantOfMemory) (old new : Reply)
@@ -275,14 +308,16 @@ raw_turn at kept kept' raw d d' old new (Unheard, t) = (Unheard, t)
 raw_turn at kept kept' raw d d' old new (Unanswered, t) = (Unanswered, t)
 
 -- what a user asks of the desk is a turn, hindered or not
-pub asked_turn_by : (at : ℕ) (kept kept' : Kept) (by : Option User) (ask : Ask) (d e : Dialog) (outcome : Result Item SubmitFault) (old new : Reply) → by ≡ d.user
+pub asked_turn_by : (at : ℕ) (kept kept' : Kept) (by : Option User) (ask : Ask) (d e : Dialog) (outcome : Result Item SubmitFault) (old old' new : Reply) → by ≡ d.user
+    → old' ≡ record old { changed = old.changed ++ where_done outcome (taken_by by ask) }
     → IfOk outcome (λ item. submitted kept at by ask ≡ record { outcome = Ok item; kept = kept' })
     → OnErr outcome (kept' ≡ kept)
     → IfErr outcome (λ fault. IsFaultOf fault (live (store_of kept) kept.next at by ask))
-    → Settles outcome kept' d old e new
-    → (h : Hindrance) × Takes (under h at kept (λ desk. settled d (desk.asked d.user ask))) old kept' e new
-asked_turn_by at kept kept' by ask d e outcome old new same ok err due s =
-    asked_turn at kept kept' ask d e outcome old new
+    → Settles outcome kept' d old' e new
+    → (h : Hindrance) × Takes (under h at kept (λ desk. done d ask (desk.asked d.user ask))) old kept' e new
+asked_turn_by at kept kept' by ask d e outcome old old' new same is ok err due s =
+    asked_turn at kept kept' ask d e outcome old old' new
+    (subst (λ (u : Option User). old' ≡ record old { changed = old.changed ++ where_done outcome (taken_by u ask) }) same is)
     (subst (λ (u : Option User). IfOk outcome (λ item. submitted kept at u ask ≡ record { outcome = Ok item; kept = kept' })) same ok)
     err
     (subst (λ (u : Option User). IfErr outcome (λ fault. IsFaultOf fault (live (store_of kept) kept.next at u ask))) same due)

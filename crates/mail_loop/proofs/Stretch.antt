@@ -1,15 +1,16 @@
 -- Turns of a stretch of a stream: those so far, and those to come.
-use Rattle.std.proofs.Common.{◌≡◌, ℕ, Bool, true, false, is_none, List, [], ◌∷◌, ◌++◌, None, Some, Option, MatchOption, refl, ap, sym, ◌∙◌}
+use Rattle.std.proofs.Common.{◌≡◌, ℕ, Bool, true, false, is_none, List, [], ◌∷◌, ◌++◌, None, Some, Option, MatchOption, refl, ap, subst, sym, ◌∙◌}
 use Rattle.std.specs.Option.{option_map}
 use Rattle.std.proofs.lemmas.List.{append-nil, append_assoc}
+use Rattle.verb_core.specs.declared.mailbox.BoxId.{BoxId}
 use Rattle.mail_loop.specs.declared.reply.Reply.{Reply}
 use Rattle.mail_desk.specs.Kept.{Kept}
 use Rattle.mail_loop.specs.State.{Seat, State}
 use Rattle.mail_loop.specs.Dialog.{Turn}
 use Rattle.mail_loop.specs.Hindrance.{Hindrance, Clear, Unheard}
-use Rattle.mail_loop.specs.Turns.{Other, Outcome, Heard, after, goes_on, turns, outcome_of, heard_by, hears_seat}
-use Rattle.mail_loop.specs.Machine.{Seats, heard, hears, seated}
-use Rattle.mail_loop.specs.Took.{Takes, Tells, seat_left, answered_alone}
+use Rattle.mail_loop.specs.Turns.{Outcome, Heard, after, goes_on, turns, outcome_of, heard_by, hears_seat}
+use Rattle.mail_loop.specs.Machine.{Seats, closed_others, heard, hears, seated, with_reply}
+use Rattle.mail_loop.specs.Took.{Takes, Tells, answered_with, seat_left, answered_alone}
 
 -- what is kept, beside seats that no turn touches
 abbrev beside : Seats → Kept → State
@@ -24,112 +25,129 @@ abbrev all_turns : {D U : Type 0} → (Hindrance → Kept → D → U → Turn D
 all_turns one seats hs kept d us = turns (alone one) hs (beside seats kept) d us
 
 -- an outcome of such turns
-abbrev pub left : {D : Type 0} → Seats → List ℕ → Kept → Option D → Outcome D
-left seats said kept o = record { said = said; state = record { kept = kept; seats = seats }; dialog = o; others = [] }
+abbrev leaving : {D : Type 0} → Seats → List ℕ → List BoxId → Kept → Option D → Outcome D
+leaving seats said boxes kept o = record { said = said; state = record { kept = kept; seats = seats }; dialog = o; changed = boxes }
 
--- the turns of all say this text, and then what the turns of those to come say
-pub record SoFar {D U : Type 0} (one : Hindrance → Kept → D → U → Turn D) (seats : Seats) (kept : Kept) (d : D) (all : List U) (text : List ℕ) (kept' : Kept) (d' : D) (us : List U) : Type 0 where
+-- an outcome of such turns, whose answers are a reply's
+abbrev pub left : {D : Type 0} → Seats → Reply → Kept → Option D → Outcome D
+left seats reply kept o = leaving seats reply.said reply.changed kept o
+
+nothing_more : {D : Type 0} → (seats : Seats) (reply : Reply) (kept : Kept) (o : Option D) → leaving seats (reply.said ++ []) (reply.changed ++ []) kept o ≡ left seats reply kept o
+nothing_more seats reply kept o = λ j. leaving seats (append-nil reply.said j) (append-nil reply.changed j) kept o
+
+-- what is to come after a reply's answers
+abbrev behind : {D : Type 0} → Reply → Outcome D → Outcome D
+behind reply o = after reply.said reply.changed o
+
+-- the turns of all leave what is in the reply, and then what the turns of those to come leave
+pub record SoFar {D U : Type 0} (one : Hindrance → Kept → D → U → Turn D) (seats : Seats) (kept : Kept) (d : D) (all : List U) (reply : Reply) (kept' : Kept) (d' : D) (us : List U) : Type 0 where
   pub before : List Hindrance
   pub split : (more : List Hindrance) → turns (alone one) (before ++ more) (record { kept = kept; seats = seats }) d all
-      ≡ after text [] (turns (alone one) more (record { kept = kept'; seats = seats }) d' us)
+      ≡ behind reply (turns (alone one) more (record { kept = kept'; seats = seats }) d' us)
 
-pub so_far_none : {D U : Type 0} → (one : Hindrance → Kept → D → U → Turn D) (seats : Seats) (kept : Kept) (d : D) (us : List U) → SoFar one seats kept d us [] kept d us
-so_far_none one seats kept d us = record { before = []; split = λ more. refl }
+pub so_far_none : {D U : Type 0} → (one : Hindrance → Kept → D → U → Turn D) (seats : Seats) (kept : Kept) (d : D) (us : List U) (conn : ℕ) (reply : Reply)
+    → reply ≡ record { conn = conn; said = []; closes = false; changed = [] } → SoFar one seats kept d us reply kept d us
+so_far_none one seats kept d us conn reply empty =
+    subst (λ (r : Reply). SoFar one seats kept d us r kept d us) (sym empty) (record { before = []; split = λ more. refl })
 
 -- all turns, up to the next, which leaves the dialog o
-up_to : {D U : Type 0} → (one : Hindrance → Kept → D → U → Turn D) (seats : Seats) (kept : Kept) (d : D) (all : List U) (text : List ℕ) (kept' : Kept) (d' : D) (u : U) (us : List U)
-    → (s : SoFar one seats kept d all text kept' d' (u ∷ us)) → (h : Hindrance) (more : List Hindrance) (o : Option D)
+up_to : {D U : Type 0} → (one : Hindrance → Kept → D → U → Turn D) (seats : Seats) (kept : Kept) (d : D) (all : List U) (reply : Reply) (kept' : Kept) (d' : D) (u : U) (us : List U)
+    → (s : SoFar one seats kept d all reply kept' d' (u ∷ us)) → (h : Hindrance) (more : List Hindrance) (o : Option D)
     → (one h kept' d' u).dialog ≡ o
     → all_turns one seats ((s.before ++ h ∷ []) ++ more) kept d all
-    ≡ after text [] (goes_on (alone one h (beside seats kept') d' u) o (λ s e. turns (alone one) more s e us))
-up_to one seats kept d all text kept' d' u us s h more o e =
+    ≡ behind reply (goes_on (alone one h (beside seats kept') d' u) o (λ s e. turns (alone one) more s e us))
+up_to one seats kept d all reply kept' d' u us s h more o e =
     ap (λ hs. all_turns one seats hs kept d all) (append_assoc s.before (h ∷ []) more) ∙ s.split (h ∷ more)
-    ∙ ap (λ p. after text [] (goes_on (alone one h (beside seats kept') d' u) p (λ s e. turns (alone one) more s e us))) e
+    ∙ ap (λ p. behind reply (goes_on (alone one h (beside seats kept') d' u) p (λ s e. turns (alone one) more s e us))) e
 
 -- one turn more, after which the connection is open
 pub so_far_more : {D U : Type 0} → (one : Hindrance → Kept → D → U → Turn D) (seats : Seats) (kept : Kept) (d : D) (all : List U) (kept' : Kept) (d' : D) (u : U) (us : List U)
     (new : Kept) (e : D) (old reply : Reply)
-    → SoFar one seats kept d all old.said kept' d' (u ∷ us) → (h : Hindrance) → Takes (one h kept' d' u) old new e reply → reply.closes ≡ false
-    → SoFar one seats kept d all reply.said new e us
+    → SoFar one seats kept d all old kept' d' (u ∷ us) → (h : Hindrance) → Takes (one h kept' d' u) old new e reply → reply.closes ≡ false
+    → SoFar one seats kept d all reply new e us
 so_far_more {D} {U} one seats kept d all kept' d' u us new e old reply s h took stays = by_dialog (one h kept' d' u).dialog refl took.dialog_is
   where
     by_dialog : (o : Option D) → (one h kept' d' u).dialog ≡ o → MatchOption o (reply.closes ≡ true) (λ f. (e ≡ f) × (reply.closes ≡ false))
-        → SoFar one seats kept d all reply.said new e us
+        → SoFar one seats kept d all reply new e us
     by_dialog None is shut = absurd (let wrong : true ≡ false = sym shut ∙ stays in cc)
     by_dialog (Some f) is goes = record {
       before = s.before ++ h ∷ [];
       split = λ more.
-          up_to one seats kept d all old.said kept' d' u us s h more (Some f) is
+          up_to one seats kept d all old kept' d' u us s h more (Some f) is
           ∙ regroup more f
-          ∙ ap (λ said. after said [] (all_turns one seats more (one h kept' d' u).kept f us)) (sym took.said)
-          ∙ ap (λ k. after reply.said [] (all_turns one seats more k f us)) (sym took.kept_is)
-          ∙ ap (λ g. after reply.said [] (all_turns one seats more new g us)) (sym goes.0);
+          ∙ ap (λ said. after said (old.changed ++ (one h kept' d' u).changed) (all_turns one seats more (one h kept' d' u).kept f us)) (sym took.said)
+          ∙ ap (λ boxes. after reply.said boxes (all_turns one seats more (one h kept' d' u).kept f us)) (sym took.changed)
+          ∙ ap (λ k. after reply.said reply.changed (all_turns one seats more k f us)) (sym took.kept_is)
+          ∙ ap (λ g. after reply.said reply.changed (all_turns one seats more new g us)) (sym goes.0);
     }
       where
         regroup : (more : List Hindrance) (f : D)
-            → after old.said [] (after (one h kept' d' u).said [] (all_turns one seats more (one h kept' d' u).kept f us))
-            ≡ after (old.said ++ (one h kept' d' u).said) [] (all_turns one seats more (one h kept' d' u).kept f us)
+            → after old.said old.changed (after (one h kept' d' u).said (one h kept' d' u).changed (all_turns one seats more (one h kept' d' u).kept f us))
+            ≡ after (old.said ++ (one h kept' d' u).said) (old.changed ++ (one h kept' d' u).changed) (all_turns one seats more (one h kept' d' u).kept f us)
         regroup more f =
             let t = all_turns one seats more (one h kept' d' u).kept f us in
-            ap (λ (said : List ℕ). record { said = said; state = t.state; dialog = t.dialog; others = t.others })
+            ap (λ (said : List ℕ). record { said = said; state = t.state; dialog = t.dialog; changed = old.changed ++ ((one h kept' d' u).changed ++ t.changed) })
             (sym (append_assoc old.said (one h kept' d' u).said t.said))
+            ∙ ap (λ (boxes : List BoxId). record { said = (old.said ++ (one h kept' d' u).said) ++ t.said; state = t.state; dialog = t.dialog; changed = boxes })
+            (sym (append_assoc old.changed (one h kept' d' u).changed t.changed))
 
 -- the last turn, after which the connection is closed
 pub closed_after : {D U : Type 0} → (one : Hindrance → Kept → D → U → Turn D) (seats : Seats) (kept : Kept) (d : D) (all : List U) (kept' : Kept) (d' : D) (u : U) (us : List U)
     (new : Kept) (e : D) (old reply : Reply)
-    → SoFar one seats kept d all old.said kept' d' (u ∷ us) → (h : Hindrance) → Takes (one h kept' d' u) old new e reply → reply.closes ≡ true
-    → (hs : List Hindrance) × (turns (alone one) hs (record { kept = kept; seats = seats }) d all ≡ left seats reply.said new None)
+    → SoFar one seats kept d all old kept' d' (u ∷ us) → (h : Hindrance) → Takes (one h kept' d' u) old new e reply → reply.closes ≡ true
+    → (hs : List Hindrance) × (turns (alone one) hs (record { kept = kept; seats = seats }) d all ≡ left seats reply new None)
 closed_after {D} {U} one seats kept d all kept' d' u us new e old reply s h took shut = by_dialog (one h kept' d' u).dialog refl took.dialog_is
   where
     by_dialog : (o : Option D) → (one h kept' d' u).dialog ≡ o → MatchOption o (reply.closes ≡ true) (λ f. (e ≡ f) × (reply.closes ≡ false))
-        → (hs : List Hindrance) × (turns (alone one) hs (record { kept = kept; seats = seats }) d all ≡ left seats reply.said new None)
+        → (hs : List Hindrance) × (turns (alone one) hs (record { kept = kept; seats = seats }) d all ≡ left seats reply new None)
     by_dialog None is shuts = (
       (s.before ++ h ∷ []) ++ [],
-      up_to one seats kept d all old.said kept' d' u us s h [] None is
-          ∙ ap (λ (said : List ℕ). left seats said (one h kept' d' u).kept None) (sym took.said)
-          ∙ ap (λ (k : Kept). left seats reply.said k None) (sym took.kept_is),
+      up_to one seats kept d all old kept' d' u us s h [] None is
+          ∙ ap (λ (said : List ℕ). leaving seats said (old.changed ++ (one h kept' d' u).changed) (one h kept' d' u).kept None) (sym took.said)
+          ∙ ap (λ (boxes : List BoxId). leaving seats reply.said boxes (one h kept' d' u).kept None) (sym took.changed)
+          ∙ ap (λ (k : Kept). left seats reply k None) (sym took.kept_is),
     )
     by_dialog (Some f) is goes = absurd (let wrong : true ≡ false = sym shut ∙ goes.1 in cc)
 
 -- a turn for which no memory is found, and which is lost
-pub unheard : {D U : Type 0} → (one : Hindrance → Kept → D → U → Turn D) (seats : Seats) (kept : Kept) (d : D) (all : List U) (text : List ℕ) (kept' : Kept) (d' : D) (us : List U)
-    → SoFar one seats kept d all text kept' d' us → (us ≡ [] → ⊥)
-    → ((u : U) → one Unheard kept' d' u ≡ record { said = []; kept = kept'; dialog = None })
-    → (hs : List Hindrance) × (turns (alone one) hs (record { kept = kept; seats = seats }) d all ≡ left seats text kept' None)
-unheard one seats kept d all text kept' d' [] s some lost = absurd (some refl)
-unheard {D} one seats kept d all text kept' d' (u ∷ us) s some lost = (
+pub unheard : {D U : Type 0} → (one : Hindrance → Kept → D → U → Turn D) (seats : Seats) (kept : Kept) (d : D) (all : List U) (reply : Reply) (kept' : Kept) (d' : D) (us : List U)
+    → SoFar one seats kept d all reply kept' d' us → (us ≡ [] → ⊥)
+    → ((u : U) → one Unheard kept' d' u ≡ record { said = []; kept = kept'; dialog = None; changed = [] })
+    → (hs : List Hindrance) × (turns (alone one) hs (record { kept = kept; seats = seats }) d all ≡ left seats reply kept' None)
+unheard one seats kept d all reply kept' d' [] s some lost = absurd (some refl)
+unheard {D} one seats kept d all reply kept' d' (u ∷ us) s some lost = (
   s.before ++ Unheard ∷ [],
   s.split (Unheard ∷ [])
-      ∙ ap (λ (t : Turn D). after text [] (goes_on (outcome_of (beside seats kept') t) t.dialog (λ s e. turns (alone one) [] s e us))) (lost u)
-      ∙ ap (λ (said : List ℕ). left seats said kept' None) (append-nil text),
+      ∙ ap (λ (t : Turn D). behind reply (goes_on (outcome_of (beside seats kept') t) t.dialog (λ s e. turns (alone one) [] s e us))) (lost u)
+      ∙ nothing_more seats reply kept' None,
 )
 
 -- no turn is to come
-pub all_heard : {D U : Type 0} → (one : Hindrance → Kept → D → U → Turn D) (seats : Seats) (kept : Kept) (d : D) (all : List U) (text : List ℕ) (kept' : Kept) (d' : D) (us : List U)
-    → SoFar one seats kept d all text kept' d' us → us ≡ []
-    → (hs : List Hindrance) × (turns (alone one) hs (record { kept = kept; seats = seats }) d all ≡ left seats text kept' (Some d'))
-all_heard one seats kept d all text kept' d' us s none = (
+pub all_heard : {D U : Type 0} → (one : Hindrance → Kept → D → U → Turn D) (seats : Seats) (kept : Kept) (d : D) (all : List U) (reply : Reply) (kept' : Kept) (d' : D) (us : List U)
+    → SoFar one seats kept d all reply kept' d' us → us ≡ []
+    → (hs : List Hindrance) × (turns (alone one) hs (record { kept = kept; seats = seats }) d all ≡ left seats reply kept' (Some d'))
+all_heard one seats kept d all reply kept' d' us s none = (
   s.before ++ [],
-  s.split [] ∙ ap (λ ls. after text [] (all_turns one seats [] kept' d' ls)) none
-      ∙ ap (λ (said : List ℕ). left seats said kept' (Some d')) (append-nil text),
+  s.split [] ∙ ap (λ ls. behind reply (all_turns one seats [] kept' d' ls)) none
+      ∙ nothing_more seats reply kept' (Some d'),
 )
 
 -- the last turn is to come, which says nothing
-pub last_heard : {D U : Type 0} → (one : Hindrance → Kept → D → U → Turn D) (seats : Seats) (kept : Kept) (d : D) (all : List U) (text : List ℕ) (kept' : Kept) (d' : D) (us : List U) (u : U)
-    → SoFar one seats kept d all text kept' d' us → us ≡ u ∷ [] → one Clear kept' d' u ≡ record { said = []; kept = kept'; dialog = Some d' }
-    → (hs : List Hindrance) × (turns (alone one) hs (record { kept = kept; seats = seats }) d all ≡ left seats text kept' (Some d'))
-last_heard {D} one seats kept d all text kept' d' us u s last quiet = (
+pub last_heard : {D U : Type 0} → (one : Hindrance → Kept → D → U → Turn D) (seats : Seats) (kept : Kept) (d : D) (all : List U) (reply : Reply) (kept' : Kept) (d' : D) (us : List U) (u : U)
+    → SoFar one seats kept d all reply kept' d' us → us ≡ u ∷ [] → one Clear kept' d' u ≡ record { said = []; kept = kept'; dialog = Some d'; changed = [] }
+    → (hs : List Hindrance) × (turns (alone one) hs (record { kept = kept; seats = seats }) d all ≡ left seats reply kept' (Some d'))
+last_heard {D} one seats kept d all reply kept' d' us u s last quiet = (
   s.before ++ [],
-  s.split [] ∙ ap (λ ls. after text [] (all_turns one seats [] kept' d' ls)) last
-      ∙ ap (λ (t : Turn D). after text [] (goes_on (outcome_of (beside seats kept') t) t.dialog (λ s e. turns (alone one) [] s e []))) quiet
-      ∙ ap (λ (said : List ℕ). left seats said kept' (Some d')) (append-nil text),
+  s.split [] ∙ ap (λ ls. behind reply (all_turns one seats [] kept' d' ls)) last
+      ∙ ap (λ (t : Turn D). behind reply (goes_on (outcome_of (beside seats kept') t) t.dialog (λ s e. turns (alone one) [] s e []))) quiet
+      ∙ nothing_more seats reply kept' (Some d'),
 )
 
 -- what the turns say is what the connection is told
 pub told_by : {D U : Type 0} → (one : Hindrance → Kept → D → U → Turn D) (seat_of : D → Seat) (seats : Seats) (kept : Kept) (d : D) (all : List U) (conn : ℕ) (reply : Reply)
     (kept' : Kept) (seat : Seat) (o : Option D)
     → reply.conn ≡ conn
-    → (hs : List Hindrance) × (turns (alone one) hs (record { kept = kept; seats = seats }) d all ≡ left seats reply.said kept' o)
+    → (hs : List Hindrance) × (turns (alone one) hs (record { kept = kept; seats = seats }) d all ≡ left seats reply kept' o)
     → option_map seat_of o ≡ seat_left reply.closes seat
     → (hs : List Hindrance) × Tells (heard_by seat_of (turns (alone one) hs (record { kept = kept; seats = seats }) d all)) seats conn reply kept' seat
 told_by one seat_of seats kept d all conn reply kept' seat o same (hs, is) left_is = (
@@ -137,7 +155,7 @@ told_by one seat_of seats kept d all conn reply kept' seat o same (hs, is) left_
   record {
     conn_is = same;
     heard_is = ap (heard_by seat_of) is
-        ∙ ap (λ (s : Option Seat). record { said = reply.said; state = record { kept = kept'; seats = seats }; seat = s; others = [] }) left_is;
+        ∙ ap (λ (s : Option Seat). record { said = reply.said; state = record { kept = kept'; seats = seats }; seat = s; changed = reply.changed }) left_is;
   },
 )
 
@@ -153,16 +171,16 @@ heard_alone h seats conn reply kept seat t =
     ap (heard conn) t.heard_is
     ∙ ap (λ (b : Bool). record {
       state = record { kept = kept; seats = seated conn (seat_left reply.closes seat) seats };
-      replies = record { conn = conn; said = reply.said; closes = b } ∷ [];
+      replies = with_reply (record { conn = conn; said = reply.said; closes = b }) (closed_others conn reply.changed (seated conn (seat_left reply.closes seat) seats));
     }) (none_left reply.closes seat)
     ∙ ap (λ (n : ℕ). record {
       state = record { kept = kept; seats = seated conn (seat_left reply.closes seat) seats };
-      replies = record { conn = n; said = reply.said; closes = reply.closes } ∷ [];
+      replies = with_reply (record { conn = n; said = reply.said; closes = reply.closes }) (closed_others conn reply.changed (seated conn (seat_left reply.closes seat) seats));
     }) (sym t.conn_is)
 
 -- no memory was found for the bytes
 pub unfed_alone : (hs : List Hindrance) (at : ℕ) (kept : Kept) (seats : Seats) (conn : ℕ) (seat seat' : Seat) (bytes : List ℕ) (reply : Reply)
-    → reply ≡ record { conn = conn; said = []; closes = true }
+    → reply ≡ record { conn = conn; said = []; closes = true; changed = [] }
     → hears true hs at (record { kept = kept; seats = seats }) conn seat bytes ≡ answered_alone conn reply kept seat' seats
 unfed_alone hs at kept seats conn seat seat' bytes reply e =
     sym (ap (λ (r : Reply). answered_alone conn r kept seat' seats) e)

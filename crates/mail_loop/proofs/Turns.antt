@@ -12,6 +12,7 @@ use Rattle.verb_core.specs.declared.ask.SubmitFault.TheVariants.{Refused as IsRe
 use Rattle.verb_core.specs.declared.conf.House.{House}
 use Rattle.verb_core.specs.declared.conf.Conf.{Conf}
 use Rattle.verb_core.specs.declared.item.Item.{Item}
+use Rattle.verb_core.specs.declared.mailbox.BoxId.{BoxId}
 use Rattle.verb_core.specs.Live.{is_users, live}
 use Rattle.smtp_session.specs.declared.answer.SmtpOut.{SmtpOut}
 use Rattle.smtp_session.specs.declared.answer.SmtpOut.TheVariants.{Nothing, Say, Mail as Asks, Bye}
@@ -28,7 +29,7 @@ use Rattle.mail_loop.specs.declared.reply.Reply.{Reply}
 use Rattle.mail_desk.specs.Kept.{Kept}
 use Rattle.mail_desk.specs.Desk.{Submitted, IsFaultOf, store_of, submitted, submitted_as}
 use Rattle.mail_loop.specs.Dialog.{Turn, says, ends, settled_as, settled, followed}
-use Rattle.mail_loop.specs.Hindrance.{Hindrance, Clear, Refused as IsTold452, Unread, Unstored, Unheard, Unanswered, hindered, memory_told, refused_in_text}
+use Rattle.mail_loop.specs.Hindrance.{Hindrance, Clear, Refused as IsTold452, Unread, Unstored, Unheard, Unanswered, hindered, memory_told, refused_in_text, unanswered}
 use Rattle.mail_loop.specs.Took.{Adds, IsTold, IsAsked, Takes, SettlesAgain, Settles, hindered_after}
 use Rattle.mail_loop.proofs.Refusals.{due_or_starved}
 
@@ -40,22 +41,22 @@ line_at at h kept d line = hindered h at kept d line
 
 pub told_whole : {D : Type 0} → (said : List ℕ) (kept : Kept) (d : D) (old new : Reply) → new ≡ record old { said = old.said ++ said; closes = false } → Takes (says said kept d) old kept d new
 told_whole said kept d old new e =
-    subst (λ (r : Reply). Takes (says said kept d) old kept d r) (sym e) (record { conn = refl; said = refl; kept_is = refl; dialog_is = (refl, refl) })
+    subst (λ (r : Reply). Takes (says said kept d) old kept d r) (sym e) (record { conn = refl; said = refl; kept_is = refl; dialog_is = (refl, refl); changed = sym (append-nil old.changed) })
 
 pub told_last : {D : Type 0} → (said : List ℕ) (kept : Kept) (d : D) (old new : Reply) → new ≡ record old { said = old.said ++ said; closes = true } → Takes (ends said kept) old kept d new
 told_last said kept d old new e =
-    subst (λ (r : Reply). Takes (ends said kept) old kept d r) (sym e) (record { conn = refl; said = refl; kept_is = refl; dialog_is = refl })
+    subst (λ (r : Reply). Takes (ends said kept) old kept d r) (sym e) (record { conn = refl; said = refl; kept_is = refl; dialog_is = refl; changed = sym (append-nil old.changed) })
 
 pub told_nothing : {D : Type 0} → (kept : Kept) (d : D) (old new : Reply) → old.closes ≡ false → new ≡ old → Takes (says [] kept d) old kept d new
 told_nothing kept d old new stays e =
     subst (λ (r : Reply). Takes (says [] kept d) old kept d r) (sym e)
-    (record { conn = refl; said = sym (append-nil old.said); kept_is = refl; dialog_is = (refl, stays) })
+    (record { conn = refl; said = sym (append-nil old.said); kept_is = refl; dialog_is = (refl, stays); changed = sym (append-nil old.changed) })
 
 -- a connection that closes with no answer
 pub closed : {D : Type 0} → (kept kept' : Kept) (d : D) (old new : Reply) → kept' ≡ kept → new ≡ record old { closes = true } → Takes (ends [] kept) old kept' d new
 closed kept kept' d old new same e =
     subst (λ (r : Reply). Takes (ends [] kept) old kept' d r) (sym e)
-    (record { conn = refl; said = sym (append-nil old.said); kept_is = same; dialog_is = refl })
+    (record { conn = refl; said = sym (append-nil old.said); kept_is = same; dialog_is = refl; changed = sym (append-nil old.changed) })
 
 out_told : (out : SmtpOut) (kept : Kept) (d : Dialog) (old new : Reply) → old.closes ≡ false → IsTold out old new
     → Takes (settled_as out kept d) old kept d new ⊎ Takes (ends [] kept) old kept d new
@@ -106,6 +107,15 @@ kept_told (Asks ask) kept d = refl
 kept_settled : (d : Dialog) (s : Submitted) → (settled d s).kept ≡ s.kept
 kept_settled d s = kept_told (session.settle d s.outcome).out s.kept (session.settle d s.outcome).dialog
 
+none_told : (out : SmtpOut) (kept : Kept) (d : Dialog) → (settled_as out kept d).changed ≡ []
+none_told Nothing kept d = refl
+none_told (Say said) kept d = refl
+none_told (Bye said) kept d = refl
+none_told (Asks ask) kept d = refl
+
+none_changed : (d : Dialog) (s : Submitted) → (settled d s).changed ≡ []
+none_changed d s = none_told (session.settle d s.outcome).out s.kept (session.settle d s.outcome).dialog
+
 -- what is asked of the desk is a turn, hindered or not
 pub asked_turn : (at : ℕ) (kept kept' : Kept) (ask : Ask) (d e : Dialog) (outcome : Result Item SubmitFault) (old new : Reply)
     → IfOk outcome (λ item. submitted kept at None ask ≡ record { outcome = Ok item; kept = kept' })
@@ -117,7 +127,11 @@ asked_turn at kept kept' ask d e (Ok item) old new ok err due (inl t) =
     (Clear, subst (λ (s : Submitted). Takes (settled d s) old kept' e new) (sym ok) t)
 asked_turn at kept kept' ask d e (Ok item) old new ok err due (inr (inl t)) =
     let same : kept' ≡ (settled d (submitted kept at None ask)).kept = sym (kept_settled d (submitted kept at None ask) ∙ ap (λ (s : Submitted). s.kept) ok) in
-    (Unanswered, subst (λ (k : Kept). Takes (ends [] k) old kept' e new) same t)
+    let none : ◌≡◌ {A = List BoxId} [] (settled d (submitted kept at None ask)).changed = sym (none_changed d (submitted kept at None ask)) in (
+      Unanswered,
+      subst (λ (ids : List BoxId). Takes (record { said = []; kept = (settled d (submitted kept at None ask)).kept; dialog = None; changed = ids }) old kept' e new) none
+          (subst (λ (k : Kept). Takes (ends [] k) old kept' e new) same t),
+    )
 asked_turn at kept kept' ask d e (Ok item) old new ok err due (inr (inr t)) = absurd (let wrong : false ≡ true = t.0 in cc)
 asked_turn at kept kept' ask d e (Err Disk) old new ok err due s = absurd due
 asked_turn at kept kept' ask d e (Err Closed) old new ok err due s = absurd due
@@ -285,7 +299,7 @@ line_turn at kept kept' d e e' line out old new is asks (Unstored, t) =
     (Clear, subst (λ (u : session.Turn). Takes (followed at kept u.out u.dialog) old kept' e' new) (sym is) t)
 line_turn at kept kept' d e e' line out old new is asks (Unheard, t) = (Unheard, t)
 line_turn at kept kept' d e e' line out old new is asks (Unanswered, t) =
-    (Unanswered, subst (λ (u : session.Turn). Takes (ends [] (followed at kept u.out u.dialog).kept) old kept' e' new) (sym is) t)
+    (Unanswered, subst (λ (u : session.Turn). Takes (unanswered (followed at kept u.out u.dialog)) old kept' e' new) (sym is) t)
 line_turn at kept kept' d e e' line Nothing old new is asks (IsTold452, t) = (Unheard, t)
 line_turn at kept kept' d e e' line (Say said) old new is asks (IsTold452, t) = (Unheard, t)
 line_turn at kept kept' d e e' line (Bye said) old new is asks (IsTold452, t) = (Unheard, t)
@@ -306,6 +320,6 @@ pub starved_outside : (at : ℕ) (kept : Kept) (d : Dialog) (line : SmtpLine) (t
 starved_outside at kept d line text old new outside is (inl e) = (
   IsTold452,
   subst (λ b. Takes (cond b (let u = session.turn kept.house (store_of kept).conf at d line in refused_in_text kept u.out u.dialog) (says memory_told kept d)) old kept d new) (sym outside)
-      (told_whole memory_told kept d old new (e ∙ ap (λ (s : List ℕ). record { conn = old.conn; said = old.said ++ s; closes = false }) is)),
+      (told_whole memory_told kept d old new (e ∙ ap (λ (s : List ℕ). record old { said = old.said ++ s; closes = false }) is)),
 )
 starved_outside at kept d line text old new outside is (inr e) = (Unheard, closed kept kept d old new refl e)

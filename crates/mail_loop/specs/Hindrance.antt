@@ -1,5 +1,5 @@
 -- How a turn may go otherwise, and what follows for a mail client.
-use Rattle.std.specs.Prelude.{ℕ, List, [], ◌∷◌, Err, if◌then◌else◌}
+use Rattle.std.specs.Prelude.{ℕ, List, [], ◌∷◌, None, Err, if◌then◌else◌}
 use Rattle.smtp_lines.specs.declared.line.SmtpLine.{SmtpLine}
 use Rattle.verb_core.specs.declared.ask.Refused.TheVariants.{NoMemory}
 use Rattle.verb_core.specs.declared.ask.SubmitFault.TheVariants.{Refused as IsRefused}
@@ -32,6 +32,10 @@ pub data Hindrance : Type 0 where
 abbrev pub lost : {D : Type 0} → Kept → Turn D
 lost kept = ends [] kept
 
+-- no memory was found for the answer to what is kept: the connection closes without it
+abbrev pub unanswered : {D : Type 0} → Turn D → Turn D
+unanswered t = record t { said = []; dialog = None }
+
 -- what is told of want of memory
 abbrev pub memory_told : List ℕ
 memory_told = answer_text [] WantOfMemory
@@ -56,7 +60,7 @@ hindered Refused at kept d line = refused at kept d line
 hindered Unread at kept d line = turn at kept d line
 hindered Unstored at kept d line = turn at kept d line
 hindered Unheard at kept d line = lost kept
-hindered Unanswered at kept d line = ends [] (turn at kept d line).kept
+hindered Unanswered at kept d line = unanswered (turn at kept d line)
 
 abbrev pub first_hindrance : List Hindrance → Hindrance
 first_hindrance [] = Clear

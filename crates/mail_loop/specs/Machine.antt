@@ -1,8 +1,10 @@
 -- The machine: what an event does to the state, and what the link does for it.
-use Rattle.std.specs.Prelude.{ℕ, Bool, true, false, not, min, List, [], ◌∷◌, ◌++◌, map, is_none, nat_lt, if◌then◌else◌, Option, None, Some}
+use Rattle.std.specs.Prelude.{ℕ, ◌==◌, ◌&&◌, filter, Bool, true, false, not, min, List, [], ◌∷◌, ◌++◌, map, is_none, nat_lt, if◌then◌else◌, Option, None, Some}
+use Rattle.std.specs.List.{list_any}
 use Rattle.std.specs.Ordering.{nat_cmp}
 use Rattle.std.specs.Map.{lookup, remove_entry, set_value}
 use Rattle.std.specs.BTreeMap.{insert_entry, is_at}
+use Rattle.verb_core.specs.declared.mailbox.BoxId.{BoxId}
 use Rattle.undo_outside.specs.declared.event.Event.{Event}
 use Rattle.undo_outside.specs.declared.event.What.{What}
 use Rattle.undo_outside.specs.declared.event.What.TheVariants.{Joined, Bytes, Left, Idle as NoEvent, End}
@@ -16,11 +18,11 @@ use Rattle.smtp_session.specs.Dialog.{opening}
 use Rattle.imap_stream.specs.Commands.{before, nothing}
 use Rattle.imap_stream.specs.declared.begun.Awaits.TheVariants.{Line}
 use Rattle.imap_session.specs.Dialog as imap
-use Rattle.imap_session.specs.Words.{greeting_text}
+use Rattle.imap_session.specs.Words.{changed_text, greeting_text}
 use Rattle.mail_desk.specs.Kept.{Kept}
 use Rattle.mail_loop.specs.State.{Seat, Smtp, Imap, State}
 use Rattle.mail_loop.specs.Hindrance.{Hindrance}
-use Rattle.mail_loop.specs.Turns.{Other, Heard, hears_seat}
+use Rattle.mail_loop.specs.Turns.{Heard, hears_seat}
 
 -- How the string for a connection may go.
 pub data Delivery : Type 0 where
@@ -75,25 +77,40 @@ abbrev pub with_reply : Reply → List Reply → List Reply
 with_reply r [] = r ∷ []
 with_reply r (q ∷ qs) = if nat_lt r.conn q.conn then r ∷ q ∷ qs else q ∷ with_reply r qs
 
--- others are told, and closed
-abbrev pub closing : Other → Reply
-closing o = record { conn = o.conn; said = o.said; closes = true }
+-- whether a session has one of these mailboxes selected
+abbrev pub holds_one : List BoxId → Seat → Bool
+holds_one boxes (Smtp unserved d) = false
+holds_one boxes (Imap stream d) = list_any (λ (box : BoxId). imap.holds d box.user box.name) boxes
+
+-- the other sessions that have one of these mailboxes selected
+abbrev pub others_with : ℕ → List BoxId → Seats → Seats
+others_with conn boxes seats = filter (λ (e : ℕ × Seat). not (e.0 == conn) && holds_one boxes e.1) seats
+
+-- another is told that its mailbox changed, and closed
+abbrev pub closing : ℕ → Reply
+closing conn = record { conn = conn; said = changed_text; closes = true }
+
+-- each other session that has one of these mailboxes selected is told, and closed
+abbrev pub closed_others : ℕ → List BoxId → Seats → List Reply
+closed_others conn boxes seats = map (λ (e : ℕ × Seat). closing e.0) (others_with conn boxes seats)
 
 -- a connection's seat after its turns, or none where it is to be closed
 abbrev pub seated : ℕ → Option Seat → Seats → Seats
 seated conn None seats = without_seat conn seats
 seated conn (Some seat) seats = with_seat conn seat seats
 
--- a connection has its turns' answers, and the others whom they close are told; the replies stand by rising connection
+-- a connection has its turns' answers, and others whose mailbox they took away are told; the replies stand by rising connection
 abbrev pub heard : ℕ → Heard → Answered
-heard conn h = record {
-  state = record { kept = h.state.kept; seats = seated conn h.seat h.state.seats };
-  replies = with_reply (record { conn = conn; said = h.said; closes = is_none h.seat }) (map closing h.others);
-}
+heard conn h =
+    let seats = seated conn h.seat h.state.seats in
+    record {
+      state = record { kept = h.state.kept; seats = seats };
+      replies = with_reply (record { conn = conn; said = h.said; closes = is_none h.seat }) (closed_others conn h.changed seats);
+    }
 
 -- no memory was found for the bytes that came: the connection is closed without an answer
 abbrev pub unfed : ℕ → State → Answered
-unfed conn s = heard conn (record { said = []; state = s; seat = None; others = [] })
+unfed conn s = heard conn (record { said = []; state = s; seat = None; changed = [] })
 
 -- bytes come over an open connection, and find memory or none
 abbrev pub hears : Bool → List Hindrance → ℕ → State → ℕ → Seat → List ℕ → Answered

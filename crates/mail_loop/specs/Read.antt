@@ -7,6 +7,7 @@ use Rattle.verb_core.specs.declared.ask.Refused.TheVariants.{NoMemory}
 use Rattle.verb_core.specs.declared.ask.SubmitFault.{SubmitFault}
 use Rattle.verb_core.specs.declared.ask.SubmitFault.TheVariants.{Refused as IsRefused}
 use Rattle.verb_core.specs.declared.item.Item.{Item}
+use Rattle.verb_core.specs.declared.mailbox.BoxId.{BoxId}
 use Rattle.imap_lines.specs.Command.{Reading}
 use Rattle.imap_stream.specs.declared.next.Next.{Next}
 use Rattle.imap_stream.specs.declared.next.Next.TheVariants.{Command, Ask as Mark, Bad, NotYet}
@@ -20,7 +21,7 @@ use Rattle.mail_desk.specs.Desk.{store_of}
 use Rattle.mail_desk.specs.Timeline.{has_text}
 use Rattle.mail_loop.specs.declared.reply.Reply.{Reply}
 use Rattle.mail_loop.specs.Dialog.{Turn, ends}
-use Rattle.mail_loop.specs.Hindrance.{Hindrance, Clear, Refused, Unread, Unstored, Unheard, Unanswered, lost}
+use Rattle.mail_loop.specs.Hindrance.{Hindrance, Clear, Refused, Unread, Unstored, Unheard, Unanswered, lost, unanswered}
 use Rattle.mail_loop.specs.Reader.{Service, service, followed, settled, settled_as, size_in}
 use Rattle.mail_loop.specs.ReaderHindrance.{refused_command, without_items, without_texts}
 use Rattle.mail_loop.specs.Took.{Adds, Takes}
@@ -65,7 +66,7 @@ under Refused at kept turn = lost kept
 under Unread at kept turn = turn (without_texts (service at kept))
 under Unstored at kept turn = turn (without_items kept (service at kept))
 under Unheard at kept turn = lost kept
-under Unanswered at kept turn = ends [] (turn (service at kept)).kept
+under Unanswered at kept turn = unanswered (turn (service at kept))
 
 -- a command, or what is none
 abbrev pub obeyed : Service → Kept → Dialog → Reading → Turn Dialog
@@ -78,7 +79,12 @@ obeyed_under Refused at kept d reading = refused_command kept d reading
 obeyed_under Unread at kept d reading = obeyed (without_texts (service at kept)) kept d reading
 obeyed_under Unstored at kept d reading = obeyed (without_items kept (service at kept)) kept d reading
 obeyed_under Unheard at kept d reading = lost kept
-obeyed_under Unanswered at kept d reading = ends [] (obeyed (service at kept) kept d reading).kept
+obeyed_under Unanswered at kept d reading = unanswered (obeyed (service at kept) kept d reading)
+
+-- the mailboxes that an ask takes away, where it was done
+abbrev pub where_done : Result Item SubmitFault → List BoxId → List BoxId
+where_done (Ok item) boxes = boxes
+where_done (Err fault) boxes = []
 
 -- the connection closes with no answer, or the dialog is told that no memory was found for the texts
 abbrev pub ReadsNone : Kept → Dialog → Reply → Dialog → Reply → Type 0

@@ -1,9 +1,16 @@
 -- A turn of a mail reader: a command, a literal mark or a bad line of its stream, what the dialog makes of it, and what it asks of the desk.
-use Rattle.std.specs.Prelude.{ℕ, List, [], length, option_map, Option, Result, Ok, Err}
+use Rattle.std.specs.Prelude.{ℕ, List, [], bytes_eq, if◌then◌else◌, length, map, option_map, Option, None, Some, Result, Ok, Err}
+use Rattle.std.specs.List.{cons_option}
 use Rattle.undo_base.specs.declared.keys.User.{User}
 use Rattle.seal_log.specs.declared.fault.ReadFault.{ReadFault}
 use Rattle.verb_core.specs.declared.ask.Ask.{Ask}
+use Rattle.verb_core.specs.declared.ask.Ask.TheVariants as ask
+use Rattle.verb_core.specs.declared.ask.SubmitFault.{SubmitFault}
+use Rattle.verb_core.specs.declared.item.Item.{Item}
 use Rattle.verb_core.specs.declared.mailbox.Body.{Body}
+use Rattle.verb_core.specs.declared.mailbox.BoxId.{BoxId}
+use Rattle.verb_core.specs.Boxes.{box_of}
+use Rattle.verb_core.specs.Names.{inbox}
 use Rattle.verb_core.specs.Items.{text_of}
 use Rattle.imap_stream.specs.declared.next.Next.{Next}
 use Rattle.imap_stream.specs.declared.next.Next.TheVariants.{Command, Ask as Mark, Bad, NotYet}
@@ -35,25 +42,45 @@ abbrev pub settled_as : ImapOut → Kept → Dialog → Turn Dialog
 settled_as (Say said) kept d = says said kept d
 settled_as (Bye said) kept d = ends said kept
 settled_as (Read bodies) kept d = says [] kept d
-settled_as (Submit ask) kept d = says [] kept d
+settled_as (Submit asked) kept d = says [] kept d
 
 -- the dialog is told what became of its ask, with the store and the stamps after it
 abbrev pub settled : Dialog → Submitted → Turn Dialog
 settled d s = let t = session.settle (store_of s.kept) s.kept.stamps d s.outcome in settled_as t.out s.kept t.dialog
+
+-- the name of the mailbox that an ask takes away: the one that is deleted or renamed; that of INBOX is there again
+abbrev pub name_taken : Ask → Option (List ℕ)
+name_taken (ask.Rename mailbox target) = if bytes_eq mailbox inbox then None else Some mailbox
+name_taken (ask.Delete mailbox) = Some mailbox
+name_taken _ = None
+
+-- the mailbox that an ask takes away, where there is one
+abbrev pub taken_by : Option User → Ask → List BoxId
+taken_by None asked = []
+taken_by (Some user) asked = map (box_of user) (cons_option (name_taken asked) [])
+
+-- where it was done, other sessions are told of these mailboxes
+abbrev pub changing : Result Item SubmitFault → List BoxId → Turn Dialog → Turn Dialog
+changing (Ok item) boxes t = record t { changed = boxes }
+changing (Err fault) boxes t = t
+
+-- the dialog is told what became of its ask, and so are others, where it took a mailbox away
+abbrev pub done : Dialog → Ask → Submitted → Turn Dialog
+done d asked s = changing s.outcome (taken_by d.user asked) (settled d s)
 
 -- what the dialog gives once it has its texts; it wants none again
 abbrev pub submits : Service → Kept → ImapOut → Dialog → Turn Dialog
 submits desk kept (Say said) d = says said kept d
 submits desk kept (Bye said) d = ends said kept
 submits desk kept (Read bodies) d = says [] kept d
-submits desk kept (Submit ask) d = settled d (desk.asked d.user ask)
+submits desk kept (Submit asked) d = done d asked (desk.asked d.user asked)
 
 -- what the dialog gives, and what is asked by it of the desk
 abbrev pub followed : Service → Kept → ImapOut → Dialog → Turn Dialog
 followed desk kept (Say said) d = says said kept d
 followed desk kept (Bye said) d = ends said kept
 followed desk kept (Read bodies) d = let t = session.heard d (desk.texts bodies) in submits desk kept t.out t.dialog
-followed desk kept (Submit ask) d = settled d (desk.asked d.user ask)
+followed desk kept (Submit asked) d = done d asked (desk.asked d.user asked)
 
 -- a command, or what is none; a literal is invited, and a bad line is refused
 abbrev pub served : Service → Kept → Dialog → Next → Turn Dialog

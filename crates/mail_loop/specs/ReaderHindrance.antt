@@ -11,7 +11,7 @@ use Rattle.imap_session.specs.declared.words.Answer.TheVariants.{Refused as IsTo
 use Rattle.imap_session.specs.Words.{tagged}
 use Rattle.mail_desk.specs.Kept.{Kept}
 use Rattle.mail_loop.specs.Dialog.{Turn, says, ends}
-use Rattle.mail_loop.specs.Hindrance.{Hindrance, Clear, Refused, Unread, Unstored, Unheard, Unanswered, lost}
+use Rattle.mail_loop.specs.Hindrance.{Hindrance, Clear, Refused, Unread, Unstored, Unheard, Unanswered, lost, unanswered}
 use Rattle.mail_loop.specs.Reader.{Service, service, served, turn}
 
 -- what a command's tag is told of want of memory
@@ -44,4 +44,4 @@ imap_hindered Refused at kept d next = refused kept d next
 imap_hindered Unread at kept d next = served (without_texts (service at kept)) kept d next
 imap_hindered Unstored at kept d next = served (without_items kept (service at kept)) kept d next
 imap_hindered Unheard at kept d next = lost kept
-imap_hindered Unanswered at kept d next = ends [] (turn at kept d next).kept
+imap_hindered Unanswered at kept d next = unanswered (turn at kept d next)

@@ -1,21 +1,33 @@
 -- What the code's replies and sessions are in the machine. A desk is seen as what is kept.
-use Rattle.std.specs.Prelude.{◌≡◌, List, map, false, true}
+use Rattle.std.specs.Prelude.{◌≡◌, ℕ, List, map, false, true}
 use Rattle.std.specs.List.{All}
 use Rattle.std.specs.Map.{values_of}
 use Rattle.verb_core.specs.declared.conf.House.{House}
+use Rattle.mail_loop.specs.declared.letters.Letter.{Letter}
 use Rattle.mail_loop.specs.declared.reply.Reply.{Reply as CodeReply}
+use Rattle.mail_loop.specs.declared.letters.Said.{Said}
+use Rattle.mail_loop.specs.declared.letters.Said.TheVariants.{Answers, Changed}
 use Rattle.mail_loop.specs.declared.session.Kind.{Kind}
 use Rattle.mail_loop.specs.declared.session.Kind.TheVariants as kind
 use Rattle.smtp_session.specs.Dialog.{is_due}
 use Rattle.imap_session.specs.Dialog.{is_at_home, is_free}
+use Rattle.imap_session.specs.Words.{changed_text}
 use Rattle.mail_loop.specs.State.{Seat, Smtp, Imap}
 use Rattle.mail_loop.specs.Machine.{Reply, Seats}
 
 abbrev pub reply_of : CodeReply → Reply
 reply_of r = record { conn = r.conn; said = r.said; closes = r.closes }
 
-abbrev pub replies_of : List CodeReply → List Reply
-replies_of replies = map reply_of replies
+-- the bytes of a string
+abbrev pub said_of : Said → List ℕ
+said_of (Answers text) = text
+said_of Changed = changed_text
+
+abbrev pub letter_of : Letter → Reply
+letter_of l = record { conn = l.conn; said = said_of l.said; closes = l.closes }
+
+abbrev pub replies_of : List Letter → List Reply
+replies_of letters = map letter_of letters
 
 -- the seat of a session
 abbrev pub seat_of : Kind → Seat

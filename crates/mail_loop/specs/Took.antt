@@ -13,9 +13,9 @@ use Rattle.smtp_session.specs.Dialog.{is_due}
 use Rattle.mail_desk.specs.Kept.{Kept}
 use Rattle.mail_loop.specs.State.{Seat}
 use Rattle.mail_loop.specs.Dialog.{Turn, ends, followed, settled}
-use Rattle.mail_loop.specs.Hindrance.{Hindrance, Clear, Refused, Unread, Unstored, Unheard, Unanswered, lost, refused_in_text}
+use Rattle.mail_loop.specs.Hindrance.{Hindrance, Clear, Refused, Unread, Unstored, Unheard, Unanswered, lost, unanswered, refused_in_text}
 use Rattle.mail_loop.specs.Turns.{Heard}
-use Rattle.mail_loop.specs.Machine.{Seats, Answered as AnsweredEvent, seated}
+use Rattle.mail_loop.specs.Machine.{Seats, Answered as AnsweredEvent, closed_others, seated, with_reply}
 use Rattle.mail_loop.specs.Stands.{reply_of}
 
 -- A string is added, whole, and the connection closes after the last one; or no memory is found for it, and the connection closes.
@@ -44,7 +44,7 @@ hindered_after Refused at kept out d = refused_in_text kept out d
 hindered_after Unread at kept out d = followed at kept out d
 hindered_after Unstored at kept out d = followed at kept out d
 hindered_after Unheard at kept out d = lost kept
-hindered_after Unanswered at kept out d = ends [] (followed at kept out d).kept
+hindered_after Unanswered at kept out d = unanswered (followed at kept out d)
 
 -- a turn is in the reply
 pub record Takes {D : Type 0} (t : Turn D) (old : Reply) (kept : Kept) (d : D) (new : Reply) : Type 0 where
@@ -52,6 +52,7 @@ pub record Takes {D : Type 0} (t : Turn D) (old : Reply) (kept : Kept) (d : D) (
   pub said : new.said ≡ old.said ++ t.said
   pub kept_is : kept ≡ t.kept
   pub dialog_is : MatchOption t.dialog (new.closes ≡ true) (λ e. (d ≡ e) × (new.closes ≡ false))
+  pub changed : new.changed ≡ old.changed ++ t.changed
 
 -- the connection closes with no answer, or an ask that was refused is settled as one for which no memory was found
 abbrev pub SettlesAgain : Bool → Kept → Dialog → Reply → Dialog → Reply → Type 0
@@ -69,14 +70,17 @@ abbrev pub seat_left : Bool → Seat → Option Seat
 seat_left true seat = None
 seat_left false seat = Some seat
 
--- The turns of a connection's stream are in the reply, they touch no other connection, and this is its seat then.
+-- The turns of a connection's stream are in the reply, with the mailboxes that they took away, and this is its seat then.
 pub record Tells (h : Heard) (seats : Seats) (conn : ℕ) (reply : Reply) (kept : Kept) (seat : Seat) : Type 0 where
   pub conn_is : reply.conn ≡ conn
-  pub heard_is : h ≡ record { said = reply.said; state = record { kept = kept; seats = seats }; seat = seat_left reply.closes seat; others = [] }
+  pub heard_is : h ≡ record { said = reply.said; state = record { kept = kept; seats = seats }; seat = seat_left reply.closes seat; changed = reply.changed }
 
--- a connection has this reply, and its seat is now this one, or none where it is closed; no other connection is touched
-abbrev pub answered_alone : ℕ → Reply → Kept → Seat → Seats → AnsweredEvent
-answered_alone conn reply kept seat seats = record {
-  state = record { kept = kept; seats = seated conn (seat_left reply.closes seat) seats };
-  replies = reply_of reply ∷ [];
+-- a connection has this reply, and its seat is now this one, or none where it is closed; others are told of the mailboxes that are gone
+abbrev pub answered_with : ℕ → Reply → Kept → Seats → AnsweredEvent
+answered_with conn reply kept seats = record {
+  state = record { kept = kept; seats = seats };
+  replies = with_reply (reply_of reply) (closed_others conn reply.changed seats);
 }
+
+abbrev pub answered_alone : ℕ → Reply → Kept → Seat → Seats → AnsweredEvent
+answered_alone conn reply kept seat seats = answered_with conn reply kept (seated conn (seat_left reply.closes seat) seats)

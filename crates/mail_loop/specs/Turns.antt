@@ -2,6 +2,7 @@
 -- mail reader's.
 use Rattle.std.specs.Prelude.{ℕ, List, [], ◌∷◌, ◌++◌, Option, None, Some}
 use Rattle.std.specs.Option.{option_map}
+use Rattle.verb_core.specs.declared.mailbox.BoxId.{BoxId}
 use Rattle.smtp_lines.specs.declared.line.SmtpLine.{SmtpLine}
 use Rattle.smtp_lines.specs.Lines.{rest_of}
 use Rattle.smtp_lines.specs.Line.{smtp_lines_of}
@@ -16,30 +17,26 @@ use Rattle.mail_loop.specs.Dialog.{Turn}
 use Rattle.mail_loop.specs.Hindrance.{Hindrance, hindered, first_hindrance, other_hindrances}
 use Rattle.mail_loop.specs.ReaderHindrance.{imap_hindered}
 
--- what is said to another connection before that is closed
-pub record Other : Type 0 where
-  pub conn : ℕ
-  pub said : List ℕ
-
--- What turns leave: what they say, the state, the dialog after them or none where the connection is closed, and the others that they tell and close.
+-- What turns leave: what they say, the state, the dialog after them or none where the connection is closed, and the mailboxes whose other sessions
+-- are told and closed.
 pub record Outcome (D : Type 0) : Type 0 where
   pub said : List ℕ
   pub state : State
   pub dialog : Option D
-  pub others : List Other
+  pub changed : List BoxId
 
 -- no turn yet
 abbrev pub none_yet : {D : Type 0} → State → D → Outcome D
-none_yet s d = record { said = []; state = s; dialog = Some d; others = [] }
+none_yet s d = record { said = []; state = s; dialog = Some d; changed = [] }
 
 -- what turns leave after what earlier ones said
-abbrev pub after : {D : Type 0} → List ℕ → List Other → Outcome D → Outcome D
-after said others o = record { said = said ++ o.said; state = o.state; dialog = o.dialog; others = others ++ o.others }
+abbrev pub after : {D : Type 0} → List ℕ → List BoxId → Outcome D → Outcome D
+after said changed o = record { said = said ++ o.said; state = o.state; dialog = o.dialog; changed = changed ++ o.changed }
 
 -- the turns after a turn, while the connection is open
 abbrev pub goes_on : {D : Type 0} → Outcome D → Option D → (State → D → Outcome D) → Outcome D
-goes_on o None more = record { said = o.said; state = o.state; dialog = None; others = o.others }
-goes_on o (Some d) more = after o.said o.others (more o.state d)
+goes_on o None more = record { said = o.said; state = o.state; dialog = None; changed = o.changed }
+goes_on o (Some d) more = after o.said o.changed (more o.state d)
 
 -- Turns, one after the other, each hindered or not. `one` is a turn of this kind of session.
 abbrev pub turns : {D U : Type 0} → (Hindrance → State → D → U → Outcome D) → List Hindrance → State → D → List U → Outcome D
@@ -48,9 +45,9 @@ turns one hs s d (u ∷ us) =
     let o = one (first_hindrance hs) s d u in
     goes_on o o.dialog (λ s d. turns one (other_hindrances hs) s d us)
 
--- a turn touches no other connection
+-- a turn touches no other connection; those that it changes are told at the event's end
 abbrev pub outcome_of : {D : Type 0} → State → Turn D → Outcome D
-outcome_of s t = record { said = t.said; state = record { kept = t.kept; seats = s.seats }; dialog = t.dialog; others = [] }
+outcome_of s t = record { said = t.said; state = record { kept = t.kept; seats = s.seats }; dialog = t.dialog; changed = t.changed }
 
 -- a turn of a mail client: a line of its stream
 abbrev pub smtp_turn : ℕ → Hindrance → State → Dialog → SmtpLine → Outcome Dialog
@@ -60,15 +57,16 @@ smtp_turn at h s d line = outcome_of s (hindered h at s.kept d line)
 abbrev pub imap_turn : ℕ → Hindrance → State → ImapDialog → Next → Outcome ImapDialog
 imap_turn at h s d next = outcome_of s (imap_hindered h at s.kept d next)
 
--- what comes of a connection's stream: what it is told, the state, its seat after that or none where it is closed, and the others that are told and closed
+-- what comes of a connection's stream: what it is told, the state, its seat after that or none where it is closed, and the mailboxes
+-- whose other sessions are told and closed
 pub record Heard : Type 0 where
   pub said : List ℕ
   pub state : State
   pub seat : Option Seat
-  pub others : List Other
+  pub changed : List BoxId
 
 abbrev pub heard_by : {D : Type 0} → (D → Seat) → Outcome D → Heard
-heard_by seat o = record { said = o.said; state = o.state; seat = option_map seat o.dialog; others = o.others }
+heard_by seat o = record { said = o.said; state = o.state; seat = option_map seat o.dialog; changed = o.changed }
 
 -- the turns of a mail client's lines; what follows the last line stays unserved
 abbrev pub hears_lines : List Hindrance → ℕ → State → Dialog → List ℕ → Heard

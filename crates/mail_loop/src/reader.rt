@@ -7,11 +7,12 @@ ghost use Rattle.imap_session.specs.Dialog.{AsksAsUser, IsNext, is_at_home, is_d
 ghost use Rattle.mail_desk.specs.Kept.{Kept};
 ghost use Rattle.mail_desk.specs.Timeline.{has_text, texts_of};
 ghost use Rattle.mail_loop.specs.Hindrance.{Hindrance};
-ghost use Rattle.mail_loop.specs.Reader.{followed, submits, settled};
+ghost use Rattle.mail_loop.specs.Reader.{done, followed, submits};
 ghost use Rattle.mail_loop.specs.ReaderHindrance.{imap_hindered};
 ghost use Rattle.mail_loop.specs.Took.{Takes};
 ghost use Rattle.mail_loop.specs.Read.{AreThere, IsAnswered, IsAwaitedLast, IsReaderTold, ReadsNone, Settles, SettlesAgain, obeyed_under, under};
 
+use crate::asking::ask_desk;
 use crate::reply::{Reply, say};
 use imap_lines::{ImapCommand, ImapRefused, read_command};
 use imap_session::{BodyList, ImapOut, ImapSession, bad_line, no_memory, ready, refused};
@@ -120,9 +121,9 @@ fn submit(
     ensures home { is_at_home desk.new.kept.house session.new ≡ true }
     ensures house { desk.new.kept.house ≡ desk.old.kept.house }
     ensures turn { (h : Hindrance) ×
-        Takes (under h at desk.old.kept (λ service. settled session.old (service.asked session.old.user ask))) reply.old desk.new.kept session.new reply.new }
+        Takes (under h at desk.old.kept (λ service. done session.old ask (service.asked session.old.user ask))) reply.old desk.new.kept session.new reply.new }
 {
-    let outcome = desk.submit(alloc, at, session.user(), ask);
+    let outcome = ask_desk(alloc, desk, at, session.user(), ask, reply);
     settle(alloc, desk, session, &outcome, reply);
 }
 

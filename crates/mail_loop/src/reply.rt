@@ -1,54 +1,59 @@
 //! What a connection is told at the end of an event.
 ghost use Rattle.std.specs.Prelude.{◌≡◌, false, [], IfOk};
+ghost use Rattle.mail_loop.specs.Stands.{letter_of};
 ghost use Rattle.smtp_session.specs.declared.answer.Answer.TheVariants.{Ready};
 ghost use Rattle.smtp_session.specs.Answer.{answer_text};
 ghost use Rattle.imap_session.specs.Words.{greeting_text};
 ghost use Rattle.mail_loop.specs.Took.{Adds};
 
+use crate::gone::Gone;
+use crate::letters::{Letter, Said};
 use smtp_session::greeting;
 use std::alloc::Global;
 use undo_base::{NoMemory, Text};
 use verb_core::House;
 
-/// What a connection is told at the end of an event, and whether it is closed then.
+/// What a connection's turns say, whether it is closed then, and the mailboxes that they took away.
 #[derive(Debug, Drop)]
 pub struct Reply {
     pub conn: u32,
     pub said: Text,
     pub closes: bool,
+    pub changed: Gone,
 }
 
 /// A reply that says nothing yet.
 pub fn empty_reply(alloc: Global, conn: u32, closes: bool) -> Reply
-    ensures { result ≡ record { conn = conn; said = []; closes = closes } }
+    ensures { result ≡ record { conn = conn; said = []; closes = closes; changed = [] } }
 {
     Reply {
         conn,
         said: Text::new(alloc),
         closes,
+        changed: Gone::new(alloc),
     }
 }
 
 /// The greeting of a mail client.
-pub fn greet(alloc: Global, house: &House, conn: u32) -> Result<Reply, NoMemory>
-    ensures { IfOk result (λ reply. reply ≡ record { conn = conn; said = answer_text house.now.host Ready; closes = false }) }
+pub fn greet(alloc: Global, house: &House, conn: u32) -> Result<Letter, NoMemory>
+    ensures { IfOk result (λ letter. letter_of letter ≡ record { conn = conn; said = answer_text house.now.host Ready; closes = false }) }
 {
     let said = greeting(alloc, house)?;
-    Ok(Reply {
+    Ok(Letter {
         conn,
-        said,
+        said: Said::Answers(said),
         closes: false,
     })
 }
 
 /// The greeting of a mail reader.
-pub fn greet_reader(alloc: Global, house: &House, conn: u32) -> Result<Reply, NoMemory>
-    ensures { IfOk result (λ reply. reply ≡ record { conn = conn; said = greeting_text house.now; closes = false }) }
+pub fn greet_reader(alloc: Global, house: &House, conn: u32) -> Result<Letter, NoMemory>
+    ensures { IfOk result (λ letter. letter_of letter ≡ record { conn = conn; said = greeting_text house.now; closes = false }) }
 {
     let said = imap_session::greeting(alloc, house)?;
-    Ok(Reply {
+    Ok(Letter {
         conn,
-        said,
+        said: Said::Answers(said),
         closes: false,
     })
 }

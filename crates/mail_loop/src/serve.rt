@@ -1,14 +1,15 @@
 //! The serving loop.
-ghost use Rattle.std.specs.Prelude.{◌≡◌, ◌≤◌, Bool, List, [], ◌∷◌, IfOk};
+ghost use Rattle.std.specs.Prelude.{◌≡◌, ◌≤◌, Bool, List};
 ghost use Rattle.undo_outside.specs.declared.event.LinkNote.{LinkNote};
 ghost use Rattle.mail_loop.specs.Hindrance.{Hindrance};
 ghost use Rattle.mail_loop.specs.Machine.{Hindrances, Delivery, admits, after_reply, answered, delivered, happens, hears_at, joins, seat_at};
 ghost use Rattle.verb_core.specs.declared.conf.House.{House as TheHouse};
-ghost use Rattle.mail_loop.specs.Stands.{AreHome, reply_of, replies_of};
+ghost use Rattle.mail_loop.specs.Stands.{AreHome, letter_of, replies_of};
 ghost use Rattle.mail_loop.specs.Did.{AreLicensed, Told, Replied, Sends, Leads, Answers};
 ghost use Rattle.mail_loop.specs.Serving.{Step, ServedOver, is_end};
 
-use crate::reply::{Reply, greet, greet_reader};
+use crate::letters::{Letter, alone, letters_of};
+use crate::reply::{greet, greet_reader};
 use crate::session::{Session, hear, new_reader, new_session};
 use mail_desk::Desk;
 use std::alloc::Global;
@@ -28,26 +29,26 @@ pub enum ServeFault {
 type Connections = BTreeMap<u32, Session>;
 
 /// Sends the string of a reply, if there is one. Answers whether the connection stays open.
-fn tell<L: Link>(link: &mut L, reply: &Reply) -> bool
-    ensures { Told (L.told link.old) (L.told link.new) (reply_of reply.now) result }
+fn tell<L: Link>(link: &mut L, letter: &Letter) -> bool
+    ensures { Told (L.told link.old) (L.told link.new) (letter_of letter.now) result }
 {
-    let bytes = reply.said.bytes();
+    let bytes = letter.bytes();
     if bytes.is_empty() {
-        return !reply.closes;
+        return !letter.closes;
     }
-    match link.send(reply.conn, bytes) {
-        Ok(()) => !reply.closes,
+    match link.send(letter.conn, bytes) {
+        Ok(()) => !letter.closes,
         Err(_) => false,
     }
 }
 
 /// Sends the string of a reply, if there is one, and closes the connection where it is to be closed. Answers whether it stays open.
-fn deliver<L: Link>(link: &mut L, reply: &Reply) -> Result<bool, NoMemory>
-    ensures { Replied (L.told link.old) (L.told link.new) (reply_of reply.now) result }
+fn deliver<L: Link>(link: &mut L, letter: &Letter) -> Result<bool, NoMemory>
+    ensures { Replied (L.told link.old) (L.told link.new) (letter_of letter.now) result }
 {
-    let stays = tell(link, reply);
+    let stays = tell(link, letter);
     if !stays {
-        link.close(reply.conn)?;
+        link.close(letter.conn)?;
     }
     Ok(stays)
 }
@@ -56,20 +57,17 @@ fn deliver<L: Link>(link: &mut L, reply: &Reply) -> Result<bool, NoMemory>
 fn deliver_all<L: Link>(
     connections: &mut Connections,
     link: &mut L,
-    replies: &[Reply],
+    letters: &[Letter],
 ) -> Result<(), NoMemory>
     ensures home { (house : TheHouse) → AreHome house connections.old.entries → AreHome house connections.new.entries }
     ensures sends { (ds : List Delivery) × AreLicensed ds (L.told link.old) (L.told link.new) ×
-        Sends (delivered ds connections.old.entries (replies_of replies.now)) (L.told link.old) (L.told link.new) connections.new.entries result }
+        Sends (delivered ds connections.old.entries (replies_of letters.now)) (L.told link.old) (L.told link.new) connections.new.entries result }
 {
-    match replies {
-        [] => Ok(()),
-        [reply, others @ ..] => {
-            let stays = deliver(link, reply)?;
-            keep_if(connections, reply.conn, stays);
-            deliver_all(connections, link, others)
-        }
+    for letter in letters {
+        let stays = deliver(link, letter)?;
+        keep_if(connections, letter.conn, stays);
     }
+    Ok(())
 }
 
 /// Forgets a connection, unless it stays open.
@@ -82,15 +80,6 @@ fn keep_if(connections: &mut Connections, conn: u32, stays: bool)
     }
 }
 
-/// One reply.
-fn alone(alloc: Global, reply: Reply) -> Result<Vec<Reply>, NoMemory>
-    ensures { IfOk result (λ replies. replies_of replies.items ≡ reply_of reply ∷ []) }
-{
-    let mut replies = Vec::new(alloc);
-    replies.push(reply)?;
-    Ok(replies)
-}
-
 /// Opens a connection of a kind that is served, and greets the client.
 fn admit(
     alloc: Global,
@@ -98,7 +87,7 @@ fn admit(
     connections: &mut Connections,
     conn: u32,
     role: Role,
-) -> Result<Vec<Reply>, NoMemory>
+) -> Result<Vec<Letter>, NoMemory>
     ensures home { (house : TheHouse) → AreHome house connections.old.entries → AreHome house connections.new.entries }
     ensures answers { Answers (admits role (record { kept = desk.now.kept; seats = connections.old.entries }) conn)
         desk.now.kept connections.new.entries (λ replies. replies_of replies.items) result }
@@ -125,7 +114,7 @@ fn join(
     connections: &mut Connections,
     conn: u32,
     role: Role,
-) -> Result<Vec<Reply>, NoMemory>
+) -> Result<Vec<Letter>, NoMemory>
     ensures home { (house : TheHouse) → AreHome house connections.old.entries → AreHome house connections.new.entries }
     ensures answers { Answers (joins (seat_at conn connections.old.entries) role (record { kept = desk.now.kept; seats = connections.old.entries }) conn)
         desk.now.kept connections.new.entries (λ replies. replies_of replies.items) result }
@@ -145,7 +134,7 @@ fn hear_at(
     conn: u32,
     at: u64,
     bytes: &[u8],
-) -> Result<Vec<Reply>, NoMemory>
+) -> Result<Vec<Letter>, NoMemory>
     requires moment { at ≤ 253402300799 }
     requires home { AreHome desk.old.kept.house connections.old.entries }
     ensures home { AreHome desk.new.kept.house connections.new.entries }
@@ -158,7 +147,7 @@ fn hear_at(
         Some(session) => hear(alloc, desk, session, conn, at, bytes),
     };
     keep_if(connections, conn, !reply.closes);
-    alone(alloc, reply)
+    letters_of(alloc, connections, conn, reply)
 }
 
 /// What an event leaves before its strings are sent: the replies by rising connection.
@@ -167,7 +156,7 @@ fn answer_event(
     desk: &mut Desk,
     connections: &mut Connections,
     event: &Event,
-) -> Result<Vec<Reply>, NoMemory>
+) -> Result<Vec<Letter>, NoMemory>
     requires home { AreHome desk.old.kept.house connections.old.entries }
     ensures home { AreHome desk.new.kept.house connections.new.entries }
     ensures answers { (no_memory : Bool) × (hs : List Hindrance) ×

@@ -1,11 +1,13 @@
 //! The sessions of open connections.
 ghost use Rattle.std.specs.Prelude.{◌≡◌, ◌≤◌, ◌++◌, Bool, List, ℕ, false, true};
+ghost use Rattle.std.specs.List.{list_any};
+ghost use Rattle.verb_core.specs.declared.mailbox.BoxId.{BoxId as TheBoxId};
 ghost use Rattle.smtp_session.specs.Dialog.{is_due};
-ghost use Rattle.imap_session.specs.Dialog.{is_at_home, is_free};
+ghost use Rattle.imap_session.specs.Dialog.{holds, is_at_home, is_free};
 ghost use Rattle.mail_loop.specs.State.{State, Smtp as SmtpSeat, Imap as ImapSeat};
 ghost use Rattle.mail_loop.specs.Hindrance.{Hindrance};
 ghost use Rattle.mail_loop.specs.Turns.{hears_lines, hears_commands};
-ghost use Rattle.mail_loop.specs.Machine.{Seats, fresh, fresh_reader, hears};
+ghost use Rattle.mail_loop.specs.Machine.{Seats, fresh, fresh_reader, hears, holds_one};
 ghost use Rattle.mail_loop.specs.Read.{is_not_yet};
 ghost use Rattle.mail_loop.specs.Stands.{IsHome};
 ghost use Rattle.mail_loop.specs.Took.{Tells, answered_alone};
@@ -21,6 +23,7 @@ use smtp_session::SmtpSession;
 use std::alloc::Global;
 use std::marker::Model;
 use undo_base::NoMemory;
+use verb_core::BoxId;
 
 /// What a connection speaks, with its stream as far as it was not served, and its dialog.
 #[derive(Drop)]
@@ -74,6 +77,28 @@ pub fn new_reader(alloc: Global) -> Session
             dialog: ImapSession::new(),
         },
     }
+}
+
+impl Session {
+    /// Whether it has one of these mailboxes selected.
+    pub fn holds_one(&self, boxes: &[BoxId]) -> bool
+        ensures { result ≡ holds_one boxes.now self.now }
+    {
+        match &self.kind {
+            Kind::Smtp {
+                unserved: _,
+                dialog: _,
+            } => false,
+            Kind::Imap { stream: _, dialog } => dialog_holds(dialog, boxes),
+        }
+    }
+}
+
+/// Whether a dialog has one of these mailboxes selected.
+fn dialog_holds(dialog: &ImapSession, boxes: &[BoxId]) -> bool
+    ensures { result ≡ list_any (λ (box : TheBoxId). holds dialog.now box.user box.name) boxes.now }
+{
+    boxes.iter().any(|id| dialog.holds(id.user, &id.name))
 }
 
 /// Serves the lines that are whole, each of which is a turn.

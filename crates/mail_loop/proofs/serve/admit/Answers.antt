@@ -7,10 +7,9 @@ use Rattle.verb_core.specs.declared.conf.House.{House}
 use Rattle.smtp_session.specs.declared.answer.Answer.TheVariants.{Ready}
 use Rattle.smtp_session.specs.Answer.{answer_text}
 use Rattle.imap_session.specs.Words.{greeting_text}
-use Rattle.mail_loop.specs.declared.reply.Reply.{Reply}
-use Rattle.mail_loop.specs.Machine.{Seats, admits}
+use Rattle.mail_loop.specs.Machine.{Reply as TheReply, Seats, admits}
 use Rattle.mail_loop.specs.State.{Seat, State}
-use Rattle.mail_loop.specs.Stands.{AreHome, IsHome, reply_of, replies_of}
+use Rattle.mail_loop.specs.Stands.{AreHome, IsHome, letter_of, replies_of}
 use Rattle.mail_loop.proofs.serve.admit.Goals as goal
 
 pub returns-in_ok-insert-in-Smtp-clause-answers : goal.returns-in_ok-insert-in-Smtp-clause-answers
@@ -22,7 +21,7 @@ returns-in_ok-insert-in-Smtp-clause-answers c =
     × (replies_of c.in_ok-replies-in-Smtp.replies.items ≡ (admits role s c.args.conn).replies)) (sym c.in-Smtp.is) (
       refl,
       c.in_ok-insert-in-Smtp.ensures.entries ∙ ap (insert_entry nat_cmp es c.args.conn) c.new_session.ensures,
-      c.in_ok-replies-in-Smtp.ensures ∙ ap (λ (r : Reply). reply_of r ∷ []) c.in_ok-greet-in-Smtp.ensures
+      c.in_ok-replies-in-Smtp.ensures ∙ ap (λ (r : TheReply). r ∷ []) c.in_ok-greet-in-Smtp.ensures
           ∙ ap (λ (h : House). record { conn = c.args.conn; said = answer_text h.host Ready; closes = false } ∷ []) c.house.ensures.value,
     )
 
@@ -35,7 +34,7 @@ returns-in_ok-insert-in-Imap-clause-answers c =
     × (replies_of c.in_ok-replies-in-Imap.replies.items ≡ (admits role s c.args.conn).replies)) (sym c.in-Imap.is) (
       refl,
       c.in_ok-insert-in-Imap.ensures.entries ∙ ap (insert_entry nat_cmp es c.args.conn) c.new_reader.ensures,
-      c.in_ok-replies-in-Imap.ensures ∙ ap (λ (r : Reply). reply_of r ∷ []) c.in_ok-greet_reader-in-Imap.ensures
+      c.in_ok-replies-in-Imap.ensures ∙ ap (λ (r : TheReply). r ∷ []) c.in_ok-greet_reader-in-Imap.ensures
           ∙ ap (λ (h : House). record { conn = c.args.conn; said = greeting_text h; closes = false } ∷ []) c.house-in-Imap.ensures.value,
     )
 

@@ -18,8 +18,8 @@ returns-clause-answers c =
     let session = c.hear-reply.new.session in
     let lent = (c.get_mut.follows.lender session).entries in
     bytes_heard c.args.conn c.args.at c.args.desk.now.kept c.hear-reply.new.desk.kept c.args.connections.now.entries lent c.keep_if.new.connections.entries c.in-Some.session.now session
-    c.args.bytes.now c.hear-reply.result (λ replies. replies_of replies.items) c.alone.result c.in-Some.ensures.value (c.get_mut.follows.holds session).0
-    c.keep_if.ensures.entries c.hear-reply.ensures.heard c.alone.ensures
+    c.args.bytes.now c.hear-reply.result (λ replies. replies_of replies.items) c.letters_of.result c.in-Some.ensures.value (c.get_mut.follows.holds session).0
+    c.keep_if.ensures.entries c.hear-reply.ensures.heard c.letters_of.ensures
 
 pub returns-clause-home : goal.returns-clause-home
 returns-clause-home c =

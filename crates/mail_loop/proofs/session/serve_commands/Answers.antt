@@ -20,10 +20,7 @@ loop-next-init c =
       home = c.requires.home;
       house = refl;
       rest = refl;
-      turns = λ seats.
-          subst (λ (said : List ℕ). SoFar (next_at c.args.at) seats c.args.desk.now.kept c.args.dialog.now all said c.args.desk.now.kept c.args.dialog.now all)
-          (sym (ap (λ (r : Reply). r.said) reply.ensures))
-          (so_far_none (next_at c.args.at) seats c.args.desk.now.kept c.args.dialog.now all);
+      turns = λ seats. so_far_none (next_at c.args.at) seats c.args.desk.now.kept c.args.dialog.now all c.args.conn reply.result reply.ensures;
     }
 
 pub returns-then-is_not_yet-clause-turns : goal.returns-then-is_not_yet-clause-turns
@@ -35,7 +32,7 @@ returns-then-is_not_yet-clause-turns c seats =
     let all = stream.said ++ NotYet ∷ [] in
     let none = none_taken l.stream c.next.new.self c.in-Ok.next c.in-Ok.ensures.ok (sym c.is_not_yet.ensures ∙ c.if-is_not_yet.true) in
     told_by (next_at c.args.at) (Imap (emptied stream)) seats kept d all c.args.conn l.reply l.desk.kept (Imap c.next.new.self l.dialog) (Some l.dialog) l.invariant.conn
-    (last_heard (next_at c.args.at) seats kept d all l.reply.said l.desk.kept l.dialog (l.stream.said ++ NotYet ∷ []) NotYet
+    (last_heard (next_at c.args.at) seats kept d all l.reply l.desk.kept l.dialog (l.stream.said ++ NotYet ∷ []) NotYet
     (l.invariant.turns seats) (ap (λ (nexts : List Next). nexts ++ NotYet ∷ []) none.0) refl)
     (seat_stays l.reply.closes (Imap (emptied stream) l.dialog) (Imap c.next.new.self l.dialog) l.invariant.stays
     (ap (λ (h : Heard). Imap h l.dialog) (sym l.invariant.rest ∙ is_emptied l.stream none.0 ∙ sym none.1)))
@@ -47,9 +44,9 @@ returns-in-Err-clause-turns c seats =
     let kept = c.args.desk.now.kept in
     let d = c.args.dialog.now in
     let all = stream.said ++ NotYet ∷ [] in
-    told_by (next_at c.args.at) (Imap (emptied stream)) seats kept d all c.args.conn (record { conn = l.reply.conn; said = l.reply.said; closes = true }) l.desk.kept
+    told_by (next_at c.args.at) (Imap (emptied stream)) seats kept d all c.args.conn (record { conn = l.reply.conn; said = l.reply.said; closes = true; changed = l.reply.changed }) l.desk.kept
     (Imap c.next.new.self l.dialog) None l.invariant.conn
-    (unheard (next_at c.args.at) seats kept d all l.reply.said l.desk.kept l.dialog (l.stream.said ++ NotYet ∷ [])
+    (unheard (next_at c.args.at) seats kept d all l.reply l.desk.kept l.dialog (l.stream.said ++ NotYet ∷ [])
     (l.invariant.turns seats) (some_last l.stream.said) (λ u. refl))
     refl
 
@@ -66,7 +63,7 @@ returns-then-reply-clause-turns c seats =
     told_by (next_at c.args.at) (Imap (emptied stream)) seats kept d all c.args.conn new.reply new.desk.kept (Imap c.next.new.self new.session) None (turn.1.conn ∙ l.invariant.conn)
     (closed_after (next_at c.args.at) seats kept d all l.desk.kept l.dialog c.in-Ok.next (c.next.new.self.said ++ NotYet ∷ [])
     new.desk.kept new.session l.reply new.reply
-    (subst (λ (nexts : List Next). SoFar (next_at c.args.at) seats kept d all l.reply.said l.desk.kept l.dialog (nexts ++ NotYet ∷ [])) some.0 (l.invariant.turns seats))
+    (subst (λ (nexts : List Next). SoFar (next_at c.args.at) seats kept d all l.reply l.desk.kept l.dialog (nexts ++ NotYet ∷ [])) some.0 (l.invariant.turns seats))
     turn.0 turn.1 c.if-reply.true)
     (seat_goes new.reply.closes (Imap c.next.new.self new.session) c.if-reply.true)
 
@@ -90,6 +87,6 @@ loop-next-preserved c =
       turns = λ seats.
           so_far_more (next_at c.args.at) seats kept d all l.desk.kept l.dialog c.in-Ok.next (c.next.new.self.said ++ NotYet ∷ [])
           new.desk.kept new.session l.reply new.reply
-          (subst (λ (nexts : List Next). SoFar (next_at c.args.at) seats kept d all l.reply.said l.desk.kept l.dialog (nexts ++ NotYet ∷ [])) some.0 (l.invariant.turns seats))
+          (subst (λ (nexts : List Next). SoFar (next_at c.args.at) seats kept d all l.reply l.desk.kept l.dialog (nexts ++ NotYet ∷ [])) some.0 (l.invariant.turns seats))
           turn.0 turn.1 c.if-reply.false;
     }

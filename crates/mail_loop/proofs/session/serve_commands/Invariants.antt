@@ -16,7 +16,7 @@ invariant-loop-next l = record {
   home : is_at_home l.desk.kept.house l.dialog ≡ true;
   house : l.desk.kept.house ≡ l.fn.desk.kept.house;
   rest : emptied l.stream ≡ emptied l.fn.stream;
-  turns : (seats : Seats) → SoFar (next_at l.at) seats l.fn.desk.kept l.fn.dialog (l.fn.stream.said ++ NotYet ∷ []) l.reply.said l.desk.kept l.dialog (l.stream.said ++ NotYet ∷ []);
+  turns : (seats : Seats) → SoFar (next_at l.at) seats l.fn.desk.kept l.fn.dialog (l.fn.stream.said ++ NotYet ∷ []) l.reply l.desk.kept l.dialog (l.stream.said ++ NotYet ∷ []);
 }
 
 abbrev pub decreases-loop-next : goal.decreases-loop-next

@@ -19,10 +19,7 @@ loop-line-init c =
       house = refl;
       rest = refl;
       turns = λ seats.
-          subst (λ (said : List ℕ). SoFar (line_at c.args.at) seats c.args.desk.now.kept c.args.dialog.now (smtp_lines_of c.args.unserved.now) said
-          c.args.desk.now.kept c.args.dialog.now (smtp_lines_of c.args.unserved.now))
-          (sym (ap (λ (r : Reply). r.said) reply.ensures))
-          (so_far_none (line_at c.args.at) seats c.args.desk.now.kept c.args.dialog.now (smtp_lines_of c.args.unserved.now));
+          so_far_none (line_at c.args.at) seats c.args.desk.now.kept c.args.dialog.now (smtp_lines_of c.args.unserved.now) c.args.conn reply.result reply.ensures;
     }
 
 pub returns-in-Ok-None-clause-turns : goal.returns-in-Ok-None-clause-turns
@@ -33,7 +30,7 @@ returns-in-Ok-None-clause-turns c seats =
     let d = c.args.dialog.now in
     let takes = rw c.in-Ok-None.field-0-is at c.in-Ok-None.ensures.next in
     told_by (line_at c.args.at) (Smtp (rest_of stream)) seats kept d (smtp_lines_of stream) c.args.conn l.reply l.desk.kept (Smtp c.next.new.self l.dialog) (Some l.dialog) l.invariant.conn
-    (all_heard (line_at c.args.at) seats kept d (smtp_lines_of stream) l.reply.said l.desk.kept l.dialog (smtp_lines_of l.unserved)
+    (all_heard (line_at c.args.at) seats kept d (smtp_lines_of stream) l.reply l.desk.kept l.dialog (smtp_lines_of l.unserved)
     (l.invariant.turns seats) takes.0)
     (seat_stays l.reply.closes (Smtp (rest_of stream) l.dialog) (Smtp c.next.new.self l.dialog) l.invariant.stays
     (ap (λ (r : List ℕ). Smtp r l.dialog) (sym l.invariant.rest ∙ takes.1 ∙ sym takes.2)))
@@ -44,9 +41,9 @@ returns-in-Err-clause-turns c seats =
     let stream = c.args.unserved.now in
     let kept = c.args.desk.now.kept in
     let d = c.args.dialog.now in
-    told_by (line_at c.args.at) (Smtp (rest_of stream)) seats kept d (smtp_lines_of stream) c.args.conn (record { conn = l.reply.conn; said = l.reply.said; closes = true }) l.desk.kept
+    told_by (line_at c.args.at) (Smtp (rest_of stream)) seats kept d (smtp_lines_of stream) c.args.conn (record { conn = l.reply.conn; said = l.reply.said; closes = true; changed = l.reply.changed }) l.desk.kept
     (Smtp c.next.new.self l.dialog) None l.invariant.conn
-    (unheard (line_at c.args.at) seats kept d (smtp_lines_of stream) l.reply.said l.desk.kept l.dialog (smtp_lines_of l.unserved)
+    (unheard (line_at c.args.at) seats kept d (smtp_lines_of stream) l.reply l.desk.kept l.dialog (smtp_lines_of l.unserved)
     (l.invariant.turns seats) c.in-Err.ensures.err.1 (λ u. refl))
     refl
 
@@ -62,7 +59,7 @@ returns-then-reply-clause-turns c seats =
     told_by (line_at c.args.at) (Smtp (rest_of stream)) seats kept d (smtp_lines_of stream) c.args.conn new.reply new.desk.kept (Smtp c.next.new.self new.session) None (turn.1.conn ∙ l.invariant.conn)
     (closed_after (line_at c.args.at) seats kept d (smtp_lines_of stream) l.desk.kept l.dialog c.in-Ok-Some.line (smtp_lines_of c.next.new.self)
     new.desk.kept new.session l.reply new.reply
-    (subst (λ (ls : List SmtpLine). SoFar (line_at c.args.at) seats kept d (smtp_lines_of stream) l.reply.said l.desk.kept l.dialog ls) takes.0 (l.invariant.turns seats))
+    (subst (λ (ls : List SmtpLine). SoFar (line_at c.args.at) seats kept d (smtp_lines_of stream) l.reply l.desk.kept l.dialog ls) takes.0 (l.invariant.turns seats))
     turn.0 turn.1 c.if-reply.true)
     (seat_goes new.reply.closes (Smtp c.next.new.self new.session) c.if-reply.true)
 
@@ -84,6 +81,6 @@ loop-line-preserved c =
       turns = λ seats.
           so_far_more (line_at c.args.at) seats kept d (smtp_lines_of stream) l.desk.kept l.dialog c.in-Ok-Some.line (smtp_lines_of c.next.new.self)
           new.desk.kept new.session l.reply new.reply
-          (subst (λ (ls : List SmtpLine). SoFar (line_at c.args.at) seats kept d (smtp_lines_of stream) l.reply.said l.desk.kept l.dialog ls) takes.0 (l.invariant.turns seats))
+          (subst (λ (ls : List SmtpLine). SoFar (line_at c.args.at) seats kept d (smtp_lines_of stream) l.reply l.desk.kept l.dialog ls) takes.0 (l.invariant.turns seats))
           turn.0 turn.1 c.if-reply.false;
     }

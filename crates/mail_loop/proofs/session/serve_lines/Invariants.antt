@@ -15,7 +15,7 @@ invariant-loop-line l = record {
   free : is_due l.dialog ≡ false;
   house : l.desk.kept.house ≡ l.fn.desk.kept.house;
   rest : rest_of l.unserved ≡ rest_of l.fn.unserved;
-  turns : (seats : Seats) → SoFar (line_at l.at) seats l.fn.desk.kept l.fn.dialog (smtp_lines_of l.fn.unserved) l.reply.said l.desk.kept l.dialog (smtp_lines_of l.unserved);
+  turns : (seats : Seats) → SoFar (line_at l.at) seats l.fn.desk.kept l.fn.dialog (smtp_lines_of l.fn.unserved) l.reply l.desk.kept l.dialog (smtp_lines_of l.unserved);
 }
 
 abbrev pub decreases-loop-line : goal.decreases-loop-line

@@ -1,5 +1,0 @@
-use Rattle.std.proofs.Common.{length}
-use Rattle.mail_loop.proofs.serve.+deliver_all.Given as goal
-
-abbrev pub decreases-deliver_all : goal.decreases-deliver_all
-decreases-deliver_all g l = length l.replies.now

@@ -1,0 +1,90 @@
+//! What a mail reader asks of the desk, and the mailboxes that this takes away.
+ghost use Rattle.std.specs.Prelude.{◌≡◌, ◌≤◌, ◌↔◌, ◌++◌, [], bytes_eq, option_copied, IfErr, IfOk, IsSome, IsTrue, OnErr, OnOk};
+ghost use Rattle.std.specs.List.{cons_option, list_all};
+ghost use Rattle.verb_core.specs.Live.{is_users, live};
+ghost use Rattle.verb_core.specs.Names.{inbox};
+ghost use Rattle.verb_core.specs.Store.{is_known};
+ghost use Rattle.mail_desk.specs.Desk.{IsFaultOf, store_of, submitted};
+ghost use Rattle.mail_loop.specs.Reader.{name_taken, taken_by};
+ghost use Rattle.mail_loop.specs.Read.{where_done};
+
+use crate::gone::Gone;
+use crate::reply::Reply;
+use mail_desk::Desk;
+use std::alloc::Global;
+use undo_base::{Copies, Name, NoMemory, User};
+use verb_core::{Ask, BoxId, Item, Refused, SubmitFault};
+
+fn is_inbox(name: &Name) -> bool
+    ensures { result ≡ bytes_eq name.now inbox }
+{
+    name.bytes() == b"INBOX".as_slice()
+}
+
+/// The name of the mailbox that an ask takes away. That of INBOX is there again.
+fn name_taken(ask: &Ask) -> Option<&Name>
+    ensures { option_copied result ≡ name_taken ask.now }
+{
+    match ask {
+        Ask::Delete { mailbox } => Some(mailbox),
+        Ask::Rename { mailbox, .. } => {
+            if is_inbox(mailbox) {
+                None
+            } else {
+                Some(mailbox)
+            }
+        }
+        Ask::Deliver { .. } => None,
+        Ask::Append { .. } => None,
+        Ask::Fetch { .. } => None,
+        Ask::Store { .. } => None,
+        Ask::Copy { .. } => None,
+        Ask::List { .. } => None,
+        Ask::Status { .. } => None,
+        Ask::Select { .. } => None,
+        Ask::Expunge { .. } => None,
+        Ask::Close { .. } => None,
+        Ask::Create { .. } => None,
+    }
+}
+
+/// Notes the mailbox that an ask takes away, where there is one.
+fn note(alloc: Global, gone: &mut Gone, by: Option<User>, ask: &Ask) -> Result<(), NoMemory>
+    ensures ok { OnOk result (gone.new ≡ gone.old ++ taken_by by ask.now) }
+    ensures err { OnErr result (gone.new ≡ gone.old) }
+{
+    match (by, name_taken(ask)) {
+        (Some(user), Some(name)) => {
+            let name = name.copy(alloc)?;
+            gone.push(BoxId { user, name })
+        }
+        _ => Ok(()),
+    }
+}
+
+/// Asks the desk, with memory for what is to be told to others taken before.
+pub fn ask_desk(
+    alloc: Global,
+    desk: &mut Desk,
+    at: u64,
+    by: Option<User>,
+    ask: Ask,
+    reply: &mut Reply,
+) -> Result<Item, SubmitFault>
+    requires by { IsSome by ↔ IsTrue (is_users ask) }
+    requires known { IsTrue (list_all (is_known desk.old.kept.house) (cons_option by [])) }
+    ensures ok { IfOk result (λ item. submitted desk.old.kept at by ask ≡ record { outcome = Ok item; kept = desk.new.kept }) }
+    ensures err { OnErr result (desk.new.kept ≡ desk.old.kept) }
+    ensures refused { IfErr result (λ fault. IsFaultOf fault (live (store_of desk.old.kept) desk.old.kept.next at by ask)) }
+    ensures noted { reply.new ≡ record reply.old { changed = reply.old.changed ++ where_done result (taken_by by ask) } }
+{
+    let before = reply.changed.len();
+    if let Err(NoMemory) = note(alloc, &mut reply.changed, by, &ask) {
+        return Err(SubmitFault::Refused(Refused::NoMemory));
+    }
+    let outcome = desk.submit(alloc, at, by, ask);
+    if outcome.is_err() {
+        reply.changed.keep_first(before);
+    }
+    outcome
+}

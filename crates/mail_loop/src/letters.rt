@@ -1,0 +1,130 @@
+//! The strings of an event: that of the connection that it is about, and those of others whose mailbox changed.
+ghost use Rattle.std.specs.Prelude.{◌≡◌, ◌≤◌, ◌∷◌, [], length, nat_lt, position, IfOk};
+ghost use Rattle.std.specs.List.{position_or_len};
+ghost use Rattle.mail_loop.specs.Machine.{closed_others, closing, with_reply};
+ghost use Rattle.mail_loop.specs.Stands.{letter_of, replies_of, reply_of, said_of};
+
+use crate::reply::Reply;
+use crate::session::Session;
+use imap_session::changed;
+use std::alloc::Global;
+use std::collections::BTreeMap;
+use undo_base::{NoMemory, Text};
+use verb_core::BoxId;
+
+/// The string of a connection: its turns' answers, or that its mailbox changed.
+#[derive(Debug, Drop)]
+pub enum Said {
+    Answers(Text),
+    Changed,
+}
+
+/// What a connection is told at the end of an event, and whether it is closed then.
+#[derive(Debug, Drop)]
+pub struct Letter {
+    pub conn: u32,
+    pub said: Said,
+    pub closes: bool,
+}
+
+impl Letter {
+    /// The bytes that are sent.
+    pub fn bytes(&self) -> &[u8]
+        ensures { result.now ≡ said_of self.now.said }
+    {
+        match &self.said {
+            Said::Answers(text) => text.bytes(),
+            Said::Changed => changed(),
+        }
+    }
+}
+
+/// The letter of a connection's own turns.
+fn own_letter(reply: Reply) -> Letter
+    ensures { letter_of result ≡ reply_of reply }
+{
+    let Reply {
+        conn,
+        said,
+        closes,
+        changed: _,
+    } = reply;
+    Letter {
+        conn,
+        said: Said::Answers(said),
+        closes,
+    }
+}
+
+/// One letter.
+pub fn alone(alloc: Global, letter: Letter) -> Result<Vec<Letter>, NoMemory>
+    ensures { IfOk result (λ letters. replies_of letters.items ≡ letter_of letter ∷ []) }
+{
+    let mut letters = Vec::new(alloc);
+    letters.push(letter)?;
+    Ok(letters)
+}
+
+fn first_behind(conn: u32, letters: &[Letter]) -> Option<usize>
+    ensures { result ≡ position (λ l. nat_lt conn l.conn) letters.now }
+{
+    letters.iter().position(|letter| conn < letter.conn)
+}
+
+/// Where a connection's letter stands among those of others, which are by rising connection.
+fn place_of(conn: u32, letters: &[Letter]) -> usize
+    ensures place { result ≡ position_or_len (λ l. nat_lt conn l.conn) letters.now }
+    ensures within { result ≤ length letters.now }
+{
+    match first_behind(conn, letters) {
+        None => letters.len(),
+        Some(place) => place,
+    }
+}
+
+/// The last letter to a connection whose mailbox changed.
+fn last_letter(conn: u32) -> Letter
+    ensures { letter_of result ≡ closing conn }
+{
+    Letter {
+        conn,
+        said: Said::Changed,
+        closes: true,
+    }
+}
+
+/// The letters to other connections that have one of these mailboxes selected.
+fn letters_to_others(
+    alloc: Global,
+    connections: &BTreeMap<u32, Session>,
+    conn: u32,
+    boxes: &[BoxId],
+) -> Result<Vec<Letter>, NoMemory>
+    ensures { IfOk result (λ letters. replies_of letters.items ≡ closed_others conn boxes.now connections.now.entries) }
+{
+    let mut letters = Vec::new(alloc);
+    for (number, session) in connections {
+        if *number != conn && session.holds_one(boxes) {
+            letters.push(last_letter(*number))?;
+        }
+    }
+    Ok(letters)
+}
+
+/// The letters of an event, by rising connection. Other connections are looked at only where a mailbox was taken away.
+pub fn letters_of(
+    alloc: Global,
+    connections: &BTreeMap<u32, Session>,
+    conn: u32,
+    reply: Reply,
+) -> Result<Vec<Letter>, NoMemory>
+    ensures { IfOk result (λ letters. replies_of letters.items ≡ with_reply (reply_of reply) (closed_others conn reply.changed connections.now.entries)) }
+{
+    if reply.changed.is_empty() {
+        return alone(alloc, own_letter(reply));
+    }
+    let mut letters = letters_to_others(alloc, connections, conn, reply.changed.as_slice())?;
+    let place = place_of(reply.conn, letters.as_slice());
+    letters.insert(place, own_letter(reply))?;
+    Ok(letters)
+}
