@@ -4,3 +4,4 @@ pub mod Listed
 pub mod Sound
 pub mod Played
 pub mod Beginnings
+pub mod Begins
