@@ -37,7 +37,10 @@ fn stamps_follow_the_names_of_mailboxes(rt: HostRuntime) -> Result<(), Fail> {
     assert_eq!(rt; stamp(alloc, &desk, b"INBOX")?, Some(1));
     assert_eq!(rt; asked(alloc, &mut desk, create(alloc, b"Work")?), Ok(2));
     assert_eq!(rt; stamp(alloc, &desk, b"Work")?, Some(2));
-    assert_eq!(rt; asked(alloc, &mut desk, rename(alloc, b"Work", b"Old")?), Ok(3));
+    assert_eq!(rt;
+        asked(alloc, &mut desk, rename(alloc, b"Work", b"Old")?),
+        Ok(3)
+    );
     assert_eq!(rt; stamp(alloc, &desk, b"Work")?, None);
     assert_eq!(rt; stamp(alloc, &desk, b"Old")?, Some(3));
     Ok(())
@@ -47,7 +50,10 @@ fn stamps_follow_the_names_of_mailboxes(rt: HostRuntime) -> Result<(), Fail> {
 fn a_renamed_inbox_keeps_its_stamp(rt: HostRuntime) -> Result<(), Fail> {
     let alloc = rt.alloc();
     let mut desk = desk(alloc)?;
-    assert_eq!(rt; asked(alloc, &mut desk, rename(alloc, b"INBOX", b"Box")?), Ok(2));
+    assert_eq!(rt;
+        asked(alloc, &mut desk, rename(alloc, b"INBOX", b"Box")?),
+        Ok(2)
+    );
     assert_eq!(rt; stamp(alloc, &desk, b"INBOX")?, Some(1));
     assert_eq!(rt; stamp(alloc, &desk, b"Box")?, Some(2));
     assert_eq!(rt; asked(alloc, &mut desk, delete(alloc, b"Box")?), Ok(3));

@@ -70,9 +70,9 @@ visible_lowered b is = by_case (to_ascii_lowercase b) (lowercase_is b)
         elim (cases_Bool (nat_lt b 65)) [
           | inl low ↦ rw (below (grind (arith, nat_tests))) is
           | inr high ↦ elim (cases_Bool (nat_lt 90 b)) [
-              | inl over ↦ rw (above (grind (arith, nat_tests))) is
-              | inr under ↦ rw (upper (grind (arith, nat_tests), grind (arith, nat_tests))) (grind (arith, nat_tests))
-            ]
+            | inl over ↦ rw (above (grind (arith, nat_tests))) is
+            | inr under ↦ rw (upper (grind (arith, nat_tests), grind (arith, nat_tests))) (grind (arith, nat_tests))
+          ]
         ]
 
 lower_lowered : (b : ℕ) → begin.is_lower (to_ascii_lowercase b) ≡ true
@@ -83,9 +83,9 @@ lower_lowered b = by_case (to_ascii_lowercase b) (lowercase_is b)
         elim (cases_Bool (nat_lt b 65)) [
           | inl low ↦ rw (below (grind (arith, nat_tests))) (grind (arith, nat_tests))
           | inr high ↦ elim (cases_Bool (nat_lt 90 b)) [
-              | inl over ↦ rw (above (grind (arith, nat_tests))) (grind (arith, nat_tests))
-              | inr under ↦ rw (upper (grind (arith, nat_tests), grind (arith, nat_tests))) (grind (arith, nat_tests))
-            ]
+            | inl over ↦ rw (above (grind (arith, nat_tests))) (grind (arith, nat_tests))
+            | inr under ↦ rw (upper (grind (arith, nat_tests), grind (arith, nat_tests))) (grind (arith, nat_tests))
+          ]
         ]
 
 all_visible_lowered : (text : List ℕ) → list_all is_visible text ≡ true → list_all is_visible (str_to_ascii_lowercase text) ≡ true
@@ -160,7 +160,7 @@ host_begins table host e =
 -- the parts that a house was read from
 house_parts : (host : Option (List ℕ)) (domains : Option (List (List ℕ))) (accounts : Option (List Account)) (postmaster : List Account → Option User) (first : Option ℕ) (house : House)
     → (host >>= (λ host. domains >>= (λ domains. accounts >>= (λ accounts. postmaster accounts >>= (λ postmaster.
-        option_map (λ first. record { host = host; domains = domains; accounts = accounts; postmaster = postmaster; first = first }) first))))) ≡ Some house
+    option_map (λ first. record { host = host; domains = domains; accounts = accounts; postmaster = postmaster; first = first }) first))))) ≡ Some house
     → (host ≡ Some house.host) × (domains ≡ Some house.domains) × (accounts ≡ Some house.accounts)
 house_parts None d a p f house e = absurd (let wrong : ◌≡◌ {A = Option House} None (Some house) = e in cc)
 house_parts (Some h) None a p f house e = absurd (let wrong : ◌≡◌ {A = Option House} None (Some house) = e in cc)
@@ -211,9 +211,9 @@ some_listed value values name n (a ∷ accounts) is named =
     elim (cases_Bool (bytes_eq a.name name)) [
       | inl here ↦ rw (is, same_bytes a.name name here) refl
       | inr elsewhere ↦ elim (cases_Bool (spec.is_listed (value ∷ values) a.name)) [
-          | inl kept ↦ rw kept refl
-          | inr left_out ↦ rw left_out (some_listed value values name (n + 1) accounts is (rw elsewhere at named))
-        ]
+        | inl kept ↦ rw kept refl
+        | inr left_out ↦ rw left_out (some_listed value values name (n + 1) accounts is (rw elsewhere at named))
+      ]
     ]
 
 some_user : (accounts : List Account) (values : List Data) → spec.are_users accounts values ≡ true → not (is_empty (spec.listed_users accounts values)) ≡ true

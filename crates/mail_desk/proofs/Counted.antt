@@ -35,7 +35,7 @@ skipped e es [] below = refl
 skipped e es (d ∷ ds) below =
     let parts = and_parts _ _ below in
     let first : length (mail_at d.0 (e ∷ es)) ≡ length (mail_at d.0 es) =
-        ap (λ (b : Bool). length (unwrap_or (option_map (λ (m : Mailbox). m.entries) (cond b (Some e.1) (row_at d.0 es))) [])) (not_tied e.0 d.0 parts.0) in
+    ap (λ (b : Bool). length (unwrap_or (option_map (λ (m : Mailbox). m.entries) (cond b (Some e.1) (row_at d.0 es))) [])) (not_tied e.0 d.0 parts.0) in
     λ j. first j ∷ skipped e es ds parts.1 j
 
 -- the lengths by name are those of the rows
@@ -45,7 +45,7 @@ lengths_by_name [] rising = refl
 lengths_by_name (e ∷ es) rising =
     let parts = and_parts _ _ rising in
     let first : length (mail_at e.0 (e ∷ es)) ≡ length e.1.entries =
-        ap (λ (b : Bool). length (unwrap_or (option_map (λ (m : Mailbox). m.entries) (cond b (Some e.1) (row_at e.0 es))) [])) (ap is_eq (tied_itself boxes_total e.0)) in
+    ap (λ (b : Bool). length (unwrap_or (option_map (λ (m : Mailbox). m.entries) (cond b (Some e.1) (row_at e.0 es))) [])) (ap is_eq (tied_itself boxes_total e.0)) in
     let rest = skipped e es es parts.0 ∙ lengths_by_name es parts.1 in
     λ j. first j ∷ rest j
 

@@ -177,7 +177,11 @@ fn bare_items(alloc: Global, items: &[Item]) -> Result<Items, NoMemory>
 fn from_place(items: &[Item], from: usize) -> &[Item]
     ensures { result.now ≡ drop from items.now }
 {
-    if from <= items.len() { &items[from..] } else { &[] }
+    if from <= items.len() {
+        &items[from..]
+    } else {
+        &[]
+    }
 }
 
 /// The first so many items.

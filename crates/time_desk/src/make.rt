@@ -81,12 +81,7 @@ fn make_parts<D: Disk>(
 impl<D: Disk> Desk<D> {
     /// Makes a journal of one record on an empty disk, and the desk on which nothing was done yet. A refusal hands the disk
     /// back; but for `NotEmpty` it is to be removed.
-    pub fn make(
-        alloc: Global,
-        disk: D,
-        house: House,
-        conf: Conf,
-    ) -> Result<Desk<D>, (D, MakeFault)>
+    pub fn make(alloc: Global, disk: D, house: House, conf: Conf) -> Result<Desk<D>, (D, MakeFault)>
         requires { IsTrue (can_begin house conf) }
         ensures kept { IfOk result (λ desk. desk.kept ≡ new_desk house conf) }
         ensures open { IfOk result (λ desk. desk.closed ≡ false) }

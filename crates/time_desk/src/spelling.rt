@@ -24,12 +24,7 @@ pub(crate) fn item_bytes(alloc: Global, item: &Item) -> Result<Text, NoMemory>
 }
 
 /// The same of an operator's act.
-pub(crate) fn act_bytes(
-    alloc: Global,
-    number: u32,
-    at: u64,
-    act: &Act,
-) -> Result<Text, NoMemory>
+pub(crate) fn act_bytes(alloc: Global, number: u32, at: u64, act: &Act) -> Result<Text, NoMemory>
     ensures spelled { OnOk result (IsTrue (is_spelled (Operator number at act.now))) }
     ensures bytes { IfOk result (λ text. text ≡ record_bytes (Operator number at act.now)) }
 {
