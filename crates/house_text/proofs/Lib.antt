@@ -3,3 +3,5 @@ pub mod Each
 pub mod Listed
 pub mod Sound
 pub mod Played
+pub mod Beginnings
+pub mod Begins

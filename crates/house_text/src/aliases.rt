@@ -3,6 +3,7 @@ ghost use Rattle.std.specs.Prelude.{◌≡◌, ◌≤◌, IfOk, IfSome, IsTrue, 
 ghost use Rattle.std.specs.List.{list_all, list_any};
 ghost use Rattle.toml.specs.View.{view, table_view};
 ghost use Rattle.house_text.specs.Documents.{each_of, entries_list};
+ghost use Rattle.house_text.specs.Beginning.{aliases_rise};
 ghost use Rattle.house_text.specs.Configuration as spec;
 
 use crate::accounts::{is_named, named};
@@ -112,10 +113,11 @@ fn aliases_from(
     table: &Table,
 ) -> Result<Option<Aliases>, NoMemory>
     requires { length accounts.now ≤ 200 }
-    ensures { IfOk result (λ r. r ≡ each_of (spec.alias_of accounts.now) (entries_list (table_view table.now))) }
+    ensures value { IfOk result (λ r. r ≡ each_of (spec.alias_of accounts.now) (entries_list (table_view table.now))) }
+    ensures rising { IfOk result (λ r. IfSome r (λ aliases. IsTrue (aliases_rise aliases))) }
 {
     let mut aliases = Aliases::new(alloc);
-    for (local, value) in table {
+    for (local, value) in table.iter() {
         match alias_of(alloc, accounts, local.as_str().as_bytes(), value)? {
             Some(alias) => aliases.push(alias)?,
             None => return Ok(None),
@@ -130,7 +132,8 @@ fn aliases_of(
     value: Option<&Value>,
 ) -> Result<Option<Aliases>, NoMemory>
     requires { length accounts.now ≤ 200 }
-    ensures { IfOk result (λ r. r ≡ spec.aliases_of accounts.now (option_map (λ v. view v.now) value.entry)) }
+    ensures value { IfOk result (λ r. r ≡ spec.aliases_of accounts.now (option_map (λ v. view v.now) value.entry)) }
+    ensures rising { IfOk result (λ r. IfSome r (λ aliases. IsTrue (aliases_rise aliases))) }
 {
     let Some(value) = value else {
         return Ok(Some(Aliases::new(alloc)));
@@ -147,6 +150,7 @@ pub fn conf_in(alloc: Global, accounts: &[Account], table: &Table) -> Result<Opt
     ensures value { IfOk result (λ r. r ≡ spec.conf_of accounts.now (table_view table.now)) }
     ensures known { IfOk result (λ r. IfSome r (λ conf. IsTrue (spec.are_known accounts.now conf.aliases))) }
     ensures filters { IfOk result (λ r. IfSome r (λ conf. conf.filters ≡ [])) }
+    ensures rising { IfOk result (λ r. IfSome r (λ conf. IsTrue (aliases_rise conf.aliases))) }
 {
     let Some(aliases) = aliases_of(alloc, accounts, value_at(table, "aliases"))? else {
         return Ok(None);

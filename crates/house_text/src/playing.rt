@@ -1,5 +1,6 @@
 //! The configuration of the house that `play` has.
-ghost use Rattle.std.specs.Prelude.{◌≡◌, IfOk};
+ghost use Rattle.std.specs.Prelude.{◌≡◌, IfOk, IsTrue};
+ghost use Rattle.house_text.specs.Beginning.{can_begin};
 ghost use Rattle.house_text.specs.Playing.{playing_house, playing_conf};
 
 use crate::read::{ConfigRefused, read_config};
@@ -13,7 +14,8 @@ pub const HOUSE: &[u8] =
 
 /// The house that `play` has, read from its text.
 pub fn playing_config(alloc: Global) -> Result<(House, Conf), NoMemory>
-    ensures { IfOk result (λ config. config ≡ (playing_house, playing_conf)) }
+    ensures value { IfOk result (λ config. config ≡ (playing_house, playing_conf)) }
+    ensures begins { IfOk result (λ config. IsTrue (can_begin config.0 config.1)) }
 {
     match read_config(alloc, HOUSE) {
         Ok(config) => Ok(config),

@@ -4,6 +4,7 @@ ghost use Rattle.std.specs.List.{list_all};
 ghost use Rattle.toml.specs.Data.{get_member};
 ghost use Rattle.toml.specs.View.{view, table_view};
 ghost use Rattle.verb_core.specs.Store.{is_house, is_known};
+ghost use Rattle.house_text.specs.Beginning.{aliases_rise, can_begin};
 ghost use Rattle.house_text.specs.Configuration as spec;
 ghost use Rattle.house_text.specs.Configuration.{ReadsConfig};
 
@@ -58,6 +59,7 @@ fn config_in(alloc: Global, table: &Table) -> Result<Option<(House, Conf)>, NoMe
     ensures house { IfOk result (λ r. IfSome r (λ config. IsTrue (is_house config.0))) }
     ensures aliases { IfOk result (λ r. IfSome r (λ config. IsTrue (spec.are_known config.0.accounts config.1.aliases))) }
     ensures filters { IfOk result (λ r. IfSome r (λ config. config.1.filters ≡ [])) }
+    ensures rising { IfOk result (λ r. IfSome r (λ config. IsTrue (aliases_rise config.1.aliases))) }
 {
     if !has_no_other(table) {
         return Ok(None);
@@ -80,6 +82,7 @@ pub fn read_config(alloc: Global, bytes: &[u8]) -> Result<(House, Conf), ConfigR
     ensures house { IfOk result (λ config. IsTrue (is_house config.0)) }
     ensures aliases { IfOk result (λ config. IsTrue (list_all (λ a. list_all (is_known config.0) a.users) config.1.aliases)) }
     ensures filters { IfOk result (λ config. config.1.filters ≡ []) }
+    ensures begins { IfOk result (λ config. IsTrue (can_begin config.0 config.1)) }
 {
     match toml::table_from_slice(alloc, bytes) {
         Ok(table) => match config_in(alloc, &table)? {

@@ -5,3 +5,4 @@ pub mod Effects
 pub mod Stampings
 pub mod Going
 pub mod Readied
+pub mod Counted

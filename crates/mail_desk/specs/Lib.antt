@@ -4,3 +4,4 @@ pub mod Desk
 pub mod Held
 pub mod Entering
 pub mod Stamping
+pub mod Counting

@@ -1,5 +1,5 @@
 -- What the bytes that were read say of an image.
-use Rattle.std.proofs.Common.{◌≡◌, ℕ, ◌+◌, ◌-◌, ◌<◌, ◌≤◌, ◌^◌, List, [], ◌∷◌, ◌++◌, length, take, drop, refl, sym, ◌∙◌, ap, subst, arith, append_assoc, length-append, length-drop, take-append-drop, length-take-le}
+use Rattle.std.proofs.Common.{◌≡◌, Bool, true, false, ℕ, ◌+◌, ◌-◌, ◌<◌, ◌≤◌, ◌^◌, List, [], ◌∷◌, ◌++◌, length, take, drop, refl, sym, ◌∙◌, ap, subst, arith, append_assoc, length-append, length-drop, take-append-drop, length-take-le}
 use Rattle.std.proofs.lemmas.List.{drop-drop, drop_at}
 use Rattle.std.proofs.lemmas.Nat.{from_be_bytes-to_be_bytes_4}
 use Rattle.std.specs.List.{slice_range}
@@ -7,7 +7,7 @@ use Rattle.std.specs.Int.{w32, to_be_bytes, from_be_bytes}
 use Rattle.std.specs.List.{AllByRecursion}
 use Rattle.seal_log.specs.declared.place.Place.{Place}
 use Rattle.seal_log.specs.Journal.{frame, sealed, BeginsClosed, IsPayload}
-use Rattle.seal_log.specs.Loading.{BeginsCut, BeginsWhole, IsDamagedAt, IsNotFormatted, StandsAt, places_from}
+use Rattle.seal_log.specs.Loading.{BeginsCut, BeginsWhole, FindsPayloads, IsNotFormatted, places_from}
 use Rattle.seal_log.proofs.Frames.{all-push, length-frame, length-sealed-push, sealed-push}
 
 range_is : (image : List ℕ) (place count : ℕ) → slice_range image place (place + count) ≡ take count (drop place image)
@@ -87,25 +87,15 @@ read_more image gate count places read whole =
       short = all-push read.payloads whole.payload read.short whole.fits;
     }
 
-pub stands_at : (image : List ℕ) (gate : ℕ) (places : List Place) → HasRead image gate places → BeginsClosed (drop gate image) → StandsAt image gate places
-stands_at image gate places read closed = record {
-  payloads = read.payloads;
-  stands = record { rest = drop gate image; split = read.split; closed = closed; short = read.short };
-  gate_is = read.gate_is;
-  places_are = read.places_are;
-}
-
-pub damaged_at : (image : List ℕ) (gate : ℕ) (places : List Place) → HasRead image gate places → BeginsCut (drop gate image) → IsDamagedAt image gate
-damaged_at image gate places read cut = record { payloads = read.payloads; rest = drop gate image; split = read.split; cut = cut; place_is = read.gate_is; short = read.short }
-
 closed_first : (image rest : List ℕ) → image ≡ rest → BeginsClosed rest → IsNotFormatted image
 closed_first image [] is closed = absurd closed
 closed_first image (gate ∷ more) is closed = subst IsNotFormatted (sym is) closed
 
-none_first : (image rest : List ℕ) (payloads : List (List ℕ)) (places : List Place) → image ≡ sealed payloads ++ rest → BeginsClosed rest → places ≡ places_from 0 payloads → length places ≡ 0 → IsNotFormatted image
-none_first image rest [] places split closed are none = closed_first image rest split closed
-none_first image rest (p ∷ payloads) places split closed are none = absurd (omega (arith, ap length are))
+none_first : (image rest : List ℕ) (payloads : List (List ℕ)) → image ≡ sealed payloads ++ rest → BeginsClosed rest → places_from 0 payloads ≡ [] → IsNotFormatted image
+none_first image rest [] split closed none = closed_first image rest split closed
+none_first image rest (p ∷ payloads) split closed none = absurd (cc none)
 
--- where no payload is found, the first gate is not open
-pub not_formatted : (image : List ℕ) (gate : ℕ) (places : List Place) → StandsAt image gate places → length places ≡ 0 → IsNotFormatted image
-not_formatted image gate places at none = none_first image at.stands.rest at.payloads places at.stands.split at.stands.closed at.places_are none
+-- where no payload is found, and no frame is cut, the first gate is not open
+pub not_formatted : (image : List ℕ) (gate : ℕ) (places : List Place) (is_cut : Bool) → FindsPayloads image gate places is_cut → is_cut ≡ false → places ≡ [] → IsNotFormatted image
+not_formatted image gate places true found shut none = absurd (cc shut)
+not_formatted image gate places false found shut none = none_first image found.rest found.payloads found.split found.ends (sym found.places_are ∙ none)

@@ -1,13 +1,13 @@
 -- One image has one reading.
-use Rattle.std.proofs.Common.{◌≡◌, ℕ, zero, suc, ◌<◌, List, [], ◌∷◌, ◌++◌, length, take, drop, refl, sym, ◌∙◌, ap, subst, arith, append_assoc, length-append}
+use Rattle.std.proofs.Common.{◌≡◌, inl, inr, ℕ, zero, suc, ◌<◌, List, [], ◌∷◌, ◌++◌, length, take, drop, refl, sym, ◌∙◌, ap, subst, arith, append_assoc, length-append}
 use Rattle.std.proofs.lemmas.List.{take_at, drop_at}
 use Rattle.std.proofs.lemmas.Nat.{from_be_bytes-to_be_bytes_4}
-use Rattle.std.specs.Prelude.{Some, slice_get}
+use Rattle.std.specs.Prelude.{◌⊎◌, Some, slice_get}
 use Rattle.std.specs.List.{AllByRecursion}
 use Rattle.std.specs.Int.{w32, to_be_bytes, from_be_bytes}
 use Rattle.seal_log.specs.declared.place.Place.{Place}
 use Rattle.seal_log.specs.Journal.{frame, sealed, BeginsClosed, IsPayload, LiesAt}
-use Rattle.seal_log.specs.Loading.{BeginsCut, IsNotFormatted, places_from}
+use Rattle.seal_log.specs.Loading.{BeginsCut, GoesOn, IsNotFormatted, places_from}
 use Rattle.seal_log.proofs.Frames.{length-frame, length-sealed-push}
 
 -- the payload and the rest of what stands behind an open gate
@@ -52,7 +52,7 @@ some_cut [] cut = absurd cut
 some_cut (gate ∷ rest) cut = omega arith
 
 -- a frame with something behind it is not cut
-whole_not_cut : (rest p more : List ℕ) → IsPayload p → 0 < length more → rest ≡ 85 ∷ (frame p ++ more) → BeginsCut rest → ⊥
+pub whole_not_cut : (rest p more : List ℕ) → IsPayload p → 0 < length more → rest ≡ 85 ∷ (frame p ++ more) → BeginsCut rest → ⊥
 whole_not_cut rest p more fits some is cut =
     let here = (subst BeginsCut is cut).1 in
     let counts = from_be_bytes-to_be_bytes_4 (length p) fits in
@@ -78,6 +78,20 @@ one_cut (p ∷ a) (q ∷ b) r s fit_a fit_b cut_r cut_s same =
     let tails : frame p ++ (sealed a ++ r) ≡ frame q ++ (sealed b ++ s) = ap (drop 1) (sym (opens_with p a r) ∙ same ∙ opens_with q b s) in
     let parts = same_frame p q (sealed a ++ r) (sealed b ++ s) fit_a.0 fit_b.0 tails in
     ap (λ (x : List ℕ). x ∷ a) parts.0 ∙ ap (λ (l : List (List ℕ)). q ∷ l) (one_cut a b r s fit_a.1 fit_b.1 cut_r cut_s parts.1)
+
+-- one more payload in front of both
+both_more : (p : List ℕ) (a b : List (List ℕ)) (r s : List ℕ) → GoesOn a r b s ⊎ GoesOn b s a r → GoesOn (p ∷ a) r (p ∷ b) s ⊎ GoesOn (p ∷ b) s (p ∷ a) r
+both_more p a b r s (inl on) = inl (record { more = on.more; payloads = ap (λ (l : List (List ℕ)). p ∷ l) on.payloads; rest = on.rest })
+both_more p a b r s (inr on) = inr (record { more = on.more; payloads = ap (λ (l : List (List ℕ)). p ∷ l) on.payloads; rest = on.rest })
+
+-- two readings agree as far as both go
+pub agree : (a b : List (List ℕ)) (r s : List ℕ) → AllByRecursion IsPayload a → AllByRecursion IsPayload b → sealed a ++ r ≡ sealed b ++ s → GoesOn a r b s ⊎ GoesOn b s a r
+agree [] b r s fit_a fit_b same = inl (record { more = b; payloads = refl; rest = same })
+agree (p ∷ a) [] r s fit_a fit_b same = inr (record { more = p ∷ a; payloads = refl; rest = sym same })
+agree (p ∷ a) (q ∷ b) r s fit_a fit_b same =
+    let tails : frame p ++ (sealed a ++ r) ≡ frame q ++ (sealed b ++ s) = ap (drop 1) (sym (opens_with p a r) ∙ same ∙ opens_with q b s) in
+    let parts = same_frame p q (sealed a ++ r) (sealed b ++ s) fit_a.0 fit_b.0 tails in
+    subst (λ (x : List ℕ). GoesOn (p ∷ a) r (x ∷ b) s ⊎ GoesOn (x ∷ b) s (p ∷ a) r) parts.0 (both_more p a b r s (agree a b r s fit_a.1 fit_b.1 parts.1))
 
 not_formatted_closed : (image tail : List ℕ) → image ≡ 85 ∷ tail → IsNotFormatted image → ⊥
 not_formatted_closed [] tail is none = absurd (cc is)

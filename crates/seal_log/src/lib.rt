@@ -1,7 +1,7 @@
 //! A sealed journal: frames behind gates, each payload on the disk before its gate is opened.
 //!
-//! `frame` has the bytes, `durable` a write with its sync, `log` formats, seals and reads, `loading` finds what is there;
-//! `run` seals a list; `laws` says what the definitions imply. What carries the crate: `Log::seal`, `any_moment` (a crash at any moment
+//! `frame` has the bytes, `durable` a write with its sync, `log` formats, seals and reads, `loading` finds what is there,
+//! as `seen` has it; `run` seals a list; `laws` says what the definitions imply. What carries the crate: `Log::seal`, `any_moment` (a crash at any moment
 //! leaves the payloads from before the call, with the new one or without) and `sealed` (at `Ok` each image has it).
 #![tactic(auto)]
 
@@ -13,13 +13,15 @@ mod loading;
 mod log;
 mod place;
 mod run;
+mod seen;
 
 pub use fault::{LoadFault, ReadFault, SealFault};
-pub use laws::{one_reading, places_stay};
-pub use loading::load;
+pub use laws::{one_reading, places_stay, readings_agree};
+pub use loading::{load, survey};
 pub use log::{Log, format};
 pub use place::{Place, Places};
 pub use run::seal_all;
+pub use seen::Survey;
 
 #[cfg(test)]
 mod tests;

@@ -1,15 +1,16 @@
 //! Finding the payloads of a journal.
-ghost use Rattle.std.specs.Prelude.{◌≡◌, ◌⊎◌, ◌<◌, ◌≤◌, ◌+◌, ◌^◌, ◌∷◌, [], drop, IfErr, IfOk, IfSome, IsErrOf, length};
+ghost use Rattle.std.specs.Prelude.{◌≡◌, ◌⊎◌, ◌<◌, ◌≤◌, ◌+◌, ◌^◌, ◌∷◌, [], ℕ, drop, IfErr, IfOk, IsErrOf, length};
 ghost use Rattle.std.specs.List.{All, slice_range};
 ghost use Rattle.std.specs.Int.{to_be_bytes, w32};
 ghost use Rattle.undo_outside.specs.Moments.{LeavesOnly, OnlyReads};
 ghost use Rattle.seal_log.specs.Causes.{LoadCause, LookCause};
-ghost use Rattle.seal_log.specs.Loads.{Loads};
+ghost use Rattle.seal_log.specs.Loads.{Loads, Surveys};
 ghost use Rattle.seal_log.specs.Log.{IsClosed, last_gate};
-ghost use Rattle.seal_log.specs.Loading.{FindsFrame, FindsJournal, FindsPayloads};
+ghost use Rattle.seal_log.specs.Loading.{FindsFrame, FindsJournal, FindsPayloads, IsFollowed};
 
 use crate::frame::OPEN;
-use crate::{LoadFault, Log, Place, Places};
+use crate::seen::Found;
+use crate::{LoadFault, Log, Place, Places, Survey};
 use std::alloc::Global;
 use undo_outside::Disk;
 
@@ -48,65 +49,96 @@ fn number_at<D: Disk>(disk: &mut D, place: u64) -> Result<u32, LoadFault>
     Ok(number_of(&bytes))
 }
 
-/// The length of the frame behind a gate, or `None` behind one that is not open.
-fn frame_at<D: Disk>(disk: &mut D, gate: u64, end: u64) -> Result<Option<u32>, LoadFault>
+/// What stands at a gate.
+fn frame_at<D: Disk>(disk: &mut D, gate: u64, end: u64) -> Result<Found, LoadFault>
     requires gate { gate < end }
     requires end { end ≡ (D.told disk.old).size }
-    ensures found { (D.told disk.old).honest → FindsFrame (drop gate (D.told disk.old).content) gate result }
-    ensures next { IfOk result (λ found. IfSome found (λ count. gate + 5 + count < end)) }
+    ensures found { (D.told disk.old).honest → IfOk result (FindsFrame (drop gate (D.told disk.old).content)) }
+    ensures next { IfOk result (IsFollowed gate end) }
     ensures only_reads { OnlyReads (D.told disk.old) (D.told disk.new) }
+    ensures only_disk { IfErr result (λ fault. fault ≡ LoadFault.Disk) }
     ensures cause { LookCause (D.told disk.old) (D.told disk.new) result }
 {
     if byte_at(disk, gate)? != OPEN {
-        return Ok(None);
+        return Ok(Found::Closed);
     }
     if end - gate < 6 {
-        return Err(LoadFault::Damaged { place: gate });
+        return Ok(Found::Cut);
     }
     let length = number_at(disk, gate + 1)?;
     if end - gate < 6 + u64::from(length) {
-        return Err(LoadFault::Damaged { place: gate });
+        return Ok(Found::Cut);
     }
-    Ok(Some(length))
+    Ok(Found::Frame(length))
 }
 
-/// The last gate, and the places of the payloads before it.
-fn scan<D: Disk>(alloc: Global, disk: &mut D, end: u64) -> Result<(u64, Places), LoadFault>
+/// The payloads up to the first gate that is not open, or whose frame is cut.
+fn scan<D: Disk>(alloc: Global, disk: &mut D, end: u64) -> Result<Survey, LoadFault>
     requires some { 0 < end }
     requires end { end ≡ (D.told disk.old).size }
-    ensures found { (D.told disk.old).honest → FindsJournal (D.told disk.old).content result }
-    ensures within { IfOk result (λ found. found.0 < end) }
-    ensures places { IfOk result (λ found. All (λ place. place.gate + 5 + place.length ≤ found.0) found.1) }
+    ensures found { (D.told disk.old).honest → IfOk result (λ seen. FindsPayloads (D.told disk.old).content (last_gate seen.log) seen.places seen.is_cut) }
+    ensures not_closed { IfOk result (λ seen. IsClosed seen.log → ⊥) }
+    ensures within { IfOk result (λ seen. last_gate seen.log < end) }
+    ensures places { IfOk result (λ seen. All (λ place. place.gate + 5 + place.length ≤ last_gate seen.log) seen.places) }
     ensures only_reads { OnlyReads (D.told disk.old) (D.told disk.new) }
+    ensures formatted { IsErrOf result LoadFault.NotFormatted → ⊥ }
+    ensures never_damaged { (place : ℕ) → IsErrOf result (LoadFault.Damaged place) → ⊥ }
     ensures cause { LookCause (D.told disk.old) (D.told disk.new) result }
 {
     let mut places = Places::new(alloc);
     let mut gate = 0;
-    'frames: while let Some(length) = frame_at(disk, gate, end)? {
-        places.push(Place { gate, length })?;
-        gate += 5 + u64::from(length);
+    'frames: loop {
+        match frame_at(disk, gate, end)? {
+            Found::Frame(length) => {
+                places.push(Place { gate, length })?;
+                gate += 5 + u64::from(length);
+            }
+            Found::Closed => return Ok(Survey::at(gate, places, false)),
+            Found::Cut => return Ok(Survey::at(gate, places, true)),
+        }
     }
-    Ok((gate, places))
 }
 
 /// The same of a disk that may hold no journal.
-fn find<D: Disk>(alloc: Global, disk: &mut D) -> Result<(u64, Places), LoadFault>
-    ensures found { (D.told disk.old).honest → FindsPayloads (D.told disk.old).content result }
+fn find<D: Disk>(alloc: Global, disk: &mut D) -> Result<Survey, LoadFault>
+    ensures found { (D.told disk.old).honest → FindsJournal (D.told disk.old).content result }
     ensures empty { (D.told disk.old).size ≡ 0 → IsErrOf result LoadFault.NotFormatted ⊎ IsErrOf result LoadFault.Disk }
-    ensures within { IfOk result (λ found. found.0 < (D.told disk.old).size) }
-    ensures places { IfOk result (λ found. All (λ place. place.gate + 5 + place.length ≤ found.0) found.1) }
+    ensures not_closed { IfOk result (λ seen. IsClosed seen.log → ⊥) }
+    ensures within { IfOk result (λ seen. last_gate seen.log < (D.told disk.old).size) }
+    ensures places { IfOk result (λ seen. All (λ place. place.gate + 5 + place.length ≤ last_gate seen.log) seen.places) }
     ensures only_reads { OnlyReads (D.told disk.old) (D.told disk.new) }
+    ensures never_damaged { (place : ℕ) → IsErrOf result (LoadFault.Damaged place) → ⊥ }
     ensures cause { LookCause (D.told disk.old) (D.told disk.new) result }
 {
     let end = disk.len()?;
     if end == 0 {
         return Err(LoadFault::NotFormatted);
     }
-    let (gate, places) = scan(alloc, disk, end)?;
-    if places.is_empty() {
+    let seen = scan(alloc, disk, end)?;
+    if seen.is_empty() {
         return Err(LoadFault::NotFormatted);
     }
-    Ok((gate, places))
+    Ok(seen)
+}
+
+/// Finds the payloads of a journal, as it is on the disk after a sync, and how they end. It writes nothing.
+pub fn survey<D: Disk>(alloc: Global, disk: &mut D) -> Result<Survey, LoadFault>
+    ensures found { (D.told disk.old).honest → Surveys (D.told disk.old).content (D.told disk.new) result }
+    ensures empty { (D.told disk.old).size ≡ 0 → IsErrOf result LoadFault.NotFormatted ⊎ IsErrOf result LoadFault.Disk }
+    ensures never_damaged { (place : ℕ) → IsErrOf result (LoadFault.Damaged place) → ⊥ }
+    ensures cause { LoadCause (D.told disk.old) (D.told disk.new) result }
+
+    // A crash at any moment leaves what it could have left before.
+    ensures any_moment { (D.told disk.old).honest → LeavesOnly (D.told disk.old) (D.told disk.new) (D.told disk.old).images }
+
+    ensures not_closed { IfOk result (λ seen. IsClosed seen.log → ⊥) }
+    ensures within { IfOk result (λ seen. last_gate seen.log < (D.told disk.new).size) }
+    ensures places { IfOk result (λ seen. All (λ place. place.gate + 5 + place.length ≤ last_gate seen.log) seen.places) }
+    ensures size { (D.told disk.new).size ≡ (D.told disk.old).size }
+    ensures honest { (D.told disk.old).honest → (D.told disk.new).honest }
+{
+    disk.sync()?;
+    find(alloc, disk)
 }
 
 /// Finds the payloads of a journal, as it is on the disk after a sync. It writes nothing.
@@ -124,7 +156,11 @@ pub fn load<D: Disk>(alloc: Global, disk: &mut D) -> Result<(Log, Places), LoadF
     ensures size { (D.told disk.new).size ≡ (D.told disk.old).size }
     ensures honest { (D.told disk.old).honest → (D.told disk.new).honest }
 {
-    disk.sync()?;
-    let (gate, places) = find(alloc, disk)?;
-    Ok((Log::at(gate), places))
+    let seen = survey(alloc, disk)?;
+    if seen.is_cut {
+        return Err(LoadFault::Damaged {
+            place: seen.log.last_gate(),
+        });
+    }
+    Ok((seen.log, seen.places))
 }

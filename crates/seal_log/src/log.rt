@@ -67,6 +67,13 @@ impl Log {
         self.closed
     }
 
+    /// The place of the last gate. Takes no memory.
+    pub fn last_gate(&self) -> u64
+        ensures { result ≡ last_gate self.now }
+    {
+        self.gate
+    }
+
     /// Seals a payload. At `Ok` it is on the disk. At `Disk` the log is closed, and the payload may be there or not.
     pub fn seal<D: Disk>(
         &mut self,

@@ -1,11 +1,11 @@
 ghost use Rattle.std.specs.Prelude.{◌≡◌, ◌≤◌, IfOk, length};
 ghost use Rattle.undo_outside.specs.MemDiskParts.{IsNew};
 
-use crate::{LoadFault, Place, ReadFault, SealFault, format, load, seal_all};
+use crate::{LoadFault, Place, ReadFault, SealFault, format, load, seal_all, survey};
 use std::alloc::Global;
 use std::test::Fail;
 use undo_base::{Numbers, Text, Texts};
-use undo_outside::MemDisk;
+use undo_outside::{Disk, MemDisk};
 
 // The first record of a house, of 71 bytes, and the creation of a mailbox, of 21.
 const HOUSE: &[u8] =
@@ -170,6 +170,31 @@ fn damage_is_found(rt: HostRuntime) -> Result<(), Fail> {
     assert_eq!(rt; shut.len(), 103);
     shut[76] = 0x54;
     assert_eq!(rt; found(alloc, &shut)?, Ok(1));
+    Ok(())
+}
+
+// Behind two records stands an open gate, and nothing more.
+#[test]
+fn what_stands_before_a_cut_frame_is_told(rt: HostRuntime) -> Result<(), Fail> {
+    let alloc = rt.alloc();
+    let mut disk = disk_of(alloc, b"", &[])?;
+    let mut log = format(alloc, &mut disk, HOUSE)?;
+    log.seal(alloc, &mut disk, CREATE)?;
+    let seen = survey(alloc, &mut disk)?;
+    assert_eq!(rt;
+        (seen.log.last_gate(), seen.places.len(), seen.is_cut),
+        (102, 2, false)
+    );
+    disk.write_at(seen.log.last_gate(), b"\x55")?;
+    let seen = survey(alloc, &mut disk)?;
+    assert_eq!(rt;
+        (seen.log.last_gate(), seen.places.len(), seen.is_cut),
+        (102, 2, true)
+    );
+    assert_eq!(rt;
+        load(alloc, &mut disk).map(|_loaded| ()),
+        Err(LoadFault::Damaged { place: 102 })
+    );
     Ok(())
 }
 

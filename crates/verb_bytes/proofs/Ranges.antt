@@ -30,7 +30,7 @@ text_fits : (most : ℕ) (bytes : List ℕ) → length bytes ≤ most → are_in
 unfolding text_field are_in_range
 text_fits most bytes le = and_from _ _ (le-leb _ _ le) refl
 
-name_fits : (bytes : List ℕ) → IsName bytes → are_in_range (name_field bytes) ≡ true
+pub name_fits : (bytes : List ℕ) → IsName bytes → are_in_range (name_field bytes) ≡ true
 unfolding name_field are_in_range
 name_fits bytes name =
     let printable : is_none (first_unprintable bytes) ≡ true = ap is_none name.printable in

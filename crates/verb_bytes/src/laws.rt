@@ -1,7 +1,9 @@
 //! What holds of every record and its bytes. These functions do nothing: their contracts are laws of the definitions.
-ghost use Rattle.std.specs.Prelude.{◌≡◌, ℕ, ◌≤◌, ◌⊎◌, List};
+ghost use Rattle.std.specs.Prelude.{◌≡◌, ℕ, ◌≤◌, ◌⊎◌, List, IsTrue, length};
 ghost use Rattle.verb_core.specs.declared.conf.Conf.{Conf};
 ghost use Rattle.verb_core.specs.declared.conf.House.{House};
+ghost use Rattle.verb_core.specs.declared.item.Item.{Item};
+ghost use Rattle.verb_core.specs.Items.{has_form, keys_in};
 ghost use Rattle.verb_bytes.specs.declared.journal.JournalRecord.{JournalRecord};
 ghost use Rattle.verb_bytes.specs.declared.journal.JournalRecord.TheVariants.{Format, Verb};
 ghost use Rattle.verb_bytes.specs.Decoding.{IsBytes, IsRefused, IsRefusedAt, IsSpelled};
@@ -24,4 +26,10 @@ pub fn openings_have_spellings()
 /// A delivery of such mail has a spelling.
 pub fn deliveries_have_spellings()
     ensures { (number at : ℕ) (from : List ℕ) (to : List (List ℕ)) (text : List ℕ) → number ≤ 4294967295 → at ≤ 253402300799 → IsMail from to text → HasSpelling (Verb (delivery number at from to text)) }
+{}
+
+/// The item of a record that has a spelling shows what its deed shows, and it has few keys.
+pub fn spelled_items_are_formed()
+    ensures form { (item : Item) → HasSpelling (Verb item) → IsTrue (has_form item.deed item.shown) }
+    ensures keys { (item : Item) → HasSpelling (Verb item) → length (keys_in item.deed) ≤ 65536 }
 {}

@@ -1,8 +1,11 @@
-use crate::{BadBytes, JournalRecord, decode_record, encode_record};
+use crate::{
+    BadBytes, JournalRecord, act_has_spelling, decode_record, encode_act, encode_item,
+    encode_record, encode_snapshot, has_spelling, item_has_spelling, snapshot_has_spelling,
+};
 use std::alloc::Global;
 use std::test::Fail;
 use undo_base::{Name, User};
-use verb_core::{Account, Alias, Deed, Shown};
+use verb_core::{Account, Act, Alias, Conf, Deed, Item, Rows, Shown};
 
 const HOUSE: &[u8] =
     b"\x00\x09mail.test\x00\x00\x00\x01\x09mail.test\x00\x00\x00\x02\x00\x00\x00\x03\x03ann\x02a1\x03bob\x02b2\x04carl\x02c3\x00\x00\x00\x00\x01\x04team\x00\x00\x00\x02\x00\x01";
@@ -111,10 +114,65 @@ fn place(alloc: Global, bytes: &[u8]) -> Result<Option<usize>, Fail> {
     }
 }
 
+// An item, an act and a snapshot are written without their record.
+fn item_is_spelled(alloc: Global, item: &Item, bytes: &[u8]) -> Result<bool, Fail> {
+    if item_has_spelling(item) {
+        return Ok(encode_item(alloc, item)?.bytes() == bytes);
+    }
+    Ok(false)
+}
+
+fn act_is_spelled(
+    alloc: Global,
+    number: u32,
+    at: u64,
+    act: &Act,
+    bytes: &[u8],
+) -> Result<bool, Fail> {
+    if act_has_spelling(number, at, act) {
+        return Ok(encode_act(alloc, number, at, act)?.bytes() == bytes);
+    }
+    Ok(false)
+}
+
+fn snapshot_is_spelled(
+    alloc: Global,
+    items: u32,
+    conf: &Conf,
+    rows: &Rows,
+    bytes: &[u8],
+) -> Result<bool, Fail> {
+    if snapshot_has_spelling(items, conf, rows) {
+        return Ok(encode_snapshot(alloc, items, conf, rows)?.bytes() == bytes);
+    }
+    Ok(false)
+}
+
+fn part_is_spelled(alloc: Global, what: &JournalRecord, bytes: &[u8]) -> Result<bool, Fail> {
+    match what {
+        JournalRecord::Format(_, _) => Ok(true),
+        JournalRecord::Verb(item) => item_is_spelled(alloc, item, bytes),
+        JournalRecord::Operator { number, at, act } => {
+            act_is_spelled(alloc, *number, *at, act, bytes)
+        }
+        JournalRecord::Cycle { .. } => Ok(true),
+        JournalRecord::Snapshot { items, conf, rows } => {
+            snapshot_is_spelled(alloc, *items, conf, rows, bytes)
+        }
+    }
+}
+
+fn is_spelled(alloc: Global, what: &JournalRecord, bytes: &[u8]) -> Result<bool, Fail> {
+    if has_spelling(what) && encode_record(alloc, what)?.bytes() == bytes {
+        return part_is_spelled(alloc, what, bytes);
+    }
+    Ok(false)
+}
+
 // Whether bytes are read as a record that is spelled by these bytes.
 fn is_spelled_again(alloc: Global, bytes: &[u8]) -> Result<bool, Fail> {
     match decode_record(alloc, bytes) {
-        Ok(what) => Ok(encode_record(alloc, &what)?.bytes() == bytes),
+        Ok(what) => is_spelled(alloc, &what, bytes),
         Err(_) => Ok(false),
     }
 }

@@ -1,4 +1,4 @@
-use Rattle.std.proofs.Common.{◌≡◌, ◌∷◌, ◌+◌, [], ◌∙◌, List, ℕ, refl, ap, subst, arith}
+use Rattle.std.proofs.Common.{◌≡◌, ◌∷◌, ◌+◌, [], ◌∙◌, List, ℕ, ap, subst, arith}
 use Rattle.std.specs.List.{slice_range}
 use Rattle.std.specs.Int.{w32, to_be_bytes}
 use Rattle.seal_log.proofs.Looks.{cut, whole}
@@ -18,7 +18,7 @@ pub returns-then-end-gate-clause-found : goal.returns-then-end-gate-clause-found
 returns-then-end-gate-clause-found g c honest =
     let found = (goal.at.returns-then-end-gate-clause-found g c).In_ok-length in
     let size = (g.met.D.Disk.tells_truth c.args.disk.now honest).size_of_content in
-    (cut (g.D.Disk.told c.args.disk.now).content c.args.gate c.in_ok-length.length (gate_is g found honest) (number_is g found honest) c.in_ok-length.ensures.fits (omega arith), refl)
+    cut (g.D.Disk.told c.args.disk.now).content c.args.gate c.in_ok-length.length (gate_is g found honest) (number_is g found honest) c.in_ok-length.ensures.fits (omega arith)
 
 pub returns-clause-found : goal.returns-clause-found
 returns-clause-found g c honest =

@@ -1,4 +1,4 @@
-use Rattle.std.proofs.Common.{◌≡◌, ◌<◌, ◌+◌, ◌∷◌, ◌++◌, ◌∙◌, ⊎_elim, [], List, ℕ, length, take, drop, get_or, ap, subst, sym, arith, append_assoc, take-append-drop}
+use Rattle.std.proofs.Common.{◌≡◌, ◌<◌, ◌+◌, ◌∷◌, ◌++◌, ◌∙◌, ⊎_elim, [], List, ℕ, length, take, drop, get_or, ap, subst, sym, append_assoc, take-append-drop}
 use Rattle.std.proofs.lemmas.List.{drop_more, take_more}
 use Rattle.undo_outside.specs.Moments.{LeavesOnly}
 use Rattle.undo_outside.proofs.Moments.{joined}

@@ -1,0 +1,6 @@
+mod Takes
+mod Readings
+mod Digits
+mod Counting
+mod Written
+mod Sayings

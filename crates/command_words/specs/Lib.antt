@@ -1,0 +1,4 @@
+pub mod Numbers
+pub mod Usage
+pub mod Spelling
+pub mod Program

@@ -1,0 +1,45 @@
+-- The program as `clap` is told of it.
+use Rattle.std.specs.Prelude.{List, [], ◌∷◌, true, Some, codes}
+use Rattle.clap.specs.Words.{Text, Rule, App, Shape, new_rule, new_app, with_rule, with_subcommand}
+use Rattle.clap.specs.Simple.{new_shape}
+use Rattle.clap.specs.declared.builder.action.ArgAction.TheVariants.{Set}
+
+-- a word that has to be there
+abbrev pub word_rule : Text → Rule
+word_rule id = record (new_rule id) { required = true; action = Some Set }
+
+-- a command that takes so many words
+abbrev pub with_words : App → List Text → App
+with_words a [] = a
+with_words a (id ∷ ids) = with_words (with_rule a (word_rule id)) ids
+
+-- such a command by its name
+abbrev pub taking : Text → List Text → Shape
+taking name ids = (with_words (new_app name) ids).top
+
+-- the program, before its subcommands
+abbrev pub bare_program : App
+bare_program = record (new_app (codes "undomail")) {
+  top = record (new_shape (codes "undomail")) {
+    no_binary_name = true;
+    disable_help_flag = true;
+    disable_help_subcommand = true;
+    subcommand_required = true;
+  };
+}
+
+-- the first three subcommands
+abbrev pub first_half : App
+first_half =
+    with_subcommand (with_subcommand (with_subcommand bare_program
+    (taking (codes "init") (codes "STORE" ∷ [])))
+    (taking (codes "serve") (codes "STORE" ∷ codes "SMTP" ∷ codes "IMAP" ∷ codes "HTTP" ∷ [])))
+    (taking (codes "script") (codes "STORE" ∷ []))
+
+-- all six
+abbrev pub program : App
+program =
+    with_subcommand (with_subcommand (with_subcommand first_half
+    (taking (codes "play") []))
+    (taking (codes "grow") (codes "ROUNDS" ∷ [])))
+    (taking (codes "check") (codes "STORE" ∷ []))

@@ -1,0 +1,122 @@
+//! The program as `clap` is told of it.
+ghost use Rattle.std.specs.Prelude.{◌≡◌, ◌∷◌, [], Err, IfOk, IsErr, codes, false, map, string_bytes};
+ghost use Rattle.clap.specs.Faults.{fault_of};
+ghost use Rattle.clap.specs.Words.{app_of, shape_of, takes, with_rule, with_subcommand, new_app};
+ghost use Rattle.clap.specs.declared.error.kind.ErrorKind.TheVariants.{OutOfMemory};
+ghost use Rattle.clap.specs.declared.builder.command.Command.TheViews.{out-Command};
+ghost use Rattle.command_words.specs.declared.commands.WordsRefused.TheVariants.{Usage};
+ghost use Rattle.command_words.specs.Program.{word_rule, taking, bare_program};
+ghost use Rattle.command_words.specs.Program as spec;
+
+use crate::commands::WordsRefused;
+use clap::error::ErrorKind;
+use clap::{Arg, ArgAction, Command};
+use std::alloc::{AllocError, Global};
+
+/// A command with one more word that has to be there.
+fn with_word<'a>(
+    alloc: Global,
+    command: Command<'a>,
+    id: &'a str,
+) -> Result<Command<'a>, AllocError>
+    requires { (out-Command command).has_globals ≡ false }
+    ensures shape { IfOk result (λ c. app_of c ≡ with_rule (app_of command.entry) (word_rule id.entry.now)) }
+    ensures plain { IfOk result (λ c. (out-Command c).has_globals ≡ false) }
+{
+    let word = Arg::new(alloc, id).required(true).action(ArgAction::Set);
+    command.arg(word)
+}
+
+/// A command with one more subcommand.
+fn with_command<'a>(command: Command<'a>, sub: Command<'a>) -> Result<Command<'a>, AllocError>
+    requires plain { (out-Command command).has_globals ≡ false }
+    requires leaf { (out-Command sub).has_globals ≡ false }
+    ensures shape { IfOk result (λ c. app_of c ≡ with_subcommand (app_of command.entry) (shape_of sub.entry)) }
+    ensures plain { IfOk result (λ c. (out-Command c).has_globals ≡ false) }
+{
+    command.subcommand(sub)
+}
+
+/// The command `play`, or another before its words.
+fn alone<'a>(alloc: Global, name: &'a str) -> Command<'a>
+    ensures shape { app_of result ≡ new_app name.entry.now }
+    ensures plain { (out-Command result).has_globals ≡ false }
+{
+    Command::new(alloc, name)
+}
+
+/// A command that takes one word.
+fn with_one<'a>(alloc: Global, name: &'a str, id: &'a str) -> Result<Command<'a>, AllocError>
+    ensures shape { IfOk result (λ c. shape_of c ≡ taking name.entry.now (id.entry.now ∷ [])) }
+    ensures plain { IfOk result (λ c. (out-Command c).has_globals ≡ false) }
+{
+    with_word(alloc, alone(alloc, name), id)
+}
+
+/// The command `serve`.
+fn serve<'a>(alloc: Global) -> Result<Command<'a>, AllocError>
+    ensures shape { IfOk result (λ c. shape_of c ≡ taking (codes "serve") (codes "STORE" ∷ codes "SMTP" ∷ codes "IMAP" ∷ codes "HTTP" ∷ [])) }
+    ensures plain { IfOk result (λ c. (out-Command c).has_globals ≡ false) }
+{
+    let command = with_word(alloc, alone(alloc, "serve"), "STORE")?;
+    let command = with_word(alloc, command, "SMTP")?;
+    let command = with_word(alloc, command, "IMAP")?;
+    with_word(alloc, command, "HTTP")
+}
+
+/// The program, before its subcommands.
+fn bare<'a>(alloc: Global) -> Command<'a>
+    ensures shape { app_of result ≡ bare_program }
+    ensures plain { (out-Command result).has_globals ≡ false }
+{
+    Command::new(alloc, "undomail")
+        .no_binary_name(true)
+        .disable_help_flag(true)
+        .disable_help_subcommand(true)
+        .subcommand_required(true)
+}
+
+/// The program with its first three subcommands.
+fn first_half<'a>(alloc: Global) -> Result<Command<'a>, AllocError>
+    ensures shape { IfOk result (λ c. app_of c ≡ spec.first_half) }
+    ensures plain { IfOk result (λ c. (out-Command c).has_globals ≡ false) }
+{
+    let command = with_command(bare(alloc), with_one(alloc, "init", "STORE")?)?;
+    let command = with_command(command, serve(alloc)?)?;
+    with_command(command, with_one(alloc, "script", "STORE")?)
+}
+
+/// The program with its subcommands.
+fn program<'a>(alloc: Global) -> Result<Command<'a>, AllocError>
+    ensures { IfOk result (λ c. app_of c ≡ spec.program) }
+{
+    let command = with_command(first_half(alloc)?, alone(alloc, "play"))?;
+    let command = with_command(command, with_one(alloc, "grow", "ROUNDS")?)?;
+    with_command(command, with_one(alloc, "check", "STORE")?)
+}
+
+/// A refusal of `clap` for another cause than memory means that the words are of no stated shape.
+fn refused(kind: ErrorKind) -> Result<(), WordsRefused>
+    ensures refuses { IsErr result }
+    ensures usage { result ≡ Err Usage → ¬ (kind ≡ OutOfMemory) }
+{
+    if kind == ErrorKind::OutOfMemory {
+        Err(WordsRefused::NoMemory)
+    } else {
+        Err(WordsRefused::Usage)
+    }
+}
+
+/// Has `clap` read words; nothing is kept of what it finds. It takes them only where it finds no fault in them.
+pub fn let_clap_read(alloc: Global, words: &[String]) -> Result<(), WordsRefused>
+    ensures taken { IfOk result (λ nothing. fault_of spec.program (map string_bytes words.now) ≡ []) }
+    ensures usage { result ≡ Err Usage → takes spec.program (map string_bytes words.now) ≡ false }
+{
+    let Ok(program) = program(alloc) else {
+        return Err(WordsRefused::NoMemory);
+    };
+    match program.try_get_matches_from(words) {
+        Ok(_) => Ok(()),
+        Err(error) => refused(error.kind()),
+    }
+}

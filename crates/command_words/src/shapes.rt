@@ -1,0 +1,99 @@
+//! The command that words are, by the words themselves.
+ghost use Rattle.std.specs.Prelude.{◌≡◌, Option, map, string_bytes};
+ghost use Rattle.std.specs.List.{list_all};
+ghost use Rattle.command_words.specs.Usage.{is_word, alone, with_one, at_ports, with_ports, by_number, command_of};
+
+use crate::commands::Command;
+use crate::numbers::{read_port, read_rounds};
+
+/// Whether a word may stand: it is not empty and does not begin with '-'.
+fn is_word(word: &String) -> bool
+    ensures { result ≡ is_word (string_bytes word.now) }
+{
+    match word.as_bytes() {
+        [] => false,
+        [first, ..] => *first != b'-',
+    }
+}
+
+fn all_are_words(words: &[String]) -> bool
+    ensures { result ≡ list_all (λ word. is_word (string_bytes word)) words.now }
+{
+    words.iter().all(|word| is_word(word))
+}
+
+/// Whether each word may stand.
+pub fn are_words(words: &[String]) -> bool
+    ensures { result ≡ list_all is_word (map string_bytes words.now) }
+{
+    all_are_words(words)
+}
+
+fn alone(name: &str) -> Option<Command>
+    ensures { result ≡ alone name.now }
+{
+    if name == "play" {
+        Some(Command::Play)
+    } else {
+        None
+    }
+}
+
+fn with_one(name: &str, word: &str) -> Option<Command>
+    ensures { result ≡ with_one name.now word.now }
+{
+    if name == "init" {
+        Some(Command::Init)
+    } else if name == "script" {
+        Some(Command::Script)
+    } else if name == "check" {
+        Some(Command::Check)
+    } else if name == "grow" {
+        read_rounds(word).map(|rounds| Command::Grow { rounds })
+    } else {
+        None
+    }
+}
+
+fn at_ports(smtp: Option<u16>, imap: Option<u16>, http: Option<u16>) -> Option<Command>
+    ensures { result ≡ at_ports smtp imap http }
+{
+    Some(Command::Serve {
+        smtp: smtp?,
+        imap: imap?,
+        http: http?,
+    })
+}
+
+fn with_ports(name: &str, smtp: &str, imap: &str, http: &str) -> Option<Command>
+    ensures { result ≡ with_ports name.now smtp.now imap.now http.now }
+{
+    if name == "serve" {
+        at_ports(read_port(smtp), read_port(imap), read_port(http))
+    } else {
+        None
+    }
+}
+
+/// The command that so many words are, if each may stand.
+fn by_number(words: &[String]) -> Option<Command>
+    ensures { result ≡ by_number (map string_bytes words.now) }
+{
+    match words {
+        [name] => alone(name),
+        [name, word] => with_one(name, word),
+        [name, _, smtp, imap, http] => with_ports(name, smtp, imap, http),
+        _ => None,
+    }
+}
+
+/// The command that words are.
+pub fn command_in(words: &[String]) -> Option<Command>
+    ensures { result ≡ command_of (map string_bytes words.now) }
+{
+    if are_words(words) {
+        by_number(words)
+    } else {
+        None
+    }
+}

@@ -1,0 +1,55 @@
+-- What is counted of a desk, and what is listed of its timeline.
+use Rattle.std.specs.Prelude.{ℕ, Bool, true, false, List, [], map, length, sum_by, count_by, min, ◌^◌, ◌-◌, take, drop}
+use Rattle.verb_core.specs.declared.item.Deed.{Deed}
+use Rattle.verb_core.specs.declared.item.Deed.TheVariants.{Deliver, Append, Act as Acts, Notice}
+use Rattle.verb_core.specs.declared.item.Act.TheVariants.{Give}
+use Rattle.verb_core.specs.declared.item.Item.{Item}
+use Rattle.verb_core.specs.declared.mailbox.BoxId.{BoxId}
+use Rattle.verb_core.specs.declared.mailbox.Mailbox.{Mailbox}
+use Rattle.mail_desk.specs.declared.counts.Counts.{Counts}
+use Rattle.mail_desk.specs.Desk.{store_of}
+use Rattle.mail_desk.specs.Kept.{Kept}
+
+-- ---- counts
+
+-- whether a deed tells a user of a cycle
+unfoldable pub is_notice : Deed → Bool
+is_notice (Notice user text) = true
+is_notice _ = false
+
+-- the most that 64 bits hold
+abbrev pub most : ℕ
+most = 2 ^ 64 - 1
+
+-- how many entries the mailboxes have
+abbrev pub messages_in : List (BoxId × Mailbox) → ℕ
+messages_in boxes = sum_by (λ (r : BoxId × Mailbox). length r.1.entries) boxes
+
+-- the counts; more messages than 64 bits hold are told as the most that they hold
+abbrev pub counts_of : Kept → Counts
+counts_of kept = record {
+  cycles = 0;
+  items = length kept.timeline;
+  messages = min (messages_in (store_of kept).boxes) most;
+  next = kept.next;
+  notices = count_by (λ (i : Item). is_notice i.deed) kept.timeline;
+  users = length kept.house.accounts;
+}
+
+-- ---- the timeline
+
+-- a deed without its text
+abbrev pub bare : Deed → Deed
+bare (Deliver from to text) = Deliver from to []
+bare (Append mailbox flags moment text) = Append mailbox flags moment []
+bare (Acts (Give user mailbox text)) = Acts (Give user mailbox [])
+bare (Notice user text) = Notice user []
+bare deed = deed
+
+-- an item without its text
+abbrev pub bare_item : Item → Item
+bare_item i = record i { deed = bare i.deed }
+
+-- at most a thousand items from a place on, without their texts
+abbrev pub listed : List Item → ℕ → List Item
+listed timeline from = map bare_item (take 1000 (drop from timeline))

@@ -1,0 +1,4 @@
+pub mod Beginnings
+pub mod Payloads
+pub mod Runs
+pub mod Submits

@@ -1,0 +1,100 @@
+-- What runs of calls leave.
+use Rattle.std.proofs.Common.{◌≡◌, ◌≤◌, ℕ, List, [], ◌∷◌, ◌++◌, length, take, Bool, ◌||◌, not, Option, Some, None, true, zero, suc, subst, sym, ap, refl, ◌∙◌}
+use Rattle.std.specs.Prelude.{is_some, IsSome, option_and_then}
+use Rattle.std.proofs.Math.Bool.{or-false}
+use Rattle.std.proofs.lemmas.List.{length-map, map-append, take-map}
+use Rattle.undo_outside.specs.Disk.{DiskTold, IsHonest}
+use Rattle.seal_log.specs.Journal.{StandsFor, StandsForFront}
+use Rattle.verb_core.specs.Names.{is_empty}
+use Rattle.verb_bytes.specs.declared.journal.JournalRecord.{JournalRecord}
+use Rattle.verb_bytes.specs.Spelling.{record_bytes}
+use Rattle.mail_desk.specs.Kept.{Kept}
+use Rattle.time_desk.specs.Crashing.{LeavesFront}
+use Rattle.time_desk.specs.Lasting.{IsUnwritten, Lasting}
+use Rattle.time_desk.specs.Records.{after_record, after_records, first_state, payloads_of, state}
+use Rattle.time_desk.specs.Sealing.{Seals, SealsPayloads}
+use Rattle.time_desk.proofs.Payloads.{payloads_none, payloads_then}
+
+-- ---- what records leave
+
+-- first these records, and then those
+pub after_append : (kept : Kept) (first more : List JournalRecord) → after_records kept (first ++ more) ≡ option_and_then (λ (k : Kept). after_records k more) (after_records kept first)
+after_append kept [] more = refl
+after_append kept (r ∷ rs) more = step (λ next. after_append next rs more) (after_record kept r)
+  where
+    step : ((next : Kept) → after_records next (rs ++ more) ≡ option_and_then (λ (k : Kept). after_records k more) (after_records next rs))
+        → (next : Option Kept) → option_and_then (λ (k : Kept). after_records k (rs ++ more)) next ≡ option_and_then (λ (k : Kept). after_records k more) (option_and_then (λ (k : Kept). after_records k rs) next)
+    step rest None = refl
+    step rest (Some next) = rest next
+
+-- a journal's records, and more
+pub state_append : (records more : List JournalRecord) (kept : Kept) → state records ≡ Some kept → state (records ++ more) ≡ after_records kept more
+state_append [] more kept e = cc
+state_append (r ∷ rs) more kept e = step (first_state r) e
+  where
+    step : (first : Option Kept) → option_and_then (λ (k : Kept). after_records k rs) first ≡ Some kept → option_and_then (λ (k : Kept). after_records k (rs ++ more)) first ≡ after_records kept more
+    step None e = cc
+    step (Some first) e = after_append first rs more ∙ ap (option_and_then (λ (k : Kept). after_records k more)) e
+
+-- where records can stand, the first of them can
+pub after_front : (kept : Kept) (records : List JournalRecord) (count : ℕ) → IsSome (after_records kept records) → IsSome (after_records kept (take count records))
+after_front kept records zero can = refl
+after_front kept [] (suc count) can = refl
+after_front kept (r ∷ rs) (suc count) can = step (λ next. after_front next rs count) (after_record kept r) can
+  where
+    step : ((next : Kept) → IsSome (after_records next rs) → IsSome (after_records next (take count rs)))
+        → (next : Option Kept) → IsSome (option_and_then (λ (k : Kept). after_records k rs) next) → IsSome (option_and_then (λ (k : Kept). after_records k (take count rs)) next)
+    step rest None can = cc
+    step rest (Some next) can = rest next can
+
+-- ---- what calls seal
+
+module _ {D : Type 0} (told : D → DiskTold) where
+  -- a desk that was not written to sealed nothing
+  pub seals_nothing : ((d : D) → (told d).honest → IsHonest (told d)) → (a b : Lasting D) → IsUnwritten a b → Seals told [] [] a b
+  seals_nothing truth a b same = record {
+    kept = ap Some (sym same.kept);
+    could = refl;
+    closed = same.closed ∙ sym (or-false a.closed);
+    on_disk = subst (λ (n : ℕ). SealsPayloads [] [] (told a.disk) (told b.disk) a.gate n) (sym same.gate)
+        (subst (λ (d : D). SealsPayloads [] [] (told a.disk) (told d) a.gate a.gate) (sym same.disk) (payloads_none (told a.disk) (truth a.disk) a.gate));
+  }
+
+  -- one run after the other
+  pub seals_then : (added more failed : List JournalRecord) (a b c : Lasting D) → Seals told added [] a b → Seals told more failed b c → Seals told (added ++ more) failed a c
+  seals_then added more failed a b c first second = record {
+    kept = after_append a.kept added more ∙ ap (option_and_then (λ (k : Kept). after_records k more)) first.kept ∙ second.kept;
+    could = second.could;
+    closed = second.closed ∙ ap (λ (x : Bool). x || not (is_empty failed)) (first.closed ∙ or-false a.closed);
+    on_disk = subst (λ (l : List (List ℕ)). SealsPayloads l (payloads_of failed) (told a.disk) (told c.disk) a.gate c.gate) (sym (map-append record_bytes added more))
+        (payloads_then (payloads_of added) (payloads_of more) (payloads_of failed) (told a.disk) (told b.disk) (told c.disk) a.gate b.gate c.gate first.on_disk second.on_disk);
+  }
+
+  -- what was sealed is what the journal's records leave
+  pub seals_state : (records added : List JournalRecord) (a b : Lasting D) → state records ≡ Some a.kept → Seals told added [] a b → state (records ++ added) ≡ Some b.kept
+  seals_state records added a b e seals = state_append records added a.kept e ∙ seals.kept
+
+  -- all that was to be sealed could stand
+  all_stand : (added failed : List JournalRecord) (a b : Lasting D) → Seals told added failed a b → IsSome (after_records a.kept (added ++ failed))
+  all_stand added failed a b seals = ap is_some (after_append a.kept added failed ∙ ap (option_and_then (λ (k : Kept). after_records k failed)) seals.kept) ∙ seals.could
+
+  -- what a crash leaves can stand
+  pub crash_leaves : (records added failed : List JournalRecord) (a b : Lasting D) (image : List ℕ) → state records ≡ Some a.kept → Seals told added failed a b
+      → StandsForFront (payloads_of records) (payloads_of (added ++ failed)) image → LeavesFront records (added ++ failed) image
+  crash_leaves records added failed a b image e seals front =
+      let count = front.count in
+      let others = added ++ failed in
+      let can = some_of (after_records a.kept (take count others)) (after_front a.kept others count (all_stand added failed a b seals)) in
+      record {
+        count = count;
+        few = subst (λ (n : ℕ). count ≤ n) (length-map others record_bytes) front.few;
+        stands = subst (StandsFor image)
+            (ap (λ (l : List (List ℕ)). payloads_of records ++ l) (take-map record_bytes count others) ∙ sym (map-append record_bytes records (take count others)))
+            front.stands;
+        kept = can.0;
+        state_is = state_append records (take count others) a.kept e ∙ can.1;
+      }
+    where
+      some_of : (found : Option Kept) → IsSome found → (kept : Kept) × (found ≡ Some kept)
+      some_of None can = cc
+      some_of (Some kept) can = (kept, refl)

@@ -1,0 +1,29 @@
+use Rattle.std.proofs.Common.{◌≡◌, OnOk, refl, subst}
+use Rattle.verb_bytes.specs.declared.journal.JournalRecord.TheVariants.{Verb}
+use Rattle.verb_core.specs.Live.{live}
+use Rattle.mail_desk.specs.Desk.{performed, store_of}
+use Rattle.mail_desk.specs.Kept.{Kept}
+use Rattle.time_desk.specs.Lasting.{lasting}
+use Rattle.time_desk.proofs.Runs.{seals_nothing}
+use Rattle.time_desk.proofs.Submits.{ok_submitted, record_as}
+use Rattle.time_desk.proofs.submit.submit_open.Goals as goal
+
+pub seal_found-requires-clause-record : goal.seal_found-requires-clause-record
+seal_found-requires-clause-record g c =
+    let found = c.in-Ok.found in
+    record_as (Verb found.item) found.bytes c.args.desk.now.kept c.find.new.desk.kept found.item found.item c.in-Ok.ensures.kept refl c.in-Ok.ensures.record
+
+pub returns-in-Ok-clause-ok : goal.returns-in-Ok-clause-ok
+returns-in-Ok-clause-ok g c =
+    let kept = c.args.desk.now.kept in
+    let found = c.in-Ok.found in
+    ok_submitted c.seal_found.result (live (store_of kept) kept.next c.args.at c.args.by c.args.ask) kept c.seal_found.new.desk.kept found.item c.in-Ok.ensures.item c.seal_found.ensures.item
+    (subst (λ (k : Kept). OnOk c.seal_found.result (c.seal_found.new.desk.kept ≡ performed k found.item)) c.in-Ok.ensures.kept c.seal_found.ensures.performed)
+
+pub returns-in-Err-clause-why : goal.returns-in-Err-clause-why
+returns-in-Err-clause-why g c = (
+  c.requires.open,
+  c.in-Err.ensures.refused,
+  seals_nothing g.D.Disk.told g.met.D.Disk.tells_truth (lasting c.args.desk.now c.args.disk.now c.args.log.now) (lasting c.find.new.desk c.args.disk.now c.args.log.now)
+      (record { kept = c.in-Err.ensures.kept; disk = refl; gate = refl; closed = refl }),
+)

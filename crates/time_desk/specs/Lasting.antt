@@ -1,0 +1,26 @@
+-- What contracts see of a desk over a disk.
+use Rattle.std.specs.Prelude.{◌≡◌, ℕ, Bool}
+use Rattle.seal_log.specs.declared.log.Log.{Log}
+use Rattle.seal_log.specs.Log.{last_gate}
+use Rattle.mail_desk.specs.Held.{Held, Room}
+use Rattle.mail_desk.specs.Kept.{Kept}
+
+-- what is kept, and the room that was made; the disk, the place of the journal's last gate, and whether a write or a sync
+-- failed
+pub record Lasting (D : Type 0) : Type 0 where
+  pub kept : Kept
+  pub room : Room
+  pub disk : D
+  pub gate : ℕ
+  pub closed : Bool
+
+-- of a desk in memory, a disk, and the end of the journal on it
+abbrev pub lasting : {D : Type 0} → Held → D → Log → Lasting D
+lasting held disk log = record { kept = held.kept; room = held.room; disk = disk; gate = last_gate log; closed = log.closed }
+
+-- from old to new nothing was kept and nothing was written
+pub record IsUnwritten {D : Type 0} (old new : Lasting D) : Type 0 where
+  pub kept : new.kept ≡ old.kept
+  pub disk : new.disk ≡ old.disk
+  pub gate : new.gate ≡ old.gate
+  pub closed : new.closed ≡ old.closed

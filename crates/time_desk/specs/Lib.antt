@@ -1,0 +1,6 @@
+pub mod Lasting
+pub mod Records
+pub mod Sealing
+pub mod Crashing
+pub mod Making
+pub mod Submitting

@@ -1,0 +1,59 @@
+-- What becomes of an ask and of an act.
+use Rattle.std.specs.Prelude.{◌≡◌, ℕ, ◌<◌, false, [], ◌∷◌, Result, Ok, IsTrue}
+use Rattle.undo_outside.specs.Disk.{DiskTold}
+use Rattle.verb_core.specs.declared.ask.Refused.{Refused}
+use Rattle.verb_core.specs.declared.ask.SubmitFault.{SubmitFault}
+use Rattle.verb_core.specs.declared.ask.SubmitFault.TheVariants.{Refused as IsRefused, Disk, Closed}
+use Rattle.verb_core.specs.declared.ask.Refused.TheVariants.{NoMemory}
+use Rattle.verb_core.specs.declared.item.Act.{Act}
+use Rattle.verb_core.specs.declared.item.Item.{Item}
+use Rattle.verb_bytes.specs.declared.journal.JournalRecord.{JournalRecord}
+use Rattle.verb_bytes.specs.declared.journal.JournalRecord.TheVariants.{Verb, Operator}
+use Rattle.box_store.specs.Refusing.{IsRefusal}
+use Rattle.seal_log.specs.declared.fault.SealFault.{SealFault}
+use Rattle.seal_log.specs.declared.fault.SealFault.TheVariants as log_faults
+use Rattle.time_desk.specs.declared.fault.ActFault.{ActFault}
+use Rattle.time_desk.specs.declared.fault.ActFault.TheVariants as act_faults
+use Rattle.time_desk.specs.Lasting.{Lasting}
+use Rattle.time_desk.specs.Sealing.{Seals}
+
+-- a fault of sealing, as a fault of an ask
+abbrev pub IsOutcomeOf : SealFault → SubmitFault → Type 0
+IsOutcomeOf log_faults.Disk fault = fault ≡ Disk
+IsOutcomeOf log_faults.NoMemory fault = fault ≡ IsRefused NoMemory
+IsOutcomeOf log_faults.Closed fault = ⊥
+
+-- the same as a fault of an act
+abbrev pub IsActOutcomeOf : SealFault → ActFault → Type 0
+IsActOutcomeOf log_faults.Disk fault = fault ≡ act_faults.Disk
+IsActOutcomeOf log_faults.NoMemory fault = fault ≡ act_faults.NoMemory
+IsActOutcomeOf log_faults.Closed fault = ⊥
+
+module _ {D : Type 0} (told : D → DiskTold) where
+  -- nothing was sealed, and nothing is lost
+  abbrev pub SealsNothing : Lasting D → Lasting D → Type 0
+  SealsNothing old new = Seals told [] [] old new
+
+  -- a record was not sealed: want of memory, and it was never there; or its sealing failed
+  abbrev pub SealsNone : JournalRecord → Lasting D → Lasting D → SealFault → Type 0
+  SealsNone what old new log_faults.Disk = Seals told [] (what ∷ []) old new
+  SealsNone what old new log_faults.NoMemory = SealsNothing old new
+  SealsNone what old new log_faults.Closed = ⊥
+
+  -- there is an item, and the sealing of its record failed
+  abbrev pub FailsToSeal : Result Item Refused → Lasting D → Lasting D → Type 0
+  FailsToSeal due old new = (item : Item) × (due ≡ Ok item) × Seals told [] (Verb item ∷ []) old new
+
+  -- Why an ask has no item, beside what is due: the refusal that is due, or want of memory; or its record was not sealed; or
+  -- the desk was closed, and stays as it was.
+  abbrev pub SubmitsNone : Result Item Refused → Lasting D → Lasting D → SubmitFault → Type 0
+  SubmitsNone due old new (IsRefused why) = (old.closed ≡ false) × IsRefusal why due × SealsNothing old new
+  SubmitsNone due old new Disk = (old.closed ≡ false) × FailsToSeal due old new
+  SubmitsNone due old new Closed = IsTrue old.closed × (new ≡ old)
+
+  -- The same of an operator's act at a moment: no number is left, exactly where it says so.
+  abbrev pub ActsNone : ℕ → Act → Lasting D → Lasting D → ActFault → Type 0
+  ActsNone at act old new (act_faults.Numbers next) = (old.closed ≡ false) × (next ≡ old.kept.next) × (old.kept.next ≡ 4194304) × (new ≡ old)
+  ActsNone at act old new act_faults.Disk = (old.closed ≡ false) × (old.kept.next < 4194304) × Seals told [] (Operator old.kept.next at act ∷ []) old new
+  ActsNone at act old new act_faults.NoMemory = (old.closed ≡ false) × (old.kept.next < 4194304) × SealsNothing old new
+  ActsNone at act old new act_faults.Closed = IsTrue old.closed × (new ≡ old)

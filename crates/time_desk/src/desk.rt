@@ -1,0 +1,182 @@
+//! The desk over its disk, and what it tells of itself.
+ghost use Rattle.std.specs.Prelude.{◌≡◌, ℕ, ◌≤◌, ◌<◌, ◌-◌, map, length, option_map, Some, IsTrue, IfOk};
+ghost use Rattle.std.specs.List.{list_all};
+ghost use Rattle.verb_core.specs.declared.mailbox.Body.{Body as TheBody};
+ghost use Rattle.verb_core.specs.declared.mailbox.BoxId.{BoxId as TheBoxId};
+ghost use Rattle.verb_core.specs.declared.mailbox.Mailbox.{Mailbox as TheMailbox};
+ghost use Rattle.verb_core.specs.Boxes.{box_of, row_at};
+ghost use Rattle.verb_core.specs.Items.{IsTimeline, text_of};
+ghost use Rattle.verb_core.specs.Store.{IsValid, is_house};
+ghost use Rattle.shelf.specs.Notes.{size_of};
+ghost use Rattle.store_digest.specs.Snapshots.{digest_of};
+ghost use Rattle.mail_desk.specs.Counting.{counts_of, listed};
+ghost use Rattle.mail_desk.specs.Desk.{store_of};
+ghost use Rattle.mail_desk.specs.Timeline.{all_bodies, has_sizes, has_text, numbers_rise, rev_of, texts_of};
+
+use box_store::Store;
+use mail_desk::Counts;
+use seal_log::Log;
+use shelf::Shelf;
+use std::alloc::Global;
+use std::marker::Model;
+use store_digest::digest;
+use undo_base::{Name, NoMemory, Text, Texts, User};
+use undo_outside::Disk;
+use verb_core::{Body, Conf, House, Items, Stamps};
+
+/// A desk in memory, the disk that its journal lies on, and the end of that journal.
+#[derive(Drop)]
+pub struct Desk<D: Disk> {
+    pub(crate) disk: D,
+    pub(crate) log: Log,
+    pub(crate) desk: mail_desk::Desk,
+}
+
+impl<D: Disk> Model for Desk<D> {
+    ghost use Rattle.std.specs.Prelude.{◌<◌};
+    ghost use Rattle.seal_log.specs.Log.{last_gate};
+    ghost use Rattle.time_desk.specs.Lasting.{Lasting, lasting};
+
+    ghost Value = { Lasting D };
+
+    ghost view = { λ d. lasting d.desk d.disk d.log };
+
+    ghost invariant = { λ d. last_gate d.log < (D.told d.disk).size };
+}
+
+impl<D: Disk> Desk<D> {
+    /// Whether a write or a sync of this desk failed.
+    pub fn closed(&self) -> bool
+        ensures { result ≡ self.now.closed }
+    {
+        self.log.is_closed()
+    }
+
+    /// What its configuration says for good.
+    pub fn house(&self) -> &House
+        ensures value { result.now ≡ self.now.kept.house }
+        ensures sound { IsTrue (is_house result.now) }
+    {
+        self.desk.house()
+    }
+
+    /// The configuration at first.
+    pub fn opening(&self) -> &Conf
+        ensures { result.now ≡ self.now.kept.opening }
+    {
+        self.desk.opening()
+    }
+
+    /// The configuration in force.
+    pub fn conf(&self) -> &Conf
+        ensures { result.now ≡ (store_of self.now.kept).conf }
+    {
+        self.desk.conf()
+    }
+
+    /// The store that the items in force leave.
+    pub fn store(&self) -> &Store
+        ensures value { result.now.store ≡ store_of self.now.kept }
+        ensures valid { IsValid result.now.store }
+        ensures house { result.now.store.house ≡ self.now.kept.house }
+    {
+        self.desk.store()
+    }
+
+    /// The stamp of each mailbox, by rising user and name.
+    pub fn stamps(&self) -> &Stamps
+        ensures value { result.now ≡ self.now.kept.stamps }
+        ensures named { map (λ (r : TheBoxId × ℕ). r.0) result.now ≡ map (λ (r : TheBoxId × TheMailbox). r.0) (store_of self.now.kept).boxes }
+    {
+        self.desk.stamps()
+    }
+
+    /// The stamp of the mailbox of that user and name, where it is there.
+    pub fn stamp(&self, user: User, name: &Name) -> Option<u32>
+        ensures { result ≡ row_at (box_of user name.now) self.now.kept.stamps }
+    {
+        self.desk.stamp(user, name)
+    }
+
+    /// The size of each body that has a text.
+    pub fn shelf(&self) -> &Shelf
+        ensures sizes { (body : TheBody) → size_of result.now.notes body ≡ option_map length (text_of self.now.kept.timeline body) }
+        ensures known { IsTrue (has_sizes result.now.notes (store_of self.now.kept).boxes) }
+    {
+        self.desk.shelf()
+    }
+
+    /// The number that the next item gets.
+    pub fn next(&self) -> u32
+        ensures { result ≡ self.now.kept.next }
+    {
+        self.desk.next()
+    }
+
+    /// The counts, with no memory taken.
+    pub fn counts(&self) -> Counts
+        ensures { result ≡ counts_of self.now.kept }
+    {
+        self.desk.counts()
+    }
+
+    /// At most a thousand items from a place on (0 is the first), without their texts.
+    pub fn timeline(&self, alloc: Global, from: u32) -> Result<Items, NoMemory>
+        ensures { IfOk result (λ items. items ≡ listed self.now.kept.timeline from) }
+    {
+        self.desk.timeline(alloc, from)
+    }
+
+    /// The digest of the store, of 64 digits.
+    pub fn digest(&self, alloc: Global) -> Result<Text, NoMemory>
+        ensures { IfOk result (λ text. text ≡ digest_of (store_of self.now.kept) (length self.now.kept.timeline)) }
+    {
+        let items = self.desk.counts().items;
+        digest(alloc, self.desk.store(), items)
+    }
+
+    /// The text of a body.
+    pub fn text(&self, alloc: Global, body: Body) -> Result<Text, NoMemory>
+        requires { IsTrue (has_text self.now.kept.timeline body) }
+        ensures { IfOk result (λ text. text_of self.now.kept.timeline body ≡ Some text) }
+    {
+        self.desk.text(alloc, body)
+    }
+
+    /// The texts of bodies, in order.
+    pub fn texts(&self, alloc: Global, bodies: &[Body]) -> Result<Texts, NoMemory>
+        requires { IsTrue (list_all (has_text self.now.kept.timeline) bodies.now) }
+        ensures { IfOk result (λ texts. texts ≡ texts_of self.now.kept.timeline bodies.now) }
+    {
+        self.desk.texts(alloc, bodies)
+    }
+
+    /// The rev of the item of a number, where it has a text.
+    pub fn rev(&self, number: u32) -> Option<u32>
+        ensures { result ≡ rev_of self.now.kept.timeline number }
+    {
+        self.desk.rev(number)
+    }
+
+    /// What holds of each desk: this does nothing.
+    pub fn stands(&self)
+        ensures house { IsTrue (is_house self.now.kept.house) }
+        ensures valid { IsValid (store_of self.now.kept) }
+        ensures house_stays { (store_of self.now.kept).house ≡ self.now.kept.house }
+        ensures timeline { IsTimeline self.now.kept.house self.now.kept.timeline }
+        ensures rising { IsTrue (numbers_rise (self.now.kept.house.first - 1) self.now.kept.timeline self.now.kept.next) }
+        ensures next { self.now.kept.next ≤ 4194304 }
+        ensures texts { IsTrue (all_bodies (has_text self.now.kept.timeline) (store_of self.now.kept).boxes) }
+        ensures within { self.now.gate < (D.told self.now.disk).size }
+    {
+        self.desk.stands();
+    }
+
+    /// The disk as it is.
+    pub fn into_disk(self) -> D
+        ensures { result ≡ self.disk }
+    {
+        let Desk { disk, .. } = self;
+        disk
+    }
+}

@@ -1,0 +1,66 @@
+//! The bytes of records.
+ghost use Rattle.std.specs.Prelude.{◌≡◌, IsTrue, IfOk, OnOk};
+ghost use Rattle.verb_bytes.specs.declared.journal.JournalRecord.TheVariants.{Format, Verb, Operator};
+ghost use Rattle.verb_bytes.specs.Spelling.{record_bytes};
+ghost use Rattle.time_desk.specs.Records.{is_spelled};
+
+use std::alloc::Global;
+use undo_base::{Copies, NoMemory, Text};
+use verb_bytes::{
+    JournalRecord, act_has_spelling, encode_act, encode_item, encode_record, has_spelling,
+    item_has_spelling,
+};
+use verb_core::{Act, Conf, House, Item};
+
+/// The bytes of the record of a user's item. One without a spelling finds no memory.
+pub(crate) fn item_bytes(alloc: Global, item: &Item) -> Result<Text, NoMemory>
+    ensures spelled { OnOk result (IsTrue (is_spelled (Verb item.now))) }
+    ensures bytes { IfOk result (λ text. text ≡ record_bytes (Verb item.now)) }
+{
+    if !item_has_spelling(item) {
+        return Err(NoMemory);
+    }
+    encode_item(alloc, item)
+}
+
+/// The same of an operator's act.
+pub(crate) fn act_bytes(alloc: Global, number: u32, at: u64, act: &Act) -> Result<Text, NoMemory>
+    ensures spelled { OnOk result (IsTrue (is_spelled (Operator number at act.now))) }
+    ensures bytes { IfOk result (λ text. text ≡ record_bytes (Operator number at act.now)) }
+{
+    if !act_has_spelling(number, at, act) {
+        return Err(NoMemory);
+    }
+    encode_act(alloc, number, at, act)
+}
+
+/// The bytes of a record, where it has a spelling.
+fn record_text(alloc: Global, what: &JournalRecord) -> Result<Text, NoMemory>
+    ensures spelled { OnOk result (IsTrue (is_spelled what.now)) }
+    ensures bytes { IfOk result (λ text. text ≡ record_bytes what.now) }
+{
+    if !has_spelling(what) {
+        return Err(NoMemory);
+    }
+    encode_record(alloc, what)
+}
+
+/// The first record.
+fn house_record(alloc: Global, house: &House, conf: &Conf) -> Result<JournalRecord, NoMemory>
+    ensures { IfOk result (λ what. what ≡ Format house.now conf.now) }
+{
+    let house = house.copy(alloc)?;
+    match conf.copy(alloc) {
+        Ok(conf) => Ok(JournalRecord::Format(house, conf)),
+        Err(NoMemory) => Err(NoMemory),
+    }
+}
+
+/// The bytes of the first record. One without a spelling, which has more names than four bytes count, finds no memory.
+pub(crate) fn house_bytes(alloc: Global, house: &House, conf: &Conf) -> Result<Text, NoMemory>
+    ensures spelled { OnOk result (IsTrue (is_spelled (Format house.now conf.now))) }
+    ensures bytes { IfOk result (λ text. text ≡ record_bytes (Format house.now conf.now)) }
+{
+    let what = house_record(alloc, house, conf)?;
+    record_text(alloc, &what)
+}

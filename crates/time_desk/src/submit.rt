@@ -1,0 +1,184 @@
+//! What users ask.
+ghost use Rattle.std.specs.Prelude.{◌≡◌, ◌<◌, ◌↔◌, [], ◌∷◌, Ok, Some, true, false, IsTrue, IsSome, IfOk, OnOk, IfErr, OnErr, IsErrOf};
+ghost use Rattle.std.specs.List.{list_all, cons_option};
+ghost use Rattle.verb_core.specs.Live.{is_users, live};
+ghost use Rattle.verb_core.specs.Store.{is_known};
+ghost use Rattle.box_store.specs.Refusing.{IsRefusal};
+ghost use Rattle.verb_bytes.specs.declared.journal.JournalRecord.TheVariants.{Verb};
+ghost use Rattle.verb_bytes.specs.Spelling.{record_bytes};
+ghost use Rattle.seal_log.specs.Log.{last_gate};
+ghost use Rattle.mail_desk.specs.Desk.{performed, store_of, submitted};
+ghost use Rattle.mail_desk.specs.Entering.{CanEnter};
+ghost use Rattle.time_desk.specs.Lasting.{lasting};
+ghost use Rattle.time_desk.specs.Records.{is_spelled};
+ghost use Rattle.time_desk.specs.Sealing.{IsRecordOf, Seals};
+ghost use Rattle.time_desk.specs.Submitting.{IsOutcomeOf, SubmitsNone};
+
+use crate::Desk;
+use crate::seal::seal_ready;
+use crate::spelling::item_bytes;
+use mail_desk::Ready;
+use seal_log::{Log, SealFault};
+use std::alloc::Global;
+use undo_base::{Copies, NoMemory, Text, User};
+use undo_outside::Disk;
+use verb_core::{Ask, Item, Refused, SubmitFault};
+
+/// An item that can be entered, a copy of it, and the bytes of its record.
+#[derive(Drop)]
+struct Found {
+    ready: Ready,
+    item: Item,
+    bytes: Text,
+}
+
+/// A copy of an item, and the bytes of its record.
+fn copy_with_bytes(alloc: Global, item: &Item) -> Result<(Item, Text), NoMemory>
+    ensures copy { IfOk result (λ parts. parts.0 ≡ item.now) }
+    ensures bytes { IfOk result (λ parts. parts.1 ≡ record_bytes (Verb item.now)) }
+    ensures spelled { OnOk result (IsTrue (is_spelled (Verb item.now))) }
+{
+    let bytes = item_bytes(alloc, item)?;
+    match item.copy(alloc) {
+        Ok(copy) => Ok((copy, bytes)),
+        Err(NoMemory) => Err(NoMemory),
+    }
+}
+
+/// The same beside an item that is ready.
+fn with_bytes(alloc: Global, ready: Ready) -> Result<Found, NoMemory>
+    ensures ready { IfOk result (λ found. found.ready ≡ ready) }
+    ensures copy { IfOk result (λ found. found.item ≡ ready.item) }
+    ensures bytes { IfOk result (λ found. found.bytes ≡ record_bytes (Verb ready.item)) }
+    ensures spelled { OnOk result (IsTrue (is_spelled (Verb ready.item))) }
+{
+    match copy_with_bytes(alloc, ready.item()) {
+        Ok((item, bytes)) => Ok(Found { ready, item, bytes }),
+        Err(NoMemory) => Err(NoMemory),
+    }
+}
+
+/// Finds what is asked for at a moment, and makes all room for it and the bytes of its record.
+fn find(
+    alloc: Global,
+    desk: &mut mail_desk::Desk,
+    at: u64,
+    by: Option<User>,
+    ask: Ask,
+) -> Result<Found, Refused>
+    requires by { IsSome by ↔ IsTrue (is_users ask) }
+    requires known { IsTrue (list_all (is_known desk.old.kept.house) (cons_option by [])) }
+    ensures kept { desk.new.kept ≡ desk.old.kept }
+    ensures item { IfOk result (λ found. live (store_of desk.old.kept) desk.old.kept.next at by ask ≡ Ok found.item) }
+    ensures copy { IfOk result (λ found. found.ready.item ≡ found.item) }
+    ensures ready { IfOk result (λ found. CanEnter found.ready desk.new) }
+    ensures record { IfOk result (λ found. IsRecordOf (Verb found.item) found.bytes desk.old.kept found.item) }
+    ensures refused { IfErr result (λ refused. IsRefusal refused (live (store_of desk.old.kept) desk.old.kept.next at by ask)) }
+{
+    let ready = desk.ready(alloc, at, by, ask)?;
+    match with_bytes(alloc, ready) {
+        Ok(found) => Ok(found),
+        Err(NoMemory) => Err(Refused::NoMemory),
+    }
+}
+
+/// Why an item was not submitted.
+fn fault_of(fault: SealFault) -> SubmitFault
+    requires { fault ≡ SealFault.Closed → ⊥ }
+    ensures { IsOutcomeOf fault result }
+{
+    match fault {
+        SealFault::Disk => SubmitFault::Disk,
+        SealFault::NoMemory => SubmitFault::Refused(Refused::NoMemory),
+        SealFault::Closed => unreachable!(),
+    }
+}
+
+/// Seals what was found, and enters it.
+fn seal_found<D: Disk>(
+    alloc: Global,
+    log: &mut Log,
+    disk: &mut D,
+    desk: &mut mail_desk::Desk,
+    found: Found,
+) -> Result<Item, SubmitFault>
+    requires end { last_gate log.old < (D.told disk.old).size }
+    requires open { log.old.closed ≡ false }
+    requires ready { CanEnter found.ready desk.old }
+    requires copy { found.ready.item ≡ found.item }
+    requires record { IsRecordOf (Verb found.item) found.bytes desk.old.kept found.item }
+    ensures item { IfOk result (λ item. item ≡ found.item) }
+    ensures ok { OnOk result (Seals D.told (Verb found.item ∷ []) [] (lasting desk.old disk.old log.old) (lasting desk.new disk.new log.new)) }
+    ensures performed { OnOk result (desk.new.kept ≡ performed desk.old.kept found.item) }
+    ensures same { OnErr result (desk.new ≡ desk.old) }
+    ensures err { IfErr result (λ fault. SubmitsNone D.told (Ok found.item) (lasting desk.old disk.old log.old) (lasting desk.new disk.new log.new) fault) }
+    ensures not_closed { IsErrOf result SubmitFault.Closed → ⊥ }
+    ensures within { last_gate log.new < (D.told disk.new).size }
+{
+    let Found { ready, item, bytes } = found;
+    match seal_ready(alloc, log, disk, desk, &bytes, ready) {
+        Ok(()) => Ok(item),
+        Err(fault) => Err(fault_of(fault)),
+    }
+}
+
+/// Asks for something of a desk that is not closed.
+fn submit_open<D: Disk>(
+    alloc: Global,
+    log: &mut Log,
+    disk: &mut D,
+    desk: &mut mail_desk::Desk,
+    at: u64,
+    by: Option<User>,
+    ask: Ask,
+) -> Result<Item, SubmitFault>
+    requires by { IsSome by ↔ IsTrue (is_users ask) }
+    requires known { IsTrue (list_all (is_known desk.old.kept.house) (cons_option by [])) }
+    requires end { last_gate log.old < (D.told disk.old).size }
+    requires open { log.old.closed ≡ false }
+    ensures ok { IfOk result (λ item. submitted desk.old.kept at by ask ≡ record { outcome = Ok item; kept = desk.new.kept }) }
+    ensures sealed { IfOk result (λ item. Seals D.told (Verb item ∷ []) [] (lasting desk.old disk.old log.old) (lasting desk.new disk.new log.new)) }
+    ensures err { OnErr result (desk.new.kept ≡ desk.old.kept) }
+    ensures why { IfErr result (λ fault. SubmitsNone D.told (live (store_of desk.old.kept) desk.old.kept.next at by ask)
+        (lasting desk.old disk.old log.old) (lasting desk.new disk.new log.new) fault) }
+    ensures not_closed { IsErrOf result SubmitFault.Closed → ⊥ }
+    ensures within { last_gate log.new < (D.told disk.new).size }
+{
+    match find(alloc, desk, at, by, ask) {
+        Ok(found) => seal_found(alloc, log, disk, desk, found),
+        Err(refused) => Err(SubmitFault::Refused(refused)),
+    }
+}
+
+impl<D: Disk> Desk<D> {
+    /// Asks for something at a moment. At `Ok` the item is sealed and performed. At `Disk` the desk is closed from then on,
+    /// and the item may be in the journal or not; what is kept is as before.
+    pub fn submit(
+        &mut self,
+        alloc: Global,
+        at: u64,
+        by: Option<User>,
+        ask: Ask,
+    ) -> Result<Item, SubmitFault>
+        requires by { IsSome by ↔ IsTrue (is_users ask) }
+        requires known { IsTrue (list_all (is_known self.old.kept.house) (cons_option by [])) }
+        ensures ok { IfOk result (λ item. submitted self.old.kept at by ask ≡ record { outcome = Ok item; kept = self.new.kept }) }
+        ensures sealed { IfOk result (λ item. Seals D.told (Verb item ∷ []) [] self.old self.new) }
+        ensures err { OnErr result (self.new.kept ≡ self.old.kept) }
+        ensures why { IfErr result (λ fault. SubmitsNone D.told (live (store_of self.old.kept) self.old.kept.next at by ask) self.old self.new fault) }
+        ensures closed { IsErrOf result SubmitFault.Closed ↔ IsTrue self.old.closed }
+    {
+        if self.log.is_closed() {
+            return Err(SubmitFault::Closed);
+        }
+        submit_open(
+            alloc,
+            &mut self.log,
+            &mut self.disk,
+            &mut self.desk,
+            at,
+            by,
+            ask,
+        )
+    }
+}
