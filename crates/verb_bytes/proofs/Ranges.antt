@@ -1,5 +1,5 @@
 -- Fields are in their ranges where plain facts say so.
-use Rattle.std.proofs.Common.{◌≡◌, ℕ, ◌≤◌, true, ◌&&◌, List, [], ◌∷◌, length, refl, sym, ap, subst, arith}
+use Rattle.std.proofs.Common.{◌≡◌, ℕ, ◌≤◌, true, List, [], ◌∷◌, length, refl, sym, ap, subst, arith}
 use Rattle.std.specs.Prelude.{nat_le, is_none}
 use Rattle.std.specs.List.{flat_map, AllByRecursion}
 use Rattle.std.specs.Int.{Width, w32, w64}
@@ -13,8 +13,8 @@ use Rattle.verb_core.specs.declared.conf.House.{House}
 use Rattle.verb_core.specs.declared.conf.Conf.{Conf}
 use Rattle.verb_core.specs.Names.{is_empty}
 use Rattle.verb_bytes.specs.declared.journal.JournalRecord.TheVariants.{Format, Verb}
-use Rattle.verb_bytes.specs.Fields.{Field, are_in_range, ◌&◌, only_if, byte_field, number_field, name_field, text_field, list_fields, any_list_fields, user_field}
-use Rattle.verb_bytes.specs.Spelling.{HasSpelling, account_fields, alias_fields, house_fields}
+use Rattle.verb_bytes.specs.Fields.{Field, are_in_range, only_if, byte_field, number_field, name_field, text_field, list_fields, any_list_fields, user_field}
+use Rattle.verb_bytes.specs.Spelling.{HasSpelling, account_fields, alias_fields}
 use Rattle.verb_bytes.specs.Limits.{AreMany, IsUser, IsAccount, IsAlias, IsOpening, IsMail, delivery}
 use Rattle.verb_bytes.proofs.Exact.{in_range_both}
 

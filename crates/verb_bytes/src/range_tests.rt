@@ -33,25 +33,45 @@ fn expunge(alloc: Global, count: usize) -> Result<Deed, Fail> {
     })
 }
 
-fn item_of(at: u64, rev: u32, deed: Deed, shown: Shown) -> JournalRecord {
-    JournalRecord::Verb(Item {
+// Whether the record of such an item has a spelling.
+fn is_spelled(at: u64, rev: u32, deed: Deed, shown: Shown) -> bool {
+    let what = JournalRecord::Verb(Item {
         number: 2,
         at,
         by: Some(User(199)),
         rev,
         deed,
         shown,
-    })
+    });
+    has_spelling(&what)
 }
 
-fn delivery_of(alloc: Global, at: u64, count: usize, bytes: usize) -> Result<JournalRecord, Fail> {
+fn is_delivery_spelled(alloc: Global, at: u64, count: usize, bytes: usize) -> Result<bool, Fail> {
     let deed = delivery(alloc, count, bytes)?;
-    Ok(item_of(at, 0, deed, Shown::Nothing))
+    Ok(is_spelled(at, 0, deed, Shown::Nothing))
 }
 
-fn expunge_of(alloc: Global, count: usize) -> Result<JournalRecord, Fail> {
+fn is_expunge_spelled(alloc: Global, count: usize) -> Result<bool, Fail> {
     let deed = expunge(alloc, count)?;
-    Ok(item_of(0, 0, deed, Shown::Left(Keys::new(alloc))))
+    Ok(is_spelled(0, 0, deed, Shown::Left(Keys::new(alloc))))
+}
+
+fn is_rev_spelled(alloc: Global, rev: u32) -> Result<bool, Fail> {
+    let deed = delivery(alloc, 1, 2)?;
+    Ok(is_spelled(0, rev, deed, Shown::Nothing))
+}
+
+fn is_count_spelled_of_a_delivery(alloc: Global) -> Result<bool, Fail> {
+    let deed = delivery(alloc, 1, 2)?;
+    Ok(is_spelled(0, 0, deed, Shown::Count(None)))
+}
+
+fn is_notice_spelled(alloc: Global) -> bool {
+    let notice = Deed::Notice {
+        user: User(0),
+        text: Text::new(alloc),
+    };
+    is_spelled(0, 0, notice, Shown::Nothing)
 }
 
 #[test]
@@ -64,28 +84,16 @@ fn a_record_has_a_spelling_where_each_field_is_in_its_range(rt: HostRuntime) -> 
         (LAST_MOMENT + 1, 1, 2, false),
     ];
     for (at, count, bytes, want) in table {
-        let found = has_spelling(&delivery_of(alloc, at, count, bytes)?);
+        let found = is_delivery_spelled(alloc, at, count, bytes)?;
         assert_eq!(rt; found, want, "{at} {count} {bytes}");
     }
     for (count, want) in [(65536, true), (65537, false)] {
-        let found = has_spelling(&expunge_of(alloc, count)?);
-        assert_eq!(rt; found, want, "{count}");
+        assert_eq!(rt; is_expunge_spelled(alloc, count)?, want, "{count}");
     }
-    Ok(())
-}
-
-// A rev, and what belongs to another deed.
-#[test]
-fn what_no_item_can_be_has_no_spelling(rt: HostRuntime) -> Result<(), Fail> {
-    let alloc = rt.alloc();
-    let with_rev = item_of(0, 1, delivery(alloc, 1, 2)?, Shown::Nothing);
-    assert!(rt; !has_spelling(&with_rev));
-    let of_another = item_of(0, 0, delivery(alloc, 1, 2)?, Shown::Count(None));
-    assert!(rt; !has_spelling(&of_another));
-    let notice = Deed::Notice {
-        user: User(0),
-        text: Text::new(alloc),
-    };
-    assert!(rt; !has_spelling(&item_of(0, 0, notice, Shown::Nothing)));
+    for (rev, want) in [(0, true), (1, false)] {
+        assert_eq!(rt; is_rev_spelled(alloc, rev)?, want, "{rev}");
+    }
+    assert!(rt; !is_count_spelled_of_a_delivery(alloc)?);
+    assert!(rt; !is_notice_spelled(alloc));
     Ok(())
 }
