@@ -15,7 +15,7 @@ ghost use Rattle.mail_loop.specs.Read.{AreThere, IsAnswered, IsAwaitedLast, IsRe
 use crate::asking::ask_desk;
 use crate::reply::{Reply, say};
 use imap_lines::{ImapCommand, ImapRefused, read_command};
-use imap_session::{BodyList, ImapOut, ImapSession, bad_line, no_memory, ready, refused};
+use imap_session::{Bodies0, ImapOut, ImapSession, bad_line, no_memory, ready, refused};
 use imap_stream::{Next, RawCommand};
 use mail_desk::Desk;
 use seal_log::ReadFault;
@@ -174,7 +174,7 @@ fn take_texts(
     desk: &mut Desk,
     session: &mut ImapSession,
     at: u64,
-    bodies: &BodyList,
+    bodies: &Bodies0,
     texts: Texts,
     reply: &mut Reply,
 )
@@ -200,7 +200,7 @@ fn read(
     desk: &mut Desk,
     session: &mut ImapSession,
     at: u64,
-    bodies: &BodyList,
+    bodies: &Bodies0,
     reply: &mut Reply,
 )
     requires reading { is_reading session.old ≡ true }
