@@ -34,7 +34,7 @@ readers() {
 
 # repeat COUNT LINE: the line so many times
 repeat() {
-    awk -v count="$1" -v line="$2" 'BEGIN { for (i = 0; i < count; i++) print line }'
+    line=$2 awk -v count="$1" 'BEGIN { for (i = 0; i < count; i++) print ENVIRON["line"] }'
 }
 
 # measure NAME: seconds of processor time of the script of that name, in three rounds, and the lines of its transcript

@@ -22,6 +22,23 @@ for count in 500000 1000000; do
     measure "idle-$count"
 done
 
+# literals COUNT: a command with so many literals of 1,000,000 octets, byte by byte or in one piece each
+literals() {
+    echo 'open 1 imap'
+    echo 'line 1 a NOTHING {1000000}'
+    for i in $(seq "$1"); do
+        if [ "$2" = bytes ]; then repeat 1000000 'data 1 a'; else echo 'fill 1 1000 1000'; fi
+        if [ "$i" -lt "$1" ]; then echo 'line 1 {1000000}'; else echo 'line 1'; fi
+    done
+}
+
+for count in 3 6; do
+    literals "$count" bytes >"$folder/$count-literals-by-bytes"
+    measure "$count-literals-by-bytes"
+done
+literals 8 pieces >"$folder/8-literals-at-once"
+measure 8-literals-at-once
+
 # texted: joe begins a text for ann
 texted() {
     echo 'at 1105092000'
