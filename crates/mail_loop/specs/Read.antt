@@ -1,5 +1,5 @@
 -- What the code's answers to a mail reader are in the machine.
-use Rattle.std.specs.Prelude.{◌≡◌, ◌⊎◌, ℕ, Bool, true, false, List, [], Result, Ok, Err, is_err, IsTrue}
+use Rattle.std.specs.Prelude.{◌≡◌, ◌⊎◌, ℕ, Bool, true, false, List, [], Result, Ok, Err, IsTrue}
 use Rattle.std.specs.List.{list_all}
 use Rattle.undo_base.specs.declared.memory.NoMemory.{NoMemory as WantOfMemory}
 use Rattle.seal_log.specs.declared.fault.ReadFault.TheVariants.{NoMemory as NoneForTexts}

@@ -1,18 +1,23 @@
 -- What the code's answers and replies are in the machine.
-use Rattle.std.specs.Prelude.{◌≡◌, ◌⊎◌, ℕ, Bool, true, false, List, [], ◌∷◌, ◌++◌, Option, None, Some, MatchOption, Result, Err, is_err}
+use Rattle.std.specs.Prelude.{◌≡◌, ◌⊎◌, ℕ, Bool, true, false, List, [], ◌∷◌, ◌++◌, Option, None, Some, MatchOption, Result, Ok, Err}
+use Rattle.undo_base.specs.declared.keys.User.{User}
 use Rattle.mail_loop.specs.declared.reply.Reply.{Reply}
+use Rattle.verb_core.specs.declared.ask.Ask.{Ask}
 use Rattle.verb_core.specs.declared.ask.Refused.TheVariants.{NoMemory}
 use Rattle.verb_core.specs.declared.ask.SubmitFault.{SubmitFault}
-use Rattle.verb_core.specs.declared.ask.SubmitFault.TheVariants.{Refused as IsRefused}
+use Rattle.verb_core.specs.declared.ask.SubmitFault.TheVariants.{Refused as IsRefused, Disk, Closed}
 use Rattle.verb_core.specs.declared.item.Item.{Item}
-use Rattle.verb_core.specs.Live.{is_users}
+use Rattle.verb_core.specs.Live.{is_users, live}
+use Rattle.box_store.specs.Refusing.{IsRefusal}
 use Rattle.smtp_session.specs.declared.answer.SmtpOut.{SmtpOut}
 use Rattle.smtp_session.specs.declared.answer.SmtpOut.TheVariants.{Nothing, Say, Mail, Bye}
 use Rattle.smtp_session.specs.declared.dialog.Dialog.{Dialog}
 use Rattle.smtp_session.specs.Dialog.{is_due}
 use Rattle.mail_desk.specs.Kept.{Kept}
+use Rattle.mail_desk.specs.Desk.{store_of, submitted}
 use Rattle.mail_loop.specs.State.{Seat}
 use Rattle.verb_bytes.specs.declared.journal.JournalRecord.{JournalRecord}
+use Rattle.verb_bytes.specs.declared.journal.JournalRecord.TheVariants.{Verb}
 use Rattle.mail_loop.specs.Asked.{Asked, does, fails}
 use Rattle.mail_loop.specs.Dialog.{Turn, ends, followed, settled}
 use Rattle.mail_loop.specs.Hindrance.{Hindrance, Clear, Refused, Unread, Unstored, Unheard, Unanswered, Unsealed, Untold, lost, unanswered, refused_in_text}
