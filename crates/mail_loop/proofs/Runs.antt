@@ -1,5 +1,5 @@
 -- Runs of the machine, step after step.
-use Rattle.std.proofs.Common.{◌≡◌, ◌≢◌, ℕ, ◌+◌, min, true, false, List, [], ◌∷◌, ◌++◌, length, None, Some, Option, Result, MatchResult, Ok, Err, is_err, refl, ap, subst, sym, inr, ◌∙◌, arith}
+use Rattle.std.proofs.Common.{◌≡◌, ◌≢◌, ℕ, ◌+◌, ◌<◌, ◌≤◌, min, true, false, List, [], ◌∷◌, ◌++◌, length, None, Some, Option, Result, MatchResult, Ok, Err, is_err, refl, ap, subst, sym, inr, ◌∙◌, arith}
 use Rattle.std.specs.List.{AllByRecursion}
 use Rattle.std.proofs.lemmas.List.{append-nil, append_assoc, length-append}
 use Rattle.undo_base.specs.declared.memory.NoMemory.{NoMemory as WantOfMemory}
@@ -119,6 +119,10 @@ rose_more steps step old mid got new before same more =
 none_more : (steps : List Step) (step : Step) → missed_in steps ≡ 0 → missed_of step.hindrances.deliveries ≡ 0 → missed_in (steps ++ step ∷ []) ≡ 0
 none_more steps step before here = missed_more steps step ∙ (omega arith)
 
+-- one step more is not too many
+few_more : (steps : List Step) (step : Step) (turns limit : ℕ) → length steps ≡ turns → turns < limit → length (steps ++ step ∷ []) ≤ limit
+few_more steps step turns limit count some = let more = length-append steps (step ∷ []) in omega (arith, more, count, some)
+
 -- all of an event was done
 all_done : (r : Result (Unit {0}) WantOfMemory) (all notes : List LinkNote) → is_err r ≡ false → MatchResult r (λ _. all ≡ notes) (λ _. (more : List LinkNote) × (all ≡ notes ++ more)) → all ≡ notes
 all_done (Ok x) all notes ok e = e
@@ -179,9 +183,9 @@ unhindered = record { unfed = false; turns = []; deliveries = [] }
 
 -- the end came
 pub so_ended : (S : List JournalRecord → Type 0) (turns limit : ℕ) (old mid got : LinkTold) (kept : Kept) (s : State) (event : Event)
-    → SoServed turns old mid kept s → Comes mid got (Ok event) → is_end event.what ≡ true → S []
+    → SoServed turns old mid kept s → turns < limit → Comes mid got (Ok event) → is_end event.what ≡ true → S []
     → Ran S limit old got kept s.kept (Ok tt)
-so_ended S turns limit old mid got kept s event so came ends seals =
+so_ended S turns limit old mid got kept s event so some came ends seals =
     let step : Step = record { event = event; hindrances = unhindered } in
     let nothing : happens unhindered s event ≡ record { state = s; notes = []; unsealed = [] } =
     ap (λ a. outcome a (delivered [] a.state.seats a.replies)) (end_ignored unhindered s event.conn (min event.at 253402300799) event.what ends) in
@@ -195,6 +199,7 @@ so_ended S turns limit old mid got kept s event so came ends seals =
           record { notes_are = sym (ap (λ (o : Outcome). o.notes) leaves); kept_is = sym (ap (λ (o : Outcome). o.state.kept) leaves) },
           (so.steps, step, refl, so.no_end, ends),
           ap (λ (o : Outcome). o.unsealed) leaves,
+          few_more so.steps step turns limit so.count some,
         );
         log = came.0 ∙ ap (λ o. then_told o (Came event ∷ [])) so.log ∙ then_told-append old.log so.notes (Came event ∷ []);
         order = rw events_more (order_more old.coming mid.coming got.coming (events_of so.steps) event so.order came.1);
@@ -207,11 +212,11 @@ so_ended S turns limit old mid got kept s event so came ends seals =
 
 -- memory was wanted in an event
 pub so_starved : (S T : List JournalRecord → Type 0) (turns limit : ℕ) (old mid got new : LinkTold) (kept after : Kept) (s : State) (seats : Seats) (event : Event) (r : Result (Unit {0}) WantOfMemory)
-    → SoServed turns old mid kept s → Comes mid got (Ok event) → is_end event.what ≡ false
+    → SoServed turns old mid kept s → turns < limit → Comes mid got (Ok event) → is_end event.what ≡ false
     → (h : Hindrances) × AreLicensed h.deliveries got new × Leads S (happens h s event) got new after seats r
     → is_err r ≡ true → ((failed : List JournalRecord) → S failed → failed ≡ []) → ((failed : List JournalRecord) → S failed → T failed)
     → Ran T limit old new kept after (Err NoMemory)
-so_starved S T turns limit old mid got new kept after s seats event r so came goes (h, licensed, leads) starved only then =
+so_starved S T turns limit old mid got new kept after s seats event r so few came goes (h, licensed, leads) starved only then =
     let step : Step = record { event = event; hindrances = h } in
     let o = happens h s event in
     let did = leads.did in
@@ -231,6 +236,7 @@ so_starved S T turns limit old mid got new kept after s seats event r so came go
           all_more (λ t. is_end t.event.what ≡ false) so.steps step so.no_end goes,
           inr (so.steps, step, did.notes, refl, ap (λ (q : Outcome). (happens h q.state event).notes) so.leaves ∙ more.1),
           sealed,
+          few_more so.steps step turns limit so.count few,
         );
         log = log_more old.log mid.log got.log new.log so.notes did.notes (Came event) so.log came.0 did.goes.log;
         order = rw events_more (subst (λ c. ComeInOrder old.coming (events_of so.steps ++ event ∷ []) c) (sym did.goes.coming)
@@ -244,11 +250,11 @@ so_starved S T turns limit old mid got new kept after s seats event r so came go
 
 -- sealing failed in an event
 pub so_failed : (S T : List JournalRecord → Type 0) (turns limit : ℕ) (old mid got new : LinkTold) (kept after : Kept) (s : State) (seats : Seats) (event : Event) (r : Result (Unit {0}) WantOfMemory)
-    → SoServed turns old mid kept s → Comes mid got (Ok event) → is_end event.what ≡ false
+    → SoServed turns old mid kept s → turns < limit → Comes mid got (Ok event) → is_end event.what ≡ false
     → (h : Hindrances) × AreLicensed h.deliveries got new × Leads S (happens h s event) got new after seats r
     → ((failed : List JournalRecord) → S failed → failed ≢ []) → ((failed : List JournalRecord) → S failed → T failed)
     → Ran T limit old new kept after (Err Disk)
-so_failed S T turns limit old mid got new kept after s seats event r so came goes (h, licensed, leads) some then =
+so_failed S T turns limit old mid got new kept after s seats event r so few came goes (h, licensed, leads) some then =
     let step : Step = record { event = event; hindrances = h } in
     let o = happens h s event in
     let did = leads.did in
@@ -268,6 +274,7 @@ so_failed S T turns limit old mid got new kept after s seats event r so came goe
           all_more (λ t. is_end t.event.what ≡ false) so.steps step so.no_end goes,
           inr (so.steps, step, did.notes, refl, ap (λ (q : Outcome). q.notes) here ∙ more.1),
           (so.steps, step, refl, ap (λ (q : Outcome). q.unsealed) so.leaves, λ none. some o.unsealed leads.seals (sym (ap (λ (q : Outcome). q.unsealed) here) ∙ none)),
+          few_more so.steps step turns limit so.count few,
         );
         log = log_more old.log mid.log got.log new.log so.notes did.notes (Came event) so.log came.0 did.goes.log;
         order = rw events_more (subst (λ c. ComeInOrder old.coming (events_of so.steps ++ event ∷ []) c) (sym did.goes.coming)

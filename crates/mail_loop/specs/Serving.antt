@@ -73,15 +73,15 @@ EndsUnsealed steps old =
     × ((happens last.hindrances (run before (at_first old)).state last.event).unsealed ≢ [])
 
 -- Serving ended: with the end; after so many turns without it; where the link failed; where sealing failed in the last step; or where memory was
--- wanted, somewhere in the last step.
+-- wanted, somewhere in the last step. No more events were taken than so many.
 abbrev pub Served : ℕ → List Step → Kept → List LinkNote → Kept → Result (Unit {0}) ServeFault → Type 0
-Served turns steps old notes new (Ok x) = Serves steps old notes new × Ends steps × (unsealed_in steps old ≡ [])
+Served turns steps old notes new (Ok x) = Serves steps old notes new × Ends steps × (unsealed_in steps old ≡ []) × (length steps ≤ turns)
 Served turns steps old notes new (Err Turns) = Serves steps old notes new × NoEnd steps × (length steps ≡ turns) × (unsealed_in steps old ≡ [])
 Served turns steps old notes new (Err Link) = Serves steps old notes new × NoEnd steps × (length steps < turns) × (unsealed_in steps old ≡ [])
 Served turns steps old notes new (Err Disk) =
-    (more : List LinkNote) × Serves steps old (notes ++ more) new × NoEnd steps × IsLeftOfLast steps old more × EndsUnsealed steps old
+    (more : List LinkNote) × Serves steps old (notes ++ more) new × NoEnd steps × IsLeftOfLast steps old more × EndsUnsealed steps old × (length steps ≤ turns)
 Served turns steps old notes new (Err NoMemory) =
-    (more : List LinkNote) × Serves steps old (notes ++ more) new × NoEnd steps × IsLeftOfLast steps old more × (unsealed_in steps old ≡ [])
+    (more : List LinkNote) × Serves steps old (notes ++ more) new × NoEnd steps × IsLeftOfLast steps old more × (unsealed_in steps old ≡ []) × (length steps ≤ turns)
 
 -- whether serving ended because sealing failed
 abbrev pub is_disk : Result (Unit {0}) ServeFault → Bool

@@ -16,19 +16,24 @@ use crate::session::{Session, hear, new_reader, new_session};
 use std::alloc::Global;
 use std::collections::BTreeMap;
 use std::thread::Threads;
+use thiserror::Error;
 use time_desk::Desk;
 use time_desk::laws::seals_join;
 use undo_base::{LAST_MOMENT, NoMemory};
 use undo_outside::{Disk, Event, Fault, Gate, Link, Role, What};
 
 /// Why serving ended before the end.
-#[derive(Clone, Copy, Debug, PartialEq, Eq)]
+#[derive(Clone, Copy, Debug, PartialEq, Eq, Error)]
 pub enum ServeFault {
     /// `next` of the link failed.
+    #[error("link fault")]
     Link,
     /// A record was not sealed: the disk failed.
+    #[error("disk fault")]
     Disk,
+    #[error("too many events")]
     Turns,
+    #[error("no memory")]
     NoMemory,
 }
 
