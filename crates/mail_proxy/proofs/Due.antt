@@ -15,15 +15,20 @@ use Rattle.mail_loop.specs.Serving.{Step}
 use Rattle.script_link.specs.Script.{script_of}
 use Rattle.time_desk.specs.declared.fault.MakeFault.{MakeFault}
 use Rattle.time_desk.specs.declared.fault.MakeFault.TheVariants as make
+use Rattle.time_desk.specs.declared.fault.StartFault.{StartFault}
+use Rattle.time_desk.specs.declared.fault.StartFault.TheVariants as start
 use Rattle.time_desk.specs.Making.{Makes}
+use Rattle.time_desk.specs.Opening.{OpensAs, Starts}
 use Rattle.command_words.specs.declared.commands.Command.{Command}
 use Rattle.command_words.specs.declared.commands.Command.TheVariants.{Init, Serve, Script, Play, Grow, Check}
 use Rattle.command_words.specs.Usage.{command_of}
 use Rattle.mail_proxy.specs.Answers.{Answers, Does, Shows, Unused, first_fault, status_after}
 use Rattle.mail_proxy.specs.Causes.{IsBadText, IsBadFor, IsBadScript, is_built, uses_text}
-use Rattle.mail_proxy.specs.Due.{IsDue, IsDueFor, IsDueInit, IsHindered}
+use Rattle.mail_proxy.specs.Due.{IsDue, IsDueFor, IsDueInit, IsDueStore, IsHindered}
 use Rattle.mail_proxy.specs.Init.{Configures, Inits, IsConfig, made_status}
 use Rattle.mail_proxy.specs.Lines.{too_long, usage}
+use Rattle.mail_proxy.specs.Opening.{OpensNone}
+use Rattle.mail_proxy.specs.Check.{Checks, TellsCounts}
 use Rattle.mail_proxy.specs.Play.{Played, Plays, PlaysScript, PlaysText, Tells}
 use Rattle.mail_proxy.specs.Texts.{End, ending, FromText, IsText}
 use Rattle.mail_proxy.proofs.Causes.{fault_stays}
@@ -152,33 +157,80 @@ module _ {D : Type 0} (told : D → DiskTold) (disk : D) (end : End D) (text tex
       by_script (Err n) e plays = absurd (let wrong : ◌≡◌ {A = Result (List Event) ℕ} (Err n) (Ok events) = e in cc)
       by_script (Ok all) e (outcome, notes, steps, last, played, tells) = served outcome _ all notes steps last played tells due
 
-  -- ---- all commands
+  module _ (one_opening : (image : List ℕ) (one two : Result Kept StartFault) → OpensAs image one → OpensAs image two → one ≡ two) where
+    -- a store that opened was to open
+    due_opened : (kept : Kept) → ((told disk).honest → OpensAs (told disk).content (Ok kept)) → IsDueStore (told disk) k → k ≡ 0
+    due_opened kept opens (honest, inl (other, leaves, due)) = due
+    due_opened kept opens (honest, inr (inl (not, due))) =
+        absurd (let wrong : ◌≡◌ {A = Result Kept StartFault} (Ok kept) (Err start.NotFormatted) = one_opening (told disk).content (Ok kept) (Err start.NotFormatted) (opens honest) not in cc)
+    due_opened kept opens (honest, inr (inr (place, damaged, due))) =
+        absurd (let wrong : ◌≡◌ {A = Result Kept StartFault} (Ok kept) (Err (start.Damaged place)) = one_opening (told disk).content (Ok kept) (Err (start.Damaged place)) (opens honest) damaged in cc)
 
-  -- words of no stated shape, a bad text, or a text and a disk
-  by_command : (command : Option Command) → IsDue command (record { text = text; disk = told disk; out = out }) k → Does told command text text' disk end → (s ≡ k) ⊎ IsHindered s
-  by_command None (inl (not_built, one)) (same, e) = inl (stays 1 (status_of_end 1 usage disk e) (λ z. omega arith) ∙ sym one)
-  by_command None (inr (inl (t, line, is, bad, two))) does = absurd (bad_none None t line refl (λ u e. e) bad)
-  by_command None (inr (inr (t, is, short, due))) does = absurd due
-  by_command (Some Init) (inl (not_built, one)) does = absurd (let wrong : true ≡ false = not_built in cc)
-  by_command (Some Init) (inr (inl (t, line, is, bad, two))) does = bad_init t line is bad two does
-  by_command (Some Init) (inr (inr (t, is, short, due))) does = due_init t is short due does
-  by_command (Some (Serve a b c)) (inl (not_built, one)) (same, e) = inl (stays 1 (status_of_end 1 usage disk e) (λ z. omega arith) ∙ sym one)
-  by_command (Some (Serve a b c)) (inr (inl (t, line, is, bad, two))) does = absurd (bad_none (Some (Serve a b c)) t line refl (λ u e. e) bad)
-  by_command (Some (Serve a b c)) (inr (inr (t, is, short, due))) does = absurd due
-  by_command (Some Script) (inl (not_built, one)) (same, e) = inl (stays 1 (status_of_end 1 usage disk e) (λ z. omega arith) ∙ sym one)
-  by_command (Some Script) (inr (inl (t, line, is, bad, two))) does = absurd (bad_none (Some Script) t line refl (λ u e. e) bad)
-  by_command (Some Script) (inr (inr (t, is, short, due))) does = absurd due
-  by_command (Some Play) (inl (not_built, one)) does = absurd (let wrong : true ≡ false = not_built in cc)
-  by_command (Some Play) (inr (inl (t, line, is, bad, two))) does = bad_play t line is bad two does
-  by_command (Some Play) (inr (inr (t, is, short, due))) does = due_play t is short due does
-  by_command (Some (Grow n)) (inl (not_built, one)) (same, e) = inl (stays 1 (status_of_end 1 usage disk e) (λ z. omega arith) ∙ sym one)
-  by_command (Some (Grow n)) (inr (inl (t, line, is, bad, two))) does = absurd (bad_none (Some (Grow n)) t line refl (λ u e. e) bad)
-  by_command (Some (Grow n)) (inr (inr (t, is, short, due))) does = absurd due
-  by_command (Some Check) (inl (not_built, one)) (same, e) = inl (stays 1 (status_of_end 1 usage disk e) (λ z. omega arith) ∙ sym one)
-  by_command (Some Check) (inr (inl (t, line, is, bad, two))) does = absurd (bad_none (Some Check) t line refl (λ u e. e) bad)
-  by_command (Some Check) (inr (inr (t, is, short, due))) does = absurd due
+    -- one that was not opened was not to open
+    due_unopened : OpensNone told disk end → IsDueStore (told disk) k → (s ≡ k) ⊎ IsHindered s
+    due_unopened (start.NotFormatted, starts, three, is) (honest, inl (kept, leaves, due)) =
+        absurd (let wrong : ◌≡◌ {A = Result Kept StartFault} (Err start.NotFormatted) (Ok kept) = one_opening (told disk).content (Err start.NotFormatted) (Ok kept) (starts.found honest) leaves in cc)
+    due_unopened (start.NotFormatted, starts, three, is) (honest, inr (inl (not, due))) = inl (stays 3 three (λ z. omega arith) ∙ sym due)
+    due_unopened (start.NotFormatted, starts, three, is) (honest, inr (inr (place, damaged, due))) =
+        absurd (let wrong : ◌≡◌ {A = Result Kept StartFault} (Err start.NotFormatted) (Err (start.Damaged place)) =
+            one_opening (told disk).content (Err start.NotFormatted) (Err (start.Damaged place)) (starts.found honest) damaged in cc)
+    due_unopened (start.Damaged p, starts, ten, is) (honest, inl (kept, leaves, due)) =
+        absurd (let wrong : ◌≡◌ {A = Result Kept StartFault} (Err (start.Damaged p)) (Ok kept) = one_opening (told disk).content (Err (start.Damaged p)) (Ok kept) (starts.found honest) leaves in cc)
+    due_unopened (start.Damaged p, starts, ten, is) (honest, inr (inl (not, due))) =
+        absurd (let wrong : ◌≡◌ {A = Result Kept StartFault} (Err (start.Damaged p)) (Err start.NotFormatted) =
+            one_opening (told disk).content (Err (start.Damaged p)) (Err start.NotFormatted) (starts.found honest) not in cc)
+    due_unopened (start.Damaged p, starts, ten, is) (honest, inr (inr (place, damaged, due))) = inl (stays 10 ten (λ z. omega arith) ∙ sym due)
+    due_unopened (start.Disk, starts, five, is) due = inr (by_disk (stays 5 five (λ z. omega arith)))
+    due_unopened (start.NoMemory, starts, eight, is) due = starved eight
 
-  -- the status that is due comes, unless the run was hindered
-  pub due : (words : List (List ℕ)) → Answers told words text text' disk end → IsDue (command_of words) (record { text = text; disk = told disk; out = out }) k → (s ≡ k) ⊎ IsHindered s
-  due words (inl does) is = by_command (command_of words) is does
-  due words (inr (same, e)) is = starved (ap (λ (x : End D). x.status) e)
+    -- what an opened desk keeps is what the image leaves
+    leaves : (kept : Kept) (gate : ℕ) (new : DiskTold) → Starts (told disk) new (Ok (kept, gate)) → (told disk).honest → OpensAs (told disk).content (Ok kept)
+    leaves kept gate new starts honest =
+        let started = starts.found honest in
+        record { records = started.records; stands = started.stands; state_is = started.state_is }
+
+    due_check : Checks told disk end → IsDueStore (told disk) k → (s ≡ k) ⊎ IsHindered s
+    due_check (inl none, kept) due = due_unopened none due
+    due_check (inr (desk, starts, counted), kept) due = by_told counted.0
+      where
+        by_told : TellsCounts desk.kept end.status end.output → (s ≡ k) ⊎ IsHindered s
+        by_told (inl (nought, is)) = well nought (due_opened desk.kept (leaves desk.kept desk.gate (told desk.disk) starts) due)
+        by_told (inr (eight, is)) = starved eight
+
+    -- ---- all commands
+
+    -- words of no stated shape, a bad text, or a text and a disk
+    by_command : (command : Option Command) → IsDue command (record { text = text; disk = told disk; out = out }) k → Does told command text text' disk end → (s ≡ k) ⊎ IsHindered s
+    by_command None (inl (not_built, one)) (same, e) = inl (stays 1 (status_of_end 1 usage disk e) (λ z. omega arith) ∙ sym one)
+    by_command None (inr (inl (t, line, is, bad, two))) does = absurd (bad_none None t line refl (λ u e. e) bad)
+    by_command None (inr (inr (inl (t, is, short, due)))) does = absurd due
+    by_command None (inr (inr (inr due))) does = absurd due
+    by_command (Some Init) (inl (not_built, one)) does = absurd (let wrong : true ≡ false = not_built in cc)
+    by_command (Some Init) (inr (inl (t, line, is, bad, two))) does = bad_init t line is bad two does
+    by_command (Some Init) (inr (inr (inl (t, is, short, due)))) does = due_init t is short due does
+    by_command (Some Init) (inr (inr (inr due))) does = absurd due
+    by_command (Some (Serve a b c)) (inl (not_built, one)) (same, e) = inl (stays 1 (status_of_end 1 usage disk e) (λ z. omega arith) ∙ sym one)
+    by_command (Some (Serve a b c)) (inr (inl (t, line, is, bad, two))) does = absurd (bad_none (Some (Serve a b c)) t line refl (λ u e. e) bad)
+    by_command (Some (Serve a b c)) (inr (inr (inl (t, is, short, due)))) does = absurd due
+    by_command (Some (Serve a b c)) (inr (inr (inr due))) does = absurd due
+    by_command (Some Script) (inl (not_built, one)) (same, e) = inl (stays 1 (status_of_end 1 usage disk e) (λ z. omega arith) ∙ sym one)
+    by_command (Some Script) (inr (inl (t, line, is, bad, two))) does = absurd (bad_none (Some Script) t line refl (λ u e. e) bad)
+    by_command (Some Script) (inr (inr (inl (t, is, short, due)))) does = absurd due
+    by_command (Some Script) (inr (inr (inr due))) does = absurd due
+    by_command (Some Play) (inl (not_built, one)) does = absurd (let wrong : true ≡ false = not_built in cc)
+    by_command (Some Play) (inr (inl (t, line, is, bad, two))) does = bad_play t line is bad two does
+    by_command (Some Play) (inr (inr (inl (t, is, short, due)))) does = due_play t is short due does
+    by_command (Some Play) (inr (inr (inr due))) does = absurd due
+    by_command (Some (Grow n)) (inl (not_built, one)) (same, e) = inl (stays 1 (status_of_end 1 usage disk e) (λ z. omega arith) ∙ sym one)
+    by_command (Some (Grow n)) (inr (inl (t, line, is, bad, two))) does = absurd (bad_none (Some (Grow n)) t line refl (λ u e. e) bad)
+    by_command (Some (Grow n)) (inr (inr (inl (t, is, short, due)))) does = absurd due
+    by_command (Some (Grow n)) (inr (inr (inr due))) does = absurd due
+    by_command (Some Check) (inl (not_built, one)) does = absurd (let wrong : true ≡ false = not_built in cc)
+    by_command (Some Check) (inr (inl (t, line, is, bad, two))) does = absurd (bad_none (Some Check) t line refl (λ u e. e) bad)
+    by_command (Some Check) (inr (inr (inl (t, is, short, due)))) does = absurd due
+    by_command (Some Check) (inr (inr (inr due))) (same, checks) = due_check checks due
+
+    -- the status that is due comes, unless the run was hindered
+    pub due : (words : List (List ℕ)) → Answers told words text text' disk end → IsDue (command_of words) (record { text = text; disk = told disk; out = out }) k → (s ≡ k) ⊎ IsHindered s
+    due words (inl does) is = by_command (command_of words) is does
+    due words (inr (same, e)) is = starved (ap (λ (x : End D). x.status) e)

@@ -7,12 +7,14 @@ ghost use Rattle.mail_proxy.specs.Due.{IsDue, IsHindered};
 ghost use Rattle.mail_proxy.specs.Plans.{end_of};
 ghost use Rattle.mail_proxy.specs.Texts.{End};
 
+use crate::check::plan_check;
 use crate::init::plan_init;
 use crate::plan::{LastLine, Plan, only_line, show};
 use crate::play::plan_play;
 use command_words::{Command, WordsRefused, read_words};
 use std::alloc::Global;
 use std::thread::Threads;
+use time_desk::one_opening;
 use undo_outside::{Disk, Gate, Link, Sink, Source};
 
 /// What the words come to.
@@ -48,7 +50,7 @@ fn plan_command<S: Source, D: Disk + Drop>(
         Command::Script => (only_line(alloc, 1, LastLine::Usage), disk),
         Command::Play => plan_play(alloc, text, disk),
         Command::Grow { .. } => (only_line(alloc, 1, LastLine::Usage), disk),
-        Command::Check => (only_line(alloc, 1, LastLine::Usage), disk),
+        Command::Check => plan_check(alloc, disk),
     }
 }
 
@@ -78,6 +80,7 @@ pub fn run<R: Threads + Sync, S: Source, L: Link, D: Disk + Drop, W: Sink, G: Ga
     ensures link { link.new ≡ link.old }
     ensures disk { uses_disk (command_of (map string_bytes words.now.items)) ≡ false → result.1 ≡ disk }
 {
+    one_opening();
     let (plan, disk) = make_plan(alloc, words, text, disk);
     (show(alloc, &plan, out), disk)
 }

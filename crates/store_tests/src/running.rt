@@ -10,6 +10,10 @@ use undo_outside::{Events, MemDisk, MemLink, MemSink, MemSource, OpenGate};
 pub(crate) const FORMATTED: &[u8] =
     b"\x55\x00\x00\x00\x47\x00\x09mail.test\x00\x00\x00\x01\x09mail.test\x00\x00\x00\x02\x00\x00\x00\x03\x03ann\x02a1\x03bob\x02b2\x04carl\x02c3\x00\x00\x00\x00\x01\x04team\x00\x00\x00\x02\x00\x01\x00";
 
+/// What stands from byte 76 on once ann has created Work: an open gate, the length 21, the payload, and a closed gate.
+pub(crate) const CREATED: &[u8] =
+    b"\x55\x00\x00\x00\x15\x01\x00\x00\x00\x02\x00\x00\x00\x00\x41\xde\x5d\xa0\x00\x0b\x04Work\x00\x00";
+
 pub(crate) const DISK_FAULT: &[u8] = b"undomail: disk fault\n";
 
 /// How a run ended: the status, what was written, and the disk.
@@ -72,4 +76,11 @@ pub(crate) fn leaves<R: Threads + Sync>(
 /// The bytes of a disk after all of its writes.
 pub(crate) fn bytes_of(alloc: Global, disk: &MemDisk) -> Result<Text, Fail> {
     Ok(disk.image_after(alloc, disk.writes())?)
+}
+
+/// Two texts, one after the other.
+pub(crate) fn joined(alloc: Global, first: &[u8], second: &[u8]) -> Result<Text, Fail> {
+    let mut text = Text::of(alloc, first)?;
+    text.extend(second)?;
+    Ok(text)
 }

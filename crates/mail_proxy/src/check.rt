@@ -1,0 +1,68 @@
+//! The command `check`: the counts of a store, and its digest.
+ghost use Rattle.std.specs.Prelude.{◌≡◌, ◌++◌, ◌∷◌, IfOk, OnOk, string_bytes};
+ghost use Rattle.mail_proxy.specs.Check.{Checks, TellsCounts, check_text, counts_text};
+ghost use Rattle.mail_proxy.specs.Plans.{end_of, output_of};
+
+use crate::opening::unopened;
+use crate::plan::{LastLine, Plan, only_line};
+use mail_desk::Counts;
+use std::alloc::Global;
+use time_desk::Desk;
+use undo_base::{NoMemory, Text};
+use undo_outside::Disk;
+
+/// Opens the store, and tells its counts and its digest.
+pub fn plan_check<D: Disk + Drop>(alloc: Global, disk: D) -> (Plan, D)
+    ensures { Checks D.told disk (end_of result.0 result.1) }
+{
+    match Desk::start(alloc, disk) {
+        Ok(desk) => {
+            let plan = plan_counts(alloc, &desk);
+            (plan, desk.into_disk())
+        }
+        Err((disk, fault)) => (unopened(alloc, fault), disk),
+    }
+}
+
+fn plan_counts<D: Disk + Drop>(alloc: Global, desk: &Desk<D>) -> Plan
+    ensures { TellsCounts desk.now.kept result.status (output_of result) }
+{
+    match check_text(alloc, desk) {
+        Ok(body) => Plan {
+            status: 0,
+            body,
+            last: LastLine::Nothing,
+        },
+        Err(NoMemory) => only_line(alloc, 8, LastLine::NoMemory),
+    }
+}
+
+/// The counts of the store, and its digest.
+fn check_text<D: Disk + Drop>(alloc: Global, desk: &Desk<D>) -> Result<Text, NoMemory>
+    ensures { IfOk result (λ text. text ≡ check_text desk.now.kept) }
+{
+    let digest = desk.digest(alloc)?;
+    let mut text = counts_text(alloc, desk.counts())?;
+    text.extend(b"digest ")?;
+    text.extend(digest.bytes())?;
+    text.extend(b"\n")?;
+    Ok(text)
+}
+
+/// The six lines of the counts.
+fn counts_text(alloc: Global, counts: Counts) -> Result<Text, NoMemory>
+    ensures { IfOk result (λ text. text ≡ counts_text counts) }
+{
+    let Counts {
+        cycles,
+        items,
+        messages,
+        next,
+        notices,
+        users,
+    } = counts;
+    let text = format!(in alloc;
+        "cycles {cycles}\nitems {items}\nmessages {messages}\nnext {next}\nnotices {notices}\nusers {users}\n"
+    )?;
+    Text::of(alloc, text.as_bytes())
+}
