@@ -29,7 +29,7 @@ use Rattle.mail_proxy.specs.Init.{Configures, Inits, IsConfig, made_status}
 use Rattle.mail_proxy.specs.Lines.{too_long, usage}
 use Rattle.mail_proxy.specs.Opening.{OpensNone}
 use Rattle.mail_proxy.specs.Check.{Checks, TellsCounts}
-use Rattle.mail_proxy.specs.Play.{Played, Plays, PlaysScript, PlaysText, Tells}
+use Rattle.mail_proxy.specs.Script.{Played, Plays, PlaysScript, PlaysText, RunsScript, Scripts, Tells}
 use Rattle.mail_proxy.specs.Texts.{End, ending, FromText, IsText}
 use Rattle.mail_proxy.proofs.Causes.{fault_stays}
 
@@ -101,6 +101,14 @@ module _ {D : Type 0} (told : D → DiskTold) (disk : D) (end : End D) (text tex
       by_config bad (inr (house, conf, (utf8, configures), formats)) =
           absurd (let wrong : ◌≡◌ {A = Option (House × Conf)} (Some (house, conf)) None = sym configures ∙ bad.0 utf8 in cc)
 
+  bad_script : (known line : List ℕ) → text.left ≡ Some known → IsBadText (Some Script) known line → k ≡ 2 → Scripts told text text' disk end → (s ≡ k) ⊎ IsHindered s
+  bad_script known line is is_bad two scripts =
+      for_text (λ t. RunsScript told disk (script_of t)) known is (λ long. two) (λ short follows. by_script (script_of known) (bad_short (Some Script) known line is_bad short) follows) scripts
+    where
+      by_script : (script : Result (List Event) ℕ) → IsBadScript script line → RunsScript told disk script end → (s ≡ k) ⊎ IsHindered s
+      by_script (Ok events) bad runs = absurd bad
+      by_script (Err n) bad e = inl (stays 2 (ap (λ (x : End D). x.status) e) (λ z. omega arith) ∙ sym two)
+
   bad_play : (known line : List ℕ) → text.left ≡ Some known → IsBadText (Some Play) known line → k ≡ 2 → Plays text text' disk end → (s ≡ k) ⊎ IsHindered s
   bad_play known line is is_bad two plays =
       for_text (PlaysText disk) known is (λ long. two) (λ short follows. by_script (script_of known) (bad_short (Some Play) known line is_bad short) follows.0) plays
@@ -143,6 +151,8 @@ module _ {D : Type 0} (told : D → DiskTold) (disk : D) (end : End D) (text tex
   served (Ok x) first events notes steps last played (inl (zero, is)) due = well zero due
   served (Ok x) first events notes steps last played (inr (eight, is)) due = starved eight
   served (Err serve.Link) first events notes steps last played tells due = absurd (played.no_link_fault refl)
+  served (Err serve.Disk) first events notes steps last played (inl (five, is)) due = inr (by_disk (stays 5 five (λ z. omega arith)))
+  served (Err serve.Disk) first events notes steps last played (inr (five, is)) due = inr (by_disk (stays 5 five (λ z. omega arith)))
   served (Err serve.Turns) first events notes steps last played (inl (seven, is)) due = inr (by_events (stays 7 seven (λ z. omega arith)))
   served (Err serve.Turns) first events notes steps last played (inr (seven, is)) due = inr (by_events (stays 7 seven (λ z. omega arith)))
   served (Err serve.NoMemory) first events notes steps last played (inl (eight, is)) due = starved eight
@@ -155,7 +165,7 @@ module _ {D : Type 0} (told : D → DiskTold) (disk : D) (end : End D) (text tex
     where
       by_script : (r : Result (List Event) ℕ) → r ≡ Ok events → PlaysScript r end.status end.output → (s ≡ k) ⊎ IsHindered s
       by_script (Err n) e plays = absurd (let wrong : ◌≡◌ {A = Result (List Event) ℕ} (Err n) (Ok events) = e in cc)
-      by_script (Ok all) e (outcome, notes, steps, last, played, tells) = served outcome _ all notes steps last played tells due
+      by_script (Ok all) e (outcome, notes, steps, last, played, no_fault, tells) = served outcome _ all notes steps last played tells due
 
   module _ (one_opening : (image : List ℕ) (one two : Result Kept StartFault) → OpensAs image one → OpensAs image two → one ≡ two) where
     -- a store that opened was to open
@@ -189,6 +199,17 @@ module _ {D : Type 0} (told : D → DiskTold) (disk : D) (end : End D) (text tex
         let started = starts.found honest in
         record { records = started.records; stands = started.stands; state_is = started.state_is }
 
+    due_script : (known : List ℕ) → text.left ≡ Some known → nat_lt 67108864 (length known) ≡ false → IsDueFor (Some Script) known (told disk) k → Scripts told text text' disk end
+        → (s ≡ k) ⊎ IsHindered s
+    due_script known is short (events, script, due) scripts =
+        for_text (λ t. RunsScript told disk (script_of t)) known is (λ long. absurd (let wrong : true ≡ false = sym long ∙ short in cc)) (λ e follows. by_script (script_of known) script follows) scripts
+      where
+        by_script : (r : Result (List Event) ℕ) → r ≡ Ok events → RunsScript told disk r end → (s ≡ k) ⊎ IsHindered s
+        by_script (Err n) e runs = absurd (let wrong : ◌≡◌ {A = Result (List Event) ℕ} (Err n) (Ok events) = e in cc)
+        by_script (Ok all) e (inl none) = due_unopened none due
+        by_script (Ok all) e (inr (desk, starts, (last, run, disk_is, journals))) =
+            served run.outcome desk.kept all run.notes run.steps last.kept run.played run.tells (due_opened desk.kept (leaves desk.kept desk.gate (told desk.disk) starts) due)
+
     due_check : Checks told disk end → IsDueStore (told disk) k → (s ≡ k) ⊎ IsHindered s
     due_check (inl none, kept) due = due_unopened none due
     due_check (inr (desk, starts, counted), kept) due = by_told counted.0
@@ -213,9 +234,9 @@ module _ {D : Type 0} (told : D → DiskTold) (disk : D) (end : End D) (text tex
     by_command (Some (Serve a b c)) (inr (inl (t, line, is, bad, two))) does = absurd (bad_none (Some (Serve a b c)) t line refl (λ u e. e) bad)
     by_command (Some (Serve a b c)) (inr (inr (inl (t, is, short, due)))) does = absurd due
     by_command (Some (Serve a b c)) (inr (inr (inr due))) does = absurd due
-    by_command (Some Script) (inl (not_built, one)) (same, e) = inl (stays 1 (status_of_end 1 usage disk e) (λ z. omega arith) ∙ sym one)
-    by_command (Some Script) (inr (inl (t, line, is, bad, two))) does = absurd (bad_none (Some Script) t line refl (λ u e. e) bad)
-    by_command (Some Script) (inr (inr (inl (t, is, short, due)))) does = absurd due
+    by_command (Some Script) (inl (not_built, one)) does = absurd (let wrong : true ≡ false = not_built in cc)
+    by_command (Some Script) (inr (inl (t, line, is, bad, two))) does = bad_script t line is bad two does
+    by_command (Some Script) (inr (inr (inl (t, is, short, due)))) does = due_script t is short due does
     by_command (Some Script) (inr (inr (inr due))) does = absurd due
     by_command (Some Play) (inl (not_built, one)) does = absurd (let wrong : true ≡ false = not_built in cc)
     by_command (Some Play) (inr (inl (t, line, is, bad, two))) does = bad_play t line is bad two does

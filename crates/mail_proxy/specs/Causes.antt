@@ -16,7 +16,7 @@ use Rattle.command_words.specs.declared.commands.Command.TheVariants.{Init, Serv
 use Rattle.mail_proxy.specs.Init.{IsNoConfig}
 use Rattle.mail_proxy.specs.Lines.{usage, too_long, bad_configuration, bad_line, not_empty, not_a_store, disk_fault, read_fault, too_many, no_memory, damaged}
 use Rattle.mail_proxy.specs.Reading.{ReadFails, WriteFails, WriteStarves, Wrote}
-use Rattle.mail_proxy.specs.Play.{Played}
+use Rattle.mail_proxy.specs.Script.{Played}
 use Rattle.mail_proxy.specs.Texts.{IsText}
 
 -- what the objects of the outside tell
@@ -32,7 +32,7 @@ abbrev pub is_built : Option Command → Bool
 is_built None = false
 is_built (Some Init) = true
 is_built (Some (Serve smtp imap http)) = false
-is_built (Some Script) = false
+is_built (Some Script) = true
 is_built (Some Play) = true
 is_built (Some (Grow rounds)) = false
 is_built (Some Check) = true
@@ -42,7 +42,7 @@ abbrev pub takes_script : Option Command → Bool
 takes_script None = false
 takes_script (Some Init) = false
 takes_script (Some (Serve smtp imap http)) = false
-takes_script (Some Script) = false
+takes_script (Some Script) = true
 takes_script (Some Play) = true
 takes_script (Some (Grow rounds)) = false
 takes_script (Some Check) = false
@@ -52,7 +52,7 @@ abbrev pub opens : Option Command → Bool
 opens None = false
 opens (Some Init) = false
 opens (Some (Serve smtp imap http)) = false
-opens (Some Script) = false
+opens (Some Script) = true
 opens (Some Play) = false
 opens (Some (Grow rounds)) = false
 opens (Some Check) = true
@@ -62,7 +62,7 @@ abbrev pub uses_disk : Option Command → Bool
 uses_disk None = false
 uses_disk (Some Init) = true
 uses_disk (Some (Serve smtp imap http)) = false
-uses_disk (Some Script) = false
+uses_disk (Some Script) = true
 uses_disk (Some Play) = false
 uses_disk (Some (Grow rounds)) = false
 uses_disk (Some Check) = true
@@ -72,7 +72,7 @@ abbrev pub uses_text : Option Command → Bool
 uses_text None = false
 uses_text (Some Init) = true
 uses_text (Some (Serve smtp imap http)) = false
-uses_text (Some Script) = false
+uses_text (Some Script) = true
 uses_text (Some Play) = true
 uses_text (Some (Grow rounds)) = false
 uses_text (Some Check) = false
@@ -82,7 +82,7 @@ abbrev pub writes_more : Option Command → Bool
 writes_more None = false
 writes_more (Some Init) = false
 writes_more (Some (Serve smtp imap http)) = false
-writes_more (Some Script) = false
+writes_more (Some Script) = true
 writes_more (Some Play) = true
 writes_more (Some (Grow rounds)) = false
 writes_more (Some Check) = true
@@ -98,7 +98,7 @@ abbrev pub IsBadFor : Option Command → List ℕ → List ℕ → Type 0
 IsBadFor None text line = ⊥
 IsBadFor (Some Init) text line = IsNoConfig text × (line ≡ bad_configuration)
 IsBadFor (Some (Serve smtp imap http)) text line = ⊥
-IsBadFor (Some Script) text line = ⊥
+IsBadFor (Some Script) text line = IsBadScript (script_of text) line
 IsBadFor (Some Play) text line = IsBadScript (script_of text) line
 IsBadFor (Some (Grow rounds)) text line = ⊥
 IsBadFor (Some Check) text line = ⊥
@@ -112,7 +112,7 @@ abbrev pub IsWrongDisk : Option Command → DiskTold → List ℕ → Type 0
 IsWrongDisk None disk line = ⊥
 IsWrongDisk (Some Init) disk line = (disk.size ≢ 0) × (line ≡ not_empty)
 IsWrongDisk (Some (Serve smtp imap http)) disk line = ⊥
-IsWrongDisk (Some Script) disk line = ⊥
+IsWrongDisk (Some Script) disk line = (disk.honest → IsNotFormatted disk.content) × (line ≡ not_a_store)
 IsWrongDisk (Some Play) disk line = ⊥
 IsWrongDisk (Some (Grow rounds)) disk line = ⊥
 IsWrongDisk (Some Check) disk line = (disk.honest → IsNotFormatted disk.content) × (line ≡ not_a_store)
@@ -154,9 +154,10 @@ module _ (command : Option Command) (old new : Outside) where
   abbrev pub EndsWrong : Type 0
   EndsWrong = (line : List ℕ) × IsWrongDisk command old.disk line × Wrote old.out new.out line
 
-  -- 5: a call on the disk failed, and it alone
+  -- 5: a call on the disk failed, and it alone; the last line may stand behind a transcript
   abbrev pub EndsFailed : Type 0
-  EndsFailed = (uses_disk command ≡ true) × (ReadFailed old.disk new.disk ⊎ WriteFailed old.disk new.disk) × Wrote old.out new.out disk_fault
+  EndsFailed =
+      (uses_disk command ≡ true) × (ReadFailed old.disk new.disk ⊎ WriteFailed old.disk new.disk) × ((front : List ℕ) × Wrote old.out new.out (front ++ disk_fault))
 
   -- 6: a read of the text failed
   abbrev pub EndsUnread : Type 0

@@ -30,7 +30,7 @@ abbrev pub IsDueFor : Option Command → List ℕ → DiskTold → ℕ → Type 
 IsDueFor None text disk k = ⊥
 IsDueFor (Some Init) text disk k = (house : House) × (conf : Conf) × IsConfig text house conf × IsDueInit disk k
 IsDueFor (Some (Serve smtp imap http)) text disk k = ⊥
-IsDueFor (Some Script) text disk k = ⊥
+IsDueFor (Some Script) text disk k = (events : List Event) × (script_of text ≡ Ok events) × IsDueStore disk k
 IsDueFor (Some Play) text disk k = (events : List Event) × (script_of text ≡ Ok events) × (k ≡ 0)
 IsDueFor (Some (Grow rounds)) text disk k = ⊥
 IsDueFor (Some Check) text disk k = ⊥
