@@ -1,6 +1,6 @@
 //! Tests of the top call over a disk in memory, in a crate of their own, since a crate with tests is proved twice.
 //!
-//! `running` runs a command, `making` has `init`, and `checking` has `check`.
+//! `running` runs a command, `making` has `init`, `checking` has `check`, and `scripting` has `script`.
 #![tactic(auto)]
 
 #[cfg(test)]
@@ -9,3 +9,5 @@ mod checking;
 mod making;
 #[cfg(test)]
 mod running;
+#[cfg(test)]
+mod scripting;

@@ -24,18 +24,19 @@ pub(crate) struct Ended {
     pub(crate) disk: MemDisk,
 }
 
-/// Runs a command with the word STORE over a text and a disk of these bytes, of which these calls fail.
-pub(crate) fn ends<R: Threads + Sync>(
+/// Runs these words over a text and a disk of these bytes, of which these calls fail.
+pub(crate) fn words_end<R: Threads + Sync>(
     rt: &R,
     alloc: Global,
-    command: &str,
+    words: &[&str],
     text: &[u8],
     bytes: &[u8],
     failing: &[u32],
 ) -> Result<Ended, Fail> {
-    let mut words = Vec::new(alloc);
-    words.push(String::from_str(alloc, command)?)?;
-    words.push(String::from_str(alloc, "a.store")?)?;
+    let mut list = Vec::new(alloc);
+    for word in words {
+        list.push(String::from_str(alloc, word)?)?;
+    }
     let mut source = MemSource::new(Text::of(alloc, text)?, Numbers::new(alloc));
     let mut out = MemSink::new(alloc, Numbers::new(alloc));
     let mut link = MemLink::new(alloc, Events::new(alloc), Numbers::new(alloc));
@@ -44,7 +45,7 @@ pub(crate) fn ends<R: Threads + Sync>(
     let (status, disk) = run(
         rt,
         alloc,
-        &words,
+        &list,
         &mut source,
         &mut link,
         disk,
@@ -57,6 +58,18 @@ pub(crate) fn ends<R: Threads + Sync>(
         output,
         disk,
     })
+}
+
+/// The same of a command with the word STORE.
+pub(crate) fn ends<R: Threads + Sync>(
+    rt: &R,
+    alloc: Global,
+    command: &str,
+    text: &[u8],
+    bytes: &[u8],
+    failing: &[u32],
+) -> Result<Ended, Fail> {
+    words_end(rt, alloc, &[command, "a.store"], text, bytes, failing)
 }
 
 /// Whether a run ends with this status and this output, and leaves these bytes on the disk.
