@@ -16,7 +16,9 @@ fn init_leaves_one_record(rt: HostRuntime) -> Result<(), Fail> {
 
 // The text comes before the disk.
 #[test]
-fn init_refuses_what_is_no_configuration_and_a_disk_with_bytes(rt: HostRuntime) -> Result<(), Fail> {
+fn init_refuses_what_is_no_configuration_and_a_disk_with_bytes(
+    rt: HostRuntime,
+) -> Result<(), Fail> {
     let alloc = rt.alloc();
     let table: [(&[u8], &[u8], u8, &[u8]); 6] = [
         (HOUSE, FORMATTED, 3, NOT_EMPTY),
