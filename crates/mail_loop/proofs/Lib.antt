@@ -9,3 +9,4 @@ pub mod Seats
 pub mod Events
 pub mod Runs
 pub mod Placing
+pub mod Sealed

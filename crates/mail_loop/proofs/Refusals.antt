@@ -13,7 +13,9 @@ use Rattle.verb_core.specs.Live.{is_users, live}
 use Rattle.box_store.specs.Refusing.{IsRefusal}
 use Rattle.smtp_session.specs.Dialog.{is_outcome_of_delivery, is_refusal_of_delivery}
 use Rattle.mail_desk.specs.Kept.{Kept}
-use Rattle.mail_desk.specs.Desk.{IsFaultOf, store_of}
+use Rattle.mail_desk.specs.Desk.{store_of}
+use Rattle.verb_bytes.specs.declared.journal.JournalRecord.{JournalRecord}
+use Rattle.mail_loop.specs.Took.{Submits}
 
 not_users : {A : Type 0} → true ≡ false → A
 not_users e = absurd (let wrong : true ≡ false = e in cc)
@@ -63,12 +65,12 @@ delivery_refused seldom s number at (Rename mailbox target) why by is = not_user
 delivery_refused seldom s number at (Delete mailbox) why by is = not_users by
 
 -- the outcome of an ask that is no user's is one that a delivery can have
-pub delivery_outcome : SeldomRefused → (kept : Kept) (at : ℕ) (ask : Ask) (outcome : Result Item SubmitFault) → is_users ask ≡ false
-    → IfErr outcome (λ fault. IsFaultOf fault (live (store_of kept) kept.next at None ask)) → is_outcome_of_delivery outcome ≡ true
-delivery_outcome seldom kept at ask (Ok item) by due = refl
-delivery_outcome seldom kept at ask (Err (IsRefused why)) by due = delivery_refused seldom (store_of kept) kept.next at ask why by due
-delivery_outcome seldom kept at ask (Err Disk) by due = refl
-delivery_outcome seldom kept at ask (Err Closed) by due = refl
+pub delivery_outcome : SeldomRefused → (S : List JournalRecord → Type 0) (kept kept' : Kept) (at : ℕ) (ask : Ask) (outcome : Result Item SubmitFault) → is_users ask ≡ false
+    → Submits S at kept None ask kept' outcome → is_outcome_of_delivery outcome ≡ true
+delivery_outcome seldom S kept kept' at ask (Ok item) by did = refl
+delivery_outcome seldom S kept kept' at ask (Err (IsRefused why)) by did = delivery_refused seldom (store_of kept) kept.next at ask why by did.0
+delivery_outcome seldom S kept kept' at ask (Err Disk) by did = refl
+delivery_outcome seldom S kept kept' at ask (Err Closed) by did = refl
 
 -- where nobody asks, it is no user's ask
 pub no_user : (ask : Ask) → is_users ask ≡ false → IsSome {T = User} None ↔ IsTrue (is_users ask)

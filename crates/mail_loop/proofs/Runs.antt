@@ -1,5 +1,5 @@
 -- Runs of the machine, step after step.
-use Rattle.std.proofs.Common.{◌≡◌, ℕ, ◌+◌, min, true, false, List, [], ◌∷◌, ◌++◌, length, None, Some, Option, Result, MatchResult, Ok, Err, refl, ap, subst, sym, inr, ◌∙◌, arith}
+use Rattle.std.proofs.Common.{◌≡◌, ◌≢◌, ℕ, ◌+◌, ◌<◌, ◌≤◌, min, true, false, List, [], ◌∷◌, ◌++◌, length, None, Some, Option, Result, MatchResult, Ok, Err, is_err, refl, ap, subst, sym, inr, ◌∙◌, arith}
 use Rattle.std.specs.List.{AllByRecursion}
 use Rattle.std.proofs.lemmas.List.{append-nil, append_assoc, length-append}
 use Rattle.undo_base.specs.declared.memory.NoMemory.{NoMemory as WantOfMemory}
@@ -9,12 +9,14 @@ use Rattle.undo_outside.specs.declared.event.What.TheVariants.{Joined, Bytes, Le
 use Rattle.undo_outside.specs.declared.event.LinkNote.{LinkNote}
 use Rattle.undo_outside.specs.declared.event.LinkNote.TheVariants.{Came}
 use Rattle.undo_outside.specs.Calls.{LinkTold, then_told, IsNext, Comes}
-use Rattle.mail_loop.specs.declared.serve.ServeFault.TheVariants.{NoMemory}
+use Rattle.mail_loop.specs.declared.serve.ServeFault.{ServeFault}
+use Rattle.mail_loop.specs.declared.serve.ServeFault.TheVariants.{Disk, NoMemory}
+use Rattle.verb_bytes.specs.declared.journal.JournalRecord.{JournalRecord}
 use Rattle.mail_desk.specs.Kept.{Kept}
 use Rattle.mail_loop.specs.State.{State}
 use Rattle.mail_loop.specs.Machine.{Seats, Hindrances, Outcome, outcome, delivered, happens, answers, ignored}
 use Rattle.mail_loop.specs.Did.{RoseBy, AreLicensed, Leads, missed_of}
-use Rattle.mail_loop.specs.Serving.{Step, is_end, after_notes, run, at_first, NoEnd, missed_in, ComeInOrder, events_of, ServedOver}
+use Rattle.mail_loop.specs.Serving.{Step, is_end, after_notes, run, at_first, NoEnd, missed_in, ComeInOrder, events_of, unsealed_in, ServedOver}
 use Rattle.mail_loop.proofs.Links.{then_told-nil, then_told-append, rose_add}
 
 -- one element more has it too
@@ -26,18 +28,22 @@ all_more P (y ∷ xs) x all here = (all.0, all_more P xs x all.1 here)
 abbrev pub then_step : Outcome → Step → Outcome
 then_step o step =
     let p = happens step.hindrances o.state step.event in
-    record { state = p.state; notes = o.notes ++ Came step.event ∷ p.notes }
+    record { state = p.state; notes = o.notes ++ Came step.event ∷ p.notes; unsealed = o.unsealed ++ p.unsealed }
 
 run_more : (steps : List Step) (s : State) (step : Step) → run (steps ++ step ∷ []) s ≡ then_step (run steps s) step
 run_more [] s step =
     let p = happens step.hindrances s step.event in
-    ap (λ (notes : List LinkNote). record { state = p.state; notes = notes }) (append-nil (Came step.event ∷ p.notes))
+    λ j. record { state = p.state; notes = append-nil (Came step.event ∷ p.notes) j; unsealed = append-nil p.unsealed j }
 run_more (first ∷ steps) s step =
     let o = happens first.hindrances s first.event in
     let q = run steps o.state in
     let p = happens step.hindrances q.state step.event in
-    ap (after_notes (Came first.event ∷ o.notes)) (run_more steps o.state step)
-    ∙ ap (λ (notes : List LinkNote). record { state = p.state; notes = notes }) (sym (append_assoc (Came first.event ∷ o.notes) q.notes (Came step.event ∷ p.notes)))
+    ap (after_notes (Came first.event ∷ o.notes) o.unsealed) (run_more steps o.state step)
+    ∙ (λ j. record {
+      state = p.state;
+      notes = sym (append_assoc (Came first.event ∷ o.notes) q.notes (Came step.event ∷ p.notes)) j;
+      unsealed = sym (append_assoc o.unsealed q.unsealed p.unsealed) j;
+    })
 
 order_more : (coming mid new : Option (List Event)) (events : List Event) (event : Event)
     → ComeInOrder coming events mid → IsNext mid event new → ComeInOrder coming (events ++ event ∷ []) new
@@ -56,13 +62,24 @@ missed_more : (steps : List Step) (step : Step) → missed_in (steps ++ step ∷
 missed_more [] step = omega arith
 missed_more (s ∷ steps) step = let more = missed_more steps step in omega arith
 
+-- serving ended so; T holds of the record whose sealing failed
+abbrev pub Ran : (List JournalRecord → Type 0) → ℕ → LinkTold → LinkTold → Kept → Kept → Result (Unit {0}) ServeFault → Type 0
+Ran T limit old new kept kept' result =
+    (steps : List Step) × (notes : List LinkNote) × ServedOver limit steps notes old new kept kept' result × T (unsealed_in steps kept)
+
+-- what the link did not do of an event
+left_out : (r : Result (Unit {0}) WantOfMemory) (all notes : List LinkNote) → MatchResult r (λ _. all ≡ notes) (λ _. (more : List LinkNote) × (all ≡ notes ++ more))
+    → (more : List LinkNote) × (all ≡ notes ++ more)
+left_out (Ok x) all notes e = ([], e ∙ sym (append-nil notes))
+left_out (Err w) all notes e = e
+
 -- what serving has done after so many turns
 pub record SoServed (turns : ℕ) (old new : LinkTold) (kept : Kept) (state : State) : Type 0 where
   pub steps : List Step
   pub notes : List LinkNote
   pub count : length steps ≡ turns
   pub no_end : NoEnd steps
-  pub leaves : run steps (at_first kept) ≡ record { state = state; notes = notes }
+  pub leaves : run steps (at_first kept) ≡ record { state = state; notes = notes; unsealed = [] }
   pub log : new.log ≡ then_told old.log notes
   pub order : ComeInOrder old.coming (events_of steps) new.coming
   pub missed : RoseBy (missed_in steps) old.missed new.missed
@@ -76,7 +93,7 @@ so_served_none told kept seats none = record {
   notes = [];
   count = refl;
   no_end = tt;
-  leaves = ap (λ (c : Seats). record { state = record { kept = kept; seats = c }; notes = [] }) (sym none);
+  leaves = ap (λ (c : Seats). record { state = record { kept = kept; seats = c }; notes = []; unsealed = [] }) (sym none);
   log = sym (then_told-nil told.log);
   order = refl;
   missed = refl;
@@ -102,18 +119,36 @@ rose_more steps step old mid got new before same more =
 none_more : (steps : List Step) (step : Step) → missed_in steps ≡ 0 → missed_of step.hindrances.deliveries ≡ 0 → missed_in (steps ++ step ∷ []) ≡ 0
 none_more steps step before here = missed_more steps step ∙ (omega arith)
 
+-- one step more is not too many
+few_more : (steps : List Step) (step : Step) (turns limit : ℕ) → length steps ≡ turns → turns < limit → length (steps ++ step ∷ []) ≤ limit
+few_more steps step turns limit count some = let more = length-append steps (step ∷ []) in omega (arith, more, count, some)
+
+-- all of an event was done
+all_done : (r : Result (Unit {0}) WantOfMemory) (all notes : List LinkNote) → is_err r ≡ false → MatchResult r (λ _. all ≡ notes) (λ _. (more : List LinkNote) × (all ≡ notes ++ more)) → all ≡ notes
+all_done (Ok x) all notes ok e = e
+all_done (Err w) all notes wrong e = absurd (let w : true ≡ false = wrong in cc)
+
+seats_left : (r : Result (Unit {0}) WantOfMemory) (seats all : Seats) → is_err r ≡ false → MatchResult r (λ _. seats ≡ all) (λ _. Unit {0}) → seats ≡ all
+seats_left (Ok x) seats all ok e = e
+seats_left (Err w) seats all wrong e = absurd (let w : true ≡ false = wrong in cc)
+
+-- no sealing failed in an event after which the desk is open
+pub sealed_all : (S : List JournalRecord → Type 0) (old new : LinkTold) (s : State) (event : Event) (after : Kept) (seats : Seats) (r : Result (Unit {0}) WantOfMemory)
+    → (h : Hindrances) × AreLicensed h.deliveries old new × Leads S (happens h s event) old new after seats r → ((failed : List JournalRecord) → S failed → failed ≡ []) → S []
+sealed_all S old new s event after seats r (h, licensed, leads) only = subst S (only (happens h s event).unsealed leads.seals) leads.seals
+
 -- one step more
-pub so_more : (turns : ℕ) (old mid got new : LinkTold) (kept after : Kept) (s : State) (seats : Seats) (event : Event) (r : Result (Unit {0}) WantOfMemory)
+pub so_more : (S : List JournalRecord → Type 0) (turns : ℕ) (old mid got new : LinkTold) (kept after : Kept) (s : State) (seats : Seats) (event : Event) (r : Result (Unit {0}) WantOfMemory)
     → SoServed turns old mid kept s → Comes mid got (Ok event) → is_end event.what ≡ false
-    → (h : Hindrances) × AreLicensed h.deliveries got new × Leads (happens h s event) got new after seats r
-    → r ≡ Ok tt
+    → (h : Hindrances) × AreLicensed h.deliveries got new × Leads S (happens h s event) got new after seats r
+    → is_err r ≡ false → ((failed : List JournalRecord) → S failed → failed ≡ [])
     → SoServed (turns + 1) old new kept (record { kept = after; seats = seats })
-so_more turns old mid got new kept after s seats event r so came goes (h, licensed, leads) ok =
+so_more S turns old mid got new kept after s seats event r so came goes (h, licensed, leads) ok only =
     let step : Step = record { event = event; hindrances = h } in
     let o = happens h s event in
     let did = leads.did in
-    let whole = subst (λ q. MatchResult q (λ _. o.notes ≡ did.notes) (λ _. (more : List LinkNote) × (o.notes ≡ did.notes ++ more))) ok did.whole in
-    let open' = subst (λ q. MatchResult q (λ _. seats ≡ o.state.seats) (λ _. Unit {0})) ok leads.seats_are in
+    let whole = all_done r o.notes did.notes ok did.whole in
+    let open' = seats_left r seats o.state.seats ok leads.seats_are in
     record {
       steps = so.steps ++ step ∷ [];
       notes = so.notes ++ Came event ∷ did.notes;
@@ -122,9 +157,10 @@ so_more turns old mid got new kept after s seats event r so came goes (h, licens
       leaves =
           run_more so.steps (at_first kept) step
           ∙ ap (λ q. then_step q step) so.leaves
-          ∙ ap (λ (k : Kept). record { state = record { kept = k; seats = o.state.seats }; notes = so.notes ++ Came event ∷ o.notes }) (sym leads.kept_is)
-          ∙ ap (λ (c : Seats). record { state = record { kept = after; seats = c }; notes = so.notes ++ Came event ∷ o.notes }) (sym open')
-          ∙ ap (λ (n : List LinkNote). record { state = record { kept = after; seats = seats }; notes = so.notes ++ Came event ∷ n }) whole;
+          ∙ ap (λ (k : Kept). record { state = record { kept = k; seats = o.state.seats }; notes = so.notes ++ Came event ∷ o.notes; unsealed = o.unsealed }) (sym leads.kept_is)
+          ∙ ap (λ (c : Seats). record { state = record { kept = after; seats = c }; notes = so.notes ++ Came event ∷ o.notes; unsealed = o.unsealed }) (sym open')
+          ∙ ap (λ (n : List LinkNote). record { state = record { kept = after; seats = seats }; notes = so.notes ++ Came event ∷ n; unsealed = o.unsealed }) whole
+          ∙ ap (λ (u : List JournalRecord). record { state = record { kept = after; seats = seats }; notes = so.notes ++ Came event ∷ did.notes; unsealed = u }) (only o.unsealed leads.seals);
       log = log_more old.log mid.log got.log new.log so.notes did.notes (Came event) so.log came.0 did.goes.log;
       order = rw events_more (subst (λ c. ComeInOrder old.coming (events_of so.steps ++ event ∷ []) c) (sym did.goes.coming)
           (order_more old.coming mid.coming got.coming (events_of so.steps) event so.order came.1));
@@ -146,22 +182,24 @@ abbrev pub unhindered : Hindrances
 unhindered = record { unfed = false; turns = []; deliveries = [] }
 
 -- the end came
-pub so_ended : (turns limit : ℕ) (old mid got : LinkTold) (kept : Kept) (s : State) (event : Event)
-    → SoServed turns old mid kept s → Comes mid got (Ok event) → is_end event.what ≡ true
-    → (steps : List Step) × (notes : List LinkNote) × ServedOver limit steps notes old got kept s.kept (Ok tt)
-so_ended turns limit old mid got kept s event so came ends =
+pub so_ended : (S : List JournalRecord → Type 0) (turns limit : ℕ) (old mid got : LinkTold) (kept : Kept) (s : State) (event : Event)
+    → SoServed turns old mid kept s → turns < limit → Comes mid got (Ok event) → is_end event.what ≡ true → S []
+    → Ran S limit old got kept s.kept (Ok tt)
+so_ended S turns limit old mid got kept s event so some came ends seals =
     let step : Step = record { event = event; hindrances = unhindered } in
-    let nothing : happens unhindered s event ≡ record { state = s; notes = [] } =
-    ap (λ a. outcome a.state.kept (delivered [] a.state.seats a.replies)) (end_ignored unhindered s event.conn (min event.at 253402300799) event.what ends) in
-    let leaves : run (so.steps ++ step ∷ []) (at_first kept) ≡ record { state = s; notes = so.notes ++ Came event ∷ [] } =
+    let nothing : happens unhindered s event ≡ record { state = s; notes = []; unsealed = [] } =
+    ap (λ a. outcome a (delivered [] a.state.seats a.replies)) (end_ignored unhindered s event.conn (min event.at 253402300799) event.what ends) in
+    let leaves : run (so.steps ++ step ∷ []) (at_first kept) ≡ record { state = s; notes = so.notes ++ Came event ∷ []; unsealed = [] } =
     run_more so.steps (at_first kept) step ∙ ap (λ o. then_step o step) so.leaves
-    ∙ ap (λ (p : Outcome). record { state = p.state; notes = so.notes ++ Came event ∷ p.notes }) nothing in (
+    ∙ ap (λ (p : Outcome). record { state = p.state; notes = so.notes ++ Came event ∷ p.notes; unsealed = p.unsealed }) nothing in (
       so.steps ++ step ∷ [],
       so.notes ++ Came event ∷ [],
       record {
         served = (
           record { notes_are = sym (ap (λ (o : Outcome). o.notes) leaves); kept_is = sym (ap (λ (o : Outcome). o.state.kept) leaves) },
           (so.steps, step, refl, so.no_end, ends),
+          ap (λ (o : Outcome). o.unsealed) leaves,
+          few_more so.steps step turns limit so.count some,
         );
         log = came.0 ∙ ap (λ o. then_told o (Came event ∷ [])) so.log ∙ then_told-append old.log so.notes (Came event ∷ []);
         order = rw events_more (order_more old.coming mid.coming got.coming (events_of so.steps) event so.order came.1);
@@ -169,20 +207,22 @@ so_ended turns limit old mid got kept s event so came ends =
         none_missed = λ e. none_more so.steps step (so.none_missed e) refl;
         faults = came.2 ∙ so.faults;
       },
+      subst S (sym (ap (λ (o : Outcome). o.unsealed) leaves)) seals,
     )
 
 -- memory was wanted in an event
-pub so_starved : (turns limit : ℕ) (old mid got new : LinkTold) (kept after : Kept) (s : State) (seats : Seats) (event : Event) (r : Result (Unit {0}) WantOfMemory) (w : WantOfMemory)
-    → SoServed turns old mid kept s → Comes mid got (Ok event) → is_end event.what ≡ false
-    → (h : Hindrances) × AreLicensed h.deliveries got new × Leads (happens h s event) got new after seats r
-    → r ≡ Err w
-    → (steps : List Step) × (notes : List LinkNote) × ServedOver limit steps notes old new kept after (Err NoMemory)
-so_starved turns limit old mid got new kept after s seats event r w so came goes (h, licensed, leads) starved =
+pub so_starved : (S T : List JournalRecord → Type 0) (turns limit : ℕ) (old mid got new : LinkTold) (kept after : Kept) (s : State) (seats : Seats) (event : Event) (r : Result (Unit {0}) WantOfMemory)
+    → SoServed turns old mid kept s → turns < limit → Comes mid got (Ok event) → is_end event.what ≡ false
+    → (h : Hindrances) × AreLicensed h.deliveries got new × Leads S (happens h s event) got new after seats r
+    → is_err r ≡ true → ((failed : List JournalRecord) → S failed → failed ≡ []) → ((failed : List JournalRecord) → S failed → T failed)
+    → Ran T limit old new kept after (Err NoMemory)
+so_starved S T turns limit old mid got new kept after s seats event r so few came goes (h, licensed, leads) starved only then =
     let step : Step = record { event = event; hindrances = h } in
     let o = happens h s event in
     let did = leads.did in
-    let more = subst (λ q. MatchResult q (λ _. o.notes ≡ did.notes) (λ _. (more : List LinkNote) × (o.notes ≡ did.notes ++ more))) starved did.whole in
+    let more = left_out r o.notes did.notes did.whole in
     let leaves = run_more so.steps (at_first kept) step ∙ ap (λ q. then_step q step) so.leaves in
+    let sealed = ap (λ (q : Outcome). q.unsealed) leaves ∙ only o.unsealed leads.seals in
     let notes = so.notes ++ Came event ∷ did.notes in (
       so.steps ++ step ∷ [],
       notes,
@@ -195,6 +235,8 @@ so_starved turns limit old mid got new kept after s seats event r w so came goes
           },
           all_more (λ t. is_end t.event.what ≡ false) so.steps step so.no_end goes,
           inr (so.steps, step, did.notes, refl, ap (λ (q : Outcome). (happens h q.state event).notes) so.leaves ∙ more.1),
+          sealed,
+          few_more so.steps step turns limit so.count few,
         );
         log = log_more old.log mid.log got.log new.log so.notes did.notes (Came event) so.log came.0 did.goes.log;
         order = rw events_more (subst (λ c. ComeInOrder old.coming (events_of so.steps ++ event ∷ []) c) (sym did.goes.coming)
@@ -203,4 +245,43 @@ so_starved turns limit old mid got new kept after s seats event r w so came goes
         none_missed = λ e. none_more so.steps step (so.none_missed e) (licensed.reliable (came.4 ∙ so.reliable ∙ e));
         faults = did.goes.faults ∙ came.2 ∙ so.faults;
       },
+      subst T (sym (ap (λ (q : Outcome). q.unsealed) leaves)) (then o.unsealed leads.seals),
+    )
+
+-- sealing failed in an event
+pub so_failed : (S T : List JournalRecord → Type 0) (turns limit : ℕ) (old mid got new : LinkTold) (kept after : Kept) (s : State) (seats : Seats) (event : Event) (r : Result (Unit {0}) WantOfMemory)
+    → SoServed turns old mid kept s → turns < limit → Comes mid got (Ok event) → is_end event.what ≡ false
+    → (h : Hindrances) × AreLicensed h.deliveries got new × Leads S (happens h s event) got new after seats r
+    → ((failed : List JournalRecord) → S failed → failed ≢ []) → ((failed : List JournalRecord) → S failed → T failed)
+    → Ran T limit old new kept after (Err Disk)
+so_failed S T turns limit old mid got new kept after s seats event r so few came goes (h, licensed, leads) some then =
+    let step : Step = record { event = event; hindrances = h } in
+    let o = happens h s event in
+    let did = leads.did in
+    let more = left_out r o.notes did.notes did.whole in
+    let leaves = run_more so.steps (at_first kept) step ∙ ap (λ q. then_step q step) so.leaves in
+    let here : (happens h (run so.steps (at_first kept)).state event) ≡ o = ap (λ (q : Outcome). happens h q.state event) so.leaves in
+    let notes = so.notes ++ Came event ∷ did.notes in (
+      so.steps ++ step ∷ [],
+      notes,
+      record {
+        served = (
+          more.0,
+          record {
+            notes_are = append_assoc so.notes (Came event ∷ did.notes) more.0 ∙ ap (λ n. so.notes ++ Came event ∷ n) (sym more.1) ∙ sym (ap (λ (q : Outcome). q.notes) leaves);
+            kept_is = leads.kept_is ∙ sym (ap (λ (q : Outcome). q.state.kept) leaves);
+          },
+          all_more (λ t. is_end t.event.what ≡ false) so.steps step so.no_end goes,
+          inr (so.steps, step, did.notes, refl, ap (λ (q : Outcome). q.notes) here ∙ more.1),
+          (so.steps, step, refl, ap (λ (q : Outcome). q.unsealed) so.leaves, λ none. some o.unsealed leads.seals (sym (ap (λ (q : Outcome). q.unsealed) here) ∙ none)),
+          few_more so.steps step turns limit so.count few,
+        );
+        log = log_more old.log mid.log got.log new.log so.notes did.notes (Came event) so.log came.0 did.goes.log;
+        order = rw events_more (subst (λ c. ComeInOrder old.coming (events_of so.steps ++ event ∷ []) c) (sym did.goes.coming)
+            (order_more old.coming mid.coming got.coming (events_of so.steps) event so.order came.1));
+        missed = rose_more so.steps step old.missed mid.missed got.missed new.missed so.missed came.3 licensed.rose;
+        none_missed = λ e. none_more so.steps step (so.none_missed e) (licensed.reliable (came.4 ∙ so.reliable ∙ e));
+        faults = did.goes.faults ∙ came.2 ∙ so.faults;
+      },
+      subst T (sym (ap (λ (q : Outcome). q.unsealed) leaves)) (then o.unsealed leads.seals),
     )

@@ -5,12 +5,13 @@ use Rattle.std.proofs.lemmas.List.{append-nil, append_assoc}
 use Rattle.verb_core.specs.declared.mailbox.BoxId.{BoxId}
 use Rattle.mail_loop.specs.declared.reply.Reply.{Reply}
 use Rattle.mail_desk.specs.Kept.{Kept}
+use Rattle.verb_bytes.specs.declared.journal.JournalRecord.{JournalRecord}
 use Rattle.mail_loop.specs.State.{Seat, State}
 use Rattle.mail_loop.specs.Dialog.{Turn}
 use Rattle.mail_loop.specs.Hindrance.{Hindrance, Clear, Unheard}
-use Rattle.mail_loop.specs.Turns.{Outcome, Heard, after, goes_on, turns, outcome_of, heard_by}
+use Rattle.mail_loop.specs.Turns.{Outcome, Heard, after, goes_on, turns, outcome_of, heard_by, hears_seat}
 use Rattle.mail_loop.specs.Machine.{Seats, closed_others, heard, hears, seated, with_reply}
-use Rattle.mail_loop.specs.Took.{Takes, Tells, seat_left, answered_alone}
+use Rattle.mail_loop.specs.Took.{Takes, Tells, answered_with, seat_left, answered_alone}
 
 -- what is kept, beside seats that no turn touches
 abbrev beside : Seats → Kept → State
@@ -25,19 +26,19 @@ abbrev all_turns : {D U : Type 0} → (Hindrance → Kept → D → U → Turn D
 all_turns one seats hs kept d us = turns (alone one) hs (beside seats kept) d us
 
 -- an outcome of such turns
-abbrev leaving : {D : Type 0} → Seats → List ℕ → List BoxId → Kept → Option D → Outcome D
-leaving seats said boxes kept o = record { said = said; state = record { kept = kept; seats = seats }; dialog = o; changed = boxes }
+abbrev leaving : {D : Type 0} → Seats → List ℕ → List BoxId → List JournalRecord → Kept → Option D → Outcome D
+leaving seats said boxes failed kept o = record { said = said; state = record { kept = kept; seats = seats }; dialog = o; changed = boxes; unsealed = failed }
 
 -- an outcome of such turns, whose answers are a reply's
-abbrev pub left : {D : Type 0} → Seats → Reply → Kept → Option D → Outcome D
-left seats reply kept o = leaving seats reply.said reply.changed kept o
+abbrev pub left : {D : Type 0} → Seats → Reply → Kept → List JournalRecord → Option D → Outcome D
+left seats reply kept failed o = leaving seats reply.said reply.changed failed kept o
 
-nothing_more : {D : Type 0} → (seats : Seats) (reply : Reply) (kept : Kept) (o : Option D) → leaving seats (reply.said ++ []) (reply.changed ++ []) kept o ≡ left seats reply kept o
-nothing_more seats reply kept o = λ j. leaving seats (append-nil reply.said j) (append-nil reply.changed j) kept o
+nothing_more : {D : Type 0} → (seats : Seats) (reply : Reply) (kept : Kept) (o : Option D) → leaving seats (reply.said ++ []) (reply.changed ++ []) [] kept o ≡ left seats reply kept [] o
+nothing_more seats reply kept o = λ j. leaving seats (append-nil reply.said j) (append-nil reply.changed j) [] kept o
 
 -- what is to come after a reply's answers
 abbrev behind : {D : Type 0} → Reply → Outcome D → Outcome D
-behind reply o = after reply.said reply.changed o
+behind reply o = after reply.said reply.changed [] o
 
 -- the turns of all leave what is in the reply, and then what the turns of those to come leave
 pub record SoFar {D U : Type 0} (one : Hindrance → Kept → D → U → Turn D) (seats : Seats) (kept : Kept) (d : D) (all : List U) (reply : Reply) (kept' : Kept) (d' : D) (us : List U) : Type 0 where
@@ -61,59 +62,64 @@ up_to one seats kept d all reply kept' d' u us s h more o e =
     ∙ ap (λ p. behind reply (goes_on (alone one h (beside seats kept') d' u) p (λ s e. turns (alone one) more s e us))) e
 
 -- one turn more, after which the connection is open
-pub so_far_more : {D U : Type 0} → (one : Hindrance → Kept → D → U → Turn D) (seats : Seats) (kept : Kept) (d : D) (all : List U) (kept' : Kept) (d' : D) (u : U) (us : List U)
+pub so_far_more : {D U : Type 0} → (S : List JournalRecord → Type 0) (one : Hindrance → Kept → D → U → Turn D) (seats : Seats) (kept : Kept) (d : D) (all : List U) (kept' : Kept) (d' : D) (u : U) (us : List U)
     (new : Kept) (e : D) (old reply : Reply)
-    → SoFar one seats kept d all old kept' d' (u ∷ us) → (h : Hindrance) → Takes (one h kept' d' u) old new e reply → reply.closes ≡ false
+    → SoFar one seats kept d all old kept' d' (u ∷ us) → (h : Hindrance) → Takes S (one h kept' d' u) old new e reply → reply.closes ≡ false
     → SoFar one seats kept d all reply new e us
-so_far_more {D} {U} one seats kept d all kept' d' u us new e old reply s h took stays = by_dialog (one h kept' d' u).dialog refl took.dialog_is
+so_far_more {D} {U} S one seats kept d all kept' d' u us new e old reply s h took stays = by_dialog (one h kept' d' u).dialog refl took.dialog_is
   where
-    by_dialog : (o : Option D) → (one h kept' d' u).dialog ≡ o → MatchOption o (reply.closes ≡ true) (λ f. (e ≡ f) × (reply.closes ≡ false))
+    by_dialog : (o : Option D) → (one h kept' d' u).dialog ≡ o → MatchOption o (reply.closes ≡ true) (λ f. (e ≡ f) × (reply.closes ≡ false) × ((one h kept' d' u).unsealed ≡ []))
         → SoFar one seats kept d all reply new e us
     by_dialog None is shut = absurd (let wrong : true ≡ false = sym shut ∙ stays in cc)
     by_dialog (Some f) is goes = record {
       before = s.before ++ h ∷ [];
       split = λ more.
+          let turn = one h kept' d' u in
           up_to one seats kept d all old kept' d' u us s h more (Some f) is
+          ∙ ap (λ (failed : List JournalRecord). behind old (after turn.said turn.changed failed (all_turns one seats more turn.kept f us))) goes.2
           ∙ regroup more f
-          ∙ ap (λ said. after said (old.changed ++ (one h kept' d' u).changed) (all_turns one seats more (one h kept' d' u).kept f us)) (sym took.said)
-          ∙ ap (λ boxes. after reply.said boxes (all_turns one seats more (one h kept' d' u).kept f us)) (sym took.changed)
-          ∙ ap (λ k. after reply.said reply.changed (all_turns one seats more k f us)) (sym took.kept_is)
-          ∙ ap (λ g. after reply.said reply.changed (all_turns one seats more new g us)) (sym goes.0);
+          ∙ ap (λ said. after said (old.changed ++ turn.changed) [] (all_turns one seats more turn.kept f us)) (sym took.said)
+          ∙ ap (λ boxes. after reply.said boxes [] (all_turns one seats more turn.kept f us)) (sym took.changed)
+          ∙ ap (λ k. behind reply (all_turns one seats more k f us)) (sym took.kept_is)
+          ∙ ap (λ g. behind reply (all_turns one seats more new g us)) (sym goes.0);
     }
       where
         regroup : (more : List Hindrance) (f : D)
-            → after old.said old.changed (after (one h kept' d' u).said (one h kept' d' u).changed (all_turns one seats more (one h kept' d' u).kept f us))
-            ≡ after (old.said ++ (one h kept' d' u).said) (old.changed ++ (one h kept' d' u).changed) (all_turns one seats more (one h kept' d' u).kept f us)
+            → behind old (after (one h kept' d' u).said (one h kept' d' u).changed [] (all_turns one seats more (one h kept' d' u).kept f us))
+            ≡ after (old.said ++ (one h kept' d' u).said) (old.changed ++ (one h kept' d' u).changed) [] (all_turns one seats more (one h kept' d' u).kept f us)
         regroup more f =
             let t = all_turns one seats more (one h kept' d' u).kept f us in
-            ap (λ (said : List ℕ). record { said = said; state = t.state; dialog = t.dialog; changed = old.changed ++ ((one h kept' d' u).changed ++ t.changed) })
-            (sym (append_assoc old.said (one h kept' d' u).said t.said))
-            ∙ ap (λ (boxes : List BoxId). record { said = (old.said ++ (one h kept' d' u).said) ++ t.said; state = t.state; dialog = t.dialog; changed = boxes })
-            (sym (append_assoc old.changed (one h kept' d' u).changed t.changed))
+            λ j. record {
+              said = sym (append_assoc old.said (one h kept' d' u).said t.said) j;
+              state = t.state;
+              dialog = t.dialog;
+              changed = sym (append_assoc old.changed (one h kept' d' u).changed t.changed) j;
+              unsealed = t.unsealed;
+            }
 
 -- the last turn, after which the connection is closed
-pub closed_after : {D U : Type 0} → (one : Hindrance → Kept → D → U → Turn D) (seats : Seats) (kept : Kept) (d : D) (all : List U) (kept' : Kept) (d' : D) (u : U) (us : List U)
+pub closed_after : {D U : Type 0} → (S : List JournalRecord → Type 0) (one : Hindrance → Kept → D → U → Turn D) (seats : Seats) (kept : Kept) (d : D) (all : List U) (kept' : Kept) (d' : D) (u : U) (us : List U)
     (new : Kept) (e : D) (old reply : Reply)
-    → SoFar one seats kept d all old kept' d' (u ∷ us) → (h : Hindrance) → Takes (one h kept' d' u) old new e reply → reply.closes ≡ true
-    → (hs : List Hindrance) × (turns (alone one) hs (record { kept = kept; seats = seats }) d all ≡ left seats reply new None)
-closed_after {D} {U} one seats kept d all kept' d' u us new e old reply s h took shut = by_dialog (one h kept' d' u).dialog refl took.dialog_is
+    → SoFar one seats kept d all old kept' d' (u ∷ us) → (h : Hindrance) → Takes S (one h kept' d' u) old new e reply → reply.closes ≡ true
+    → (hs : List Hindrance) × (turns (alone one) hs (record { kept = kept; seats = seats }) d all ≡ left seats reply new (one h kept' d' u).unsealed None)
+closed_after {D} {U} S one seats kept d all kept' d' u us new e old reply s h took shut = by_dialog (one h kept' d' u).dialog refl took.dialog_is
   where
-    by_dialog : (o : Option D) → (one h kept' d' u).dialog ≡ o → MatchOption o (reply.closes ≡ true) (λ f. (e ≡ f) × (reply.closes ≡ false))
-        → (hs : List Hindrance) × (turns (alone one) hs (record { kept = kept; seats = seats }) d all ≡ left seats reply new None)
+    by_dialog : (o : Option D) → (one h kept' d' u).dialog ≡ o → MatchOption o (reply.closes ≡ true) (λ f. (e ≡ f) × (reply.closes ≡ false) × ((one h kept' d' u).unsealed ≡ []))
+        → (hs : List Hindrance) × (turns (alone one) hs (record { kept = kept; seats = seats }) d all ≡ left seats reply new (one h kept' d' u).unsealed None)
     by_dialog None is shuts = (
       (s.before ++ h ∷ []) ++ [],
       up_to one seats kept d all old kept' d' u us s h [] None is
-          ∙ ap (λ (said : List ℕ). leaving seats said (old.changed ++ (one h kept' d' u).changed) (one h kept' d' u).kept None) (sym took.said)
-          ∙ ap (λ (boxes : List BoxId). leaving seats reply.said boxes (one h kept' d' u).kept None) (sym took.changed)
-          ∙ ap (λ (k : Kept). left seats reply k None) (sym took.kept_is),
+          ∙ ap (λ (said : List ℕ). leaving seats said (old.changed ++ (one h kept' d' u).changed) (one h kept' d' u).unsealed (one h kept' d' u).kept None) (sym took.said)
+          ∙ ap (λ (boxes : List BoxId). leaving seats reply.said boxes (one h kept' d' u).unsealed (one h kept' d' u).kept None) (sym took.changed)
+          ∙ ap (λ (k : Kept). left seats reply k (one h kept' d' u).unsealed None) (sym took.kept_is),
     )
     by_dialog (Some f) is goes = absurd (let wrong : true ≡ false = sym shut ∙ goes.1 in cc)
 
 -- a turn for which no memory is found, and which is lost
 pub unheard : {D U : Type 0} → (one : Hindrance → Kept → D → U → Turn D) (seats : Seats) (kept : Kept) (d : D) (all : List U) (reply : Reply) (kept' : Kept) (d' : D) (us : List U)
     → SoFar one seats kept d all reply kept' d' us → (us ≡ [] → ⊥)
-    → ((u : U) → one Unheard kept' d' u ≡ record { said = []; kept = kept'; dialog = None; changed = [] })
-    → (hs : List Hindrance) × (turns (alone one) hs (record { kept = kept; seats = seats }) d all ≡ left seats reply kept' None)
+    → ((u : U) → one Unheard kept' d' u ≡ record { said = []; kept = kept'; dialog = None; changed = []; unsealed = [] })
+    → (hs : List Hindrance) × (turns (alone one) hs (record { kept = kept; seats = seats }) d all ≡ left seats reply kept' [] None)
 unheard one seats kept d all reply kept' d' [] s some lost = absurd (some refl)
 unheard {D} one seats kept d all reply kept' d' (u ∷ us) s some lost = (
   s.before ++ Unheard ∷ [],
@@ -125,7 +131,7 @@ unheard {D} one seats kept d all reply kept' d' (u ∷ us) s some lost = (
 -- no turn is to come
 pub all_heard : {D U : Type 0} → (one : Hindrance → Kept → D → U → Turn D) (seats : Seats) (kept : Kept) (d : D) (all : List U) (reply : Reply) (kept' : Kept) (d' : D) (us : List U)
     → SoFar one seats kept d all reply kept' d' us → us ≡ []
-    → (hs : List Hindrance) × (turns (alone one) hs (record { kept = kept; seats = seats }) d all ≡ left seats reply kept' (Some d'))
+    → (hs : List Hindrance) × (turns (alone one) hs (record { kept = kept; seats = seats }) d all ≡ left seats reply kept' [] (Some d'))
 all_heard one seats kept d all reply kept' d' us s none = (
   s.before ++ [],
   s.split [] ∙ ap (λ ls. behind reply (all_turns one seats [] kept' d' ls)) none
@@ -134,8 +140,8 @@ all_heard one seats kept d all reply kept' d' us s none = (
 
 -- the last turn is to come, which says nothing
 pub last_heard : {D U : Type 0} → (one : Hindrance → Kept → D → U → Turn D) (seats : Seats) (kept : Kept) (d : D) (all : List U) (reply : Reply) (kept' : Kept) (d' : D) (us : List U) (u : U)
-    → SoFar one seats kept d all reply kept' d' us → us ≡ u ∷ [] → one Clear kept' d' u ≡ record { said = []; kept = kept'; dialog = Some d'; changed = [] }
-    → (hs : List Hindrance) × (turns (alone one) hs (record { kept = kept; seats = seats }) d all ≡ left seats reply kept' (Some d'))
+    → SoFar one seats kept d all reply kept' d' us → us ≡ u ∷ [] → one Clear kept' d' u ≡ record { said = []; kept = kept'; dialog = Some d'; changed = []; unsealed = [] }
+    → (hs : List Hindrance) × (turns (alone one) hs (record { kept = kept; seats = seats }) d all ≡ left seats reply kept' [] (Some d'))
 last_heard {D} one seats kept d all reply kept' d' us u s last quiet = (
   s.before ++ [],
   s.split [] ∙ ap (λ ls. behind reply (all_turns one seats [] kept' d' ls)) last
@@ -145,17 +151,19 @@ last_heard {D} one seats kept d all reply kept' d' us u s last quiet = (
 
 -- what the turns say is what the connection is told
 pub told_by : {D U : Type 0} → (one : Hindrance → Kept → D → U → Turn D) (seat_of : D → Seat) (seats : Seats) (kept : Kept) (d : D) (all : List U) (conn : ℕ) (reply : Reply)
-    (kept' : Kept) (seat : Seat) (o : Option D)
+    (kept' : Kept) (failed : List JournalRecord) (seat : Seat) (o : Option D) (S : List JournalRecord → Type 0)
     → reply.conn ≡ conn
-    → (hs : List Hindrance) × (turns (alone one) hs (record { kept = kept; seats = seats }) d all ≡ left seats reply kept' o)
-    → option_map seat_of o ≡ seat_left reply.closes seat
-    → (hs : List Hindrance) × Tells (heard_by seat_of (turns (alone one) hs (record { kept = kept; seats = seats }) d all)) seats conn reply kept' seat
-told_by one seat_of seats kept d all conn reply kept' seat o same (hs, is) left_is = (
+    → (hs : List Hindrance) × (turns (alone one) hs (record { kept = kept; seats = seats }) d all ≡ left seats reply kept' failed o)
+    → option_map seat_of o ≡ seat_left reply.closes seat → S failed
+    → (hs : List Hindrance) × (failed : List JournalRecord) × S failed × Tells (heard_by seat_of (turns (alone one) hs (record { kept = kept; seats = seats }) d all)) seats conn reply kept' failed seat
+told_by one seat_of seats kept d all conn reply kept' failed seat o S same (hs, is) left_is seals = (
   hs,
+  failed,
+  seals,
   record {
     conn_is = same;
     heard_is = ap (heard_by seat_of) is
-        ∙ ap (λ (s : Option Seat). record { said = reply.said; state = record { kept = kept'; seats = seats }; seat = s; changed = reply.changed }) left_is;
+        ∙ ap (λ (s : Option Seat). record { said = reply.said; state = record { kept = kept'; seats = seats }; seat = s; changed = reply.changed; unsealed = failed }) left_is;
   },
 )
 
@@ -164,26 +172,28 @@ none_left true seat = refl
 none_left false seat = refl
 
 -- the answers of the turns are the one reply
-pub heard_alone : (h : Heard) (seats : Seats) (conn : ℕ) (reply : Reply) (kept : Kept) (seat : Seat)
-    → Tells h seats conn reply kept seat
-    → heard conn h ≡ answered_alone conn reply kept seat seats
-heard_alone h seats conn reply kept seat t =
+pub heard_alone : (h : Heard) (seats : Seats) (conn : ℕ) (reply : Reply) (kept : Kept) (failed : List JournalRecord) (seat : Seat)
+    → Tells h seats conn reply kept failed seat
+    → heard conn h ≡ answered_alone conn reply kept failed seat seats
+heard_alone h seats conn reply kept failed seat t =
     ap (heard conn) t.heard_is
     ∙ ap (λ (b : Bool). record {
       state = record { kept = kept; seats = seated conn (seat_left reply.closes seat) seats };
       replies = with_reply (record { conn = conn; said = reply.said; closes = b }) (closed_others conn reply.changed (seated conn (seat_left reply.closes seat) seats));
+      unsealed = failed;
     }) (none_left reply.closes seat)
     ∙ ap (λ (n : ℕ). record {
       state = record { kept = kept; seats = seated conn (seat_left reply.closes seat) seats };
       replies = with_reply (record { conn = n; said = reply.said; closes = reply.closes }) (closed_others conn reply.changed (seated conn (seat_left reply.closes seat) seats));
+      unsealed = failed;
     }) (sym t.conn_is)
 
 -- no memory was found for the bytes
 pub unfed_alone : (hs : List Hindrance) (at : ℕ) (kept : Kept) (seats : Seats) (conn : ℕ) (seat seat' : Seat) (bytes : List ℕ) (reply : Reply)
     → reply ≡ record { conn = conn; said = []; closes = true; changed = [] }
-    → hears true hs at (record { kept = kept; seats = seats }) conn seat bytes ≡ answered_alone conn reply kept seat' seats
+    → hears true hs at (record { kept = kept; seats = seats }) conn seat bytes ≡ answered_alone conn reply kept [] seat' seats
 unfed_alone hs at kept seats conn seat seat' bytes reply e =
-    sym (ap (λ (r : Reply). answered_alone conn r kept seat' seats) e)
+    sym (ap (λ (r : Reply). answered_alone conn r kept [] seat' seats) e)
 
 -- the seat of a connection that stays open
 pub seat_stays : (closes : Bool) (seat seat' : Seat) → closes ≡ false → seat ≡ seat' → Some seat ≡ seat_left closes seat'
@@ -195,19 +205,22 @@ pub seat_goes : (closes : Bool) (seat : Seat) → closes ≡ true → ◌≡◌ 
 seat_goes true seat shut = refl
 seat_goes false seat shut = absurd (let w : false ≡ true = shut in cc)
 
--- the bytes of a connection are heard, and this is its reply, what is kept and its seat then
-abbrev pub HeardAlone : ℕ → Kept → Seats → ℕ → Seat → List ℕ → Reply → Kept → Seat → Type 0
-HeardAlone at kept seats conn seat bytes reply kept' seat' =
-    (no_memory : Bool) × (hs : List Hindrance) × (hears no_memory hs at (record { kept = kept; seats = seats }) conn seat bytes ≡ answered_alone conn reply kept' seat' seats)
+-- the bytes of a connection are heard, and this is its reply, what is kept, the record whose sealing failed, and its seat then
+abbrev pub HeardAlone : (List JournalRecord → Type 0) → ℕ → Kept → Seats → ℕ → Seat → List ℕ → Reply → Kept → Seat → Type 0
+HeardAlone S at kept seats conn seat bytes reply kept' seat' =
+    (no_memory : Bool) × (hs : List Hindrance) × (failed : List JournalRecord) × S failed
+    × (hears no_memory hs at (record { kept = kept; seats = seats }) conn seat bytes ≡ answered_alone conn reply kept' failed seat' seats)
 
-pub heard_same : (at : ℕ) (kept : Kept) (seats : Seats) (conn : ℕ) (seat seat0 : Seat) (bytes : List ℕ) (reply reply0 : Reply) (kept' kept0 : Kept) (seat' seat'' : Seat)
-    → seat ≡ seat0 → reply0 ≡ reply → kept0 ≡ kept' → seat'' ≡ seat'
-    → HeardAlone at kept seats conn seat bytes reply kept' seat' → HeardAlone at kept seats conn seat0 bytes reply0 kept0 seat''
-heard_same at kept seats conn seat seat0 bytes reply reply0 kept' kept0 seat' seat'' s r k t (b, hs, is) = (
+pub heard_same : (S T : List JournalRecord → Type 0) (at : ℕ) (kept : Kept) (seats : Seats) (conn : ℕ) (seat seat0 : Seat) (bytes : List ℕ) (reply reply0 : Reply) (kept' kept0 : Kept) (seat' seat'' : Seat)
+    → seat ≡ seat0 → reply0 ≡ reply → kept0 ≡ kept' → seat'' ≡ seat' → ((failed : List JournalRecord) → S failed → T failed)
+    → HeardAlone S at kept seats conn seat bytes reply kept' seat' → HeardAlone T at kept seats conn seat0 bytes reply0 kept0 seat''
+heard_same S T at kept seats conn seat seat0 bytes reply reply0 kept' kept0 seat' seat'' s r k t then (b, hs, failed, seals, is) = (
   b,
   hs,
+  failed,
+  then failed seals,
   ap (λ (x : Seat). hears b hs at (record { kept = kept; seats = seats }) conn x bytes) (sym s) ∙ is
-      ∙ ap (λ (x : Reply). answered_alone conn x kept' seat' seats) (sym r)
-      ∙ ap (λ (x : Kept). answered_alone conn reply0 x seat' seats) (sym k)
-      ∙ ap (λ (x : Seat). answered_alone conn reply0 kept0 x seats) (sym t),
+      ∙ ap (λ (x : Reply). answered_alone conn x kept' failed seat' seats) (sym r)
+      ∙ ap (λ (x : Kept). answered_alone conn reply0 x failed seat' seats) (sym k)
+      ∙ ap (λ (x : Seat). answered_alone conn reply0 kept0 failed x seats) (sym t),
 )

@@ -19,18 +19,22 @@ use Rattle.smtp_session.specs.declared.answer.SmtpOut.TheVariants.{Nothing, Say,
 use Rattle.smtp_session.specs.declared.dialog.Dialog.{Dialog}
 use Rattle.smtp_session.specs.declared.dialog.Transaction.{Transaction}
 use Rattle.smtp_session.specs.declared.dialog.Transaction.TheVariants.{Idle, Begun, Writing, Due}
+use Rattle.smtp_session.specs.Answer.{answer_text}
 use Rattle.smtp_session.specs.Body.{body_of}
 use Rattle.smtp_session.specs.Recipients.{is_here, put_once}
 use Rattle.smtp_session.specs.Text.{add_line}
-use Rattle.smtp_session.specs.declared.answer.Answer.TheVariants.{Done, Begin, BadSequence, TooManyRecipients, NoMailbox}
+use Rattle.smtp_session.specs.declared.answer.Answer.TheVariants.{Done, Begin, BadSequence, DiskFault, TooManyRecipients, NoMailbox}
 use Rattle.std.specs.Str.{str_to_ascii_lowercase}
 use Rattle.smtp_session.specs.Dialog as session
 use Rattle.mail_loop.specs.declared.reply.Reply.{Reply}
 use Rattle.mail_desk.specs.Kept.{Kept}
-use Rattle.mail_desk.specs.Desk.{Submitted, IsFaultOf, store_of, submitted, submitted_as}
+use Rattle.mail_desk.specs.Desk.{Submitted, store_of, submitted, submitted_as}
+use Rattle.verb_bytes.specs.declared.journal.JournalRecord.{JournalRecord}
+use Rattle.verb_bytes.specs.declared.journal.JournalRecord.TheVariants.{Verb}
+use Rattle.mail_loop.specs.Asked.{Asked, does, fails, unsealed_as}
 use Rattle.mail_loop.specs.Dialog.{Turn, says, ends, settled_as, settled, followed}
-use Rattle.mail_loop.specs.Hindrance.{Hindrance, Clear, Refused as IsTold452, Unread, Unstored, Unheard, Unanswered, hindered, memory_told, refused_in_text, unanswered}
-use Rattle.mail_loop.specs.Took.{Adds, IsTold, IsAsked, Takes, SettlesAgain, Settles, hindered_after}
+use Rattle.mail_loop.specs.Hindrance.{Hindrance, Clear, Refused as IsTold452, Unread, Unstored, Unheard, Unanswered, Unsealed, Untold, hindered, memory_told, refused_in_text, unanswered}
+use Rattle.mail_loop.specs.Took.{Adds, IsTold, IsAsked, IsNone, Takes, SettlesAgain, Settles, Submits, asked_as, hindered_after}
 use Rattle.mail_loop.proofs.Refusals.{due_or_starved}
 
 -- a turn of a mail client at a moment
@@ -39,27 +43,54 @@ line_at at h kept d line = hindered h at kept d line
 
 -- ---- what is told
 
-pub told_whole : {D : Type 0} → (said : List ℕ) (kept : Kept) (d : D) (old new : Reply) → new ≡ record old { said = old.said ++ said; closes = false } → Takes (says said kept d) old kept d new
+pub told_whole : {D : Type 0} → (said : List ℕ) (kept : Kept) (d : D) (old new : Reply) → new ≡ record old { said = old.said ++ said; closes = false } → Takes IsNone (says said kept d) old kept d new
 told_whole said kept d old new e =
-    subst (λ (r : Reply). Takes (says said kept d) old kept d r) (sym e) (record { conn = refl; said = refl; kept_is = refl; dialog_is = (refl, refl); changed = sym (append-nil old.changed) })
+    subst (λ (r : Reply). Takes IsNone (says said kept d) old kept d r) (sym e) (record { conn = refl; said = refl; kept_is = refl; dialog_is = (refl, refl, refl); changed = sym (append-nil old.changed); seals = refl })
 
-pub told_last : {D : Type 0} → (said : List ℕ) (kept : Kept) (d : D) (old new : Reply) → new ≡ record old { said = old.said ++ said; closes = true } → Takes (ends said kept) old kept d new
+pub told_last : {D : Type 0} → (said : List ℕ) (kept : Kept) (d : D) (old new : Reply) → new ≡ record old { said = old.said ++ said; closes = true } → Takes IsNone (ends said kept) old kept d new
 told_last said kept d old new e =
-    subst (λ (r : Reply). Takes (ends said kept) old kept d r) (sym e) (record { conn = refl; said = refl; kept_is = refl; dialog_is = refl; changed = sym (append-nil old.changed) })
+    subst (λ (r : Reply). Takes IsNone (ends said kept) old kept d r) (sym e) (record { conn = refl; said = refl; kept_is = refl; dialog_is = refl; changed = sym (append-nil old.changed); seals = refl })
 
-pub told_nothing : {D : Type 0} → (kept : Kept) (d : D) (old new : Reply) → old.closes ≡ false → new ≡ old → Takes (says [] kept d) old kept d new
+pub told_nothing : {D : Type 0} → (kept : Kept) (d : D) (old new : Reply) → old.closes ≡ false → new ≡ old → Takes IsNone (says [] kept d) old kept d new
 told_nothing kept d old new stays e =
-    subst (λ (r : Reply). Takes (says [] kept d) old kept d r) (sym e)
-    (record { conn = refl; said = sym (append-nil old.said); kept_is = refl; dialog_is = (refl, stays); changed = sym (append-nil old.changed) })
+    subst (λ (r : Reply). Takes IsNone (says [] kept d) old kept d r) (sym e)
+    (record { conn = refl; said = sym (append-nil old.said); kept_is = refl; dialog_is = (refl, stays, refl); changed = sym (append-nil old.changed); seals = refl })
 
 -- a connection that closes with no answer
-pub closed : {D : Type 0} → (kept kept' : Kept) (d : D) (old new : Reply) → kept' ≡ kept → new ≡ record old { closes = true } → Takes (ends [] kept) old kept' d new
+pub closed : {D : Type 0} → (kept kept' : Kept) (d : D) (old new : Reply) → kept' ≡ kept → new ≡ record old { closes = true } → Takes IsNone (ends [] kept) old kept' d new
 closed kept kept' d old new same e =
-    subst (λ (r : Reply). Takes (ends [] kept) old kept' d r) (sym e)
-    (record { conn = refl; said = sym (append-nil old.said); kept_is = same; dialog_is = refl; changed = sym (append-nil old.changed) })
+    subst (λ (r : Reply). Takes IsNone (ends [] kept) old kept' d r) (sym e)
+    (record { conn = refl; said = sym (append-nil old.said); kept_is = same; dialog_is = refl; changed = sym (append-nil old.changed); seals = refl })
+
+-- no sealing failed in this turn, and what was sealed is known
+pub lifted : {D : Type 0} → (S : List JournalRecord → Type 0) (t : Turn D) (old : Reply) (kept : Kept) (d : D) (new : Reply) → Takes IsNone t old kept d new → S [] → Takes S t old kept d new
+lifted S t old kept d new takes none = record {
+  conn = takes.conn;
+  said = takes.said;
+  kept_is = takes.kept_is;
+  dialog_is = takes.dialog_is;
+  changed = takes.changed;
+  seals = subst S (sym takes.seals) none;
+}
+
+pub lifted_turn : {D : Type 0} → (S : List JournalRecord → Type 0) (f : Hindrance → Turn D) (old : Reply) (kept : Kept) (d : D) (new : Reply) → S []
+    → (h : Hindrance) × Takes IsNone (f h) old kept d new → (h : Hindrance) × Takes S (f h) old kept d new
+lifted_turn S f old kept d new none (h, takes) = (h, lifted S (f h) old kept d new takes none)
+
+-- a record was not sealed in the last turn of a connection
+pub unsealed_too : {D : Type 0} → (S : List JournalRecord → Type 0) (said : List ℕ) (k : Kept) (failed : List JournalRecord) (old : Reply) (kept : Kept) (d : D) (new : Reply)
+    → Takes IsNone (ends {D} said k) old kept d new → S failed → Takes S (record (ends {D} said k) { unsealed = failed }) old kept d new
+unsealed_too S said k failed old kept d new takes seals = record {
+  conn = takes.conn;
+  said = takes.said;
+  kept_is = takes.kept_is;
+  dialog_is = takes.dialog_is;
+  changed = takes.changed;
+  seals = seals;
+}
 
 out_told : (out : SmtpOut) (kept : Kept) (d : Dialog) (old new : Reply) → old.closes ≡ false → IsTold out old new
-    → Takes (settled_as out kept d) old kept d new ⊎ Takes (ends [] kept) old kept d new
+    → Takes IsNone (settled_as out kept d) old kept d new ⊎ Takes IsNone (ends [] kept) old kept d new
 out_told Nothing kept d old new stays is = inl (told_nothing kept d old new stays is)
 out_told (Say said) kept d old new stays (inl e) = inl (told_whole said kept d old new e)
 out_told (Say said) kept d old new stays (inr e) = inr (closed kept kept d old new refl e)
@@ -75,16 +106,16 @@ free_after d e outcome out is = sym (ap (λ (t : session.Turn). session.is_due t
 
 settled_told : (outcome : Result Item SubmitFault) (kept : Kept) (d e : Dialog) (out : SmtpOut) (old new : Reply) → old.closes ≡ false
     → session.settle d outcome ≡ session.turns out e → IsTold out old new
-    → Takes (settled d (record { outcome = outcome; kept = kept })) old kept e new ⊎ Takes (ends [] kept) old kept e new
+    → Takes IsNone (settled d (asked_as outcome kept)) old kept e new ⊎ Takes IsNone (ends [] kept) old kept e new
 settled_told outcome kept d e out old new stays is told =
-    subst (λ (t : session.Turn). Takes (settled_as t.out kept t.dialog) old kept e new ⊎ Takes (ends [] kept) old kept e new) (sym is) (out_told out kept e old new stays told)
+    subst (λ (t : session.Turn). Takes IsNone (settled_as t.out kept t.dialog) old kept e new ⊎ Takes IsNone (ends [] kept) old kept e new) (sym is) (out_told out kept e old new stays told)
 
 -- the session was told of its ask's outcome
 pub settles_told : (outcome : Result Item SubmitFault) (kept : Kept) (d e : Dialog) (out : SmtpOut) (old new : Reply) → old.closes ≡ false
     → session.settle d outcome ≡ session.turns out e → IsTold out old new → Settles outcome kept d old e new
 settles_told outcome kept d e out old new stays is told = by_told (settled_told outcome kept d e out old new stays is told)
   where
-    by_told : Takes (settled d (record { outcome = outcome; kept = kept })) old kept e new ⊎ Takes (ends [] kept) old kept e new → Settles outcome kept d old e new
+    by_told : Takes IsNone (settled d (asked_as outcome kept)) old kept e new ⊎ Takes IsNone (ends [] kept) old kept e new → Settles outcome kept d old e new
     by_told (inl t) = inl t
     by_told (inr t) = inr (inl t)
 
@@ -93,7 +124,7 @@ pub again_told : (was_refused : Bool) (kept : Kept) (d e : Dialog) (out : SmtpOu
     → session.settle d (Err (IsRefused NoMemory)) ≡ session.turns out e → IsTold out old new → SettlesAgain was_refused kept d old e new
 again_told was_refused kept d e out old new stays refused is told = by_told (settled_told (Err (IsRefused NoMemory)) kept d e out old new stays is told)
   where
-    by_told : Takes (settled d (record { outcome = Err (IsRefused NoMemory); kept = kept })) old kept e new ⊎ Takes (ends [] kept) old kept e new
+    by_told : Takes IsNone (settled d (asked_as (Err (IsRefused NoMemory)) kept)) old kept e new ⊎ Takes IsNone (ends [] kept) old kept e new
         → SettlesAgain was_refused kept d old e new
     by_told (inl t) = inr (refused, t)
     by_told (inr t) = inl t
@@ -104,8 +135,8 @@ kept_told (Say said) kept d = refl
 kept_told (Bye said) kept d = refl
 kept_told (Asks ask) kept d = refl
 
-kept_settled : (d : Dialog) (s : Submitted) → (settled d s).kept ≡ s.kept
-kept_settled d s = kept_told (session.settle d s.outcome).out s.kept (session.settle d s.outcome).dialog
+kept_settled : (d : Dialog) (a : Asked) → (settled d a).kept ≡ a.kept
+kept_settled d a = kept_told (session.settle d a.outcome).out a.kept (session.settle d a.outcome).dialog
 
 none_told : (out : SmtpOut) (kept : Kept) (d : Dialog) → (settled_as out kept d).changed ≡ []
 none_told Nothing kept d = refl
@@ -113,64 +144,89 @@ none_told (Say said) kept d = refl
 none_told (Bye said) kept d = refl
 none_told (Asks ask) kept d = refl
 
-none_changed : (d : Dialog) (s : Submitted) → (settled d s).changed ≡ []
-none_changed d s = none_told (session.settle d s.outcome).out s.kept (session.settle d s.outcome).dialog
+none_changed : (d : Dialog) (a : Asked) → (settled d a).changed ≡ []
+none_changed d a = none_told (session.settle d a.outcome).out a.kept (session.settle d a.outcome).dialog
+
+-- the connection closes with no answer to what is kept
+closed_on : (S : List JournalRecord → Type 0) (d : Dialog) (a : Asked) (old : Reply) (kept : Kept) (e : Dialog) (new : Reply)
+    → Takes IsNone (ends [] a.kept) old kept e new → S a.unsealed → Takes S (unanswered (settled d a)) old kept e new
+closed_on S d a old kept e new takes seals = record {
+  conn = takes.conn;
+  said = takes.said;
+  kept_is = takes.kept_is ∙ sym (kept_settled d a);
+  dialog_is = takes.dialog_is;
+  changed = takes.changed ∙ ap (λ (l : List BoxId). old.changed ++ l) (sym (none_changed d a));
+  seals = seals;
+}
 
 -- what is asked of the desk is a turn, hindered or not
-pub asked_turn : (at : ℕ) (kept kept' : Kept) (ask : Ask) (d e : Dialog) (outcome : Result Item SubmitFault) (old new : Reply)
-    → IfOk outcome (λ item. submitted kept at None ask ≡ record { outcome = Ok item; kept = kept' })
-    → OnErr outcome (kept' ≡ kept)
-    → IfErr outcome (λ fault. IsFaultOf fault (live (store_of kept) kept.next at None ask))
+pub asked_turn : (S : List JournalRecord → Type 0) (at : ℕ) (kept kept' : Kept) (ask : Ask) (d e : Dialog) (outcome : Result Item SubmitFault) (old new : Reply)
+    → Submits S at kept None ask kept' outcome
     → Settles outcome kept' d old e new
-    → (h : Hindrance) × Takes (hindered_after h at kept (Asks ask) d) old kept' e new
-asked_turn at kept kept' ask d e (Ok item) old new ok err due (inl t) =
-    (Clear, subst (λ (s : Submitted). Takes (settled d s) old kept' e new) (sym ok) t)
-asked_turn at kept kept' ask d e (Ok item) old new ok err due (inr (inl t)) =
-    let same : kept' ≡ (settled d (submitted kept at None ask)).kept = sym (kept_settled d (submitted kept at None ask) ∙ ap (λ (s : Submitted). s.kept) ok) in
-    let none : ◌≡◌ {A = List BoxId} [] (settled d (submitted kept at None ask)).changed = sym (none_changed d (submitted kept at None ask)) in (
-      Unanswered,
-      subst (λ (ids : List BoxId). Takes (record { said = []; kept = (settled d (submitted kept at None ask)).kept; dialog = None; changed = ids }) old kept' e new) none
-          (subst (λ (k : Kept). Takes (ends [] k) old kept' e new) same t),
-    )
-asked_turn at kept kept' ask d e (Ok item) old new ok err due (inr (inr t)) = absurd (let wrong : false ≡ true = t.0 in cc)
-asked_turn at kept kept' ask d e (Err Disk) old new ok err due s = absurd due
-asked_turn at kept kept' ask d e (Err Closed) old new ok err due s = absurd due
-asked_turn at kept kept' ask d e (Err (IsRefused why)) old new ok err due s = by_way s
+    → (h : Hindrance) × Takes S (hindered_after h at kept (Asks ask) d) old kept' e new
+asked_turn S at kept kept' ask d e (Ok item) old new (is, seals) (inl t) =
+    (Clear, subst (λ (s : Submitted). Takes S (settled d (asked_as s.outcome s.kept)) old kept' e new) (sym is) (lifted S (settled d (asked_as (Ok item) kept')) old kept' e new t seals))
+asked_turn S at kept kept' ask d e (Ok item) old new (is, seals) (inr (inl t)) =
+    (Unanswered, subst (λ (s : Submitted). Takes S (unanswered (settled d (asked_as s.outcome s.kept))) old kept' e new) (sym is) (closed_on S d (asked_as (Ok item) kept') old kept' e new t seals))
+asked_turn S at kept kept' ask d e (Ok item) old new done (inr (inr t)) = absurd (let wrong : false ≡ true = t.0 in cc)
+asked_turn S at kept kept' ask d e (Err Closed) old new wrong s = absurd wrong
+asked_turn S at kept kept' ask d e (Err Disk) old new (item, is, same, seals) (inl t) = (
+  Unsealed,
+  subst (λ (r : Result Item Refused). Takes S (settled d (unsealed_as kept r)) old kept' e new) (sym is)
+      (subst (λ (k : Kept). Takes S (settled d (unsealed_as k (Ok item))) old kept' e new) same
+      (unsealed_too S (answer_text (session.host_due d.transaction) DiskFault) kept' (Verb item ∷ []) old kept' e new t seals)),
+)
+asked_turn S at kept kept' ask d e (Err Disk) old new (item, is, same, seals) (inr (inl t)) = (
+  Untold,
+  subst (λ (r : Result Item Refused). Takes S (unanswered (settled d (unsealed_as kept r))) old kept' e new) (sym is)
+      (subst (λ (k : Kept). Takes S (unanswered (settled d (unsealed_as k (Ok item)))) old kept' e new) same
+      (unsealed_too S [] kept' (Verb item ∷ []) old kept' e new t seals)),
+)
+asked_turn S at kept kept' ask d e (Err Disk) old new done (inr (inr t)) = absurd (let wrong : false ≡ true = t.0 in cc)
+asked_turn S at kept kept' ask d e (Err (IsRefused why)) old new (due, same, seals) s = by_way s
   where
-    starved : Takes (settled d (record { outcome = Err (IsRefused NoMemory); kept = kept' })) old kept' e new
-        → (h : Hindrance) × Takes (hindered_after h at kept (Asks ask) d) old kept' e new
-    starved t = (IsTold452, subst (λ (k : Kept). Takes (settled d (record { outcome = Err (IsRefused NoMemory); kept = k })) old kept' e new) err t)
+    whole : (t : Turn Dialog) → Takes IsNone t old kept' e new → Takes S t old kept' e new
+    whole t took = lifted S t old kept' e new took seals
 
-    by_cause : (why ≡ NoMemory) ⊎ (live (store_of kept) kept.next at None ask ≡ Err why) → Takes (settled d (record { outcome = Err (IsRefused why); kept = kept' })) old kept' e new
-        → (h : Hindrance) × Takes (hindered_after h at kept (Asks ask) d) old kept' e new
-    by_cause (inl is) t = starved (subst (λ (r : Refused). Takes (settled d (record { outcome = Err (IsRefused r); kept = kept' })) old kept' e new) is t)
+    starved : Takes IsNone (settled d (asked_as (Err (IsRefused NoMemory)) kept')) old kept' e new
+        → (h : Hindrance) × Takes S (hindered_after h at kept (Asks ask) d) old kept' e new
+    starved t = (
+      IsTold452,
+      subst (λ (k : Kept). Takes S (settled d (asked_as (Err (IsRefused NoMemory)) k)) old kept' e new) same
+          (whole (settled d (asked_as (Err (IsRefused NoMemory)) kept')) t),
+    )
+
+    by_cause : (why ≡ NoMemory) ⊎ (live (store_of kept) kept.next at None ask ≡ Err why) → Takes IsNone (settled d (asked_as (Err (IsRefused why)) kept')) old kept' e new
+        → (h : Hindrance) × Takes S (hindered_after h at kept (Asks ask) d) old kept' e new
+    by_cause (inl is) t = starved (subst (λ (r : Refused). Takes IsNone (settled d (asked_as (Err (IsRefused r)) kept')) old kept' e new) is t)
     by_cause (inr is) t = (
       Clear,
-      subst (λ (r : Result Item Refused). Takes (settled d (submitted_as kept r)) old kept' e new) (sym is)
-          (subst (λ (k : Kept). Takes (settled d (record { outcome = Err (IsRefused why); kept = k })) old kept' e new) err t),
+      subst (λ (r : Result Item Refused). let s = submitted_as kept r in Takes S (settled d (asked_as s.outcome s.kept)) old kept' e new) (sym is)
+          (subst (λ (k : Kept). Takes S (settled d (asked_as (Err (IsRefused why)) k)) old kept' e new) same
+          (whole (settled d (asked_as (Err (IsRefused why)) kept')) t)),
     )
 
-    by_way : Settles (Err (IsRefused why)) kept' d old e new → (h : Hindrance) × Takes (hindered_after h at kept (Asks ask) d) old kept' e new
+    by_way : Settles (Err (IsRefused why)) kept' d old e new → (h : Hindrance) × Takes S (hindered_after h at kept (Asks ask) d) old kept' e new
     by_way (inl t) = by_cause (due_or_starved why (live (store_of kept) kept.next at None ask) due) t
-    by_way (inr (inl t)) = (Unheard, subst (λ (k : Kept). Takes (ends [] k) old kept' e new) err t)
+    by_way (inr (inl t)) = (Unheard, subst (λ (k : Kept). Takes S (ends [] k) old kept' e new) same (whole (ends [] kept') t))
     by_way (inr (inr t)) = starved t.1
 
 -- what a session gives without asking is a turn
 pub nothing_turn : (at : ℕ) (kept : Kept) (out : SmtpOut) (d : Dialog) (reply : Reply) → out ≡ Nothing → reply.closes ≡ false
-    → (h : Hindrance) × Takes (hindered_after h at kept out d) reply kept d reply
+    → (h : Hindrance) × Takes IsNone (hindered_after h at kept out d) reply kept d reply
 nothing_turn at kept out d reply is stays =
-    (Clear, subst (λ (o : SmtpOut). Takes (followed at kept o d) reply kept d reply) (sym is) (told_nothing kept d reply reply stays refl))
+    (Clear, subst (λ (o : SmtpOut). Takes IsNone (followed (does at kept) kept o d) reply kept d reply) (sym is) (told_nothing kept d reply reply stays refl))
 
 pub say_turn : (at : ℕ) (kept : Kept) (out : SmtpOut) (d : Dialog) (text said : List ℕ) (old new : Reply) → out ≡ Say text → said ≡ text → Adds said false old new
-    → (h : Hindrance) × Takes (hindered_after h at kept out d) old kept d new
+    → (h : Hindrance) × Takes IsNone (hindered_after h at kept out d) old kept d new
 say_turn at kept out d text said old new is same (inl e) =
-    (Clear, subst (λ (o : SmtpOut). Takes (followed at kept o d) old kept d new) (sym (is ∙ ap Say (sym same))) (told_whole said kept d old new e))
+    (Clear, subst (λ (o : SmtpOut). Takes IsNone (followed (does at kept) kept o d) old kept d new) (sym (is ∙ ap Say (sym same))) (told_whole said kept d old new e))
 say_turn at kept out d text said old new is same (inr e) = (Unheard, closed kept kept d old new refl e)
 
 pub bye_turn : (at : ℕ) (kept : Kept) (out : SmtpOut) (d : Dialog) (text said : List ℕ) (old new : Reply) → out ≡ Bye text → said ≡ text → Adds said true old new
-    → (h : Hindrance) × Takes (hindered_after h at kept out d) old kept d new
+    → (h : Hindrance) × Takes IsNone (hindered_after h at kept out d) old kept d new
 bye_turn at kept out d text said old new is same (inl e) =
-    (Clear, subst (λ (o : SmtpOut). Takes (followed at kept o d) old kept d new) (sym (is ∙ ap Bye (sym same))) (told_last said kept d old new e))
+    (Clear, subst (λ (o : SmtpOut). Takes IsNone (followed (does at kept) kept o d) old kept d new) (sym (is ∙ ap Bye (sym same))) (told_last said kept d old new e))
 bye_turn at kept out d text said old new is same (inr e) = (Unheard, closed kept kept d old new refl e)
 
 -- ---- where a session asks
@@ -286,40 +342,44 @@ asked_of d (Asks ask) e is = (is.1, is.2)
 -- ---- a line
 
 -- what follows from what a line gives is its turn
-pub line_turn : (at : ℕ) (kept kept' : Kept) (d e e' : Dialog) (line : SmtpLine) (out : SmtpOut) (old new : Reply)
+pub line_turn : (S : List JournalRecord → Type 0) (at : ℕ) (kept kept' : Kept) (d e e' : Dialog) (line : SmtpLine) (out : SmtpOut) (old new : Reply)
     → session.turn kept.house (store_of kept).conf at d line ≡ session.turns out e
     → AsksAtEnd d out e
-    → (h : Hindrance) × Takes (hindered_after h at kept out e) old kept' e' new
-    → (h : Hindrance) × Takes (hindered h at kept d line) old kept' e' new
-line_turn at kept kept' d e e' line out old new is asks (Clear, t) =
-    (Clear, subst (λ (u : session.Turn). Takes (followed at kept u.out u.dialog) old kept' e' new) (sym is) t)
-line_turn at kept kept' d e e' line out old new is asks (Unread, t) =
-    (Clear, subst (λ (u : session.Turn). Takes (followed at kept u.out u.dialog) old kept' e' new) (sym is) t)
-line_turn at kept kept' d e e' line out old new is asks (Unstored, t) =
-    (Clear, subst (λ (u : session.Turn). Takes (followed at kept u.out u.dialog) old kept' e' new) (sym is) t)
-line_turn at kept kept' d e e' line out old new is asks (Unheard, t) = (Unheard, t)
-line_turn at kept kept' d e e' line out old new is asks (Unanswered, t) =
-    (Unanswered, subst (λ (u : session.Turn). Takes (unanswered (followed at kept u.out u.dialog)) old kept' e' new) (sym is) t)
-line_turn at kept kept' d e e' line Nothing old new is asks (IsTold452, t) = (Unheard, t)
-line_turn at kept kept' d e e' line (Say said) old new is asks (IsTold452, t) = (Unheard, t)
-line_turn at kept kept' d e e' line (Bye said) old new is asks (IsTold452, t) = (Unheard, t)
-line_turn at kept kept' d e e' line (Asks ask) old new is asks (IsTold452, t) = (
+    → (h : Hindrance) × Takes S (hindered_after h at kept out e) old kept' e' new
+    → (h : Hindrance) × Takes S (hindered h at kept d line) old kept' e' new
+line_turn S at kept kept' d e e' line out old new is asks (Clear, t) =
+    (Clear, subst (λ (u : session.Turn). Takes S (followed (does at kept) kept u.out u.dialog) old kept' e' new) (sym is) t)
+line_turn S at kept kept' d e e' line out old new is asks (Unread, t) =
+    (Clear, subst (λ (u : session.Turn). Takes S (followed (does at kept) kept u.out u.dialog) old kept' e' new) (sym is) t)
+line_turn S at kept kept' d e e' line out old new is asks (Unstored, t) =
+    (Clear, subst (λ (u : session.Turn). Takes S (followed (does at kept) kept u.out u.dialog) old kept' e' new) (sym is) t)
+line_turn S at kept kept' d e e' line out old new is asks (Unheard, t) = (Unheard, t)
+line_turn S at kept kept' d e e' line out old new is asks (Unanswered, t) =
+    (Unanswered, subst (λ (u : session.Turn). Takes S (unanswered (followed (does at kept) kept u.out u.dialog)) old kept' e' new) (sym is) t)
+line_turn S at kept kept' d e e' line out old new is asks (Unsealed, t) =
+    (Unsealed, subst (λ (u : session.Turn). Takes S (followed (fails at kept) kept u.out u.dialog) old kept' e' new) (sym is) t)
+line_turn S at kept kept' d e e' line out old new is asks (Untold, t) =
+    (Untold, subst (λ (u : session.Turn). Takes S (unanswered (followed (fails at kept) kept u.out u.dialog)) old kept' e' new) (sym is) t)
+line_turn S at kept kept' d e e' line Nothing old new is asks (IsTold452, t) = (Unheard, t)
+line_turn S at kept kept' d e e' line (Say said) old new is asks (IsTold452, t) = (Unheard, t)
+line_turn S at kept kept' d e e' line (Bye said) old new is asks (IsTold452, t) = (Unheard, t)
+line_turn S at kept kept' d e e' line (Asks ask) old new is asks (IsTold452, t) = (
   IsTold452,
-  subst (λ b. Takes (cond b (let u = session.turn kept.house (store_of kept).conf at d line in refused_in_text kept u.out u.dialog) (says memory_told kept d)) old kept' e' new) (sym asks.0)
-      (subst (λ (u : session.Turn). Takes (refused_in_text kept u.out u.dialog) old kept' e' new) (sym is) t),
+  subst (λ b. Takes S (cond b (let u = session.turn kept.house (store_of kept).conf at d line in refused_in_text kept u.out u.dialog) (says memory_told kept d)) old kept' e' new) (sym asks.0)
+      (subst (λ (u : session.Turn). Takes S (refused_in_text kept u.out u.dialog) old kept' e' new) (sym is) t),
 )
 
 -- no memory was found for a line of a text
 pub starved_writing : (at : ℕ) (kept : Kept) (d e : Dialog) (line : SmtpLine) (old new : Reply) → new ≡ record old { closes = true }
-    → (h : Hindrance) × Takes (hindered h at kept d line) old kept e new
+    → (h : Hindrance) × Takes IsNone (hindered h at kept d line) old kept e new
 starved_writing at kept d e line old new shut = (Unheard, closed kept kept e old new refl shut)
 
 -- no memory was found for a command
 pub starved_outside : (at : ℕ) (kept : Kept) (d : Dialog) (line : SmtpLine) (text : List ℕ) (old new : Reply) → session.is_writing d ≡ false → text ≡ memory_told
-    → Adds text false old new → (h : Hindrance) × Takes (hindered h at kept d line) old kept d new
+    → Adds text false old new → (h : Hindrance) × Takes IsNone (hindered h at kept d line) old kept d new
 starved_outside at kept d line text old new outside is (inl e) = (
   IsTold452,
-  subst (λ b. Takes (cond b (let u = session.turn kept.house (store_of kept).conf at d line in refused_in_text kept u.out u.dialog) (says memory_told kept d)) old kept d new) (sym outside)
+  subst (λ b. Takes IsNone (cond b (let u = session.turn kept.house (store_of kept).conf at d line in refused_in_text kept u.out u.dialog) (says memory_told kept d)) old kept d new) (sym outside)
       (told_whole memory_told kept d old new (e ∙ ap (λ (s : List ℕ). record old { said = old.said ++ s; closes = false }) is)),
 )
 starved_outside at kept d line text old new outside is (inr e) = (Unheard, closed kept kept d old new refl e)

@@ -3,6 +3,7 @@ use Rattle.std.specs.Prelude.{◌≡◌, ℕ, zero, suc, ◌+◌, ◌-◌, ◌^�
 use Rattle.undo_base.specs.declared.memory.NoMemory.{NoMemory as WantOfMemory}
 use Rattle.undo_outside.specs.declared.event.LinkNote.{LinkNote}
 use Rattle.undo_outside.specs.Calls.{LinkTold, then_told}
+use Rattle.verb_bytes.specs.declared.journal.JournalRecord.{JournalRecord}
 use Rattle.mail_desk.specs.Kept.{Kept}
 use Rattle.mail_loop.specs.Machine.{Seats, Delivery, Arrives, IsMissed, IsLeftOut, Reply, Answered, Delivered, Outcome, string_notes, reply_notes, remains}
 
@@ -59,13 +60,18 @@ pub record Sends (d : Delivered) (old new : LinkTold) (seats : Seats) (result : 
   pub did : Did d.notes old new result
   pub seats_are : MatchResult result (λ _. seats ≡ d.seats) (λ _. Unit {0})
 
--- an event led to this outcome, or memory was wanted before the link had done all of it
-pub record Leads (o : Outcome) (old new : LinkTold) (kept : Kept) (seats : Seats) (result : Result (Unit {0}) WantOfMemory) : Type 0 where
+-- an event led to this outcome, or memory was wanted before the link had done all of it; S holds of the record whose sealing failed
+pub record Leads (S : List JournalRecord → Type 0) (o : Outcome) (old new : LinkTold) (kept : Kept) (seats : Seats) (result : Result (Unit {0}) WantOfMemory) : Type 0 where
   pub did : Did o.notes old new result
   pub kept_is : kept ≡ o.state.kept
   pub seats_are : MatchResult result (λ _. seats ≡ o.state.seats) (λ _. Unit {0})
+  pub seals : S o.unsealed
 
 -- what an event leaves before its strings are sent, or memory was wanted for the replies
-abbrev pub Answers : {T : Type 0} → Answered → Kept → Seats → (T → List Reply) → Result T WantOfMemory → Type 0
-Answers a kept seats view (Ok replies) = (kept ≡ a.state.kept) × (seats ≡ a.state.seats) × (view replies ≡ a.replies)
-Answers a kept seats view (Err e) = kept ≡ a.state.kept
+abbrev pub AnswersWith : {T : Type 0} → Answered → Kept → Seats → (T → List Reply) → Result T WantOfMemory → Type 0
+AnswersWith a kept seats view (Ok replies) = (kept ≡ a.state.kept) × (seats ≡ a.state.seats) × (view replies ≡ a.replies)
+AnswersWith a kept seats view (Err e) = kept ≡ a.state.kept
+
+-- S holds of the record whose sealing failed
+abbrev pub Answers : {T : Type 0} → (List JournalRecord → Type 0) → Answered → Kept → Seats → (T → List Reply) → Result T WantOfMemory → Type 0
+Answers S a kept seats view result = AnswersWith a kept seats view result × S a.unsealed

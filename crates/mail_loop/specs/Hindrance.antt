@@ -1,8 +1,6 @@
 -- How a turn may go otherwise, and what follows for a mail client.
-use Rattle.std.specs.Prelude.{ℕ, List, [], ◌∷◌, None, Err, if◌then◌else◌}
+use Rattle.std.specs.Prelude.{ℕ, List, [], ◌∷◌, None, if◌then◌else◌}
 use Rattle.smtp_lines.specs.declared.line.SmtpLine.{SmtpLine}
-use Rattle.verb_core.specs.declared.ask.Refused.TheVariants.{NoMemory}
-use Rattle.verb_core.specs.declared.ask.SubmitFault.TheVariants.{Refused as IsRefused}
 use Rattle.smtp_session.specs.declared.answer.Answer.TheVariants.{NoMemory as WantOfMemory}
 use Rattle.smtp_session.specs.declared.answer.SmtpOut.{SmtpOut}
 use Rattle.smtp_session.specs.declared.answer.SmtpOut.TheVariants.{Nothing, Say, Mail, Bye}
@@ -11,7 +9,8 @@ use Rattle.smtp_session.specs.Answer.{answer_text}
 use Rattle.smtp_session.specs.Dialog as session
 use Rattle.mail_desk.specs.Kept.{Kept}
 use Rattle.mail_desk.specs.Desk.{store_of}
-use Rattle.mail_loop.specs.Dialog.{Turn, turn, says, ends, settled}
+use Rattle.mail_loop.specs.Asked.{fails, starves}
+use Rattle.mail_loop.specs.Dialog.{Turn, turn, says, ends, served, settled}
 
 -- How a turn may go otherwise.
 pub data Hindrance : Type 0 where
@@ -25,14 +24,18 @@ pub data Hindrance : Type 0 where
   Unstored : Hindrance
   -- no memory was found for the line, for a line of a text, or for telling the client of want of memory
   Unheard : Hindrance
-  -- no memory was found for the answer to a text that is stored
+  -- no memory was found for the answer to what is stored
   Unanswered : Hindrance
+  -- what was asked could not be sealed; the client is told, and serving ends
+  Unsealed : Hindrance
+  -- the same, and no memory was found for telling the client
+  Untold : Hindrance
 
 -- no memory was found for a line: it is lost, and the connection closes
 abbrev pub lost : {D : Type 0} → Kept → Turn D
 lost kept = ends [] kept
 
--- no memory was found for the answer to what is kept: the connection closes without it
+-- no memory was found for the answer to what was asked: the connection closes without it
 abbrev pub unanswered : {D : Type 0} → Turn D → Turn D
 unanswered t = record t { said = []; dialog = None }
 
@@ -42,7 +45,7 @@ memory_told = answer_text [] WantOfMemory
 
 -- in a text only its end, which asks the desk, is answered so, and it ends the transaction
 abbrev pub refused_in_text : Kept → SmtpOut → Dialog → Turn Dialog
-refused_in_text kept (Mail ask) d = settled d (record { outcome = Err (IsRefused NoMemory); kept = kept })
+refused_in_text kept (Mail ask) d = settled d (starves kept None ask)
 refused_in_text kept Nothing d = lost kept
 refused_in_text kept (Say said) d = lost kept
 refused_in_text kept (Bye said) d = lost kept
@@ -61,6 +64,8 @@ hindered Unread at kept d line = turn at kept d line
 hindered Unstored at kept d line = turn at kept d line
 hindered Unheard at kept d line = lost kept
 hindered Unanswered at kept d line = unanswered (turn at kept d line)
+hindered Unsealed at kept d line = served (fails at kept) at kept d line
+hindered Untold at kept d line = unanswered (served (fails at kept) at kept d line)
 
 abbrev pub first_hindrance : List Hindrance → Hindrance
 first_hindrance [] = Clear

@@ -1,4 +1,5 @@
 pub mod State
+pub mod Asked
 pub mod Dialog
 pub mod Hindrance
 pub mod Reader

@@ -19,7 +19,7 @@ use Rattle.imap_stream.specs.Commands.{before, nothing}
 use Rattle.imap_stream.specs.declared.begun.Awaits.TheVariants.{Line}
 use Rattle.imap_session.specs.Dialog as imap
 use Rattle.imap_session.specs.Words.{changed_text, greeting_text}
-use Rattle.mail_desk.specs.Kept.{Kept}
+use Rattle.verb_bytes.specs.declared.journal.JournalRecord.{JournalRecord}
 use Rattle.mail_loop.specs.State.{Seat, Smtp, Imap, State}
 use Rattle.mail_loop.specs.Hindrance.{Hindrance}
 use Rattle.mail_loop.specs.Turns.{Heard, hears_seat}
@@ -64,13 +64,14 @@ pub record Reply : Type 0 where
   pub said : List ℕ
   pub closes : Bool
 
--- what an event leaves before its strings are sent: the state, and the replies by rising connection
+-- what an event leaves before its strings are sent: the state, the replies by rising connection, and the record whose sealing failed, where one did
 pub record Answered : Type 0 where
   pub state : State
   pub replies : List Reply
+  pub unsealed : List JournalRecord
 
 abbrev pub ignored : State → Answered
-ignored s = record { state = s; replies = [] }
+ignored s = record { state = s; replies = []; unsealed = [] }
 
 -- a reply in its place among others, by connection
 abbrev pub with_reply : Reply → List Reply → List Reply
@@ -106,11 +107,12 @@ heard conn h =
     record {
       state = record { kept = h.state.kept; seats = seats };
       replies = with_reply (record { conn = conn; said = h.said; closes = is_none h.seat }) (closed_others conn h.changed seats);
+      unsealed = h.unsealed;
     }
 
 -- no memory was found for the bytes that came: the connection is closed without an answer
 abbrev pub unfed : ℕ → State → Answered
-unfed conn s = heard conn (record { said = []; state = s; seat = None; changed = [] })
+unfed conn s = heard conn (record { said = []; state = s; seat = None; changed = []; unsealed = [] })
 
 -- bytes come over an open connection, and find memory or none
 abbrev pub hears : Bool → List Hindrance → ℕ → State → ℕ → Seat → List ℕ → Answered
@@ -135,6 +137,7 @@ abbrev pub greeted : State → ℕ → Seat → List ℕ → Answered
 greeted s conn seat greeting = record {
   state = record { kept = s.kept; seats = with_new_seat conn seat s.seats };
   replies = record { conn = conn; said = greeting; closes = false } ∷ [];
+  unsealed = [];
 }
 
 -- a client of a kind that is served is greeted
@@ -206,16 +209,17 @@ delivered ds seats (r ∷ rs) =
     let more = delivered (other_deliveries ds) (after_reply (remains d r.said r.closes) r.conn seats) rs in
     record { seats = more.seats; notes = reply_notes d r ++ more.notes }
 
--- what an event leaves: the state, and what the link did for it
+-- what an event leaves: the state, what the link did for it, and the record whose sealing failed, where one did
 pub record Outcome : Type 0 where
   pub state : State
   pub notes : List LinkNote
+  pub unsealed : List JournalRecord
 
-abbrev pub outcome : Kept → Delivered → Outcome
-outcome kept d = record { state = record { kept = kept; seats = d.seats }; notes = d.notes }
+abbrev pub outcome : Answered → Delivered → Outcome
+outcome a d = record { state = record { kept = a.state.kept; seats = d.seats }; notes = d.notes; unsealed = a.unsealed }
 
 -- an event
 abbrev pub happens : Hindrances → State → Event → Outcome
 happens h s event =
     let a = answered h.unfed h.turns s event in
-    outcome a.state.kept (delivered h.deliveries a.state.seats a.replies)
+    outcome a (delivered h.deliveries a.state.seats a.replies)

@@ -1,5 +1,5 @@
 -- What the code's answers to a mail reader are in the machine.
-use Rattle.std.specs.Prelude.{◌≡◌, ◌⊎◌, ℕ, Bool, true, false, List, [], Result, Ok, Err, is_err, IsTrue}
+use Rattle.std.specs.Prelude.{◌≡◌, ◌⊎◌, ℕ, Bool, true, false, List, [], Result, Ok, Err, IsTrue}
 use Rattle.std.specs.List.{list_all}
 use Rattle.undo_base.specs.declared.memory.NoMemory.{NoMemory as WantOfMemory}
 use Rattle.seal_log.specs.declared.fault.ReadFault.TheVariants.{NoMemory as NoneForTexts}
@@ -21,10 +21,10 @@ use Rattle.mail_desk.specs.Desk.{store_of}
 use Rattle.mail_desk.specs.Timeline.{has_text}
 use Rattle.mail_loop.specs.declared.reply.Reply.{Reply}
 use Rattle.mail_loop.specs.Dialog.{Turn, ends}
-use Rattle.mail_loop.specs.Hindrance.{Hindrance, Clear, Refused, Unread, Unstored, Unheard, Unanswered, lost, unanswered}
+use Rattle.mail_loop.specs.Hindrance.{Hindrance, Clear, Refused, Unread, Unstored, Unheard, Unanswered, Unsealed, Untold, lost, unanswered}
 use Rattle.mail_loop.specs.Reader.{Service, service, followed, settled, settled_as, size_in}
-use Rattle.mail_loop.specs.ReaderHindrance.{refused_command, without_items, without_texts}
-use Rattle.mail_loop.specs.Took.{Adds, Takes}
+use Rattle.mail_loop.specs.ReaderHindrance.{refused_command, without_items, without_seals, without_texts}
+use Rattle.mail_loop.specs.Took.{Adds, IsNone, Takes, asked_as}
 
 -- nothing whole is there
 abbrev pub is_not_yet : Next → Bool
@@ -67,6 +67,8 @@ under Unread at kept turn = turn (without_texts (service at kept))
 under Unstored at kept turn = turn (without_items kept (service at kept))
 under Unheard at kept turn = lost kept
 under Unanswered at kept turn = unanswered (turn (service at kept))
+under Unsealed at kept turn = turn (without_seals at kept (service at kept))
+under Untold at kept turn = unanswered (turn (without_seals at kept (service at kept)))
 
 -- a command, or what is none
 abbrev pub obeyed : Service → Kept → Dialog → Reading → Turn Dialog
@@ -80,6 +82,8 @@ obeyed_under Unread at kept d reading = obeyed (without_texts (service at kept))
 obeyed_under Unstored at kept d reading = obeyed (without_items kept (service at kept)) kept d reading
 obeyed_under Unheard at kept d reading = lost kept
 obeyed_under Unanswered at kept d reading = unanswered (obeyed (service at kept) kept d reading)
+obeyed_under Unsealed at kept d reading = obeyed (without_seals at kept (service at kept)) kept d reading
+obeyed_under Untold at kept d reading = unanswered (obeyed (without_seals at kept (service at kept)) kept d reading)
 
 -- the mailboxes that an ask takes away, where it was done
 abbrev pub where_done : Result Item SubmitFault → List BoxId → List BoxId
@@ -89,16 +93,16 @@ where_done (Err fault) boxes = []
 -- the connection closes with no answer, or the dialog is told that no memory was found for the texts
 abbrev pub ReadsNone : Kept → Dialog → Reply → Dialog → Reply → Type 0
 ReadsNone kept d old d' new =
-    Takes (ends [] kept) old kept d' new
-    ⊎ Takes (let t = session.heard d (Err NoneForTexts) in settled_as t.out kept t.dialog) old kept d' new
+    Takes IsNone (ends [] kept) old kept d' new
+    ⊎ Takes IsNone (let t = session.heard d (Err NoneForTexts) in settled_as t.out kept t.dialog) old kept d' new
 
 -- the connection closes with no answer, or an ask that was refused is settled as one for which no memory was found
 abbrev pub SettlesAgain : Bool → Kept → Dialog → Reply → Dialog → Reply → Type 0
 SettlesAgain was_refused kept d old d' new =
-    Takes (ends [] kept) old kept d' new
-    ⊎ ((was_refused ≡ true) × Takes (settled d (record { outcome = Err (IsRefused NoMemory); kept = kept })) old kept d' new)
+    Takes IsNone (ends [] kept) old kept d' new
+    ⊎ ((was_refused ≡ true) × Takes IsNone (settled d (asked_as (Err (IsRefused NoMemory)) kept)) old kept d' new)
 
 -- the dialog is told what became of its ask, or that in its place
 abbrev pub Settles : Result Item SubmitFault → Kept → Dialog → Reply → Dialog → Reply → Type 0
 Settles outcome kept d old d' new =
-    Takes (settled d (record { outcome = outcome; kept = kept })) old kept d' new ⊎ SettlesAgain (is_err outcome) kept d old d' new
+    Takes IsNone (settled d (asked_as outcome kept)) old kept d' new ⊎ SettlesAgain (is_refused outcome) kept d old d' new

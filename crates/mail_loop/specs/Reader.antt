@@ -20,8 +20,9 @@ use Rattle.imap_session.specs.declared.out.ImapOut.TheVariants.{Say, Read, Submi
 use Rattle.imap_session.specs.Dialog as session
 use Rattle.imap_session.specs.Words.{bad_line_text, ready_text}
 use Rattle.mail_desk.specs.Kept.{Kept}
-use Rattle.mail_desk.specs.Desk.{Submitted, store_of, submitted}
+use Rattle.mail_desk.specs.Desk.{store_of}
 use Rattle.mail_desk.specs.Timeline.{texts_of}
+use Rattle.mail_loop.specs.Asked.{Asked, Asking, does}
 use Rattle.mail_loop.specs.Dialog.{Turn, says, ends}
 
 -- how long a body is that an item in force brought
@@ -31,11 +32,11 @@ size_in kept body = option_map length (text_of kept.timeline body)
 -- How the desk serves a command: the texts that it gives, and what becomes of an ask.
 pub record Service : Type 0 where
   pub texts : List Body → Result (List (List ℕ)) ReadFault
-  pub asked : Option User → Ask → Submitted
+  pub asked : Asking
 
 -- it gives the texts of the items in force, and does what is asked
 abbrev pub service : ℕ → Kept → Service
-service at kept = record { texts = λ bodies. Ok (texts_of kept.timeline bodies); asked = λ by ask. submitted kept at by ask }
+service at kept = record { texts = λ bodies. Ok (texts_of kept.timeline bodies); asked = does at kept }
 
 -- what an outcome is answered; it leads to no ask
 abbrev pub settled_as : ImapOut → Kept → Dialog → Turn Dialog
@@ -45,8 +46,9 @@ settled_as (Read bodies) kept d = says [] kept d
 settled_as (Submit asked) kept d = says [] kept d
 
 -- the dialog is told what became of its ask, with the store and the stamps after it
-abbrev pub settled : Dialog → Submitted → Turn Dialog
-settled d s = let t = session.settle (store_of s.kept) s.kept.stamps d s.outcome in settled_as t.out s.kept t.dialog
+abbrev pub settled : Dialog → Asked → Turn Dialog
+settled d a =
+    let t = session.settle (store_of a.kept) a.kept.stamps d a.outcome in record (settled_as t.out a.kept t.dialog) { unsealed = a.unsealed }
 
 -- the name of the mailbox that an ask takes away: the one that is deleted or renamed; that of INBOX is there again
 abbrev pub name_taken : Ask → Option (List ℕ)
@@ -65,8 +67,8 @@ changing (Ok item) boxes t = record t { changed = boxes }
 changing (Err fault) boxes t = t
 
 -- the dialog is told what became of its ask, and so are others, where it took a mailbox away
-abbrev pub done : Dialog → Ask → Submitted → Turn Dialog
-done d asked s = changing s.outcome (taken_by d.user asked) (settled d s)
+abbrev pub done : Dialog → Ask → Asked → Turn Dialog
+done d asked a = changing a.outcome (taken_by d.user asked) (settled d a)
 
 -- what the dialog gives once it has its texts; it wants none again
 abbrev pub submits : Service → Kept → ImapOut → Dialog → Turn Dialog

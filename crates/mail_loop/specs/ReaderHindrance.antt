@@ -1,8 +1,7 @@
 -- How a turn of a mail reader may go otherwise.
-use Rattle.std.specs.Prelude.{ℕ, List, Ok, Err}
+use Rattle.std.specs.Prelude.{ℕ, List, [], Result, Ok, Err}
 use Rattle.seal_log.specs.declared.fault.ReadFault.TheVariants.{NoMemory as NoneForTexts}
 use Rattle.verb_core.specs.declared.ask.Refused.TheVariants.{NoMemory}
-use Rattle.verb_core.specs.declared.ask.SubmitFault.TheVariants.{Refused as IsRefused}
 use Rattle.imap_lines.specs.Command.{Reading, command_of}
 use Rattle.imap_stream.specs.declared.next.Next.{Next}
 use Rattle.imap_stream.specs.declared.next.Next.TheVariants.{Command, Ask as Mark, Bad, NotYet}
@@ -10,8 +9,9 @@ use Rattle.imap_session.specs.declared.dialog.Dialog.{Dialog}
 use Rattle.imap_session.specs.declared.words.Answer.TheVariants.{Refused as IsToldRefused}
 use Rattle.imap_session.specs.Words.{tagged}
 use Rattle.mail_desk.specs.Kept.{Kept}
-use Rattle.mail_loop.specs.Dialog.{Turn, says}
-use Rattle.mail_loop.specs.Hindrance.{Hindrance, Clear, Refused, Unread, Unstored, Unheard, Unanswered, lost, unanswered}
+use Rattle.mail_loop.specs.Asked.{fails, starves}
+use Rattle.mail_loop.specs.Dialog.{Turn, says, ends}
+use Rattle.mail_loop.specs.Hindrance.{Hindrance, Clear, Refused, Unread, Unstored, Unheard, Unanswered, Unsealed, Untold, lost, unanswered}
 use Rattle.mail_loop.specs.Reader.{Service, service, served, turn}
 
 -- what a command's tag is told of want of memory
@@ -36,7 +36,11 @@ without_texts desk = record desk { texts = λ bodies. Err NoneForTexts }
 
 -- the desk finds no memory for what is asked, and nothing changes
 abbrev pub without_items : Kept → Service → Service
-without_items kept desk = record desk { asked = λ by ask. record { outcome = Err (IsRefused NoMemory); kept = kept } }
+without_items kept desk = record desk { asked = starves kept }
+
+-- the desk seals nothing of what is asked
+abbrev pub without_seals : ℕ → Kept → Service → Service
+without_seals at kept desk = record desk { asked = fails at kept }
 
 abbrev pub imap_hindered : Hindrance → ℕ → Kept → Dialog → Next → Turn Dialog
 imap_hindered Clear at kept d next = turn at kept d next
@@ -45,3 +49,5 @@ imap_hindered Unread at kept d next = served (without_texts (service at kept)) k
 imap_hindered Unstored at kept d next = served (without_items kept (service at kept)) kept d next
 imap_hindered Unheard at kept d next = lost kept
 imap_hindered Unanswered at kept d next = unanswered (turn at kept d next)
+imap_hindered Unsealed at kept d next = served (without_seals at kept (service at kept)) kept d next
+imap_hindered Untold at kept d next = unanswered (served (without_seals at kept (service at kept)) kept d next)

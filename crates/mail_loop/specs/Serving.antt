@@ -1,5 +1,5 @@
 -- Serving: the machine over a whole run of events.
-use Rattle.std.specs.Prelude.{◌≡◌, ◌⊎◌, ℕ, ◌<◌, ◌≤◌, Bool, true, false, List, [], ◌∷◌, ◌++◌, length, map, ◌+◌, Option, None, Some, Result, Ok, Err}
+use Rattle.std.specs.Prelude.{◌≡◌, ◌≢◌, ◌⊎◌, ℕ, ◌<◌, ◌≤◌, Bool, true, false, List, [], ◌∷◌, ◌++◌, length, map, ◌+◌, Option, None, Some, Result, Ok, Err}
 use Rattle.std.specs.List.{AllByRecursion}
 use Rattle.undo_outside.specs.declared.event.Event.{Event}
 use Rattle.undo_outside.specs.declared.event.What.{What}
@@ -8,8 +8,9 @@ use Rattle.undo_outside.specs.declared.event.LinkNote.{LinkNote}
 use Rattle.undo_outside.specs.declared.event.LinkNote.TheVariants.{Came}
 use Rattle.undo_outside.specs.Calls.{LinkTold, Rose, then_told}
 use Rattle.mail_loop.specs.declared.serve.ServeFault.{ServeFault}
-use Rattle.mail_loop.specs.declared.serve.ServeFault.TheVariants.{Link, Turns, NoMemory}
+use Rattle.mail_loop.specs.declared.serve.ServeFault.TheVariants.{Link, Disk, Turns, NoMemory}
 use Rattle.mail_desk.specs.Kept.{Kept}
+use Rattle.verb_bytes.specs.declared.journal.JournalRecord.{JournalRecord}
 use Rattle.mail_loop.specs.State.{State}
 use Rattle.mail_loop.specs.Machine.{Hindrances, Outcome, happens}
 use Rattle.mail_loop.specs.Did.{RoseBy, missed_of}
@@ -26,16 +27,16 @@ is_end (Bytes bytes) = false
 is_end Left = false
 is_end Idle = false
 
--- an outcome after what the link did before
-abbrev pub after_notes : List LinkNote → Outcome → Outcome
-after_notes notes o = record { state = o.state; notes = notes ++ o.notes }
+-- an outcome after what the link did before, and the record that was not sealed then
+abbrev pub after_notes : List LinkNote → List JournalRecord → Outcome → Outcome
+after_notes notes unsealed o = record { state = o.state; notes = notes ++ o.notes; unsealed = unsealed ++ o.unsealed }
 
 -- what steps leave, one after the other
 abbrev pub run : List Step → State → Outcome
-run [] s = record { state = s; notes = [] }
+run [] s = record { state = s; notes = []; unsealed = [] }
 run (step ∷ steps) s =
     let o = happens step.hindrances s step.event in
-    after_notes (Came step.event ∷ o.notes) (run steps o.state)
+    after_notes (Came step.event ∷ o.notes) o.unsealed (run steps o.state)
 
 -- nothing served yet: no connection is open
 abbrev pub at_first : Kept → State
@@ -54,6 +55,10 @@ pub record Serves (steps : List Step) (old : Kept) (notes : List LinkNote) (new 
   pub notes_are : notes ≡ (run steps (at_first old)).notes
   pub kept_is : new ≡ (run steps (at_first old)).state.kept
 
+-- the records whose sealing failed in these steps
+abbrev pub unsealed_in : List Step → Kept → List JournalRecord
+unsealed_in steps old = (run steps (at_first old)).unsealed
+
 -- what the link did not do: nothing, or some of what the last step's event leads to
 abbrev pub IsLeftOfLast : List Step → Kept → List LinkNote → Type 0
 IsLeftOfLast steps old more =
@@ -61,13 +66,30 @@ IsLeftOfLast steps old more =
     ⊎ ((before : List Step) × (last : Step) × (front : List LinkNote) × (steps ≡ before ++ last ∷ [])
     × ((happens last.hindrances (run before (at_first old)).state last.event).notes ≡ front ++ more))
 
--- Serving ended: with the end; after so many turns without it; where the link failed; or where memory was wanted, somewhere in the last step.
+-- the last step is the first in which sealing failed
+abbrev pub EndsUnsealed : List Step → Kept → Type 0
+EndsUnsealed steps old =
+    (before : List Step) × (last : Step) × (steps ≡ before ++ last ∷ []) × (unsealed_in before old ≡ [])
+    × ((happens last.hindrances (run before (at_first old)).state last.event).unsealed ≢ [])
+
+-- Serving ended: with the end; after so many turns without it; where the link failed; where sealing failed in the last step; or where memory was
+-- wanted, somewhere in the last step. No more events were taken than so many.
 abbrev pub Served : ℕ → List Step → Kept → List LinkNote → Kept → Result (Unit {0}) ServeFault → Type 0
-Served turns steps old notes new (Ok x) = Serves steps old notes new × Ends steps
-Served turns steps old notes new (Err Turns) = Serves steps old notes new × NoEnd steps × (length steps ≡ turns)
-Served turns steps old notes new (Err Link) = Serves steps old notes new × NoEnd steps × (length steps < turns)
+Served turns steps old notes new (Ok x) = Serves steps old notes new × Ends steps × (unsealed_in steps old ≡ []) × (length steps ≤ turns)
+Served turns steps old notes new (Err Turns) = Serves steps old notes new × NoEnd steps × (length steps ≡ turns) × (unsealed_in steps old ≡ [])
+Served turns steps old notes new (Err Link) = Serves steps old notes new × NoEnd steps × (length steps < turns) × (unsealed_in steps old ≡ [])
+Served turns steps old notes new (Err Disk) =
+    (more : List LinkNote) × Serves steps old (notes ++ more) new × NoEnd steps × IsLeftOfLast steps old more × EndsUnsealed steps old × (length steps ≤ turns)
 Served turns steps old notes new (Err NoMemory) =
-    (more : List LinkNote) × Serves steps old (notes ++ more) new × NoEnd steps × IsLeftOfLast steps old more
+    (more : List LinkNote) × Serves steps old (notes ++ more) new × NoEnd steps × IsLeftOfLast steps old more × (unsealed_in steps old ≡ []) × (length steps ≤ turns)
+
+-- whether serving ended because sealing failed
+abbrev pub is_disk : Result (Unit {0}) ServeFault → Bool
+is_disk (Ok x) = false
+is_disk (Err Link) = false
+is_disk (Err Disk) = true
+is_disk (Err Turns) = false
+is_disk (Err NoMemory) = false
 
 -- how many strings the steps missed
 abbrev pub missed_in : List Step → ℕ
@@ -89,6 +111,7 @@ abbrev pub CountsFaults : Result (Unit {0}) ServeFault → LinkTold → LinkTold
 CountsFaults (Err Link) old new = Rose old.faults new.faults × (old.is_reliable ≡ false) × (new.failed_last ≡ true) × (new.faults ≤ old.faults + 1)
 CountsFaults (Ok x) old new = new.faults ≡ old.faults
 CountsFaults (Err Turns) old new = new.faults ≡ old.faults
+CountsFaults (Err Disk) old new = new.faults ≡ old.faults
 CountsFaults (Err NoMemory) old new = new.faults ≡ old.faults
 
 -- How serving went: the machine's steps for the events that came, in order, and what the link did. A string was missed, and `next` failed,

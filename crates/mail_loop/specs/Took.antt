@@ -1,19 +1,26 @@
 -- What the code's answers and replies are in the machine.
-use Rattle.std.specs.Prelude.{◌≡◌, ◌⊎◌, ℕ, Bool, true, false, List, [], ◌++◌, Option, None, Some, MatchOption, Result, Err, is_err}
+use Rattle.std.specs.Prelude.{◌≡◌, ◌⊎◌, ℕ, Bool, true, false, List, [], ◌∷◌, ◌++◌, Option, None, Some, MatchOption, Result, Ok, Err}
+use Rattle.undo_base.specs.declared.keys.User.{User}
 use Rattle.mail_loop.specs.declared.reply.Reply.{Reply}
+use Rattle.verb_core.specs.declared.ask.Ask.{Ask}
 use Rattle.verb_core.specs.declared.ask.Refused.TheVariants.{NoMemory}
 use Rattle.verb_core.specs.declared.ask.SubmitFault.{SubmitFault}
-use Rattle.verb_core.specs.declared.ask.SubmitFault.TheVariants.{Refused as IsRefused}
+use Rattle.verb_core.specs.declared.ask.SubmitFault.TheVariants.{Refused as IsRefused, Disk, Closed}
 use Rattle.verb_core.specs.declared.item.Item.{Item}
-use Rattle.verb_core.specs.Live.{is_users}
+use Rattle.verb_core.specs.Live.{is_users, live}
+use Rattle.box_store.specs.Refusing.{IsRefusal}
 use Rattle.smtp_session.specs.declared.answer.SmtpOut.{SmtpOut}
 use Rattle.smtp_session.specs.declared.answer.SmtpOut.TheVariants.{Nothing, Say, Mail, Bye}
 use Rattle.smtp_session.specs.declared.dialog.Dialog.{Dialog}
 use Rattle.smtp_session.specs.Dialog.{is_due}
 use Rattle.mail_desk.specs.Kept.{Kept}
+use Rattle.mail_desk.specs.Desk.{store_of, submitted}
 use Rattle.mail_loop.specs.State.{Seat}
+use Rattle.verb_bytes.specs.declared.journal.JournalRecord.{JournalRecord}
+use Rattle.verb_bytes.specs.declared.journal.JournalRecord.TheVariants.{Verb}
+use Rattle.mail_loop.specs.Asked.{Asked, does, fails}
 use Rattle.mail_loop.specs.Dialog.{Turn, ends, followed, settled}
-use Rattle.mail_loop.specs.Hindrance.{Hindrance, Clear, Refused, Unread, Unstored, Unheard, Unanswered, lost, unanswered, refused_in_text}
+use Rattle.mail_loop.specs.Hindrance.{Hindrance, Clear, Refused, Unread, Unstored, Unheard, Unanswered, Unsealed, Untold, lost, unanswered, refused_in_text}
 use Rattle.mail_loop.specs.Turns.{Heard}
 use Rattle.mail_loop.specs.Machine.{Seats, Answered as AnsweredEvent, closed_others, seated, with_reply}
 use Rattle.mail_loop.specs.Stands.{reply_of}
@@ -39,48 +46,75 @@ IsAsked (Mail ask) d = (is_due d ≡ true) × (is_users ask ≡ false)
 
 -- what follows from what the dialog gives, hindered or not
 abbrev pub hindered_after : Hindrance → ℕ → Kept → SmtpOut → Dialog → Turn Dialog
-hindered_after Clear at kept out d = followed at kept out d
+hindered_after Clear at kept out d = followed (does at kept) kept out d
 hindered_after Refused at kept out d = refused_in_text kept out d
-hindered_after Unread at kept out d = followed at kept out d
-hindered_after Unstored at kept out d = followed at kept out d
+hindered_after Unread at kept out d = followed (does at kept) kept out d
+hindered_after Unstored at kept out d = followed (does at kept) kept out d
 hindered_after Unheard at kept out d = lost kept
-hindered_after Unanswered at kept out d = unanswered (followed at kept out d)
+hindered_after Unanswered at kept out d = unanswered (followed (does at kept) kept out d)
+hindered_after Unsealed at kept out d = followed (fails at kept) kept out d
+hindered_after Untold at kept out d = unanswered (followed (fails at kept) kept out d)
 
--- a turn is in the reply
-pub record Takes {D : Type 0} (t : Turn D) (old : Reply) (kept : Kept) (d : D) (new : Reply) : Type 0 where
+-- no sealing failed
+abbrev pub IsNone : List JournalRecord → Type 0
+IsNone failed = failed ≡ []
+
+-- A turn is in the reply, and S holds of the record whose sealing failed in it. Where the connection stays open none failed.
+pub record Takes {D : Type 0} (S : List JournalRecord → Type 0) (t : Turn D) (old : Reply) (kept : Kept) (d : D) (new : Reply) : Type 0 where
   pub conn : new.conn ≡ old.conn
   pub said : new.said ≡ old.said ++ t.said
   pub kept_is : kept ≡ t.kept
-  pub dialog_is : MatchOption t.dialog (new.closes ≡ true) (λ e. (d ≡ e) × (new.closes ≡ false))
+  pub dialog_is : MatchOption t.dialog (new.closes ≡ true) (λ e. (d ≡ e) × (new.closes ≡ false) × (t.unsealed ≡ []))
   pub changed : new.changed ≡ old.changed ++ t.changed
+  pub seals : S t.unsealed
+
+-- whether an ask was refused
+abbrev pub is_refused : Result Item SubmitFault → Bool
+is_refused (Ok item) = false
+is_refused (Err (IsRefused why)) = true
+is_refused (Err Disk) = false
+is_refused (Err Closed) = false
+
+-- What the desk did of an ask: S holds of the record whose sealing failed. A desk that is open doesn't answer that it is closed.
+abbrev pub Submits : (List JournalRecord → Type 0) → ℕ → Kept → Option User → Ask → Kept → Result Item SubmitFault → Type 0
+Submits S at kept by ask kept' (Ok item) = (submitted kept at by ask ≡ record { outcome = Ok item; kept = kept' }) × S []
+Submits S at kept by ask kept' (Err (IsRefused why)) = IsRefusal why (live (store_of kept) kept.next at by ask) × (kept' ≡ kept) × S []
+Submits S at kept by ask kept' (Err Disk) = (item : Item) × (live (store_of kept) kept.next at by ask ≡ Ok item) × (kept' ≡ kept) × S (Verb item ∷ [])
+Submits S at kept by ask kept' (Err Closed) = ⊥
+
+-- what became of an ask, but for what was sealed
+abbrev pub asked_as : Result Item SubmitFault → Kept → Asked
+asked_as outcome kept = record { outcome = outcome; kept = kept; unsealed = [] }
 
 -- the connection closes with no answer, or an ask that was refused is settled as one for which no memory was found
 abbrev pub SettlesAgain : Bool → Kept → Dialog → Reply → Dialog → Reply → Type 0
 SettlesAgain was_refused kept d old d' new =
-    Takes (ends [] kept) old kept d' new
-    ⊎ ((was_refused ≡ true) × Takes (settled d (record { outcome = Err (IsRefused NoMemory); kept = kept })) old kept d' new)
+    Takes IsNone (ends [] kept) old kept d' new
+    ⊎ ((was_refused ≡ true) × Takes IsNone (settled d (asked_as (Err (IsRefused NoMemory)) kept)) old kept d' new)
 
 -- the dialog is told what became of its ask, or that in its place
 abbrev pub Settles : Result Item SubmitFault → Kept → Dialog → Reply → Dialog → Reply → Type 0
 Settles outcome kept d old d' new =
-    Takes (settled d (record { outcome = outcome; kept = kept })) old kept d' new ⊎ SettlesAgain (is_err outcome) kept d old d' new
+    Takes IsNone (settled d (asked_as outcome kept)) old kept d' new ⊎ SettlesAgain (is_refused outcome) kept d old d' new
 
 -- the seat of a connection that stays open
 abbrev pub seat_left : Bool → Seat → Option Seat
 seat_left true seat = None
 seat_left false seat = Some seat
 
--- The turns of a connection's stream are in the reply, with the mailboxes that they took away, and this is its seat then.
-pub record Tells (h : Heard) (seats : Seats) (conn : ℕ) (reply : Reply) (kept : Kept) (seat : Seat) : Type 0 where
+-- The turns of a connection's stream are in the reply, with the mailboxes that they took away, and this is the record whose sealing failed, and
+-- its seat then.
+pub record Tells (h : Heard) (seats : Seats) (conn : ℕ) (reply : Reply) (kept : Kept) (failed : List JournalRecord) (seat : Seat) : Type 0 where
   pub conn_is : reply.conn ≡ conn
-  pub heard_is : h ≡ record { said = reply.said; state = record { kept = kept; seats = seats }; seat = seat_left reply.closes seat; changed = reply.changed }
+  pub heard_is : h ≡ record { said = reply.said; state = record { kept = kept; seats = seats }; seat = seat_left reply.closes seat; changed = reply.changed; unsealed = failed }
 
 -- a connection has this reply, and its seat is now this one, or none where it is closed; others are told of the mailboxes that are gone
-abbrev pub answered_with : ℕ → Reply → Kept → Seats → AnsweredEvent
-answered_with conn reply kept seats = record {
+abbrev pub answered_with : ℕ → Reply → Kept → List JournalRecord → Seats → AnsweredEvent
+answered_with conn reply kept failed seats = record {
   state = record { kept = kept; seats = seats };
   replies = with_reply (reply_of reply) (closed_others conn reply.changed seats);
+  unsealed = failed;
 }
 
-abbrev pub answered_alone : ℕ → Reply → Kept → Seat → Seats → AnsweredEvent
-answered_alone conn reply kept seat seats = answered_with conn reply kept (seated conn (seat_left reply.closes seat) seats)
+abbrev pub answered_alone : ℕ → Reply → Kept → List JournalRecord → Seat → Seats → AnsweredEvent
+answered_alone conn reply kept failed seat seats = answered_with conn reply kept failed (seated conn (seat_left reply.closes seat) seats)

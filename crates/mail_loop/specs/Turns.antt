@@ -12,31 +12,39 @@ use Rattle.imap_stream.specs.Commands.{Heard as Stream, emptied}
 use Rattle.imap_stream.specs.declared.next.Next.{Next}
 use Rattle.imap_stream.specs.declared.next.Next.TheVariants.{NotYet}
 use Rattle.imap_session.specs.declared.dialog.Dialog.{Dialog as ImapDialog}
+use Rattle.verb_bytes.specs.declared.journal.JournalRecord.{JournalRecord}
 use Rattle.mail_loop.specs.State.{Seat, Smtp, Imap, State}
 use Rattle.mail_loop.specs.Dialog.{Turn}
 use Rattle.mail_loop.specs.Hindrance.{Hindrance, hindered, first_hindrance, other_hindrances}
 use Rattle.mail_loop.specs.ReaderHindrance.{imap_hindered}
 
--- What turns leave: what they say, the state, the dialog after them or none where the connection is closed, and the mailboxes whose other sessions
--- are told and closed.
+-- What turns leave: what they say, the state, the dialog after them or none where the connection is closed, the mailboxes whose other sessions
+-- are told and closed, and the record whose sealing failed, where one did.
 pub record Outcome (D : Type 0) : Type 0 where
   pub said : List ℕ
   pub state : State
   pub dialog : Option D
   pub changed : List BoxId
+  pub unsealed : List JournalRecord
 
 -- no turn yet
 abbrev pub none_yet : {D : Type 0} → State → D → Outcome D
-none_yet s d = record { said = []; state = s; dialog = Some d; changed = [] }
+none_yet s d = record { said = []; state = s; dialog = Some d; changed = []; unsealed = [] }
 
 -- what turns leave after what earlier ones said
-abbrev pub after : {D : Type 0} → List ℕ → List BoxId → Outcome D → Outcome D
-after said changed o = record { said = said ++ o.said; state = o.state; dialog = o.dialog; changed = changed ++ o.changed }
+abbrev pub after : {D : Type 0} → List ℕ → List BoxId → List JournalRecord → Outcome D → Outcome D
+after said changed unsealed o = record {
+  said = said ++ o.said;
+  state = o.state;
+  dialog = o.dialog;
+  changed = changed ++ o.changed;
+  unsealed = unsealed ++ o.unsealed;
+}
 
 -- the turns after a turn, while the connection is open
 abbrev pub goes_on : {D : Type 0} → Outcome D → Option D → (State → D → Outcome D) → Outcome D
-goes_on o None more = record { said = o.said; state = o.state; dialog = None; changed = o.changed }
-goes_on o (Some d) more = after o.said o.changed (more o.state d)
+goes_on o None more = record { said = o.said; state = o.state; dialog = None; changed = o.changed; unsealed = o.unsealed }
+goes_on o (Some d) more = after o.said o.changed o.unsealed (more o.state d)
 
 -- Turns, one after the other, each hindered or not. `one` is a turn of this kind of session.
 abbrev pub turns : {D U : Type 0} → (Hindrance → State → D → U → Outcome D) → List Hindrance → State → D → List U → Outcome D
@@ -47,7 +55,7 @@ turns one hs s d (u ∷ us) =
 
 -- a turn touches no other connection; those that it changes are told at the event's end
 abbrev pub outcome_of : {D : Type 0} → State → Turn D → Outcome D
-outcome_of s t = record { said = t.said; state = record { kept = t.kept; seats = s.seats }; dialog = t.dialog; changed = t.changed }
+outcome_of s t = record { said = t.said; state = record { kept = t.kept; seats = s.seats }; dialog = t.dialog; changed = t.changed; unsealed = t.unsealed }
 
 -- a turn of a mail client: a line of its stream
 abbrev pub smtp_turn : ℕ → Hindrance → State → Dialog → SmtpLine → Outcome Dialog
@@ -57,16 +65,17 @@ smtp_turn at h s d line = outcome_of s (hindered h at s.kept d line)
 abbrev pub imap_turn : ℕ → Hindrance → State → ImapDialog → Next → Outcome ImapDialog
 imap_turn at h s d next = outcome_of s (imap_hindered h at s.kept d next)
 
--- what comes of a connection's stream: what it is told, the state, its seat after that or none where it is closed, and the mailboxes
--- whose other sessions are told and closed
+-- what comes of a connection's stream: what it is told, the state, its seat after that or none where it is closed, the mailboxes
+-- whose other sessions are told and closed, and the record whose sealing failed, where one did
 pub record Heard : Type 0 where
   pub said : List ℕ
   pub state : State
   pub seat : Option Seat
   pub changed : List BoxId
+  pub unsealed : List JournalRecord
 
 abbrev pub heard_by : {D : Type 0} → (D → Seat) → Outcome D → Heard
-heard_by seat o = record { said = o.said; state = o.state; seat = option_map seat o.dialog; changed = o.changed }
+heard_by seat o = record { said = o.said; state = o.state; seat = option_map seat o.dialog; changed = o.changed; unsealed = o.unsealed }
 
 -- the turns of a mail client's lines; what follows the last line stays unserved
 abbrev pub hears_lines : List Hindrance → ℕ → State → Dialog → List ℕ → Heard

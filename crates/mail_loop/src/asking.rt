@@ -1,19 +1,34 @@
 //! What a mail reader asks of the desk, and the mailboxes that this takes away.
-ghost use Rattle.std.specs.Prelude.{◌≡◌, ◌≤◌, ◌↔◌, ◌++◌, [], bytes_eq, option_copied, IfErr, IfOk, IsSome, IsTrue, OnErr, OnOk};
+ghost use Rattle.std.specs.Prelude.{◌≡◌, ◌↔◌, ◌++◌, [], false, bytes_eq, option_copied, IfErr, IfOk, IsSome, IsTrue, OnErr, OnOk};
 ghost use Rattle.std.specs.List.{cons_option, list_all};
-ghost use Rattle.verb_core.specs.Live.{is_users, live};
+ghost use Rattle.verb_core.specs.Live.{is_users};
 ghost use Rattle.verb_core.specs.Names.{inbox};
 ghost use Rattle.verb_core.specs.Store.{is_known};
-ghost use Rattle.mail_desk.specs.Desk.{IsFaultOf, store_of, submitted};
 ghost use Rattle.mail_loop.specs.Reader.{name_taken, taken_by};
+ghost use Rattle.mail_loop.specs.Asked.{HaveSealed};
 ghost use Rattle.mail_loop.specs.Read.{where_done};
+ghost use Rattle.mail_loop.specs.Took.{Submits, is_refused};
 
 use crate::gone::Gone;
 use crate::reply::Reply;
-use mail_desk::Desk;
 use std::alloc::Global;
+use time_desk::Desk;
+use time_desk::laws::seals_join;
 use undo_base::{Copies, Name, NoMemory, User};
+use undo_outside::Disk;
 use verb_core::{Ask, BoxId, Item, Refused, SubmitFault};
+
+/// Whether an ask was refused, for whatever cause.
+pub fn is_refused(outcome: &Result<Item, SubmitFault>) -> bool
+    ensures { result ≡ is_refused outcome.now }
+{
+    match outcome {
+        Ok(_) => false,
+        Err(SubmitFault::Refused(_)) => true,
+        Err(SubmitFault::Disk) => false,
+        Err(SubmitFault::Closed) => false,
+    }
+}
 
 fn is_inbox(name: &Name) -> bool
     ensures { result ≡ bytes_eq name.now inbox }
@@ -62,10 +77,26 @@ fn note(alloc: Global, gone: &mut Gone, by: Option<User>, ask: &Ask) -> Result<(
     }
 }
 
-/// Asks the desk, with memory for what is to be told to others taken before.
-pub fn ask_desk(
+/// Asks the desk.
+pub fn submit_alone<D: Disk + Drop>(
     alloc: Global,
-    desk: &mut Desk,
+    desk: &mut Desk<D>,
+    at: u64,
+    by: Option<User>,
+    ask: Ask,
+) -> Result<Item, SubmitFault>
+    requires by { IsSome by ↔ IsTrue (is_users ask) }
+    requires known { IsTrue (list_all (is_known desk.old.kept.house) (cons_option by [])) }
+    requires sealed { desk.old.closed ≡ false }
+    ensures { Submits (HaveSealed D.told desk.old desk.new) at desk.old.kept by ask desk.new.kept result }
+{
+    desk.submit(alloc, at, by, ask)
+}
+
+/// Asks the desk, with memory for what is to be told to others taken before.
+pub fn ask_desk<D: Disk + Drop>(
+    alloc: Global,
+    desk: &mut Desk<D>,
     at: u64,
     by: Option<User>,
     ask: Ask,
@@ -73,16 +104,16 @@ pub fn ask_desk(
 ) -> Result<Item, SubmitFault>
     requires by { IsSome by ↔ IsTrue (is_users ask) }
     requires known { IsTrue (list_all (is_known desk.old.kept.house) (cons_option by [])) }
-    ensures ok { IfOk result (λ item. submitted desk.old.kept at by ask ≡ record { outcome = Ok item; kept = desk.new.kept }) }
-    ensures err { OnErr result (desk.new.kept ≡ desk.old.kept) }
-    ensures refused { IfErr result (λ fault. IsFaultOf fault (live (store_of desk.old.kept) desk.old.kept.next at by ask)) }
+    requires sealed { desk.old.closed ≡ false }
+    ensures did { Submits (HaveSealed D.told desk.old desk.new) at desk.old.kept by ask desk.new.kept result }
     ensures noted { reply.new ≡ record reply.old { changed = reply.old.changed ++ where_done result (taken_by by ask) } }
 {
+    seals_join::<D>();
     let before = reply.changed.len();
     if let Err(NoMemory) = note(alloc, &mut reply.changed, by, &ask) {
         return Err(SubmitFault::Refused(Refused::NoMemory));
     }
-    let outcome = desk.submit(alloc, at, by, ask);
+    let outcome = submit_alone(alloc, desk, at, by, ask);
     if outcome.is_err() {
         reply.changed.keep_first(before);
     }

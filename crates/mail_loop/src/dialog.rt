@@ -4,15 +4,19 @@ ghost use Rattle.smtp_lines.specs.declared.line.SmtpLine.{SmtpLine as TheLine};
 ghost use Rattle.smtp_session.specs.Dialog.{is_due, is_outcome_of_delivery};
 ghost use Rattle.verb_core.specs.Live.{is_users};
 ghost use Rattle.mail_desk.specs.Kept.{Kept};
+ghost use Rattle.mail_loop.specs.Asked.{HaveSealed};
 ghost use Rattle.mail_loop.specs.Hindrance.{Hindrance, hindered};
-ghost use Rattle.mail_loop.specs.Took.{IsAsked, IsTold, Settles, SettlesAgain, Takes, hindered_after};
+ghost use Rattle.mail_loop.specs.Took.{IsAsked, IsNone, IsTold, Settles, SettlesAgain, Takes, hindered_after};
 
+use crate::asking::{is_refused, submit_alone};
 use crate::reply::{Reply, say};
-use mail_desk::Desk;
 use smtp_lines::SmtpLine;
 use smtp_session::{SmtpOut, SmtpSession, memory_text};
 use std::alloc::Global;
+use time_desk::Desk;
+use time_desk::laws::seals_join;
 use undo_base::NoMemory;
+use undo_outside::Disk;
 use verb_core::laws::deliveries_are_seldom_refused;
 use verb_core::{Ask, Item, Refused, SubmitFault};
 
@@ -43,7 +47,7 @@ fn starve(session: &mut SmtpSession, reply: &mut Reply)
     requires stays { reply.old.closes ≡ false }
     ensures free { is_due session.new ≡ false }
     ensures turn { (at : ℕ) → (kept : Kept) → (line : TheLine) → (h : Hindrance) ×
-        Takes (hindered h at kept session.old line) reply.old kept session.new reply.new }
+        Takes IsNone (hindered h at kept session.old line) reply.old kept session.new reply.new }
 {
     if session.is_in_text() {
         close(session, reply);
@@ -83,14 +87,14 @@ fn settle(
 {
     match session.done(alloc, outcome) {
         Ok(out) => tell(reply, &out),
-        Err(NoMemory) => settle_again(alloc, session, outcome.is_err(), reply),
+        Err(NoMemory) => settle_again(alloc, session, is_refused(outcome), reply),
     }
 }
 
 /// Asks the desk, and tells the session what became of that.
-fn submit(
+fn submit<D: Disk + Drop>(
     alloc: Global,
-    desk: &mut Desk,
+    desk: &mut Desk<D>,
     session: &mut SmtpSession,
     at: u64,
     ask: Ask,
@@ -99,20 +103,21 @@ fn submit(
     requires due { is_due session.old ≡ true }
     requires ask { is_users ask ≡ false }
     requires stays { reply.old.closes ≡ false }
+    requires sealed { desk.old.closed ≡ false }
     ensures free { is_due session.new ≡ false }
     ensures house { desk.new.kept.house ≡ desk.old.kept.house }
     ensures turn { (h : Hindrance) ×
-        Takes (hindered_after h at desk.old.kept (SmtpOut.Mail ask) session.old) reply.old desk.new.kept session.new reply.new }
+        Takes (HaveSealed D.told desk.old desk.new) (hindered_after h at desk.old.kept (SmtpOut.Mail ask) session.old) reply.old desk.new.kept session.new reply.new }
 {
     deliveries_are_seldom_refused();
-    let outcome = desk.submit(alloc, at, None, ask);
+    let outcome = submit_alone(alloc, desk, at, None, ask);
     settle(alloc, session, &outcome, reply);
 }
 
 /// Does what comes of a line.
-fn follow(
+fn follow<D: Disk + Drop>(
     alloc: Global,
-    desk: &mut Desk,
+    desk: &mut Desk<D>,
     session: &mut SmtpSession,
     at: u64,
     out: SmtpOut,
@@ -120,11 +125,13 @@ fn follow(
 )
     requires asked { IsAsked out session.old }
     requires stays { reply.old.closes ≡ false }
+    requires sealed { desk.old.closed ≡ false }
     ensures free { is_due session.new ≡ false }
     ensures house { desk.new.kept.house ≡ desk.old.kept.house }
     ensures turn { (h : Hindrance) ×
-        Takes (hindered_after h at desk.old.kept out session.old) reply.old desk.new.kept session.new reply.new }
+        Takes (HaveSealed D.told desk.old desk.new) (hindered_after h at desk.old.kept out session.old) reply.old desk.new.kept session.new reply.new }
 {
+    seals_join::<D>();
     match out {
         SmtpOut::Nothing => {}
         SmtpOut::Say(text) => say(reply, text.bytes(), false),
@@ -134,9 +141,9 @@ fn follow(
 }
 
 /// Serves one line, and adds its answer to the reply.
-pub fn take_line(
+pub fn take_line<D: Disk + Drop>(
     alloc: Global,
-    desk: &mut Desk,
+    desk: &mut Desk<D>,
     session: &mut SmtpSession,
     at: u64,
     line: &SmtpLine,
@@ -145,10 +152,13 @@ pub fn take_line(
     requires moment { at ≤ 253402300799 }
     requires free { is_due session.old ≡ false }
     requires stays { reply.old.closes ≡ false }
+    requires sealed { desk.old.closed ≡ false }
     ensures free { is_due session.new ≡ false }
     ensures house { desk.new.kept.house ≡ desk.old.kept.house }
-    ensures turn { (h : Hindrance) × Takes (hindered h at desk.old.kept session.old line.now) reply.old desk.new.kept session.new reply.new }
+    ensures turn { (h : Hindrance) ×
+        Takes (HaveSealed D.told desk.old desk.new) (hindered h at desk.old.kept session.old line.now) reply.old desk.new.kept session.new reply.new }
 {
+    seals_join::<D>();
     match session.take(alloc, desk.house(), desk.conf(), at, line) {
         Ok(out) => follow(alloc, desk, session, at, out, reply),
         Err(NoMemory) => starve(session, reply),

@@ -6,21 +6,24 @@ ghost use Rattle.imap_lines.specs.Command.{ReadsCommand, Reading, command_of};
 ghost use Rattle.imap_session.specs.Dialog.{AsksAsUser, IsNext, is_at_home, is_due, is_free, is_reading};
 ghost use Rattle.mail_desk.specs.Kept.{Kept};
 ghost use Rattle.mail_desk.specs.Timeline.{has_text, texts_of};
+ghost use Rattle.mail_loop.specs.Asked.{HaveSealed};
 ghost use Rattle.mail_loop.specs.Hindrance.{Hindrance};
 ghost use Rattle.mail_loop.specs.Reader.{done, followed, submits};
 ghost use Rattle.mail_loop.specs.ReaderHindrance.{imap_hindered};
-ghost use Rattle.mail_loop.specs.Took.{Takes};
+ghost use Rattle.mail_loop.specs.Took.{IsNone, Takes};
 ghost use Rattle.mail_loop.specs.Read.{AreThere, IsAnswered, IsAwaitedLast, IsReaderTold, ReadsNone, Settles, SettlesAgain, obeyed_under, under};
 
-use crate::asking::ask_desk;
+use crate::asking::{ask_desk, is_refused};
 use crate::reply::{Reply, say};
 use imap_lines::{ImapCommand, ImapRefused, read_command};
 use imap_session::{BodyList, ImapOut, ImapSession, bad_line, no_memory, ready, refused};
 use imap_stream::{Next, RawCommand};
-use mail_desk::Desk;
 use seal_log::ReadFault;
 use std::alloc::Global;
+use time_desk::Desk;
+use time_desk::laws::seals_join;
 use undo_base::{NoMemory, Text, Texts};
+use undo_outside::Disk;
 use verb_core::{Ask, Item, Refused, SubmitFault};
 
 /// The connection closes, with no answer, and the session is over.
@@ -59,9 +62,9 @@ fn answer(session: &mut ImapSession, text: Result<Text, NoMemory>, reply: &mut R
 }
 
 /// Tells the session of want of memory, where its ask was refused. An item that is kept is left unanswered.
-fn settle_again(
+fn settle_again<D: Disk + Drop>(
     alloc: Global,
-    desk: &Desk,
+    desk: &Desk<D>,
     session: &mut ImapSession,
     was_refused: bool,
     reply: &mut Reply,
@@ -84,9 +87,9 @@ fn settle_again(
 }
 
 /// Tells the session what became of its ask.
-fn settle(
+fn settle<D: Disk + Drop>(
     alloc: Global,
-    desk: &Desk,
+    desk: &Desk<D>,
     session: &mut ImapSession,
     outcome: &Result<Item, SubmitFault>,
     reply: &mut Reply,
@@ -100,14 +103,14 @@ fn settle(
 {
     match session.done(alloc, desk.store(), desk.stamps(), outcome) {
         Ok(out) => tell(reply, &out),
-        Err(NoMemory) => settle_again(alloc, desk, session, outcome.is_err(), reply),
+        Err(NoMemory) => settle_again(alloc, desk, session, is_refused(outcome), reply),
     }
 }
 
 /// Asks the desk for the user who is logged in, and tells the session what became of that.
-fn submit(
+fn submit<D: Disk + Drop>(
     alloc: Global,
-    desk: &mut Desk,
+    desk: &mut Desk<D>,
     session: &mut ImapSession,
     at: u64,
     ask: Ask,
@@ -117,20 +120,21 @@ fn submit(
     requires user { AsksAsUser (ImapOut.Submit ask) session.old }
     requires stays { reply.old.closes ≡ false }
     requires home { is_at_home desk.old.kept.house session.old ≡ true }
+    requires sealed { desk.old.closed ≡ false }
     ensures free { is_free session.new ≡ true }
     ensures home { is_at_home desk.new.kept.house session.new ≡ true }
     ensures house { desk.new.kept.house ≡ desk.old.kept.house }
     ensures turn { (h : Hindrance) ×
-        Takes (under h at desk.old.kept (λ service. done session.old ask (service.asked session.old.user ask))) reply.old desk.new.kept session.new reply.new }
+        Takes (HaveSealed D.told desk.old desk.new) (under h at desk.old.kept (λ service. done session.old ask (service.asked session.old.user ask))) reply.old desk.new.kept session.new reply.new }
 {
     let outcome = ask_desk(alloc, desk, at, session.user(), ask, reply);
     settle(alloc, desk, session, &outcome, reply);
 }
 
 /// Does what comes of a command that has its texts.
-fn go_on(
+fn go_on<D: Disk + Drop>(
     alloc: Global,
-    desk: &mut Desk,
+    desk: &mut Desk<D>,
     session: &mut ImapSession,
     at: u64,
     out: ImapOut,
@@ -140,12 +144,14 @@ fn go_on(
     requires user { AsksAsUser out session.old }
     requires stays { reply.old.closes ≡ false }
     requires home { is_at_home desk.old.kept.house session.old ≡ true }
+    requires sealed { desk.old.closed ≡ false }
     ensures free { is_free session.new ≡ true }
     ensures home { is_at_home desk.new.kept.house session.new ≡ true }
     ensures house { desk.new.kept.house ≡ desk.old.kept.house }
     ensures turn { (h : Hindrance) ×
-        Takes (under h at desk.old.kept (λ service. submits service desk.old.kept out session.old)) reply.old desk.new.kept session.new reply.new }
+        Takes (HaveSealed D.told desk.old desk.new) (under h at desk.old.kept (λ service. submits service desk.old.kept out session.old)) reply.old desk.new.kept session.new reply.new }
 {
+    seals_join::<D>();
     match out {
         ImapOut::Say(text) => say(reply, text.bytes(), false),
         ImapOut::Bye(text) => say(reply, text.bytes(), true),
@@ -169,9 +175,9 @@ fn read_none(alloc: Global, session: &mut ImapSession, reply: &mut Reply)
 }
 
 /// Hands the session the texts that it wants.
-fn take_texts(
+fn take_texts<D: Disk + Drop>(
     alloc: Global,
-    desk: &mut Desk,
+    desk: &mut Desk<D>,
     session: &mut ImapSession,
     at: u64,
     bodies: &BodyList,
@@ -182,12 +188,14 @@ fn take_texts(
     requires reading { is_reading session.old ≡ true }
     requires stays { reply.old.closes ≡ false }
     requires home { is_at_home desk.old.kept.house session.old ≡ true }
+    requires sealed { desk.old.closed ≡ false }
     ensures free { is_free session.new ≡ true }
     ensures home { is_at_home desk.new.kept.house session.new ≡ true }
     ensures house { desk.new.kept.house ≡ desk.old.kept.house }
     ensures turn { (h : Hindrance) ×
-        Takes (under h at desk.old.kept (λ service. followed service desk.old.kept (ImapOut.Read bodies.now) session.old)) reply.old desk.new.kept session.new reply.new }
+        Takes (HaveSealed D.told desk.old desk.new) (under h at desk.old.kept (λ service. followed service desk.old.kept (ImapOut.Read bodies.now) session.old)) reply.old desk.new.kept session.new reply.new }
 {
+    seals_join::<D>();
     match session.read(alloc, &Ok(texts)) {
         Ok(out) => go_on(alloc, desk, session, at, out, reply),
         Err(NoMemory) => read_none(alloc, session, reply),
@@ -195,9 +203,9 @@ fn take_texts(
 }
 
 /// Reads the texts that the session wants, and hands them to it.
-fn read(
+fn read<D: Disk + Drop>(
     alloc: Global,
-    desk: &mut Desk,
+    desk: &mut Desk<D>,
     session: &mut ImapSession,
     at: u64,
     bodies: &BodyList,
@@ -207,12 +215,14 @@ fn read(
     requires there { IsTrue (list_all (has_text desk.old.kept.timeline) bodies.now) }
     requires stays { reply.old.closes ≡ false }
     requires home { is_at_home desk.old.kept.house session.old ≡ true }
+    requires sealed { desk.old.closed ≡ false }
     ensures free { is_free session.new ≡ true }
     ensures home { is_at_home desk.new.kept.house session.new ≡ true }
     ensures house { desk.new.kept.house ≡ desk.old.kept.house }
     ensures turn { (h : Hindrance) ×
-        Takes (under h at desk.old.kept (λ service. followed service desk.old.kept (ImapOut.Read bodies.now) session.old)) reply.old desk.new.kept session.new reply.new }
+        Takes (HaveSealed D.told desk.old desk.new) (under h at desk.old.kept (λ service. followed service desk.old.kept (ImapOut.Read bodies.now) session.old)) reply.old desk.new.kept session.new reply.new }
 {
+    seals_join::<D>();
     match desk.texts(alloc, bodies.as_slice()) {
         Ok(texts) => take_texts(alloc, desk, session, at, bodies, texts, reply),
         Err(NoMemory) => read_none(alloc, session, reply),
@@ -220,9 +230,9 @@ fn read(
 }
 
 /// Does what comes of a command.
-fn follow(
+fn follow<D: Disk + Drop>(
     alloc: Global,
-    desk: &mut Desk,
+    desk: &mut Desk<D>,
     session: &mut ImapSession,
     at: u64,
     out: ImapOut,
@@ -233,12 +243,14 @@ fn follow(
     requires there { AreThere desk.old.kept out }
     requires stays { reply.old.closes ≡ false }
     requires home { is_at_home desk.old.kept.house session.old ≡ true }
+    requires sealed { desk.old.closed ≡ false }
     ensures free { is_free session.new ≡ true }
     ensures home { is_at_home desk.new.kept.house session.new ≡ true }
     ensures house { desk.new.kept.house ≡ desk.old.kept.house }
     ensures turn { (h : Hindrance) ×
-        Takes (under h at desk.old.kept (λ service. followed service desk.old.kept out session.old)) reply.old desk.new.kept session.new reply.new }
+        Takes (HaveSealed D.told desk.old desk.new) (under h at desk.old.kept (λ service. followed service desk.old.kept out session.old)) reply.old desk.new.kept session.new reply.new }
 {
+    seals_join::<D>();
     match out {
         ImapOut::Say(text) => say(reply, text.bytes(), false),
         ImapOut::Bye(text) => say(reply, text.bytes(), true),
@@ -248,9 +260,9 @@ fn follow(
 }
 
 /// Serves a command.
-fn take_command(
+fn take_command<D: Disk + Drop>(
     alloc: Global,
-    desk: &mut Desk,
+    desk: &mut Desk<D>,
     session: &mut ImapSession,
     at: u64,
     command: &ImapCommand,
@@ -259,12 +271,14 @@ fn take_command(
     requires free { is_free session.old ≡ true }
     requires stays { reply.old.closes ≡ false }
     requires home { is_at_home desk.old.kept.house session.old ≡ true }
+    requires sealed { desk.old.closed ≡ false }
     ensures free { is_free session.new ≡ true }
     ensures home { is_at_home desk.new.kept.house session.new ≡ true }
     ensures house { desk.new.kept.house ≡ desk.old.kept.house }
     ensures turn { (h : Hindrance) ×
-        Takes (obeyed_under h at desk.old.kept session.old (Ok command.now)) reply.old desk.new.kept session.new reply.new }
+        Takes (HaveSealed D.told desk.old desk.new) (obeyed_under h at desk.old.kept session.old (Ok command.now)) reply.old desk.new.kept session.new reply.new }
 {
+    seals_join::<D>();
     desk.stands();
     let (house, store, stamps, sizes) = (desk.house(), desk.store(), desk.stamps(), desk.shelf());
     match session.take(alloc, house, store, stamps, sizes, command) {
@@ -280,7 +294,7 @@ fn refuse(alloc: Global, session: &mut ImapSession, why: &ImapRefused, reply: &m
     ensures free { is_free session.new ≡ true }
     ensures home { (house : TheHouse) → is_at_home house session.old ≡ true → is_at_home house session.new ≡ true }
     ensures turn { (at : ℕ) → (kept : Kept) → (reading : Reading) → ReadsCommand reading (Err why.now) → (h : Hindrance) ×
-        Takes (obeyed_under h at kept session.old reading) reply.old kept session.new reply.new }
+        Takes IsNone (obeyed_under h at kept session.old reading) reply.old kept session.new reply.new }
 {
     match why {
         ImapRefused::NoMemory => close(session, reply),
@@ -291,9 +305,9 @@ fn refuse(alloc: Global, session: &mut ImapSession, why: &ImapRefused, reply: &m
 }
 
 /// Serves a command as it stands in the stream.
-fn take_raw(
+fn take_raw<D: Disk + Drop>(
     alloc: Global,
-    desk: &mut Desk,
+    desk: &mut Desk<D>,
     session: &mut ImapSession,
     at: u64,
     raw: &RawCommand,
@@ -302,12 +316,14 @@ fn take_raw(
     requires free { is_free session.old ≡ true }
     requires stays { reply.old.closes ≡ false }
     requires home { is_at_home desk.old.kept.house session.old ≡ true }
+    requires sealed { desk.old.closed ≡ false }
     ensures free { is_free session.new ≡ true }
     ensures home { is_at_home desk.new.kept.house session.new ≡ true }
     ensures house { desk.new.kept.house ≡ desk.old.kept.house }
     ensures turn { (h : Hindrance) ×
-        Takes (obeyed_under h at desk.old.kept session.old (command_of raw.now)) reply.old desk.new.kept session.new reply.new }
+        Takes (HaveSealed D.told desk.old desk.new) (obeyed_under h at desk.old.kept session.old (command_of raw.now)) reply.old desk.new.kept session.new reply.new }
 {
+    seals_join::<D>();
     match read_command(alloc, raw) {
         Ok(command) => take_command(alloc, desk, session, at, &command, reply),
         Err(why) => refuse(alloc, session, &why, reply),
@@ -315,9 +331,9 @@ fn take_raw(
 }
 
 /// Serves one command, literal mark or bad line, and adds its answer to the reply.
-pub fn take_next(
+pub fn take_next<D: Disk + Drop>(
     alloc: Global,
-    desk: &mut Desk,
+    desk: &mut Desk<D>,
     session: &mut ImapSession,
     at: u64,
     next: Next,
@@ -326,12 +342,14 @@ pub fn take_next(
     requires free { is_free session.old ≡ true }
     requires stays { reply.old.closes ≡ false }
     requires home { is_at_home desk.old.kept.house session.old ≡ true }
+    requires sealed { desk.old.closed ≡ false }
     ensures free { is_free session.new ≡ true }
     ensures home { is_at_home desk.new.kept.house session.new ≡ true }
     ensures house { desk.new.kept.house ≡ desk.old.kept.house }
     ensures turn { (h : Hindrance) ×
-        Takes (imap_hindered h at desk.old.kept session.old next) reply.old desk.new.kept session.new reply.new }
+        Takes (HaveSealed D.told desk.old desk.new) (imap_hindered h at desk.old.kept session.old next) reply.old desk.new.kept session.new reply.new }
 {
+    seals_join::<D>();
     match next {
         Next::Command(raw) => take_raw(alloc, desk, session, at, &raw, reply),
         Next::Ask { length: _ } => say(reply, ready(), false),

@@ -1,27 +1,39 @@
 //! The serving loop.
 ghost use Rattle.std.specs.Prelude.{◌≡◌, ◌≤◌, Bool, List};
 ghost use Rattle.undo_outside.specs.declared.event.LinkNote.{LinkNote};
+ghost use Rattle.mail_loop.specs.Asked.{HaveSealed};
 ghost use Rattle.mail_loop.specs.Hindrance.{Hindrance};
+ghost use Rattle.mail_loop.specs.Took.{IsNone};
 ghost use Rattle.mail_loop.specs.Machine.{Hindrances, Delivery, admits, after_reply, answered, delivered, happens, hears_at, joins, seat_at};
 ghost use Rattle.verb_core.specs.declared.conf.House.{House as TheHouse};
 ghost use Rattle.mail_loop.specs.Stands.{AreHome, letter_of, replies_of};
 ghost use Rattle.mail_loop.specs.Did.{AreLicensed, Told, Replied, Sends, Leads, Answers};
-ghost use Rattle.mail_loop.specs.Serving.{Step, ServedOver, is_end};
+ghost use Rattle.mail_loop.specs.Serving.{Step, ServedOver, is_disk, is_end, unsealed_in};
 
 use crate::letters::{Letter, alone, letters_of};
 use crate::reply::{greet, greet_reader};
 use crate::session::{Session, hear, new_reader, new_session};
-use mail_desk::Desk;
 use std::alloc::Global;
 use std::collections::BTreeMap;
+use std::thread::Threads;
+use thiserror::Error;
+use time_desk::Desk;
+use time_desk::laws::seals_join;
 use undo_base::{LAST_MOMENT, NoMemory};
-use undo_outside::{Event, Fault, Link, Role, What};
+use undo_outside::{Disk, Event, Fault, Gate, Link, Role, What};
 
 /// Why serving ended before the end.
-#[derive(Clone, Copy, Debug, PartialEq, Eq)]
+#[derive(Clone, Copy, Debug, PartialEq, Eq, Error)]
 pub enum ServeFault {
+    /// `next` of the link failed.
+    #[error("link fault")]
     Link,
+    /// A record was not sealed: the disk failed.
+    #[error("disk fault")]
+    Disk,
+    #[error("too many events")]
     Turns,
+    #[error("no memory")]
     NoMemory,
 }
 
@@ -81,15 +93,15 @@ fn keep_if(connections: &mut Connections, conn: u32, stays: bool)
 }
 
 /// Opens a connection of a kind that is served, and greets the client.
-fn admit(
+fn admit<D: Disk + Drop>(
     alloc: Global,
-    desk: &Desk,
+    desk: &Desk<D>,
     connections: &mut Connections,
     conn: u32,
     role: Role,
 ) -> Result<Vec<Letter>, NoMemory>
     ensures home { (house : TheHouse) → AreHome house connections.old.entries → AreHome house connections.new.entries }
-    ensures answers { Answers (admits role (record { kept = desk.now.kept; seats = connections.old.entries }) conn)
+    ensures answers { Answers IsNone (admits role (record { kept = desk.now.kept; seats = connections.old.entries }) conn)
         desk.now.kept connections.new.entries (λ replies. replies_of replies.items) result }
 {
     match role {
@@ -108,15 +120,15 @@ fn admit(
 }
 
 /// A client joins. On a connection that is open this is ignored.
-fn join(
+fn join<D: Disk + Drop>(
     alloc: Global,
-    desk: &Desk,
+    desk: &Desk<D>,
     connections: &mut Connections,
     conn: u32,
     role: Role,
 ) -> Result<Vec<Letter>, NoMemory>
     ensures home { (house : TheHouse) → AreHome house connections.old.entries → AreHome house connections.new.entries }
-    ensures answers { Answers (joins (seat_at conn connections.old.entries) role (record { kept = desk.now.kept; seats = connections.old.entries }) conn)
+    ensures answers { Answers IsNone (joins (seat_at conn connections.old.entries) role (record { kept = desk.now.kept; seats = connections.old.entries }) conn)
         desk.now.kept connections.new.entries (λ replies. replies_of replies.items) result }
 {
     if connections.contains_key(&conn) {
@@ -127,21 +139,23 @@ fn join(
 }
 
 /// Serves bytes that came over a connection. Where it is not open they are ignored.
-fn hear_at(
+fn hear_at<D: Disk + Drop>(
     alloc: Global,
-    desk: &mut Desk,
+    desk: &mut Desk<D>,
     connections: &mut Connections,
     conn: u32,
     at: u64,
     bytes: &[u8],
 ) -> Result<Vec<Letter>, NoMemory>
     requires moment { at ≤ 253402300799 }
+    requires sealed { desk.old.closed ≡ false }
     requires home { AreHome desk.old.kept.house connections.old.entries }
     ensures home { AreHome desk.new.kept.house connections.new.entries }
     ensures answers { (no_memory : Bool) × (hs : List Hindrance) ×
-        Answers (hears_at (seat_at conn connections.old.entries) no_memory hs at (record { kept = desk.old.kept; seats = connections.old.entries }) conn bytes.now)
+        Answers (HaveSealed D.told desk.old desk.new) (hears_at (seat_at conn connections.old.entries) no_memory hs at (record { kept = desk.old.kept; seats = connections.old.entries }) conn bytes.now)
         desk.new.kept connections.new.entries (λ replies. replies_of replies.items) result }
 {
+    seals_join::<D>();
     let reply = match connections.get_mut(&conn) {
         None => return Ok(Vec::new(alloc)),
         Some(session) => hear(alloc, desk, session, conn, at, bytes),
@@ -151,18 +165,20 @@ fn hear_at(
 }
 
 /// What an event leaves before its strings are sent: the replies by rising connection.
-fn answer_event(
+fn answer_event<D: Disk + Drop>(
     alloc: Global,
-    desk: &mut Desk,
+    desk: &mut Desk<D>,
     connections: &mut Connections,
     event: &Event,
 ) -> Result<Vec<Letter>, NoMemory>
+    requires sealed { desk.old.closed ≡ false }
     requires home { AreHome desk.old.kept.house connections.old.entries }
     ensures home { AreHome desk.new.kept.house connections.new.entries }
     ensures answers { (no_memory : Bool) × (hs : List Hindrance) ×
-        Answers (answered no_memory hs (record { kept = desk.old.kept; seats = connections.old.entries }) event.now)
+        Answers (HaveSealed D.told desk.old desk.new) (answered no_memory hs (record { kept = desk.old.kept; seats = connections.old.entries }) event.now)
         desk.new.kept connections.new.entries (λ replies. replies_of replies.items) result }
 {
+    seals_join::<D>();
     let conn = event.conn;
     match &event.what {
         What::Joined(role) => join(alloc, desk, connections, conn, *role),
@@ -180,33 +196,41 @@ fn answer_event(
 }
 
 /// Serves one event.
-fn serve_event<L: Link>(
+fn serve_event<L: Link, D: Disk + Drop>(
     alloc: Global,
-    desk: &mut Desk,
+    desk: &mut Desk<D>,
     connections: &mut Connections,
     link: &mut L,
     event: &Event,
 ) -> Result<(), NoMemory>
+    requires sealed { desk.old.closed ≡ false }
     requires home { AreHome desk.old.kept.house connections.old.entries }
     ensures home { AreHome desk.new.kept.house connections.new.entries }
     ensures leads { (h : Hindrances) × AreLicensed h.deliveries (L.told link.old) (L.told link.new) ×
-        Leads (happens h (record { kept = desk.old.kept; seats = connections.old.entries }) event.now) (L.told link.old) (L.told link.new)
+        Leads (HaveSealed D.told desk.old desk.new) (happens h (record { kept = desk.old.kept; seats = connections.old.entries }) event.now) (L.told link.old) (L.told link.new)
         desk.new.kept connections.new.entries result }
 {
+    seals_join::<D>();
     let replies = answer_event(alloc, desk, connections, event)?;
     deliver_all(connections, link, replies.as_slice())
 }
 
 /// Serves the events of a link until the end comes, at most so many.
-pub fn serve_events<L: Link>(
+pub fn serve_events<R: Threads + Sync, L: Link, D: Disk + Drop, G: Gate>(
+    _rt: &R,
     alloc: Global,
-    desk: &mut Desk,
+    desk: &mut Desk<D>,
     link: &mut L,
+    _gate: &G,
     turns: u64,
 ) -> Result<(), ServeFault>
+    requires sealed { desk.old.closed ≡ false }
     ensures serves { (steps : List Step) × (notes : List LinkNote) ×
-        ServedOver turns steps notes (L.told link.old) (L.told link.new) desk.old.kept desk.new.kept result }
+        ServedOver turns steps notes (L.told link.old) (L.told link.new) desk.old.kept desk.new.kept result ×
+        HaveSealed D.told desk.old desk.new (unsealed_in steps desk.old.kept) }
+    ensures closed { desk.new.closed ≡ is_disk result }
 {
+    seals_join::<D>();
     let mut connections = BTreeMap::new(alloc);
     for _ in 0..turns {
         let event = match link.next() {
@@ -217,9 +241,12 @@ pub fn serve_events<L: Link>(
         if is_end_of(&event) {
             return Ok(());
         }
-        match serve_event(alloc, desk, &mut connections, link, &event) {
-            Ok(()) => {}
-            Err(NoMemory) => return Err(ServeFault::NoMemory),
+        let sent = serve_event(alloc, desk, &mut connections, link, &event);
+        if desk.closed() {
+            return Err(ServeFault::Disk);
+        }
+        if sent.is_err() {
+            return Err(ServeFault::NoMemory);
         }
     }
     Err(ServeFault::Turns)

@@ -4,7 +4,9 @@ ghost use Rattle.std.specs.List.{list_any};
 ghost use Rattle.verb_core.specs.declared.mailbox.BoxId.{BoxId as TheBoxId};
 ghost use Rattle.smtp_session.specs.Dialog.{is_due};
 ghost use Rattle.imap_session.specs.Dialog.{holds, is_at_home, is_free};
+ghost use Rattle.verb_bytes.specs.declared.journal.JournalRecord.{JournalRecord};
 ghost use Rattle.mail_loop.specs.State.{State, Smtp as SmtpSeat, Imap as ImapSeat};
+ghost use Rattle.mail_loop.specs.Asked.{HaveSealed};
 ghost use Rattle.mail_loop.specs.Hindrance.{Hindrance};
 ghost use Rattle.mail_loop.specs.Turns.{hears_lines, hears_commands};
 ghost use Rattle.mail_loop.specs.Machine.{Seats, fresh, fresh_reader, hears, holds_one};
@@ -17,12 +19,14 @@ use crate::reader::take_next;
 use crate::reply::{Reply, empty_reply};
 use imap_session::ImapSession;
 use imap_stream::{Next, Pieces};
-use mail_desk::Desk;
 use smtp_lines::Cutter;
 use smtp_session::SmtpSession;
 use std::alloc::Global;
 use std::marker::Model;
+use time_desk::Desk;
+use time_desk::laws::seals_join;
 use undo_base::NoMemory;
+use undo_outside::Disk;
 use verb_core::BoxId;
 
 /// What a connection speaks, with its stream as far as it was not served, and its dialog.
@@ -102,21 +106,23 @@ fn dialog_holds(dialog: &ImapSession, boxes: &[BoxId]) -> bool
 }
 
 /// Serves the lines that are whole, each of which is a turn.
-fn serve_lines(
+fn serve_lines<D: Disk + Drop>(
     alloc: Global,
-    desk: &mut Desk,
+    desk: &mut Desk<D>,
     unserved: &mut Cutter,
     dialog: &mut SmtpSession,
     conn: u32,
     at: u64,
 ) -> Reply
     requires moment { at ≤ 253402300799 }
+    requires sealed { desk.old.closed ≡ false }
     requires free { is_due dialog.old ≡ false }
     ensures free { is_due dialog.new ≡ false }
     ensures house { desk.new.kept.house ≡ desk.old.kept.house }
-    ensures turns { (seats : Seats) → (hs : List Hindrance) ×
-        Tells (hears_lines hs at (record { kept = desk.old.kept; seats = seats }) dialog.old unserved.old) seats conn result desk.new.kept (SmtpSeat unserved.new dialog.new) }
+    ensures turns { (seats : Seats) → (hs : List Hindrance) × (failed : List JournalRecord) × HaveSealed D.told desk.old desk.new failed ×
+        Tells (hears_lines hs at (record { kept = desk.old.kept; seats = seats }) dialog.old unserved.old) seats conn result desk.new.kept failed (SmtpSeat unserved.new dialog.new) }
 {
+    seals_join::<D>();
     let mut reply = empty_reply(alloc, conn, false);
     loop {
         let line = match unserved.next(alloc) {
@@ -135,9 +141,9 @@ fn serve_lines(
 }
 
 /// Serves the bytes that came over a mail client's connection.
-fn hear_client(
+fn hear_client<D: Disk + Drop>(
     alloc: Global,
-    desk: &mut Desk,
+    desk: &mut Desk<D>,
     unserved: &mut Cutter,
     dialog: &mut SmtpSession,
     conn: u32,
@@ -145,13 +151,15 @@ fn hear_client(
     bytes: &[u8],
 ) -> Reply
     requires moment { at ≤ 253402300799 }
+    requires sealed { desk.old.closed ≡ false }
     requires free { is_due dialog.old ≡ false }
     ensures free { is_due dialog.new ≡ false }
     ensures house { desk.new.kept.house ≡ desk.old.kept.house }
-    ensures heard { (seats : Seats) → (no_memory : Bool) × (hs : List Hindrance) ×
+    ensures heard { (seats : Seats) → (no_memory : Bool) × (hs : List Hindrance) × (failed : List JournalRecord) × HaveSealed D.told desk.old desk.new failed ×
         (hears no_memory hs at (record { kept = desk.old.kept; seats = seats }) conn (SmtpSeat unserved.old dialog.old) bytes.now
-        ≡ answered_alone conn result desk.new.kept (SmtpSeat unserved.new dialog.new) seats) }
+        ≡ answered_alone conn result desk.new.kept failed (SmtpSeat unserved.new dialog.new) seats) }
 {
+    seals_join::<D>();
     match unserved.feed(bytes) {
         Ok(()) => serve_lines(alloc, desk, unserved, dialog, conn, at),
         Err(NoMemory) => empty_reply(alloc, conn, true),
@@ -165,23 +173,25 @@ fn is_not_yet(next: &Next) -> bool
 }
 
 /// Serves the commands, literal marks and bad lines that are whole, each of which is a turn.
-fn serve_commands(
+fn serve_commands<D: Disk + Drop>(
     alloc: Global,
-    desk: &mut Desk,
+    desk: &mut Desk<D>,
     stream: &mut Pieces,
     dialog: &mut ImapSession,
     conn: u32,
     at: u64,
 ) -> Reply
     requires moment { at ≤ 253402300799 }
+    requires sealed { desk.old.closed ≡ false }
     requires free { is_free dialog.old ≡ true }
     requires home { is_at_home desk.old.kept.house dialog.old ≡ true }
     ensures free { is_free dialog.new ≡ true }
     ensures home { is_at_home desk.new.kept.house dialog.new ≡ true }
     ensures house { desk.new.kept.house ≡ desk.old.kept.house }
-    ensures turns { (seats : Seats) → (hs : List Hindrance) ×
-        Tells (hears_commands hs at (record { kept = desk.old.kept; seats = seats }) dialog.old stream.old) seats conn result desk.new.kept (ImapSeat stream.new dialog.new) }
+    ensures turns { (seats : Seats) → (hs : List Hindrance) × (failed : List JournalRecord) × HaveSealed D.told desk.old desk.new failed ×
+        Tells (hears_commands hs at (record { kept = desk.old.kept; seats = seats }) dialog.old stream.old) seats conn result desk.new.kept failed (ImapSeat stream.new dialog.new) }
 {
+    seals_join::<D>();
     let mut reply = empty_reply(alloc, conn, false);
     loop {
         let next = match stream.next(alloc) {
@@ -202,9 +212,9 @@ fn serve_commands(
 }
 
 /// Serves the bytes that came over a mail reader's connection.
-fn hear_reader(
+fn hear_reader<D: Disk + Drop>(
     alloc: Global,
-    desk: &mut Desk,
+    desk: &mut Desk<D>,
     stream: &mut Pieces,
     dialog: &mut ImapSession,
     conn: u32,
@@ -212,15 +222,17 @@ fn hear_reader(
     bytes: &[u8],
 ) -> Reply
     requires moment { at ≤ 253402300799 }
+    requires sealed { desk.old.closed ≡ false }
     requires free { is_free dialog.old ≡ true }
     requires home { is_at_home desk.old.kept.house dialog.old ≡ true }
     ensures free { is_free dialog.new ≡ true }
     ensures home { is_at_home desk.new.kept.house dialog.new ≡ true }
     ensures house { desk.new.kept.house ≡ desk.old.kept.house }
-    ensures heard { (seats : Seats) → (no_memory : Bool) × (hs : List Hindrance) ×
+    ensures heard { (seats : Seats) → (no_memory : Bool) × (hs : List Hindrance) × (failed : List JournalRecord) × HaveSealed D.told desk.old desk.new failed ×
         (hears no_memory hs at (record { kept = desk.old.kept; seats = seats }) conn (ImapSeat stream.old dialog.old) bytes.now
-        ≡ answered_alone conn result desk.new.kept (ImapSeat stream.new dialog.new) seats) }
+        ≡ answered_alone conn result desk.new.kept failed (ImapSeat stream.new dialog.new) seats) }
 {
+    seals_join::<D>();
     match stream.feed(bytes) {
         Ok(()) => serve_commands(alloc, desk, stream, dialog, conn, at),
         Err(NoMemory) => empty_reply(alloc, conn, true),
@@ -228,21 +240,22 @@ fn hear_reader(
 }
 
 /// Serves the bytes that came over a connection.
-pub fn hear(
+pub fn hear<D: Disk + Drop>(
     alloc: Global,
-    desk: &mut Desk,
+    desk: &mut Desk<D>,
     session: &mut Session,
     conn: u32,
     at: u64,
     bytes: &[u8],
 ) -> Reply
     requires moment { at ≤ 253402300799 }
+    requires sealed { desk.old.closed ≡ false }
     requires home { IsHome desk.old.kept.house session.old }
     ensures home { IsHome desk.new.kept.house session.new }
     ensures house { desk.new.kept.house ≡ desk.old.kept.house }
-    ensures heard { (seats : Seats) → (no_memory : Bool) × (hs : List Hindrance) ×
+    ensures heard { (seats : Seats) → (no_memory : Bool) × (hs : List Hindrance) × (failed : List JournalRecord) × HaveSealed D.told desk.old desk.new failed ×
         (hears no_memory hs at (record { kept = desk.old.kept; seats = seats }) conn session.old bytes.now
-        ≡ answered_alone conn result desk.new.kept session.new seats) }
+        ≡ answered_alone conn result desk.new.kept failed session.new seats) }
 {
     match &mut session.kind {
         Kind::Smtp { unserved, dialog } => {

@@ -1,8 +1,18 @@
+use Rattle.imap_session.specs.declared.out.ImapOut.TheVariants.{Read}
+use Rattle.mail_loop.specs.Asked.{HaveSealed}
+use Rattle.mail_loop.specs.Hindrance.{Hindrance}
+use Rattle.mail_loop.specs.Reader.{followed}
+use Rattle.mail_loop.specs.Read.{under}
 use Rattle.mail_loop.proofs.Readers.{none_turn}
+use Rattle.mail_loop.proofs.Sealed.{unsealed}
+use Rattle.mail_loop.proofs.Turns.{lifted_turn}
 use Rattle.mail_loop.proofs.reader.read.Goals as goal
 
 pub returns-in-Err-clause-turn : goal.returns-in-Err-clause-turn
-returns-in-Err-clause-turn c =
-    let kept = c.args.desk.now.kept in
+returns-in-Err-clause-turn g c =
+    let desk = c.args.desk.now in
+    let d = c.args.session.now in
     let new = c.read_none.new in
-    none_turn c.args.at kept c.args.bodies.now c.args.session.now new.session c.args.reply.now new.reply c.requires.reading (c.read_none.ensures.read kept)
+    lifted_turn (HaveSealed g.D.Disk.told desk desk) (λ (h : Hindrance). under h c.args.at desk.kept (λ service. followed service desk.kept (Read c.args.bodies.now) d)) c.args.reply.now desk.kept
+    new.session new.reply (unsealed g.D.Disk.told c.seals_join.ensures.nothing desk)
+    (none_turn c.args.at desk.kept c.args.bodies.now d new.session c.args.reply.now new.reply c.requires.reading (c.read_none.ensures.read desk.kept))

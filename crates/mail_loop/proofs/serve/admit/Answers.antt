@@ -9,43 +9,43 @@ use Rattle.smtp_session.specs.Answer.{answer_text}
 use Rattle.imap_session.specs.Words.{greeting_text}
 use Rattle.mail_loop.specs.Machine.{Reply as TheReply, Seats, admits}
 use Rattle.mail_loop.specs.State.{Seat, State}
-use Rattle.mail_loop.specs.Stands.{AreHome, IsHome, replies_of}
+use Rattle.mail_loop.specs.Stands.{AreHome, IsHome, letter_of, replies_of}
 use Rattle.mail_loop.proofs.serve.admit.Goals as goal
 
 pub returns-in_ok-insert-in-Smtp-clause-answers : goal.returns-in_ok-insert-in-Smtp-clause-answers
-returns-in_ok-insert-in-Smtp-clause-answers c =
+returns-in_ok-insert-in-Smtp-clause-answers g c =
     let es = c.args.connections.now.entries in
     let kept = c.args.desk.now.kept in
     let s : State = record { kept = kept; seats = es } in
-    subst (λ (role : Role). (kept ≡ (admits role s c.args.conn).state.kept) × (c.insert.new.self.entries ≡ (admits role s c.args.conn).state.seats)
-    × (replies_of c.in_ok-replies-in-Smtp.replies.items ≡ (admits role s c.args.conn).replies)) (sym c.in-Smtp.is) (
+    subst (λ (role : Role). ((kept ≡ (admits role s c.args.conn).state.kept) × (c.insert.new.self.entries ≡ (admits role s c.args.conn).state.seats)
+    × (replies_of c.in_ok-replies-in-Smtp.replies.items ≡ (admits role s c.args.conn).replies)) × ((admits role s c.args.conn).unsealed ≡ [])) (sym c.in-Smtp.is) ((
       refl,
       c.in_ok-insert-in-Smtp.ensures.entries ∙ ap (insert_entry nat_cmp es c.args.conn) c.new_session.ensures,
       c.in_ok-replies-in-Smtp.ensures ∙ ap (λ (r : TheReply). r ∷ []) c.in_ok-greet-in-Smtp.ensures
           ∙ ap (λ (h : House). record { conn = c.args.conn; said = answer_text h.host Ready; closes = false } ∷ []) c.house.ensures.value,
-    )
+    ), refl)
 
 pub returns-in_ok-insert-in-Imap-clause-answers : goal.returns-in_ok-insert-in-Imap-clause-answers
-returns-in_ok-insert-in-Imap-clause-answers c =
+returns-in_ok-insert-in-Imap-clause-answers g c =
     let es = c.args.connections.now.entries in
     let kept = c.args.desk.now.kept in
     let s : State = record { kept = kept; seats = es } in
-    subst (λ (role : Role). (kept ≡ (admits role s c.args.conn).state.kept) × (c.insert-in-Imap.new.self.entries ≡ (admits role s c.args.conn).state.seats)
-    × (replies_of c.in_ok-replies-in-Imap.replies.items ≡ (admits role s c.args.conn).replies)) (sym c.in-Imap.is) (
+    subst (λ (role : Role). ((kept ≡ (admits role s c.args.conn).state.kept) × (c.insert-in-Imap.new.self.entries ≡ (admits role s c.args.conn).state.seats)
+    × (replies_of c.in_ok-replies-in-Imap.replies.items ≡ (admits role s c.args.conn).replies)) × ((admits role s c.args.conn).unsealed ≡ [])) (sym c.in-Imap.is) ((
       refl,
       c.in_ok-insert-in-Imap.ensures.entries ∙ ap (insert_entry nat_cmp es c.args.conn) c.new_reader.ensures,
       c.in_ok-replies-in-Imap.ensures ∙ ap (λ (r : TheReply). r ∷ []) c.in_ok-greet_reader-in-Imap.ensures
           ∙ ap (λ (h : House). record { conn = c.args.conn; said = greeting_text h; closes = false } ∷ []) c.house-in-Imap.ensures.value,
-    )
+    ), refl)
 
 pub returns-in_ok-insert-in-Smtp-clause-home : goal.returns-in_ok-insert-in-Smtp-clause-home
-returns-in_ok-insert-in-Smtp-clause-home c house held =
+returns-in_ok-insert-in-Smtp-clause-home g c house held =
     subst (λ (es : Seats). AreHome house es) (sym c.in_ok-insert-in-Smtp.ensures.entries)
     (All-values-insert_entry nat_cmp c.args.conn c.new_session.result (IsHome house) c.args.connections.now.entries held
     (subst (λ (seat : Seat). IsHome house seat) (sym c.new_session.ensures) tt))
 
 pub returns-in_ok-insert-in-Imap-clause-home : goal.returns-in_ok-insert-in-Imap-clause-home
-returns-in_ok-insert-in-Imap-clause-home c house held =
+returns-in_ok-insert-in-Imap-clause-home g c house held =
     subst (λ (es : Seats). AreHome house es) (sym c.in_ok-insert-in-Imap.ensures.entries)
     (All-values-insert_entry nat_cmp c.args.conn c.new_reader.result (IsHome house) c.args.connections.now.entries held
     (subst (λ (seat : Seat). IsHome house seat) (sym c.new_reader.ensures) refl))

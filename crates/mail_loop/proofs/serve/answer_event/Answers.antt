@@ -1,22 +1,25 @@
 use Rattle.std.proofs.Common.{false, [], sym, subst, min}
 use Rattle.undo_outside.specs.declared.event.What.{What}
+use Rattle.mail_loop.specs.Asked.{HaveSealed}
 use Rattle.mail_loop.specs.Machine.{answers}
 use Rattle.mail_loop.specs.Did.{Answers}
 use Rattle.mail_loop.specs.Stands.{replies_of}
+use Rattle.mail_loop.proofs.Sealed.{unsealed}
 use Rattle.mail_loop.proofs.serve.answer_event.Goals as goal
 
 pub returns-in-Joined-clause-answers : goal.returns-in-Joined-clause-answers
-returns-in-Joined-clause-answers c =
+returns-in-Joined-clause-answers g c =
     let event = c.args.event.now in
     let es = c.args.connections.now.entries in (
       false,
       [],
-      subst (λ (what : What). Answers (answers what false [] (min event.at 253402300799) (record { kept = c.args.desk.now.kept; seats = es }) event.conn) c.args.desk.now.kept
-          c.join.new.connections.entries (λ replies. replies_of replies.items) c.join.result) (sym c.in-Joined.is) c.join.ensures.answers,
+      subst (λ (what : What). Answers (HaveSealed g.D.Disk.told c.args.desk.now c.args.desk.now) (answers what false [] (min event.at 253402300799) (record { kept = c.args.desk.now.kept; seats = es }) event.conn) c.args.desk.now.kept
+          c.join.new.connections.entries (λ replies. replies_of replies.items) c.join.result) (sym c.in-Joined.is)
+          (c.join.ensures.answers.0, subst (HaveSealed g.D.Disk.told c.args.desk.now c.args.desk.now) (sym c.join.ensures.answers.1) (unsealed g.D.Disk.told c.seals_join.ensures.nothing c.args.desk.now)),
     )
 
 pub returns-in-Joined-clause-home : goal.returns-in-Joined-clause-home
-returns-in-Joined-clause-home c = c.join.ensures.home c.args.desk.now.kept.house c.requires.home
+returns-in-Joined-clause-home g c = c.join.ensures.home c.args.desk.now.kept.house c.requires.home
 
 pub returns-in-Left-clause-home : goal.returns-in-Left-clause-home
-returns-in-Left-clause-home c = c.keep_if.ensures.home c.args.desk.now.kept.house c.requires.home
+returns-in-Left-clause-home g c = c.keep_if.ensures.home c.args.desk.now.kept.house c.requires.home

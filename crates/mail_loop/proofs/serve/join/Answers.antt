@@ -4,24 +4,25 @@ use Rattle.std.specs.Map.{lookup}
 use Rattle.std.specs.BTreeMap.{is_at}
 use Rattle.mail_loop.specs.State.{State}
 use Rattle.mail_loop.specs.Machine.{Answered}
+use Rattle.mail_loop.specs.Took.{IsNone}
 use Rattle.mail_loop.specs.Did.{Answers}
 use Rattle.mail_loop.specs.Stands.{replies_of}
 use Rattle.mail_loop.proofs.Seats.{joins_open, joins_shut}
 use Rattle.mail_loop.proofs.serve.join.Goals as goal
 
 pub returns-then-contains_key-clause-answers : goal.returns-then-contains_key-clause-answers
-returns-then-contains_key-clause-answers c =
+returns-then-contains_key-clause-answers g c =
     let es = c.args.connections.now.entries in
     let kept = c.args.desk.now.kept in
     let s : State = record { kept = kept; seats = es } in
     let is = joins_open (lookup (is_at (nat_cmp c.args.conn)) es) c.args.role s c.args.conn (sym c.contains_key.ensures ∙ c.if-contains_key.true) in
-    subst (λ (a : Answered). (kept ≡ a.state.kept) × (es ≡ a.state.seats) × (replies_of c.new.result.items ≡ a.replies)) (sym is)
-    (refl, refl, ap replies_of c.new.ensures.items)
+    subst (λ (a : Answered). ((kept ≡ a.state.kept) × (es ≡ a.state.seats) × (replies_of c.new.result.items ≡ a.replies)) × (a.unsealed ≡ [])) (sym is)
+    ((refl, refl, ap replies_of c.new.ensures.items), refl)
 
 pub returns-else-contains_key-clause-answers : goal.returns-else-contains_key-clause-answers
-returns-else-contains_key-clause-answers c =
+returns-else-contains_key-clause-answers g c =
     let es = c.args.connections.now.entries in
     let kept = c.args.desk.now.kept in
     let s : State = record { kept = kept; seats = es } in
     let is = joins_shut (lookup (is_at (nat_cmp c.args.conn)) es) c.args.role s c.args.conn (sym c.contains_key.ensures ∙ c.if-contains_key.false) in
-    subst (λ (a : Answered). Answers a kept c.admit.new.connections.entries (λ replies. replies_of replies.items) c.admit.result) (sym is) c.admit.ensures.answers
+    subst (λ (a : Answered). Answers IsNone a kept c.admit.new.connections.entries (λ replies. replies_of replies.items) c.admit.result) (sym is) c.admit.ensures.answers

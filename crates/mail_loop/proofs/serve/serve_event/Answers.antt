@@ -1,5 +1,6 @@
 use Rattle.std.proofs.Common.{ap, ◌∙◌}
 use Rattle.std.proofs.lemmas.Result.{err_from_is_err_and}
+use Rattle.mail_loop.specs.Asked.{HaveSealed}
 use Rattle.mail_loop.specs.Stands.{replies_of}
 use Rattle.mail_loop.proofs.Events.{leads_starved, leads_by}
 use Rattle.mail_loop.proofs.serve.serve_event.Goals as goal
@@ -9,16 +10,16 @@ returns-in_err-replies-clause-leads g c =
     let told = g.L.Link.told in
     let p = err_from_is_err_and c.from_residual.result c.from_residual.ensures.1 in
     let a = c.in_err-replies.ensures.answers in
-    leads_starved (told c.args.link.now) (record { kept = c.args.desk.now.kept; seats = c.args.connections.now.entries }) c.args.event.now a.0 a.1 c.answer_event.new.desk.kept
-    c.answer_event.new.connections.entries p.0 c.from_residual.result p.1 a.2
+    leads_starved (HaveSealed g.D.Disk.told c.args.desk.now c.answer_event.new.desk) (told c.args.link.now) (record { kept = c.args.desk.now.kept; seats = c.args.connections.now.entries }) c.args.event.now a.0 a.1 c.answer_event.new.desk.kept
+    c.answer_event.new.connections.entries p.0 c.from_residual.result p.1 a.2.0 a.2.1
 
 pub returns-clause-leads : goal.returns-clause-leads
 returns-clause-leads g c =
     let told = g.L.Link.told in
     let (b, hs, a) = c.in_ok-replies.ensures.answers in
-    leads_by (told c.args.link.now) (told c.deliver_all.new.link) (record { kept = c.args.desk.now.kept; seats = c.args.connections.now.entries }) c.args.event.now b hs c.answer_event.new.desk.kept
+    leads_by (HaveSealed g.D.Disk.told c.args.desk.now c.answer_event.new.desk) (told c.args.link.now) (told c.deliver_all.new.link) (record { kept = c.args.desk.now.kept; seats = c.args.connections.now.entries }) c.args.event.now b hs c.answer_event.new.desk.kept
     c.answer_event.new.connections.entries c.deliver_all.new.connections.entries (replies_of c.as_slice.result.now) c.deliver_all.result
-    a.0 a.1 (ap replies_of c.as_slice.ensures.value ∙ a.2) c.deliver_all.ensures.sends
+    a.0.0 a.0.1 (ap replies_of c.as_slice.ensures.value ∙ a.0.2) c.deliver_all.ensures.sends a.1
 
 pub returns-clause-home : goal.returns-clause-home
 returns-clause-home g c = c.deliver_all.ensures.home c.answer_event.new.desk.kept.house c.in_ok-replies.ensures.home

@@ -1,39 +1,69 @@
-use Rattle.std.proofs.Common.{sym, ◌∙◌, subst}
+use Rattle.std.proofs.Common.{◌≡◌, ◌≢◌, [], List, sym, ◌∙◌, subst}
+use Rattle.verb_bytes.specs.declared.journal.JournalRecord.{JournalRecord}
+use Rattle.mail_loop.specs.Asked.{HaveSealed}
 use Rattle.mail_loop.specs.Machine.{Seats}
 use Rattle.mail_loop.specs.Stands.{AreHome}
 use Rattle.mail_loop.proofs.Seats.{none_home}
-use Rattle.mail_loop.proofs.Runs.{so_served_none, so_more, so_ended, so_starved}
+use Rattle.mail_loop.proofs.Sealed.{all_sealed, chained, some_unsealed, unsealed}
+use Rattle.mail_loop.proofs.Runs.{sealed_all, so_served_none, so_more, so_ended, so_failed, so_starved}
 use Rattle.mail_loop.proofs.serve.serve_events.Goals as goal
 
 pub loop-init : goal.loop-init
 loop-init g c = record {
   served = so_served_none (g.L.Link.told c.args.link.now) c.args.desk.now.kept c.new-connections.result.entries c.new-connections.ensures.empty;
   home = subst (λ (es : Seats). AreHome c.args.desk.now.kept.house es) (sym c.new-connections.ensures.empty) (none_home c.args.desk.now.kept.house);
+  open' = c.requires.sealed;
+  seals = unsealed g.D.Disk.told c.seals_join.ensures.nothing c.args.desk.now;
 }
 
-pub returns-then-is_end_of : goal.returns-then-is_end_of
-returns-then-is_end_of g c =
+pub returns-then-is_end_of-clause-serves : goal.returns-then-is_end_of-clause-serves
+returns-then-is_end_of-clause-serves g c =
     let told = g.L.Link.told in
-    record {
-      serves = so_ended c.loop.counter c.args.turns (told c.args.link.now) (told c.loop.link) (told c.next.new.self) c.args.desk.now.kept (record { kept = c.loop.desk.kept; seats = c.loop.connections.entries })
-          c.in-Ok.event c.loop.invariant.served c.in-Ok.ensures (sym c.is_end_of.ensures ∙ c.if-is_end_of.true);
-    }
+    so_ended (HaveSealed g.D.Disk.told c.args.desk.now c.loop.desk) c.loop.counter c.args.turns (told c.args.link.now) (told c.loop.link) (told c.next.new.self) c.args.desk.now.kept
+    (record { kept = c.loop.desk.kept; seats = c.loop.connections.entries }) c.in-Ok.event c.loop.invariant.served c.in-Ok.ensures (sym c.is_end_of.ensures ∙ c.if-is_end_of.true) c.loop.invariant.seals
 
-pub returns-in-Err : goal.returns-in-Err
-returns-in-Err g c =
+pub returns-then-closed-clause-serves : goal.returns-then-closed-clause-serves
+returns-then-closed-clause-serves g c =
     let told = g.L.Link.told in
-    record {
-      serves = so_starved c.loop.counter c.args.turns (told c.args.link.now) (told c.loop.link) (told c.next.new.self) (told c.serve_event.new.link) c.args.desk.now.kept
-          c.serve_event.new.desk.kept (record { kept = c.loop.desk.kept; seats = c.loop.connections.entries }) c.serve_event.new.connections.entries c.in-Ok.event c.serve_event.result c.in-Err.field-0
-          c.loop.invariant.served c.in-Ok.ensures (sym c.is_end_of.ensures ∙ c.if-is_end_of.false) c.serve_event.ensures.leads c.in-Err.is;
-    }
+    let disk = g.D.Disk.told in
+    let l = c.loop in
+    let sent = c.serve_event-sent in
+    let new = sent.new in
+    so_failed (HaveSealed disk l.desk new.desk) (HaveSealed disk c.args.desk.now new.desk) l.counter c.args.turns (told c.args.link.now) (told l.link) (told c.next.new.self) (told new.link) c.args.desk.now.kept
+    new.desk.kept (record { kept = l.desk.kept; seats = l.connections.entries }) new.connections.entries c.in-Ok.event sent.result l.invariant.served c.in-Ok.ensures
+    (sym c.is_end_of.ensures ∙ c.if-is_end_of.false) sent.ensures.leads
+    (λ failed seals. some_unsealed disk l.desk new.desk failed l.invariant.open' (sym c.closed.ensures ∙ c.if-closed.true) seals)
+    (λ failed seals. chained disk c.seals_join.ensures.then c.args.desk.now l.desk new.desk failed l.invariant.seals seals)
+
+pub returns-then-sent-clause-serves : goal.returns-then-sent-clause-serves
+returns-then-sent-clause-serves g c =
+    let told = g.L.Link.told in
+    let disk = g.D.Disk.told in
+    let l = c.loop in
+    let sent = c.serve_event-sent in
+    let new = sent.new in
+    so_starved (HaveSealed disk l.desk new.desk) (HaveSealed disk c.args.desk.now new.desk) l.counter c.args.turns (told c.args.link.now) (told l.link) (told c.next.new.self) (told new.link) c.args.desk.now.kept
+    new.desk.kept (record { kept = l.desk.kept; seats = l.connections.entries }) new.connections.entries c.in-Ok.event sent.result l.invariant.served c.in-Ok.ensures
+    (sym c.is_end_of.ensures ∙ c.if-is_end_of.false) sent.ensures.leads (sym c.is_err.ensures.value ∙ c.if-is_err.true)
+    (λ failed seals. all_sealed disk l.desk new.desk failed l.invariant.open' (sym c.closed.ensures ∙ c.if-closed.false) seals)
+    (λ failed seals. chained disk c.seals_join.ensures.then c.args.desk.now l.desk new.desk failed l.invariant.seals seals)
 
 pub loop-preserved : goal.loop-preserved
 loop-preserved g c =
     let told = g.L.Link.told in
+    let disk = g.D.Disk.told in
+    let l = c.loop in
+    let sent = c.serve_event-sent in
+    let new = sent.new in
+    let S = HaveSealed disk l.desk new.desk in
+    let s = record { kept = l.desk.kept; seats = l.connections.entries } in
+    let only : (failed : List JournalRecord) → S failed → failed ≡ [] = λ failed seals. all_sealed disk l.desk new.desk failed l.invariant.open' (sym c.closed.ensures ∙ c.if-closed.false) seals in
     record {
-      served = so_more c.loop.counter (told c.args.link.now) (told c.loop.link) (told c.next.new.self) (told c.serve_event.new.link) c.args.desk.now.kept
-          c.serve_event.new.desk.kept (record { kept = c.loop.desk.kept; seats = c.loop.connections.entries }) c.serve_event.new.connections.entries c.in-Ok.event c.serve_event.result
-          c.loop.invariant.served c.in-Ok.ensures (sym c.is_end_of.ensures ∙ c.if-is_end_of.false) c.serve_event.ensures.leads c.in-Ok-serve_event.is;
-      home = c.serve_event.ensures.home;
+      served = so_more S l.counter (told c.args.link.now) (told l.link) (told c.next.new.self) (told new.link) c.args.desk.now.kept
+          new.desk.kept s new.connections.entries c.in-Ok.event sent.result
+          l.invariant.served c.in-Ok.ensures (sym c.is_end_of.ensures ∙ c.if-is_end_of.false) sent.ensures.leads (sym c.is_err.ensures.value ∙ c.if-is_err.false) only;
+      home = sent.ensures.home;
+      open' = sym c.closed.ensures ∙ c.if-closed.false;
+      seals = chained disk c.seals_join.ensures.then c.args.desk.now l.desk new.desk [] l.invariant.seals
+          (sealed_all S (told c.next.new.self) (told new.link) s c.in-Ok.event new.desk.kept new.connections.entries sent.result sent.ensures.leads only);
     }

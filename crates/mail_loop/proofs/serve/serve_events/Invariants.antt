@@ -1,3 +1,5 @@
+use Rattle.std.proofs.Common.{◌≡◌, [], false}
+use Rattle.mail_loop.specs.Asked.{HaveSealed}
 use Rattle.mail_loop.specs.Stands.{AreHome}
 use Rattle.mail_loop.proofs.Runs.{SoServed}
 use Rattle.mail_loop.proofs.serve.serve_events.Given as goal
@@ -7,4 +9,6 @@ abbrev pub invariant-loop : goal.invariant-loop
 invariant-loop g l = record {
   served : SoServed l.counter (g.L.Link.told l.fn.link) (g.L.Link.told l.link) l.fn.desk.kept (record { kept = l.desk.kept; seats = l.connections.entries });
   home : AreHome l.desk.kept.house l.connections.entries;
+  open' : l.desk.closed ≡ false;
+  seals : HaveSealed g.D.Disk.told l.fn.desk l.desk [];
 }

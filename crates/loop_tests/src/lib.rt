@@ -1,0 +1,6 @@
+//! Tests of the serving loop over a disk in memory whose calls fail, in a crate of their own, since a crate with tests is
+//! proved twice.
+#![tactic(auto)]
+
+#[cfg(test)]
+mod unsealed;

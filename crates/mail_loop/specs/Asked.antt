@@ -1,0 +1,48 @@
+-- What becomes of what is asked of the desk.
+use Rattle.std.specs.Prelude.{ℕ, List, [], ◌∷◌, Option, Result, Ok, Err}
+use Rattle.undo_base.specs.declared.keys.User.{User}
+use Rattle.verb_core.specs.declared.ask.Ask.{Ask}
+use Rattle.verb_core.specs.declared.ask.Refused.{Refused}
+use Rattle.verb_core.specs.declared.ask.Refused.TheVariants.{NoMemory}
+use Rattle.verb_core.specs.declared.ask.SubmitFault.{SubmitFault}
+use Rattle.verb_core.specs.declared.ask.SubmitFault.TheVariants.{Refused as IsRefused, Disk}
+use Rattle.verb_core.specs.declared.item.Item.{Item}
+use Rattle.verb_core.specs.Live.{live}
+use Rattle.verb_bytes.specs.declared.journal.JournalRecord.{JournalRecord}
+use Rattle.verb_bytes.specs.declared.journal.JournalRecord.TheVariants.{Verb}
+use Rattle.undo_outside.specs.Disk.{DiskTold}
+use Rattle.time_desk.specs.Lasting.{Lasting}
+use Rattle.time_desk.specs.Sealing.{Seals}
+use Rattle.mail_desk.specs.Kept.{Kept}
+use Rattle.mail_desk.specs.Desk.{store_of, submitted}
+
+-- the item or why there is none, what is kept, and the record whose sealing failed, where one did
+pub record Asked : Type 0 where
+  pub outcome : Result Item SubmitFault
+  pub kept : Kept
+  pub unsealed : List JournalRecord
+
+-- what becomes of each ask, by who asks
+abbrev pub Asking : Type 0
+Asking = Option User → Ask → Asked
+
+-- it is done, or refused
+abbrev pub does : ℕ → Kept → Asking
+does at kept by ask = let s = submitted kept at by ask in record { outcome = s.outcome; kept = s.kept; unsealed = [] }
+
+-- no memory is found for it, and nothing changes
+abbrev pub starves : Kept → Asking
+starves kept by ask = record { outcome = Err (IsRefused NoMemory); kept = kept; unsealed = [] }
+
+-- the item's record is not sealed, and nothing is kept of it
+abbrev pub unsealed_as : Kept → Result Item Refused → Asked
+unsealed_as kept (Ok item) = record { outcome = Err Disk; kept = kept; unsealed = Verb item ∷ [] }
+unsealed_as kept (Err why) = record { outcome = Err (IsRefused why); kept = kept; unsealed = [] }
+
+-- its sealing fails, unless it is refused
+abbrev pub fails : ℕ → Kept → Asking
+fails at kept by ask = unsealed_as kept (live (store_of kept) kept.next at by ask)
+
+-- from old to new the desk sealed some records, and the sealing of these failed
+abbrev pub HaveSealed : {D : Type 0} → (D → DiskTold) → Lasting D → Lasting D → List JournalRecord → Type 0
+HaveSealed told old new failed = (added : List JournalRecord) × Seals told added failed old new
