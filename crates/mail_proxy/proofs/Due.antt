@@ -1,5 +1,5 @@
 -- Which status is due comes, unless a call failed or memory was wanted.
-use Rattle.std.proofs.Common.{◌==◌, ◌≡◌, ◌≢◌, ◌⊎◌, ℕ, Bool, true, false, List, length, MatchBool, Option, None, Some, Result, Ok, Err, refl, ap, subst, sym, ◌∙◌, inl, inr, arith, nat_lt}
+use Rattle.std.proofs.Common.{◌≡◌, ◌≢◌, ◌⊎◌, ℕ, Bool, true, false, List, length, MatchBool, Option, None, Some, Result, Ok, Err, refl, ap, subst, sym, ◌∙◌, inl, inr, arith, nat_lt}
 use Rattle.undo_outside.specs.declared.event.Event.{Event}
 use Rattle.undo_outside.specs.declared.event.LinkNote.{LinkNote}
 use Rattle.undo_outside.specs.declared.fault.Fault.{Fault}
@@ -22,10 +22,10 @@ use Rattle.time_desk.specs.Opening.{OpensAs, Starts}
 use Rattle.command_words.specs.declared.commands.Command.{Command}
 use Rattle.command_words.specs.declared.commands.Command.TheVariants.{Init, Serve, Script, Play, Grow, Check}
 use Rattle.command_words.specs.Usage.{command_of}
-use Rattle.mail_proxy.specs.Answers.{Answers, Does, Shows, Unused, first_fault, status_after}
-use Rattle.mail_proxy.specs.Causes.{IsBadText, IsBadFor, IsBadScript, is_built, uses_text}
+use Rattle.mail_proxy.specs.Answers.{Answers, Does, Shows, first_fault, status_after}
+use Rattle.mail_proxy.specs.Causes.{IsBadText, IsBadFor, IsBadScript, uses_text}
 use Rattle.mail_proxy.specs.Due.{IsDue, IsDueFor, IsDueInit, IsDueStore, IsHindered}
-use Rattle.mail_proxy.specs.Init.{Configures, Inits, IsConfig, made_status}
+use Rattle.mail_proxy.specs.Init.{Configures, Inits, made_status}
 use Rattle.mail_proxy.specs.Lines.{too_long, usage}
 use Rattle.mail_proxy.specs.Opening.{OpensNone}
 use Rattle.mail_proxy.specs.Check.{Checks, TellsCounts}
@@ -183,12 +183,12 @@ module _ {D : Type 0} (told : D → DiskTold) (disk : D) (end : End D) (text tex
     due_unopened (start.NotFormatted, starts, three, is) (honest, inr (inl (not, due))) = inl (stays 3 three (λ z. omega arith) ∙ sym due)
     due_unopened (start.NotFormatted, starts, three, is) (honest, inr (inr (place, damaged, due))) =
         absurd (let wrong : ◌≡◌ {A = Result Kept StartFault} (Err start.NotFormatted) (Err (start.Damaged place)) =
-            one_opening (told disk).content (Err start.NotFormatted) (Err (start.Damaged place)) (starts.found honest) damaged in cc)
+        one_opening (told disk).content (Err start.NotFormatted) (Err (start.Damaged place)) (starts.found honest) damaged in cc)
     due_unopened (start.Damaged p, starts, ten, is) (honest, inl (kept, leaves, due)) =
         absurd (let wrong : ◌≡◌ {A = Result Kept StartFault} (Err (start.Damaged p)) (Ok kept) = one_opening (told disk).content (Err (start.Damaged p)) (Ok kept) (starts.found honest) leaves in cc)
     due_unopened (start.Damaged p, starts, ten, is) (honest, inr (inl (not, due))) =
         absurd (let wrong : ◌≡◌ {A = Result Kept StartFault} (Err (start.Damaged p)) (Err start.NotFormatted) =
-            one_opening (told disk).content (Err (start.Damaged p)) (Err start.NotFormatted) (starts.found honest) not in cc)
+        one_opening (told disk).content (Err (start.Damaged p)) (Err start.NotFormatted) (starts.found honest) not in cc)
     due_unopened (start.Damaged p, starts, ten, is) (honest, inr (inr (place, damaged, due))) = inl (stays 10 ten (λ z. omega arith) ∙ sym due)
     due_unopened (start.Disk, starts, five, is) due = inr (by_disk (stays 5 five (λ z. omega arith)))
     due_unopened (start.NoMemory, starts, eight, is) due = starved eight

@@ -1,6 +1,6 @@
 //! The command `check`: the counts of a store, and its digest.
-ghost use Rattle.std.specs.Prelude.{◌≡◌, ◌++◌, ◌∷◌, IfOk, OnOk, string_bytes};
-ghost use Rattle.mail_proxy.specs.Check.{Checks, TellsCounts, check_text, counts_text};
+ghost use Rattle.std.specs.Prelude.{◌≡◌, ◌++◌, IfOk, OnOk};
+ghost use Rattle.mail_proxy.specs.Check.{Checks, TellsCounts, check_text, count_line, counts_text};
 ghost use Rattle.mail_proxy.specs.Plans.{end_of, output_of};
 
 use crate::opening::unopened;
@@ -53,16 +53,21 @@ fn check_text<D: Disk + Drop>(alloc: Global, desk: &Desk<D>) -> Result<Text, NoM
 fn counts_text(alloc: Global, counts: Counts) -> Result<Text, NoMemory>
     ensures { IfOk result (λ text. text ≡ counts_text counts) }
 {
-    let Counts {
-        cycles,
-        items,
-        messages,
-        next,
-        notices,
-        users,
-    } = counts;
-    let text = format!(in alloc;
-        "cycles {cycles}\nitems {items}\nmessages {messages}\nnext {next}\nnotices {notices}\nusers {users}\n"
-    )?;
-    Text::of(alloc, text.as_bytes())
+    let mut text = Text::new(alloc);
+    push_count(alloc, &mut text, b"cycles", u64::from(counts.cycles))?;
+    push_count(alloc, &mut text, b"items", u64::from(counts.items))?;
+    push_count(alloc, &mut text, b"messages", counts.messages)?;
+    push_count(alloc, &mut text, b"next", u64::from(counts.next))?;
+    push_count(alloc, &mut text, b"notices", u64::from(counts.notices))?;
+    push_count(alloc, &mut text, b"users", u64::from(counts.users))?;
+    Ok(text)
+}
+
+/// Adds a line of a name and a number.
+fn push_count(alloc: Global, text: &mut Text, name: &[u8], count: u64) -> Result<(), NoMemory>
+    ensures { OnOk result (text.new ≡ text.old ++ count_line name.now count) }
+{
+    text.extend(name)?;
+    let number = format!(in alloc; " {count}\n")?;
+    text.extend(number.as_bytes())
 }

@@ -21,7 +21,7 @@ use Rattle.time_desk.specs.declared.fault.StartFault.{StartFault}
 use Rattle.time_desk.specs.declared.fault.StartFault.TheVariants.{NotFormatted, Damaged, Disk, NoMemory}
 use Rattle.time_desk.specs.Opening.{CanStand}
 use Rattle.time_desk.specs.Records.{act_item, after_item, after_record, after_records, can_follow, first_state, payloads_of, state}
-use Rattle.time_desk.specs.Standing.{BreaksFor, Enters, Fails, FailsPayload, LeadsTo, Performed, Performs, ReadCounts, SpellsAll, SpellsNothing, StopsFor, item_of}
+use Rattle.time_desk.specs.Standing.{BreaksFor, Enters, Fails, FailsPayload, LeadsTo, Performed, Performs, SpellsAll, SpellsNothing, StopsFor, item_of}
 
 -- ---- what stays while a disk is read
 
@@ -68,9 +68,6 @@ can_stand r rs kept is = ap is_some is
 
 payloads-push : (rs : List JournalRecord) (r : JournalRecord) (payload : List ℕ) → payload ≡ record_bytes r → payloads_of (rs ++ r ∷ []) ≡ payloads_of rs ++ payload ∷ []
 payloads-push rs r payload is = map-append record_bytes rs (r ∷ []) ∙ ap (λ (p : List ℕ). payloads_of rs ++ p ∷ []) (sym is)
-
-pub leads_none : (kept : Kept) → LeadsTo kept [] kept
-leads_none kept = record { records = []; spelled = refl; leaves = refl }
 
 pub leads_more : (kept mid new : Kept) (first : List (List ℕ)) (payload : List ℕ) → LeadsTo kept first mid → Performed (after_record mid) payload new → LeadsTo kept (first ++ payload ∷ []) new
 leads_more kept mid new first payload led done = record {
@@ -201,20 +198,6 @@ spells_nothing payload gate NotFormatted fails = fails
 spells_nothing payload gate (Damaged place) fails = fails
 spells_nothing payload gate Disk fails = absurd fails
 spells_nothing payload gate NoMemory fails = tt
-
--- a fault that is no fault of the disk
-pub reads_counted : (none : Type 0) (gate : ℕ) (old new : DiskTold) (fault : StartFault) → Fails none gate fault → new.failed_reads ≡ old.failed_reads → ReadCounts old new fault
-reads_counted none gate old new NotFormatted fails same = same
-reads_counted none gate old new (Damaged place) fails same = same
-reads_counted none gate old new Disk fails same = absurd fails
-reads_counted none gate old new NoMemory fails same = same
-
--- a fault behind reads of which none failed
-pub reads_counted_on : (old mid new : DiskTold) (fault : StartFault) → mid.failed_reads ≡ old.failed_reads → mid.is_reliable ≡ old.is_reliable → ReadCounts mid new fault → ReadCounts old new fault
-reads_counted_on old mid new NotFormatted same reliable counts = counts ∙ same
-reads_counted_on old mid new (Damaged place) same reliable counts = counts ∙ same
-reads_counted_on old mid new Disk same reliable (rose, by_one, last, unreliable) = (rw (sym same) rose, rw (sym same) by_one, last, sym reliable ∙ unreliable)
-reads_counted_on old mid new NoMemory same reliable counts = counts ∙ same
 
 -- ---- places
 

@@ -1,14 +1,10 @@
 -- What a survey of a disk and the records that are read say of the image.
-use Rattle.std.proofs.Common.{◌≡◌, inl, inr, ℕ, ◌<◌, ◌∷◌, ◌++◌, ◌∙◌, [], List, Bool, true, false, Result, Ok, Err, length, refl, sym, ap, subst, arith, append_assoc, length-append}
+use Rattle.std.proofs.Common.{◌≡◌, inl, inr, ℕ, ◌<◌, ◌∷◌, ◌++◌, ◌∙◌, [], List, Bool, true, false, length, refl, sym, ap, subst, arith, append_assoc, length-append}
 use Rattle.std.proofs.lemmas.List.Concat.{flat_map-append}
-use Rattle.std.specs.Prelude.{IfOk, IfErr, OnOk}
 use Rattle.std.specs.List.{AllByRecursion}
-use Rattle.undo_outside.specs.Disk.{DiskTold, IsHonest}
-use Rattle.undo_outside.specs.Calls.{Rose}
-use Rattle.undo_outside.specs.Moments.{LeavesOnly, OnlyReads}
-use Rattle.undo_outside.proofs.Moments.{images_now, joined}
+use Rattle.undo_outside.specs.Disk.{DiskTold}
+use Rattle.undo_outside.specs.Moments.{OnlyReads}
 use Rattle.seal_log.specs.declared.place.Place.{Place}
-use Rattle.seal_log.specs.Causes.{SameCounts}
 use Rattle.seal_log.specs.Journal.{frame, sealed, IsPayload, StandsFor}
 use Rattle.seal_log.specs.Loading.{places_from}
 use Rattle.seal_log.specs.Loads.{Ends, IsSurveyed}
@@ -16,9 +12,9 @@ use Rattle.seal_log.specs.Settled.{IsSettled}
 use Rattle.mail_desk.specs.Kept.{Kept}
 use Rattle.time_desk.specs.declared.fault.StartFault.{StartFault}
 use Rattle.time_desk.specs.declared.fault.StartFault.TheVariants.{NotFormatted, Damaged, Disk, NoMemory}
-use Rattle.time_desk.specs.Opening.{Counts, FaultCounts, Finds, IsDamaged, IsStarted, Refuses, Starts}
+use Rattle.time_desk.specs.Opening.{IsDamaged, IsStarted, Refuses}
 use Rattle.time_desk.specs.Records.{payloads_of}
-use Rattle.time_desk.specs.Standing.{BreaksAt, BreaksFor, Fails, ReadCounts, SpellsAll}
+use Rattle.time_desk.specs.Standing.{BreaksAt, BreaksFor, Fails, SpellsAll}
 use Rattle.time_desk.proofs.OneWay.{leaves_stand, payload_at, sealed_opens, some_closed}
 use Rattle.time_desk.proofs.Standings.{settled_on}
 
@@ -105,45 +101,3 @@ module _ (image : List ℕ) (disk : DiskTold) (gate : ℕ) (places : List Place)
     state_is = all.state_is;
     settled = settled_on disk new gate (payloads_of all.records) reads (subst (IsSettled disk gate) all.spelled seen.ends.2);
   }
-
--- ---- the disk
-
--- what a survey leaves, and reads after it
-pub record Looked (old mid new : DiskTold) : Type 0 where
-  pub same : SameCounts old mid
-  pub reliable : mid.is_reliable ≡ old.is_reliable
-  pub any_moment : old.honest → LeavesOnly old mid old.images
-  pub size : mid.size ≡ old.size
-  pub honest : old.honest → mid.honest
-  pub truth : mid.honest → IsHonest mid
-  pub reads : OnlyReads mid new
-
-looked_counts : (old mid new : DiskTold) (fault : StartFault) → Looked old mid new → ReadCounts mid new fault → FaultCounts old new fault
-looked_counts old mid new NotFormatted l counts = record { reads = counts ∙ l.same.reads; writes = l.reads.writes ∙ l.same.writes }
-looked_counts old mid new (Damaged place) l counts = record { reads = counts ∙ l.same.reads; writes = l.reads.writes ∙ l.same.writes }
-looked_counts old mid new Disk l (rose, by_one, last, unreliable) = inl (
-  subst (λ (n : ℕ). Rose n new.failed_reads) l.same.reads rose,
-  omega (arith, by_one, l.same.reads),
-  last,
-  sym l.reliable ∙ unreliable,
-)
-looked_counts old mid new NoMemory l counts = record { reads = counts ∙ l.same.reads; writes = l.reads.writes ∙ l.same.writes }
-
-starts : (old mid new : DiskTold) (result : Result (Kept × ℕ) StartFault) → Looked old mid new → (old.honest → Finds old.content new result) → Counts old new result → Starts old new result
-starts old mid new result l found counts = record {
-  found = found;
-  counts = counts;
-  reliable = l.reads.reliable ∙ l.reliable;
-  any_moment = λ h. joined old mid new old.images mid.images old.images (l.any_moment h) (l.reads.any_moment (l.honest h)) (λ c here. here) (images_now old mid old.images (l.any_moment h) (l.truth (l.honest h)));
-  size = l.reads.size ∙ l.size;
-  honest = λ h. l.reads.honest (l.honest h);
-}
-
-pub starts_ok : {T : Type 0} (r : Result T StartFault) (kept : T → Kept) (gate : T → ℕ) (old mid new : DiskTold) → Looked old mid new → (old.honest → IfOk r (λ x. IsStarted old.content new (kept x) (gate x)))
-    → OnOk r (new.failed_reads ≡ mid.failed_reads) → IfOk r (λ x. Starts old new (Ok (kept x, gate x)))
-starts_ok (Ok x) kept gate old mid new l found same = starts old mid new (Ok (kept x, gate x)) l found (record { reads = same ∙ l.same.reads; writes = l.reads.writes ∙ l.same.writes })
-starts_ok (Err e) kept gate old mid new l found same = tt
-
-pub starts_err : {T : Type 0} (r : Result T StartFault) (old mid new : DiskTold) → Looked old mid new → (old.honest → IfErr r (Refuses old.content)) → IfErr r (ReadCounts mid new) → IfErr r (λ fault. Starts old new (Err fault))
-starts_err (Ok x) old mid new l found counts = tt
-starts_err (Err e) old mid new l found counts = starts old mid new (Err e) l found (looked_counts old mid new e l counts)
