@@ -1,6 +1,6 @@
 -- Turns of a mail reader: what its session gives, and what is asked of the desk.
 use Rattle.std.proofs.lemmas.List.{append-nil}
-use Rattle.std.proofs.Common.{◌≡◌, ◌⊎◌, ℕ, Bool, [], true, false, List, ◌++◌, None, Some, Option, Result, Ok, Err, IfOk, OnErr, IfErr, refl, ap, subst, sym, ◌∙◌, inl, inr}
+use Rattle.std.proofs.Common.{◌≡◌, ◌⊎◌, ℕ, Bool, [], true, false, List, ◌∷◌, ◌++◌, None, Some, Option, Result, Ok, Err, IfOk, OnErr, IfErr, refl, ap, subst, sym, ◌∙◌, inl, inr}
 use Rattle.undo_base.specs.declared.memory.NoMemory.{NoMemory as WantOfMemory}
 use Rattle.undo_base.specs.declared.keys.User.{User}
 use Rattle.seal_log.specs.declared.fault.ReadFault.TheVariants.{NoMemory as NoneForTexts}
@@ -85,13 +85,21 @@ answered_turn said (Ok text) kept d d' old new f h same clear lost (stays, inr e
 answered_turn said (Err w) kept d d' old new f h same clear lost e =
     (Unheard, subst (λ (t : Turn Dialog). Takes IsNone t old kept d' new) (sym lost) (closed kept kept d' old new refl e))
 
+-- what is said of an outcome seals nothing
+none_failed : (out : ImapOut) (kept : Kept) (d : Dialog) → settled_as out kept d ≡ record (settled_as out kept d) { unsealed = [] }
+none_failed (Say said) kept d = refl
+none_failed (Bye said) kept d = refl
+none_failed (Read bodies) kept d = refl
+none_failed (Submit ask) kept d = refl
+
 -- ---- what became of an ask
 
 settled_told : (outcome : Result Item SubmitFault) (kept : Kept) (d e : Dialog) (out : ImapOut) (old new : Reply) → old.closes ≡ false
     → session.settle (store_of kept) kept.stamps d outcome ≡ session.took out e → IsReaderTold out old new
     → Takes IsNone (settled d (asked_as outcome kept)) old kept e new ⊎ Takes IsNone (ends [] kept) old kept e new
 settled_told outcome kept d e out old new stays is told =
-    subst (λ (t : Took). Takes IsNone (settled_as t.out kept t.dialog) old kept e new ⊎ Takes IsNone (ends [] kept) old kept e new) (sym is) (out_told out kept e old new stays told)
+    subst (λ (t : Took). Takes IsNone (record (settled_as t.out kept t.dialog) { unsealed = [] }) old kept e new ⊎ Takes IsNone (ends [] kept) old kept e new) (sym is)
+    (subst (λ (t : Turn Dialog). Takes IsNone t old kept e new ⊎ Takes IsNone (ends [] kept) old kept e new) (none_failed out kept e) (out_told out kept e old new stays told))
 
 -- the session was told of its ask's outcome
 pub settles_told : (outcome : Result Item SubmitFault) (kept : Kept) (d e : Dialog) (out : ImapOut) (old new : Reply) → old.closes ≡ false
@@ -181,7 +189,7 @@ fault_told s stamps d (Texts tag f) wrong = absurd (let w : false ≡ true = wro
 fault_told s stamps d (Outcome tag pending) due = refl
 
 settled_unsealed : (d : Dialog) (kept : Kept) (failed : List JournalRecord) → session.is_due d ≡ true
-    → settled d (record { outcome = Err Disk; kept = kept; unsealed = failed }) ≡ record (ends {Dialog} fault_text kept) { unsealed = failed }
+    → settled d (record { outcome = Err Disk; kept = kept; unsealed = failed }) ≡ record (ends {D = Dialog} fault_text kept) { unsealed = failed }
 settled_unsealed d kept failed due =
     ap (λ (t : Took). record (settled_as t.out kept t.dialog) { unsealed = failed }) (fault_told (store_of kept) kept.stamps d d.awaits due)
 
@@ -209,7 +217,7 @@ asked_turn S at kept kept' ask d e (Ok item) old old' new due is did (inr (inr t
 asked_turn S at kept kept' ask d e (Err Closed) old old' new due is wrong s = absurd wrong
 asked_turn S at kept kept' ask d e (Err Disk) old old' new due is (item, due_is, same, seals) s = by_way (subst (λ (r : Reply). Settles (Err Disk) kept' d r e new) (none_more old old' is) s)
   where
-    told : settled d (unsealed_as kept' (Ok item)) ≡ record (ends {Dialog} fault_text kept') { unsealed = Verb item ∷ [] }
+    told : settled d (unsealed_as kept' (Ok item)) ≡ record (ends {D = Dialog} fault_text kept') { unsealed = Verb item ∷ [] }
     told = settled_unsealed d kept' (Verb item ∷ []) due
 
     by_due : (f : Turn Dialog → Turn Dialog) → Takes S (f (settled d (unsealed_as kept' (Ok item)))) old kept' e new → Takes S (f (done d ask (fails at kept d.user ask))) old kept' e new

@@ -1,5 +1,5 @@
 -- Runs of the machine, step after step.
-use Rattle.std.proofs.Common.{◌≡◌, ◌≢◌, ℕ, ◌+◌, ◌<◌, ◌≤◌, min, true, false, List, [], ◌∷◌, ◌++◌, length, None, Some, Option, Result, MatchResult, Ok, Err, is_err, refl, ap, subst, sym, inr, ◌∙◌, arith}
+use Rattle.std.proofs.Common.{◌≡◌, ◌≢◌, ℕ, ◌+◌, ◌<◌, ◌≤◌, min, true, false, List, [], ◌∷◌, ◌++◌, length, None, Some, Option, Result, MatchResult, Ok, Err, is_err, refl, ap, subst, sym, inl, inr, ◌∙◌, arith}
 use Rattle.std.specs.List.{AllByRecursion}
 use Rattle.std.proofs.lemmas.List.{append-nil, append_assoc, length-append}
 use Rattle.undo_base.specs.declared.memory.NoMemory.{NoMemory as WantOfMemory}
@@ -8,15 +8,16 @@ use Rattle.undo_outside.specs.declared.event.What.{What}
 use Rattle.undo_outside.specs.declared.event.What.TheVariants.{Joined, Bytes, Left, Idle, End}
 use Rattle.undo_outside.specs.declared.event.LinkNote.{LinkNote}
 use Rattle.undo_outside.specs.declared.event.LinkNote.TheVariants.{Came}
-use Rattle.undo_outside.specs.Calls.{LinkTold, then_told, IsNext, Comes}
+use Rattle.undo_outside.specs.declared.fault.Fault.TheVariants.{Failed, NoMemory as NoneForNext}
+use Rattle.undo_outside.specs.Calls.{LinkTold, Rose, then_told, IsNext, Comes}
 use Rattle.mail_loop.specs.declared.serve.ServeFault.{ServeFault}
-use Rattle.mail_loop.specs.declared.serve.ServeFault.TheVariants.{Disk, NoMemory}
+use Rattle.mail_loop.specs.declared.serve.ServeFault.TheVariants.{Link, Disk, Turns, NoMemory}
 use Rattle.verb_bytes.specs.declared.journal.JournalRecord.{JournalRecord}
 use Rattle.mail_desk.specs.Kept.{Kept}
 use Rattle.mail_loop.specs.State.{State}
 use Rattle.mail_loop.specs.Machine.{Seats, Hindrances, Outcome, outcome, delivered, happens, answers, ignored}
 use Rattle.mail_loop.specs.Did.{RoseBy, AreLicensed, Leads, missed_of}
-use Rattle.mail_loop.specs.Serving.{Step, is_end, after_notes, run, at_first, NoEnd, missed_in, ComeInOrder, events_of, unsealed_in, ServedOver}
+use Rattle.mail_loop.specs.Serving.{Step, is_end, after_notes, run, at_first, NoEnd, missed_in, ComeInOrder, events_of, unsealed_in, Serves, ServedOver}
 use Rattle.mail_loop.proofs.Links.{then_told-nil, then_told-append, rose_add}
 
 -- one element more has it too
@@ -209,6 +210,82 @@ so_ended S turns limit old mid got kept s event so some came ends seals =
       },
       subst S (sym (ap (λ (o : Outcome). o.unsealed) leaves)) seals,
     )
+
+-- ---- serving ended between two events
+
+so_serves : (turns : ℕ) (old new : LinkTold) (kept : Kept) (s : State) → (so : SoServed turns old new kept s) → Serves so.steps kept so.notes s.kept
+so_serves turns old new kept s so = record {
+  notes_are = sym (ap (λ (o : Outcome). o.notes) so.leaves);
+  kept_is = sym (ap (λ (o : Outcome). o.state.kept) so.leaves);
+}
+
+so_sealed : (turns : ℕ) (old new : LinkTold) (kept : Kept) (s : State) → (so : SoServed turns old new kept s) → unsealed_in so.steps kept ≡ []
+so_sealed turns old new kept s so = ap (λ (o : Outcome). o.unsealed) so.leaves
+
+-- `next` failed
+pub so_unlinked : (S : List JournalRecord → Type 0) (turns limit : ℕ) (old mid got : LinkTold) (kept : Kept) (s : State)
+    → SoServed turns old mid kept s → turns < limit → Comes mid got (Err Failed) → S [] → Ran S limit old got kept s.kept (Err Link)
+so_unlinked S turns limit old mid got kept s so few came seals = (
+  so.steps,
+  so.notes,
+  record {
+    served = (so_serves turns old mid kept s so, so.no_end, subst (λ n. n < limit) (sym so.count) few, so_sealed turns old mid kept s so);
+    log = ap (λ (t : LinkTold). t.log) came.0 ∙ so.log;
+    order = subst (λ c. ComeInOrder old.coming (events_of so.steps) c) (sym (ap (λ (t : LinkTold). t.coming) came.0)) so.order;
+    missed = subst (λ n. RoseBy (missed_in so.steps) old.missed n) (sym (ap (λ (t : LinkTold). t.missed) came.0)) so.missed;
+    none_missed = so.none_missed;
+    faults = (
+      subst (λ n. Rose n got.faults) so.faults came.1,
+      sym so.reliable ∙ came.2,
+      ap (λ (t : LinkTold). t.failed_last) came.0,
+      subst (λ n. got.faults ≤ n + 1) so.faults came.3,
+    );
+  },
+  subst S (sym (so_sealed turns old mid kept s so)) seals,
+)
+
+-- `next` found no memory
+pub so_unfed : (S : List JournalRecord → Type 0) (turns limit : ℕ) (old mid got : LinkTold) (kept : Kept) (s : State)
+    → SoServed turns old mid kept s → turns < limit → Comes mid got (Err NoneForNext) → S [] → Ran S limit old got kept s.kept (Err NoMemory)
+so_unfed S turns limit old mid got kept s so few same seals = subst (λ (t : LinkTold). Ran S limit old t kept s.kept (Err NoMemory)) (sym same) (
+  so.steps,
+  so.notes,
+  record {
+    served = (
+      [],
+      record { notes_are = append-nil so.notes ∙ (so_serves turns old mid kept s so).notes_are; kept_is = (so_serves turns old mid kept s so).kept_is },
+      so.no_end,
+      inl refl,
+      so_sealed turns old mid kept s so,
+      omega (arith, so.count, few),
+    );
+    log = so.log;
+    order = so.order;
+    missed = so.missed;
+    none_missed = so.none_missed;
+    faults = so.faults;
+  },
+  subst S (sym (so_sealed turns old mid kept s so)) seals,
+)
+
+-- so many events were taken
+pub so_spent : (S : List JournalRecord → Type 0) (turns limit : ℕ) (old new : LinkTold) (kept : Kept) (s : State)
+    → SoServed turns old new kept s → turns ≡ limit → S [] → Ran S limit old new kept s.kept (Err Turns)
+so_spent S turns limit old new kept s so all seals = (
+  so.steps,
+  so.notes,
+  record {
+    served = (so_serves turns old new kept s so, so.no_end, so.count ∙ all, so_sealed turns old new kept s so);
+    log = so.log;
+    order = so.order;
+    missed = so.missed;
+    none_missed = so.none_missed;
+    faults = so.faults;
+  },
+  subst S (sym (so_sealed turns old new kept s so)) seals,
+)
+
+-- ---- and within one
 
 -- memory was wanted in an event
 pub so_starved : (S T : List JournalRecord → Type 0) (turns limit : ℕ) (old mid got new : LinkTold) (kept after : Kept) (s : State) (seats : Seats) (event : Event) (r : Result (Unit {0}) WantOfMemory)

@@ -1,5 +1,5 @@
 -- Turns of a mail client: what its session gives, and what is asked of the desk.
-use Rattle.std.proofs.Common.{◌≡◌, ◌⊎◌, ℕ, Bool, cond, [], true, false, List, ◌++◌, None, Some, Option, Result, Ok, Err, IfOk, OnErr, IfErr, length, nat_le, codes, bytes_eq, option_map, unwrap_or, refl, ap, subst, sym, ◌∙◌, inl, inr}
+use Rattle.std.proofs.Common.{◌≡◌, ◌⊎◌, ℕ, Bool, cond, [], true, false, List, ◌∷◌, ◌++◌, None, Some, Option, Result, Ok, Err, IfOk, OnErr, IfErr, length, nat_le, codes, bytes_eq, option_map, unwrap_or, refl, ap, subst, sym, ◌∙◌, inl, inr}
 use Rattle.std.proofs.lemmas.List.{append-nil}
 use Rattle.smtp_lines.specs.declared.line.SmtpLine.{SmtpLine}
 use Rattle.smtp_lines.specs.declared.command.SmtpCommand.TheVariants.{Helo, Ehlo, Mail, Rcpt, Data, Rset, Noop, Vrfy, Quit}
@@ -79,7 +79,7 @@ lifted_turn S f old kept d new none (h, takes) = (h, lifted S (f h) old kept d n
 
 -- a record was not sealed in the last turn of a connection
 pub unsealed_too : {D : Type 0} → (S : List JournalRecord → Type 0) (said : List ℕ) (k : Kept) (failed : List JournalRecord) (old : Reply) (kept : Kept) (d : D) (new : Reply)
-    → Takes IsNone (ends {D} said k) old kept d new → S failed → Takes S (record (ends {D} said k) { unsealed = failed }) old kept d new
+    → Takes IsNone (ends {D = D} said k) old kept d new → S failed → Takes S (record (ends {D = D} said k) { unsealed = failed }) old kept d new
 unsealed_too S said k failed old kept d new takes seals = record {
   conn = takes.conn;
   said = takes.said;
@@ -98,6 +98,13 @@ out_told (Bye said) kept d old new stays (inl e) = inl (told_last said kept d ol
 out_told (Bye said) kept d old new stays (inr e) = inr (closed kept kept d old new refl e)
 out_told (Asks ask) kept d old new stays is = inl (told_nothing kept d old new stays is)
 
+-- what is said of an outcome seals nothing
+none_failed : (out : SmtpOut) (kept : Kept) (d : Dialog) → settled_as out kept d ≡ record (settled_as out kept d) { unsealed = [] }
+none_failed Nothing kept d = refl
+none_failed (Say said) kept d = refl
+none_failed (Bye said) kept d = refl
+none_failed (Asks ask) kept d = refl
+
 -- ---- what became of an ask
 
 -- no outcome is due once it was told
@@ -108,7 +115,8 @@ settled_told : (outcome : Result Item SubmitFault) (kept : Kept) (d e : Dialog) 
     → session.settle d outcome ≡ session.turns out e → IsTold out old new
     → Takes IsNone (settled d (asked_as outcome kept)) old kept e new ⊎ Takes IsNone (ends [] kept) old kept e new
 settled_told outcome kept d e out old new stays is told =
-    subst (λ (t : session.Turn). Takes IsNone (settled_as t.out kept t.dialog) old kept e new ⊎ Takes IsNone (ends [] kept) old kept e new) (sym is) (out_told out kept e old new stays told)
+    subst (λ (t : session.Turn). Takes IsNone (record (settled_as t.out kept t.dialog) { unsealed = [] }) old kept e new ⊎ Takes IsNone (ends [] kept) old kept e new) (sym is)
+    (subst (λ (t : Turn Dialog). Takes IsNone t old kept e new ⊎ Takes IsNone (ends [] kept) old kept e new) (none_failed out kept e) (out_told out kept e old new stays told))
 
 -- the session was told of its ask's outcome
 pub settles_told : (outcome : Result Item SubmitFault) (kept : Kept) (d e : Dialog) (out : SmtpOut) (old new : Reply) → old.closes ≡ false

@@ -24,7 +24,7 @@ use Rattle.mail_loop.specs.Dialog.{Turn, ends}
 use Rattle.mail_loop.specs.Hindrance.{Hindrance, Clear, Refused, Unread, Unstored, Unheard, Unanswered, Unsealed, Untold, lost, unanswered}
 use Rattle.mail_loop.specs.Reader.{Service, service, followed, settled, settled_as, size_in}
 use Rattle.mail_loop.specs.ReaderHindrance.{refused_command, without_items, without_seals, without_texts}
-use Rattle.mail_loop.specs.Took.{Adds, IsNone, Takes, asked_as}
+use Rattle.mail_loop.specs.Took.{Adds, IsNone, Takes, asked_as, is_refused}
 
 -- nothing whole is there
 abbrev pub is_not_yet : Next → Bool

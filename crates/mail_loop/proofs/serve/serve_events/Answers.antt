@@ -1,6 +1,7 @@
 use Rattle.std.proofs.Common.{◌≡◌, ◌≢◌, [], List, sym, ◌∙◌, subst}
 use Rattle.verb_bytes.specs.declared.journal.JournalRecord.{JournalRecord}
 use Rattle.mail_loop.specs.Asked.{HaveSealed}
+use Rattle.mail_loop.specs.State.{State}
 use Rattle.mail_loop.specs.Machine.{Seats}
 use Rattle.mail_loop.specs.Stands.{AreHome}
 use Rattle.mail_loop.proofs.Seats.{none_home}
@@ -20,7 +21,7 @@ pub returns-then-is_end_of-clause-serves : goal.returns-then-is_end_of-clause-se
 returns-then-is_end_of-clause-serves g c =
     let told = g.L.Link.told in
     so_ended (HaveSealed g.D.Disk.told c.args.desk.now c.loop.desk) c.loop.counter c.args.turns (told c.args.link.now) (told c.loop.link) (told c.next.new.self) c.args.desk.now.kept
-    (record { kept = c.loop.desk.kept; seats = c.loop.connections.entries }) c.in-Ok.event c.loop.invariant.served c.in-Ok.ensures (sym c.is_end_of.ensures ∙ c.if-is_end_of.true) c.loop.invariant.seals
+    (record { kept = c.loop.desk.kept; seats = c.loop.connections.entries }) c.in-Ok.event c.loop.invariant.served c.loop-test.true c.in-Ok.ensures (sym c.is_end_of.ensures ∙ c.if-is_end_of.true) c.loop.invariant.seals
 
 pub returns-then-closed-clause-serves : goal.returns-then-closed-clause-serves
 returns-then-closed-clause-serves g c =
@@ -30,20 +31,20 @@ returns-then-closed-clause-serves g c =
     let sent = c.serve_event-sent in
     let new = sent.new in
     so_failed (HaveSealed disk l.desk new.desk) (HaveSealed disk c.args.desk.now new.desk) l.counter c.args.turns (told c.args.link.now) (told l.link) (told c.next.new.self) (told new.link) c.args.desk.now.kept
-    new.desk.kept (record { kept = l.desk.kept; seats = l.connections.entries }) new.connections.entries c.in-Ok.event sent.result l.invariant.served c.in-Ok.ensures
+    new.desk.kept (record { kept = l.desk.kept; seats = l.connections.entries }) new.connections.entries c.in-Ok.event sent.result l.invariant.served c.loop-test.true c.in-Ok.ensures
     (sym c.is_end_of.ensures ∙ c.if-is_end_of.false) sent.ensures.leads
     (λ failed seals. some_unsealed disk l.desk new.desk failed l.invariant.open' (sym c.closed.ensures ∙ c.if-closed.true) seals)
     (λ failed seals. chained disk c.seals_join.ensures.then c.args.desk.now l.desk new.desk failed l.invariant.seals seals)
 
-pub returns-then-sent-clause-serves : goal.returns-then-sent-clause-serves
-returns-then-sent-clause-serves g c =
+pub returns-then-is_err-clause-serves : goal.returns-then-is_err-clause-serves
+returns-then-is_err-clause-serves g c =
     let told = g.L.Link.told in
     let disk = g.D.Disk.told in
     let l = c.loop in
     let sent = c.serve_event-sent in
     let new = sent.new in
     so_starved (HaveSealed disk l.desk new.desk) (HaveSealed disk c.args.desk.now new.desk) l.counter c.args.turns (told c.args.link.now) (told l.link) (told c.next.new.self) (told new.link) c.args.desk.now.kept
-    new.desk.kept (record { kept = l.desk.kept; seats = l.connections.entries }) new.connections.entries c.in-Ok.event sent.result l.invariant.served c.in-Ok.ensures
+    new.desk.kept (record { kept = l.desk.kept; seats = l.connections.entries }) new.connections.entries c.in-Ok.event sent.result l.invariant.served c.loop-test.true c.in-Ok.ensures
     (sym c.is_end_of.ensures ∙ c.if-is_end_of.false) sent.ensures.leads (sym c.is_err.ensures.value ∙ c.if-is_err.true)
     (λ failed seals. all_sealed disk l.desk new.desk failed l.invariant.open' (sym c.closed.ensures ∙ c.if-closed.false) seals)
     (λ failed seals. chained disk c.seals_join.ensures.then c.args.desk.now l.desk new.desk failed l.invariant.seals seals)
@@ -56,7 +57,7 @@ loop-preserved g c =
     let sent = c.serve_event-sent in
     let new = sent.new in
     let S = HaveSealed disk l.desk new.desk in
-    let s = record { kept = l.desk.kept; seats = l.connections.entries } in
+    let s : State = record { kept = l.desk.kept; seats = l.connections.entries } in
     let only : (failed : List JournalRecord) → S failed → failed ≡ [] = λ failed seals. all_sealed disk l.desk new.desk failed l.invariant.open' (sym c.closed.ensures ∙ c.if-closed.false) seals in
     record {
       served = so_more S l.counter (told c.args.link.now) (told l.link) (told c.next.new.self) (told new.link) c.args.desk.now.kept
