@@ -1,5 +1,5 @@
 -- What the code does for an event is what the machine does.
-use Rattle.std.proofs.Common.{◌≡◌, ℕ, Bool, true, false, not, List, [], ◌∷◌, None, Some, Option, Result, Ok, Err, IfOk, refl, ap, subst, sym, ◌∙◌}
+use Rattle.std.proofs.Common.{◌≡◌, ℕ, Bool, true, false, not, List, [], None, Some, Option, Result, Ok, Err, IfOk, refl, ap, subst, sym, ◌∙◌}
 use Rattle.std.specs.Ordering.{nat_cmp}
 use Rattle.std.specs.Map.{lookup, remove_entry, set_value}
 use Rattle.std.specs.BTreeMap.{is_at}
@@ -12,7 +12,7 @@ use Rattle.mail_desk.specs.Kept.{Kept}
 use Rattle.verb_bytes.specs.declared.journal.JournalRecord.{JournalRecord}
 use Rattle.mail_loop.specs.State.{Seat, State}
 use Rattle.mail_loop.specs.Hindrance.{Hindrance}
-use Rattle.mail_loop.specs.Machine.{Seats, Delivery, closed_others, with_reply, Hindrances, Reply, Answered, answered, hears, hears_at, seat_at, seated, after_reply, delivered, happens}
+use Rattle.mail_loop.specs.Machine.{Seats, Delivery, closed_others, with_reply, Hindrances, Reply, Answered, answered, hears_at, seat_at, seated, after_reply, delivered, happens}
 use Rattle.mail_loop.specs.Stands.{reply_of, replies_of}
 use Rattle.mail_loop.specs.Took.{seat_left, answered_alone}
 use Rattle.mail_loop.specs.Did.{AreLicensed, Sends, Leads, Answers, AnswersWith}

@@ -1,6 +1,6 @@
 -- Turns of a mail reader: what its session gives, and what is asked of the desk.
 use Rattle.std.proofs.lemmas.List.{append-nil}
-use Rattle.std.proofs.Common.{◌≡◌, ◌⊎◌, ℕ, Bool, [], true, false, List, ◌∷◌, ◌++◌, None, Some, Option, Result, Ok, Err, IfOk, OnErr, IfErr, refl, ap, subst, sym, ◌∙◌, inl, inr}
+use Rattle.std.proofs.Common.{◌≡◌, ◌⊎◌, ℕ, Bool, [], true, false, List, ◌∷◌, ◌++◌, Option, Result, Ok, Err, IfOk, refl, ap, subst, sym, ◌∙◌, inl, inr}
 use Rattle.undo_base.specs.declared.memory.NoMemory.{NoMemory as WantOfMemory}
 use Rattle.undo_base.specs.declared.keys.User.{User}
 use Rattle.seal_log.specs.declared.fault.ReadFault.TheVariants.{NoMemory as NoneForTexts}
@@ -18,10 +18,9 @@ use Rattle.verb_core.specs.Store.{MailStore}
 use Rattle.imap_lines.specs.Command.{Reading, command_of}
 use Rattle.imap_lines.specs.declared.command.ImapCommand.{ImapCommand}
 use Rattle.imap_lines.specs.declared.command.ImapRefused.{ImapRefused}
-use Rattle.imap_lines.specs.declared.command.ImapRefused.TheVariants as unread
 use Rattle.imap_stream.specs.declared.next.RawCommand.{RawCommand}
 use Rattle.imap_stream.specs.declared.next.Next.{Next}
-use Rattle.imap_stream.specs.declared.next.Next.TheVariants.{Command, Ask as Mark, Bad, NotYet}
+use Rattle.imap_stream.specs.declared.next.Next.TheVariants.{Command}
 use Rattle.imap_session.specs.declared.dialog.Awaits.{Awaits}
 use Rattle.imap_session.specs.declared.dialog.Awaits.TheVariants.{Nothing, Texts, Outcome}
 use Rattle.imap_session.specs.declared.dialog.Dialog.{Dialog}
@@ -31,7 +30,7 @@ use Rattle.imap_session.specs.Dialog as session
 use Rattle.imap_session.specs.Dialog.{Took, is_reading}
 use Rattle.imap_session.specs.Words.{fault_text, unread_text}
 use Rattle.mail_desk.specs.Kept.{Kept}
-use Rattle.mail_desk.specs.Desk.{Submitted, store_of, submitted, submitted_as}
+use Rattle.mail_desk.specs.Desk.{Submitted, store_of, submitted_as}
 use Rattle.verb_bytes.specs.declared.journal.JournalRecord.{JournalRecord}
 use Rattle.verb_bytes.specs.declared.journal.JournalRecord.TheVariants.{Verb}
 use Rattle.mail_loop.specs.Asked.{Asked, fails, unsealed_as}
@@ -39,10 +38,10 @@ use Rattle.mail_desk.specs.Timeline.{texts_of}
 use Rattle.mail_loop.specs.declared.reply.Reply.{Reply}
 use Rattle.mail_loop.specs.Dialog.{Turn, says, ends}
 use Rattle.mail_loop.specs.Hindrance.{Hindrance, Clear, Refused as IsToldWant, Unread, Unstored, Unheard, Unanswered, Unsealed, Untold, unanswered}
-use Rattle.mail_loop.specs.Reader.{Service, changing, done, service, followed, settled, settled_as, size_in, submits, taken_by}
-use Rattle.mail_loop.specs.ReaderHindrance.{imap_hindered, memory_told, without_items, without_seals, without_texts}
+use Rattle.mail_loop.specs.Reader.{Service, done, service, followed, settled, settled_as, size_in, submits, taken_by}
+use Rattle.mail_loop.specs.ReaderHindrance.{imap_hindered, without_items, without_seals, without_texts}
 use Rattle.mail_loop.specs.Took.{Adds, IsNone, Submits, Takes, asked_as}
-use Rattle.mail_loop.specs.Read.{IsAnswered, IsReaderTold, ReadsNone, Settles, SettlesAgain, obeyed, obeyed_under, under, where_done}
+use Rattle.mail_loop.specs.Read.{IsAnswered, IsReaderTold, ReadsNone, Settles, SettlesAgain, obeyed_under, under, where_done}
 use Rattle.mail_loop.proofs.Commands.{IsOnlySaid, heard_not}
 use Rattle.mail_loop.proofs.Refusals.{due_or_starved}
 use Rattle.mail_loop.proofs.Turns.{closed, lifted, told_last, told_nothing, told_whole, unsealed_too}

@@ -1,5 +1,5 @@
 -- Why a delivery is refused.
-use Rattle.std.proofs.Common.{◌≡◌, ◌⊎◌, inl, inr, ℕ, ◌↔◌, IsSome, IsTrue, true, false, List, Option, None, Result, Ok, Err, IfErr, refl, ap, sym, ◌∙◌}
+use Rattle.std.proofs.Common.{◌≡◌, ◌⊎◌, inl, inr, ℕ, ◌↔◌, IsSome, IsTrue, true, false, List, Option, None, Result, Ok, Err, refl, ap, sym, ◌∙◌}
 use Rattle.undo_base.specs.declared.keys.User.{User}
 use Rattle.verb_core.specs.declared.item.Item.{Item}
 use Rattle.verb_core.specs.declared.ask.Ask.{Ask}

@@ -9,9 +9,9 @@ use Rattle.verb_bytes.specs.declared.journal.JournalRecord.{JournalRecord}
 use Rattle.mail_loop.specs.State.{Seat, State}
 use Rattle.mail_loop.specs.Dialog.{Turn}
 use Rattle.mail_loop.specs.Hindrance.{Hindrance, Clear, Unheard}
-use Rattle.mail_loop.specs.Turns.{Outcome, Heard, after, goes_on, turns, outcome_of, heard_by, hears_seat}
+use Rattle.mail_loop.specs.Turns.{Outcome, Heard, after, goes_on, turns, outcome_of, heard_by}
 use Rattle.mail_loop.specs.Machine.{Seats, closed_others, heard, hears, seated, with_reply}
-use Rattle.mail_loop.specs.Took.{Takes, Tells, answered_with, seat_left, answered_alone}
+use Rattle.mail_loop.specs.Took.{Takes, Tells, seat_left, answered_alone}
 
 -- what is kept, beside seats that no turn touches
 abbrev beside : Seats → Kept → State

@@ -1,5 +1,5 @@
 -- Turns of a mail client: what its session gives, and what is asked of the desk.
-use Rattle.std.proofs.Common.{◌≡◌, ◌⊎◌, ℕ, Bool, cond, [], true, false, List, ◌∷◌, ◌++◌, None, Some, Option, Result, Ok, Err, IfOk, OnErr, IfErr, length, nat_le, codes, bytes_eq, option_map, unwrap_or, refl, ap, subst, sym, ◌∙◌, inl, inr}
+use Rattle.std.proofs.Common.{◌≡◌, ◌⊎◌, ℕ, Bool, cond, [], true, false, List, ◌∷◌, ◌++◌, None, Some, Option, Result, Ok, Err, length, nat_le, codes, bytes_eq, option_map, unwrap_or, refl, ap, subst, sym, ◌∙◌, inl, inr}
 use Rattle.std.proofs.lemmas.List.{append-nil}
 use Rattle.smtp_lines.specs.declared.line.SmtpLine.{SmtpLine}
 use Rattle.smtp_lines.specs.declared.command.SmtpCommand.TheVariants.{Helo, Ehlo, Mail, Rcpt, Data, Rset, Noop, Vrfy, Quit}
@@ -28,7 +28,7 @@ use Rattle.std.specs.Str.{str_to_ascii_lowercase}
 use Rattle.smtp_session.specs.Dialog as session
 use Rattle.mail_loop.specs.declared.reply.Reply.{Reply}
 use Rattle.mail_desk.specs.Kept.{Kept}
-use Rattle.mail_desk.specs.Desk.{Submitted, store_of, submitted, submitted_as}
+use Rattle.mail_desk.specs.Desk.{Submitted, store_of, submitted_as}
 use Rattle.verb_bytes.specs.declared.journal.JournalRecord.{JournalRecord}
 use Rattle.verb_bytes.specs.declared.journal.JournalRecord.TheVariants.{Verb}
 use Rattle.mail_loop.specs.Asked.{Asked, does, fails, unsealed_as}

@@ -1,5 +1,5 @@
 -- How a turn of a mail reader may go otherwise.
-use Rattle.std.specs.Prelude.{ℕ, List, [], Result, Ok, Err}
+use Rattle.std.specs.Prelude.{ℕ, List, Ok, Err}
 use Rattle.seal_log.specs.declared.fault.ReadFault.TheVariants.{NoMemory as NoneForTexts}
 use Rattle.verb_core.specs.declared.ask.Refused.TheVariants.{NoMemory}
 use Rattle.imap_lines.specs.Command.{Reading, command_of}
@@ -10,7 +10,7 @@ use Rattle.imap_session.specs.declared.words.Answer.TheVariants.{Refused as IsTo
 use Rattle.imap_session.specs.Words.{tagged}
 use Rattle.mail_desk.specs.Kept.{Kept}
 use Rattle.mail_loop.specs.Asked.{fails, starves}
-use Rattle.mail_loop.specs.Dialog.{Turn, says, ends}
+use Rattle.mail_loop.specs.Dialog.{Turn, says}
 use Rattle.mail_loop.specs.Hindrance.{Hindrance, Clear, Refused, Unread, Unstored, Unheard, Unanswered, Unsealed, Untold, lost, unanswered}
 use Rattle.mail_loop.specs.Reader.{Service, service, served, turn}
 

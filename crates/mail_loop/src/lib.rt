@@ -16,5 +16,5 @@ mod serve;
 mod session;
 
 pub use laws::turns_are_of_the_whole_stream;
-pub use time_desk::Desk;
 pub use serve::{ServeFault, serve_events};
+pub use time_desk::Desk;

@@ -1,6 +1,5 @@
 use Rattle.std.proofs.Common.{refl, ap, sym, subst}
 use Rattle.imap_stream.specs.declared.next.Next.{Next}
-use Rattle.imap_stream.specs.declared.next.Next.TheVariants.{NotYet}
 use Rattle.imap_session.specs.declared.dialog.Dialog.{Dialog}
 use Rattle.imap_session.specs.Words.{bad_line_text, ready_text}
 use Rattle.mail_loop.specs.Asked.{HaveSealed}

@@ -9,7 +9,7 @@ use Rattle.smtp_session.specs.Answer.{answer_text}
 use Rattle.imap_session.specs.Words.{greeting_text}
 use Rattle.mail_loop.specs.Machine.{Reply as TheReply, Seats, admits}
 use Rattle.mail_loop.specs.State.{Seat, State}
-use Rattle.mail_loop.specs.Stands.{AreHome, IsHome, letter_of, replies_of}
+use Rattle.mail_loop.specs.Stands.{AreHome, IsHome, replies_of}
 use Rattle.mail_loop.proofs.serve.admit.Goals as goal
 
 pub returns-in_ok-insert-in-Smtp-clause-answers : goal.returns-in_ok-insert-in-Smtp-clause-answers
@@ -18,12 +18,15 @@ returns-in_ok-insert-in-Smtp-clause-answers g c =
     let kept = c.args.desk.now.kept in
     let s : State = record { kept = kept; seats = es } in
     subst (λ (role : Role). ((kept ≡ (admits role s c.args.conn).state.kept) × (c.insert.new.self.entries ≡ (admits role s c.args.conn).state.seats)
-    × (replies_of c.in_ok-replies-in-Smtp.replies.items ≡ (admits role s c.args.conn).replies)) × ((admits role s c.args.conn).unsealed ≡ [])) (sym c.in-Smtp.is) ((
+    × (replies_of c.in_ok-replies-in-Smtp.replies.items ≡ (admits role s c.args.conn).replies)) × ((admits role s c.args.conn).unsealed ≡ [])) (sym c.in-Smtp.is) (
+      (
+        refl,
+        c.in_ok-insert-in-Smtp.ensures.entries ∙ ap (insert_entry nat_cmp es c.args.conn) c.new_session.ensures,
+        c.in_ok-replies-in-Smtp.ensures ∙ ap (λ (r : TheReply). r ∷ []) c.in_ok-greet-in-Smtp.ensures
+            ∙ ap (λ (h : House). record { conn = c.args.conn; said = answer_text h.host Ready; closes = false } ∷ []) c.house.ensures.value,
+      ),
       refl,
-      c.in_ok-insert-in-Smtp.ensures.entries ∙ ap (insert_entry nat_cmp es c.args.conn) c.new_session.ensures,
-      c.in_ok-replies-in-Smtp.ensures ∙ ap (λ (r : TheReply). r ∷ []) c.in_ok-greet-in-Smtp.ensures
-          ∙ ap (λ (h : House). record { conn = c.args.conn; said = answer_text h.host Ready; closes = false } ∷ []) c.house.ensures.value,
-    ), refl)
+    )
 
 pub returns-in_ok-insert-in-Imap-clause-answers : goal.returns-in_ok-insert-in-Imap-clause-answers
 returns-in_ok-insert-in-Imap-clause-answers g c =
@@ -31,12 +34,15 @@ returns-in_ok-insert-in-Imap-clause-answers g c =
     let kept = c.args.desk.now.kept in
     let s : State = record { kept = kept; seats = es } in
     subst (λ (role : Role). ((kept ≡ (admits role s c.args.conn).state.kept) × (c.insert-in-Imap.new.self.entries ≡ (admits role s c.args.conn).state.seats)
-    × (replies_of c.in_ok-replies-in-Imap.replies.items ≡ (admits role s c.args.conn).replies)) × ((admits role s c.args.conn).unsealed ≡ [])) (sym c.in-Imap.is) ((
+    × (replies_of c.in_ok-replies-in-Imap.replies.items ≡ (admits role s c.args.conn).replies)) × ((admits role s c.args.conn).unsealed ≡ [])) (sym c.in-Imap.is) (
+      (
+        refl,
+        c.in_ok-insert-in-Imap.ensures.entries ∙ ap (insert_entry nat_cmp es c.args.conn) c.new_reader.ensures,
+        c.in_ok-replies-in-Imap.ensures ∙ ap (λ (r : TheReply). r ∷ []) c.in_ok-greet_reader-in-Imap.ensures
+            ∙ ap (λ (h : House). record { conn = c.args.conn; said = greeting_text h; closes = false } ∷ []) c.house-in-Imap.ensures.value,
+      ),
       refl,
-      c.in_ok-insert-in-Imap.ensures.entries ∙ ap (insert_entry nat_cmp es c.args.conn) c.new_reader.ensures,
-      c.in_ok-replies-in-Imap.ensures ∙ ap (λ (r : TheReply). r ∷ []) c.in_ok-greet_reader-in-Imap.ensures
-          ∙ ap (λ (h : House). record { conn = c.args.conn; said = greeting_text h; closes = false } ∷ []) c.house-in-Imap.ensures.value,
-    ), refl)
+    )
 
 pub returns-in_ok-insert-in-Smtp-clause-home : goal.returns-in_ok-insert-in-Smtp-clause-home
 returns-in_ok-insert-in-Smtp-clause-home g c house held =

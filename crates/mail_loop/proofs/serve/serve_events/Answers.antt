@@ -1,4 +1,4 @@
-use Rattle.std.proofs.Common.{◌≡◌, ◌≢◌, [], List, sym, ◌∙◌, subst}
+use Rattle.std.proofs.Common.{◌≡◌, [], List, sym, ◌∙◌, subst}
 use Rattle.verb_bytes.specs.declared.journal.JournalRecord.{JournalRecord}
 use Rattle.mail_loop.specs.Asked.{HaveSealed}
 use Rattle.mail_loop.specs.State.{State}

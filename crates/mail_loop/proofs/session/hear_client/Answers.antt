@@ -1,4 +1,4 @@
-use Rattle.std.proofs.Common.{◌≡◌, List, [], ℕ, false, true, ◌++◌, subst}
+use Rattle.std.proofs.Common.{List, [], ℕ, false, true, subst}
 use Rattle.mail_loop.specs.State.{Smtp, State}
 use Rattle.mail_loop.specs.Turns.{hears_lines, hears_seat}
 use Rattle.mail_loop.specs.Took.{Tells}

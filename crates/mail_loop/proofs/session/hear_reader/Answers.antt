@@ -1,4 +1,4 @@
-use Rattle.std.proofs.Common.{◌≡◌, List, [], ℕ, false, true, subst}
+use Rattle.std.proofs.Common.{[], false, true, subst}
 use Rattle.imap_stream.specs.Commands.{Heard}
 use Rattle.mail_loop.specs.State.{Imap, State}
 use Rattle.mail_loop.specs.Turns.{hears_commands, hears_seat}

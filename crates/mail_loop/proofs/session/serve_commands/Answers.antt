@@ -1,4 +1,4 @@
-use Rattle.std.proofs.Common.{ℕ, List, [], ◌∷◌, ◌++◌, true, None, Some, ap, sym, ◌∙◌, subst, refl}
+use Rattle.std.proofs.Common.{List, [], ◌∷◌, ◌++◌, true, None, Some, ap, sym, ◌∙◌, subst, refl}
 use Rattle.imap_stream.specs.Commands.{Heard, emptied}
 use Rattle.imap_stream.specs.declared.next.Next.{Next}
 use Rattle.imap_stream.specs.declared.next.Next.TheVariants.{NotYet}

@@ -2,7 +2,6 @@ use Rattle.std.proofs.Common.{ℕ, List, [], true, None, Some, ap, sym, ◌∙�
 use Rattle.smtp_lines.specs.declared.line.SmtpLine.{SmtpLine}
 use Rattle.smtp_lines.specs.Lines.{rest_of}
 use Rattle.smtp_lines.specs.Line.{smtp_lines_of}
-use Rattle.smtp_session.specs.declared.dialog.Dialog.{Dialog}
 use Rattle.mail_loop.specs.declared.reply.Reply.{Reply}
 use Rattle.mail_loop.specs.Asked.{HaveSealed}
 use Rattle.mail_loop.specs.State.{Smtp}
