@@ -1,5 +1,5 @@
 -- Which status is due comes, unless a call failed or memory was wanted.
-use Rattle.std.proofs.Common.{◌==◌, ◌≡◌, ◌≢◌, ◌⊎◌, ℕ, Bool, true, false, List, length, MatchBool, Option, None, Some, Result, Ok, Err, refl, ap, subst, sym, ◌∙◌, inl, inr, arith, nat_lt}
+use Rattle.std.proofs.Common.{◌≡◌, ◌≢◌, ◌⊎◌, ℕ, Bool, true, false, List, length, MatchBool, Option, None, Some, Result, Ok, Err, refl, ap, subst, sym, ◌∙◌, inl, inr, arith, nat_lt}
 use Rattle.undo_outside.specs.declared.event.Event.{Event}
 use Rattle.undo_outside.specs.declared.event.LinkNote.{LinkNote}
 use Rattle.undo_outside.specs.declared.fault.Fault.{Fault}
@@ -15,16 +15,21 @@ use Rattle.mail_loop.specs.Serving.{Step}
 use Rattle.script_link.specs.Script.{script_of}
 use Rattle.time_desk.specs.declared.fault.MakeFault.{MakeFault}
 use Rattle.time_desk.specs.declared.fault.MakeFault.TheVariants as make
+use Rattle.time_desk.specs.declared.fault.StartFault.{StartFault}
+use Rattle.time_desk.specs.declared.fault.StartFault.TheVariants as start
 use Rattle.time_desk.specs.Making.{Makes}
+use Rattle.time_desk.specs.Opening.{OpensAs, Starts}
 use Rattle.command_words.specs.declared.commands.Command.{Command}
 use Rattle.command_words.specs.declared.commands.Command.TheVariants.{Init, Serve, Script, Play, Grow, Check}
 use Rattle.command_words.specs.Usage.{command_of}
-use Rattle.mail_proxy.specs.Answers.{Answers, Does, Shows, Unused, first_fault, status_after}
-use Rattle.mail_proxy.specs.Causes.{IsBadText, IsBadFor, IsBadScript, is_built, uses_text}
-use Rattle.mail_proxy.specs.Due.{IsDue, IsDueFor, IsDueInit, IsHindered}
-use Rattle.mail_proxy.specs.Init.{Configures, Inits, IsConfig, made_status}
+use Rattle.mail_proxy.specs.Answers.{Answers, Does, Shows, first_fault, status_after}
+use Rattle.mail_proxy.specs.Causes.{IsBadText, IsBadFor, IsBadScript, uses_text}
+use Rattle.mail_proxy.specs.Due.{IsDue, IsDueFor, IsDueInit, IsDueStore, IsHindered}
+use Rattle.mail_proxy.specs.Init.{Configures, Inits, made_status}
 use Rattle.mail_proxy.specs.Lines.{too_long, usage}
-use Rattle.mail_proxy.specs.Play.{Played, Plays, PlaysScript, PlaysText, Tells}
+use Rattle.mail_proxy.specs.Opening.{OpensNone}
+use Rattle.mail_proxy.specs.Check.{Checks, TellsCounts}
+use Rattle.mail_proxy.specs.Script.{Played, Plays, PlaysScript, PlaysText, RunsScript, Scripts, Tells}
 use Rattle.mail_proxy.specs.Texts.{End, ending, FromText, IsText}
 use Rattle.mail_proxy.proofs.Causes.{fault_stays}
 
@@ -96,6 +101,14 @@ module _ {D : Type 0} (told : D → DiskTold) (disk : D) (end : End D) (text tex
       by_config bad (inr (house, conf, (utf8, configures), formats)) =
           absurd (let wrong : ◌≡◌ {A = Option (House × Conf)} (Some (house, conf)) None = sym configures ∙ bad.0 utf8 in cc)
 
+  bad_script : (known line : List ℕ) → text.left ≡ Some known → IsBadText (Some Script) known line → k ≡ 2 → Scripts told text text' disk end → (s ≡ k) ⊎ IsHindered s
+  bad_script known line is is_bad two scripts =
+      for_text (λ t. RunsScript told disk (script_of t)) known is (λ long. two) (λ short follows. by_script (script_of known) (bad_short (Some Script) known line is_bad short) follows) scripts
+    where
+      by_script : (script : Result (List Event) ℕ) → IsBadScript script line → RunsScript told disk script end → (s ≡ k) ⊎ IsHindered s
+      by_script (Ok events) bad runs = absurd bad
+      by_script (Err n) bad e = inl (stays 2 (ap (λ (x : End D). x.status) e) (λ z. omega arith) ∙ sym two)
+
   bad_play : (known line : List ℕ) → text.left ≡ Some known → IsBadText (Some Play) known line → k ≡ 2 → Plays text text' disk end → (s ≡ k) ⊎ IsHindered s
   bad_play known line is is_bad two plays =
       for_text (PlaysText disk) known is (λ long. two) (λ short follows. by_script (script_of known) (bad_short (Some Play) known line is_bad short) follows.0) plays
@@ -138,6 +151,8 @@ module _ {D : Type 0} (told : D → DiskTold) (disk : D) (end : End D) (text tex
   served (Ok x) first events notes steps last played (inl (zero, is)) due = well zero due
   served (Ok x) first events notes steps last played (inr (eight, is)) due = starved eight
   served (Err serve.Link) first events notes steps last played tells due = absurd (played.no_link_fault refl)
+  served (Err serve.Disk) first events notes steps last played (inl (five, is)) due = inr (by_disk (stays 5 five (λ z. omega arith)))
+  served (Err serve.Disk) first events notes steps last played (inr (five, is)) due = inr (by_disk (stays 5 five (λ z. omega arith)))
   served (Err serve.Turns) first events notes steps last played (inl (seven, is)) due = inr (by_events (stays 7 seven (λ z. omega arith)))
   served (Err serve.Turns) first events notes steps last played (inr (seven, is)) due = inr (by_events (stays 7 seven (λ z. omega arith)))
   served (Err serve.NoMemory) first events notes steps last played (inl (eight, is)) due = starved eight
@@ -150,35 +165,93 @@ module _ {D : Type 0} (told : D → DiskTold) (disk : D) (end : End D) (text tex
     where
       by_script : (r : Result (List Event) ℕ) → r ≡ Ok events → PlaysScript r end.status end.output → (s ≡ k) ⊎ IsHindered s
       by_script (Err n) e plays = absurd (let wrong : ◌≡◌ {A = Result (List Event) ℕ} (Err n) (Ok events) = e in cc)
-      by_script (Ok all) e (outcome, notes, steps, last, played, tells) = served outcome _ all notes steps last played tells due
+      by_script (Ok all) e (outcome, notes, steps, last, played, no_fault, tells) = served outcome _ all notes steps last played tells due
 
-  -- ---- all commands
+  module _ (one_opening : (image : List ℕ) (one two : Result Kept StartFault) → OpensAs image one → OpensAs image two → one ≡ two) where
+    -- a store that opened was to open
+    due_opened : (kept : Kept) → ((told disk).honest → OpensAs (told disk).content (Ok kept)) → IsDueStore (told disk) k → k ≡ 0
+    due_opened kept opens (honest, inl (other, leaves, due)) = due
+    due_opened kept opens (honest, inr (inl (not, due))) =
+        absurd (let wrong : ◌≡◌ {A = Result Kept StartFault} (Ok kept) (Err start.NotFormatted) = one_opening (told disk).content (Ok kept) (Err start.NotFormatted) (opens honest) not in cc)
+    due_opened kept opens (honest, inr (inr (place, damaged, due))) =
+        absurd (let wrong : ◌≡◌ {A = Result Kept StartFault} (Ok kept) (Err (start.Damaged place)) = one_opening (told disk).content (Ok kept) (Err (start.Damaged place)) (opens honest) damaged in cc)
 
-  -- words of no stated shape, a bad text, or a text and a disk
-  by_command : (command : Option Command) → IsDue command (record { text = text; disk = told disk; out = out }) k → Does told command text text' disk end → (s ≡ k) ⊎ IsHindered s
-  by_command None (inl (not_built, one)) (same, e) = inl (stays 1 (status_of_end 1 usage disk e) (λ z. omega arith) ∙ sym one)
-  by_command None (inr (inl (t, line, is, bad, two))) does = absurd (bad_none None t line refl (λ u e. e) bad)
-  by_command None (inr (inr (t, is, short, due))) does = absurd due
-  by_command (Some Init) (inl (not_built, one)) does = absurd (let wrong : true ≡ false = not_built in cc)
-  by_command (Some Init) (inr (inl (t, line, is, bad, two))) does = bad_init t line is bad two does
-  by_command (Some Init) (inr (inr (t, is, short, due))) does = due_init t is short due does
-  by_command (Some (Serve a b c)) (inl (not_built, one)) (same, e) = inl (stays 1 (status_of_end 1 usage disk e) (λ z. omega arith) ∙ sym one)
-  by_command (Some (Serve a b c)) (inr (inl (t, line, is, bad, two))) does = absurd (bad_none (Some (Serve a b c)) t line refl (λ u e. e) bad)
-  by_command (Some (Serve a b c)) (inr (inr (t, is, short, due))) does = absurd due
-  by_command (Some Script) (inl (not_built, one)) (same, e) = inl (stays 1 (status_of_end 1 usage disk e) (λ z. omega arith) ∙ sym one)
-  by_command (Some Script) (inr (inl (t, line, is, bad, two))) does = absurd (bad_none (Some Script) t line refl (λ u e. e) bad)
-  by_command (Some Script) (inr (inr (t, is, short, due))) does = absurd due
-  by_command (Some Play) (inl (not_built, one)) does = absurd (let wrong : true ≡ false = not_built in cc)
-  by_command (Some Play) (inr (inl (t, line, is, bad, two))) does = bad_play t line is bad two does
-  by_command (Some Play) (inr (inr (t, is, short, due))) does = due_play t is short due does
-  by_command (Some (Grow n)) (inl (not_built, one)) (same, e) = inl (stays 1 (status_of_end 1 usage disk e) (λ z. omega arith) ∙ sym one)
-  by_command (Some (Grow n)) (inr (inl (t, line, is, bad, two))) does = absurd (bad_none (Some (Grow n)) t line refl (λ u e. e) bad)
-  by_command (Some (Grow n)) (inr (inr (t, is, short, due))) does = absurd due
-  by_command (Some Check) (inl (not_built, one)) (same, e) = inl (stays 1 (status_of_end 1 usage disk e) (λ z. omega arith) ∙ sym one)
-  by_command (Some Check) (inr (inl (t, line, is, bad, two))) does = absurd (bad_none (Some Check) t line refl (λ u e. e) bad)
-  by_command (Some Check) (inr (inr (t, is, short, due))) does = absurd due
+    -- one that was not opened was not to open
+    due_unopened : OpensNone told disk end → IsDueStore (told disk) k → (s ≡ k) ⊎ IsHindered s
+    due_unopened (start.NotFormatted, starts, three, is) (honest, inl (kept, leaves, due)) =
+        absurd (let wrong : ◌≡◌ {A = Result Kept StartFault} (Err start.NotFormatted) (Ok kept) = one_opening (told disk).content (Err start.NotFormatted) (Ok kept) (starts.found honest) leaves in cc)
+    due_unopened (start.NotFormatted, starts, three, is) (honest, inr (inl (not, due))) = inl (stays 3 three (λ z. omega arith) ∙ sym due)
+    due_unopened (start.NotFormatted, starts, three, is) (honest, inr (inr (place, damaged, due))) =
+        absurd (let wrong : ◌≡◌ {A = Result Kept StartFault} (Err start.NotFormatted) (Err (start.Damaged place)) =
+        one_opening (told disk).content (Err start.NotFormatted) (Err (start.Damaged place)) (starts.found honest) damaged in cc)
+    due_unopened (start.Damaged p, starts, ten, is) (honest, inl (kept, leaves, due)) =
+        absurd (let wrong : ◌≡◌ {A = Result Kept StartFault} (Err (start.Damaged p)) (Ok kept) = one_opening (told disk).content (Err (start.Damaged p)) (Ok kept) (starts.found honest) leaves in cc)
+    due_unopened (start.Damaged p, starts, ten, is) (honest, inr (inl (not, due))) =
+        absurd (let wrong : ◌≡◌ {A = Result Kept StartFault} (Err (start.Damaged p)) (Err start.NotFormatted) =
+        one_opening (told disk).content (Err (start.Damaged p)) (Err start.NotFormatted) (starts.found honest) not in cc)
+    due_unopened (start.Damaged p, starts, ten, is) (honest, inr (inr (place, damaged, due))) = inl (stays 10 ten (λ z. omega arith) ∙ sym due)
+    due_unopened (start.Disk, starts, five, is) due = inr (by_disk (stays 5 five (λ z. omega arith)))
+    due_unopened (start.NoMemory, starts, eight, is) due = starved eight
 
-  -- the status that is due comes, unless the run was hindered
-  pub due : (words : List (List ℕ)) → Answers told words text text' disk end → IsDue (command_of words) (record { text = text; disk = told disk; out = out }) k → (s ≡ k) ⊎ IsHindered s
-  due words (inl does) is = by_command (command_of words) is does
-  due words (inr (same, e)) is = starved (ap (λ (x : End D). x.status) e)
+    -- what an opened desk keeps is what the image leaves
+    leaves : (kept : Kept) (gate : ℕ) (new : DiskTold) → Starts (told disk) new (Ok (kept, gate)) → (told disk).honest → OpensAs (told disk).content (Ok kept)
+    leaves kept gate new starts honest =
+        let started = starts.found honest in
+        record { records = started.records; stands = started.stands; state_is = started.state_is }
+
+    due_script : (known : List ℕ) → text.left ≡ Some known → nat_lt 67108864 (length known) ≡ false → IsDueFor (Some Script) known (told disk) k → Scripts told text text' disk end
+        → (s ≡ k) ⊎ IsHindered s
+    due_script known is short (events, script, due) scripts =
+        for_text (λ t. RunsScript told disk (script_of t)) known is (λ long. absurd (let wrong : true ≡ false = sym long ∙ short in cc)) (λ e follows. by_script (script_of known) script follows) scripts
+      where
+        by_script : (r : Result (List Event) ℕ) → r ≡ Ok events → RunsScript told disk r end → (s ≡ k) ⊎ IsHindered s
+        by_script (Err n) e runs = absurd (let wrong : ◌≡◌ {A = Result (List Event) ℕ} (Err n) (Ok events) = e in cc)
+        by_script (Ok all) e (inl none) = due_unopened none due
+        by_script (Ok all) e (inr (desk, starts, (last, run, disk_is, journals))) =
+            served run.outcome desk.kept all run.notes run.steps last.kept run.played run.tells (due_opened desk.kept (leaves desk.kept desk.gate (told desk.disk) starts) due)
+
+    due_check : Checks told disk end → IsDueStore (told disk) k → (s ≡ k) ⊎ IsHindered s
+    due_check (inl none, kept) due = due_unopened none due
+    due_check (inr (desk, starts, counted), kept) due = by_told counted.0
+      where
+        by_told : TellsCounts desk.kept end.status end.output → (s ≡ k) ⊎ IsHindered s
+        by_told (inl (nought, is)) = well nought (due_opened desk.kept (leaves desk.kept desk.gate (told desk.disk) starts) due)
+        by_told (inr (eight, is)) = starved eight
+
+    -- ---- all commands
+
+    -- words of no stated shape, a bad text, or a text and a disk
+    by_command : (command : Option Command) → IsDue command (record { text = text; disk = told disk; out = out }) k → Does told command text text' disk end → (s ≡ k) ⊎ IsHindered s
+    by_command None (inl (not_built, one)) (same, e) = inl (stays 1 (status_of_end 1 usage disk e) (λ z. omega arith) ∙ sym one)
+    by_command None (inr (inl (t, line, is, bad, two))) does = absurd (bad_none None t line refl (λ u e. e) bad)
+    by_command None (inr (inr (inl (t, is, short, due)))) does = absurd due
+    by_command None (inr (inr (inr due))) does = absurd due
+    by_command (Some Init) (inl (not_built, one)) does = absurd (let wrong : true ≡ false = not_built in cc)
+    by_command (Some Init) (inr (inl (t, line, is, bad, two))) does = bad_init t line is bad two does
+    by_command (Some Init) (inr (inr (inl (t, is, short, due)))) does = due_init t is short due does
+    by_command (Some Init) (inr (inr (inr due))) does = absurd due
+    by_command (Some (Serve a b c)) (inl (not_built, one)) (same, e) = inl (stays 1 (status_of_end 1 usage disk e) (λ z. omega arith) ∙ sym one)
+    by_command (Some (Serve a b c)) (inr (inl (t, line, is, bad, two))) does = absurd (bad_none (Some (Serve a b c)) t line refl (λ u e. e) bad)
+    by_command (Some (Serve a b c)) (inr (inr (inl (t, is, short, due)))) does = absurd due
+    by_command (Some (Serve a b c)) (inr (inr (inr due))) does = absurd due
+    by_command (Some Script) (inl (not_built, one)) does = absurd (let wrong : true ≡ false = not_built in cc)
+    by_command (Some Script) (inr (inl (t, line, is, bad, two))) does = bad_script t line is bad two does
+    by_command (Some Script) (inr (inr (inl (t, is, short, due)))) does = due_script t is short due does
+    by_command (Some Script) (inr (inr (inr due))) does = absurd due
+    by_command (Some Play) (inl (not_built, one)) does = absurd (let wrong : true ≡ false = not_built in cc)
+    by_command (Some Play) (inr (inl (t, line, is, bad, two))) does = bad_play t line is bad two does
+    by_command (Some Play) (inr (inr (inl (t, is, short, due)))) does = due_play t is short due does
+    by_command (Some Play) (inr (inr (inr due))) does = absurd due
+    by_command (Some (Grow n)) (inl (not_built, one)) (same, e) = inl (stays 1 (status_of_end 1 usage disk e) (λ z. omega arith) ∙ sym one)
+    by_command (Some (Grow n)) (inr (inl (t, line, is, bad, two))) does = absurd (bad_none (Some (Grow n)) t line refl (λ u e. e) bad)
+    by_command (Some (Grow n)) (inr (inr (inl (t, is, short, due)))) does = absurd due
+    by_command (Some (Grow n)) (inr (inr (inr due))) does = absurd due
+    by_command (Some Check) (inl (not_built, one)) does = absurd (let wrong : true ≡ false = not_built in cc)
+    by_command (Some Check) (inr (inl (t, line, is, bad, two))) does = absurd (bad_none (Some Check) t line refl (λ u e. e) bad)
+    by_command (Some Check) (inr (inr (inl (t, is, short, due)))) does = absurd due
+    by_command (Some Check) (inr (inr (inr due))) (same, checks) = due_check checks due
+
+    -- the status that is due comes, unless the run was hindered
+    pub due : (words : List (List ℕ)) → Answers told words text text' disk end → IsDue (command_of words) (record { text = text; disk = told disk; out = out }) k → (s ≡ k) ⊎ IsHindered s
+    due words (inl does) is = by_command (command_of words) is does
+    due words (inr (same, e)) is = starved (ap (λ (x : End D). x.status) e)

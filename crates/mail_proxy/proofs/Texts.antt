@@ -1,5 +1,5 @@
 -- What becomes of a text that was read, or was not.
-use Rattle.std.proofs.Common.{◌==◌, ◌≡◌, ◌⊎◌, ◌<◌, ◌≤◌, ℕ, true, false, nat_lt, List, ◌++◌, length, MatchBool, None, Some, Option, Err, ap, subst, sym, ◌∙◌, refl, inl, inr, arith}
+use Rattle.std.proofs.Common.{◌≡◌, ◌⊎◌, ◌<◌, ◌≤◌, ℕ, true, false, nat_lt, List, ◌++◌, length, MatchBool, None, Some, Option, Err, ap, subst, sym, ◌∙◌, refl, inl, inr, arith}
 use Rattle.std.proofs.lemmas.Bool.Decides.{nat_tests}
 use Rattle.std.proofs.lemmas.List.{append-nil, length-append}
 use Rattle.undo_outside.specs.Calls.{SourceTold, first_told, IsAtEnd}

@@ -11,22 +11,23 @@ use Rattle.mail_proxy.specs.Lines.{usage, no_memory}
 use Rattle.mail_proxy.specs.Reading.{WritesAll}
 use Rattle.mail_proxy.specs.Texts.{End, ending}
 use Rattle.mail_proxy.specs.Init.{Inits}
-use Rattle.mail_proxy.specs.Play.{Plays}
+use Rattle.mail_proxy.specs.Check.{Checks}
+use Rattle.mail_proxy.specs.Script.{Plays, Scripts}
 
 -- it ends so, and neither the text nor the disk got a call
 abbrev pub Unused : {D : Type 0} → ℕ → List ℕ → SourceTold → SourceTold → D → End D → Type 0
 Unused status output old new disk end = (new ≡ old) × (end ≡ ending status output disk)
 
 module _ {D : Type 0} (told : D → DiskTold) where
-  -- What a command comes to. `serve`, `script`, `grow` and `check` are not built yet, and are answered as words of no stated shape.
+  -- What a command comes to. `serve` and `grow` are not built yet, and are answered as words of no stated shape.
   abbrev pub Does : Option Command → SourceTold → SourceTold → D → End D → Type 0
   Does None old new disk end = Unused 1 usage old new disk end
   Does (Some Init) old new disk end = Inits told old new disk end
   Does (Some (Serve smtp imap http)) old new disk end = Unused 1 usage old new disk end
-  Does (Some Script) old new disk end = Unused 1 usage old new disk end
+  Does (Some Script) old new disk end = Scripts told old new disk end
   Does (Some Play) old new disk end = Plays old new disk end
   Does (Some (Grow rounds)) old new disk end = Unused 1 usage old new disk end
-  Does (Some Check) old new disk end = Unused 1 usage old new disk end
+  Does (Some Check) old new disk end = (new ≡ old) × Checks told disk end
 
   -- what the words come to, unless no memory is found for reading them
   abbrev pub Answers : List (List ℕ) → SourceTold → SourceTold → D → End D → Type 0

@@ -4,17 +4,19 @@ use Rattle.undo_outside.specs.declared.event.Event.{Event}
 use Rattle.undo_outside.specs.declared.event.LinkNote.{LinkNote}
 use Rattle.undo_outside.specs.Calls.{SourceTold, SinkTold}
 use Rattle.undo_outside.specs.Disk.{DiskTold, ReadFailed, WriteFailed}
+use Rattle.seal_log.specs.Loading.{IsNotFormatted}
 use Rattle.mail_desk.specs.Kept.{Kept}
 use Rattle.mail_loop.specs.declared.serve.ServeFault.TheVariants.{Turns}
 use Rattle.mail_loop.specs.Serving.{Step}
 use Rattle.script_link.specs.Script.{script_of}
 use Rattle.script_link.specs.Transcript.{transcript_of}
+use Rattle.time_desk.specs.Opening.{IsDamaged}
 use Rattle.command_words.specs.declared.commands.Command.{Command}
 use Rattle.command_words.specs.declared.commands.Command.TheVariants.{Init, Serve, Script, Play, Grow, Check}
 use Rattle.mail_proxy.specs.Init.{IsNoConfig}
-use Rattle.mail_proxy.specs.Lines.{usage, too_long, bad_configuration, bad_line, not_empty, disk_fault, read_fault, too_many, no_memory}
+use Rattle.mail_proxy.specs.Lines.{usage, too_long, bad_configuration, bad_line, not_empty, not_a_store, disk_fault, read_fault, too_many, no_memory, damaged}
 use Rattle.mail_proxy.specs.Reading.{ReadFails, WriteFails, WriteStarves, Wrote}
-use Rattle.mail_proxy.specs.Play.{Played}
+use Rattle.mail_proxy.specs.Script.{Played}
 use Rattle.mail_proxy.specs.Texts.{IsText}
 
 -- what the objects of the outside tell
@@ -30,37 +32,47 @@ abbrev pub is_built : Option Command → Bool
 is_built None = false
 is_built (Some Init) = true
 is_built (Some (Serve smtp imap http)) = false
-is_built (Some Script) = false
+is_built (Some Script) = true
 is_built (Some Play) = true
 is_built (Some (Grow rounds)) = false
-is_built (Some Check) = false
+is_built (Some Check) = true
 
 -- those that read a script
 abbrev pub takes_script : Option Command → Bool
 takes_script None = false
 takes_script (Some Init) = false
 takes_script (Some (Serve smtp imap http)) = false
-takes_script (Some Script) = false
+takes_script (Some Script) = true
 takes_script (Some Play) = true
 takes_script (Some (Grow rounds)) = false
 takes_script (Some Check) = false
+
+-- those that open a store
+abbrev pub opens : Option Command → Bool
+opens None = false
+opens (Some Init) = false
+opens (Some (Serve smtp imap http)) = false
+opens (Some Script) = true
+opens (Some Play) = false
+opens (Some (Grow rounds)) = false
+opens (Some Check) = true
 
 -- those that use the disk
 abbrev pub uses_disk : Option Command → Bool
 uses_disk None = false
 uses_disk (Some Init) = true
 uses_disk (Some (Serve smtp imap http)) = false
-uses_disk (Some Script) = false
+uses_disk (Some Script) = true
 uses_disk (Some Play) = false
 uses_disk (Some (Grow rounds)) = false
-uses_disk (Some Check) = false
+uses_disk (Some Check) = true
 
 -- those that read a text
 abbrev pub uses_text : Option Command → Bool
 uses_text None = false
 uses_text (Some Init) = true
 uses_text (Some (Serve smtp imap http)) = false
-uses_text (Some Script) = false
+uses_text (Some Script) = true
 uses_text (Some Play) = true
 uses_text (Some (Grow rounds)) = false
 uses_text (Some Check) = false
@@ -70,10 +82,10 @@ abbrev pub writes_more : Option Command → Bool
 writes_more None = false
 writes_more (Some Init) = false
 writes_more (Some (Serve smtp imap http)) = false
-writes_more (Some Script) = false
+writes_more (Some Script) = true
 writes_more (Some Play) = true
 writes_more (Some (Grow rounds)) = false
-writes_more (Some Check) = false
+writes_more (Some Check) = true
 
 -- ---- causes
 
@@ -86,7 +98,7 @@ abbrev pub IsBadFor : Option Command → List ℕ → List ℕ → Type 0
 IsBadFor None text line = ⊥
 IsBadFor (Some Init) text line = IsNoConfig text × (line ≡ bad_configuration)
 IsBadFor (Some (Serve smtp imap http)) text line = ⊥
-IsBadFor (Some Script) text line = ⊥
+IsBadFor (Some Script) text line = IsBadScript (script_of text) line
 IsBadFor (Some Play) text line = IsBadScript (script_of text) line
 IsBadFor (Some (Grow rounds)) text line = ⊥
 IsBadFor (Some Check) text line = ⊥
@@ -100,10 +112,10 @@ abbrev pub IsWrongDisk : Option Command → DiskTold → List ℕ → Type 0
 IsWrongDisk None disk line = ⊥
 IsWrongDisk (Some Init) disk line = (disk.size ≢ 0) × (line ≡ not_empty)
 IsWrongDisk (Some (Serve smtp imap http)) disk line = ⊥
-IsWrongDisk (Some Script) disk line = ⊥
+IsWrongDisk (Some Script) disk line = (disk.honest → IsNotFormatted disk.content) × (line ≡ not_a_store)
 IsWrongDisk (Some Play) disk line = ⊥
 IsWrongDisk (Some (Grow rounds)) disk line = ⊥
-IsWrongDisk (Some Check) disk line = ⊥
+IsWrongDisk (Some Check) disk line = (disk.honest → IsNotFormatted disk.content) × (line ≡ not_a_store)
 
 -- the text, as far as it is told, is a script of these events
 pub record IsScript (told : Option (List ℕ)) (events : List Event) : Type 0 where
@@ -138,13 +150,14 @@ module _ (command : Option Command) (old new : Outside) where
   abbrev pub EndsBad : Type 0
   EndsBad = (text : List ℕ) × (line : List ℕ) × IsText old.text.left text × IsBadText command text line × Wrote old.out new.out line
 
-  -- 3: the disk is not empty
+  -- 3: the disk is not empty, or holds no store
   abbrev pub EndsWrong : Type 0
   EndsWrong = (line : List ℕ) × IsWrongDisk command old.disk line × Wrote old.out new.out line
 
-  -- 5: a call on the disk failed, and it alone
+  -- 5: a call on the disk failed, and it alone; the last line may stand behind a transcript
   abbrev pub EndsFailed : Type 0
-  EndsFailed = (uses_disk command ≡ true) × (ReadFailed old.disk new.disk ⊎ WriteFailed old.disk new.disk) × Wrote old.out new.out disk_fault
+  EndsFailed =
+      (uses_disk command ≡ true) × (ReadFailed old.disk new.disk ⊎ WriteFailed old.disk new.disk) × ((front : List ℕ) × Wrote old.out new.out (front ++ disk_fault))
 
   -- 6: a read of the text failed
   abbrev pub EndsUnread : Type 0
@@ -160,11 +173,15 @@ module _ (command : Option Command) (old new : Outside) where
   abbrev pub EndsStarved : Type 0
   EndsStarved = (front : List ℕ) × (Wrote old.out new.out (front ++ no_memory) ⊎ WriteStarves old.out new.out front)
 
-  -- 9: a write of the transcript failed
+  -- 9: a write of the transcript or of the counts failed
   abbrev pub EndsUnwritten : Type 0
   EndsUnwritten = (writes_more command ≡ true) × ((output : List ℕ) × WriteFails old.out new.out output)
 
--- When each status comes, and what is written then. No other comes: 4 and 10 come from no command that is built.
+  -- 10: an open gate stands at this place, and behind it no record that can stand there
+  abbrev pub EndsDamaged : Type 0
+  EndsDamaged = (opens command ≡ true) × ((place : ℕ) × (old.disk.honest → IsDamaged old.disk.content place) × Wrote old.out new.out (damaged place))
+
+-- When each status comes, and what is written then. No other comes; 4 comes from no command that is built.
 pub record Comes (command : Option Command) (old new : Outside) (status : ℕ) : Type 0 where
   pub done : status ≡ 0 → AllWell command old new
   pub misused : status ≡ 1 → IsMisused command old new
@@ -175,4 +192,5 @@ pub record Comes (command : Option Command) (old new : Outside) (status : ℕ) :
   pub too_many : status ≡ 7 → EndsLate command old new
   pub no_memory : status ≡ 8 → EndsStarved command old new
   pub write_fault : status ≡ 9 → EndsUnwritten command old new
-  pub no_other : (status ≢ 4) × (status ≤ 9)
+  pub damaged : status ≡ 10 → EndsDamaged command old new
+  pub no_other : (status ≢ 4) × (status ≤ 10)

@@ -21,6 +21,9 @@ bad_line n = codes "undomail: bad script line " ++ decimal n ++ lf
 abbrev pub not_empty : List ℕ
 not_empty = codes "undomail: store is not empty" ++ lf
 
+abbrev pub not_a_store : List ℕ
+not_a_store = codes "undomail: not a store" ++ lf
+
 abbrev pub link_fault : List ℕ
 link_fault = codes "undomail: link fault" ++ lf
 
@@ -36,6 +39,9 @@ too_many = codes "undomail: too many events" ++ lf
 abbrev pub no_memory : List ℕ
 no_memory = codes "undomail: no memory" ++ lf
 
+abbrev pub damaged : ℕ → List ℕ
+damaged place = codes "undomail: damaged at " ++ decimal place ++ lf
+
 -- the line that a program ends with
 abbrev pub line_text : LastLine → List ℕ
 line_text last.Nothing = []
@@ -44,8 +50,10 @@ line_text last.TooLong = too_long
 line_text last.BadConfiguration = bad_configuration
 line_text (last.BadLine n) = bad_line n
 line_text last.NotEmpty = not_empty
+line_text last.NotStore = not_a_store
 line_text last.LinkFault = link_fault
 line_text last.DiskFault = disk_fault
 line_text last.ReadFault = read_fault
 line_text last.TooMany = too_many
 line_text last.NoMemory = no_memory
+line_text (last.Damaged place) = damaged place

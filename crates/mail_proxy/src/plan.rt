@@ -1,7 +1,7 @@
 //! What is to be answered and written, and the writing of it.
 ghost use Rattle.std.specs.Prelude.{◌≡◌, ◌≢◌, ℕ, [], ◌++◌, IfOk};
 ghost use Rattle.mail_proxy.specs.Reading.{Wrote, WritesAll};
-ghost use Rattle.mail_proxy.specs.Lines.{bad_line, line_text, no_memory};
+ghost use Rattle.mail_proxy.specs.Lines.{bad_line, damaged, line_text, no_memory};
 ghost use Rattle.mail_proxy.specs.Answers.{Shows, first_fault};
 ghost use Rattle.mail_proxy.specs.Plans.{output_of, refused_line, refused_status};
 
@@ -20,11 +20,13 @@ pub enum LastLine {
     BadConfiguration,
     BadLine(u32),
     NotEmpty,
+    NotStore,
     LinkFault,
     DiskFault,
     ReadFault,
     TooMany,
     NoMemory,
+    Damaged(u64),
 }
 
 /// What is to be answered and written: the transcript or the counts, and the last line.
@@ -59,7 +61,8 @@ pub fn unread(alloc: Global, refused: ReadRefused) -> Plan
 }
 
 fn fixed_line(last: LastLine) -> &'static [u8]
-    requires { (n : ℕ) → last ≢ LastLine.BadLine n }
+    requires line { (n : ℕ) → last ≢ LastLine.BadLine n }
+    requires place { (n : ℕ) → last ≢ LastLine.Damaged n }
     ensures { result.now ≡ line_text last }
 {
     match last {
@@ -70,11 +73,13 @@ fn fixed_line(last: LastLine) -> &'static [u8]
         LastLine::BadConfiguration => b"undomail: bad configuration\n",
         LastLine::BadLine(_) => unreachable!(),
         LastLine::NotEmpty => b"undomail: store is not empty\n",
+        LastLine::NotStore => b"undomail: not a store\n",
         LastLine::LinkFault => b"undomail: link fault\n",
         LastLine::DiskFault => b"undomail: disk fault\n",
         LastLine::ReadFault => b"undomail: read fault\n",
         LastLine::TooMany => b"undomail: too many events\n",
         LastLine::NoMemory => b"undomail: no memory\n",
+        LastLine::Damaged(_) => unreachable!(),
     }
 }
 
@@ -83,6 +88,7 @@ fn make_line(alloc: Global, last: LastLine) -> Result<Text, NoMemory>
 {
     match last {
         LastLine::BadLine(line) => make_bad_line(alloc, line),
+        LastLine::Damaged(place) => make_damaged(alloc, place),
         _ => Text::of(alloc, fixed_line(last)),
     }
 }
@@ -91,6 +97,13 @@ fn make_bad_line(alloc: Global, line: u32) -> Result<Text, NoMemory>
     ensures { IfOk result (λ text. text ≡ bad_line line) }
 {
     let text = format!(in alloc; "undomail: bad script line {line}\n")?;
+    Text::of(alloc, text.as_bytes())
+}
+
+fn make_damaged(alloc: Global, place: u64) -> Result<Text, NoMemory>
+    ensures { IfOk result (λ text. text ≡ damaged place) }
+{
+    let text = format!(in alloc; "undomail: damaged at {place}\n")?;
     Text::of(alloc, text.as_bytes())
 }
 

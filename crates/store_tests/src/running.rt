@@ -10,6 +10,10 @@ use undo_outside::{Events, MemDisk, MemLink, MemSink, MemSource, OpenGate};
 pub(crate) const FORMATTED: &[u8] =
     b"\x55\x00\x00\x00\x47\x00\x09mail.test\x00\x00\x00\x01\x09mail.test\x00\x00\x00\x02\x00\x00\x00\x03\x03ann\x02a1\x03bob\x02b2\x04carl\x02c3\x00\x00\x00\x00\x01\x04team\x00\x00\x00\x02\x00\x01\x00";
 
+/// What stands from byte 76 on once ann has created Work: an open gate, the length 21, the payload, and a closed gate.
+pub(crate) const CREATED: &[u8] =
+    b"\x55\x00\x00\x00\x15\x01\x00\x00\x00\x02\x00\x00\x00\x00\x41\xde\x5d\xa0\x00\x0b\x04Work\x00\x00";
+
 pub(crate) const DISK_FAULT: &[u8] = b"undomail: disk fault\n";
 
 /// How a run ended: the status, what was written, and the disk.
@@ -20,18 +24,19 @@ pub(crate) struct Ended {
     pub(crate) disk: MemDisk,
 }
 
-/// Runs a command with the word STORE over a text and a disk of these bytes, of which these calls fail.
-pub(crate) fn ends<R: Threads + Sync>(
+/// Runs these words over a text and a disk of these bytes, of which these calls fail.
+pub(crate) fn words_end<R: Threads + Sync>(
     rt: &R,
     alloc: Global,
-    command: &str,
+    words: &[&str],
     text: &[u8],
     bytes: &[u8],
     failing: &[u32],
 ) -> Result<Ended, Fail> {
-    let mut words = Vec::new(alloc);
-    words.push(String::from_str(alloc, command)?)?;
-    words.push(String::from_str(alloc, "a.store")?)?;
+    let mut list = Vec::new(alloc);
+    for word in words {
+        list.push(String::from_str(alloc, word)?)?;
+    }
     let mut source = MemSource::new(Text::of(alloc, text)?, Numbers::new(alloc));
     let mut out = MemSink::new(alloc, Numbers::new(alloc));
     let mut link = MemLink::new(alloc, Events::new(alloc), Numbers::new(alloc));
@@ -40,7 +45,7 @@ pub(crate) fn ends<R: Threads + Sync>(
     let (status, disk) = run(
         rt,
         alloc,
-        &words,
+        &list,
         &mut source,
         &mut link,
         disk,
@@ -53,6 +58,18 @@ pub(crate) fn ends<R: Threads + Sync>(
         output,
         disk,
     })
+}
+
+/// The same of a command with the word STORE.
+pub(crate) fn ends<R: Threads + Sync>(
+    rt: &R,
+    alloc: Global,
+    command: &str,
+    text: &[u8],
+    bytes: &[u8],
+    failing: &[u32],
+) -> Result<Ended, Fail> {
+    words_end(rt, alloc, &[command, "a.store"], text, bytes, failing)
 }
 
 /// Whether a run ends with this status and this output, and leaves these bytes on the disk.
@@ -72,4 +89,11 @@ pub(crate) fn leaves<R: Threads + Sync>(
 /// The bytes of a disk after all of its writes.
 pub(crate) fn bytes_of(alloc: Global, disk: &MemDisk) -> Result<Text, Fail> {
     Ok(disk.image_after(alloc, disk.writes())?)
+}
+
+/// Two texts, one after the other.
+pub(crate) fn joined(alloc: Global, first: &[u8], second: &[u8]) -> Result<Text, Fail> {
+    let mut text = Text::of(alloc, first)?;
+    text.extend(second)?;
+    Ok(text)
 }

@@ -1,6 +1,5 @@
-use Rattle.std.proofs.Common.{ap, sym, ◌∙◌}
 use Rattle.mail_proxy.specs.Init.{Configures}
-use Rattle.mail_proxy.specs.Plans.{end_of, refused_line, refused_status}
+use Rattle.mail_proxy.specs.Plans.{end_of}
 use Rattle.mail_proxy.proofs.Texts.{from_read, from_unread, same_end}
 use Rattle.mail_proxy.proofs.init.plan_init.Goals as goal
 

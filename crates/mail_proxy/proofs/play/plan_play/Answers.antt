@@ -1,5 +1,5 @@
 use Rattle.mail_proxy.specs.Plans.{end_of}
-use Rattle.mail_proxy.specs.Play.{PlaysText}
+use Rattle.mail_proxy.specs.Script.{PlaysText}
 use Rattle.mail_proxy.proofs.Texts.{from_unread, same_end}
 use Rattle.mail_proxy.proofs.play.plan_play.Goals as goal
 

@@ -24,4 +24,4 @@ returns-clause-due g c k =
     let out = g.W.Sink.told in
     let plan = c.make_plan-plan.result in
     due g.D.Disk.told c.args.disk (end_of plan.0 plan.1) (text c.args.text.now) (text c.make_plan-plan.new.text) (out c.args.out.now) (out c.show.new.out) c.show.result c.show.ensures k
-    (map string_bytes c.args.words.now.items) c.make_plan-plan.ensures.answers
+    c.one_opening.ensures (map string_bytes c.args.words.now.items) c.make_plan-plan.ensures.answers
