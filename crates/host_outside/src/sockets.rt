@@ -18,13 +18,13 @@ const PLACES: usize = 1003;
 const MOST_BYTES: usize = 65536;
 
 /// How often all are visited, with a sleep after each time, before an idle event is given.
-const ROUNDS: u64 = 32;
+const ROUNDS: u64 = 16;
 
 /// The sleep after something came or went, in microseconds. While nothing does, each sleep is twice the one before.
 const SHORTEST_SLEEP: u64 = 64;
 
 /// The longest sleep, in microseconds.
-const LONGEST_SLEEP: u64 = 32_768;
+const LONGEST_SLEEP: u64 = 65_536;
 
 /// A number, and the connection that has it.
 #[derive(Drop)]
