@@ -78,7 +78,11 @@ fn serve<R: Threads + Sync>(
 /// Whether the last that the link did is this string and its close.
 fn ends_with(link: &MemLink, text: &[u8]) -> bool {
     match link.log().as_slice() {
-        [.., LinkNote::Sent { conn: 1, bytes }, LinkNote::Closed { conn: 1 }] => bytes.bytes() == text,
+        [
+            ..,
+            LinkNote::Sent { conn: 1, bytes },
+            LinkNote::Closed { conn: 1 },
+        ] => bytes.bytes() == text,
         _ => false,
     }
 }
@@ -93,10 +97,12 @@ fn fails_with<R: Threads + Sync>(
 ) -> Result<bool, NoMemory> {
     match serve(rt, alloc, events, failing)? {
         None => Ok(false),
-        Some(ended) => Ok(ended.served == Err(ServeFault::Disk)
-            && ended.closed
-            && ended.items == 0
-            && ends_with(&ended.link, text)),
+        Some(ended) => Ok(
+            ended.served == Err(ServeFault::Disk)
+                && ended.closed
+                && ended.items == 0
+                && ends_with(&ended.link, text),
+        ),
     }
 }
 
