@@ -12,14 +12,12 @@ const NOT_A_STORE: &[u8] = b"undomail: not a store\n";
 
 const DAMAGED: &[u8] = b"undomail: damaged at 76\n";
 
-const CREATE: &[u8] =
-    b"at 1105092000\nopen 1 imap\nline 1 a LOGIN ann a1\nline 1 b CREATE Work\n";
+const CREATE: &[u8] = b"at 1105092000\nopen 1 imap\nline 1 a LOGIN ann a1\nline 1 b CREATE Work\n";
 
 const CREATE_DONE: &[u8] =
     b"1< * OK mail.test IMAP4rev1 undomail\n1< a OK LOGIN done.\n1< b OK CREATE done.\n";
 
-const ASK: &[u8] =
-    b"open 1 imap\nline 1 a LOGIN ann a1\nline 1 b STATUS Work (UIDVALIDITY)\n";
+const ASK: &[u8] = b"open 1 imap\nline 1 a LOGIN ann a1\nline 1 b STATUS Work (UIDVALIDITY)\n";
 
 const WORK_IS_THERE: &[u8] =
     b"1< * OK mail.test IMAP4rev1 undomail\n1< a OK LOGIN done.\n1< * STATUS \"Work\" (UIDVALIDITY 2)\n1< b OK STATUS done.\n";
@@ -63,8 +61,18 @@ fn script_refuses_a_bad_text_and_what_is_no_store(rt: HostRuntime) -> Result<(),
     let alloc = rt.alloc();
     let cut = joined(alloc, &FORMATTED[..76], b"\x55")?;
     let table: [(&[u8], &[u8], u8, &[u8]); 6] = [
-        (b"# a line\nline x y\n", FORMATTED, 2, b"undomail: bad script line 2\n"),
-        (b"# a line\nline x y\n", b"", 2, b"undomail: bad script line 2\n"),
+        (
+            b"# a line\nline x y\n",
+            FORMATTED,
+            2,
+            b"undomail: bad script line 2\n",
+        ),
+        (
+            b"# a line\nline x y\n",
+            b"",
+            2,
+            b"undomail: bad script line 2\n",
+        ),
         (b"", b"", 3, NOT_A_STORE),
         (b"", b"\x00\x55", 3, NOT_A_STORE),
         (CREATE, cut.bytes(), 10, DAMAGED),
@@ -96,8 +104,17 @@ fn script_seals_each_change(rt: HostRuntime) -> Result<(), Fail> {
 }
 
 /// Whether a script finds that Work is there, with its stamp, or that it is not.
-fn asks<R: Threads + Sync>(rt: &R, alloc: Global, image: &[u8], is_there: bool) -> Result<bool, Fail> {
-    let wanted = if is_there { WORK_IS_THERE } else { WORK_IS_NOT_THERE };
+fn asks<R: Threads + Sync>(
+    rt: &R,
+    alloc: Global,
+    image: &[u8],
+    is_there: bool,
+) -> Result<bool, Fail> {
+    let wanted = if is_there {
+        WORK_IS_THERE
+    } else {
+        WORK_IS_NOT_THERE
+    };
     let ended = ends(rt, alloc, "script", ASK, image, &[])?;
     Ok(ended.status == 0 && ended.output.bytes() == wanted)
 }
@@ -132,11 +149,13 @@ fn a_stop_while_sealing_leaves_the_record_or_not(rt: HostRuntime) -> Result<(), 
 /// Whether the delivery is the second record of this image.
 fn is_sent<R: Threads + Sync>(rt: &R, alloc: Global, image: &Text) -> Result<bool, Fail> {
     let ended = ends(rt, alloc, "check", b"", image.bytes(), &[])?;
-    Ok(ended.status == 0
-        && ended
-            .output
-            .bytes()
-            .starts_with(b"cycles 0\nitems 1\nmessages 1\nnext 3\n"))
+    Ok(
+        ended.status == 0
+            && ended
+                .output
+                .bytes()
+                .starts_with(b"cycles 0\nitems 1\nmessages 1\nnext 3\n"),
+    )
 }
 
 // Which of a run's calls on the disk fails: one of those that open the store, one of the four that seal the delivery, or none.
