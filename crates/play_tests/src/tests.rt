@@ -334,11 +334,16 @@ fn add_letters(text: &mut Text, letters: usize) -> Result<(), NoMemory> {
 }
 
 /// What a mail client is told that sends these bytes.
-fn is_told(alloc: Global, bytes: &[u8], told: &[u8]) -> Result<bool, NoMemory> {
+fn is_told<R: Threads + Sync>(
+    rt: &R,
+    alloc: Global,
+    bytes: &[u8],
+    told: &[u8],
+) -> Result<bool, NoMemory> {
     let mut events = Events::new(alloc);
     events.push(event(1, What::Joined(Role::Smtp)))?;
     events.push(bytes_of(alloc, 1, bytes)?)?;
-    let (link, _) = serve(&rt, alloc, events, &[], 9)?;
+    let (link, _) = serve(rt, alloc, events, &[], 9)?;
     let notes = link.log().as_slice();
     Ok(notes.len() == 5 && is_sent(&notes[3], 1, told))
 }
@@ -366,7 +371,7 @@ fn a_text_has_its_limit(rt: HostRuntime) -> Result<(), Fail> {
         }
         add_letters(&mut bytes, letters)?;
         bytes.extend(b".\r\nRCPT TO:<ann@mail.test>\r\n")?;
-        assert!(rt; is_told(alloc, bytes.bytes(), told)?);
+        assert!(rt; is_told(&rt, alloc, bytes.bytes(), told)?);
     }
     Ok(())
 }
@@ -378,7 +383,7 @@ fn a_command_line_has_its_limit(rt: HostRuntime) -> Result<(), Fail> {
     for (letters, told) in table {
         let mut bytes = Text::of(alloc, b"NOOP ")?;
         add_letters(&mut bytes, letters)?;
-        assert!(rt; is_told(alloc, bytes.bytes(), told)?);
+        assert!(rt; is_told(&rt, alloc, bytes.bytes(), told)?);
     }
     Ok(())
 }
