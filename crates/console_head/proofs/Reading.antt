@@ -66,6 +66,10 @@ none_long n le = let e : nat_lt n 16384 ≡ false = grind (arith, nat_tests) in 
 pub within_bytes : (bytes front : List ℕ) (size : ℕ) → front ≡ take 16384 bytes → size ≤ length front → size ≤ length bytes
 within_bytes bytes front size e le = omega (arith, ap (λ (l : List ℕ). length l) e, length-take 16384 bytes, le)
 
+-- all bytes were looked at where all of their front were
+pub all_looked_at : (bytes front : List ℕ) (n : ℕ) → front ≡ take 16384 bytes → length bytes < 16384 → n ≡ length front → n ≡ length bytes
+all_looked_at bytes front n e lt all = omega (arith, ap (λ (l : List ℕ). length l) e, length-take 16384 bytes, lt, all)
+
 some_eq : (a b : ℕ) → Some a ≡ Some b → a ≡ b
 some_eq a b e = ap (λ (o : Option ℕ). option_or a o) e
   where

@@ -4,6 +4,8 @@ use Rattle.verb_core.specs.declared.conf.House.{House}
 use Rattle.console_head.specs.Request.{Request, Says}
 use Rattle.console_head.specs.declared.request.HeadRefused.{HeadRefused}
 use Rattle.console_head.specs.declared.request.HeadRefused.TheVariants.{Head as BadHead, Size as TooLarge}
+use Rattle.console_head.specs.declared.request.Coming.{Coming}
+use Rattle.console_head.specs.Coming.{HasLearnt}
 use Rattle.console_http.specs.declared.request.Asked.{Asked}
 use Rattle.console_http.specs.declared.request.Asked.TheVariants.{NotYet, Whole}
 use Rattle.console_http.specs.declared.request.HttpRefused.{HttpRefused}
@@ -56,3 +58,9 @@ Asks house bytes (Err Size) = Says bytes (Err TooLarge)
 Asks house bytes (Err Route) = Chooses house bytes (Err Route)
 Asks house bytes (Err Json) = Chooses house bytes (Err Json)
 Asks house bytes (Err NoMemory) = FindsNone bytes
+
+-- bytes that are not yet a request have been looked at, or more are known to be wanted
+abbrev pub Learns : Coming → List ℕ → Result Asked HttpRefused → Type 0
+Learns coming bytes (Ok NotYet) = HasLearnt coming bytes
+Learns coming bytes (Ok (Whole route)) = Unit {0}
+Learns coming bytes (Err e) = Unit {0}

@@ -1,5 +1,9 @@
 //! What requests ask, and each refusal.
-use crate::{Asked, HttpRefused, Route, read_request};
+ghost use Rattle.std.specs.Prelude.{◌≡◌, List, ℕ, ◌++◌, IsTrue, OnOk};
+ghost use Rattle.verb_core.specs.Store.{is_house};
+ghost use Rattle.console_head.specs.Coming.{IsKnown};
+
+use crate::{Asked, Coming, HttpRefused, Route, read_coming, read_request};
 use std::alloc::{AllocError, Global};
 use std::test::Fail;
 use undo_base::{Name, Names, NoMemory, User};
@@ -99,6 +103,22 @@ fn sent(
         Ok(bytes) => asked(alloc, house, bytes.as_slice()),
         Err(_) => ("no memory", 0),
     }
+}
+
+/// What is asked by bytes of which one more piece has come.
+fn asked_with(
+    alloc: Global,
+    house: &House,
+    coming: &mut Coming,
+    bytes: &mut Vec<u8>,
+    piece: &[u8],
+) -> Result<(&'static str, u32), AllocError>
+    requires house { IsTrue (is_house house.now) }
+    requires known { (more : List ℕ) → IsKnown coming.old (bytes.old ++ more) }
+    ensures { OnOk result ((more : List ℕ) → IsKnown coming.new (bytes.new ++ more)) }
+{
+    bytes.extend_from_slice(piece)?;
+    Ok(told(&read_coming(alloc, coming, house, bytes.as_slice())))
 }
 
 fn without_last(bytes: &[u8]) -> &[u8] {
@@ -304,5 +324,42 @@ fn inbox_is_kept_in_capitals(rt: HostRuntime) -> Result<(), Fail> {
     let bytes = request(rt.alloc(), "GET", "/box/bob/in%62OX", b"")?;
     let name = named(rt.alloc(), &house, bytes.as_slice())?;
     assert_eq!(rt; name.bytes(), b"INBOX".as_slice());
+    Ok(())
+}
+
+/// The pieces of a request for an act, and what is asked after each.
+fn act_in_pieces(alloc: Global, house: &House) -> Result<[(&'static str, u32); 5], AllocError>
+    requires { IsTrue (is_house house.now) }
+{
+    let mut coming = Coming::new();
+    let mut bytes = Vec::new(alloc);
+    Ok([
+        asked_with(alloc, house, &mut coming, &mut bytes, b"POST /ac")?,
+        asked_with(alloc, house, &mut coming, &mut bytes, b"t HTTP/1.1\r\nContent-Length: 32\r")?,
+        asked_with(alloc, house, &mut coming, &mut bytes, b"\n\r\n")?,
+        asked_with(alloc, house, &mut coming, &mut bytes, b"{\"act\":\"unalias\",")?,
+        asked_with(alloc, house, &mut coming, &mut bytes, b"\"local\":\"team\"}")?,
+    ])
+}
+
+/// A head that turns out to be none.
+fn no_head_in_pieces(alloc: Global, house: &House) -> Result<[(&'static str, u32); 2], AllocError>
+    requires { IsTrue (is_house house.now) }
+{
+    let mut coming = Coming::new();
+    let mut bytes = Vec::new(alloc);
+    Ok([
+        asked_with(alloc, house, &mut coming, &mut bytes, b"G\x01T")?,
+        asked_with(alloc, house, &mut coming, &mut bytes, b"\r\n\r\n")?,
+    ])
+}
+
+#[test]
+fn requests_in_pieces(rt: HostRuntime) -> Result<(), Fail> {
+    let house = house(rt.alloc())?;
+    assert!(rt; house.is_sound());
+    let none = ("not yet", 0);
+    assert_eq!(rt; act_in_pieces(rt.alloc(), &house)?, [none, none, none, none, ("unalias", 0)]);
+    assert_eq!(rt; no_head_in_pieces(rt.alloc(), &house)?, [none, ("head", 0)]);
     Ok(())
 }
