@@ -18,7 +18,7 @@ pub min_swapped : (n : ℕ) → min n 16384 ≡ min 16384 n
 min_swapped n = omega arith
 
 -- the first of some bytes and more
-take_both : (n : ℕ) (xs ys : List ℕ) → take n (xs ++ ys) ≡ take n xs ++ take (n - length xs) ys
+pub take_both : (n : ℕ) (xs ys : List ℕ) → take n (xs ++ ys) ≡ take n xs ++ take (n - length xs) ys
 take_both zero xs ys = let e : 0 - length xs ≡ 0 = omega arith in rw e refl
 take_both (suc n) [] ys = let e : suc n - 0 ≡ suc n = omega arith in rw e refl
 take_both (suc n) (x ∷ xs) ys = let e : suc n - suc (length xs) ≡ n - length xs = omega arith in rw e (ap (λ (l : List ℕ). x ∷ l) (take_both n xs ys))

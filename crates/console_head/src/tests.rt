@@ -21,14 +21,21 @@ fn told(bytes: &[u8]) -> &'static str {
     in_words(read_once(bytes))
 }
 
+/// No bytes, of which nothing is known.
+fn nothing_came(alloc: Global) -> (Coming, Vec<u8>)
+    ensures { (more : List ℕ) → IsKnown result.0 (result.1.items ++ more) }
+{
+    (Coming::new(), Vec::new(alloc))
+}
+
 /// What bytes are when one more piece has come, in words.
 fn told_with(
     coming: &mut Coming,
     bytes: &mut Vec<u8>,
     piece: &[u8],
 ) -> Result<&'static str, AllocError>
-    requires { (more : List ℕ) → IsKnown coming.old (bytes.old ++ more) }
-    ensures { OnOk result ((more : List ℕ) → IsKnown coming.new (bytes.new ++ more)) }
+    requires { (more : List ℕ) → IsKnown coming.old (bytes.old.items ++ more) }
+    ensures { OnOk result ((more : List ℕ) → IsKnown coming.new (bytes.new.items ++ more)) }
 {
     bytes.extend_from_slice(piece)?;
     Ok(in_words(coming.read(bytes)))
@@ -165,8 +172,7 @@ fn the_parts_of_a_request(rt: HostRuntime) {
 
 #[test]
 fn requests_that_come_in_pieces(rt: HostRuntime) -> Result<(), Fail> {
-    let mut coming = Coming::new();
-    let mut bytes = Vec::new(rt.alloc());
+    let (mut coming, mut bytes) = nothing_came(rt.alloc());
     assert_eq!(rt; told_with(&mut coming, &mut bytes, b"POST /ac")?, "not yet");
     assert_eq!(rt;
         told_with(
@@ -179,8 +185,7 @@ fn requests_that_come_in_pieces(rt: HostRuntime) -> Result<(), Fail> {
     assert_eq!(rt; told_with(&mut coming, &mut bytes, b"\n\r\n")?, "not yet");
     assert_eq!(rt; told_with(&mut coming, &mut bytes, b"{ab")?, "not yet");
     assert_eq!(rt; told_with(&mut coming, &mut bytes, b"}")?, "request");
-    let mut coming = Coming::new();
-    let mut bytes = Vec::new(rt.alloc());
+    let (mut coming, mut bytes) = nothing_came(rt.alloc());
     assert_eq!(rt; told_with(&mut coming, &mut bytes, b"G\x01T")?, "not yet");
     assert_eq!(rt; told_with(&mut coming, &mut bytes, b"\r\n\r\n")?, "head");
     Ok(())
@@ -190,8 +195,7 @@ fn requests_that_come_in_pieces(rt: HostRuntime) -> Result<(), Fail> {
 fn told_cut(alloc: Global, bytes: &[u8], place: usize) -> Result<&'static str, AllocError>
     requires { place ≤ length bytes.now }
 {
-    let mut coming = Coming::new();
-    let mut came = Vec::new(alloc);
+    let (mut coming, mut came) = nothing_came(alloc);
     let told = told_with(&mut coming, &mut came, &bytes[..place])?;
     if told != "not yet" {
         return Ok(told);
@@ -201,8 +205,7 @@ fn told_cut(alloc: Global, bytes: &[u8], place: usize) -> Result<&'static str, A
 
 /// What bytes are that come one by one, as far as they have to come.
 fn told_by_bytes(alloc: Global, bytes: &[u8]) -> Result<&'static str, AllocError> {
-    let mut coming = Coming::new();
-    let mut came = Vec::new(alloc);
+    let (mut coming, mut came) = nothing_came(alloc);
     for byte in bytes {
         let told = told_with(&mut coming, &mut came, &[*byte])?;
         if told != "not yet" {

@@ -105,6 +105,13 @@ fn sent(
     }
 }
 
+/// No bytes, of which nothing is known.
+fn nothing_came(alloc: Global) -> (Coming, Vec<u8>)
+    ensures { (more : List ℕ) → IsKnown result.0 (result.1.items ++ more) }
+{
+    (Coming::new(), Vec::new(alloc))
+}
+
 /// What is asked by bytes of which one more piece has come.
 fn asked_with(
     alloc: Global,
@@ -114,8 +121,8 @@ fn asked_with(
     piece: &[u8],
 ) -> Result<(&'static str, u32), AllocError>
     requires house { IsTrue (is_house house.now) }
-    requires known { (more : List ℕ) → IsKnown coming.old (bytes.old ++ more) }
-    ensures { OnOk result ((more : List ℕ) → IsKnown coming.new (bytes.new ++ more)) }
+    requires known { (more : List ℕ) → IsKnown coming.old (bytes.old.items ++ more) }
+    ensures { OnOk result ((more : List ℕ) → IsKnown coming.new (bytes.new.items ++ more)) }
 {
     bytes.extend_from_slice(piece)?;
     Ok(told(&read_coming(alloc, coming, house, bytes.as_slice())))
@@ -331,8 +338,7 @@ fn inbox_is_kept_in_capitals(rt: HostRuntime) -> Result<(), Fail> {
 fn act_in_pieces(alloc: Global, house: &House) -> Result<[(&'static str, u32); 5], AllocError>
     requires { IsTrue (is_house house.now) }
 {
-    let mut coming = Coming::new();
-    let mut bytes = Vec::new(alloc);
+    let (mut coming, mut bytes) = nothing_came(alloc);
     Ok([
         asked_with(alloc, house, &mut coming, &mut bytes, b"POST /ac")?,
         asked_with(alloc, house, &mut coming, &mut bytes, b"t HTTP/1.1\r\nContent-Length: 32\r")?,
@@ -346,8 +352,7 @@ fn act_in_pieces(alloc: Global, house: &House) -> Result<[(&'static str, u32); 5
 fn no_head_in_pieces(alloc: Global, house: &House) -> Result<[(&'static str, u32); 2], AllocError>
     requires { IsTrue (is_house house.now) }
 {
-    let mut coming = Coming::new();
-    let mut bytes = Vec::new(alloc);
+    let (mut coming, mut bytes) = nothing_came(alloc);
     Ok([
         asked_with(alloc, house, &mut coming, &mut bytes, b"G\x01T")?,
         asked_with(alloc, house, &mut coming, &mut bytes, b"\r\n\r\n")?,
