@@ -1,7 +1,7 @@
 -- Who is named by an act is a user of the house.
-use Rattle.std.proofs.Common.{◌≡◌, ℕ, Bool, true, false, List, [], ◌∷◌, length, Option, Some, None, refl, sym, ap, subst, cond}
+use Rattle.std.proofs.Common.{◌≡◌, ℕ, Bool, true, false, List, [], ◌∷◌, length, drop, Option, Some, None, refl, sym, ap, subst, cond}
 use Rattle.std.specs.Prelude.{Result, Ok, Err, IsTrue, nat_lt, position, option_and_then, option_map, codes, if◌then◌else◌}
-use Rattle.std.specs.List.{list_all, position_or_len}
+use Rattle.std.specs.List.{list_all, position_or_len, after_first, before_first}
 use Rattle.std.specs.Str.{bytes_eq}
 use Rattle.serde_json.specs.Data.{Data, Items, no_items, item}
 use Rattle.serde_json.specs.Find.{get, as_str, as_array}
@@ -9,6 +9,7 @@ use Rattle.undo_base.specs.declared.keys.User.{User}
 use Rattle.verb_core.specs.declared.conf.Account.{Account}
 use Rattle.verb_core.specs.declared.conf.House.{House}
 use Rattle.verb_core.specs.declared.item.Act.{Act}
+use Rattle.verb_core.specs.declared.item.Act.TheVariants.{SetAlias, DropAlias, SetFilter, DropFilter, Remove, Give}
 use Rattle.verb_core.specs.declared.item.Deed.TheVariants.{Act as Acts}
 use Rattle.verb_core.specs.Items.{users_in as named_in}
 use Rattle.verb_core.specs.Recipients.{user_named}
@@ -21,8 +22,10 @@ use Rattle.console_http.specs.declared.pages.Page.TheVariants as page
 use Rattle.console_http.specs.declared.request.Asked.{Asked}
 use Rattle.console_http.specs.declared.request.Asked.TheVariants.{NotYet, Whole}
 use Rattle.console_http.specs.declared.request.HttpRefused.{HttpRefused}
+use Rattle.console_http.specs.declared.request.HttpRefused.TheVariants.{Route}
 use Rattle.console_http.specs.declared.request.Route.{Route as Taken}
-use Rattle.console_http.specs.Parts.{box_name, local_of}
+use Rattle.console_http.specs.declared.request.Route.TheVariants as route
+use Rattle.console_http.specs.Parts.{box_name, is_slash, part_of}
 use Rattle.console_http.specs.Members.{body_at, box_at, file_at, has_members, local_at, name_at, number_at, some_users, text_at, user_at, user_in, users_at, users_in, value_of}
 use Rattle.console_http.specs.Acts.{act_by, act_in, act_of, act_sized, alias_of, filter_of, give_of, remove_of, size_of, unalias_of, unfilter_of, word_of}
 use Rattle.console_http.specs.Routes.{Choice, acted, alone, box_in, method_of, front_of, number_in, page_of, route_at, route_of, route_on, taken}
@@ -36,12 +39,12 @@ Each P None = Unit {0}
 Each P (Some x) = P x
 
 each_then : {A B : Type 0} (P : A → Type 0) (Q : B → Type 0) (f : A → Option B) → ((x : A) → P x → Each Q (f x)) → (o : Option A) → Each P o → Each Q (option_and_then f o)
-each_then P Q f then None h = tt
-each_then P Q f then (Some x) h = then x h
+each_then P Q f so None h = tt
+each_then P Q f so (Some x) h = so x h
 
 each_map : {A B : Type 0} (P : A → Type 0) (Q : B → Type 0) (f : A → B) → ((x : A) → P x → Q (f x)) → (o : Option A) → Each P o → Each Q (option_map f o)
-each_map P Q f then None h = tt
-each_map P Q f then (Some x) h = then x h
+each_map P Q f so None h = tt
+each_map P Q f so (Some x) h = so x h
 
 abbrev Anything : {A : Type 0} → A → Type 0
 Anything x = Unit {0}
@@ -103,39 +106,52 @@ users_at_known house d =
 
 alias_known : (house : House) (d : Data) → Each (KnowsAct house) (alias_of house d)
 alias_known house d =
-    each_then Anything (KnowsAct house) _
-    (λ local h. each_map (KnowsAll house) (KnowsAct house) _ (λ users all. all) (users_at house d) (users_at_known house d))
+    each_then {A = List ℕ} Anything (KnowsAct house) (λ local. option_map (λ users. SetAlias local users) (users_at house d))
+    (λ local h. each_map (KnowsAll house) (KnowsAct house) (λ users. SetAlias local users) (λ users all. all) (users_at house d) (users_at_known house d))
     (local_at d) (anything (local_at d))
 
 unalias_known : (house : House) (d : Data) → Each (KnowsAct house) (unalias_of d)
-unalias_known house d = each_map Anything (KnowsAct house) _ (λ local h. refl) (local_at d) (anything (local_at d))
+unalias_known house d = each_map {A = List ℕ} Anything (KnowsAct house) (λ local. DropAlias local) (λ local h. refl) (local_at d) (anything (local_at d))
+
+filter_act : List ℕ → List ℕ → Option (List ℕ) → Act
+filter_act id needle file = SetFilter (record { id = id; needle = needle; file = file })
 
 filter_known : (house : House) (d : Data) → Each (KnowsAct house) (filter_of d)
+unfolding filter_act
 filter_known house d =
-    each_then Anything (KnowsAct house) _
-    (λ id h. each_then Anything (KnowsAct house) _ (λ needle h. each_map Anything (KnowsAct house) _ (λ file h. refl) (file_at d) (anything (file_at d)))
+    each_then {A = List ℕ} Anything (KnowsAct house) (λ id. option_and_then (λ needle. option_map (λ file. filter_act id needle file) (file_at d)) (name_at (codes "needle") d))
+    (λ id h. each_then {A = List ℕ} Anything (KnowsAct house) (λ needle. option_map (λ file. filter_act id needle file) (file_at d))
+    (λ needle h. each_map {A = Option (List ℕ)} Anything (KnowsAct house) (λ file. filter_act id needle file) (λ file h. refl) (file_at d) (anything (file_at d)))
     (name_at (codes "needle") d) (anything (name_at (codes "needle") d)))
     (name_at (codes "name") d) (anything (name_at (codes "name") d))
 
 unfilter_known : (house : House) (d : Data) → Each (KnowsAct house) (unfilter_of d)
-unfilter_known house d = each_map Anything (KnowsAct house) _ (λ id h. refl) (name_at (codes "name") d) (anything (name_at (codes "name") d))
+unfilter_known house d = each_map {A = List ℕ} Anything (KnowsAct house) (λ id. DropFilter id) (λ id h. refl) (name_at (codes "name") d) (anything (name_at (codes "name") d))
+
+remove_act : User → ℕ → ℕ → List ℕ → Act
+remove_act user k index mailbox = Remove user mailbox (record { item = k; index = index })
 
 remove_known : (house : House) (d : Data) → Each (KnowsAct house) (remove_of house d)
+unfolding remove_act
 remove_known house d =
-    each_then (Knows house) (KnowsAct house) _
-    (λ user known. each_then Anything (KnowsAct house) _
-    (λ k h. each_then Anything (KnowsAct house) _
-    (λ index h. each_map Anything (KnowsAct house) _ (λ mailbox h. one_known house user known) (box_at (codes "box") d) (anything (box_at (codes "box") d)))
-    (number_at (codes "index") 65535 d) (anything (number_at (codes "index") 65535 d)))
-    (number_at (codes "item") 4294967295 d) (anything (number_at (codes "item") 4294967295 d)))
+    let mailbox = box_at (codes "box") d in
+    let index = number_at (codes "index") 65535 d in
+    let number = number_at (codes "item") 4294967295 d in
+    each_then (Knows house) (KnowsAct house) (λ user. option_and_then (λ k. option_and_then (λ i. option_map (λ name. remove_act user k i name) mailbox) index) number)
+    (λ user known. each_then {A = ℕ} Anything (KnowsAct house) (λ k. option_and_then (λ i. option_map (λ name. remove_act user k i name) mailbox) index)
+    (λ k h. each_then {A = ℕ} Anything (KnowsAct house) (λ i. option_map (λ name. remove_act user k i name) mailbox)
+    (λ i h. each_map {A = List ℕ} Anything (KnowsAct house) (λ name. remove_act user k i name) (λ name h. one_known house user known) mailbox (anything mailbox))
+    index (anything index))
+    number (anything number))
     (user_at house d) (user_at_known house d)
 
 give_known : (house : House) (d : Data) → Each (KnowsAct house) (give_of house d)
 give_known house d =
-    each_then (Knows house) (KnowsAct house) _
-    (λ user known. each_then Anything (KnowsAct house) _
-    (λ mailbox h. each_map Anything (KnowsAct house) _ (λ text h. one_known house user known) (body_at d) (anything (body_at d)))
-    (box_at (codes "box") d) (anything (box_at (codes "box") d)))
+    let mailbox = box_at (codes "box") d in
+    each_then (Knows house) (KnowsAct house) (λ user. option_and_then (λ name. option_map (λ text. Give user name text) (body_at d)) mailbox)
+    (λ user known. each_then {A = List ℕ} Anything (KnowsAct house) (λ name. option_map (λ text. Give user name text) (body_at d))
+    (λ name h. each_map {A = List ℕ} Anything (KnowsAct house) (λ text. Give user name text) (λ text h. one_known house user known) (body_at d) (anything (body_at d)))
+    mailbox (anything mailbox))
     (user_at house d) (user_at_known house d)
 
 act_by_known : (house : House) (d : Data) (w : Word) → Each (KnowsAct house) (act_by house d w)
@@ -179,25 +195,32 @@ acted_knows house (Some act) h = h
 
 box_knows : (house : House) (parts : List ℕ) → Each (KnowsUsers house) (box_in house parts)
 box_knows house parts =
-    each_then Anything (KnowsUsers house) _
-    (λ user h. each_map Anything (KnowsUsers house) _ (λ name h. tt) _ (anything _))
-    _ (anything _)
+    let name = option_and_then box_name (part_of (after_first is_slash parts)) in
+    let user = option_and_then (user_named house) (part_of (before_first is_slash parts)) in
+    each_then {A = User} Anything (KnowsUsers house) (λ user. option_map (λ name. route.Box user name) name)
+    (λ user h. each_map {A = List ℕ} Anything (KnowsUsers house) (λ name. route.Box user name) (λ name h. tt) name (anything name))
+    user (anything user)
+
+number_knows : (house : House) (to : ℕ → Taken) (parts : List ℕ) → ((n : ℕ) → KnowsUsers house (to n)) → Each (KnowsUsers house) (option_map to (number_in parts))
+number_knows house to parts knows = each_map {A = ℕ} Anything (KnowsUsers house) to (λ n h. knows n) (number_in parts) (anything (number_in parts))
 
 on_page : (house : House) (p : Page) (parts body : List ℕ) → ChoiceKnows house (route_on house p parts body)
-on_page house page.Status parts body = alone_knows house _ parts tt
-on_page house page.Timeline parts body = taken_knows house _ (each_map Anything (KnowsUsers house) _ (λ n h. tt) (number_in parts) (anything (number_in parts)))
+on_page house page.Status parts body = alone_knows house (Ok route.Status) parts tt
+on_page house page.Timeline parts body = taken_knows house _ (number_knows house (λ start. route.Timeline start) parts (λ n. tt))
 on_page house page.Box parts body = taken_knows house _ (box_knows house parts)
-on_page house page.Body parts body = taken_knows house _ (each_map Anything (KnowsUsers house) _ (λ n h. tt) (number_in parts) (anything (number_in parts)))
-on_page house page.Conf parts body = alone_knows house _ parts tt
-on_page house page.Act parts body = alone_knows house _ parts (acted_knows house (act_in house body) (act_in_known house body))
-on_page house page.Stop parts body = alone_knows house _ parts tt
+on_page house page.Body parts body = taken_knows house _ (number_knows house (λ number. route.Body number) parts (λ n. tt))
+on_page house page.Conf parts body = alone_knows house (Ok route.Conf) parts tt
+on_page house page.Act parts body = alone_knows house (acted (act_in house body)) parts (acted_knows house (act_in house body) (act_in_known house body))
+on_page house page.Stop parts body = alone_knows house (Ok route.Stop) parts tt
 
 at_knows : (house : House) (r : Request) (o : Option Page) → ChoiceKnows house (route_at house r o)
 at_knows house r None = tt
-at_knows house r (Some p) = elim (bytes_eq r.method (method_of p)) as (λ t. ChoiceKnows house (if t then route_on house p _ _ else Err _)) [
-  | true ↦ on_page house p _ _
-  | false ↦ tt
-]
+at_knows house r (Some p) =
+    let parts = drop (length (front_of p)) r.target in
+    elim (bytes_eq r.method (method_of p)) as (λ t. ChoiceKnows house (if t then route_on house p parts r.body else Err Route)) [
+      | true ↦ on_page house p parts r.body
+      | false ↦ tt
+    ]
 
 pub ask_knows : (house : House) (bytes : List ℕ) (asked : Result Asked HttpRefused) → Asks house bytes asked → AskKnows house asked
 ask_knows house bytes (Ok NotYet) asks = tt

@@ -8,4 +8,5 @@ pub returns-in-Err-clause-asks : goal.returns-in-Err-clause-asks
 returns-in-Err-clause-asks c = rw c.head_refused.ensures (asks_refused c.args.house.now c.args.bytes.now c.in-Err.refused c.in-Err.ensures.says)
 
 pub returns-in-Ok-clause-learns : goal.returns-in-Ok-clause-learns
-returns-in-Ok-clause-learns c = learns_of c.args.house.now _ c.args.bytes.now c.in-Ok.request c.read_asked.result c.read_asked.ensures c.in-Ok.ensures.learnt
+returns-in-Ok-clause-learns c =
+    learns_of c.args.house.now c.read.new.self c.args.bytes.now c.in-Ok.request c.read_asked.result c.read_asked.ensures c.in-Ok.ensures.learnt
