@@ -137,6 +137,17 @@ pub(crate) fn asks(alloc: Global, talk: &mut Talk, line: &[u8]) -> Result<bool, 
     Ok(is_asked(&out))
 }
 
+fn settles_by(
+    alloc: Global,
+    talk: &mut Talk,
+    outcome: &Result<Item, SubmitFault>,
+    last: bool,
+    answer: &[u8],
+) -> Result<bool, Fail> {
+    let out = settled(alloc, talk, outcome)?;
+    Ok(is_said(&out, last, answer) && talk.session.is_free())
+}
+
 /// Whether this is said of what was asked, and nothing is awaited any more.
 pub(crate) fn settles(
     alloc: Global,
@@ -146,24 +157,24 @@ pub(crate) fn settles(
     answer: &[u8],
 ) -> Result<bool, Fail> {
     let outcome = outcome(alloc, fault)?;
-    let out = settled(alloc, talk, &outcome)?;
-    Ok(is_said(&out, last, answer) && talk.session.is_free())
+    settles_by(alloc, talk, &outcome, last, answer)
 }
 
-/// A session in which ann has selected her INBOX.
-pub(crate) fn selected(alloc: Global) -> Result<Talk, Fail> {
-    let mut talk = Talk {
-        desk: new_desk(alloc)?,
+/// A session in which nobody is logged in.
+pub(crate) fn new_talk(alloc: Global) -> Result<Talk, Fail> {
+    let desk = new_desk(alloc)?;
+    Ok(Talk {
+        desk,
         session: ImapSession::new(),
-    };
-    let entered = hears(alloc, &mut talk, b"a LOGIN ann a1", b"a OK LOGIN done.\r\n")?;
-    let asked = asks(alloc, &mut talk, b"b SELECT INBOX")?;
-    let told = settles(alloc, &mut talk, None, false, OPENED)?;
-    if entered && asked && told {
-        Ok(talk)
-    } else {
-        Err(Fail::new("INBOX is not selected"))
-    }
+    })
+}
+
+/// Whether ann comes to have selected her INBOX.
+pub(crate) fn selects(alloc: Global, talk: &mut Talk) -> Result<bool, Fail> {
+    let entered = hears(alloc, talk, b"a LOGIN ann a1", b"a OK LOGIN done.\r\n")?;
+    let asked = asks(alloc, talk, b"b SELECT INBOX")?;
+    let told = settles(alloc, talk, None, false, OPENED)?;
+    Ok(entered && asked && told)
 }
 
 const OPENED: &[u8] =

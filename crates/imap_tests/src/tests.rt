@@ -1,5 +1,5 @@
 use crate::given::{FIRST, SECOND};
-use crate::talk::{Talk, asks, hears, is_asked, is_said, reads, selected, settles, takes};
+use crate::talk::{Talk, asks, hears, is_said, new_talk, reads, selects, settles, takes};
 use imap_session::ImapOut;
 use seal_log::ReadFault;
 use std::alloc::Global;
@@ -14,15 +14,20 @@ const STAYS: &[u8] = b"u OK CHECK done.\r\n";
 
 const LEAVES: &[u8] = b"u BAD Wrong state.\r\n";
 
-/// Whether a session hears this of a refusal, and goes on.
-fn is_refused_so(alloc: Global, row: &RefusedRow) -> Result<bool, Fail> {
+fn hears_refusal(alloc: Global, talk: &mut Talk, row: &RefusedRow) -> Result<bool, Fail> {
     let (line, why, answer, check) = *row;
     let fault = Some(SubmitFault::Refused(why));
-    let mut talk = selected(alloc)?;
-    let asked = asks(alloc, &mut talk, line)?;
-    let told = settles(alloc, &mut talk, fault, false, answer)?;
-    let goes_on = hears(alloc, &mut talk, b"u CHECK", check)?;
-    Ok(asked && told && goes_on)
+    let selected = selects(alloc, talk)?;
+    let asked = asks(alloc, talk, line)?;
+    let told = settles(alloc, talk, fault, false, answer)?;
+    let goes_on = hears(alloc, talk, b"u CHECK", check)?;
+    Ok(selected && asked && told && goes_on)
+}
+
+/// Whether a session hears this of a refusal, and goes on.
+fn is_refused_so(alloc: Global, row: &RefusedRow) -> Result<bool, Fail> {
+    let mut talk = new_talk(alloc)?;
+    hears_refusal(alloc, &mut talk, row)
 }
 
 /// The place of the first row that is otherwise.
@@ -136,12 +141,22 @@ fn refused_messages_and_numbers_are_told(rt: HostRuntime) -> Result<(), Fail> {
     Ok(())
 }
 
-/// Whether a session hears these last words of a line whose item can't be kept.
-fn is_last(alloc: Global, line: &[u8], fault: SubmitFault, answer: &[u8]) -> Result<bool, Fail> {
-    let mut talk = selected(alloc)?;
-    let asked = asks(alloc, &mut talk, line)?;
-    let told = settles(alloc, &mut talk, Some(fault), true, answer)?;
-    Ok(asked && told)
+fn hears_last(
+    alloc: Global,
+    talk: &mut Talk,
+    line: &[u8],
+    fault: SubmitFault,
+) -> Result<bool, Fail> {
+    let selected = selects(alloc, talk)?;
+    let asked = asks(alloc, talk, line)?;
+    let told = settles(alloc, talk, Some(fault), true, b"* BYE Disk fault.\r\n")?;
+    Ok(selected && asked && told)
+}
+
+/// Whether a session has last words where the item of a line can't be kept.
+fn is_last(alloc: Global, line: &[u8], fault: SubmitFault) -> Result<bool, Fail> {
+    let mut talk = new_talk(alloc)?;
+    hears_last(alloc, &mut talk, line, fault)
 }
 
 #[test]
@@ -153,7 +168,7 @@ fn a_fault_of_the_disk_ends_the_connection(rt: HostRuntime) -> Result<(), Fail> 
         (b"t UID COPY 1:* Work", SubmitFault::Closed),
     ];
     for (line, fault) in rows {
-        assert!(rt; is_last(rt.alloc(), line, fault, b"* BYE Disk fault.\r\n")?);
+        assert!(rt; is_last(rt.alloc(), line, fault)?);
     }
     Ok(())
 }
@@ -174,14 +189,39 @@ fn needs(alloc: Global, talk: &mut Talk, line: &[u8], bodies: &[Body]) -> Result
     Ok(is_read(&out, bodies))
 }
 
+/// Whether this is said of the texts that are awaited, or of why they can't be had.
+fn hears_of_texts(
+    alloc: Global,
+    talk: &mut Talk,
+    texts: &Result<Texts, ReadFault>,
+    answer: &[u8],
+) -> Result<bool, Fail> {
+    let out = reads(alloc, talk, texts)?;
+    Ok(is_said(&out, false, answer))
+}
+
+fn hears_of_fault(
+    alloc: Global,
+    talk: &mut Talk,
+    fault: ReadFault,
+    answer: &[u8],
+) -> Result<bool, Fail> {
+    let texts = Err(fault);
+    hears_of_texts(alloc, talk, &texts, answer)
+}
+
+fn misses(alloc: Global, talk: &mut Talk, fault: ReadFault, answer: &[u8]) -> Result<bool, Fail> {
+    let selected = selects(alloc, talk)?;
+    let needed = needs(alloc, talk, b"t FETCH 1 BODY[]", &[FIRST.0])?;
+    let told = hears_of_fault(alloc, talk, fault, answer)?;
+    let goes_on = hears(alloc, talk, b"u CHECK", STAYS)?;
+    Ok(selected && needed && told && goes_on)
+}
+
 /// Whether a session hears this where a text can't be had, and goes on.
-fn misses(alloc: Global, fault: ReadFault, answer: &[u8]) -> Result<bool, Fail> {
-    let mut talk = selected(alloc)?;
-    let needed = needs(alloc, &mut talk, b"t FETCH 1 BODY[]", &[FIRST.0])?;
-    let out = reads(alloc, &mut talk, &Err(fault))?;
-    let told = is_said(&out, false, answer);
-    let goes_on = hears(alloc, &mut talk, b"u CHECK", STAYS)?;
-    Ok(needed && told && goes_on)
+fn is_missed(alloc: Global, fault: ReadFault, answer: &[u8]) -> Result<bool, Fail> {
+    let mut talk = new_talk(alloc)?;
+    misses(alloc, &mut talk, fault, answer)
 }
 
 #[test]
@@ -191,7 +231,7 @@ fn a_text_that_is_not_read_is_told(rt: HostRuntime) -> Result<(), Fail> {
         (ReadFault::NoMemory, b"t NO No memory.\r\n"),
     ];
     for (fault, answer) in rows {
-        assert!(rt; misses(rt.alloc(), fault, answer)?);
+        assert!(rt; is_missed(rt.alloc(), fault, answer)?);
     }
     Ok(())
 }
@@ -235,27 +275,49 @@ fn is_fetched(out: &ImapOut, items: &[Key], octets: u64) -> bool {
     }
 }
 
-/// Whether the store is asked once the texts are there.
-fn has_texts(alloc: Global, talk: &mut Talk, items: &[Key], octets: u64) -> Result<bool, Fail> {
-    let texts = Ok(texts(alloc, &[FIRST.1, SECOND.1])?);
-    let out = reads(alloc, talk, &texts)?;
-    Ok(is_fetched(&out, items, octets))
+fn asks_with(
+    alloc: Global,
+    talk: &mut Talk,
+    texts: &Result<Texts, ReadFault>,
+) -> Result<bool, Fail> {
+    let out = reads(alloc, talk, texts)?;
+    Ok(is_fetched(
+        &out,
+        &[Key { item: 2, index: 0 }, Key { item: 3, index: 0 }],
+        23,
+    ))
 }
 
-/// Whether a session that has the texts of both messages hears this of an outcome.
+/// Whether the store is asked for both messages once their texts are there.
+fn asks_for_both(alloc: Global, talk: &mut Talk) -> Result<bool, Fail> {
+    let texts = Ok(texts(alloc, &[FIRST.1, SECOND.1])?);
+    asks_with(alloc, talk, &texts)
+}
+
 fn hears_of_both(
     alloc: Global,
+    talk: &mut Talk,
     fault: Option<SubmitFault>,
     last: bool,
     answer: &[u8],
 ) -> Result<bool, Fail> {
     let line = b"t FETCH 1:2 (RFC822.SIZE BODY[])".as_slice();
-    let items = [Key { item: 2, index: 0 }, Key { item: 3, index: 0 }];
-    let mut talk = selected(alloc)?;
-    let needed = needs(alloc, &mut talk, line, &[FIRST.0, SECOND.0])?;
-    let asked = has_texts(alloc, &mut talk, &items, 23)?;
-    let told = settles(alloc, &mut talk, fault, last, answer)?;
-    Ok(needed && asked && told)
+    let selected = selects(alloc, talk)?;
+    let needed = needs(alloc, talk, line, &[FIRST.0, SECOND.0])?;
+    let asked = asks_for_both(alloc, talk)?;
+    let told = settles(alloc, talk, fault, last, answer)?;
+    Ok(selected && needed && asked && told)
+}
+
+/// Whether a session that has the texts of both messages hears this of an outcome.
+fn is_told_of_both(
+    alloc: Global,
+    fault: Option<SubmitFault>,
+    last: bool,
+    answer: &[u8],
+) -> Result<bool, Fail> {
+    let mut talk = new_talk(alloc)?;
+    hears_of_both(alloc, &mut talk, fault, last, answer)
 }
 
 const BOTH: &[u8] =
@@ -273,7 +335,7 @@ fn two_texts_are_told_once_they_are_asked_for(rt: HostRuntime) -> Result<(), Fai
         (Some(SubmitFault::Closed), true, b"* BYE Disk fault.\r\n"),
     ];
     for (fault, last, answer) in rows {
-        assert!(rt; hears_of_both(rt.alloc(), fault, last, answer)?);
+        assert!(rt; is_told_of_both(rt.alloc(), fault, last, answer)?);
     }
     Ok(())
 }
