@@ -7,17 +7,21 @@ use std::test::Fail;
 use undo_base::{Flags, How, Key, Keys, Name, Names, Text};
 use verb_core::Ask;
 
-/// What ann asks. `Copy` and `Fetch` name messages by sequence number, and the others by UID.
+/// What ann asks. `Copy`, `CopyAll` and each FETCH name messages by sequence number, and the others by UID. `FetchAll`,
+/// `AddDeletedToAll` and `CopyAll` are of so many deliveries in a row, of which item 2 is the first.
 #[derive(Clone, Copy)]
 pub(crate) enum Asked {
     Append,
     Fetch,
     FetchMost,
     FetchMore,
+    FetchAll,
     AddDeleted,
+    AddDeletedToAll,
     TakeDeleted,
     DeletedAlone,
     Copy,
+    CopyAll,
     CopyByUid,
     Rename,
     List,
@@ -72,6 +76,30 @@ fn many(alloc: Global, count: u32) -> Result<Keys, Fail> {
         keys.push(last_key(20))?;
     }
     Ok(keys)
+}
+
+/// The keys of so many deliveries in a row, of which item 2 is the first.
+fn keys_of_all(alloc: Global, count: u32) -> Result<Keys, Fail> {
+    let mut keys = Keys::new(alloc);
+    for place in 0..count {
+        keys.push(Key {
+            item: place.saturating_add(2),
+            index: 0,
+        })?;
+    }
+    Ok(keys)
+}
+
+/// The keys that a number stands for.
+fn keys_named(alloc: Global, asked: Asked, number: u32) -> Result<Keys, Fail> {
+    match asked {
+        Asked::FetchMost => many(alloc, number),
+        Asked::FetchMore => many(alloc, number),
+        Asked::FetchAll => keys_of_all(alloc, number),
+        Asked::AddDeletedToAll => keys_of_all(alloc, number),
+        Asked::CopyAll => keys_of_all(alloc, number),
+        _ => keys(alloc, number),
+    }
 }
 
 /// A text of so many octets.
@@ -138,6 +166,7 @@ fn keyed(asked: Asked, mailbox: Name, keys: Keys) -> Ask
         Asked::FetchMost => fetch(mailbox, keys, 268435456),
         Asked::FetchMore => fetch(mailbox, keys, 268435457),
         Asked::AddDeleted => mark(mailbox, keys, How::Add),
+        Asked::AddDeletedToAll => mark(mailbox, keys, How::Add),
         Asked::TakeDeleted => mark(mailbox, keys, How::Take),
         Asked::DeletedAlone => mark(mailbox, keys, How::Replace),
         _ => fetch(mailbox, keys, 0),
@@ -165,34 +194,27 @@ fn named(asked: Asked, mailbox: Name) -> Ask
     }
 }
 
-fn keyed_ask(alloc: Global, asked: Asked, mailbox: &str, digits: u32) -> Result<Ask, Fail>
+fn keyed_ask(alloc: Global, asked: Asked, mailbox: &str, number: u32) -> Result<Ask, Fail>
     ensures { IfOk result (λ ask. is_users ask ≡ true) }
 {
     let mailbox = name(alloc, mailbox)?;
-    let keys = keys(alloc, digits)?;
-    Ok(keyed(asked, mailbox, keys))
-}
-
-fn many_ask(alloc: Global, asked: Asked, mailbox: &str, count: u32) -> Result<Ask, Fail>
-    ensures { IfOk result (λ ask. is_users ask ≡ true) }
-{
-    let mailbox = name(alloc, mailbox)?;
-    let keys = many(alloc, count)?;
+    let keys = keys_named(alloc, asked, number)?;
     Ok(keyed(asked, mailbox, keys))
 }
 
 fn copy_ask(
     alloc: Global,
+    asked: Asked,
     mailbox: &str,
     target: &str,
-    digits: u32,
+    number: u32,
     strict: bool,
 ) -> Result<Ask, Fail>
     ensures { IfOk result (λ ask. is_users ask ≡ true) }
 {
     let mailbox = name(alloc, mailbox)?;
     let target = name(alloc, target)?;
-    let keys = keys(alloc, digits)?;
+    let keys = keys_named(alloc, asked, number)?;
     Ok(Ask::Copy {
         mailbox,
         keys,
@@ -240,14 +262,17 @@ pub(crate) fn ask_of(
 {
     match asked {
         Asked::Append => append_ask(alloc, mailbox, number),
-        Asked::FetchMost => many_ask(alloc, asked, mailbox, number),
-        Asked::FetchMore => many_ask(alloc, asked, mailbox, number),
-        Asked::Copy => copy_ask(alloc, mailbox, target, number, true),
-        Asked::CopyByUid => copy_ask(alloc, mailbox, target, number, false),
+        Asked::Copy => copy_ask(alloc, asked, mailbox, target, number, true),
+        Asked::CopyAll => copy_ask(alloc, asked, mailbox, target, number, true),
+        Asked::CopyByUid => copy_ask(alloc, asked, mailbox, target, number, false),
         Asked::Rename => rename_ask(alloc, mailbox, target),
         Asked::List => list_ask(alloc, mailbox),
         Asked::Fetch => keyed_ask(alloc, asked, mailbox, number),
+        Asked::FetchMost => keyed_ask(alloc, asked, mailbox, number),
+        Asked::FetchMore => keyed_ask(alloc, asked, mailbox, number),
+        Asked::FetchAll => keyed_ask(alloc, asked, mailbox, number),
         Asked::AddDeleted => keyed_ask(alloc, asked, mailbox, number),
+        Asked::AddDeletedToAll => keyed_ask(alloc, asked, mailbox, number),
         Asked::TakeDeleted => keyed_ask(alloc, asked, mailbox, number),
         Asked::DeletedAlone => keyed_ask(alloc, asked, mailbox, number),
         _ => named_ask(alloc, asked, mailbox),

@@ -206,3 +206,36 @@ fn a_thousand_mailboxes_are_enough(rt: HostRuntime) -> Result<(), Fail> {
     lines.push_str(FULL)?;
     tells_and_holds(&rt, rt.alloc(), &lines, "ann x 1 0\nann 7 0 0\nann 997 1 0")
 }
+
+/// Lines that deliver so many messages to ann, of which item 2 is the first.
+fn many_deliveries(alloc: Global, count: u32) -> Result<String, Fail> {
+    let mut lines = String::new(alloc);
+    for place in 0..count {
+        let number = place.saturating_add(2);
+        lines.push_str(&format!(in alloc; "{number} mail ann hi 0 nothing 0\n")?)?;
+    }
+    Ok(lines)
+}
+
+const ALL_OF_A_THOUSAND: &str = "1002 create All - 0 nothing 0
+1003 fetch-all INBOX - 1000 seen 1000
+1004 copy-all INBOX All 1000 copied 1000
+1005 add-deleted-to-all INBOX - 1000 done 1000
+1006 status INBOX - 0 count 1000
+1007 expunge INBOX - 0 left 0
+1008 status INBOX - 0 count 0
+1009 select All - 0 count 1000
+1010 mail ann hi 0 nothing 0
+1011 delete All - 0 moved 0";
+
+#[test]
+fn a_thousand_messages_are_marked_copied_and_go(rt: HostRuntime) -> Result<(), Fail> {
+    let mut lines = many_deliveries(rt.alloc(), 1000)?;
+    lines.push_str(ALL_OF_A_THOUSAND)?;
+    tells_and_holds(
+        &rt,
+        rt.alloc(),
+        &lines,
+        "ann INBOX 1002 1102000\nann All 0 0\nann Lost+Found 1 0",
+    )
+}

@@ -1,9 +1,13 @@
-//! What is shown, refused or held, as a word and a number. The number has the item and the index of each key, in order.
+//! What is shown, refused or held, as a word and a number. The number has the item and the index of each key, in order;
+//! of more than nine it is how many there are.
 use box_store::Store;
 use undo_base::{Flags, Key, Name, User};
 use verb_core::{Entry, Refused, Shown, Sight, Way};
 
 pub(crate) type Told = (&'static str, u64);
+
+/// So many keys have their digits in a number.
+const MOST_DIGITS: usize = 9;
 
 fn with_key(digits: u64, key: Key) -> u64 {
     digits
@@ -13,10 +17,16 @@ fn with_key(digits: u64, key: Key) -> u64 {
 }
 
 fn of_keys(keys: &[Key]) -> u64 {
+    if keys.len() > MOST_DIGITS {
+        return keys.len() as u64;
+    }
     keys.iter().fold(0, |digits, key| with_key(digits, *key))
 }
 
 fn of_sights(sights: &[Sight]) -> u64 {
+    if sights.len() > MOST_DIGITS {
+        return sights.len() as u64;
+    }
     sights
         .iter()
         .fold(0, |digits, sight| with_key(digits, sight.key))
@@ -87,8 +97,14 @@ fn with_entry(digits: u64, entry: &Entry) -> u64 {
         .wrapping_add(of_flags(entry.flags))
 }
 
+fn of_entries(entries: &[Entry]) -> u64 {
+    if entries.len() > MOST_DIGITS {
+        return entries.len() as u64;
+    }
+    entries.iter().fold(0, with_entry)
+}
+
 pub(crate) fn held(store: &Store, user: User, mailbox: &Name) -> Option<(u64, u64)> {
     let mailbox = store.mailbox(user, mailbox)?;
-    let digits = mailbox.entries.iter().fold(0, with_entry);
-    Some((mailbox.next, digits))
+    Some((mailbox.next, of_entries(mailbox.entries.as_slice())))
 }
