@@ -25,10 +25,10 @@ const WORK_IS_THERE: &[u8] =
 const WORK_IS_NOT_THERE: &[u8] =
     b"1< * OK mail.test IMAP4rev1 undomail\n1< a OK LOGIN done.\n1< b NO No such mailbox.\n";
 
-const SEND: &[u8] =
+pub(crate) const SEND: &[u8] =
     b"at 1105092000\nopen 1 smtp\nline 1 HELO client.test\nline 1 MAIL FROM:<joe@far.test>\nline 1 RCPT TO:<ann@mail.test>\nline 1 DATA\nline 1 Subject: hi\nline 1\nline 1 .\n";
 
-const SENT: &[u8] =
+pub(crate) const SENT: &[u8] =
     b"1< 220 mail.test ESMTP undomail\n1< 250 mail.test\n1< 250 OK\n1< 250 OK\n1< 354 End with a line of one dot\n1< 250 OK 2\n";
 
 const NOT_SENT: &[u8] =
