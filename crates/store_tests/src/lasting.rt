@@ -1,9 +1,8 @@
 //! What one run leaves for the next.
-use crate::running::{bytes_of, ends};
-use crate::scripting::{SEND, SENT};
+use crate::running::{joined, store_after, tells};
+use crate::scripting::SEND;
 use house_text::HOUSE;
 use std::test::Fail;
-use undo_base::Text;
 
 const READ: &[u8] =
     b"at 1105092001\nopen 1 imap\nline 1 a LOGIN ann a1\nline 1 b SELECT INBOX\nline 1 c FETCH 1 BODY[]\n";
@@ -20,29 +19,36 @@ const SENT_NO_MORE: &[u8] =
 #[test]
 fn a_delivered_message_is_there_in_the_next_run(rt: HostRuntime) -> Result<(), Fail> {
     let alloc = rt.alloc();
-    let made = ends(&rt, alloc, "init", HOUSE, b"", &[])?;
-    let empty = bytes_of(alloc, &made.disk)?;
-    let sent = ends(&rt, alloc, "script", SEND, empty.bytes(), &[])?;
-    assert_eq!(rt; sent.output.bytes(), SENT);
-    let store = bytes_of(alloc, &sent.disk)?;
-    let read = ends(&rt, alloc, "script", READ, store.bytes(), &[])?;
-    assert_eq!(rt; read.status, 0);
-    assert_eq!(rt; read.output.bytes(), READ_TEXT);
+    let empty = store_after(&rt, alloc, "init", HOUSE, (b"", &[]))?;
+    let store = store_after(&rt, alloc, "script", SEND, (empty.bytes(), &[]))?;
+    assert!(rt;
+        tells(
+            &rt,
+            alloc,
+            "script",
+            READ,
+            (store.bytes(), &[]),
+            (0, READ_TEXT)
+        )?
+    );
     Ok(())
 }
 
 #[test]
 fn numbers_end_at_the_last(rt: HostRuntime) -> Result<(), Fail> {
     let alloc = rt.alloc();
-    let mut house = Text::of(alloc, b"first = 4194303\n")?;
-    house.extend(HOUSE)?;
-    let made = ends(&rt, alloc, "init", house.bytes(), b"", &[])?;
-    assert_eq!(rt; made.status, 0);
-    let empty = bytes_of(alloc, &made.disk)?;
-    let mut script = Text::of(alloc, SEND)?;
-    script.extend(SEND_MORE)?;
-    let sent = ends(&rt, alloc, "script", script.bytes(), empty.bytes(), &[])?;
-    assert_eq!(rt; sent.output.bytes(), SENT_NO_MORE);
-    assert_eq!(rt; sent.status, 0);
+    let house = joined(alloc, b"first = 4194303\n", HOUSE)?;
+    let empty = store_after(&rt, alloc, "init", house.bytes(), (b"", &[]))?;
+    let script = joined(alloc, SEND, SEND_MORE)?;
+    assert!(rt;
+        tells(
+            &rt,
+            alloc,
+            "script",
+            script.bytes(),
+            (empty.bytes(), &[]),
+            (0, SENT_NO_MORE)
+        )?
+    );
     Ok(())
 }
