@@ -1,5 +1,5 @@
 //! The command `check`.
-use crate::running::{CREATED, DISK_FAULT, FORMATTED, bytes_of, ends, joined, leaves};
+use crate::running::{CREATED, DISK_FAULT, FORMATTED, joined, leaves, tells};
 use std::test::Fail;
 
 const NOT_A_STORE: &[u8] = b"undomail: not a store\n";
@@ -13,40 +13,25 @@ const OPENING: &[u8] =
 const WITH_WORK: &[u8] =
     b"cycles 0\nitems 1\nmessages 0\nnext 3\nnotices 0\nusers 3\ndigest 8694218d8877d271ce1110a7ca4f7676b602580e4f9a4ddb0da5e49bd4819643\n";
 
-// Bytes behind the last gate are no damage, as a crash may leave them.
+// Bytes behind the last gate are no damage, as a crash may leave them. A cut frame is, and a record whose number is not the
+// next.
 #[test]
-fn check_tells_the_counts_and_writes_nothing(rt: HostRuntime) -> Result<(), Fail> {
+fn check_tells_the_counts_or_what_is_wrong_and_writes_nothing(rt: HostRuntime) -> Result<(), Fail> {
     let alloc = rt.alloc();
     let created = joined(alloc, &FORMATTED[..76], CREATED)?;
     let unsealed = joined(alloc, FORMATTED, &CREATED[1..])?;
-    let table: [(&[u8], &[u8]); 3] = [
-        (FORMATTED, OPENING),
-        (created.bytes(), WITH_WORK),
-        (unsealed.bytes(), OPENING),
-    ];
-    for (bytes, output) in table {
-        assert!(rt; leaves(&rt, alloc, "check", b"", bytes, (0, output, bytes))?);
-        let ended = ends(&rt, alloc, "check", b"", bytes, &[])?;
-        assert_eq!(rt; ended.disk.writes(), 0);
-    }
-    Ok(())
-}
-
-// The cut frame has its gate at 76; the last record of the others can't stand, since its number is not the next.
-#[test]
-fn check_tells_what_is_no_store_and_what_is_damaged(rt: HostRuntime) -> Result<(), Fail> {
-    let alloc = rt.alloc();
     let cut = joined(alloc, &FORMATTED[..76], b"\x55")?;
-    let created = joined(alloc, &FORMATTED[..76], CREATED)?;
-    let half = &created.bytes()[..101];
     let twice = joined(alloc, &created.bytes()[..102], CREATED)?;
-    let table: [(&[u8], u8, &[u8]); 7] = [
+    let table: [(&[u8], u8, &[u8]); 10] = [
+        (FORMATTED, 0, OPENING),
+        (created.bytes(), 0, WITH_WORK),
+        (unsealed.bytes(), 0, OPENING),
         (b"", 3, NOT_A_STORE),
         (b"\x00\x55", 3, NOT_A_STORE),
         (b"U", 10, b"undomail: damaged at 0\n"),
         (&FORMATTED[..76], 10, b"undomail: damaged at 0\n"),
         (cut.bytes(), 10, DAMAGED),
-        (half, 10, DAMAGED),
+        (&created.bytes()[..101], 10, DAMAGED),
         (twice.bytes(), 10, b"undomail: damaged at 102\n"),
     ];
     for (bytes, status, line) in table {
@@ -55,24 +40,22 @@ fn check_tells_what_is_no_store_and_what_is_damaged(rt: HostRuntime) -> Result<(
     Ok(())
 }
 
-// Which call of opening fails: none of the later ones is made, and no more calls are made than there are.
+// The calls are a sync, the look at the length, the reads of both gates and of the first length, and that of the record.
 #[test]
 fn check_tells_each_call_that_fails(rt: HostRuntime) -> Result<(), Fail> {
     let alloc = rt.alloc();
-    let mut failed = 0;
-    for call in 1..20 {
-        let ended = ends(&rt, alloc, "check", b"", FORMATTED, &[call])?;
-        let left = bytes_of(alloc, &ended.disk)?;
-        assert_eq!(rt; left.bytes(), FORMATTED);
-        if ended.status == 5 {
-            assert_eq!(rt; ended.output.bytes(), DISK_FAULT);
-            assert_eq!(rt; failed + 1, call);
-            failed += 1;
-        } else {
-            assert_eq!(rt; ended.status, 0);
-            assert_eq!(rt; ended.output.bytes(), OPENING);
-        }
+    for call in 1..7 {
+        assert!(rt;
+            tells(
+                &rt,
+                alloc,
+                "check",
+                b"",
+                (FORMATTED, &[call]),
+                (5, DISK_FAULT)
+            )?
+        );
     }
-    assert!(rt; failed > 0);
+    assert!(rt; tells(&rt, alloc, "check", b"", (FORMATTED, &[7]), (0, OPENING))?);
     Ok(())
 }

@@ -19,13 +19,13 @@ pub(crate) const DISK_FAULT: &[u8] = b"undomail: disk fault\n";
 /// How a run ended: the status, what was written, and the disk.
 #[derive(Drop)]
 pub(crate) struct Ended {
-    pub(crate) status: u8,
-    pub(crate) output: Text,
+    status: u8,
+    output: Text,
     pub(crate) disk: MemDisk,
 }
 
 /// Runs these words over a text and a disk of these bytes, of which these calls fail.
-pub(crate) fn words_end<R: Threads + Sync>(
+fn words_end<R: Threads + Sync>(
     rt: &R,
     alloc: Global,
     words: &[&str],
@@ -72,6 +72,42 @@ pub(crate) fn ends<R: Threads + Sync>(
     words_end(rt, alloc, &[command, "a.store"], text, bytes, failing)
 }
 
+/// Whether these words, over no text and an empty disk, end with this status and this output.
+pub(crate) fn words_tell<R: Threads + Sync>(
+    rt: &R,
+    alloc: Global,
+    words: &[&str],
+    wanted: (u8, &[u8]),
+) -> Result<bool, Fail> {
+    let ended = words_end(rt, alloc, words, b"", b"", &[])?;
+    Ok(ended.status == wanted.0 && ended.output.bytes() == wanted.1)
+}
+
+/// Whether a run over this disk, of which these calls fail, ends with this status and this output.
+pub(crate) fn tells<R: Threads + Sync>(
+    rt: &R,
+    alloc: Global,
+    command: &str,
+    text: &[u8],
+    disk: (&[u8], &[u32]),
+    wanted: (u8, &[u8]),
+) -> Result<bool, Fail> {
+    let ended = ends(rt, alloc, command, text, disk.0, disk.1)?;
+    Ok(ended.status == wanted.0 && ended.output.bytes() == wanted.1)
+}
+
+/// What stands on the disk after a run, of whose calls these fail.
+pub(crate) fn store_after<R: Threads + Sync>(
+    rt: &R,
+    alloc: Global,
+    command: &str,
+    text: &[u8],
+    disk: (&[u8], &[u32]),
+) -> Result<Text, Fail> {
+    let ended = ends(rt, alloc, command, text, disk.0, disk.1)?;
+    Ok(ended.disk.image_after(alloc, ended.disk.writes())?)
+}
+
 /// Whether a run ends with this status and this output, and leaves these bytes on the disk.
 pub(crate) fn leaves<R: Threads + Sync>(
     rt: &R,
@@ -82,13 +118,8 @@ pub(crate) fn leaves<R: Threads + Sync>(
     wanted: (u8, &[u8], &[u8]),
 ) -> Result<bool, Fail> {
     let ended = ends(rt, alloc, command, text, bytes, &[])?;
-    let left = bytes_of(alloc, &ended.disk)?;
+    let left = ended.disk.image_after(alloc, ended.disk.writes())?;
     Ok(ended.status == wanted.0 && ended.output.bytes() == wanted.1 && left.bytes() == wanted.2)
-}
-
-/// The bytes of a disk after all of its writes.
-pub(crate) fn bytes_of(alloc: Global, disk: &MemDisk) -> Result<Text, Fail> {
-    Ok(disk.image_after(alloc, disk.writes())?)
 }
 
 /// Two texts, one after the other.

@@ -1,5 +1,7 @@
 //! The command `script`.
-use crate::running::{CREATED, DISK_FAULT, FORMATTED, bytes_of, ends, joined, leaves, words_end};
+use crate::running::{
+    CREATED, DISK_FAULT, FORMATTED, ends, joined, leaves, store_after, tells, words_tell,
+};
 use std::alloc::Global;
 use std::test::Fail;
 use std::thread::Threads;
@@ -7,6 +9,10 @@ use undo_base::Text;
 
 const USAGE: &[u8] =
     b"undomail: usage: undomail init STORE, serve STORE SMTP IMAP HTTP, script STORE, play, grow ROUNDS, check STORE\n";
+
+const BAD_SECOND: &[u8] = b"# a line\nline x y\n";
+
+const SECOND_IS_BAD: &[u8] = b"undomail: bad script line 2\n";
 
 const NOT_A_STORE: &[u8] = b"undomail: not a store\n";
 
@@ -25,7 +31,7 @@ const WORK_IS_THERE: &[u8] =
 const WORK_IS_NOT_THERE: &[u8] =
     b"1< * OK mail.test IMAP4rev1 undomail\n1< a OK LOGIN done.\n1< b NO No such mailbox.\n";
 
-const SEND: &[u8] =
+pub(crate) const SEND: &[u8] =
     b"at 1105092000\nopen 1 smtp\nline 1 HELO client.test\nline 1 MAIL FROM:<joe@far.test>\nline 1 RCPT TO:<ann@mail.test>\nline 1 DATA\nline 1 Subject: hi\nline 1\nline 1 .\n";
 
 const SENT: &[u8] =
@@ -43,14 +49,11 @@ fn words_of_no_shape_are_refused(rt: HostRuntime) -> Result<(), Fail> {
         &["script"],
         &["init", ""],
         &["check", "a.store", "b.store"],
-        &["serve", "a.store", "1", "2", "3"],
-        &["grow", "6"],
+        &["serve", "a.store", "0", "2", "3"],
+        &["grow", "2"],
     ];
     for words in table {
-        let ended = words_end(&rt, alloc, words, b"", b"", &[])?;
-        assert_eq!(rt; ended.status, 1);
-        assert_eq!(rt; ended.output.bytes(), USAGE);
-        assert_eq!(rt; ended.disk.writes(), 0);
+        assert!(rt; words_tell(&rt, alloc, words, (1, USAGE))?);
     }
     Ok(())
 }
@@ -60,83 +63,53 @@ fn words_of_no_shape_are_refused(rt: HostRuntime) -> Result<(), Fail> {
 fn script_refuses_a_bad_text_and_what_is_no_store(rt: HostRuntime) -> Result<(), Fail> {
     let alloc = rt.alloc();
     let cut = joined(alloc, &FORMATTED[..76], b"\x55")?;
-    let table: [(&[u8], &[u8], u8, &[u8]); 6] = [
-        (
-            b"# a line\nline x y\n",
-            FORMATTED,
-            2,
-            b"undomail: bad script line 2\n",
-        ),
-        (
-            b"# a line\nline x y\n",
-            b"",
-            2,
-            b"undomail: bad script line 2\n",
-        ),
-        (b"", b"", 3, NOT_A_STORE),
-        (b"", b"\x00\x55", 3, NOT_A_STORE),
-        (CREATE, cut.bytes(), 10, DAMAGED),
-        (b"", FORMATTED, 0, b""),
+    let created = joined(alloc, &FORMATTED[..76], CREATED)?;
+    let table: [(&[u8], &[u8], (u8, &[u8], &[u8])); 7] = [
+        (BAD_SECOND, FORMATTED, (2, SECOND_IS_BAD, FORMATTED)),
+        (BAD_SECOND, b"", (2, SECOND_IS_BAD, b"")),
+        (b"", b"", (3, NOT_A_STORE, b"")),
+        (b"", b"\x00\x55", (3, NOT_A_STORE, b"\x00\x55")),
+        (CREATE, cut.bytes(), (10, DAMAGED, cut.bytes())),
+        (b"", FORMATTED, (0, b"", FORMATTED)),
+        (CREATE, FORMATTED, (0, CREATE_DONE, created.bytes())),
     ];
-    for (text, bytes, status, line) in table {
-        assert!(rt; leaves(&rt, alloc, "script", text, bytes, (status, line, bytes))?);
+    for (text, bytes, wanted) in table {
+        assert!(rt; leaves(&rt, alloc, "script", text, bytes, wanted)?);
     }
     Ok(())
 }
 
-#[test]
-fn script_seals_each_change(rt: HostRuntime) -> Result<(), Fail> {
-    let alloc = rt.alloc();
-    let created = joined(alloc, &FORMATTED[..76], CREATED)?;
-    assert!(rt;
-        leaves(
-            &rt,
-            alloc,
-            "script",
-            CREATE,
-            FORMATTED,
-            (0, CREATE_DONE, created.bytes())
-        )?
-    );
-    assert!(rt; asks(&rt, alloc, created.bytes(), true)?);
-    assert!(rt; asks(&rt, alloc, FORMATTED, false)?);
-    Ok(())
-}
-
-/// Whether a script finds that Work is there, with its stamp, or that it is not.
-fn asks<R: Threads + Sync>(
+/// What a crash leaves of a CREATE, where so many writes are done, and so many bytes of the next.
+fn crash_leaves<R: Threads + Sync>(
     rt: &R,
     alloc: Global,
-    image: &[u8],
-    is_there: bool,
-) -> Result<bool, Fail> {
-    let wanted = if is_there {
-        WORK_IS_THERE
-    } else {
-        WORK_IS_NOT_THERE
-    };
-    let ended = ends(rt, alloc, "script", ASK, image, &[])?;
-    Ok(ended.status == 0 && ended.output.bytes() == wanted)
+    writes: usize,
+    kept: usize,
+) -> Result<Text, Fail> {
+    let ended = ends(rt, alloc, "script", CREATE, FORMATTED, &[])?;
+    Ok(ended.disk.image_torn(alloc, writes, kept)?)
 }
 
-/// Whether a crash leaves Work, where these writes are done, and of the next these bytes.
+/// Whether a crash there leaves a store with Work, which has its stamp, or one without it.
 fn has_work<R: Threads + Sync>(
     rt: &R,
     alloc: Global,
     at: (usize, usize),
     is_there: bool,
 ) -> Result<bool, Fail> {
-    let created = ends(rt, alloc, "script", CREATE, FORMATTED, &[])?;
-    let image = created.disk.image_torn(alloc, at.0, at.1)?;
-    asks(rt, alloc, image.bytes(), is_there)
+    let image = crash_leaves(rt, alloc, at.0, at.1)?;
+    let wanted = if is_there {
+        WORK_IS_THERE
+    } else {
+        WORK_IS_NOT_THERE
+    };
+    tells(rt, alloc, "script", ASK, (image.bytes(), &[]), (0, wanted))
 }
 
 // The record of CREATE is one write of 26 bytes at 77, and one of the gate at 76.
 #[test]
 fn a_stop_while_sealing_leaves_the_record_or_not(rt: HostRuntime) -> Result<(), Fail> {
     let alloc = rt.alloc();
-    let created = ends(&rt, alloc, "script", CREATE, FORMATTED, &[])?;
-    assert_eq!(rt; created.disk.writes(), 2);
     for kept in 0..27 {
         assert!(rt; has_work(&rt, alloc, (0, kept), false)?);
     }
@@ -146,43 +119,38 @@ fn a_stop_while_sealing_leaves_the_record_or_not(rt: HostRuntime) -> Result<(), 
     Ok(())
 }
 
-/// Whether the delivery is the second record of this image.
-fn is_sent<R: Threads + Sync>(rt: &R, alloc: Global, image: &Text) -> Result<bool, Fail> {
-    let ended = ends(rt, alloc, "check", b"", image.bytes(), &[])?;
-    Ok(
-        ended.status == 0
-            && ended
-                .output
-                .bytes()
-                .starts_with(b"cycles 0\nitems 1\nmessages 1\nnext 3\n"),
-    )
-}
-
-// Which of a run's calls on the disk fails: one of those that open the store, one of the four that seal the delivery, or none.
+// Six calls open the store, and four seal the delivery: a write, a sync, the write of the gate, and a sync. Where the last
+// one fails the record is there.
 #[test]
 fn a_failed_call_of_the_disk_ends_the_run(rt: HostRuntime) -> Result<(), Fail> {
     let alloc = rt.alloc();
-    let mut opening = 0;
-    let mut sealing = 0;
-    for call in 1..30 {
-        let ended = ends(&rt, alloc, "script", SEND, FORMATTED, &[call])?;
-        if ended.output.bytes() == DISK_FAULT {
-            assert_eq!(rt; ended.status, 5);
-            assert_eq!(rt; sealing, 0);
-            opening += 1;
-        } else if ended.output.bytes() == NOT_SENT {
-            assert_eq!(rt; ended.status, 5);
-            sealing += 1;
-        } else {
-            assert_eq!(rt; ended.output.bytes(), SENT);
-            assert_eq!(rt; ended.status, 0);
-        }
+    for call in 1..7 {
+        assert!(rt;
+            tells(
+                &rt,
+                alloc,
+                "script",
+                SEND,
+                (FORMATTED, &[call]),
+                (5, DISK_FAULT)
+            )?
+        );
     }
-    assert!(rt; opening > 0);
-    assert_eq!(rt; sealing, 4);
-    let last = ends(&rt, alloc, "script", SEND, FORMATTED, &[opening + 4])?;
-    assert_eq!(rt; last.output.bytes(), NOT_SENT);
-    let left = bytes_of(alloc, &last.disk)?;
-    assert!(rt; is_sent(&rt, alloc, &left)?);
+    for call in 7..11 {
+        assert!(rt;
+            tells(
+                &rt,
+                alloc,
+                "script",
+                SEND,
+                (FORMATTED, &[call]),
+                (5, NOT_SENT)
+            )?
+        );
+    }
+    assert!(rt; tells(&rt, alloc, "script", SEND, (FORMATTED, &[11]), (0, SENT))?);
+    let left = store_after(&rt, alloc, "script", SEND, (FORMATTED, &[10]))?;
+    let sent = store_after(&rt, alloc, "script", SEND, (FORMATTED, &[]))?;
+    assert_eq!(rt; left.bytes(), sent.bytes());
     Ok(())
 }
