@@ -13,6 +13,3 @@ mod session;
 
 pub use reply::{After, Reply};
 pub use session::ConsoleSession;
-
-#[cfg(test)]
-mod tests;
