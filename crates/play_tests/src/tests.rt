@@ -1,3 +1,5 @@
+ghost use Rattle.std.specs.Prelude.{◌≡◌, IfOk, false};
+
 use house_text::playing_config;
 use mail_proxy::{Desk, ServeFault, run, serve_events, without_memory};
 use std::alloc::Global;
@@ -264,7 +266,9 @@ pub(crate) fn bytes_of(alloc: Global, conn: u32, bytes: &[u8]) -> Result<Event, 
 }
 
 /// A desk on a new disk in memory, with the house of `play`.
-fn new_desk(alloc: Global) -> Result<Desk<MemDisk>, NoMemory> {
+fn new_desk(alloc: Global) -> Result<Desk<MemDisk>, NoMemory>
+    ensures open { IfOk result (λ desk. desk.closed ≡ false) }
+{
     let (house, conf) = playing_config(alloc)?;
     let disk = MemDisk::new(alloc, Text::new(alloc), Numbers::new(alloc));
     match Desk::make(alloc, disk, house, conf) {
