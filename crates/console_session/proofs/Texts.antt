@@ -24,7 +24,7 @@ some_eq a b e = ap (λ (o : Option ℕ). or_zero o) e
     or_zero None = 0
     or_zero (Some x) = x
 
-is_there_at : Option ℕ → Type 0
+abbrev is_there_at : Option ℕ → Type 0
 is_there_at None = ⊥
 is_there_at (Some x) = Unit {0}
 

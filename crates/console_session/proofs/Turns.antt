@@ -1,6 +1,6 @@
 -- Replies as turns.
 use Rattle.std.proofs.Common.{◌≡◌, ◌≢◌, ◌&&◌, ◌||◌, ℕ, ◌<◌, Bool, true, false, not, ◌==◌, List, [], ◌∷◌, ◌++◌, Option, Some, None, refl, sym, ap, ◌∙◌, subst, arith, inl, inr, true≢false}
-use Rattle.std.specs.Prelude.{◌⊎◌, nat_lt, Result, Ok, Err, if◌then◌else◌}
+use Rattle.std.specs.Prelude.{◌⊎◌, nat_lt, option_and_then, Result, Ok, Err, if◌then◌else◌}
 use Rattle.std.proofs.lemmas.Bool.Decides.{nat_tests}
 use Rattle.undo_outside.specs.Disk.{DiskTold}
 use Rattle.verb_core.specs.declared.conf.House.{House}
@@ -13,7 +13,7 @@ use Rattle.mail_desk.specs.Kept.{Kept}
 use Rattle.time_desk.specs.declared.fault.ActFault.{ActFault}
 use Rattle.time_desk.specs.declared.fault.ActFault.TheVariants as fault
 use Rattle.time_desk.specs.Lasting.{Lasting, IsUnwritten}
-use Rattle.time_desk.specs.Records.{act_item, after_records, can_follow, is_formed, is_spelled}
+use Rattle.time_desk.specs.Records.{act_item, after_record, after_records, is_formed, is_spelled}
 use Rattle.time_desk.specs.Sealing.{Seals}
 use Rattle.time_desk.specs.Submitting.{ActsNone}
 use Rattle.console_head.specs.Request.{Stage, Says}
@@ -51,11 +51,15 @@ must_pass true true false d x k e = absurd (none_is_not k e)
 must_pass true false false d x k e = absurd (none_is_not k e)
 must_pass false b false d x k e = absurd (none_is_not k e)
 
+then_some : (o : Option Kept) → option_and_then (λ (next : Kept). Some next) o ≡ o
+then_some None = refl
+then_some (Some kept) = refl
+
 -- an act that was sealed had a number left
 pub number_left : (kept k : Kept) (at : ℕ) (act : Act) → after_records kept (Operator kept.next at act ∷ []) ≡ Some k → nat_lt kept.next 4194304 ≡ true
 number_left kept k at act e =
     must_pass (is_spelled (Operator kept.next at act)) (kept.next == kept.next) (nat_lt kept.next 4194304) (is_formed kept.house (act_item kept.next at act))
-    (performed kept (act_item kept.next at act)) k e
+    (performed kept (act_item kept.next at act)) k (sym (then_some (after_record kept (Operator kept.next at act))) ∙ e)
 
 with_number : (kept : Kept) (t : Turn) → nat_lt kept.next 4194304 ≡ true → numbered kept t ≡ t
 with_number kept t e = rw e refl
@@ -90,6 +94,23 @@ module _ {D : Type 0} (told : D → DiskTold) where
   told_turn still a after old new r same (inl e) = (Clear, same_turn still (answer_text a) after old new r same e)
   told_turn still a after old new r same (inr (inl e)) = (Refused, same_turn still (answer_text (refused NoMemory)) Closes old new r same e)
   told_turn still a after old new r same (inr (inr e)) = (Unheard, same_turn still [] Closes old new r same e)
+
+  -- what is asked for and is told over the desk as it is
+  pub serves_told : Still → (at : ℕ) (asked : Result Asked HttpRefused) (a : Answer) (after : After) (old : Lasting D) (r : Reply)
+      → ((h : Hindrance) → hindered h at old.kept asked ≡ told_under h old.kept (tells a after old.kept)) → Tells a after r → Serves told at asked old old r
+  serves_told still at asked a after old r same says =
+      let u = told_turn still a after old old r refl says in
+      record { hindrance = u.0; turn_is = turn_at _ _ old old r (same u.0) u.1; still = λ e. refl }
+
+  pub serves_route : Still → (at : ℕ) (t s : Taken) (a : Answer) (after : After) (old : Lasting D) (r : Reply) → t ≡ s
+      → ((h : Hindrance) → routed_under h at old.kept s ≡ told_under h old.kept (tells a after old.kept)) → Tells a after r → Serves told at (Ok (Whole t)) old old r
+  serves_route still at t s a after old r e same says =
+      subst (λ (v : Taken). Serves told at (Ok (Whole v)) old old r) (sym e) (serves_told still at (Ok (Whole s)) a after old r same says)
+
+  pub serves_refusal : Still → (at : ℕ) (asked : Result Asked HttpRefused) (why : HttpRefused) (old : Lasting D) (r : Reply) → asked ≡ Err why
+      → Tells (refused why) Closes r → Serves told at asked old old r
+  serves_refusal still at asked why old r e says =
+      subst (λ (v : Result Asked HttpRefused). Serves told at v old old r) (sym e) (serves_told still at (Err why) (refused why) Closes old r (λ h. refl) says)
 
   -- ---- acts
 
@@ -126,7 +147,7 @@ module _ {D : Type 0} (told : D → DiskTold) where
 
   pub fault_turn : Still → (at : ℕ) (act : Act) (old new : Lasting D) (f : ActFault) (r : Reply) → ActsNone told at act old new f → new.kept ≡ old.kept → TellsFault f r
       → Under (λ h. acted_under h at old.kept act) old new r
-  fault_turn still at act old new (fault.Numbers next) r none kept says = none_left still at next act old new r none.1 none.2.0 none.2.1 says
+  fault_turn still at act old new (fault.Numbers next) r none kept says = none_left still at next act old new r none.1 none.2 none.3 says
   fault_turn still at act old new fault.Disk r none kept says = failed_turn at act old new r (less_is old.kept.next none.1) kept none.2 says
   fault_turn still at act old new fault.NoMemory r none kept says = starved_turn at act old new r kept none.2 says
   fault_turn still at act old new fault.Closed r none kept says = absurd says

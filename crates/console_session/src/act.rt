@@ -10,6 +10,7 @@ ghost use Rattle.console_session.specs.Hindrance.{Hindrance, acted_under};
 use crate::reply::{After, Reply, starve, tell, tell_only};
 use console_replies::{ErrorWord, error_json, number_json, numbers_json};
 use std::alloc::Global;
+use time_desk::laws::seals_join;
 use time_desk::{ActFault, Desk};
 use undo_outside::Disk;
 use verb_core::Act;
@@ -35,6 +36,7 @@ pub fn act<D: Disk>(alloc: Global, desk: &mut Desk<D>, at: u64, asked: Act) -> R
     requires known { IsTrue (list_all (is_known desk.old.kept.house) (users_in (Acts asked))) }
     ensures { (h : Hindrance) × IsTurn D.told (acted_under h at desk.old.kept asked) desk.old desk.new result }
 {
+    seals_join::<D>();
     match desk.act(alloc, at, asked) {
         Ok(number) => tell_only(alloc, 200, number_json(alloc, number), After::Closes),
         Err(fault) => tell_fault(alloc, fault),

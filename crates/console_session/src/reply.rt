@@ -42,6 +42,7 @@ pub fn silent(alloc: Global, after: After) -> Reply
 }
 
 /// The bytes of an answer in JSON.
+#[tactic(auto, unfolding(crate::specs::Answers::answer_text))]
 fn spell(alloc: Global, status: u16, body: Result<Text, NoMemory>) -> Result<Text, NoMemory>
     requires { IsTrue (is_status status) }
     ensures { (json : Data) → IfOk body (λ text. text ≡ compact_text json) → IfOk result (λ text. text ≡ answer_text (answer status json)) }

@@ -8,11 +8,13 @@ ghost use Rattle.console_session.specs.declared.reply.After.TheVariants.{Waits};
 use crate::act::act;
 use crate::reply::{After, Reply, silent, tell};
 use crate::routes::{tell_body, tell_box, tell_conf, tell_refused, tell_status, tell_timeline};
+use console_http::laws::acts_name_known_users;
 use console_http::{Asked, Coming, HttpRefused, Route, read_coming};
 use console_replies::stopped_json;
 use std::alloc::Global;
 use std::marker::Model;
 use time_desk::Desk;
+use time_desk::laws::seals_join;
 use undo_base::{NoMemory, Text};
 use undo_outside::Disk;
 
@@ -40,6 +42,7 @@ fn follow<D: Disk>(alloc: Global, desk: &mut Desk<D>, at: u64, route: Route) -> 
     requires known { KnowsUsers desk.old.kept.house route }
     ensures { Serves D.told at (Ok (Whole route)) desk.old desk.new result }
 {
+    seals_join::<D>();
     match route {
         Route::Status => tell_status(alloc, desk),
         Route::Timeline { start } => tell_timeline(alloc, desk, start),
@@ -62,6 +65,7 @@ fn serve<D: Disk>(
     requires known { AskKnows desk.old.kept.house asked }
     ensures { Serves D.told at asked desk.old desk.new result }
 {
+    seals_join::<D>();
     match asked {
         Ok(Asked::NotYet) => silent(alloc, After::Waits),
         Ok(Asked::Whole { route }) => follow(alloc, desk, at, route),
@@ -96,7 +100,7 @@ impl ConsoleSession {
         if let Err(NoMemory) = self.came.extend(bytes) {
             return silent(alloc, After::Closes);
         }
-        desk.stands();
+        acts_name_known_users();
         let asked = read_coming(alloc, &mut self.coming, desk.house(), self.came.bytes());
         serve(alloc, desk, at, asked)
     }
