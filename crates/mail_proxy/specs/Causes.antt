@@ -1,62 +1,196 @@
--- When each status of `play` comes, and what is the last line of its output then.
-use Rattle.std.specs.Prelude.{◌≡◌, ◌⊎◌, ℕ, ◌≤◌, List, ◌++◌, length, MatchBool, nat_lt, Option, Some, Result, Ok, Err}
+-- When each status of `run` comes, and what is written then.
+use Rattle.std.specs.Prelude.{◌≡◌, ◌≢◌, ◌≤◌, ◌⊎◌, ℕ, Bool, true, false, List, ◌++◌, length, MatchBool, nat_lt, Option, None, Some, Result, Ok, Err}
 use Rattle.undo_outside.specs.declared.event.Event.{Event}
 use Rattle.undo_outside.specs.declared.event.LinkNote.{LinkNote}
-use Rattle.undo_outside.specs.declared.fault.Fault.{Fault}
-use Rattle.undo_outside.specs.Calls.{SinkTold}
-use Rattle.mail_loop.specs.declared.serve.ServeFault.{ServeFault}
+use Rattle.undo_outside.specs.Calls.{SourceTold, SinkTold}
+use Rattle.undo_outside.specs.Disk.{DiskTold, ReadFailed, WriteFailed}
+use Rattle.seal_log.specs.Loading.{IsNotFormatted}
+use Rattle.mail_desk.specs.Kept.{Kept}
 use Rattle.mail_loop.specs.declared.serve.ServeFault.TheVariants.{Turns}
+use Rattle.mail_loop.specs.Serving.{Step}
 use Rattle.script_link.specs.Script.{script_of}
 use Rattle.script_link.specs.Transcript.{transcript_of}
-use Rattle.mail_proxy.specs.Reading.{Took, WriteFails, WriteStarves, WritesAll}
-use Rattle.mail_proxy.specs.Play.{IsText, Played, bad_line, too_long, too_many, no_memory}
+use Rattle.time_desk.specs.Opening.{IsDamaged}
+use Rattle.command_words.specs.declared.commands.Command.{Command}
+use Rattle.command_words.specs.declared.commands.Command.TheVariants.{Init, Serve, Script, Play, Grow, Check}
+use Rattle.mail_proxy.specs.Init.{IsNoConfig}
+use Rattle.mail_proxy.specs.Lines.{usage, too_long, bad_configuration, bad_line, not_empty, not_a_store, disk_fault, read_fault, too_many, no_memory, damaged}
+use Rattle.mail_proxy.specs.Reading.{ReadFails, WriteFails, WriteStarves, Wrote}
+use Rattle.mail_proxy.specs.Script.{Played}
+use Rattle.mail_proxy.specs.Texts.{IsText}
 
--- this was written, or a first part of it up to a write that failed or found no memory, and nothing else
-abbrev pub Wrote : SinkTold → SinkTold → List ℕ → Type 0
-Wrote old new output = (wrote : Result (Unit {0}) Fault) × WritesAll old new output wrote
+-- what the objects of the outside tell
+pub record Outside : Type 1 where
+  pub text : SourceTold
+  pub disk : DiskTold
+  pub out : SinkTold
+
+-- ---- the commands
+
+-- the commands that are built
+abbrev pub is_built : Option Command → Bool
+is_built None = false
+is_built (Some Init) = true
+is_built (Some (Serve smtp imap http)) = false
+is_built (Some Script) = true
+is_built (Some Play) = true
+is_built (Some (Grow rounds)) = false
+is_built (Some Check) = true
+
+-- those that read a script
+abbrev pub takes_script : Option Command → Bool
+takes_script None = false
+takes_script (Some Init) = false
+takes_script (Some (Serve smtp imap http)) = false
+takes_script (Some Script) = true
+takes_script (Some Play) = true
+takes_script (Some (Grow rounds)) = false
+takes_script (Some Check) = false
+
+-- those that open a store
+abbrev pub opens : Option Command → Bool
+opens None = false
+opens (Some Init) = false
+opens (Some (Serve smtp imap http)) = false
+opens (Some Script) = true
+opens (Some Play) = false
+opens (Some (Grow rounds)) = false
+opens (Some Check) = true
+
+-- those that use the disk
+abbrev pub uses_disk : Option Command → Bool
+uses_disk None = false
+uses_disk (Some Init) = true
+uses_disk (Some (Serve smtp imap http)) = false
+uses_disk (Some Script) = true
+uses_disk (Some Play) = false
+uses_disk (Some (Grow rounds)) = false
+uses_disk (Some Check) = true
+
+-- those that read a text
+abbrev pub uses_text : Option Command → Bool
+uses_text None = false
+uses_text (Some Init) = true
+uses_text (Some (Serve smtp imap http)) = false
+uses_text (Some Script) = true
+uses_text (Some Play) = true
+uses_text (Some (Grow rounds)) = false
+uses_text (Some Check) = false
+
+-- those that write more than a last line
+abbrev pub writes_more : Option Command → Bool
+writes_more None = false
+writes_more (Some Init) = false
+writes_more (Some (Serve smtp imap http)) = false
+writes_more (Some Script) = true
+writes_more (Some Play) = true
+writes_more (Some (Grow rounds)) = false
+writes_more (Some Check) = true
+
+-- ---- causes
 
 abbrev pub IsBadScript : Result (List Event) ℕ → List ℕ → Type 0
 IsBadScript (Ok events) line = ⊥
 IsBadScript (Err n) line = line ≡ bad_line n
 
--- the text is in no grammar, and this is said of it: it is too long, or it has a bad line
-abbrev pub IsBadText : List ℕ → List ℕ → Type 0
-IsBadText text line = MatchBool (nat_lt 67108864 (length text)) (line ≡ too_long) (IsBadScript (script_of text) line)
+-- a text that is not too long is in no grammar of the command, and this is said of it
+abbrev pub IsBadFor : Option Command → List ℕ → List ℕ → Type 0
+IsBadFor None text line = ⊥
+IsBadFor (Some Init) text line = IsNoConfig text × (line ≡ bad_configuration)
+IsBadFor (Some (Serve smtp imap http)) text line = ⊥
+IsBadFor (Some Script) text line = IsBadScript (script_of text) line
+IsBadFor (Some Play) text line = IsBadScript (script_of text) line
+IsBadFor (Some (Grow rounds)) text line = ⊥
+IsBadFor (Some Check) text line = ⊥
+
+-- the text is in no grammar of the command, and this is said of it: it is too long, or it is bad
+abbrev pub IsBadText : Option Command → List ℕ → List ℕ → Type 0
+IsBadText command text line = MatchBool (nat_lt 67108864 (length text)) ((uses_text command ≡ true) × (line ≡ too_long)) (IsBadFor command text line)
+
+-- the disk is not such as the command wants it, and this is said of it
+abbrev pub IsWrongDisk : Option Command → DiskTold → List ℕ → Type 0
+IsWrongDisk None disk line = ⊥
+IsWrongDisk (Some Init) disk line = (disk.size ≢ 0) × (line ≡ not_empty)
+IsWrongDisk (Some (Serve smtp imap http)) disk line = ⊥
+IsWrongDisk (Some Script) disk line = (disk.honest → IsNotFormatted disk.content) × (line ≡ not_a_store)
+IsWrongDisk (Some Play) disk line = ⊥
+IsWrongDisk (Some (Grow rounds)) disk line = ⊥
+IsWrongDisk (Some Check) disk line = (disk.honest → IsNotFormatted disk.content) × (line ≡ not_a_store)
 
 -- the text, as far as it is told, is a script of these events
 pub record IsScript (told : Option (List ℕ)) (events : List Event) : Type 0 where
   pub text : List ℕ
   pub is_text : IsText told text
-  pub short : length text ≤ 67108864
+  pub short : nat_lt 67108864 (length text) ≡ false
   pub events_are : script_of text ≡ Ok events
 
--- a text that is told is a script of these events
-abbrev pub IsToldScript : Option (List ℕ) → List Event → Type 0
-IsToldScript told events = (text : List ℕ) × (told ≡ Some text) × (length text ≤ 67108864) × (script_of text ≡ Ok events)
-
--- the events of the text were served with this outcome, and the link did this
-pub record IsServed (told : Option (List ℕ)) (outcome : Result (Unit {0}) ServeFault) (notes : List LinkNote) : Type 0 where
+-- 2^40 events of the script were served without an end, with this transcript
+pub record RanOut (told : Option (List ℕ)) (transcript : List ℕ) : Type 0 where
   pub events : List Event
   pub script : IsScript told events
-  pub played : Played events outcome notes
+  pub first : Kept
+  pub notes : List LinkNote
+  pub steps : List Step
+  pub last : Kept
+  pub played : Played first events (Err Turns) notes steps last
+  pub transcript_is : transcript ≡ transcript_of notes
 
--- 0: the events were served to the end, and the transcript was written whole
-abbrev pub EndsWell : Option (List ℕ) → SinkTold → SinkTold → Type 0
-EndsWell told old new = (notes : List LinkNote) × IsServed told (Ok tt) notes × Took old new (transcript_of notes)
+-- ---- what each status says of a command and of the outside before it and after it
 
--- 2: the text is bad
-abbrev pub EndsBad : Option (List ℕ) → SinkTold → SinkTold → Type 0
-EndsBad told old new = (text : List ℕ) × (line : List ℕ) × IsText told text × IsBadText text line × Wrote old new line
+module _ (command : Option Command) (old new : Outside) where
+  -- 0: the command is built, and no read and no write failed
+  abbrev pub AllWell : Type 0
+  AllWell = (is_built command ≡ true) × (new.text.faults ≡ old.text.faults) × (new.disk.failed_writes ≡ old.disk.failed_writes) × (new.out.faults ≡ old.out.faults)
 
--- 7: 2^40 events were served without an end; the transcript is left out where no memory is found for it
-abbrev pub EndsLate : Option (List ℕ) → SinkTold → SinkTold → Type 0
-EndsLate told old new =
-    (notes : List LinkNote) × IsServed told (Err Turns) notes × (Wrote old new (transcript_of notes ++ too_many) ⊎ Wrote old new too_many)
+  -- 1: the words are of no stated shape
+  abbrev pub IsMisused : Type 0
+  IsMisused = (is_built command ≡ false) × Wrote old.out new.out usage
 
--- 8: the last line is that of want of memory, after the transcript or alone; or the sink found no memory before that
-abbrev pub EndsStarved : SinkTold → SinkTold → Type 0
-EndsStarved old new = (front : List ℕ) × (Wrote old new (front ++ no_memory) ⊎ WriteStarves old new front)
+  -- 2: the text is bad
+  abbrev pub EndsBad : Type 0
+  EndsBad = (text : List ℕ) × (line : List ℕ) × IsText old.text.left text × IsBadText command text line × Wrote old.out new.out line
 
--- 9: the events were served to the end, and a write of the transcript failed
-abbrev pub EndsUnwritten : Option (List ℕ) → SinkTold → SinkTold → Type 0
-EndsUnwritten told old new = (notes : List LinkNote) × IsServed told (Ok tt) notes × WriteFails old new (transcript_of notes)
+  -- 3: the disk is not empty, or holds no store
+  abbrev pub EndsWrong : Type 0
+  EndsWrong = (line : List ℕ) × IsWrongDisk command old.disk line × Wrote old.out new.out line
+
+  -- 5: a call on the disk failed, and it alone; the last line may stand behind a transcript
+  abbrev pub EndsFailed : Type 0
+  EndsFailed =
+      (uses_disk command ≡ true) × (ReadFailed old.disk new.disk ⊎ WriteFailed old.disk new.disk) × ((front : List ℕ) × Wrote old.out new.out (front ++ disk_fault))
+
+  -- 6: a read of the text failed
+  abbrev pub EndsUnread : Type 0
+  EndsUnread = (uses_text command ≡ true) × ReadFails old.text new.text × Wrote old.out new.out read_fault
+
+  -- 7: 2^40 events were served without an end; the transcript is left out where no memory is found for it
+  abbrev pub EndsLate : Type 0
+  EndsLate =
+      (takes_script command ≡ true)
+      × ((transcript : List ℕ) × RanOut old.text.left transcript × (Wrote old.out new.out (transcript ++ too_many) ⊎ Wrote old.out new.out too_many))
+
+  -- 8: the last line is that of want of memory, maybe behind a transcript; or the sink found no memory before that
+  abbrev pub EndsStarved : Type 0
+  EndsStarved = (front : List ℕ) × (Wrote old.out new.out (front ++ no_memory) ⊎ WriteStarves old.out new.out front)
+
+  -- 9: a write of the transcript or of the counts failed
+  abbrev pub EndsUnwritten : Type 0
+  EndsUnwritten = (writes_more command ≡ true) × ((output : List ℕ) × WriteFails old.out new.out output)
+
+  -- 10: an open gate stands at this place, and behind it no record that can stand there
+  abbrev pub EndsDamaged : Type 0
+  EndsDamaged = (opens command ≡ true) × ((place : ℕ) × (old.disk.honest → IsDamaged old.disk.content place) × Wrote old.out new.out (damaged place))
+
+-- When each status comes, and what is written then. No other comes; 4 comes from no command that is built.
+pub record Comes (command : Option Command) (old new : Outside) (status : ℕ) : Type 0 where
+  pub done : status ≡ 0 → AllWell command old new
+  pub misused : status ≡ 1 → IsMisused command old new
+  pub bad_text : status ≡ 2 → EndsBad command old new
+  pub wrong_disk : status ≡ 3 → EndsWrong command old new
+  pub disk_fault : status ≡ 5 → EndsFailed command old new
+  pub read_fault : status ≡ 6 → EndsUnread command old new
+  pub too_many : status ≡ 7 → EndsLate command old new
+  pub no_memory : status ≡ 8 → EndsStarved command old new
+  pub write_fault : status ≡ 9 → EndsUnwritten command old new
+  pub damaged : status ≡ 10 → EndsDamaged command old new
+  pub no_other : (status ≢ 4) × (status ≤ 10)

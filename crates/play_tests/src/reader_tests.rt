@@ -1,6 +1,7 @@
 use crate::tests::{bytes_of, event, plays, serve};
 use std::alloc::Global;
 use std::test::Fail;
+use std::thread::Threads;
 use undo_base::{NoMemory, Text};
 use undo_outside::{Events, LinkNote, Role, What};
 
@@ -150,8 +151,13 @@ fn add_note(text: &mut Text, note: &LinkNote) -> Result<(), NoMemory> {
 }
 
 /// Whether the link's notes are these, where this call of the link fails.
-fn notes_are(alloc: Global, failing: u32, wanted: &[u8]) -> Result<bool, NoMemory> {
-    let (link, _) = serve(alloc, two_kinds(alloc)?, &[failing], 99)?;
+fn notes_are<R: Threads + Sync>(
+    rt: &R,
+    alloc: Global,
+    failing: u32,
+    wanted: &[u8],
+) -> Result<bool, NoMemory> {
+    let (link, _) = serve(rt, alloc, two_kinds(alloc)?, &[failing], 99)?;
     let mut text = Text::new(alloc);
     for note in link.log().as_slice() {
         add_note(&mut text, note)?;
@@ -173,7 +179,7 @@ fn each_missed_send_closes_its_connection(rt: HostRuntime) -> Result<(), Fail> {
         (13, b"c2 s2 c1 s1 c2 s2 c1 s1 c1 s1 x1 c2 s2 x2 "),
     ];
     for (failing, wanted) in table {
-        assert!(rt; notes_are(rt.alloc(), failing, wanted)?);
+        assert!(rt; notes_are(&rt, rt.alloc(), failing, wanted)?);
     }
     Ok(())
 }

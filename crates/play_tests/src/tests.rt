@@ -5,7 +5,7 @@ use std::test::Fail;
 use std::thread::Threads;
 use undo_base::{NoMemory, Numbers, Text};
 use undo_outside::{
-    AbsentDisk, Event, Events, LinkNote, MemLink, MemSink, MemSource, OpenGate, Role, What,
+    AbsentDisk, Event, Events, LinkNote, MemDisk, MemLink, MemSink, MemSource, OpenGate, Role, What,
 };
 
 const USAGE: &[u8] =
@@ -263,17 +263,27 @@ pub(crate) fn bytes_of(alloc: Global, conn: u32, bytes: &[u8]) -> Result<Event, 
     Ok(event(conn, What::Bytes(Text::of(alloc, bytes)?)))
 }
 
+/// A desk on a new disk in memory, with the house of `play`.
+fn new_desk(alloc: Global) -> Result<Desk<MemDisk>, NoMemory> {
+    let (house, conf) = playing_config(alloc)?;
+    let disk = MemDisk::new(alloc, Text::new(alloc), Numbers::new(alloc));
+    match Desk::make(alloc, disk, house, conf) {
+        Ok(desk) => Ok(desk),
+        Err(_) => Err(NoMemory),
+    }
+}
+
 /// Serves these events over a link of which these calls fail.
-pub(crate) fn serve(
+pub(crate) fn serve<R: Threads + Sync>(
+    rt: &R,
     alloc: Global,
     events: Events,
     failing: &[u32],
     turns: u64,
 ) -> Result<(MemLink, Result<(), ServeFault>), NoMemory> {
-    let (house, conf) = playing_config(alloc)?;
-    let mut desk = Desk::new(alloc, house, conf)?;
+    let mut desk = new_desk(alloc)?;
     let mut link = MemLink::new(alloc, events, numbers(alloc, failing)?);
-    let served = serve_events(alloc, &mut desk, &mut link, turns);
+    let served = serve_events(rt, alloc, &mut desk, &mut link, &OpenGate, turns);
     Ok((link, served))
 }
 
@@ -296,7 +306,7 @@ fn is_sent(note: &LinkNote, to: u32, text: &[u8]) -> bool {
 #[test]
 fn failing_links_have_their_answer(rt: HostRuntime) -> Result<(), Fail> {
     let alloc = rt.alloc();
-    let (link, served) = serve(alloc, one_client(alloc)?, &[2], 9)?;
+    let (link, served) = serve(&rt, alloc, one_client(alloc)?, &[2], 9)?;
     assert_eq!(rt; served, Ok(()));
     assert_eq!(rt; link.log().len(), 6);
     assert!(rt; matches!(&link.log().as_slice()[1], LinkNote::Missed { conn: 1, .. }));
@@ -308,7 +318,7 @@ fn failing_links_have_their_answer(rt: HostRuntime) -> Result<(), Fail> {
         (&[], 0, ServeFault::Turns, 0),
     ];
     for (failing, turns, fault, notes) in table {
-        let (link, served) = serve(alloc, one_client(alloc)?, failing, turns)?;
+        let (link, served) = serve(&rt, alloc, one_client(alloc)?, failing, turns)?;
         assert_eq!(rt; served, Err(fault));
         assert_eq!(rt; link.log().len(), notes);
     }
@@ -324,11 +334,16 @@ fn add_letters(text: &mut Text, letters: usize) -> Result<(), NoMemory> {
 }
 
 /// What a mail client is told that sends these bytes.
-fn is_told(alloc: Global, bytes: &[u8], told: &[u8]) -> Result<bool, NoMemory> {
+fn is_told<R: Threads + Sync>(
+    rt: &R,
+    alloc: Global,
+    bytes: &[u8],
+    told: &[u8],
+) -> Result<bool, NoMemory> {
     let mut events = Events::new(alloc);
     events.push(event(1, What::Joined(Role::Smtp)))?;
     events.push(bytes_of(alloc, 1, bytes)?)?;
-    let (link, _) = serve(alloc, events, &[], 9)?;
+    let (link, _) = serve(rt, alloc, events, &[], 9)?;
     let notes = link.log().as_slice();
     Ok(notes.len() == 5 && is_sent(&notes[3], 1, told))
 }
@@ -356,7 +371,7 @@ fn a_text_has_its_limit(rt: HostRuntime) -> Result<(), Fail> {
         }
         add_letters(&mut bytes, letters)?;
         bytes.extend(b".\r\nRCPT TO:<ann@mail.test>\r\n")?;
-        assert!(rt; is_told(alloc, bytes.bytes(), told)?);
+        assert!(rt; is_told(&rt, alloc, bytes.bytes(), told)?);
     }
     Ok(())
 }
@@ -368,7 +383,7 @@ fn a_command_line_has_its_limit(rt: HostRuntime) -> Result<(), Fail> {
     for (letters, told) in table {
         let mut bytes = Text::of(alloc, b"NOOP ")?;
         add_letters(&mut bytes, letters)?;
-        assert!(rt; is_told(alloc, bytes.bytes(), told)?);
+        assert!(rt; is_told(&rt, alloc, bytes.bytes(), told)?);
     }
     Ok(())
 }
@@ -391,7 +406,7 @@ fn two_clients(alloc: Global) -> Result<Events, NoMemory> {
 #[test]
 fn connections_are_served_apart(rt: HostRuntime) -> Result<(), Fail> {
     let alloc = rt.alloc();
-    let (link, served) = serve(alloc, two_clients(alloc)?, &[], 99)?;
+    let (link, served) = serve(&rt, alloc, two_clients(alloc)?, &[], 99)?;
     assert_eq!(rt; served, Ok(()));
     let greeting = b"220 mail.test ESMTP undomail\r\n".as_slice();
     let notes = link.log().as_slice();

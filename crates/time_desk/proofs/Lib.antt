@@ -2,3 +2,6 @@ pub mod Beginnings
 pub mod Payloads
 pub mod Runs
 pub mod Submits
+pub mod Standings
+pub mod OneWay
+pub mod Surveys

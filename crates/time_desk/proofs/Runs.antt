@@ -1,5 +1,5 @@
 -- What runs of calls leave.
-use Rattle.std.proofs.Common.{◌≡◌, ◌≤◌, ℕ, List, [], ◌∷◌, ◌++◌, length, take, Bool, ◌||◌, not, Option, Some, None, true, zero, suc, subst, sym, ap, refl, ◌∙◌}
+use Rattle.std.proofs.Common.{◌≡◌, ◌≤◌, ℕ, List, [], ◌∷◌, ◌++◌, take, Bool, ◌||◌, not, Option, Some, None, zero, suc, subst, sym, ap, refl, ◌∙◌}
 use Rattle.std.specs.Prelude.{is_some, IsSome, option_and_then}
 use Rattle.std.proofs.Math.Bool.{or-false}
 use Rattle.std.proofs.lemmas.List.{length-map, map-append, take-map}

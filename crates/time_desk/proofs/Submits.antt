@@ -1,6 +1,6 @@
 -- What becomes of asks and acts, from what became of sealing them.
 use Rattle.std.proofs.Common.{◌≡◌, ◌<◌, ℕ, false, List, [], ◌∷◌, Some, Result, Ok, Err, IfOk, OnOk, IfErr, subst, sym, ap, refl, ◌∙◌}
-use Rattle.undo_outside.specs.Disk.{DiskTold, IsHonest}
+use Rattle.undo_outside.specs.Disk.{DiskTold}
 use Rattle.seal_log.specs.declared.fault.SealFault.{SealFault}
 use Rattle.seal_log.specs.declared.fault.SealFault.TheVariants as log_faults
 use Rattle.seal_log.specs.declared.log.Log.{Log}
@@ -16,7 +16,6 @@ use Rattle.mail_desk.specs.Desk.{performed, submitted_as}
 use Rattle.mail_desk.specs.Held.{Held}
 use Rattle.mail_desk.specs.Kept.{Kept}
 use Rattle.time_desk.specs.declared.fault.ActFault.{ActFault}
-use Rattle.time_desk.specs.declared.fault.ActFault.TheVariants as act_faults
 use Rattle.time_desk.specs.Lasting.{Lasting, lasting}
 use Rattle.time_desk.specs.Records.{after_records}
 use Rattle.time_desk.specs.Sealing.{IsRecordOf, Seals}

@@ -4,3 +4,5 @@ pub mod Sealing
 pub mod Crashing
 pub mod Making
 pub mod Submitting
+pub mod Opening
+pub mod Standing

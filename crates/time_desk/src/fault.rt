@@ -10,6 +10,18 @@ pub enum MakeFault {
     NoMemory,
 }
 
+/// Why a desk was not started.
+#[derive(Clone, Copy, Debug, PartialEq, Eq)]
+pub enum StartFault {
+    /// The disk is empty, or its first gate is not open.
+    NotFormatted,
+    /// Behind the open gate at `place` stands no record that can stand there.
+    Damaged { place: u64 },
+    /// A call on the disk failed.
+    Disk,
+    NoMemory,
+}
+
 /// Why an act was not done.
 #[derive(Clone, Copy, Debug, PartialEq, Eq)]
 pub enum ActFault {

@@ -1,10 +1,11 @@
 //! The desk over a disk: each item is sealed in the journal, and then performed in memory.
 //!
-//! `desk` has the desk over its disk and tells its parts, `make` begins a journal, `start` (later) reads one, `seal` seals one record,
-//! `submit` and `act` take what users and the operator ask. In specs/, `Records` says what records leave one after the other
-//! and when one can stand, `Lasting` what contracts see of a desk, `Sealing` what a call seals and what a crash at any
-//! moment of it leaves, `Making` and `Submitting` why calls are refused.
-//! What carries the crate: `Desk::submit` and `Desk::act`, by `Seals`.
+//! `desk` has the desk over its disk and tells its parts. `make` begins a journal, `start` reads one, with `standing` for the records that
+//! can stand, and `openings` has the law that an image opens in one way. `seal` seals one record; `submit` and `act` take what
+//! users and the operator ask. In specs/, `Records` says what records leave one after the other and when one can stand,
+//! `Lasting` what contracts see of a desk, `Sealing` what a call seals and what a crash at any moment of it leaves, `Opening`
+//! what an image opens as, `Standing` how its records are read, `Making` and `Submitting` why calls are refused.
+//! What carries the crate: `Desk::submit` and `Desk::act`, by `Seals`, and `Desk::start`, by `Starts`.
 #![tactic(auto)]
 
 mod act;
@@ -12,9 +13,13 @@ mod desk;
 mod fault;
 pub mod laws;
 mod make;
+mod openings;
 mod seal;
 mod spelling;
+mod standing;
+mod start;
 mod submit;
 
 pub use desk::Desk;
-pub use fault::{ActFault, MakeFault};
+pub use fault::{ActFault, MakeFault, StartFault};
+pub use openings::one_opening;

@@ -1,0 +1,257 @@
+-- Which status is due comes, unless a call failed or memory was wanted.
+use Rattle.std.proofs.Common.{◌≡◌, ◌≢◌, ◌⊎◌, ℕ, Bool, true, false, List, length, MatchBool, Option, None, Some, Result, Ok, Err, refl, ap, subst, sym, ◌∙◌, inl, inr, arith, nat_lt}
+use Rattle.undo_outside.specs.declared.event.Event.{Event}
+use Rattle.undo_outside.specs.declared.event.LinkNote.{LinkNote}
+use Rattle.undo_outside.specs.declared.fault.Fault.{Fault}
+use Rattle.undo_outside.specs.declared.fault.Fault.TheVariants.{Failed, NoMemory as SinkStarved}
+use Rattle.undo_outside.specs.Calls.{SourceTold, SinkTold}
+use Rattle.undo_outside.specs.Disk.{DiskTold}
+use Rattle.verb_core.specs.declared.conf.Conf.{Conf}
+use Rattle.verb_core.specs.declared.conf.House.{House}
+use Rattle.mail_desk.specs.Kept.{Kept}
+use Rattle.mail_loop.specs.declared.serve.ServeFault.{ServeFault}
+use Rattle.mail_loop.specs.declared.serve.ServeFault.TheVariants as serve
+use Rattle.mail_loop.specs.Serving.{Step}
+use Rattle.script_link.specs.Script.{script_of}
+use Rattle.time_desk.specs.declared.fault.MakeFault.{MakeFault}
+use Rattle.time_desk.specs.declared.fault.MakeFault.TheVariants as make
+use Rattle.time_desk.specs.declared.fault.StartFault.{StartFault}
+use Rattle.time_desk.specs.declared.fault.StartFault.TheVariants as start
+use Rattle.time_desk.specs.Making.{Makes}
+use Rattle.time_desk.specs.Opening.{OpensAs, Starts}
+use Rattle.command_words.specs.declared.commands.Command.{Command}
+use Rattle.command_words.specs.declared.commands.Command.TheVariants.{Init, Serve, Script, Play, Grow, Check}
+use Rattle.command_words.specs.Usage.{command_of}
+use Rattle.mail_proxy.specs.Answers.{Answers, Does, Shows, first_fault, status_after}
+use Rattle.mail_proxy.specs.Causes.{IsBadText, IsBadFor, IsBadScript, uses_text}
+use Rattle.mail_proxy.specs.Due.{IsDue, IsDueFor, IsDueInit, IsDueStore, IsHindered}
+use Rattle.mail_proxy.specs.Init.{Configures, Inits, made_status}
+use Rattle.mail_proxy.specs.Lines.{too_long, usage}
+use Rattle.mail_proxy.specs.Opening.{OpensNone}
+use Rattle.mail_proxy.specs.Check.{Checks, TellsCounts}
+use Rattle.mail_proxy.specs.Script.{Played, Plays, PlaysScript, PlaysText, RunsScript, Scripts, Tells}
+use Rattle.mail_proxy.specs.Texts.{End, ending, FromText, IsText}
+use Rattle.mail_proxy.proofs.Causes.{fault_stays}
+
+-- a text that is told is that text
+the_text : (told : Option (List ℕ)) (known text : List ℕ) → told ≡ Some known → IsText told text → text ≡ known
+the_text None known text e is = cc
+the_text (Some x) known text e is = cc
+
+by_disk : {s : ℕ} → s ≡ 5 → IsHindered s
+by_disk e = inl e
+
+by_read : {s : ℕ} → s ≡ 6 → IsHindered s
+by_read e = inr (inl e)
+
+by_events : {s : ℕ} → s ≡ 7 → IsHindered s
+by_events e = inr (inr (inl e))
+
+by_memory : {s : ℕ} → s ≡ 8 → IsHindered s
+by_memory e = inr (inr (inr (inl e)))
+
+by_write : {s : ℕ} → s ≡ 9 → IsHindered s
+by_write e = inr (inr (inr (inr e)))
+
+module _ {D : Type 0} (told : D → DiskTold) (disk : D) (end : End D) (text text' : SourceTold) (out out' : SinkTold) (s : ℕ) (shows : Shows end.status end.output s out out') (k : ℕ) where
+  -- nothing is wrong, and that is due
+  well : end.status ≡ 0 → k ≡ 0 → (s ≡ k) ⊎ IsHindered s
+  well zero due = by_wrote shows.0 shows.2
+    where
+      by_wrote : (wrote : Result (Unit {0}) Fault) → s ≡ status_after end.status wrote → (s ≡ k) ⊎ IsHindered s
+      by_wrote (Ok x) e = inl (e ∙ zero ∙ sym due)
+      by_wrote (Err Failed) e = inr (by_write (e ∙ ap (λ p. first_fault p 9) zero))
+      by_wrote (Err SinkStarved) e = inr (by_memory (e ∙ ap (λ p. first_fault p 8) zero))
+
+  -- a fault is planned
+  stays : (j : ℕ) → end.status ≡ j → j ≢ 0 → s ≡ j
+  stays j is some = shows.2 ∙ fault_stays end.status shows.0 (λ zero. some (sym is ∙ zero)) ∙ is
+
+  status_of_end : (status : ℕ) (output : List ℕ) (d : D) → end ≡ ending status output d → end.status ≡ status
+  status_of_end status output d e = ap (λ (x : End D). x.status) e
+
+  starved : end.status ≡ 8 → (s ≡ k) ⊎ IsHindered s
+  starved eight = inr (by_memory (stays 8 eight (λ e. omega arith)))
+
+  -- what is due for a text that is told
+  for_text : (Follows : List ℕ → End D → Type 0) (known : List ℕ) → text.left ≡ Some known → (nat_lt 67108864 (length known) ≡ true → k ≡ 2)
+      → (nat_lt 67108864 (length known) ≡ false → Follows known end → (s ≡ k) ⊎ IsHindered s) → FromText text text' disk Follows end → (s ≡ k) ⊎ IsHindered s
+  for_text Follows known is long short (inl (t, (is_text, clean), read)) =
+      by_length (nat_lt 67108864 (length known)) refl
+      (subst (λ (x : List ℕ). MatchBool (nat_lt 67108864 (length x)) (end ≡ ending 2 too_long disk) (Follows x end)) (the_text text.left known t is is_text) read)
+    where
+      by_length : (b : Bool) → nat_lt 67108864 (length known) ≡ b → MatchBool b (end ≡ ending 2 too_long disk) (Follows known end) → (s ≡ k) ⊎ IsHindered s
+      by_length true e ends = inl (stays 2 (status_of_end 2 too_long disk ends) (λ z. omega arith) ∙ sym (long e))
+      by_length false e follows = short e follows
+  for_text Follows known is long short (inr (inl (e, fails))) = inr (by_read (stays 6 (ap (λ (x : End D). x.status) e) (λ z. omega arith)))
+  for_text Follows known is long short (inr (inr (e, clean))) = starved (ap (λ (x : End D). x.status) e)
+
+  -- ---- a bad text
+
+  -- the text is bad as far as it is short
+  bad_short : (command : Option Command) (known line : List ℕ) → IsBadText command known line → nat_lt 67108864 (length known) ≡ false → IsBadFor command known line
+  bad_short command known line is_bad short = subst (λ b. MatchBool b ((uses_text command ≡ true) × (line ≡ too_long)) (IsBadFor command known line)) short is_bad
+
+  bad_init : (known line : List ℕ) → text.left ≡ Some known → IsBadText (Some Init) known line → k ≡ 2 → Inits told text text' disk end → (s ≡ k) ⊎ IsHindered s
+  bad_init known line is is_bad two inits =
+      for_text (Configures told disk) known is (λ long. two) (λ short follows. by_config (bad_short (Some Init) known line is_bad short) follows) inits
+    where
+      by_config : IsBadFor (Some Init) known line → Configures told disk known end → (s ≡ k) ⊎ IsHindered s
+      by_config bad (inl (none, e)) = inl (stays 2 (ap (λ (x : End D). x.status) e) (λ z. omega arith) ∙ sym two)
+      by_config bad (inr (house, conf, (utf8, configures), formats)) =
+          absurd (let wrong : ◌≡◌ {A = Option (House × Conf)} (Some (house, conf)) None = sym configures ∙ bad.0 utf8 in cc)
+
+  bad_script : (known line : List ℕ) → text.left ≡ Some known → IsBadText (Some Script) known line → k ≡ 2 → Scripts told text text' disk end → (s ≡ k) ⊎ IsHindered s
+  bad_script known line is is_bad two scripts =
+      for_text (λ t. RunsScript told disk (script_of t)) known is (λ long. two) (λ short follows. by_script (script_of known) (bad_short (Some Script) known line is_bad short) follows) scripts
+    where
+      by_script : (script : Result (List Event) ℕ) → IsBadScript script line → RunsScript told disk script end → (s ≡ k) ⊎ IsHindered s
+      by_script (Ok events) bad runs = absurd bad
+      by_script (Err n) bad e = inl (stays 2 (ap (λ (x : End D). x.status) e) (λ z. omega arith) ∙ sym two)
+
+  bad_play : (known line : List ℕ) → text.left ≡ Some known → IsBadText (Some Play) known line → k ≡ 2 → Plays text text' disk end → (s ≡ k) ⊎ IsHindered s
+  bad_play known line is is_bad two plays =
+      for_text (PlaysText disk) known is (λ long. two) (λ short follows. by_script (script_of known) (bad_short (Some Play) known line is_bad short) follows.0) plays
+    where
+      by_script : (script : Result (List Event) ℕ) → IsBadScript script line → PlaysScript script end.status end.output → (s ≡ k) ⊎ IsHindered s
+      by_script (Ok events) bad plays = absurd bad
+      by_script (Err n) bad (planned, line_is) = inl (stays 2 planned (λ z. omega arith) ∙ sym two)
+
+  -- no text is bad for a command that reads none
+  bad_none : (command : Option Command) (known line : List ℕ) → uses_text command ≡ false → ((t : List ℕ) → IsBadFor command t line → ⊥) → IsBadText command known line → ⊥
+  bad_none command known line unused none is_bad = by_length (nat_lt 67108864 (length known)) is_bad
+    where
+      by_length : (b : Bool) → MatchBool b ((uses_text command ≡ true) × (line ≡ too_long)) (IsBadFor command known line) → ⊥
+      by_length true (used, e) = let wrong : true ≡ false = sym used ∙ unused in cc
+      by_length false bad = none known bad
+
+  -- ---- a text in its grammar
+
+  due_init : (known : List ℕ) → text.left ≡ Some known → nat_lt 67108864 (length known) ≡ false → IsDueFor (Some Init) known (told disk) k → Inits told text text' disk end
+      → (s ≡ k) ⊎ IsHindered s
+  due_init known is short (house, conf, (utf8, configures), due) inits =
+      for_text (Configures told disk) known is (λ long. absurd (let wrong : true ≡ false = sym long ∙ short in cc)) (λ e follows. by_config follows) inits
+    where
+      by_made : (h : House) (c : Conf) (made : Result (Kept × ℕ) MakeFault) → Makes h c (told disk) (told end.disk) made → end.status ≡ made_status made → IsDueInit (told disk) k
+          → (s ≡ k) ⊎ IsHindered s
+      by_made h c (Ok x) makes zero (inl (empty, due)) = well zero due
+      by_made h c (Ok x) makes zero (inr (some, due)) = absurd (some makes.empty)
+      by_made h c (Err make.NotEmpty) makes three (inl (empty, due)) = absurd (makes.0 empty)
+      by_made h c (Err make.NotEmpty) makes three (inr (some, due)) = inl (stays 3 three (λ z. omega arith) ∙ sym due)
+      by_made h c (Err make.Disk) makes five due = inr (by_disk (stays 5 five (λ z. omega arith)))
+      by_made h c (Err make.NoMemory) makes eight due = starved eight
+
+      by_config : Configures told disk known end → (s ≡ k) ⊎ IsHindered s
+      by_config (inl (none, e)) = absurd (let wrong : ◌≡◌ {A = Option (House × Conf)} (Some (house, conf)) None = sym configures ∙ none utf8 in cc)
+      by_config (inr (h, c, config, (made, makes, status_is, output_is))) = by_made h c made makes status_is due
+
+  -- the script was served
+  served : (outcome : Result (Unit {0}) ServeFault) (first : Kept) (events : List Event) (notes : List LinkNote) (steps : List Step) (last : Kept)
+      → Played first events outcome notes steps last → Tells outcome notes end.status end.output → k ≡ 0 → (s ≡ k) ⊎ IsHindered s
+  served (Ok x) first events notes steps last played (inl (zero, is)) due = well zero due
+  served (Ok x) first events notes steps last played (inr (eight, is)) due = starved eight
+  served (Err serve.Link) first events notes steps last played tells due = absurd (played.no_link_fault refl)
+  served (Err serve.Disk) first events notes steps last played (inl (five, is)) due = inr (by_disk (stays 5 five (λ z. omega arith)))
+  served (Err serve.Disk) first events notes steps last played (inr (five, is)) due = inr (by_disk (stays 5 five (λ z. omega arith)))
+  served (Err serve.Turns) first events notes steps last played (inl (seven, is)) due = inr (by_events (stays 7 seven (λ z. omega arith)))
+  served (Err serve.Turns) first events notes steps last played (inr (seven, is)) due = inr (by_events (stays 7 seven (λ z. omega arith)))
+  served (Err serve.NoMemory) first events notes steps last played (inl (eight, is)) due = starved eight
+  served (Err serve.NoMemory) first events notes steps last played (inr (eight, is)) due = starved eight
+
+  due_play : (known : List ℕ) → text.left ≡ Some known → nat_lt 67108864 (length known) ≡ false → IsDueFor (Some Play) known (told disk) k → Plays text text' disk end
+      → (s ≡ k) ⊎ IsHindered s
+  due_play known is short (events, script, due) plays =
+      for_text (PlaysText disk) known is (λ long. absurd (let wrong : true ≡ false = sym long ∙ short in cc)) (λ e follows. by_script (script_of known) script follows.0) plays
+    where
+      by_script : (r : Result (List Event) ℕ) → r ≡ Ok events → PlaysScript r end.status end.output → (s ≡ k) ⊎ IsHindered s
+      by_script (Err n) e plays = absurd (let wrong : ◌≡◌ {A = Result (List Event) ℕ} (Err n) (Ok events) = e in cc)
+      by_script (Ok all) e (outcome, notes, steps, last, played, no_fault, tells) = served outcome _ all notes steps last played tells due
+
+  module _ (one_opening : (image : List ℕ) (one two : Result Kept StartFault) → OpensAs image one → OpensAs image two → one ≡ two) where
+    -- a store that opened was to open
+    due_opened : (kept : Kept) → ((told disk).honest → OpensAs (told disk).content (Ok kept)) → IsDueStore (told disk) k → k ≡ 0
+    due_opened kept opens (honest, inl (other, leaves, due)) = due
+    due_opened kept opens (honest, inr (inl (not, due))) =
+        absurd (let wrong : ◌≡◌ {A = Result Kept StartFault} (Ok kept) (Err start.NotFormatted) = one_opening (told disk).content (Ok kept) (Err start.NotFormatted) (opens honest) not in cc)
+    due_opened kept opens (honest, inr (inr (place, damaged, due))) =
+        absurd (let wrong : ◌≡◌ {A = Result Kept StartFault} (Ok kept) (Err (start.Damaged place)) = one_opening (told disk).content (Ok kept) (Err (start.Damaged place)) (opens honest) damaged in cc)
+
+    -- one that was not opened was not to open
+    due_unopened : OpensNone told disk end → IsDueStore (told disk) k → (s ≡ k) ⊎ IsHindered s
+    due_unopened (start.NotFormatted, starts, three, is) (honest, inl (kept, leaves, due)) =
+        absurd (let wrong : ◌≡◌ {A = Result Kept StartFault} (Err start.NotFormatted) (Ok kept) = one_opening (told disk).content (Err start.NotFormatted) (Ok kept) (starts.found honest) leaves in cc)
+    due_unopened (start.NotFormatted, starts, three, is) (honest, inr (inl (not, due))) = inl (stays 3 three (λ z. omega arith) ∙ sym due)
+    due_unopened (start.NotFormatted, starts, three, is) (honest, inr (inr (place, damaged, due))) =
+        absurd (let wrong : ◌≡◌ {A = Result Kept StartFault} (Err start.NotFormatted) (Err (start.Damaged place)) =
+        one_opening (told disk).content (Err start.NotFormatted) (Err (start.Damaged place)) (starts.found honest) damaged in cc)
+    due_unopened (start.Damaged p, starts, ten, is) (honest, inl (kept, leaves, due)) =
+        absurd (let wrong : ◌≡◌ {A = Result Kept StartFault} (Err (start.Damaged p)) (Ok kept) = one_opening (told disk).content (Err (start.Damaged p)) (Ok kept) (starts.found honest) leaves in cc)
+    due_unopened (start.Damaged p, starts, ten, is) (honest, inr (inl (not, due))) =
+        absurd (let wrong : ◌≡◌ {A = Result Kept StartFault} (Err (start.Damaged p)) (Err start.NotFormatted) =
+        one_opening (told disk).content (Err (start.Damaged p)) (Err start.NotFormatted) (starts.found honest) not in cc)
+    due_unopened (start.Damaged p, starts, ten, is) (honest, inr (inr (place, damaged, due))) = inl (stays 10 ten (λ z. omega arith) ∙ sym due)
+    due_unopened (start.Disk, starts, five, is) due = inr (by_disk (stays 5 five (λ z. omega arith)))
+    due_unopened (start.NoMemory, starts, eight, is) due = starved eight
+
+    -- what an opened desk keeps is what the image leaves
+    leaves : (kept : Kept) (gate : ℕ) (new : DiskTold) → Starts (told disk) new (Ok (kept, gate)) → (told disk).honest → OpensAs (told disk).content (Ok kept)
+    leaves kept gate new starts honest =
+        let started = starts.found honest in
+        record { records = started.records; stands = started.stands; state_is = started.state_is }
+
+    due_script : (known : List ℕ) → text.left ≡ Some known → nat_lt 67108864 (length known) ≡ false → IsDueFor (Some Script) known (told disk) k → Scripts told text text' disk end
+        → (s ≡ k) ⊎ IsHindered s
+    due_script known is short (events, script, due) scripts =
+        for_text (λ t. RunsScript told disk (script_of t)) known is (λ long. absurd (let wrong : true ≡ false = sym long ∙ short in cc)) (λ e follows. by_script (script_of known) script follows) scripts
+      where
+        by_script : (r : Result (List Event) ℕ) → r ≡ Ok events → RunsScript told disk r end → (s ≡ k) ⊎ IsHindered s
+        by_script (Err n) e runs = absurd (let wrong : ◌≡◌ {A = Result (List Event) ℕ} (Err n) (Ok events) = e in cc)
+        by_script (Ok all) e (inl none) = due_unopened none due
+        by_script (Ok all) e (inr (desk, starts, (last, run, disk_is, journals))) =
+            served run.outcome desk.kept all run.notes run.steps last.kept run.played run.tells (due_opened desk.kept (leaves desk.kept desk.gate (told desk.disk) starts) due)
+
+    due_check : Checks told disk end → IsDueStore (told disk) k → (s ≡ k) ⊎ IsHindered s
+    due_check (inl none, kept) due = due_unopened none due
+    due_check (inr (desk, starts, counted), kept) due = by_told counted.0
+      where
+        by_told : TellsCounts desk.kept end.status end.output → (s ≡ k) ⊎ IsHindered s
+        by_told (inl (nought, is)) = well nought (due_opened desk.kept (leaves desk.kept desk.gate (told desk.disk) starts) due)
+        by_told (inr (eight, is)) = starved eight
+
+    -- ---- all commands
+
+    -- words of no stated shape, a bad text, or a text and a disk
+    by_command : (command : Option Command) → IsDue command (record { text = text; disk = told disk; out = out }) k → Does told command text text' disk end → (s ≡ k) ⊎ IsHindered s
+    by_command None (inl (not_built, one)) (same, e) = inl (stays 1 (status_of_end 1 usage disk e) (λ z. omega arith) ∙ sym one)
+    by_command None (inr (inl (t, line, is, bad, two))) does = absurd (bad_none None t line refl (λ u e. e) bad)
+    by_command None (inr (inr (inl (t, is, short, due)))) does = absurd due
+    by_command None (inr (inr (inr due))) does = absurd due
+    by_command (Some Init) (inl (not_built, one)) does = absurd (let wrong : true ≡ false = not_built in cc)
+    by_command (Some Init) (inr (inl (t, line, is, bad, two))) does = bad_init t line is bad two does
+    by_command (Some Init) (inr (inr (inl (t, is, short, due)))) does = due_init t is short due does
+    by_command (Some Init) (inr (inr (inr due))) does = absurd due
+    by_command (Some (Serve a b c)) (inl (not_built, one)) (same, e) = inl (stays 1 (status_of_end 1 usage disk e) (λ z. omega arith) ∙ sym one)
+    by_command (Some (Serve a b c)) (inr (inl (t, line, is, bad, two))) does = absurd (bad_none (Some (Serve a b c)) t line refl (λ u e. e) bad)
+    by_command (Some (Serve a b c)) (inr (inr (inl (t, is, short, due)))) does = absurd due
+    by_command (Some (Serve a b c)) (inr (inr (inr due))) does = absurd due
+    by_command (Some Script) (inl (not_built, one)) does = absurd (let wrong : true ≡ false = not_built in cc)
+    by_command (Some Script) (inr (inl (t, line, is, bad, two))) does = bad_script t line is bad two does
+    by_command (Some Script) (inr (inr (inl (t, is, short, due)))) does = due_script t is short due does
+    by_command (Some Script) (inr (inr (inr due))) does = absurd due
+    by_command (Some Play) (inl (not_built, one)) does = absurd (let wrong : true ≡ false = not_built in cc)
+    by_command (Some Play) (inr (inl (t, line, is, bad, two))) does = bad_play t line is bad two does
+    by_command (Some Play) (inr (inr (inl (t, is, short, due)))) does = due_play t is short due does
+    by_command (Some Play) (inr (inr (inr due))) does = absurd due
+    by_command (Some (Grow n)) (inl (not_built, one)) (same, e) = inl (stays 1 (status_of_end 1 usage disk e) (λ z. omega arith) ∙ sym one)
+    by_command (Some (Grow n)) (inr (inl (t, line, is, bad, two))) does = absurd (bad_none (Some (Grow n)) t line refl (λ u e. e) bad)
+    by_command (Some (Grow n)) (inr (inr (inl (t, is, short, due)))) does = absurd due
+    by_command (Some (Grow n)) (inr (inr (inr due))) does = absurd due
+    by_command (Some Check) (inl (not_built, one)) does = absurd (let wrong : true ≡ false = not_built in cc)
+    by_command (Some Check) (inr (inl (t, line, is, bad, two))) does = absurd (bad_none (Some Check) t line refl (λ u e. e) bad)
+    by_command (Some Check) (inr (inr (inl (t, is, short, due)))) does = absurd due
+    by_command (Some Check) (inr (inr (inr due))) (same, checks) = due_check checks due
+
+    -- the status that is due comes, unless the run was hindered
+    pub due : (words : List (List ℕ)) → Answers told words text text' disk end → IsDue (command_of words) (record { text = text; disk = told disk; out = out }) k → (s ≡ k) ⊎ IsHindered s
+    due words (inl does) is = by_command (command_of words) is does
+    due words (inr (same, e)) is = starved (ap (λ (x : End D). x.status) e)

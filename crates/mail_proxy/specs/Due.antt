@@ -1,0 +1,58 @@
+-- Which status is due, where the text and the disk tell what they hold.
+use Rattle.std.specs.Prelude.{◌≡◌, ◌≢◌, ◌⊎◌, ℕ, false, List, length, nat_lt, Option, None, Some, Ok, Err}
+use Rattle.undo_outside.specs.declared.event.Event.{Event}
+use Rattle.undo_outside.specs.Disk.{DiskTold}
+use Rattle.verb_core.specs.declared.conf.Conf.{Conf}
+use Rattle.verb_core.specs.declared.conf.House.{House}
+use Rattle.mail_desk.specs.Kept.{Kept}
+use Rattle.script_link.specs.Script.{script_of}
+use Rattle.time_desk.specs.declared.fault.StartFault.TheVariants.{NotFormatted, Damaged}
+use Rattle.time_desk.specs.Opening.{OpensAs}
+use Rattle.command_words.specs.declared.commands.Command.{Command}
+use Rattle.command_words.specs.declared.commands.Command.TheVariants.{Init, Serve, Script, Play, Grow, Check}
+use Rattle.mail_proxy.specs.Causes.{IsBadText, Outside, is_built}
+use Rattle.mail_proxy.specs.Init.{IsConfig}
+
+-- an empty disk is formatted, and no other
+abbrev pub IsDueInit : DiskTold → ℕ → Type 0
+IsDueInit disk k = ((disk.size ≡ 0) × (k ≡ 0)) ⊎ ((disk.size ≢ 0) × (k ≡ 3))
+
+-- a store is opened where its records can stand; else it is no store, or damaged
+abbrev pub IsDueStore : DiskTold → ℕ → Type 0
+IsDueStore disk k =
+    disk.honest
+    × (((kept : Kept) × OpensAs disk.content (Ok kept) × (k ≡ 0))
+    ⊎ (OpensAs disk.content (Err NotFormatted) × (k ≡ 3))
+    ⊎ ((place : ℕ) × OpensAs disk.content (Err (Damaged place)) × (k ≡ 10)))
+
+-- what is due for a text in the grammar of the command
+abbrev pub IsDueFor : Option Command → List ℕ → DiskTold → ℕ → Type 0
+IsDueFor None text disk k = ⊥
+IsDueFor (Some Init) text disk k = (house : House) × (conf : Conf) × IsConfig text house conf × IsDueInit disk k
+IsDueFor (Some (Serve smtp imap http)) text disk k = ⊥
+IsDueFor (Some Script) text disk k = (events : List Event) × (script_of text ≡ Ok events) × IsDueStore disk k
+IsDueFor (Some Play) text disk k = (events : List Event) × (script_of text ≡ Ok events) × (k ≡ 0)
+IsDueFor (Some (Grow rounds)) text disk k = ⊥
+IsDueFor (Some Check) text disk k = ⊥
+
+-- what is due for a command that reads no text
+abbrev pub IsDueAlone : Option Command → DiskTold → ℕ → Type 0
+IsDueAlone None disk k = ⊥
+IsDueAlone (Some Init) disk k = ⊥
+IsDueAlone (Some (Serve smtp imap http)) disk k = ⊥
+IsDueAlone (Some Script) disk k = ⊥
+IsDueAlone (Some Play) disk k = ⊥
+IsDueAlone (Some (Grow rounds)) disk k = ⊥
+IsDueAlone (Some Check) disk k = IsDueStore disk k
+
+-- The status that is due: 1 for words of no stated shape; 2 for a bad text; else that of the disk.
+abbrev pub IsDue : Option Command → Outside → ℕ → Type 0
+IsDue command old k =
+    ((is_built command ≡ false) × (k ≡ 1))
+    ⊎ ((text : List ℕ) × (line : List ℕ) × (old.text.left ≡ Some text) × IsBadText command text line × (k ≡ 2))
+    ⊎ ((text : List ℕ) × (old.text.left ≡ Some text) × (nat_lt 67108864 (length text) ≡ false) × IsDueFor command text old.disk k)
+    ⊎ IsDueAlone command old.disk k
+
+-- a call failed, memory was wanted, or no end came within 2^40 events
+abbrev pub IsHindered : ℕ → Type 0
+IsHindered s = (s ≡ 5) ⊎ (s ≡ 6) ⊎ (s ≡ 7) ⊎ (s ≡ 8) ⊎ (s ≡ 9)

@@ -1,0 +1,66 @@
+//! Serving the events of a script over a desk.
+ghost use Rattle.std.specs.Prelude.{◌≡◌, false};
+ghost use Rattle.mail_proxy.specs.Lines.{line_text};
+ghost use Rattle.mail_proxy.specs.Plans.{output_of};
+ghost use Rattle.mail_proxy.specs.Script.{ServesOver, last_line, or_no_memory, status_of};
+
+use crate::plan::{LastLine, Plan};
+use mail_loop::{ServeFault, serve_events};
+use script_link::transcript;
+use std::alloc::Global;
+use std::thread::Threads;
+use time_desk::Desk;
+use undo_base::{NoMemory, Numbers, Text};
+use undo_outside::{Disk, Events, Gate, MemLink};
+
+const MOST_EVENTS: u64 = 1 << 40;
+
+/// Serves the events over a link in memory. What is written is the transcript and the last line; the transcript is left out
+/// where no memory is found for it.
+pub fn serve_script<R: Threads + Sync, D: Disk + Drop, G: Gate>(
+    rt: &R,
+    alloc: Global,
+    desk: &mut Desk<D>,
+    events: Events,
+    gate: &G,
+) -> Plan
+    requires { desk.old.closed ≡ false }
+    ensures { ServesOver D.told events desk.old desk.new result.status (output_of result) }
+{
+    let mut link = MemLink::new(alloc, events, Numbers::new(alloc));
+    let served = serve_events(rt, alloc, desk, &mut link, gate, MOST_EVENTS);
+    match transcript(alloc, link.log()) {
+        Ok(transcript) => plan_of(served, transcript),
+        Err(NoMemory) => plan_of(or_starved(served), Text::new(alloc)),
+    }
+}
+
+/// Want of memory, where no fault came before.
+fn or_starved(served: Result<(), ServeFault>) -> Result<(), ServeFault>
+    ensures { result ≡ or_no_memory served }
+{
+    match served {
+        Ok(()) => Err(ServeFault::NoMemory),
+        Err(fault) => Err(fault),
+    }
+}
+
+/// What is answered where serving ended so, after this transcript.
+fn plan_of(served: Result<(), ServeFault>, transcript: Text) -> Plan
+    ensures status { result.status ≡ status_of served }
+    ensures body { result.body ≡ transcript }
+    ensures last { line_text result.last ≡ last_line served }
+{
+    let (status, last) = match served {
+        Ok(()) => (0, LastLine::Nothing),
+        Err(ServeFault::Link) => (4, LastLine::LinkFault),
+        Err(ServeFault::Disk) => (5, LastLine::DiskFault),
+        Err(ServeFault::Turns) => (7, LastLine::TooMany),
+        Err(ServeFault::NoMemory) => (8, LastLine::NoMemory),
+    };
+    Plan {
+        status,
+        body: transcript,
+        last,
+    }
+}

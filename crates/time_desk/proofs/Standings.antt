@@ -1,0 +1,290 @@
+-- Records that are read and performed one after the other.
+use Rattle.std.proofs.Common.{◌≡◌, ℕ, zero, suc, ◌+◌, ◌-◌, ◌<◌, ◌≤◌, ◌∷◌, ◌++◌, ◌∙◌, ◌&&◌, [], List, Bool, true, false, Option, Some, None, Result, Ok, Err, length, take, drop, get_or, is_some, refl, sym, ap, subst, arith, append_assoc, length-append}
+use Rattle.std.proofs.lemmas.List.{map-append, take_all}
+use Rattle.std.proofs.lemmas.List.Concat.{flat_map-append}
+use Rattle.std.specs.Prelude.{option_and_then, if◌then◌else◌, IfOk, IfErr, slice_get}
+use Rattle.std.specs.List.{slice_range}
+use Rattle.verb_core.specs.declared.item.Item.{Item}
+use Rattle.std.specs.Int.{w32, to_be_bytes}
+use Rattle.undo_outside.specs.Disk.{DiskTold}
+use Rattle.undo_outside.specs.Moments.{OnlyReads}
+use Rattle.verb_bytes.specs.declared.journal.JournalRecord.{JournalRecord}
+use Rattle.verb_bytes.specs.declared.journal.JournalRecord.TheVariants.{Format, Verb, Operator, Cycle, Snapshot}
+use Rattle.verb_bytes.specs.Spelling.{HasSpelling, Spells, record_bytes}
+use Rattle.seal_log.specs.declared.place.Place.{Place}
+use Rattle.seal_log.specs.Journal.{frame, sealed, LiesAt}
+use Rattle.seal_log.specs.Loading.{places_from}
+use Rattle.seal_log.specs.Settled.{Holds, IsSettled}
+use Rattle.mail_desk.specs.Kept.{Kept}
+use Rattle.mail_desk.specs.Desk.{performed}
+use Rattle.time_desk.specs.declared.fault.StartFault.{StartFault}
+use Rattle.time_desk.specs.declared.fault.StartFault.TheVariants.{NotFormatted, Damaged, Disk, NoMemory}
+use Rattle.time_desk.specs.Opening.{CanStand}
+use Rattle.time_desk.specs.Records.{act_item, after_item, after_record, after_records, can_follow, first_state, payloads_of, state}
+use Rattle.time_desk.specs.Standing.{BreaksFor, Enters, Fails, FailsPayload, LeadsTo, Performed, Performs, SpellsAll, SpellsNothing, StopsFor, item_of}
+
+-- ---- what stays while a disk is read
+
+pub holds_on : (old new : DiskTold) (payloads : List (List ℕ)) → OnlyReads old new → Holds old payloads → Holds new payloads
+holds_on old new payloads reads h = record { honest = reads.honest h.honest; front = λ c now. h.front c (reads.images h.honest c now) }
+
+pub settled_on : (old new : DiskTold) (gate : ℕ) (payloads : List (List ℕ)) → OnlyReads old new → IsSettled old gate payloads → IsSettled new gate payloads
+settled_on old new gate payloads reads s = record { honest = reads.honest s.honest; gate_is = s.gate_is; images = λ c now. s.images c (reads.images s.honest c now) }
+
+-- ---- one record more
+
+-- what is kept behind more records, and one more
+pub after_push : (rs : List JournalRecord) (r : JournalRecord) (kept mid : Kept) → after_records kept rs ≡ Some mid → after_records kept (rs ++ r ∷ []) ≡ after_record mid r
+after_push [] r kept mid is = subst (λ (k : Kept). after_records k (r ∷ []) ≡ after_record mid r) (sym (cc is)) (alone (after_record mid r))
+  where
+    alone : (o : Option Kept) → option_and_then (λ next. after_records next []) o ≡ o
+    alone None = refl
+    alone (Some k) = refl
+after_push (q ∷ rs) r kept mid is = elim (after_record kept q) as (λ o. option_and_then (λ next. after_records next rs) o ≡ Some mid → option_and_then (λ next. after_records next (rs ++ r ∷ [])) o ≡ after_record mid r) [
+  | None ↦ λ e. absurd (cc e)
+  | Some next ↦ λ e. after_push rs r next mid e
+] is
+
+pub state_push : (rs : List JournalRecord) (r : JournalRecord) (kept : Kept) → state rs ≡ Some kept → state (rs ++ r ∷ []) ≡ after_record kept r
+state_push [] r kept is = absurd (cc is)
+state_push (q ∷ rs) r kept is = elim (first_state q) as (λ o. option_and_then (λ next. after_records next rs) o ≡ Some kept → option_and_then (λ next. after_records next (rs ++ r ∷ [])) o ≡ after_record kept r) [
+  | None ↦ λ e. absurd (cc e)
+  | Some next ↦ λ e. after_push rs r next kept e
+] is
+
+pub state_one : (r : JournalRecord) → state (r ∷ []) ≡ first_state r
+state_one r = alone (first_state r)
+  where
+    alone : (o : Option Kept) → option_and_then (λ next. after_records next []) o ≡ o
+    alone None = refl
+    alone (Some k) = refl
+
+-- what the records behind a first one leave
+state_from : (r : JournalRecord) (rs : List JournalRecord) (kept new : Kept) → first_state r ≡ Some kept → after_records kept rs ≡ Some new → state (r ∷ rs) ≡ Some new
+state_from r rs kept new first others = ap (option_and_then (λ k. after_records k rs)) first ∙ others
+
+can_stand : (r : JournalRecord) (rs : List JournalRecord) (kept : Kept) → state (r ∷ rs) ≡ Some kept → CanStand (r ∷ rs)
+can_stand r rs kept is = ap is_some is
+
+payloads-push : (rs : List JournalRecord) (r : JournalRecord) (payload : List ℕ) → payload ≡ record_bytes r → payloads_of (rs ++ r ∷ []) ≡ payloads_of rs ++ payload ∷ []
+payloads-push rs r payload is = map-append record_bytes rs (r ∷ []) ∙ ap (λ (p : List ℕ). payloads_of rs ++ p ∷ []) (sym is)
+
+pub leads_more : (kept mid new : Kept) (first : List (List ℕ)) (payload : List ℕ) → LeadsTo kept first mid → Performed (after_record mid) payload new → LeadsTo kept (first ++ payload ∷ []) new
+leads_more kept mid new first payload led done = record {
+  records = led.records ++ done.what ∷ [];
+  spelled = ap (λ (ps : List (List ℕ)). ps ++ payload ∷ []) led.spelled ∙ sym (payloads-push led.records done.what payload done.spells.1);
+  leaves = after_push led.records done.what kept mid led.leaves ∙ done.is;
+}
+
+-- the payload behind those that were performed is no record that can stand there
+pub stops : (kept mid : Kept) (gate at : ℕ) (first after payloads : List (List ℕ)) (payload : List ℕ) (fault : StartFault) → LeadsTo kept first mid → payloads ≡ first ++ payload ∷ after → at ≡ gate + length (sealed first)
+    → FailsPayload (after_record mid) payload at fault → StopsFor kept gate payloads fault
+stops kept mid gate at first after payloads payload NotFormatted led split at_is fails = fails
+stops kept mid gate at first after payloads payload (Damaged place) led split at_is fails = record {
+  first = first;
+  payload = payload;
+  after = after;
+  split = split;
+  mid = mid;
+  leads = led;
+  stands_none = fails.0;
+  place_is = fails.1 ∙ at_is;
+}
+stops kept mid gate at first after payloads payload Disk led split at_is fails = tt
+stops kept mid gate at first after payloads payload NoMemory led split at_is fails = tt
+
+-- ---- what calls give
+
+-- more is said of what a call gave
+pub if_ok : {T E : Type 0} (r : Result T E) (P Q : T → Type 0) → ((x : T) → P x → Q x) → IfOk r P → IfOk r Q
+if_ok (Ok x) P Q more h = more x h
+if_ok (Err e) P Q more h = h
+
+-- more is said of why a call gave nothing
+pub if_err : {T E : Type 0} (r : Result T E) (P Q : E → Type 0) → ((e : E) → P e → Q e) → IfErr r P → IfErr r Q
+if_err (Ok x) P Q more h = h
+if_err (Err e) P Q more h = more e h
+
+-- all of a payload
+pub whole_range : (payload : List ℕ) (count : ℕ) → count ≡ length payload → slice_range payload 0 (0 + count) ≡ payload
+whole_range payload count is =
+    let all : 0 + count - 0 ≡ length payload = omega arith in
+    ap (λ (n : ℕ). take n payload) all ∙ take_all (length payload) payload (omega arith)
+
+-- ---- entering an item
+
+after_entering : (kept : Kept) (item : Item) (stood : Bool) (new : Kept) → Enters kept item stood new → Performs (if can_follow kept item then Some (performed kept item) else None) stood new
+after_entering kept item true new entered = ap (λ (b : Bool). if b then Some (performed kept item) else None) entered.0 ∙ ap Some (sym entered.1)
+after_entering kept item false new entered = ap (λ (b : Bool). if b then Some (performed kept item) else None) entered
+
+item_after : (kept : Kept) (what : JournalRecord) (item : Item) (stood : Bool) (new : Kept) → HasSpelling what → Enters kept item stood new → Performs (after_item kept what item) stood new
+item_after kept what item stood new fits entered =
+    subst (λ (b : Bool). Performs (if b && can_follow kept item then Some (performed kept item) else None) stood new) (sym fits) (after_entering kept item stood new entered)
+
+-- the item of a record was entered
+pub enters_record : (kept : Kept) (what : JournalRecord) (item : Item) (stood : Bool) (new : Kept) → HasSpelling what → Some item ≡ item_of what → Enters kept item stood new → Performs (after_record kept what) stood new
+enters_record kept (Verb i) item stood new fits is entered = item_after kept (Verb i) i stood new fits (let same : item ≡ i = cc is in subst (λ (j : Item). Enters kept j stood new) same entered)
+enters_record kept (Operator number at act) item stood new fits is entered = item_after kept (Operator number at act) (act_item number at act) stood new fits (let same : item ≡ act_item number at act = cc is in subst (λ (j : Item). Enters kept j stood new) same entered)
+enters_record kept (Format house conf) item stood new fits is entered = absurd (cc is)
+enters_record kept (Cycle number at ask) item stood new fits is entered = absurd (cc is)
+enters_record kept (Snapshot items conf rows) item stood new fits is entered = absurd (cc is)
+
+-- ---- the first record
+
+pub all_spelled : (kept new : Kept) (payload : List ℕ) (payloads : List (List ℕ)) → Performed first_state payload kept → LeadsTo kept payloads new → SpellsAll (payload ∷ payloads) new
+all_spelled kept new payload payloads first led = record {
+  records = first.what ∷ led.records;
+  spelled = ap (λ (p : List ℕ). p ∷ payloads) first.spells.1 ∙ ap (λ (ps : List (List ℕ)). record_bytes first.what ∷ ps) led.spelled;
+  state_is = state_from first.what led.records kept new first.is led.leaves;
+}
+
+-- a first payload that is no record that can begin a journal
+pub breaks_first : (payload : List ℕ) (payloads : List (List ℕ)) (fault : StartFault) → FailsPayload first_state payload 0 fault → BreaksFor (payload ∷ payloads) fault
+breaks_first payload payloads NotFormatted fails = fails
+breaks_first payload payloads (Damaged place) fails = record {
+  records = [];
+  payload = payload;
+  after = payloads;
+  split = refl;
+  can_stand = tt;
+  stands_none = λ what spells. state_one what ∙ fails.0 what spells;
+  place_is = fails.1;
+}
+breaks_first payload payloads Disk fails = tt
+breaks_first payload payloads NoMemory fails = tt
+
+length-sealed-cons : (payload : List ℕ) (payloads : List (List ℕ)) → length (sealed (payload ∷ payloads)) ≡ length (sealed (payload ∷ [])) + length (sealed payloads)
+length-sealed-cons payload payloads =
+    ap length (flat_map-append (λ (p : List ℕ). 85 ∷ frame p) (payload ∷ []) payloads) ∙ length-append (sealed (payload ∷ [])) (sealed payloads)
+
+pub breaks_later : (kept : Kept) (payload : List ℕ) (payloads : List (List ℕ)) (fault : StartFault) → Performed first_state payload kept → StopsFor kept (length (sealed (payload ∷ []))) payloads fault → BreaksFor (payload ∷ payloads) fault
+breaks_later kept payload payloads NotFormatted first stop = stop
+breaks_later kept payload payloads (Damaged place) first stop =
+    let records = first.what ∷ stop.leads.records in
+    let bytes : payload ∷ stop.first ≡ payloads_of records = ap (λ (p : List ℕ). p ∷ stop.first) first.spells.1 ∙ ap (λ (ps : List (List ℕ)). record_bytes first.what ∷ ps) stop.leads.spelled in
+    let is = state_from first.what stop.leads.records kept stop.mid first.is stop.leads.leaves in
+    record {
+      records = records;
+      payload = stop.payload;
+      after = stop.after;
+      split = ap (λ (ps : List (List ℕ)). payload ∷ ps) stop.split ∙ ap (λ (ps : List (List ℕ)). ps ++ stop.payload ∷ stop.after) bytes;
+      can_stand = can_stand first.what stop.leads.records stop.mid is;
+      stands_none = λ what spells. state_push records what stop.mid is ∙ stop.stands_none what spells;
+      place_is = stop.place_is ∙ sym (length-sealed-cons payload stop.first) ∙ ap (λ (ps : List (List ℕ)). length (sealed ps)) bytes;
+    }
+breaks_later kept payload payloads Disk first stop = tt
+breaks_later kept payload payloads NoMemory first stop = tt
+
+-- ---- one payload
+
+-- the record that the payload spells can't stand
+pub fails_spelled : (due : JournalRecord → Option Kept) (what : JournalRecord) (payload : List ℕ) (gate : ℕ) (fault : StartFault) → ((other : JournalRecord) → Spells other payload → other ≡ what) → Fails (due what ≡ None) gate fault
+    → FailsPayload due payload gate fault
+fails_spelled due what payload gate NotFormatted only fails = fails
+fails_spelled due what payload gate (Damaged place) only fails = (λ other spells. ap due (only other spells) ∙ fails.0, fails.1)
+fails_spelled due what payload gate Disk only fails = absurd fails
+fails_spelled due what payload gate NoMemory only fails = tt
+
+-- the payload spells no record
+pub fails_unspelled : (due : JournalRecord → Option Kept) (payload : List ℕ) (gate : ℕ) (fault : StartFault) → SpellsNothing payload gate fault → FailsPayload due payload gate fault
+fails_unspelled due payload gate NotFormatted none = none
+fails_unspelled due payload gate (Damaged place) none = (λ other spells. absurd (none.0 other spells), none.1)
+fails_unspelled due payload gate Disk none = tt
+fails_unspelled due payload gate NoMemory none = tt
+
+-- bytes that were read are the payload
+pub spells_nothing : (payload : List ℕ) (gate : ℕ) (fault : StartFault) → Fails ((what : JournalRecord) → Spells what payload → ⊥) gate fault → SpellsNothing payload gate fault
+spells_nothing payload gate NotFormatted fails = fails
+spells_nothing payload gate (Damaged place) fails = fails
+spells_nothing payload gate Disk fails = absurd fails
+spells_nothing payload gate NoMemory fails = tt
+
+-- ---- places
+
+-- a place of payloads, the first of which has its gate here
+pub record IsNth (gate : ℕ) (payloads : List (List ℕ)) (i : ℕ) (place : Place) : Type 0 where
+  pub payload : List ℕ
+  pub after : List (List ℕ)
+  pub split : payloads ≡ take i payloads ++ payload ∷ after
+  pub next : take (i + 1) payloads ≡ take i payloads ++ payload ∷ []
+  pub gate_is : place.gate ≡ gate + length (sealed (take i payloads))
+  pub length_is : place.length ≡ length payload
+
+pub nth_place : (gate : ℕ) (payloads : List (List ℕ)) (i : ℕ) (d : Place) → i < length (places_from gate payloads) → IsNth gate payloads i (get_or (places_from gate payloads) i d)
+nth_place gate [] i d below = absurd (omega arith)
+nth_place gate (p ∷ payloads) zero d below = record { payload = p; after = payloads; split = refl; next = refl; gate_is = omega arith; length_is = refl }
+nth_place gate (p ∷ payloads) (suc i) d below =
+    let rest = nth_place (gate + 5 + length p) payloads i d (omega arith) in
+    let count : suc i + 1 ≡ suc (i + 1) = omega arith in
+    record {
+      payload = rest.payload;
+      after = rest.after;
+      split = ap (λ (ps : List (List ℕ)). p ∷ ps) rest.split;
+      next = ap (λ (n : ℕ). take n (p ∷ payloads)) count ∙ ap (λ (ps : List (List ℕ)). p ∷ ps) rest.next;
+      gate_is = omega (arith, rest.gate_is, length-append (85 ∷ frame p) (sealed (take i payloads)), length-frame p);
+      length_is = rest.length_is;
+    }
+  where
+    length-frame : (payload : List ℕ) → length (frame payload) ≡ 4 + length payload
+    length-frame payload = length-append (to_be_bytes w32 (length payload)) payload
+
+-- it lies there, behind what stands before
+pub lies_behind : (before payloads : List (List ℕ)) (i : ℕ) (place : Place) (nth : IsNth (length (sealed before)) payloads i place) → LiesAt (before ++ payloads) place.gate place.length nth.payload
+lies_behind before payloads i place nth = record {
+  before = before ++ take i payloads;
+  after = nth.after;
+  split = ap (λ (ps : List (List ℕ)). before ++ ps) nth.split ∙ sym (append_assoc before (take i payloads) (nth.payload ∷ nth.after));
+  gate_is = nth.gate_is ∙ sym (ap length (flat_map-append (λ (p : List ℕ). 85 ∷ frame p) before (take i payloads)) ∙ length-append (sealed before) (sealed (take i payloads)));
+  count_is = nth.length_is;
+}
+
+-- a place that was taken from a list of them
+pub nth_of : (gate : ℕ) (payloads : List (List ℕ)) (places : List Place) (i : ℕ) (d : Place) → places ≡ places_from gate payloads → i < length places → IsNth gate payloads i (get_or places i d)
+nth_of gate payloads places i d are below =
+    subst (λ (ps : List Place). IsNth gate payloads i (get_or ps i d)) (sym are) (nth_place gate payloads i d (subst (λ (ps : List Place). i < length ps) are below))
+
+pub leads_step : (kept mid new : Kept) (gate : ℕ) (payloads : List (List ℕ)) (i : ℕ) (place : Place) (nth : IsNth gate payloads i place) → LeadsTo kept (take i payloads) mid → Performed (after_record mid) nth.payload new → LeadsTo kept (take (i + 1) payloads) new
+leads_step kept mid new gate payloads i place nth led done = subst (λ (ps : List (List ℕ)). LeadsTo kept ps new) (sym nth.next) (leads_more kept mid new (take i payloads) nth.payload led done)
+
+pub stops_step : (kept mid : Kept) (gate : ℕ) (payloads : List (List ℕ)) (i : ℕ) (place : Place) (fault : StartFault) (nth : IsNth gate payloads i place) → LeadsTo kept (take i payloads) mid → FailsPayload (after_record mid) nth.payload place.gate fault
+    → StopsFor kept gate payloads fault
+stops_step kept mid gate payloads i place fault nth led fails = stops kept mid gate place.gate (take i payloads) nth.after payloads nth.payload fault led nth.split nth.gate_is fails
+
+length-places : (gate : ℕ) (payloads : List (List ℕ)) → length (places_from gate payloads) ≡ length payloads
+length-places gate [] = refl
+length-places gate (p ∷ payloads) = ap suc (length-places (gate + 5 + length p) payloads)
+
+-- all places were taken
+pub leads_all : (kept new : Kept) (gate : ℕ) (payloads : List (List ℕ)) (places : List Place) (i : ℕ) → places ≡ places_from gate payloads → length places ≤ i → LeadsTo kept (take i payloads) new → LeadsTo kept payloads new
+leads_all kept new gate payloads places i are past led =
+    subst (λ (ps : List (List ℕ)). LeadsTo kept ps new) (take_all i payloads (omega (arith, ap length are, length-places gate payloads))) led
+
+-- ---- all payloads
+
+-- the first payload, and the others with their places
+pub record HasFirst (payloads : List (List ℕ)) (places : List Place) (first : Place) : Type 0 where
+  pub payload : List ℕ
+  pub others : List (List ℕ)
+  pub split : payloads ≡ payload ∷ others
+  pub gate_is : first.gate ≡ 0
+  pub length_is : first.length ≡ length payload
+  pub rest : drop 1 places ≡ places_from (length (sealed (payload ∷ []))) others
+
+pub has_first : (payloads : List (List ℕ)) (places : List Place) (first : Place) → places ≡ places_from 0 payloads → slice_get places 0 ≡ Some first → HasFirst payloads places first
+has_first [] places first are is = absurd (cc (sym is ∙ ap (λ (ps : List Place). slice_get ps 0) are))
+has_first (p ∷ payloads) places first are is =
+    let here : Some first ≡ Some (record { gate = 0; length = length p }) = sym is ∙ ap (λ (ps : List Place). slice_get ps 0) are in
+    let same : first ≡ record { gate = 0; length = length p } = cc here in
+    let size : 0 + 5 + length p ≡ length (sealed (p ∷ [])) = omega (arith, length-append (85 ∷ frame p) [], length-append (to_be_bytes w32 (length p)) p) in
+    record {
+      payload = p;
+      others = payloads;
+      split = refl;
+      gate_is = ap (λ (q : Place). q.gate) same;
+      length_is = ap (λ (q : Place). q.length) same;
+      rest = ap (drop 1) are ∙ ap (λ (n : ℕ). places_from n payloads) size;
+    }
+
+-- the first payload lies at the first place
+pub lies_first : (payloads : List (List ℕ)) (places : List Place) (first : Place) (has : HasFirst payloads places first) → LiesAt payloads first.gate first.length has.payload
+lies_first payloads places first has = record { before = []; after = has.others; split = has.split; gate_is = has.gate_is; count_is = has.length_is }

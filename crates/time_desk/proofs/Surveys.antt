@@ -1,0 +1,103 @@
+-- What a survey of a disk and the records that are read say of the image.
+use Rattle.std.proofs.Common.{◌≡◌, inl, inr, ℕ, ◌<◌, ◌∷◌, ◌++◌, ◌∙◌, [], List, Bool, true, false, length, refl, sym, ap, subst, arith, append_assoc, length-append}
+use Rattle.std.proofs.lemmas.List.Concat.{flat_map-append}
+use Rattle.std.specs.List.{AllByRecursion}
+use Rattle.undo_outside.specs.Disk.{DiskTold}
+use Rattle.undo_outside.specs.Moments.{OnlyReads}
+use Rattle.seal_log.specs.declared.place.Place.{Place}
+use Rattle.seal_log.specs.Journal.{frame, sealed, IsPayload, StandsFor}
+use Rattle.seal_log.specs.Loading.{places_from}
+use Rattle.seal_log.specs.Loads.{Ends, IsSurveyed}
+use Rattle.seal_log.specs.Settled.{IsSettled}
+use Rattle.mail_desk.specs.Kept.{Kept}
+use Rattle.time_desk.specs.declared.fault.StartFault.{StartFault}
+use Rattle.time_desk.specs.declared.fault.StartFault.TheVariants.{NotFormatted, Damaged, Disk, NoMemory}
+use Rattle.time_desk.specs.Opening.{IsDamaged, IsStarted, Refuses}
+use Rattle.time_desk.specs.Records.{payloads_of}
+use Rattle.time_desk.specs.Standing.{BreaksAt, BreaksFor, Fails, SpellsAll}
+use Rattle.time_desk.proofs.OneWay.{leaves_stand, payload_at, sealed_opens, some_closed}
+use Rattle.time_desk.proofs.Standings.{settled_on}
+
+-- ---- images
+
+some_rest : (is_cut : Bool) (disk : DiskTold) (gate : ℕ) (payloads : List (List ℕ)) (rest : List ℕ) → Ends is_cut disk gate payloads rest → 0 < length rest
+some_rest true disk gate payloads [] ends = absurd ends
+some_rest true disk gate payloads (b ∷ rest) ends = omega arith
+some_rest false disk gate payloads rest ends = some_closed rest ends.0
+
+front_all : (xs ys : List (List ℕ)) → AllByRecursion IsPayload (xs ++ ys) → AllByRecursion IsPayload xs
+front_all [] ys all = tt
+front_all (x ∷ xs) ys all = (all.0, front_all xs ys all.1)
+
+-- a payload among others, and what stands behind it
+behind : (first : List (List ℕ)) (payload : List ℕ) (after : List (List ℕ)) (rest : List ℕ) → sealed (first ++ payload ∷ after) ++ rest ≡ sealed first ++ 85 ∷ (frame payload ++ (sealed after ++ rest))
+behind first payload after rest =
+    ap (λ (l : List ℕ). l ++ rest) (flat_map-append (λ (p : List ℕ). 85 ∷ frame p) first (payload ∷ after))
+    ∙ append_assoc (sealed first) (sealed (payload ∷ after)) rest ∙ ap (λ (l : List ℕ). sealed first ++ l) (sealed_opens payload after rest)
+
+module _ (image : List ℕ) (disk : DiskTold) (gate : ℕ) (places : List Place) where
+  broken : (is_cut : Bool) (seen : IsSurveyed image disk gate places is_cut) (place : ℕ) → BreaksAt seen.payloads place → IsDamaged image place
+  broken is_cut seen place b =
+      let first = payloads_of b.records in
+      let short = subst (AllByRecursion IsPayload) b.split seen.short in
+      record {
+        records = b.records;
+        rest = 85 ∷ (frame b.payload ++ (sealed b.after ++ seen.rest));
+        split = seen.split ∙ ap (λ (ps : List (List ℕ)). sealed ps ++ seen.rest) b.split ∙ behind first b.payload b.after seen.rest;
+        short = front_all first (b.payload ∷ b.after) short;
+        can_stand = b.can_stand;
+        place_is = b.place_is;
+        bad = inr (record {
+          payload = b.payload;
+          more = sealed b.after ++ seen.rest;
+          split = refl;
+          fits = payload_at first b.payload b.after short;
+          some = omega (arith, length-append (sealed b.after) seen.rest, some_rest is_cut disk gate seen.payloads seen.rest seen.ends);
+          stands_none = b.stands_none;
+        });
+      }
+
+  -- the first payload that is no record that can stand
+  pub breaks : (is_cut : Bool) (seen : IsSurveyed image disk gate places is_cut) (fault : StartFault) → BreaksFor seen.payloads fault → Refuses image fault
+  breaks is_cut seen NotFormatted b = absurd b
+  breaks is_cut seen (Damaged place) b = broken is_cut seen place b
+  breaks is_cut seen Disk b = tt
+  breaks is_cut seen NoMemory b = tt
+
+  -- a frame that is cut, behind records that all can stand
+  pub cut_behind : (is_cut : Bool) (seen : IsSurveyed image disk gate places is_cut) (kept : Kept) → is_cut ≡ true → SpellsAll seen.payloads kept → IsDamaged image gate
+  cut_behind false seen kept cut all = absurd (cc cut)
+  cut_behind true seen kept cut all = record {
+    records = all.records;
+    rest = seen.rest;
+    split = seen.split ∙ ap (λ (ps : List (List ℕ)). sealed ps ++ seen.rest) all.spelled;
+    short = subst (AllByRecursion IsPayload) all.spelled seen.short;
+    can_stand = leaves_stand all.records kept all.state_is;
+    place_is = seen.gate_is ∙ ap (λ (ps : List (List ℕ)). length (sealed ps)) all.spelled;
+    bad = inl seen.ends;
+  }
+
+  pub cut_told : (is_cut : Bool) (seen : IsSurveyed image disk gate places is_cut) (kept : Kept) (fault : StartFault) → SpellsAll seen.payloads kept → Fails (is_cut ≡ true) gate fault → Refuses image fault
+  cut_told is_cut seen kept NotFormatted all fails = absurd fails
+  cut_told is_cut seen kept (Damaged place) all fails = subst (IsDamaged image) (sym fails.1) (cut_behind is_cut seen kept fails.0 all)
+  cut_told is_cut seen kept Disk all fails = absurd fails
+  cut_told is_cut seen kept NoMemory all fails = tt
+
+  -- a frame that is cut, and nothing before it
+  pub cut_first : (is_cut : Bool) → IsSurveyed image disk gate places is_cut → places ≡ [] → IsDamaged image gate
+  cut_first is_cut seen none = by_cases is_cut seen.payloads seen.split (sym seen.places_are ∙ none) seen.gate_is seen.ends
+    where
+      by_cases : (cut : Bool) (payloads : List (List ℕ)) → image ≡ sealed payloads ++ seen.rest → places_from 0 payloads ≡ [] → gate ≡ length (sealed payloads) → Ends cut disk gate payloads seen.rest → IsDamaged image gate
+      by_cases cut (p ∷ ps) split none gate_is ends = absurd (cc none)
+      by_cases true [] split none gate_is ends = record { records = []; rest = seen.rest; split = split; short = tt; can_stand = tt; place_is = gate_is; bad = inl ends }
+      by_cases false [] split none gate_is ends = absurd (omega (arith, ends.1))
+
+  -- records that all can stand, and a gate that is not open behind them
+  pub whole : (new : DiskTold) (is_cut : Bool) (seen : IsSurveyed image disk gate places is_cut) (kept : Kept) → OnlyReads disk new → is_cut ≡ false → SpellsAll seen.payloads kept → IsStarted image new kept gate
+  whole new true seen kept reads shut all = absurd (cc shut)
+  whole new false seen kept reads shut all = record {
+    records = all.records;
+    stands = subst (StandsFor image) all.spelled (record { rest = seen.rest; split = seen.split; closed = seen.ends.0; short = seen.short });
+    state_is = all.state_is;
+    settled = settled_on disk new gate (payloads_of all.records) reads (subst (IsSettled disk gate) all.spelled seen.ends.2);
+  }

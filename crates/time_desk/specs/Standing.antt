@@ -1,0 +1,154 @@
+-- Payloads that are read in order, and the records that stand one behind the other.
+use Rattle.std.specs.Prelude.{◌≡◌, ◌≤◌, ◌+◌, ℕ, Bool, true, false, ◌&&◌, not, List, ◌∷◌, ◌++◌, length, Option, Some, None, IsTrue, if◌then◌else◌}
+use Rattle.std.specs.List.{list_all}
+use Rattle.undo_base.specs.declared.keys.User.{User}
+use Rattle.verb_core.specs.declared.conf.Conf.{Conf}
+use Rattle.verb_core.specs.declared.conf.House.{House}
+use Rattle.verb_core.specs.declared.item.Deed.{Deed}
+use Rattle.verb_core.specs.declared.item.Item.{Item}
+use Rattle.verb_core.specs.Items.{has_form, is_own, keys_in, users_in}
+use Rattle.verb_core.specs.Store.{is_known}
+use Rattle.verb_bytes.specs.declared.journal.JournalRecord.{JournalRecord}
+use Rattle.verb_bytes.specs.declared.journal.JournalRecord.TheVariants.{Format, Verb, Operator, Cycle, Snapshot}
+use Rattle.verb_bytes.specs.Spelling.{Spells}
+use Rattle.undo_outside.specs.Disk.{DiskTold, ReadFailed}
+use Rattle.seal_log.specs.Journal.{sealed}
+use Rattle.mail_desk.specs.Desk.{new_desk, performed}
+use Rattle.mail_desk.specs.Kept.{Kept}
+use Rattle.house_text.specs.Beginning.{can_begin}
+use Rattle.time_desk.specs.declared.fault.StartFault.{StartFault}
+use Rattle.time_desk.specs.declared.fault.StartFault.TheVariants.{NotFormatted, Damaged, Disk, NoMemory}
+use Rattle.time_desk.specs.Opening.{CanStand, SpellsNone}
+use Rattle.time_desk.specs.Records.{act_item, after_record, after_records, can_follow, payloads_of, state}
+
+-- ---- one record
+
+-- the item of a record that has one
+abbrev pub item_of : JournalRecord → Option Item
+item_of (Verb item) = Some item
+item_of (Operator number at act) = Some (act_item number at act)
+item_of (Format house conf) = None
+item_of (Cycle number at ask) = None
+item_of (Snapshot items conf rows) = None
+
+-- the house and the opening configuration of a record that has them
+abbrev pub opening_of : JournalRecord → Option (House × Conf)
+opening_of (Format house conf) = Some (house, conf)
+opening_of (Verb item) = None
+opening_of (Operator number at act) = None
+opening_of (Cycle number at ask) = None
+opening_of (Snapshot items conf rows) = None
+
+-- what is kept at first, where a journal can begin so
+abbrev pub begun : House → Conf → Option Kept
+begun house conf = if can_begin house conf then Some (new_desk house conf) else None
+
+-- what a spelling says of an item: it shows what its deed shows, and it has few keys
+pub record IsFormed (i : Item) : Type 0 where
+  pub form : IsTrue (has_form i.deed i.shown)
+  pub keys : length (keys_in i.deed) ≤ 65536
+
+-- whether an actor is such as a deed has: a known user exactly where the deed is a user's own
+abbrev pub is_actor : House → Option User → Deed → Bool
+is_actor house None deed = not (is_own deed)
+is_actor house (Some user) deed = is_own deed && is_known house user
+
+-- whether those who act and are named in an item are such as a record may have
+abbrev pub has_users : House → Item → Bool
+has_users house i = is_actor house i.by i.deed && list_all (is_known house) (users_in i.deed)
+
+-- an item was performed where it can follow, and nothing was done where it can't
+abbrev pub Enters : Kept → Item → Bool → Kept → Type 0
+Enters kept item true new = (can_follow kept item ≡ true) × (new ≡ performed kept item)
+Enters kept item false new = can_follow kept item ≡ false
+
+-- a record was performed where it can stand, and nothing was done where it can't
+abbrev pub Performs : Option Kept → Bool → Kept → Type 0
+Performs due true new = due ≡ Some new
+Performs due false new = due ≡ None
+
+-- ---- faults on the way
+
+-- a read failed where the fault says so, and none did elsewhere
+abbrev pub ReadCounts : DiskTold → DiskTold → StartFault → Type 0
+ReadCounts old new NotFormatted = new.failed_reads ≡ old.failed_reads
+ReadCounts old new (Damaged place) = new.failed_reads ≡ old.failed_reads
+ReadCounts old new Disk = ReadFailed old new
+ReadCounts old new NoMemory = new.failed_reads ≡ old.failed_reads
+
+-- a record can't stand, and that is told of its gate
+abbrev pub Fails : Type 0 → ℕ → StartFault → Type 0
+Fails none gate NotFormatted = ⊥
+Fails none gate (Damaged place) = none × (place ≡ gate)
+Fails none gate Disk = ⊥
+Fails none gate NoMemory = Unit {0}
+
+-- the payload spells no record that comes to something, and that is told of its gate
+abbrev pub FailsPayload : (JournalRecord → Option Kept) → List ℕ → ℕ → StartFault → Type 0
+FailsPayload due payload gate NotFormatted = ⊥
+FailsPayload due payload gate (Damaged place) = ((what : JournalRecord) → Spells what payload → due what ≡ None) × (place ≡ gate)
+FailsPayload due payload gate Disk = Unit {0}
+FailsPayload due payload gate NoMemory = Unit {0}
+
+-- the payload spells no record, and that is told of its gate
+abbrev pub SpellsNothing : List ℕ → ℕ → StartFault → Type 0
+SpellsNothing payload gate NotFormatted = ⊥
+SpellsNothing payload gate (Damaged place) = ((what : JournalRecord) → Spells what payload → ⊥) × (place ≡ gate)
+SpellsNothing payload gate Disk = Unit {0}
+SpellsNothing payload gate NoMemory = Unit {0}
+
+-- the payload spells a record that comes to this
+pub record Performed (due : JournalRecord → Option Kept) (payload : List ℕ) (kept : Kept) : Type 0 where
+  pub what : JournalRecord
+  pub spells : Spells what payload
+  pub is : due what ≡ Some kept
+
+-- ---- many payloads
+
+-- the payloads spell records that lead from what is kept to this
+pub record LeadsTo (kept : Kept) (payloads : List (List ℕ)) (new : Kept) : Type 0 where
+  pub records : List JournalRecord
+  pub spelled : payloads ≡ payloads_of records
+  pub leaves : after_records kept records ≡ Some new
+
+-- The first of the payloads spell records that can stand, and the next spells none that can stand there; its gate is here.
+pub record StopsAt (kept : Kept) (gate : ℕ) (payloads : List (List ℕ)) (place : ℕ) : Type 0 where
+  pub first : List (List ℕ)
+  pub payload : List ℕ
+  pub after : List (List ℕ)
+  pub split : payloads ≡ first ++ payload ∷ after
+  pub mid : Kept
+  pub leads : LeadsTo kept first mid
+  pub stands_none : (what : JournalRecord) → Spells what payload → after_record mid what ≡ None
+  pub place_is : place ≡ gate + length (sealed first)
+
+-- why the payloads do not lead on from what is kept
+abbrev pub StopsFor : Kept → ℕ → List (List ℕ) → StartFault → Type 0
+StopsFor kept gate payloads NotFormatted = ⊥
+StopsFor kept gate payloads (Damaged place) = StopsAt kept gate payloads place
+StopsFor kept gate payloads Disk = Unit {0}
+StopsFor kept gate payloads NoMemory = Unit {0}
+
+-- the payloads spell records that leave this
+pub record SpellsAll (payloads : List (List ℕ)) (kept : Kept) : Type 0 where
+  pub records : List JournalRecord
+  pub spelled : payloads ≡ payloads_of records
+  pub state_is : state records ≡ Some kept
+
+-- The first of a journal's payloads spell records that can stand, and the next spells none that can stand there; its gate is
+-- here.
+pub record BreaksAt (payloads : List (List ℕ)) (place : ℕ) : Type 0 where
+  pub records : List JournalRecord
+  pub payload : List ℕ
+  pub after : List (List ℕ)
+  pub split : payloads ≡ payloads_of records ++ payload ∷ after
+  pub can_stand : CanStand records
+  pub stands_none : SpellsNone records payload
+  pub place_is : place ≡ length (sealed (payloads_of records))
+
+-- why a journal's payloads leave nothing
+abbrev pub BreaksFor : List (List ℕ) → StartFault → Type 0
+BreaksFor payloads NotFormatted = ⊥
+BreaksFor payloads (Damaged place) = BreaksAt payloads place
+BreaksFor payloads Disk = Unit {0}
+BreaksFor payloads NoMemory = Unit {0}

@@ -1,0 +1,328 @@
+//! A desk from the journal on a disk.
+ghost use Rattle.std.specs.Prelude.{◌≡◌, ◌<◌, ◌≤◌, ◌+◌, ◌++◌, ℕ, List, true, false, Some, None, Ok, Err, OnOk, IfOk, IfErr, length, drop, slice_get};
+ghost use Rattle.std.specs.List.{All};
+ghost use Rattle.undo_outside.specs.Moments.{OnlyReads};
+ghost use Rattle.verb_bytes.specs.declared.journal.JournalRecord.{JournalRecord as TheRecord};
+ghost use Rattle.verb_bytes.specs.Spelling.{HasSpelling, Spells};
+ghost use Rattle.seal_log.specs.Journal.{sealed, LiesAt};
+ghost use Rattle.seal_log.specs.Loading.{places_from};
+ghost use Rattle.seal_log.specs.Loads.{IsSurveyed};
+ghost use Rattle.seal_log.specs.Log.{IsClosed, last_gate};
+ghost use Rattle.seal_log.specs.Settled.{Holds};
+ghost use Rattle.time_desk.specs.Opening.{IsStarted, Refuses, Starts};
+ghost use Rattle.time_desk.specs.Records.{after_record, first_state};
+ghost use Rattle.time_desk.specs.Standing.{BreaksFor, Fails, FailsPayload, LeadsTo, Performed, ReadCounts, SpellsAll, SpellsNothing, StopsFor};
+
+use crate::standing::{begin, follow};
+use crate::{Desk, StartFault};
+use seal_log::{LoadFault, Log, Place, ReadFault, Survey, survey};
+use std::alloc::Global;
+use undo_base::{NoMemory, Text};
+use undo_outside::Disk;
+use verb_bytes::laws::one_spelling;
+use verb_bytes::{BadBytes, JournalRecord, decode_record};
+
+// ---- one payload
+
+/// The record that a payload spells; where it spells none its gate is told.
+fn decoded(alloc: Global, payload: &Text, gate: u64) -> Result<JournalRecord, StartFault>
+    ensures spelled { IfOk result HasSpelling }
+    ensures read { IfOk result (λ what. Spells what payload.now) }
+    ensures bad { IfErr result (Fails ((what : TheRecord) → Spells what payload.now → ⊥) gate) }
+{
+    match decode_record(alloc, payload.bytes()) {
+        Ok(what) => Ok(what),
+        Err(BadBytes::Place { .. }) => Err(StartFault::Damaged { place: gate }),
+        Err(BadBytes::NoMemory) => Err(StartFault::NoMemory),
+    }
+}
+
+/// The record at a place.
+fn record_at<D: Disk>(
+    alloc: Global,
+    disk: &mut D,
+    log: &Log,
+    place: Place,
+) -> Result<JournalRecord, StartFault>
+    requires end { last_gate log.now < (D.told disk.old).size }
+    requires place { place.gate + 5 + place.length ≤ last_gate log.now }
+    ensures spelled { IfOk result HasSpelling }
+    ensures read { (payloads : List (List ℕ)) (payload : List ℕ) → Holds (D.told disk.old) payloads
+        → LiesAt payloads place.gate place.length payload → IfOk result (λ what. Spells what payload) }
+    ensures bad { (payloads : List (List ℕ)) (payload : List ℕ) → Holds (D.told disk.old) payloads
+        → LiesAt payloads place.gate place.length payload → IfErr result (SpellsNothing payload place.gate) }
+    ensures reads { OnlyReads (D.told disk.old) (D.told disk.new) }
+    ensures ok { OnOk result ((D.told disk.new).failed_reads ≡ (D.told disk.old).failed_reads) }
+    ensures fault { IfErr result (ReadCounts (D.told disk.old) (D.told disk.new)) }
+{
+    match log.read_at(alloc, disk, place, 0, place.length) {
+        Ok(payload) => decoded(alloc, &payload, place.gate),
+        Err(ReadFault::Disk) => Err(StartFault::Disk),
+        Err(ReadFault::NoMemory) => Err(StartFault::NoMemory),
+    }
+}
+
+/// The desk behind a first record; where it can't stand its gate is told.
+fn begun(alloc: Global, what: JournalRecord, gate: u64) -> Result<mail_desk::Desk, StartFault>
+    requires { HasSpelling what }
+    ensures first { IfOk result (λ desk. first_state what ≡ Some desk.kept) }
+    ensures bad { IfErr result (Fails (first_state what ≡ None) gate) }
+{
+    match begin(alloc, what) {
+        Ok(Some(desk)) => Ok(desk),
+        Ok(None) => Err(StartFault::Damaged { place: gate }),
+        Err(NoMemory) => Err(StartFault::NoMemory),
+    }
+}
+
+/// Reads the first record, and begins a desk with it.
+fn begin_at<D: Disk>(
+    alloc: Global,
+    disk: &mut D,
+    log: &Log,
+    place: Place,
+) -> Result<mail_desk::Desk, StartFault>
+    requires end { last_gate log.now < (D.told disk.old).size }
+    requires place { place.gate + 5 + place.length ≤ last_gate log.now }
+    ensures performed { (payloads : List (List ℕ)) (payload : List ℕ) → Holds (D.told disk.old) payloads
+        → LiesAt payloads place.gate place.length payload → IfOk result (λ desk. Performed first_state payload desk.kept) }
+    ensures bad { (payloads : List (List ℕ)) (payload : List ℕ) → Holds (D.told disk.old) payloads
+        → LiesAt payloads place.gate place.length payload → IfErr result (FailsPayload first_state payload place.gate) }
+    ensures reads { OnlyReads (D.told disk.old) (D.told disk.new) }
+    ensures ok { OnOk result ((D.told disk.new).failed_reads ≡ (D.told disk.old).failed_reads) }
+    ensures fault { IfErr result (ReadCounts (D.told disk.old) (D.told disk.new)) }
+{
+    one_spelling();
+    match record_at(alloc, disk, log, place) {
+        Ok(what) => begun(alloc, what, place.gate),
+        Err(fault) => Err(fault),
+    }
+}
+
+/// Performs a record; where it can't stand its gate is told.
+fn performed(
+    alloc: Global,
+    desk: &mut mail_desk::Desk,
+    what: JournalRecord,
+    gate: u64,
+) -> Result<(), StartFault>
+    requires { HasSpelling what }
+    ensures next { OnOk result (after_record desk.old.kept what ≡ Some desk.new.kept) }
+    ensures bad { IfErr result (Fails (after_record desk.old.kept what ≡ None) gate) }
+{
+    match follow(alloc, desk, what) {
+        Ok(stood) => {
+            if stood {
+                return Ok(());
+            }
+            Err(StartFault::Damaged { place: gate })
+        }
+        Err(NoMemory) => Err(StartFault::NoMemory),
+    }
+}
+
+/// Reads the record at a place, and performs it.
+fn perform_at<D: Disk>(
+    alloc: Global,
+    disk: &mut D,
+    log: &Log,
+    place: Place,
+    desk: &mut mail_desk::Desk,
+) -> Result<(), StartFault>
+    requires end { last_gate log.now < (D.told disk.old).size }
+    requires place { place.gate + 5 + place.length ≤ last_gate log.now }
+    ensures performed { (payloads : List (List ℕ)) (payload : List ℕ) → Holds (D.told disk.old) payloads
+        → LiesAt payloads place.gate place.length payload
+        → OnOk result (Performed (after_record desk.old.kept) payload desk.new.kept) }
+    ensures bad { (payloads : List (List ℕ)) (payload : List ℕ) → Holds (D.told disk.old) payloads
+        → LiesAt payloads place.gate place.length payload
+        → IfErr result (FailsPayload (after_record desk.old.kept) payload place.gate) }
+    ensures reads { OnlyReads (D.told disk.old) (D.told disk.new) }
+    ensures ok { OnOk result ((D.told disk.new).failed_reads ≡ (D.told disk.old).failed_reads) }
+    ensures fault { IfErr result (ReadCounts (D.told disk.old) (D.told disk.new)) }
+{
+    one_spelling();
+    match record_at(alloc, disk, log, place) {
+        Ok(what) => performed(alloc, desk, what, place.gate),
+        Err(fault) => Err(fault),
+    }
+}
+
+// ---- all of them
+
+/// Reads the records at places, and performs one after the other, up to the first that can't stand.
+fn perform_all<D: Disk>(
+    alloc: Global,
+    disk: &mut D,
+    log: &Log,
+    places: &[Place],
+    desk: &mut mail_desk::Desk,
+) -> Result<(), StartFault>
+    requires end { last_gate log.now < (D.told disk.old).size }
+    requires places { All (λ place. place.gate + 5 + place.length ≤ last_gate log.now) places.now }
+    ensures performed { (before payloads : List (List ℕ)) → Holds (D.told disk.old) (before ++ payloads)
+        → places.now ≡ places_from (length (sealed before)) payloads → OnOk result (LeadsTo desk.old.kept payloads desk.new.kept) }
+    ensures bad { (before payloads : List (List ℕ)) → Holds (D.told disk.old) (before ++ payloads)
+        → places.now ≡ places_from (length (sealed before)) payloads
+        → IfErr result (StopsFor desk.old.kept (length (sealed before)) payloads) }
+    ensures reads { OnlyReads (D.told disk.old) (D.told disk.new) }
+    ensures ok { OnOk result ((D.told disk.new).failed_reads ≡ (D.told disk.old).failed_reads) }
+    ensures fault { IfErr result (ReadCounts (D.told disk.old) (D.told disk.new)) }
+{
+    for place in places {
+        match perform_at(alloc, disk, log, *place, desk) {
+            Ok(()) => {}
+            Err(fault) => return Err(fault),
+        }
+    }
+    Ok(())
+}
+
+/// The desk, with the records at more places performed.
+fn followed_by<D: Disk>(
+    alloc: Global,
+    disk: &mut D,
+    log: &Log,
+    places: &[Place],
+    desk: mail_desk::Desk,
+) -> Result<mail_desk::Desk, StartFault>
+    requires end { last_gate log.now < (D.told disk.old).size }
+    requires places { All (λ place. place.gate + 5 + place.length ≤ last_gate log.now) places.now }
+    ensures performed { (before payloads : List (List ℕ)) → Holds (D.told disk.old) (before ++ payloads)
+        → places.now ≡ places_from (length (sealed before)) payloads → IfOk result (λ led. LeadsTo desk.kept payloads led.kept) }
+    ensures bad { (before payloads : List (List ℕ)) → Holds (D.told disk.old) (before ++ payloads)
+        → places.now ≡ places_from (length (sealed before)) payloads
+        → IfErr result (StopsFor desk.kept (length (sealed before)) payloads) }
+    ensures reads { OnlyReads (D.told disk.old) (D.told disk.new) }
+    ensures ok { OnOk result ((D.told disk.new).failed_reads ≡ (D.told disk.old).failed_reads) }
+    ensures fault { IfErr result (ReadCounts (D.told disk.old) (D.told disk.new)) }
+{
+    let mut desk = desk;
+    match perform_all(alloc, disk, log, places, &mut desk) {
+        Ok(()) => Ok(desk),
+        Err(fault) => Err(fault),
+    }
+}
+
+fn first(places: &[Place]) -> Place
+    requires { 0 < length places.now }
+    ensures { slice_get places.now 0 ≡ Some result }
+{
+    places[0]
+}
+
+fn others(places: &[Place]) -> &[Place]
+    requires { 0 < length places.now }
+    ensures { result.now ≡ drop 1 places.now }
+{
+    &places[1..]
+}
+
+/// The desk that the records at all places of a journal leave.
+fn read_all<D: Disk>(
+    alloc: Global,
+    disk: &mut D,
+    log: &Log,
+    places: &[Place],
+) -> Result<mail_desk::Desk, StartFault>
+    requires some { 0 < length places.now }
+    requires end { last_gate log.now < (D.told disk.old).size }
+    requires places { All (λ place. place.gate + 5 + place.length ≤ last_gate log.now) places.now }
+    ensures read { (payloads : List (List ℕ)) → Holds (D.told disk.old) payloads → places.now ≡ places_from 0 payloads
+        → IfOk result (λ desk. SpellsAll payloads desk.kept) }
+    ensures bad { (payloads : List (List ℕ)) → Holds (D.told disk.old) payloads → places.now ≡ places_from 0 payloads
+        → IfErr result (BreaksFor payloads) }
+    ensures reads { OnlyReads (D.told disk.old) (D.told disk.new) }
+    ensures ok { OnOk result ((D.told disk.new).failed_reads ≡ (D.told disk.old).failed_reads) }
+    ensures fault { IfErr result (ReadCounts (D.told disk.old) (D.told disk.new)) }
+{
+    match begin_at(alloc, disk, log, first(places)) {
+        Ok(desk) => followed_by(alloc, disk, log, others(places), desk),
+        Err(fault) => Err(fault),
+    }
+}
+
+// ---- the desk
+
+/// The end of a journal and the desk that its records leave; where a cut frame stands behind them its gate is told.
+fn ended(
+    log: Log,
+    desk: mail_desk::Desk,
+    is_cut: bool,
+) -> Result<(Log, mail_desk::Desk), StartFault>
+    ensures whole { IfOk result (λ parts. (is_cut ≡ false) × (parts.0 ≡ log) × (parts.1 ≡ desk)) }
+    ensures cut { IfErr result (Fails (is_cut ≡ true) (last_gate log)) }
+{
+    if is_cut {
+        return Err(StartFault::Damaged {
+            place: log.last_gate(),
+        });
+    }
+    Ok((log, desk))
+}
+
+/// The same of what was seen of a journal.
+fn opened_from<D: Disk>(
+    alloc: Global,
+    disk: &mut D,
+    seen: Survey,
+) -> Result<(Log, mail_desk::Desk), StartFault>
+    requires end { last_gate seen.log < (D.told disk.old).size }
+    requires places { All (λ place. place.gate + 5 + place.length ≤ last_gate seen.log) seen.places }
+    requires open { IsClosed seen.log → ⊥ }
+    ensures found { (image : List ℕ) → IsSurveyed image (D.told disk.old) (last_gate seen.log) seen.places seen.is_cut
+        → IfOk result (λ parts. IsStarted image (D.told disk.new) parts.1.kept (last_gate parts.0)) }
+    ensures bad { (image : List ℕ) → IsSurveyed image (D.told disk.old) (last_gate seen.log) seen.places seen.is_cut
+        → IfErr result (Refuses image) }
+    ensures reads { OnlyReads (D.told disk.old) (D.told disk.new) }
+    ensures ok { OnOk result ((D.told disk.new).failed_reads ≡ (D.told disk.old).failed_reads) }
+    ensures fault { IfErr result (ReadCounts (D.told disk.old) (D.told disk.new)) }
+    ensures open { IfOk result (λ parts. parts.0.closed ≡ false) }
+    ensures within { IfOk result (λ parts. last_gate parts.0 < (D.told disk.new).size) }
+{
+    let Survey {
+        log,
+        places,
+        is_cut,
+    } = seen;
+    if places.is_empty() {
+        return Err(StartFault::Damaged {
+            place: log.last_gate(),
+        });
+    }
+    match read_all(alloc, disk, &log, places.as_slice()) {
+        Ok(desk) => ended(log, desk, is_cut),
+        Err(fault) => Err(fault),
+    }
+}
+
+/// The end of the journal on a disk, and the desk that its records leave.
+fn opened<D: Disk>(alloc: Global, disk: &mut D) -> Result<(Log, mail_desk::Desk), StartFault>
+    ensures started { IfOk result (λ parts. Starts (D.told disk.old) (D.told disk.new) (Ok (parts.1.kept, last_gate parts.0))) }
+    ensures refused { IfErr result (λ fault. Starts (D.told disk.old) (D.told disk.new) (Err fault)) }
+    ensures open { IfOk result (λ parts. parts.0.closed ≡ false) }
+    ensures within { IfOk result (λ parts. last_gate parts.0 < (D.told disk.new).size) }
+{
+    match survey(alloc, disk) {
+        Ok(seen) => opened_from(alloc, disk, seen),
+        Err(LoadFault::NotFormatted) => Err(StartFault::NotFormatted),
+        Err(LoadFault::Damaged { .. }) => unreachable!(),
+        Err(LoadFault::Disk) => Err(StartFault::Disk),
+        Err(LoadFault::NoMemory) => Err(StartFault::NoMemory),
+    }
+}
+
+impl<D: Disk> Desk<D> {
+    /// The desk that the journal on a disk leaves. It writes nothing, and a refusal hands the disk back.
+    pub fn start(alloc: Global, disk: D) -> Result<Desk<D>, (D, StartFault)>
+        ensures started { IfOk result (λ desk. Starts (D.told disk) (D.told desk.disk) (Ok (desk.kept, desk.gate))) }
+        ensures refused { IfErr result (λ refused. Starts (D.told disk) (D.told refused.0) (Err refused.1)) }
+        ensures open { IfOk result (λ desk. desk.closed ≡ false) }
+    {
+        let mut disk = disk;
+        match opened(alloc, &mut disk) {
+            Ok((log, desk)) => Ok(Desk { disk, log, desk }),
+            Err(fault) => Err((disk, fault)),
+        }
+    }
+}
