@@ -1,49 +1,10 @@
 #!/bin/sh
 # Times `undomail play` over a mailbox of 5,000 to 20,000 messages that mail readers use: FETCH of all flags, a NOOP
-# that tells of as many new messages, STORE and EXPUNGE of all, and 200 connections open at once.
+# that tells of as many new messages, STORE and EXPUNGE of all, 1,000 commands that name one message, 1,000 renamings of
+# the mailbox, and 200 and 999 connections open at once.
 # Usage: bench/readers.sh PROGRAM (the built program, as `rt run` in crates/undomail leaves it under out/)
 set -e
-program=$1
-folder=$(mktemp -d)
-trap 'rm -rf "$folder"' EXIT
-
-# deliveries COUNT: that many messages to ann
-deliveries() {
-    awk -v count="$1" 'BEGIN {
-        print "at 1105092000"
-        print "open 1 smtp"
-        print "line 1 HELO client.test"
-        for (i = 0; i < count; i++) {
-            print "line 1 MAIL FROM:<joe@far.test>"
-            print "line 1 RCPT TO:<ann@mail.test>"
-            print "line 1 DATA"
-            print "line 1 Subject: message " i
-            print "line 1"
-            print "line 1 ."
-        }
-        print "gone 1"
-    }'
-}
-
-# readers FROM TO: these connections of ann select INBOX
-readers() {
-    awk -v from="$1" -v to="$2" 'BEGIN {
-        for (i = from; i <= to; i++) {
-            print "open " i " imap"
-            print "line " i " a LOGIN ann a1"
-            print "line " i " b SELECT INBOX"
-        }
-    }'
-}
-
-# measure NAME: processor seconds of the script of that name, twice
-measure() {
-    for round in 1 2; do
-        ( time -p "$program" play <"$folder/$1" >"$folder/out" ) 2>"$folder/time"
-        awk -v name="$1" -v round="$round" '/user/ { user = $2 } /sys/ { sys = $2 }
-            END { printf "%s round %d: %.2f s of processor time\n", name, round, user + sys }' "$folder/time"
-    done
-}
+. "$(dirname "$0")/common.sh"
 
 for count in 5000 10000 20000; do
     { deliveries "$count"; readers 2 2; } >"$folder/selected-$count"
@@ -51,11 +12,19 @@ for count in 5000 10000 20000; do
     { readers 2 2; deliveries "$count"; echo 'line 2 c NOOP'; } >"$folder/noop-$count"
     { cat "$folder/selected-$count"; echo 'line 2 c STORE 1:* +FLAGS.SILENT (\Deleted)'; } >"$folder/store-$count"
     { cat "$folder/store-$count"; echo 'line 2 d EXPUNGE'; } >"$folder/expunge-$count"
-    for name in selected fetch noop store expunge; do
+    { cat "$folder/selected-$count"; repeat 1000 'line 2 c UID STORE 1 +FLAGS.SILENT (\Flagged)'; } >"$folder/store-one-1000-$count"
+    { cat "$folder/selected-$count"; echo 'line 2 c CREATE Work'; echo 'line 2 d COPY 1:* Work'; } >"$folder/work-$count"
+    { cat "$folder/work-$count"; echo 'line 2 e CLOSE'
+      awk 'BEGIN { for (i = 0; i < 500; i++) { print "line 2 e RENAME Work Done"; print "line 2 f RENAME Done Work" } }'
+    } >"$folder/rename-1000-$count"
+    for name in selected fetch noop store expunge store-one-1000 work rename-1000; do
         measure "$name-$count"
     done
 done
-{ deliveries 20000; readers 2 201; } >"$folder/open-200"
-{ cat "$folder/open-200"; awk 'BEGIN { for (i = 0; i < 1000; i++) print "line 2 c NOOP" }'; } >"$folder/open-200-noops"
-measure open-200
-measure open-200-noops
+# the same 1,000 commands with one reader, with 200 and with 999
+for readers in 1 200 999; do
+    { deliveries 20000; readers 2 $((readers + 1)); } >"$folder/open-$readers"
+    { cat "$folder/open-$readers"; repeat 1000 'line 2 c NOOP'; } >"$folder/open-$readers-noops"
+    measure "open-$readers"
+    measure "open-$readers-noops"
+done

@@ -1,6 +1,7 @@
 //! The types that workers share or hand back may cross threads.
 use crate::{Effect, Store};
-use verb_core::Resolved;
+use undo_base::NoMemory;
+use verb_core::{Resolved, Shown};
 
 fn crosses<T: Send + Sync>() {}
 
@@ -9,4 +10,6 @@ pub fn types_cross_threads() {
     crosses::<Store>();
     crosses::<Effect>();
     crosses::<Resolved>();
+    crosses::<Shown>();
+    crosses::<NoMemory>();
 }

@@ -1,4 +1,5 @@
 pub mod Cut
 pub mod Fusion
 pub mod Heads
+pub mod Once
 pub mod Reading

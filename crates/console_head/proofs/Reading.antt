@@ -18,7 +18,7 @@ pub min_swapped : (n : ℕ) → min n 16384 ≡ min 16384 n
 min_swapped n = omega arith
 
 -- the first of some bytes and more
-take_both : (n : ℕ) (xs ys : List ℕ) → take n (xs ++ ys) ≡ take n xs ++ take (n - length xs) ys
+pub take_both : (n : ℕ) (xs ys : List ℕ) → take n (xs ++ ys) ≡ take n xs ++ take (n - length xs) ys
 take_both zero xs ys = let e : 0 - length xs ≡ 0 = omega arith in rw e refl
 take_both (suc n) [] ys = let e : suc n - 0 ≡ suc n = omega arith in rw e refl
 take_both (suc n) (x ∷ xs) ys = let e : suc n - suc (length xs) ≡ n - length xs = omega arith in rw e (ap (λ (l : List ℕ). x ∷ l) (take_both n xs ys))
@@ -65,6 +65,10 @@ none_long n le = let e : nat_lt n 16384 ≡ false = grind (arith, nat_tests) in 
 -- a head that is found is within the bytes
 pub within_bytes : (bytes front : List ℕ) (size : ℕ) → front ≡ take 16384 bytes → size ≤ length front → size ≤ length bytes
 within_bytes bytes front size e le = omega (arith, ap (λ (l : List ℕ). length l) e, length-take 16384 bytes, le)
+
+-- all bytes were looked at where all of their front were
+pub all_looked_at : (bytes front : List ℕ) (n : ℕ) → front ≡ take 16384 bytes → length bytes < 16384 → n ≡ length front → n ≡ length bytes
+all_looked_at bytes front n e lt all = omega (arith, ap (λ (l : List ℕ). length l) e, length-take 16384 bytes, lt, all)
 
 some_eq : (a b : ℕ) → Some a ≡ Some b → a ≡ b
 some_eq a b e = ap (λ (o : Option ℕ). option_or a o) e

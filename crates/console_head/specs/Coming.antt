@@ -14,12 +14,20 @@ beyond lines head = record { size = lines.start + head.size; fields = lines.fiel
 abbrev pub resumed : Lines → List ℕ → Option Head
 resumed lines rest = if lines.begun then section_of (lines_of rest) else head_of_lines (lines_of rest)
 
+-- how many octets were looked at
+abbrev pub looked_at : Lines → ℕ
+looked_at lines = lines.start + lines.searched
+
 -- the lines are the first ones of bytes, and no LF stands where it was looked for behind them
 pub record AreFirst (lines : Lines) (bytes : List ℕ) : Type 0 where
   pub within : lines.start + lines.searched ≤ length bytes
   pub fields : lines.fields ≤ lines.start
   pub none : (k : ℕ) → k < lines.searched → slice_index (drop lines.start bytes) k ≡ 10 → ⊥
   pub same : (more : List ℕ) → head_of (bytes ++ more) ≡ option_map (beyond lines) (resumed lines (drop lines.start bytes ++ more))
+
+-- of bytes that are not yet a request all were looked at, or more are known to be wanted
+abbrev pub HasLearnt : Coming → List ℕ → Type 0
+HasLearnt coming bytes = (looked_at coming.lines ≡ length bytes) ⊎ (length bytes < coming.least)
 
 -- what is known is true of these bytes: their first lines, and below which length they and more are not yet a request
 pub record IsKnown (coming : Coming) (bytes : List ℕ) : Type 0 where

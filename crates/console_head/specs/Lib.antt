@@ -1,6 +1,6 @@
 pub mod Lines
-pub mod Steps
 pub mod Lengths
 pub mod Request
 pub mod Coming
+pub mod Steps
 pub mod Seen

@@ -4,6 +4,7 @@ use Rattle.console_head.specs.declared.lines.Lines.{Lines}
 use Rattle.console_head.specs.declared.lines.Found.{Found}
 use Rattle.console_head.specs.declared.lines.Found.TheVariants.{Line, Whole, Nothing}
 use Rattle.console_head.specs.Lines.{is_empty_line, head_of}
+use Rattle.console_head.specs.Coming.{looked_at}
 
 -- the lines with one more that is not empty: the request line, or a header line
 abbrev pub with_line : Lines → List ℕ → Lines
@@ -28,3 +29,9 @@ abbrev pub Finds : Lines → Lines → List ℕ → Found → Type 0
 Finds old new bytes Line = old.start < new.start
 Finds old new bytes (Whole head) = (head.size ≤ length bytes) × (head_of bytes ≡ Some head) × ((more : List ℕ) → head_of (bytes ++ more) ≡ Some head)
 Finds old new bytes Nothing = head_of bytes ≡ None
+
+-- where nothing was found, all octets were looked at
+abbrev pub LooksAtAll : Lines → List ℕ → Found → Type 0
+LooksAtAll new bytes Line = Unit {0}
+LooksAtAll new bytes (Whole head) = Unit {0}
+LooksAtAll new bytes Nothing = looked_at new ≡ length bytes

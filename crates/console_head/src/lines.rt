@@ -2,7 +2,8 @@
 ghost use Rattle.std.specs.Prelude.{◌≡◌, ◌+◌, ◌^◌, ◌<◌, ◌≤◌, ℕ, List, ◌++◌, [], Some, None, length, take, drop, slice_index, IfNone, IfSome};
 ghost use Rattle.console_head.specs.Lines.{is_empty_line as empty_line, head_of};
 ghost use Rattle.console_head.specs.Coming.{AreFirst};
-ghost use Rattle.console_head.specs.Steps.{Finds, lines_with, shown_by};
+ghost use Rattle.console_head.specs.Coming.{looked_at};
+ghost use Rattle.console_head.specs.Steps.{Finds, LooksAtAll, lines_with, shown_by};
 
 const LF: u8 = b'\n';
 
@@ -38,6 +39,7 @@ fn find_lf(bytes: &[u8], from: usize) -> Option<usize>
     ensures none { IfNone result ((k : ℕ) → k < length bytes.now → slice_index bytes.now k ≡ 10 → ⊥) }
     ensures before { IfSome result (λ place. (k : ℕ) → k < place → slice_index bytes.now k ≡ 10 → ⊥) }
     ensures found { IfSome result (λ place. (place < length bytes.now) × (slice_index bytes.now place ≡ 10)) }
+    ensures behind { IfSome result (λ place. from ≤ place) }
 {
     for place in from..bytes.len() {
         if bytes[place] == LF {
@@ -84,6 +86,8 @@ impl Lines {
         requires { AreFirst self.old bytes.now }
         ensures first { AreFirst self.new bytes.now }
         ensures found { Finds self.old self.new bytes.now result }
+        ensures further { looked_at self.old ≤ looked_at self.new }
+        ensures all { LooksAtAll self.new bytes.now result }
     {
         let rest = after(bytes, self.start);
         let Some(place) = find_lf(rest, self.searched) else {
@@ -126,6 +130,8 @@ impl Lines {
         ensures value { result ≡ head_of bytes.now }
         ensures within { IfSome result (λ head. head.size ≤ length bytes.now) }
         ensures stays { IfSome result (λ head. (more : List ℕ) → head_of (bytes.now ++ more) ≡ Some head) }
+        ensures further { looked_at self.old ≤ looked_at self.new }
+        ensures all { IfNone result (looked_at self.new ≡ length bytes.now) }
     {
         loop {
             match self.take_line(bytes) {

@@ -1,6 +1,6 @@
 //! The request that a connection's bytes are.
-ghost use Rattle.std.specs.Prelude.{◌≡◌, ◌+◌, ◌<◌, ◌≤◌, ℕ, List, ◌++◌, length, take, drop, Some};
-ghost use Rattle.console_head.specs.Coming.{IsKnown, IsLeast};
+ghost use Rattle.std.specs.Prelude.{◌≡◌, ◌+◌, ◌<◌, ◌≤◌, ℕ, List, ◌++◌, length, take, drop, Some, IfOk, IfNone};
+ghost use Rattle.console_head.specs.Coming.{HasLearnt, IsKnown, IsLeast, looked_at};
 ghost use Rattle.console_head.specs.Request.{IsWhole, Says, SaysBy};
 ghost use Rattle.console_head.specs.Seen.{seen, Announces};
 ghost use Rattle.httparse.specs.Grammar.{RequestHead};
@@ -66,6 +66,9 @@ impl Coming {
         requires { IsKnown self.old bytes.now }
         ensures says { Says bytes.now (seen result) }
         ensures known { (more : List ℕ) → IsKnown self.new (bytes.now ++ more) }
+        ensures further { looked_at self.old.lines ≤ looked_at self.new.lines }
+        ensures more { self.old.least ≤ self.new.least }
+        ensures learnt { IfOk result (λ request. IfNone request (HasLearnt self.new bytes.now)) }
     {
         if bytes.len() < self.least {
             return Ok(None);
@@ -85,9 +88,12 @@ impl Coming {
     ) -> Result<Option<Request<'a>>, HeadRefused>
         requires within { head.size ≤ length bytes.now }
         requires fields { (h : RequestHead) → IsWhole (take head.size bytes.now) h → length h.fields ≡ head.fields }
+        requires least { self.old.least ≤ length bytes.now }
         ensures says { SaysBy bytes.now (Some head) (seen result) }
         ensures lines { self.new.lines ≡ self.old.lines }
         ensures least { IsLeast self.old.least self.new.least bytes.now head }
+        ensures more { self.old.least ≤ self.new.least }
+        ensures learnt { IfOk result (λ request. IfNone request (length bytes.now < self.new.least)) }
     {
         if head.fields > MOST_FIELDS {
             return Err(HeadRefused::Size);

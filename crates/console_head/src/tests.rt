@@ -1,11 +1,14 @@
 //! What bytes are: each refusal in its order, the limits, and the parts of a request.
-use crate::{HeadRefused, read_once};
+ghost use Rattle.std.specs.Prelude.{◌≡◌, ◌≤◌, List, ℕ, ◌++◌, OnOk, length};
+ghost use Rattle.console_head.specs.Coming.{IsKnown};
+
+use crate::{Coming, HeadRefused, Request, read_once};
 use std::alloc::{AllocError, Global};
 use std::test::Fail;
 
-/// What bytes are, in words.
-fn told(bytes: &[u8]) -> &'static str {
-    match read_once(bytes) {
+/// An answer in words.
+fn in_words(answer: Result<Option<Request<'_>>, HeadRefused>) -> &'static str {
+    match answer {
         Ok(None) => "not yet",
         Ok(Some(_)) => "request",
         Err(HeadRefused::Head) => "head",
@@ -13,9 +16,34 @@ fn told(bytes: &[u8]) -> &'static str {
     }
 }
 
-#[test]
-fn what_bytes_are(rt: HostRuntime) {
-    let rows: [(&[u8], &str); 24] = [
+/// What bytes are, in words.
+fn told(bytes: &[u8]) -> &'static str {
+    in_words(read_once(bytes))
+}
+
+/// No bytes, of which nothing is known.
+fn nothing_came(alloc: Global) -> (Coming, Vec<u8>)
+    ensures { (more : List ℕ) → IsKnown result.0 (result.1.items ++ more) }
+{
+    (Coming::new(), Vec::new(alloc))
+}
+
+/// What bytes are when one more piece has come, in words.
+fn told_with(
+    coming: &mut Coming,
+    bytes: &mut Vec<u8>,
+    piece: &[u8],
+) -> Result<&'static str, AllocError>
+    requires { (more : List ℕ) → IsKnown coming.old (bytes.old.items ++ more) }
+    ensures { OnOk result ((more : List ℕ) → IsKnown coming.new (bytes.new.items ++ more)) }
+{
+    bytes.extend_from_slice(piece)?;
+    Ok(in_words(coming.read(bytes)))
+}
+
+/// Bytes, and what they are.
+fn rows() -> [(&'static [u8], &'static str); 27] {
+    [
         (b"", "not yet"),
         (b"G\x01T", "not yet"),
         (b"G\x01T\r\n\r\n", "head"),
@@ -55,8 +83,18 @@ fn what_bytes_are(rt: HostRuntime) {
             "head",
         ),
         (b"GET /x y HTTP/1.1\n\n", "head"),
-    ];
-    for (bytes, answer) in rows {
+        (b"GET / HTTP/1.1\nContent-Length: -1\n\na", "head"),
+        (b"GET / HTTP/1.1\nHost\n\n", "head"),
+        (
+            b"GET /?a=%zz HTTP/1.0\r\n\r\nGET / HTTP/1.0\r\n\r\n",
+            "request",
+        ),
+    ]
+}
+
+#[test]
+fn what_bytes_are(rt: HostRuntime) {
+    for (bytes, answer) in rows() {
         assert_eq!(rt; told(bytes), answer);
     }
 }
@@ -130,4 +168,93 @@ fn the_parts_of_a_request(rt: HostRuntime) {
         }
         _ => assert!(rt; false),
     }
+}
+
+#[test]
+fn requests_that_come_in_pieces(rt: HostRuntime) -> Result<(), Fail> {
+    let (mut coming, mut bytes) = nothing_came(rt.alloc());
+    assert_eq!(rt; told_with(&mut coming, &mut bytes, b"POST /ac")?, "not yet");
+    assert_eq!(rt;
+        told_with(
+            &mut coming,
+            &mut bytes,
+            b"t HTTP/1.1\r\nContent-Length: 4\r"
+        )?,
+        "not yet"
+    );
+    assert_eq!(rt; told_with(&mut coming, &mut bytes, b"\n\r\n")?, "not yet");
+    assert_eq!(rt; told_with(&mut coming, &mut bytes, b"{ab")?, "not yet");
+    assert_eq!(rt; told_with(&mut coming, &mut bytes, b"}")?, "request");
+    let (mut coming, mut bytes) = nothing_came(rt.alloc());
+    assert_eq!(rt; told_with(&mut coming, &mut bytes, b"G\x01T")?, "not yet");
+    assert_eq!(rt; told_with(&mut coming, &mut bytes, b"\r\n\r\n")?, "head");
+    Ok(())
+}
+
+/// What bytes are that come in two pieces, the second only where the first is none yet.
+fn told_cut(alloc: Global, bytes: &[u8], place: usize) -> Result<&'static str, AllocError>
+    requires { place ≤ length bytes.now }
+{
+    let (mut coming, mut came) = nothing_came(alloc);
+    let told = told_with(&mut coming, &mut came, &bytes[..place])?;
+    if told != "not yet" {
+        return Ok(told);
+    }
+    told_with(&mut coming, &mut came, &bytes[place..])
+}
+
+/// What bytes are that come one by one, as far as they have to come.
+fn told_by_bytes(alloc: Global, bytes: &[u8]) -> Result<&'static str, AllocError> {
+    let (mut coming, mut came) = nothing_came(alloc);
+    for byte in bytes {
+        let told = told_with(&mut coming, &mut came, &[*byte])?;
+        if told != "not yet" {
+            return Ok(told);
+        }
+    }
+    Ok("not yet")
+}
+
+/// Whether bytes are the same cut at each place.
+fn is_same_cut(alloc: Global, bytes: &[u8], answer: &str) -> Result<bool, AllocError> {
+    for place in 0..bytes.len() + 1 {
+        if told_cut(alloc, bytes, place)? != answer {
+            return Ok(false);
+        }
+    }
+    Ok(true)
+}
+
+#[test]
+fn the_pieces_do_not_matter(rt: HostRuntime) -> Result<(), Fail> {
+    for (bytes, answer) in rows() {
+        assert_eq!(rt; told_by_bytes(rt.alloc(), bytes)?, answer);
+        assert!(rt; is_same_cut(rt.alloc(), bytes, answer)?);
+    }
+    Ok(())
+}
+
+/// A request with a head of 64 long header lines and a long body.
+fn long_request(alloc: Global) -> Result<Vec<u8>, AllocError> {
+    let mut bytes = Vec::from_slice(alloc, b"POST /act HTTP/1.1\r\nContent-Length: 1000000\r\n")?;
+    for _ in 0..63 {
+        bytes.extend_from_slice(b"a: ")?;
+        for _ in 0..240 {
+            bytes.push(b'b')?;
+        }
+        bytes.extend_from_slice(b"\r\n")?;
+    }
+    bytes.extend_from_slice(b"\r\n")?;
+    for _ in 0..1_000_000 {
+        bytes.push(b'c')?;
+    }
+    Ok(bytes)
+}
+
+/// Each byte is looked at once, and the head is read twice: at its end and at that of the body.
+#[test]
+fn a_long_request_by_bytes(rt: HostRuntime) -> Result<(), Fail> {
+    let bytes = long_request(rt.alloc())?;
+    assert_eq!(rt; told_by_bytes(rt.alloc(), bytes.as_slice())?, "request");
+    Ok(())
 }

@@ -1,13 +1,21 @@
 -- What the console answers to the bytes of a connection, as far as no store is needed.
-use Rattle.std.specs.Prelude.{◌≡◌, List, ℕ, Option, Some, None, Result, Ok, Err}
+use Rattle.std.specs.Prelude.{◌≡◌, List, ℕ, Option, Some, None, Result, Ok, Err, IsTrue}
+use Rattle.std.specs.List.{list_all}
 use Rattle.verb_core.specs.declared.conf.House.{House}
+use Rattle.verb_core.specs.declared.item.Deed.TheVariants.{Act as Acts}
+use Rattle.verb_core.specs.Items.{users_in}
+use Rattle.verb_core.specs.Store.{is_known}
 use Rattle.console_head.specs.Request.{Request, Says}
 use Rattle.console_head.specs.declared.request.HeadRefused.{HeadRefused}
 use Rattle.console_head.specs.declared.request.HeadRefused.TheVariants.{Head as BadHead, Size as TooLarge}
+use Rattle.console_head.specs.declared.request.Coming.{Coming}
+use Rattle.console_head.specs.Coming.{HasLearnt}
 use Rattle.console_http.specs.declared.request.Asked.{Asked}
 use Rattle.console_http.specs.declared.request.Asked.TheVariants.{NotYet, Whole}
 use Rattle.console_http.specs.declared.request.HttpRefused.{HttpRefused}
 use Rattle.console_http.specs.declared.request.HttpRefused.TheVariants.{Head, Size, Route, Json, NoMemory}
+use Rattle.console_http.specs.declared.request.Route.{Route as Taken}
+use Rattle.console_http.specs.declared.request.Route.TheVariants as route
 use Rattle.console_http.specs.Routes.{Choice, route_of}
 
 -- the route that is due is found, or why there is none, or no memory
@@ -56,3 +64,24 @@ Asks house bytes (Err Size) = Says bytes (Err TooLarge)
 Asks house bytes (Err Route) = Chooses house bytes (Err Route)
 Asks house bytes (Err Json) = Chooses house bytes (Err Json)
 Asks house bytes (Err NoMemory) = FindsNone bytes
+
+-- bytes that are not yet a request have been looked at, or more are known to be wanted
+abbrev pub Learns : Coming → List ℕ → Result Asked HttpRefused → Type 0
+Learns coming bytes (Ok NotYet) = HasLearnt coming bytes
+Learns coming bytes (Ok (Whole route)) = Unit {0}
+Learns coming bytes (Err e) = Unit {0}
+
+-- an act names no other users than those of the house
+abbrev pub KnowsUsers : House → Taken → Type 0
+KnowsUsers house route.Status = Unit {0}
+KnowsUsers house (route.Timeline start) = Unit {0}
+KnowsUsers house (route.Box user name) = Unit {0}
+KnowsUsers house (route.Body number) = Unit {0}
+KnowsUsers house route.Conf = Unit {0}
+KnowsUsers house (route.Act act) = IsTrue (list_all (is_known house) (users_in (Acts act)))
+KnowsUsers house route.Stop = Unit {0}
+
+abbrev pub AskKnows : House → Result Asked HttpRefused → Type 0
+AskKnows house (Ok NotYet) = Unit {0}
+AskKnows house (Ok (Whole route)) = KnowsUsers house route
+AskKnows house (Err e) = Unit {0}

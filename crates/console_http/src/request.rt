@@ -1,11 +1,11 @@
 //! What the bytes of a connection ask of the console.
 ghost use Rattle.std.specs.Prelude.{◌≡◌, ◌≤◌, ◌++◌, List, ℕ, IsTrue, IfOk, Ok, option_map};
 ghost use Rattle.verb_core.specs.Store.{is_house};
-ghost use Rattle.console_head.specs.Coming.{IsKnown};
+ghost use Rattle.console_head.specs.Coming.{IsKnown, looked_at};
 ghost use Rattle.console_head.specs.Seen.{parts_seen};
 ghost use Rattle.console_http.specs.Acts.{act_in};
 ghost use Rattle.console_http.specs.Routes.{number_in, box_in, alone as alone_at, taken, acted, route_on, route_of};
-ghost use Rattle.console_http.specs.Requests.{Asks, AsksOf, Found, told_of};
+ghost use Rattle.console_http.specs.Requests.{Asks, AsksOf, Found, Learns, told_of};
 
 use crate::acts::read_act;
 use crate::pages::{Page, find_page};
@@ -214,6 +214,9 @@ pub fn read_coming(
     requires known { IsKnown coming.old bytes.now }
     ensures asks { Asks house.now bytes.now result }
     ensures known { (more : List ℕ) → IsKnown coming.new (bytes.now ++ more) }
+    ensures further { looked_at coming.old.lines ≤ looked_at coming.new.lines }
+    ensures more { coming.old.least ≤ coming.new.least }
+    ensures learns { Learns coming.new bytes.now result }
 {
     match coming.read(bytes) {
         Ok(request) => read_asked(alloc, house, request),

@@ -1,5 +1,9 @@
 //! What requests ask, and each refusal.
-use crate::{Asked, HttpRefused, Route, read_request};
+ghost use Rattle.std.specs.Prelude.{◌≡◌, List, ℕ, ◌++◌, IsTrue, OnOk};
+ghost use Rattle.verb_core.specs.Store.{is_house};
+ghost use Rattle.console_head.specs.Coming.{IsKnown};
+
+use crate::{Asked, Coming, HttpRefused, Route, read_coming, read_request};
 use std::alloc::{AllocError, Global};
 use std::test::Fail;
 use undo_base::{Name, Names, NoMemory, User};
@@ -101,6 +105,29 @@ fn sent(
     }
 }
 
+/// No bytes, of which nothing is known.
+fn nothing_came(alloc: Global) -> (Coming, Vec<u8>)
+    ensures { (more : List ℕ) → IsKnown result.0 (result.1.items ++ more) }
+{
+    (Coming::new(), Vec::new(alloc))
+}
+
+/// What is asked by bytes of which one more piece has come.
+fn asked_with(
+    alloc: Global,
+    house: &House,
+    coming: &mut Coming,
+    bytes: &mut Vec<u8>,
+    piece: &[u8],
+) -> Result<(&'static str, u32), AllocError>
+    requires house { IsTrue (is_house house.now) }
+    requires known { (more : List ℕ) → IsKnown coming.old (bytes.old.items ++ more) }
+    ensures { OnOk result ((more : List ℕ) → IsKnown coming.new (bytes.new.items ++ more)) }
+{
+    bytes.extend_from_slice(piece)?;
+    Ok(told(&read_coming(alloc, coming, house, bytes.as_slice())))
+}
+
 fn without_last(bytes: &[u8]) -> &[u8] {
     match bytes {
         [front @ .., _] => front,
@@ -139,6 +166,10 @@ fn paths(rt: HostRuntime) -> Result<(), Fail> {
         ("GET", "/box/ann/%4", ("route", 0)),
         ("GET", "/box/ann/%4g", ("route", 0)),
         ("GET", "/box/ann/%0a", ("route", 0)),
+        ("GET", "/box/ann/%00", ("route", 0)),
+        ("GET", "/box/ann/100%", ("route", 0)),
+        ("GET", "/body/+7", ("route", 0)),
+        ("GET", "/body/7?x=1", ("route", 0)),
         ("GET", "/conf", ("conf", 0)),
         ("POST", "/stop", ("stop", 0)),
         ("GET", "/stop", ("route", 0)),
@@ -304,5 +335,94 @@ fn inbox_is_kept_in_capitals(rt: HostRuntime) -> Result<(), Fail> {
     let bytes = request(rt.alloc(), "GET", "/box/bob/in%62OX", b"")?;
     let name = named(rt.alloc(), &house, bytes.as_slice())?;
     assert_eq!(rt; name.bytes(), b"INBOX".as_slice());
+    Ok(())
+}
+
+/// What is asked by bytes of which one more piece has come, of a house that is sound.
+fn asked_soundly(
+    alloc: Global,
+    house: &House,
+    coming: &mut Coming,
+    bytes: &mut Vec<u8>,
+    piece: &[u8],
+) -> Result<(&'static str, u32), Fail>
+    requires known { (more : List ℕ) → IsKnown coming.old (bytes.old.items ++ more) }
+    ensures { OnOk result ((more : List ℕ) → IsKnown coming.new (bytes.new.items ++ more)) }
+{
+    if !house.is_sound() {
+        return Err(Fail::new("no house"));
+    }
+    Ok(asked_with(alloc, house, coming, bytes, piece)?)
+}
+
+#[test]
+fn an_act_in_pieces(rt: HostRuntime) -> Result<(), Fail> {
+    let alloc = rt.alloc();
+    let house = house(alloc)?;
+    let (mut coming, mut bytes) = nothing_came(alloc);
+    let head = b"t HTTP/1.1\r\nContent-Length: 32\r";
+    assert_eq!(rt;
+        asked_soundly(alloc, &house, &mut coming, &mut bytes, b"POST /ac")?,
+        ("not yet", 0)
+    );
+    assert_eq!(rt;
+        asked_soundly(alloc, &house, &mut coming, &mut bytes, head)?,
+        ("not yet", 0)
+    );
+    assert_eq!(rt;
+        asked_soundly(alloc, &house, &mut coming, &mut bytes, b"\n\r\n")?,
+        ("not yet", 0)
+    );
+    let act = b"{\"act\":\"unalias\",";
+    assert_eq!(rt;
+        asked_soundly(alloc, &house, &mut coming, &mut bytes, act)?,
+        ("not yet", 0)
+    );
+    let local = b"\"local\":\"team\"}";
+    assert_eq!(rt;
+        asked_soundly(alloc, &house, &mut coming, &mut bytes, local)?,
+        ("unalias", 0)
+    );
+    Ok(())
+}
+
+#[test]
+fn no_head_in_pieces(rt: HostRuntime) -> Result<(), Fail> {
+    let alloc = rt.alloc();
+    let house = house(alloc)?;
+    let (mut coming, mut bytes) = nothing_came(alloc);
+    assert_eq!(rt;
+        asked_soundly(alloc, &house, &mut coming, &mut bytes, b"G\x01T")?,
+        ("not yet", 0)
+    );
+    assert_eq!(rt;
+        asked_soundly(alloc, &house, &mut coming, &mut bytes, b"\r\n\r\n")?,
+        ("head", 0)
+    );
+    Ok(())
+}
+
+/// The local part of the alias that a body asks for.
+fn alias_named(alloc: Global, house: &House, body: &[u8]) -> Result<Name, Fail> {
+    if !house.is_sound() {
+        return Err(Fail::new("no house"));
+    }
+    let bytes = request(alloc, "POST", "/act", body)?;
+    match read_request(alloc, house, bytes.as_slice()) {
+        Ok(
+            Asked::Whole {
+                route: Route::Act(Act::SetAlias { local, .. }),
+            },
+        ) => Ok(local),
+        _ => Err(Fail::new("no alias")),
+    }
+}
+
+#[test]
+fn of_a_member_given_twice_the_last_stays(rt: HostRuntime) -> Result<(), Fail> {
+    let house = house(rt.alloc())?;
+    let body = b"{\"users\":[\"ann\"],\"local\":\"x\",\"local\":\"y\",\"act\":\"alias\"}";
+    let local = alias_named(rt.alloc(), &house, body)?;
+    assert_eq!(rt; local.bytes(), b"y".as_slice());
     Ok(())
 }

@@ -1,17 +1,26 @@
 //! The real outside: standard streams, a file and the sockets of this machine, each as the trait that stands for it.
 //!
-//! `streams` has standard input and output, `file_disk` a file (`backing` opens, reads and writes it). They tell nothing
-//! of content: what a real file or a peer does is no part of any proof. What is proved is that each meets its trait: a
-//! call fails only where its own count rises by one, a call that succeeds leaves the counts, and a disk's length never
-//! falls.
+//! `streams` has standard input and output, `file_disk` a file (`backing` opens, reads and writes it), `loop_link` the
+//! connections: `sockets` visits them in turn, over `listeners` and `connection`, and `waiting` is what a slow reader has
+//! not taken yet. They tell nothing of content: what a real file or a peer does is no part of any proof. What is proved is
+//! that each meets its trait: a call fails only where its own count rises by one, a call that succeeds leaves the counts,
+//! and a disk's length never falls; and that nothing comes of a connection that was closed or left (`Connection::receive`).
 #![tactic(auto)]
 
 mod backing;
+mod connection;
 mod file_disk;
+mod listeners;
+mod loop_link;
+mod sockets;
 mod streams;
+mod waiting;
 
 pub use file_disk::FileDisk;
+pub use loop_link::LoopLink;
 pub use streams::{Reading, Writing};
 
+#[cfg(test)]
+mod link_tests;
 #[cfg(test)]
 mod tests;

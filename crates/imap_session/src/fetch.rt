@@ -12,7 +12,7 @@ use crate::commands::say;
 use crate::dialog::{Awaits, Dialog, Fetching, Pending, Selected};
 use crate::facts::mail_of;
 use crate::named::{keys_at, places_named, rows_at};
-use crate::out::{BodyList, ImapOut};
+use crate::out::{Bodies0, ImapOut};
 use crate::words::Answer;
 use box_store::Store;
 use imap_fetch::{
@@ -77,14 +77,14 @@ fn all_bodies(alloc: Global, rows: &[Message]) -> Result<Vec<Body>, AllocError>
 }
 
 /// The bodies whose texts it needs.
-fn bodies_of(alloc: Global, fetching: &Fetching) -> Result<BodyList, NoMemory>
+fn bodies_of(alloc: Global, fetching: &Fetching) -> Result<Bodies0, NoMemory>
     ensures { IfOk result (λ bodies. bodies ≡ fetching_spec.bodies_of fetching.now) }
 {
     if body_sections(&fetching.form.attributes) == 0 || is_vain(fetching) {
-        return Ok(BodyList::new(alloc));
+        return Ok(Bodies0::new(alloc));
     }
     let bodies = all_bodies(alloc, fetching.rows.as_slice())?;
-    Ok(BodyList::from_vec(bodies))
+    Ok(Bodies0::from_vec(bodies))
 }
 
 /// Asks the store for a FETCH with the texts that it needs.
@@ -121,7 +121,7 @@ fn begin_fetch(
     dialog: &mut Dialog,
     tag: Name,
     fetching: Fetching,
-    bodies: BodyList,
+    bodies: Bodies0,
 ) -> ImapOut
     ensures { spec.begin_fetch tag dialog.old fetching bodies ≡ took result dialog.new }
 {

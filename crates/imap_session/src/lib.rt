@@ -26,7 +26,7 @@ mod view;
 mod words;
 
 pub use lines::{bad_line, changed, greeting, no_memory, ready, refused, rewound};
-pub use out::{BodyList, ImapOut};
+pub use out::{Bodies0, ImapOut};
 pub use session::ImapSession;
 
 #[cfg(test)]

@@ -3,14 +3,14 @@ use undo_base::{Sequence, Text};
 use verb_core::{Ask, Body};
 
 /// Bodies, in order.
-pub type BodyList = Sequence<Body>;
+pub type Bodies0 = Sequence<Body>;
 
 /// What comes of a command: an answer, texts that are to be read, an ask of the store whose outcome is due then, or the
 /// last answer, after which the connection is closed.
 #[derive(Debug, Drop)]
 pub enum ImapOut {
     Say(Text),
-    Read(BodyList),
+    Read(Bodies0),
     Submit(Ask),
     Bye(Text),
 }

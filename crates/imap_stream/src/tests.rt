@@ -212,3 +212,32 @@ fn a_ninth_literal_and_a_tag_of_65_bytes(rt: HostRuntime) -> Result<(), Fail> {
     assert_eq!(rt; told(alloc, many, 1)?.bytes(), wanted);
     Ok(())
 }
+
+/// The most bytes that are held at a time of a stream that begins so and goes on with one piece so many times.
+fn most_held(alloc: Global, front: &[u8], piece: &[u8], count: usize) -> Result<usize, NoMemory> {
+    let mut told = Text::new(alloc);
+    let mut pieces = Pieces::new(alloc);
+    pieces.feed(front)?;
+    let mut most = 0;
+    for _ in 0..count {
+        pieces.feed(piece)?;
+        most = pieces.held().max(most);
+        for _ in 0..100 {
+            if !tell(&mut told, pieces.next(alloc)?)? {
+                break;
+            }
+        }
+    }
+    Ok(most)
+}
+
+#[test]
+fn little_is_held(rt: HostRuntime) -> Result<(), Fail> {
+    let alloc = rt.alloc();
+    let piece = [b'x'; 4096];
+    assert!(rt; most_held(alloc, b"b ", &piece, 500)? < 80_000);
+    assert!(rt; most_held(alloc, b"b {3}\r\nabc", &piece, 500)? < 80_000);
+    assert!(rt; most_held(alloc, b"b {1000}\r\n", b"x\r\nc NOOP\r\n", 2000)? < 5000);
+    assert!(rt; most_held(alloc, b"", b"a NOOP\r\n", 20_000)? < 50);
+    Ok(())
+}

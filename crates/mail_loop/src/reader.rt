@@ -16,7 +16,7 @@ ghost use Rattle.mail_loop.specs.Read.{AreThere, IsAnswered, IsAwaitedLast, IsRe
 use crate::asking::{ask_desk, is_refused};
 use crate::reply::{Reply, say};
 use imap_lines::{ImapCommand, ImapRefused, read_command};
-use imap_session::{BodyList, ImapOut, ImapSession, bad_line, no_memory, ready, refused};
+use imap_session::{Bodies0, ImapOut, ImapSession, bad_line, no_memory, ready, refused};
 use imap_stream::{Next, RawCommand};
 use seal_log::ReadFault;
 use std::alloc::Global;
@@ -180,7 +180,7 @@ fn take_texts<D: Disk + Drop>(
     desk: &mut Desk<D>,
     session: &mut ImapSession,
     at: u64,
-    bodies: &BodyList,
+    bodies: &Bodies0,
     texts: Texts,
     reply: &mut Reply,
 )
@@ -208,7 +208,7 @@ fn read<D: Disk + Drop>(
     desk: &mut Desk<D>,
     session: &mut ImapSession,
     at: u64,
-    bodies: &BodyList,
+    bodies: &Bodies0,
     reply: &mut Reply,
 )
     requires reading { is_reading session.old ≡ true }

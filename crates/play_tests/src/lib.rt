@@ -1,11 +1,13 @@
 //! Tests of the top call and of the serving loop, in a crate of their own, since a crate with tests is proved twice.
 //!
-//! `tests` has mail clients, bad input and failing calls, `reader_tests` mail readers; `worked` has whole conversations,
+//! `tests` has mail clients, bad input and failing calls, `reader_tests` mail readers; `worked` and `others` have whole conversations,
 //! which `conversation` plays.
 #![tactic(auto)]
 
 #[cfg(test)]
 mod conversation;
+#[cfg(test)]
+mod others;
 #[cfg(test)]
 mod reader_tests;
 #[cfg(test)]

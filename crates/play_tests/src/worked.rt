@@ -3,7 +3,7 @@ use crate::conversation::{goes, goes_after};
 use std::test::Fail;
 
 /// One message to ann, who has number 2.
-const ONE_MESSAGE: &[u8] = b">open 1 smtp
+pub(crate) const ONE_MESSAGE: &[u8] = b">open 1 smtp
 1< 220 mail.test ESMTP undomail
 >line 1 HELO x
 1< 250 mail.test

@@ -1,4 +1,4 @@
-use Rattle.console_http.proofs.Asking.{asks_of, asks_refused}
+use Rattle.console_http.proofs.Asking.{asks_of, asks_refused, learns_of}
 use Rattle.console_http.proofs.request.read_coming.Goals as goal
 
 pub returns-in-Ok-clause-asks : goal.returns-in-Ok-clause-asks
@@ -6,3 +6,7 @@ returns-in-Ok-clause-asks c = asks_of c.args.house.now c.args.bytes.now _ c.read
 
 pub returns-in-Err-clause-asks : goal.returns-in-Err-clause-asks
 returns-in-Err-clause-asks c = rw c.head_refused.ensures (asks_refused c.args.house.now c.args.bytes.now c.in-Err.refused c.in-Err.ensures.says)
+
+pub returns-in-Ok-clause-learns : goal.returns-in-Ok-clause-learns
+returns-in-Ok-clause-learns c =
+    learns_of c.args.house.now c.read.new.self c.args.bytes.now c.in-Ok.request c.read_asked.result c.read_asked.ensures c.in-Ok.ensures.learnt

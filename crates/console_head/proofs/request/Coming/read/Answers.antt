@@ -1,5 +1,5 @@
-use Rattle.std.proofs.Common.{Some, None, arith}
-use Rattle.console_head.proofs.Reading.{known_more, too_short, within_bytes, same_fields, says_by, known_behind, known_none, none_short, none_long}
+use Rattle.std.proofs.Common.{Some, None, arith, inl}
+use Rattle.console_head.proofs.Reading.{known_more, too_short, within_bytes, same_fields, says_by, known_behind, known_none, none_short, none_long, all_looked_at}
 use Rattle.console_head.proofs.request.Coming.read.Goals as goal
 
 pub returns-then-bytes-self-clause-says : goal.returns-then-bytes-self-clause-says
@@ -38,3 +38,6 @@ returns-in-None-2-clause-says c = says_by c.args.bytes.now c.front.result.now No
 pub returns-in-None-2-clause-known : goal.returns-in-None-2-clause-known
 returns-in-None-2-clause-known c =
     known_more _ c.args.bytes.now (known_none _ c.args.bytes.now c.front.result.now c.front.ensures c.in-None-2.ensures.first (omega (arith, c.if-bytes-self.false)))
+
+pub returns-in-None-clause-learnt : goal.returns-in-None-clause-learnt
+returns-in-None-clause-learnt c = inl (all_looked_at c.args.bytes.now c.front.result.now _ c.front.ensures c.if-bytes-lt-MOST_HEAD.true c.in-None.ensures.all)

@@ -1,0 +1,13 @@
+//! What the definitions of requests imply. These functions do nothing: their contracts are laws of the definitions.
+ghost use Rattle.std.specs.Prelude.{◌≡◌, List, ℕ, ◌++◌, Ok, None};
+ghost use Rattle.console_head.specs.Request.{Says, Stage};
+
+/// Bytes are one thing: a request, not yet one, or refused for one reason.
+pub fn bytes_are_one_thing()
+    ensures { (bytes : List ℕ) → (a b : Stage) → Says bytes a → Says bytes b → a ≡ b }
+{}
+
+/// A request, and a refusal, stays what it is when more bytes come: so the pieces in which bytes come do not matter.
+pub fn what_is_decided_stays()
+    ensures { (bytes more : List ℕ) → (stage : Stage) → Says bytes stage → (stage ≡ Ok None → ⊥) → Says (bytes ++ more) stage }
+{}

@@ -1,0 +1,19 @@
+use Rattle.std.proofs.Common.{◌≡◌, ℕ, List, ◌++◌, ap, ◌∙◌, subst}
+use Rattle.verb_core.specs.declared.conf.House.{House}
+use Rattle.console_http.specs.Requests.{AskKnows, Asks}
+use Rattle.console_session.proofs.Turns.{heard}
+use Rattle.console_session.proofs.session.ConsoleSession.hear.Goals as goal
+
+pub serve-requires-clause-known : goal.serve-requires-clause-known
+serve-requires-clause-known g c =
+    subst (λ (h : House). AskKnows h c.read_coming-asked.result) c.house.ensures.value
+    (c.acts_name_known_users.ensures c.house.result.now c.bytes.result.now c.read_coming-asked.result c.read_coming-asked.ensures.asks)
+
+pub returns-clause-heard : goal.returns-clause-heard
+returns-clause-heard g c =
+    let came : c.bytes.result.now ≡ c.args.self.now ++ c.args.bytes.now =
+    c.bytes.ensures.value ∙ c.in_default.ensures.ok ∙ ap (λ (l : List ℕ). l ++ c.args.bytes.now) c.self.view_is in
+    heard g.D.Disk.told c.args.at c.args.self.now c.args.bytes.now c.args.desk.now c.serve.new.desk c.serve.result c.read_coming-asked.result
+    (subst (λ (l : List ℕ). Asks c.args.desk.now.kept.house l c.read_coming-asked.result) came
+    (subst (λ (h : House). Asks h c.bytes.result.now c.read_coming-asked.result) c.house.ensures.value c.read_coming-asked.ensures.asks))
+    c.serve.ensures

@@ -1,0 +1,73 @@
+-- How a turn may go otherwise.
+use Rattle.std.specs.Prelude.{ℕ, [], Result, Ok, Err}
+use Rattle.verb_core.specs.declared.item.Act.{Act}
+use Rattle.mail_desk.specs.Kept.{Kept}
+use Rattle.console_http.specs.declared.request.Asked.{Asked}
+use Rattle.console_http.specs.declared.request.Asked.TheVariants.{NotYet, Whole}
+use Rattle.console_http.specs.declared.request.HttpRefused.{HttpRefused}
+use Rattle.console_http.specs.declared.request.HttpRefused.TheVariants.{NoMemory}
+use Rattle.console_http.specs.declared.request.Route.{Route}
+use Rattle.console_http.specs.declared.request.Route.TheVariants as route
+use Rattle.console_session.specs.declared.reply.After.TheVariants.{Closes}
+use Rattle.console_session.specs.Answers.{Answer, answer_text, refused}
+use Rattle.console_session.specs.Turn.{Turn, waits, tells, done, failed, numbered, routed}
+
+-- How a turn may go otherwise.
+pub data Hindrance : Type 0 where
+  -- it goes as it should
+  Clear : Hindrance
+  -- no memory was found before anything was sealed, and the operator is told
+  Refused : Hindrance
+  -- the same, and no memory was found for telling the operator
+  Unheard : Hindrance
+  -- no memory was found for the answer to an act that is done
+  Unanswered : Hindrance
+  -- an act could not be sealed: the operator is told, and serving ends
+  Unsealed : Hindrance
+  -- the same, and no memory was found for telling the operator
+  Untold : Hindrance
+
+-- the connection closes with no answer
+abbrev pub lost : Kept → Turn
+lost kept = record { said = []; kept = kept; after = Closes; sealed = []; unsealed = [] }
+
+-- the operator is told of want of memory
+abbrev pub starved : Kept → Turn
+starved kept = tells (refused NoMemory) Closes kept
+
+-- the same turn without its answer
+abbrev pub unanswered : Turn → Turn
+unanswered t = record t { said = [] }
+
+-- a turn that asks nothing of the desk is hindered by want of memory alone
+abbrev pub told_under : Hindrance → Kept → Turn → Turn
+told_under Clear kept t = t
+told_under Refused kept t = starved kept
+told_under Unheard kept t = lost kept
+told_under Unanswered kept t = t
+told_under Unsealed kept t = t
+told_under Untold kept t = t
+
+-- what becomes of an act; where no number is left nothing is to be sealed
+abbrev pub acted_under : Hindrance → ℕ → Kept → Act → Turn
+acted_under Clear at kept act = numbered kept (done at kept act)
+acted_under Refused at kept act = starved kept
+acted_under Unheard at kept act = lost kept
+acted_under Unanswered at kept act = numbered kept (unanswered (done at kept act))
+acted_under Unsealed at kept act = numbered kept (failed at kept act)
+acted_under Untold at kept act = numbered kept (unanswered (failed at kept act))
+
+abbrev pub routed_under : Hindrance → ℕ → Kept → Route → Turn
+routed_under h at kept route.Status = told_under h kept (routed at kept route.Status)
+routed_under h at kept (route.Timeline start) = told_under h kept (routed at kept (route.Timeline start))
+routed_under h at kept (route.Box user name) = told_under h kept (routed at kept (route.Box user name))
+routed_under h at kept (route.Body number) = told_under h kept (routed at kept (route.Body number))
+routed_under h at kept route.Conf = told_under h kept (routed at kept route.Conf)
+routed_under h at kept (route.Act act) = acted_under h at kept act
+routed_under h at kept route.Stop = told_under h kept (routed at kept route.Stop)
+
+-- a turn, hindered or not; bytes that are not yet a request want no memory
+abbrev pub hindered : Hindrance → ℕ → Kept → Result Asked HttpRefused → Turn
+hindered h at kept (Ok NotYet) = waits kept
+hindered h at kept (Ok (Whole route)) = routed_under h at kept route
+hindered h at kept (Err why) = told_under h kept (tells (refused why) Closes kept)

@@ -1,0 +1,4 @@
+pub mod Answers
+pub mod Turn
+pub mod Hindrance
+pub mod Hearing

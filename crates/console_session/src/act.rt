@@ -1,0 +1,44 @@
+//! The operator's acts: sealed, performed and then answered.
+ghost use Rattle.std.specs.Prelude.{◌≡◌, IsTrue, false};
+ghost use Rattle.std.specs.List.{list_all};
+ghost use Rattle.verb_core.specs.declared.item.Deed.TheVariants.{Act as Acts};
+ghost use Rattle.verb_core.specs.Items.{users_in};
+ghost use Rattle.verb_core.specs.Store.{is_known};
+ghost use Rattle.console_session.specs.Hearing.{IsTurn, TellsFault};
+ghost use Rattle.console_session.specs.Hindrance.{Hindrance, acted_under};
+
+use crate::reply::{After, Reply, starve, tell, tell_only};
+use console_replies::{ErrorWord, error_json, number_json, numbers_json};
+use std::alloc::Global;
+use time_desk::laws::seals_join;
+use time_desk::{ActFault, Desk};
+use undo_outside::Disk;
+use verb_core::Act;
+
+/// Tells why an act was not done.
+fn tell_fault(alloc: Global, fault: ActFault) -> Reply
+    requires { fault ≡ ActFault.Closed → ⊥ }
+    ensures { TellsFault fault result }
+{
+    match fault {
+        ActFault::Numbers { next } => { tell(alloc, 507, numbers_json(alloc, next), After::Closes) }
+        ActFault::Disk => {
+            tell_only(alloc, 500, error_json(alloc, ErrorWord::Disk), After::Fails)
+        }
+        ActFault::NoMemory => starve(alloc),
+        ActFault::Closed => unreachable!(),
+    }
+}
+
+/// POST /act.
+pub fn act<D: Disk>(alloc: Global, desk: &mut Desk<D>, at: u64, asked: Act) -> Reply
+    requires open { desk.old.closed ≡ false }
+    requires known { IsTrue (list_all (is_known desk.old.kept.house) (users_in (Acts asked))) }
+    ensures { (h : Hindrance) × IsTurn D.told (acted_under h at desk.old.kept asked) desk.old desk.new result }
+{
+    seals_join::<D>();
+    match desk.act(alloc, at, asked) {
+        Ok(number) => tell_only(alloc, 200, number_json(alloc, number), After::Closes),
+        Err(fault) => tell_fault(alloc, fault),
+    }
+}

@@ -1,0 +1,96 @@
+//! What a console connection is told, and what follows.
+ghost use Rattle.std.specs.Prelude.{◌≡◌, [], IfOk, IsTrue};
+ghost use Rattle.serde_json.specs.Data.{Data};
+ghost use Rattle.serde_json.specs.Written.{compact_text};
+ghost use Rattle.console_http.specs.declared.request.HttpRefused.TheVariants.{NoMemory as WantOfMemory};
+ghost use Rattle.console_replies.specs.Reply.{is_status};
+ghost use Rattle.console_session.specs.Answers.{answer, answer_text, refused};
+ghost use Rattle.console_session.specs.Hearing.{Starves, Tells, TellsOnly};
+
+use console_replies::{ErrorWord, error_json, render};
+use std::alloc::Global;
+use undo_base::{NoMemory, Text};
+
+/// What follows what is said.
+#[derive(Clone, Copy, Debug, PartialEq, Eq)]
+pub enum After {
+    /// The bytes are not yet a request: nothing was said, and the connection stays open.
+    Waits,
+    /// The connection is closed.
+    Closes,
+    /// The connection is closed, and serving ends as it was asked to.
+    Stops,
+    /// The connection is closed. An act could not be sealed, and serving ends with that.
+    Fails,
+}
+
+/// What a connection is told, and what follows.
+#[derive(Debug, Drop)]
+pub struct Reply {
+    pub said: Text,
+    pub after: After,
+}
+
+/// Says nothing.
+pub fn silent(alloc: Global, after: After) -> Reply
+    ensures { result ≡ record { said = []; after = after } }
+{
+    Reply {
+        said: Text::new(alloc),
+        after,
+    }
+}
+
+/// The bytes of an answer in JSON.
+#[tactic(auto, unfolding(crate::specs::Answers::answer_text))]
+fn spell(alloc: Global, status: u16, body: Result<Text, NoMemory>) -> Result<Text, NoMemory>
+    requires { IsTrue (is_status status) }
+    ensures { (json : Data) → IfOk body (λ text. text ≡ compact_text json) → IfOk result (λ text. text ≡ answer_text (answer status json)) }
+{
+    match body {
+        Ok(body) => render(alloc, status, b"application/json", body.bytes()),
+        Err(NoMemory) => Err(NoMemory),
+    }
+}
+
+/// The answer that tells of want of memory.
+fn spell_memory(alloc: Global) -> Result<Text, NoMemory>
+    ensures { IfOk result (λ text. text ≡ answer_text (refused WantOfMemory)) }
+{
+    spell(alloc, 503, error_json(alloc, ErrorWord::Memory))
+}
+
+/// Tells of want of memory, or nothing where there is none for that either.
+pub fn starve(alloc: Global) -> Reply
+    ensures { Starves result }
+{
+    match spell_memory(alloc) {
+        Ok(said) => Reply {
+            said,
+            after: After::Closes,
+        },
+        Err(NoMemory) => silent(alloc, After::Closes),
+    }
+}
+
+/// Tells an answer, or of want of memory.
+pub fn tell(alloc: Global, status: u16, body: Result<Text, NoMemory>, after: After) -> Reply
+    requires { IsTrue (is_status status) }
+    ensures { (json : Data) → IfOk body (λ text. text ≡ compact_text json) → Tells (answer status json) after result }
+{
+    match spell(alloc, status, body) {
+        Ok(said) => Reply { said, after },
+        Err(NoMemory) => starve(alloc),
+    }
+}
+
+/// Tells an answer, or nothing, since what it tells of is done.
+pub fn tell_only(alloc: Global, status: u16, body: Result<Text, NoMemory>, after: After) -> Reply
+    requires { IsTrue (is_status status) }
+    ensures { (json : Data) → IfOk body (λ text. text ≡ compact_text json) → TellsOnly (answer status json) after result }
+{
+    match spell(alloc, status, body) {
+        Ok(said) => Reply { said, after },
+        Err(NoMemory) => silent(alloc, after),
+    }
+}

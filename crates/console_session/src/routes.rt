@@ -1,0 +1,159 @@
+//! The routes that look at the desk, and the refusals of requests.
+ghost use Rattle.std.specs.Prelude.{◌≡◌, List, ℕ, IfOk, IsTrue, Some, unwrap_or};
+ghost use Rattle.serde_json.specs.Written.{compact_text};
+ghost use Rattle.console_replies.specs.Bodies.{body_data, error_data};
+ghost use Rattle.console_replies.specs.Reply.{is_status};
+ghost use Rattle.console_replies.specs.Timeline.{timeline_data};
+ghost use Rattle.verb_core.specs.Boxes.{box_of, row_at};
+ghost use Rattle.mail_desk.specs.Counting.{listed};
+ghost use Rattle.mail_desk.specs.Timeline.{has_text};
+ghost use Rattle.verb_core.specs.Items.{text_of};
+ghost use Rattle.console_session.specs.Answers.{answer, body_answer, body_at, box_answer, conf_answer, counted_as, not_found, refused, status_answer, timeline_answer};
+ghost use Rattle.console_session.specs.Hearing.{Tells};
+ghost use Rattle.console_session.specs.declared.reply.After.TheVariants as after;
+
+use crate::reply::{After, Reply, tell};
+use console_http::HttpRefused;
+use console_replies::{
+    Counts, ErrorWord, body_json, box_json, conf_json, error_json, status_json, timeline_json,
+};
+use std::alloc::Global;
+use time_desk::Desk;
+use undo_base::{Name, NoMemory, Text, User};
+use undo_outside::Disk;
+use verb_core::Body;
+
+/// The counts in the console's words.
+fn counted(counts: mail_desk::Counts) -> Counts
+    ensures { result ≡ counted_as counts }
+{
+    Counts {
+        cycles: counts.cycles,
+        items: counts.items,
+        messages: counts.messages,
+        next: counts.next,
+        notices: counts.notices,
+        users: counts.users,
+    }
+}
+
+/// GET /status.
+pub fn tell_status<D: Disk>(alloc: Global, desk: &Desk<D>) -> Reply
+    ensures { Tells (status_answer desk.now.kept) after.Closes result }
+{
+    let body = status_json(alloc, counted(desk.counts()));
+    tell(alloc, 200, body, After::Closes)
+}
+
+/// The items from a place on.
+fn timeline_text<D: Disk>(alloc: Global, desk: &Desk<D>, start: u32) -> Result<Text, NoMemory>
+    ensures { IfOk result (λ text. text ≡ compact_text (timeline_data desk.now.kept.house (listed desk.now.kept.timeline start))) }
+{
+    match desk.timeline(alloc, start) {
+        Ok(items) => timeline_json(alloc, desk.house(), &items),
+        Err(NoMemory) => Err(NoMemory),
+    }
+}
+
+/// GET /timeline.
+pub fn tell_timeline<D: Disk>(alloc: Global, desk: &Desk<D>, start: u32) -> Reply
+    ensures { Tells (timeline_answer desk.now.kept start) after.Closes result }
+{
+    tell(alloc, 200, timeline_text(alloc, desk, start), After::Closes)
+}
+
+/// A route that names nothing.
+fn tell_none(alloc: Global) -> Reply
+    ensures { Tells not_found after.Closes result }
+{
+    tell(
+        alloc,
+        404,
+        error_json(alloc, ErrorWord::Route),
+        After::Closes,
+    )
+}
+
+/// The stamp of a mailbox. Each that is there has one.
+fn stamp<D: Disk>(desk: &Desk<D>, user: User, name: &Name) -> u32
+    ensures { result ≡ unwrap_or (row_at (box_of user name.now) desk.now.kept.stamps) 0 }
+{
+    desk.stamp(user, name).unwrap_or(0)
+}
+
+/// GET /box.
+pub fn tell_box<D: Disk>(alloc: Global, desk: &Desk<D>, user: User, name: &Name) -> Reply
+    ensures { Tells (box_answer desk.now.kept user name.now) after.Closes result }
+{
+    match desk.store().mailbox(user, name) {
+        Some(mailbox) => {
+            let body = box_json(alloc, mailbox, stamp(desk, user, name));
+            tell(alloc, 200, body, After::Closes)
+        }
+        None => tell_none(alloc),
+    }
+}
+
+/// What is told of the text of a body.
+fn body_text<D: Disk>(alloc: Global, desk: &Desk<D>, body: Body) -> Result<Text, NoMemory>
+    requires { IsTrue (has_text desk.now.kept.timeline body) }
+    ensures { (told : List ℕ) → text_of desk.now.kept.timeline body ≡ Some told → IfOk result (λ text. text ≡ compact_text (body_data told body.rev)) }
+{
+    match desk.text(alloc, body) {
+        Ok(text) => body_json(alloc, text.bytes(), body.rev),
+        Err(NoMemory) => Err(NoMemory),
+    }
+}
+
+/// The body of an item's own text.
+fn body_of(number: u32, rev: u32) -> Body
+    ensures { result ≡ body_at number rev }
+{
+    Body {
+        origin: number,
+        rev,
+    }
+}
+
+/// GET /body.
+pub fn tell_body<D: Disk>(alloc: Global, desk: &Desk<D>, number: u32) -> Reply
+    ensures { Tells (body_answer desk.now.kept number) after.Closes result }
+{
+    match desk.rev(number) {
+        Some(rev) => {
+            let body = body_text(alloc, desk, body_of(number, rev));
+            tell(alloc, 200, body, After::Closes)
+        }
+        None => tell_none(alloc),
+    }
+}
+
+/// GET /conf.
+pub fn tell_conf<D: Disk>(alloc: Global, desk: &Desk<D>) -> Reply
+    ensures { Tells (conf_answer desk.now.kept) after.Closes result }
+{
+    let body = conf_json(alloc, desk.house(), desk.conf());
+    tell(alloc, 200, body, After::Closes)
+}
+
+/// The status of a refusal, and its word.
+fn refusal(why: HttpRefused) -> (u16, ErrorWord)
+    ensures answered { refused why ≡ answer result.0 (error_data result.1) }
+    ensures status { IsTrue (is_status result.0) }
+{
+    match why {
+        HttpRefused::Head => (400, ErrorWord::Head),
+        HttpRefused::Size => (413, ErrorWord::Size),
+        HttpRefused::Route => (404, ErrorWord::Route),
+        HttpRefused::Json => (400, ErrorWord::Json),
+        HttpRefused::NoMemory => (503, ErrorWord::Memory),
+    }
+}
+
+/// A request that is refused.
+pub fn tell_refused(alloc: Global, why: HttpRefused) -> Reply
+    ensures { Tells (refused why) after.Closes result }
+{
+    let (status, word) = refusal(why);
+    tell(alloc, status, error_json(alloc, word), After::Closes)
+}

@@ -1,0 +1,107 @@
+//! A console connection, as far as its bytes came.
+ghost use Rattle.std.specs.Prelude.{◌≡◌, ◌++◌, [], false, Ok};
+ghost use Rattle.console_http.specs.Requests.{AskKnows, KnowsUsers};
+ghost use Rattle.console_http.specs.declared.request.Asked.TheVariants.{Whole};
+ghost use Rattle.console_session.specs.Hearing.{Hears, Serves, is_failure};
+ghost use Rattle.console_session.specs.declared.reply.After.TheVariants.{Waits};
+
+use crate::act::act;
+use crate::reply::{After, Reply, silent, tell};
+use crate::routes::{tell_body, tell_box, tell_conf, tell_refused, tell_status, tell_timeline};
+use console_http::laws::acts_name_known_users;
+use console_http::{Asked, Coming, HttpRefused, Route, read_coming};
+use console_replies::stopped_json;
+use std::alloc::Global;
+use std::marker::Model;
+use time_desk::Desk;
+use time_desk::laws::seals_join;
+use undo_base::{NoMemory, Text};
+use undo_outside::Disk;
+
+/// The bytes of a connection that has not had its answer, and what is known of them.
+#[derive(Drop)]
+pub struct ConsoleSession {
+    came: Text,
+    coming: Coming,
+}
+
+impl Model for ConsoleSession {
+    ghost use Rattle.std.specs.Prelude.{List, ℕ};
+    ghost use Rattle.console_session.specs.Hearing.{StaysKnown};
+
+    ghost Value = { List ℕ };
+
+    ghost view = { λ s. s.came };
+
+    ghost invariant = { λ s. StaysKnown s.coming s.came };
+}
+
+/// Answers a route.
+fn follow<D: Disk>(alloc: Global, desk: &mut Desk<D>, at: u64, route: Route) -> Reply
+    requires open { desk.old.closed ≡ false }
+    requires known { KnowsUsers desk.old.kept.house route }
+    ensures { Serves D.told at (Ok (Whole route)) desk.old desk.new result }
+{
+    seals_join::<D>();
+    match route {
+        Route::Status => tell_status(alloc, desk),
+        Route::Timeline { start } => tell_timeline(alloc, desk, start),
+        Route::Box { user, name } => tell_box(alloc, desk, user, &name),
+        Route::Body { number } => tell_body(alloc, desk, number),
+        Route::Conf => tell_conf(alloc, desk),
+        Route::Act(asked) => act(alloc, desk, at, asked),
+        Route::Stop => tell(alloc, 200, stopped_json(alloc), After::Stops),
+    }
+}
+
+/// Answers what is asked, if it is a request already.
+fn serve<D: Disk>(
+    alloc: Global,
+    desk: &mut Desk<D>,
+    at: u64,
+    asked: Result<Asked, HttpRefused>,
+) -> Reply
+    requires open { desk.old.closed ≡ false }
+    requires known { AskKnows desk.old.kept.house asked }
+    ensures { Serves D.told at asked desk.old desk.new result }
+{
+    seals_join::<D>();
+    match asked {
+        Ok(Asked::NotYet) => silent(alloc, After::Waits),
+        Ok(Asked::Whole { route }) => follow(alloc, desk, at, route),
+        Err(why) => tell_refused(alloc, why),
+    }
+}
+
+impl ConsoleSession {
+    pub fn new(alloc: Global) -> ConsoleSession
+        ensures { result ≡ [] }
+    {
+        ConsoleSession {
+            came: Text::new(alloc),
+            coming: Coming::new(),
+        }
+    }
+
+    /// Hears bytes that came. While they and those before are not yet a request nothing is said; else they are answered once,
+    /// and the connection is to be closed. What follows a request is not looked at.
+    pub fn hear<D: Disk>(
+        &mut self,
+        alloc: Global,
+        desk: &mut Desk<D>,
+        at: u64,
+        bytes: &[u8],
+    ) -> Reply
+        requires open { desk.old.closed ≡ false }
+        ensures heard { Hears D.told at self.old bytes.now desk.old desk.new result }
+        ensures waits { result.after ≡ Waits → self.new ≡ self.old ++ bytes.now }
+        ensures closed { desk.new.closed ≡ is_failure result.after }
+    {
+        if let Err(NoMemory) = self.came.extend(bytes) {
+            return silent(alloc, After::Closes);
+        }
+        acts_name_known_users();
+        let asked = read_coming(alloc, &mut self.coming, desk.house(), self.came.bytes());
+        serve(alloc, desk, at, asked)
+    }
+}

@@ -1,0 +1,188 @@
+//! One connection, of which the other side may take its time.
+ghost use Rattle.std.specs.Prelude.{◌≡◌, IsSome};
+ghost use Rattle.host_outside.specs.declared.connection.Received.TheVariants.{Nothing, Left};
+
+use crate::waiting::Waiting;
+use std::alloc::Global;
+use std::io::{self, ErrorKind, Read, Write};
+use std::net::{OpenStream, Shutdown};
+use undo_base::NoMemory;
+
+/// Where more bytes than these wait, a connection is sent nothing more.
+const MOST_WAITING: usize = 67_108_864;
+
+/// Where more bytes than these wait, a connection is not read.
+const MOST_UNREAD: usize = 1_048_576;
+
+/// For so many seconds a connection that ends may take none of what waits.
+const LINGER: u64 = 10;
+
+/// What came over a connection.
+#[derive(Drop)]
+pub(crate) enum Received {
+    Nothing,
+    /// So many bytes, into the buffer.
+    Bytes(usize),
+    /// The other side left. What waits may still be sent.
+    Left,
+}
+
+#[derive(Drop)]
+pub(crate) struct Connection<S> {
+    stream: S,
+    waiting: Waiting,
+    /// Where it was closed here or the other side left: the second at which it is given up.
+    ends_at: Option<u64>,
+    /// All that waited was sent and the other side has left, or it was given up.
+    is_over: bool,
+    /// Some of what waits was taken at the last visit, or something came that is not wanted any more.
+    has_moved: bool,
+}
+
+impl<S: Read + Write + OpenStream> Connection<S> {
+    /// A connection that has just come. From now on no call on it waits.
+    pub(crate) fn new(alloc: Global, stream: S) -> io::Result<Connection<S>>
+    where
+        S: Drop,
+    {
+        stream.set_nonblocking(true)?;
+        stream.set_nodelay(true)?;
+        Ok(Connection {
+            stream,
+            waiting: Waiting::new(alloc),
+            ends_at: None,
+            is_over: false,
+            has_moved: false,
+        })
+    }
+
+    pub(crate) fn is_over(&self) -> bool {
+        self.is_over
+    }
+
+    pub(crate) fn has_moved(&self) -> bool {
+        self.has_moved
+    }
+
+    /// Sends a string, or keeps what is not taken yet. Answers whether it may still arrive whole.
+    pub(crate) fn send(&mut self, bytes: &[u8]) -> Result<bool, NoMemory>
+        ensures { self.new.ends_at ≡ self.old.ends_at }
+    {
+        if self.ends_at.is_some() || self.waiting.len() > MOST_WAITING {
+            return Ok(false);
+        }
+        self.waiting.push(bytes)?;
+        Ok(self.flush().is_ok())
+    }
+
+    /// A visit: sends what waits, and reads what came. Nothing comes any more of one that has ended, and one that left has
+    /// ended.
+    pub(crate) fn receive(&mut self, now: u64, buf: &mut [u8]) -> Received
+        ensures ended { IsSome self.old.ends_at → result ≡ Nothing }
+        ensures left { result ≡ Left → IsSome self.new.ends_at }
+        ensures stays { IsSome self.old.ends_at → IsSome self.new.ends_at }
+    {
+        self.has_moved = false;
+        if self.ends_at.is_some() {
+            self.go_on_ending(now, buf);
+            return Received::Nothing;
+        }
+        let received = self.exchange(buf);
+        if matches!(&received, Received::Left) {
+            self.end(now);
+            self.go_on_ending(now, buf);
+        }
+        received
+    }
+
+    /// Nothing comes of it any more. It is over as soon as it has taken what waits and the other side has left.
+    pub(crate) fn end(&mut self, now: u64)
+        ensures { IsSome self.new.ends_at }
+    {
+        self.ends_at = Some(now.saturating_add(LINGER));
+        self.is_over = self.send_last().is_err();
+    }
+
+    fn go_on_ending(&mut self, now: u64, buf: &mut [u8])
+        ensures { IsSome self.old.ends_at → IsSome self.new.ends_at }
+    {
+        self.is_over = !matches!(self.finish(now, buf), Ok(false));
+    }
+
+    /// Sends what waits, and reads until the other side leaves. Answers whether it has, or was given up.
+    fn finish(&mut self, now: u64, buf: &mut [u8]) -> io::Result<bool>
+        ensures { IsSome self.old.ends_at → IsSome self.new.ends_at }
+    {
+        if self.send_last()? > 0 {
+            self.ends_at = Some(now.saturating_add(LINGER));
+        }
+        if self.ends_at.is_some_and(|end| end <= now) {
+            return Ok(true);
+        }
+        match read_some(&mut self.stream, buf) {
+            Received::Nothing => Ok(false),
+            Received::Bytes(_) => {
+                self.has_moved = true;
+                Ok(false)
+            }
+            Received::Left => Ok(self.waiting.len() == 0),
+        }
+    }
+
+    /// Sends what is taken of what waits, says so once all was sent, and answers how much that was.
+    fn send_last(&mut self) -> io::Result<usize>
+        ensures { self.new.ends_at ≡ self.old.ends_at }
+    {
+        let count = self.flush()?;
+        if self.waiting.len() == 0 {
+            self.stream.shutdown(Shutdown::Write)?;
+        }
+        Ok(count)
+    }
+
+    /// Sends what waits, and reads what came, unless too much waits.
+    fn exchange(&mut self, buf: &mut [u8]) -> Received
+        ensures { self.new.ends_at ≡ self.old.ends_at }
+    {
+        if self.flush().is_err() {
+            return Received::Left;
+        }
+        if self.waiting.len() > MOST_UNREAD {
+            return Received::Nothing;
+        }
+        read_some(&mut self.stream, buf)
+    }
+
+    /// Sends what is taken of what waits, and answers how much that was.
+    fn flush(&mut self) -> io::Result<usize>
+        ensures { self.new.ends_at ≡ self.old.ends_at }
+    {
+        if self.waiting.len() == 0 {
+            return Ok(0);
+        }
+        match self.stream.write(self.waiting.bytes()) {
+            Ok(0) => Err(io::Error::from(ErrorKind::WriteZero)),
+            Ok(count) => {
+                self.waiting.sent(count);
+                self.has_moved = true;
+                Ok(count)
+            }
+            Err(error) if is_for_later(&error) => Ok(0),
+            Err(error) => Err(error),
+        }
+    }
+}
+
+/// Whether a call has to be made again.
+fn is_for_later(error: &io::Error) -> bool {
+    matches!(error.kind(), ErrorKind::WouldBlock | ErrorKind::Interrupted)
+}
+
+fn read_some<S: Read>(stream: &mut S, buf: &mut [u8]) -> Received {
+    match stream.read(buf) {
+        Ok(0) => Received::Left,
+        Ok(count) => Received::Bytes(count),
+        Err(error) if is_for_later(&error) => Received::Nothing,
+        Err(_) => Received::Left,
+    }
+}
