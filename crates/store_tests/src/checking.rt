@@ -21,7 +21,9 @@ fn check_tells_the_counts_or_what_is_wrong_and_writes_nothing(rt: HostRuntime) -
     let created = joined(alloc, &FORMATTED[..76], CREATED)?;
     let unsealed = joined(alloc, FORMATTED, &CREATED[1..])?;
     let cut = joined(alloc, &FORMATTED[..76], b"\x55")?;
-    let twice = joined(alloc, &created.bytes()[..102], CREATED)?;
+    let half = joined(alloc, &FORMATTED[..76], &CREATED[..25])?;
+    let open = joined(alloc, &FORMATTED[..76], &CREATED[..26])?;
+    let twice = joined(alloc, open.bytes(), CREATED)?;
     let table: [(&[u8], u8, &[u8]); 10] = [
         (FORMATTED, 0, OPENING),
         (created.bytes(), 0, WITH_WORK),
@@ -31,7 +33,7 @@ fn check_tells_the_counts_or_what_is_wrong_and_writes_nothing(rt: HostRuntime) -
         (b"U", 10, b"undomail: damaged at 0\n"),
         (&FORMATTED[..76], 10, b"undomail: damaged at 0\n"),
         (cut.bytes(), 10, DAMAGED),
-        (&created.bytes()[..101], 10, DAMAGED),
+        (half.bytes(), 10, DAMAGED),
         (twice.bytes(), 10, b"undomail: damaged at 102\n"),
     ];
     for (bytes, status, line) in table {
