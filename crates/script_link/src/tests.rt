@@ -40,7 +40,10 @@ fn each_line_is_its_event(rt: HostRuntime) -> Result<(), Fail> {
     let table: [(&[u8], &[u8]); 16] = [
         (b"", b""),
         (b"\n#\n\n# a first ~\xff\r\n", b""),
-        (b"open 1 smtp\nopen 1000 imap\nopen 2 http", b"1 0 smtp|1000 0 imap|2 0 http|"),
+        (
+            b"open 1 smtp\nopen 1000 imap\nopen 2 http",
+            b"1 0 smtp|1000 0 imap|2 0 http|",
+        ),
         (
             b"at 1105092000\nline 1 HELO client.test\nline 1\nline 1 \n",
             b"1 1105092000 HELO client.test\r\n|1 1105092000 \r\n|1 1105092000 \r\n|",
