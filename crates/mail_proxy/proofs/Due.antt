@@ -270,4 +270,4 @@ module _ {D : Type 0} (told : D → DiskTold) (disk : D) (end : End D) (text tex
     -- the status that is due comes, unless the run was hindered
     pub due : (words : List (List ℕ)) → Answers told words text text' link link' disk end → IsDue (command_of words) (record { text = text; link = link; disk = told disk; out = out }) k → (s ≡ k) ⊎ IsHindered s
     due words (inl does) is = by_command (command_of words) is does
-    due words (inr (kept, same, e)) is = starved (ap (λ (x : End D). x.status) e)
+    due words (inr (kept, (same, e))) is = starved (ap (λ (x : End D). x.status) e)

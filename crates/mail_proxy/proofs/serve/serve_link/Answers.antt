@@ -1,4 +1,4 @@
-use Rattle.std.proofs.Common.{◌≡◌, ℕ, List, [], ◌++◌, ap, ◌∙◌}
+use Rattle.std.proofs.Common.{ℕ, List, ◌++◌, ap, ◌∙◌}
 use Rattle.mail_loop.specs.Serving.{unsealed_in}
 use Rattle.mail_proxy.specs.Lines.{line_text}
 use Rattle.mail_proxy.proofs.Served.{disk_fails}
