@@ -9,11 +9,21 @@ use mail_desk::{Counts, Desk};
 use std::alloc::Global;
 use std::test::Fail;
 use undo_base::{Text, Texts};
-use verb_core::{Body, Deed, Items, Refused, SubmitFault};
+use verb_core::{Body, Deed, Items, SubmitFault};
 
 fn new_desk(alloc: Global) -> Result<Desk, Fail> {
     let (house, conf) = playing_config(alloc)?;
     Ok(Desk::new(alloc, house, conf)?)
+}
+
+/// Whether this is told where a desk is asked for what a line says.
+fn tells(
+    alloc: Global,
+    desk: &mut Desk,
+    line: Line,
+    want: Result<Told, SubmitFault>,
+) -> Result<bool, Fail> {
+    Ok(asked(alloc, desk, line)? == want)
 }
 
 /// Asks a desk for what a line says.
@@ -26,57 +36,78 @@ fn asked(alloc: Global, desk: &mut Desk, line: Line) -> Result<Result<Told, Subm
     }
 }
 
-fn stamp(alloc: Global, desk: &Desk, mailbox: &str) -> Result<Option<u32>, Fail> {
-    Ok(desk.stamp(ANN, &name(alloc, mailbox)?))
+/// The stamp of a mailbox of ann, and 0 where it is not there.
+fn stamp(alloc: Global, desk: &Desk, mailbox: &str) -> Result<u32, Fail> {
+    Ok(desk.stamp(ANN, &name(alloc, mailbox)?).unwrap_or(0))
+}
+
+/// What is asked and told, a mailbox with its stamp then, and one that is not there then.
+const STAMPED: &[(Line, Told, &str, u32, &str)] = &[
+    (
+        (Asked::Create, "Work", "", 0),
+        (2, "nothing", 0),
+        "Work",
+        2,
+        "Old",
+    ),
+    (
+        (Asked::Rename, "Work", "Old", 0),
+        (3, "way", 0),
+        "Old",
+        3,
+        "Work",
+    ),
+    (
+        (Asked::Rename, "INBOX", "Kept", 0),
+        (4, "way", 0),
+        "Kept",
+        4,
+        "Work",
+    ),
+    (
+        (Asked::Create, "Work", "", 0),
+        (5, "nothing", 0),
+        "Work",
+        5,
+        "Gone",
+    ),
+    (
+        (Asked::Delete, "Old", "", 0),
+        (6, "moved", 0),
+        "Kept",
+        4,
+        "Old",
+    ),
+    (
+        (Asked::Status, "INBOX", "", 0),
+        (7, "count", 0),
+        "INBOX",
+        1,
+        "Old",
+    ),
+];
+
+fn stamped() -> &'static [(Line<'static>, Told, &'static str, u32, &'static str)] {
+    STAMPED
+}
+
+/// Whether what is due is told, and the stamps are those that are due.
+fn stamps_follow(alloc: Global, desk: &mut Desk) -> Result<bool, Fail> {
+    let mut all = true;
+    for (line, want, there, number, gone) in stamped() {
+        let told = tells(alloc, desk, *line, Ok(*want))?;
+        let found = stamp(alloc, desk, there)?;
+        let lost = stamp(alloc, desk, gone)?;
+        all = all && told && (found, lost) == (*number, 0);
+    }
+    Ok(all)
 }
 
 #[test]
 fn stamps_follow_the_names_of_mailboxes(rt: HostRuntime) -> Result<(), Fail> {
     let alloc = rt.alloc();
     let mut desk = new_desk(alloc)?;
-    let steps: [(Line, Told, &str, &str); 4] = [
-        (
-            (Asked::Create, "Work", "", 0),
-            (2, "nothing", 0),
-            "Work",
-            "Old",
-        ),
-        (
-            (Asked::Rename, "Work", "Old", 0),
-            (3, "way", 0),
-            "Old",
-            "Work",
-        ),
-        (
-            (Asked::Rename, "INBOX", "Kept", 0),
-            (4, "way", 0),
-            "Kept",
-            "Work",
-        ),
-        (
-            (Asked::Create, "Work", "", 0),
-            (5, "nothing", 0),
-            "Work",
-            "Gone",
-        ),
-    ];
-    for (line, want, there, gone) in steps {
-        assert_eq!(rt; asked(alloc, &mut desk, line)?, Ok(want));
-        assert_eq!(rt; stamp(alloc, &desk, there)?, Some(want.0), "{there}");
-        assert_eq!(rt; stamp(alloc, &desk, gone)?, None, "{gone}");
-    }
-    assert_eq!(rt; stamp(alloc, &desk, "INBOX")?, Some(1));
-    assert_eq!(rt;
-        asked(alloc, &mut desk, (Asked::Delete, "Old", "", 0))?,
-        Ok((6, "moved", 0))
-    );
-    assert_eq!(rt; stamp(alloc, &desk, "Old")?, None);
-    let exists = Err(SubmitFault::Refused(Refused::Exists));
-    assert_eq!(rt;
-        asked(alloc, &mut desk, (Asked::Create, "Work", "", 0))?,
-        exists
-    );
-    assert_eq!(rt; desk.next(), 7);
+    assert!(rt; stamps_follow(alloc, &mut desk)?);
     Ok(())
 }
 
@@ -95,9 +126,20 @@ fn text(alloc: Global, desk: &Desk, body: Body) -> Result<Text, Fail> {
     }
 }
 
-fn both_texts(alloc: Global, desk: &Desk, one: Body, two: Body) -> Result<Texts, Fail> {
+fn body(origin: u32) -> Body {
+    Body { origin, rev: 0 }
+}
+
+/// The size of a body's text and one more than the rev of its item, and 0 where it has none.
+fn size_and_rev(desk: &Desk, body: Body) -> (u32, u32) {
+    let size = desk.shelf().size(body).unwrap_or(0);
+    let rev = desk.rev(body.origin).map_or(0, |rev| rev.saturating_add(1));
+    (size, rev)
+}
+
+fn both_texts(alloc: Global, desk: &Desk, one: Body, two: Body) -> Result<Text, Fail> {
     if is_text(desk, one) && is_text(desk, two) {
-        Ok(desk.texts(alloc, &[one, two])?)
+        joined(alloc, &desk.texts(alloc, &[one, two])?)
     } else {
         Err(Fail::new("a body has no text"))
     }
@@ -124,6 +166,12 @@ fn listed(items: &Items) -> (u32, usize) {
     (digits, bytes)
 }
 
+/// The same of the items from a place on.
+fn listed_from(alloc: Global, desk: &Desk, from: u32) -> Result<(u32, usize), Fail> {
+    let items = desk.timeline(alloc, from)?;
+    Ok(listed(&items))
+}
+
 fn text_length(deed: &Deed) -> usize {
     match deed {
         Deed::Deliver { text, .. } => text.bytes().len(),
@@ -132,24 +180,32 @@ fn text_length(deed: &Deed) -> usize {
     }
 }
 
-const THREE: [(Line, Told); 3] = [
+const THREE: &[(Line, Told)] = &[
     ((Asked::Mail, "team", "Hi", 0), (2, "nothing", 0)),
     ((Asked::Append, "INBOX", "Hello", 0), (3, "put", 0)),
     ((Asked::Create, "Work", "", 0), (4, "nothing", 0)),
 ];
 
+fn three() -> &'static [(Line<'static>, Told)] {
+    THREE
+}
+
 fn three_items(alloc: Global) -> Result<Desk, Fail> {
     let mut desk = new_desk(alloc)?;
-    for (line, want) in THREE {
-        if asked(alloc, &mut desk, line)? != Ok(want) {
+    for (line, want) in three() {
+        if !tells(alloc, &mut desk, *line, Ok(*want))? {
             return Err(Fail::new("something else is told"));
         }
     }
     Ok(desk)
 }
 
+fn counted(desk: &Desk) -> Counts {
+    desk.counts()
+}
+
 #[test]
-fn three_items_are_counted_and_listed(rt: HostRuntime) -> Result<(), Fail> {
+fn three_items_are_counted(rt: HostRuntime) -> Result<(), Fail> {
     let alloc = rt.alloc();
     let desk = three_items(alloc)?;
     // ann and bob have the mail, and ann what she appended.
@@ -161,31 +217,47 @@ fn three_items_are_counted_and_listed(rt: HostRuntime) -> Result<(), Fail> {
         notices: 0,
         users: 3,
     };
-    assert_eq!(rt; desk.counts(), counts);
-    assert_eq!(rt; stamp(alloc, &desk, "Work")?, Some(4));
+    assert_eq!(rt; counted(&desk), counts);
+    assert_eq!(rt; stamp(alloc, &desk, "Work")?, 4);
+    Ok(())
+}
+
+#[test]
+fn three_items_are_listed(rt: HostRuntime) -> Result<(), Fail> {
+    let alloc = rt.alloc();
+    let desk = three_items(alloc)?;
     for (from, digits) in [(0, 234), (1, 34), (2, 4), (3, 0), (4, 0)] {
-        let items = desk.timeline(alloc, from)?;
-        assert_eq!(rt; listed(&items), (digits, 0), "from {from}");
+        assert_eq!(rt;
+            listed_from(alloc, &desk, from)?,
+            (digits, 0),
+            "from {from}"
+        );
     }
     Ok(())
 }
 
 #[test]
-fn texts_are_those_of_the_items(rt: HostRuntime) -> Result<(), Fail> {
+fn a_text_is_that_of_its_item(rt: HostRuntime) -> Result<(), Fail> {
     let alloc = rt.alloc();
     let desk = three_items(alloc)?;
-    let body = |origin| Body { origin, rev: 0 };
-    assert_eq!(rt; text(alloc, &desk, body(2))?.bytes(), b"Hi".as_slice());
+    let text = text(alloc, &desk, body(2))?;
+    assert_eq!(rt; text.bytes(), b"Hi".as_slice());
+    Ok(())
+}
+
+#[test]
+fn texts_are_in_the_order_of_the_bodies(rt: HostRuntime) -> Result<(), Fail> {
+    let alloc = rt.alloc();
+    let desk = three_items(alloc)?;
     let texts = both_texts(alloc, &desk, body(3), body(2))?;
-    assert_eq!(rt; joined(alloc, &texts)?.bytes(), b"Hello/Hi/".as_slice());
-    for (origin, size, rev) in [
-        (2, Some(2), Some(0)),
-        (3, Some(5), Some(0)),
-        (4, None, None),
-    ] {
-        assert_eq!(rt; desk.shelf().size(body(origin)), size, "{origin}");
-        assert_eq!(rt; desk.rev(origin), rev, "{origin}");
-    }
-    assert_eq!(rt; desk.shelf().size(Body { origin: 2, rev: 1 }), None);
+    assert_eq!(rt; texts.bytes(), b"Hello/Hi/".as_slice());
+    Ok(())
+}
+
+#[test]
+fn bodies_that_have_texts_have_sizes(rt: HostRuntime) -> Result<(), Fail> {
+    let desk = three_items(rt.alloc())?;
+    let sizes = (size_and_rev(&desk, body(2)), size_and_rev(&desk, body(4)));
+    assert_eq!(rt; sizes, ((2, 1), (0, 0)));
     Ok(())
 }

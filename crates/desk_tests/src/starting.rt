@@ -2,8 +2,11 @@
 
 use crate::acts::Acted;
 use crate::asks::Asked;
-use crate::desks::{acted, asked, disk_of, kept, new_desk, started, started_next, written};
-use crate::submitting::EACH_KIND;
+use crate::desks::{
+    acted, asked, configured, counted, disk_of, housed, kept, listed, new_desk, started,
+    started_next, status, written,
+};
+use crate::submitting::each_kind;
 use std::alloc::Global;
 use std::test::Fail;
 use time_desk::{Desk, StartFault};
@@ -42,7 +45,8 @@ fn journal(alloc: Global, payloads: &[&[u8]], end: &[u8]) -> Result<Text, Fail> 
     let mut image = Text::new(alloc);
     for payload in payloads {
         image.extend(&[0x55])?;
-        image.extend(&(payload.len() as u32).to_be_bytes())?;
+        let length = payload.len().min(u32::MAX as usize) as u32;
+        image.extend(&length.to_be_bytes())?;
         image.extend(payload)?;
     }
     image.extend(end)?;
@@ -56,10 +60,8 @@ fn a_journal_is_opened(rt: HostRuntime) -> Result<(), Fail> {
     let Ok(desk) = started(alloc, image.bytes(), &[])? else {
         return Err(Fail::new("no desk"));
     };
-    assert_eq!(rt; desk.next(), 3);
-    assert_eq!(rt; desk.closed(), false);
-    assert_eq!(rt; desk.house().accounts.len(), 3);
-    assert_eq!(rt; desk.stamps().len(), 7);
+    assert_eq!(rt; status(&desk), (false, 3));
+    assert_eq!(rt; housed(&desk), (3, 7));
     let (after, writes) = written(alloc, desk)?;
     assert_eq!(rt; writes, 0);
     assert_eq!(rt; after.bytes(), image.bytes());
@@ -194,12 +196,21 @@ fn no_disk_starts_no_desk(rt: HostRuntime) -> Result<(), Fail> {
 /// A desk on which a day was worked.
 fn worked(alloc: Global) -> Result<Desk<MemDisk>, Fail> {
     let mut desk = new_desk(alloc, &[])?;
-    for (line, _) in EACH_KIND {
-        let _told = asked(alloc, &mut desk, line)?;
+    for (line, _) in each_kind() {
+        let _told = asked(alloc, &mut desk, *line)?;
     }
     let _number = acted(alloc, &mut desk, Acted::Give, "INBOX", 0)?;
     let _number = acted(alloc, &mut desk, Acted::Alias, "sales", 0)?;
     Ok(desk)
+}
+
+/// The desk that is started from what a desk left on its disk.
+fn restarted(alloc: Global, desk: Desk<MemDisk>) -> Result<Desk<MemDisk>, Fail> {
+    let (image, _writes) = written(alloc, desk)?;
+    match started(alloc, image.bytes(), &[])? {
+        Ok(desk) => Ok(desk),
+        Err(_) => Err(Fail::new("no desk")),
+    }
 }
 
 #[test]
@@ -207,16 +218,27 @@ fn a_desk_is_started_as_it_was_left(rt: HostRuntime) -> Result<(), Fail> {
     let alloc = rt.alloc();
     let desk = worked(alloc)?;
     let before = kept(alloc, &desk)?;
-    assert_eq!(rt; before.1.next, 17);
-    let (image, _writes) = written(alloc, desk)?;
-    let Ok(mut desk) = started(alloc, image.bytes(), &[])? else {
-        return Err(Fail::new("no desk"));
-    };
+    let desk = restarted(alloc, desk)?;
     assert!(rt; kept(alloc, &desk)? == before);
-    assert_eq!(rt; desk.conf().aliases.len(), 2);
-    assert_eq!(rt; desk.timeline(alloc, 0)?.len(), 15);
-    let told = asked(alloc, &mut desk, (Asked::Mail, "sales", "Hi", 0))?;
-    assert_eq!(rt; told, Ok((17, "nothing", 0)));
-    assert_eq!(rt; desk.counts().messages, 4);
+    assert_eq!(rt;
+        (status(&desk), configured(&desk)),
+        ((false, 17), (1, 2, 0))
+    );
+    Ok(())
+}
+
+/// A desk that was started, went on, and was started again.
+fn twice_started(alloc: Global) -> Result<Desk<MemDisk>, Fail> {
+    let mut desk = restarted(alloc, worked(alloc)?)?;
+    let _told = asked(alloc, &mut desk, (Asked::Mail, "sales", "Hi", 0))?;
+    restarted(alloc, desk)
+}
+
+#[test]
+fn a_started_desk_goes_on(rt: HostRuntime) -> Result<(), Fail> {
+    let desk = twice_started(rt.alloc())?;
+    assert_eq!(rt; status(&desk), (false, 18));
+    assert_eq!(rt; counted(&desk).messages, 4);
+    assert_eq!(rt; listed(rt.alloc(), &desk, 0)?, 16);
     Ok(())
 }

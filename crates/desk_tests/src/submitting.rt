@@ -1,7 +1,7 @@
 //! Tests of what users ask.
 
-use crate::asks::{ANN, Asked, Line, name};
-use crate::desks::{Told, asked, kept, new_desk, written};
+use crate::asks::{ANN, Asked, Line};
+use crate::desks::{Told, counted, kept, listed, new_desk, stamp, status, tells, written};
 use mail_desk::Counts;
 use std::alloc::Global;
 use std::test::Fail;
@@ -14,15 +14,19 @@ use verb_core::{Body, Refused, SubmitFault};
 const CREATED: &[u8] =
     b"\x55\x00\x00\x00\x15\x01\x00\x00\x00\x02\x00\x00\x00\x00\x41\xde\x5d\xa0\x00\x0b\x04Work\x00\x00";
 
+/// Whether a CREATE is told, and its mailbox is there.
+fn creates(alloc: Global, desk: &mut Desk<MemDisk>) -> Result<bool, Fail> {
+    let create = (Asked::Create, "Work", "", 0);
+    let told = tells(alloc, desk, create, Ok((2, "nothing", 0)))?;
+    let stamp = stamp(alloc, desk, ANN, "Work")?;
+    Ok(told && stamp == 2 && status(desk) == (false, 3))
+}
+
 #[test]
 fn an_item_is_sealed(rt: HostRuntime) -> Result<(), Fail> {
     let alloc = rt.alloc();
     let mut desk = new_desk(alloc, &[])?;
-    let told = asked(alloc, &mut desk, (Asked::Create, "Work", "", 0))?;
-    assert_eq!(rt; told, Ok((2, "nothing", 0)));
-    assert_eq!(rt; desk.closed(), false);
-    assert_eq!(rt; desk.next(), 3);
-    assert_eq!(rt; desk.stamp(ANN, &name(alloc, "Work")?), Some(2));
+    assert!(rt; creates(alloc, &mut desk)?);
     let (image, writes) = written(alloc, desk)?;
     assert_eq!(rt; (image.bytes().len(), writes), (103, 4));
     assert_eq!(rt; &image.bytes()[76..], CREATED);
@@ -30,7 +34,7 @@ fn an_item_is_sealed(rt: HostRuntime) -> Result<(), Fail> {
 }
 
 /// One of each kind, and what is told of it.
-pub(crate) const EACH_KIND: [(Line, Told); 13] = [
+const EACH_KIND: &[(Line, Told)] = &[
     ((Asked::Mail, "ann", "Hi", 0), (2, "nothing", 0)),
     ((Asked::Append, "INBOX", "Hello", 0), (3, "put", 0)),
     ((Asked::Fetch, "INBOX", "", 2), (4, "seen", 1)),
@@ -46,13 +50,25 @@ pub(crate) const EACH_KIND: [(Line, Told); 13] = [
     ((Asked::Delete, "Old", "", 0), (14, "moved", 0)),
 ];
 
+pub(crate) fn each_kind() -> &'static [(Line<'static>, Told)] {
+    EACH_KIND
+}
+
+/// Whether what is due is told of one of each kind.
+fn tells_each_kind(alloc: Global, desk: &mut Desk<MemDisk>) -> Result<bool, Fail> {
+    let mut all = true;
+    for (line, want) in each_kind() {
+        let told = tells(alloc, desk, *line, Ok(*want))?;
+        all = all && told;
+    }
+    Ok(all)
+}
+
 #[test]
 fn each_kind_of_item_is_sealed(rt: HostRuntime) -> Result<(), Fail> {
     let alloc = rt.alloc();
     let mut desk = new_desk(alloc, &[])?;
-    for (line, want) in EACH_KIND {
-        assert_eq!(rt; asked(alloc, &mut desk, line)?, Ok(want), "{want:?}");
-    }
+    assert!(rt; tells_each_kind(alloc, &mut desk)?);
     let counts = Counts {
         cycles: 0,
         items: 13,
@@ -61,15 +77,13 @@ fn each_kind_of_item_is_sealed(rt: HostRuntime) -> Result<(), Fail> {
         notices: 0,
         users: 3,
     };
-    assert_eq!(rt; desk.counts(), counts);
-    assert_eq!(rt; desk.timeline(alloc, 0)?.len(), 13);
-    assert_eq!(rt; desk.timeline(alloc, 12)?.len(), 1);
-    assert_eq!(rt; desk.timeline(alloc, 13)?.len(), 0);
+    assert_eq!(rt; counted(&desk), counts);
+    assert_eq!(rt; listed(alloc, &desk, 12)?, 1);
     assert_eq!(rt; written(alloc, desk)?.1, 28);
     Ok(())
 }
 
-const REFUSALS: [(Line, Refused); 6] = [
+const REFUSALS: &[(Line, Refused)] = &[
     ((Asked::Create, "INBOX", "", 0), Refused::Fixed),
     ((Asked::Create, "Work", "", 0), Refused::Exists),
     ((Asked::Delete, "None", "", 0), Refused::NoBox),
@@ -78,23 +92,43 @@ const REFUSALS: [(Line, Refused); 6] = [
     ((Asked::Fetch, "INBOX", "", 2), Refused::Gone),
 ];
 
+fn refusals() -> &'static [(Line<'static>, Refused)] {
+    REFUSALS
+}
+
+/// Whether each refusal is told, and what is kept stays.
+fn refuses(alloc: Global, desk: &mut Desk<MemDisk>) -> Result<bool, Fail> {
+    let before = kept(alloc, desk)?;
+    let mut all = true;
+    for (line, why) in refusals() {
+        let told = tells(alloc, desk, *line, Err(SubmitFault::Refused(*why)))?;
+        all = all && told;
+    }
+    let same = kept(alloc, desk)? == before;
+    Ok(all && same && status(desk) == (false, 3))
+}
+
 #[test]
 fn a_refusal_leaves_the_desk_as_it_was(rt: HostRuntime) -> Result<(), Fail> {
     let alloc = rt.alloc();
     let mut desk = new_desk(alloc, &[])?;
-    let told = asked(alloc, &mut desk, (Asked::Create, "Work", "", 0))?;
-    assert_eq!(rt; told, Ok((2, "nothing", 0)));
-    let before = kept(alloc, &desk)?;
-    for (line, why) in REFUSALS {
-        let told = asked(alloc, &mut desk, line)?;
-        assert_eq!(rt; told, Err(SubmitFault::Refused(why)));
-    }
-    assert!(rt; kept(alloc, &desk)? == before);
-    assert_eq!(rt; desk.closed(), false);
-    let told = asked(alloc, &mut desk, (Asked::Mail, "ann", "Hi", 0))?;
-    assert_eq!(rt; told, Ok((3, "nothing", 0)));
+    assert!(rt; creates(alloc, &mut desk)?);
+    assert!(rt; refuses(alloc, &mut desk)?);
+    let mail = (Asked::Mail, "ann", "Hi", 0);
+    assert!(rt; tells(alloc, &mut desk, mail, Ok((3, "nothing", 0)))?);
     assert_eq!(rt; written(alloc, desk)?.1, 6);
     Ok(())
+}
+
+/// Whether a CREATE fails at the disk and closes the desk, and what is kept stays.
+fn closes(alloc: Global, desk: &mut Desk<MemDisk>) -> Result<bool, Fail> {
+    let before = kept(alloc, desk)?;
+    let create = (Asked::Create, "Work", "", 0);
+    let failed = tells(alloc, desk, create, Err(SubmitFault::Disk))?;
+    let mail = (Asked::Mail, "ann", "Hi", 0);
+    let closed = tells(alloc, desk, mail, Err(SubmitFault::Closed))?;
+    let same = kept(alloc, desk)? == before;
+    Ok(failed && closed && same && status(desk) == (true, 2))
 }
 
 // The calls of a seal are a write, a sync, a write and a sync, behind the five that make the desk.
@@ -103,16 +137,17 @@ fn a_failed_seal_closes_the_desk(rt: HostRuntime) -> Result<(), Fail> {
     let alloc = rt.alloc();
     for (ordinal, writes) in [(6, 3), (7, 3), (8, 4), (9, 4)] {
         let mut desk = new_desk(alloc, &[ordinal])?;
-        let before = kept(alloc, &desk)?;
-        let first = asked(alloc, &mut desk, (Asked::Create, "Work", "", 0))?;
-        assert_eq!(rt; first, Err(SubmitFault::Disk), "at call {ordinal}");
-        assert_eq!(rt; desk.closed(), true, "at call {ordinal}");
-        let second = asked(alloc, &mut desk, (Asked::Mail, "ann", "Hi", 0))?;
-        assert_eq!(rt; second, Err(SubmitFault::Closed), "at call {ordinal}");
-        assert!(rt; kept(alloc, &desk)? == before);
+        assert!(rt; closes(alloc, &mut desk)?, "at call {ordinal}");
         assert_eq!(rt; written(alloc, desk)?.1, writes, "at call {ordinal}");
     }
     Ok(())
+}
+
+/// The size of a body's text and one more than the rev of its item, and 0 where it has none.
+fn size_and_rev(desk: &Desk<MemDisk>, origin: u32) -> (u32, u32) {
+    let size = desk.shelf().size(Body { origin, rev: 0 }).unwrap_or(0);
+    let rev = desk.rev(origin).map_or(0, |rev| rev.saturating_add(1));
+    (size, rev)
 }
 
 fn text(alloc: Global, desk: &Desk<MemDisk>, body: Body) -> Result<Text, Fail> {
@@ -122,18 +157,19 @@ fn text(alloc: Global, desk: &Desk<MemDisk>, body: Body) -> Result<Text, Fail> {
     }
 }
 
+/// Whether the text of an APPEND is there, and another item has none.
+fn tells_texts(alloc: Global, desk: &Desk<MemDisk>) -> Result<bool, Fail> {
+    let text = text(alloc, desk, Body { origin: 2, rev: 0 })?;
+    let same = text.bytes() == b"Hello".as_slice();
+    Ok(same && size_and_rev(desk, 2) == (5, 1) && size_and_rev(desk, 3) == (0, 0))
+}
+
 #[test]
 fn a_desk_tells_what_it_keeps(rt: HostRuntime) -> Result<(), Fail> {
     let alloc = rt.alloc();
     let mut desk = new_desk(alloc, &[])?;
-    let before = kept(alloc, &desk)?;
-    let told = asked(alloc, &mut desk, (Asked::Append, "INBOX", "Hello", 0))?;
-    assert_eq!(rt; told, Ok((2, "put", 0)));
-    assert!(rt; kept(alloc, &desk)? != before);
-    let body = Body { origin: 2, rev: 0 };
-    assert_eq!(rt; text(alloc, &desk, body)?.bytes(), b"Hello".as_slice());
-    assert_eq!(rt; desk.shelf().size(body), Some(5));
-    assert_eq!(rt; desk.rev(2), Some(0));
-    assert_eq!(rt; desk.rev(3), None);
+    let append = (Asked::Append, "INBOX", "Hello", 0);
+    assert!(rt; tells(alloc, &mut desk, append, Ok((2, "put", 0)))?);
+    assert!(rt; tells_texts(alloc, &desk)?);
     Ok(())
 }
