@@ -41,76 +41,6 @@ fn stamp(alloc: Global, desk: &Desk, mailbox: &str) -> Result<u32, Fail> {
     Ok(desk.stamp(ANN, &name(alloc, mailbox)?).unwrap_or(0))
 }
 
-/// What is asked and told, a mailbox with its stamp then, and one that is not there then.
-const STAMPED: &[(Line, Told, &str, u32, &str)] = &[
-    (
-        (Asked::Create, "Work", "", 0),
-        (2, "nothing", 0),
-        "Work",
-        2,
-        "Old",
-    ),
-    (
-        (Asked::Rename, "Work", "Old", 0),
-        (3, "way", 0),
-        "Old",
-        3,
-        "Work",
-    ),
-    (
-        (Asked::Rename, "INBOX", "Kept", 0),
-        (4, "way", 0),
-        "Kept",
-        4,
-        "Work",
-    ),
-    (
-        (Asked::Create, "Work", "", 0),
-        (5, "nothing", 0),
-        "Work",
-        5,
-        "Gone",
-    ),
-    (
-        (Asked::Delete, "Old", "", 0),
-        (6, "moved", 0),
-        "Kept",
-        4,
-        "Old",
-    ),
-    (
-        (Asked::Status, "INBOX", "", 0),
-        (7, "count", 0),
-        "INBOX",
-        1,
-        "Old",
-    ),
-];
-
-fn stamped() -> &'static [(Line<'static>, Told, &'static str, u32, &'static str)] {
-    STAMPED
-}
-
-/// Whether what is due is told, and the stamps are those that are due.
-fn stamps_follow(alloc: Global, desk: &mut Desk) -> Result<bool, Fail> {
-    let mut all = true;
-    for (line, want, there, number, gone) in stamped() {
-        let told = tells(alloc, desk, *line, Ok(*want))?;
-        let found = stamp(alloc, desk, there)?;
-        let lost = stamp(alloc, desk, gone)?;
-        all = all && told && (found, lost) == (*number, 0);
-    }
-    Ok(all)
-}
-
-#[test]
-fn stamps_follow_the_names_of_mailboxes(rt: HostRuntime) -> Result<(), Fail> {
-    let alloc = rt.alloc();
-    let mut desk = new_desk(alloc)?;
-    assert!(rt; stamps_follow(alloc, &mut desk)?);
-    Ok(())
-}
-
 /// Whether a body has a text.
 fn is_text(desk: &Desk, body: Body) -> bool
     ensures { result ≡ has_text desk.now.kept.timeline body }
@@ -128,13 +58,6 @@ fn text(alloc: Global, desk: &Desk, body: Body) -> Result<Text, Fail> {
 
 fn body(origin: u32) -> Body {
     Body { origin, rev: 0 }
-}
-
-/// The size of a body's text and one more than the rev of its item, and 0 where it has none.
-fn size_and_rev(desk: &Desk, body: Body) -> (u32, u32) {
-    let size = desk.shelf().size(body).unwrap_or(0);
-    let rev = desk.rev(body.origin).map_or(0, |rev| rev.saturating_add(1));
-    (size, rev)
 }
 
 fn both_texts(alloc: Global, desk: &Desk, one: Body, two: Body) -> Result<Text, Fail> {
@@ -251,13 +174,5 @@ fn texts_are_in_the_order_of_the_bodies(rt: HostRuntime) -> Result<(), Fail> {
     let desk = three_items(alloc)?;
     let texts = both_texts(alloc, &desk, body(3), body(2))?;
     assert_eq!(rt; texts.bytes(), b"Hello/Hi/".as_slice());
-    Ok(())
-}
-
-#[test]
-fn bodies_that_have_texts_have_sizes(rt: HostRuntime) -> Result<(), Fail> {
-    let desk = three_items(rt.alloc())?;
-    let sizes = (size_and_rev(&desk, body(2)), size_and_rev(&desk, body(4)));
-    assert_eq!(rt; sizes, ((2, 1), (0, 0)));
     Ok(())
 }

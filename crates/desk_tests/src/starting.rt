@@ -1,17 +1,11 @@
 //! Tests of starting a desk from a journal.
 
-use crate::acts::Acted;
-use crate::asks::Asked;
-use crate::desks::{
-    acted, asked, configured, counted, disk_of, housed, kept, listed, new_desk, started,
-    started_next, status, written,
-};
-use crate::submitting::each_kind;
+use crate::desks::{disk_of, housed, started, started_next, status, written};
 use std::alloc::Global;
 use std::test::Fail;
 use time_desk::{Desk, StartFault};
 use undo_base::Text;
-use undo_outside::{AbsentDisk, MemDisk};
+use undo_outside::AbsentDisk;
 
 // The first record of a house, of 71 bytes.
 const HOUSE: &[u8] =
@@ -191,54 +185,4 @@ fn no_disk_starts_no_desk(rt: HostRuntime) -> Result<(), Fail> {
             Ok(())
         }
     }
-}
-
-/// A desk on which a day was worked.
-fn worked(alloc: Global) -> Result<Desk<MemDisk>, Fail> {
-    let mut desk = new_desk(alloc, &[])?;
-    for (line, _) in each_kind() {
-        let _told = asked(alloc, &mut desk, *line)?;
-    }
-    let _number = acted(alloc, &mut desk, Acted::Give, "INBOX", 0)?;
-    let _number = acted(alloc, &mut desk, Acted::Alias, "sales", 0)?;
-    Ok(desk)
-}
-
-/// The desk that is started from what a desk left on its disk.
-fn restarted(alloc: Global, desk: Desk<MemDisk>) -> Result<Desk<MemDisk>, Fail> {
-    let (image, _writes) = written(alloc, desk)?;
-    match started(alloc, image.bytes(), &[])? {
-        Ok(desk) => Ok(desk),
-        Err(_) => Err(Fail::new("no desk")),
-    }
-}
-
-#[test]
-fn a_desk_is_started_as_it_was_left(rt: HostRuntime) -> Result<(), Fail> {
-    let alloc = rt.alloc();
-    let desk = worked(alloc)?;
-    let before = kept(alloc, &desk)?;
-    let desk = restarted(alloc, desk)?;
-    assert!(rt; kept(alloc, &desk)? == before);
-    assert_eq!(rt;
-        (status(&desk), configured(&desk)),
-        ((false, 17), (1, 2, 0))
-    );
-    Ok(())
-}
-
-/// A desk that was started, went on, and was started again.
-fn twice_started(alloc: Global) -> Result<Desk<MemDisk>, Fail> {
-    let mut desk = restarted(alloc, worked(alloc)?)?;
-    let _told = asked(alloc, &mut desk, (Asked::Mail, "sales", "Hi", 0))?;
-    restarted(alloc, desk)
-}
-
-#[test]
-fn a_started_desk_goes_on(rt: HostRuntime) -> Result<(), Fail> {
-    let desk = twice_started(rt.alloc())?;
-    assert_eq!(rt; status(&desk), (false, 18));
-    assert_eq!(rt; counted(&desk).messages, 4);
-    assert_eq!(rt; listed(rt.alloc(), &desk, 0)?, 16);
-    Ok(())
 }
