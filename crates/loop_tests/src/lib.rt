@@ -3,4 +3,6 @@
 #![tactic(auto)]
 
 #[cfg(test)]
+mod consoles;
+#[cfg(test)]
 mod unsealed;

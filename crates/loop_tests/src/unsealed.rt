@@ -21,8 +21,18 @@ const CREATION: &[&[u8]] = &[
     b"d NOOP\r\n",
 ];
 
+/// An operator's act, and a request more.
+const ACT: &[&[u8]] = &[
+    b"POST /act HTTP/1.1\r\nHost: x\r\nContent-Length: 32\r\n\r\n{\"act\":\"unalias\",",
+    b"\"local\":\"team\"}",
+    b"GET /status HTTP/1.1\r\n\r\n",
+];
+
+const DISK_FAULT: &[u8] =
+    b"HTTP/1.1 500 Internal Server Error\r\nContent-Type: application/json\r\nContent-Length: 16\r\nConnection: close\r\n\r\n{\"error\":\"disk\"}";
+
 /// A client joins, and these bytes come, each in one event.
-fn events_of(alloc: Global, role: Role, pieces: &[&[u8]]) -> Result<Events, NoMemory> {
+pub(crate) fn events_of(alloc: Global, role: Role, pieces: &[&[u8]]) -> Result<Events, NoMemory> {
     let mut events = Events::new(alloc);
     events.push(Event {
         conn: 1,
@@ -42,16 +52,16 @@ fn events_of(alloc: Global, role: Role, pieces: &[&[u8]]) -> Result<Events, NoMe
 
 /// How serving ended: the answer, what the link did, whether the desk is closed, and how many items it has.
 #[derive(Drop)]
-struct Ended {
-    served: Result<(), ServeFault>,
-    link: MemLink,
+pub(crate) struct Ended {
+    pub(crate) served: Result<(), ServeFault>,
+    pub(crate) link: MemLink,
     closed: bool,
     items: u32,
 }
 
 /// Serves events over a new desk whose disk fails at this call. The desk is made by five calls, and each record is sealed
 /// by four.
-fn serve<R: Threads + Sync>(
+pub(crate) fn serve<R: Threads + Sync>(
     rt: &R,
     alloc: Global,
     events: Events,
@@ -76,7 +86,7 @@ fn serve<R: Threads + Sync>(
 }
 
 /// Whether the last that the link did is this string and its close.
-fn ends_with(link: &MemLink, text: &[u8]) -> bool {
+pub(crate) fn ends_with(link: &MemLink, text: &[u8]) -> bool {
     match link.log().as_slice() {
         [
             ..,
@@ -115,6 +125,9 @@ fn a_failed_seal_is_told_and_ends_serving(rt: HostRuntime) -> Result<(), Fail> {
         assert!(rt; told);
         let events = events_of(alloc, Role::Imap, CREATION)?;
         let told = fails_with(&rt, alloc, events, call, b"* BYE Disk fault.\r\n")?;
+        assert!(rt; told);
+        let events = events_of(alloc, Role::Http, ACT)?;
+        let told = fails_with(&rt, alloc, events, call, DISK_FAULT)?;
         assert!(rt; told);
     }
     Ok(())

@@ -5,6 +5,7 @@ pub mod Commands
 pub mod Readers
 pub mod Nexts
 pub mod Stretch
+pub mod Consoles
 pub mod Seats
 pub mod Events
 pub mod Runs

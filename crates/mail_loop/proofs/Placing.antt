@@ -5,7 +5,7 @@ use Rattle.std.proofs.lemmas.Bool.{ltb-false}
 use Rattle.std.proofs.lemmas.List.Sums.{prefix_len-le-length}
 use Rattle.mail_loop.specs.declared.letters.Letter.{Letter}
 use Rattle.mail_loop.specs.Machine.{Reply, Seats, closed_others, closing, holds_one, others_with, with_reply}
-use Rattle.mail_loop.specs.State.{Seat, Smtp, Imap}
+use Rattle.mail_loop.specs.State.{Seat, Smtp, Imap, Http}
 use Rattle.mail_loop.specs.Stands.{letter_of, replies_of}
 
 one_more : (n : ℕ) → 1 + n ≡ suc n
@@ -25,6 +25,7 @@ none_passes {X} p xs none = by_test (nat_lt (position_or_len p xs) (length xs)) 
 holds_none : (seat : Seat) → holds_one [] seat ≡ false
 holds_none (Smtp unserved d) = refl
 holds_none (Imap stream d) = refl
+holds_none (Http came) = refl
 
 -- where no mailbox was taken away no other connection is told
 pub none_told : (conn : ℕ) (seats : Seats) → closed_others conn [] seats ≡ []

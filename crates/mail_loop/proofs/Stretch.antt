@@ -10,6 +10,9 @@ use Rattle.mail_loop.specs.State.{Seat, State}
 use Rattle.mail_loop.specs.Dialog.{Turn}
 use Rattle.mail_loop.specs.Hindrance.{Hindrance, Clear, Unheard}
 use Rattle.mail_loop.specs.Turns.{Outcome, Heard, after, goes_on, turns, outcome_of, heard_by}
+use Rattle.console_head.specs.Request.{Stage}
+use Rattle.mail_loop.specs.declared.console.Turned.{Turned}
+use Rattle.mail_loop.specs.Console.{AreSaid, Reading, no_consoles}
 use Rattle.mail_loop.specs.Machine.{Seats, closed_others, heard, hears, seated, with_reply}
 use Rattle.mail_loop.specs.Took.{Takes, Tells, seat_left, answered_alone}
 
@@ -163,7 +166,7 @@ told_by one seat_of seats kept d all conn reply kept' failed seat o S same (hs, 
   record {
     conn_is = same;
     heard_is = ap (heard_by seat_of) is
-        ∙ ap (λ (s : Option Seat). record { said = reply.said; state = record { kept = kept'; seats = seats }; seat = s; changed = reply.changed; unsealed = failed }) left_is;
+        ∙ ap (λ (s : Option Seat). record { said = reply.said; state = record { kept = kept'; seats = seats }; seat = s; changed = reply.changed; unsealed = failed; consoles = no_consoles }) left_is;
   },
 )
 
@@ -174,26 +177,28 @@ none_left false seat = refl
 -- the answers of the turns are the one reply
 pub heard_alone : (h : Heard) (seats : Seats) (conn : ℕ) (reply : Reply) (kept : Kept) (failed : List JournalRecord) (seat : Seat)
     → Tells h seats conn reply kept failed seat
-    → heard conn h ≡ answered_alone conn reply kept failed seat seats
+    → heard conn h ≡ answered_alone conn reply kept failed no_consoles seat seats
 heard_alone h seats conn reply kept failed seat t =
     ap (heard conn) t.heard_is
     ∙ ap (λ (b : Bool). record {
       state = record { kept = kept; seats = seated conn (seat_left reply.closes seat) seats };
       replies = with_reply (record { conn = conn; said = reply.said; closes = b }) (closed_others conn reply.changed (seated conn (seat_left reply.closes seat) seats));
       unsealed = failed;
+      consoles = no_consoles;
     }) (none_left reply.closes seat)
     ∙ ap (λ (n : ℕ). record {
       state = record { kept = kept; seats = seated conn (seat_left reply.closes seat) seats };
       replies = with_reply (record { conn = n; said = reply.said; closes = reply.closes }) (closed_others conn reply.changed (seated conn (seat_left reply.closes seat) seats));
       unsealed = failed;
+      consoles = no_consoles;
     }) (sym t.conn_is)
 
 -- no memory was found for the bytes
-pub unfed_alone : (hs : List Hindrance) (at : ℕ) (kept : Kept) (seats : Seats) (conn : ℕ) (seat seat' : Seat) (bytes : List ℕ) (reply : Reply)
+pub unfed_alone : (hs : List Hindrance) (stage : Stage) (at : ℕ) (kept : Kept) (seats : Seats) (conn : ℕ) (seat seat' : Seat) (bytes : List ℕ) (reply : Reply)
     → reply ≡ record { conn = conn; said = []; closes = true; changed = [] }
-    → hears true hs at (record { kept = kept; seats = seats }) conn seat bytes ≡ answered_alone conn reply kept [] seat' seats
-unfed_alone hs at kept seats conn seat seat' bytes reply e =
-    sym (ap (λ (r : Reply). answered_alone conn r kept [] seat' seats) e)
+    → hears true hs stage at (record { kept = kept; seats = seats }) conn seat bytes ≡ answered_alone conn reply kept [] no_consoles seat' seats
+unfed_alone hs stage at kept seats conn seat seat' bytes reply e =
+    sym (ap (λ (r : Reply). answered_alone conn r kept [] no_consoles seat' seats) e)
 
 -- the seat of a connection that stays open
 pub seat_stays : (closes : Bool) (seat seat' : Seat) → closes ≡ false → seat ≡ seat' → Some seat ≡ seat_left closes seat'
@@ -205,22 +210,36 @@ pub seat_goes : (closes : Bool) (seat : Seat) → closes ≡ true → ◌≡◌ 
 seat_goes true seat shut = refl
 seat_goes false seat shut = absurd (let w : false ≡ true = shut in cc)
 
--- the bytes of a connection are heard, and this is its reply, what is kept, the record whose sealing failed, and its seat then
-abbrev pub HeardAlone : (List JournalRecord → Type 0) → ℕ → Kept → Seats → ℕ → Seat → List ℕ → Reply → Kept → Seat → Type 0
-HeardAlone S at kept seats conn seat bytes reply kept' seat' =
-    (no_memory : Bool) × (hs : List Hindrance) × (failed : List JournalRecord) × S failed
-    × (hears no_memory hs at (record { kept = kept; seats = seats }) conn seat bytes ≡ answered_alone conn reply kept' failed seat' seats)
+-- the bytes of a connection are heard, and this is its reply, whether serving is asked to stop, what is kept, the record whose sealing failed, and its
+-- seat then
+abbrev pub HeardAlone : (List JournalRecord → Type 0) → ℕ → Kept → Seats → ℕ → Seat → List ℕ → Turned → Kept → Seat → Type 0
+HeardAlone S at kept seats conn seat bytes turned kept' seat' =
+    (no_memory : Bool) × (hs : List Hindrance) × (stage : Stage) × (failed : List JournalRecord) × S failed × (readings : List Reading) × AreSaid readings
+    × (hears no_memory hs stage at (record { kept = kept; seats = seats }) conn seat bytes
+    ≡ answered_alone conn turned.reply kept' failed (record { readings = readings; stops = turned.stops }) seat' seats)
 
-pub heard_same : (S T : List JournalRecord → Type 0) (at : ℕ) (kept : Kept) (seats : Seats) (conn : ℕ) (seat seat0 : Seat) (bytes : List ℕ) (reply reply0 : Reply) (kept' kept0 : Kept) (seat' seat'' : Seat)
-    → seat ≡ seat0 → reply0 ≡ reply → kept0 ≡ kept' → seat'' ≡ seat' → ((failed : List JournalRecord) → S failed → T failed)
-    → HeardAlone S at kept seats conn seat bytes reply kept' seat' → HeardAlone T at kept seats conn seat0 bytes reply0 kept0 seat''
-heard_same S T at kept seats conn seat seat0 bytes reply reply0 kept' kept0 seat' seat'' s r k t then (b, hs, failed, seals, is) = (
+-- the turns of a mail client or a mail reader
+pub going : (S : List JournalRecord → Type 0) (at : ℕ) (kept : Kept) (seats : Seats) (conn : ℕ) (seat : Seat) (bytes : List ℕ) (reply : Reply) (turned : Turned) (kept' : Kept) (seat' : Seat)
+    → turned ≡ record { reply = reply; stops = false }
+    → (b : Bool) (hs : List Hindrance) (stage : Stage) (failed : List JournalRecord) → S failed
+    → hears b hs stage at (record { kept = kept; seats = seats }) conn seat bytes ≡ answered_alone conn reply kept' failed no_consoles seat' seats
+    → HeardAlone S at kept seats conn seat bytes turned kept' seat'
+going S at kept seats conn seat bytes reply turned kept' seat' is b hs stage failed seals e =
+    subst (λ (t : Turned). HeardAlone S at kept seats conn seat bytes t kept' seat') (sym is) (b, hs, stage, failed, seals, [], tt, e)
+
+pub heard_same : (S T : List JournalRecord → Type 0) (at : ℕ) (kept : Kept) (seats : Seats) (conn : ℕ) (seat seat0 : Seat) (bytes : List ℕ) (turned turned0 : Turned) (kept' kept0 : Kept) (seat' seat'' : Seat)
+    → seat ≡ seat0 → turned0 ≡ turned → kept0 ≡ kept' → seat'' ≡ seat' → ((failed : List JournalRecord) → S failed → T failed)
+    → HeardAlone S at kept seats conn seat bytes turned kept' seat' → HeardAlone T at kept seats conn seat0 bytes turned0 kept0 seat''
+heard_same S T at kept seats conn seat seat0 bytes turned turned0 kept' kept0 seat' seat'' s r k t then (b, hs, stage, failed, seals, readings, said, is) = (
   b,
   hs,
+  stage,
   failed,
   then failed seals,
-  ap (λ (x : Seat). hears b hs at (record { kept = kept; seats = seats }) conn x bytes) (sym s) ∙ is
-      ∙ ap (λ (x : Reply). answered_alone conn x kept' failed seat' seats) (sym r)
-      ∙ ap (λ (x : Kept). answered_alone conn reply0 x failed seat' seats) (sym k)
-      ∙ ap (λ (x : Seat). answered_alone conn reply0 kept0 failed x seats) (sym t),
+  readings,
+  said,
+  ap (λ (x : Seat). hears b hs stage at (record { kept = kept; seats = seats }) conn x bytes) (sym s) ∙ is
+      ∙ ap (λ (x : Turned). answered_alone conn x.reply kept' failed (record { readings = readings; stops = x.stops }) seat' seats) (sym r)
+      ∙ ap (λ (x : Kept). answered_alone conn turned0.reply x failed (record { readings = readings; stops = turned0.stops }) seat' seats) (sym k)
+      ∙ ap (λ (x : Seat). answered_alone conn turned0.reply kept0 failed (record { readings = readings; stops = turned0.stops }) x seats) (sym t),
 )

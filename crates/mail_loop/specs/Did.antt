@@ -5,6 +5,7 @@ use Rattle.undo_outside.specs.declared.event.LinkNote.{LinkNote}
 use Rattle.undo_outside.specs.Calls.{LinkTold, then_told}
 use Rattle.verb_bytes.specs.declared.journal.JournalRecord.{JournalRecord}
 use Rattle.mail_desk.specs.Kept.{Kept}
+use Rattle.mail_loop.specs.Console.{AreSaid}
 use Rattle.mail_loop.specs.Machine.{Seats, Delivery, Arrives, IsMissed, IsLeftOut, Reply, Answered, Delivered, Outcome, string_notes, reply_notes, remains}
 
 -- the link did this, and gave no event
@@ -50,7 +51,7 @@ Replied old new r (Err e) =
     × (reply_notes delivery r ≡ notes ++ more) × Goes old new notes
 
 -- the link did all of this, or memory was wanted before it had done all
-pub record Did (all : List LinkNote) (old new : LinkTold) (result : Result (Unit {0}) WantOfMemory) : Type 0 where
+pub record Did {T : Type 0} (all : List LinkNote) (old new : LinkTold) (result : Result T WantOfMemory) : Type 0 where
   pub notes : List LinkNote
   pub goes : Goes old new notes
   pub whole : MatchResult result (λ _. all ≡ notes) (λ _. (more : List LinkNote) × (all ≡ notes ++ more))
@@ -60,18 +61,21 @@ pub record Sends (d : Delivered) (old new : LinkTold) (seats : Seats) (result : 
   pub did : Did d.notes old new result
   pub seats_are : MatchResult result (λ _. seats ≡ d.seats) (λ _. Unit {0})
 
--- an event led to this outcome, or memory was wanted before the link had done all of it; S holds of the record whose sealing failed
-pub record Leads (S : List JournalRecord → Type 0) (o : Outcome) (old new : LinkTold) (kept : Kept) (seats : Seats) (result : Result (Unit {0}) WantOfMemory) : Type 0 where
+-- an event led to this outcome, and serving is asked to stop or not, or memory was wanted before the link had done all of it; S holds of the record
+-- whose sealing failed, and what consoles' bytes were read as is so
+pub record Leads (S : List JournalRecord → Type 0) (o : Outcome) (old new : LinkTold) (kept : Kept) (seats : Seats) (result : Result Bool WantOfMemory) : Type 0 where
   pub did : Did o.notes old new result
   pub kept_is : kept ≡ o.state.kept
-  pub seats_are : MatchResult result (λ _. seats ≡ o.state.seats) (λ _. Unit {0})
+  pub seats_are : MatchResult result (λ stops. (seats ≡ o.state.seats) × (stops ≡ o.consoles.stops)) (λ _. Unit {0})
   pub seals : S o.unsealed
+  pub read : AreSaid o.consoles.readings
 
 -- what an event leaves before its strings are sent, or memory was wanted for the replies
-abbrev pub AnswersWith : {T : Type 0} → Answered → Kept → Seats → (T → List Reply) → Result T WantOfMemory → Type 0
-AnswersWith a kept seats view (Ok replies) = (kept ≡ a.state.kept) × (seats ≡ a.state.seats) × (view replies ≡ a.replies)
-AnswersWith a kept seats view (Err e) = kept ≡ a.state.kept
+abbrev pub AnswersWith : {T : Type 0} → Answered → Kept → Seats → (T → List Reply) → (T → Bool) → Result T WantOfMemory → Type 0
+AnswersWith a kept seats view stops (Ok replies) =
+    (kept ≡ a.state.kept) × (seats ≡ a.state.seats) × (view replies ≡ a.replies) × (stops replies ≡ a.consoles.stops)
+AnswersWith a kept seats view stops (Err e) = kept ≡ a.state.kept
 
--- S holds of the record whose sealing failed
-abbrev pub Answers : {T : Type 0} → (List JournalRecord → Type 0) → Answered → Kept → Seats → (T → List Reply) → Result T WantOfMemory → Type 0
-Answers S a kept seats view result = AnswersWith a kept seats view result × S a.unsealed
+-- S holds of the record whose sealing failed, and what consoles' bytes were read as is so
+abbrev pub Answers : {T : Type 0} → (List JournalRecord → Type 0) → Answered → Kept → Seats → (T → List Reply) → (T → Bool) → Result T WantOfMemory → Type 0
+Answers S a kept seats view stops result = AnswersWith a kept seats view stops result × S a.unsealed × AreSaid a.consoles.readings

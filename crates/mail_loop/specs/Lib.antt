@@ -4,6 +4,7 @@ pub mod Dialog
 pub mod Hindrance
 pub mod Reader
 pub mod ReaderHindrance
+pub mod Console
 pub mod Turns
 pub mod Machine
 pub mod Stands

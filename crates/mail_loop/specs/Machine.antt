@@ -9,7 +9,7 @@ use Rattle.undo_outside.specs.declared.event.Event.{Event}
 use Rattle.undo_outside.specs.declared.event.What.{What}
 use Rattle.undo_outside.specs.declared.event.What.TheVariants.{Joined, Bytes, Left, Idle as NoEvent, End}
 use Rattle.undo_outside.specs.declared.event.Role.{Role}
-use Rattle.undo_outside.specs.declared.event.Role.TheVariants.{Smtp as SmtpRole, Imap as ImapRole, Http}
+use Rattle.undo_outside.specs.declared.event.Role.TheVariants.{Smtp as SmtpRole, Imap as ImapRole, Http as HttpRole}
 use Rattle.undo_outside.specs.declared.event.LinkNote.{LinkNote}
 use Rattle.undo_outside.specs.declared.event.LinkNote.TheVariants.{Sent, Missed, Closed}
 use Rattle.smtp_session.specs.declared.answer.Answer.TheVariants.{Ready}
@@ -20,8 +20,10 @@ use Rattle.imap_stream.specs.declared.begun.Awaits.TheVariants.{Line}
 use Rattle.imap_session.specs.Dialog as imap
 use Rattle.imap_session.specs.Words.{changed_text, greeting_text}
 use Rattle.verb_bytes.specs.declared.journal.JournalRecord.{JournalRecord}
-use Rattle.mail_loop.specs.State.{Seat, Smtp, Imap, State}
+use Rattle.console_head.specs.Request.{Stage}
+use Rattle.mail_loop.specs.State.{Seat, Smtp, Imap, Http, State}
 use Rattle.mail_loop.specs.Hindrance.{Hindrance}
+use Rattle.mail_loop.specs.Console.{Consoles, no_consoles}
 use Rattle.mail_loop.specs.Turns.{Heard, hears_seat}
 
 -- How the string for a connection may go.
@@ -32,10 +34,11 @@ pub data Delivery : Type 0 where
   -- no memory was found for it
   IsLeftOut : Delivery
 
--- What hinders an event: no memory for its bytes, what hinders its turns, and how each string goes.
+-- What hinders an event: no memory for its bytes, what hinders its turns, and how each string goes; and what a console's bytes are read as.
 pub record Hindrances : Type 0 where
   pub unfed : Bool
   pub turns : List Hindrance
+  pub stage : Stage
   pub deliveries : List Delivery
 
 -- the open connections, by rising number
@@ -64,14 +67,16 @@ pub record Reply : Type 0 where
   pub said : List ℕ
   pub closes : Bool
 
--- what an event leaves before its strings are sent: the state, the replies by rising connection, and the record whose sealing failed, where one did
+-- what an event leaves before its strings are sent: the state, the replies by rising connection, the record whose sealing failed, where one did,
+-- and what came of consoles
 pub record Answered : Type 0 where
   pub state : State
   pub replies : List Reply
   pub unsealed : List JournalRecord
+  pub consoles : Consoles
 
 abbrev pub ignored : State → Answered
-ignored s = record { state = s; replies = []; unsealed = [] }
+ignored s = record { state = s; replies = []; unsealed = []; consoles = no_consoles }
 
 -- a reply in its place among others, by connection
 abbrev pub with_reply : Reply → List Reply → List Reply
@@ -81,6 +86,7 @@ with_reply r (q ∷ qs) = if nat_lt r.conn q.conn then r ∷ q ∷ qs else q ∷
 -- whether a session has one of these mailboxes selected
 abbrev pub holds_one : List BoxId → Seat → Bool
 holds_one boxes (Smtp unserved d) = false
+holds_one boxes (Http came) = false
 holds_one boxes (Imap stream d) = list_any (λ (box : BoxId). imap.holds d box.user box.name) boxes
 
 -- the other sessions that have one of these mailboxes selected
@@ -108,21 +114,22 @@ heard conn h =
       state = record { kept = h.state.kept; seats = seats };
       replies = with_reply (record { conn = conn; said = h.said; closes = is_none h.seat }) (closed_others conn h.changed seats);
       unsealed = h.unsealed;
+      consoles = h.consoles;
     }
 
 -- no memory was found for the bytes that came: the connection is closed without an answer
 abbrev pub unfed : ℕ → State → Answered
-unfed conn s = heard conn (record { said = []; state = s; seat = None; changed = []; unsealed = [] })
+unfed conn s = heard conn (record { said = []; state = s; seat = None; changed = []; unsealed = []; consoles = no_consoles })
 
 -- bytes come over an open connection, and find memory or none
-abbrev pub hears : Bool → List Hindrance → ℕ → State → ℕ → Seat → List ℕ → Answered
-hears true hs at s conn seat bytes = unfed conn s
-hears false hs at s conn seat bytes = heard conn (hears_seat hs at s seat bytes)
+abbrev pub hears : Bool → List Hindrance → Stage → ℕ → State → ℕ → Seat → List ℕ → Answered
+hears true hs stage at s conn seat bytes = unfed conn s
+hears false hs stage at s conn seat bytes = heard conn (hears_seat hs stage at s seat bytes)
 
 -- bytes for a connection that is not open are ignored
-abbrev pub hears_at : Option Seat → Bool → List Hindrance → ℕ → State → ℕ → List ℕ → Answered
-hears_at None no_memory hs at s conn bytes = ignored s
-hears_at (Some seat) no_memory hs at s conn bytes = hears no_memory hs at s conn seat bytes
+abbrev pub hears_at : Option Seat → Bool → List Hindrance → Stage → ℕ → State → ℕ → List ℕ → Answered
+hears_at None no_memory hs stage at s conn bytes = ignored s
+hears_at (Some seat) no_memory hs stage at s conn bytes = hears no_memory hs stage at s conn seat bytes
 
 -- a mail client's connection that was just opened
 abbrev pub fresh : Seat
@@ -132,19 +139,28 @@ fresh = Smtp [] opening
 abbrev pub fresh_reader : Seat
 fresh_reader = Imap (before nothing Line) imap.opening
 
+-- a console's connection that was just opened
+abbrev pub fresh_console : Seat
+fresh_console = Http []
+
 -- a connection is opened, and its client is greeted
 abbrev pub greeted : State → ℕ → Seat → List ℕ → Answered
 greeted s conn seat greeting = record {
   state = record { kept = s.kept; seats = with_new_seat conn seat s.seats };
   replies = record { conn = conn; said = greeting; closes = false } ∷ [];
   unsealed = [];
+  consoles = no_consoles;
 }
 
--- a client of a kind that is served is greeted
+-- a connection is opened, and nothing is said
+abbrev pub opened : State → ℕ → Seat → Answered
+opened s conn seat = record { state = record { kept = s.kept; seats = with_new_seat conn seat s.seats }; replies = []; unsealed = []; consoles = no_consoles }
+
+-- a mail client or a mail reader is greeted, and a console is not
 abbrev pub admits : Role → State → ℕ → Answered
 admits SmtpRole s conn = greeted s conn fresh (answer_text s.kept.house.host Ready)
 admits ImapRole s conn = greeted s conn fresh_reader (greeting_text s.kept.house)
-admits Http s conn = ignored s
+admits HttpRole s conn = opened s conn fresh_console
 
 -- a client joins; on a connection that is open this is ignored
 abbrev pub joins : Option Seat → Role → State → ℕ → Answered
@@ -152,16 +168,16 @@ joins None role s conn = admits role s conn
 joins (Some seat) role s conn = ignored s
 
 -- what happens on a connection at a moment
-abbrev pub answers : What → Bool → List Hindrance → ℕ → State → ℕ → Answered
-answers (Joined role) no_memory hs at s conn = joins (seat_at conn s.seats) role s conn
-answers (Bytes bytes) no_memory hs at s conn = hears_at (seat_at conn s.seats) no_memory hs at s conn bytes
-answers Left no_memory hs at s conn = ignored (record { kept = s.kept; seats = without_seat conn s.seats })
-answers NoEvent no_memory hs at s conn = ignored s
-answers End no_memory hs at s conn = ignored s
+abbrev pub answers : What → Bool → List Hindrance → Stage → ℕ → State → ℕ → Answered
+answers (Joined role) no_memory hs stage at s conn = joins (seat_at conn s.seats) role s conn
+answers (Bytes bytes) no_memory hs stage at s conn = hears_at (seat_at conn s.seats) no_memory hs stage at s conn bytes
+answers Left no_memory hs stage at s conn = ignored (record { kept = s.kept; seats = without_seat conn s.seats })
+answers NoEvent no_memory hs stage at s conn = ignored s
+answers End no_memory hs stage at s conn = ignored s
 
 -- what an event leaves before its strings are sent; a moment past the year 9999 is taken as its last
-abbrev pub answered : Bool → List Hindrance → State → Event → Answered
-answered no_memory hs s event = answers event.what no_memory hs (min event.at 253402300799) s event.conn
+abbrev pub answered : Bool → List Hindrance → Stage → State → Event → Answered
+answered no_memory hs stage s event = answers event.what no_memory hs stage (min event.at 253402300799) s event.conn
 
 -- what the link does with a string: nothing where there is nothing to say
 abbrev pub string_notes : Delivery → ℕ → List ℕ → List LinkNote
@@ -209,17 +225,18 @@ delivered ds seats (r ∷ rs) =
     let more = delivered (other_deliveries ds) (after_reply (remains d r.said r.closes) r.conn seats) rs in
     record { seats = more.seats; notes = reply_notes d r ++ more.notes }
 
--- what an event leaves: the state, what the link did for it, and the record whose sealing failed, where one did
+-- what an event leaves: the state, what the link did for it, the record whose sealing failed, where one did, and what came of consoles
 pub record Outcome : Type 0 where
   pub state : State
   pub notes : List LinkNote
   pub unsealed : List JournalRecord
+  pub consoles : Consoles
 
 abbrev pub outcome : Answered → Delivered → Outcome
-outcome a d = record { state = record { kept = a.state.kept; seats = d.seats }; notes = d.notes; unsealed = a.unsealed }
+outcome a d = record { state = record { kept = a.state.kept; seats = d.seats }; notes = d.notes; unsealed = a.unsealed; consoles = a.consoles }
 
 -- an event
 abbrev pub happens : Hindrances → State → Event → Outcome
 happens h s event =
-    let a = answered h.unfed h.turns s event in
+    let a = answered h.unfed h.turns h.stage s event in
     outcome a (delivered h.deliveries a.state.seats a.replies)

@@ -12,6 +12,7 @@ use Rattle.mail_loop.specs.declared.serve.ServeFault.TheVariants.{Link, Disk, Tu
 use Rattle.mail_desk.specs.Kept.{Kept}
 use Rattle.verb_bytes.specs.declared.journal.JournalRecord.{JournalRecord}
 use Rattle.mail_loop.specs.State.{State}
+use Rattle.mail_loop.specs.Console.{AreSaid, Consoles, Reading, both, no_consoles}
 use Rattle.mail_loop.specs.Machine.{Hindrances, Outcome, happens}
 use Rattle.mail_loop.specs.Did.{RoseBy, missed_of}
 
@@ -27,16 +28,17 @@ is_end (Bytes bytes) = false
 is_end Left = false
 is_end Idle = false
 
--- an outcome after what the link did before, and the record that was not sealed then
-abbrev pub after_notes : List LinkNote → List JournalRecord → Outcome → Outcome
-after_notes notes unsealed o = record { state = o.state; notes = notes ++ o.notes; unsealed = unsealed ++ o.unsealed }
+-- an outcome after what the link did before, the record that was not sealed then, and what came of consoles
+abbrev pub after_notes : List LinkNote → List JournalRecord → Consoles → Outcome → Outcome
+after_notes notes unsealed consoles o =
+    record { state = o.state; notes = notes ++ o.notes; unsealed = unsealed ++ o.unsealed; consoles = both consoles o.consoles }
 
 -- what steps leave, one after the other
 abbrev pub run : List Step → State → Outcome
-run [] s = record { state = s; notes = []; unsealed = [] }
+run [] s = record { state = s; notes = []; unsealed = []; consoles = no_consoles }
 run (step ∷ steps) s =
     let o = happens step.hindrances s step.event in
-    after_notes (Came step.event ∷ o.notes) o.unsealed (run steps o.state)
+    after_notes (Came step.event ∷ o.notes) o.unsealed o.consoles (run steps o.state)
 
 -- nothing served yet: no connection is open
 abbrev pub at_first : Kept → State
@@ -46,10 +48,6 @@ at_first kept = record { kept = kept; seats = [] }
 abbrev pub NoEnd : List Step → Type 0
 NoEnd steps = AllByRecursion (λ step. is_end step.event.what ≡ false) steps
 
--- the last step is the end, and no other
-abbrev pub Ends : List Step → Type 0
-Ends steps = (before : List Step) × (last : Step) × (steps ≡ before ++ last ∷ []) × NoEnd before × (is_end last.event.what ≡ true)
-
 -- what the link did is what it does for the steps, and what is kept is the machine's
 pub record Serves (steps : List Step) (old : Kept) (notes : List LinkNote) (new : Kept) : Type 0 where
   pub notes_are : notes ≡ (run steps (at_first old)).notes
@@ -58,6 +56,25 @@ pub record Serves (steps : List Step) (old : Kept) (notes : List LinkNote) (new 
 -- the records whose sealing failed in these steps
 abbrev pub unsealed_in : List Step → Kept → List JournalRecord
 unsealed_in steps old = (run steps (at_first old)).unsealed
+
+-- what consoles' bytes were read as in these steps
+abbrev pub readings_in : List Step → Kept → List Reading
+readings_in steps old = (run steps (at_first old)).consoles.readings
+
+-- whether a console asked serving to stop in these steps
+abbrev pub stopped_in : List Step → Kept → Bool
+stopped_in steps old = (run steps (at_first old)).consoles.stops
+
+-- the last step is the end, and no other, and none was asked to stop; or the last is the first that was
+abbrev pub Ends : List Step → Kept → Type 0
+Ends steps old =
+    (before : List Step) × (last : Step) × (steps ≡ before ++ last ∷ []) × NoEnd before × (stopped_in before old ≡ false)
+    × ((is_end last.event.what ≡ true)
+    ⊎ ((is_end last.event.what ≡ false) × ((happens last.hindrances (run before (at_first old)).state last.event).consoles.stops ≡ true)))
+
+-- no step but the last was asked to stop
+abbrev pub NoStop : List Step → Kept → Type 0
+NoStop steps old = (stopped_in steps old ≡ false) ⊎ ((before : List Step) × (last : Step) × (steps ≡ before ++ last ∷ []) × (stopped_in before old ≡ false))
 
 -- what the link did not do: nothing, or some of what the last step's event leads to
 abbrev pub IsLeftOfLast : List Step → Kept → List LinkNote → Type 0
@@ -72,16 +89,20 @@ EndsUnsealed steps old =
     (before : List Step) × (last : Step) × (steps ≡ before ++ last ∷ []) × (unsealed_in before old ≡ [])
     × ((happens last.hindrances (run before (at_first old)).state last.event).unsealed ≢ [])
 
--- Serving ended: with the end; after so many turns without it; where the link failed; where sealing failed in the last step; or where memory was
+-- Serving ended: with the end or as a console asked; after so many turns without it; where the link failed; where sealing failed in the last step; or where memory was
 -- wanted, somewhere in the last step. No more events were taken than so many.
 abbrev pub Served : ℕ → List Step → Kept → List LinkNote → Kept → Result (Unit {0}) ServeFault → Type 0
-Served turns steps old notes new (Ok x) = Serves steps old notes new × Ends steps × (unsealed_in steps old ≡ []) × (length steps ≤ turns)
-Served turns steps old notes new (Err Turns) = Serves steps old notes new × NoEnd steps × (length steps ≡ turns) × (unsealed_in steps old ≡ [])
-Served turns steps old notes new (Err Link) = Serves steps old notes new × NoEnd steps × (length steps < turns) × (unsealed_in steps old ≡ [])
+Served turns steps old notes new (Ok x) = Serves steps old notes new × Ends steps old × (unsealed_in steps old ≡ []) × (length steps ≤ turns)
+Served turns steps old notes new (Err Turns) =
+    Serves steps old notes new × NoEnd steps × (length steps ≡ turns) × (unsealed_in steps old ≡ []) × (stopped_in steps old ≡ false)
+Served turns steps old notes new (Err Link) =
+    Serves steps old notes new × NoEnd steps × (length steps < turns) × (unsealed_in steps old ≡ []) × (stopped_in steps old ≡ false)
 Served turns steps old notes new (Err Disk) =
     (more : List LinkNote) × Serves steps old (notes ++ more) new × NoEnd steps × IsLeftOfLast steps old more × EndsUnsealed steps old × (length steps ≤ turns)
+    × NoStop steps old
 Served turns steps old notes new (Err NoMemory) =
     (more : List LinkNote) × Serves steps old (notes ++ more) new × NoEnd steps × IsLeftOfLast steps old more × (unsealed_in steps old ≡ []) × (length steps ≤ turns)
+    × NoStop steps old
 
 -- whether serving ended because sealing failed
 abbrev pub is_disk : Result (Unit {0}) ServeFault → Bool
@@ -123,3 +144,4 @@ pub record ServedOver (turns : ℕ) (steps : List Step) (notes : List LinkNote) 
   pub missed : RoseBy (missed_in steps) old.missed new.missed
   pub none_missed : old.is_reliable ≡ true → missed_in steps ≡ 0
   pub faults : CountsFaults result old new
+  pub read : AreSaid (readings_in steps kept)

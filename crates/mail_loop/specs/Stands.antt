@@ -12,7 +12,7 @@ use Rattle.mail_loop.specs.declared.session.Kind.TheVariants as kind
 use Rattle.smtp_session.specs.Dialog.{is_due}
 use Rattle.imap_session.specs.Dialog.{is_at_home, is_free}
 use Rattle.imap_session.specs.Words.{changed_text}
-use Rattle.mail_loop.specs.State.{Seat, Smtp, Imap}
+use Rattle.mail_loop.specs.State.{Seat, Smtp, Imap, Http}
 use Rattle.mail_loop.specs.Machine.{Reply, Seats}
 
 abbrev pub reply_of : CodeReply → Reply
@@ -33,16 +33,19 @@ replies_of letters = map letter_of letters
 abbrev pub seat_of : Kind → Seat
 seat_of (kind.Smtp unserved d) = Smtp unserved d
 seat_of (kind.Imap stream d) = Imap stream d
+seat_of (kind.Http came) = Http came
 
 -- between two turns nothing is awaited
 abbrev pub IsFree : Kind → Type 0
 IsFree (kind.Smtp unserved d) = is_due d ≡ false
 IsFree (kind.Imap stream d) = is_free d ≡ true
+IsFree (kind.Http came) = Unit {0}
 
 -- who is logged in is a user of the house
 abbrev pub IsHome : House → Seat → Type 0
 IsHome house (Smtp unserved d) = Unit {0}
 IsHome house (Imap stream d) = is_at_home house d ≡ true
+IsHome house (Http came) = Unit {0}
 
 abbrev pub AreHome : House → Seats → Type 0
 AreHome house seats = All (IsHome house) (values_of seats)

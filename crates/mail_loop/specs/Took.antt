@@ -1,6 +1,10 @@
 -- What the code's answers and replies are in the machine.
 use Rattle.std.specs.Prelude.{◌≡◌, ◌⊎◌, ℕ, Bool, true, false, List, [], ◌∷◌, ◌++◌, Option, None, Some, MatchOption, Result, Ok, Err}
 use Rattle.undo_base.specs.declared.keys.User.{User}
+use Rattle.console_session.specs.declared.reply.After.{After}
+use Rattle.console_session.specs.declared.reply.After.TheVariants.{Waits, Closes, Stops, Fails}
+use Rattle.console_session.specs.declared.reply.Reply.{Reply as ConsoleReply}
+use Rattle.mail_loop.specs.declared.console.Turned.{Turned}
 use Rattle.mail_loop.specs.declared.reply.Reply.{Reply}
 use Rattle.verb_core.specs.declared.ask.Ask.{Ask}
 use Rattle.verb_core.specs.declared.ask.Refused.TheVariants.{NoMemory}
@@ -21,6 +25,7 @@ use Rattle.verb_bytes.specs.declared.journal.JournalRecord.TheVariants.{Verb}
 use Rattle.mail_loop.specs.Asked.{Asked, does, fails}
 use Rattle.mail_loop.specs.Dialog.{Turn, ends, followed, settled}
 use Rattle.mail_loop.specs.Hindrance.{Hindrance, Clear, Refused, Unread, Unstored, Unheard, Unanswered, Unsealed, Untold, lost, unanswered, refused_in_text}
+use Rattle.mail_loop.specs.Console.{Consoles, no_consoles, stops_by}
 use Rattle.mail_loop.specs.Turns.{Heard}
 use Rattle.mail_loop.specs.Machine.{Seats, Answered as AnsweredEvent, closed_others, seated, with_reply}
 use Rattle.mail_loop.specs.Stands.{reply_of}
@@ -97,6 +102,17 @@ abbrev pub Settles : Result Item SubmitFault → Kept → Dialog → Reply → D
 Settles outcome kept d old d' new =
     Takes IsNone (settled d (asked_as outcome kept)) old kept d' new ⊎ SettlesAgain (is_refused outcome) kept d old d' new
 
+-- whether a console's connection is closed
+abbrev pub closes_by : After → Bool
+closes_by Waits = false
+closes_by Closes = true
+closes_by Stops = true
+closes_by Fails = true
+
+-- a console's answer as a connection's reply
+abbrev pub turned_as : ℕ → ConsoleReply → Turned
+turned_as conn r = record { reply = record { conn = conn; said = r.said; closes = closes_by r.after; changed = [] }; stops = stops_by r.after }
+
 -- the seat of a connection that stays open
 abbrev pub seat_left : Bool → Seat → Option Seat
 seat_left true seat = None
@@ -106,15 +122,16 @@ seat_left false seat = Some seat
 -- its seat then.
 pub record Tells (h : Heard) (seats : Seats) (conn : ℕ) (reply : Reply) (kept : Kept) (failed : List JournalRecord) (seat : Seat) : Type 0 where
   pub conn_is : reply.conn ≡ conn
-  pub heard_is : h ≡ record { said = reply.said; state = record { kept = kept; seats = seats }; seat = seat_left reply.closes seat; changed = reply.changed; unsealed = failed }
+  pub heard_is : h ≡ record { said = reply.said; state = record { kept = kept; seats = seats }; seat = seat_left reply.closes seat; changed = reply.changed; unsealed = failed; consoles = no_consoles }
 
 -- a connection has this reply, and its seat is now this one, or none where it is closed; others are told of the mailboxes that are gone
-abbrev pub answered_with : ℕ → Reply → Kept → List JournalRecord → Seats → AnsweredEvent
-answered_with conn reply kept failed seats = record {
+abbrev pub answered_with : ℕ → Reply → Kept → List JournalRecord → Consoles → Seats → AnsweredEvent
+answered_with conn reply kept failed consoles seats = record {
   state = record { kept = kept; seats = seats };
   replies = with_reply (reply_of reply) (closed_others conn reply.changed seats);
   unsealed = failed;
+  consoles = consoles;
 }
 
-abbrev pub answered_alone : ℕ → Reply → Kept → List JournalRecord → Seat → Seats → AnsweredEvent
-answered_alone conn reply kept failed seat seats = answered_with conn reply kept failed (seated conn (seat_left reply.closes seat) seats)
+abbrev pub answered_alone : ℕ → Reply → Kept → List JournalRecord → Consoles → Seat → Seats → AnsweredEvent
+answered_alone conn reply kept failed consoles seat seats = answered_with conn reply kept failed consoles (seated conn (seat_left reply.closes seat) seats)

@@ -13,10 +13,12 @@ use Rattle.imap_stream.specs.declared.next.Next.{Next}
 use Rattle.imap_stream.specs.declared.next.Next.TheVariants.{NotYet}
 use Rattle.imap_session.specs.declared.dialog.Dialog.{Dialog as ImapDialog}
 use Rattle.verb_bytes.specs.declared.journal.JournalRecord.{JournalRecord}
-use Rattle.mail_loop.specs.State.{Seat, Smtp, Imap, State}
+use Rattle.console_head.specs.Request.{Stage}
+use Rattle.mail_loop.specs.State.{Seat, Smtp, Imap, Http, State}
 use Rattle.mail_loop.specs.Dialog.{Turn}
 use Rattle.mail_loop.specs.Hindrance.{Hindrance, hindered, first_hindrance, other_hindrances}
 use Rattle.mail_loop.specs.ReaderHindrance.{imap_hindered}
+use Rattle.mail_loop.specs.Console.{Consoles, console_turn, left_by, no_consoles, stops_by}
 
 -- What turns leave: what they say, the state, the dialog after them or none where the connection is closed, the mailboxes whose other sessions
 -- are told and closed, and the record whose sealing failed, where one did.
@@ -66,16 +68,17 @@ abbrev pub imap_turn : ℕ → Hindrance → State → ImapDialog → Next → O
 imap_turn at h s d next = outcome_of s (imap_hindered h at s.kept d next)
 
 -- what comes of a connection's stream: what it is told, the state, its seat after that or none where it is closed, the mailboxes
--- whose other sessions are told and closed, and the record whose sealing failed, where one did
+-- whose other sessions are told and closed, the record whose sealing failed, where one did, and what came of consoles
 pub record Heard : Type 0 where
   pub said : List ℕ
   pub state : State
   pub seat : Option Seat
   pub changed : List BoxId
   pub unsealed : List JournalRecord
+  pub consoles : Consoles
 
 abbrev pub heard_by : {D : Type 0} → (D → Seat) → Outcome D → Heard
-heard_by seat o = record { said = o.said; state = o.state; seat = option_map seat o.dialog; changed = o.changed; unsealed = o.unsealed }
+heard_by seat o = record { said = o.said; state = o.state; seat = option_map seat o.dialog; changed = o.changed; unsealed = o.unsealed; consoles = no_consoles }
 
 -- the turns of a mail client's lines; what follows the last line stays unserved
 abbrev pub hears_lines : List Hindrance → ℕ → State → Dialog → List ℕ → Heard
@@ -85,7 +88,21 @@ hears_lines hs at s d stream = heard_by (Smtp (rest_of stream)) (turns (smtp_tur
 abbrev pub hears_commands : List Hindrance → ℕ → State → ImapDialog → Stream → Heard
 hears_commands hs at s d stream = heard_by (Imap (emptied stream)) (turns (imap_turn at) hs s d (stream.said ++ NotYet ∷ []))
 
--- bytes more come onto a connection's stream
-abbrev pub hears_seat : List Hindrance → ℕ → State → Seat → List ℕ → Heard
-hears_seat hs at s (Smtp unserved d) bytes = hears_lines hs at s d (unserved ++ bytes)
-hears_seat hs at s (Imap stream d) bytes = hears_commands hs at s d (imap_stream.heard stream bytes)
+-- the one turn of a console's bytes, which are read so
+abbrev pub hears_console : List Hindrance → Stage → ℕ → State → List ℕ → Heard
+hears_console hs stage at s bytes =
+    let t = console_turn (first_hindrance hs) at s.kept stage in
+    record {
+      said = t.said;
+      state = record { kept = t.kept; seats = s.seats };
+      seat = option_map Http (left_by t.after bytes);
+      changed = [];
+      unsealed = t.unsealed;
+      consoles = record { readings = record { bytes = bytes; stage = stage } ∷ []; stops = stops_by t.after };
+    }
+
+-- bytes more come onto a connection's stream; those of a console are read so
+abbrev pub hears_seat : List Hindrance → Stage → ℕ → State → Seat → List ℕ → Heard
+hears_seat hs stage at s (Smtp unserved d) bytes = hears_lines hs at s d (unserved ++ bytes)
+hears_seat hs stage at s (Imap stream d) bytes = hears_commands hs at s d (imap_stream.heard stream bytes)
+hears_seat hs stage at s (Http came) bytes = hears_console hs stage at s (came ++ bytes)

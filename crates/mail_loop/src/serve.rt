@@ -1,5 +1,6 @@
 //! The serving loop.
-ghost use Rattle.std.specs.Prelude.{◌≡◌, ◌≤◌, Bool, List, false};
+ghost use Rattle.std.specs.Prelude.{◌≡◌, ◌≤◌, Bool, List, Ok, Err, IfOk, IfErr, false, []};
+ghost use Rattle.console_head.specs.Request.{Stage};
 ghost use Rattle.undo_outside.specs.declared.event.LinkNote.{LinkNote};
 ghost use Rattle.mail_loop.specs.Asked.{HaveSealed};
 ghost use Rattle.mail_loop.specs.Hindrance.{Hindrance};
@@ -10,9 +11,10 @@ ghost use Rattle.mail_loop.specs.Stands.{AreHome, letter_of, replies_of};
 ghost use Rattle.mail_loop.specs.Did.{AreLicensed, Told, Replied, Sends, Leads, Answers};
 ghost use Rattle.mail_loop.specs.Serving.{Step, ServedOver, is_disk, is_end, unsealed_in};
 
+use crate::console::Turned;
 use crate::letters::{Letter, alone, letters_of};
 use crate::reply::{greet, greet_reader};
-use crate::session::{Session, hear, new_reader, new_session};
+use crate::session::{Session, hear, new_console, new_reader, new_session};
 use std::alloc::Global;
 use std::collections::BTreeMap;
 use std::thread::Threads;
@@ -35,6 +37,13 @@ pub enum ServeFault {
     Turns,
     #[error("no memory")]
     NoMemory,
+}
+
+/// The strings of an event, and whether serving is to stop after it.
+#[derive(Drop)]
+struct Answer {
+    letters: Vec<Letter>,
+    stops: bool,
 }
 
 /// The open connections, by number.
@@ -102,7 +111,7 @@ fn admit<D: Disk + Drop>(
 ) -> Result<Vec<Letter>, NoMemory>
     ensures home { (house : TheHouse) → AreHome house connections.old.entries → AreHome house connections.new.entries }
     ensures answers { Answers IsNone (admits role (record { kept = desk.now.kept; seats = connections.old.entries }) conn)
-        desk.now.kept connections.new.entries (λ replies. replies_of replies.items) result }
+        desk.now.kept connections.new.entries (λ replies. replies_of replies.items) (λ _. false) result }
 {
     match role {
         Role::Smtp => {
@@ -115,7 +124,10 @@ fn admit<D: Disk + Drop>(
             connections.insert(conn, new_reader(alloc))?;
             Ok(replies)
         }
-        Role::Http => Ok(Vec::new(alloc)),
+        Role::Http => {
+            connections.insert(conn, new_console(alloc))?;
+            Ok(Vec::new(alloc))
+        }
     }
 }
 
@@ -129,12 +141,37 @@ fn join<D: Disk + Drop>(
 ) -> Result<Vec<Letter>, NoMemory>
     ensures home { (house : TheHouse) → AreHome house connections.old.entries → AreHome house connections.new.entries }
     ensures answers { Answers IsNone (joins (seat_at conn connections.old.entries) role (record { kept = desk.now.kept; seats = connections.old.entries }) conn)
-        desk.now.kept connections.new.entries (λ replies. replies_of replies.items) result }
+        desk.now.kept connections.new.entries (λ replies. replies_of replies.items) (λ _. false) result }
 {
     if connections.contains_key(&conn) {
         Ok(Vec::new(alloc))
     } else {
         admit(alloc, desk, connections, conn, role)
+    }
+}
+
+/// Strings after which serving goes on.
+fn going_on_with(letters: Result<Vec<Letter>, NoMemory>) -> Result<Answer, NoMemory>
+    ensures ok { IfOk result (λ answer. (letters ≡ Ok answer.letters) × (answer.stops ≡ false)) }
+    ensures err { IfErr result (λ e. letters ≡ Err e) }
+{
+    match letters {
+        Ok(letters) => Ok(Answer {
+            letters,
+            stops: false,
+        }),
+        Err(NoMemory) => Err(NoMemory),
+    }
+}
+
+/// No strings.
+fn nothing(alloc: Global) -> Answer
+    ensures letters { result.letters.items ≡ [] }
+    ensures goes_on { result.stops ≡ false }
+{
+    Answer {
+        letters: Vec::new(alloc),
+        stops: false,
     }
 }
 
@@ -146,22 +183,26 @@ fn hear_at<D: Disk + Drop>(
     conn: u32,
     at: u64,
     bytes: &[u8],
-) -> Result<Vec<Letter>, NoMemory>
+) -> Result<Answer, NoMemory>
     requires moment { at ≤ 253402300799 }
     requires sealed { desk.old.closed ≡ false }
     requires home { AreHome desk.old.kept.house connections.old.entries }
     ensures home { AreHome desk.new.kept.house connections.new.entries }
-    ensures answers { (no_memory : Bool) × (hs : List Hindrance) ×
-        Answers (HaveSealed D.told desk.old desk.new) (hears_at (seat_at conn connections.old.entries) no_memory hs at (record { kept = desk.old.kept; seats = connections.old.entries }) conn bytes.now)
-        desk.new.kept connections.new.entries (λ replies. replies_of replies.items) result }
+    ensures answers { (no_memory : Bool) × (hs : List Hindrance) × (stage : Stage) ×
+        Answers (HaveSealed D.told desk.old desk.new) (hears_at (seat_at conn connections.old.entries) no_memory hs stage at (record { kept = desk.old.kept; seats = connections.old.entries }) conn bytes.now)
+        desk.new.kept connections.new.entries (λ answer. replies_of answer.letters.items) (λ answer. answer.stops) result }
 {
     seals_join::<D>();
-    let reply = match connections.get_mut(&conn) {
-        None => return Ok(Vec::new(alloc)),
+    let turned = match connections.get_mut(&conn) {
+        None => return Ok(nothing(alloc)),
         Some(session) => hear(alloc, desk, session, conn, at, bytes),
     };
+    let Turned { reply, stops } = turned;
     keep_if(connections, conn, !reply.closes);
-    letters_of(alloc, connections, conn, reply)
+    match letters_of(alloc, connections, conn, reply) {
+        Ok(letters) => Ok(Answer { letters, stops }),
+        Err(NoMemory) => Err(NoMemory),
+    }
 }
 
 /// What an event leaves before its strings are sent: the replies by rising connection.
@@ -170,39 +211,39 @@ fn answer_event<D: Disk + Drop>(
     desk: &mut Desk<D>,
     connections: &mut Connections,
     event: &Event,
-) -> Result<Vec<Letter>, NoMemory>
+) -> Result<Answer, NoMemory>
     requires sealed { desk.old.closed ≡ false }
     requires home { AreHome desk.old.kept.house connections.old.entries }
     ensures home { AreHome desk.new.kept.house connections.new.entries }
-    ensures answers { (no_memory : Bool) × (hs : List Hindrance) ×
-        Answers (HaveSealed D.told desk.old desk.new) (answered no_memory hs (record { kept = desk.old.kept; seats = connections.old.entries }) event.now)
-        desk.new.kept connections.new.entries (λ replies. replies_of replies.items) result }
+    ensures answers { (no_memory : Bool) × (hs : List Hindrance) × (stage : Stage) ×
+        Answers (HaveSealed D.told desk.old desk.new) (answered no_memory hs stage (record { kept = desk.old.kept; seats = connections.old.entries }) event.now)
+        desk.new.kept connections.new.entries (λ answer. replies_of answer.letters.items) (λ answer. answer.stops) result }
 {
     seals_join::<D>();
     let conn = event.conn;
     match &event.what {
-        What::Joined(role) => join(alloc, desk, connections, conn, *role),
+        What::Joined(role) => going_on_with(join(alloc, desk, connections, conn, *role)),
         What::Bytes(bytes) => {
             let at = event.at.min(LAST_MOMENT);
             hear_at(alloc, desk, connections, conn, at, bytes.bytes())
         }
         What::Left => {
             keep_if(connections, conn, false);
-            Ok(Vec::new(alloc))
+            Ok(nothing(alloc))
         }
-        What::Idle => Ok(Vec::new(alloc)),
-        What::End => Ok(Vec::new(alloc)),
+        What::Idle => Ok(nothing(alloc)),
+        What::End => Ok(nothing(alloc)),
     }
 }
 
-/// Serves one event.
+/// Serves one event. Answers whether serving is to stop after it.
 fn serve_event<L: Link, D: Disk + Drop>(
     alloc: Global,
     desk: &mut Desk<D>,
     connections: &mut Connections,
     link: &mut L,
     event: &Event,
-) -> Result<(), NoMemory>
+) -> Result<bool, NoMemory>
     requires sealed { desk.old.closed ≡ false }
     requires home { AreHome desk.old.kept.house connections.old.entries }
     ensures home { AreHome desk.new.kept.house connections.new.entries }
@@ -211,11 +252,14 @@ fn serve_event<L: Link, D: Disk + Drop>(
         desk.new.kept connections.new.entries result }
 {
     seals_join::<D>();
-    let replies = answer_event(alloc, desk, connections, event)?;
-    deliver_all(connections, link, replies.as_slice())
+    let answer = answer_event(alloc, desk, connections, event)?;
+    match deliver_all(connections, link, answer.letters.as_slice()) {
+        Ok(()) => Ok(answer.stops),
+        Err(NoMemory) => Err(NoMemory),
+    }
 }
 
-/// Serves the events of a link until the end comes, at most so many.
+/// Serves the events of a link until the end comes or a console asks it to stop, at most so many.
 pub fn serve_events<R: Threads + Sync, L: Link, D: Disk + Drop, G: Gate>(
     _rt: &R,
     alloc: Global,
@@ -245,8 +289,12 @@ pub fn serve_events<R: Threads + Sync, L: Link, D: Disk + Drop, G: Gate>(
         if desk.closed() {
             return Err(ServeFault::Disk);
         }
-        if sent.is_err() {
-            return Err(ServeFault::NoMemory);
+        let stops = match sent {
+            Ok(stops) => stops,
+            Err(NoMemory) => return Err(ServeFault::NoMemory),
+        };
+        if stops {
+            return Ok(());
         }
     }
     Err(ServeFault::Turns)

@@ -9,14 +9,18 @@ ghost use Rattle.mail_loop.specs.State.{State, Smtp as SmtpSeat, Imap as ImapSea
 ghost use Rattle.mail_loop.specs.Asked.{HaveSealed};
 ghost use Rattle.mail_loop.specs.Hindrance.{Hindrance};
 ghost use Rattle.mail_loop.specs.Turns.{hears_lines, hears_commands};
-ghost use Rattle.mail_loop.specs.Machine.{Seats, fresh, fresh_reader, hears, holds_one};
+ghost use Rattle.console_head.specs.Request.{Stage};
+ghost use Rattle.mail_loop.specs.Console.{AreSaid, Reading};
+ghost use Rattle.mail_loop.specs.Machine.{Seats, fresh, fresh_console, fresh_reader, hears, holds_one};
 ghost use Rattle.mail_loop.specs.Read.{is_not_yet};
 ghost use Rattle.mail_loop.specs.Stands.{IsHome};
 ghost use Rattle.mail_loop.specs.Took.{Tells, answered_alone};
 
+use crate::console::{Turned, going_on, hear_console};
 use crate::dialog::take_line;
 use crate::reader::take_next;
 use crate::reply::{Reply, empty_reply};
+use console_session::ConsoleSession;
 use imap_session::ImapSession;
 use imap_stream::{Next, Pieces};
 use smtp_lines::Cutter;
@@ -40,6 +44,7 @@ enum Kind {
         stream: Pieces,
         dialog: ImapSession,
     },
+    Http(ConsoleSession),
 }
 
 /// The session of an open connection.
@@ -83,6 +88,15 @@ pub fn new_reader(alloc: Global) -> Session
     }
 }
 
+/// A console's session at first.
+pub fn new_console(alloc: Global) -> Session
+    ensures { result ≡ fresh_console }
+{
+    Session {
+        kind: Kind::Http(ConsoleSession::new(alloc)),
+    }
+}
+
 impl Session {
     /// Whether it has one of these mailboxes selected.
     pub fn holds_one(&self, boxes: &[BoxId]) -> bool
@@ -94,6 +108,7 @@ impl Session {
                 dialog: _,
             } => false,
             Kind::Imap { stream: _, dialog } => dialog_holds(dialog, boxes),
+            Kind::Http(_) => false,
         }
     }
 }
@@ -149,20 +164,21 @@ fn hear_client<D: Disk + Drop>(
     conn: u32,
     at: u64,
     bytes: &[u8],
-) -> Reply
+) -> Turned
     requires moment { at ≤ 253402300799 }
     requires sealed { desk.old.closed ≡ false }
     requires free { is_due dialog.old ≡ false }
     ensures free { is_due dialog.new ≡ false }
     ensures house { desk.new.kept.house ≡ desk.old.kept.house }
-    ensures heard { (seats : Seats) → (no_memory : Bool) × (hs : List Hindrance) × (failed : List JournalRecord) × HaveSealed D.told desk.old desk.new failed ×
-        (hears no_memory hs at (record { kept = desk.old.kept; seats = seats }) conn (SmtpSeat unserved.old dialog.old) bytes.now
-        ≡ answered_alone conn result desk.new.kept failed (SmtpSeat unserved.new dialog.new) seats) }
+    ensures heard { (seats : Seats) → (no_memory : Bool) × (hs : List Hindrance) × (stage : Stage) × (failed : List JournalRecord) ×
+        HaveSealed D.told desk.old desk.new failed × (readings : List Reading) × AreSaid readings ×
+        (hears no_memory hs stage at (record { kept = desk.old.kept; seats = seats }) conn (SmtpSeat unserved.old dialog.old) bytes.now
+        ≡ answered_alone conn result.reply desk.new.kept failed (record { readings = readings; stops = result.stops }) (SmtpSeat unserved.new dialog.new) seats) }
 {
     seals_join::<D>();
     match unserved.feed(bytes) {
-        Ok(()) => serve_lines(alloc, desk, unserved, dialog, conn, at),
-        Err(NoMemory) => empty_reply(alloc, conn, true),
+        Ok(()) => going_on(serve_lines(alloc, desk, unserved, dialog, conn, at)),
+        Err(NoMemory) => going_on(empty_reply(alloc, conn, true)),
     }
 }
 
@@ -220,7 +236,7 @@ fn hear_reader<D: Disk + Drop>(
     conn: u32,
     at: u64,
     bytes: &[u8],
-) -> Reply
+) -> Turned
     requires moment { at ≤ 253402300799 }
     requires sealed { desk.old.closed ≡ false }
     requires free { is_free dialog.old ≡ true }
@@ -228,14 +244,15 @@ fn hear_reader<D: Disk + Drop>(
     ensures free { is_free dialog.new ≡ true }
     ensures home { is_at_home desk.new.kept.house dialog.new ≡ true }
     ensures house { desk.new.kept.house ≡ desk.old.kept.house }
-    ensures heard { (seats : Seats) → (no_memory : Bool) × (hs : List Hindrance) × (failed : List JournalRecord) × HaveSealed D.told desk.old desk.new failed ×
-        (hears no_memory hs at (record { kept = desk.old.kept; seats = seats }) conn (ImapSeat stream.old dialog.old) bytes.now
-        ≡ answered_alone conn result desk.new.kept failed (ImapSeat stream.new dialog.new) seats) }
+    ensures heard { (seats : Seats) → (no_memory : Bool) × (hs : List Hindrance) × (stage : Stage) × (failed : List JournalRecord) ×
+        HaveSealed D.told desk.old desk.new failed × (readings : List Reading) × AreSaid readings ×
+        (hears no_memory hs stage at (record { kept = desk.old.kept; seats = seats }) conn (ImapSeat stream.old dialog.old) bytes.now
+        ≡ answered_alone conn result.reply desk.new.kept failed (record { readings = readings; stops = result.stops }) (ImapSeat stream.new dialog.new) seats) }
 {
     seals_join::<D>();
     match stream.feed(bytes) {
-        Ok(()) => serve_commands(alloc, desk, stream, dialog, conn, at),
-        Err(NoMemory) => empty_reply(alloc, conn, true),
+        Ok(()) => going_on(serve_commands(alloc, desk, stream, dialog, conn, at)),
+        Err(NoMemory) => going_on(empty_reply(alloc, conn, true)),
     }
 }
 
@@ -247,15 +264,16 @@ pub fn hear<D: Disk + Drop>(
     conn: u32,
     at: u64,
     bytes: &[u8],
-) -> Reply
+) -> Turned
     requires moment { at ≤ 253402300799 }
     requires sealed { desk.old.closed ≡ false }
     requires home { IsHome desk.old.kept.house session.old }
     ensures home { IsHome desk.new.kept.house session.new }
     ensures house { desk.new.kept.house ≡ desk.old.kept.house }
-    ensures heard { (seats : Seats) → (no_memory : Bool) × (hs : List Hindrance) × (failed : List JournalRecord) × HaveSealed D.told desk.old desk.new failed ×
-        (hears no_memory hs at (record { kept = desk.old.kept; seats = seats }) conn session.old bytes.now
-        ≡ answered_alone conn result desk.new.kept failed session.new seats) }
+    ensures heard { (seats : Seats) → (no_memory : Bool) × (hs : List Hindrance) × (stage : Stage) × (failed : List JournalRecord) ×
+        HaveSealed D.told desk.old desk.new failed × (readings : List Reading) × AreSaid readings ×
+        (hears no_memory hs stage at (record { kept = desk.old.kept; seats = seats }) conn session.old bytes.now
+        ≡ answered_alone conn result.reply desk.new.kept failed (record { readings = readings; stops = result.stops }) session.new seats) }
 {
     match &mut session.kind {
         Kind::Smtp { unserved, dialog } => {
@@ -264,5 +282,6 @@ pub fn hear<D: Disk + Drop>(
         Kind::Imap { stream, dialog } => {
             hear_reader(alloc, desk, stream, dialog, conn, at, bytes)
         }
+        Kind::Http(console) => hear_console(alloc, desk, console, conn, at, bytes),
     }
 }

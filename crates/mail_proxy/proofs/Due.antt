@@ -4,7 +4,7 @@ use Rattle.undo_outside.specs.declared.event.Event.{Event}
 use Rattle.undo_outside.specs.declared.event.LinkNote.{LinkNote}
 use Rattle.undo_outside.specs.declared.fault.Fault.{Fault}
 use Rattle.undo_outside.specs.declared.fault.Fault.TheVariants.{Failed, NoMemory as SinkStarved}
-use Rattle.undo_outside.specs.Calls.{SourceTold, SinkTold}
+use Rattle.undo_outside.specs.Calls.{LinkTold, SourceTold, SinkTold}
 use Rattle.undo_outside.specs.Disk.{DiskTold}
 use Rattle.verb_core.specs.declared.conf.Conf.{Conf}
 use Rattle.verb_core.specs.declared.conf.House.{House}
@@ -29,7 +29,8 @@ use Rattle.mail_proxy.specs.Init.{Configures, Inits, made_status}
 use Rattle.mail_proxy.specs.Lines.{too_long, usage}
 use Rattle.mail_proxy.specs.Opening.{OpensNone}
 use Rattle.mail_proxy.specs.Check.{Checks, TellsCounts}
-use Rattle.mail_proxy.specs.Script.{Played, Plays, PlaysScript, PlaysText, RunsScript, Scripts, Tells}
+use Rattle.mail_proxy.specs.Script.{Played, Plays, PlaysScript, PlaysText, RunsScript, Scripts, Tells, status_of}
+use Rattle.mail_proxy.specs.Serve.{ServesStore}
 use Rattle.mail_proxy.specs.Texts.{End, ending, FromText, IsText}
 use Rattle.mail_proxy.proofs.Causes.{fault_stays}
 
@@ -51,9 +52,12 @@ by_memory : {s : ℕ} → s ≡ 8 → IsHindered s
 by_memory e = inr (inr (inr (inl e)))
 
 by_write : {s : ℕ} → s ≡ 9 → IsHindered s
-by_write e = inr (inr (inr (inr e)))
+by_write e = inr (inr (inr (inr (inl e))))
 
-module _ {D : Type 0} (told : D → DiskTold) (disk : D) (end : End D) (text text' : SourceTold) (out out' : SinkTold) (s : ℕ) (shows : Shows end.status end.output s out out') (k : ℕ) where
+by_link : {s : ℕ} → s ≡ 4 → IsHindered s
+by_link e = inr (inr (inr (inr (inr e))))
+
+module _ {D : Type 0} (told : D → DiskTold) (disk : D) (end : End D) (text text' : SourceTold) (link link' : LinkTold) (out out' : SinkTold) (s : ℕ) (shows : Shows end.status end.output s out out') (k : ℕ) where
   -- nothing is wrong, and that is due
   well : end.status ≡ 0 → k ≡ 0 → (s ≡ k) ⊎ IsHindered s
   well zero due = by_wrote shows.0 shows.2
@@ -218,10 +222,22 @@ module _ {D : Type 0} (told : D → DiskTold) (disk : D) (end : End D) (text tex
         by_told (inl (nought, is)) = well nought (due_opened desk.kept (leaves desk.kept desk.gate (told desk.disk) starts) due)
         by_told (inr (eight, is)) = starved eight
 
+    due_serve : ServesStore told link link' disk end → IsDueStore (told disk) k → (s ≡ k) ⊎ IsHindered s
+    due_serve (inl (none, still)) due = due_unopened none due
+    due_serve (inr (desk, starts, (last, run, disk_is, journals))) due =
+        by_outcome run.outcome run.status_is (due_opened desk.kept (leaves desk.kept desk.gate (told desk.disk) starts) due)
+      where
+        by_outcome : (outcome : Result (Unit {0}) ServeFault) → end.status ≡ status_of outcome → k ≡ 0 → (s ≡ k) ⊎ IsHindered s
+        by_outcome (Ok x) status zero = well status zero
+        by_outcome (Err serve.Link) status zero = inr (by_link (stays 4 status (λ z. omega arith)))
+        by_outcome (Err serve.Disk) status zero = inr (by_disk (stays 5 status (λ z. omega arith)))
+        by_outcome (Err serve.Turns) status zero = inr (by_events (stays 7 status (λ z. omega arith)))
+        by_outcome (Err serve.NoMemory) status zero = starved status
+
     -- ---- all commands
 
     -- words of no stated shape, a bad text, or a text and a disk
-    by_command : (command : Option Command) → IsDue command (record { text = text; disk = told disk; out = out }) k → Does told command text text' disk end → (s ≡ k) ⊎ IsHindered s
+    by_command : (command : Option Command) → IsDue command (record { text = text; link = link; disk = told disk; out = out }) k → Does told command text text' link link' disk end → (s ≡ k) ⊎ IsHindered s
     by_command None (inl (not_built, one)) (same, e) = inl (stays 1 (status_of_end 1 usage disk e) (λ z. omega arith) ∙ sym one)
     by_command None (inr (inl (t, line, is, bad, two))) does = absurd (bad_none None t line refl (λ u e. e) bad)
     by_command None (inr (inr (inl (t, is, short, due)))) does = absurd due
@@ -230,10 +246,10 @@ module _ {D : Type 0} (told : D → DiskTold) (disk : D) (end : End D) (text tex
     by_command (Some Init) (inr (inl (t, line, is, bad, two))) does = bad_init t line is bad two does
     by_command (Some Init) (inr (inr (inl (t, is, short, due)))) does = due_init t is short due does
     by_command (Some Init) (inr (inr (inr due))) does = absurd due
-    by_command (Some (Serve a b c)) (inl (not_built, one)) (same, e) = inl (stays 1 (status_of_end 1 usage disk e) (λ z. omega arith) ∙ sym one)
+    by_command (Some (Serve a b c)) (inl (not_built, one)) does = absurd (let wrong : true ≡ false = not_built in cc)
     by_command (Some (Serve a b c)) (inr (inl (t, line, is, bad, two))) does = absurd (bad_none (Some (Serve a b c)) t line refl (λ u e. e) bad)
     by_command (Some (Serve a b c)) (inr (inr (inl (t, is, short, due)))) does = absurd due
-    by_command (Some (Serve a b c)) (inr (inr (inr due))) does = absurd due
+    by_command (Some (Serve a b c)) (inr (inr (inr due))) (same, serves) = due_serve serves due
     by_command (Some Script) (inl (not_built, one)) does = absurd (let wrong : true ≡ false = not_built in cc)
     by_command (Some Script) (inr (inl (t, line, is, bad, two))) does = bad_script t line is bad two does
     by_command (Some Script) (inr (inr (inl (t, is, short, due)))) does = due_script t is short due does
@@ -252,6 +268,6 @@ module _ {D : Type 0} (told : D → DiskTold) (disk : D) (end : End D) (text tex
     by_command (Some Check) (inr (inr (inr due))) (same, checks) = due_check checks due
 
     -- the status that is due comes, unless the run was hindered
-    pub due : (words : List (List ℕ)) → Answers told words text text' disk end → IsDue (command_of words) (record { text = text; disk = told disk; out = out }) k → (s ≡ k) ⊎ IsHindered s
+    pub due : (words : List (List ℕ)) → Answers told words text text' link link' disk end → IsDue (command_of words) (record { text = text; link = link; disk = told disk; out = out }) k → (s ≡ k) ⊎ IsHindered s
     due words (inl does) is = by_command (command_of words) is does
-    due words (inr (same, e)) is = starved (ap (λ (x : End D). x.status) e)
+    due words (inr (kept, (same, e))) is = starved (ap (λ (x : End D). x.status) e)

@@ -1,5 +1,5 @@
 -- What a disk stands for after a script was served over it.
-use Rattle.std.proofs.Common.{◌≡◌, ◌≤◌, ℕ, List, [], ◌∷◌, ◌++◌, Ok, subst, sym, arith}
+use Rattle.std.proofs.Common.{ℕ, List, ◌++◌, Ok, subst, sym, arith}
 use Rattle.std.proofs.lemmas.List.{append-nil, map-append}
 use Rattle.undo_outside.specs.Disk.{DiskTold, IsHonest}
 use Rattle.undo_outside.specs.Moments.{LeavesOnly}

@@ -1,20 +1,20 @@
 -- When each status of `run` comes, and what is written then.
-use Rattle.std.specs.Prelude.{◌≡◌, ◌≢◌, ◌≤◌, ◌⊎◌, ℕ, Bool, true, false, List, ◌++◌, length, MatchBool, nat_lt, Option, None, Some, Result, Ok, Err}
+use Rattle.std.specs.Prelude.{◌≡◌, ◌≢◌, ◌≤◌, ◌⊎◌, ℕ, ◌^◌, Bool, true, false, List, ◌++◌, length, MatchBool, nat_lt, Option, None, Some, Result, Ok, Err}
 use Rattle.undo_outside.specs.declared.event.Event.{Event}
 use Rattle.undo_outside.specs.declared.event.LinkNote.{LinkNote}
-use Rattle.undo_outside.specs.Calls.{SourceTold, SinkTold}
+use Rattle.undo_outside.specs.Calls.{LinkTold, SourceTold, SinkTold}
 use Rattle.undo_outside.specs.Disk.{DiskTold, ReadFailed, WriteFailed}
 use Rattle.seal_log.specs.Loading.{IsNotFormatted}
 use Rattle.mail_desk.specs.Kept.{Kept}
-use Rattle.mail_loop.specs.declared.serve.ServeFault.TheVariants.{Turns}
-use Rattle.mail_loop.specs.Serving.{Step}
+use Rattle.mail_loop.specs.declared.serve.ServeFault.TheVariants.{Link, Turns}
+use Rattle.mail_loop.specs.Serving.{Step, CountsFaults, ServedOver}
 use Rattle.script_link.specs.Script.{script_of}
 use Rattle.script_link.specs.Transcript.{transcript_of}
 use Rattle.time_desk.specs.Opening.{IsDamaged}
 use Rattle.command_words.specs.declared.commands.Command.{Command}
 use Rattle.command_words.specs.declared.commands.Command.TheVariants.{Init, Serve, Script, Play, Grow, Check}
 use Rattle.mail_proxy.specs.Init.{IsNoConfig}
-use Rattle.mail_proxy.specs.Lines.{usage, too_long, bad_configuration, bad_line, not_empty, not_a_store, disk_fault, read_fault, too_many, no_memory, damaged}
+use Rattle.mail_proxy.specs.Lines.{usage, too_long, bad_configuration, bad_line, not_empty, not_a_store, link_fault, disk_fault, read_fault, too_many, no_memory, damaged}
 use Rattle.mail_proxy.specs.Reading.{ReadFails, WriteFails, WriteStarves, Wrote}
 use Rattle.mail_proxy.specs.Script.{Played}
 use Rattle.mail_proxy.specs.Texts.{IsText}
@@ -22,6 +22,7 @@ use Rattle.mail_proxy.specs.Texts.{IsText}
 -- what the objects of the outside tell
 pub record Outside : Type 1 where
   pub text : SourceTold
+  pub link : LinkTold
   pub disk : DiskTold
   pub out : SinkTold
 
@@ -31,7 +32,7 @@ pub record Outside : Type 1 where
 abbrev pub is_built : Option Command → Bool
 is_built None = false
 is_built (Some Init) = true
-is_built (Some (Serve smtp imap http)) = false
+is_built (Some (Serve smtp imap http)) = true
 is_built (Some Script) = true
 is_built (Some Play) = true
 is_built (Some (Grow rounds)) = false
@@ -51,7 +52,7 @@ takes_script (Some Check) = false
 abbrev pub opens : Option Command → Bool
 opens None = false
 opens (Some Init) = false
-opens (Some (Serve smtp imap http)) = false
+opens (Some (Serve smtp imap http)) = true
 opens (Some Script) = true
 opens (Some Play) = false
 opens (Some (Grow rounds)) = false
@@ -61,11 +62,21 @@ opens (Some Check) = true
 abbrev pub uses_disk : Option Command → Bool
 uses_disk None = false
 uses_disk (Some Init) = true
-uses_disk (Some (Serve smtp imap http)) = false
+uses_disk (Some (Serve smtp imap http)) = true
 uses_disk (Some Script) = true
 uses_disk (Some Play) = false
 uses_disk (Some (Grow rounds)) = false
 uses_disk (Some Check) = true
+
+-- those that use the link
+abbrev pub uses_link : Option Command → Bool
+uses_link None = false
+uses_link (Some Init) = false
+uses_link (Some (Serve smtp imap http)) = true
+uses_link (Some Script) = false
+uses_link (Some Play) = false
+uses_link (Some (Grow rounds)) = false
+uses_link (Some Check) = false
 
 -- those that read a text
 abbrev pub uses_text : Option Command → Bool
@@ -111,7 +122,7 @@ IsBadText command text line = MatchBool (nat_lt 67108864 (length text)) ((uses_t
 abbrev pub IsWrongDisk : Option Command → DiskTold → List ℕ → Type 0
 IsWrongDisk None disk line = ⊥
 IsWrongDisk (Some Init) disk line = (disk.size ≢ 0) × (line ≡ not_empty)
-IsWrongDisk (Some (Serve smtp imap http)) disk line = ⊥
+IsWrongDisk (Some (Serve smtp imap http)) disk line = (disk.honest → IsNotFormatted disk.content) × (line ≡ not_a_store)
 IsWrongDisk (Some Script) disk line = (disk.honest → IsNotFormatted disk.content) × (line ≡ not_a_store)
 IsWrongDisk (Some Play) disk line = ⊥
 IsWrongDisk (Some (Grow rounds)) disk line = ⊥
@@ -135,6 +146,14 @@ pub record RanOut (told : Option (List ℕ)) (transcript : List ℕ) : Type 0 wh
   pub played : Played first events (Err Turns) notes steps last
   pub transcript_is : transcript ≡ transcript_of notes
 
+-- 2^40 events of the link were served without an end
+pub record RanOn (link link' : LinkTold) : Type 0 where
+  pub first : Kept
+  pub notes : List LinkNote
+  pub steps : List Step
+  pub last : Kept
+  pub over : ServedOver (2 ^ 40) steps notes link link' first last (Err Turns)
+
 -- ---- what each status says of a command and of the outside before it and after it
 
 module _ (command : Option Command) (old new : Outside) where
@@ -154,6 +173,10 @@ module _ (command : Option Command) (old new : Outside) where
   abbrev pub EndsWrong : Type 0
   EndsWrong = (line : List ℕ) × IsWrongDisk command old.disk line × Wrote old.out new.out line
 
+  -- 4: `next` of the link failed
+  abbrev pub EndsUnlinked : Type 0
+  EndsUnlinked = (uses_link command ≡ true) × CountsFaults (Err Link) old.link new.link × Wrote old.out new.out link_fault
+
   -- 5: a call on the disk failed, and it alone; the last line may stand behind a transcript
   abbrev pub EndsFailed : Type 0
   EndsFailed =
@@ -163,11 +186,12 @@ module _ (command : Option Command) (old new : Outside) where
   abbrev pub EndsUnread : Type 0
   EndsUnread = (uses_text command ≡ true) × ReadFails old.text new.text × Wrote old.out new.out read_fault
 
-  -- 7: 2^40 events were served without an end; the transcript is left out where no memory is found for it
+  -- 7: 2^40 events were served without an end; a transcript is left out where no memory is found for it
   abbrev pub EndsLate : Type 0
   EndsLate =
-      (takes_script command ≡ true)
-      × ((transcript : List ℕ) × RanOut old.text.left transcript × (Wrote old.out new.out (transcript ++ too_many) ⊎ Wrote old.out new.out too_many))
+      ((takes_script command ≡ true)
+      × ((transcript : List ℕ) × RanOut old.text.left transcript × (Wrote old.out new.out (transcript ++ too_many) ⊎ Wrote old.out new.out too_many)))
+      ⊎ ((uses_link command ≡ true) × RanOn old.link new.link × Wrote old.out new.out too_many)
 
   -- 8: the last line is that of want of memory, maybe behind a transcript; or the sink found no memory before that
   abbrev pub EndsStarved : Type 0
@@ -181,16 +205,18 @@ module _ (command : Option Command) (old new : Outside) where
   abbrev pub EndsDamaged : Type 0
   EndsDamaged = (opens command ≡ true) × ((place : ℕ) × (old.disk.honest → IsDamaged old.disk.content place) × Wrote old.out new.out (damaged place))
 
--- When each status comes, and what is written then. No other comes; 4 comes from no command that is built.
+-- When each status comes, and what is written then. No other comes. The link's count rises with status 4 alone.
 pub record Comes (command : Option Command) (old new : Outside) (status : ℕ) : Type 0 where
   pub done : status ≡ 0 → AllWell command old new
   pub misused : status ≡ 1 → IsMisused command old new
   pub bad_text : status ≡ 2 → EndsBad command old new
   pub wrong_disk : status ≡ 3 → EndsWrong command old new
+  pub link_fault : status ≡ 4 → EndsUnlinked command old new
   pub disk_fault : status ≡ 5 → EndsFailed command old new
   pub read_fault : status ≡ 6 → EndsUnread command old new
   pub too_many : status ≡ 7 → EndsLate command old new
   pub no_memory : status ≡ 8 → EndsStarved command old new
   pub write_fault : status ≡ 9 → EndsUnwritten command old new
   pub damaged : status ≡ 10 → EndsDamaged command old new
-  pub no_other : (status ≢ 4) × (status ≤ 10)
+  pub no_other : status ≤ 10
+  pub link_count : status ≢ 4 → new.link.faults ≡ old.link.faults

@@ -39,7 +39,7 @@ IsDueFor (Some Check) text disk k = ⊥
 abbrev pub IsDueAlone : Option Command → DiskTold → ℕ → Type 0
 IsDueAlone None disk k = ⊥
 IsDueAlone (Some Init) disk k = ⊥
-IsDueAlone (Some (Serve smtp imap http)) disk k = ⊥
+IsDueAlone (Some (Serve smtp imap http)) disk k = IsDueStore disk k
 IsDueAlone (Some Script) disk k = ⊥
 IsDueAlone (Some Play) disk k = ⊥
 IsDueAlone (Some (Grow rounds)) disk k = ⊥
@@ -55,4 +55,4 @@ IsDue command old k =
 
 -- a call failed, memory was wanted, or no end came within 2^40 events
 abbrev pub IsHindered : ℕ → Type 0
-IsHindered s = (s ≡ 5) ⊎ (s ≡ 6) ⊎ (s ≡ 7) ⊎ (s ≡ 8) ⊎ (s ≡ 9)
+IsHindered s = (s ≡ 5) ⊎ (s ≡ 6) ⊎ (s ≡ 7) ⊎ (s ≡ 8) ⊎ (s ≡ 9) ⊎ (s ≡ 4)

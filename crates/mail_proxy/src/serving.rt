@@ -13,7 +13,7 @@ use time_desk::Desk;
 use undo_base::{NoMemory, Numbers, Text};
 use undo_outside::{Disk, Events, Gate, MemLink};
 
-const MOST_EVENTS: u64 = 1 << 40;
+pub const MOST_EVENTS: u64 = 1 << 40;
 
 /// Serves the events over a link in memory. What is written is the transcript and the last line; the transcript is left out
 /// where no memory is found for it.
@@ -46,7 +46,7 @@ fn or_starved(served: Result<(), ServeFault>) -> Result<(), ServeFault>
 }
 
 /// What is answered where serving ended so, after this transcript.
-fn plan_of(served: Result<(), ServeFault>, transcript: Text) -> Plan
+pub fn plan_of(served: Result<(), ServeFault>, transcript: Text) -> Plan
     ensures status { result.status ≡ status_of served }
     ensures body { result.body ≡ transcript }
     ensures last { line_text result.last ≡ last_line served }

@@ -100,7 +100,7 @@ fn a_bad_line_of_a_script_is_told(rt: HostRuntime) -> Result<(), Fail> {
         b"line 1 a\r",
         b"line 1001 a",
         b"line 1a",
-        b"open 2 http",
+        b"open 2 pop3",
         b"data 1",
         b"fill 1 1 1",
     ];

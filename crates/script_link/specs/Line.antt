@@ -6,7 +6,7 @@ use Rattle.undo_outside.specs.declared.event.Event.{Event}
 use Rattle.undo_outside.specs.declared.event.What.{What}
 use Rattle.undo_outside.specs.declared.event.What.TheVariants.{Joined, Bytes, Left, Idle}
 use Rattle.undo_outside.specs.declared.event.Role.{Role}
-use Rattle.undo_outside.specs.declared.event.Role.TheVariants.{Smtp, Imap}
+use Rattle.undo_outside.specs.declared.event.Role.TheVariants.{Smtp, Imap, Http}
 use Rattle.script_link.specs.declared.line.ScriptLine.{ScriptLine}
 use Rattle.script_link.specs.declared.line.ScriptLine.TheVariants.{Skipped, Moment, Happens, Bad}
 use Rattle.script_link.specs.Numbers.{number_between, moment_of, conn_of}
@@ -49,7 +49,8 @@ abbrev pub role_of : List ℕ → Option Role
 role_of word =
     if bytes_eq word (codes "smtp") then Some Smtp
     else (if bytes_eq word (codes "imap") then Some Imap
-    else None)
+    else (if bytes_eq word (codes "http") then Some Http
+    else None))
 
 -- what follows 'open ': a connection and what it speaks
 unfoldable pub open_line : ℕ → List ℕ → ScriptLine

@@ -78,6 +78,8 @@ fn read_role(word: &[u8]) -> Option<Role>
         Some(Role::Smtp)
     } else if is_text(word, b"imap") {
         Some(Role::Imap)
+    } else if is_text(word, b"http") {
+        Some(Role::Http)
     } else {
         None
     }

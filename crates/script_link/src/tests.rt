@@ -40,7 +40,10 @@ fn each_line_is_its_event(rt: HostRuntime) -> Result<(), Fail> {
     let table: [(&[u8], &[u8]); 16] = [
         (b"", b""),
         (b"\n#\n\n# a first ~\xff\r\n", b""),
-        (b"open 1 smtp\nopen 1000 imap", b"1 0 smtp|1000 0 imap|"),
+        (
+            b"open 1 smtp\nopen 1000 imap\nopen 2 http",
+            b"1 0 smtp|1000 0 imap|2 0 http|",
+        ),
         (
             b"at 1105092000\nline 1 HELO client.test\nline 1\nline 1 \n",
             b"1 1105092000 HELO client.test\r\n|1 1105092000 \r\n|1 1105092000 \r\n|",
@@ -108,7 +111,7 @@ fn the_first_bad_line_is_told(rt: HostRuntime) -> Result<(), Fail> {
         (b"open 1 smtp\nline x y\nx\n", 2),
         (b"\n# a\nat 01\n", 3),
         (b"idle\nfill 1 0 2\nidle 1\n", 2),
-        (b"\n\n\nopen 1 http", 4),
+        (b"\n\n\nopen 1 https", 4),
         (b" # a", 1),
         (b"\r\n", 1),
         (b"#\r\n\r\n", 2),
@@ -128,7 +131,7 @@ fn the_first_bad_line_is_told(rt: HostRuntime) -> Result<(), Fail> {
 fn lines_outside_the_grammar_are_bad(rt: HostRuntime) -> Result<(), Fail> {
     let lines: &[u8] =
         b"at\nat \nat 253402300800\nat 1000000000000\nat 1 \nat  1\nat +1\nat 00\nat 1a\nAT 1\n\
-open\nopen 1\nopen 1 \nopen smtp\nopen 0 smtp\nopen 1001 smtp\nopen 01 smtp\nopen 1 SMTP\nopen 1 smtp \nopen 1  imap\nopen 1 http\nopen 1 pop3\n\
+open\nopen 1\nopen 1 \nopen smtp\nopen 0 smtp\nopen 1001 smtp\nopen 01 smtp\nopen 1 SMTP\nopen 1 smtp \nopen 1  imap\nopen 1 https\nopen 1 pop3\n\
 line\nline \nline  1\nline 0 a\nline 1001 a\nline 01 a\nline 1000000000001 a\nline 1\ta\nline a\nline 1 \x1f\nline 1 \x7f\nline 1 \x80\nline 1 a~\nline 1 ~R\nline 1 ~x\nline 1 ~x0\nline 1 ~x0A\nline 1 ~xg0\nline 1 ~x0 0\nline 1 ~ \n\
 data\ndata 1\ndata 1 \ndata 0 a\ndata a\ndata 1 ~y\n\
 fill\nfill 1\nfill 1 1\nfill 1 1 1\nfill 1 0 2\nfill 1 2001 2\nfill 1 1 1001\nfill 1 1 02\nfill 1 1 2 \nfill 1  1 2\nfill 0 1 2\nfill 1 1 2 3\n\

@@ -13,15 +13,6 @@ const OPENING: &[u8] =
 const WITH_WORK: &[u8] =
     b"cycles 0\nitems 1\nmessages 0\nnext 3\nnotices 0\nusers 3\ndigest 8694218d8877d271ce1110a7ca4f7676b602580e4f9a4ddb0da5e49bd4819643\n";
 
-/// The first so many of these bytes, or all of them where they are fewer.
-fn front(bytes: &[u8], count: usize) -> &[u8] {
-    if count <= bytes.len() {
-        &bytes[..count]
-    } else {
-        bytes
-    }
-}
-
 // Bytes behind the last gate are no damage, as a crash may leave them. A cut frame is, and a record whose number is not the
 // next.
 #[test]
@@ -30,7 +21,9 @@ fn check_tells_the_counts_or_what_is_wrong_and_writes_nothing(rt: HostRuntime) -
     let created = joined(alloc, &FORMATTED[..76], CREATED)?;
     let unsealed = joined(alloc, FORMATTED, &CREATED[1..])?;
     let cut = joined(alloc, &FORMATTED[..76], b"\x55")?;
-    let twice = joined(alloc, front(created.bytes(), 102), CREATED)?;
+    let half = joined(alloc, &FORMATTED[..76], &CREATED[..25])?;
+    let open = joined(alloc, &FORMATTED[..76], &CREATED[..26])?;
+    let twice = joined(alloc, open.bytes(), CREATED)?;
     let table: [(&[u8], u8, &[u8]); 10] = [
         (FORMATTED, 0, OPENING),
         (created.bytes(), 0, WITH_WORK),
@@ -40,7 +33,7 @@ fn check_tells_the_counts_or_what_is_wrong_and_writes_nothing(rt: HostRuntime) -
         (b"U", 10, b"undomail: damaged at 0\n"),
         (&FORMATTED[..76], 10, b"undomail: damaged at 0\n"),
         (cut.bytes(), 10, DAMAGED),
-        (front(created.bytes(), 101), 10, DAMAGED),
+        (half.bytes(), 10, DAMAGED),
         (twice.bytes(), 10, b"undomail: damaged at 102\n"),
     ];
     for (bytes, status, line) in table {

@@ -1,6 +1,6 @@
 //! Tests of the top call over a disk in memory, in a crate of their own, since a crate with tests is proved twice.
 //!
-//! `running` runs a command, `making` has `init`, `checking` has `check`, `scripting` has `script`, and
+//! `running` runs a command, `making` has `init`, `checking` has `check`, `scripting` has `script`, `serving` has `serve`, and
 //! `lasting` what one run leaves for the next.
 #![tactic(auto)]
 
@@ -14,3 +14,5 @@ mod making;
 mod running;
 #[cfg(test)]
 mod scripting;
+#[cfg(test)]
+mod serving;

@@ -1,4 +1,4 @@
-use Rattle.std.proofs.Common.{◌≡◌, [], ap, sym, ◌∙◌, refl, subst}
+use Rattle.std.proofs.Common.{Ok, false, ap, sym, ◌∙◌, refl, subst}
 use Rattle.std.specs.Ordering.{nat_cmp}
 use Rattle.std.specs.Map.{lookup}
 use Rattle.std.specs.BTreeMap.{is_at}
@@ -16,8 +16,8 @@ returns-then-contains_key-clause-answers g c =
     let kept = c.args.desk.now.kept in
     let s : State = record { kept = kept; seats = es } in
     let is = joins_open (lookup (is_at (nat_cmp c.args.conn)) es) c.args.role s c.args.conn (sym c.contains_key.ensures ∙ c.if-contains_key.true) in
-    subst (λ (a : Answered). ((kept ≡ a.state.kept) × (es ≡ a.state.seats) × (replies_of c.new.result.items ≡ a.replies)) × (a.unsealed ≡ [])) (sym is)
-    ((refl, refl, ap replies_of c.new.ensures.items), refl)
+    subst (λ (a : Answered). Answers IsNone a kept es (λ replies. replies_of replies.items) (λ _. false) (Ok c.new.result)) (sym is)
+    ((refl, refl, ap replies_of c.new.ensures.items, refl), refl, tt)
 
 pub returns-else-contains_key-clause-answers : goal.returns-else-contains_key-clause-answers
 returns-else-contains_key-clause-answers g c =
@@ -25,4 +25,4 @@ returns-else-contains_key-clause-answers g c =
     let kept = c.args.desk.now.kept in
     let s : State = record { kept = kept; seats = es } in
     let is = joins_shut (lookup (is_at (nat_cmp c.args.conn)) es) c.args.role s c.args.conn (sym c.contains_key.ensures ∙ c.if-contains_key.false) in
-    subst (λ (a : Answered). Answers IsNone a kept c.admit.new.connections.entries (λ replies. replies_of replies.items) c.admit.result) (sym is) c.admit.ensures.answers
+    subst (λ (a : Answered). Answers IsNone a kept c.admit.new.connections.entries (λ replies. replies_of replies.items) (λ _. false) c.admit.result) (sym is) c.admit.ensures.answers

@@ -2,24 +2,35 @@ use Rattle.std.proofs.Common.{ap, ◌∙◌}
 use Rattle.std.proofs.lemmas.Result.{err_from_is_err_and}
 use Rattle.mail_loop.specs.Asked.{HaveSealed}
 use Rattle.mail_loop.specs.Stands.{replies_of}
-use Rattle.mail_loop.proofs.Events.{leads_starved, leads_by}
+use Rattle.mail_loop.proofs.Events.{leads_starved, leads_by, leads_cut}
 use Rattle.mail_loop.proofs.serve.serve_event.Goals as goal
 
-pub returns-in_err-replies-clause-leads : goal.returns-in_err-replies-clause-leads
-returns-in_err-replies-clause-leads g c =
+pub returns-in_err-answer-clause-leads : goal.returns-in_err-answer-clause-leads
+returns-in_err-answer-clause-leads g c =
     let told = g.L.Link.told in
     let p = err_from_is_err_and c.from_residual.result c.from_residual.ensures.1 in
-    let a = c.in_err-replies.ensures.answers in
-    leads_starved (HaveSealed g.D.Disk.told c.args.desk.now c.answer_event.new.desk) (told c.args.link.now) (record { kept = c.args.desk.now.kept; seats = c.args.connections.now.entries }) c.args.event.now a.0 a.1 c.answer_event.new.desk.kept
-    c.answer_event.new.connections.entries p.0 c.from_residual.result p.1 a.2.0 a.2.1
+    let (b, hs, stage, a) = c.in_err-answer.ensures.answers in
+    leads_starved (HaveSealed g.D.Disk.told c.args.desk.now c.answer_event.new.desk) (told c.args.link.now) (record { kept = c.args.desk.now.kept; seats = c.args.connections.now.entries }) c.args.event.now b hs stage c.answer_event.new.desk.kept
+    c.answer_event.new.connections.entries p.0 c.from_residual.result p.1 a.0 a.1 a.2
+
+pub returns-in-Ok-clause-leads : goal.returns-in-Ok-clause-leads
+returns-in-Ok-clause-leads g c =
+    let told = g.L.Link.told in
+    let (b, hs, stage, a) = c.in_ok-answer.ensures.answers in
+    leads_by (HaveSealed g.D.Disk.told c.args.desk.now c.answer_event.new.desk) (told c.args.link.now) (told c.deliver_all.new.link) (record { kept = c.args.desk.now.kept; seats = c.args.connections.now.entries }) c.args.event.now b hs stage
+    c.answer_event.new.desk.kept c.answer_event.new.connections.entries c.deliver_all.new.connections.entries (replies_of c.as_slice.result.now) c.in_ok-answer.answer.stops c.deliver_all.result tt
+    a.0.0 a.0.1 (ap replies_of c.as_slice.ensures.value ∙ a.0.2) a.0.3 c.deliver_all.ensures.sends c.in-Ok.is a.1 a.2
 
 pub returns-clause-leads : goal.returns-clause-leads
 returns-clause-leads g c =
     let told = g.L.Link.told in
-    let (b, hs, a) = c.in_ok-replies.ensures.answers in
-    leads_by (HaveSealed g.D.Disk.told c.args.desk.now c.answer_event.new.desk) (told c.args.link.now) (told c.deliver_all.new.link) (record { kept = c.args.desk.now.kept; seats = c.args.connections.now.entries }) c.args.event.now b hs c.answer_event.new.desk.kept
-    c.answer_event.new.connections.entries c.deliver_all.new.connections.entries (replies_of c.as_slice.result.now) c.deliver_all.result
-    a.0.0 a.0.1 (ap replies_of c.as_slice.ensures.value ∙ a.0.2) c.deliver_all.ensures.sends a.1
+    let (b, hs, stage, a) = c.in_ok-answer.ensures.answers in
+    leads_cut (HaveSealed g.D.Disk.told c.args.desk.now c.answer_event.new.desk) (told c.args.link.now) (told c.deliver_all.new.link) (record { kept = c.args.desk.now.kept; seats = c.args.connections.now.entries }) c.args.event.now b hs stage
+    c.answer_event.new.desk.kept c.answer_event.new.connections.entries c.deliver_all.new.connections.entries (replies_of c.as_slice.result.now) c.deliver_all.result _ _
+    a.0.0 a.0.1 (ap replies_of c.as_slice.ensures.value ∙ a.0.2) c.deliver_all.ensures.sends c.in-Err.is a.1 a.2
+
+pub returns-in-Ok-clause-home : goal.returns-in-Ok-clause-home
+returns-in-Ok-clause-home g c = c.deliver_all.ensures.home c.answer_event.new.desk.kept.house c.in_ok-answer.ensures.home
 
 pub returns-clause-home : goal.returns-clause-home
-returns-clause-home g c = c.deliver_all.ensures.home c.answer_event.new.desk.kept.house c.in_ok-replies.ensures.home
+returns-clause-home g c = c.deliver_all.ensures.home c.answer_event.new.desk.kept.house c.in_ok-answer.ensures.home

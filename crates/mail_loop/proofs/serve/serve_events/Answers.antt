@@ -6,7 +6,7 @@ use Rattle.mail_loop.specs.Machine.{Seats}
 use Rattle.mail_loop.specs.Stands.{AreHome}
 use Rattle.mail_loop.proofs.Seats.{none_home}
 use Rattle.mail_loop.proofs.Sealed.{all_sealed, chained, some_unsealed, unsealed}
-use Rattle.mail_loop.proofs.Runs.{sealed_all, so_served_none, so_more, so_ended, so_failed, so_starved}
+use Rattle.mail_loop.proofs.Runs.{sealed_all, so_served_none, so_more, so_ended, so_failed, so_starved, so_stopped}
 use Rattle.mail_loop.proofs.serve.serve_events.Goals as goal
 
 pub loop-init : goal.loop-init
@@ -36,8 +36,8 @@ returns-then-closed-clause-serves g c =
     (λ failed seals. some_unsealed disk l.desk new.desk failed l.invariant.open' (sym c.closed.ensures ∙ c.if-closed.true) seals)
     (λ failed seals. chained disk c.seals_join.ensures.then c.args.desk.now l.desk new.desk failed l.invariant.seals seals)
 
-pub returns-then-is_err-clause-serves : goal.returns-then-is_err-clause-serves
-returns-then-is_err-clause-serves g c =
+pub returns-in-Err-clause-serves : goal.returns-in-Err-clause-serves
+returns-in-Err-clause-serves g c =
     let told = g.L.Link.told in
     let disk = g.D.Disk.told in
     let l = c.loop in
@@ -45,7 +45,20 @@ returns-then-is_err-clause-serves g c =
     let new = sent.new in
     so_starved (HaveSealed disk l.desk new.desk) (HaveSealed disk c.args.desk.now new.desk) l.counter c.args.turns (told c.args.link.now) (told l.link) (told c.next.new.self) (told new.link) c.args.desk.now.kept
     new.desk.kept (record { kept = l.desk.kept; seats = l.connections.entries }) new.connections.entries c.in-Ok.event sent.result l.invariant.served c.loop-test.true c.in-Ok.ensures
-    (sym c.is_end_of.ensures ∙ c.if-is_end_of.false) sent.ensures.leads (sym c.is_err.ensures.value ∙ c.if-is_err.true)
+    (sym c.is_end_of.ensures ∙ c.if-is_end_of.false) sent.ensures.leads
+    (λ failed seals. all_sealed disk l.desk new.desk failed l.invariant.open' (sym c.closed.ensures ∙ c.if-closed.false) seals)
+    (λ failed seals. chained disk c.seals_join.ensures.then c.args.desk.now l.desk new.desk failed l.invariant.seals seals)
+
+pub returns-then-stops-clause-serves : goal.returns-then-stops-clause-serves
+returns-then-stops-clause-serves g c =
+    let told = g.L.Link.told in
+    let disk = g.D.Disk.told in
+    let l = c.loop in
+    let sent = c.serve_event-sent in
+    let new = sent.new in
+    so_stopped (HaveSealed disk l.desk new.desk) (HaveSealed disk c.args.desk.now new.desk) l.counter c.args.turns (told c.args.link.now) (told l.link) (told c.next.new.self) (told new.link) c.args.desk.now.kept
+    new.desk.kept (record { kept = l.desk.kept; seats = l.connections.entries }) new.connections.entries c.in-Ok.event sent.result c.in-Ok-sent.stops l.invariant.served c.loop-test.true c.in-Ok.ensures
+    (sym c.is_end_of.ensures ∙ c.if-is_end_of.false) sent.ensures.leads c.in-Ok-sent.is c.if-stops.true
     (λ failed seals. all_sealed disk l.desk new.desk failed l.invariant.open' (sym c.closed.ensures ∙ c.if-closed.false) seals)
     (λ failed seals. chained disk c.seals_join.ensures.then c.args.desk.now l.desk new.desk failed l.invariant.seals seals)
 
@@ -61,8 +74,8 @@ loop-preserved g c =
     let only : (failed : List JournalRecord) → S failed → failed ≡ [] = λ failed seals. all_sealed disk l.desk new.desk failed l.invariant.open' (sym c.closed.ensures ∙ c.if-closed.false) seals in
     record {
       served = so_more S l.counter (told c.args.link.now) (told l.link) (told c.next.new.self) (told new.link) c.args.desk.now.kept
-          new.desk.kept s new.connections.entries c.in-Ok.event sent.result
-          l.invariant.served c.in-Ok.ensures (sym c.is_end_of.ensures ∙ c.if-is_end_of.false) sent.ensures.leads (sym c.is_err.ensures.value ∙ c.if-is_err.false) only;
+          new.desk.kept s new.connections.entries c.in-Ok.event sent.result c.in-Ok-sent.stops
+          l.invariant.served c.in-Ok.ensures (sym c.is_end_of.ensures ∙ c.if-is_end_of.false) sent.ensures.leads c.in-Ok-sent.is c.if-stops.false only;
       home = sent.ensures.home;
       open' = sym c.closed.ensures ∙ c.if-closed.false;
       seals = chained disk c.seals_join.ensures.then c.args.desk.now l.desk new.desk [] l.invariant.seals

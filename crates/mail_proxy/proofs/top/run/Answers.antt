@@ -1,4 +1,4 @@
-use Rattle.std.proofs.Common.{map, string_bytes}
+use Rattle.std.proofs.Common.{map, string_bytes, ap}
 use Rattle.mail_proxy.specs.Plans.{end_of}
 use Rattle.mail_proxy.proofs.Causes.{comes, unused_disk}
 use Rattle.mail_proxy.proofs.Due.{due}
@@ -7,21 +7,27 @@ use Rattle.mail_proxy.proofs.top.run.Goals as goal
 pub returns-clause-comes : goal.returns-clause-comes
 returns-clause-comes g c =
     let text = g.S.Source.told in
+    let link = g.L.Link.told in
     let out = g.W.Sink.told in
     let plan = c.make_plan-plan.result in
-    comes g.D.Disk.told c.args.disk (end_of plan.0 plan.1) (text c.args.text.now) (text c.make_plan-plan.new.text) (out c.args.out.now) (out c.show.new.out) c.show.result c.show.ensures
-    (map string_bytes c.args.words.now.items) c.make_plan-plan.ensures.answers
+    comes g.D.Disk.told c.args.disk (end_of plan.0 plan.1) (text c.args.text.now) (text c.make_plan-plan.new.text) (link c.args.link.now) (link c.make_plan-plan.new.link)
+    (out c.args.out.now) (out c.show.new.out) c.show.result c.show.ensures
+    (map string_bytes c.args.words.now.items) (λ e. ap link (c.make_plan-plan.ensures.unlinked e)) c.make_plan-plan.ensures.answers
 
 pub returns-clause-disk : goal.returns-clause-disk
 returns-clause-disk g c =
     let text = g.S.Source.told in
+    let link = g.L.Link.told in
     let plan = c.make_plan-plan.result in
-    unused_disk g.D.Disk.told (map string_bytes c.args.words.now.items) (text c.args.text.now) (text c.make_plan-plan.new.text) c.args.disk (end_of plan.0 plan.1) c.make_plan-plan.ensures.answers
+    unused_disk g.D.Disk.told (map string_bytes c.args.words.now.items) (text c.args.text.now) (text c.make_plan-plan.new.text) (link c.args.link.now) (link c.make_plan-plan.new.link)
+    c.args.disk (end_of plan.0 plan.1) c.make_plan-plan.ensures.answers
 
 pub returns-clause-due : goal.returns-clause-due
 returns-clause-due g c k =
     let text = g.S.Source.told in
+    let link = g.L.Link.told in
     let out = g.W.Sink.told in
     let plan = c.make_plan-plan.result in
-    due g.D.Disk.told c.args.disk (end_of plan.0 plan.1) (text c.args.text.now) (text c.make_plan-plan.new.text) (out c.args.out.now) (out c.show.new.out) c.show.result c.show.ensures k
+    due g.D.Disk.told c.args.disk (end_of plan.0 plan.1) (text c.args.text.now) (text c.make_plan-plan.new.text) (link c.args.link.now) (link c.make_plan-plan.new.link)
+    (out c.args.out.now) (out c.show.new.out) c.show.result c.show.ensures k
     c.one_opening.ensures (map string_bytes c.args.words.now.items) c.make_plan-plan.ensures.answers

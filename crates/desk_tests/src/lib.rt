@@ -1,0 +1,23 @@
+//! Tests of the desk, in memory and over a disk. They stand in a crate of their own, since a crate with tests is proved twice.
+//!
+//! `asks` and `acts` make what ann asks, what comes and what the operator does from plain words. `desks` has desks over disks
+//! in memory, and asks them. `making`, `acting` and `starting` have the tests of the desk over a disk, `crashing` starts from
+//! what a crash leaves, and `in_memory` has the tests of the desk alone.
+#![tactic(auto)]
+
+#[cfg(test)]
+mod acting;
+#[cfg(test)]
+mod acts;
+#[cfg(test)]
+mod asks;
+#[cfg(test)]
+mod crashing;
+#[cfg(test)]
+mod desks;
+#[cfg(test)]
+mod in_memory;
+#[cfg(test)]
+mod making;
+#[cfg(test)]
+mod starting;

@@ -1,0 +1,188 @@
+//! Tests of starting a desk from a journal.
+
+use crate::desks::{disk_of, housed, started, started_next, status, written};
+use std::alloc::Global;
+use std::test::Fail;
+use time_desk::{Desk, StartFault};
+use undo_base::Text;
+use undo_outside::AbsentDisk;
+
+// The first record of a house, of 71 bytes.
+const HOUSE: &[u8] =
+    b"\x00\x09mail.test\x00\x00\x00\x01\x09mail.test\x00\x00\x00\x02\x00\x00\x00\x03\x03ann\x02a1\x03bob\x02b2\x04carl\x02c3\x00\x00\x00\x00\x01\x04team\x00\x00\x00\x02\x00\x01";
+
+// The same house, of which the first user is named postmaster.
+const POSTMASTER: &[u8] =
+    b"\x00\x09mail.test\x00\x00\x00\x01\x09mail.test\x00\x00\x00\x02\x00\x00\x00\x01\x0apostmaster\x02a1\x00\x00\x00\x00\x00";
+
+// Number 2, the creation of a mailbox by the first user, of 21 bytes.
+const CREATE: &[u8] = b"\x01\x00\x00\x00\x02\x00\x00\x00\x00\x41\xde\x5d\xa0\x00\x0b\x04Work\x00";
+
+// The same with number 3, by a fourth user, by nobody, and with a kind of deed that there is not.
+const THIRD: &[u8] = b"\x01\x00\x00\x00\x03\x00\x00\x00\x00\x41\xde\x5d\xa0\x00\x0b\x04Work\x00";
+
+const STRANGER: &[u8] = b"\x01\x00\x00\x00\x02\x00\x00\x00\x00\x41\xde\x5d\xa0\x03\x0b\x04Work\x00";
+
+const NOBODY: &[u8] = b"\x01\x00\x00\x00\x02\x00\x00\x00\x00\x41\xde\x5d\xa0\xff\x0b\x04Work\x00";
+
+const UNREAD: &[u8] = b"\x01\x00\x00\x00\x02\x00\x00\x00\x00\x41\xde\x5d\xa0\x00\x0e\x04Work\x00";
+
+// Number 3, by which the operator sets an alias for two users, and for a fourth one.
+const ALIAS: &[u8] =
+    b"\x02\x00\x00\x00\x03\x00\x00\x00\x00\x41\xde\x5d\xa1\x01\x02us\x00\x00\x00\x02\x00\x02";
+
+const FAR_ALIAS: &[u8] =
+    b"\x02\x00\x00\x00\x03\x00\x00\x00\x00\x41\xde\x5d\xa1\x01\x02us\x00\x00\x00\x02\x00\x03";
+
+// A journal of these payloads, with these bytes from its last gate on.
+fn journal(alloc: Global, payloads: &[&[u8]], end: &[u8]) -> Result<Text, Fail> {
+    let mut image = Text::new(alloc);
+    for payload in payloads {
+        image.extend(&[0x55])?;
+        let length = payload.len().min(u32::MAX as usize) as u32;
+        image.extend(&length.to_be_bytes())?;
+        image.extend(payload)?;
+    }
+    image.extend(end)?;
+    Ok(image)
+}
+
+#[test]
+fn a_journal_is_opened(rt: HostRuntime) -> Result<(), Fail> {
+    let alloc = rt.alloc();
+    let image = journal(alloc, &[HOUSE, CREATE], b"\x00")?;
+    let Ok(desk) = started(alloc, image.bytes(), &[])? else {
+        return Err(Fail::new("no desk"));
+    };
+    assert_eq!(rt; status(&desk), (false, 3));
+    assert_eq!(rt; housed(&desk), (3, 7));
+    let (after, writes) = written(alloc, desk)?;
+    assert_eq!(rt; writes, 0);
+    assert_eq!(rt; after.bytes(), image.bytes());
+    Ok(())
+}
+
+#[test]
+fn what_can_stand(rt: HostRuntime) -> Result<(), Fail> {
+    let alloc = rt.alloc();
+    let cases: [(&[&[u8]], &[u8], Result<u32, StartFault>); 16] = [
+        (&[HOUSE], b"\x00", Ok(2)),
+        (&[HOUSE, CREATE, ALIAS], b"\x00", Ok(4)),
+        (&[HOUSE, CREATE], b"\x54\x00\x00", Ok(3)),
+        // An open gate, and nothing behind it.
+        (&[HOUSE], b"\x55", Err(StartFault::Damaged { place: 76 })),
+        (
+            &[HOUSE, CREATE],
+            b"\x55\x00\x00",
+            Err(StartFault::Damaged { place: 102 }),
+        ),
+        (&[], b"\x55\x00", Err(StartFault::Damaged { place: 0 })),
+        // A second first record, and a first one that can't be first.
+        (
+            &[HOUSE, HOUSE],
+            b"\x00",
+            Err(StartFault::Damaged { place: 76 }),
+        ),
+        (&[CREATE], b"\x00", Err(StartFault::Damaged { place: 0 })),
+        (
+            &[POSTMASTER],
+            b"\x00",
+            Err(StartFault::Damaged { place: 0 }),
+        ),
+        // A wrong number, and users who are not known or missing.
+        (
+            &[HOUSE, THIRD],
+            b"\x00",
+            Err(StartFault::Damaged { place: 76 }),
+        ),
+        (
+            &[HOUSE, CREATE, CREATE],
+            b"\x00",
+            Err(StartFault::Damaged { place: 102 }),
+        ),
+        (
+            &[HOUSE, STRANGER],
+            b"\x00",
+            Err(StartFault::Damaged { place: 76 }),
+        ),
+        (
+            &[HOUSE, NOBODY],
+            b"\x00",
+            Err(StartFault::Damaged { place: 76 }),
+        ),
+        (
+            &[HOUSE, CREATE, FAR_ALIAS],
+            b"\x00",
+            Err(StartFault::Damaged { place: 102 }),
+        ),
+        // What is no record, before a frame that is cut.
+        (
+            &[HOUSE, UNREAD, CREATE],
+            b"\x55",
+            Err(StartFault::Damaged { place: 76 }),
+        ),
+        (
+            &[HOUSE, CREATE, UNREAD],
+            b"\x00",
+            Err(StartFault::Damaged { place: 102 }),
+        ),
+    ];
+    for (place, (payloads, end, want)) in cases.iter().enumerate() {
+        let image = journal(alloc, payloads, end)?;
+        assert_eq!(rt;
+            started_next(alloc, image.bytes(), &[])?,
+            *want,
+            "case {place}"
+        );
+    }
+    Ok(())
+}
+
+// A start makes a sync, a call of `len`, a read of each gate and of each length, and one of each payload.
+#[test]
+fn a_start_may_be_refused(rt: HostRuntime) -> Result<(), Fail> {
+    let alloc = rt.alloc();
+    let image = journal(alloc, &[HOUSE, CREATE], b"\x00")?;
+    for ordinal in 1..10 {
+        assert_eq!(rt;
+            started_next(alloc, image.bytes(), &[ordinal])?,
+            Err(StartFault::Disk),
+            "call {ordinal}"
+        );
+    }
+    assert_eq!(rt; started_next(alloc, image.bytes(), &[10])?, Ok(3));
+    for bytes in [b"".as_slice(), b"mail", b"\x00", b"\x54"] {
+        assert_eq!(rt;
+            started_next(alloc, bytes, &[])?,
+            Err(StartFault::NotFormatted)
+        );
+    }
+    Ok(())
+}
+
+// A refusal hands the disk back as it was.
+#[test]
+fn a_refused_disk_comes_back(rt: HostRuntime) -> Result<(), Fail> {
+    let alloc = rt.alloc();
+    let disk = disk_of(alloc, b"mail", &[])?;
+    match Desk::start(alloc, disk) {
+        Ok(_desk) => Err(Fail::new("no desk")),
+        Err((disk, _fault)) => {
+            assert_eq!(rt; disk.writes(), 0);
+            assert_eq!(rt; disk.image_after(alloc, 0)?.bytes(), b"mail".as_slice());
+            Ok(())
+        }
+    }
+}
+
+#[test]
+fn no_disk_starts_no_desk(rt: HostRuntime) -> Result<(), Fail> {
+    let alloc = rt.alloc();
+    match Desk::start(alloc, AbsentDisk::new()) {
+        Ok(_desk) => Err(Fail::new("a desk")),
+        Err((_disk, fault)) => {
+            assert_eq!(rt; fault, StartFault::Disk);
+            Ok(())
+        }
+    }
+}

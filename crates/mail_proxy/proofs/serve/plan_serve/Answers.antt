@@ -1,0 +1,27 @@
+use Rattle.std.proofs.Common.{subst, sym, inl, inr, refl}
+use Rattle.mail_loop.specs.Serving.{unsealed_in}
+use Rattle.mail_proxy.specs.Script.{Journals}
+use Rattle.mail_proxy.proofs.Journals.{journals}
+use Rattle.mail_proxy.proofs.serve.plan_serve.Goals as goal
+
+pub returns-in-Ok : goal.returns-in-Ok
+returns-in-Ok g c =
+    let told = g.D.Disk.told in
+    let first = c.in-Ok.desk in
+    let last = c.serve_link-plan.new.desk in
+    let run = c.serve_link-plan.ensures in
+    let unsealed = unsealed_in run.steps first.kept in
+    inr (
+      first,
+      c.in-Ok.ensures.started,
+      (
+        last,
+        run,
+        c.into_disk.ensures,
+        λ honest. subst (λ (d : g.row.D.Denot). Journals (told c.args.disk) first.kept run.added unsealed (told d)) (sym c.into_disk.ensures)
+            (journals told g.met.D.Disk.tells_truth c.args.disk first last run.added unsealed c.in-Ok.ensures.started run.seals honest),
+      ),
+    )
+
+pub returns-in-Err : goal.returns-in-Err
+returns-in-Err g c = inl ((c.in-Err.fault, c.in-Err.ensures.refused, c.unopened.ensures.status, c.unopened.ensures.output), refl)

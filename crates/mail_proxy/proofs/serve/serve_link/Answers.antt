@@ -1,0 +1,22 @@
+use Rattle.std.proofs.Common.{ℕ, List, ◌++◌, ap, ◌∙◌}
+use Rattle.mail_loop.specs.Serving.{unsealed_in}
+use Rattle.mail_proxy.specs.Lines.{line_text}
+use Rattle.mail_proxy.proofs.Served.{disk_fails}
+use Rattle.mail_proxy.proofs.serve.serve_link.Goals as goal
+
+pub returns : goal.returns
+returns g c =
+    let (steps, notes, over, (added, seals)) = c.serve_events-served.ensures.serves in
+    let outcome = c.serve_events-served.result in
+    let told = g.D.Disk.told in
+    record {
+      outcome = outcome;
+      notes = notes;
+      steps = steps;
+      added = added;
+      over = over;
+      status_is = c.plan_of.ensures.status;
+      output_is = ap (λ (l : List ℕ). l ++ line_text c.plan_of.result.last) (c.plan_of.ensures.body ∙ c.new.ensures) ∙ c.plan_of.ensures.last;
+      seals = seals;
+      disk_fault = disk_fails told added (unsealed_in steps c.args.desk.now.kept) c.args.desk.now c.serve_events-served.new.desk outcome seals c.requires c.serve_events-served.ensures.closed;
+    }

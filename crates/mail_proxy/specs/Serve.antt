@@ -1,0 +1,41 @@
+-- What the command `serve` answers, and what it leaves of the link and of the disk.
+use Rattle.std.specs.Prelude.{◌≡◌, ◌⊎◌, ℕ, ◌^◌, List, Result, Ok, Err}
+use Rattle.undo_outside.specs.declared.event.LinkNote.{LinkNote}
+use Rattle.undo_outside.specs.Calls.{LinkTold}
+use Rattle.undo_outside.specs.Disk.{DiskTold, WriteFailed}
+use Rattle.verb_bytes.specs.declared.journal.JournalRecord.{JournalRecord}
+use Rattle.time_desk.specs.Lasting.{Lasting}
+use Rattle.time_desk.specs.Opening.{Starts}
+use Rattle.time_desk.specs.Sealing.{Seals}
+use Rattle.mail_loop.specs.declared.serve.ServeFault.{ServeFault}
+use Rattle.mail_loop.specs.declared.serve.ServeFault.TheVariants.{Disk}
+use Rattle.mail_loop.specs.Serving.{Step, ServedOver, unsealed_in}
+use Rattle.mail_proxy.specs.Opening.{OpensNone}
+use Rattle.mail_proxy.specs.Script.{Journals, last_line, status_of}
+use Rattle.mail_proxy.specs.Texts.{End}
+
+-- How the events of a link were served over a desk: the machine's steps for those that came, what the link did, what was sealed, where what was not
+-- sealed is what these steps say, and what is to be answered and written.
+pub record ServesLink {D : Type 0} (told : D → DiskTold) (link link' : LinkTold) (first last : Lasting D) (status : ℕ) (output : List ℕ) : Type 0 where
+  pub outcome : Result (Unit {0}) ServeFault
+  pub notes : List LinkNote
+  pub steps : List Step
+  pub added : List JournalRecord
+  pub over : ServedOver (2 ^ 40) steps notes link link' first.kept last.kept outcome
+  pub status_is : status ≡ status_of outcome
+  pub output_is : output ≡ last_line outcome
+  pub seals : Seals told added (unsealed_in steps first.kept) first last
+  pub disk_fault : outcome ≡ Err Disk → WriteFailed (told first.disk) (told last.disk)
+
+module _ {D : Type 0} (told : D → DiskTold) where
+  -- The events are served over the desk of a store that was opened, and then the disk gets no call more.
+  abbrev pub ServesOn : D → LinkTold → LinkTold → Lasting D → End D → Type 0
+  ServesOn disk link link' first end =
+      (last : Lasting D) × (run : ServesLink told link link' first last end.status end.output) × (end.disk ≡ last.disk)
+      × ((told disk).honest → Journals (told disk) first.kept run.added (unsealed_in run.steps first.kept) (told end.disk))
+
+  -- what `serve` comes to: no store was opened, and the link got no call; or one was, and its events were served over it
+  abbrev pub ServesStore : LinkTold → LinkTold → D → End D → Type 0
+  ServesStore link link' disk end =
+      (OpensNone told disk end × (link' ≡ link))
+      ⊎ ((desk : Lasting D) × Starts (told disk) (told desk.disk) (Ok (desk.kept, desk.gate)) × ServesOn disk link link' desk end)
