@@ -6,17 +6,10 @@ program=$1
 here=$(dirname "$0")
 folder=$(mktemp -d)
 trap 'rm -rf "$folder"' EXIT
-cat >"$folder/house" <<'END'
-host = "mail.test"
-domains = ["mail.test"]
-postmaster = "ann"
-[[user]]
-name = "ann"
-password = "a1"
-END
+house=$(dirname "$0")/../examples/house.toml
 for count in 10000 20000 50000 100000; do
     store=$folder/$count
-    "$program" init "$store" <"$folder/house"
+    "$program" init "$store" <"$house"
     "$here/journals.py" "$store" 2 "$count"
     before=$(sha256sum <"$store")
     for round in 1 2 3; do

@@ -8,14 +8,7 @@ set -e
 program=$1
 folder=$(mktemp -d -p "${2:-${TMPDIR:-/tmp}}")
 trap 'rm -rf "$folder"' EXIT
-cat >"$folder/house" <<'END'
-host = "mail.test"
-domains = ["mail.test"]
-postmaster = "ann"
-[[user]]
-name = "ann"
-password = "a1"
-END
+house=$(dirname "$0")/../examples/house.toml
 
 # script COUNT: that many messages of about a thousand octets to ann
 script() {
@@ -70,7 +63,7 @@ count=${3:-1000}
 script "$count" >"$folder/script"
 for round in 1 2 3; do
     rm -f "$folder/store"
-    "$program" init "$folder/store" <"$folder/house"
+    "$program" init "$folder/store" <"$house"
     timed "deliveries in memory, round $round" "$count" "$program" play <"$folder/script"
     timed "deliveries into a file, round $round" "$count" "$program" script "$folder/store" <"$folder/script"
     seals "$count"
@@ -92,7 +85,7 @@ processor() {
 
 for records in 1 10000 100000; do
     rm -f "$folder/many"
-    "$program" init "$folder/many" <"$folder/house"
+    "$program" init "$folder/many" <"$house"
     "$(dirname "$0")/journals.py" "$folder/many" 2 "$records"
     processor "check of $records records" /dev/null "$program" check "$folder/store"
     processor "the same and $count deliveries" "$folder/script" "$program" script "$folder/store"
