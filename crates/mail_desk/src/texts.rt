@@ -128,6 +128,19 @@ fn copied_text(alloc: Global, timeline: &[Item], body: Body) -> Result<Text, NoM
     }
 }
 
+fn copied_body(alloc: Global, timeline: &[Item], body: Body) -> Result<Option<Text>, NoMemory>
+    requires { NumbersRise timeline.now }
+    ensures { IfOk result (λ found. found ≡ text_of timeline.now body) }
+{
+    match find_text(timeline, body) {
+        Some(text) => match text.copy(alloc) {
+            Ok(text) => Ok(Some(text)),
+            Err(NoMemory) => Err(NoMemory),
+        },
+        None => Ok(None),
+    }
+}
+
 fn find_rev(timeline: &[Item], number: u32) -> Option<u32>
     requires { NumbersRise timeline.now }
     ensures { result ≡ rev_of timeline.now number }
@@ -148,6 +161,13 @@ impl Desk {
         ensures { IfOk result (λ text. text_of self.now.kept.timeline body ≡ Some text) }
     {
         copied_text(alloc, self.timeline.as_slice(), body)
+    }
+
+    /// The text of a body. None exactly where no item in force has it.
+    pub fn body(&self, alloc: Global, body: Body) -> Result<Option<Text>, NoMemory>
+        ensures { IfOk result (λ found. found ≡ text_of self.now.kept.timeline body) }
+    {
+        copied_body(alloc, self.timeline.as_slice(), body)
     }
 
     /// The texts of bodies, in order.

@@ -19,7 +19,7 @@ use Rattle.time_desk.specs.declared.fault.ActFault.{ActFault}
 use Rattle.time_desk.specs.Lasting.{Lasting, lasting}
 use Rattle.time_desk.specs.Records.{after_records}
 use Rattle.time_desk.specs.Sealing.{IsRecordOf, Seals}
-use Rattle.time_desk.specs.Submitting.{ActsNone, IsActOutcomeOf, IsOutcomeOf, SealsNone, SubmitsNone}
+use Rattle.time_desk.specs.Submitting.{ActsNone, IsActOutcomeOf, IsOutcomeOf, RefusesNone, SealsNone, SubmitsNone, WritesNone}
 
 -- the record of an item that is kept elsewhere as the same
 pub record_as : (what : JournalRecord) (bytes : List ℕ) (kept held : Kept) (item entered : Item) → held ≡ kept → entered ≡ item → IsRecordOf what bytes kept item → IsRecordOf what bytes held entered
@@ -32,6 +32,19 @@ pub ok_submitted : (result : Result Item SubmitFault) (due : Result Item Refused
 ok_submitted (Ok item) due kept new found is copy done =
     ap (submitted_as kept) is ∙ (λ j. record { outcome = Ok (sym copy j); kept = sym done j })
 ok_submitted (Err fault) due kept new found is copy done = tt
+
+-- sealing refuses for want of memory alone
+pub outcome_refuses_none : (fault : SealFault) (out : SubmitFault) → IsOutcomeOf fault out → RefusesNone (Err out)
+outcome_refuses_none log_faults.Disk out is = subst (λ (o : SubmitFault). RefusesNone (Err o)) (sym is) tt
+outcome_refuses_none log_faults.NoMemory out is = subst (λ (o : SubmitFault). RefusesNone (Err o)) (sym is) refl
+outcome_refuses_none log_faults.Closed out is = absurd is
+
+-- where no ask is refused for more, nothing is owed
+pub none_written : {D : Type 0} (result : Result Item SubmitFault) (old new : Lasting D) → RefusesNone result → WritesNone result old new
+none_written (Ok item) old new none = tt
+none_written (Err (ask_faults.Refused why)) old new none = λ more. absurd (more none)
+none_written (Err ask_faults.Disk) old new none = tt
+none_written (Err ask_faults.Closed) old new none = tt
 
 module _ {D : Type 0} (told : D → DiskTold) where
   -- room that was made is nothing that was sealed

@@ -1,5 +1,5 @@
 -- What becomes of an ask and of an act.
-use Rattle.std.specs.Prelude.{◌≡◌, ℕ, ◌<◌, false, [], ◌∷◌, Result, Ok, IsTrue}
+use Rattle.std.specs.Prelude.{◌≡◌, ◌≢◌, ℕ, ◌<◌, false, [], ◌∷◌, Result, Ok, Err, IsTrue}
 use Rattle.undo_outside.specs.Disk.{DiskTold}
 use Rattle.verb_core.specs.declared.ask.Refused.{Refused}
 use Rattle.verb_core.specs.declared.ask.SubmitFault.{SubmitFault}
@@ -14,7 +14,7 @@ use Rattle.seal_log.specs.declared.fault.SealFault.{SealFault}
 use Rattle.seal_log.specs.declared.fault.SealFault.TheVariants as log_faults
 use Rattle.time_desk.specs.declared.fault.ActFault.{ActFault}
 use Rattle.time_desk.specs.declared.fault.ActFault.TheVariants as act_faults
-use Rattle.time_desk.specs.Lasting.{Lasting}
+use Rattle.time_desk.specs.Lasting.{IsUnwritten, Lasting}
 use Rattle.time_desk.specs.Sealing.{Seals}
 
 -- a fault of sealing, as a fault of an ask
@@ -28,6 +28,20 @@ abbrev pub IsActOutcomeOf : SealFault → ActFault → Type 0
 IsActOutcomeOf log_faults.Disk fault = fault ≡ act_faults.Disk
 IsActOutcomeOf log_faults.NoMemory fault = fault ≡ act_faults.NoMemory
 IsActOutcomeOf log_faults.Closed fault = ⊥
+
+-- an ask that is refused finds no memory
+abbrev pub RefusesNone : Result Item SubmitFault → Type 0
+RefusesNone (Ok item) = Unit {0}
+RefusesNone (Err (IsRefused why)) = why ≡ NoMemory
+RefusesNone (Err Disk) = Unit {0}
+RefusesNone (Err Closed) = Unit {0}
+
+-- an ask that is refused for more than want of memory writes nothing
+abbrev pub WritesNone : {D : Type 0} → Result Item SubmitFault → Lasting D → Lasting D → Type 0
+WritesNone (Ok item) old new = Unit {0}
+WritesNone (Err (IsRefused why)) old new = why ≢ NoMemory → IsUnwritten old new
+WritesNone (Err Disk) old new = Unit {0}
+WritesNone (Err Closed) old new = Unit {0}
 
 module _ {D : Type 0} (told : D → DiskTold) where
   -- nothing was sealed, and nothing is lost

@@ -1,5 +1,5 @@
 //! The desk over its disk, and what it tells of itself.
-ghost use Rattle.std.specs.Prelude.{◌≡◌, ℕ, ◌≤◌, ◌<◌, ◌-◌, map, length, option_map, Some, IsTrue, IfOk};
+ghost use Rattle.std.specs.Prelude.{◌≡◌, ℕ, ◌≤◌, ◌<◌, ◌-◌, map, length, option_map, Some, IsTrue, IfOk, IfErr};
 ghost use Rattle.std.specs.List.{list_all};
 ghost use Rattle.verb_core.specs.declared.mailbox.Body.{Body as TheBody};
 ghost use Rattle.verb_core.specs.declared.mailbox.BoxId.{BoxId as TheBoxId};
@@ -7,6 +7,7 @@ ghost use Rattle.verb_core.specs.declared.mailbox.Mailbox.{Mailbox as TheMailbox
 ghost use Rattle.verb_core.specs.Boxes.{box_of, row_at};
 ghost use Rattle.verb_core.specs.Items.{IsTimeline, text_of};
 ghost use Rattle.verb_core.specs.Store.{IsValid, is_house};
+ghost use Rattle.seal_log.specs.declared.fault.ReadFault.TheVariants as read_faults;
 ghost use Rattle.shelf.specs.Notes.{size_of};
 ghost use Rattle.store_digest.specs.Snapshots.{digest_of};
 ghost use Rattle.mail_desk.specs.Counting.{counts_of, listed};
@@ -15,7 +16,7 @@ ghost use Rattle.mail_desk.specs.Timeline.{all_bodies, has_sizes, has_text, numb
 
 use box_store::Store;
 use mail_desk::Counts;
-use seal_log::Log;
+use seal_log::{Log, ReadFault};
 use shelf::Shelf;
 use std::alloc::Global;
 use std::marker::Model;
@@ -141,6 +142,18 @@ impl<D: Disk> Desk<D> {
         ensures { IfOk result (λ text. text_of self.now.kept.timeline body ≡ Some text) }
     {
         self.desk.text(alloc, body)
+    }
+
+    /// The text of a body. None exactly where no item in force has it. Texts lie in memory, so no read of the disk can fail.
+    pub fn body(&mut self, alloc: Global, body: Body) -> Result<Option<Text>, ReadFault>
+        ensures found { IfOk result (λ found. found ≡ text_of self.old.kept.timeline body) }
+        ensures cause { IfErr result (λ fault. fault ≡ read_faults.NoMemory) }
+        ensures still { self.new ≡ self.old }
+    {
+        match self.desk.body(alloc, body) {
+            Ok(found) => Ok(found),
+            Err(NoMemory) => Err(ReadFault::NoMemory),
+        }
     }
 
     /// The texts of bodies, in order.

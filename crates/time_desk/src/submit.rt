@@ -12,7 +12,7 @@ ghost use Rattle.mail_desk.specs.Entering.{CanEnter};
 ghost use Rattle.time_desk.specs.Lasting.{lasting};
 ghost use Rattle.time_desk.specs.Records.{is_spelled};
 ghost use Rattle.time_desk.specs.Sealing.{IsRecordOf, Seals};
-ghost use Rattle.time_desk.specs.Submitting.{IsOutcomeOf, SubmitsNone};
+ghost use Rattle.time_desk.specs.Submitting.{IsOutcomeOf, RefusesNone, SubmitsNone, WritesNone};
 
 use crate::Desk;
 use crate::seal::seal_ready;
@@ -112,6 +112,7 @@ fn seal_found<D: Disk>(
     ensures performed { OnOk result (desk.new.kept ≡ performed desk.old.kept found.item) }
     ensures same { OnErr result (desk.new ≡ desk.old) }
     ensures err { IfErr result (λ fault. SubmitsNone D.told (Ok found.item) (lasting desk.old disk.old log.old) (lasting desk.new disk.new log.new) fault) }
+    ensures refuses_none { RefusesNone result }
     ensures not_closed { IsErrOf result SubmitFault.Closed → ⊥ }
     ensures within { last_gate log.new < (D.told disk.new).size }
 {
@@ -141,6 +142,7 @@ fn submit_open<D: Disk>(
     ensures err { OnErr result (desk.new.kept ≡ desk.old.kept) }
     ensures why { IfErr result (λ fault. SubmitsNone D.told (live (store_of desk.old.kept) desk.old.kept.next at by ask)
         (lasting desk.old disk.old log.old) (lasting desk.new disk.new log.new) fault) }
+    ensures writes_none { WritesNone result (lasting desk.old disk.old log.old) (lasting desk.new disk.new log.new) }
     ensures not_closed { IsErrOf result SubmitFault.Closed → ⊥ }
     ensures within { last_gate log.new < (D.told disk.new).size }
 {
@@ -152,7 +154,8 @@ fn submit_open<D: Disk>(
 
 impl<D: Disk> Desk<D> {
     /// Asks for something at a moment. At `Ok` the item is sealed and performed. At `Disk` the desk is closed from then on,
-    /// and the item may be in the journal or not; what is kept is as before.
+    /// and the item may be in the journal or not; what is kept is as before. Where it is refused for more than want of memory
+    /// nothing was written.
     pub fn submit(
         &mut self,
         alloc: Global,
@@ -166,6 +169,7 @@ impl<D: Disk> Desk<D> {
         ensures sealed { IfOk result (λ item. Seals D.told (Verb item ∷ []) [] self.old self.new) }
         ensures err { OnErr result (self.new.kept ≡ self.old.kept) }
         ensures why { IfErr result (λ fault. SubmitsNone D.told (live (store_of self.old.kept) self.old.kept.next at by ask) self.old self.new fault) }
+        ensures writes_none { WritesNone result self.old self.new }
         ensures closed { IsErrOf result SubmitFault.Closed ↔ IsTrue self.old.closed }
     {
         if self.log.is_closed() {

@@ -2,7 +2,7 @@ use Rattle.std.proofs.Common.{refl}
 use Rattle.verb_bytes.specs.declared.journal.JournalRecord.TheVariants.{Verb}
 use Rattle.time_desk.specs.Lasting.{lasting}
 use Rattle.time_desk.specs.Sealing.{IsRecordOf}
-use Rattle.time_desk.proofs.Submits.{never_closed, record_as, submits_none}
+use Rattle.time_desk.proofs.Submits.{never_closed, outcome_refuses_none, record_as, submits_none}
 use Rattle.time_desk.proofs.submit.seal_found.Goals as goal
 use Rattle.time_desk.proofs.submit.seal_found.Given.{Over}
 use Rattle.time_desk.proofs.submit.seal_found.Goals.{After-seal_ready}
@@ -24,3 +24,6 @@ returns-in-Err-clause-err g c =
     submits_none g.D.Disk.told c.args.found.item (lasting c.args.desk.now c.args.disk.now c.args.log.now) (lasting c.seal_ready.new.desk c.seal_ready.new.disk c.seal_ready.new.log) c.in-Err.fault c.fault_of.result
     c.requires.open c.fault_of.ensures
     (c.in-Err.ensures.err (Verb c.args.found.item) (made g (goal.at.returns-in-Err-clause-err g c).After-seal_ready))
+
+pub returns-in-Err-clause-refuses_none : goal.returns-in-Err-clause-refuses_none
+returns-in-Err-clause-refuses_none g c = outcome_refuses_none c.in-Err.fault c.fault_of.result c.fault_of.ensures

@@ -5,7 +5,7 @@ use Rattle.mail_desk.specs.Desk.{performed, store_of}
 use Rattle.mail_desk.specs.Kept.{Kept}
 use Rattle.time_desk.specs.Lasting.{lasting}
 use Rattle.time_desk.proofs.Runs.{seals_nothing}
-use Rattle.time_desk.proofs.Submits.{ok_submitted, record_as}
+use Rattle.time_desk.proofs.Submits.{none_written, ok_submitted, record_as}
 use Rattle.time_desk.proofs.submit.submit_open.Goals as goal
 
 pub seal_found-requires-clause-record : goal.seal_found-requires-clause-record
@@ -27,3 +27,10 @@ returns-in-Err-clause-why g c = (
   seals_nothing g.D.Disk.told g.met.D.Disk.tells_truth (lasting c.args.desk.now c.args.disk.now c.args.log.now) (lasting c.find.new.desk c.args.disk.now c.args.log.now)
       (record { kept = c.in-Err.ensures.kept; disk = refl; gate = refl; closed = refl }),
 )
+
+pub returns-in-Ok-clause-writes_none : goal.returns-in-Ok-clause-writes_none
+returns-in-Ok-clause-writes_none g c =
+    none_written c.seal_found.result (lasting c.args.desk.now c.args.disk.now c.args.log.now) (lasting c.seal_found.new.desk c.seal_found.new.disk c.seal_found.new.log) c.seal_found.ensures.refuses_none
+
+pub returns-in-Err-clause-writes_none : goal.returns-in-Err-clause-writes_none
+returns-in-Err-clause-writes_none g c = λ other. record { kept = c.in-Err.ensures.kept; disk = refl; gate = refl; closed = refl }
