@@ -3,6 +3,7 @@
 use crate::acts::Acted;
 use crate::asks::Asked;
 use crate::desks::{acted, asked, configured, counted, kept, new_desk, status, written};
+use crate::starting::{HOUSE, journal};
 use std::alloc::Global;
 use std::test::Fail;
 use time_desk::{ActFault, Desk};
@@ -56,13 +57,32 @@ fn does_each_kind(alloc: Global, desk: &mut Desk<MemDisk>) -> Result<bool, Fail>
     Ok(all)
 }
 
+/// The records of the house, of the mail and of one of each kind: a kind, the number, the moment and the act.
+const RECORDS: &[&[u8]] = &[
+    HOUSE,
+    b"\x01\x00\x00\x00\x02\x00\x00\x00\x00\x41\xde\x5d\xa0\xff\x01\x00\x00\x00\x00\x00\x00\x00\x01\x04team\x00\x00\x00\x02Hi\x00",
+    b"\x02\x00\x00\x00\x03\x00\x00\x00\x00\x41\xde\x5d\xa0\x01\x05sales\x00\x00\x00\x01\x00",
+    b"\x02\x00\x00\x00\x04\x00\x00\x00\x00\x41\xde\x5d\xa0\x02\x04team",
+    b"\x02\x00\x00\x00\x05\x00\x00\x00\x00\x41\xde\x5d\xa0\x03\x01f\x05offer\x01\x0aLost+Found",
+    b"\x02\x00\x00\x00\x06\x00\x00\x00\x00\x41\xde\x5d\xa0\x04\x01f",
+    b"\x02\x00\x00\x00\x07\x00\x00\x00\x00\x41\xde\x5d\xa0\x06\x00\x05INBOX\x00\x00\x00\x05given",
+    b"\x02\x00\x00\x00\x08\x00\x00\x00\x00\x41\xde\x5d\xa0\x05\x00\x05INBOX\x00\x00\x00\x02\x00\x00",
+];
+
+fn records() -> &'static [&'static [u8]] {
+    RECORDS
+}
+
 #[test]
 fn each_kind_of_act_is_sealed(rt: HostRuntime) -> Result<(), Fail> {
     let alloc = rt.alloc();
     let mut desk = team_desk(alloc)?;
     assert!(rt; does_each_kind(alloc, &mut desk)?);
     assert_eq!(rt; configured(&desk), (1, 1, 0));
-    assert_eq!(rt; written(alloc, desk)?.1, 16);
+    let (image, writes) = written(alloc, desk)?;
+    assert_eq!(rt; writes, 16);
+    let sealed = journal(alloc, records(), b"\x00")?;
+    assert_eq!(rt; image.bytes(), sealed.bytes());
     Ok(())
 }
 

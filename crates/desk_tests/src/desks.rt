@@ -3,13 +3,13 @@ ghost use Rattle.std.specs.Prelude.{IfOk};
 ghost use Rattle.undo_outside.specs.MemDiskParts.{IsNew};
 
 use crate::acts::{Acted, act_of};
-use crate::asks::{Line, NOW, ask_of, shown_as};
+use crate::asks::{Line, NOW, ask_of, name, shown_as};
 use house_text::playing_config;
 use mail_desk::Counts;
 use std::alloc::Global;
 use std::test::Fail;
 use time_desk::{ActFault, Desk, MakeFault, StartFault};
-use undo_base::{Numbers, Text};
+use undo_base::{Numbers, Text, User};
 use undo_outside::MemDisk;
 use verb_core::{Item, SubmitFault};
 
@@ -90,6 +90,16 @@ pub(crate) fn asked(
     }
 }
 
+/// Whether this is told where a desk is asked for what a line says.
+pub(crate) fn tells(
+    alloc: Global,
+    desk: &mut Desk<MemDisk>,
+    line: Line,
+    want: Result<Told, SubmitFault>,
+) -> Result<bool, Fail> {
+    Ok(asked(alloc, desk, line)? == want)
+}
+
 /// Does what the operator does.
 pub(crate) fn acted(
     alloc: Global,
@@ -115,6 +125,16 @@ pub(crate) fn configured(desk: &Desk<MemDisk>) -> (usize, usize, usize) {
     (opening, conf.aliases.len(), conf.filters.len())
 }
 
+/// The stamp of a mailbox, where it is there.
+pub(crate) fn stamp(
+    alloc: Global,
+    desk: &Desk<MemDisk>,
+    user: User,
+    mailbox: &str,
+) -> Result<Option<u32>, Fail> {
+    Ok(desk.stamp(user, &name(alloc, mailbox)?))
+}
+
 /// How many users and how many stamps there are.
 pub(crate) fn housed(desk: &Desk<MemDisk>) -> (usize, usize) {
     (desk.house().accounts.len(), desk.stamps().len())
@@ -134,4 +154,9 @@ pub(crate) fn written(alloc: Global, desk: Desk<MemDisk>) -> Result<(Text, usize
     let disk = desk.into_disk();
     let writes = disk.writes();
     Ok((disk.image_after(alloc, writes)?, writes))
+}
+
+/// How many items a desk lists from a place on.
+pub(crate) fn listed(alloc: Global, desk: &Desk<MemDisk>, from: u32) -> Result<usize, Fail> {
+    Ok(desk.timeline(alloc, from)?.len())
 }

@@ -41,6 +41,47 @@ fn stamp(alloc: Global, desk: &Desk, mailbox: &str) -> Result<u32, Fail> {
     Ok(desk.stamp(ANN, &name(alloc, mailbox)?).unwrap_or(0))
 }
 
+/// What is asked, and the stamps of INBOX, Work, Old and Kept then, 0 where one is not there.
+const STAMPED: &[(Line, (u32, u32, u32, u32))] = &[
+    ((Asked::Create, "Work", "", 0), (1, 2, 0, 0)),
+    ((Asked::Rename, "Work", "Old", 0), (1, 0, 3, 0)),
+    ((Asked::Rename, "INBOX", "Kept", 0), (1, 0, 3, 4)),
+    ((Asked::Create, "Work", "", 0), (1, 5, 3, 4)),
+    ((Asked::Delete, "Old", "", 0), (1, 5, 0, 4)),
+    ((Asked::Status, "INBOX", "", 0), (1, 5, 0, 4)),
+];
+
+fn stamped() -> &'static [(Line<'static>, (u32, u32, u32, u32))] {
+    STAMPED
+}
+
+fn four_stamps(alloc: Global, desk: &Desk) -> Result<(u32, u32, u32, u32), Fail> {
+    let inbox = stamp(alloc, desk, "INBOX")?;
+    let work = stamp(alloc, desk, "Work")?;
+    let old = stamp(alloc, desk, "Old")?;
+    let kept = stamp(alloc, desk, "Kept")?;
+    Ok((inbox, work, old, kept))
+}
+
+/// Whether the stamps are those that are due.
+fn stamps_follow(alloc: Global, desk: &mut Desk) -> Result<bool, Fail> {
+    let mut all = true;
+    for (line, want) in stamped() {
+        let _told = asked(alloc, desk, *line)?;
+        let found = four_stamps(alloc, desk)?;
+        all = all && found == *want;
+    }
+    Ok(all)
+}
+
+#[test]
+fn stamps_follow_the_names_of_mailboxes(rt: HostRuntime) -> Result<(), Fail> {
+    let alloc = rt.alloc();
+    let mut desk = new_desk(alloc)?;
+    assert!(rt; stamps_follow(alloc, &mut desk)?);
+    Ok(())
+}
+
 /// Whether a body has a text.
 fn is_text(desk: &Desk, body: Body) -> bool
     ensures { result ≡ has_text desk.now.kept.timeline body }
@@ -58,6 +99,12 @@ fn text(alloc: Global, desk: &Desk, body: Body) -> Result<Text, Fail> {
 
 fn body(origin: u32) -> Body {
     Body { origin, rev: 0 }
+}
+
+/// The size of the text that an item brought, and its rev.
+fn size_and_rev(desk: &Desk, origin: u32) -> (Option<u32>, Option<u32>) {
+    let size = desk.shelf().size(body(origin));
+    (size, desk.rev(origin))
 }
 
 fn both_texts(alloc: Global, desk: &Desk, one: Body, two: Body) -> Result<Text, Fail> {
@@ -174,5 +221,13 @@ fn texts_are_in_the_order_of_the_bodies(rt: HostRuntime) -> Result<(), Fail> {
     let desk = three_items(alloc)?;
     let texts = both_texts(alloc, &desk, body(3), body(2))?;
     assert_eq!(rt; texts.bytes(), b"Hello/Hi/".as_slice());
+    Ok(())
+}
+
+#[test]
+fn an_item_has_a_size_and_a_rev_or_no_text(rt: HostRuntime) -> Result<(), Fail> {
+    let desk = three_items(rt.alloc())?;
+    assert_eq!(rt; size_and_rev(&desk, 2), (Some(2), Some(0)));
+    assert_eq!(rt; size_and_rev(&desk, 4), (None, None));
     Ok(())
 }

@@ -1,8 +1,9 @@
 //! Tests of the desk, in memory and over a disk. They stand in a crate of their own, since a crate with tests is proved twice.
 //!
 //! `asks` and `acts` make what ann asks, what comes and what the operator does from plain words. `desks` has desks over disks
-//! in memory, and asks them. `making`, `acting` and `starting` have the tests of the desk over a disk, `crashing` starts from
-//! what a crash leaves, and `in_memory` has the tests of the desk alone.
+//! in memory, and asks them. `making`, `submitting`, `acting` and `starting` have the tests of the desk over a disk, `crashing`
+//! starts from what a crash leaves, `restarting` from what a desk left, `telling` has what it tells of texts, and `in_memory`
+//! has the tests of the desk alone.
 #![tactic(auto)]
 
 #[cfg(test)]
@@ -20,4 +21,10 @@ mod in_memory;
 #[cfg(test)]
 mod making;
 #[cfg(test)]
+mod restarting;
+#[cfg(test)]
 mod starting;
+#[cfg(test)]
+mod submitting;
+#[cfg(test)]
+mod telling;

@@ -7,8 +7,8 @@ use time_desk::{Desk, StartFault};
 use undo_base::Text;
 use undo_outside::AbsentDisk;
 
-// The first record of a house, of 71 bytes.
-const HOUSE: &[u8] =
+/// The first record of the house, of 71 bytes.
+pub(crate) const HOUSE: &[u8] =
     b"\x00\x09mail.test\x00\x00\x00\x01\x09mail.test\x00\x00\x00\x02\x00\x00\x00\x03\x03ann\x02a1\x03bob\x02b2\x04carl\x02c3\x00\x00\x00\x00\x01\x04team\x00\x00\x00\x02\x00\x01";
 
 // The same house, of which the first user is named postmaster.
@@ -34,8 +34,8 @@ const ALIAS: &[u8] =
 const FAR_ALIAS: &[u8] =
     b"\x02\x00\x00\x00\x03\x00\x00\x00\x00\x41\xde\x5d\xa1\x01\x02us\x00\x00\x00\x02\x00\x03";
 
-// A journal of these payloads, with these bytes from its last gate on.
-fn journal(alloc: Global, payloads: &[&[u8]], end: &[u8]) -> Result<Text, Fail> {
+/// A journal of these payloads, with these bytes from its last gate on.
+pub(crate) fn journal(alloc: Global, payloads: &[&[u8]], end: &[u8]) -> Result<Text, Fail> {
     let mut image = Text::new(alloc);
     for payload in payloads {
         image.extend(&[0x55])?;

@@ -131,6 +131,27 @@ fn a_bad_line_of_a_script_is_told(rt: HostRuntime) -> Result<(), Fail> {
     Ok(())
 }
 
+/// Whether a script that is one comment of so many bytes ends with this status and this output.
+fn ends_after_a_comment<R: Threads + Sync>(
+    rt: &R,
+    alloc: Global,
+    length: usize,
+    status: u8,
+    output: &[u8],
+) -> Result<bool, Fail> {
+    let mut comment = Vec::new(alloc);
+    comment.resize(length, b'#')?;
+    plays(rt, alloc, comment.as_slice(), status, output)
+}
+
+#[test]
+fn a_script_has_at_most_64_mebibytes(rt: HostRuntime) -> Result<(), Fail> {
+    let alloc = rt.alloc();
+    assert!(rt; ends_after_a_comment(&rt, alloc, 67_108_864, 0, b"")?);
+    assert!(rt; ends_after_a_comment(&rt, alloc, 67_108_865, 2, b"undomail: text too long\n")?);
+    Ok(())
+}
+
 #[test]
 fn commands_have_their_answers(rt: HostRuntime) -> Result<(), Fail> {
     assert!(rt; plays(&rt, rt.alloc(), COMMANDS, 0, ANSWERS)?);

@@ -18,7 +18,8 @@ const NOT_A_STORE: &[u8] = b"undomail: not a store\n";
 
 const DAMAGED: &[u8] = b"undomail: damaged at 76\n";
 
-const CREATE: &[u8] = b"at 1105092000\nopen 1 imap\nline 1 a LOGIN ann a1\nline 1 b CREATE Work\n";
+pub(crate) const CREATE: &[u8] =
+    b"at 1105092000\nopen 1 imap\nline 1 a LOGIN ann a1\nline 1 b CREATE Work\n";
 
 const CREATE_DONE: &[u8] =
     b"1< * OK mail.test IMAP4rev1 undomail\n1< a OK LOGIN done.\n1< b OK CREATE done.\n";
