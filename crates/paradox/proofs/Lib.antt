@@ -1,0 +1,5 @@
+pub mod Searching
+pub mod Holding
+pub mod Telling
+pub mod Reasons
+pub mod Told

@@ -1,0 +1,90 @@
+-- The verbs of users, the reasons for which an answer no longer holds, and the items that are told of.
+use Rattle.std.specs.Prelude.{ℕ, List, codes, Option, Some, None, option_map, option_and_then}
+use Rattle.verb_core.specs.declared.item.Item.{Item}
+use Rattle.verb_core.specs.declared.item.Act.{Act}
+use Rattle.verb_core.specs.declared.item.Act.TheVariants.{SetAlias, DropAlias, SetFilter, DropFilter, Remove, Give}
+use Rattle.verb_core.specs.declared.item.Deed.{Deed}
+use Rattle.verb_core.specs.declared.item.Deed.TheVariants as deed
+use Rattle.paradox.specs.declared.words.Verb.{Verb}
+use Rattle.paradox.specs.declared.words.Verb.TheVariants as verb
+use Rattle.paradox.specs.declared.words.Reason.{Reason}
+use Rattle.paradox.specs.declared.words.Reason.TheVariants.{Missing, Changed, NoName, Fewer, Redirected, Left, Renamed, Moved, Withdrawn}
+use Rattle.paradox.specs.declared.reports.BrokenItem.{BrokenItem}
+
+-- the word of a verb
+abbrev pub verb_word : Verb → List ℕ
+verb_word verb.Deliver = codes "DELIVER"
+verb_word verb.Append = codes "APPEND"
+verb_word verb.Fetch = codes "FETCH"
+verb_word verb.Store = codes "STORE"
+verb_word verb.Copy = codes "COPY"
+verb_word verb.List = codes "LIST"
+verb_word verb.Status = codes "STATUS"
+verb_word verb.Select = codes "SELECT"
+verb_word verb.Expunge = codes "EXPUNGE"
+verb_word verb.Close = codes "CLOSE"
+verb_word verb.Create = codes "CREATE"
+verb_word verb.Rename = codes "RENAME"
+verb_word verb.Delete = codes "DELETE"
+
+-- a reason in words
+abbrev pub reason_text : Reason → List ℕ
+reason_text Missing = codes "a message is missing"
+reason_text Changed = codes "a message was changed"
+reason_text NoName = codes "a mailbox is missing"
+reason_text Fewer = codes "fewer messages"
+reason_text Redirected = codes "the mail went to Lost+Found"
+reason_text Left = codes "a message was kept"
+reason_text Renamed = codes "the mailbox was not renamed"
+reason_text Moved = codes "mail that you had not seen was kept"
+reason_text Withdrawn = codes "withdrawn by the operator"
+
+-- the verb of a deed: acts and notices are no verbs
+abbrev pub verb_of : Deed → Option Verb
+verb_of (deed.Deliver from to text) = Some verb.Deliver
+verb_of (deed.Append mailbox flags moment text) = Some verb.Append
+verb_of (deed.Fetch mailbox keys sets_seen shows_body) = Some verb.Fetch
+verb_of (deed.Store mailbox keys how flags) = Some verb.Store
+verb_of (deed.Copy mailbox keys target) = Some verb.Copy
+verb_of (deed.List pattern) = Some verb.List
+verb_of (deed.Status mailbox) = Some verb.Status
+verb_of (deed.Select mailbox) = Some verb.Select
+verb_of (deed.Expunge mailbox keys) = Some verb.Expunge
+verb_of (deed.Close mailbox keys) = Some verb.Close
+verb_of (deed.Create mailbox) = Some verb.Create
+verb_of (deed.Rename mailbox target) = Some verb.Rename
+verb_of (deed.Delete mailbox keys) = Some verb.Delete
+verb_of (deed.Act act) = None
+verb_of (deed.Notice user text) = None
+
+-- the mailbox that an act names
+abbrev pub act_box : Act → Option (List ℕ)
+act_box (SetAlias local users) = None
+act_box (DropAlias local) = None
+act_box (SetFilter filter) = None
+act_box (DropFilter id) = None
+act_box (Remove user mailbox key) = Some mailbox
+act_box (Give user mailbox text) = Some mailbox
+
+-- the mailbox that a deed names first, where it names one
+abbrev pub box_of_deed : Deed → Option (List ℕ)
+box_of_deed (deed.Deliver from to text) = None
+box_of_deed (deed.Append mailbox flags moment text) = Some mailbox
+box_of_deed (deed.Fetch mailbox keys sets_seen shows_body) = Some mailbox
+box_of_deed (deed.Store mailbox keys how flags) = Some mailbox
+box_of_deed (deed.Copy mailbox keys target) = Some mailbox
+box_of_deed (deed.List pattern) = None
+box_of_deed (deed.Status mailbox) = Some mailbox
+box_of_deed (deed.Select mailbox) = Some mailbox
+box_of_deed (deed.Expunge mailbox keys) = Some mailbox
+box_of_deed (deed.Close mailbox keys) = Some mailbox
+box_of_deed (deed.Create mailbox) = Some mailbox
+box_of_deed (deed.Rename mailbox target) = Some mailbox
+box_of_deed (deed.Delete mailbox keys) = Some mailbox
+box_of_deed (deed.Act act) = act_box act
+box_of_deed (deed.Notice user text) = None
+
+-- an item as it is told of: only what a user did is told
+abbrev pub told_of : Item → Reason → Option BrokenItem
+told_of i reason =
+    option_and_then (λ user. option_map (λ verb. record { number = i.number; user = user; verb = verb; mailbox = box_of_deed i.deed; reason = reason }) (verb_of i.deed)) i.by

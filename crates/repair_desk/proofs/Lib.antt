@@ -1,0 +1,9 @@
+pub mod Looking
+pub mod Steps
+pub mod Everywhere
+pub mod Points
+pub mod Vain
+pub mod Uids
+pub mod Stamped
+pub mod Extended
+pub mod Texts

@@ -1,0 +1,110 @@
+-- Stamps by the names of their mailboxes.
+use Rattle.std.proofs.Common.{◌≡◌, ℕ, zero, suc, ◌<◌, ◌≤◌, Bool, true, false, cond, ◌&&◌, List, [], ◌∷◌, map, Some, None, Result, Err, refl, sym, ap, ap₂, ◌∙◌, subst, arith, rules, true≢false, length, Ordering, Less, Equal, Greater, is_eq, is_lt, get_or, inl, inr}
+use Rattle.std.specs.Cmp.{first_so, second_so}
+use Rattle.std.specs.Ordering.{ordering_index, ordering_reverse}
+use Rattle.std.specs.FinMap.Entries as rows
+use Rattle.std.specs.List.{list_all}
+use Rattle.std.specs.List.Sorted.{IsBinarySearchResult, IsNonDecreasingBy}
+use Rattle.std.proofs.lemmas.Cmp.{alike_right}
+use Rattle.std.proofs.lemmas.Bool.{cases_order}
+use Rattle.verb_core.specs.declared.mailbox.BoxId.{BoxId}
+use Rattle.verb_core.specs.declared.mailbox.Mailbox.{Mailbox}
+use Rattle.verb_core.specs.declared.conf.House.{House}
+use Rattle.verb_core.specs.Boxes.{box_cmp, is_rising, row_at}
+use Rattle.verb_core.specs.Mailboxes.{is_mailbox}
+use Rattle.verb_core.specs.Store.{is_known, is_row}
+use Rattle.verb_core.proofs.BoxLaws.{exact_boxes, boxes_total}
+
+less_is : (o : Ordering) → is_lt o ≡ true → o ≡ Less
+less_is Less h = refl
+less_is Equal h = absurd (true≢false (sym h))
+less_is Greater h = absurd (true≢false (sym h))
+
+turned_over : (a b : BoxId) (o : Ordering) → box_cmp a b ≡ o → box_cmp b a ≡ ordering_reverse o
+turned_over a b o e = boxes_total.antisymm b a ∙ ap ordering_reverse e
+
+index_at_most : (o : Ordering) → ordering_index o ≤ 2
+index_at_most Less = search rules
+index_at_most Equal = search rules
+index_at_most Greater = search rules
+
+-- a mailbox before another one compares no higher with a third
+rises : (a b id : BoxId) → box_cmp a b ≡ Less → ordering_index (box_cmp a id) ≤ ordering_index (box_cmp b id)
+rises a b id less =
+    elim (box_cmp b id) as (λ o. box_cmp b id ≡ o → ordering_index (box_cmp a id) ≤ ordering_index o) [
+      | Less ↦ λ e. let le : box_cmp a id ≡ Less = boxes_total.trans a b id less e in subst (λ o. ordering_index o ≤ ordering_index Less) (sym le) (search rules)
+      | Equal ↦ λ e. let le : box_cmp a id ≡ Less = sym (alike_right boxes_total b id a e) ∙ less in subst (λ o. ordering_index o ≤ ordering_index Equal) (sym le) (search rules)
+      | Greater ↦ λ e. index_at_most (box_cmp a id)
+    ] refl
+
+below_at : (id : BoxId) (rs : List (BoxId × ℕ)) → rows.below_all box_cmp id rs ≡ true → (j : ℕ) (d : BoxId × ℕ) → j < length rs → box_cmp id (get_or rs j d).0 ≡ Less
+below_at id [] h j d within = absurd (omega arith)
+below_at id (r ∷ rs) h zero d within = less_is (box_cmp id r.0) (first_so _ _ h)
+below_at id (r ∷ rs) h (suc j) d within = below_at id rs (second_so _ _ h) j d (omega arith)
+
+rising_at : (rs : List (BoxId × ℕ)) → is_rising rs ≡ true → (i j : ℕ) (d : BoxId × ℕ) → i < j → j < length rs → box_cmp (get_or rs i d).0 (get_or rs j d).0 ≡ Less
+rising_at [] h i j d lt within = absurd (omega arith)
+rising_at (r ∷ rs) h i zero d lt within = absurd (omega arith)
+rising_at (r ∷ rs) h zero (suc j) d lt within = below_at r.0 rs (first_so _ _ h) j d (omega arith)
+rising_at (r ∷ rs) h (suc i) (suc j) d lt within = rising_at rs (second_so _ _ h) i j d (omega arith) (omega arith)
+
+comparisons_rise : (id : BoxId) (rs : List (BoxId × ℕ)) → is_rising rs ≡ true → IsNonDecreasingBy (λ (r : BoxId × ℕ). ordering_index (box_cmp r.0 id)) rs
+comparisons_rise id rs rising i j d le within =
+    elim (cases_order i j) [
+      | inr (inl lt) ↦ rises (get_or rs i d).0 (get_or rs j d).0 id (rising_at rs rising i j d lt within)
+      | inl same ↦ subst (λ (k : ℕ). ordering_index (box_cmp (get_or rs k d).0 id) ≤ ordering_index (box_cmp (get_or rs j d).0 id)) (sym same) (search rules)
+      | inr (inr gt) ↦ absurd (omega arith)
+    ]
+
+-- the row of a mailbox, where a search found it
+pub row_found : (id : BoxId) (rs : List (BoxId × ℕ)) → is_rising rs ≡ true → (i : ℕ) (d : BoxId × ℕ) → i < length rs → ((d : BoxId × ℕ) → box_cmp (get_or rs i d).0 id ≡ Equal) → row_at id rs ≡ Some (get_or rs i d).1
+row_found id [] rising i d within equal = absurd (omega arith)
+row_found id (r ∷ rs) rising zero d within equal =
+    let same : box_cmp id r.0 ≡ Equal = turned_over r.0 id Equal (equal r) in
+    ap (λ (o : Ordering). cond (is_eq o) (Some r.1) (row_at id rs)) same
+row_found id (r ∷ rs) rising (suc i) d within equal =
+    let is : (get_or rs i r).0 ≡ id = exact_boxes (get_or rs i r).0 id (equal r) in
+    let less : box_cmp r.0 id ≡ Less = subst (λ (q : BoxId). box_cmp r.0 q ≡ Less) is (below_at r.0 rs (first_so _ _ rising) i r (omega arith)) in
+    ap (λ (o : Ordering). cond (is_eq o) (Some r.1) (row_at id rs)) (turned_over r.0 id Less less) ∙ row_found id rs (second_so _ _ rising) i d (omega arith) equal
+
+none_equal : (id : BoxId) (rs : List (BoxId × ℕ)) → ((j : ℕ) (d : BoxId × ℕ) → j < length rs → is_eq (box_cmp id (get_or rs j d).0) ≡ false) → row_at id rs ≡ None
+none_equal id [] none = refl
+none_equal id (r ∷ rs) none = ap (λ b. cond b (Some r.1) (row_at id rs)) (none 0 r (omega arith)) ∙ none_equal id rs (λ j d lt. none (suc j) d (omega arith))
+
+-- or there is none
+pub row_missing : (id : BoxId) (rs : List (BoxId × ℕ)) → is_rising rs ≡ true → (at : ℕ) → IsBinarySearchResult (λ (row : BoxId × ℕ). box_cmp row.0 id) rs (let r : Result ℕ ℕ = Err at in r) → row_at id rs ≡ None
+row_missing id rs rising at parted =
+    none_equal id rs (λ j d within. elim (cases_order j at) [
+      | inr (inl lt) ↦ ap is_eq (turned_over (get_or rs j d).0 id Less ((parted (comparisons_rise id rs rising)).0 j d (omega arith) lt))
+      | inl same ↦ ap is_eq (turned_over (get_or rs j d).0 id Greater ((parted (comparisons_rise id rs rising)).1 j d (omega arith) within))
+      | inr (inr gt) ↦ ap is_eq (turned_over (get_or rs j d).0 id Greater ((parted (comparisons_rise id rs rising)).1 j d (omega arith) within))
+    ])
+
+-- rows with the names of rising ones rise
+below_named : (id : BoxId) (rs : List (BoxId × ℕ)) (boxes : List (BoxId × Mailbox)) → map (λ (r : BoxId × ℕ). r.0) rs ≡ map (λ (r : BoxId × Mailbox). r.0) boxes → rows.below_all box_cmp id rs ≡ rows.below_all box_cmp id boxes
+below_named id [] [] e = refl
+below_named id [] (b ∷ boxes) e = cc
+below_named id (r ∷ rs) [] e = cc
+below_named id (r ∷ rs) (b ∷ boxes) e =
+    let head : r.0 ≡ b.0 = cc in
+    let tail : map (λ (r : BoxId × ℕ). r.0) rs ≡ map (λ (r : BoxId × Mailbox). r.0) boxes = cc in
+    ap₂ (λ (q : BoxId) (y : Bool). is_lt (box_cmp id q) && y) head (below_named id rs boxes tail)
+
+pub rising_named : (rs : List (BoxId × ℕ)) (boxes : List (BoxId × Mailbox)) → map (λ (r : BoxId × ℕ). r.0) rs ≡ map (λ (r : BoxId × Mailbox). r.0) boxes → is_rising boxes ≡ true → is_rising rs ≡ true
+rising_named [] [] e rise = refl
+rising_named [] (b ∷ boxes) e rise = refl
+rising_named (r ∷ rs) [] e rise = cc
+rising_named (r ∷ rs) (b ∷ boxes) e rise =
+    let head : r.0 ≡ b.0 = cc in
+    let tail : map (λ (r : BoxId × ℕ). r.0) rs ≡ map (λ (r : BoxId × Mailbox). r.0) boxes = cc in
+    rw (ap (λ (q : BoxId). rows.below_all box_cmp q rs) head ∙ below_named b.0 rs boxes tail ∙ first_so (rows.below_all box_cmp b.0 boxes) _ rise)
+    (rising_named rs boxes tail (second_so (rows.below_all box_cmp b.0 boxes) _ rise))
+
+-- what is found in a valid store is a mailbox whose UIDs rise
+pub found_sound : (house : House) (id : BoxId) (boxes : List (BoxId × Mailbox)) (m : Mailbox) → Some m ≡ row_at id boxes → list_all (is_row house) boxes ≡ true → is_mailbox m ≡ true
+found_sound house id [] m e all = cc
+found_sound house id (r ∷ boxes) m e all = by (is_eq (box_cmp id r.0)) e (λ found. found_sound house id boxes m found (second_so (is_row house r) _ all))
+  where
+    by : (b : Bool) → Some m ≡ cond b (Some r.1) (row_at id boxes) → (Some m ≡ row_at id boxes → is_mailbox m ≡ true) → is_mailbox m ≡ true
+    by true e rest = let same : m ≡ r.1 = cc in ap is_mailbox same ∙ second_so (is_known house r.0.user) (is_mailbox r.1) (first_so (is_row house r) _ all)
+    by false e rest = rest e

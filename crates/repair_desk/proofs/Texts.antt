@@ -1,0 +1,83 @@
+-- A body that had a text has no other.
+use Rattle.std.proofs.Common.{◌≡◌, ◌≢◌, ℕ, ◌<◌, ◌==◌, Bool, true, false, ◌&&◌, cond, arith, refl, sym, ◌∙◌, List, [], ◌∷◌, drop, find, Some, None, is_some, option_and_then, eqb-true, true≢false}
+use Rattle.std.specs.List.{AllByRecursion}
+use Rattle.std.specs.Cmp.{first_so, second_so}
+use Rattle.verb_core.specs.declared.item.Item.{Item}
+use Rattle.verb_core.specs.declared.mailbox.Body.{Body}
+use Rattle.verb_core.specs.Items.{NumbersApart, text_in, text_of}
+use Rattle.verb_bytes.specs.declared.journal.CycleAsk.{CycleAsk}
+use Rattle.repair_desk.specs.Repairs.{inserted, kept, new_timeline, repaired, replaced_by, takes_text, text_asked, with_text}
+use Rattle.repair_desk.proofs.Everywhere.{everywhere, taken, rest_of, passing, mapped, weaker, inserted_above}
+
+-- whether an item brought the text of a body
+abbrev brings : Body → Item → Bool
+brings body i = (i.number == body.origin) && (i.rev == body.rev) && is_some (text_in i.deed)
+
+-- if it did, it is this text
+abbrev Tells : Body → List ℕ → Item → Type 0
+Tells body text i = brings body i ≡ true → text_in i.deed ≡ Some text
+
+number_of : (body : Body) (i : Item) → brings body i ≡ true → i.number ≡ body.origin
+number_of body i h = eqb-true i.number body.origin (first_so (i.number == body.origin) _ (first_so _ (is_some (text_in i.deed)) h))
+
+rev_is : (body : Body) (i : Item) → brings body i ≡ true → i.rev ≡ body.rev
+rev_is body i h = eqb-true i.rev body.rev (second_so (i.number == body.origin) _ (first_so _ (is_some (text_in i.deed)) h))
+
+-- of the items that have the number of none of these, each tells what one likes
+others_tell : (body : Body) (text : List ℕ) (number : ℕ) (t : List Item) → number ≡ body.origin → AllByRecursion (λ (j : Item). number ≢ j.number) t → AllByRecursion (Tells body text) t
+others_tell body text number t is apart = weaker (λ (j : Item). number ≢ j.number) (Tells body text) (λ j differs h. absurd (differs (is ∙ sym (number_of body j h)))) t apart
+
+-- all items of a timeline that bring a body's text bring the one that is found
+all_tell : (body : Body) (text : List ℕ) (t : List Item) → NumbersApart t → text_of t body ≡ Some text → AllByRecursion (Tells body text) t
+all_tell body text [] apart e = cc
+all_tell body text (i ∷ t) apart e = by (brings body i) refl e (all_tell body text t apart.1)
+  where
+    by : (b : Bool) → brings body i ≡ b → option_and_then (λ (j : Item). text_in j.deed) (cond b (Some i) (find (brings body) t)) ≡ Some text → (text_of t body ≡ Some text → AllByRecursion (Tells body text) t) → AllByRecursion (Tells body text) (i ∷ t)
+    by true here e rest = ((λ h. e), others_tell body text i.number t (number_of body i here) apart.0)
+    by false here e rest = ((λ h. absurd (true≢false (sym h ∙ here))), rest e)
+
+-- what is found is what all tell
+told : (body : Body) (x y : List ℕ) (t : List Item) → AllByRecursion (Tells body x) t → text_of t body ≡ Some y → x ≡ y
+told body x y [] all e = cc
+told body x y (i ∷ t) all e = by (brings body i) refl e (told body x y t all.1)
+  where
+    by : (b : Bool) → brings body i ≡ b → option_and_then (λ (j : Item). text_in j.deed) (cond b (Some i) (find (brings body) t)) ≡ Some y → (text_of t body ≡ Some y → x ≡ y) → x ≡ y
+    by true here e rest = let same : Some x ≡ Some y = sym (all.0 here) ∙ e in cc
+    by false here e rest = rest e
+
+-- a body that has a text in a timeline is of lower numbers than a cycle that comes later
+abbrev IsBefore : ℕ → Item → Type 0
+IsBefore c i = (i.number < c) × (i.rev < c)
+
+low : (body : Body) (x : List ℕ) (c : ℕ) (t : List Item) → AllByRecursion (IsBefore c) t → text_of t body ≡ Some x → (body.origin < c) × (body.rev < c)
+low body x c [] before e = cc
+low body x c (i ∷ t) before e = by (brings body i) refl e (low body x c t before.1)
+  where
+    by : (b : Bool) → brings body i ≡ b → option_and_then (λ (j : Item). text_in j.deed) (cond b (Some i) (find (brings body) t)) ≡ Some x → (text_of t body ≡ Some x → (body.origin < c) × (body.rev < c)) → (body.origin < c) × (body.rev < c)
+    by true here e rest =
+        let number = number_of body i here in
+        let rev = rev_is body i here in
+        let below : i.number < c = before.0.0 in
+        let earlier : i.rev < c = before.0.1 in
+        (omega arith, omega arith)
+    by false here e rest = rest e
+
+repaired_tells : (body : Body) (x : List ℕ) (ask : CycleAsk) (c : ℕ) → body.rev < c → (i : Item) → Tells body x i → Tells body x (repaired ask c i)
+repaired_tells body x ask c before i tells = elim (text_asked ask.replaces i.number) as (λ o. Tells body x (replaced_by c i o)) [
+  | None ↦ tells
+  | Some text ↦ elim (takes_text i.deed) as (λ b. Tells body x (cond b (record i { rev = c; deed = with_text text i.deed }) i)) [
+    | true ↦ λ h. let wrong : c ≡ body.rev = rev_is body (record i { rev = c; deed = with_text text i.deed }) h in absurd (omega arith)
+    | false ↦ tells
+  ]
+]
+
+pub one_text : (t : List Item) (ask : CycleAsk) (c at place : ℕ) (body : Body) (x y : List ℕ) → NumbersApart t → AllByRecursion (λ (i : Item). (i.number < c) × (i.rev < c)) t
+    → text_of t body ≡ Some x → text_of (new_timeline t ask c at place) body ≡ Some y → x ≡ y
+one_text t ask c at place body x y apart before old new =
+    let is = low body x c t before old in
+    let tell : AllByRecursion (Tells body x) t = all_tell body x t apart old in
+    told body x y (new_timeline t ask c at place)
+    (everywhere (Tells body x) t ask c at place (taken (Tells body x) place t tell)
+    (weaker (λ (j : Item). c < j.number) (Tells body x) (λ j above h. let same : j.number ≡ body.origin = number_of body j h in let lower : body.origin < c = is.0 in absurd (omega arith)) (inserted c at ask.inserts) (inserted_above c c at ask.inserts (omega arith)))
+    (mapped (Tells body x) (Tells body x) (repaired ask c) (repaired_tells body x ask c is.1) (kept ask (drop place t)) (passing (Tells body x) _ (drop place t) (rest_of (Tells body x) place t tell))))
+    new

@@ -1,0 +1,4 @@
+pub mod Repairs
+pub mod Lookups
+pub mod Refusing
+pub mod Renewals

@@ -1,0 +1,134 @@
+//! The timeline after the repairs that are asked for.
+ghost use Rattle.std.specs.Prelude.{◌≡◌, ◌+◌, ◌++◌, ◌≤◌, length, map, Some, IfOk, IfErr};
+ghost use Rattle.repair_desk.specs.Refusing.{IsRefusalOf};
+ghost use Rattle.repair_desk.specs.Repairs.{edited as edits, edited_at, inserted, kept as kept_of, repaired};
+
+use crate::asked::Asked;
+use crate::inserts::push_inserts;
+use crate::items::push_copies;
+use crate::later::{push_kept, withdrawn};
+use crate::point::position_of;
+use crate::unmatched::unmatched;
+use std::alloc::Global;
+use undo_base::{LAST_NUMBER, NoMemory, Numbers};
+use verb_bytes::CycleAsk;
+use verb_core::{Item, Items};
+
+/// A repaired timeline: its items, how many of the later ones stayed, those of them that users made and that went, and the
+/// asked numbers that did nothing.
+#[derive(Drop)]
+pub struct Edited {
+    pub items: Items,
+    pub kept: u32,
+    pub withdrawn: Items,
+    pub unmatched: Numbers,
+}
+
+/// Why a timeline was not repaired. `Point` has the point that the timeline does not have.
+#[derive(Clone, Copy, Debug, PartialEq, Eq)]
+pub enum EditRefused {
+    Point { given: u32 },
+    NoMemory,
+}
+
+impl From<NoMemory> for EditRefused {
+    ghost use Rattle.std.specs.Prelude.{◌≡◌};
+    ghost use Rattle.repair_desk.specs.declared.editing.EditRefused.TheVariants.{NoMemory as no_memory};
+
+    ghost from_gives = { λ _ refused. refused ≡ no_memory };
+
+    fn from(_: NoMemory) -> Self {
+        EditRefused::NoMemory
+    }
+}
+
+/// The items of the new timeline: those through the place, the acts, and the later ones that stay.
+fn new_items(
+    alloc: Global,
+    front: &[Item],
+    later: &[Item],
+    ask: &CycleAsk,
+    asked: &Asked<'_>,
+    c: u32,
+    at: u64,
+) -> Result<Items, NoMemory>
+    requires asked { asked.now ≡ ask.now }
+    requires numbers { c + length ask.now.inserts ≤ LAST_NUMBER }
+    ensures { IfOk result (λ items. items ≡ front.now ++ inserted c at ask.now.inserts ++ map (repaired ask.now c) (kept_of ask.now later.now)) }
+{
+    let mut items = Items::new(alloc);
+    push_copies(alloc, &mut items, front)?;
+    push_inserts(alloc, &mut items, ask.inserts.as_slice(), c, at)?;
+    push_kept(alloc, &mut items, asked, later, c)?;
+    Ok(items)
+}
+
+/// How many later items stay.
+fn count_kept(asked: &Asked<'_>, later: &[Item]) -> usize
+    ensures { result ≡ length (kept_of asked.now later.now) }
+{
+    let mut count = 0;
+    for item in later {
+        if !asked.drops(item) {
+            count += 1;
+        }
+    }
+    count
+}
+
+/// The same in 32 bits. More than these hold find no memory.
+fn kept_later(asked: &Asked<'_>, later: &[Item]) -> Result<u32, NoMemory>
+    ensures { IfOk result (λ count. count ≡ length (kept_of asked.now later.now)) }
+{
+    match u32::try_from(count_kept(asked, later)) {
+        Ok(count) => Ok(count),
+        Err(_) => Err(NoMemory),
+    }
+}
+
+/// The repairs, at a place that the timeline has.
+fn edit_at(
+    alloc: Global,
+    timeline: &[Item],
+    ask: &CycleAsk,
+    c: u32,
+    at: u64,
+    place: usize,
+) -> Result<Edited, NoMemory>
+    requires place { place ≤ length timeline.now }
+    requires numbers { c + length ask.now.inserts ≤ LAST_NUMBER }
+    ensures { IfOk result (λ edited. edited ≡ edited_at timeline.now ask.now c at place) }
+{
+    let (front, later) = timeline.split_at(place);
+    let asked = Asked::of(alloc, ask)?;
+    let kept = kept_later(&asked, later)?;
+    let withdrawn = withdrawn(alloc, &asked, later)?;
+    let unmatched = unmatched(alloc, ask, &asked, later)?;
+    let items = new_items(alloc, front, later, ask, &asked, c, at)?;
+    Ok(Edited {
+        items,
+        kept,
+        withdrawn,
+        unmatched,
+    })
+}
+
+/// The timeline after the repairs of the cycle `c` at a moment: the items through the point, the acts that come in with the
+/// numbers behind `c`, and the later items that stay, those whose text was replaced with the rev `c`. In time that grows as
+/// the timeline and the ask times the logarithm of the ask, beside the copies of texts.
+pub fn edit(
+    alloc: Global,
+    timeline: &Items,
+    ask: &CycleAsk,
+    c: u32,
+    at: u64,
+) -> Result<Edited, EditRefused>
+    requires { c + length ask.now.inserts ≤ LAST_NUMBER }
+    ensures ok { IfOk result (λ edited. edits timeline.now ask.now c at ≡ Some edited) }
+    ensures point { IfErr result (IsRefusalOf timeline.now ask.now) }
+{
+    match position_of(timeline.as_slice(), ask.point) {
+        Some(place) => Ok(edit_at(alloc, timeline.as_slice(), ask, c, at, place)?),
+        None => Err(EditRefused::Point { given: ask.point }),
+    }
+}
