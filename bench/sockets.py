@@ -176,7 +176,7 @@ def main():
             deliveries(server, 8, 250)
             seals(folder)
             idle(server, 0)
-            idle(server, 1000 - 10)
+            idle(server, 1000)
         many = os.path.join(folder, "many")
         subprocess.run([program, "init", many], input=HOUSE, check=True)
         journals = os.path.join(os.path.dirname(os.path.abspath(__file__)), "journals.py")
