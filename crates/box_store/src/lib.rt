@@ -5,6 +5,8 @@
 //! what it does to mailboxes, `shown` what its user is shown, with entries looked up by `key_set` and `key_index`.
 //! `reserve` makes room for it in `spares`; `apply` (with `work`, `mail` and `conf_after`) does it. `live` answers what a
 //! user asks, by `refusals` and `room`. `laws` has what holds of every item.
+//! Smaller: `effect` is what an effect is, `sights` what is shown of entries, `asked` what an ask names, `fixed` the names
+//! that are always there, `pattern` those of LIST; `steps` counts, and `threads` says what may cross threads.
 //! What carries the crate: `Store::perform` is `step`; `Store::effect`, `reserve` and `apply` are it in three parts, of
 //! which the last takes no memory; `Store::live` is `live`.
 #![tactic(auto)]

@@ -10,7 +10,7 @@ ghost use Rattle.verb_core.specs.Recipients.{occurs as occurs_in, is_met as meet
 
 use crate::store::search_mailbox;
 use std::alloc::Global;
-use undo_base::{Name, Names, NoMemory, Sequence, User, Users};
+use undo_base::{Name, NoMemory, Sequence, User, Users};
 use verb_core::{Aim, Aims, BoxId, Conf, Filter, House, Mailbox, resolve_local};
 
 /// Whether the needle occurs in the text.

@@ -49,6 +49,7 @@ fn find_lf(bytes: &[u8], from: usize) -> Option<usize>
     None
 }
 
+/// The first bytes.
 pub fn before(bytes: &[u8], count: usize) -> &[u8]
     requires { count ≤ length bytes.now }
     ensures { result.now ≡ take count bytes.now }
@@ -56,6 +57,7 @@ pub fn before(bytes: &[u8], count: usize) -> &[u8]
     &bytes[..count]
 }
 
+/// The bytes behind the first ones.
 pub fn after(bytes: &[u8], count: usize) -> &[u8]
     requires { count ≤ length bytes.now }
     ensures { result.now ≡ drop count bytes.now }
@@ -70,6 +72,7 @@ fn is_empty_line(line: &[u8]) -> bool
 }
 
 impl Lines {
+    /// Nothing looked at yet.
     pub fn new() -> Lines
         ensures { (bytes : List ℕ) → AreFirst result bytes }
     {

@@ -55,6 +55,7 @@ pub fn has_members(value: &Value, count: usize) -> bool
     }
 }
 
+/// A member's text, where it is a text.
 pub fn text_at<'a>(value: &'a Value, key: &str) -> Option<&'a str>
     ensures { option_map (λ text. text.now) result ≡ text_member key.now (view value.now) }
 {
@@ -69,6 +70,7 @@ pub fn number_at(value: &Value, key: &str, most: u64) -> Option<u64>
     if number <= most { Some(number) } else { None }
 }
 
+/// A member's text, where it is a name.
 pub fn name_at(alloc: Global, value: &Value, key: &str) -> Result<Option<Name>, NoMemory>
     ensures { IfOk result (λ name. name ≡ name_member key.now (view value.now)) }
 {
@@ -78,6 +80,7 @@ pub fn name_at(alloc: Global, value: &Value, key: &str) -> Result<Option<Name>, 
     }
 }
 
+/// A member's text, where it names a mailbox; INBOX in any case.
 pub fn box_at(alloc: Global, value: &Value, key: &str) -> Result<Option<Name>, NoMemory>
     ensures { IfOk result (λ name. name ≡ box_member key.now (view value.now)) }
 {
@@ -87,6 +90,7 @@ pub fn box_at(alloc: Global, value: &Value, key: &str) -> Result<Option<Name>, N
     }
 }
 
+/// The member `local`, where it can be the local part of an alias.
 pub fn local_at(alloc: Global, value: &Value) -> Result<Option<Name>, NoMemory>
     ensures { IfOk result (λ name. name ≡ local_member (view value.now)) }
 {
@@ -96,6 +100,7 @@ pub fn local_at(alloc: Global, value: &Value) -> Result<Option<Name>, NoMemory>
     }
 }
 
+/// The user of the house that the member `user` names.
 pub fn user_at(house: &House, value: &Value) -> Option<User>
     requires { IsTrue (is_house house.now) }
     ensures { result ≡ user_member house.now (view value.now) }
@@ -166,6 +171,7 @@ fn file_named(alloc: Global, value: &Value) -> Result<Option<Option<Name>>, NoMe
     }
 }
 
+/// The mailbox that a filter files into; none where the message is dropped.
 pub fn file_at(alloc: Global, value: &Value) -> Result<Option<Option<Name>>, NoMemory>
     ensures { IfOk result (λ file. file ≡ file_member (view value.now)) }
 {
@@ -192,6 +198,7 @@ fn decoded(alloc: Global, encoded: &[u8]) -> Result<Option<Text>, NoMemory>
     }
 }
 
+/// The bytes of the member `body`, which is in Base64 (RFC 4648, section 4).
 pub fn body_at(alloc: Global, value: &Value) -> Result<Option<Text>, NoMemory>
     ensures { IfOk result (λ text. text ≡ body_member (view value.now)) }
 {

@@ -31,6 +31,7 @@ impl Page {
         }
     }
 
+    /// The method by which the page is asked for.
     pub fn method(self) -> &'static [u8]
         ensures { result.now ≡ method_of self }
     {

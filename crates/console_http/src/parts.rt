@@ -56,6 +56,7 @@ fn place_of_slash(path: &[u8]) -> usize
     path.len()
 }
 
+/// The bytes before the first slash; all where there is none.
 pub fn before_slash(path: &[u8]) -> &[u8]
     ensures { result.now ≡ before_first is_slash path.now }
 {
@@ -74,6 +75,7 @@ pub fn behind_slash(path: &[u8]) -> &[u8]
     }
 }
 
+/// The bytes behind the first ones.
 pub fn after(bytes: &[u8], count: usize) -> &[u8]
     requires { count ≤ length bytes.now }
     ensures { result.now ≡ drop count bytes.now }
@@ -164,6 +166,7 @@ fn made_name(alloc: Global, text: &[u8]) -> Result<Name, NoMemory>
     }
 }
 
+/// The name that the text spells, where it is one.
 pub fn read_name(alloc: Global, text: &[u8]) -> Result<Option<Name>, NoMemory>
     ensures { IfOk result (λ name. name ≡ name_of text.now) }
 {

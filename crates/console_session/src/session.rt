@@ -74,6 +74,7 @@ fn serve<D: Disk>(
 }
 
 impl ConsoleSession {
+    /// A connection from which nothing has come.
     pub fn new(alloc: Global) -> ConsoleSession
         ensures { result ≡ [] }
     {

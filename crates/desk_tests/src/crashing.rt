@@ -4,9 +4,8 @@ use crate::asks::Asked;
 use crate::desks::{asked, new_desk, started_next};
 use std::alloc::Global;
 use std::test::Fail;
-use time_desk::{Desk, StartFault};
+use time_desk::StartFault;
 use undo_outside::MemDisk;
-use verb_core::SubmitFault;
 
 /// The disk of a desk that was asked for a mailbox, or that failed at a call.
 fn disk_of_a_create(alloc: Global, failing: &[u32]) -> Result<MemDisk, Fail> {

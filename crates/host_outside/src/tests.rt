@@ -1,7 +1,7 @@
 use crate::FileDisk;
 use std::alloc::Global;
 use std::test::Fail;
-use std::{env, fs, io, process};
+use std::{env, fs, process};
 use undo_outside::{Disk, DiskFault, Failed};
 
 /// A name in the folder for what is temporary, which no other test has.

@@ -144,6 +144,7 @@ fn user_named(accounts: &[Account], name: &[u8]) -> Option<User>
     }
 }
 
+/// The user whose mailbox takes what comes to `postmaster`: the one named by the text, where he is an account.
 pub fn postmaster_in(accounts: &[Account], table: &Table) -> Option<User>
     requires { length accounts.now ≤ 200 }
     ensures value { result ≡ spec.postmaster_of accounts.now (table_view table.now) }

@@ -43,6 +43,7 @@ pub fn is_host(text: &[u8]) -> bool
     is_sized(text, 200) && are_visible(text)
 }
 
+/// Whether the text can be a password: 1 to 200 octets that print, spaces among them.
 pub fn is_password(text: &[u8]) -> bool
     ensures { result ≡ spec.is_password text.now }
 {

@@ -25,6 +25,7 @@ pub enum FetchAsk {
     Body { section: SectionAsk, peek: bool },
 }
 
+/// The items of a FETCH, in their order (RFC 3501, section 6.4.5).
 pub type FetchAsks = Sequence<FetchAsk>;
 
 fn read_status(word: &[u8]) -> Option<StatusAsk>

@@ -1,7 +1,9 @@
 //! The commands of a mail client (RFC 3501, section 6), read from its lines and literals.
 //!
 //! `reader` finds the tag and the word, and `what` reads the arguments of each. Arguments are read from `tokens`, and
-//! `words`, `sets`, `flags`, `dates`, `asks` and `fetch` read what stands in them. The stream is cut by `imap_stream`.
+//! `words`, `sets`, `flags`, `dates`, `asks` and `fetch` read what stands in them: `arguments` reads those of most commands, `messages`
+//! those of FETCH, STORE and COPY, `append` those of APPEND. `command` has the commands, `verbs` their words, `parts` the parts of lines.
+//! `laws` and `round_trip` say what the definitions mean. The stream is cut by `imap_stream`.
 //! What carries the crate: `read_command` gives the command that the grammar has, or the first refusal that holds.
 #![tactic(auto)]
 

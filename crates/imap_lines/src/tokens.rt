@@ -19,6 +19,7 @@ pub enum Token {
     Literal(Text),
 }
 
+/// The tokens of a command, in their order.
 pub type Tokens = Sequence<Token>;
 
 /// What of a token has come.
@@ -154,6 +155,7 @@ fn add_line(alloc: Global, tokens: &mut Tokens, line: &[u8]) -> Result<bool, NoM
     }
 }
 
+/// Whether the token is a space.
 pub fn is_space_token(token: &Token) -> bool
     ensures { result ≡ is_space token.now }
 {
@@ -167,6 +169,7 @@ pub fn is_space_token(token: &Token) -> bool
     }
 }
 
+/// Whether the token opens a list.
 pub fn is_open_token(token: &Token) -> bool
     ensures { result ≡ is_open token.now }
 {
@@ -180,6 +183,7 @@ pub fn is_open_token(token: &Token) -> bool
     }
 }
 
+/// Whether the token closes a list.
 pub fn is_close_token(token: &Token) -> bool
     ensures { result ≡ is_close token.now }
 {
@@ -193,6 +197,7 @@ pub fn is_close_token(token: &Token) -> bool
     }
 }
 
+/// The token's bytes, where it is a word.
 pub fn word_in(token: &Token) -> Option<&[u8]>
     ensures { option_map (λ text. text.now) result ≡ word_of token.now }
 {
@@ -246,6 +251,7 @@ pub fn pattern_in(token: &Token) -> Option<&[u8]>
     }
 }
 
+/// The token's text, where it was in quotes.
 pub fn quoted_in(token: &Token) -> Option<&[u8]>
     ensures { option_map (λ text. text.now) result ≡ quoted_of token.now }
 {
@@ -259,6 +265,7 @@ pub fn quoted_in(token: &Token) -> Option<&[u8]>
     }
 }
 
+/// The token's bytes, where it was a literal.
 pub fn literal_in(token: &Token) -> Option<&[u8]>
     ensures { option_map (λ text. text.now) result ≡ literal_of token.now }
 {

@@ -70,6 +70,7 @@ fn only_atom_chars(bytes: &[u8]) -> bool
     bytes.iter().all(|byte| is_atom_char(*byte))
 }
 
+/// Whether the bytes are an atom (RFC 3501, section 9).
 pub fn is_whole_atom(bytes: &[u8]) -> bool
     ensures { result ≡ is_atom bytes.now }
 {

@@ -3,7 +3,7 @@
 //! `session` is the session with its three calls, `dialog` its state, and `view` the messages that it knows. `obey` takes
 //! a command: `commands`, `boxes`, `lists`, `append`, `fetch` and `flags` have what each does, `names` and `named` the
 //! mailboxes and messages that it names. `settle` takes outcomes, `facts` has what the store tells; `words` and `lines`
-//! write what is said. What carries the crate: `ImapSession::take`, `read` and `done` are the functions `turn`, `heard`
+//! write what is said, and `out` keeps it with what is asked. What carries the crate: `ImapSession::take`, `read` and `done` are the functions `turn`, `heard`
 //! and `settle` of specs/Dialog.antt.
 #![tactic(auto)]
 

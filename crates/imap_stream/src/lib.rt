@@ -1,7 +1,7 @@
 //! The commands of a mail client's stream (RFC 3501), cut out of it, and the messages that their sets name.
 //!
 //! `next` has what a stream gives; `begun` what is read of a command; `marks` the tags of lines and the marks of
-//! literals; `pieces` cuts a stream that comes in any pieces; `picks` finds the messages of a set.
+//! literals; `reader` reads as far as bytes have come, `cut` a whole stream, and `pieces` one that comes in any pieces; `picks` finds the messages of a set; `laws` says what a stream gives.
 //! What carries the crate: `Pieces::next` gives the commands, literal marks and bad lines of the whole stream, and the
 //! law `one_reading` says what these are.
 #![tactic(auto)]

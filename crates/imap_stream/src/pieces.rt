@@ -29,6 +29,7 @@ impl Model for Pieces {
 }
 
 impl Pieces {
+    /// A stream from which nothing has come, at the start of a line.
     pub fn new(alloc: Global) -> Pieces
         ensures { result ≡ before nothing Line }
     {

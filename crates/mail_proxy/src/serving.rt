@@ -13,6 +13,7 @@ use time_desk::Desk;
 use undo_base::{NoMemory, Numbers, Text};
 use undo_outside::{Disk, Events, Gate, MemLink};
 
+/// The most events that a command serves; more than come in any run.
 pub const MOST_EVENTS: u64 = 1 << 40;
 
 /// Serves the events over a link in memory. What is written is the transcript and the last line; the transcript is left out

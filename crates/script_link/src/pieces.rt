@@ -21,6 +21,7 @@ fn find_lf(bytes: &[u8]) -> Option<usize>
     None
 }
 
+/// The bytes behind the first ones.
 pub fn after(bytes: &[u8], count: usize) -> &[u8]
     requires { count ≤ length bytes.now }
     ensures { result.now ≡ drop count bytes.now }

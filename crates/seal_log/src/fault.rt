@@ -4,6 +4,7 @@ ghost use Rattle.std.specs.Prelude.{◌≡◌};
 use undo_base::NoMemory;
 use undo_outside::Failed;
 
+/// Why payloads were not sealed.
 #[derive(Clone, Copy, Debug, PartialEq, Eq)]
 pub enum SealFault {
     /// A write or a sync failed in this call. The log is closed from then on.
@@ -13,12 +14,14 @@ pub enum SealFault {
     Closed,
 }
 
+/// Why a payload was not read.
 #[derive(Clone, Copy, Debug, PartialEq, Eq)]
 pub enum ReadFault {
     Disk,
     NoMemory,
 }
 
+/// Why a disk was not read as a journal.
 #[derive(Clone, Copy, Debug, PartialEq, Eq)]
 pub enum LoadFault {
     /// The disk is empty, or its first gate is not open.

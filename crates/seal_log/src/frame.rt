@@ -5,6 +5,7 @@ ghost use Rattle.seal_log.specs.Journal.{frame};
 use std::alloc::Global;
 use undo_base::NoMemory;
 
+/// The byte of a gate behind which a frame is sealed.
 pub const OPEN: u8 = 0x55;
 
 const CLOSED: u8 = 0x00;

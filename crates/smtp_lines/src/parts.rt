@@ -18,6 +18,7 @@ fn place_of(bytes: &[u8], byte: u8) -> usize
     bytes.len()
 }
 
+/// The bytes before the first such byte; all where there is none.
 pub fn before(bytes: &[u8], byte: u8) -> &[u8]
     ensures { result.now ≡ before_first (λ b. b == byte) bytes.now }
 {
@@ -36,6 +37,7 @@ pub fn behind(bytes: &[u8], byte: u8) -> &[u8]
     }
 }
 
+/// The bytes behind the first ones.
 pub fn after(bytes: &[u8], count: usize) -> &[u8]
     requires { count ≤ length bytes.now }
     ensures { result.now ≡ drop count bytes.now }
@@ -43,6 +45,7 @@ pub fn after(bytes: &[u8], count: usize) -> &[u8]
     &bytes[count..]
 }
 
+/// Whether the byte is among them.
 pub fn has(bytes: &[u8], byte: u8) -> bool
     ensures { result ≡ list_any (λ b. b == byte) bytes.now }
 {
@@ -83,6 +86,7 @@ fn count_at_end(bytes: &[u8], byte: u8) -> usize
     bytes.len() - count
 }
 
+/// The bytes before the last such byte.
 pub fn before_the_last(bytes: &[u8], byte: u8) -> &[u8]
     ensures { result.now ≡ before_last (λ b. b == byte) bytes.now }
 {
@@ -90,6 +94,7 @@ pub fn before_the_last(bytes: &[u8], byte: u8) -> &[u8]
     &bytes[..end.saturating_sub(1)]
 }
 
+/// The bytes behind the last such byte.
 pub fn behind_the_last(bytes: &[u8], byte: u8) -> &[u8]
     ensures { result.now ≡ after_last (λ b. b == byte) bytes.now }
 {

@@ -5,8 +5,8 @@ ghost use Rattle.std.specs.List.{list_all};
 ghost use Rattle.smtp_lines.specs.Path.{begins_with, path_at, inside, is_path_byte, is_path, unrouted, path_of, is_recipient};
 
 use crate::parts::{
-    after, are_visible, before, before_the_last, behind, behind_the_last, has, has_length_of_name,
-    has_word, is_spelled_as, unspace,
+    after, before, before_the_last, behind, behind_the_last, has, has_length_of_name, has_word,
+    is_spelled_as, unspace,
 };
 
 /// The most bytes between the brackets (RFC 5321, section 4.5.3.1.3).

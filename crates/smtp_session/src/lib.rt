@@ -1,7 +1,8 @@
 //! The dialog with a mail client: a function of its state and one line.
 //!
-//! `session` is the session with its two calls, `dialog` its state and what each command does to it, `recipients` and
-//! `draft` are parts of a transaction, `answer` and `body` write texts. What carries the crate: `SmtpSession::take` and
+//! `session` is the session with its two calls, `dialog` its state, `commands` what each command does to it and `ending` how a
+//! transaction ends; `recipients` and `draft` are its parts, `answer` and `body` write texts; `laws` says what the definitions
+//! mean. What carries the crate: `SmtpSession::take` and
 //! `done` are the functions `turn` and `settle` of specs/Dialog.antt.
 #![tactic(auto)]
 

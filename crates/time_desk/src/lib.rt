@@ -2,7 +2,8 @@
 //!
 //! `desk` has the desk over its disk and tells its parts. `make` begins a journal, `start` reads one, with `standing` for the records that
 //! can stand, and `openings` has the law that an image opens in one way. `seal` seals one record; `submit` and `act` take what
-//! users and the operator ask. In specs/, `Records` says what records leave one after the other and when one can stand,
+//! users and the operator ask; `spelling` says which items have a record, and `fault` why a desk is not made, not started or an act not
+//! done. In specs/, `Records` says what records leave one after the other and when one can stand,
 //! `Lasting` what contracts see of a desk, `Sealing` what a call seals and what a crash at any moment of it leaves, `Opening`
 //! what an image opens as, `Standing` how its records are read, `Making` and `Submitting` why calls are refused.
 //! What carries the crate: `Desk::submit` and `Desk::act`, by `Seals`, and `Desk::start`, by `Starts`.

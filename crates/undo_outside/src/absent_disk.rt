@@ -12,6 +12,7 @@ pub struct AbsentDisk {
 }
 
 impl AbsentDisk {
+    /// No disk, of which no call was made.
     pub fn new() -> AbsentDisk {
         AbsentDisk {
             failed_reads: 0,

@@ -1,7 +1,8 @@
 //! The verbs of the mail store: its parts, its items, and what each item does.
 //!
 //! `mailbox` and `conf` are the parts of a store, `item` what is recorded, `ask` what is asked and refused, `bodies`
-//! where texts are read, `copy` the copies. `specs/` says what each item does to the store and what it answers.
+//! where texts are read, `copy` the copies, `recipients` whom a local part means; `threads` says what may cross threads, and `laws`
+//! what holds of every store and item. `specs/` says what each item does to the store and what it answers.
 #![tactic(auto)]
 
 mod ask;
