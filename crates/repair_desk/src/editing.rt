@@ -86,8 +86,8 @@ fn kept_later(asked: &Asked<'_>, later: &[Item]) -> Result<u32, NoMemory>
     }
 }
 
-/// The repairs, at a place that the timeline has.
-fn edit_at(
+/// The timeline after the repairs of the cycle `c` at a moment, cut behind the place of its point, which `position_of` finds.
+pub fn edit_at(
     alloc: Global,
     timeline: &[Item],
     ask: &CycleAsk,

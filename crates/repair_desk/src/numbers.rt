@@ -9,7 +9,7 @@ use undo_base::NoMemory;
 
 /// Numbers, each once.
 #[derive(Drop)]
-pub(crate) struct NumberSet {
+pub struct NumberSet {
     numbers: BTreeSet<u32>,
 }
 
@@ -23,7 +23,7 @@ impl Model for NumberSet {
 
 impl NumberSet {
     /// No numbers, which takes no memory.
-    pub(crate) fn new(alloc: Global) -> NumberSet
+    pub fn new(alloc: Global) -> NumberSet
         ensures { result ≡ [] }
     {
         NumberSet {
@@ -32,7 +32,7 @@ impl NumberSet {
     }
 
     /// The numbers of a list.
-    pub(crate) fn of(alloc: Global, numbers: &[u32]) -> Result<NumberSet, NoMemory>
+    pub fn of(alloc: Global, numbers: &[u32]) -> Result<NumberSet, NoMemory>
         ensures { IfOk result (λ set. (n : ℕ) → is_among set n ≡ is_among numbers.now n) }
     {
         let mut set = NumberSet::new(alloc);
@@ -43,7 +43,7 @@ impl NumberSet {
     }
 
     /// With one more number.
-    pub(crate) fn insert(&mut self, number: u32) -> Result<(), NoMemory>
+    pub fn insert(&mut self, number: u32) -> Result<(), NoMemory>
         ensures { OnOk result ((n : ℕ) → is_among self.new n ≡ (is_among self.old n || (n == number))) }
     {
         self.numbers.insert(number)?;
@@ -51,7 +51,7 @@ impl NumberSet {
     }
 
     /// Whether the number is one of them.
-    pub(crate) fn contains(&self, number: u32) -> bool
+    pub fn contains(&self, number: u32) -> bool
         ensures { result ≡ is_among self.now number }
     {
         self.numbers.contains(&number)

@@ -1,0 +1,102 @@
+-- A cycle: the timeline is repaired and performed from its beginning, what users were shown is compared with what they would
+-- be shown now, and each user whose answers no longer hold gets a notice.
+use Rattle.std.specs.Prelude.{ℕ, ◌+◌, Bool, ◌==◌, nat_le, if◌then◌else◌, List, [], ◌∷◌, ◌++◌, drop, filter, length, map, Option, Some, None, option_map}
+use Rattle.undo_base.specs.declared.keys.User.{User}
+use Rattle.verb_bytes.specs.declared.journal.CycleAsk.{CycleAsk}
+use Rattle.verb_core.specs.declared.item.Deed.TheVariants.{Notice}
+use Rattle.verb_core.specs.declared.item.Item.{Item}
+use Rattle.verb_core.specs.declared.item.Shown.{Shown}
+use Rattle.verb_core.specs.declared.item.Shown.TheVariants.{Nothing}
+use Rattle.verb_core.specs.declared.mailbox.BoxId.{BoxId}
+use Rattle.verb_core.specs.Step.{answers, run}
+use Rattle.paradox.specs.Letters.{notices}
+use Rattle.paradox.specs.declared.reports.BrokenItem.{BrokenItem}
+use Rattle.paradox.specs.declared.reports.Report.{Report}
+use Rattle.repair_desk.specs.Repairs.{edited_at, numbers_of, position}
+use Rattle.repair_desk.specs.Renewals.{renewed}
+use Rattle.mail_cycle.specs.Judging.{judged, shown_after}
+use Rattle.mail_cycle.specs.State.{State, base_of, store_of}
+
+-- ---- notices
+
+-- a notice as an item: it has no user
+abbrev pub notice_item : ℕ → ℕ → User × List ℕ → Item
+notice_item number at n = record { number = number; at = at; by = None; rev = 0; deed = Notice n.0 n.1; shown = Nothing }
+
+-- notices as items of a moment, with the numbers behind the given one
+abbrev pub notice_items : ℕ → ℕ → List (User × List ℕ) → List Item
+notice_items number at [] = []
+notice_items number at (n ∷ ns) = notice_item (number + 1) at n ∷ notice_items (number + 1) at ns
+
+-- ---- what is left, and what is reported
+
+-- what a cycle leaves: the items in force, the stamps, the next number, and the report
+pub record Cycled : Type 0 where
+  pub timeline : List Item
+  pub stamps : List (BoxId × ℕ)
+  pub next : ℕ
+  pub report : Report
+
+-- the repaired items, with no answer compared yet
+abbrev pub repaired_items : State → ℕ → CycleAsk → ℕ → List Item
+repaired_items s at ask place = (edited_at s.timeline ask s.next at place).items
+
+-- how many of them are not compared: those through the point, and the acts that come in
+abbrev pub front_of : CycleAsk → ℕ → ℕ
+front_of ask place = place + length ask.inserts
+
+-- what each repaired item shows now
+abbrev pub shown_now : State → ℕ → CycleAsk → ℕ → List Shown
+shown_now s at ask place = answers (base_of s) (repaired_items s at ask place)
+
+-- the broken and withdrawn items, in the order of the timeline before
+abbrev pub broken_at : State → ℕ → CycleAsk → ℕ → List BrokenItem
+broken_at s at ask place = judged ask.drops (drop place s.timeline) (drop (front_of ask place) (shown_now s at ask place))
+
+-- the items in force before the notices
+abbrev pub kept_at : State → ℕ → CycleAsk → ℕ → List Item
+kept_at s at ask place = shown_after (front_of ask place) (repaired_items s at ask place) (shown_now s at ask place)
+
+-- the notices, as items
+abbrev pub told_at : State → ℕ → CycleAsk → ℕ → List Item
+told_at s at ask place = notice_items (s.next + length ask.inserts) at (notices s.house s.next at (broken_at s at ask place))
+
+-- the items in force
+abbrev pub timeline_at : State → ℕ → CycleAsk → ℕ → List Item
+timeline_at s at ask place = kept_at s at ask place ++ told_at s at ask place
+
+-- the stamps, by the store before and the store after
+abbrev pub stamps_at : State → ℕ → CycleAsk → ℕ → List (BoxId × ℕ)
+stamps_at s at ask place = renewed (store_of s).boxes (run (base_of s) (timeline_at s at ask place)).boxes s.stamps s.next
+
+-- the mailboxes that have the stamp of the cycle
+abbrev pub renewed_by : ℕ → List (BoxId × ℕ) → List (BoxId × ℕ)
+renewed_by c stamps = filter (λ (r : BoxId × ℕ). r.1 == c) stamps
+
+abbrev pub report_at : State → ℕ → CycleAsk → ℕ → Report
+report_at s at ask place = record {
+  cycle = s.next;
+  point = ask.point;
+  kept = (edited_at s.timeline ask s.next at place).kept;
+  broken = broken_at s at ask place;
+  notices = numbers_of (told_at s at ask place);
+  renewed = renewed_by s.next (stamps_at s at ask place);
+  unmatched = (edited_at s.timeline ask s.next at place).unmatched;
+}
+
+-- the cycle, behind a place of the timeline
+abbrev pub cycled_at : State → ℕ → CycleAsk → ℕ → Cycled
+cycled_at s at ask place = record {
+  timeline = timeline_at s at ask place;
+  stamps = stamps_at s at ask place;
+  next = s.next + 1 + length ask.inserts + length (told_at s at ask place);
+  report = report_at s at ask place;
+}
+
+-- whether numbers are left for the cycle, its acts and a notice to each user
+abbrev pub leaves_numbers : State → CycleAsk → Bool
+leaves_numbers s ask = nat_le (s.next + 1 + length ask.inserts + length s.house.accounts) 4194303
+
+-- the cycle at a moment, where the timeline has the point and numbers are left
+abbrev pub cycled : State → ℕ → CycleAsk → Option Cycled
+cycled s at ask = if leaves_numbers s ask then option_map (cycled_at s at ask) (position s.timeline ask.point) else None

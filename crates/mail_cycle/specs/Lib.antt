@@ -1,0 +1,5 @@
+pub mod State
+pub mod Judging
+pub mod Cycles
+pub mod Refusing
+pub mod Leaving

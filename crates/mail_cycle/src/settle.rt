@@ -1,0 +1,43 @@
+//! What items show after a cycle.
+ghost use Rattle.std.specs.Prelude.{◌≡◌, OnOk};
+ghost use Rattle.mail_cycle.specs.Judging.{shown_after, shown_by};
+
+use crate::judge::rest;
+use paradox::broken;
+use std::alloc::Global;
+use undo_base::{Copies, NoMemory};
+use verb_core::{Item, Shown};
+
+/// Lets an item show the first of these answers, where what it showed no longer holds.
+fn settle_one(alloc: Global, item: &mut Item, now: &[Shown]) -> Result<(), NoMemory>
+    ensures { OnOk result (item.new ≡ shown_by item.old now.now) }
+{
+    if let Some(shown) = now.first() {
+        if broken(item, shown).is_some() {
+            item.shown = shown.copy(alloc)?;
+        }
+    }
+    Ok(())
+}
+
+/// Lets the items behind the first so many show their answers, where what they showed no longer holds.
+pub(crate) fn settle(
+    alloc: Global,
+    front: usize,
+    items: &mut Vec<Item>,
+    now: &[Shown],
+) -> Result<(), NoMemory>
+    ensures { OnOk result (items.new.items ≡ shown_after front items.old.items now.now) }
+{
+    let mut left = front;
+    let mut now = now;
+    for item in items.iter_mut() {
+        if left == 0 {
+            settle_one(alloc, item, now)?;
+        } else {
+            left -= 1;
+        }
+        now = rest(now);
+    }
+    Ok(())
+}
