@@ -1,1 +1,2 @@
 pub mod Cycled
+pub mod Left

@@ -1,5 +1,5 @@
 -- What users were shown, against what the same items show when they are performed once more.
-use Rattle.std.specs.Prelude.{ℕ, Bool, if◌then◌else◌, zero, suc, List, [], ◌∷◌, drop, is_some, Option, Some, None, option_and_then}
+use Rattle.std.specs.Prelude.{ℕ, if◌then◌else◌, zero, suc, List, [], ◌∷◌, drop, is_some, Option, Some, None, option_and_then}
 use Rattle.std.specs.List.{cons_option}
 use Rattle.verb_core.specs.declared.item.Item.{Item}
 use Rattle.verb_core.specs.declared.item.Shown.{Shown}

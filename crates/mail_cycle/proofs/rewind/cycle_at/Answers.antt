@@ -1,4 +1,4 @@
-use Rattle.std.proofs.Common.{◌≡◌, ◌+◌, ◌∙◌, ℕ, List, ap, ap₂, length, arith}
+use Rattle.std.proofs.Common.{◌≡◌, ◌∙◌, ℕ, List, ap, ap₂, length, arith}
 use Rattle.verb_core.specs.declared.item.Item.{Item}
 use Rattle.verb_core.specs.declared.mailbox.BoxId.{BoxId}
 use Rattle.verb_core.specs.Step.{run}
@@ -18,10 +18,10 @@ returns-clause-made g c =
     let next = ap (λ (w : State). w.next) c.before-2.view_is in
     let store : r.store.store ≡ run (base_of s) (timeline_at s c.args.at c.args.ask.now c.args.place) = is.store ∙ ap (run (base_of s)) is.timeline in
     let stamps : c.in_ok-stamps.stamps ≡ stamps_at s c.args.at c.args.ask.now c.args.place =
-        c.in_ok-stamps.ensures
-        ∙ ap (λ (b : MailStore). renewed b.boxes r.store.store.boxes x.stamps.now x.next) c.before-2.invariant.store_is
-        ∙ ap (λ (w : State). renewed (store_of w).boxes r.store.store.boxes w.stamps w.next) c.before-2.view_is
-        ∙ ap (λ (m : MailStore). renewed (store_of s).boxes m.boxes s.stamps s.next) store in
+    c.in_ok-stamps.ensures
+    ∙ ap (λ (b : MailStore). renewed b.boxes r.store.store.boxes x.stamps.now x.next) c.before-2.invariant.store_is
+    ∙ ap (λ (w : State). renewed (store_of w).boxes r.store.store.boxes w.stamps w.next) c.before-2.view_is
+    ∙ ap (λ (m : MailStore). renewed (store_of s).boxes m.boxes s.stamps s.next) store in
     let new = c.in_ok-renewed.ensures ∙ ap₂ (λ (n : ℕ) (rows : List (BoxId × ℕ)). renewed_by n rows) next (c.as_slice.ensures ∙ stamps) in
     let told = ap (λ (ns : List ℕ). length ns) is.told in
     record {

@@ -1,4 +1,4 @@
-use Rattle.std.proofs.Common.{◌≡◌, ◌≤◌, ◌+◌, ◌++◌, ◌∙◌, ℕ, ap, ap₂, drop, length, length-append, arith, subst, sym, List, true}
+use Rattle.std.proofs.Common.{◌≡◌, ◌+◌, ◌∙◌, ℕ, ap, ap₂, drop, length, length-append, arith, subst, sym, List, true}
 use Rattle.std.specs.List.{AllByRecursion}
 use Rattle.verb_core.specs.declared.conf.House.{House}
 use Rattle.verb_core.specs.declared.item.Item.{Item}
@@ -12,7 +12,7 @@ use Rattle.repair_desk.specs.declared.editing.Edited.{Edited}
 use Rattle.repair_desk.proofs.Everywhere.{all_formed}
 use Rattle.mail_cycle.specs.Cycles.{notice_items}
 use Rattle.mail_cycle.specs.Judging.{judged}
-use Rattle.mail_cycle.specs.State.{State, base_of}
+use Rattle.mail_cycle.specs.State.{State}
 use Rattle.mail_cycle.proofs.Cycled.{length_shown, run_all, run_house}
 use Rattle.mail_cycle.proofs.rewind.redo.Goals as goal
 
@@ -50,5 +50,12 @@ pub returns-clause-steps : goal.returns-clause-steps
 returns-clause-steps g c =
     let all = ap (λ (t : List Item). length t) c.in_ok-timeline.ensures in
     let shown = ap (λ (t : List Item). length t) c.in_ok-broken.ensures.items in
-    omega (arith, c.in_ok-broken.ensures.steps, c.in_ok-notices.ensures.steps, all, shown, length-append c.compare.new.items.items c.in_ok-notices.notices,
-    length_shown (c.args.place + length c.args.ask.now.inserts) c.into_vec-items.result.items (answers c.in_ok-store.store.store c.into_vec-items.result.items))
+    omega (
+      arith,
+      c.in_ok-broken.ensures.steps,
+      c.in_ok-notices.ensures.steps,
+      all,
+      shown,
+      length-append c.compare.new.items.items c.in_ok-notices.notices,
+      length_shown (c.args.place + length c.args.ask.now.inserts) c.into_vec-items.result.items (answers c.in_ok-store.store.store c.into_vec-items.result.items),
+    )

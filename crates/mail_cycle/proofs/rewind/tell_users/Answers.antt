@@ -1,10 +1,9 @@
-use Rattle.std.proofs.Common.{◌≡◌, ◌≤◌, ◌+◌, ◌∙◌, ℕ, ap, length, arith, subst, sym, List}
+use Rattle.std.proofs.Common.{◌+◌, ◌∙◌, ℕ, ap, length, arith, subst, sym, List}
 use Rattle.std.specs.List.{AllByRecursion}
 use Rattle.undo_base.specs.declared.keys.User.{User}
 use Rattle.verb_core.specs.declared.conf.House.{House}
 use Rattle.verb_core.specs.declared.item.Item.{Item}
 use Rattle.verb_core.specs.Items.{IsWellFormed}
-use Rattle.paradox.specs.Letters.{notices}
 use Rattle.mail_cycle.specs.State.{State}
 use Rattle.mail_cycle.specs.Cycles.{notice_items}
 use Rattle.mail_cycle.proofs.Cycled.{few_notices, few_told, told_formed}

@@ -1,0 +1,232 @@
+-- What a cycle leaves.
+use Rattle.std.proofs.Common.{◌≡◌, ◌≢◌, ℕ, zero, suc, ◌+◌, ◌<◌, ◌≤◌, Bool, cond, true, false, arith, refl, sym, ◌∙◌, ap, ap₂, subst, List, [], ◌∷◌, ◌++◌, take, drop, length, filter, map, not, Option, is_some}
+use Rattle.std.specs.List.{AllByRecursion}
+use Rattle.std.proofs.lemmas.Bool.{leb-true}
+use Rattle.std.proofs.lemmas.List.{append-nil, take-append-drop, take_all}
+use Rattle.std.proofs.Math.Seq.{drop-length}
+use Rattle.undo_base.specs.declared.keys.User.{User}
+use Rattle.verb_core.specs.declared.conf.House.{House}
+use Rattle.verb_core.specs.declared.item.Act.{Act}
+use Rattle.verb_core.specs.declared.item.Deed.{Deed}
+use Rattle.verb_core.specs.declared.item.Deed.TheVariants.{Deliver, Append, Fetch, Store, Copy, List as Names, Status, Select, Expunge, Close, Create, Rename, Delete, Act as Acts, Notice}
+use Rattle.verb_core.specs.declared.item.Item.{Item}
+use Rattle.verb_core.specs.declared.item.Shown.{Shown}
+use Rattle.verb_core.specs.declared.mailbox.BoxId.{BoxId}
+use Rattle.verb_core.specs.declared.mailbox.Mailbox.{Mailbox}
+use Rattle.verb_core.specs.Items.{IsTimeline, IsWellFormed, NumbersApart, has_form}
+use Rattle.verb_core.specs.Step.{Boxes, answers, run, shown, step}
+use Rattle.verb_core.specs.Store.{MailStore, users_of}
+use Rattle.verb_bytes.specs.declared.journal.CycleAsk.{CycleAsk}
+use Rattle.paradox.specs.Answers.{broken}
+use Rattle.paradox.specs.Letters.{is_told, notice_text, notices}
+use Rattle.paradox.specs.declared.reports.BrokenItem.{BrokenItem}
+use Rattle.paradox.specs.declared.words.Reason.{Reason}
+use Rattle.paradox.proofs.Holding.{holds}
+use Rattle.paradox.specs.Answers.{looks_at_texts}
+use Rattle.repair_desk.specs.Repairs.{are_known, inserted, is_among, kept, repaired, replaced_by, text_asked}
+use Rattle.repair_desk.proofs.Everywhere.{all_apart, all_below, all_formed, joined, revs_below, weaker}
+use Rattle.mail_cycle.specs.Cycles.{broken_at, cycled_at, front_of, kept_at, leaves_numbers, notice_items, repaired_items, shown_now, stamps_at, timeline_at, told_at}
+use Rattle.mail_cycle.specs.Judging.{judged, shown_after, shown_by, told as tell}
+use Rattle.mail_cycle.specs.State.{State, base_of}
+use Rattle.mail_cycle.proofs.Cycled.{few_told, told_formed}
+
+-- ---- answers
+
+-- a deed's answer has its form
+form_of : (redirected : Bool) (u : User) (deed : Deed) (boxes : Boxes) → has_form deed (shown redirected u deed boxes) ≡ true
+form_of redirected u (Deliver from to text) boxes = refl
+form_of redirected u (Append mailbox flags moment text) boxes = refl
+form_of redirected u (Fetch mailbox keys sets_seen shows_body) boxes = refl
+form_of redirected u (Store mailbox keys how flags) boxes = refl
+form_of redirected u (Copy mailbox keys target) boxes = refl
+form_of redirected u (Names pattern) boxes = refl
+form_of redirected u (Status mailbox) boxes = refl
+form_of redirected u (Select mailbox) boxes = refl
+form_of redirected u (Expunge mailbox keys) boxes = refl
+form_of redirected u (Close mailbox keys) boxes = refl
+form_of redirected u (Create mailbox) boxes = refl
+form_of redirected u (Rename mailbox target) boxes = refl
+form_of redirected u (Delete mailbox keys) boxes = refl
+form_of redirected u (Acts act) boxes = refl
+form_of redirected u (Notice user text) boxes = refl
+
+one_formed : (house : House) (i : Item) (now : Shown) (rest : List Shown) → IsWellFormed house i → has_form i.deed now ≡ true → IsWellFormed house (shown_by i (now ∷ rest))
+one_formed house i now rest formed form = elim (is_some (broken i now)) as (λ b. IsWellFormed house (cond b (record i { shown = now }) i)) [
+  | true ↦ record { by = formed.by; users = formed.users; few = formed.few; form = form }
+  | false ↦ formed
+]
+
+pub shown_formed : (house : House) (base : MailStore) (front : ℕ) (t : List Item) → AllByRecursion (IsWellFormed house) t → AllByRecursion (IsWellFormed house) (shown_after front t (answers base t))
+shown_formed house base front [] formed = tt
+shown_formed house base zero (i ∷ t) formed = (one_formed house i (step base i).1 (answers (step base i).0 t) formed.0 (form_of _ _ i.deed base.boxes), shown_formed house (step base i).0 zero t formed.1)
+shown_formed house base (suc front) (i ∷ t) formed = (formed.0, shown_formed house (step base i).0 front t formed.1)
+
+-- ---- numbers and revs, which answers do not change
+
+same_number : (i : Item) (now : List Shown) → (shown_by i now).number ≡ i.number
+same_number i [] = refl
+same_number i (x ∷ rest) = elim (is_some (broken i x)) as (λ b. (cond b (record i { shown = x }) i).number ≡ i.number) [ true ↦ refl | false ↦ refl ]
+
+same_rev : (i : Item) (now : List Shown) → (shown_by i now).rev ≡ i.rev
+same_rev i [] = refl
+same_rev i (x ∷ rest) = elim (is_some (broken i x)) as (λ b. (cond b (record i { shown = x }) i).rev ≡ i.rev) [ true ↦ refl | false ↦ refl ]
+
+shown_numbers : (P : ℕ → Type 0) (front : ℕ) (t : List Item) (now : List Shown) → AllByRecursion (λ (i : Item). P i.number) t → AllByRecursion (λ (i : Item). P i.number) (shown_after front t now)
+shown_numbers P front [] now all = tt
+shown_numbers P zero (i ∷ t) now all = (subst P (sym (same_number i now)) all.0, shown_numbers P zero t (drop 1 now) all.1)
+shown_numbers P (suc front) (i ∷ t) now all = (all.0, shown_numbers P front t (drop 1 now) all.1)
+
+shown_revs : (P : ℕ → Type 0) (front : ℕ) (t : List Item) (now : List Shown) → AllByRecursion (λ (i : Item). P i.rev) t → AllByRecursion (λ (i : Item). P i.rev) (shown_after front t now)
+shown_revs P front [] now all = tt
+shown_revs P zero (i ∷ t) now all = (subst P (sym (same_rev i now)) all.0, shown_revs P zero t (drop 1 now) all.1)
+shown_revs P (suc front) (i ∷ t) now all = (all.0, shown_revs P front t (drop 1 now) all.1)
+
+shown_apart : (front : ℕ) (t : List Item) (now : List Shown) → NumbersApart t → NumbersApart (shown_after front t now)
+shown_apart front [] now apart = tt
+shown_apart zero (i ∷ t) now apart = (subst (λ n. AllByRecursion (λ (j : Item). n ≢ j.number) (shown_after zero t (drop 1 now))) (sym (same_number i now)) (shown_numbers (λ n. i.number ≢ n) zero t (drop 1 now) apart.0), shown_apart zero t (drop 1 now) apart.1)
+shown_apart (suc front) (i ∷ t) now apart = (shown_numbers (λ n. i.number ≢ n) front t (drop 1 now) apart.0, shown_apart front t (drop 1 now) apart.1)
+
+-- ---- notices come last
+
+above : (low number at : ℕ) (ns : List (User × List ℕ)) → low ≤ number → AllByRecursion (λ (j : Item). low < j.number) (notice_items number at ns)
+above low number at [] le = tt
+above low number at (n ∷ ns) le = (omega arith, above low (number + 1) at ns (omega arith))
+
+notices_below : (most number at : ℕ) (ns : List (User × List ℕ)) → number + length (notice_items number at ns) < most → AllByRecursion (λ (j : Item). j.number < most) (notice_items number at ns)
+notices_below most number at [] le = tt
+notices_below most number at (n ∷ ns) le = (omega arith, notices_below most (number + 1) at ns (omega arith))
+
+notices_apart : (number at : ℕ) (ns : List (User × List ℕ)) → NumbersApart (notice_items number at ns)
+notices_apart number at [] = tt
+notices_apart number at (n ∷ ns) = (
+  weaker (λ (j : Item). number + 1 < j.number) (λ (j : Item). number + 1 ≢ j.number) (λ j lt e. let wrong : number + 1 ≡ j.number = e in absurd (omega arith)) (notice_items (number + 1) at ns) (above (number + 1) (number + 1) at ns (omega arith)),
+  notices_apart (number + 1) at ns,
+)
+
+notice_revs : (most number at : ℕ) (ns : List (User × List ℕ)) → 0 < most → AllByRecursion (λ (j : Item). j.rev < most) (notice_items number at ns)
+notice_revs most number at [] lt = tt
+notice_revs most number at (n ∷ ns) lt = (lt, notice_revs most (number + 1) at ns lt)
+
+-- two lists of which the second has the higher numbers
+both_apart : (last : ℕ) (a b : List Item) → NumbersApart a → NumbersApart b → AllByRecursion (λ (i : Item). i.number ≤ last) a → AllByRecursion (λ (j : Item). last < j.number) b → NumbersApart (a ++ b)
+both_apart last [] b first second low high = second
+both_apart last (i ∷ a) b first second low high = (
+  joined (λ (j : Item). i.number ≢ j.number) a b first.0
+      (weaker (λ (j : Item). last < j.number) (λ (j : Item). i.number ≢ j.number) (λ j lt e. let wrong : i.number ≡ j.number = e in let le = low.0 in absurd (omega arith)) b high),
+  both_apart last a b first.1 second low.1 high,
+)
+
+-- ---- the whole
+
+module _ (s : State) (at : ℕ) (ask : CycleAsk) (place : ℕ) where
+  abbrev last : ℕ
+  last = s.next + length ask.inserts
+
+  abbrev told : List Item
+  told = told_at s at ask place
+
+  pub left_formed : AllByRecursion (IsWellFormed s.house) s.timeline → are_known s.house ask.inserts ≡ true → AllByRecursion (IsWellFormed s.house) (timeline_at s at ask place)
+  left_formed formed known = joined (IsWellFormed s.house) (kept_at s at ask place) told
+      (shown_formed s.house (base_of s) (front_of ask place) (repaired_items s at ask place) (all_formed s.house s.timeline ask s.next at place formed known))
+      (told_formed s.house last at s.next _)
+
+  kept_low : AllByRecursion (λ (i : Item). i.number < s.next) s.timeline → AllByRecursion (λ (i : Item). i.number ≤ last) (kept_at s at ask place)
+  kept_low below = shown_numbers (λ n. n ≤ last) (front_of ask place) (repaired_items s at ask place) (shown_now s at ask place) (all_below s.timeline ask s.next at place below)
+
+  pub left_below : AllByRecursion (λ (i : Item). i.number < s.next) s.timeline → AllByRecursion (λ (i : Item). i.number < (cycled_at s at ask place).next) (timeline_at s at ask place)
+  left_below below = joined (λ (i : Item). i.number < (cycled_at s at ask place).next) (kept_at s at ask place) told
+      (weaker (λ (i : Item). i.number ≤ last) (λ (i : Item). i.number < (cycled_at s at ask place).next) (λ i le. omega arith) (kept_at s at ask place) (kept_low below))
+      (notices_below (cycled_at s at ask place).next last at _ (omega arith))
+
+  pub left_timeline : IsTimeline s.house s.timeline → AllByRecursion (λ (i : Item). i.number < s.next) s.timeline → are_known s.house ask.inserts ≡ true → IsTimeline s.house (timeline_at s at ask place)
+  left_timeline is below known = record {
+    formed = left_formed is.formed known;
+    apart = both_apart last (kept_at s at ask place) told
+        (shown_apart (front_of ask place) (repaired_items s at ask place) (shown_now s at ask place) (all_apart s.timeline ask s.next at place is.apart below))
+        (notices_apart last at _) (kept_low below) (above last last at _ (omega arith));
+  }
+
+  pub left_revs : AllByRecursion (λ (i : Item). i.rev < s.next) s.timeline → AllByRecursion (λ (i : Item). i.rev < (cycled_at s at ask place).next) (timeline_at s at ask place)
+  left_revs below = joined (λ (i : Item). i.rev < (cycled_at s at ask place).next) (kept_at s at ask place) told
+      (weaker (λ (i : Item). i.rev ≤ s.next) (λ (i : Item). i.rev < (cycled_at s at ask place).next) (λ i le. omega arith) (kept_at s at ask place)
+      (shown_revs (λ n. n ≤ s.next) (front_of ask place) (repaired_items s at ask place) (shown_now s at ask place) (revs_below s.timeline ask s.next at place below)))
+      (notice_revs (cycled_at s at ask place).next last at _ (omega arith))
+
+  names : (rows : Boxes) (f : BoxId × Mailbox → ℕ) → map (λ (r : BoxId × ℕ). r.0) (map (λ (r : BoxId × Mailbox). (r.0, f r)) rows) ≡ map (λ (r : BoxId × Mailbox). r.0) rows
+  names [] f = refl
+  names (r ∷ rows) f = ap (λ (ids : List BoxId). r.0 ∷ ids) (names rows f)
+
+  pub left_named : map (λ (r : BoxId × ℕ). r.0) (stamps_at s at ask place) ≡ map (λ (r : BoxId × Mailbox). r.0) (run (base_of s) (timeline_at s at ask place)).boxes
+  left_named = names (run (base_of s) (timeline_at s at ask place)).boxes _
+
+  pub left_next : leaves_numbers s ask ≡ true → (cycled_at s at ask place).next ≤ 4194303
+  left_next left =
+      let room = leb-true (s.next + 1 + length ask.inserts + length s.house.accounts) 4194303 left in
+      let few = few_told s.house last s.next at (broken_at s at ask place) in
+      omega arith
+
+-- ---- a cycle that asks for nothing
+
+pub nothing_broken : (s : State) (at : ℕ) (ask : CycleAsk) → broken_at s at ask (length s.timeline) ≡ []
+nothing_broken s at ask = ap (λ (later : List Item). judged ask.drops later (drop (front_of ask (length s.timeline)) (shown_now s at ask (length s.timeline)))) (drop-length s.timeline)
+
+none_told : (users : List User) → filter (is_told []) users ≡ []
+none_told [] = refl
+none_told (u ∷ us) = none_told us
+
+nobody_told : (s : State) (at : ℕ) (ask : CycleAsk) → told_at s at ask (length s.timeline) ≡ []
+nobody_told s at ask =
+    ap (λ (list : List BrokenItem). notice_items (s.next + length ask.inserts) at (notices s.house s.next at list)) (nothing_broken s at ask)
+    ∙ ap (λ (users : List User). notice_items (s.next + length ask.inserts) at (map (λ (u : User). (u, notice_text s.house u s.next at [])) users)) (none_told (users_of s.house))
+
+front_stays : (front : ℕ) (t : List Item) (now : List Shown) → length t ≤ front → shown_after front t now ≡ t
+front_stays front [] now le = refl
+front_stays zero (i ∷ t) now le = absurd (omega arith)
+front_stays (suc front) (i ∷ t) now le = ap (λ (rest : List Item). i ∷ rest) (front_stays front t (drop 1 now) (omega arith))
+
+no_repairs : (s : State) (at : ℕ) (ask : CycleAsk) → ask.inserts ≡ [] → repaired_items s at ask (length s.timeline) ≡ s.timeline
+no_repairs s at ask none =
+    ap₂ (λ (front later : List Item). front ++ inserted s.next at ask.inserts ++ map (repaired ask s.next) (kept ask later)) (take_all (length s.timeline) s.timeline (omega arith)) (drop-length s.timeline)
+    ∙ ap (λ (acts : List Act). s.timeline ++ inserted s.next at acts ++ []) none ∙ append-nil (s.timeline ++ []) ∙ append-nil s.timeline
+
+pub nothing_new : (s : State) (at : ℕ) (ask : CycleAsk) → ask.inserts ≡ [] → timeline_at s at ask (length s.timeline) ≡ s.timeline
+nothing_new s at ask none =
+    let same = no_repairs s at ask none in
+    let all = ap (λ (t : List Item). length t) same in
+    ap₂ (λ (a b : List Item). a ++ b) (front_stays (front_of ask (length s.timeline)) (repaired_items s at ask (length s.timeline)) (shown_now s at ask (length s.timeline)) (omega arith) ∙ same) (nobody_told s at ask)
+    ∙ append-nil s.timeline
+
+-- ---- answers that are shown still
+
+no_drops : (drops : List ℕ) (later : List Item) → drops ≡ [] → filter (λ (i : Item). not (is_among drops i.number)) later ≡ later
+no_drops drops later none = ap (λ (ds : List ℕ). filter (λ (i : Item). not (is_among ds i.number)) later) none ∙ all later
+  where
+    all : (t : List Item) → filter (λ (i : Item). not (is_among [] i.number)) t ≡ t
+    all [] = refl
+    all (i ∷ t) = ap (λ (rest : List Item). i ∷ rest) (all t)
+
+no_texts : (replaces : List (ℕ × List ℕ)) (c : ℕ) (later : List Item) → replaces ≡ [] → map (λ (i : Item). replaced_by c i (text_asked replaces i.number)) later ≡ later
+no_texts replaces c later none = ap (λ (rs : List (ℕ × List ℕ)). map (λ (i : Item). replaced_by c i (text_asked rs i.number)) later) none ∙ all later
+  where
+    all : (t : List Item) → map (λ (i : Item). replaced_by c i (text_asked [] i.number)) t ≡ t
+    all [] = refl
+    all (i ∷ t) = ap (λ (rest : List Item). i ∷ rest) (all t)
+
+as_before : (s : State) (at : ℕ) (ask : CycleAsk) (place : ℕ) → ask.drops ≡ [] → ask.replaces ≡ [] → ask.inserts ≡ [] → repaired_items s at ask place ≡ s.timeline
+as_before s at ask place drops replaces inserts =
+    ap₂ (λ (acts : List Act) (later : List Item). take place s.timeline ++ inserted s.next at acts ++ map (repaired ask s.next) later) inserts (no_drops ask.drops (drop place s.timeline) drops)
+    ∙ ap (λ (later : List Item). take place s.timeline ++ [] ++ later) (no_texts ask.replaces s.next (drop place s.timeline) replaces)
+    ∙ ap (λ (front : List Item). front ++ drop place s.timeline) (append-nil (take place s.timeline)) ∙ take-append-drop place s.timeline
+
+-- items that show what they showed
+still_shown : (t : List Item) → judged [] t (map (λ (i : Item). i.shown) t) ≡ []
+still_shown [] = refl
+still_shown (i ∷ t) = ap (λ (reason : Option Reason). tell i reason (judged [] t (map (λ (j : Item). j.shown) t))) (holds (looks_at_texts i.deed) i.shown) ∙ still_shown t
+
+pub shown_still : (s : State) (at : ℕ) (ask : CycleAsk) (place : ℕ) → ask.drops ≡ [] → ask.replaces ≡ [] → ask.inserts ≡ []
+    → drop place (answers (base_of s) s.timeline) ≡ map (λ (i : Item). i.shown) (drop place s.timeline) → broken_at s at ask place ≡ []
+shown_still s at ask place drops replaces inserts same =
+    ap₂ (λ (ds : List ℕ) (now : List Shown). judged ds (drop place s.timeline) now) drops
+    (ap₂ (λ (acts : List Act) (t : List Item). drop (place + length acts) (answers (base_of s) t)) inserts (as_before s at ask place drops replaces inserts)
+    ∙ ap (λ (n : ℕ). drop n (answers (base_of s) s.timeline)) (let same_place : place + 0 ≡ place = omega arith in same_place) ∙ same)
+    ∙ still_shown (drop place s.timeline)
