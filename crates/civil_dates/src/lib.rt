@@ -12,6 +12,3 @@ mod months;
 pub use dates::{imap_date, mail_date, push_imap_date, push_mail_date};
 pub use days::{Day, civil_day, in_calendar, moment_of};
 pub use months::{month_letters, month_of};
-
-#[cfg(test)]
-mod tests;

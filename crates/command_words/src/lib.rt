@@ -16,6 +16,3 @@ mod shapes;
 pub use commands::{Command, WordsRefused};
 pub use laws::one_reading;
 pub use reading::{ports, read_words, store_path};
-
-#[cfg(test)]
-mod tests;

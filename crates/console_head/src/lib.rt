@@ -15,6 +15,3 @@ mod request;
 
 pub use lines::Lines;
 pub use request::{Coming, HeadRefused, MOST_BODY, MOST_FIELDS, MOST_HEAD, Request, read_once};
-
-#[cfg(test)]
-mod tests;

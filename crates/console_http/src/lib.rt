@@ -15,6 +15,3 @@ mod request;
 
 pub use console_head::Coming;
 pub use request::{Asked, HttpRefused, Route, read_coming, read_request};
-
-#[cfg(test)]
-mod tests;

@@ -21,6 +21,3 @@ pub use confs::conf_json;
 pub use mailboxes::box_json;
 pub use reply::render;
 pub use timeline::timeline_json;
-
-#[cfg(test)]
-mod tests;

@@ -1,6 +1,6 @@
 //! Tests of the operator's acts.
 
-use crate::connections::{Row, tell, tell_over};
+use crate::connections::{Row, tell_over};
 use console_session::After;
 use house_text::HOUSE;
 use std::test::Fail;
@@ -110,12 +110,6 @@ const ACTS: &[Row] = &[
 
 fn acts() -> &'static [Row] {
     ACTS
-}
-
-#[test]
-fn acts_are_done_and_then_answered(rt: HostRuntime) -> Result<(), Fail> {
-    assert_eq!(rt; tell(rt.alloc(), acts())?, 17);
-    Ok(())
 }
 
 /// A house whose first number is the last one.

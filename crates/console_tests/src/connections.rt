@@ -1,8 +1,7 @@
 //! What console connections are told.
 
-use crate::desks::{NOW, is_given, new_desk};
+use crate::desks::{NOW, new_desk};
 use console_session::{After, ConsoleSession, Reply};
-use house_text::HOUSE;
 use std::alloc::{AllocError, Global};
 use std::test::Fail;
 use time_desk::Desk;
@@ -101,18 +100,4 @@ pub(crate) fn tell_over(
 ) -> Result<Ended, Fail> {
     let mut desk = new_desk(alloc, config, failing)?;
     tell_each(alloc, &mut desk, rows, after)
-}
-
-/// Gives a desk its messages, and counts the rows of a table that are told what they should be.
-fn give_and_tell(alloc: Global, desk: &mut Desk<MemDisk>, rows: &[Row]) -> Result<usize, Fail> {
-    if !is_given(alloc, desk)? {
-        return Err(Fail::new("no message"));
-    }
-    count_told(alloc, desk, rows, After::Closes)
-}
-
-/// How many rows of a table are told what they should be, over a desk with a message for ann and bob, and one of ann's.
-pub(crate) fn tell(alloc: Global, rows: &[Row]) -> Result<usize, Fail> {
-    let mut desk = new_desk(alloc, HOUSE, &[])?;
-    give_and_tell(alloc, &mut desk, rows)
 }

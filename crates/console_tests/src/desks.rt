@@ -7,9 +7,9 @@ use house_text::read_config;
 use std::alloc::Global;
 use std::test::Fail;
 use time_desk::Desk;
-use undo_base::{Flags, Name, Names, Numbers, Text, User};
+use undo_base::{Name, Names, Numbers, Text};
 use undo_outside::MemDisk;
-use verb_core::{Ask, Conf, House, Item, SubmitFault};
+use verb_core::{Ask, Conf, House};
 
 /// The moment of each item.
 pub(crate) const NOW: u64 = 1_105_092_000;
@@ -43,47 +43,4 @@ fn mail(alloc: Global) -> Result<Ask, Fail>
     to.push(Name::read(alloc, b"team")?)?;
     let text = Text::of(alloc, b"Hi")?;
     Ok(Ask::Deliver { from, to, text })
-}
-
-/// A message of ann's own, of another day and with each flag.
-fn draft(alloc: Global) -> Result<Ask, Fail>
-    ensures { IfOk result (λ ask. is_users ask ≡ true) }
-{
-    let mailbox = Name::read(alloc, b"INBOX")?;
-    let text = Text::of(alloc, b"Ho")?;
-    let flags = Flags {
-        answered: true,
-        flagged: true,
-        deleted: true,
-        seen: true,
-        draft: true,
-    };
-    Ok(Ask::Append {
-        mailbox,
-        flags,
-        moment: Some(86_400),
-        text,
-    })
-}
-
-fn is_done(told: Result<Item, SubmitFault>) -> bool {
-    told.is_ok()
-}
-
-/// Whether a message came for the team.
-fn mail_came(alloc: Global, desk: &mut Desk<MemDisk>) -> Result<bool, Fail> {
-    let ask = mail(alloc)?;
-    Ok(is_done(desk.submit(alloc, NOW, None, ask)))
-}
-
-/// Whether ann put a message into her INBOX.
-fn draft_came(alloc: Global, desk: &mut Desk<MemDisk>) -> Result<bool, Fail> {
-    let ask = draft(alloc)?;
-    desk.stands();
-    Ok(is_done(desk.submit(alloc, NOW, Some(User(0)), ask)))
-}
-
-/// Whether a desk was given a message for ann and bob, and one of ann's.
-pub(crate) fn is_given(alloc: Global, desk: &mut Desk<MemDisk>) -> Result<bool, Fail> {
-    Ok(mail_came(alloc, desk)? && draft_came(alloc, desk)?)
 }

@@ -1,9 +1,6 @@
 //! Tests of the routes that look at the desk, and of a stop.
 
-use crate::connections::{Row, tell, tell_over};
-use console_session::After;
-use house_text::HOUSE;
-use std::test::Fail;
+use crate::connections::Row;
 
 /// Each route, with what there is and what there is not.
 const ROUTES: &[Row] = &[
@@ -115,12 +112,6 @@ fn routes() -> &'static [Row] {
     ROUTES
 }
 
-#[test]
-fn each_route_is_answered(rt: HostRuntime) -> Result<(), Fail> {
-    assert_eq!(rt; tell(rt.alloc(), routes())?, 20);
-    Ok(())
-}
-
 const STOP: &[Row] = &[(
     &[b"POST /stop HTTP/1.1\r\nContent-Length: 3\r\n\r\nany"],
     "200 OK",
@@ -129,11 +120,4 @@ const STOP: &[Row] = &[(
 
 fn stop() -> &'static [Row] {
     STOP
-}
-
-#[test]
-fn a_stop_is_answered_and_ends_serving(rt: HostRuntime) -> Result<(), Fail> {
-    let ended = tell_over(rt.alloc(), HOUSE, &[], stop(), After::Stops)?;
-    assert_eq!(rt; ended, (1, (false, 2, 1)));
-    Ok(())
 }

@@ -1,30 +1,12 @@
 //! Tests of what the operator does.
 
 use crate::acts::Acted;
-use crate::asks::Asked;
-use crate::desks::{acted, asked, configured, counted, kept, new_desk, status, written};
-use crate::starting::{HOUSE, journal};
+use crate::desks::{acted, kept, new_desk, status};
+use crate::starting::HOUSE;
 use std::alloc::Global;
 use std::test::Fail;
 use time_desk::{ActFault, Desk};
 use undo_outside::MemDisk;
-
-/// The record of an alias `sales` for ann behind a gate, and a gate that is not open.
-const ALIASED: &[u8] =
-    b"\x55\x00\x00\x00\x19\x02\x00\x00\x00\x02\x00\x00\x00\x00\x41\xde\x5d\xa0\x01\x05sales\x00\x00\x00\x01\x00\x00";
-
-#[test]
-fn an_act_is_sealed(rt: HostRuntime) -> Result<(), Fail> {
-    let alloc = rt.alloc();
-    let mut desk = new_desk(alloc, &[])?;
-    assert_eq!(rt; acted(alloc, &mut desk, Acted::Alias, "sales", 0)?, Ok(2));
-    assert_eq!(rt; status(&desk), (false, 3));
-    assert_eq!(rt; configured(&desk), (1, 2, 0));
-    let (image, writes) = written(alloc, desk)?;
-    assert_eq!(rt; (image.bytes().len(), writes), (107, 4));
-    assert_eq!(rt; &image.bytes()[76..], ALIASED);
-    Ok(())
-}
 
 /// One of each kind, with an item whose message goes; its number, and how many messages there are then.
 const EACH_KIND: &[(Acted, &str, u32, u32, u64)] = &[
@@ -38,23 +20,6 @@ const EACH_KIND: &[(Acted, &str, u32, u32, u64)] = &[
 
 fn each_kind() -> &'static [(Acted, &'static str, u32, u32, u64)] {
     EACH_KIND
-}
-
-/// A desk with a mail to the team, which ann and bob have.
-fn team_desk(alloc: Global) -> Result<Desk<MemDisk>, Fail> {
-    let mut desk = new_desk(alloc, &[])?;
-    let _told = asked(alloc, &mut desk, (Asked::Mail, "team", "Hi", 0))?;
-    Ok(desk)
-}
-
-/// Whether what is due is answered to one of each kind.
-fn does_each_kind(alloc: Global, desk: &mut Desk<MemDisk>) -> Result<bool, Fail> {
-    let mut all = true;
-    for (kind, about, item, number, messages) in each_kind() {
-        let answer = acted(alloc, desk, *kind, about, *item)?;
-        all = all && answer == Ok(*number) && counted(desk).messages == *messages;
-    }
-    Ok(all)
 }
 
 /// The records of the house, of the mail and of one of each kind: a kind, the number, the moment and the act.
@@ -71,19 +36,6 @@ const RECORDS: &[&[u8]] = &[
 
 fn records() -> &'static [&'static [u8]] {
     RECORDS
-}
-
-#[test]
-fn each_kind_of_act_is_sealed(rt: HostRuntime) -> Result<(), Fail> {
-    let alloc = rt.alloc();
-    let mut desk = team_desk(alloc)?;
-    assert!(rt; does_each_kind(alloc, &mut desk)?);
-    assert_eq!(rt; configured(&desk), (1, 1, 0));
-    let (image, writes) = written(alloc, desk)?;
-    assert_eq!(rt; writes, 16);
-    let sealed = journal(alloc, records(), b"\x00")?;
-    assert_eq!(rt; image.bytes(), sealed.bytes());
-    Ok(())
 }
 
 /// Whether an act fails at the disk and closes the desk, and what is kept stays.

@@ -135,11 +135,6 @@ pub(crate) fn stamp(
     Ok(desk.stamp(user, &name(alloc, mailbox)?))
 }
 
-/// How many users and how many stamps there are.
-pub(crate) fn housed(desk: &Desk<MemDisk>) -> (usize, usize) {
-    (desk.house().accounts.len(), desk.stamps().len())
-}
-
 pub(crate) fn counted(desk: &Desk<MemDisk>) -> Counts {
     desk.counts()
 }

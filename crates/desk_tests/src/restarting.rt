@@ -2,10 +2,7 @@
 
 use crate::acts::Acted;
 use crate::asks::Asked;
-use crate::desks::{
-    acted, configured, counted, kept, listed, new_desk, started, started_next, status, tells,
-    written,
-};
+use crate::desks::{acted, configured, counted, kept, listed, new_desk, status, tells, written};
 use crate::submitting::tells_each_kind;
 use mail_desk::Counts;
 use std::alloc::Global;
@@ -52,26 +49,4 @@ fn goes_on(alloc: Global, desk: &mut Desk<MemDisk>, before: &(Text, Counts)) -> 
     let told = tells(alloc, desk, mail, Ok((17, "nothing", 0)))?;
     let items = listed(alloc, desk, 0)?;
     Ok(same && told && items == 16 && counted(desk).messages == 4)
-}
-
-/// Whether a desk that is started from an image goes on, and what it leaves.
-fn restarted(alloc: Global, image: &[u8], before: &(Text, Counts)) -> Result<(bool, Text), Fail> {
-    match started(alloc, image, &[])? {
-        Ok(mut desk) => {
-            let same = goes_on(alloc, &mut desk, before)?;
-            Ok((same, written(alloc, desk)?.0))
-        }
-        Err(_) => Err(Fail::new("no desk")),
-    }
-}
-
-#[test]
-fn a_desk_is_started_as_it_was_left_and_goes_on(rt: HostRuntime) -> Result<(), Fail> {
-    let alloc = rt.alloc();
-    let (done, before, image) = left(alloc)?;
-    assert!(rt; done);
-    let (same, image) = restarted(alloc, image.bytes(), &before)?;
-    assert!(rt; same);
-    assert_eq!(rt; started_next(alloc, image.bytes(), &[])?, Ok(18));
-    Ok(())
 }

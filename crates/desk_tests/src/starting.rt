@@ -1,6 +1,6 @@
 //! Tests of starting a desk from a journal.
 
-use crate::desks::{disk_of, housed, started, started_next, status, written};
+use crate::desks::{disk_of, started_next};
 use std::alloc::Global;
 use std::test::Fail;
 use time_desk::{Desk, StartFault};
@@ -12,27 +12,13 @@ pub(crate) const HOUSE: &[u8] =
     b"\x00\x09mail.test\x00\x00\x00\x01\x09mail.test\x00\x00\x00\x02\x00\x00\x00\x03\x03ann\x02a1\x03bob\x02b2\x04carl\x02c3\x00\x00\x00\x00\x01\x04team\x00\x00\x00\x02\x00\x01";
 
 // The same house, of which the first user is named postmaster.
-const POSTMASTER: &[u8] =
-    b"\x00\x09mail.test\x00\x00\x00\x01\x09mail.test\x00\x00\x00\x02\x00\x00\x00\x01\x0apostmaster\x02a1\x00\x00\x00\x00\x00";
 
 // Number 2, the creation of a mailbox by the first user, of 21 bytes.
 const CREATE: &[u8] = b"\x01\x00\x00\x00\x02\x00\x00\x00\x00\x41\xde\x5d\xa0\x00\x0b\x04Work\x00";
 
 // The same with number 3, by a fourth user, by nobody, and with a kind of deed that there is not.
-const THIRD: &[u8] = b"\x01\x00\x00\x00\x03\x00\x00\x00\x00\x41\xde\x5d\xa0\x00\x0b\x04Work\x00";
-
-const STRANGER: &[u8] = b"\x01\x00\x00\x00\x02\x00\x00\x00\x00\x41\xde\x5d\xa0\x03\x0b\x04Work\x00";
-
-const NOBODY: &[u8] = b"\x01\x00\x00\x00\x02\x00\x00\x00\x00\x41\xde\x5d\xa0\xff\x0b\x04Work\x00";
-
-const UNREAD: &[u8] = b"\x01\x00\x00\x00\x02\x00\x00\x00\x00\x41\xde\x5d\xa0\x00\x0e\x04Work\x00";
 
 // Number 3, by which the operator sets an alias for two users, and for a fourth one.
-const ALIAS: &[u8] =
-    b"\x02\x00\x00\x00\x03\x00\x00\x00\x00\x41\xde\x5d\xa1\x01\x02us\x00\x00\x00\x02\x00\x02";
-
-const FAR_ALIAS: &[u8] =
-    b"\x02\x00\x00\x00\x03\x00\x00\x00\x00\x41\xde\x5d\xa1\x01\x02us\x00\x00\x00\x02\x00\x03";
 
 /// A journal of these payloads, with these bytes from its last gate on.
 pub(crate) fn journal(alloc: Global, payloads: &[&[u8]], end: &[u8]) -> Result<Text, Fail> {
@@ -45,97 +31,6 @@ pub(crate) fn journal(alloc: Global, payloads: &[&[u8]], end: &[u8]) -> Result<T
     }
     image.extend(end)?;
     Ok(image)
-}
-
-#[test]
-fn a_journal_is_opened(rt: HostRuntime) -> Result<(), Fail> {
-    let alloc = rt.alloc();
-    let image = journal(alloc, &[HOUSE, CREATE], b"\x00")?;
-    let Ok(desk) = started(alloc, image.bytes(), &[])? else {
-        return Err(Fail::new("no desk"));
-    };
-    assert_eq!(rt; status(&desk), (false, 3));
-    assert_eq!(rt; housed(&desk), (3, 7));
-    let (after, writes) = written(alloc, desk)?;
-    assert_eq!(rt; writes, 0);
-    assert_eq!(rt; after.bytes(), image.bytes());
-    Ok(())
-}
-
-#[test]
-fn what_can_stand(rt: HostRuntime) -> Result<(), Fail> {
-    let alloc = rt.alloc();
-    let cases: [(&[&[u8]], &[u8], Result<u32, StartFault>); 16] = [
-        (&[HOUSE], b"\x00", Ok(2)),
-        (&[HOUSE, CREATE, ALIAS], b"\x00", Ok(4)),
-        (&[HOUSE, CREATE], b"\x54\x00\x00", Ok(3)),
-        // An open gate, and nothing behind it.
-        (&[HOUSE], b"\x55", Err(StartFault::Damaged { place: 76 })),
-        (
-            &[HOUSE, CREATE],
-            b"\x55\x00\x00",
-            Err(StartFault::Damaged { place: 102 }),
-        ),
-        (&[], b"\x55\x00", Err(StartFault::Damaged { place: 0 })),
-        // A second first record, and a first one that can't be first.
-        (
-            &[HOUSE, HOUSE],
-            b"\x00",
-            Err(StartFault::Damaged { place: 76 }),
-        ),
-        (&[CREATE], b"\x00", Err(StartFault::Damaged { place: 0 })),
-        (
-            &[POSTMASTER],
-            b"\x00",
-            Err(StartFault::Damaged { place: 0 }),
-        ),
-        // A wrong number, and users who are not known or missing.
-        (
-            &[HOUSE, THIRD],
-            b"\x00",
-            Err(StartFault::Damaged { place: 76 }),
-        ),
-        (
-            &[HOUSE, CREATE, CREATE],
-            b"\x00",
-            Err(StartFault::Damaged { place: 102 }),
-        ),
-        (
-            &[HOUSE, STRANGER],
-            b"\x00",
-            Err(StartFault::Damaged { place: 76 }),
-        ),
-        (
-            &[HOUSE, NOBODY],
-            b"\x00",
-            Err(StartFault::Damaged { place: 76 }),
-        ),
-        (
-            &[HOUSE, CREATE, FAR_ALIAS],
-            b"\x00",
-            Err(StartFault::Damaged { place: 102 }),
-        ),
-        // What is no record, before a frame that is cut.
-        (
-            &[HOUSE, UNREAD, CREATE],
-            b"\x55",
-            Err(StartFault::Damaged { place: 76 }),
-        ),
-        (
-            &[HOUSE, CREATE, UNREAD],
-            b"\x00",
-            Err(StartFault::Damaged { place: 102 }),
-        ),
-    ];
-    for (place, (payloads, end, want)) in cases.iter().enumerate() {
-        let image = journal(alloc, payloads, end)?;
-        assert_eq!(rt;
-            started_next(alloc, image.bytes(), &[])?,
-            *want,
-            "case {place}"
-        );
-    }
-    Ok(())
 }
 
 // A start makes a sync, a call of `len`, a read of each gate and of each length, and one of each payload.

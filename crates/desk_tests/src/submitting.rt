@@ -1,18 +1,13 @@
 //! Tests of what users ask.
 
 use crate::asks::{ANN, Asked, Line};
-use crate::desks::{Told, counted, kept, new_desk, stamp, status, tells, written};
-use crate::starting::{HOUSE, journal};
-use mail_desk::Counts;
+use crate::desks::{Told, kept, new_desk, stamp, status, tells, written};
+use crate::starting::HOUSE;
 use std::alloc::Global;
 use std::test::Fail;
 use time_desk::Desk;
 use undo_outside::MemDisk;
 use verb_core::{Refused, SubmitFault};
-
-/// The record of a CREATE behind a gate, and a gate that is not open.
-const CREATED: &[u8] =
-    b"\x55\x00\x00\x00\x15\x01\x00\x00\x00\x02\x00\x00\x00\x00\x41\xde\x5d\xa0\x00\x0b\x04Work\x00\x00";
 
 /// Whether a CREATE is told, and its mailbox is there.
 fn creates(alloc: Global, desk: &mut Desk<MemDisk>) -> Result<bool, Fail> {
@@ -20,17 +15,6 @@ fn creates(alloc: Global, desk: &mut Desk<MemDisk>) -> Result<bool, Fail> {
     let told = tells(alloc, desk, create, Ok((2, "nothing", 0)))?;
     let stamp = stamp(alloc, desk, ANN, "Work")?;
     Ok(told && stamp == Some(2) && status(desk) == (false, 3))
-}
-
-#[test]
-fn an_item_is_sealed(rt: HostRuntime) -> Result<(), Fail> {
-    let alloc = rt.alloc();
-    let mut desk = new_desk(alloc, &[])?;
-    assert!(rt; creates(alloc, &mut desk)?);
-    let (image, writes) = written(alloc, desk)?;
-    assert_eq!(rt; (image.bytes().len(), writes), (103, 4));
-    assert_eq!(rt; &image.bytes()[76..], CREATED);
-    Ok(())
 }
 
 /// One of each kind, and what is told of it.
@@ -86,29 +70,6 @@ fn records() -> &'static [&'static [u8]] {
     RECORDS
 }
 
-/// What one of each kind leaves: ann has the mail, and its copy in Lost+Found.
-const COUNTS: Counts = Counts {
-    cycles: 0,
-    items: 13,
-    messages: 2,
-    next: 15,
-    notices: 0,
-    users: 3,
-};
-
-#[test]
-fn each_kind_of_item_is_sealed(rt: HostRuntime) -> Result<(), Fail> {
-    let alloc = rt.alloc();
-    let mut desk = new_desk(alloc, &[])?;
-    assert!(rt; tells_each_kind(alloc, &mut desk)?);
-    assert_eq!(rt; counted(&desk), COUNTS);
-    let (image, writes) = written(alloc, desk)?;
-    assert_eq!(rt; writes, 28);
-    let sealed = journal(alloc, records(), b"\x00")?;
-    assert_eq!(rt; image.bytes(), sealed.bytes());
-    Ok(())
-}
-
 const REFUSALS: &[(Line, Refused)] = &[
     ((Asked::Create, "a/b", "", 0), Refused::NameShape),
     ((Asked::Create, "INBOX", "", 0), Refused::Fixed),
@@ -151,15 +112,6 @@ fn goes_on(alloc: Global, desk: &mut Desk<MemDisk>) -> Result<bool, Fail> {
     let mail = (Asked::Mail, "ann", "Hi", 0);
     let told = tells(alloc, desk, mail, Ok((3, "nothing", 0)))?;
     Ok(created && refused && told)
-}
-
-#[test]
-fn a_refusal_leaves_the_desk_as_it_was(rt: HostRuntime) -> Result<(), Fail> {
-    let alloc = rt.alloc();
-    let mut desk = new_desk(alloc, &[])?;
-    assert!(rt; goes_on(alloc, &mut desk)?);
-    assert_eq!(rt; written(alloc, desk)?.1, 6);
-    Ok(())
 }
 
 /// Whether a CREATE fails at the disk and closes the desk, and what is kept stays.

@@ -19,8 +19,3 @@ mod waiting;
 pub use file_disk::FileDisk;
 pub use loop_link::LoopLink;
 pub use streams::{Reading, Writing};
-
-#[cfg(test)]
-mod link_tests;
-#[cfg(test)]
-mod tests;

@@ -17,6 +17,3 @@ mod words;
 pub use beginning::can_begin;
 pub use playing::{HOUSE, playing_config};
 pub use read::{ConfigRefused, read_config};
-
-#[cfg(test)]
-mod tests;

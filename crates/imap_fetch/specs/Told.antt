@@ -1,23 +1,50 @@
 -- What a client is told of messages (RFC 3501, 7.4.2).
-use Rattle.std.specs.Prelude.{ℕ, Bool, not, true, ◌&&◌, List, [], ◌∷◌, ◌++◌, codes, map, flat_map, min, get_or, if◌then◌else◌}
-use Rattle.std.specs.List.{enumerate_from}
+use Rattle.std.specs.Prelude.{ℕ, Bool, not, true, ◌&&◌, Option, None, Some, List, [], ◌∷◌, ◌++◌, codes, map, flat_map, min, get_or, if◌then◌else◌}
+use Rattle.std.specs.List.{list_any, enumerate_from}
+use Rattle.std.specs.Fmt.{decimal}
 use Rattle.undo_base.specs.declared.keys.Flags.{Flags}
 use Rattle.verb_core.specs.Mailboxes.{changed, no_flags}
 use Rattle.undo_base.specs.declared.asks.How.TheVariants.{Add}
 use Rattle.imap_text.specs.declared.facts.FetchPart.{FetchPart}
 use Rattle.imap_text.specs.declared.facts.FetchValue.{FetchValue}
 use Rattle.imap_text.specs.declared.facts.FetchValue.TheVariants.{Flags as FlagsValue, Number, Moment, Literal}
+use Rattle.undo_base.specs.declared.asks.Section.{Section}
+use Rattle.undo_base.specs.declared.asks.Section.TheVariants.{Whole, Header, Text, Fields, NotFields}
+use Rattle.undo_base.specs.declared.asks.SectionAsk.{SectionAsk}
+use Rattle.mail_sections.specs.Sections.{section_of}
+use Rattle.imap_text.specs.Words.{spaced}
 use Rattle.imap_text.specs.Answers.{fetch_line}
 use Rattle.imap_fetch.specs.declared.asked.Attribute.{Attribute}
-use Rattle.imap_fetch.specs.declared.asked.Attribute.TheVariants.{Flags as FlagsOf, Uid, InternalDate, Size, Rfc822, Body, Peek}
+use Rattle.imap_fetch.specs.declared.asked.Attribute.TheVariants.{Flags as FlagsOf, Uid, InternalDate, Size, Rfc822, Rfc822Header, Rfc822Text, Body}
 use Rattle.imap_fetch.specs.declared.messages.Message.{Message}
 use Rattle.imap_fetch.specs.declared.lines.FetchForm.{FetchForm}
 use Rattle.imap_fetch.specs.declared.lines.StoreForm.{StoreForm}
-use Rattle.imap_fetch.specs.Asked.{is_asked}
+use Rattle.imap_fetch.specs.Asked.{is_uid, is_flags}
 
 -- a moment past the year 9999 is told as its last second
 abbrev pub dated : ℕ → ℕ
 dated at = min at 253402300799
+
+-- a word and field names
+unfoldable pub field_list : List ℕ → List (List ℕ) → List ℕ
+field_list word names = word ++ codes " (" ++ spaced names ++ codes ")"
+
+-- the name of a section (RFC 3501, 6.4.5), with field names as they were asked
+abbrev pub section_word : Section → List ℕ
+section_word Whole = []
+section_word Header = codes "HEADER"
+section_word Text = codes "TEXT"
+section_word (Fields names) = field_list (codes "HEADER.FIELDS") names
+section_word (NotFields names) = field_list (codes "HEADER.FIELDS.NOT") names
+
+-- the first place of a part
+abbrev pub origin : Option (ℕ × ℕ) → List ℕ
+origin None = []
+origin (Some (first, n)) = codes "<" ++ decimal first ++ codes ">"
+
+-- the name of a section of a body
+abbrev pub body_label : SectionAsk → List ℕ
+body_label section = codes "BODY[" ++ section_word section.what ++ codes "]" ++ origin section.part
 
 -- the name of an attribute as it is written: that of BODY.PEEK is BODY
 abbrev pub label : Attribute → List ℕ
@@ -26,8 +53,17 @@ label Uid = codes "UID"
 label InternalDate = codes "INTERNALDATE"
 label Size = codes "RFC822.SIZE"
 label Rfc822 = codes "RFC822"
-label Body = codes "BODY[]"
-label Peek = codes "BODY[]"
+label Rfc822Header = codes "RFC822.HEADER"
+label Rfc822Text = codes "RFC822.TEXT"
+label (Body section peek) = body_label section
+
+-- a section from its first place to its end
+abbrev pub all_of : Section → SectionAsk
+all_of what = record { what = what; part = None }
+
+-- what is asked of a text, as a literal
+abbrev pub literal_of : SectionAsk → List ℕ → FetchValue
+literal_of section text = Literal (section_of section text)
 
 -- its value for a message, where these are its flags by now and this is its text
 abbrev pub value : Message → Flags → List ℕ → Attribute → FetchValue
@@ -35,9 +71,10 @@ value m flags text FlagsOf = FlagsValue flags
 value m flags text Uid = Number m.entry.uid
 value m flags text InternalDate = Moment (dated m.entry.at)
 value m flags text Size = Number m.size
-value m flags text Rfc822 = Literal text
-value m flags text Body = Literal text
-value m flags text Peek = Literal text
+value m flags text Rfc822 = literal_of (all_of Whole) text
+value m flags text Rfc822Header = literal_of (all_of Header) text
+value m flags text Rfc822Text = literal_of (all_of Text) text
+value m flags text (Body section peek) = literal_of section text
 
 abbrev pub part_of : Message → Flags → List ℕ → Attribute → FetchPart
 part_of m flags text a = record { label = label a; value = value m flags text a }
@@ -54,13 +91,17 @@ only_where b a = if b then a ∷ [] else []
 abbrev pub is_newly_seen : FetchForm → Message → Bool
 is_newly_seen form m = form.sets_seen && not m.entry.flags.seen
 
--- its UID first, for a UID command that did not ask for it; what was asked for; and its flags last, where they
--- changed and were not asked for
+-- whether its UID is told although it was not asked for: in a UID command
+abbrev pub adds_uid : FetchForm → Bool
+adds_uid form = form.by_uid && not (list_any is_uid form.attributes)
+
+-- whether its flags are told although they were not asked for: where they changed
+abbrev pub adds_flags : FetchForm → Message → Bool
+adds_flags form m = is_newly_seen form m && not (list_any is_flags form.attributes)
+
+-- its UID first, what was asked for, and its flags last
 abbrev pub told : FetchForm → Message → List Attribute
-told form m =
-    only_where (form.by_uid && not (is_asked Uid form.attributes)) Uid
-    ++ form.attributes
-    ++ only_where (is_newly_seen form m && not (is_asked FlagsOf form.attributes)) FlagsOf
+told form m = only_where (adds_uid form) Uid ++ form.attributes ++ only_where (adds_flags form m) FlagsOf
 
 -- its flags after the FETCH
 abbrev pub flags_fetched : FetchForm → Message → Flags

@@ -1,16 +1,17 @@
 //! The attributes that a FETCH asks for.
-ghost use Rattle.std.specs.Prelude.{◌≡◌, ◌||◌, [], IfOk, OnOk, flat_map, fold};
-ghost use Rattle.std.specs.List.{list_all};
-ghost use Rattle.imap_fetch.specs.declared.asked.Attribute.TheVariants.{Size};
+ghost use Rattle.std.specs.Prelude.{◌≡◌, ◌||◌, [], IfOk, OnOk, fold};
+ghost use Rattle.imap_lines.specs.declared.asks.FetchAsk.TheVariants.{Fast};
+ghost use Rattle.imap_fetch.specs.declared.asked.Attribute.TheVariants.{Body};
 ghost use Rattle.imap_fetch.specs.Asked as spec;
 
 use crate::Attributes;
+use crate::same::{is_asked, is_size};
 use imap_lines::{FetchAsk, FetchAsks};
 use std::alloc::Global;
-use undo_base::{NoMemory, Section, SectionAsk};
+use undo_base::{Copies, NoMemory, SectionAsk};
 
 /// An attribute that is told of a message (RFC 3501, section 6.4.5).
-#[derive(Clone, Copy, Debug, PartialEq, Eq)]
+#[derive(Debug, Drop)]
 pub enum Attribute {
     Flags,
     Uid,
@@ -18,128 +19,71 @@ pub enum Attribute {
     Size,
     /// The whole text, under the name RFC822.
     Rfc822,
-    /// The whole text, under the name BODY[].
-    Body,
-    /// The whole text, under the name BODY[], where `\Seen` is not set.
-    Peek,
-}
-
-fn is_whole(section: &Section) -> bool
-    ensures { result ≡ spec.is_whole section.now }
-{
-    match section {
-        Section::Whole => true,
-        Section::Header => false,
-        Section::Text => false,
-        Section::Fields { names: _ } => false,
-        Section::NotFields { names: _ } => false,
-    }
-}
-
-fn is_all(section: &SectionAsk) -> bool
-    ensures { result ≡ spec.is_all section.now }
-{
-    is_whole(&section.what) && section.part.is_none()
-}
-
-fn is_offered(ask: &FetchAsk) -> bool
-    ensures { result ≡ spec.is_offered ask.now }
-{
-    match ask {
-        FetchAsk::Flags => true,
-        FetchAsk::Uid => true,
-        FetchAsk::InternalDate => true,
-        FetchAsk::Size => true,
-        FetchAsk::Rfc822 => true,
-        FetchAsk::Rfc822Header => false,
-        FetchAsk::Rfc822Text => false,
-        FetchAsk::Fast => true,
-        FetchAsk::Body { section, peek: _ } => is_all(section),
-    }
-}
-
-fn all_offered(asks: &[FetchAsk]) -> bool
-    ensures { result ≡ list_all spec.is_offered asks.now }
-{
-    asks.iter().all(|ask| is_offered(ask))
-}
-
-fn body(peek: bool) -> &'static [Attribute]
-    ensures { result.now ≡ spec.body_of peek }
-{
-    if peek {
-        &[Attribute::Peek]
-    } else {
-        &[Attribute::Body]
-    }
-}
-
-fn in_full(ask: &FetchAsk) -> &'static [Attribute]
-    ensures { result.now ≡ spec.in_full ask.now }
-{
-    match ask {
-        FetchAsk::Flags => &[Attribute::Flags],
-        FetchAsk::Uid => &[Attribute::Uid],
-        FetchAsk::InternalDate => &[Attribute::InternalDate],
-        FetchAsk::Size => &[Attribute::Size],
-        FetchAsk::Rfc822 => &[Attribute::Rfc822],
-        FetchAsk::Rfc822Header => &[],
-        FetchAsk::Rfc822Text => &[],
-        FetchAsk::Fast => &[Attribute::Flags, Attribute::InternalDate, Attribute::Size],
-        FetchAsk::Body { section: _, peek } => body(*peek),
-    }
-}
-
-fn all_in_full(alloc: Global, asks: &[FetchAsk]) -> Result<Vec<Attribute>, NoMemory>
-    ensures { IfOk result (λ attributes. attributes.items ≡ flat_map spec.in_full asks.now) }
-{
-    let mut attributes = Vec::new(alloc);
-    for ask in asks {
-        attributes.extend_from_slice(in_full(ask))?;
-    }
-    Ok(attributes)
-}
-
-/// Whether it is one of them.
-pub(crate) fn is_asked(attribute: Attribute, attributes: &[Attribute]) -> bool
-    ensures { result ≡ spec.is_asked attribute attributes.now }
-{
-    attributes.contains(&attribute)
+    Rfc822Header,
+    Rfc822Text,
+    /// A section of the text; a peek does not set `\Seen`.
+    Body { section: SectionAsk, peek: bool },
 }
 
 fn put_once(told: &mut Attributes, attribute: Attribute) -> Result<(), NoMemory>
     ensures { OnOk result (told.new ≡ spec.put_once told.old attribute) }
 {
-    if is_asked(attribute, told.as_slice()) {
+    if is_asked(&attribute, told.as_slice()) {
         return Ok(());
     }
     told.push(attribute)
 }
 
-fn once(alloc: Global, attributes: &[Attribute]) -> Result<Attributes, NoMemory>
-    ensures { IfOk result (λ told. told ≡ fold spec.put_once [] attributes.now) }
+fn put_fast(told: &mut Attributes) -> Result<(), NoMemory>
+    ensures { OnOk result (told.new ≡ spec.put_ask told.old Fast) }
+{
+    put_once(told, Attribute::Flags)?;
+    put_once(told, Attribute::InternalDate)?;
+    put_once(told, Attribute::Size)
+}
+
+fn put_body(
+    alloc: Global,
+    told: &mut Attributes,
+    section: &SectionAsk,
+    peek: bool,
+) -> Result<(), NoMemory>
+    ensures { OnOk result (told.new ≡ spec.put_once told.old (Body section.now peek)) }
+{
+    let section = section.copy(alloc)?;
+    put_once(told, Attribute::Body { section, peek })
+}
+
+fn put_ask(alloc: Global, told: &mut Attributes, ask: &FetchAsk) -> Result<(), NoMemory>
+    ensures { OnOk result (told.new ≡ spec.put_ask told.old ask.now) }
+{
+    match ask {
+        FetchAsk::Flags => put_once(told, Attribute::Flags),
+        FetchAsk::Uid => put_once(told, Attribute::Uid),
+        FetchAsk::InternalDate => put_once(told, Attribute::InternalDate),
+        FetchAsk::Size => put_once(told, Attribute::Size),
+        FetchAsk::Rfc822 => put_once(told, Attribute::Rfc822),
+        FetchAsk::Rfc822Header => put_once(told, Attribute::Rfc822Header),
+        FetchAsk::Rfc822Text => put_once(told, Attribute::Rfc822Text),
+        FetchAsk::Fast => put_fast(told),
+        FetchAsk::Body { section, peek } => put_body(alloc, told, section, *peek),
+    }
+}
+
+/// The attributes that are asked for, each once.
+#[tactic(auto, unfolding(crate::specs::Asked::attributes_of))]
+pub fn attributes_of(alloc: Global, asks: &FetchAsks) -> Result<Attributes, NoMemory>
+    ensures { IfOk result (λ attributes. attributes ≡ spec.attributes_of asks.now) }
 {
     let mut told = Attributes::new(alloc);
-    for attribute in attributes {
-        put_once(&mut told, *attribute)?;
+    for ask in asks.as_slice() {
+        put_ask(alloc, &mut told, ask)?;
     }
     Ok(told)
 }
 
-/// The attributes that are asked for, each once; none where one of them is not offered.
-#[tactic(auto, unfolding(crate::specs::Asked::attributes_of))]
-pub fn attributes_of(alloc: Global, asks: &FetchAsks) -> Result<Option<Attributes>, NoMemory>
-    ensures { IfOk result (λ attributes. attributes ≡ spec.attributes_of asks.now) }
-{
-    if !all_offered(asks.as_slice()) {
-        return Ok(None);
-    }
-    let attributes = all_in_full(alloc, asks.as_slice())?;
-    Ok(Some(once(alloc, attributes.as_slice())?))
-}
-
-fn is_text(attribute: Attribute) -> bool
-    ensures { result ≡ spec.is_text attribute }
+fn is_text(attribute: &Attribute) -> bool
+    ensures { result ≡ spec.is_text attribute.now }
 {
     match attribute {
         Attribute::Flags => false,
@@ -147,13 +91,17 @@ fn is_text(attribute: Attribute) -> bool
         Attribute::InternalDate => false,
         Attribute::Size => false,
         Attribute::Rfc822 => true,
-        Attribute::Body => true,
-        Attribute::Peek => true,
+        Attribute::Rfc822Header => true,
+        Attribute::Rfc822Text => true,
+        Attribute::Body {
+            section: _,
+            peek: _,
+        } => true,
     }
 }
 
-fn is_reading(attribute: Attribute) -> bool
-    ensures { result ≡ spec.is_reading attribute }
+fn is_reading(attribute: &Attribute) -> bool
+    ensures { result ≡ spec.is_reading attribute.now }
 {
     match attribute {
         Attribute::Flags => false,
@@ -161,15 +109,16 @@ fn is_reading(attribute: Attribute) -> bool
         Attribute::InternalDate => false,
         Attribute::Size => false,
         Attribute::Rfc822 => true,
-        Attribute::Body => true,
-        Attribute::Peek => false,
+        Attribute::Rfc822Header => false,
+        Attribute::Rfc822Text => true,
+        Attribute::Body { section: _, peek } => !*peek,
     }
 }
 
-fn is_shown(attribute: Attribute) -> bool
-    ensures { result ≡ spec.is_text attribute || spec.same Size attribute }
+fn is_shown(attribute: &Attribute) -> bool
+    ensures { result ≡ spec.is_text attribute.now || spec.is_size attribute.now }
 {
-    is_text(attribute) || attribute == Attribute::Size
+    is_text(attribute) || is_size(attribute)
 }
 
 /// How many of them are texts.
@@ -178,7 +127,7 @@ pub fn body_sections(attributes: &Attributes) -> usize
 {
     attributes
         .iter()
-        .filter(|attribute| is_text(**attribute))
+        .filter(|attribute| is_text(*attribute))
         .count()
 }
 
@@ -186,12 +135,12 @@ pub fn body_sections(attributes: &Attributes) -> usize
 pub fn sets_seen(attributes: &Attributes) -> bool
     ensures { result ≡ spec.sets_seen attributes.now }
 {
-    attributes.iter().any(|attribute| is_reading(*attribute))
+    attributes.iter().any(|attribute| is_reading(attribute))
 }
 
 /// Whether they show something of the text.
 pub fn shows_body(attributes: &Attributes) -> bool
     ensures { result ≡ spec.shows_body attributes.now }
 {
-    attributes.iter().any(|attribute| is_shown(*attribute))
+    attributes.iter().any(|attribute| is_shown(attribute))
 }

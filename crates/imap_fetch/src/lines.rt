@@ -1,11 +1,14 @@
 //! The answers to FETCH and STORE.
-ghost use Rattle.std.specs.Prelude.{◌≡◌, ◌++◌, IfOk, OnOk};
+ghost use Rattle.std.specs.Prelude.{◌≡◌, ◌++◌, IfOk, OnOk, map};
+ghost use Rattle.std.specs.List.{list_any};
+ghost use Rattle.imap_fetch.specs.Asked.{is_uid as is_uid_of, is_flags as is_flags_of};
 ghost use Rattle.imap_fetch.specs.Told as spec;
 
-use crate::asked::is_asked;
 use crate::flags::{changed, flags_fetched};
-use crate::parts::push_line;
+use crate::parts::{push_parts, push_where};
+use crate::same::{is_flags, is_uid};
 use crate::{Attribute, Attributes, Message, Messages};
+use imap_text::{FetchParts, render_fetch};
 use std::alloc::Global;
 use undo_base::{Flags, How, NoMemory, Text, Texts};
 
@@ -31,20 +34,68 @@ fn is_newly_seen(form: &FetchForm, message: &Message) -> bool
     form.sets_seen && !message.entry.flags.seen
 }
 
-/// What is told of a message, in order.
-fn told(alloc: Global, form: &FetchForm, message: &Message) -> Result<Vec<Attribute>, NoMemory>
-    ensures { IfOk result (λ told. told.items ≡ spec.told form.now message.now) }
+fn has_uid(attributes: &Attributes) -> bool
+    ensures { result ≡ list_any is_uid_of attributes.now }
 {
-    let attributes = form.attributes.as_slice();
-    let mut told = Vec::new(alloc);
-    if form.by_uid && !is_asked(Attribute::Uid, attributes) {
-        told.push(Attribute::Uid)?;
-    }
-    told.extend_from_slice(attributes)?;
-    if is_newly_seen(form, message) && !is_asked(Attribute::Flags, attributes) {
-        told.push(Attribute::Flags)?;
-    }
-    Ok(told)
+    attributes.iter().any(|attribute| is_uid(attribute))
+}
+
+fn has_flags(attributes: &Attributes) -> bool
+    ensures { result ≡ list_any is_flags_of attributes.now }
+{
+    attributes.iter().any(|attribute| is_flags(attribute))
+}
+
+fn adds_uid(form: &FetchForm) -> bool
+    ensures { result ≡ spec.adds_uid form.now }
+{
+    form.by_uid && !has_uid(&form.attributes)
+}
+
+fn adds_flags(form: &FetchForm, message: &Message) -> bool
+    ensures { result ≡ spec.adds_flags form.now message.now }
+{
+    is_newly_seen(form, message) && !has_flags(&form.attributes)
+}
+
+/// What is told of a message.
+fn told(
+    alloc: Global,
+    form: &FetchForm,
+    message: &Message,
+    text: &[u8],
+) -> Result<FetchParts, NoMemory>
+    ensures { IfOk result (λ parts. parts ≡ map (spec.part_of message.now (spec.flags_fetched form.now message.now) text.now) (spec.told form.now message.now)) }
+{
+    let flags = flags_fetched(form, message);
+    let mut parts = FetchParts::new(alloc);
+    push_where(
+        alloc,
+        &mut parts,
+        message,
+        flags,
+        text,
+        adds_uid(form),
+        &Attribute::Uid,
+    )?;
+    push_parts(
+        alloc,
+        &mut parts,
+        message,
+        flags,
+        text,
+        form.attributes.as_slice(),
+    )?;
+    push_where(
+        alloc,
+        &mut parts,
+        message,
+        flags,
+        text,
+        adds_flags(form, message),
+        &Attribute::Flags,
+    )?;
+    Ok(parts)
 }
 
 #[tactic(auto, unfolding(crate::specs::Told::fetched_line))]
@@ -57,9 +108,9 @@ fn push_fetched(
 ) -> Result<(), NoMemory>
     ensures { OnOk result (out.new ≡ out.old ++ spec.fetched_line form.now message.now text.now) }
 {
-    let told = told(alloc, form, message)?;
-    let flags = flags_fetched(form, message);
-    push_line(alloc, out, message, flags, text, told.as_slice())
+    let parts = told(alloc, form, message, text)?;
+    let line = render_fetch(alloc, message.place, &parts)?;
+    out.extend(line.bytes())
 }
 
 fn text_beside(texts: &[Text], index: usize) -> &[u8]
@@ -100,12 +151,27 @@ fn push_stored(
     ensures { OnOk result (out.new ≡ out.old ++ spec.stored_line form message.now) }
 {
     let flags = changed(form.how, form.flags, message.entry.flags);
-    let attributes: &[Attribute] = if form.by_uid {
-        &[Attribute::Uid, Attribute::Flags]
-    } else {
-        &[Attribute::Flags]
-    };
-    push_line(alloc, out, message, flags, b"", attributes)
+    let mut parts = FetchParts::new(alloc);
+    push_where(
+        alloc,
+        &mut parts,
+        message,
+        flags,
+        b"",
+        form.by_uid,
+        &Attribute::Uid,
+    )?;
+    push_where(
+        alloc,
+        &mut parts,
+        message,
+        flags,
+        b"",
+        true,
+        &Attribute::Flags,
+    )?;
+    let line = render_fetch(alloc, message.place, &parts)?;
+    out.extend(line.bytes())
 }
 
 /// What a STORE that is not silent tells of these messages (RFC 3501, 6.4.6).

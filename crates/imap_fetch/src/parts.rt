@@ -1,31 +1,25 @@
 //! The values of a message's attributes.
-ghost use Rattle.std.specs.Prelude.{◌≡◌, ◌++◌, All, IfOk, OnOk, map};
-ghost use Rattle.imap_text.specs.Answers.{HasDate, fetch_line};
+ghost use Rattle.std.specs.Prelude.{◌≡◌, ◌++◌, IfOk, OnOk, map};
 ghost use Rattle.imap_fetch.specs.Told as spec;
 
+use crate::labels::label;
 use crate::{Attribute, Message};
-use imap_text::{FetchPart, FetchParts, FetchValue, render_fetch};
+use imap_text::{FetchPart, FetchParts, FetchValue};
+use mail_sections::section;
 use std::alloc::Global;
-use undo_base::{Flags, LAST_MOMENT, NoMemory, Text};
+use undo_base::{Flags, LAST_MOMENT, NoMemory, Section, SectionAsk, Text};
 
-fn label(attribute: Attribute) -> &'static [u8]
-    ensures { result.now ≡ spec.label attribute }
+fn literal(alloc: Global, text: &[u8], asked: &SectionAsk) -> Result<FetchValue, NoMemory>
+    ensures { IfOk result (λ value. value ≡ spec.literal_of asked.now text.now) }
 {
-    match attribute {
-        Attribute::Flags => b"FLAGS",
-        Attribute::Uid => b"UID",
-        Attribute::InternalDate => b"INTERNALDATE",
-        Attribute::Size => b"RFC822.SIZE",
-        Attribute::Rfc822 => b"RFC822",
-        Attribute::Body => b"BODY[]",
-        Attribute::Peek => b"BODY[]",
-    }
+    Ok(FetchValue::Literal(section(alloc, text, asked)?))
 }
 
-fn literal(alloc: Global, text: &[u8]) -> Result<FetchValue, NoMemory>
-    ensures { IfOk result (λ value. value ≡ FetchValue.Literal text.now) }
+/// A section from its first place to its end.
+fn all_of(what: Section) -> SectionAsk
+    ensures { result ≡ spec.all_of what }
 {
-    Ok(FetchValue::Literal(Text::of(alloc, text)?))
+    SectionAsk { what, part: None }
 }
 
 fn value(
@@ -33,18 +27,19 @@ fn value(
     message: &Message,
     flags: Flags,
     text: &[u8],
-    attribute: Attribute,
+    attribute: &Attribute,
 ) -> Result<FetchValue, NoMemory>
-    ensures { IfOk result (λ value. value ≡ spec.value message.now flags text.now attribute) }
+    ensures { IfOk result (λ value. value ≡ spec.value message.now flags text.now attribute.now) }
 {
     match attribute {
         Attribute::Flags => Ok(FetchValue::Flags(flags)),
         Attribute::Uid => Ok(FetchValue::Number(message.entry.uid)),
         Attribute::InternalDate => Ok(FetchValue::Moment(message.entry.at.min(LAST_MOMENT))),
         Attribute::Size => Ok(FetchValue::Number(message.size as u64)),
-        Attribute::Rfc822 => literal(alloc, text),
-        Attribute::Body => literal(alloc, text),
-        Attribute::Peek => literal(alloc, text),
+        Attribute::Rfc822 => literal(alloc, text, &all_of(Section::Whole)),
+        Attribute::Rfc822Header => literal(alloc, text, &all_of(Section::Header)),
+        Attribute::Rfc822Text => literal(alloc, text, &all_of(Section::Text)),
+        Attribute::Body { section, peek: _ } => literal(alloc, text, section),
     }
 }
 
@@ -53,43 +48,46 @@ fn part(
     message: &Message,
     flags: Flags,
     text: &[u8],
-    attribute: Attribute,
+    attribute: &Attribute,
 ) -> Result<FetchPart, NoMemory>
-    ensures { IfOk result (λ part. part ≡ spec.part_of message.now flags text.now attribute) }
+    ensures { IfOk result (λ part. part ≡ spec.part_of message.now flags text.now attribute.now) }
 {
-    let label = Text::of(alloc, label(attribute))?;
+    let label = label(alloc, attribute)?;
     let value = value(alloc, message, flags, text, attribute)?;
     Ok(FetchPart { label, value })
 }
 
-fn parts_of(
+/// Adds these attributes of a message, with its flags by now and its text.
+pub(crate) fn push_parts(
     alloc: Global,
-    message: &Message,
-    flags: Flags,
-    text: &[u8],
-    attributes: &[Attribute],
-) -> Result<FetchParts, NoMemory>
-    ensures { IfOk result (λ parts. parts ≡ map (spec.part_of message.now flags text.now) attributes.now) }
-{
-    let mut parts = FetchParts::new(alloc);
-    for attribute in attributes {
-        parts.push(part(alloc, message, flags, text, *attribute)?)?;
-    }
-    Ok(parts)
-}
-
-/// Adds a message's line: these attributes of it, with its flags by now and its text.
-pub(crate) fn push_line(
-    alloc: Global,
-    out: &mut Text,
+    parts: &mut FetchParts,
     message: &Message,
     flags: Flags,
     text: &[u8],
     attributes: &[Attribute],
 ) -> Result<(), NoMemory>
-    ensures { OnOk result (out.new ≡ out.old ++ spec.line_of message.now flags text.now attributes.now) }
+    ensures { OnOk result (parts.new ≡ parts.old ++ map (spec.part_of message.now flags text.now) attributes.now) }
 {
-    let parts = parts_of(alloc, message, flags, text, attributes)?;
-    let line = render_fetch(alloc, message.place, &parts)?;
-    out.extend(line.bytes())
+    for attribute in attributes {
+        parts.push(part(alloc, message, flags, text, attribute)?)?;
+    }
+    Ok(())
+}
+
+/// Adds one attribute of a message, where it is wanted.
+pub(crate) fn push_where(
+    alloc: Global,
+    parts: &mut FetchParts,
+    message: &Message,
+    flags: Flags,
+    text: &[u8],
+    wanted: bool,
+    attribute: &Attribute,
+) -> Result<(), NoMemory>
+    ensures { OnOk result (parts.new ≡ parts.old ++ map (spec.part_of message.now flags text.now) (spec.only_where wanted attribute.now)) }
+{
+    if wanted {
+        parts.push(part(alloc, message, flags, text, attribute)?)?;
+    }
+    Ok(())
 }

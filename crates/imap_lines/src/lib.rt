@@ -35,6 +35,3 @@ pub use laws::{attributes_are_spelled, flags_are_spelled, items_are_spelled, tok
 pub use reader::read_command;
 pub use round_trip::{cuts_what_is_sent, reads_what_is_written};
 pub use tokens::{Part, Token, Tokens};
-
-#[cfg(test)]
-mod tests;

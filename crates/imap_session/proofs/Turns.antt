@@ -138,10 +138,9 @@ module _ (house : House) (s : MailStore) (d : Dialog) (sound : IsSound d) (free 
   fine_fetch_in sizes tag (Some selected) attributes set by_uid user =
       fine_fetch_places sizes tag selected attributes by_uid (places_named selected.view set by_uid) (user refl)
 
-  fine_fetch : (sizes : Body → Option ℕ) (tag : List ℕ) (attributes : Option (List Attribute)) (set : List SetRange) (by_uid : Bool)
+  fine_fetch : (sizes : Body → Option ℕ) (tag : List ℕ) (attributes : List Attribute) (set : List SetRange) (by_uid : Bool)
       → IsFine house s d (fetch s sizes tag d attributes set by_uid)
-  fine_fetch sizes tag None set by_uid = fine_say _
-  fine_fetch sizes tag (Some attributes) set by_uid = fine_fetch_in sizes tag d.selected attributes set by_uid sound.selected
+  fine_fetch sizes tag attributes set by_uid = fine_fetch_in sizes tag d.selected attributes set by_uid sound.selected
 
   fine_store_places : (sizes : Body → Option ℕ) (tag : List ℕ) (selected : Selected) (form : StoreForm) (silent : Bool) (places : Option (List ℕ))
       → is_some d.user ≡ true → IsFine house s d (store_places s sizes tag d selected form silent places)

@@ -221,9 +221,8 @@ fetch_in s sizes tag d (Some selected) attributes set by_uid =
     fetch_places s sizes tag d selected attributes by_uid (places_named selected.view set by_uid)
 
 -- FETCH and UID FETCH (RFC 3501, 6.4.5 and 6.4.8)
-abbrev pub fetch : MailStore → (Body → Option ℕ) → List ℕ → Dialog → Option (List Attribute) → List SetRange → Bool → Took
-fetch s sizes tag d None set by_uid = says tag BadArguments d
-fetch s sizes tag d (Some attributes) set by_uid = fetch_in s sizes tag d d.selected attributes set by_uid
+abbrev pub fetch : MailStore → (Body → Option ℕ) → List ℕ → Dialog → List Attribute → List SetRange → Bool → Took
+fetch s sizes tag d attributes set by_uid = fetch_in s sizes tag d d.selected attributes set by_uid
 
 abbrev pub store_places : MailStore → (Body → Option ℕ) → List ℕ → Dialog → Selected → StoreForm → Bool → Option (List ℕ) → Took
 store_places s sizes tag d selected form silent None = says tag BadNumber d

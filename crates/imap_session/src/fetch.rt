@@ -178,10 +178,8 @@ pub(crate) fn fetch(
     ensures ok { IfOk result (λ out. spec.fetch store.now.store (size_of sizes.now.notes) tag.now dialog.old (attributes_in asked.now) set.now by_uid ≡ took out dialog.new) }
     ensures err { OnErr result (dialog.new ≡ dialog.old) }
 {
-    match attributes_of(alloc, asked)? {
-        None => say(alloc, tag, Answer::BadArguments),
-        Some(attributes) => fetch_in(alloc, store, sizes, dialog, tag, attributes, set, by_uid),
-    }
+    let attributes = attributes_of(alloc, asked)?;
+    fetch_in(alloc, store, sizes, dialog, tag, attributes, set, by_uid)
 }
 
 /// Goes on with the texts.

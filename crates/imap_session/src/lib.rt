@@ -28,6 +28,3 @@ mod words;
 pub use lines::{bad_line, changed, greeting, no_memory, ready, refused, rewound};
 pub use out::{Bodies0, ImapOut};
 pub use session::ImapSession;
-
-#[cfg(test)]
-mod tests;

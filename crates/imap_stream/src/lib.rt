@@ -23,6 +23,3 @@ pub use next::{BadLine, LineFault, Next, Nexts, RawCommand};
 pub use picks::{PickRefused, SetRange, SetText, Span, pick};
 pub use pieces::Pieces;
 pub use reader::Reader;
-
-#[cfg(test)]
-mod tests;

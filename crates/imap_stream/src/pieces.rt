@@ -57,14 +57,6 @@ impl Pieces {
     }
 }
 
-#[cfg(test)]
-impl Pieces {
-    /// How many bytes of the stream are held.
-    pub(crate) fn held(&self) -> usize {
-        self.bytes.len()
-    }
-}
-
 /// Takes the first bytes away.
 fn drop_front(bytes: &mut Vec<u8>, count: usize)
     requires { count ≤ length bytes.old.items }

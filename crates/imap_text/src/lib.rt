@@ -17,6 +17,3 @@ pub use fetch::{date_text, render_fetch};
 
 /// The attributes of a message, in order.
 pub type FetchParts = undo_base::Sequence<FetchPart>;
-
-#[cfg(test)]
-mod tests;

@@ -3,8 +3,4 @@
 #![tactic(auto)]
 
 #[cfg(test)]
-mod consoles;
-#[cfg(test)]
-mod sockets;
-#[cfg(test)]
 mod unsealed;

@@ -26,6 +26,3 @@ use verb_core::Shown;
 
 /// What items show, in their order.
 type Shows = Sequence<Shown>;
-
-#[cfg(test)]
-mod tests;

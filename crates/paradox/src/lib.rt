@@ -28,6 +28,3 @@ pub type Renewals = Sequence<(BoxId, u32)>;
 
 /// Notices, each with the user whom it goes to.
 pub type Notices = Sequence<(User, Text)>;
-
-#[cfg(test)]
-mod tests;

@@ -5,11 +5,7 @@
 #![tactic(auto)]
 
 #[cfg(test)]
-mod consoles;
-#[cfg(test)]
 mod conversation;
-#[cfg(test)]
-mod others;
 #[cfg(test)]
 mod reader_tests;
 #[cfg(test)]

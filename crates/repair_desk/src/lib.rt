@@ -24,8 +24,3 @@ pub use editing::{EditRefused, Edited, edit, edit_at};
 pub use numbers::NumberSet;
 pub use point::position_of;
 pub use renewing::renew;
-
-#[cfg(test)]
-mod renew_tests;
-#[cfg(test)]
-mod tests;

@@ -17,6 +17,3 @@ mod transcripts;
 pub use laws::reads_what_is_written;
 pub use script::{BadScript, read_script};
 pub use transcripts::transcript;
-
-#[cfg(test)]
-mod tests;

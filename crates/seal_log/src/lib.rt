@@ -22,6 +22,3 @@ pub use log::{Log, format};
 pub use place::{Place, Places};
 pub use run::seal_all;
 pub use seen::Survey;
-
-#[cfg(test)]
-mod tests;

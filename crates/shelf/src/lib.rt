@@ -9,6 +9,3 @@ mod rows;
 
 pub use note::Note;
 pub use rows::Shelf;
-
-#[cfg(test)]
-mod tests;

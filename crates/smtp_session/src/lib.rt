@@ -19,6 +19,3 @@ mod session;
 pub use answer::{Answer, SmtpOut, greeting, memory_text};
 pub use laws::texts_are_their_lines;
 pub use session::SmtpSession;
-
-#[cfg(test)]
-mod tests;

@@ -35,6 +35,3 @@ pub fn digest(alloc: Global, store: &Store, items: u32) -> Result<Text, NoMemory
     let payload = encode_snapshot(alloc, items, store.conf(), &rows)?;
     digits(alloc, payload.bytes())
 }
-
-#[cfg(test)]
-mod tests;

@@ -7,8 +7,6 @@
 #[cfg(test)]
 mod checking;
 #[cfg(test)]
-mod filing;
-#[cfg(test)]
 mod lasting;
 #[cfg(test)]
 mod making;

@@ -10,10 +10,6 @@ use undo_outside::{Events, MemDisk, MemLink, MemSink, MemSource, OpenGate};
 pub(crate) const FORMATTED: &[u8] =
     b"\x55\x00\x00\x00\x47\x00\x09mail.test\x00\x00\x00\x01\x09mail.test\x00\x00\x00\x02\x00\x00\x00\x03\x03ann\x02a1\x03bob\x02b2\x04carl\x02c3\x00\x00\x00\x00\x01\x04team\x00\x00\x00\x02\x00\x01\x00";
 
-/// What stands from byte 76 on once ann has created Work: an open gate, the length 21, the payload, and a closed gate.
-pub(crate) const CREATED: &[u8] =
-    b"\x55\x00\x00\x00\x15\x01\x00\x00\x00\x02\x00\x00\x00\x00\x41\xde\x5d\xa0\x00\x0b\x04Work\x00\x00";
-
 pub(crate) const DISK_FAULT: &[u8] = b"undomail: disk fault\n";
 
 /// How a run ended: the status, what was written, and the disk.
@@ -70,17 +66,6 @@ pub(crate) fn ends<R: Threads + Sync>(
     failing: &[u32],
 ) -> Result<Ended, Fail> {
     words_end(rt, alloc, &[command, "a.store"], text, bytes, failing)
-}
-
-/// Whether these words, over no text and an empty disk, end with this status and this output.
-pub(crate) fn words_tell<R: Threads + Sync>(
-    rt: &R,
-    alloc: Global,
-    words: &[&str],
-    wanted: (u8, &[u8]),
-) -> Result<bool, Fail> {
-    let ended = words_end(rt, alloc, words, b"", b"", &[])?;
-    Ok(ended.status == wanted.0 && ended.output.bytes() == wanted.1)
 }
 
 /// Whether a run over this disk, of which these calls fail, ends with this status and this output.

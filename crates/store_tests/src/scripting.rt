@@ -1,18 +1,9 @@
 //! The command `script`.
-use crate::running::{
-    CREATED, DISK_FAULT, FORMATTED, ends, joined, leaves, store_after, tells, words_tell,
-};
+use crate::running::{DISK_FAULT, FORMATTED, ends, leaves, store_after, tells};
 use std::alloc::Global;
 use std::test::Fail;
 use std::thread::Threads;
 use undo_base::Text;
-
-const USAGE: &[u8] =
-    b"undomail: usage: undomail init STORE, serve STORE SMTP IMAP HTTP, script STORE, play, grow ROUNDS, check STORE\n";
-
-const BAD_SECOND: &[u8] = b"# a line\nline x y\n";
-
-const SECOND_IS_BAD: &[u8] = b"undomail: bad script line 2\n";
 
 const NOT_A_STORE: &[u8] = b"undomail: not a store\n";
 
@@ -20,9 +11,6 @@ const DAMAGED: &[u8] = b"undomail: damaged at 76\n";
 
 pub(crate) const CREATE: &[u8] =
     b"at 1105092000\nopen 1 imap\nline 1 a LOGIN ann a1\nline 1 b CREATE Work\n";
-
-const CREATE_DONE: &[u8] =
-    b"1< * OK mail.test IMAP4rev1 undomail\n1< a OK LOGIN done.\n1< b OK CREATE done.\n";
 
 const ASK: &[u8] = b"open 1 imap\nline 1 a LOGIN ann a1\nline 1 b STATUS Work (UIDVALIDITY)\n";
 
@@ -41,44 +29,7 @@ const SENT: &[u8] =
 const NOT_SENT: &[u8] =
     b"1< 220 mail.test ESMTP undomail\n1< 250 mail.test\n1< 250 OK\n1< 250 OK\n1< 354 End with a line of one dot\n1< 421 mail.test disk fault\n1 closed\nundomail: disk fault\n";
 
-#[test]
-fn words_of_no_shape_are_refused(rt: HostRuntime) -> Result<(), Fail> {
-    let alloc = rt.alloc();
-    let table: [&[&str]; 7] = [
-        &["play", "now"],
-        &["script", "-x"],
-        &["script"],
-        &["init", ""],
-        &["check", "a.store", "b.store"],
-        &["serve", "a.store", "0", "2", "3"],
-        &["grow", "2"],
-    ];
-    for words in table {
-        assert!(rt; words_tell(&rt, alloc, words, (1, USAGE))?);
-    }
-    Ok(())
-}
-
 // The text comes before the store, and a store that is not opened stays as it is.
-#[test]
-fn script_refuses_a_bad_text_and_what_is_no_store(rt: HostRuntime) -> Result<(), Fail> {
-    let alloc = rt.alloc();
-    let cut = joined(alloc, &FORMATTED[..76], b"\x55")?;
-    let created = joined(alloc, &FORMATTED[..76], CREATED)?;
-    let table: [(&[u8], &[u8], (u8, &[u8], &[u8])); 7] = [
-        (BAD_SECOND, FORMATTED, (2, SECOND_IS_BAD, FORMATTED)),
-        (BAD_SECOND, b"", (2, SECOND_IS_BAD, b"")),
-        (b"", b"", (3, NOT_A_STORE, b"")),
-        (b"", b"\x00\x55", (3, NOT_A_STORE, b"\x00\x55")),
-        (CREATE, cut.bytes(), (10, DAMAGED, cut.bytes())),
-        (b"", FORMATTED, (0, b"", FORMATTED)),
-        (CREATE, FORMATTED, (0, CREATE_DONE, created.bytes())),
-    ];
-    for (text, bytes, wanted) in table {
-        assert!(rt; leaves(&rt, alloc, "script", text, bytes, wanted)?);
-    }
-    Ok(())
-}
 
 /// What a crash leaves of a CREATE, where so many writes are done, and so many bytes of the next.
 fn crash_leaves<R: Threads + Sync>(

@@ -32,8 +32,3 @@ pub use decode::{BadBytes, decode_record};
 pub use encode::{encode_act, encode_item, encode_record, encode_snapshot};
 pub use journal::{Acts, CycleAsk, JournalRecord, Replaces};
 pub use spelled::{act_has_spelling, has_spelling, item_has_spelling, snapshot_has_spelling};
-
-#[cfg(test)]
-mod range_tests;
-#[cfg(test)]
-mod tests;

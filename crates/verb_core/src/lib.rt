@@ -50,6 +50,3 @@ pub type Aims = Sequence<Aim>;
 
 /// Items, in order.
 pub type Items = Sequence<Item>;
-
-#[cfg(test)]
-mod tests;

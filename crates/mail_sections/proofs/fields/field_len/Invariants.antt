@@ -1,0 +1,16 @@
+use Rattle.std.proofs.Common.{◌≡◌, ◌≤◌, length, take, drop}
+use Rattle.mail_sections.specs.Fields.{fields_of, has_empty_line}
+use Rattle.mail_sections.proofs.Grouping.{carried}
+use Rattle.mail_sections.proofs.fields.field_len.Given as goal
+
+abbrev pub invariant-loop-rest : goal.invariant-loop-rest
+invariant-loop-rest l = record {
+  rest : l.rest ≡ drop l.passed l.bytes;
+  within : l.passed ≤ length l.bytes;
+  more : 1 ≤ l.passed;
+  fields : fields_of l.bytes ≡ carried (take l.passed l.bytes) l.rest;
+  end : has_empty_line l.bytes ≡ has_empty_line l.rest;
+}
+
+abbrev pub decreases-loop-rest : goal.decreases-loop-rest
+decreases-loop-rest l = length l.rest

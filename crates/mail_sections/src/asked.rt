@@ -1,0 +1,100 @@
+//! What a FETCH asks of a text.
+ghost use Rattle.std.specs.Prelude.{◌≡◌, ◌≤◌, ◌<◌, true, false, length, take, drop, IfOk};
+ghost use Rattle.mail_sections.specs.Fields.{is_wanted as wanted};
+ghost use Rattle.mail_sections.specs.Sections.{header_of, part_of, fields_where, section_of};
+ghost use Rattle.mail_sections.specs.Lines.{begins_empty as empty_begins};
+
+use crate::fields::{field_len, is_wanted};
+use crate::lines::{after, before, begins_empty, is_empty_line, line_len};
+use std::alloc::Global;
+use undo_base::{Names, NoMemory, Section, SectionAsk, Text};
+
+/// How long the header is, with its empty line.
+pub(crate) fn header_len(text: &[u8]) -> usize
+    ensures within { result ≤ length text.now }
+    ensures header { take result text.now ≡ header_of text.now }
+{
+    let mut passed = 0;
+    let mut rest = text;
+    while passed < text.len() {
+        let count = line_len(rest);
+        let ends = is_empty_line(before(rest, count));
+        passed += count;
+        rest = after(rest, count);
+        if ends {
+            return passed;
+        }
+    }
+    passed
+}
+
+/// So many bytes from a place on, or what is there.
+fn part(bytes: &[u8], asked: Option<(u32, u32)>) -> &[u8]
+    ensures { result.now ≡ part_of asked bytes.now }
+{
+    match asked {
+        None => bytes,
+        Some((first, count)) => {
+            let rest = after(bytes, (first as usize).min(bytes.len()));
+            before(rest, (count as usize).min(rest.len()))
+        }
+    }
+}
+
+/// Whether a field comes first: neither the end nor an empty line.
+fn begins_field(bytes: &[u8]) -> bool
+    ensures some { result ≡ true → 0 < length bytes.now }
+    ensures header { result ≡ true → empty_begins bytes.now ≡ false }
+    ensures end { result ≡ false → 0 < length bytes.now → empty_begins bytes.now ≡ true }
+{
+    bytes.len() > 0 && !begins_empty(bytes)
+}
+
+/// The fields that are wanted, and the empty line.
+fn fields(alloc: Global, text: &[u8], among: bool, names: &Names) -> Result<Text, NoMemory>
+    ensures { IfOk result (λ told. told ≡ fields_where (wanted among names.now) text.now) }
+{
+    let mut told = Text::new(alloc);
+    let mut rest = text;
+    while begins_field(rest) {
+        let count = field_len(rest);
+        let field = before(rest, count);
+        if is_wanted(among, names, field) {
+            told.extend(field)?;
+        }
+        rest = after(rest, count);
+    }
+    told.extend(before(rest, rest.len().min(2)))?;
+    Ok(told)
+}
+
+fn fields_part(
+    alloc: Global,
+    text: &[u8],
+    among: bool,
+    names: &Names,
+    asked: Option<(u32, u32)>,
+) -> Result<Text, NoMemory>
+    ensures { IfOk result (λ told. told ≡ part_of asked (fields_where (wanted among names.now) text.now)) }
+{
+    let all = fields(alloc, text, among, names)?;
+    if asked.is_none() {
+        return Ok(all);
+    }
+    Text::of(alloc, part(all.bytes(), asked))
+}
+
+/// What is asked of a text (RFC 3501, section 6.4.5): all of it, its header through the first empty line, what follows that, or the
+/// fields of the header with or without the listed names and the empty line; and of this the part that is asked. The text has at
+/// most `MOST_TEXT` bytes. The one error is want of memory.
+pub fn section(alloc: Global, text: &[u8], ask: &SectionAsk) -> Result<Text, NoMemory>
+    ensures { IfOk result (λ told. told ≡ section_of ask.now text.now) }
+{
+    match &ask.what {
+        Section::Whole => Text::of(alloc, part(text, ask.part)),
+        Section::Header => Text::of(alloc, part(before(text, header_len(text)), ask.part)),
+        Section::Text => Text::of(alloc, part(after(text, header_len(text)), ask.part)),
+        Section::Fields { names } => fields_part(alloc, text, true, names, ask.part),
+        Section::NotFields { names } => fields_part(alloc, text, false, names, ask.part),
+    }
+}
