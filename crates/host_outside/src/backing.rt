@@ -1,6 +1,7 @@
 //! The file behind a disk, if there is one.
 ghost use Rattle.std.specs.Prelude.{◌≡◌, ◌+◌, length, IfOk};
 
+use crate::locks::Locks;
 use std::fs::{self, OpenFile, OpenOptions};
 use std::io::{self, ErrorKind, Read, Seek, SeekFrom, Write};
 use std::os::unix::fs::OpenOptionsExt;
@@ -12,30 +13,46 @@ use std::rt::Files;
 pub(crate) struct Backing<'a, R: Files> {
     files: R,
     held: Held<'a, R::File>,
-    /// The path of a file that was made here, until its folder is synced.
+    /// The path of a file that was made here, or was found with nothing in it, until its folder is synced.
     new_at: Option<&'a String>,
+}
+
+/// Which lock is taken on a file that is there.
+#[derive(Clone, Copy)]
+pub(crate) enum Lock {
+    /// Nobody else has one.
+    Exclusive,
+    /// Others have none but this.
+    Shared,
 }
 
 #[derive(Drop)]
 enum Held<'a, F> {
-    /// No path, or one at which no length was found.
+    /// No path, or one at which no length was found, or a file that another program has locked.
     Nothing,
     /// No file yet: the first write makes it.
     Missing(&'a String),
     Open(F),
 }
 
-impl<'a, R: Files> Backing<'a, R> {
+impl<'a, R: Files> Backing<'a, R>
+where
+    R::File: Locks,
+{
     /// What stands at a path, and its length.
-    pub(crate) fn find(files: R, path: Option<&'a String>) -> (Backing<'a, R>, u64) {
+    pub(crate) fn find(files: R, path: Option<&'a String>, lock: Lock) -> (Backing<'a, R>, u64) {
         let (held, size) = match path {
-            Some(path) => find_at(&files, path),
+            Some(path) => find_at(&files, path, lock),
             None => (Held::Nothing, 0),
+        };
+        let new_at = match &held {
+            Held::Open(_) if size == 0 && matches!(lock, Lock::Exclusive) => path,
+            _ => None,
         };
         let backing = Backing {
             files,
             held,
-            new_at: None,
+            new_at,
         };
         (backing, size)
     }
@@ -82,13 +99,14 @@ impl<'a, R: Files> Backing<'a, R> {
         Ok(())
     }
 
-    /// Syncs the file, and its folder where the file is new.
-    pub(crate) fn sync(&mut self) -> io::Result<()> {
+    /// Syncs the file, and its folder where the file is new. Where its length has not changed since the last sync, neither
+    /// its times nor its length are written, but its bytes alone.
+    pub(crate) fn sync(&mut self, has_grown: bool) -> io::Result<()> {
         match &mut self.held {
             Held::Nothing => Err(no_file()),
             Held::Missing(_) => Ok(()),
             Held::Open(file) => {
-                file.sync_all()?;
+                sync_file(file, has_grown)?;
                 self.sync_new()
             }
         }
@@ -108,41 +126,83 @@ fn no_file() -> io::Error {
     io::Error::from(ErrorKind::NotFound)
 }
 
-fn find_at<'a, R: Files>(files: &R, path: &'a String) -> (Held<'a, R::File>, u64) {
-    match open_there(files, path) {
+fn find_at<'a, R: Files>(files: &R, path: &'a String, lock: Lock) -> (Held<'a, R::File>, u64)
+where
+    R::File: Locks,
+{
+    match open_there(files, path, lock) {
         Ok((file, size)) => (Held::Open(file), size),
         Err(error) if error.kind() == ErrorKind::NotFound => (Held::Missing(path), 0),
         Err(_) => (Held::Nothing, 0),
     }
 }
 
-/// Opens the plain file at a path, for reading alone where it may not be written, and finds its length. What is no
+/// Opens the plain file at a path, locks it, and finds its length, which nobody else changes from then on. What is no
 /// plain file is not opened, since that might wait.
-fn open_there<R: Files>(files: &R, path: &String) -> io::Result<(R::File, u64)> {
+fn open_there<R: Files>(files: &R, path: &String, lock: Lock) -> io::Result<(R::File, u64)>
+where
+    R::File: Locks,
+{
     if !fs::metadata(files, path)?.is_file() {
         return Err(io::Error::from(ErrorKind::InvalidInput));
     }
-    let file = match OpenOptions::new().read(true).write(true).open(files, path) {
-        Ok(file) => file,
-        Err(_) => fs::open(files, path)?,
+    let file = match lock {
+        Lock::Exclusive => open_alone(files, path)?,
+        Lock::Shared => open_beside(files, path)?,
     };
     let size = file.metadata()?.len();
     Ok((file, size))
 }
 
-/// Makes the file at a path, which nobody but its owner may read. One that is there by now is left alone.
-fn make<R: Files>(files: &R, path: &String) -> io::Result<R::File> {
-    OpenOptions::new()
+/// Opens a file for this program alone; for reading alone where it may not be written.
+fn open_alone<R: Files>(files: &R, path: &String) -> io::Result<R::File>
+where
+    R::File: Locks,
+{
+    let file = match OpenOptions::new().read(true).write(true).open(files, path) {
+        Ok(file) => file,
+        Err(_) => fs::open(files, path)?,
+    };
+    file.lock_alone()?;
+    Ok(file)
+}
+
+/// Opens a file for reading, beside others that read it.
+fn open_beside<R: Files>(files: &R, path: &String) -> io::Result<R::File>
+where
+    R::File: Locks,
+{
+    let file = fs::open(files, path)?;
+    file.lock_beside()?;
+    Ok(file)
+}
+
+/// Makes the file at a path, which nobody but its owner may read, and locks it. One that is there by now is left alone.
+fn make<R: Files>(files: &R, path: &String) -> io::Result<R::File>
+where
+    R::File: Locks,
+{
+    let file = OpenOptions::new()
         .read(true)
         .write(true)
         .create_new(true)
         .mode(0o600)
-        .open(files, path)
+        .open(files, path)?;
+    file.lock_alone()?;
+    Ok(file)
 }
 
 fn write_at<F: Write + Seek>(file: &mut F, place: u64, bytes: &[u8]) -> io::Result<()> {
     file.seek(SeekFrom::Start(place))?;
     file.write_all(bytes)
+}
+
+fn sync_file<F: OpenFile>(file: &F, has_grown: bool) -> io::Result<()> {
+    if has_grown {
+        file.sync_all()
+    } else {
+        file.sync_data()
+    }
 }
 
 /// Syncs the folder of a file, so that the file is found there after a crash.

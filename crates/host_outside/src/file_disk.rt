@@ -1,8 +1,9 @@
 //! A file as a disk, which tells its length and its counts alone.
-ghost use Rattle.std.specs.Prelude.{◌≡◌, ◌≤◌, ◌+◌, [], true, false};
+ghost use Rattle.std.specs.Prelude.{◌≡◌, ◌≤◌, ◌+◌, [], length, true, false};
 ghost use Rattle.undo_outside.specs.Calls.{Rose};
 
-use crate::backing::Backing;
+use crate::backing::{Backing, Lock};
+use crate::locks::Locks;
 use std::rt::Files;
 use undo_outside::{Disk, DiskFault, Failed, Fault};
 
@@ -11,22 +12,51 @@ use undo_outside::{Disk, DiskFault, Failed, Fault};
 pub struct FileDisk<'a, R: Files> {
     backing: Backing<'a, R>,
     size: u64,
+    /// Whether the length in the file may be another than at the last sync.
+    has_grown: bool,
     failed_reads: u64,
     failed_writes: u64,
     failed_last: bool,
 }
 
-impl<'a, R: Files> FileDisk<'a, R> {
-    /// The file at this path; a missing one has length 0, and is made at the first write. Without a path, or where no
-    /// length was found, each call fails.
+impl<'a, R: Files> FileDisk<'a, R>
+where
+    R::File: Locks,
+{
+    /// The file at this path, locked for this program alone as long as the disk is there; a missing one has length 0, and is
+    /// made at the first write. Without a path, or where another program has locked the file or no length was found, each
+    /// call fails.
     pub fn open(files: R, path: Option<&'a String>) -> FileDisk<'a, R> {
-        let (backing, size) = Backing::find(files, path);
+        FileDisk::find(files, path, Lock::Exclusive)
+    }
+
+    /// The file at this path to be read alone, beside others that read it. Where a program has opened it for itself, each
+    /// call fails.
+    pub fn open_to_read(files: R, path: Option<&'a String>) -> FileDisk<'a, R> {
+        FileDisk::find(files, path, Lock::Shared)
+    }
+
+    fn find(files: R, path: Option<&'a String>, lock: Lock) -> FileDisk<'a, R> {
+        let (backing, size) = Backing::find(files, path, lock);
         FileDisk {
             backing,
             size,
+            has_grown: true,
             failed_reads: 0,
             failed_writes: 0,
             failed_last: false,
+        }
+    }
+
+    /// Notes that a write may change the length.
+    fn note_growth(&mut self, place: u64, bytes: &[u8])
+        ensures noted { self.new.has_grown ≡ false → place + length bytes.now ≤ self.old.size }
+        ensures kept { self.old.has_grown ≡ true → self.new.has_grown ≡ true }
+        ensures told { (self.new.size ≡ self.old.size) × (self.new.failed_last ≡ self.old.failed_last) × (self.new.failed_reads ≡ self.old.failed_reads) × (self.new.failed_writes ≡ self.old.failed_writes) }
+    {
+        match place.checked_add(bytes.len() as u64) {
+            Some(end) if end <= self.size => {}
+            _ => self.has_grown = true,
         }
     }
 
@@ -51,7 +81,10 @@ impl<'a, R: Files> FileDisk<'a, R> {
     }
 }
 
-impl<'a, R: Files> Disk for FileDisk<'a, R> {
+impl<'a, R: Files> Disk for FileDisk<'a, R>
+where
+    R::File: Locks,
+{
     ghost told = { λ d. record {
       honest = ⊥;
       size = d.size;
@@ -84,6 +117,7 @@ impl<'a, R: Files> Disk for FileDisk<'a, R> {
     }
 
     fn write_at(&mut self, place: u64, bytes: &[u8]) -> Result<(), DiskFault> {
+        self.note_growth(place, bytes);
         let Ok(end) = self.backing.write(place, bytes) else {
             self.fail_write();
             return Err(Fault::Failed);
@@ -94,9 +128,10 @@ impl<'a, R: Files> Disk for FileDisk<'a, R> {
     }
 
     fn sync(&mut self) -> Result<(), Failed> {
-        if self.backing.sync().is_err() {
+        if self.backing.sync(self.has_grown).is_err() {
             return Err(self.fail_write());
         }
+        self.has_grown = false;
         self.failed_last = false;
         Ok(())
     }

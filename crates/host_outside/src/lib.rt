@@ -1,6 +1,7 @@
 //! The real outside: standard streams, a file and the sockets of this machine, each as the trait that stands for it.
 //!
-//! `streams` has standard input and output, `file_disk` a file (`backing` opens, reads and writes it), `loop_link` the
+//! `streams` has standard input and output, `file_disk` a file (`backing` opens, reads and
+//! writes it, and `locks` keeps other programs out), `loop_link` the
 //! connections: `sockets` visits them in turn, over `listeners` and `connection`, and `waiting` is what a slow reader has
 //! not taken yet. They tell nothing of content: what a real file or a peer does is no part of any proof. What is proved is
 //! that each meets its trait: a call fails only where its own count rises by one, a call that succeeds leaves the counts,
@@ -11,11 +12,13 @@ mod backing;
 mod connection;
 mod file_disk;
 mod listeners;
+mod locks;
 mod loop_link;
 mod sockets;
 mod streams;
 mod waiting;
 
 pub use file_disk::FileDisk;
+pub use locks::Locks;
 pub use loop_link::LoopLink;
 pub use streams::{Reading, Writing};
