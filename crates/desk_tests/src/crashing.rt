@@ -10,7 +10,7 @@ use undo_outside::MemDisk;
 /// The disk of a desk that was asked for a mailbox, or that failed at a call.
 fn disk_of_a_create(alloc: Global, failing: &[u32]) -> Result<MemDisk, Fail> {
     let mut desk = new_desk(alloc, failing)?;
-    let _told = asked(alloc, &mut desk, (Asked::Create, "Work", "", 0))?;
+    let _told = asked(alloc, &mut desk, Asked::Create)?;
     Ok(desk.into_disk())
 }
 

@@ -2,16 +2,15 @@
 ghost use Rattle.std.specs.Prelude.{IfOk};
 ghost use Rattle.undo_outside.specs.MemDiskParts.{IsNew};
 
-use crate::acts::{Acted, act_of};
-use crate::asks::{Line, NOW, ask_of, name, shown_as};
+use crate::asks::{Acted, Asked, NOW, act_of, ask_of};
 use house_text::playing_config;
 use mail_desk::Counts;
 use std::alloc::Global;
 use std::test::Fail;
 use time_desk::{ActFault, Desk, MakeFault, StartFault};
-use undo_base::{Numbers, Text, User};
+use undo_base::{Numbers, Text};
 use undo_outside::MemDisk;
-use verb_core::{Item, SubmitFault};
+use verb_core::SubmitFault;
 
 /// A disk with these bytes, whose calls of these ordinals fail.
 pub(crate) fn disk_of(alloc: Global, bytes: &[u8], failing: &[u32]) -> Result<MemDisk, Fail>
@@ -68,47 +67,27 @@ pub(crate) fn started_next(
     }
 }
 
-/// An item's number, a word for what was shown, and how much that is.
-pub(crate) type Told = (u32, &'static str, usize);
-
-pub(crate) fn told(item: Item) -> Told {
-    let (word, count) = shown_as(&item.shown);
-    (item.number, word, count)
-}
-
-/// Asks a desk for what a line says.
+/// Asks a desk, and tells the number of the item.
 pub(crate) fn asked(
     alloc: Global,
     desk: &mut Desk<MemDisk>,
-    line: Line,
-) -> Result<Result<Told, SubmitFault>, Fail> {
-    let (by, ask) = ask_of(alloc, line)?;
+    asked: Asked,
+) -> Result<Result<u32, SubmitFault>, Fail> {
+    let (by, ask) = ask_of(alloc, asked)?;
     desk.stands();
     match desk.submit(alloc, NOW, by, ask) {
-        Ok(item) => Ok(Ok(told(item))),
+        Ok(item) => Ok(Ok(item.number)),
         Err(fault) => Ok(Err(fault)),
     }
 }
 
-/// Whether this is told where a desk is asked for what a line says.
-pub(crate) fn tells(
-    alloc: Global,
-    desk: &mut Desk<MemDisk>,
-    line: Line,
-    want: Result<Told, SubmitFault>,
-) -> Result<bool, Fail> {
-    Ok(asked(alloc, desk, line)? == want)
-}
-
-/// Does what the operator does.
+/// Does what the operator does, and tells the number of the act.
 pub(crate) fn acted(
     alloc: Global,
     desk: &mut Desk<MemDisk>,
     acted: Acted,
-    about: &str,
-    item: u32,
 ) -> Result<Result<u32, ActFault>, Fail> {
-    let act = act_of(alloc, acted, about, item)?;
+    let act = act_of(alloc, acted)?;
     desk.stands();
     Ok(desk.act(alloc, NOW, act))
 }
@@ -116,27 +95,6 @@ pub(crate) fn acted(
 /// Whether a desk is closed, and the number that the next item gets.
 pub(crate) fn status(desk: &Desk<MemDisk>) -> (bool, u32) {
     (desk.closed(), desk.next())
-}
-
-/// How many aliases there were at first, and how many aliases and filters are in force.
-pub(crate) fn configured(desk: &Desk<MemDisk>) -> (usize, usize, usize) {
-    let conf = desk.conf();
-    let opening = desk.opening().aliases.len();
-    (opening, conf.aliases.len(), conf.filters.len())
-}
-
-/// The stamp of a mailbox, where it is there.
-pub(crate) fn stamp(
-    alloc: Global,
-    desk: &Desk<MemDisk>,
-    user: User,
-    mailbox: &str,
-) -> Result<Option<u32>, Fail> {
-    Ok(desk.stamp(user, &name(alloc, mailbox)?))
-}
-
-pub(crate) fn counted(desk: &Desk<MemDisk>) -> Counts {
-    desk.counts()
 }
 
 /// What a desk keeps: the digest of its store, and its counts.
@@ -149,9 +107,4 @@ pub(crate) fn written(alloc: Global, desk: Desk<MemDisk>) -> Result<(Text, usize
     let disk = desk.into_disk();
     let writes = disk.writes();
     Ok((disk.image_after(alloc, writes)?, writes))
-}
-
-/// How many items a desk lists from a place on.
-pub(crate) fn listed(alloc: Global, desk: &Desk<MemDisk>, from: u32) -> Result<usize, Fail> {
-    Ok(desk.timeline(alloc, from)?.len())
 }

@@ -5,12 +5,7 @@ use house_text::playing_config;
 use std::alloc::Global;
 use std::test::Fail;
 use time_desk::{Desk, MakeFault};
-use undo_outside::{AbsentDisk, MemDisk};
-
-/// How long the digest of a desk is.
-fn digits(alloc: Global, desk: &Desk<MemDisk>) -> Result<usize, Fail> {
-    Ok(desk.digest(alloc)?.bytes().len())
-}
+use undo_outside::AbsentDisk;
 
 // The length is call 1, and each write and each sync of the first record is one of the next four.
 #[test]

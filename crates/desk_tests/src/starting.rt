@@ -8,20 +8,14 @@ use undo_base::Text;
 use undo_outside::AbsentDisk;
 
 /// The first record of the house, of 71 bytes.
-pub(crate) const HOUSE: &[u8] =
+const HOUSE: &[u8] =
     b"\x00\x09mail.test\x00\x00\x00\x01\x09mail.test\x00\x00\x00\x02\x00\x00\x00\x03\x03ann\x02a1\x03bob\x02b2\x04carl\x02c3\x00\x00\x00\x00\x01\x04team\x00\x00\x00\x02\x00\x01";
 
-// The same house, of which the first user is named postmaster.
-
-// Number 2, the creation of a mailbox by the first user, of 21 bytes.
+/// Number 2, the creation of a mailbox by the first user, of 21 bytes.
 const CREATE: &[u8] = b"\x01\x00\x00\x00\x02\x00\x00\x00\x00\x41\xde\x5d\xa0\x00\x0b\x04Work\x00";
 
-// The same with number 3, by a fourth user, by nobody, and with a kind of deed that there is not.
-
-// Number 3, by which the operator sets an alias for two users, and for a fourth one.
-
 /// A journal of these payloads, with these bytes from its last gate on.
-pub(crate) fn journal(alloc: Global, payloads: &[&[u8]], end: &[u8]) -> Result<Text, Fail> {
+fn journal(alloc: Global, payloads: &[&[u8]], end: &[u8]) -> Result<Text, Fail> {
     let mut image = Text::new(alloc);
     for payload in payloads {
         image.extend(&[0x55])?;

@@ -1,14 +1,8 @@
-//! Tests of the top call and of the serving loop, in a crate of their own, since a crate with tests is proved twice.
-//!
-//! `tests` has mail clients, bad input and failing calls, `reader_tests` mail readers; `worked`, `others` and `consoles` have whole conversations,
-//! which `conversation` plays.
+//! Tests of the top call and of the serving loop where calls fail, in a crate of their own, since a crate with tests is proved
+//! twice. `tests` has the source, the output and a mail client's link, `reader_tests` a mail reader beside a mail client.
 #![tactic(auto)]
 
-#[cfg(test)]
-mod conversation;
 #[cfg(test)]
 mod reader_tests;
 #[cfg(test)]
 mod tests;
-#[cfg(test)]
-mod worked;

@@ -5,16 +5,6 @@ use std::thread::Threads;
 use undo_base::{NoMemory, Text};
 use undo_outside::{Events, LinkNote, Role, What};
 
-/// One message in ann's INBOX, and the answers to its delivery.
-const ONE_MESSAGE: &[u8] =
-    b"at 1105092000\nopen 1 smtp\nline 1 HELO x\nline 1 MAIL FROM:<joe@far.test>\nline 1 RCPT TO:<ann@mail.test>\nline 1 DATA\nline 1 Subject: hi\nline 1\nline 1 .\ngone 1\n";
-
-fn add_line(text: &mut Text, front: &[u8], line: &[u8]) -> Result<(), NoMemory> {
-    text.extend(front)?;
-    text.extend(line)?;
-    text.extend(b"\n")
-}
-
 /// A mail reader on 2 and a mail client on 1, each with two lines; the first come in one order, the others in the other.
 fn two_kinds(alloc: Global) -> Result<Events, NoMemory> {
     let mut events = Events::new(alloc);

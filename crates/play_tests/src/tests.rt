@@ -50,36 +50,6 @@ fn ends<R: Threads + Sync>(
     Ok(status == wanted.0 && out.bytes() == wanted.1)
 }
 
-/// The same for `play`, where nothing fails.
-pub(crate) fn plays<R: Threads + Sync>(
-    rt: &R,
-    alloc: Global,
-    script: &[u8],
-    status: u8,
-    output: &[u8],
-) -> Result<bool, Fail> {
-    ends(rt, alloc, &["play"], script, (&[], &[]), (status, output))
-}
-
-/// Whether each line of a session has its answer.
-fn answers<R: Threads + Sync>(
-    rt: &R,
-    alloc: Global,
-    lines: &[(&[u8], &[u8])],
-) -> Result<bool, Fail> {
-    let mut script = Text::of(alloc, b"open 1 smtp\n")?;
-    let mut wanted = Text::of(alloc, GREETING)?;
-    for (line, answer) in lines {
-        script.extend(b"line 1 ")?;
-        script.extend(line)?;
-        script.extend(b"\n")?;
-        wanted.extend(b"1< ")?;
-        wanted.extend(answer)?;
-        wanted.extend(b"\n")?;
-    }
-    plays(rt, alloc, script.bytes(), 0, wanted.bytes())
-}
-
 #[test]
 fn failing_reads_and_writes_have_their_status(rt: HostRuntime) -> Result<(), Fail> {
     let alloc = rt.alloc();

@@ -2,16 +2,9 @@
 use crate::running::{DISK_FAULT, FORMATTED, tells};
 use std::test::Fail;
 
-const NOT_A_STORE: &[u8] = b"undomail: not a store\n";
-
-const DAMAGED: &[u8] = b"undomail: damaged at 76\n";
-
-// The digests are of the payloads of the two snapshots, spelled and digested by another program.
+/// The digest is of the payload of the snapshot, spelled and digested by another program.
 const OPENING: &[u8] =
     b"cycles 0\nitems 0\nmessages 0\nnext 2\nnotices 0\nusers 3\ndigest 77bd58d05d3e4827b694cc5638520dca921bfaa09a6a4ec479997b2e51862091\n";
-
-// Bytes behind the last gate are no damage, as a crash may leave them. A cut frame is, and a record whose number is not the
-// next.
 
 // The calls are a sync, the look at the length, the reads of both gates and of the first length, and that of the record.
 #[test]

@@ -3,8 +3,6 @@ use crate::running::{DISK_FAULT, FORMATTED, store_after, tells};
 use house_text::HOUSE;
 use std::test::Fail;
 
-// The text comes before the disk.
-
 // The calls are the look at the length, a write, a sync, the write of the gate, and a sync. Where the last one fails the
 // store is there.
 #[test]

@@ -20,17 +20,17 @@ pub(crate) struct Ended {
     pub(crate) disk: MemDisk,
 }
 
-/// Runs these words over a text and a disk of these bytes, of which these calls fail.
-fn words_end<R: Threads + Sync>(
+/// Runs a command with the word STORE over a text and a disk of these bytes, of which these calls fail.
+pub(crate) fn ends<R: Threads + Sync>(
     rt: &R,
     alloc: Global,
-    words: &[&str],
+    command: &str,
     text: &[u8],
     bytes: &[u8],
     failing: &[u32],
 ) -> Result<Ended, Fail> {
     let mut list = Vec::new(alloc);
-    for word in words {
+    for word in [command, "a.store"] {
         list.push(String::from_str(alloc, word)?)?;
     }
     let mut source = MemSource::new(Text::of(alloc, text)?, Numbers::new(alloc));
@@ -56,18 +56,6 @@ fn words_end<R: Threads + Sync>(
     })
 }
 
-/// The same of a command with the word STORE.
-pub(crate) fn ends<R: Threads + Sync>(
-    rt: &R,
-    alloc: Global,
-    command: &str,
-    text: &[u8],
-    bytes: &[u8],
-    failing: &[u32],
-) -> Result<Ended, Fail> {
-    words_end(rt, alloc, &[command, "a.store"], text, bytes, failing)
-}
-
 /// Whether a run over this disk, of which these calls fail, ends with this status and this output.
 pub(crate) fn tells<R: Threads + Sync>(
     rt: &R,
@@ -91,25 +79,4 @@ pub(crate) fn store_after<R: Threads + Sync>(
 ) -> Result<Text, Fail> {
     let ended = ends(rt, alloc, command, text, disk.0, disk.1)?;
     Ok(ended.disk.image_after(alloc, ended.disk.writes())?)
-}
-
-/// Whether a run ends with this status and this output, and leaves these bytes on the disk.
-pub(crate) fn leaves<R: Threads + Sync>(
-    rt: &R,
-    alloc: Global,
-    command: &str,
-    text: &[u8],
-    bytes: &[u8],
-    wanted: (u8, &[u8], &[u8]),
-) -> Result<bool, Fail> {
-    let ended = ends(rt, alloc, command, text, bytes, &[])?;
-    let left = ended.disk.image_after(alloc, ended.disk.writes())?;
-    Ok(ended.status == wanted.0 && ended.output.bytes() == wanted.1 && left.bytes() == wanted.2)
-}
-
-/// Two texts, one after the other.
-pub(crate) fn joined(alloc: Global, first: &[u8], second: &[u8]) -> Result<Text, Fail> {
-    let mut text = Text::of(alloc, first)?;
-    text.extend(second)?;
-    Ok(text)
 }

@@ -1,16 +1,11 @@
 //! The command `script`.
-use crate::running::{DISK_FAULT, FORMATTED, ends, leaves, store_after, tells};
+use crate::running::{DISK_FAULT, FORMATTED, ends, store_after, tells};
 use std::alloc::Global;
 use std::test::Fail;
 use std::thread::Threads;
 use undo_base::Text;
 
-const NOT_A_STORE: &[u8] = b"undomail: not a store\n";
-
-const DAMAGED: &[u8] = b"undomail: damaged at 76\n";
-
-pub(crate) const CREATE: &[u8] =
-    b"at 1105092000\nopen 1 imap\nline 1 a LOGIN ann a1\nline 1 b CREATE Work\n";
+const CREATE: &[u8] = b"at 1105092000\nopen 1 imap\nline 1 a LOGIN ann a1\nline 1 b CREATE Work\n";
 
 const ASK: &[u8] = b"open 1 imap\nline 1 a LOGIN ann a1\nline 1 b STATUS Work (UIDVALIDITY)\n";
 
@@ -20,7 +15,7 @@ const WORK_IS_THERE: &[u8] =
 const WORK_IS_NOT_THERE: &[u8] =
     b"1< * OK mail.test IMAP4rev1 undomail\n1< a OK LOGIN done.\n1< b NO No such mailbox.\n";
 
-pub(crate) const SEND: &[u8] =
+const SEND: &[u8] =
     b"at 1105092000\nopen 1 smtp\nline 1 HELO client.test\nline 1 MAIL FROM:<joe@far.test>\nline 1 RCPT TO:<ann@mail.test>\nline 1 DATA\nline 1 Subject: hi\nline 1\nline 1 .\n";
 
 const SENT: &[u8] =
@@ -28,8 +23,6 @@ const SENT: &[u8] =
 
 const NOT_SENT: &[u8] =
     b"1< 220 mail.test ESMTP undomail\n1< 250 mail.test\n1< 250 OK\n1< 250 OK\n1< 354 End with a line of one dot\n1< 421 mail.test disk fault\n1 closed\nundomail: disk fault\n";
-
-// The text comes before the store, and a store that is not opened stays as it is.
 
 /// What a crash leaves of a CREATE, where so many writes are done, and so many bytes of the next.
 fn crash_leaves<R: Threads + Sync>(
