@@ -1,5 +1,5 @@
-//! Tests of the serving loop over a disk in memory whose calls fail, and over a socket, in a crate of their own, since a crate
-//! with tests is proved twice. `unsealed`: what cannot be sealed; `consoles`: a stop; `sockets`: a client of the system.
+//! A test of the serving loop over a disk in memory whose calls fail: `unsealed` has what cannot be sealed. It stands in a crate of
+//! its own, since a crate with tests is proved twice.
 #![tactic(auto)]
 
 #[cfg(test)]

@@ -32,7 +32,7 @@ const DISK_FAULT: &[u8] =
     b"HTTP/1.1 500 Internal Server Error\r\nContent-Type: application/json\r\nContent-Length: 16\r\nConnection: close\r\n\r\n{\"error\":\"disk\"}";
 
 /// A client joins, and these bytes come, each in one event.
-pub(crate) fn events_of(alloc: Global, role: Role, pieces: &[&[u8]]) -> Result<Events, NoMemory> {
+fn events_of(alloc: Global, role: Role, pieces: &[&[u8]]) -> Result<Events, NoMemory> {
     let mut events = Events::new(alloc);
     events.push(Event {
         conn: 1,
@@ -50,18 +50,20 @@ pub(crate) fn events_of(alloc: Global, role: Role, pieces: &[&[u8]]) -> Result<E
     Ok(events)
 }
 
-/// How serving ended: the answer, what the link did, whether the desk is closed, and how many items it has.
+/// How serving ended: the answer, what the link did, and of the desk whether it is closed, how many items it has, and how many
+/// aliases are in force.
 #[derive(Drop)]
-pub(crate) struct Ended {
-    pub(crate) served: Result<(), ServeFault>,
-    pub(crate) link: MemLink,
+struct Ended {
+    served: Result<(), ServeFault>,
+    link: MemLink,
     closed: bool,
     items: u32,
+    aliases: usize,
 }
 
 /// Serves events over a new desk whose disk fails at this call. The desk is made by five calls, and each record is sealed
 /// by four.
-pub(crate) fn serve<R: Threads + Sync>(
+fn serve<R: Threads + Sync>(
     rt: &R,
     alloc: Global,
     events: Events,
@@ -82,11 +84,12 @@ pub(crate) fn serve<R: Threads + Sync>(
         link,
         closed: desk.closed(),
         items: desk.counts().items,
+        aliases: desk.conf().aliases.len(),
     }))
 }
 
 /// Whether the last that the link did is this string and its close.
-pub(crate) fn ends_with(link: &MemLink, text: &[u8]) -> bool {
+fn ends_with(link: &MemLink, text: &[u8]) -> bool {
     match link.log().as_slice() {
         [
             ..,
@@ -111,6 +114,7 @@ fn fails_with<R: Threads + Sync>(
             ended.served == Err(ServeFault::Disk)
                 && ended.closed
                 && ended.items == 0
+                && ended.aliases == 1
                 && ends_with(&ended.link, text),
         ),
     }
