@@ -1,6 +1,4 @@
-//! The listeners and the connections, visited in rounds: those that were active lately in each, the others by turns.
-ghost use Rattle.std.specs.Prelude.{◌≡◌, ◌≤◌};
-
+//! The listeners and the connections, visited in turn.
 use crate::connection::{Connection, Received};
 use crate::listeners::Listeners;
 use std::alloc::Global;
@@ -13,57 +11,26 @@ use undo_outside::{Event, Role, What};
 /// The most connections at a time. Their numbers are 1 to this.
 const MOST_CONNECTIONS: u32 = 1000;
 
-/// The listeners.
-const LISTENERS: usize = 3;
-
-/// The seats of the connections.
-const SEATS: usize = 1000;
-
-/// The most visits of a round: the listeners, those that were active lately, and a turn through all seats.
-const MOST_VISITS: usize = 2003;
+/// The three listeners, and the seats of the connections.
+const PLACES: usize = 1003;
 
 /// The most bytes of one event.
 const MOST_BYTES: usize = 65536;
 
-/// So many rounds without an event, with a sleep after each, give an idle one, even where the clock can't be read.
-const MOST_ROUNDS: u64 = 2048;
-
-/// After so many milliseconds without an event an idle one is given.
-const IDLE: u64 = 1000;
+/// How often all are visited, with a sleep after each time, before an idle event is given.
+const ROUNDS: u64 = 16;
 
 /// The sleep after something came or went, in microseconds. While nothing does, each sleep is twice the one before.
 const SHORTEST_SLEEP: u64 = 64;
 
-/// The longest sleep within a second of the last event, in microseconds.
-const SLEEP_WITHIN_A_SECOND: u64 = 1000;
-
-/// The longest sleep within a minute of the last event, in microseconds.
-const SLEEP_WITHIN_A_MINUTE: u64 = 10_000;
-
 /// The longest sleep, in microseconds.
 const LONGEST_SLEEP: u64 = 65_536;
-
-/// For so many seconds after it was active a connection is visited in each round.
-const LIVELY: u64 = 2;
 
 /// A number, and the connection that has it.
 #[derive(Drop)]
 struct Seat<S> {
     conn: u32,
     connection: Option<Connection<S>>,
-    /// Where it stands in the list of those that were active lately: the second at which it leaves that.
-    lively_until: Option<u64>,
-}
-
-/// Whose turn it is in a round.
-enum Turn {
-    Listener(Role),
-    /// A place in the list of those that were active lately.
-    Lively(usize),
-    /// The next of the other seats.
-    Other,
-    /// Nobody's: the round is over.
-    Over,
 }
 
 #[derive(Drop)]
@@ -74,20 +41,10 @@ pub(crate) struct Sockets<R: Net> {
     seats: Vec<Seat<R::Stream>>,
     /// Where the next bytes are read into.
     spare: Vec<u8>,
-    /// The seats whose connections were active lately, each once. One that found no room here is among the others.
-    lively: Vec<usize>,
-    /// How many listeners and lively seats were visited in this round.
-    visited: usize,
-    /// How many seats were gone through in this round.
-    passed: usize,
-    /// How many of these were visited, since a connection sits there that was not active lately.
-    visited_others: usize,
-    /// The seat that is gone through next.
-    place: usize,
+    /// Who is visited next: a listener, or behind them a seat.
+    turn: usize,
     /// The next sleep, in microseconds.
     sleep: u64,
-    /// When the last event but an idle one was, in milliseconds of a clock that is not set back.
-    last: u64,
     /// The moment of the last event.
     at: u64,
 }
@@ -105,13 +62,8 @@ impl<R: Net + Clock> Sockets<R> {
             listeners,
             seats: Vec::new(alloc),
             spare: Vec::new(alloc),
-            lively: Vec::new(alloc),
-            visited: 0,
-            passed: 0,
-            visited_others: 0,
-            place: 0,
+            turn: 0,
             sleep: SHORTEST_SLEEP,
-            last: 0,
             at: 0,
         }
     }
@@ -126,27 +78,20 @@ impl<R: Net + Clock> Sockets<R> {
             return Ok(None);
         }
         self.make_ready()?;
-        let begun = self.millis();
-        for _ in 0..MOST_ROUNDS {
-            let now = self.millis();
-            if let Some(event) = self.go_round(now) {
+        for _ in 0..ROUNDS {
+            if let Some(event) = self.visit_all() {
                 self.sleep = SHORTEST_SLEEP;
-                self.last = now;
                 return Ok(Some(event));
             }
-            if now.saturating_sub(begun) >= IDLE {
-                break;
-            }
-            self.rest(now);
+            self.rest();
         }
         Ok(Some(self.event(0, What::Idle)))
     }
 
     /// Sleeps, the longer the longer nothing came or went.
-    fn rest(&mut self, now: u64) {
+    fn rest(&mut self) {
         thread::sleep(&self.rt, Duration::from_micros(self.sleep));
-        let most = longest_sleep(now.saturating_sub(self.last));
-        self.sleep = most.min(self.sleep.saturating_mul(2));
+        self.sleep = LONGEST_SLEEP.min(self.sleep.saturating_mul(2));
     }
 
     /// Takes all the memory that the next event may need.
@@ -156,23 +101,17 @@ impl<R: Net + Clock> Sockets<R> {
         }
         if self.seats.is_empty() {
             self.seats = make_seats(self.alloc)?;
-            self.lively.reserve(SEATS)?;
         }
         Ok(())
     }
 
-    /// Goes on with the round until one has an event, or the round is over.
-    fn go_round(&mut self, now: u64) -> Option<Event> {
-        for _ in 0..MOST_VISITS {
-            let event = match self.turn() {
-                Turn::Listener(role) => self.visit_listener(role, now),
-                Turn::Lively(index) => self.visit_lively(index, now),
-                Turn::Other => self.visit_other(now),
-                Turn::Over => {
-                    self.begin_round();
-                    return None;
-                }
-            };
+    /// Visits each once, from the one whose turn it is, until one has an event.
+    fn visit_all(&mut self) -> Option<Event> {
+        let now = self.seconds();
+        for _ in 0..PLACES {
+            let place = self.turn;
+            self.turn = if place < PLACES - 1 { place + 1 } else { 0 };
+            let event = self.visit(place, now);
             if event.is_some() {
                 return event;
             }
@@ -180,72 +119,17 @@ impl<R: Net + Clock> Sockets<R> {
         None
     }
 
-    /// In a round come the listeners, then all seats that were active lately, and then some of the others, by turns.
-    fn turn(&self) -> Turn {
-        match self.visited {
-            0 => Turn::Listener(Role::Smtp),
-            1 => Turn::Listener(Role::Imap),
-            2 => Turn::Listener(Role::Http),
-            visited if visited - LISTENERS < self.lively.len() => Turn::Lively(visited - LISTENERS),
-            _ if self.passed < SEATS && self.visited_others < share(self.sleep) => Turn::Other,
-            _ => Turn::Over,
+    fn visit(&mut self, place: usize, now: u64) -> Option<Event> {
+        match place {
+            0 => self.accept(Role::Smtp),
+            1 => self.accept(Role::Imap),
+            2 => self.accept(Role::Http),
+            place => self.receive(place - 3, now),
         }
-    }
-
-    fn begin_round(&mut self) {
-        self.visited = 0;
-        self.passed = 0;
-        self.visited_others = 0;
-    }
-
-    /// A listener stays next until nobody waits there.
-    fn visit_listener(&mut self, role: Role, now: u64) -> Option<Event> {
-        let event = self.accept(role, now);
-        if event.is_none() {
-            self.visited = self.visited.saturating_add(1);
-        }
-        event
-    }
-
-    /// Visits one that was active lately, or takes it off the list when that is too long ago.
-    fn visit_lively(&mut self, index: usize, now: u64) -> Option<Event> {
-        self.visited = self.visited.saturating_add(1);
-        let place = *self.lively.get(index)?;
-        let seat = self.seats.get_mut(place)?;
-        if seat.lively_until.is_some_and(|until| until > now / 1000) {
-            return self.receive(place, now);
-        }
-        seat.lively_until = None;
-        self.lively.swap_remove(index);
-        None
-    }
-
-    /// Goes to the next seat, and visits it unless it is empty or on the list.
-    fn visit_other(&mut self, now: u64) -> Option<Event> {
-        let place = self.place;
-        self.place = if place < SEATS - 1 { place + 1 } else { 0 };
-        self.passed = self.passed.saturating_add(1);
-        let seat = self.seats.get(place)?;
-        if seat.connection.is_none() || seat.lively_until.is_some() {
-            return None;
-        }
-        self.visited_others = self.visited_others.saturating_add(1);
-        self.receive(place, now)
-    }
-
-    /// A seat's connection has just been active.
-    fn enliven(&mut self, place: usize, now: u64) {
-        let Some(seat) = self.seats.get_mut(place) else {
-            return;
-        };
-        if seat.lively_until.is_none() && self.lively.push(place).is_err() {
-            return;
-        }
-        seat.lively_until = Some((now / 1000).saturating_add(LIVELY));
     }
 
     /// Takes in a connection that waits, under the lowest free number.
-    fn accept(&mut self, role: Role, now: u64) -> Option<Event> {
+    fn accept(&mut self, role: Role) -> Option<Event> {
         let seat = self
             .seats
             .iter_mut()
@@ -253,7 +137,6 @@ impl<R: Net + Clock> Sockets<R> {
         let stream = self.listeners.as_ref()?.accept(role)?;
         seat.connection = Some(Connection::new(self.alloc, stream).ok()?);
         let conn = seat.conn;
-        self.enliven((conn as usize).saturating_sub(1), now);
         Some(self.event(conn, What::Joined(role)))
     }
 
@@ -262,21 +145,18 @@ impl<R: Net + Clock> Sockets<R> {
         let seat = self.seats.get_mut(place)?;
         let conn = seat.conn;
         let connection = seat.connection.as_mut()?;
-        let received = connection.receive(now / 1000, &mut self.spare);
-        let has_moved = connection.has_moved();
+        let received = connection.receive(now, &mut self.spare);
+        if connection.has_moved() {
+            self.sleep = SHORTEST_SLEEP;
+        }
         if connection.is_over() {
             seat.connection = None;
-        }
-        if has_moved {
-            self.sleep = SHORTEST_SLEEP;
-            self.enliven(place, now);
         }
         let what = match received {
             Received::Nothing => return None,
             Received::Bytes(count) => What::Bytes(self.take_bytes(count)),
             Received::Left => What::Left,
         };
-        self.enliven(place, now);
         Some(self.event(conn, what))
     }
 
@@ -299,13 +179,10 @@ impl<R: Net + Clock> Sockets<R> {
         }
     }
 
-    /// Milliseconds of a clock that is not set back.
-    fn millis(&self) -> u64 {
+    /// Seconds of a clock that is not set back.
+    fn seconds(&self) -> u64 {
         match self.rt.monotonic() {
-            Ok(time) => time
-                .as_secs()
-                .saturating_mul(1000)
-                .saturating_add(time.subsec_millis() as u64),
+            Ok(time) => time.as_secs(),
             Err(_) => 0,
         }
     }
@@ -320,36 +197,15 @@ impl<R: Net + Clock> Sockets<R> {
 
     /// Ends a connection, if there is one of this number.
     pub(crate) fn close(&mut self, conn: u32) {
-        let now = self.millis();
+        let now = self.seconds();
         if let Some(connection) = self.connection(conn) {
-            connection.end(now / 1000);
+            connection.end(now);
         }
     }
 
     fn connection(&mut self, conn: u32) -> Option<&mut Connection<R::Stream>> {
         let place = (conn as usize).checked_sub(1)?;
         self.seats.get_mut(place)?.connection.as_mut()
-    }
-}
-
-/// The longest sleep so many milliseconds after the last event, in microseconds.
-fn longest_sleep(quiet: u64) -> u64
-    ensures within_a_second { quiet ≤ 1000 → result ≡ 1000 }
-    ensures within_a_minute { quiet ≤ 60000 → result ≤ 10000 }
-{
-    match quiet {
-        0..=1000 => SLEEP_WITHIN_A_SECOND,
-        1001..=60_000 => SLEEP_WITHIN_A_MINUTE,
-        _ => LONGEST_SLEEP,
-    }
-}
-
-/// How many of those that were not active lately are visited in a round that ends with such a sleep.
-fn share(sleep: u64) -> usize {
-    match sleep {
-        0..=1000 => 32,
-        1001..=10_000 => 128,
-        _ => SEATS,
     }
 }
 
@@ -360,7 +216,6 @@ fn make_seats<S: Drop>(alloc: Global) -> Result<Vec<Seat<S>>, NoMemory> {
         seats.push(Seat {
             conn,
             connection: None,
-            lively_until: None,
         })?;
     }
     Ok(seats)
