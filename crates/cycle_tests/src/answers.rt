@@ -68,8 +68,12 @@ fn item(number: u32, user: u8, deed: Deed) -> Item {
 
 /// A user's RENAME that no longer holds.
 fn told(alloc: Global, number: u32, user: u8) -> Result<Option<BrokenItem>, Fail> {
-    let item = item(number, user, rename(alloc)?);
-    Ok(BrokenItem::of(alloc, &item, Reason::Renamed)?)
+    let deed = rename(alloc)?;
+    Ok(told_of(alloc, item(number, user, deed))?)
+}
+
+fn told_of(alloc: Global, item: Item) -> Result<Option<BrokenItem>, NoMemory> {
+    BrokenItem::of(alloc, &item, Reason::Renamed)
 }
 
 /// Adds what is told of an item.

@@ -425,9 +425,13 @@ fn is_infection_told(alloc: Global, made: &Rewound) -> Result<bool, Fail> {
 #[test]
 fn an_infected_delivery_is_told_of(rt: HostRuntime) -> Result<(), Fail> {
     let alloc = rt.alloc();
-    let made = cycled(alloc, INFECTED, 7, 3, &[4])?;
-    assert!(rt; is_infection_told(alloc, &made)?);
+    let told = infection_told(alloc, cycled(alloc, INFECTED, 7, 3, &[4])?)?;
+    assert!(rt; told);
     Ok(())
+}
+
+fn infection_told(alloc: Global, made: Rewound) -> Result<bool, Fail> {
+    is_infection_told(alloc, &made)
 }
 
 /// Whether the item at a place shows a count.
@@ -444,21 +448,25 @@ const COUNTED: &[Made] = &[Made::Mail, Made::Select(2), Made::Select(1)];
 #[test]
 fn items_through_the_point_stay(rt: HostRuntime) -> Result<(), Fail> {
     let alloc = rt.alloc();
-    let made = cycled(alloc, COUNTED, 5, 3, &[])?;
-    assert!(rt; is_broken(&made, &[]) && shows_count(&made, 1, 2) && shows_count(&made, 2, 1));
+    let stays = none_is_broken(cycled(alloc, COUNTED, 5, 3, &[])?);
+    assert!(rt; stays);
     Ok(())
+}
+
+fn none_is_broken(made: Rewound) -> bool {
+    is_broken(&made, &[]) && shows_count(&made, 1, 2) && shows_count(&made, 2, 1)
 }
 
 #[test]
 fn a_broken_item_shows_its_answer(rt: HostRuntime) -> Result<(), Fail> {
     let alloc = rt.alloc();
-    let made = cycled(alloc, COUNTED, 5, 2, &[])?;
-    assert!(rt;
-        is_broken(&made, &[(3, Reason::Fewer)])
-            && shows_count(&made, 1, 1)
-            && shows_count(&made, 2, 1)
-    );
+    let fewer = shows_fewer(cycled(alloc, COUNTED, 5, 2, &[])?);
+    assert!(rt; fewer);
     Ok(())
+}
+
+fn shows_fewer(made: Rewound) -> bool {
+    is_broken(&made, &[(3, Reason::Fewer)]) && shows_count(&made, 1, 1) && shows_count(&made, 2, 1)
 }
 
 fn is_redirection_told(alloc: Global, made: &Rewound) -> Result<bool, Fail> {
@@ -475,9 +483,13 @@ fn is_redirection_told(alloc: Global, made: &Rewound) -> Result<bool, Fail> {
 fn a_withdrawn_mailbox_redirects_mail(rt: HostRuntime) -> Result<(), Fail> {
     let alloc = rt.alloc();
     let past = [Made::Create("Work"), Made::Append("Work")];
-    let made = cycled(alloc, &past, 4, 0, &[2, 9])?;
-    assert!(rt; is_redirection_told(alloc, &made)?);
+    let told = redirection_told(alloc, cycled(alloc, &past, 4, 0, &[2, 9])?)?;
+    assert!(rt; told);
     Ok(())
+}
+
+fn redirection_told(alloc: Global, made: Rewound) -> Result<bool, Fail> {
+    is_redirection_told(alloc, &made)
 }
 
 /// Whether the first message in ann's INBOX has a body of that rev.
@@ -495,10 +507,18 @@ fn has_rev(alloc: Global, made: &Rewound, rev: u32) -> Result<bool, Fail> {
 #[test]
 fn a_replaced_text_is_told_of(rt: HostRuntime) -> Result<(), Fail> {
     let alloc = rt.alloc();
-    let made = replaced(alloc, &[Made::Mail, Made::Fetch(2)], 4, 2)?;
-    assert!(rt; is_broken(&made, &[(3, Reason::Changed)]) && tells(&made, 4, 2, 1, 6));
-    assert!(rt; has_rev(alloc, &made, 4)?);
+    let told = change_told(alloc, replaced(alloc, &[Made::Mail, Made::Fetch(2)], 4, 2)?)?;
+    assert!(rt; told);
     Ok(())
+}
+
+fn change_told(alloc: Global, made: Rewound) -> Result<bool, Fail> {
+    is_change_told(alloc, &made)
+}
+
+fn is_change_told(alloc: Global, made: &Rewound) -> Result<bool, Fail> {
+    let told = is_broken(made, &[(3, Reason::Changed)]) && tells(made, 4, 2, 1, 6);
+    Ok(told && has_rev(alloc, made, 4)?)
 }
 
 // A house of two users: a cycle wants a number for itself and one for each of them.
@@ -526,8 +546,16 @@ fn count_held(alloc: Global, made: &Rewound) -> Result<usize, Fail> {
 #[test]
 fn a_long_timeline_is_performed(rt: HostRuntime) -> Result<(), Fail> {
     let alloc = rt.alloc();
-    let made = cycled(alloc, &[Made::Mail; 300], 302, 0, &[150])?;
-    assert!(rt; is_broken(&made, &[]) && tells(&made, 302, 299, 1, 303));
-    assert_eq!(rt; count_held(alloc, &made)?, 299);
+    let performed = all_performed(alloc, cycled(alloc, &[Made::Mail; 300], 302, 0, &[150])?)?;
+    assert!(rt; performed);
     Ok(())
+}
+
+fn all_performed(alloc: Global, made: Rewound) -> Result<bool, Fail> {
+    are_performed(alloc, &made)
+}
+
+fn are_performed(alloc: Global, made: &Rewound) -> Result<bool, Fail> {
+    let told = is_broken(made, &[]) && tells(made, 302, 299, 1, 303);
+    Ok(told && count_held(alloc, made)? == 299)
 }

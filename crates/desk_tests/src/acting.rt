@@ -17,12 +17,19 @@ fn closes(alloc: Global, desk: &mut Desk<MemDisk>) -> Result<bool, Fail> {
     Ok(faults && same && status(desk) == (true, 2))
 }
 
+fn closes_this(alloc: Global, mut desk: Desk<MemDisk>) -> Result<bool, Fail> {
+    closes(alloc, &mut desk)
+}
+
+fn closes_at(alloc: Global, ordinal: u32) -> Result<bool, Fail> {
+    closes_this(alloc, new_desk(alloc, &[ordinal])?)
+}
+
 #[test]
 fn a_failed_act_closes_the_desk(rt: HostRuntime) -> Result<(), Fail> {
     let alloc = rt.alloc();
     for ordinal in 6..10 {
-        let mut desk = new_desk(alloc, &[ordinal])?;
-        assert!(rt; closes(alloc, &mut desk)?, "at call {ordinal}");
+        assert!(rt; closes_at(alloc, ordinal)?, "at call {ordinal}");
     }
     Ok(())
 }

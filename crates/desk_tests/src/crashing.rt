@@ -4,14 +4,23 @@ use crate::asks::Asked;
 use crate::desks::{asked, new_desk, started_next};
 use std::alloc::Global;
 use std::test::Fail;
-use time_desk::StartFault;
+use time_desk::{Desk, StartFault};
 use undo_outside::MemDisk;
+use verb_core::SubmitFault;
 
 /// The disk of a desk that was asked for a mailbox, or that failed at a call.
 fn disk_of_a_create(alloc: Global, failing: &[u32]) -> Result<MemDisk, Fail> {
-    let mut desk = new_desk(alloc, failing)?;
-    let _told = asked(alloc, &mut desk, Asked::Create)?;
-    Ok(desk.into_disk())
+    let (told, disk) = asked_of(alloc, new_desk(alloc, failing)?);
+    let _told = told?;
+    Ok(disk)
+}
+
+fn asked_of(
+    alloc: Global,
+    mut desk: Desk<MemDisk>,
+) -> (Result<Result<u32, SubmitFault>, Fail>, MemDisk) {
+    let told = asked(alloc, &mut desk, Asked::Create);
+    (told, desk.into_disk())
 }
 
 // A record is there from the write on that opens its gate. The first write of a seal, of 26 bytes, is torn anywhere.

@@ -101,10 +101,3 @@ pub(crate) fn status(desk: &Desk<MemDisk>) -> (bool, u32) {
 pub(crate) fn kept(alloc: Global, desk: &Desk<MemDisk>) -> Result<(Text, Counts), Fail> {
     Ok((desk.digest(alloc)?, desk.counts()))
 }
-
-/// What is on the disk of a desk, and how many writes were tried.
-pub(crate) fn written(alloc: Global, desk: Desk<MemDisk>) -> Result<(Text, usize), Fail> {
-    let disk = desk.into_disk();
-    let writes = disk.writes();
-    Ok((disk.image_after(alloc, writes)?, writes))
-}
