@@ -109,10 +109,23 @@ pub(crate) fn serve<R: Threads + Sync>(
     failing: &[u32],
     turns: u64,
 ) -> Result<(MemLink, Result<(), ServeFault>), NoMemory> {
-    let mut desk = new_desk(alloc)?;
-    let mut link = MemLink::new(alloc, events, numbers(alloc, failing)?);
+    let failing = numbers(alloc, failing)?;
+    let link = MemLink::new(alloc, events, failing);
+    let desk = new_desk(alloc)?;
+    Ok(served(rt, alloc, desk, link, turns))
+}
+
+fn served<R: Threads + Sync>(
+    rt: &R,
+    alloc: Global,
+    mut desk: Desk<MemDisk>,
+    mut link: MemLink,
+    turns: u64,
+) -> (MemLink, Result<(), ServeFault>)
+    requires { desk.closed ≡ false }
+{
     let served = serve_events(rt, alloc, &mut desk, &mut link, &OpenGate, turns);
-    Ok((link, served))
+    (link, served)
 }
 
 /// A client joins and quits; another that never joined quits too.
