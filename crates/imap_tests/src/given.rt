@@ -116,7 +116,21 @@ fn deliver<L: Ledger>(
     ensures { IsValid store.new.store }
 {
     let item = delivered(alloc, number)?;
-    Ok(perform(alloc, store, steps, &item)?)
+    Ok(perform_this(alloc, store, steps, item)?)
+}
+
+fn perform_this<L: Ledger>(
+    alloc: Global,
+    store: &mut Store,
+    steps: &mut Steps<L>,
+    item: Item,
+) -> Result<(), NoMemory>
+    requires valid { IsValid store.old.store }
+    requires formed { IsWellFormed store.old.store.house item }
+    requires text { unwrap_or (text_in item.deed) [] ≡ [] }
+    ensures { IsValid store.new.store }
+{
+    perform(alloc, store, steps, &item)
 }
 
 fn fill_over<L: Ledger>(alloc: Global, store: &mut Store, blank: Blank) -> Result<(), Fail>
@@ -167,9 +181,9 @@ pub(crate) fn new_desk(alloc: Global) -> Result<Desk, Fail> {
     if !house.is_sound() {
         return Err(Fail::new("the house is not sound"));
     }
-    let store = store(alloc, &house)?;
     let stamps = stamps(alloc)?;
     let shelf = shelf(alloc)?;
+    let store = store(alloc, &house)?;
     Ok(Desk {
         house,
         store,
