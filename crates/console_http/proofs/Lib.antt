@@ -1,6 +1,5 @@
 pub mod Counts
 pub mod Knowing
 pub mod Lists
-pub mod Digits
 pub mod Bodies
 pub mod Asking

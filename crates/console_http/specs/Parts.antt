@@ -1,12 +1,12 @@
 -- What stands in paths and in members: escapes, numbers, names, users.
-use Rattle.std.specs.Prelude.{ℕ, Bool, true, false, not, ◌==◌, ◌&&◌, ◌||◌, List, [], ◌∷◌, length, slice_index, nat_le, codes, Option, Some, None, option_and_then, option_map, if◌then◌else◌}
+use Rattle.std.specs.Prelude.{ℕ, Bool, true, false, not, ◌==◌, ◌&&◌, ◌||◌, List, [], ◌∷◌, length, nat_le, codes, Option, Some, None, option_and_then, option_map, if◌then◌else◌}
 use Rattle.std.specs.List.{list_all, list_any}
 use Rattle.std.specs.Char.{is_ascii_digit, is_ascii_hexdigit, is_ascii_lowercase}
 use Rattle.std.specs.Str.{bytes_eq, str_to_ascii_lowercase}
 use Rattle.percent_encoding.specs.Percent.{percent_decode}
 use Rattle.undo_base.specs.Name.{is_printable}
 use Rattle.verb_core.specs.Names.{inbox}
-use Rattle.console_head.specs.Lengths.{number_of}
+use Rattle.undo_base.specs.Digits.{number_between}
 
 -- two hexadecimal digits stand in front
 abbrev pub begins_with_hex : List ℕ → Bool
@@ -26,13 +26,9 @@ is_slash b = b == 47
 abbrev pub part_of : List ℕ → Option (List ℕ)
 part_of raw = if not (list_any is_slash raw) && has_good_escapes raw then Some (percent_decode raw) else None
 
--- digits without a leading zero
-abbrev pub is_decimal : List ℕ → Bool
-is_decimal text = nat_le 1 (length text) && ((length text == 1) || not (slice_index text 0 == 48)) && list_all is_ascii_digit text
-
 -- a number of 32 bits
 abbrev pub number32 : List ℕ → Option ℕ
-number32 text = if is_decimal text && nat_le (length text) 10 && nat_le (number_of text) 4294967295 then Some (number_of text) else None
+number32 text = number_between 0 4294967295 text
 
 -- 1 to 200 printable bytes
 abbrev pub is_name : List ℕ → Bool

@@ -1,17 +1,15 @@
 //! The parts of paths, and names.
-ghost use Rattle.std.specs.Prelude.{◌≡◌, ◌≤◌, ◌==◌, ◌&&◌, true, length, drop, IfOk, option_map, position};
-ghost use Rattle.std.specs.Char.{is_ascii_digit};
+ghost use Rattle.std.specs.Prelude.{◌≡◌, ◌≤◌, ◌==◌, length, IfOk, option_map, position};
 ghost use Rattle.std.specs.List.{list_all, list_any, position_or_len, before_first, after_first};
 ghost use Rattle.undo_base.specs.Name.{is_printable as printable};
 ghost use Rattle.verb_core.specs.Recipients.{user_named};
 ghost use Rattle.verb_core.specs.Store.{is_house};
 ghost use Rattle.std.specs.Prelude.{IsTrue, bytes_eq};
-ghost use Rattle.console_head.specs.Lengths.{number_of};
-ghost use Rattle.console_http.specs.Parts.{begins_with_hex as begins_hex, has_good_escapes as good_escapes, is_slash, part_of, is_decimal as decimal, number32, is_name as name_text, name_of, kept, box_name, is_local_byte as local_byte, is_local as local_text, local_of};
+ghost use Rattle.console_http.specs.Parts.{begins_with_hex as begins_hex, has_good_escapes as good_escapes, is_slash, part_of, number32, is_name as name_text, name_of, kept, box_name, is_local_byte as local_byte, is_local as local_text, local_of};
 
 use percent_encoding::percent_decode;
 use std::alloc::Global;
-use undo_base::{MOST_NAME, Name, NoMemory, User};
+use undo_base::{MOST_NAME, Name, NoMemory, User, after, read_number as read_digits};
 use verb_core::{Account, House};
 
 fn begins_with_hex(bytes: &[u8]) -> bool
@@ -75,14 +73,6 @@ pub fn behind_slash(path: &[u8]) -> &[u8]
     }
 }
 
-/// The bytes behind the first ones.
-pub fn after(bytes: &[u8], count: usize) -> &[u8]
-    requires { count ≤ length bytes.now }
-    ensures { result.now ≡ drop count bytes.now }
-{
-    &bytes[count..]
-}
-
 /// What a part of a path says, unless an escape is bad or a slash stands in it.
 pub fn read_part(alloc: Global, part: &[u8]) -> Result<Option<Vec<u8>>, NoMemory>
     ensures { IfOk result (λ r. option_map (λ v. v.items) r ≡ part_of part.now) }
@@ -95,47 +85,11 @@ pub fn read_part(alloc: Global, part: &[u8]) -> Result<Option<Vec<u8>>, NoMemory
     Ok(Some(bytes))
 }
 
-fn are_digits(text: &[u8]) -> bool
-    ensures { result ≡ list_all is_ascii_digit text.now }
-{
-    text.iter().all(|byte| byte.is_ascii_digit())
-}
-
-fn is_decimal(text: &[u8]) -> bool
-    ensures { result ≡ decimal text.now }
-{
-    1 <= text.len() && (text.len() == 1 || text[0] != b'0') && are_digits(text)
-}
-
-/// What at most ten digits stand for.
-fn number_in(digits: &[u8]) -> u64
-    requires short { length digits.now ≤ 10 }
-    requires digits { list_all is_ascii_digit digits.now ≡ true }
-    ensures { result ≡ number_of digits.now }
-{
-    let mut number = 0;
-    for digit in digits {
-        number = 10 * number + (*digit - b'0') as u64;
-    }
-    number
-}
-
 /// A number of 32 bits, without a leading zero.
 pub fn read_number(text: &[u8]) -> Option<u32>
     ensures { result ≡ number32 text.now }
 {
-    if !is_decimal(text) {
-        return None;
-    }
-    if text.len() > 10 {
-        return None;
-    }
-    let number = number_in(text);
-    if number <= 4_294_967_295 {
-        Some(number as u32)
-    } else {
-        None
-    }
+    read_digits(0, u32::MAX as u64, text).map(|number| number as u32)
 }
 
 fn is_printable(byte: u8) -> bool

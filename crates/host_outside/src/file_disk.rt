@@ -1,16 +1,33 @@
-//! A file as a disk, which tells its length and its counts alone.
-ghost use Rattle.std.specs.Prelude.{◌≡◌, ◌≤◌, ◌+◌, [], length, true, false};
-ghost use Rattle.undo_outside.specs.Calls.{Rose};
+//! A file as a disk, which tells its length and its counts alone, and what each of its calls does to the file.
+ghost use Rattle.std.specs.Prelude.{◌≡◌, ◌≤◌, ◌+◌, [], ◌∷◌, length, true, false, if◌then◌else◌, IfOk, OnOk, OnErr};
+ghost use Rattle.undo_outside.specs.Calls.{Rose, then_told};
+ghost use Rattle.host_outside.specs.Files.{finds, makes, reads, syncs};
+ghost use Rattle.host_outside.specs.declared.calls.FileCall.TheVariants.{SyncedAll, SyncedBytes, SyncedFolder, Wrote};
+ghost use Rattle.host_outside.specs.declared.file_disk.State.TheVariants as states;
 
-use crate::backing::{Backing, Lock};
+use crate::calls::FileCalls;
 use crate::locks::Locks;
+use crate::path_file::{Found, Lock, PathFile};
 use std::rt::Files;
 use undo_outside::{Disk, DiskFault, Failed, Fault};
 
-/// The file at a path. Its length is the one that was found when it was opened, raised by what is written since.
+/// Whether a file is there.
+#[derive(Clone, Copy, Debug, PartialEq, Eq)]
+pub enum State {
+    /// There is none, and each call fails.
+    Nothing,
+    /// There is none yet: the first write makes it.
+    Missing,
+    There,
+}
+
+/// A disk over a file. Its length is the one that was found when it was opened, raised by what is written since.
 #[derive(Drop)]
-pub struct FileDisk<'a, R: Files> {
-    backing: Backing<'a, R>,
+pub struct DiskOver<F: FileCalls> {
+    file: F,
+    state: State,
+    /// Whether its folder is to be synced: it was made here, or was found with nothing in it.
+    is_new: bool,
     size: u64,
     /// Whether the length in the file may be another than at the last sync.
     has_grown: bool,
@@ -19,27 +36,50 @@ pub struct FileDisk<'a, R: Files> {
     failed_last: bool,
 }
 
-impl<'a, R: Files> FileDisk<'a, R>
+/// The file at a path.
+pub type FileDisk<'a, R> = DiskOver<PathFile<'a, R>>;
+
+impl<'a, R: Files> DiskOver<PathFile<'a, R>>
 where
     R::File: Locks,
 {
     /// The file at this path, locked for this program alone as long as the disk is there; a missing one has length 0, and is
     /// made at the first write. Without a path, or where another program has locked the file or no length was found, each
     /// call fails.
-    pub fn open(files: R, path: Option<&'a String>) -> FileDisk<'a, R> {
-        FileDisk::find(files, path, Lock::Exclusive)
+    pub fn open(files: R, path: Option<&'a String>) -> DiskOver<PathFile<'a, R>> {
+        let (file, found) = PathFile::find(files, path, Lock::Exclusive);
+        DiskOver::found(file, found)
     }
 
     /// The file at this path to be read alone, beside others that read it. Where a program has opened it for itself, each
     /// call fails.
-    pub fn open_to_read(files: R, path: Option<&'a String>) -> FileDisk<'a, R> {
-        FileDisk::find(files, path, Lock::Shared)
+    pub fn open_to_read(files: R, path: Option<&'a String>) -> DiskOver<PathFile<'a, R>> {
+        let (file, found) = PathFile::find(files, path, Lock::Shared);
+        DiskOver::found(file, found)
     }
 
-    fn find(files: R, path: Option<&'a String>, lock: Lock) -> FileDisk<'a, R> {
-        let (backing, size) = Backing::find(files, path, lock);
-        FileDisk {
-            backing,
+    fn found(file: PathFile<'a, R>, found: Found) -> DiskOver<PathFile<'a, R>> {
+        match found {
+            Found::Nothing => DiskOver::over(file, State::Nothing, 0),
+            Found::Missing => DiskOver::over(file, State::Missing, 0),
+            Found::There(size) => DiskOver::over(file, State::There, size),
+        }
+    }
+}
+
+impl<F: FileCalls> DiskOver<F> {
+    /// Over a file of this length, or of length 0 where it is not there.
+    pub fn over(file: F, state: State, size: u64) -> DiskOver<F>
+        ensures file { result.file ≡ file }
+        ensures state { result.state ≡ state }
+        ensures size { result.size ≡ size }
+        ensures grown { result.has_grown ≡ true }
+        ensures new { size ≡ 0 → result.is_new ≡ true }
+    {
+        DiskOver {
+            file,
+            state,
+            is_new: size == 0,
             size,
             has_grown: true,
             failed_reads: 0,
@@ -52,7 +92,7 @@ where
     fn note_growth(&mut self, place: u64, bytes: &[u8])
         ensures noted { self.new.has_grown ≡ false → place + length bytes.now ≤ self.old.size }
         ensures kept { self.old.has_grown ≡ true → self.new.has_grown ≡ true }
-        ensures told { (self.new.size ≡ self.old.size) × (self.new.failed_last ≡ self.old.failed_last) × (self.new.failed_reads ≡ self.old.failed_reads) × (self.new.failed_writes ≡ self.old.failed_writes) }
+        ensures told { self.new ≡ record self.old { has_grown = self.new.has_grown } }
     {
         match place.checked_add(bytes.len() as u64) {
             Some(end) if end <= self.size => {}
@@ -63,7 +103,7 @@ where
     /// Counts a failed read.
     fn fail_read(&mut self) -> Failed
         ensures counted { Rose self.old.failed_reads self.new.failed_reads × (self.new.failed_reads ≤ self.old.failed_reads + 1) }
-        ensures told { (self.new.failed_last ≡ true) × (self.new.size ≡ self.old.size) × (self.new.failed_writes ≡ self.old.failed_writes) }
+        ensures told { self.new ≡ record self.old { failed_reads = self.new.failed_reads; failed_last = true } }
     {
         self.failed_reads = self.failed_reads.saturating_add(1);
         self.failed_last = true;
@@ -73,18 +113,109 @@ where
     /// Counts a failed write or sync.
     fn fail_write(&mut self) -> Failed
         ensures counted { Rose self.old.failed_writes self.new.failed_writes × (self.new.failed_writes ≤ self.old.failed_writes + 1) }
-        ensures told { (self.new.failed_last ≡ true) × (self.new.size ≡ self.old.size) × (self.new.failed_reads ≡ self.old.failed_reads) }
+        ensures told { self.new ≡ record self.old { failed_writes = self.new.failed_writes; failed_last = true } }
     {
         self.failed_writes = self.failed_writes.saturating_add(1);
         self.failed_last = true;
         Failed
     }
+
+    /// Makes the file where it is missing.
+    fn make_missing(&mut self) -> Result<(), Failed>
+        ensures calls { OnOk result (F.told self.new.file ≡ then_told (F.told self.old.file) (makes self.old.state)) }
+        ensures there { OnOk result (self.new.state ≡ states.There) }
+        ensures made { OnOk result (self.old.state ≡ states.Missing → self.new.is_new ≡ true) }
+        ensures new { self.old.is_new ≡ true → self.new.is_new ≡ true }
+        ensures told { self.new ≡ record self.old { file = self.new.file; state = self.new.state; is_new = self.new.is_new } }
+    {
+        match self.state {
+            State::Nothing => Err(Failed),
+            State::Missing => {
+                self.file.make()?;
+                self.state = State::There;
+                self.is_new = true;
+                Ok(())
+            }
+            State::There => Ok(()),
+        }
+    }
+
+    /// Writes, and answers the place behind what is written.
+    fn write_there(&mut self, place: u64, bytes: &[u8]) -> Result<u64, Failed>
+        ensures calls { OnOk result (F.told self.new.file ≡ then_told (then_told (F.told self.old.file) (makes self.old.state)) (Wrote place bytes.now ∷ [])) }
+        ensures end { IfOk result (λ end. end ≡ place + length bytes.now) }
+        ensures there { OnOk result (self.new.state ≡ states.There) }
+        ensures made { OnOk result (self.old.state ≡ states.Missing → self.new.is_new ≡ true) }
+        ensures new { self.old.is_new ≡ true → self.new.is_new ≡ true }
+        ensures told { self.new ≡ record self.old { file = self.new.file; state = self.new.state; is_new = self.new.is_new } }
+    {
+        let Some(end) = place.checked_add(bytes.len() as u64) else {
+            return Err(Failed);
+        };
+        self.make_missing()?;
+        self.file.write(place, bytes)?;
+        Ok(end)
+    }
+
+    /// Reads what is there.
+    fn read_there(&mut self, place: u64, buf: &mut [u8]) -> Result<(), Failed>
+        ensures calls { OnOk result (F.told self.new.file ≡ then_told (F.told self.old.file) (reads self.old.state place (length buf.old))) }
+        ensures told { self.new ≡ record self.old { file = self.new.file } }
+    {
+        match self.state {
+            State::Nothing => Err(Failed),
+            State::Missing if buf.is_empty() => Ok(()),
+            State::Missing => Err(Failed),
+            State::There => self.file.read(place, buf),
+        }
+    }
+
+    /// Syncs the bytes, with the length and the times where the length may have changed.
+    fn sync_file(&mut self) -> Result<(), Failed>
+        ensures calls { OnOk result (F.told self.new.file ≡ then_told (F.told self.old.file) ((if self.old.has_grown then SyncedAll else SyncedBytes) ∷ [])) }
+        ensures told { self.new ≡ record self.old { file = self.new.file } }
+    {
+        if self.has_grown {
+            self.file.sync_all()
+        } else {
+            self.file.sync_bytes()
+        }
+    }
+
+    /// Syncs the folder of a file that is new there.
+    fn sync_new(&mut self) -> Result<(), Failed>
+        ensures calls { OnOk result (F.told self.new.file ≡ then_told (F.told self.old.file) (if self.old.is_new then SyncedFolder ∷ [] else [])) }
+        ensures kept { OnErr result (self.new.is_new ≡ self.old.is_new) }
+        ensures done { OnOk result (self.new.is_new ≡ false) }
+        ensures told { self.new ≡ record self.old { file = self.new.file; is_new = self.new.is_new } }
+    {
+        if self.is_new {
+            self.file.sync_folder()?;
+            self.is_new = false;
+        }
+        Ok(())
+    }
+
+    /// Syncs the file, and the folder of one that is new there.
+    fn sync_there(&mut self) -> Result<(), Failed>
+        ensures calls { OnOk result (F.told self.new.file ≡ then_told (then_told (F.told self.old.file) (syncs self.old.state self.old.has_grown)) (finds self.old.state self.old.is_new)) }
+        ensures kept { OnErr result ((self.new.is_new ≡ self.old.is_new) × (self.new.has_grown ≡ self.old.has_grown)) }
+        ensures told { self.new ≡ record self.old { file = self.new.file; is_new = self.new.is_new; has_grown = self.new.has_grown } }
+    {
+        match self.state {
+            State::Nothing => Err(Failed),
+            State::Missing => Ok(()),
+            State::There => {
+                self.sync_file()?;
+                self.sync_new()?;
+                self.has_grown = false;
+                Ok(())
+            }
+        }
+    }
 }
 
-impl<'a, R: Files> Disk for FileDisk<'a, R>
-where
-    R::File: Locks,
-{
+impl<F: FileCalls> Disk for DiskOver<F> {
     ghost told = { λ d. record {
       honest = ⊥;
       size = d.size;
@@ -101,7 +232,7 @@ where
     ghost tells_truth = { λ d h. absurd h };
 
     fn len(&mut self) -> Result<u64, Failed> {
-        if !self.backing.has_length() {
+        if matches!(self.state, State::Nothing) {
             return Err(self.fail_read());
         }
         self.failed_last = false;
@@ -109,7 +240,7 @@ where
     }
 
     fn read(&mut self, place: u64, buf: &mut [u8]) -> Result<(), Failed> {
-        if self.backing.read(place, buf).is_err() {
+        if self.read_there(place, buf).is_err() {
             return Err(self.fail_read());
         }
         self.failed_last = false;
@@ -118,7 +249,7 @@ where
 
     fn write_at(&mut self, place: u64, bytes: &[u8]) -> Result<(), DiskFault> {
         self.note_growth(place, bytes);
-        let Ok(end) = self.backing.write(place, bytes) else {
+        let Ok(end) = self.write_there(place, bytes) else {
             self.fail_write();
             return Err(Fault::Failed);
         };
@@ -128,10 +259,9 @@ where
     }
 
     fn sync(&mut self) -> Result<(), Failed> {
-        if self.backing.sync(self.has_grown).is_err() {
+        if self.sync_there().is_err() {
             return Err(self.fail_write());
         }
-        self.has_grown = false;
         self.failed_last = false;
         Ok(())
     }

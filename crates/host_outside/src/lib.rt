@@ -8,17 +8,20 @@
 //! and a disk's length never falls; and that nothing comes of a connection that was closed or left (`Connection::receive`).
 #![tactic(auto)]
 
-mod backing;
+mod calls;
 mod connection;
 mod file_disk;
 mod listeners;
 mod locks;
 mod loop_link;
+mod path_file;
 mod sockets;
 mod streams;
 mod waiting;
 
-pub use file_disk::FileDisk;
+pub use calls::{FileCall, FileCalls};
+pub use file_disk::{DiskOver, FileDisk, State};
 pub use locks::Locks;
 pub use loop_link::LoopLink;
+pub use path_file::PathFile;
 pub use streams::{Reading, Writing};

@@ -1,5 +1,6 @@
 //! The connections of this machine as a link, which tells its counts alone.
-ghost use Rattle.std.specs.Prelude.{◌≡◌, false, None};
+ghost use Rattle.std.specs.Prelude.{◌≡◌, ◌≤◌, ◌+◌, false, None, is_err, OnOk, OnErr};
+ghost use Rattle.undo_outside.specs.Calls.{Rose};
 
 use crate::sockets::Sockets;
 use std::alloc::Global;
@@ -16,6 +17,8 @@ pub struct LoopLink<R: Net> {
     faults: u64,
     failed_last: bool,
     missed: u64,
+    starved: u64,
+    starved_last: bool,
 }
 
 impl<R: Net + Clock> LoopLink<R> {
@@ -27,7 +30,24 @@ impl<R: Net + Clock> LoopLink<R> {
             faults: 0,
             failed_last: false,
             missed: 0,
+            starved: 0,
+            starved_last: false,
         }
+    }
+
+    /// Counts whether a call found no memory.
+    fn note_want<T>(&mut self, told: Result<T, NoMemory>) -> Result<T, NoMemory>
+        ensures told { result ≡ told }
+        ensures last { self.new.starved_last ≡ is_err told }
+        ensures same { OnOk told (self.new.starved ≡ self.old.starved) }
+        ensures rose { OnErr told (Rose self.old.starved self.new.starved × (self.new.starved ≤ self.old.starved + 1)) }
+        ensures others { (self.new.faults ≡ self.old.faults) × (self.new.failed_last ≡ self.old.failed_last) × (self.new.missed ≡ self.old.missed) }
+    {
+        self.starved_last = told.is_err();
+        if told.is_err() {
+            self.starved = self.starved.saturating_add(1);
+        }
+        told
     }
 
     /// The ports on which it listens.
@@ -43,11 +63,14 @@ impl<R: Net + Clock> Link for LoopLink<R> {
       faults = l.faults;
       failed_last = l.failed_last;
       missed = l.missed;
+      starved = l.starved;
+      starved_last = l.starved_last;
       is_reliable = false;
     } };
 
     fn next(&mut self) -> Result<Event, LinkFault> {
-        match self.sockets.next()? {
+        let came = self.sockets.next();
+        match self.note_want(came)? {
             Some(event) => {
                 self.failed_last = false;
                 Ok(event)
@@ -61,7 +84,8 @@ impl<R: Net + Clock> Link for LoopLink<R> {
     }
 
     fn send(&mut self, conn: u32, bytes: &[u8]) -> Result<(), LinkFault> {
-        if self.sockets.send(conn, bytes)? {
+        let sent = self.sockets.send(conn, bytes);
+        if self.note_want(sent)? {
             return Ok(());
         }
         self.missed = self.missed.saturating_add(1);
@@ -70,6 +94,7 @@ impl<R: Net + Clock> Link for LoopLink<R> {
 
     fn close(&mut self, conn: u32) -> Result<(), NoMemory> {
         self.sockets.close(conn);
+        self.starved_last = false;
         Ok(())
     }
 }

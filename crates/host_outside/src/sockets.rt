@@ -1,4 +1,6 @@
-//! The listeners and the connections, visited in turn.
+//! The listeners and the connections, visited in rounds: those that were active lately in each, the others by turns.
+ghost use Rattle.std.specs.Prelude.{◌≡◌, ◌≤◌};
+
 use crate::connection::{Connection, Received};
 use crate::listeners::Listeners;
 use std::alloc::Global;
@@ -11,26 +13,57 @@ use undo_outside::{Event, Role, What};
 /// The most connections at a time. Their numbers are 1 to this.
 const MOST_CONNECTIONS: u32 = 1000;
 
-/// The three listeners, and the seats of the connections.
-const PLACES: usize = 1003;
+/// The listeners.
+const LISTENERS: usize = 3;
+
+/// The seats of the connections.
+const SEATS: usize = 1000;
+
+/// The most visits of a round: the listeners, those that were active lately, and a turn through all seats.
+const MOST_VISITS: usize = 2003;
 
 /// The most bytes of one event.
 const MOST_BYTES: usize = 65536;
 
-/// How often all are visited, with a sleep after each time, before an idle event is given.
-const ROUNDS: u64 = 16;
+/// So many rounds without an event, with a sleep after each, give an idle one, even where the clock can't be read.
+const MOST_ROUNDS: u64 = 2048;
+
+/// After so many milliseconds without an event an idle one is given.
+const IDLE: u64 = 1000;
 
 /// The sleep after something came or went, in microseconds. While nothing does, each sleep is twice the one before.
 const SHORTEST_SLEEP: u64 = 64;
 
+/// The longest sleep within a second of the last event, in microseconds.
+const SLEEP_WITHIN_A_SECOND: u64 = 1000;
+
+/// The longest sleep within a minute of the last event, in microseconds.
+const SLEEP_WITHIN_A_MINUTE: u64 = 10_000;
+
 /// The longest sleep, in microseconds.
 const LONGEST_SLEEP: u64 = 65_536;
+
+/// For so many seconds after it was active a connection is visited in each round.
+const LIVELY: u64 = 2;
 
 /// A number, and the connection that has it.
 #[derive(Drop)]
 struct Seat<S> {
     conn: u32,
     connection: Option<Connection<S>>,
+    /// Where it stands in the list of those that were active lately: the second at which it leaves that.
+    lively_until: Option<u64>,
+}
+
+/// Whose turn it is in a round.
+enum Turn {
+    Listener(Role),
+    /// A place in the list of those that were active lately.
+    Lively(usize),
+    /// The next of the other seats.
+    Other,
+    /// Nobody's: the round is over.
+    Over,
 }
 
 #[derive(Drop)]
@@ -41,10 +74,24 @@ pub(crate) struct Sockets<R: Net> {
     seats: Vec<Seat<R::Stream>>,
     /// Where the next bytes are read into.
     spare: Vec<u8>,
-    /// Who is visited next: a listener, or behind them a seat.
-    turn: usize,
+    /// The seats whose connections were active lately, each once. One that found no room here is among the others.
+    lively: Vec<usize>,
+    /// How many listeners and lively seats were visited in this round.
+    visited: usize,
+    /// How many seats were gone through in this round.
+    passed: usize,
+    /// How many of these were visited, since a connection sits there that was not active lately.
+    visited_others: usize,
+    /// How many of these are visited in this round.
+    share: usize,
+    /// When this round began, in milliseconds of that clock.
+    begun: u64,
+    /// The seat that is gone through next.
+    place: usize,
     /// The next sleep, in microseconds.
     sleep: u64,
+    /// When the last event but an idle one was, in milliseconds of a clock that is not set back.
+    last: u64,
     /// The moment of the last event.
     at: u64,
 }
@@ -62,8 +109,15 @@ impl<R: Net + Clock> Sockets<R> {
             listeners,
             seats: Vec::new(alloc),
             spare: Vec::new(alloc),
-            turn: 0,
+            lively: Vec::new(alloc),
+            visited: 0,
+            passed: 0,
+            visited_others: 0,
+            share: SEATS,
+            begun: 0,
+            place: 0,
             sleep: SHORTEST_SLEEP,
+            last: 0,
             at: 0,
         }
     }
@@ -78,20 +132,27 @@ impl<R: Net + Clock> Sockets<R> {
             return Ok(None);
         }
         self.make_ready()?;
-        for _ in 0..ROUNDS {
-            if let Some(event) = self.visit_all() {
+        let begun = self.millis();
+        for _ in 0..MOST_ROUNDS {
+            let now = self.millis();
+            if let Some(event) = self.go_round(now) {
                 self.sleep = SHORTEST_SLEEP;
+                self.last = now;
                 return Ok(Some(event));
             }
-            self.rest();
+            if now.saturating_sub(begun) >= IDLE {
+                break;
+            }
+            self.rest(now);
         }
         Ok(Some(self.event(0, What::Idle)))
     }
 
     /// Sleeps, the longer the longer nothing came or went.
-    fn rest(&mut self) {
+    fn rest(&mut self, now: u64) {
         thread::sleep(&self.rt, Duration::from_micros(self.sleep));
-        self.sleep = LONGEST_SLEEP.min(self.sleep.saturating_mul(2));
+        let most = longest_sleep(now.saturating_sub(self.last));
+        self.sleep = most.min(self.sleep.saturating_mul(2));
     }
 
     /// Takes all the memory that the next event may need.
@@ -101,17 +162,23 @@ impl<R: Net + Clock> Sockets<R> {
         }
         if self.seats.is_empty() {
             self.seats = make_seats(self.alloc)?;
+            self.lively.reserve(SEATS)?;
         }
         Ok(())
     }
 
-    /// Visits each once, from the one whose turn it is, until one has an event.
-    fn visit_all(&mut self) -> Option<Event> {
-        let now = self.seconds();
-        for _ in 0..PLACES {
-            let place = self.turn;
-            self.turn = if place < PLACES - 1 { place + 1 } else { 0 };
-            let event = self.visit(place, now);
+    /// Goes on with the round until one has an event, or the round is over.
+    fn go_round(&mut self, now: u64) -> Option<Event> {
+        for _ in 0..MOST_VISITS {
+            let event = match self.turn() {
+                Turn::Listener(role) => self.visit_listener(role, now),
+                Turn::Lively(index) => self.visit_lively(index, now),
+                Turn::Other => self.visit_other(now),
+                Turn::Over => {
+                    self.begin_round(now);
+                    return None;
+                }
+            };
             if event.is_some() {
                 return event;
             }
@@ -119,17 +186,74 @@ impl<R: Net + Clock> Sockets<R> {
         None
     }
 
-    fn visit(&mut self, place: usize, now: u64) -> Option<Event> {
-        match place {
-            0 => self.accept(Role::Smtp),
-            1 => self.accept(Role::Imap),
-            2 => self.accept(Role::Http),
-            place => self.receive(place - 3, now),
+    /// In a round come the listeners, then all seats that were active lately, and then some of the others, by turns.
+    fn turn(&self) -> Turn {
+        match self.visited {
+            0 => Turn::Listener(Role::Smtp),
+            1 => Turn::Listener(Role::Imap),
+            2 => Turn::Listener(Role::Http),
+            visited if visited - LISTENERS < self.lively.len() => Turn::Lively(visited - LISTENERS),
+            _ if self.passed < SEATS && self.visited_others < self.share => Turn::Other,
+            _ => Turn::Over,
         }
     }
 
+    fn begin_round(&mut self, now: u64) {
+        self.share = share(now.saturating_sub(self.begun));
+        self.begun = now;
+        self.visited = 0;
+        self.passed = 0;
+        self.visited_others = 0;
+    }
+
+    /// A listener stays next until nobody waits there.
+    fn visit_listener(&mut self, role: Role, now: u64) -> Option<Event> {
+        let event = self.accept(role, now);
+        if event.is_none() {
+            self.visited = self.visited.saturating_add(1);
+        }
+        event
+    }
+
+    /// Visits one that was active lately, or takes it off the list when that is too long ago.
+    fn visit_lively(&mut self, index: usize, now: u64) -> Option<Event> {
+        self.visited = self.visited.saturating_add(1);
+        let place = *self.lively.get(index)?;
+        let seat = self.seats.get_mut(place)?;
+        if seat.lively_until.is_some_and(|until| until > now / 1000) {
+            return self.receive(place, now);
+        }
+        seat.lively_until = None;
+        self.lively.swap_remove(index);
+        None
+    }
+
+    /// Goes to the next seat, and visits it unless it is empty or on the list.
+    fn visit_other(&mut self, now: u64) -> Option<Event> {
+        let place = self.place;
+        self.place = if place < SEATS - 1 { place + 1 } else { 0 };
+        self.passed = self.passed.saturating_add(1);
+        let seat = self.seats.get(place)?;
+        if seat.connection.is_none() || seat.lively_until.is_some() {
+            return None;
+        }
+        self.visited_others = self.visited_others.saturating_add(1);
+        self.receive(place, now)
+    }
+
+    /// A seat's connection has just been active.
+    fn enliven(&mut self, place: usize, now: u64) {
+        let Some(seat) = self.seats.get_mut(place) else {
+            return;
+        };
+        if seat.lively_until.is_none() && self.lively.push(place).is_err() {
+            return;
+        }
+        seat.lively_until = Some((now / 1000).saturating_add(LIVELY));
+    }
+
     /// Takes in a connection that waits, under the lowest free number.
-    fn accept(&mut self, role: Role) -> Option<Event> {
+    fn accept(&mut self, role: Role, now: u64) -> Option<Event> {
         let seat = self
             .seats
             .iter_mut()
@@ -137,6 +261,7 @@ impl<R: Net + Clock> Sockets<R> {
         let stream = self.listeners.as_ref()?.accept(role)?;
         seat.connection = Some(Connection::new(self.alloc, stream).ok()?);
         let conn = seat.conn;
+        self.enliven((conn as usize).saturating_sub(1), now);
         Some(self.event(conn, What::Joined(role)))
     }
 
@@ -145,18 +270,21 @@ impl<R: Net + Clock> Sockets<R> {
         let seat = self.seats.get_mut(place)?;
         let conn = seat.conn;
         let connection = seat.connection.as_mut()?;
-        let received = connection.receive(now, &mut self.spare);
-        if connection.has_moved() {
-            self.sleep = SHORTEST_SLEEP;
-        }
+        let received = connection.receive(now / 1000, &mut self.spare);
+        let has_moved = connection.has_moved();
         if connection.is_over() {
             seat.connection = None;
+        }
+        if has_moved {
+            self.sleep = SHORTEST_SLEEP;
+            self.enliven(place, now);
         }
         let what = match received {
             Received::Nothing => return None,
             Received::Bytes(count) => What::Bytes(self.take_bytes(count)),
             Received::Left => What::Left,
         };
+        self.enliven(place, now);
         Some(self.event(conn, what))
     }
 
@@ -179,10 +307,13 @@ impl<R: Net + Clock> Sockets<R> {
         }
     }
 
-    /// Seconds of a clock that is not set back.
-    fn seconds(&self) -> u64 {
+    /// Milliseconds of a clock that is not set back.
+    fn millis(&self) -> u64 {
         match self.rt.monotonic() {
-            Ok(time) => time.as_secs(),
+            Ok(time) => time
+                .as_secs()
+                .saturating_mul(1000)
+                .saturating_add(time.subsec_millis() as u64),
             Err(_) => 0,
         }
     }
@@ -197,15 +328,39 @@ impl<R: Net + Clock> Sockets<R> {
 
     /// Ends a connection, if there is one of this number.
     pub(crate) fn close(&mut self, conn: u32) {
-        let now = self.seconds();
+        let now = self.millis();
         if let Some(connection) = self.connection(conn) {
-            connection.end(now);
+            connection.end(now / 1000);
         }
     }
 
     fn connection(&mut self, conn: u32) -> Option<&mut Connection<R::Stream>> {
         let place = (conn as usize).checked_sub(1)?;
         self.seats.get_mut(place)?.connection.as_mut()
+    }
+}
+
+/// The longest sleep so many milliseconds after the last event, in microseconds.
+fn longest_sleep(quiet: u64) -> u64
+    ensures within_a_second { quiet ≤ 1000 → result ≡ 1000 }
+    ensures within_a_minute { quiet ≤ 60000 → result ≤ 10000 }
+{
+    match quiet {
+        0..=1000 => SLEEP_WITHIN_A_SECOND,
+        1001..=60_000 => SLEEP_WITHIN_A_MINUTE,
+        _ => LONGEST_SLEEP,
+    }
+}
+
+/// How many of those that were not active lately are visited in the round after one that took so many milliseconds.
+fn share(elapsed: u64) -> usize
+    ensures some { 32 ≤ result }
+    ensures all { 63 ≤ elapsed → result ≡ 1000 }
+{
+    match elapsed {
+        0..=1 => 32,
+        2..=62 => elapsed as usize * 16,
+        _ => SEATS,
     }
 }
 
@@ -216,6 +371,7 @@ fn make_seats<S: Drop>(alloc: Global) -> Result<Vec<Seat<S>>, NoMemory> {
         seats.push(Seat {
             conn,
             connection: None,
+            lively_until: None,
         })?;
     }
     Ok(seats)

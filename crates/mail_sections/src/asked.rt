@@ -5,9 +5,9 @@ ghost use Rattle.mail_sections.specs.Sections.{header_of, part_of, fields_where,
 ghost use Rattle.mail_sections.specs.Lines.{begins_empty as empty_begins};
 
 use crate::fields::{field_len, is_wanted};
-use crate::lines::{after, before, begins_empty, is_empty_line, line_len};
+use crate::lines::{begins_empty, is_empty_line, line_len};
 use std::alloc::Global;
-use undo_base::{Names, NoMemory, Section, SectionAsk, Text};
+use undo_base::{Names, NoMemory, Section, SectionAsk, Text, after, before};
 
 /// How long the header is, with its empty line.
 pub(crate) fn header_len(text: &[u8]) -> usize

@@ -5,8 +5,8 @@ ghost use Rattle.std.specs.Str.{str_eq_ignore_ascii_case};
 ghost use Rattle.mail_sections.specs.Lines.{begins_empty as empty_begins};
 ghost use Rattle.mail_sections.specs.Fields.{is_blank as blank, is_colon, is_folded as folded, fields_of, has_empty_line, trimmed, name_of, is_listed as listed, is_wanted as wanted};
 
-use crate::lines::{after, before, line_len};
-use undo_base::{Name, Names};
+use crate::lines::line_len;
+use undo_base::{Name, Names, after, before};
 
 fn is_blank(byte: u8) -> bool
     ensures { result ≡ blank byte }

@@ -2,25 +2,11 @@
 ghost use Rattle.std.specs.Prelude.{◌≡◌, ◌≤◌, ◌<◌, [], ◌∷◌, length, take, drop};
 ghost use Rattle.mail_sections.specs.Lines.{is_end, lines_of, is_empty_line as empty_line, begins_empty as empty_begins};
 
+use undo_base::after;
+
 const CR: u8 = 13;
 
 const LF: u8 = 10;
-
-/// The bytes behind the first ones.
-pub(crate) fn after(bytes: &[u8], count: usize) -> &[u8]
-    requires { count ≤ length bytes.now }
-    ensures { result.now ≡ drop count bytes.now }
-{
-    &bytes[count..]
-}
-
-/// The first bytes.
-pub(crate) fn before(bytes: &[u8], count: usize) -> &[u8]
-    requires { count ≤ length bytes.now }
-    ensures { result.now ≡ take count bytes.now }
-{
-    &bytes[..count]
-}
 
 fn is_line_end(first: u8, second: u8) -> bool
     ensures { result ≡ is_end first second }

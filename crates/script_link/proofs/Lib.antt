@@ -1,5 +1,4 @@
 pub mod Cuts
-pub mod Digits
 pub mod Runs
 mod Spelling
 mod Written

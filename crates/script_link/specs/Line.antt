@@ -9,7 +9,8 @@ use Rattle.undo_outside.specs.declared.event.Role.{Role}
 use Rattle.undo_outside.specs.declared.event.Role.TheVariants.{Smtp, Imap, Http}
 use Rattle.script_link.specs.declared.line.ScriptLine.{ScriptLine}
 use Rattle.script_link.specs.declared.line.ScriptLine.TheVariants.{Skipped, Moment, Happens, Bad}
-use Rattle.script_link.specs.Numbers.{number_between, moment_of, conn_of}
+use Rattle.undo_base.specs.Digits.{number_between}
+use Rattle.script_link.specs.Numbers.{moment_of, conn_of}
 use Rattle.script_link.specs.Texts.{unspelled}
 
 -- a text and CRLF

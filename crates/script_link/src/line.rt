@@ -3,15 +3,16 @@ ghost use Rattle.std.specs.Prelude.{◌≡◌, ◌≤◌, ◌-◌, length, nat_e
 ghost use Rattle.std.specs.List.{starts_with};
 ghost use Rattle.std.specs.Str.{bytes_eq};
 ghost use Rattle.undo_outside.specs.declared.event.What.TheVariants.{Joined, Bytes, Idle};
-ghost use Rattle.script_link.specs.Numbers.{number_between, moment_of};
+ghost use Rattle.undo_base.specs.Digits.{number_between};
+ghost use Rattle.script_link.specs.Numbers.{moment_of};
 ghost use Rattle.script_link.specs.Line as spec;
 ghost use Rattle.script_link.specs.Line.{said, event_of, is_skipped, first_part, other_parts, happens, happens_at, role_of, at_line, open_line, text_line, data_line, filling, filled, fill_line, gone_line, script_line};
 
-use crate::numbers::{read_conn, read_moment, read_number};
-use crate::pieces::{after, before_space, behind_space};
+use crate::numbers::{read_conn, read_moment};
+use crate::pieces::{before_space, behind_space};
 use crate::texts::unspell;
 use std::alloc::Global;
-use undo_base::{NoMemory, Text};
+use undo_base::{NoMemory, Text, after, read_number};
 use undo_outside::{Event, Role, What};
 
 /// What a line of a script says.

@@ -21,14 +21,6 @@ fn find_lf(bytes: &[u8]) -> Option<usize>
     None
 }
 
-/// The bytes behind the first ones.
-pub fn after(bytes: &[u8], count: usize) -> &[u8]
-    requires { count ≤ length bytes.now }
-    ensures { result.now ≡ drop count bytes.now }
-{
-    &bytes[count..]
-}
-
 /// The first piece, and what follows it.
 pub fn first_piece(bytes: &[u8]) -> (&[u8], &[u8])
     requires { 0 < length bytes.now }

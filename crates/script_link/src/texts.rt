@@ -5,9 +5,8 @@ ghost use Rattle.std.specs.List.{flat_map};
 ghost use Rattle.script_link.specs.Texts as spec;
 ghost use Rattle.script_link.specs.Texts.{named, numbered, spelled, unspelled};
 
-use crate::pieces::after;
 use std::alloc::Global;
-use undo_base::{NoMemory, Text};
+use undo_base::{NoMemory, Text, after};
 
 fn is_plain(byte: u8) -> bool
     ensures { result ≡ spec.is_plain byte }

@@ -1,6 +1,6 @@
 use Rattle.std.proofs.Common.{arith}
-use Rattle.script_link.proofs.Digits.{digits_fit}
-use Rattle.script_link.proofs.numbers.number_in.Goals as goal
+use Rattle.undo_base.proofs.Digits.{digits_fit}
+use Rattle.undo_base.proofs.digits.number_in.Goals as goal
 
 pub overflow_mul-number : goal.overflow_mul-number
 overflow_mul-number c =

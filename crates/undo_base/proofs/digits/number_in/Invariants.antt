@@ -1,6 +1,6 @@
 use Rattle.std.proofs.Common.{◌≡◌, ◌<◌, ◌^◌, take}
-use Rattle.script_link.specs.Numbers.{number_of}
-use Rattle.script_link.proofs.numbers.number_in.Given as goal
+use Rattle.undo_base.specs.Digits.{number_of}
+use Rattle.undo_base.proofs.digits.number_in.Given as goal
 
 abbrev pub invariant-loop-digit : goal.invariant-loop-digit
 invariant-loop-digit l = record {

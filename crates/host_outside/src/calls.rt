@@ -1,0 +1,62 @@
+//! The calls that a disk makes on its file.
+ghost use Rattle.std.specs.Prelude.{List, Option, length};
+ghost use Rattle.host_outside.specs.Files.{Does};
+ghost use Rattle.host_outside.specs.declared.calls.FileCall.{FileCall as Call};
+ghost use Rattle.host_outside.specs.declared.calls.FileCall.TheVariants.{Made, Read, Wrote, SyncedAll, SyncedBytes, SyncedFolder};
+
+use undo_base::Text;
+use undo_outside::Failed;
+
+/// What was done to a file.
+#[derive(Debug, Drop, PartialEq, Eq)]
+pub enum FileCall {
+    /// It was made, where it was missing.
+    Made,
+    /// So many bytes were read from a place on.
+    Read {
+        place: u64,
+        count: u64,
+    },
+    /// Bytes were written from a place on.
+    Wrote {
+        place: u64,
+        bytes: Text,
+    },
+    /// Its bytes, its length and its times reached the device.
+    SyncedAll,
+    /// Its bytes reached the device.
+    SyncedBytes,
+    /// The folder in which it stands reached the device.
+    SyncedFolder,
+}
+
+/// A file, or a place where one can be made. What a call did is told, if anything is told; a call that failed did nothing
+/// that is told.
+pub trait FileCalls {
+    /// What was done so far, in order, if it tells that.
+    ghost told: { Self → Option (List Call) };
+
+    /// Makes the file where it is missing.
+    fn make(&mut self) -> Result<(), Failed>
+        ensures { Does (told self.old) (told self.new) Made result };
+
+    /// Fills the buffer from a place on. A file that ends before fails.
+    fn read(&mut self, place: u64, buf: &mut [u8]) -> Result<(), Failed>
+        ensures { Does (told self.old) (told self.new) (Read place (length buf.old)) result };
+
+    /// Writes all the bytes from a place on.
+    fn write(&mut self, place: u64, bytes: &[u8]) -> Result<(), Failed>
+        ensures { Does (told self.old) (told self.new) (Wrote place bytes.now) result };
+
+    /// Syncs the file with its length and its times.
+    fn sync_all(&mut self) -> Result<(), Failed>
+        ensures { Does (told self.old) (told self.new) SyncedAll result };
+
+    /// Syncs the file's bytes.
+    fn sync_bytes(&mut self) -> Result<(), Failed>
+        ensures { Does (told self.old) (told self.new) SyncedBytes result };
+
+    /// Syncs the folder, so that the file is found there after a crash.
+    fn sync_folder(&mut self) -> Result<(), Failed>
+        ensures { Does (told self.old) (told self.new) SyncedFolder result };
+}

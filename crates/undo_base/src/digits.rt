@@ -1,0 +1,45 @@
+//! Numbers in digits.
+ghost use Rattle.std.specs.Prelude.{◌≡◌, ◌≤◌, true, length};
+ghost use Rattle.std.specs.Char.{is_ascii_digit};
+ghost use Rattle.std.specs.List.{list_all};
+ghost use Rattle.undo_base.specs.Digits.{is_decimal, number_of, number_between};
+
+use crate::bytes::are_digits;
+
+/// Whether the bytes are digits without a leading zero.
+pub fn is_number(text: &[u8]) -> bool
+    ensures { result ≡ is_decimal text.now }
+{
+    1 <= text.len() && (text.len() == 1 || text[0] != b'0') && are_digits(text)
+}
+
+/// What at most twelve digits stand for.
+fn number_in(text: &[u8]) -> u64
+    requires short { length text.now ≤ 12 }
+    requires digits { list_all is_ascii_digit text.now ≡ true }
+    ensures { result ≡ number_of text.now }
+{
+    let mut number = 0;
+    for digit in text {
+        number = 10 * number + (*digit - 48) as u64;
+    }
+    number
+}
+
+/// A number of at most twelve digits without a leading zero, from low to high.
+pub fn read_number(low: u64, high: u64, text: &[u8]) -> Option<u64>
+    ensures { result ≡ number_between low high text.now }
+{
+    if !is_number(text) {
+        return None;
+    }
+    if text.len() > 12 {
+        return None;
+    }
+    let number = number_in(text);
+    if low <= number && number <= high {
+        Some(number)
+    } else {
+        None
+    }
+}
