@@ -1,5 +1,5 @@
 //! One connection, of which the other side may take its time.
-ghost use Rattle.std.specs.Prelude.{◌≡◌, IsSome};
+ghost use Rattle.std.specs.Prelude.{◌≡◌, ℕ, ◌++◌, drop, true, Ok, IsSome, IfOk, OnErr};
 ghost use Rattle.host_outside.specs.declared.connection.Received.TheVariants.{Nothing, Left};
 
 use crate::waiting::Waiting;
@@ -64,9 +64,11 @@ impl<S: Read + Write + OpenStream> Connection<S> {
         self.has_moved
     }
 
-    /// Sends a string, or keeps what is not taken yet. Answers whether it may still arrive whole.
+    /// Sends a string, or keeps what is not taken yet. Answers whether it may still arrive whole: then no byte of it, or of what
+    /// waited before, is lost or out of its place.
     pub(crate) fn send(&mut self, bytes: &[u8]) -> Result<bool, NoMemory>
-        ensures { self.new.ends_at ≡ self.old.ends_at }
+        ensures stays { self.new.ends_at ≡ self.old.ends_at }
+        ensures whole { result ≡ Ok true → (count : ℕ) × (self.new.waiting ≡ drop count (self.old.waiting ++ bytes.now)) }
     {
         if self.ends_at.is_some() || self.waiting.len() > MOST_WAITING {
             return Ok(false);
@@ -153,9 +155,11 @@ impl<S: Read + Write + OpenStream> Connection<S> {
         read_some(&mut self.stream, buf)
     }
 
-    /// Sends what is taken of what waits, and answers how much that was.
+    /// Sends what is taken of what waits, and answers how much that was: so much goes from its front.
     fn flush(&mut self) -> io::Result<usize>
-        ensures { self.new.ends_at ≡ self.old.ends_at }
+        ensures stays { self.new.ends_at ≡ self.old.ends_at }
+        ensures sent { IfOk result (λ count. self.new.waiting ≡ drop count self.old.waiting) }
+        ensures kept { OnErr result (self.new.waiting ≡ self.old.waiting) }
     {
         if self.waiting.len() == 0 {
             return Ok(0);

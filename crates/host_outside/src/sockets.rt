@@ -1,5 +1,7 @@
 //! The listeners and the connections, visited in rounds: those that were active lately in each, the others by turns.
-ghost use Rattle.std.specs.Prelude.{◌≡◌, ◌≤◌};
+ghost use Rattle.std.specs.Prelude.{◌≡◌, ◌≤◌, IfSome};
+ghost use Rattle.host_outside.specs.Seats.{IsAt, IsOf};
+ghost use Rattle.undo_outside.specs.declared.event.What.TheVariants.{Joined};
 
 use crate::connection::{Connection, Received};
 use crate::listeners::Listeners;
@@ -10,13 +12,10 @@ use std::{mem, thread};
 use undo_base::{LAST_MOMENT, NoMemory, Text};
 use undo_outside::{Event, Role, What};
 
-/// The most connections at a time. Their numbers are 1 to this.
-const MOST_CONNECTIONS: u32 = 1000;
-
 /// The listeners.
 const LISTENERS: usize = 3;
 
-/// The seats of the connections.
+/// The seats of the connections, whose numbers are 1 to this.
 const SEATS: usize = 1000;
 
 /// The most visits of a round: the listeners, those that were active lately, and a turn through all seats.
@@ -46,10 +45,9 @@ const LONGEST_SLEEP: u64 = 65_536;
 /// For so many seconds after it was active a connection is visited in each round.
 const LIVELY: u64 = 2;
 
-/// A number, and the connection that has it.
+/// A place for a connection, whose number is that of the place, counted from 1.
 #[derive(Drop)]
 struct Seat<S> {
-    conn: u32,
     connection: Option<Connection<S>>,
     /// Where it stands in the list of those that were active lately: the second at which it leaves that.
     lively_until: Option<u64>,
@@ -253,27 +251,30 @@ impl<R: Net + Clock> Sockets<R> {
     }
 
     /// Takes in a connection that waits, under the lowest free number.
-    fn accept(&mut self, role: Role, now: u64) -> Option<Event> {
-        let seat = self
+    fn accept(&mut self, role: Role, now: u64) -> Option<Event>
+        ensures joined { IfSome result (λ event. event.what ≡ Joined role) }
+        ensures numbered { IfSome result (λ event. 1 ≤ event.conn) }
+    {
+        let place = self
             .seats
-            .iter_mut()
-            .find(|seat| seat.connection.is_none())?;
+            .iter()
+            .position(|seat| seat.connection.is_none())?;
         let stream = self.listeners.as_ref()?.accept(role)?;
-        seat.connection = Some(Connection::new(self.alloc, stream).ok()?);
-        let conn = seat.conn;
-        self.enliven((conn as usize).saturating_sub(1), now);
-        Some(self.event(conn, What::Joined(role)))
+        let connection = Connection::new(self.alloc, stream).ok()?;
+        self.seats.get_mut(place)?.connection = Some(connection);
+        self.enliven(place, now);
+        Some(self.event_of(place, What::Joined(role)))
     }
 
     /// Sends what waits for a seat's connection, and takes what came over it.
-    fn receive(&mut self, place: usize, now: u64) -> Option<Event> {
-        let seat = self.seats.get_mut(place)?;
-        let conn = seat.conn;
-        let connection = seat.connection.as_mut()?;
+    fn receive(&mut self, place: usize, now: u64) -> Option<Event>
+        ensures { IfSome result (λ event. IsOf place event) }
+    {
+        let connection = self.seats.get_mut(place)?.connection.as_mut()?;
         let received = connection.receive(now / 1000, &mut self.spare);
         let has_moved = connection.has_moved();
         if connection.is_over() {
-            seat.connection = None;
+            self.free(place);
         }
         if has_moved {
             self.sleep = SHORTEST_SLEEP;
@@ -285,7 +286,14 @@ impl<R: Net + Clock> Sockets<R> {
             Received::Left => What::Left,
         };
         self.enliven(place, now);
-        Some(self.event(conn, what))
+        Some(self.event_of(place, what))
+    }
+
+    /// Nobody has the seat any more.
+    fn free(&mut self, place: usize) {
+        if let Some(seat) = self.seats.get_mut(place) {
+            seat.connection = None;
+        }
     }
 
     /// The first bytes of the buffer, which goes with them: none is copied, and no memory is taken.
@@ -295,8 +303,19 @@ impl<R: Net + Clock> Sockets<R> {
         Text::from_vec(bytes)
     }
 
+    /// What happened at a seat, now.
+    fn event_of(&mut self, place: usize, what: What) -> Event
+        ensures { IsAt place what result }
+    {
+        let number = place.saturating_add(1).min(u32::MAX as usize);
+        self.event(number as u32, what)
+    }
+
     /// What happened, now. Where the clock can't be read, it happened when the event before did.
-    fn event(&mut self, conn: u32, what: What) -> Event {
+    fn event(&mut self, conn: u32, what: What) -> Event
+        ensures conn { result.conn ≡ conn }
+        ensures what { result.what ≡ what }
+    {
         if let Ok(time) = self.rt.since_1970() {
             self.at = LAST_MOMENT.min(time.as_secs());
         }
@@ -367,9 +386,8 @@ fn share(elapsed: u64) -> usize
 /// Seats for all numbers, from 1 on.
 fn make_seats<S: Drop>(alloc: Global) -> Result<Vec<Seat<S>>, NoMemory> {
     let mut seats = Vec::new(alloc);
-    for conn in 1..=MOST_CONNECTIONS {
+    for _ in 0..SEATS {
         seats.push(Seat {
-            conn,
             connection: None,
             lively_until: None,
         })?;

@@ -5,6 +5,8 @@ ghost use Rattle.std.specs.List.{position_or_len};
 ghost use Rattle.script_link.specs.Pieces.{pieces_of};
 ghost use Rattle.script_link.specs.Line.{first_part, other_parts};
 
+use undo_base::after;
+
 const LF: u8 = 10;
 
 /// Where the first LF stands.

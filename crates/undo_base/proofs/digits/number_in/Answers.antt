@@ -1,5 +1,5 @@
 use Rattle.std.proofs.Common.{arith}
-use Rattle.undo_base.proofs.Digits.{digits_fit}
+use Rattle.undo_base.proofs.FewDigits.{digits_fit}
 use Rattle.undo_base.proofs.digits.number_in.Goals as goal
 
 pub overflow_mul-number : goal.overflow_mul-number
