@@ -12,7 +12,8 @@ use Rattle.verb_core.specs.declared.item.Shown.{Shown}
 use Rattle.verb_core.specs.Items.{IsWellFormed, IsTimeline, NumbersApart, is_own, users_in, keys_in, has_form}
 use Rattle.verb_core.specs.Store.{is_known}
 use Rattle.verb_bytes.specs.declared.journal.CycleAsk.{CycleAsk}
-use Rattle.repair_desk.specs.Repairs.{are_known, inserted, kept, new_timeline, repaired, replaced_by, takes_text, text_asked, with_text}
+use Rattle.verb_core.specs.Deeds.{with_text}
+use Rattle.repair_desk.specs.Repairs.{are_known, inserted, kept, new_timeline, repaired, replaced_by, takes_text, text_asked}
 
 -- ---- parts of lists
 

@@ -12,7 +12,8 @@ use Rattle.verb_core.specs.declared.mailbox.Mailbox.{Mailbox}
 use Rattle.verb_core.specs.Boxes.{box_cmp, row_at}
 use Rattle.verb_core.specs.Mailboxes.{same_key}
 use Rattle.verb_core.proofs.BoxLaws.{exact_boxes}
-use Rattle.repair_desk.specs.Renewals.{extends, extends_one, is_old, renewed, same_body, same_mail, stamp_after}
+use Rattle.verb_core.specs.Deeds.{same_body}
+use Rattle.repair_desk.specs.Renewals.{extends, extends_one, is_old, renewed, same_mail, stamp_after}
 
 both : (p q : Bool) → p ≡ true → q ≡ true → (p && q) ≡ true
 both p q e f = rw (e, f) refl

@@ -5,7 +5,8 @@ use Rattle.std.proofs.lemmas.List.Elements.{filter_agree}
 use Rattle.verb_core.specs.declared.item.Act.{Act}
 use Rattle.verb_core.specs.declared.item.Item.{Item}
 use Rattle.verb_bytes.specs.declared.journal.CycleAsk.{CycleAsk}
-use Rattle.repair_desk.specs.Repairs.{act_item, dropped, inserted, is_among, missing, numbers_of, replaced, unmatched}
+use Rattle.verb_core.specs.Deeds.{act_item}
+use Rattle.repair_desk.specs.Repairs.{dropped, inserted, is_among, missing, numbers_of, replaced, unmatched}
 
 -- ---- acts that come in
 

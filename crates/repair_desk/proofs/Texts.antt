@@ -6,7 +6,8 @@ use Rattle.verb_core.specs.declared.item.Item.{Item}
 use Rattle.verb_core.specs.declared.mailbox.Body.{Body}
 use Rattle.verb_core.specs.Items.{NumbersApart, text_in, text_of}
 use Rattle.verb_bytes.specs.declared.journal.CycleAsk.{CycleAsk}
-use Rattle.repair_desk.specs.Repairs.{inserted, kept, new_timeline, repaired, replaced_by, takes_text, text_asked, with_text}
+use Rattle.verb_core.specs.Deeds.{with_text}
+use Rattle.repair_desk.specs.Repairs.{inserted, kept, new_timeline, repaired, replaced_by, takes_text, text_asked}
 use Rattle.repair_desk.proofs.Everywhere.{everywhere, taken, rest_of, passing, mapped, weaker, inserted_above}
 
 -- whether an item brought the text of a body

@@ -2,14 +2,11 @@
 use Rattle.std.specs.Prelude.{◌≡◌, ℕ, Bool, false, true, ◌&&◌, ◌||◌, ◌==◌, nat_le, if◌then◌else◌, List, map, Option, Some, None, unwrap_or}
 use Rattle.std.specs.List.{list_all, list_any}
 use Rattle.verb_core.specs.declared.mailbox.BoxId.{BoxId}
-use Rattle.verb_core.specs.declared.mailbox.Body.{Body}
 use Rattle.verb_core.specs.declared.mailbox.Entry.{Entry}
 use Rattle.verb_core.specs.declared.mailbox.Mailbox.{Mailbox}
 use Rattle.verb_core.specs.Boxes.{row_at}
+use Rattle.verb_core.specs.Deeds.{same_body}
 use Rattle.verb_core.specs.Mailboxes.{same_key, uids_rise}
-
-abbrev pub same_body : Body → Body → Bool
-same_body a b = a.origin == b.origin && a.rev == b.rev
 
 -- whether a UID names the same message with the same text
 abbrev pub same_mail : Entry → Entry → Bool

@@ -3,12 +3,11 @@ use Rattle.std.specs.Prelude.{ℕ, ◌+◌, Bool, true, false, not, ◌&&◌, �
 use Rattle.std.specs.List.{list_all, list_any, position_from}
 use Rattle.verb_core.specs.declared.conf.House.{House}
 use Rattle.verb_core.specs.declared.item.Act.{Act}
-use Rattle.verb_core.specs.declared.item.Act.TheVariants.{Give}
 use Rattle.verb_core.specs.declared.item.Item.{Item}
 use Rattle.verb_core.specs.declared.item.Deed.{Deed}
-use Rattle.verb_core.specs.declared.item.Deed.TheVariants.{Deliver, Append, Act as Acts}
-use Rattle.verb_core.specs.declared.item.Shown.TheVariants.{Nothing}
-use Rattle.verb_core.specs.Items.{users_in}
+use Rattle.verb_core.specs.declared.item.Deed.TheVariants.{Act as Acts}
+use Rattle.verb_core.specs.Deeds.{act_item, is_notice, with_text}
+use Rattle.verb_core.specs.Items.{text_in, users_in}
 use Rattle.verb_core.specs.Store.{is_known}
 use Rattle.verb_bytes.specs.declared.journal.CycleAsk.{CycleAsk}
 use Rattle.repair_desk.specs.declared.editing.Edited.{Edited}
@@ -27,10 +26,6 @@ numbers_of t = map (λ (i : Item). i.number) t
 
 -- ---- what comes in
 
--- the item of an operator's act: it has no user
-abbrev pub act_item : ℕ → ℕ → Act → Item
-act_item number at act = record { number = number; at = at; by = None; rev = 0; deed = Acts act; shown = Nothing }
-
 -- whether all users that acts name are those of the house
 abbrev pub are_known : House → List Act → Bool
 are_known house acts = list_all (λ (act : Act). list_all (is_known house) (users_in (Acts act))) acts
@@ -46,19 +41,9 @@ inserted number at (act ∷ acts) = act_item (number + 1) at act ∷ inserted (n
 abbrev pub text_asked : List (ℕ × List ℕ) → ℕ → Option (List ℕ)
 text_asked replaces number = option_map (λ (r : ℕ × List ℕ). r.1) (find (λ (r : ℕ × List ℕ). r.0 == number) (reverse replaces))
 
--- whether the deed has a text that can be replaced
+-- whether the deed has a text that can be replaced: all but a notice's
 abbrev pub takes_text : Deed → Bool
-takes_text (Deliver from to text) = true
-takes_text (Append mailbox flags moment text) = true
-takes_text (Acts (Give user mailbox text)) = true
-takes_text _ = false
-
--- the deed with another text
-abbrev pub with_text : List ℕ → Deed → Deed
-with_text text (Deliver from to old) = Deliver from to text
-with_text text (Append mailbox flags moment old) = Append mailbox flags moment text
-with_text text (Acts (Give user mailbox old)) = Acts (Give user mailbox text)
-with_text text deed = deed
+takes_text deed = is_some (text_in deed) && not (is_notice deed)
 
 -- the item with a text that is asked for, under the rev c, where it can have one
 abbrev pub replaced_by : ℕ → Item → Option (List ℕ) → Item

@@ -2,10 +2,9 @@
 ghost use Rattle.std.specs.Prelude.{◌≡◌, ◌+◌, ◌≤◌, ◌++◌, length, OnOk};
 ghost use Rattle.repair_desk.specs.Repairs.{inserted};
 
-use crate::items::act_item;
 use std::alloc::Global;
 use undo_base::{LAST_NUMBER, NoMemory};
-use verb_core::{Act, Items};
+use verb_core::{Act, Item, Items};
 
 /// Adds the items of acts at the end, with the numbers behind `c`.
 pub(crate) fn push_inserts(
@@ -21,7 +20,7 @@ pub(crate) fn push_inserts(
     let mut number = c;
     for act in acts {
         number += 1;
-        items.push(act_item(alloc, number, at, act)?)?;
+        items.push(Item::of_act(alloc, number, at, act)?)?;
     }
     Ok(())
 }

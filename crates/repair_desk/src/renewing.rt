@@ -18,7 +18,7 @@ use verb_core::{BoxId, Entry, Mailbox, Stamps};
 fn same_mail(one: &Entry, other: &Entry) -> bool
     ensures { result ≡ is_same_mail one.now other.now }
 {
-    one.uid == other.uid && one.key == other.key && one.body == other.body
+    one.uid == other.uid && one.key == other.key && one.body.is_same(other.body)
 }
 
 /// Whether one of the entries is the same mail, found by its UID.
