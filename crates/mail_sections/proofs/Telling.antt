@@ -1,11 +1,11 @@
 -- What is told of a text, line by line and field by field.
-use Rattle.std.proofs.Common.{◌≡◌, ℕ, ◌==◌, ◌&&◌, Bool, true, false, List, [], ◌∷◌, ◌++◌, take, filter, if◌then◌else◌, refl, ap, sym, ◌∙◌, arith}
-use Rattle.std.proofs.lemmas.List.{append_assoc}
+use Rattle.std.proofs.Common.{◌≡◌, ℕ, ◌==◌, ◌&&◌, Bool, true, false, List, [], ◌∷◌, ◌++◌, take, drop, length, ◌-◌, zero, suc, filter, Option, None, Some, if◌then◌else◌, refl, ap, sym, ◌∙◌, arith}
+use Rattle.std.proofs.lemmas.List.{append_assoc, length-take}
 use Rattle.std.proofs.Math.Bool.{and-true}
 use Rattle.std.proofs.lemmas.Slice.Eq.{bytes_eq-Decides}
 use Rattle.mail_sections.specs.Lines.{is_end, lines_of, is_empty_line, begins_empty}
 use Rattle.mail_sections.specs.Fields.{header_lines, fields_of, has_empty_line}
-use Rattle.mail_sections.specs.Sections.{joined, empty_line_of, header_of, fields_where}
+use Rattle.mail_sections.specs.Sections.{asked_behind, joined, empty_line_of, header_of, fields_where, part_of}
 use Rattle.mail_sections.proofs.Grouping.{Begins, begins}
 
 -- a line before the empty one
@@ -33,3 +33,52 @@ fields_end test (b ∷ c ∷ s) e = ends_case test b (c ∷ s) (begins b (c ∷ 
   where
     two : (b c : ℕ) (s : List ℕ) → is_end b c ≡ true → b ∷ c ∷ take 0 s ≡ 13 ∷ 10 ∷ []
     two b c s e = (bytes_eq-Decides (b ∷ c ∷ []) (13 ∷ 10 ∷ [])).0 (ap (λ x. (b == 13) && x) (and-true (c == 10)) ∙ e)
+
+-- ---- a part of bytes that come piece by piece
+
+drop_over : (n : ℕ) (xs ys : List ℕ) → drop n (xs ++ ys) ≡ drop n xs ++ drop (n - length xs) ys
+drop_over zero xs ys = let none : 0 ≡ 0 - length xs = omega arith in ap (λ (m : ℕ). xs ++ drop m ys) none
+drop_over (suc n) [] ys = let all : suc n ≡ suc n - 0 = omega arith in ap (λ (m : ℕ). drop m ys) all
+drop_over (suc n) (x ∷ xs) ys = let fewer : n - length xs ≡ suc n - suc (length xs) = omega arith in drop_over n xs ys ∙ ap (λ (m : ℕ). drop n xs ++ drop m ys) fewer
+
+take_over : (n : ℕ) (xs ys : List ℕ) → take n (xs ++ ys) ≡ take n xs ++ take (n - length xs) ys
+take_over zero xs ys = let none : 0 ≡ 0 - length xs = omega arith in ap (λ (m : ℕ). take m ys) none
+take_over (suc n) [] ys = let all : suc n ≡ suc n - 0 = omega arith in ap (λ (m : ℕ). take m ys) all
+take_over (suc n) (x ∷ xs) ys = let fewer : n - length xs ≡ suc n - suc (length xs) = omega arith in ap (λ (l : List ℕ). x ∷ l) (take_over n xs ys) ∙ ap (λ (m : ℕ). x ∷ (take n xs ++ take m ys)) fewer
+
+-- what is asked of one piece, and then of the bytes behind it
+pub part_more : (asked : Option (ℕ × ℕ)) (xs ys : List ℕ) → part_of asked (xs ++ ys) ≡ part_of asked xs ++ part_of (asked_behind asked (length xs) (length (part_of asked xs))) ys
+part_more None xs ys = refl
+part_more (Some (first, n)) xs ys =
+    let rest = drop first xs in
+    let left : n - length rest ≡ n - length (take n rest) = omega (arith, length-take n rest) in
+    ap (take n) (drop_over first xs ys) ∙ take_over n rest (drop (first - length xs) ys)
+    ∙ ap (λ (m : ℕ). take n rest ++ take m (drop (first - length xs) ys)) left
+
+drop_nothing : (n : ℕ) → drop {A = ℕ} n [] ≡ []
+drop_nothing zero = refl
+drop_nothing (suc n) = refl
+
+take_nothing : (n : ℕ) → take {A = ℕ} n [] ≡ []
+take_nothing zero = refl
+take_nothing (suc n) = refl
+
+-- of nothing
+pub part_none : (asked : Option (ℕ × ℕ)) → part_of asked [] ≡ []
+part_none None = refl
+part_none (Some (first, n)) = ap (take n) (drop_nothing first) ∙ take_nothing n
+
+-- a field that is wanted was told
+pub told_field : (test : List ℕ → Bool) (asked left : Option (ℕ × ℕ)) (text told s field rest : List ℕ) → fields_of s ≡ field ∷ fields_of rest → has_empty_line s ≡ has_empty_line rest → test field ≡ true
+    → part_of asked (fields_where test text) ≡ told ++ part_of left (fields_where test s)
+    → part_of asked (fields_where test text) ≡ (told ++ part_of left field) ++ part_of (asked_behind left (length field) (length (part_of left field))) (fields_where test rest)
+told_field test asked left text told s field rest is ends wanted inv =
+    inv ∙ ap (λ (l : List ℕ). told ++ part_of left l) (fields_more test s field rest is ends true wanted)
+    ∙ ap (λ (l : List ℕ). told ++ l) (part_more left field (fields_where test rest))
+    ∙ sym (append_assoc told (part_of left field) (part_of (asked_behind left (length field) (length (part_of left field))) (fields_where test rest)))
+
+-- a field that is not wanted was passed over
+pub passed_field : (test : List ℕ → Bool) (asked left : Option (ℕ × ℕ)) (text told s field rest : List ℕ) → fields_of s ≡ field ∷ fields_of rest → has_empty_line s ≡ has_empty_line rest → test field ≡ false
+    → part_of asked (fields_where test text) ≡ told ++ part_of left (fields_where test s) → part_of asked (fields_where test text) ≡ told ++ part_of left (fields_where test rest)
+passed_field test asked left text told s field rest is ends unwanted inv =
+    inv ∙ ap (λ (l : List ℕ). told ++ part_of left l) (fields_more test s field rest is ends false unwanted)

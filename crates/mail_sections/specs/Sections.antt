@@ -1,5 +1,5 @@
 -- What a FETCH asks of a message's text (RFC 3501, 6.4.5).
-use Rattle.std.specs.Prelude.{ℕ, Bool, not, List, [], ◌∷◌, ◌++◌, length, take, drop, filter, flat_map, Option, None, Some, if◌then◌else◌}
+use Rattle.std.specs.Prelude.{ℕ, Bool, not, ◌-◌, List, [], ◌∷◌, ◌++◌, length, take, drop, filter, flat_map, Option, None, Some, if◌then◌else◌}
 use Rattle.undo_base.specs.declared.asks.Section.{Section}
 use Rattle.undo_base.specs.declared.asks.Section.TheVariants.{Whole, Header, Text, Fields, NotFields}
 use Rattle.undo_base.specs.declared.asks.SectionAsk.{SectionAsk}
@@ -38,6 +38,11 @@ section_in (NotFields names) text = fields_where (λ field. not (is_listed names
 abbrev pub part_of : Option (ℕ × ℕ) → List ℕ → List ℕ
 part_of None bytes = bytes
 part_of (Some (first, n)) bytes = take n (drop first bytes)
+
+-- what is asked of the bytes behind so many, of which so many were told
+abbrev pub asked_behind : Option (ℕ × ℕ) → ℕ → ℕ → Option (ℕ × ℕ)
+asked_behind None passed told = None
+asked_behind (Some (first, n)) passed told = Some (first - passed, n - told)
 
 -- what is asked of a text
 abbrev pub section_of : SectionAsk → List ℕ → List ℕ

@@ -1,7 +1,7 @@
 //! What a FETCH asks of a text.
-ghost use Rattle.std.specs.Prelude.{◌≡◌, ◌≤◌, ◌<◌, true, false, length, take, drop, IfOk};
+ghost use Rattle.std.specs.Prelude.{◌≡◌, ◌≤◌, ◌<◌, ◌++◌, true, false, length, take, drop, IfOk, OnOk};
 ghost use Rattle.mail_sections.specs.Fields.{is_wanted as wanted};
-ghost use Rattle.mail_sections.specs.Sections.{header_of, part_of, fields_where, section_of};
+ghost use Rattle.mail_sections.specs.Sections.{asked_behind, header_of, part_of, fields_where, section_of};
 ghost use Rattle.mail_sections.specs.Lines.{begins_empty as empty_begins};
 
 use crate::fields::{field_len, is_wanted};
@@ -50,25 +50,35 @@ fn begins_field(bytes: &[u8]) -> bool
     bytes.len() > 0 && !begins_empty(bytes)
 }
 
-/// The fields that are wanted, and the empty line.
-fn fields(alloc: Global, text: &[u8], among: bool, names: &Names) -> Result<Text, NoMemory>
-    ensures { IfOk result (λ told. told ≡ fields_where (wanted among names.now) text.now) }
+/// What is asked of the bytes behind so many, of which so many were told.
+fn behind(asked: Option<(u32, u32)>, passed: usize, told: usize) -> Option<(u32, u32)>
+    ensures { result ≡ asked_behind asked passed told }
 {
-    let mut told = Text::new(alloc);
-    let mut rest = text;
-    while begins_field(rest) {
-        let count = field_len(rest);
-        let field = before(rest, count);
-        if is_wanted(among, names, field) {
-            told.extend(field)?;
-        }
-        rest = after(rest, count);
+    match asked {
+        None => None,
+        Some((first, count)) => Some((
+            (first as usize).saturating_sub(passed) as u32,
+            (count as usize).saturating_sub(told) as u32,
+        )),
     }
-    told.extend(before(rest, rest.len().min(2)))?;
-    Ok(told)
 }
 
-fn fields_part(
+/// Tells of a piece what is asked, and answers what is asked of the bytes behind it.
+fn tell(
+    told: &mut Text,
+    asked: Option<(u32, u32)>,
+    piece: &[u8],
+) -> Result<Option<(u32, u32)>, NoMemory>
+    ensures told { OnOk result (told.new ≡ told.old ++ part_of asked piece.now) }
+    ensures left { IfOk result (λ left. left ≡ asked_behind asked (length piece.now) (length (part_of asked piece.now))) }
+{
+    let wanted = part(piece, asked);
+    told.extend(wanted)?;
+    Ok(behind(asked, piece.len(), wanted.len()))
+}
+
+/// The fields that are wanted, and the empty line; of these the part that is asked. No more than that is copied.
+fn fields(
     alloc: Global,
     text: &[u8],
     among: bool,
@@ -77,11 +87,19 @@ fn fields_part(
 ) -> Result<Text, NoMemory>
     ensures { IfOk result (λ told. told ≡ part_of asked (fields_where (wanted among names.now) text.now)) }
 {
-    let all = fields(alloc, text, among, names)?;
-    if asked.is_none() {
-        return Ok(all);
+    let mut told = Text::new(alloc);
+    let mut left = asked;
+    let mut rest = text;
+    while begins_field(rest) {
+        let count = field_len(rest);
+        let field = before(rest, count);
+        if is_wanted(among, names, field) {
+            left = tell(&mut told, left, field)?;
+        }
+        rest = after(rest, count);
     }
-    Text::of(alloc, part(all.bytes(), asked))
+    tell(&mut told, left, before(rest, rest.len().min(2)))?;
+    Ok(told)
 }
 
 /// What is asked of a text (RFC 3501, section 6.4.5): all of it, its header through the first empty line, what follows that, or the
@@ -94,7 +112,7 @@ pub fn section(alloc: Global, text: &[u8], ask: &SectionAsk) -> Result<Text, NoM
         Section::Whole => Text::of(alloc, part(text, ask.part)),
         Section::Header => Text::of(alloc, part(before(text, header_len(text)), ask.part)),
         Section::Text => Text::of(alloc, part(after(text, header_len(text)), ask.part)),
-        Section::Fields { names } => fields_part(alloc, text, true, names, ask.part),
-        Section::NotFields { names } => fields_part(alloc, text, false, names, ask.part),
+        Section::Fields { names } => fields(alloc, text, true, names, ask.part),
+        Section::NotFields { names } => fields(alloc, text, false, names, ask.part),
     }
 }

@@ -1,11 +1,11 @@
 use Rattle.std.proofs.Common.{◌≡◌, ◌++◌, length}
 use Rattle.mail_sections.specs.Fields.{is_wanted}
-use Rattle.mail_sections.specs.Sections.{fields_where}
+use Rattle.mail_sections.specs.Sections.{fields_where, part_of}
 use Rattle.mail_sections.proofs.asked.fields.Given as goal
 
--- what is told, and what the rest gives, is all of it
+-- what is told, and what is asked of the rest, is all that is asked
 abbrev pub invariant-loop-count : goal.invariant-loop-count
-invariant-loop-count l = fields_where (is_wanted l.among l.names) l.text ≡ l.told ++ fields_where (is_wanted l.among l.names) l.rest
+invariant-loop-count l = part_of l.fn.asked (fields_where (is_wanted l.among l.names) l.text) ≡ l.told ++ part_of l.left (fields_where (is_wanted l.among l.names) l.rest)
 
 abbrev pub decreases-loop-count : goal.decreases-loop-count
 decreases-loop-count l = length l.rest
