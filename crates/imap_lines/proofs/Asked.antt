@@ -4,8 +4,9 @@ use Rattle.std.proofs.lemmas.List.{append_assoc, append-nil}
 use Rattle.std.proofs.lemmas.Option.{same_Some}
 use Rattle.imap_lines.specs.Asks.{field_in, tail_in}
 use Rattle.imap_lines.specs.Fetch.{begins_in, body_of, section_of, nothing_asked, with_ask, wanting, begun, with_name, with_fields, with_token, with_tokens, is_behind, whole_asks, asks_in}
-use Rattle.imap_lines.specs.Attributes.{Spaced, SpellsField, SpellsAttribute}
-use Rattle.imap_lines.specs.Tokens.{string_of}
+use Rattle.imap_tokens.specs.Spelling.{Spaced}
+use Rattle.imap_lines.specs.Attributes.{SpellsField, SpellsAttribute}
+use Rattle.imap_tokens.specs.Tokens.{string_of}
 use Rattle.imap_lines.specs.declared.asks.FetchAsk.{FetchAsk}
 use Rattle.imap_lines.specs.declared.fetch.Kind.{Kind}
 use Rattle.imap_lines.specs.declared.fetch.Attributes.{Attributes}
@@ -13,8 +14,8 @@ use Rattle.imap_lines.specs.declared.fetch.Begins.{Begins}
 use Rattle.imap_lines.specs.declared.fetch.Begins.TheVariants.{Whole as WholeAsk, Fields as FieldsAsk}
 use Rattle.imap_lines.specs.declared.fetch.Wanted.{Wanted}
 use Rattle.imap_lines.specs.declared.fetch.Wanted.TheVariants.{Attribute, Behind, Gap, Opening, FieldName, BehindName, Tail}
-use Rattle.imap_lines.specs.declared.tokens.Token.{Token}
-use Rattle.imap_lines.specs.declared.tokens.Token.TheVariants.{Space, Open, Close, Word, Quoted, Literal}
+use Rattle.imap_tokens.specs.declared.tokens.Token.{Token}
+use Rattle.imap_tokens.specs.declared.tokens.Token.TheVariants.{Space, Open, Close, Word, Quoted, Literal}
 
 -- behind an attribute nothing follows, or a space and more attributes
 abbrev pub Behinds : List FetchAsk → List Token → List FetchAsk → Type 0

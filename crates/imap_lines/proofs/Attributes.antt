@@ -3,8 +3,9 @@ use Rattle.std.proofs.Common.{◌≡◌, ℕ, List, [], ◌∷◌, ◌++◌, Opt
 use Rattle.std.proofs.lemmas.List.{append_assoc, append-nil}
 use Rattle.imap_lines.specs.Asks.{field_in, tail_in}
 use Rattle.imap_lines.specs.Fetch.{begins_in, body_of, section_of, nothing_asked, begun, with_name, with_fields, with_tokens, whole_asks, asks_in}
-use Rattle.imap_lines.specs.Attributes.{Spaced, SpellsField, SpellsAttribute}
-use Rattle.imap_lines.specs.Tokens.{string_of}
+use Rattle.imap_tokens.specs.Spelling.{Spaced}
+use Rattle.imap_lines.specs.Attributes.{SpellsField, SpellsAttribute}
+use Rattle.imap_tokens.specs.Tokens.{string_of}
 use Rattle.imap_lines.specs.declared.asks.FetchAsk.{FetchAsk}
 use Rattle.imap_lines.specs.declared.fetch.Kind.{Kind}
 use Rattle.imap_lines.specs.declared.fetch.Attributes.{Attributes}
@@ -12,8 +13,8 @@ use Rattle.imap_lines.specs.declared.fetch.Begins.{Begins}
 use Rattle.imap_lines.specs.declared.fetch.Begins.TheVariants.{Whole as WholeAsk, Fields as FieldsAsk}
 use Rattle.imap_lines.specs.declared.fetch.Wanted.{Wanted}
 use Rattle.imap_lines.specs.declared.fetch.Wanted.TheVariants.{Attribute, Behind, FieldName, BehindName, Tail}
-use Rattle.imap_lines.specs.declared.tokens.Token.{Token}
-use Rattle.imap_lines.specs.declared.tokens.Token.TheVariants.{Space, Open, Close, Word}
+use Rattle.imap_tokens.specs.declared.tokens.Token.{Token}
+use Rattle.imap_tokens.specs.declared.tokens.Token.TheVariants.{Space, Open, Close, Word}
 
 -- attributes so far, and what is wanted next
 abbrev pub state : List FetchAsk → Wanted → Kind → List (List ℕ) → Attributes

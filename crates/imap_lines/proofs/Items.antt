@@ -5,10 +5,10 @@ use Rattle.std.proofs.lemmas.Bool.{eqb-true}
 use Rattle.std.proofs.lemmas.Option.{same_Some}
 use Rattle.undo_base.specs.declared.asks.StatusAsk.{StatusAsk}
 use Rattle.imap_lines.specs.Asks.{status_in, statuses_from}
-use Rattle.imap_lines.specs.Attributes.{Spaced}
+use Rattle.imap_tokens.specs.Spelling.{Spaced}
 use Rattle.imap_lines.specs.Lists.{SpellsItem, SpellsItems}
-use Rattle.imap_lines.specs.declared.tokens.Token.{Token}
-use Rattle.imap_lines.specs.declared.tokens.Token.TheVariants.{Space, Open, Close, Word, Quoted, Literal}
+use Rattle.imap_tokens.specs.declared.tokens.Token.{Token}
+use Rattle.imap_tokens.specs.declared.tokens.Token.TheVariants.{Space, Open, Close, Word, Quoted, Literal}
 
 -- an item is read
 one_read : (asks : List StatusAsk) (word : List ℕ) (ask : StatusAsk) (tokens : List Token) → status_in word ≡ Some ask

@@ -1,6 +1,4 @@
-pub mod Lining
 pub mod Tagged
-pub mod Commas
 pub mod WrittenTokens
 pub mod WrittenHeads
 pub mod WrittenStrings
@@ -11,9 +9,6 @@ pub mod WrittenDates
 pub mod WrittenCommands
 pub mod WrittenRows
 pub mod WrittenStreams
-pub mod Spelling
-pub mod Spelt
 pub mod Attributes
 pub mod Asked
 pub mod Items
-pub mod Flagged

@@ -12,8 +12,8 @@ use Rattle.civil_dates.specs.Days.{IsDay, day_from_month, day_from_year, civil_d
 use Rattle.civil_dates.specs.Months.{month_name, month_of}
 use Rattle.civil_dates.specs.Dates.{two_places, imap_date_of, imap_date}
 use Rattle.imap_stream.specs.Marks.{is_digit}
-use Rattle.imap_lines.specs.Dates.{two_digits, two_below, day_number, year_number, day_of, second_of, is_real, date_in}
-use Rattle.imap_lines.specs.Tokens.{is_quoted_byte}
+use Rattle.imap_tokens.specs.Dates.{two_digits, two_below, day_number, year_number, day_of, second_of, is_real, date_in}
+use Rattle.imap_tokens.specs.Tokens.{is_quoted_byte}
 use Rattle.imap_lines.proofs.WrittenTokens.{and_true, apart}
 use Rattle.imap_lines.proofs.WrittenFlags.{IsDated}
 

@@ -10,7 +10,7 @@ use Rattle.undo_base.specs.declared.asks.Section.TheVariants.{Whole, Header, Tex
 use Rattle.imap_stream.specs.declared.picks.SetRange.{SetRange}
 use Rattle.imap_lines.specs.Asks.{is_field, numbers_in, closed_part_in, part_in}
 use Rattle.imap_lines.specs.Fetch.{begins_in, body_of, begun, with_fields, with_tokens, whole_asks, asks_in, ends_closed, fetch_in}
-use Rattle.imap_lines.specs.Sets.{cut_at}
+use Rattle.imap_tokens.specs.Sets.{cut_at}
 use Rattle.imap_lines.specs.What.{what_in}
 use Rattle.imap_lines.specs.PlainCommands.{spaced, string_token, part_text, body_word, whole_tokens, field_tokens, section_tokens, ask_tokens, asks_tokens, fetch_tokens, IsSet, IsPart, AreFields, IsSection, IsAsk, AreAsks}
 use Rattle.imap_lines.specs.declared.asks.FetchAsk.{FetchAsk}
@@ -21,8 +21,8 @@ use Rattle.imap_lines.specs.declared.fetch.Kind.{Kind}
 use Rattle.imap_lines.specs.declared.fetch.Attributes.{Attributes}
 use Rattle.imap_lines.specs.declared.fetch.Begins.TheVariants.{Whole as WholeAsk}
 use Rattle.imap_lines.specs.declared.verbs.Verb.TheVariants as verb
-use Rattle.imap_lines.specs.declared.tokens.Token.{Token}
-use Rattle.imap_lines.specs.declared.tokens.Token.TheVariants.{Space, Open, Close, Word}
+use Rattle.imap_tokens.specs.declared.tokens.Token.{Token}
+use Rattle.imap_tokens.specs.declared.tokens.Token.TheVariants.{Space, Open, Close, Word}
 use Rattle.imap_lines.specs.declared.command.ImapWhat.TheVariants as what
 use Rattle.imap_lines.proofs.WrittenTokens.{plain_byte, apart, IsWhole, AreWhole, EndsWell, is_word_token, starts_word}
 use Rattle.imap_lines.proofs.WrittenHeads.{IsRead, read_by}

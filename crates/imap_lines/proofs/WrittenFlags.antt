@@ -10,16 +10,16 @@ use Rattle.undo_base.specs.declared.asks.How.TheVariants.{Replace, Add, Take}
 use Rattle.undo_base.specs.declared.keys.Flags.{Flags}
 use Rattle.imap_lines.specs.Append.{spaced_flags, first_date, only_literal, message_in, append_in}
 use Rattle.imap_lines.specs.Arguments.{behind_space}
-use Rattle.imap_lines.specs.Dates.{date_in}
-use Rattle.imap_lines.specs.Flags.{flags_in}
+use Rattle.imap_tokens.specs.Dates.{date_in}
+use Rattle.imap_tokens.specs.Flags.{flags_in}
 use Rattle.imap_lines.specs.Messages.{how_in, listed_flags, change_in}
-use Rattle.imap_lines.specs.Sets.{set_in}
-use Rattle.imap_lines.specs.Tokens.{is_quoted_byte}
+use Rattle.imap_tokens.specs.Sets.{set_in}
+use Rattle.imap_tokens.specs.Tokens.{is_quoted_byte}
 use Rattle.imap_lines.specs.What.{what_in}
 use Rattle.imap_lines.specs.PlainCommands.{spaced, string_token, flag_token, flag_tokens, date_tokens, how_word, set_text, IsSet}
 use Rattle.imap_lines.specs.declared.verbs.Verb.TheVariants as verb
-use Rattle.imap_lines.specs.declared.tokens.Token.{Token}
-use Rattle.imap_lines.specs.declared.tokens.Token.TheVariants.{Space, Open, Close, Word, Literal}
+use Rattle.imap_tokens.specs.declared.tokens.Token.{Token}
+use Rattle.imap_tokens.specs.declared.tokens.Token.TheVariants.{Space, Open, Close, Word, Literal}
 use Rattle.imap_lines.specs.declared.command.ImapWhat.TheVariants as what
 use Rattle.imap_lines.proofs.WrittenTokens.{plain_byte, IsWhole, AreWhole, EndsWell, is_word_token}
 use Rattle.imap_lines.proofs.WrittenHeads.{IsRead, read_by}

@@ -5,16 +5,16 @@ use Rattle.std.specs.List.{list_all, before_first, after_first, position_or_len}
 use Rattle.std.proofs.lemmas.Bool.Decides.{Decides-ltb}
 use Rattle.std.proofs.lemmas.List.{append_assoc, length-append, take_at, drop_at}
 use Rattle.imap_stream.specs.Marks.{is_tag, is_tag_byte, tag_of, before_space}
-use Rattle.imap_lines.specs.Parts.{is_space, from_space}
-use Rattle.imap_lines.specs.Words.{is_word}
+use Rattle.imap_tokens.specs.Parts.{is_space, from_space}
+use Rattle.imap_tokens.specs.Words.{is_word}
 use Rattle.imap_lines.specs.Verbs.{verb_in, message_verb}
 use Rattle.imap_lines.specs.What.{what_in}
 use Rattle.imap_lines.specs.Command.{heading_of, takes_all, spoken, if_asked, if_headed, tagged, if_tagged, of_lines, command_of}
 use Rattle.imap_lines.specs.Writing.{Written, written}
 use Rattle.imap_lines.specs.PlainCommands.{plain_of, what_tokens, write}
 use Rattle.imap_lines.specs.declared.verbs.Verb.{Verb}
-use Rattle.imap_lines.specs.declared.tokens.Token.{Token}
-use Rattle.imap_lines.specs.declared.tokens.Token.TheVariants.{Space, Open, Close, Word, Quoted, Literal}
+use Rattle.imap_tokens.specs.declared.tokens.Token.{Token}
+use Rattle.imap_tokens.specs.declared.tokens.Token.TheVariants.{Space, Open, Close, Word, Quoted, Literal}
 use Rattle.imap_lines.specs.declared.command.ImapWhat.{ImapWhat}
 use Rattle.imap_lines.specs.declared.command.ImapCommand.{ImapCommand}
 use Rattle.imap_lines.proofs.WrittenTokens.{plain_byte, and_true, not_false, or_false, AreWhole, EndsWell, starts_word, word_byte, not_space, is_space_token, written_read, untrimmed}

@@ -11,8 +11,8 @@ use Rattle.std.proofs.lemmas.List.Folds.{list_all-append}
 use Rattle.std.proofs.lemmas.Str.Parse.{IsDigitsTest, FoldsDigits, IsNumeralModel, numerals_by_fold}
 use Rattle.imap_stream.specs.Marks.{is_digit, all_digits, value_after, value_of}
 use Rattle.imap_stream.specs.declared.picks.SetRange.{SetRange}
-use Rattle.imap_lines.specs.Words.{is_word, number_in, count_in}
-use Rattle.imap_lines.specs.Sets.{cut_at, end_in, range_by, range_in, between_commas, ranges_in, set_in}
+use Rattle.imap_tokens.specs.Words.{is_word, number_in, count_in}
+use Rattle.imap_tokens.specs.Sets.{cut_at, end_in, range_by, range_in, between_commas, ranges_in, set_in}
 use Rattle.imap_lines.specs.PlainCommands.{end_text, range_text, set_text, IsEnd, IsSet}
 use Rattle.imap_lines.proofs.WrittenTokens.{plain_byte, and_true, apart, not_false}
 

@@ -12,11 +12,11 @@ use Rattle.imap_stream.specs.Streams.{Part, Entry, Line as OpenLine, Rest, marke
 use Rattle.imap_stream.specs.declared.next.Next.{Next}
 use Rattle.imap_stream.specs.declared.next.Next.TheVariants.{Ask, Command}
 use Rattle.imap_stream.specs.declared.next.RawCommand.{RawCommand}
-use Rattle.imap_lines.specs.Tokens.{is_quoted_byte}
+use Rattle.imap_tokens.specs.Tokens.{is_quoted_byte}
 use Rattle.imap_lines.specs.Writing.{Written, raw_of, escaped_text, with_token, written, sent_lines, sent, octets_of, IsSendable, given_of}
 use Rattle.imap_lines.specs.PlainCommands.{plain_of, what_tokens, write}
-use Rattle.imap_lines.specs.declared.tokens.Token.{Token}
-use Rattle.imap_lines.specs.declared.tokens.Token.TheVariants.{Space, Open, Close, Word, Quoted, Literal}
+use Rattle.imap_tokens.specs.declared.tokens.Token.{Token}
+use Rattle.imap_tokens.specs.declared.tokens.Token.TheVariants.{Space, Open, Close, Word, Quoted, Literal}
 use Rattle.imap_lines.proofs.WrittenTokens.{plain_byte, and_true, apart, not_false, or_false, IsWhole, AreWhole, word_byte}
 use Rattle.imap_lines.specs.declared.command.ImapCommand.{ImapCommand}
 use Rattle.imap_lines.proofs.WrittenHeads.{IsRead, command_whole}

@@ -8,8 +8,8 @@ use Rattle.undo_base.specs.declared.asks.StatusAsk.{StatusAsk}
 use Rattle.undo_base.specs.declared.asks.StatusAsk.TheVariants.{Messages, Recent, UidNext, UidValidity, Unseen}
 use Rattle.imap_lines.specs.Arguments.{behind_space, next_string, last_by, last_string, two_strings, first_pattern, string_and_pattern, in_list, string_and_list}
 use Rattle.imap_lines.specs.Asks.{status_in as status_in_word, statuses_from}
-use Rattle.imap_lines.specs.Words.{is_atom, is_atom_byte, is_pattern_byte}
-use Rattle.imap_lines.specs.Tokens.{is_quoted_byte, string_of, pattern_of}
+use Rattle.imap_tokens.specs.Words.{is_atom, is_atom_byte, is_pattern_byte}
+use Rattle.imap_tokens.specs.Tokens.{is_quoted_byte, string_of, pattern_of}
 use Rattle.imap_lines.specs.What.{bare, with_mailbox, what_in}
 use Rattle.imap_lines.specs.PlainCommands.{spaced, listed, string_token, pattern_token, status_word}
 use Rattle.imap_lines.specs.declared.verbs.BareVerb.{BareVerb}
@@ -17,8 +17,8 @@ use Rattle.imap_lines.specs.declared.verbs.BareVerb.TheVariants as bare_verb
 use Rattle.imap_lines.specs.declared.verbs.MailboxVerb.{MailboxVerb}
 use Rattle.imap_lines.specs.declared.verbs.MailboxVerb.TheVariants as mailbox_verb
 use Rattle.imap_lines.specs.declared.verbs.Verb.TheVariants as verb
-use Rattle.imap_lines.specs.declared.tokens.Token.{Token}
-use Rattle.imap_lines.specs.declared.tokens.Token.TheVariants.{Space, Open, Close, Word, Quoted, Literal}
+use Rattle.imap_tokens.specs.declared.tokens.Token.{Token}
+use Rattle.imap_tokens.specs.declared.tokens.Token.TheVariants.{Space, Open, Close, Word, Quoted, Literal}
 use Rattle.imap_lines.specs.declared.command.ImapWhat.TheVariants as what
 use Rattle.imap_lines.proofs.WrittenTokens.{plain_byte, and_true, not_false, or_false, IsWhole, AreWhole, EndsWell, is_word_token, is_space_token}
 use Rattle.imap_lines.proofs.WrittenHeads.{IsRead, read_by}

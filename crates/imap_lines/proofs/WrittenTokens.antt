@@ -6,13 +6,13 @@ use Rattle.std.specs.List.{list_all, prefix_len, suffix_len}
 use Rattle.std.proofs.lemmas.Bool.{leb-true}
 use Rattle.std.proofs.lemmas.Bool.Decides.{Decides-eqb}
 use Rattle.std.proofs.lemmas.List.{append_assoc, append-nil, take_all, reverse-append}
-use Rattle.imap_lines.specs.Parts.{trimmed, line_before}
-use Rattle.imap_lines.specs.Parts as parts
-use Rattle.imap_lines.specs.Tokens.{is_word_byte, is_quoted_byte, tokens_from, tokens_in, with_first, tokens_of}
+use Rattle.imap_tokens.specs.Parts.{trimmed, line_before}
+use Rattle.imap_tokens.specs.Parts as parts
+use Rattle.imap_tokens.specs.Tokens.{is_word_byte, is_quoted_byte, tokens_from, tokens_in, with_first, tokens_of}
 use Rattle.imap_lines.specs.Writing.{Written, escaped_text, with_token, written}
-use Rattle.imap_lines.specs.declared.tokens.Token.{Token}
-use Rattle.imap_lines.specs.declared.tokens.Token.TheVariants.{Space, Open, Close, Word, Quoted, Literal}
-use Rattle.imap_lines.specs.declared.tokens.Part.TheVariants.{Between, Word as PartWord, Quoted as PartQuoted}
+use Rattle.imap_tokens.specs.declared.tokens.Token.{Token}
+use Rattle.imap_tokens.specs.declared.tokens.Token.TheVariants.{Space, Open, Close, Word, Quoted, Literal}
+use Rattle.imap_tokens.specs.declared.tokens.Part.TheVariants.{Between, Word as PartWord, Quoted as PartQuoted}
 
 pub and_true : (a b : Bool) → (a && b) ≡ true → (a ≡ true) × (b ≡ true)
 and_true true b e = (refl, e)

@@ -2,10 +2,10 @@
 use Rattle.std.specs.Prelude.{ℕ, ◌==◌, List, [], ◌∷◌, length, Option, None, Some, option_map, option_and_then, if◌then◌else◌}
 use Rattle.undo_base.specs.declared.keys.Flags.{Flags}
 use Rattle.imap_lines.specs.Arguments.{behind_space, next_string}
-use Rattle.imap_lines.specs.Dates.{date_in}
-use Rattle.imap_lines.specs.Flags.{no_flags, flags_in}
-use Rattle.imap_lines.specs.Tokens.{is_open, quoted_of, literal_of}
-use Rattle.imap_lines.specs.declared.tokens.Token.{Token}
+use Rattle.imap_tokens.specs.Dates.{date_in}
+use Rattle.imap_tokens.specs.Flags.{no_flags, flags_in}
+use Rattle.imap_tokens.specs.Tokens.{is_open, quoted_of, literal_of}
+use Rattle.imap_tokens.specs.declared.tokens.Token.{Token}
 use Rattle.imap_lines.specs.declared.command.ImapWhat.{ImapWhat}
 use Rattle.imap_lines.specs.declared.command.ImapWhat.TheVariants.{Append}
 

@@ -1,7 +1,7 @@
 -- Arguments, each behind a space.
 use Rattle.std.specs.Prelude.{ℕ, ◌==◌, List, [], ◌∷◌, length, Option, None, Some, option_map, option_and_then, if◌then◌else◌}
-use Rattle.imap_lines.specs.Tokens.{is_space, is_open, word_of, string_of, pattern_of}
-use Rattle.imap_lines.specs.declared.tokens.Token.{Token}
+use Rattle.imap_tokens.specs.Tokens.{is_space, is_open, word_of, string_of, pattern_of}
+use Rattle.imap_tokens.specs.declared.tokens.Token.{Token}
 
 -- what follows a space
 abbrev pub behind_space : List Token → Option (List Token)

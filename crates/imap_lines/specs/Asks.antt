@@ -3,10 +3,10 @@ use Rattle.std.specs.Prelude.{codes, ℕ, Bool, true, false, not, ◌-◌, ◌==
 use Rattle.std.specs.List.{list_all}
 use Rattle.undo_base.specs.declared.asks.StatusAsk.{StatusAsk}
 use Rattle.undo_base.specs.declared.asks.StatusAsk.TheVariants.{Messages, Recent, UidNext, UidValidity, Unseen}
-use Rattle.imap_lines.specs.Words.{is_word, number_in, count_in}
-use Rattle.imap_lines.specs.Sets.{cut_at}
-use Rattle.imap_lines.specs.Tokens.{is_space, is_close, word_of}
-use Rattle.imap_lines.specs.declared.tokens.Token.{Token}
+use Rattle.imap_tokens.specs.Words.{is_word, number_in, count_in}
+use Rattle.imap_tokens.specs.Sets.{cut_at}
+use Rattle.imap_tokens.specs.Tokens.{is_space, is_close, word_of}
+use Rattle.imap_tokens.specs.declared.tokens.Token.{Token}
 
 abbrev pub status_in : List ℕ → Option StatusAsk
 status_in word =

@@ -5,15 +5,10 @@ use Rattle.imap_lines.specs.declared.fetch.Kind.{Kind}
 use Rattle.imap_lines.specs.declared.fetch.Begins.TheVariants.{Whole as WholeAsk, Fields as FieldsAsk}
 use Rattle.imap_lines.specs.Asks.{field_in, tail_in}
 use Rattle.imap_lines.specs.Fetch.{begins_in, body_of, section_of}
-use Rattle.imap_lines.specs.Tokens.{string_of}
-use Rattle.imap_lines.specs.declared.tokens.Token.{Token}
-use Rattle.imap_lines.specs.declared.tokens.Token.TheVariants.{Space, Open, Close, Word}
-
--- one part or more, with a space between each two: part *(SP part)
-abbrev pub Spaced : {X : Type 0} → (X → List Token → Type 0) → List X → List Token → Type 0
-Spaced P [] tokens = ⊥
-Spaced P (x ∷ []) tokens = P x tokens
-Spaced P (x ∷ y ∷ xs) tokens = (first : List Token) × (rest : List Token) × (tokens ≡ first ++ Space ∷ rest) × P x first × Spaced P (y ∷ xs) rest
+use Rattle.imap_tokens.specs.Spelling.{Spaced}
+use Rattle.imap_tokens.specs.Tokens.{string_of}
+use Rattle.imap_tokens.specs.declared.tokens.Token.{Token}
+use Rattle.imap_tokens.specs.declared.tokens.Token.TheVariants.{Space, Open, Close, Word}
 
 -- header-fld-name: an astring that is a field's name
 pub record SpellsField (name : List ℕ) (tokens : List Token) : Type 0 where

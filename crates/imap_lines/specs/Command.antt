@@ -3,11 +3,11 @@ use Rattle.std.specs.Prelude.{◌≡◌, codes, ℕ, Bool, true, false, List, []
 use Rattle.std.specs.List.{before_first, after_first}
 use Rattle.imap_stream.specs.Marks.{tag_of}
 use Rattle.imap_stream.specs.declared.next.RawCommand.{RawCommand}
-use Rattle.imap_lines.specs.Parts.{is_space, line_before, from_space}
-use Rattle.imap_lines.specs.Tokens.{tokens_with}
+use Rattle.imap_tokens.specs.Parts.{is_space, line_before, from_space}
+use Rattle.imap_tokens.specs.Tokens.{tokens_with}
 use Rattle.imap_lines.specs.Verbs.{verb_in, message_verb}
 use Rattle.imap_lines.specs.What.{what_in}
-use Rattle.imap_lines.specs.Words.{is_word}
+use Rattle.imap_tokens.specs.Words.{is_word}
 use Rattle.imap_lines.specs.declared.verbs.Verb.{Verb}
 use Rattle.imap_lines.specs.declared.verbs.Verb.TheVariants as verb
 use Rattle.imap_lines.specs.declared.command.ImapWhat.{ImapWhat}

@@ -10,11 +10,11 @@ use Rattle.imap_lines.specs.declared.fetch.Wanted.TheVariants.{Attribute, Behind
 use Rattle.imap_lines.specs.declared.fetch.Attributes.{Attributes}
 use Rattle.imap_lines.specs.declared.fetch.Begins.{Begins}
 use Rattle.imap_lines.specs.declared.fetch.Begins.TheVariants.{Whole as WholeAsk, Fields as FieldsAsk}
-use Rattle.imap_lines.specs.Words.{is_word, after_word}
-use Rattle.imap_lines.specs.Sets.{cut_at}
+use Rattle.imap_tokens.specs.Words.{is_word, after_word}
+use Rattle.imap_tokens.specs.Sets.{cut_at}
 use Rattle.imap_lines.specs.Asks.{field_in, part_in, tail_in}
-use Rattle.imap_lines.specs.Tokens.{is_space, is_open, is_close, word_of, string_of}
-use Rattle.imap_lines.specs.declared.tokens.Token.{Token}
+use Rattle.imap_tokens.specs.Tokens.{is_space, is_open, is_close, word_of, string_of}
+use Rattle.imap_tokens.specs.declared.tokens.Token.{Token}
 
 abbrev pub plain_in : List ℕ → Option FetchAsk
 plain_in word =

@@ -1,11 +1,4 @@
-pub mod Words
-pub mod Parts
-pub mod Tokens
-pub mod Spelling
 pub mod Arguments
-pub mod Sets
-pub mod Flags
-pub mod Dates
 pub mod Asks
 pub mod Fetch
 pub mod Attributes

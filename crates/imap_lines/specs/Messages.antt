@@ -5,11 +5,11 @@ use Rattle.undo_base.specs.declared.asks.How.TheVariants.{Replace, Add, Take}
 use Rattle.undo_base.specs.declared.keys.Flags.{Flags}
 use Rattle.imap_lines.specs.Arguments.{behind_space, next_word, last_string}
 use Rattle.imap_lines.specs.Fetch.{fetch_in}
-use Rattle.imap_lines.specs.Flags.{no_flags, flags_in, bare_from}
-use Rattle.imap_lines.specs.Sets.{set_in}
-use Rattle.imap_lines.specs.Tokens.{is_open}
-use Rattle.imap_lines.specs.Words.{is_word}
-use Rattle.imap_lines.specs.declared.tokens.Token.{Token}
+use Rattle.imap_tokens.specs.Flags.{no_flags, flags_in, bare_from}
+use Rattle.imap_tokens.specs.Sets.{set_in}
+use Rattle.imap_tokens.specs.Tokens.{is_open}
+use Rattle.imap_tokens.specs.Words.{is_word}
+use Rattle.imap_tokens.specs.declared.tokens.Token.{Token}
 use Rattle.imap_lines.specs.declared.command.ImapWhat.{ImapWhat}
 use Rattle.imap_lines.specs.declared.command.ImapWhat.TheVariants.{Fetch, Store, Copy}
 

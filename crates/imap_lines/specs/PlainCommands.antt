@@ -13,10 +13,10 @@ use Rattle.undo_base.specs.declared.keys.Flags.{Flags}
 use Rattle.imap_stream.specs.declared.next.RawCommand.{RawCommand}
 use Rattle.imap_stream.specs.declared.picks.SetRange.{SetRange}
 use Rattle.imap_lines.specs.Asks.{is_field}
-use Rattle.imap_lines.specs.Words.{is_atom, is_pattern_byte}
-use Rattle.imap_lines.specs.Tokens.{is_quoted_byte}
-use Rattle.imap_lines.specs.declared.tokens.Token.{Token}
-use Rattle.imap_lines.specs.declared.tokens.Token.TheVariants.{Space, Open, Close, Word, Quoted, Literal}
+use Rattle.imap_tokens.specs.Words.{is_atom, is_pattern_byte}
+use Rattle.imap_tokens.specs.Tokens.{is_quoted_byte}
+use Rattle.imap_tokens.specs.declared.tokens.Token.{Token}
+use Rattle.imap_tokens.specs.declared.tokens.Token.TheVariants.{Space, Open, Close, Word, Quoted, Literal}
 use Rattle.imap_lines.specs.declared.asks.FetchAsk.{FetchAsk}
 use Rattle.imap_lines.specs.declared.asks.FetchAsk.TheVariants as ask
 use Rattle.imap_lines.specs.declared.command.ImapWhat.{ImapWhat}

@@ -1,7 +1,7 @@
 -- The words of commands (RFC 3501, 9: command).
 use Rattle.std.specs.Prelude.{codes, ℕ, List, [], ◌∷◌, Option, None, Some, option_map, if◌then◌else◌}
 use Rattle.std.specs.Option.{option_or}
-use Rattle.imap_lines.specs.Words.{is_word}
+use Rattle.imap_tokens.specs.Words.{is_word}
 use Rattle.imap_lines.specs.declared.verbs.BareVerb.{BareVerb}
 use Rattle.imap_lines.specs.declared.verbs.BareVerb.TheVariants.{Capability, Noop, Logout, Check, Close, Expunge}
 use Rattle.imap_lines.specs.declared.verbs.MailboxVerb.{MailboxVerb}

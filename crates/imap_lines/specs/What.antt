@@ -4,7 +4,7 @@ use Rattle.imap_lines.specs.Append.{append_in}
 use Rattle.imap_lines.specs.Arguments.{last_string, two_strings, string_and_pattern, string_and_list}
 use Rattle.imap_lines.specs.Asks.{statuses_from}
 use Rattle.imap_lines.specs.Messages.{fetch_of, store_of, copy_of}
-use Rattle.imap_lines.specs.declared.tokens.Token.{Token}
+use Rattle.imap_tokens.specs.declared.tokens.Token.{Token}
 use Rattle.imap_lines.specs.declared.verbs.BareVerb.{BareVerb}
 use Rattle.imap_lines.specs.declared.verbs.BareVerb.TheVariants as bare_verb
 use Rattle.imap_lines.specs.declared.verbs.MailboxVerb.{MailboxVerb}

@@ -6,8 +6,8 @@ use Rattle.imap_stream.specs.Streams.{marked_line, ended_line}
 use Rattle.imap_stream.specs.declared.next.Next.{Next}
 use Rattle.imap_stream.specs.declared.next.Next.TheVariants.{Ask, Command}
 use Rattle.imap_stream.specs.declared.next.RawCommand.{RawCommand}
-use Rattle.imap_lines.specs.declared.tokens.Token.{Token}
-use Rattle.imap_lines.specs.declared.tokens.Token.TheVariants.{Space, Open, Close, Word, Quoted, Literal}
+use Rattle.imap_tokens.specs.declared.tokens.Token.{Token}
+use Rattle.imap_tokens.specs.declared.tokens.Token.TheVariants.{Space, Open, Close, Word, Quoted, Literal}
 
 -- What is written of a command: a line, those that follow it, and the literals, each behind the line at its place.
 pub record Written : Type 0 where

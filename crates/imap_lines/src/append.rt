@@ -5,9 +5,7 @@ ghost use Rattle.imap_lines.specs.Append as spec;
 
 use crate::ImapWhat;
 use crate::arguments::{behind_space, next_string};
-use crate::dates::read_date;
-use crate::flags::{no_flag, read_flags};
-use crate::tokens::{Token, is_open_token, literal_in, quoted_in};
+use imap_tokens::{Token, is_open_token, literal_in, no_flag, quoted_in, read_date, read_flags};
 use std::alloc::Global;
 use undo_base::{Flags, NoMemory, Text};
 

@@ -2,7 +2,7 @@
 ghost use Rattle.std.specs.Prelude.{◌≡◌, option_map};
 ghost use Rattle.imap_lines.specs.Arguments as spec;
 
-use crate::tokens::{Token, is_open_token, is_space_token, pattern_in, string_in, word_in};
+use imap_tokens::{Token, is_open_token, is_space_token, pattern_in, string_in, word_in};
 
 /// What follows a space.
 pub fn behind_space(tokens: &[Token]) -> Option<&[Token]>

@@ -4,9 +4,10 @@ ghost use Rattle.std.specs.List.{list_all};
 ghost use Rattle.imap_lines.specs.Asks.{status_in, statuses_from, is_field_byte, is_field, part_in, tail_in};
 ghost use Rattle.imap_lines.specs.Asks as spec;
 
-use crate::sets::find_byte;
-use crate::tokens::{Token, is_close_token, is_space_token, word_in};
-use crate::words::{is_same_word, read_count, read_number};
+use imap_tokens::{
+    Token, find_byte, is_close_token, is_same_word, is_space_token, read_count, read_number,
+    word_in,
+};
 use std::alloc::Global;
 use undo_base::{Name, NoMemory, SectionAsk, Sequence, StatusAsk, StatusAsks};
 

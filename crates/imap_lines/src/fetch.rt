@@ -1,12 +1,13 @@
 //! The attributes of a FETCH, as they are written.
 ghost use Rattle.std.specs.Prelude.{◌≡◌, [], ◌∷◌, IfOk, OnOk, if◌then◌else◌};
-ghost use Rattle.imap_lines.specs.Tokens.{is_space};
+ghost use Rattle.imap_tokens.specs.Tokens.{is_space};
 ghost use Rattle.imap_lines.specs.Fetch as spec;
 
 use crate::asks::{FetchAsk, FetchAsks, field_name, read_part, read_tail};
-use crate::sets::find_byte;
-use crate::tokens::{Token, is_close_token, is_open_token, is_space_token, string_in, word_in};
-use crate::words::{behind_word, is_same_word};
+use imap_tokens::{
+    Token, behind_word, find_byte, is_close_token, is_open_token, is_same_word, is_space_token,
+    string_in, word_in,
+};
 use std::alloc::Global;
 use std::mem;
 use undo_base::{Names, NoMemory, Section, SectionAsk};

@@ -1,9 +1,8 @@
 //! The commands of a mail client (RFC 3501, section 6), read from its lines and literals.
 //!
-//! `reader` finds the tag and the word, and `what` reads the arguments of each. Arguments are read from `tokens`, and
-//! `words`, `sets`, `flags`, `dates`, `asks` and `fetch` read what stands in them: `arguments` reads those of most commands, `messages`
-//! those of FETCH, STORE and COPY, `append` those of APPEND. `command` has the commands, `verbs` their words, `parts` the parts of lines.
-//! `laws` and `round_trip` say what the definitions mean. The stream is cut by `imap_stream`.
+//! `reader` finds the tag and the word, and `what` reads the arguments of each: `arguments` reads those of most commands, `messages`
+//! those of FETCH, STORE and COPY, `append` those of APPEND; `asks` and `fetch` read what is asked for. `command` has the commands, `verbs` their words.
+//! `laws` and `round_trip` say what the definitions mean. The stream is cut by `imap_stream`, and `imap_tokens` reads what stands in arguments.
 //! What carries the crate: `read_command` gives the command that the grammar has, or the first refusal that holds.
 #![tactic(auto)]
 
@@ -11,19 +10,13 @@ mod append;
 mod arguments;
 mod asks;
 mod command;
-mod dates;
 mod fetch;
-mod flags;
 mod laws;
 mod messages;
-mod parts;
 mod reader;
 mod round_trip;
-mod sets;
-mod tokens;
 mod verbs;
 mod what;
-mod words;
 
 pub use asks::{FetchAsk, FetchAsks};
 pub use command::{ImapCommand, ImapRefused, ImapWhat};
@@ -31,7 +24,7 @@ pub use imap_stream::{
     BadLine, LineFault, Next, Nexts, PickRefused, Pieces, RawCommand, SetRange, SetText, cut_all,
     pick,
 };
-pub use laws::{attributes_are_spelled, flags_are_spelled, items_are_spelled, tokens_are_spelled};
+pub use imap_tokens::{Part, Token, Tokens, flags_are_spelled, tokens_are_spelled};
+pub use laws::{attributes_are_spelled, items_are_spelled};
 pub use reader::read_command;
 pub use round_trip::{cuts_what_is_sent, reads_what_is_written};
-pub use tokens::{Part, Token, Tokens};

@@ -5,10 +5,7 @@ ghost use Rattle.imap_lines.specs.Messages.{how_in, listed_flags, store_flags, c
 use crate::ImapWhat;
 use crate::arguments::{behind_space, last_string, next_word};
 use crate::fetch::read_fetch;
-use crate::flags::{read_bare_flags, read_flags};
-use crate::sets::read_set;
-use crate::tokens::{Token, is_open_token};
-use crate::words::is_same_word;
+use imap_tokens::{Token, is_open_token, is_same_word, read_bare_flags, read_flags, read_set};
 use std::alloc::Global;
 use undo_base::{Flags, How, NoMemory, Text};
 

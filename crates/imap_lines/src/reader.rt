@@ -3,13 +3,11 @@ ghost use Rattle.std.specs.Prelude.{◌≡◌, option_map, IfOk, Ok, Err};
 ghost use Rattle.imap_lines.specs.Command.{ReadsCommand, command_of, heading_of, uid_heading_of, spoken};
 ghost use Rattle.imap_lines.specs.Command as spec;
 
-use crate::parts::{at_space, before_space, behind_space, line_before};
-use crate::tokens::read_tokens;
 use crate::verbs::{Verb, message_verb, read_verb};
 use crate::what::read_what;
-use crate::words::is_same_word;
 use crate::{ImapCommand, ImapRefused, ImapWhat};
 use imap_stream::{RawCommand, read_tag};
+use imap_tokens::{at_space, before_space, behind_space, is_same_word, line_before, read_tokens};
 use std::alloc::Global;
 use undo_base::{Name, NoMemory, Text};
 

@@ -2,7 +2,7 @@
 ghost use Rattle.std.specs.Prelude.{◌≡◌, option_map};
 ghost use Rattle.imap_lines.specs.Verbs as spec;
 
-use crate::words::is_same_word;
+use imap_tokens::is_same_word;
 
 /// Commands without arguments.
 #[derive(Clone, Copy, PartialEq, Eq)]

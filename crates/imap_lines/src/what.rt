@@ -8,8 +8,8 @@ use crate::append::read_append;
 use crate::arguments::{last_string, string_and_list, string_and_pattern, two_strings};
 use crate::asks::read_statuses;
 use crate::messages::{read_copy, read_fetch_of, read_store};
-use crate::tokens::Token;
 use crate::verbs::{BareVerb, MailboxVerb, Verb};
+use imap_tokens::Token;
 use std::alloc::Global;
 use undo_base::{NoMemory, Text};
 

@@ -4,6 +4,7 @@ pub mod Joining
 pub mod LineMarks
 pub mod Lines
 pub mod OneWay
+pub mod Wanting
 pub mod Whole
 pub mod Readings
 pub mod Splitting

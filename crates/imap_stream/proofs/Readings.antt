@@ -210,7 +210,7 @@ takes_said (Bad line) old new some e = e
 takes_said NotYet old new some e = absurd (some refl)
 
 -- the bytes of a line, its CRLF, and what follows
-heard_line : (begun : Begun) (awaits : Awaits) (u : List ℕ) (place : ℕ) (h : Heard) → EndsHere u place
+pub heard_line : (begun : Begun) (awaits : Awaits) (u : List ℕ) (place : ℕ) (h : Heard) → EndsHere u place
     → heard (before begun awaits) (take place u ++ 13 ∷ 10 ∷ []) ≡ h → heard (before begun awaits) u ≡ heard h (drop (place + 2) u)
 heard_line begun awaits u place h ends e =
     let rest = drop (place + 2) u in

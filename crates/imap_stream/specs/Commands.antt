@@ -1,5 +1,5 @@
 -- Commands of a stream (RFC 3501, 2.2.1, 4.3 and 9): lines that end at CRLF, each but the last followed by the literal that it announces.
-use Rattle.std.specs.Prelude.{◌≡◌, ℕ, Bool, ◌+◌, ◌==◌, ◌&&◌, List, [], ◌∷◌, ◌++◌, length, take, nat_le, nat_lt, Option, None, Some, option_map, if◌then◌else◌}
+use Rattle.std.specs.Prelude.{◌≡◌, ◌≢◌, ◌⊎◌, ℕ, Bool, ◌+◌, ◌==◌, ◌&&◌, List, [], ◌∷◌, ◌++◌, length, take, nat_le, nat_lt, Option, None, Some, option_map, if◌then◌else◌}
 use Rattle.imap_stream.specs.Marks.{tag_of, mark_of}
 use Rattle.imap_stream.specs.declared.marks.Mark.{Mark}
 use Rattle.imap_stream.specs.declared.begun.Begun.{Begun}
@@ -146,6 +146,17 @@ TakesNext old (Command command) new = old ≡ saying (Command command ∷ []) ne
 TakesNext old (Ask n) new = old ≡ saying (Ask n ∷ []) new
 TakesNext old (Bad line) new = old ≡ saying (Bad line ∷ []) new
 TakesNext old NotYet new = (old.said ≡ []) × (new ≡ old)
+
+-- The end of a line that is too long is awaited, of a command that has a tag.
+abbrev pub KeepsTag : Awaits → Type 0
+KeepsTag Line = ⊥
+KeepsTag (Literal n) = ⊥
+KeepsTag (End None) = ⊥
+KeepsTag (End (Some tag)) = Unit {0}
+
+-- To take what comes next may want memory: something is said that was not taken, or a tag is to be kept.
+abbrev pub WantsMemory : Heard → Type 0
+WantsMemory h = (h.said ≢ []) ⊎ KeepsTag h.awaits
 
 -- what a stream gives: its commands, its literal marks and its bad lines, in order
 abbrev pub said_of : List ℕ → List Next

@@ -25,6 +25,15 @@ pub record IsSound (reader : Reader) (bytes : List ℕ) : Type 0 where
 abbrev pub seen : Reader → List ℕ → Heard
 seen reader bytes = heard (before reader.begun reader.awaits) (drop reader.given bytes)
 
+-- of the next line all was searched but its last byte
+abbrev pub IsSearched : Reader → List ℕ → Type 0
+IsSearched reader bytes = reader.scanned ≡ length (drop (awaited reader.awaits) (drop reader.given bytes)) - 1
+
+-- what is read and still held is no more than half of all
+pub record IsLean (reader : Reader) (bytes : List ℕ) : Type 0 where
+  pub sound : IsSound reader bytes
+  pub half : reader.given + reader.given ≤ length bytes
+
 -- no line is given up
 abbrev pub IsOpen : Awaits → Type 0
 IsOpen Line = Unit {0}

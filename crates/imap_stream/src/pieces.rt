@@ -1,7 +1,7 @@
 //! A stream that comes in pieces.
 ghost use Rattle.std.specs.Prelude.{◌≡◌, ◌≤◌, ◌++◌, length, drop, IfOk, OnOk, OnErr};
-ghost use Rattle.imap_stream.specs.Commands.{heard, before, nothing, TakesNext};
-ghost use Rattle.imap_stream.specs.Reading.{IsSound, seen};
+ghost use Rattle.imap_stream.specs.Commands.{heard, before, nothing, TakesNext, WantsMemory};
+ghost use Rattle.imap_stream.specs.Reading.{IsSound, IsLean, seen};
 ghost use Rattle.imap_stream.specs.declared.begun.Awaits.TheVariants.{Line};
 
 use crate::Next;
@@ -10,7 +10,7 @@ use std::alloc::Global;
 use std::marker::Model;
 use undo_base::NoMemory;
 
-/// The bytes of a stream that were not given as commands yet.
+/// The bytes of a stream that were not given as commands yet. Those that were given are never more than half of what is held.
 #[derive(Debug, Drop)]
 pub struct Pieces {
     reader: Reader,
@@ -19,13 +19,13 @@ pub struct Pieces {
 
 impl Model for Pieces {
     ghost use Rattle.imap_stream.specs.Commands.{Heard};
-    ghost use Rattle.imap_stream.specs.Reading.{IsSound, seen};
+    ghost use Rattle.imap_stream.specs.Reading.{IsLean, seen};
 
     ghost Value = { Heard };
 
     ghost view = { λ p. seen p.reader p.bytes.items };
 
-    ghost invariant = { λ p. IsSound p.reader p.bytes.items };
+    ghost invariant = { λ p. IsLean p.reader p.bytes.items };
 }
 
 impl Pieces {
@@ -44,16 +44,19 @@ impl Pieces {
         ensures ok { OnOk result (self.new ≡ heard self.old bytes.now) }
         ensures err { OnErr result (self.new ≡ self.old) }
     {
-        compact(&mut self.reader, &mut self.bytes);
         push_bytes(&mut self.bytes, bytes)
     }
 
     /// What comes next: a command, a literal to be invited, or a bad line; or else nothing whole is there.
+    /// Memory is wanted only where a line has ended, or where one is too long whose command has a tag.
     pub fn next(&mut self, alloc: Global) -> Result<Next, NoMemory>
         ensures ok { IfOk result (λ next. TakesNext self.old next self.new) }
         ensures err { OnErr result (self.new ≡ self.old) }
+        ensures wants { OnErr result (WantsMemory self.old) }
     {
-        take_next(alloc, &mut self.reader, &self.bytes)
+        let next = take_next(alloc, &mut self.reader, &self.bytes);
+        compact(&mut self.reader, &mut self.bytes);
+        next
     }
 }
 
@@ -73,10 +76,10 @@ fn push_bytes(bytes: &mut Vec<u8>, more: &[u8]) -> Result<(), NoMemory>
     Ok(())
 }
 
-/// Takes the bytes away that are read, where they are more than the others. So each byte is moved twice at most.
+/// Takes the bytes away that are read, where they are more than the others, so that each byte is moved once at most for one that was read.
 fn compact(reader: &mut Reader, bytes: &mut Vec<u8>)
     requires { IsSound reader.old bytes.old.items }
-    ensures sound { IsSound reader.new bytes.new.items }
+    ensures lean { IsLean reader.new bytes.new.items }
     ensures same { seen reader.new bytes.new.items ≡ seen reader.old bytes.old.items }
 {
     if reader.given > bytes.len() / 2 {

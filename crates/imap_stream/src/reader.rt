@@ -1,7 +1,7 @@
 //! Reads a stream, as far as it has come.
-ghost use Rattle.std.specs.Prelude.{◌≡◌, ◌+◌, ◌≤◌, [], length, take, drop, IfOk, IfSome, OnOk, OnErr};
-ghost use Rattle.imap_stream.specs.Commands.{is_end, end_of, last_byte, awaited, nothing, TakesNext};
-ghost use Rattle.imap_stream.specs.Reading.{IsSound, IsOpen, EndsAt, Waits, GivesUp, Settles, tag_kept, seen};
+ghost use Rattle.std.specs.Prelude.{◌≡◌, ◌≢◌, ◌+◌, ◌≤◌, [], length, take, drop, None, IfOk, IfSome, OnOk, OnErr};
+ghost use Rattle.imap_stream.specs.Commands.{is_end, end_of, last_byte, awaited, nothing, tag_of_command, TakesNext, WantsMemory};
+ghost use Rattle.imap_stream.specs.Reading.{IsSound, IsOpen, IsSearched, EndsAt, Waits, GivesUp, Settles, tag_kept, seen};
 
 use crate::begun::{
     Awaits, Begun, MOST_OCTETS, awaits_after, command_tag, end_line, none_begun, octets_awaited,
@@ -81,6 +81,7 @@ fn give_up(alloc: Global, reader: &mut Reader, bytes: &[u8], start: usize) -> Re
     requires { start ≤ length bytes.now }
     ensures ok { OnOk result (GivesUp reader.old bytes.now start reader.new) }
     ensures err { OnErr result (reader.new ≡ reader.old) }
+    ensures tag { OnErr result (tag_of_command reader.old.begun (drop start bytes.now) ≢ None) }
 {
     let tag = command_tag(alloc, &reader.begun, &bytes[start..])?;
     reader.begun = none_begun(alloc);
@@ -102,6 +103,8 @@ fn wait_in_line(
     ensures sound { IsSound reader.new bytes.now }
     ensures none { (seen reader.old bytes.now).said ≡ [] }
     ensures same { seen reader.new bytes.now ≡ seen reader.old bytes.now }
+    ensures searched { OnOk result (IsSearched reader.new bytes.now) }
+    ensures wants { OnErr result (WantsMemory (seen reader.old bytes.now)) }
 {
     let length = bytes.len() - start;
     if length > MOST_OCTETS + 1 - reader.begun.octets {
@@ -118,6 +121,8 @@ fn wait(alloc: Global, reader: &mut Reader, bytes: &[u8], start: usize) -> Resul
     ensures sound { IsSound reader.new bytes.now }
     ensures none { (seen reader.old bytes.now).said ≡ [] }
     ensures same { seen reader.new bytes.now ≡ seen reader.old bytes.now }
+    ensures searched { OnOk result (IsSearched reader.new bytes.now) }
+    ensures wants { OnErr result (WantsMemory (seen reader.old bytes.now)) }
 {
     match &reader.awaits {
         Awaits::Line => wait_in_line(alloc, reader, bytes, start),
@@ -204,6 +209,7 @@ fn close(
     ensures sound { IsSound reader.new bytes.now }
     ensures ok { IfOk result (λ next. TakesNext (seen reader.old bytes.now) next (seen reader.new bytes.now)) }
     ensures err { OnErr result (seen reader.new bytes.now ≡ seen reader.old bytes.now) }
+    ensures said { (seen reader.old bytes.now).said ≢ [] }
 {
     match &reader.awaits {
         Awaits::Line => end(alloc, reader, bytes, place),
@@ -221,6 +227,8 @@ pub fn take_next(alloc: Global, reader: &mut Reader, bytes: &[u8]) -> Result<Nex
     ensures sound { IsSound reader.new bytes.now }
     ensures ok { IfOk result (λ next. TakesNext (seen reader.old bytes.now) next (seen reader.new bytes.now)) }
     ensures err { OnErr result (seen reader.new bytes.now ≡ seen reader.old bytes.now) }
+    ensures wants { OnErr result (WantsMemory (seen reader.old bytes.now)) }
+    ensures searched { IfOk result (λ next. next ≡ Next.NotYet → IsSearched reader.new bytes.now) }
 {
     let before = octets_awaited(&reader.awaits);
     if bytes.len() - reader.given < before {

@@ -96,12 +96,12 @@ seen_short n s seen = by_both (seen_within n s seen)
     by_both (inr some) = omega arith
 
 -- bytes are added, or none, behind a front that was given
-pub seen_fed : (ok : Bool) (n given : ℕ) (bytes more new : List ℕ) → given ≤ length bytes → passes n (drop given bytes) ≡ true → new ≡ cond ok (bytes ++ more) bytes
-    → (given ≤ length new) × (passes n (drop given new) ≡ true)
-seen_fed true n given bytes more new within seen is =
+pub seen_fed : (ok : Bool) (n given : ℕ) (bytes more new : List ℕ) → given + given ≤ length bytes → passes n (drop given bytes) ≡ true → new ≡ cond ok (bytes ++ more) bytes
+    → (given + given ≤ length new) × (passes n (drop given new) ≡ true)
+seen_fed true n given bytes more new half seen is =
     let all : passes n (drop given (bytes ++ more)) ≡ true =
-    subst (λ s. passes n s ≡ true) (sym (drop-append-le given bytes more within)) (seen_append n (drop given bytes) more seen) in
-    let size : given ≤ length (bytes ++ more) = simp length-append (omega arith) in
-    (subst (λ s. given ≤ length s) (sym is) size, subst (λ s. passes n (drop given s) ≡ true) (sym is) all)
-seen_fed false n given bytes more new within seen is =
-    (subst (λ s. given ≤ length s) (sym is) within, subst (λ s. passes n (drop given s) ≡ true) (sym is) seen)
+    subst (λ s. passes n s ≡ true) (sym (drop-append-le given bytes more (omega arith))) (seen_append n (drop given bytes) more seen) in
+    let size : given + given ≤ length (bytes ++ more) = simp length-append (omega arith) in
+    (subst (λ s. given + given ≤ length s) (sym is) size, subst (λ s. passes n (drop given s) ≡ true) (sym is) all)
+seen_fed false n given bytes more new half seen is =
+    (subst (λ s. given + given ≤ length s) (sym is) half, subst (λ s. passes n (drop given s) ≡ true) (sym is) seen)

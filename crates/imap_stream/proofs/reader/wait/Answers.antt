@@ -5,6 +5,7 @@ use Rattle.imap_stream.specs.declared.reader.Reader.{Reader}
 use Rattle.imap_stream.specs.Reading.{Waits, seen}
 use Rattle.imap_stream.proofs.Hearing.{skip_all}
 use Rattle.imap_stream.proofs.Readings.{skip_same}
+use Rattle.imap_stream.proofs.Wanting.{last_searched}
 use Rattle.imap_stream.proofs.reader.wait.Goals as goal
 
 end_line : (r : Reader) (bytes : List ℕ) (start : ℕ) (tag : Option (List ℕ)) → r.awaits ≡ End tag → start ≡ r.given + awaited r.awaits → drop start bytes ≡ drop r.given bytes
@@ -28,3 +29,7 @@ returns-in-End-clause-none c = none_in_end c.args.reader.now c.args.bytes.now c.
 
 pub returns-in-End-clause-same : goal.returns-in-End-clause-same
 returns-in-End-clause-same c = same_in_end c.args.reader.now c.args.bytes.now c.args.start c.skipped-reader.result c.in-End.tag c.in-End.is c.requires c.skipped-reader.ensures.rest
+
+pub returns-in-End-clause-searched : goal.returns-in-End-clause-searched
+returns-in-End-clause-searched c =
+    rw c.in-End.is (last_searched (drop c.skipped-reader.result c.args.bytes.now) (drop c.args.start c.args.bytes.now) c.skipped-reader.ensures.rest)

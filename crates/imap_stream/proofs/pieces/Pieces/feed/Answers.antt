@@ -7,8 +7,8 @@ use Rattle.imap_stream.proofs.pieces.Pieces.feed.Goals as goal
 
 pub returns-clause-ok : goal.returns-clause-ok
 returns-clause-ok c =
+    let r = c.self.inside.reader in
+    let bytes = c.self.inside.bytes.items in
     let more = c.args.bytes.now in
-    let r = c.compact.new.reader in
-    let bytes = c.compact.new.bytes.items in
     let same : seen r bytes ≡ c.args.self.now = cc in
-    on_ok_weaker c.push_bytes.result (λ e. ap (seen r) e ∙ fed_same r bytes more c.compact.ensures.sound.given ∙ ap (λ h. heard h more) same) c.push_bytes.ensures.ok
+    on_ok_weaker c.push_bytes.result (λ e. ap (seen r) e ∙ fed_same r bytes more c.self.invariant.sound.given ∙ ap (λ h. heard h more) same) c.push_bytes.ensures.ok

@@ -1,0 +1,5 @@
+pub mod Lining
+pub mod Commas
+pub mod Spelling
+pub mod Spelt
+pub mod Flagged
