@@ -29,47 +29,27 @@ in_full (AskBody section peek) = Body section peek ∷ []
 abbrev pub same_names : List (List ℕ) → List (List ℕ) → Bool
 same_names names others = pointwise bytes_eq names others
 
-abbrev pub is_whole : Section → Bool
-is_whole Whole = true
-is_whole Header = false
-is_whole Text = false
-is_whole (Fields names) = false
-is_whole (NotFields names) = false
+-- a section's kind, as a number
+abbrev pub section_kind : Section → ℕ
+section_kind Whole = 0
+section_kind Header = 1
+section_kind Text = 2
+section_kind (Fields names) = 3
+section_kind (NotFields names) = 4
 
-abbrev pub is_header : Section → Bool
-is_header Whole = false
-is_header Header = true
-is_header Text = false
-is_header (Fields names) = false
-is_header (NotFields names) = false
-
-abbrev pub is_behind : Section → Bool
-is_behind Whole = false
-is_behind Header = false
-is_behind Text = true
-is_behind (Fields names) = false
-is_behind (NotFields names) = false
-
+-- whether a section has these names
 abbrev pub are_fields : List (List ℕ) → Section → Bool
-are_fields names Whole = false
-are_fields names Header = false
-are_fields names Text = false
 are_fields names (Fields others) = same_names names others
-are_fields names (NotFields others) = false
+are_fields names _ = false
 
 abbrev pub are_others : List (List ℕ) → Section → Bool
-are_others names Whole = false
-are_others names Header = false
-are_others names Text = false
-are_others names (Fields others) = false
 are_others names (NotFields others) = same_names names others
+are_others names _ = false
 
 abbrev pub same_section : Section → Section → Bool
-same_section Whole section = is_whole section
-same_section Header section = is_header section
-same_section Text section = is_behind section
 same_section (Fields names) section = are_fields names section
 same_section (NotFields names) section = are_others names section
+same_section one other = section_kind one == section_kind other
 
 abbrev pub same_part : Option (ℕ × ℕ) → Option (ℕ × ℕ) → Bool
 same_part None None = true
@@ -82,95 +62,33 @@ same_bool x y = if x then y else not y
 
 -- it is this section, or this peek at it
 abbrev pub is_body : SectionAsk → Bool → Attribute → Bool
-is_body section peek Flags = false
-is_body section peek Uid = false
-is_body section peek InternalDate = false
-is_body section peek Size = false
-is_body section peek Rfc822 = false
-is_body section peek Rfc822Header = false
-is_body section peek Rfc822Text = false
 is_body section peek (Body other peeks) = same_section section.what other.what && (same_part section.part other.part && same_bool peek peeks)
+is_body section peek _ = false
+
+-- an attribute's kind, as a number
+abbrev pub kind : Attribute → ℕ
+kind Flags = 0
+kind Uid = 1
+kind InternalDate = 2
+kind Size = 3
+kind Rfc822 = 4
+kind Rfc822Header = 5
+kind Rfc822Text = 6
+kind (Body section peek) = 7
 
 abbrev pub is_flags : Attribute → Bool
-is_flags Flags = true
-is_flags Uid = false
-is_flags InternalDate = false
-is_flags Size = false
-is_flags Rfc822 = false
-is_flags Rfc822Header = false
-is_flags Rfc822Text = false
-is_flags (Body section peek) = false
+is_flags a = kind a == 0
 
 abbrev pub is_uid : Attribute → Bool
-is_uid Flags = false
-is_uid Uid = true
-is_uid InternalDate = false
-is_uid Size = false
-is_uid Rfc822 = false
-is_uid Rfc822Header = false
-is_uid Rfc822Text = false
-is_uid (Body section peek) = false
-
-abbrev pub is_date : Attribute → Bool
-is_date Flags = false
-is_date Uid = false
-is_date InternalDate = true
-is_date Size = false
-is_date Rfc822 = false
-is_date Rfc822Header = false
-is_date Rfc822Text = false
-is_date (Body section peek) = false
+is_uid a = kind a == 1
 
 abbrev pub is_size : Attribute → Bool
-is_size Flags = false
-is_size Uid = false
-is_size InternalDate = false
-is_size Size = true
-is_size Rfc822 = false
-is_size Rfc822Header = false
-is_size Rfc822Text = false
-is_size (Body section peek) = false
+is_size a = kind a == 3
 
-abbrev pub is_rfc822 : Attribute → Bool
-is_rfc822 Flags = false
-is_rfc822 Uid = false
-is_rfc822 InternalDate = false
-is_rfc822 Size = false
-is_rfc822 Rfc822 = true
-is_rfc822 Rfc822Header = false
-is_rfc822 Rfc822Text = false
-is_rfc822 (Body section peek) = false
-
-abbrev pub is_rfc822_header : Attribute → Bool
-is_rfc822_header Flags = false
-is_rfc822_header Uid = false
-is_rfc822_header InternalDate = false
-is_rfc822_header Size = false
-is_rfc822_header Rfc822 = false
-is_rfc822_header Rfc822Header = true
-is_rfc822_header Rfc822Text = false
-is_rfc822_header (Body section peek) = false
-
-abbrev pub is_rfc822_text : Attribute → Bool
-is_rfc822_text Flags = false
-is_rfc822_text Uid = false
-is_rfc822_text InternalDate = false
-is_rfc822_text Size = false
-is_rfc822_text Rfc822 = false
-is_rfc822_text Rfc822Header = false
-is_rfc822_text Rfc822Text = true
-is_rfc822_text (Body section peek) = false
-
--- whether two are the same
+-- whether two are the same: of one kind, and the same section where they are sections
 abbrev pub same : Attribute → Attribute → Bool
-same Flags other = is_flags other
-same Uid other = is_uid other
-same InternalDate other = is_date other
-same Size other = is_size other
-same Rfc822 other = is_rfc822 other
-same Rfc822Header other = is_rfc822_header other
-same Rfc822Text other = is_rfc822_text other
 same (Body section peek) other = is_body section peek other
+same one other = kind one == kind other
 
 -- whether it is one of them
 abbrev pub is_asked : Attribute → List Attribute → Bool

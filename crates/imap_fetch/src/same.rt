@@ -12,39 +12,15 @@ fn same_names(names: &Names, others: &Names) -> bool
     names == others
 }
 
-fn is_whole(section: &Section) -> bool
-    ensures { result ≡ spec.is_whole section.now }
+fn section_kind(section: &Section) -> u8
+    ensures { result ≡ spec.section_kind section.now }
 {
     match section {
-        Section::Whole => true,
-        Section::Header => false,
-        Section::Text => false,
-        Section::Fields { names: _ } => false,
-        Section::NotFields { names: _ } => false,
-    }
-}
-
-fn is_header(section: &Section) -> bool
-    ensures { result ≡ spec.is_header section.now }
-{
-    match section {
-        Section::Whole => false,
-        Section::Header => true,
-        Section::Text => false,
-        Section::Fields { names: _ } => false,
-        Section::NotFields { names: _ } => false,
-    }
-}
-
-fn is_behind(section: &Section) -> bool
-    ensures { result ≡ spec.is_behind section.now }
-{
-    match section {
-        Section::Whole => false,
-        Section::Header => false,
-        Section::Text => true,
-        Section::Fields { names: _ } => false,
-        Section::NotFields { names: _ } => false,
+        Section::Whole => 0,
+        Section::Header => 1,
+        Section::Text => 2,
+        Section::Fields { names: _ } => 3,
+        Section::NotFields { names: _ } => 4,
     }
 }
 
@@ -76,9 +52,9 @@ fn same_section(one: &Section, other: &Section) -> bool
     ensures { result ≡ spec.same_section one.now other.now }
 {
     match one {
-        Section::Whole => is_whole(other),
-        Section::Header => is_header(other),
-        Section::Text => is_behind(other),
+        Section::Whole => section_kind(other) == 0,
+        Section::Header => section_kind(other) == 1,
+        Section::Text => section_kind(other) == 2,
         Section::Fields { names } => are_fields(names, other),
         Section::NotFields { names } => are_others(names, other),
     }
@@ -128,130 +104,40 @@ fn is_body(section: &SectionAsk, peek: bool, attribute: &Attribute) -> bool
     }
 }
 
-pub(crate) fn is_flags(attribute: &Attribute) -> bool
-    ensures { result ≡ spec.is_flags attribute.now }
+fn kind(attribute: &Attribute) -> u8
+    ensures { result ≡ spec.kind attribute.now }
 {
     match attribute {
-        Attribute::Flags => true,
-        Attribute::Uid => false,
-        Attribute::InternalDate => false,
-        Attribute::Size => false,
-        Attribute::Rfc822 => false,
-        Attribute::Rfc822Header => false,
-        Attribute::Rfc822Text => false,
+        Attribute::Flags => 0,
+        Attribute::Uid => 1,
+        Attribute::InternalDate => 2,
+        Attribute::Size => 3,
+        Attribute::Rfc822 => 4,
+        Attribute::Rfc822Header => 5,
+        Attribute::Rfc822Text => 6,
         Attribute::Body {
             section: _,
             peek: _,
-        } => false,
+        } => 7,
     }
+}
+
+pub(crate) fn is_flags(attribute: &Attribute) -> bool
+    ensures { result ≡ spec.is_flags attribute.now }
+{
+    kind(attribute) == 0
 }
 
 pub(crate) fn is_uid(attribute: &Attribute) -> bool
     ensures { result ≡ spec.is_uid attribute.now }
 {
-    match attribute {
-        Attribute::Flags => false,
-        Attribute::Uid => true,
-        Attribute::InternalDate => false,
-        Attribute::Size => false,
-        Attribute::Rfc822 => false,
-        Attribute::Rfc822Header => false,
-        Attribute::Rfc822Text => false,
-        Attribute::Body {
-            section: _,
-            peek: _,
-        } => false,
-    }
-}
-
-pub(crate) fn is_date(attribute: &Attribute) -> bool
-    ensures { result ≡ spec.is_date attribute.now }
-{
-    match attribute {
-        Attribute::Flags => false,
-        Attribute::Uid => false,
-        Attribute::InternalDate => true,
-        Attribute::Size => false,
-        Attribute::Rfc822 => false,
-        Attribute::Rfc822Header => false,
-        Attribute::Rfc822Text => false,
-        Attribute::Body {
-            section: _,
-            peek: _,
-        } => false,
-    }
+    kind(attribute) == 1
 }
 
 pub(crate) fn is_size(attribute: &Attribute) -> bool
     ensures { result ≡ spec.is_size attribute.now }
 {
-    match attribute {
-        Attribute::Flags => false,
-        Attribute::Uid => false,
-        Attribute::InternalDate => false,
-        Attribute::Size => true,
-        Attribute::Rfc822 => false,
-        Attribute::Rfc822Header => false,
-        Attribute::Rfc822Text => false,
-        Attribute::Body {
-            section: _,
-            peek: _,
-        } => false,
-    }
-}
-
-pub(crate) fn is_rfc822(attribute: &Attribute) -> bool
-    ensures { result ≡ spec.is_rfc822 attribute.now }
-{
-    match attribute {
-        Attribute::Flags => false,
-        Attribute::Uid => false,
-        Attribute::InternalDate => false,
-        Attribute::Size => false,
-        Attribute::Rfc822 => true,
-        Attribute::Rfc822Header => false,
-        Attribute::Rfc822Text => false,
-        Attribute::Body {
-            section: _,
-            peek: _,
-        } => false,
-    }
-}
-
-pub(crate) fn is_rfc822_header(attribute: &Attribute) -> bool
-    ensures { result ≡ spec.is_rfc822_header attribute.now }
-{
-    match attribute {
-        Attribute::Flags => false,
-        Attribute::Uid => false,
-        Attribute::InternalDate => false,
-        Attribute::Size => false,
-        Attribute::Rfc822 => false,
-        Attribute::Rfc822Header => true,
-        Attribute::Rfc822Text => false,
-        Attribute::Body {
-            section: _,
-            peek: _,
-        } => false,
-    }
-}
-
-pub(crate) fn is_rfc822_text(attribute: &Attribute) -> bool
-    ensures { result ≡ spec.is_rfc822_text attribute.now }
-{
-    match attribute {
-        Attribute::Flags => false,
-        Attribute::Uid => false,
-        Attribute::InternalDate => false,
-        Attribute::Size => false,
-        Attribute::Rfc822 => false,
-        Attribute::Rfc822Header => false,
-        Attribute::Rfc822Text => true,
-        Attribute::Body {
-            section: _,
-            peek: _,
-        } => false,
-    }
+    kind(attribute) == 3
 }
 
 /// Whether two are the same.
@@ -259,14 +145,14 @@ fn same(one: &Attribute, other: &Attribute) -> bool
     ensures { result ≡ spec.same one.now other.now }
 {
     match one {
-        Attribute::Flags => is_flags(other),
-        Attribute::Uid => is_uid(other),
-        Attribute::InternalDate => is_date(other),
-        Attribute::Size => is_size(other),
-        Attribute::Rfc822 => is_rfc822(other),
-        Attribute::Rfc822Header => is_rfc822_header(other),
-        Attribute::Rfc822Text => is_rfc822_text(other),
         Attribute::Body { section, peek } => is_body(section, *peek, other),
+        Attribute::Flags => kind(other) == 0,
+        Attribute::Uid => kind(other) == 1,
+        Attribute::InternalDate => kind(other) == 2,
+        Attribute::Size => kind(other) == 3,
+        Attribute::Rfc822 => kind(other) == 4,
+        Attribute::Rfc822Header => kind(other) == 5,
+        Attribute::Rfc822Text => kind(other) == 6,
     }
 }
 
