@@ -28,18 +28,26 @@ bare_program = record (new_app (codes "undomail")) {
   };
 }
 
+-- the command `serve`
+abbrev pub serve_shape : Shape
+serve_shape = taking (codes "serve") (codes "STORE" ∷ codes "SMTP" ∷ codes "IMAP" ∷ codes "HTTP" ∷ [])
+
 -- the first three subcommands
 abbrev pub first_half : App
 first_half =
     with_subcommand (with_subcommand (with_subcommand bare_program
     (taking (codes "init") (codes "STORE" ∷ [])))
-    (taking (codes "serve") (codes "STORE" ∷ codes "SMTP" ∷ codes "IMAP" ∷ codes "HTTP" ∷ [])))
+    serve_shape)
     (taking (codes "script") (codes "STORE" ∷ []))
 
--- all six
-abbrev pub program : App
-program =
-    with_subcommand (with_subcommand (with_subcommand first_half
+-- a program with the last three
+abbrev pub second_half : App → App
+second_half a =
+    with_subcommand (with_subcommand (with_subcommand a
     (taking (codes "play") []))
     (taking (codes "grow") (codes "ROUNDS" ∷ [])))
     (taking (codes "check") (codes "STORE" ∷ []))
+
+-- all six
+abbrev pub program : App
+program = second_half first_half

@@ -5,7 +5,7 @@ ghost use Rattle.clap.specs.Words.{app_of, shape_of, takes, with_rule, with_subc
 ghost use Rattle.clap.specs.declared.error.kind.ErrorKind.TheVariants.{OutOfMemory};
 ghost use Rattle.clap.specs.declared.builder.command.Command.TheViews.{out-Command};
 ghost use Rattle.command_words.specs.declared.commands.WordsRefused.TheVariants.{Usage};
-ghost use Rattle.command_words.specs.Program.{word_rule, taking, bare_program};
+ghost use Rattle.command_words.specs.Program.{word_rule, taking, bare_program, serve_shape, second_half};
 ghost use Rattle.command_words.specs.Program as spec;
 
 use crate::commands::WordsRefused;
@@ -55,7 +55,7 @@ fn with_one<'a>(alloc: Global, name: &'a str, id: &'a str) -> Result<Command<'a>
 
 /// The command `serve`.
 fn serve<'a>(alloc: Global) -> Result<Command<'a>, AllocError>
-    ensures shape { IfOk result (λ c. shape_of c ≡ taking (codes "serve") (codes "STORE" ∷ codes "SMTP" ∷ codes "IMAP" ∷ codes "HTTP" ∷ [])) }
+    ensures shape { IfOk result (λ c. shape_of c ≡ serve_shape) }
     ensures plain { IfOk result (λ c. (out-Command c).has_globals ≡ false) }
 {
     let command = with_word(alloc, alone(alloc, "serve"), "STORE")?;
@@ -76,23 +76,54 @@ fn bare<'a>(alloc: Global) -> Command<'a>
         .subcommand_required(true)
 }
 
+/// A program with one more subcommand, which takes one word.
+fn add_one<'a>(
+    alloc: Global,
+    command: Command<'a>,
+    name: &'a str,
+    id: &'a str,
+) -> Result<Command<'a>, AllocError>
+    requires { (out-Command command).has_globals ≡ false }
+    ensures shape { IfOk result (λ c. app_of c ≡ with_subcommand (app_of command.entry) (taking name.entry.now (id.entry.now ∷ []))) }
+    ensures plain { IfOk result (λ c. (out-Command c).has_globals ≡ false) }
+{
+    with_command(command, with_one(alloc, name, id)?)
+}
+
+/// A program with the subcommand `serve`.
+fn add_serve<'a>(alloc: Global, command: Command<'a>) -> Result<Command<'a>, AllocError>
+    requires { (out-Command command).has_globals ≡ false }
+    ensures shape { IfOk result (λ c. app_of c ≡ with_subcommand (app_of command.entry) serve_shape) }
+    ensures plain { IfOk result (λ c. (out-Command c).has_globals ≡ false) }
+{
+    with_command(command, serve(alloc)?)
+}
+
 /// The program with its first three subcommands.
 fn first_half<'a>(alloc: Global) -> Result<Command<'a>, AllocError>
     ensures shape { IfOk result (λ c. app_of c ≡ spec.first_half) }
     ensures plain { IfOk result (λ c. (out-Command c).has_globals ≡ false) }
 {
-    let command = with_command(bare(alloc), with_one(alloc, "init", "STORE")?)?;
-    let command = with_command(command, serve(alloc)?)?;
-    with_command(command, with_one(alloc, "script", "STORE")?)
+    let command = add_one(alloc, bare(alloc), "init", "STORE")?;
+    let command = add_serve(alloc, command)?;
+    add_one(alloc, command, "script", "STORE")
+}
+
+/// The program with its last two subcommands too.
+fn add_rest<'a>(alloc: Global, command: Command<'a>) -> Result<Command<'a>, AllocError>
+    requires { (out-Command command).has_globals ≡ false }
+    ensures { IfOk result (λ c. app_of c ≡ second_half (app_of command.entry)) }
+{
+    let command = with_command(command, alone(alloc, "play"))?;
+    let command = add_one(alloc, command, "grow", "ROUNDS")?;
+    add_one(alloc, command, "check", "STORE")
 }
 
 /// The program with its subcommands.
 fn program<'a>(alloc: Global) -> Result<Command<'a>, AllocError>
     ensures { IfOk result (λ c. app_of c ≡ spec.program) }
 {
-    let command = with_command(first_half(alloc)?, alone(alloc, "play"))?;
-    let command = with_command(command, with_one(alloc, "grow", "ROUNDS")?)?;
-    with_command(command, with_one(alloc, "check", "STORE")?)
+    add_rest(alloc, first_half(alloc)?)
 }
 
 /// A refusal of `clap` for another cause than memory means that the words are of no stated shape.

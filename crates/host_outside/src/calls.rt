@@ -13,15 +13,9 @@ pub enum FileCall {
     /// It was made, where it was missing.
     Made,
     /// So many bytes were read from a place on.
-    Read {
-        place: u64,
-        count: u64,
-    },
+    Read { place: u64, count: u64 },
     /// Bytes were written from a place on.
-    Wrote {
-        place: u64,
-        bytes: Text,
-    },
+    Wrote { place: u64, bytes: Text },
     /// Its bytes, its length and its times reached the device.
     SyncedAll,
     /// Its bytes reached the device.

@@ -79,7 +79,11 @@ where
     }
 
     fn sync_bytes(&mut self) -> Result<(), Failed> {
-        self.file.as_ref().ok_or(Failed)?.sync_data().map_err(failed)
+        self.file
+            .as_ref()
+            .ok_or(Failed)?
+            .sync_data()
+            .map_err(failed)
     }
 
     fn sync_folder(&mut self) -> Result<(), Failed> {
