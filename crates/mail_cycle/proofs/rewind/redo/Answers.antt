@@ -12,14 +12,14 @@ use Rattle.repair_desk.specs.declared.editing.Edited.{Edited}
 use Rattle.repair_desk.proofs.Everywhere.{all_formed}
 use Rattle.mail_cycle.specs.Cycles.{notice_items}
 use Rattle.mail_cycle.specs.Judging.{judged}
-use Rattle.mail_cycle.specs.State.{State}
+use Rattle.verb_core.specs.Kept.{Kept}
 use Rattle.mail_cycle.proofs.Cycled.{length_shown, run_all, run_house}
 use Rattle.mail_cycle.proofs.rewind.redo.Goals as goal
 
 pub compare-requires-clause-formed : goal.compare-requires-clause-formed
 compare-requires-clause-formed g c =
     let x = c.before-2.inside in
-    let same = ap (λ (s : State). s.house) c.before-2.view_is in
+    let same = ap (λ (s : Kept). s.house) c.before-2.view_is in
     let house = ap (λ (m : MailStore). m.house) c.in_ok-store.ensures.store ∙ sym same in
     let acts = subst (λ (h : House). are_known h c.args.ask.now.inserts ≡ true) (sym same) c.requires.acts in
     let all = all_formed x.house.now x.timeline.now c.args.ask.now x.next c.args.at c.args.place c.before-2.invariant.formed acts in
@@ -38,13 +38,13 @@ returns-clause-store g c =
 pub returns-clause-told : goal.returns-clause-told
 returns-clause-told g c =
     let s = c.args.before.now in
-    let items = c.into_vec-items.ensures ∙ ap (λ (e : Edited). e.items) (c.in_ok-items.ensures ∙ ap (λ (w : State). edited_at w.timeline c.args.ask.now w.next c.args.at c.args.place) c.before-2.view_is) in
+    let items = c.into_vec-items.ensures ∙ ap (λ (e : Edited). e.items) (c.in_ok-items.ensures ∙ ap (λ (w : Kept). edited_at w.timeline c.args.ask.now w.next c.args.at c.args.place) c.before-2.view_is) in
     let broken = c.in_ok-broken.ensures.list ∙ ap₂ (λ (m : MailStore) (t : List Item). judged c.args.ask.now.drops (drop c.args.place s.timeline) (drop (c.args.place + length c.args.ask.now.inserts) (answers m t))) c.in_ok-store.ensures.store items in
     c.in_ok-told.ensures ∙ ap numbers_of (c.as_slice.ensures ∙ c.in_ok-notices.ensures.items
     ∙ ap₂ (λ (n : ℕ) (list : List BrokenItem). notice_items (s.next + n) c.args.at (notices s.house s.next c.args.at list)) c.len-inserts.ensures broken)
 
 pub returns-clause-unmatched : goal.returns-clause-unmatched
-returns-clause-unmatched g c = ap (λ (e : Edited). e.unmatched) (c.in_ok-items.ensures ∙ ap (λ (w : State). edited_at w.timeline c.args.ask.now w.next c.args.at c.args.place) c.before-2.view_is)
+returns-clause-unmatched g c = ap (λ (e : Edited). e.unmatched) (c.in_ok-items.ensures ∙ ap (λ (w : Kept). edited_at w.timeline c.args.ask.now w.next c.args.at c.args.place) c.before-2.view_is)
 
 pub returns-clause-steps : goal.returns-clause-steps
 returns-clause-steps g c =
