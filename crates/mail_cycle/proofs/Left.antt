@@ -27,7 +27,7 @@ use Rattle.repair_desk.specs.Repairs.{are_known, inserted, is_among, kept, repai
 use Rattle.repair_desk.proofs.Everywhere.{all_apart, all_below, all_formed, joined, revs_below, weaker}
 use Rattle.mail_cycle.specs.Cycles.{broken_at, cycled_at, front_of, kept_at, leaves_numbers, notice_items, repaired_items, shown_now, stamps_at, timeline_at, told_at}
 use Rattle.mail_cycle.specs.Judging.{judged, shown_after, shown_by, told as tell}
-use Rattle.mail_cycle.specs.State.{State, base_of}
+use Rattle.verb_core.specs.Kept.{Kept, base_of}
 use Rattle.mail_cycle.proofs.Cycled.{few_told, told_formed}
 
 -- ---- answers
@@ -118,7 +118,7 @@ both_apart last (i ∷ a) b first second low high = (
 
 -- ---- the whole
 
-module _ (s : State) (at : ℕ) (ask : CycleAsk) (place : ℕ) where
+module _ (s : Kept) (at : ℕ) (ask : CycleAsk) (place : ℕ) where
   abbrev last : ℕ
   last = s.next + length ask.inserts
 
@@ -167,14 +167,14 @@ module _ (s : State) (at : ℕ) (ask : CycleAsk) (place : ℕ) where
 
 -- ---- a cycle that asks for nothing
 
-pub nothing_broken : (s : State) (at : ℕ) (ask : CycleAsk) → broken_at s at ask (length s.timeline) ≡ []
+pub nothing_broken : (s : Kept) (at : ℕ) (ask : CycleAsk) → broken_at s at ask (length s.timeline) ≡ []
 nothing_broken s at ask = ap (λ (later : List Item). judged ask.drops later (drop (front_of ask (length s.timeline)) (shown_now s at ask (length s.timeline)))) (drop-length s.timeline)
 
 none_told : (users : List User) → filter (is_told []) users ≡ []
 none_told [] = refl
 none_told (u ∷ us) = none_told us
 
-nobody_told : (s : State) (at : ℕ) (ask : CycleAsk) → told_at s at ask (length s.timeline) ≡ []
+nobody_told : (s : Kept) (at : ℕ) (ask : CycleAsk) → told_at s at ask (length s.timeline) ≡ []
 nobody_told s at ask =
     ap (λ (list : List BrokenItem). notice_items (s.next + length ask.inserts) at (notices s.house s.next at list)) (nothing_broken s at ask)
     ∙ ap (λ (users : List User). notice_items (s.next + length ask.inserts) at (map (λ (u : User). (u, notice_text s.house u s.next at [])) users)) (none_told (users_of s.house))
@@ -184,12 +184,12 @@ front_stays front [] now le = refl
 front_stays zero (i ∷ t) now le = absurd (omega arith)
 front_stays (suc front) (i ∷ t) now le = ap (λ (rest : List Item). i ∷ rest) (front_stays front t (drop 1 now) (omega arith))
 
-no_repairs : (s : State) (at : ℕ) (ask : CycleAsk) → ask.inserts ≡ [] → repaired_items s at ask (length s.timeline) ≡ s.timeline
+no_repairs : (s : Kept) (at : ℕ) (ask : CycleAsk) → ask.inserts ≡ [] → repaired_items s at ask (length s.timeline) ≡ s.timeline
 no_repairs s at ask none =
     ap₂ (λ (front later : List Item). front ++ inserted s.next at ask.inserts ++ map (repaired ask s.next) (kept ask later)) (take_all (length s.timeline) s.timeline (omega arith)) (drop-length s.timeline)
     ∙ ap (λ (acts : List Act). s.timeline ++ inserted s.next at acts ++ []) none ∙ append-nil (s.timeline ++ []) ∙ append-nil s.timeline
 
-pub nothing_new : (s : State) (at : ℕ) (ask : CycleAsk) → ask.inserts ≡ [] → timeline_at s at ask (length s.timeline) ≡ s.timeline
+pub nothing_new : (s : Kept) (at : ℕ) (ask : CycleAsk) → ask.inserts ≡ [] → timeline_at s at ask (length s.timeline) ≡ s.timeline
 nothing_new s at ask none =
     let same = no_repairs s at ask none in
     let all = ap (λ (t : List Item). length t) same in
@@ -212,7 +212,7 @@ no_texts replaces c later none = ap (λ (rs : List (ℕ × List ℕ)). map (λ (
     all [] = refl
     all (i ∷ t) = ap (λ (rest : List Item). i ∷ rest) (all t)
 
-as_before : (s : State) (at : ℕ) (ask : CycleAsk) (place : ℕ) → ask.drops ≡ [] → ask.replaces ≡ [] → ask.inserts ≡ [] → repaired_items s at ask place ≡ s.timeline
+as_before : (s : Kept) (at : ℕ) (ask : CycleAsk) (place : ℕ) → ask.drops ≡ [] → ask.replaces ≡ [] → ask.inserts ≡ [] → repaired_items s at ask place ≡ s.timeline
 as_before s at ask place drops replaces inserts =
     ap₂ (λ (acts : List Act) (later : List Item). take place s.timeline ++ inserted s.next at acts ++ map (repaired ask s.next) later) inserts (no_drops ask.drops (drop place s.timeline) drops)
     ∙ ap (λ (later : List Item). take place s.timeline ++ [] ++ later) (no_texts ask.replaces s.next (drop place s.timeline) replaces)
@@ -223,7 +223,7 @@ still_shown : (t : List Item) → judged [] t (map (λ (i : Item). i.shown) t) �
 still_shown [] = refl
 still_shown (i ∷ t) = ap (λ (reason : Option Reason). tell i reason (judged [] t (map (λ (j : Item). j.shown) t))) (holds (looks_at_texts i.deed) i.shown) ∙ still_shown t
 
-pub shown_still : (s : State) (at : ℕ) (ask : CycleAsk) (place : ℕ) → ask.drops ≡ [] → ask.replaces ≡ [] → ask.inserts ≡ []
+pub shown_still : (s : Kept) (at : ℕ) (ask : CycleAsk) (place : ℕ) → ask.drops ≡ [] → ask.replaces ≡ [] → ask.inserts ≡ []
     → drop place (answers (base_of s) s.timeline) ≡ map (λ (i : Item). i.shown) (drop place s.timeline) → broken_at s at ask place ≡ []
 shown_still s at ask place drops replaces inserts same =
     ap₂ (λ (ds : List ℕ) (now : List Shown). judged ds (drop place s.timeline) now) drops

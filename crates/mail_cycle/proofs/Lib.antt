@@ -1,2 +1,3 @@
 pub mod Cycled
 pub mod Left
+pub mod Redoing

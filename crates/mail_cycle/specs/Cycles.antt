@@ -15,7 +15,7 @@ use Rattle.paradox.specs.declared.reports.Report.{Report}
 use Rattle.repair_desk.specs.Repairs.{edited_at, numbers_of, position}
 use Rattle.repair_desk.specs.Renewals.{renewed}
 use Rattle.mail_cycle.specs.Judging.{judged, shown_after}
-use Rattle.mail_cycle.specs.State.{State, base_of, store_of}
+use Rattle.verb_core.specs.Kept.{Kept, base_of, store_of}
 
 -- ---- notices
 
@@ -38,7 +38,7 @@ pub record Cycled : Type 0 where
   pub report : Report
 
 -- the repaired items, with no answer compared yet
-abbrev pub repaired_items : State → ℕ → CycleAsk → ℕ → List Item
+abbrev pub repaired_items : Kept → ℕ → CycleAsk → ℕ → List Item
 repaired_items s at ask place = (edited_at s.timeline ask s.next at place).items
 
 -- how many of them are not compared: those through the point, and the acts that come in
@@ -46,34 +46,34 @@ abbrev pub front_of : CycleAsk → ℕ → ℕ
 front_of ask place = place + length ask.inserts
 
 -- what each repaired item shows now
-abbrev pub shown_now : State → ℕ → CycleAsk → ℕ → List Shown
+abbrev pub shown_now : Kept → ℕ → CycleAsk → ℕ → List Shown
 shown_now s at ask place = answers (base_of s) (repaired_items s at ask place)
 
 -- the broken and withdrawn items, in the order of the timeline before
-abbrev pub broken_at : State → ℕ → CycleAsk → ℕ → List BrokenItem
+abbrev pub broken_at : Kept → ℕ → CycleAsk → ℕ → List BrokenItem
 broken_at s at ask place = judged ask.drops (drop place s.timeline) (drop (front_of ask place) (shown_now s at ask place))
 
 -- the items in force before the notices
-abbrev pub kept_at : State → ℕ → CycleAsk → ℕ → List Item
+abbrev pub kept_at : Kept → ℕ → CycleAsk → ℕ → List Item
 kept_at s at ask place = shown_after (front_of ask place) (repaired_items s at ask place) (shown_now s at ask place)
 
 -- the notices, as items
-abbrev pub told_at : State → ℕ → CycleAsk → ℕ → List Item
+abbrev pub told_at : Kept → ℕ → CycleAsk → ℕ → List Item
 told_at s at ask place = notice_items (s.next + length ask.inserts) at (notices s.house s.next at (broken_at s at ask place))
 
 -- the items in force
-abbrev pub timeline_at : State → ℕ → CycleAsk → ℕ → List Item
+abbrev pub timeline_at : Kept → ℕ → CycleAsk → ℕ → List Item
 timeline_at s at ask place = kept_at s at ask place ++ told_at s at ask place
 
 -- the stamps, by the store before and the store after
-abbrev pub stamps_at : State → ℕ → CycleAsk → ℕ → List (BoxId × ℕ)
+abbrev pub stamps_at : Kept → ℕ → CycleAsk → ℕ → List (BoxId × ℕ)
 stamps_at s at ask place = renewed (store_of s).boxes (run (base_of s) (timeline_at s at ask place)).boxes s.stamps s.next
 
 -- the mailboxes that have the stamp of the cycle
 abbrev pub renewed_by : ℕ → List (BoxId × ℕ) → List (BoxId × ℕ)
 renewed_by c stamps = filter (λ (r : BoxId × ℕ). r.1 == c) stamps
 
-abbrev pub report_at : State → ℕ → CycleAsk → ℕ → Report
+abbrev pub report_at : Kept → ℕ → CycleAsk → ℕ → Report
 report_at s at ask place = record {
   cycle = s.next;
   point = ask.point;
@@ -85,7 +85,7 @@ report_at s at ask place = record {
 }
 
 -- the cycle, behind a place of the timeline
-abbrev pub cycled_at : State → ℕ → CycleAsk → ℕ → Cycled
+abbrev pub cycled_at : Kept → ℕ → CycleAsk → ℕ → Cycled
 cycled_at s at ask place = record {
   timeline = timeline_at s at ask place;
   stamps = stamps_at s at ask place;
@@ -94,9 +94,9 @@ cycled_at s at ask place = record {
 }
 
 -- whether numbers are left for the cycle, its acts and a notice to each user
-abbrev pub leaves_numbers : State → CycleAsk → Bool
+abbrev pub leaves_numbers : Kept → CycleAsk → Bool
 leaves_numbers s ask = nat_le (s.next + 1 + length ask.inserts + length s.house.accounts) 4194303
 
 -- the cycle at a moment, where the timeline has the point and numbers are left
-abbrev pub cycled : State → ℕ → CycleAsk → Option Cycled
+abbrev pub cycled : Kept → ℕ → CycleAsk → Option Cycled
 cycled s at ask = if leaves_numbers s ask then option_map (cycled_at s at ask) (position s.timeline ask.point) else None

@@ -4,10 +4,10 @@ use Rattle.verb_core.specs.Step.{run}
 use Rattle.verb_core.specs.Store.{IsValid}
 use Rattle.mail_cycle.specs.declared.rewind.Rewound.{Rewound}
 use Rattle.mail_cycle.specs.Cycles.{Cycled}
-use Rattle.mail_cycle.specs.State.{State, base_of}
+use Rattle.verb_core.specs.Kept.{Kept, base_of}
 
 -- all parts are those of the cycle, and the store is what its timeline leads to
-pub record Leaves (s : State) (due : Cycled) (made : Rewound) : Type 0 where
+pub record Leaves (s : Kept) (due : Cycled) (made : Rewound) : Type 0 where
   pub timeline : made.timeline ≡ due.timeline
   pub stamps : made.stamps ≡ due.stamps
   pub next : made.next ≡ due.next

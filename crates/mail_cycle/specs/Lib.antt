@@ -1,4 +1,4 @@
-pub mod State
+pub mod Begun
 pub mod Judging
 pub mod Cycles
 pub mod Refusing

@@ -24,9 +24,10 @@ pub struct Before<'a> {
 }
 
 impl<'a> Model for Before<'a> {
-    ghost use Rattle.mail_cycle.specs.State.{IsBegun, State};
+    ghost use Rattle.mail_cycle.specs.Begun.{IsBegun};
+    ghost use Rattle.verb_core.specs.Kept.{Kept};
 
-    ghost Value = { State };
+    ghost Value = { Kept };
 
     ghost view = { λ b. record { house = b.house.now; opening = b.opening.now; timeline = b.timeline.now; stamps = b.stamps.now; next = b.next } };
 

@@ -3,7 +3,7 @@
 //!
 //! `before` is what a cycle begins with. `rewind` puts it together: `perform` performs items, `judge` finds the broken and
 //! withdrawn ones, `settle` lets the broken ones show what they show now, `notices` makes the notices items, and `report` what
-//! is told of them. `refused` says why there is no cycle, and `laws` what holds of every one. In specs/, `State` and `Judging`
+//! is told of them. `refused` says why there is no cycle, and `laws` what holds of every one. In specs/, `Begun` and `Judging`
 //! lead up to `Cycles`; `Refusing` and `Leaving` are what the contract of `cycle` says of its answers.
 //! What carries the crate: `cycle` answers `cycled`, exactly where the timeline has the point and numbers are left.
 #![tactic(auto)]

@@ -10,7 +10,7 @@ ghost use Rattle.mail_cycle.specs.Cycles.{broken_at, cycled, cycled_at, front_of
 ghost use Rattle.mail_cycle.specs.Judging.{judged, shown_after};
 ghost use Rattle.mail_cycle.specs.Leaving.{Leaves};
 ghost use Rattle.mail_cycle.specs.Refusing.{IsRefusalOf};
-ghost use Rattle.mail_cycle.specs.State.{base_of};
+ghost use Rattle.verb_core.specs.Kept.{base_of};
 
 use crate::judge::{behind, judge};
 use crate::notices::items_of;

@@ -44,7 +44,7 @@ module _ (s : MailStore) (valid : IsValid s) where
   has_inbox : (u : User) → is_known s.house u ≡ true → has_row (box_of u inbox) s.boxes ≡ true
   has_inbox u known = first_so _ _ (known_fixed u known)
 
-  postmaster_known : is_known s.house s.house.postmaster ≡ true
+  pub postmaster_known : is_known s.house s.house.postmaster ≡ true
   postmaster_known = second_so _ _ (first_so _ _ (first_so _ _ valid.house))
 
   recipients_have : (to : List (List ℕ)) → list_all (λ u. has_row (box_of u inbox) s.boxes) (recipients s.house s.conf to) ≡ true
