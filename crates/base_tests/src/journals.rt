@@ -3,7 +3,7 @@ ghost use Rattle.std.specs.Prelude.{◌≡◌, ◌<◌, length, IfOk};
 ghost use Rattle.seal_log.specs.Log.{last_gate};
 
 use crate::disks::disk_of;
-use seal_log::{LoadFault, Log, ReadFault, SealFault, format, load, seal_all};
+use seal_log::{LoadFault, Log, ReadFault, SealFault, format, load};
 use std::alloc::Global;
 use std::test::Fail;
 use undo_base::{Text, Texts};
@@ -167,10 +167,25 @@ fn payloads(alloc: Global) -> Result<Texts, Fail> {
     Ok(payloads)
 }
 
+/// Seals payloads in order, up to the first that is refused.
+fn seal_each<D: Disk>(
+    alloc: Global,
+    log: &mut Log,
+    disk: &mut D,
+    payloads: &[Text],
+) -> Result<(), SealFault>
+    requires { last_gate log.old < (D.told disk.old).size }
+{
+    for payload in payloads {
+        log.seal(alloc, disk, payload.bytes())?;
+    }
+    Ok(())
+}
+
 fn sealed_all(alloc: Global, payloads: &Texts) -> Result<MemDisk, Fail> {
     let mut disk = disk_of(alloc, b"", &[])?;
     let mut log = format(alloc, &mut disk, HEAD)?;
-    seal_all(alloc, &mut log, &mut disk, payloads.as_slice())?;
+    seal_each(alloc, &mut log, &mut disk, payloads.as_slice())?;
     Ok(disk)
 }
 

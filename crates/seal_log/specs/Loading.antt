@@ -9,7 +9,7 @@ use Rattle.seal_log.specs.declared.seen.Found.{Found}
 use Rattle.seal_log.specs.declared.seen.Found.TheVariants.{Frame, Closed, Cut}
 use Rattle.seal_log.specs.declared.seen.Survey.{Survey}
 use Rattle.seal_log.specs.Journal.{frame, sealed, BeginsClosed, IsPayload}
-use Rattle.seal_log.specs.Log.{last_gate}
+use Rattle.seal_log.specs.Log.{end_gate, is_cut}
 
 -- an open gate stands first, and its frame and the next gate are not within the bytes
 abbrev pub BeginsCut : List ℕ → Type 0
@@ -79,7 +79,7 @@ IsNotFormatted (gate ∷ rest) = gate ≢ 85
 
 -- the same of an image that may be no journal: where there is one, something stands there, whole or cut
 abbrev pub FindsJournal : List ℕ → Result Survey LoadFault → Type 0
-FindsJournal image (Ok seen) = FindsPayloads image (last_gate seen.log) seen.places seen.is_cut × ((seen.is_cut ≡ true) ⊎ (0 < length seen.places))
+FindsJournal image (Ok seen) = FindsPayloads image (end_gate seen.end) seen.places (is_cut seen.end) × ((is_cut seen.end ≡ true) ⊎ (0 < length seen.places))
 FindsJournal image (Err NotFormatted) = IsNotFormatted image
 FindsJournal image (Err (Damaged place)) = ⊥
 FindsJournal image (Err Disk) = Unit {0}

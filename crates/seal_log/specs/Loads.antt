@@ -9,7 +9,7 @@ use Rattle.seal_log.specs.declared.place.Place.{Place}
 use Rattle.seal_log.specs.declared.seen.Survey.{Survey}
 use Rattle.seal_log.specs.Journal.{sealed, BeginsClosed, IsPayload, StandsFor}
 use Rattle.seal_log.specs.Loading.{BeginsCut, IsDamagedAt, IsNotFormatted, places_from}
-use Rattle.seal_log.specs.Log.{last_gate}
+use Rattle.seal_log.specs.Log.{end_gate, is_cut, last_gate}
 use Rattle.seal_log.specs.Settled.{Holds, IsSettled}
 
 -- Behind the payloads an open gate stands whose frame and next gate are not within the image; or a gate that is not open,
@@ -31,7 +31,7 @@ pub record IsSurveyed (image : List ℕ) (disk : DiskTold) (gate : ℕ) (places 
 
 -- what a survey says of the image that was there, and of the disk that is left
 abbrev pub Surveys : List ℕ → DiskTold → Result Survey LoadFault → Type 0
-Surveys image disk (Ok seen) = IsSurveyed image disk (last_gate seen.log) seen.places seen.is_cut
+Surveys image disk (Ok seen) = IsSurveyed image disk (end_gate seen.end) seen.places (is_cut seen.end)
 Surveys image disk (Err NotFormatted) = IsNotFormatted image
 Surveys image disk (Err (Damaged place)) = ⊥
 Surveys image disk (Err Disk) = Unit {0}

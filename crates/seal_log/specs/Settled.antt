@@ -1,7 +1,7 @@
 -- A disk that a journal lies on.
-use Rattle.std.specs.Prelude.{◌≡◌, ◌≤◌, ℕ, List, ◌++◌, length, take}
+use Rattle.std.specs.Prelude.{◌≡◌, ◌≤◌, ℕ, List, [], ◌∷◌, ◌++◌, length}
 use Rattle.undo_outside.specs.Disk.{DiskTold}
-use Rattle.seal_log.specs.Journal.{sealed, StandsFor}
+use Rattle.seal_log.specs.Journal.{frame, sealed, StandsFor}
 
 -- The images of now all stand for these payloads, and right behind them stands the last gate, not open.
 pub record IsSettled (disk : DiskTold) (gate : ℕ) (payloads : List (List ℕ)) : Type 0 where
@@ -14,8 +14,10 @@ pub record Holds (disk : DiskTold) (payloads : List (List ℕ)) : Type 0 where
   pub honest : disk.honest
   pub front : (c : List ℕ) → disk.images c → (rest : List ℕ) × (c ≡ sealed payloads ++ rest)
 
--- the disk is settled behind the first payloads and some of the others, in order
-pub record IsSettledFront (disk : DiskTold) (gate : ℕ) (first others : List (List ℕ)) : Type 0 where
-  pub count : ℕ
-  pub few : count ≤ length others
-  pub settled : IsSettled disk gate (first ++ take count others)
+-- From old to new there is a moment at which the frame of a payload stood behind a gate that was not open; and whatever a crash
+-- may have left since, there the frame stands behind the first byte, with a gate behind it.
+pub record IsFrameFirst (payload : List ℕ) (old new : DiskTold) : Type 0 where
+  pub moment : ℕ
+  pub later : old.moment ≤ moment
+  pub shut : new.since moment (0 ∷ (frame payload ++ 0 ∷ []))
+  pub behind : (c : List ℕ) → new.since moment c → (gate : ℕ) × (c ≡ gate ∷ (frame payload ++ 0 ∷ []))

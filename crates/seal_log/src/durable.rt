@@ -13,6 +13,7 @@ pub fn write_synced<D: Disk>(disk: &mut D, place: u64, bytes: &[u8]) -> Result<(
     ensures honest { (D.told disk.old).honest → (D.told disk.new).honest }
     ensures written { (D.told disk.old).honest → OnOk result (IsOverwritten (D.told disk.old).content place bytes.now (D.told disk.new).content) }
     ensures durable { (D.told disk.old).honest → OnOk result (Only (D.told disk.new).content (D.told disk.new).images) }
+    ensures kept { (D.told disk.old).honest → (c : List ℕ) → (D.told disk.old).images c → (D.told disk.new).since (D.told disk.old).moment c }
     ensures no_memory { (D.told disk.old).honest → IsErrOf result Fault.NoMemory → (c : List ℕ) → (D.told disk.new).images c → (D.told disk.old).images c }
     ensures any_moment { (D.told disk.old).honest → LeavesOnly (D.told disk.old) (D.told disk.new) (IsTornOf place (length bytes.now) (D.told disk.old).size (D.told disk.old).images) }
     ensures never_torn { (D.told disk.old).honest → IsErrOf result Fault.NoMemory → LeavesOnly (D.told disk.old) (D.told disk.new) (D.told disk.old).images }

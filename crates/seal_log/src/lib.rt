@@ -1,7 +1,7 @@
 //! A sealed journal: frames behind gates, each payload on the disk before its gate is opened.
 //!
 //! `frame` has the bytes, `place` where a payload lies, `fault` why a call was refused, `durable` a write with its sync, `log` formats, seals and reads, `loading` finds what is there,
-//! as `seen` has it; `run` seals a list; `laws` says what the definitions imply. What carries the crate: `Log::seal`, `any_moment` (a crash at any moment
+//! as `seen` has it; `reading` reads a payload; `laws` says what the definitions imply. What carries the crate: `Log::seal`, `any_moment` (a crash at any moment
 //! leaves the payloads from before the call, with the new one or without) and `sealed` (at `Ok` each image has it).
 #![tactic(auto)]
 
@@ -12,7 +12,7 @@ mod laws;
 mod loading;
 mod log;
 mod place;
-mod run;
+mod reading;
 mod seen;
 
 pub use fault::{LoadFault, ReadFault, SealFault};
@@ -20,5 +20,5 @@ pub use laws::{one_reading, places_stay, readings_agree};
 pub use loading::{load, survey};
 pub use log::{Log, format};
 pub use place::{Place, Places};
-pub use run::seal_all;
-pub use seen::Survey;
+pub use reading::read_before;
+pub use seen::{End, Survey};

@@ -1,16 +1,16 @@
 //! Finding the payloads of a journal.
-ghost use Rattle.std.specs.Prelude.{◌≡◌, ◌⊎◌, ◌<◌, ◌≤◌, ◌+◌, ◌^◌, ◌∷◌, [], ℕ, drop, IfErr, IfOk, IsErrOf, length};
+ghost use Rattle.std.specs.Prelude.{◌≡◌, ◌⊎◌, ◌<◌, ◌≤◌, ◌+◌, ◌^◌, ◌∷◌, [], ℕ, true, drop, IfErr, IfOk, IsErrOf, length};
 ghost use Rattle.std.specs.List.{All, slice_range};
 ghost use Rattle.std.specs.Int.{to_be_bytes, w32};
 ghost use Rattle.undo_outside.specs.Moments.{LeavesOnly, OnlyReads};
 ghost use Rattle.seal_log.specs.Causes.{LoadCause, LookCause};
 ghost use Rattle.seal_log.specs.Loads.{Loads, Surveys};
-ghost use Rattle.seal_log.specs.Log.{IsClosed, last_gate};
+ghost use Rattle.seal_log.specs.Log.{IsClosed, end_gate, is_cut, last_gate, leaves_open};
 ghost use Rattle.seal_log.specs.Loading.{FindsFrame, FindsJournal, FindsPayloads, IsFollowed};
 
 use crate::frame::OPEN;
 use crate::seen::Found;
-use crate::{LoadFault, Log, Place, Places, Survey};
+use crate::{End, LoadFault, Log, Place, Places, Survey};
 use std::alloc::Global;
 use undo_outside::Disk;
 
@@ -76,10 +76,10 @@ fn frame_at<D: Disk>(disk: &mut D, gate: u64, end: u64) -> Result<Found, LoadFau
 fn scan<D: Disk>(alloc: Global, disk: &mut D, end: u64) -> Result<Survey, LoadFault>
     requires some { 0 < end }
     requires end { end ≡ (D.told disk.old).size }
-    ensures found { (D.told disk.old).honest → IfOk result (λ seen. FindsPayloads (D.told disk.old).content (last_gate seen.log) seen.places seen.is_cut) }
-    ensures not_closed { IfOk result (λ seen. IsClosed seen.log → ⊥) }
-    ensures within { IfOk result (λ seen. last_gate seen.log < end) }
-    ensures places { IfOk result (λ seen. All (λ place. place.gate + 5 + place.length ≤ last_gate seen.log) seen.places) }
+    ensures found { (D.told disk.old).honest → IfOk result (λ seen. FindsPayloads (D.told disk.old).content (end_gate seen.end) seen.places (is_cut seen.end)) }
+    ensures open { IfOk result (λ seen. leaves_open seen.end ≡ true) }
+    ensures within { IfOk result (λ seen. end_gate seen.end < end) }
+    ensures places { IfOk result (λ seen. All (λ place. place.gate + 5 + place.length ≤ end_gate seen.end) seen.places) }
     ensures only_reads { OnlyReads (D.told disk.old) (D.told disk.new) }
     ensures formatted { IsErrOf result LoadFault.NotFormatted → ⊥ }
     ensures never_damaged { (place : ℕ) → IsErrOf result (LoadFault.Damaged place) → ⊥ }
@@ -93,8 +93,8 @@ fn scan<D: Disk>(alloc: Global, disk: &mut D, end: u64) -> Result<Survey, LoadFa
                 places.push(Place { gate, length })?;
                 gate += 5 + u64::from(length);
             }
-            Found::Closed => return Ok(Survey::at(gate, places, false)),
-            Found::Cut => return Ok(Survey::at(gate, places, true)),
+            Found::Closed => return Ok(Survey::whole(gate, places)),
+            Found::Cut => return Ok(Survey::cut(gate, places)),
         }
     }
 }
@@ -103,9 +103,9 @@ fn scan<D: Disk>(alloc: Global, disk: &mut D, end: u64) -> Result<Survey, LoadFa
 fn find<D: Disk>(alloc: Global, disk: &mut D) -> Result<Survey, LoadFault>
     ensures found { (D.told disk.old).honest → FindsJournal (D.told disk.old).content result }
     ensures empty { (D.told disk.old).size ≡ 0 → IsErrOf result LoadFault.NotFormatted ⊎ IsErrOf result LoadFault.Disk }
-    ensures not_closed { IfOk result (λ seen. IsClosed seen.log → ⊥) }
-    ensures within { IfOk result (λ seen. last_gate seen.log < (D.told disk.old).size) }
-    ensures places { IfOk result (λ seen. All (λ place. place.gate + 5 + place.length ≤ last_gate seen.log) seen.places) }
+    ensures open { IfOk result (λ seen. leaves_open seen.end ≡ true) }
+    ensures within { IfOk result (λ seen. end_gate seen.end < (D.told disk.old).size) }
+    ensures places { IfOk result (λ seen. All (λ place. place.gate + 5 + place.length ≤ end_gate seen.end) seen.places) }
     ensures only_reads { OnlyReads (D.told disk.old) (D.told disk.new) }
     ensures never_damaged { (place : ℕ) → IsErrOf result (LoadFault.Damaged place) → ⊥ }
     ensures cause { LookCause (D.told disk.old) (D.told disk.new) result }
@@ -128,12 +128,14 @@ pub fn survey<D: Disk>(alloc: Global, disk: &mut D) -> Result<Survey, LoadFault>
     ensures never_damaged { (place : ℕ) → IsErrOf result (LoadFault.Damaged place) → ⊥ }
     ensures cause { LoadCause (D.told disk.old) (D.told disk.new) result }
 
+    // What reads give is as before, but where a call failed.
+    ensures content { (D.told disk.old).honest → (IsErrOf result LoadFault.Disk → ⊥) → (D.told disk.new).content ≡ (D.told disk.old).content }
     // A crash at any moment leaves what it could have left before.
     ensures any_moment { (D.told disk.old).honest → LeavesOnly (D.told disk.old) (D.told disk.new) (D.told disk.old).images }
 
-    ensures not_closed { IfOk result (λ seen. IsClosed seen.log → ⊥) }
-    ensures within { IfOk result (λ seen. last_gate seen.log < (D.told disk.new).size) }
-    ensures places { IfOk result (λ seen. All (λ place. place.gate + 5 + place.length ≤ last_gate seen.log) seen.places) }
+    ensures open { IfOk result (λ seen. leaves_open seen.end ≡ true) }
+    ensures within { IfOk result (λ seen. end_gate seen.end < (D.told disk.new).size) }
+    ensures places { IfOk result (λ seen. All (λ place. place.gate + 5 + place.length ≤ end_gate seen.end) seen.places) }
     ensures size { (D.told disk.new).size ≡ (D.told disk.old).size }
     ensures honest { (D.told disk.old).honest → (D.told disk.new).honest }
 {
@@ -156,11 +158,9 @@ pub fn load<D: Disk>(alloc: Global, disk: &mut D) -> Result<(Log, Places), LoadF
     ensures size { (D.told disk.new).size ≡ (D.told disk.old).size }
     ensures honest { (D.told disk.old).honest → (D.told disk.new).honest }
 {
-    let seen = survey(alloc, disk)?;
-    if seen.is_cut {
-        return Err(LoadFault::Damaged {
-            place: seen.log.last_gate(),
-        });
+    let Survey { places, end } = survey(alloc, disk)?;
+    match end {
+        End::Whole(log) => Ok((log, places)),
+        End::Cut { gate } => Err(LoadFault::Damaged { place: gate }),
     }
-    Ok((seen.log, seen.places))
 }

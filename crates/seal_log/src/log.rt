@@ -4,14 +4,15 @@ ghost use Rattle.undo_outside.specs.Disk.{IsOverwritten, WriteCause};
 ghost use Rattle.undo_outside.specs.Moments.{LeavesOnly, OnlyReads};
 ghost use Rattle.seal_log.specs.Causes.{ReadAtCause, SealCause};
 ghost use Rattle.seal_log.specs.Journal.{frame, LiesAt, StandsFor, StandsForFront};
-ghost use Rattle.seal_log.specs.Settled.{Holds, IsSettled};
+ghost use Rattle.seal_log.specs.Settled.{Holds, IsFrameFirst, IsSettled};
 ghost use Rattle.seal_log.specs.Log.{IsClosed, last_gate};
 
 use crate::durable::write_synced;
 use crate::frame::{OPEN, closed_frame, first_frame};
+use crate::reading::read_before;
 use crate::{Place, ReadFault, SealFault};
 use std::alloc::Global;
-use undo_base::{NoMemory, Text};
+use undo_base::Text;
 use undo_outside::{Disk, DiskFault, Fault};
 
 /// The end of a journal on a disk: its last gate.
@@ -166,11 +167,7 @@ impl Log {
         ensures held { (payloads : List (List ℕ)) → Holds (D.told disk.old) payloads → Holds (D.told disk.new) payloads }
         ensures only_reads { OnlyReads (D.told disk.old) (D.told disk.new) }
     {
-        let mut bytes = blank(alloc, length)?;
-        match disk.read(place.gate + 5 + u64::from(from), &mut bytes) {
-            Ok(()) => Ok(Text::from_vec(bytes)),
-            Err(_) => Err(ReadFault::Disk),
-        }
+        read_before(alloc, disk, self.gate, place, from, length)
     }
 }
 
@@ -182,6 +179,8 @@ pub fn format<D: Disk>(alloc: Global, disk: &mut D, head: &[u8]) -> Result<Log, 
     ensures log { IfOk result (λ log. (last_gate log ≡ 5 + length head.now) × (IsClosed log → ⊥)) }
     ensures settled { (D.told disk.old).honest → IfOk result (λ log. IsSettled (D.told disk.new) (last_gate log) (head.now ∷ [])) }
     ensures written { (D.told disk.old).honest → OnOk result ((D.told disk.new).content ≡ 85 ∷ (frame head.now ++ 0 ∷ [])) }
+    // The frame is on the disk before its gate is opened.
+    ensures frame_first { (D.told disk.old).honest → OnOk result (IsFrameFirst head.now (D.told disk.old) (D.told disk.new)) }
     ensures cause { SealCause (D.told disk.old) (D.told disk.new) result }
     ensures not_closed { IsErrOf result SealFault.Closed → ⊥ }
 
@@ -202,6 +201,7 @@ fn put_first<D: Disk>(alloc: Global, disk: &mut D, head: &[u8]) -> Result<(), Di
 
     ensures settled { (D.told disk.old).honest → OnOk result (IsSettled (D.told disk.new) (5 + length head.now) (head.now ∷ [])) }
     ensures written { (D.told disk.old).honest → OnOk result ((D.told disk.new).content ≡ 85 ∷ (frame head.now ++ 0 ∷ [])) }
+    ensures frame_first { (D.told disk.old).honest → OnOk result (IsFrameFirst head.now (D.told disk.old) (D.told disk.new)) }
     ensures cause { WriteCause (D.told disk.old) (D.told disk.new) result }
     ensures grown { OnOk result (5 + length head.now < (D.told disk.new).size) }
     ensures honest { (D.told disk.old).honest → (D.told disk.new).honest }
@@ -210,11 +210,4 @@ fn put_first<D: Disk>(alloc: Global, disk: &mut D, head: &[u8]) -> Result<(), Di
     write_synced(disk, 0, &bytes)?;
     write_synced(disk, 0, &[OPEN])?;
     Ok(())
-}
-
-/// So many bytes, to be read into.
-fn blank(alloc: Global, count: u32) -> Result<Vec<u8>, NoMemory>
-    ensures { IfOk result (λ bytes. length bytes.items ≡ count) }
-{
-    Ok(vec![in alloc; 0; count as usize]?)
 }

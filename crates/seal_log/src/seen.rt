@@ -1,6 +1,6 @@
 //! What is seen of a journal.
-ghost use Rattle.std.specs.Prelude.{◌≡◌, ◌↔◌, [], false, IsTrue};
-ghost use Rattle.seal_log.specs.Log.{IsClosed, last_gate};
+ghost use Rattle.std.specs.Prelude.{◌≡◌, ◌↔◌, [], true, false, IsTrue};
+ghost use Rattle.seal_log.specs.Log.{IsClosed, end_gate, is_cut as cut_there, leaves_open};
 
 use crate::{Log, Places};
 
@@ -15,35 +15,75 @@ pub(crate) enum Found {
     Cut,
 }
 
+/// What stands behind the payloads of a journal.
+#[derive(Debug, Drop)]
+pub enum End {
+    /// A gate that is not open: more can be sealed.
+    Whole(Log),
+    /// An open gate at this place, whose frame and next gate are not within the length. Nothing can be sealed.
+    Cut { gate: u64 },
+}
+
 /// The payloads of a journal, and how they end.
 #[derive(Debug, Drop)]
 pub struct Survey {
-    /// Its last gate is the one behind the payloads.
-    pub log: Log,
     pub places: Places,
-    /// Whether the last gate is open, and its frame and the next gate are not within the length. Nothing is to be sealed then.
-    pub is_cut: bool,
+    pub end: End,
+}
+
+impl End {
+    /// The place of the gate behind the payloads.
+    pub fn gate(&self) -> u64
+        ensures { result ≡ end_gate self.now }
+    {
+        match self {
+            End::Whole(log) => log.last_gate(),
+            End::Cut { gate } => *gate,
+        }
+    }
+
+    /// Whether the gate behind the payloads is open, and its frame is cut.
+    fn is_cut(&self) -> bool
+        ensures { result ≡ cut_there self.now }
+    {
+        match self {
+            End::Whole(_) => false,
+            End::Cut { .. } => true,
+        }
+    }
 }
 
 impl Survey {
-    /// Payloads at these places, the gate behind them, and whether its frame is cut.
-    pub(crate) fn at(gate: u64, places: Places, is_cut: bool) -> Survey
-        ensures gate { last_gate result.log ≡ gate }
-        ensures not_closed { IsClosed result.log → ⊥ }
+    /// Payloads at these places, and a gate behind them that is not open.
+    pub(crate) fn whole(gate: u64, places: Places) -> Survey
+        ensures gate { end_gate result.end ≡ gate }
+        ensures open { leaves_open result.end ≡ true }
         ensures places { result.places ≡ places }
-        ensures is_cut { result.is_cut ≡ is_cut }
+        ensures is_cut { cut_there result.end ≡ false }
     {
         Survey {
-            log: Log::at(gate),
             places,
-            is_cut,
+            end: End::Whole(Log::at(gate)),
+        }
+    }
+
+    /// Payloads at these places, and an open gate behind them whose frame is cut.
+    pub(crate) fn cut(gate: u64, places: Places) -> Survey
+        ensures gate { end_gate result.end ≡ gate }
+        ensures open { leaves_open result.end ≡ true }
+        ensures places { result.places ≡ places }
+        ensures is_cut { cut_there result.end ≡ true }
+    {
+        Survey {
+            places,
+            end: End::Cut { gate },
         }
     }
 
     /// Whether nothing stands there, whole or cut.
     pub(crate) fn is_empty(&self) -> bool
-        ensures { IsTrue result ↔ ((self.now.is_cut ≡ false) × (self.now.places ≡ [])) }
+        ensures { IsTrue result ↔ ((cut_there self.now.end ≡ false) × (self.now.places ≡ [])) }
     {
-        !self.is_cut && self.places.is_empty()
+        !self.end.is_cut() && self.places.is_empty()
     }
 }

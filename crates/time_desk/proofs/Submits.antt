@@ -3,7 +3,6 @@ use Rattle.std.proofs.Common.{◌≡◌, ◌<◌, ℕ, false, List, [], ◌∷�
 use Rattle.undo_outside.specs.Disk.{DiskTold}
 use Rattle.seal_log.specs.declared.fault.SealFault.{SealFault}
 use Rattle.seal_log.specs.declared.fault.SealFault.TheVariants as log_faults
-use Rattle.seal_log.specs.declared.log.Log.{Log}
 use Rattle.verb_core.specs.declared.ask.Refused.{Refused}
 use Rattle.verb_core.specs.declared.ask.SubmitFault.{SubmitFault}
 use Rattle.verb_core.specs.declared.ask.SubmitFault.TheVariants as ask_faults
@@ -16,7 +15,7 @@ use Rattle.mail_desk.specs.Desk.{performed, submitted_as}
 use Rattle.mail_desk.specs.Held.{Held}
 use Rattle.mail_desk.specs.Kept.{Kept}
 use Rattle.time_desk.specs.declared.fault.ActFault.{ActFault}
-use Rattle.time_desk.specs.Lasting.{Lasting, lasting}
+use Rattle.time_desk.specs.Lasting.{JournalTold, Lasting, lasting}
 use Rattle.time_desk.specs.Records.{after_records}
 use Rattle.time_desk.specs.Sealing.{IsRecordOf, Seals}
 use Rattle.time_desk.specs.Submitting.{ActsNone, IsActOutcomeOf, IsOutcomeOf, RefusesNone, SealsNone, SubmitsNone, WritesNone}
@@ -48,9 +47,9 @@ none_written (Err ask_faults.Closed) old new none = tt
 
 module _ {D : Type 0} (told : D → DiskTold) where
   -- room that was made is nothing that was sealed
-  pub seals_from : (added failed : List JournalRecord) (before after : Held) (disk : D) (log : Log) (new : Lasting D) → after.kept ≡ before.kept
-      → Seals told added failed (lasting after disk log) new → Seals told added failed (lasting before disk log) new
-  seals_from added failed before after disk log new same seals = record {
+  pub seals_from : (added failed : List JournalRecord) (before after : Held) (journal : JournalTold D) (new : Lasting D) → after.kept ≡ before.kept
+      → Seals told added failed (lasting after journal) new → Seals told added failed (lasting before journal) new
+  seals_from added failed before after journal new same seals = record {
     kept = subst (λ (k : Kept). after_records k added ≡ Some new.kept) same seals.kept;
     could = seals.could;
     closed = seals.closed;
@@ -70,23 +69,23 @@ module _ {D : Type 0} (told : D → DiskTold) where
   submits_none item old new log_faults.Closed out open_ is none = absurd none
 
   -- of the desk before room was made, by what is due
-  pub submits_none_from : (due : Result Item Refused) (item : Item) (before after : Held) (disk : D) (log : Log) (new : Lasting D) (result : Result Item SubmitFault)
-      → due ≡ Ok item → after.kept ≡ before.kept → log.closed ≡ false → IfErr result (λ fault. SubmitsNone told (Ok item) (lasting after disk log) new fault)
-      → IfErr result (λ fault. SubmitsNone told due (lasting before disk log) new fault)
-  submits_none_from due item before after disk log new (Ok x) is same still none = tt
-  submits_none_from due item before after disk log new (Err (ask_faults.Refused why)) is same still (open_, refusal, nothing) =
-      (open_, subst (λ (d : Result Item Refused). IsRefusal why d) (sym is) refusal, seals_from [] [] before after disk log new same nothing)
-  submits_none_from due item before after disk log new (Err ask_faults.Disk) is same still (open_, (other, due_is, failed)) =
-      (open_, (other, is ∙ due_is, seals_from [] (Verb other ∷ []) before after disk log new same failed))
-  submits_none_from due item before after disk log new (Err ask_faults.Closed) is same still (shut, unchanged) = absurd (cc (still, shut))
+  pub submits_none_from : (due : Result Item Refused) (item : Item) (before after : Held) (journal : JournalTold D) (new : Lasting D) (result : Result Item SubmitFault)
+      → due ≡ Ok item → after.kept ≡ before.kept → journal.closed ≡ false → IfErr result (λ fault. SubmitsNone told (Ok item) (lasting after journal) new fault)
+      → IfErr result (λ fault. SubmitsNone told due (lasting before journal) new fault)
+  submits_none_from due item before after journal new (Ok x) is same still none = tt
+  submits_none_from due item before after journal new (Err (ask_faults.Refused why)) is same still (open_, refusal, nothing) =
+      (open_, subst (λ (d : Result Item Refused). IsRefusal why d) (sym is) refusal, seals_from [] [] before after journal new same nothing)
+  submits_none_from due item before after journal new (Err ask_faults.Disk) is same still (open_, (other, due_is, failed)) =
+      (open_, (other, is ∙ due_is, seals_from [] (Verb other ∷ []) before after journal new same failed))
+  submits_none_from due item before after journal new (Err ask_faults.Closed) is same still (shut, unchanged) = absurd (cc (still, shut))
 
   -- ---- acts
 
-  pub acts_none : (at : ℕ) (act : Act) (before after : Held) (disk : D) (log : Log) (new : Lasting D) (fault : SealFault) (out : ActFault)
-      → after.kept ≡ before.kept → log.closed ≡ false → before.kept.next < 4194304 → IsActOutcomeOf fault out
-      → SealsNone told (Operator before.kept.next at act) (lasting after disk log) new fault → ActsNone told at act (lasting before disk log) new out
-  acts_none at act before after disk log new log_faults.Disk out same open_ left is none =
-      subst (ActsNone told at act (lasting before disk log) new) (sym is) (open_, left, seals_from [] (Operator before.kept.next at act ∷ []) before after disk log new same none)
-  acts_none at act before after disk log new log_faults.NoMemory out same open_ left is none =
-      subst (ActsNone told at act (lasting before disk log) new) (sym is) (open_, left, seals_from [] [] before after disk log new same none)
-  acts_none at act before after disk log new log_faults.Closed out same open_ left is none = absurd none
+  pub acts_none : (at : ℕ) (act : Act) (before after : Held) (journal : JournalTold D) (new : Lasting D) (fault : SealFault) (out : ActFault)
+      → after.kept ≡ before.kept → journal.closed ≡ false → before.kept.next < 4194304 → IsActOutcomeOf fault out
+      → SealsNone told (Operator before.kept.next at act) (lasting after journal) new fault → ActsNone told at act (lasting before journal) new out
+  acts_none at act before after journal new log_faults.Disk out same open_ left is none =
+      subst (ActsNone told at act (lasting before journal) new) (sym is) (open_, left, seals_from [] (Operator before.kept.next at act ∷ []) before after journal new same none)
+  acts_none at act before after journal new log_faults.NoMemory out same open_ left is none =
+      subst (ActsNone told at act (lasting before journal) new) (sym is) (open_, left, seals_from [] [] before after journal new same none)
+  acts_none at act before after journal new log_faults.Closed out same open_ left is none = absurd none

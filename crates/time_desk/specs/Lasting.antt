@@ -14,9 +14,19 @@ pub record Lasting (D : Type 0) : Type 0 where
   pub gate : ℕ
   pub closed : Bool
 
--- of a desk in memory, a disk, and the end of the journal on it
-abbrev pub lasting : {D : Type 0} → Held → D → Log → Lasting D
-lasting held disk log = record { kept = held.kept; room = held.room; disk = disk; gate = last_gate log; closed = log.closed }
+-- the part of it that is the journal
+pub record JournalTold (D : Type 0) : Type 0 where
+  pub disk : D
+  pub gate : ℕ
+  pub closed : Bool
+
+-- of a disk, and the end of the journal on it
+abbrev pub journal_of : {D : Type 0} → D → Log → JournalTold D
+journal_of disk log = record { disk = disk; gate = last_gate log; closed = log.closed }
+
+-- of a desk in memory and its journal
+abbrev pub lasting : {D : Type 0} → Held → JournalTold D → Lasting D
+lasting held journal = record { kept = held.kept; room = held.room; disk = journal.disk; gate = journal.gate; closed = journal.closed }
 
 -- from old to new nothing was kept and nothing was written
 pub record IsUnwritten {D : Type 0} (old new : Lasting D) : Type 0 where

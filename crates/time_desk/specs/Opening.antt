@@ -1,5 +1,5 @@
 -- What an image opens as, and what becomes of a disk on which a journal is opened.
-use Rattle.std.specs.Prelude.{◌≡◌, ◌⊎◌, ◌<◌, ℕ, List, [], ◌∷◌, ◌++◌, length, is_some, Some, None, Result, Ok, Err, IsTrue}
+use Rattle.std.specs.Prelude.{◌≡◌, ◌⊎◌, ◌<◌, ℕ, List, [], ◌∷◌, ◌++◌, length, is_some, Some, None, Result, Ok, Err, IsErrOf, IsTrue}
 use Rattle.std.specs.List.{AllByRecursion}
 use Rattle.undo_outside.specs.Disk.{DiskTold, ReadFailed, WriteFailed}
 use Rattle.undo_outside.specs.Moments.{LeavesOnly}
@@ -95,3 +95,7 @@ pub record Starts (old new : DiskTold) (result : Result (Kept × ℕ) StartFault
   pub any_moment : old.honest → LeavesOnly old new old.images
   pub size : new.size ≡ old.size
   pub honest : old.honest → new.honest
+  -- what reads give is as before, but where a call failed
+  pub content : old.honest → (IsErrOf result Disk → ⊥) → new.content ≡ old.content
+  -- a disk without a byte is not formatted, also where it isn't honest
+  pub empty : old.size ≡ 0 → IsErrOf result NotFormatted ⊎ IsErrOf result Disk

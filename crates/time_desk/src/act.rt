@@ -5,7 +5,6 @@ ghost use Rattle.verb_core.specs.declared.item.Deed.TheVariants.{Act as Acts};
 ghost use Rattle.verb_core.specs.Items.{users_in};
 ghost use Rattle.verb_core.specs.Store.{is_known};
 ghost use Rattle.verb_bytes.specs.declared.journal.JournalRecord.TheVariants.{Operator};
-ghost use Rattle.seal_log.specs.Log.{last_gate};
 ghost use Rattle.mail_desk.specs.Desk.{performed};
 ghost use Rattle.mail_desk.specs.Entering.{CanEnter};
 ghost use Rattle.time_desk.specs.Lasting.{lasting};
@@ -14,11 +13,12 @@ ghost use Rattle.time_desk.specs.Sealing.{IsRecordOf, Seals};
 ghost use Rattle.time_desk.specs.Submitting.{ActsNone, IsActOutcomeOf};
 ghost use Rattle.time_desk.specs.declared.fault.ActFault.TheVariants as act_faults;
 
+use crate::on_disk::Journal;
 use crate::seal::seal_ready;
 use crate::spelling::act_bytes;
 use crate::{ActFault, Desk};
 use mail_desk::Ready;
-use seal_log::{Log, SealFault};
+use seal_log::SealFault;
 use std::alloc::Global;
 use undo_base::{LAST_NUMBER, NoMemory, Text};
 use undo_outside::Disk;
@@ -89,25 +89,22 @@ fn fault_of(fault: SealFault) -> ActFault
 /// Does an act for which a number is left.
 fn act_numbered<D: Disk>(
     alloc: Global,
-    log: &mut Log,
-    disk: &mut D,
+    journal: &mut Journal<D>,
     desk: &mut mail_desk::Desk,
     at: u64,
     act: Act,
 ) -> Result<(), ActFault>
-    requires end { last_gate log.old < (D.told disk.old).size }
-    requires open { log.old.closed ≡ false }
+    requires open { journal.old.closed ≡ false }
     requires known { IsTrue (list_all (is_known desk.old.kept.house) (users_in (Acts act))) }
     requires left { desk.old.kept.next < 4194304 }
-    ensures ok { OnOk result (Seals D.told (Operator desk.old.kept.next at act ∷ []) [] (lasting desk.old disk.old log.old) (lasting desk.new disk.new log.new)) }
+    ensures ok { OnOk result (Seals D.told (Operator desk.old.kept.next at act ∷ []) [] (lasting desk.old journal.old) (lasting desk.new journal.new)) }
     ensures performed { OnOk result (desk.new.kept ≡ performed desk.old.kept (act_item desk.old.kept.next at act)) }
-    ensures err { IfErr result (λ fault. ActsNone D.told at act (lasting desk.old disk.old log.old) (lasting desk.new disk.new log.new) fault) }
+    ensures err { IfErr result (λ fault. ActsNone D.told at act (lasting desk.old journal.old) (lasting desk.new journal.new) fault) }
     ensures same { OnErr result (desk.new.kept ≡ desk.old.kept) }
     ensures not_closed { IsErrOf result ActFault.Closed → ⊥ }
-    ensures within { last_gate log.new < (D.told disk.new).size }
 {
     match ready_act(alloc, desk, at, act) {
-        Ok((ready, bytes)) => match seal_ready(alloc, log, disk, desk, &bytes, ready) {
+        Ok((ready, bytes)) => match seal_ready(alloc, journal, desk, &bytes, ready) {
             Ok(()) => Ok(()),
             Err(fault) => Err(fault_of(fault)),
         },
@@ -118,25 +115,22 @@ fn act_numbered<D: Disk>(
 /// Does an act on a desk that is not closed.
 fn act_open<D: Disk>(
     alloc: Global,
-    log: &mut Log,
-    disk: &mut D,
+    journal: &mut Journal<D>,
     desk: &mut mail_desk::Desk,
     at: u64,
     act: Act,
 ) -> Result<u32, ActFault>
-    requires end { last_gate log.old < (D.told disk.old).size }
-    requires open { log.old.closed ≡ false }
+    requires open { journal.old.closed ≡ false }
     requires known { IsTrue (list_all (is_known desk.old.kept.house) (users_in (Acts act))) }
     ensures number { IfOk result (λ number. number ≡ desk.old.kept.next) }
-    ensures ok { OnOk result (Seals D.told (Operator desk.old.kept.next at act ∷ []) [] (lasting desk.old disk.old log.old) (lasting desk.new disk.new log.new)) }
+    ensures ok { OnOk result (Seals D.told (Operator desk.old.kept.next at act ∷ []) [] (lasting desk.old journal.old) (lasting desk.new journal.new)) }
     ensures performed { OnOk result (desk.new.kept ≡ performed desk.old.kept (act_item desk.old.kept.next at act)) }
-    ensures err { IfErr result (λ fault. ActsNone D.told at act (lasting desk.old disk.old log.old) (lasting desk.new disk.new log.new) fault) }
+    ensures err { IfErr result (λ fault. ActsNone D.told at act (lasting desk.old journal.old) (lasting desk.new journal.new) fault) }
     ensures same { OnErr result (desk.new.kept ≡ desk.old.kept) }
     ensures not_closed { IsErrOf result ActFault.Closed → ⊥ }
-    ensures within { last_gate log.new < (D.told disk.new).size }
 {
     match next_number(desk) {
-        Ok(number) => match act_numbered(alloc, log, disk, desk, at, act) {
+        Ok(number) => match act_numbered(alloc, journal, desk, at, act) {
             Ok(()) => Ok(number),
             Err(fault) => Err(fault),
         },
@@ -155,16 +149,9 @@ impl<D: Disk> Desk<D> {
         ensures why { IfErr result (λ fault. ActsNone D.told at act self.old self.new fault) }
         ensures closed { IsErrOf result ActFault.Closed ↔ IsTrue self.old.closed }
     {
-        if self.log.is_closed() {
+        if self.journal.is_closed() {
             return Err(ActFault::Closed);
         }
-        act_open(
-            alloc,
-            &mut self.log,
-            &mut self.disk,
-            &mut self.desk,
-            at,
-            act,
-        )
+        act_open(alloc, &mut self.journal, &mut self.desk, at, act)
     }
 }

@@ -14,9 +14,10 @@ ghost use Rattle.mail_desk.specs.Counting.{counts_of, listed};
 ghost use Rattle.mail_desk.specs.Desk.{store_of};
 ghost use Rattle.mail_desk.specs.Timeline.{all_bodies, has_sizes, has_text, numbers_rise, rev_of, texts_of};
 
+use crate::on_disk::Journal;
 use box_store::Store;
 use mail_desk::Counts;
-use seal_log::{Log, ReadFault};
+use seal_log::ReadFault;
 use shelf::Shelf;
 use std::alloc::Global;
 use std::marker::Model;
@@ -25,24 +26,19 @@ use undo_base::{Name, NoMemory, Text, Texts, User};
 use undo_outside::Disk;
 use verb_core::{Body, Conf, House, Items, Stamps};
 
-/// A desk in memory, the disk that its journal lies on, and the end of that journal.
+/// A desk in memory, and its journal on a disk.
 #[derive(Drop)]
 pub struct Desk<D: Disk> {
-    pub(crate) disk: D,
-    pub(crate) log: Log,
+    pub(crate) journal: Journal<D>,
     pub(crate) desk: mail_desk::Desk,
 }
 
 impl<D: Disk> Model for Desk<D> {
-    ghost use Rattle.std.specs.Prelude.{◌<◌};
-    ghost use Rattle.seal_log.specs.Log.{last_gate};
     ghost use Rattle.time_desk.specs.Lasting.{Lasting, lasting};
 
     ghost Value = { Lasting D };
 
-    ghost view = { λ d. lasting d.desk d.disk d.log };
-
-    ghost invariant = { λ d. last_gate d.log < (D.told d.disk).size };
+    ghost view = { λ d. lasting d.desk d.journal };
 }
 
 impl<D: Disk> Desk<D> {
@@ -50,7 +46,7 @@ impl<D: Disk> Desk<D> {
     pub fn closed(&self) -> bool
         ensures { result ≡ self.now.closed }
     {
-        self.log.is_closed()
+        self.journal.is_closed()
     }
 
     /// What its configuration says for good.
@@ -183,13 +179,14 @@ impl<D: Disk> Desk<D> {
         ensures within { self.now.gate < (D.told self.now.disk).size }
     {
         self.desk.stands();
+        self.journal.stands();
     }
 
     /// The disk as it is.
     pub fn into_disk(self) -> D
         ensures { result ≡ self.disk }
     {
-        let Desk { disk, .. } = self;
-        disk
+        let Desk { journal, .. } = self;
+        journal.into_disk()
     }
 }

@@ -1,6 +1,6 @@
 //! The desk over a disk: each item is sealed in the journal, and then performed in memory.
 //!
-//! `desk` has the desk over its disk and tells its parts. `make` begins a journal, `start` reads one, with `standing` for the records that
+//! `on_disk` has a journal on its disk, and `desk` the desk over it, and tells its parts. `make` begins a journal, `start` reads one, with `standing` for the records that
 //! can stand, and `openings` has the law that an image opens in one way. `seal` seals one record; `submit` and `act` take what
 //! users and the operator ask; `spelling` says which items have a record, and `fault` why a desk is not made, not started or an act not
 //! done. In specs/, `Records` says what records leave one after the other and when one can stand,
@@ -14,6 +14,7 @@ mod desk;
 mod fault;
 pub mod laws;
 mod make;
+mod on_disk;
 mod openings;
 mod seal;
 mod spelling;

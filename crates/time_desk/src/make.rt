@@ -8,6 +8,7 @@ ghost use Rattle.house_text.specs.Beginning.{can_begin};
 ghost use Rattle.time_desk.specs.Making.{Begins, LooksEmpty, Makes};
 ghost use Rattle.time_desk.specs.Records.{state};
 
+use crate::on_disk::Journal;
 use crate::spelling::house_bytes;
 use crate::{Desk, MakeFault};
 use seal_log::{Log, SealFault, format};
@@ -90,7 +91,10 @@ impl<D: Disk> Desk<D> {
     {
         let mut disk = disk;
         match make_parts(alloc, &mut disk, house, conf) {
-            Ok((log, desk)) => Ok(Desk { disk, log, desk }),
+            Ok((log, desk)) => Ok(Desk {
+                journal: Journal::at(disk, log),
+                desk,
+            }),
             Err(fault) => Err((disk, fault)),
         }
     }

@@ -7,15 +7,16 @@ ghost use Rattle.verb_bytes.specs.Spelling.{HasSpelling, Spells};
 ghost use Rattle.seal_log.specs.Journal.{sealed, LiesAt};
 ghost use Rattle.seal_log.specs.Loading.{places_from};
 ghost use Rattle.seal_log.specs.Loads.{IsSurveyed};
-ghost use Rattle.seal_log.specs.Log.{IsClosed, last_gate};
+ghost use Rattle.seal_log.specs.Log.{end_gate, is_cut, last_gate, leaves_open};
 ghost use Rattle.seal_log.specs.Settled.{Holds};
 ghost use Rattle.time_desk.specs.Opening.{IsStarted, Refuses, Starts};
 ghost use Rattle.time_desk.specs.Records.{after_record, first_state};
 ghost use Rattle.time_desk.specs.Standing.{BreaksFor, Fails, FailsPayload, LeadsTo, Performed, ReadCounts, SpellsAll, SpellsNothing, StopsFor};
 
+use crate::on_disk::Journal;
 use crate::standing::{begin, follow};
 use crate::{Desk, StartFault};
-use seal_log::{LoadFault, Log, Place, ReadFault, Survey, survey};
+use seal_log::{End, LoadFault, Log, Place, ReadFault, Survey, read_before, survey};
 use std::alloc::Global;
 use undo_base::{NoMemory, Text};
 use undo_outside::Disk;
@@ -41,11 +42,11 @@ fn decoded(alloc: Global, payload: &Text, gate: u64) -> Result<JournalRecord, St
 fn record_at<D: Disk>(
     alloc: Global,
     disk: &mut D,
-    log: &Log,
+    end: u64,
     place: Place,
 ) -> Result<JournalRecord, StartFault>
-    requires end { last_gate log.now < (D.told disk.old).size }
-    requires place { place.gate + 5 + place.length ≤ last_gate log.now }
+    requires end { end < (D.told disk.old).size }
+    requires place { place.gate + 5 + place.length ≤ end }
     ensures spelled { IfOk result HasSpelling }
     ensures read { (payloads : List (List ℕ)) (payload : List ℕ) → Holds (D.told disk.old) payloads
         → LiesAt payloads place.gate place.length payload → IfOk result (λ what. Spells what payload) }
@@ -55,7 +56,7 @@ fn record_at<D: Disk>(
     ensures ok { OnOk result ((D.told disk.new).failed_reads ≡ (D.told disk.old).failed_reads) }
     ensures fault { IfErr result (ReadCounts (D.told disk.old) (D.told disk.new)) }
 {
-    match log.read_at(alloc, disk, place, 0, place.length) {
+    match read_before(alloc, disk, end, place, 0, place.length) {
         Ok(payload) => decoded(alloc, &payload, place.gate),
         Err(ReadFault::Disk) => Err(StartFault::Disk),
         Err(ReadFault::NoMemory) => Err(StartFault::NoMemory),
@@ -79,11 +80,11 @@ fn begun(alloc: Global, what: JournalRecord, gate: u64) -> Result<mail_desk::Des
 fn begin_at<D: Disk>(
     alloc: Global,
     disk: &mut D,
-    log: &Log,
+    end: u64,
     place: Place,
 ) -> Result<mail_desk::Desk, StartFault>
-    requires end { last_gate log.now < (D.told disk.old).size }
-    requires place { place.gate + 5 + place.length ≤ last_gate log.now }
+    requires end { end < (D.told disk.old).size }
+    requires place { place.gate + 5 + place.length ≤ end }
     ensures performed { (payloads : List (List ℕ)) (payload : List ℕ) → Holds (D.told disk.old) payloads
         → LiesAt payloads place.gate place.length payload → IfOk result (λ desk. Performed first_state payload desk.kept) }
     ensures bad { (payloads : List (List ℕ)) (payload : List ℕ) → Holds (D.told disk.old) payloads
@@ -93,7 +94,7 @@ fn begin_at<D: Disk>(
     ensures fault { IfErr result (ReadCounts (D.told disk.old) (D.told disk.new)) }
 {
     one_spelling();
-    match record_at(alloc, disk, log, place) {
+    match record_at(alloc, disk, end, place) {
         Ok(what) => begun(alloc, what, place.gate),
         Err(fault) => Err(fault),
     }
@@ -125,12 +126,12 @@ fn performed(
 fn perform_at<D: Disk>(
     alloc: Global,
     disk: &mut D,
-    log: &Log,
+    end: u64,
     place: Place,
     desk: &mut mail_desk::Desk,
 ) -> Result<(), StartFault>
-    requires end { last_gate log.now < (D.told disk.old).size }
-    requires place { place.gate + 5 + place.length ≤ last_gate log.now }
+    requires end { end < (D.told disk.old).size }
+    requires place { place.gate + 5 + place.length ≤ end }
     ensures performed { (payloads : List (List ℕ)) (payload : List ℕ) → Holds (D.told disk.old) payloads
         → LiesAt payloads place.gate place.length payload
         → OnOk result (Performed (after_record desk.old.kept) payload desk.new.kept) }
@@ -142,7 +143,7 @@ fn perform_at<D: Disk>(
     ensures fault { IfErr result (ReadCounts (D.told disk.old) (D.told disk.new)) }
 {
     one_spelling();
-    match record_at(alloc, disk, log, place) {
+    match record_at(alloc, disk, end, place) {
         Ok(what) => performed(alloc, desk, what, place.gate),
         Err(fault) => Err(fault),
     }
@@ -154,12 +155,12 @@ fn perform_at<D: Disk>(
 fn perform_all<D: Disk>(
     alloc: Global,
     disk: &mut D,
-    log: &Log,
+    end: u64,
     places: &[Place],
     desk: &mut mail_desk::Desk,
 ) -> Result<(), StartFault>
-    requires end { last_gate log.now < (D.told disk.old).size }
-    requires places { All (λ place. place.gate + 5 + place.length ≤ last_gate log.now) places.now }
+    requires end { end < (D.told disk.old).size }
+    requires places { All (λ place. place.gate + 5 + place.length ≤ end) places.now }
     ensures performed { (before payloads : List (List ℕ)) → Holds (D.told disk.old) (before ++ payloads)
         → places.now ≡ places_from (length (sealed before)) payloads → OnOk result (LeadsTo desk.old.kept payloads desk.new.kept) }
     ensures bad { (before payloads : List (List ℕ)) → Holds (D.told disk.old) (before ++ payloads)
@@ -170,7 +171,7 @@ fn perform_all<D: Disk>(
     ensures fault { IfErr result (ReadCounts (D.told disk.old) (D.told disk.new)) }
 {
     for place in places {
-        match perform_at(alloc, disk, log, *place, desk) {
+        match perform_at(alloc, disk, end, *place, desk) {
             Ok(()) => {}
             Err(fault) => return Err(fault),
         }
@@ -182,12 +183,12 @@ fn perform_all<D: Disk>(
 fn followed_by<D: Disk>(
     alloc: Global,
     disk: &mut D,
-    log: &Log,
+    end: u64,
     places: &[Place],
     desk: mail_desk::Desk,
 ) -> Result<mail_desk::Desk, StartFault>
-    requires end { last_gate log.now < (D.told disk.old).size }
-    requires places { All (λ place. place.gate + 5 + place.length ≤ last_gate log.now) places.now }
+    requires end { end < (D.told disk.old).size }
+    requires places { All (λ place. place.gate + 5 + place.length ≤ end) places.now }
     ensures performed { (before payloads : List (List ℕ)) → Holds (D.told disk.old) (before ++ payloads)
         → places.now ≡ places_from (length (sealed before)) payloads → IfOk result (λ led. LeadsTo desk.kept payloads led.kept) }
     ensures bad { (before payloads : List (List ℕ)) → Holds (D.told disk.old) (before ++ payloads)
@@ -198,7 +199,7 @@ fn followed_by<D: Disk>(
     ensures fault { IfErr result (ReadCounts (D.told disk.old) (D.told disk.new)) }
 {
     let mut desk = desk;
-    match perform_all(alloc, disk, log, places, &mut desk) {
+    match perform_all(alloc, disk, end, places, &mut desk) {
         Ok(()) => Ok(desk),
         Err(fault) => Err(fault),
     }
@@ -222,12 +223,12 @@ fn others(places: &[Place]) -> &[Place]
 fn read_all<D: Disk>(
     alloc: Global,
     disk: &mut D,
-    log: &Log,
+    end: u64,
     places: &[Place],
 ) -> Result<mail_desk::Desk, StartFault>
     requires some { 0 < length places.now }
-    requires end { last_gate log.now < (D.told disk.old).size }
-    requires places { All (λ place. place.gate + 5 + place.length ≤ last_gate log.now) places.now }
+    requires end { end < (D.told disk.old).size }
+    requires places { All (λ place. place.gate + 5 + place.length ≤ end) places.now }
     ensures read { (payloads : List (List ℕ)) → Holds (D.told disk.old) payloads → places.now ≡ places_from 0 payloads
         → IfOk result (λ desk. SpellsAll payloads desk.kept) }
     ensures bad { (payloads : List (List ℕ)) → Holds (D.told disk.old) payloads → places.now ≡ places_from 0 payloads
@@ -236,29 +237,36 @@ fn read_all<D: Disk>(
     ensures ok { OnOk result ((D.told disk.new).failed_reads ≡ (D.told disk.old).failed_reads) }
     ensures fault { IfErr result (ReadCounts (D.told disk.old) (D.told disk.new)) }
 {
-    match begin_at(alloc, disk, log, first(places)) {
-        Ok(desk) => followed_by(alloc, disk, log, others(places), desk),
+    match begin_at(alloc, disk, end, first(places)) {
+        Ok(desk) => followed_by(alloc, disk, end, others(places), desk),
         Err(fault) => Err(fault),
     }
 }
 
 // ---- the desk
 
-/// The end of a journal and the desk that its records leave; where a cut frame stands behind them its gate is told.
-fn ended(
-    log: Log,
-    desk: mail_desk::Desk,
-    is_cut: bool,
-) -> Result<(Log, mail_desk::Desk), StartFault>
-    ensures whole { IfOk result (λ parts. (is_cut ≡ false) × (parts.0 ≡ log) × (parts.1 ≡ desk)) }
-    ensures cut { IfErr result (Fails (is_cut ≡ true) (last_gate log)) }
+/// The log behind the payloads of a journal; where a cut frame stands behind them its gate is told.
+fn log_of(end: End) -> Result<Log, StartFault>
+    ensures whole { IfOk result (λ log. (is_cut end ≡ false) × (last_gate log ≡ end_gate end)) }
+    ensures open { IfOk result (λ log. leaves_open end ≡ true → log.closed ≡ false) }
+    ensures cut { IfErr result (Fails (is_cut end ≡ true) (end_gate end)) }
 {
-    if is_cut {
-        return Err(StartFault::Damaged {
-            place: log.last_gate(),
-        });
+    match end {
+        End::Whole(log) => Ok(log),
+        End::Cut { gate } => Err(StartFault::Damaged { place: gate }),
     }
-    Ok((log, desk))
+}
+
+/// The same beside the desk that the records leave.
+fn ended(end: End, desk: mail_desk::Desk) -> Result<(Log, mail_desk::Desk), StartFault>
+    ensures whole { IfOk result (λ parts. (is_cut end ≡ false) × (last_gate parts.0 ≡ end_gate end) × (parts.1 ≡ desk)) }
+    ensures open { IfOk result (λ parts. leaves_open end ≡ true → parts.0.closed ≡ false) }
+    ensures cut { IfErr result (Fails (is_cut end ≡ true) (end_gate end)) }
+{
+    match log_of(end) {
+        Ok(log) => Ok((log, desk)),
+        Err(fault) => Err(fault),
+    }
 }
 
 /// The same of what was seen of a journal.
@@ -267,12 +275,12 @@ fn opened_from<D: Disk>(
     disk: &mut D,
     seen: Survey,
 ) -> Result<(Log, mail_desk::Desk), StartFault>
-    requires end { last_gate seen.log < (D.told disk.old).size }
-    requires places { All (λ place. place.gate + 5 + place.length ≤ last_gate seen.log) seen.places }
-    requires open { IsClosed seen.log → ⊥ }
-    ensures found { (image : List ℕ) → IsSurveyed image (D.told disk.old) (last_gate seen.log) seen.places seen.is_cut
+    requires end { end_gate seen.end < (D.told disk.old).size }
+    requires places { All (λ place. place.gate + 5 + place.length ≤ end_gate seen.end) seen.places }
+    requires open { leaves_open seen.end ≡ true }
+    ensures found { (image : List ℕ) → IsSurveyed image (D.told disk.old) (end_gate seen.end) seen.places (is_cut seen.end)
         → IfOk result (λ parts. IsStarted image (D.told disk.new) parts.1.kept (last_gate parts.0)) }
-    ensures bad { (image : List ℕ) → IsSurveyed image (D.told disk.old) (last_gate seen.log) seen.places seen.is_cut
+    ensures bad { (image : List ℕ) → IsSurveyed image (D.told disk.old) (end_gate seen.end) seen.places (is_cut seen.end)
         → IfErr result (Refuses image) }
     ensures reads { OnlyReads (D.told disk.old) (D.told disk.new) }
     ensures ok { OnOk result ((D.told disk.new).failed_reads ≡ (D.told disk.old).failed_reads) }
@@ -280,18 +288,12 @@ fn opened_from<D: Disk>(
     ensures open { IfOk result (λ parts. parts.0.closed ≡ false) }
     ensures within { IfOk result (λ parts. last_gate parts.0 < (D.told disk.new).size) }
 {
-    let Survey {
-        log,
-        places,
-        is_cut,
-    } = seen;
+    let Survey { places, end } = seen;
     if places.is_empty() {
-        return Err(StartFault::Damaged {
-            place: log.last_gate(),
-        });
+        return Err(StartFault::Damaged { place: end.gate() });
     }
-    match read_all(alloc, disk, &log, places.as_slice()) {
-        Ok(desk) => ended(log, desk, is_cut),
+    match read_all(alloc, disk, end.gate(), places.as_slice()) {
+        Ok(desk) => ended(end, desk),
         Err(fault) => Err(fault),
     }
 }
@@ -321,7 +323,10 @@ impl<D: Disk> Desk<D> {
     {
         let mut disk = disk;
         match opened(alloc, &mut disk) {
-            Ok((log, desk)) => Ok(Desk { disk, log, desk }),
+            Ok((log, desk)) => Ok(Desk {
+                journal: Journal::at(disk, log),
+                desk,
+            }),
             Err(fault) => Err((disk, fault)),
         }
     }

@@ -6,7 +6,6 @@ ghost use Rattle.verb_core.specs.Store.{is_known};
 ghost use Rattle.box_store.specs.Refusing.{IsRefusal};
 ghost use Rattle.verb_bytes.specs.declared.journal.JournalRecord.TheVariants.{Verb};
 ghost use Rattle.verb_bytes.specs.Spelling.{record_bytes};
-ghost use Rattle.seal_log.specs.Log.{last_gate};
 ghost use Rattle.mail_desk.specs.Desk.{performed, store_of, submitted};
 ghost use Rattle.mail_desk.specs.Entering.{CanEnter};
 ghost use Rattle.time_desk.specs.Lasting.{lasting};
@@ -15,10 +14,11 @@ ghost use Rattle.time_desk.specs.Sealing.{IsRecordOf, Seals};
 ghost use Rattle.time_desk.specs.Submitting.{IsOutcomeOf, RefusesNone, SubmitsNone, WritesNone};
 
 use crate::Desk;
+use crate::on_disk::Journal;
 use crate::seal::seal_ready;
 use crate::spelling::item_bytes;
 use mail_desk::Ready;
-use seal_log::{Log, SealFault};
+use seal_log::SealFault;
 use std::alloc::Global;
 use undo_base::{Copies, NoMemory, Text, User};
 use undo_outside::Disk;
@@ -97,27 +97,24 @@ fn fault_of(fault: SealFault) -> SubmitFault
 /// Seals what was found, and enters it.
 fn seal_found<D: Disk>(
     alloc: Global,
-    log: &mut Log,
-    disk: &mut D,
+    journal: &mut Journal<D>,
     desk: &mut mail_desk::Desk,
     found: Found,
 ) -> Result<Item, SubmitFault>
-    requires end { last_gate log.old < (D.told disk.old).size }
-    requires open { log.old.closed ≡ false }
+    requires open { journal.old.closed ≡ false }
     requires ready { CanEnter found.ready desk.old }
     requires copy { found.ready.item ≡ found.item }
     requires record { IsRecordOf (Verb found.item) found.bytes desk.old.kept found.item }
     ensures item { IfOk result (λ item. item ≡ found.item) }
-    ensures ok { OnOk result (Seals D.told (Verb found.item ∷ []) [] (lasting desk.old disk.old log.old) (lasting desk.new disk.new log.new)) }
+    ensures ok { OnOk result (Seals D.told (Verb found.item ∷ []) [] (lasting desk.old journal.old) (lasting desk.new journal.new)) }
     ensures performed { OnOk result (desk.new.kept ≡ performed desk.old.kept found.item) }
     ensures same { OnErr result (desk.new ≡ desk.old) }
-    ensures err { IfErr result (λ fault. SubmitsNone D.told (Ok found.item) (lasting desk.old disk.old log.old) (lasting desk.new disk.new log.new) fault) }
+    ensures err { IfErr result (λ fault. SubmitsNone D.told (Ok found.item) (lasting desk.old journal.old) (lasting desk.new journal.new) fault) }
     ensures refuses_none { RefusesNone result }
     ensures not_closed { IsErrOf result SubmitFault.Closed → ⊥ }
-    ensures within { last_gate log.new < (D.told disk.new).size }
 {
     let Found { ready, item, bytes } = found;
-    match seal_ready(alloc, log, disk, desk, &bytes, ready) {
+    match seal_ready(alloc, journal, desk, &bytes, ready) {
         Ok(()) => Ok(item),
         Err(fault) => Err(fault_of(fault)),
     }
@@ -126,8 +123,7 @@ fn seal_found<D: Disk>(
 /// Asks for something of a desk that is not closed.
 fn submit_open<D: Disk>(
     alloc: Global,
-    log: &mut Log,
-    disk: &mut D,
+    journal: &mut Journal<D>,
     desk: &mut mail_desk::Desk,
     at: u64,
     by: Option<User>,
@@ -135,19 +131,17 @@ fn submit_open<D: Disk>(
 ) -> Result<Item, SubmitFault>
     requires by { IsSome by ↔ IsTrue (is_users ask) }
     requires known { IsTrue (list_all (is_known desk.old.kept.house) (cons_option by [])) }
-    requires end { last_gate log.old < (D.told disk.old).size }
-    requires open { log.old.closed ≡ false }
+    requires open { journal.old.closed ≡ false }
     ensures ok { IfOk result (λ item. submitted desk.old.kept at by ask ≡ record { outcome = Ok item; kept = desk.new.kept }) }
-    ensures sealed { IfOk result (λ item. Seals D.told (Verb item ∷ []) [] (lasting desk.old disk.old log.old) (lasting desk.new disk.new log.new)) }
+    ensures sealed { IfOk result (λ item. Seals D.told (Verb item ∷ []) [] (lasting desk.old journal.old) (lasting desk.new journal.new)) }
     ensures err { OnErr result (desk.new.kept ≡ desk.old.kept) }
     ensures why { IfErr result (λ fault. SubmitsNone D.told (live (store_of desk.old.kept) desk.old.kept.next at by ask)
-        (lasting desk.old disk.old log.old) (lasting desk.new disk.new log.new) fault) }
-    ensures writes_none { WritesNone result (lasting desk.old disk.old log.old) (lasting desk.new disk.new log.new) }
+        (lasting desk.old journal.old) (lasting desk.new journal.new) fault) }
+    ensures writes_none { WritesNone result (lasting desk.old journal.old) (lasting desk.new journal.new) }
     ensures not_closed { IsErrOf result SubmitFault.Closed → ⊥ }
-    ensures within { last_gate log.new < (D.told disk.new).size }
 {
     match find(alloc, desk, at, by, ask) {
-        Ok(found) => seal_found(alloc, log, disk, desk, found),
+        Ok(found) => seal_found(alloc, journal, desk, found),
         Err(refused) => Err(SubmitFault::Refused(refused)),
     }
 }
@@ -172,17 +166,9 @@ impl<D: Disk> Desk<D> {
         ensures writes_none { WritesNone result self.old self.new }
         ensures closed { IsErrOf result SubmitFault.Closed ↔ IsTrue self.old.closed }
     {
-        if self.log.is_closed() {
+        if self.journal.is_closed() {
             return Err(SubmitFault::Closed);
         }
-        submit_open(
-            alloc,
-            &mut self.log,
-            &mut self.disk,
-            &mut self.desk,
-            at,
-            by,
-            ask,
-        )
+        submit_open(alloc, &mut self.journal, &mut self.desk, at, by, ask)
     }
 }

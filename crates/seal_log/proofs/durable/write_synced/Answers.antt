@@ -1,4 +1,4 @@
-use Rattle.std.proofs.Common.{length, inl}
+use Rattle.std.proofs.Common.{ℕ, ◌≤◌, List, arith, length, inl}
 use Rattle.std.specs.Prelude.{IsErrOf}
 use Rattle.std.proofs.lemmas.Result.{err_from_is_err_and}
 use Rattle.undo_outside.specs.declared.fault.Fault.TheVariants.{NoMemory}
@@ -36,3 +36,25 @@ returns-in_err-write_at-clause-never_torn g c honest refused =
     let no_memory : IsErrOf c.write_at.result NoMemory = cc (told.1, told.2, refused, c.in_err-write_at.was) in
     call old new old.images (c.write_at.ensures.time honest) (g.met.D.Disk.tells_truth c.args.disk.now honest).only_now (λ f was. was)
     (λ f now. ((c.write_at.ensures.no_memory no_memory).images honest f).0 now)
+
+-- what a crash could have left at first it can still have left
+images_kept : (g : Over) (c : After-sync g) → (g.D.Disk.told c.args.disk.now).honest
+    → (f : List ℕ) → (g.D.Disk.told c.args.disk.now).images f → (g.D.Disk.told c.sync.new.self).since (g.D.Disk.told c.args.disk.now).moment f
+images_kept g c honest f was =
+    let old = g.D.Disk.told c.args.disk.now in
+    let here : old.moment ≤ old.moment = omega arith in
+    let written = c.write_at.ensures.time honest in
+    let synced = c.sync.ensures.time (c.write_at.ensures.honest honest) in
+    synced.kept old.moment f written.later (written.kept old.moment f here ((g.met.D.Disk.tells_truth c.args.disk.now honest).counts_now old.moment f here was))
+
+pub returns-in-Ok-clause-kept : goal.returns-in-Ok-clause-kept
+returns-in-Ok-clause-kept g c = images_kept g (goal.at.returns-in-Ok-clause-kept g c).After-sync
+
+pub returns-in-Err-clause-kept : goal.returns-in-Err-clause-kept
+returns-in-Err-clause-kept g c = images_kept g (goal.at.returns-in-Err-clause-kept g c).After-sync
+
+pub returns-in_err-write_at-clause-kept : goal.returns-in_err-write_at-clause-kept
+returns-in_err-write_at-clause-kept g c honest f was =
+    let old = g.D.Disk.told c.args.disk.now in
+    let here : old.moment ≤ old.moment = omega arith in
+    (c.write_at.ensures.time honest).kept old.moment f here ((g.met.D.Disk.tells_truth c.args.disk.now honest).counts_now old.moment f here was)

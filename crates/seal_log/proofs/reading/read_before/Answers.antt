@@ -2,7 +2,7 @@ use Rattle.std.proofs.Common.{◌∙◌, ◌≡◌, ◌+◌, arith}
 use Rattle.std.proofs.lemmas.Grind.{common_steps}
 use Rattle.std.specs.List.{slice_range}
 use Rattle.seal_log.proofs.Ranges.{range_of_payload}
-use Rattle.seal_log.proofs.log.Log.read_at.Goals as goal
+use Rattle.seal_log.proofs.reading.read_before.Goals as goal
 
 pub returns-in-Ok-clause-bytes : goal.returns-in-Ok-clause-bytes
 returns-in-Ok-clause-bytes g c = grind (arith, common_steps)

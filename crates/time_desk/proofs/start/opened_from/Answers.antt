@@ -1,6 +1,5 @@
-use Rattle.std.proofs.Common.{◌≡◌, ◌∙◌, true, sym, subst}
-use Rattle.seal_log.specs.declared.log.Log.{Log}
-use Rattle.seal_log.specs.Log.{last_gate}
+use Rattle.std.proofs.Common.{◌≡◌, ◌∙◌, ℕ, true, sym, subst}
+use Rattle.seal_log.specs.Log.{end_gate, is_cut, last_gate}
 use Rattle.mail_desk.specs.Held.{Held}
 use Rattle.time_desk.specs.Opening.{IsDamaged, IsStarted, Refuses}
 use Rattle.time_desk.specs.Standing.{Fails}
@@ -10,28 +9,28 @@ use Rattle.time_desk.proofs.start.opened_from.Goals as goal
 
 pub returns-then-is_empty-clause-bad : goal.returns-then-is_empty-clause-bad
 returns-then-is_empty-clause-bad g c image seen =
-    subst (IsDamaged image) (sym c.last_gate.ensures)
-    (cut_first image (g.D.Disk.told c.args.disk.now) (last_gate c.args.seen.log) c.args.seen.places c.args.seen.is_cut seen (c.is_empty.ensures.0 c.if-is_empty.true))
+    subst (IsDamaged image) (sym c.gate.ensures)
+    (cut_first image (g.D.Disk.told c.args.disk.now) (end_gate c.args.seen.end) c.args.seen.places (is_cut c.args.seen.end) seen (c.is_empty.ensures.0 c.if-is_empty.true))
 
 pub returns-in-Ok-clause-found : goal.returns-in-Ok-clause-found
 returns-in-Ok-clause-found g c image seen =
     let disk = g.D.Disk.told c.args.disk.now in
     let new = g.D.Disk.told c.read_all.new.disk in
     let all = c.in-Ok.ensures.read seen.payloads seen.held (c.as_slice.ensures ∙ seen.places_are) in
-    let is = whole image disk (last_gate c.args.seen.log) c.args.seen.places new c.args.seen.is_cut seen c.in-Ok.desk.kept c.read_all.ensures.reads in
+    let is = whole image disk (end_gate c.args.seen.end) c.args.seen.places new (is_cut c.args.seen.end) seen c.in-Ok.desk.kept c.read_all.ensures.reads in
     if_ok c.ended.result _ _
     (λ parts ended. subst (λ (desk : Held). IsStarted image new desk.kept (last_gate parts.0)) (sym ended.2)
-    (subst (λ (log : Log). IsStarted image new c.in-Ok.desk.kept (last_gate log)) (sym ended.1) (is ended.0 all))) c.ended.ensures.whole
+    (subst (λ (gate : ℕ). IsStarted image new c.in-Ok.desk.kept gate) (sym ended.1) (is ended.0 all))) c.ended.ensures.whole
 
 pub returns-in-Ok-clause-bad : goal.returns-in-Ok-clause-bad
 returns-in-Ok-clause-bad g c image seen =
     let disk = g.D.Disk.told c.args.disk.now in
-    let gate = last_gate c.args.seen.log in
+    let gate = end_gate c.args.seen.end in
     let all = c.in-Ok.ensures.read seen.payloads seen.held (c.as_slice.ensures ∙ seen.places_are) in
-    if_err c.ended.result (Fails (c.args.seen.is_cut ≡ true) gate) (Refuses image)
-    (λ fault. cut_told image disk gate c.args.seen.places c.args.seen.is_cut seen c.in-Ok.desk.kept fault all) c.ended.ensures.cut
+    if_err c.ended.result (Fails (is_cut c.args.seen.end ≡ true) gate) (Refuses image)
+    (λ fault. cut_told image disk gate c.args.seen.places (is_cut c.args.seen.end) seen c.in-Ok.desk.kept fault all) c.ended.ensures.cut
 
 pub returns-clause-bad : goal.returns-clause-bad
 returns-clause-bad g c image seen =
-    breaks image (g.D.Disk.told c.args.disk.now) (last_gate c.args.seen.log) c.args.seen.places c.args.seen.is_cut seen c.in-Err.fault
+    breaks image (g.D.Disk.told c.args.disk.now) (end_gate c.args.seen.end) c.args.seen.places (is_cut c.args.seen.end) seen c.in-Err.fault
     (c.in-Err.ensures.bad seen.payloads seen.held (c.as_slice.ensures ∙ seen.places_are))

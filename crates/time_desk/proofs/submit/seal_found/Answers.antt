@@ -13,7 +13,7 @@ made g c = record_as (Verb c.args.found.item) c.args.found.bytes c.args.desk.now
 
 pub fault_of-requires : goal.fault_of-requires
 fault_of-requires g c =
-    never_closed g.D.Disk.told (Verb c.args.found.item) (lasting c.args.desk.now c.args.disk.now c.args.log.now) (lasting c.seal_ready.new.desk c.seal_ready.new.disk c.seal_ready.new.log) c.in-Err.fault
+    never_closed g.D.Disk.told (Verb c.args.found.item) (lasting c.args.desk.now c.args.journal.now) (lasting c.seal_ready.new.desk c.seal_ready.new.journal) c.in-Err.fault
     (c.in-Err.ensures.err (Verb c.args.found.item) (made g (goal.at.fault_of-requires g c).After-seal_ready))
 
 pub returns-in-Ok-clause-ok : goal.returns-in-Ok-clause-ok
@@ -21,7 +21,7 @@ returns-in-Ok-clause-ok g c = c.in-Ok.ensures.ok (Verb c.args.found.item) (made 
 
 pub returns-in-Err-clause-err : goal.returns-in-Err-clause-err
 returns-in-Err-clause-err g c =
-    submits_none g.D.Disk.told c.args.found.item (lasting c.args.desk.now c.args.disk.now c.args.log.now) (lasting c.seal_ready.new.desk c.seal_ready.new.disk c.seal_ready.new.log) c.in-Err.fault c.fault_of.result
+    submits_none g.D.Disk.told c.args.found.item (lasting c.args.desk.now c.args.journal.now) (lasting c.seal_ready.new.desk c.seal_ready.new.journal) c.in-Err.fault c.fault_of.result
     c.requires.open c.fault_of.ensures
     (c.in-Err.ensures.err (Verb c.args.found.item) (made g (goal.at.returns-in-Err-clause-err g c).After-seal_ready))
 

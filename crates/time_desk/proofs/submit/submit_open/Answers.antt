@@ -24,13 +24,13 @@ pub returns-in-Err-clause-why : goal.returns-in-Err-clause-why
 returns-in-Err-clause-why g c = (
   c.requires.open,
   c.in-Err.ensures.refused,
-  seals_nothing g.D.Disk.told g.met.D.Disk.tells_truth (lasting c.args.desk.now c.args.disk.now c.args.log.now) (lasting c.find.new.desk c.args.disk.now c.args.log.now)
+  seals_nothing g.D.Disk.told g.met.D.Disk.tells_truth (lasting c.args.desk.now c.args.journal.now) (lasting c.find.new.desk c.args.journal.now)
       (record { kept = c.in-Err.ensures.kept; disk = refl; gate = refl; closed = refl }),
 )
 
 pub returns-in-Ok-clause-writes_none : goal.returns-in-Ok-clause-writes_none
 returns-in-Ok-clause-writes_none g c =
-    none_written c.seal_found.result (lasting c.args.desk.now c.args.disk.now c.args.log.now) (lasting c.seal_found.new.desk c.seal_found.new.disk c.seal_found.new.log) c.seal_found.ensures.refuses_none
+    none_written c.seal_found.result (lasting c.args.desk.now c.args.journal.now) (lasting c.seal_found.new.desk c.seal_found.new.journal) c.seal_found.ensures.refuses_none
 
 pub returns-in-Err-clause-writes_none : goal.returns-in-Err-clause-writes_none
 returns-in-Err-clause-writes_none g c = λ other. record { kept = c.in-Err.ensures.kept; disk = refl; gate = refl; closed = refl }

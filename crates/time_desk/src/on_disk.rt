@@ -1,0 +1,105 @@
+//! The journal on a disk.
+ghost use Rattle.std.specs.Prelude.{◌≡◌, ◌<◌, [], ◌∷◌, true, false, OnOk, IsErrOf};
+ghost use Rattle.seal_log.specs.Log.{last_gate};
+ghost use Rattle.time_desk.specs.Sealing.{SealsPayloads};
+
+use seal_log::{Log, SealFault};
+use std::alloc::Global;
+use std::marker::Model;
+use undo_base::Text;
+use undo_outside::Disk;
+
+/// A disk, and the end of the journal that lies on it.
+#[derive(Drop)]
+pub(crate) struct Journal<D: Disk> {
+    disk: D,
+    log: Log,
+}
+
+impl<D: Disk> Model for Journal<D> {
+    ghost use Rattle.std.specs.Prelude.{◌<◌};
+    ghost use Rattle.seal_log.specs.Log.{last_gate};
+    ghost use Rattle.time_desk.specs.Lasting.{JournalTold, journal_of};
+
+    ghost Value = { JournalTold D };
+
+    ghost view = { λ j. journal_of j.disk j.log };
+
+    ghost invariant = { λ j. last_gate j.log < (D.told j.disk).size };
+}
+
+/// Seals a payload.
+fn seal_payload<D: Disk>(
+    alloc: Global,
+    log: &mut Log,
+    disk: &mut D,
+    payload: &Text,
+) -> Result<(), SealFault>
+    requires end { last_gate log.old < (D.told disk.old).size }
+    requires open { log.old.closed ≡ false }
+    ensures ok { OnOk result (SealsPayloads (payload.now ∷ []) [] (D.told disk.old) (D.told disk.new) (last_gate log.old) (last_gate log.new)) }
+    ensures failed { IsErrOf result SealFault.Disk
+        → SealsPayloads [] (payload.now ∷ []) (D.told disk.old) (D.told disk.new) (last_gate log.old) (last_gate log.new) }
+    ensures no_memory { IsErrOf result SealFault.NoMemory
+        → SealsPayloads [] [] (D.told disk.old) (D.told disk.new) (last_gate log.old) (last_gate log.new) }
+    ensures not_closed { IsErrOf result SealFault.Closed → ⊥ }
+    ensures still_open { OnOk result (log.new.closed ≡ false) }
+    ensures open_again { IsErrOf result SealFault.NoMemory → log.new.closed ≡ false }
+    ensures closes { IsErrOf result SealFault.Disk → log.new.closed ≡ true }
+    ensures within { last_gate log.new < (D.told disk.new).size }
+{
+    match log.seal(alloc, disk, payload.bytes()) {
+        Ok(_) => Ok(()),
+        Err(fault) => Err(fault),
+    }
+}
+
+impl<D: Disk> Journal<D> {
+    /// The journal that ends so on a disk.
+    pub(crate) fn at(disk: D, log: Log) -> Journal<D>
+        requires { last_gate log < (D.told disk).size }
+        ensures disk { result.disk ≡ disk }
+        ensures gate { result.gate ≡ last_gate log }
+        ensures closed { result.closed ≡ log.closed }
+    {
+        Journal { disk, log }
+    }
+
+    /// Whether a write or a sync failed.
+    pub(crate) fn is_closed(&self) -> bool
+        ensures { result ≡ self.now.closed }
+    {
+        self.log.is_closed()
+    }
+
+    /// What holds of each journal: this does nothing.
+    pub(crate) fn stands(&self)
+        ensures { self.now.gate < (D.told self.now.disk).size }
+    {
+        let _ = &self.disk;
+    }
+
+    /// Seals a payload.
+    pub(crate) fn seal(&mut self, alloc: Global, payload: &Text) -> Result<(), SealFault>
+        requires { self.old.closed ≡ false }
+        ensures ok { OnOk result (SealsPayloads (payload.now ∷ []) [] (D.told self.old.disk) (D.told self.new.disk) self.old.gate self.new.gate) }
+        ensures failed { IsErrOf result SealFault.Disk
+            → SealsPayloads [] (payload.now ∷ []) (D.told self.old.disk) (D.told self.new.disk) self.old.gate self.new.gate }
+        ensures no_memory { IsErrOf result SealFault.NoMemory
+            → SealsPayloads [] [] (D.told self.old.disk) (D.told self.new.disk) self.old.gate self.new.gate }
+        ensures not_closed { IsErrOf result SealFault.Closed → ⊥ }
+        ensures still_open { OnOk result (self.new.closed ≡ false) }
+        ensures open_again { IsErrOf result SealFault.NoMemory → self.new.closed ≡ false }
+        ensures closes { IsErrOf result SealFault.Disk → self.new.closed ≡ true }
+    {
+        seal_payload(alloc, &mut self.log, &mut self.disk, payload)
+    }
+
+    /// The disk as it is.
+    pub(crate) fn into_disk(self) -> D
+        ensures { result ≡ self.disk }
+    {
+        let Journal { disk, .. } = self;
+        disk
+    }
+}
