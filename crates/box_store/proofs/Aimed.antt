@@ -13,7 +13,8 @@ use Rattle.verb_core.specs.Aims.{Sought, sought, box_aimed}
 use Rattle.verb_core.specs.Step.{step, step_with}
 use Rattle.verb_core.proofs.AimLaws.{aims_here, missed_gone}
 use Rattle.box_store.specs.Kept.{sought_in}
-use Rattle.box_store.specs.Effects.{IsAimed, step_text}
+use Rattle.box_store.specs.declared.effect.Effect.{Effect}
+use Rattle.box_store.specs.Effects.{IsAimed, IsEffect, applied, step_text}
 
 pub aimed : (s : MailStore) (i : Item) (text : List ℕ) (what : Resolved) → IsValid s → IsWellFormed s.house i → what.item ≡ i → sought_in what ≡ sought s text i.by i.deed → IsAimed what s
 aimed s i text what valid formed is to = record {
@@ -25,6 +26,10 @@ aimed s i text what valid formed is to = record {
 -- the same answer
 pub same_answer : (s : MailStore) (i : Item) (text : List ℕ) (what : Resolved) (shown : Shown) → what.item ≡ i → sought_in what ≡ sought s text i.by i.deed → shown ≡ (step_with (sought_in what) s what.item).1 → shown ≡ (step_text s i text).1
 same_answer s i text what shown is to h = h ∙ (λ j. (step_with (to j) s (is j)).1)
+
+-- the same store
+pub same_store : (s : MailStore) (i : Item) (text : List ℕ) (what : Resolved) (e : Effect) → IsValid s → what.item ≡ i → sought_in what ≡ sought s text i.by i.deed → IsEffect e what s → applied e s ≡ (step_text s i text).0
+same_store s i text what e valid is to does = does.elsewhere s refl valid (λ q _. refl) ∙ (λ j. (step_with (to j) s (is j)).0)
 
 -- with the item's own text it is the step
 pub own_step : (s : MailStore) (i : Item) (text : List ℕ) → text ≡ unwrap_or (text_in i.deed) [] → step_text s i text ≡ step s i

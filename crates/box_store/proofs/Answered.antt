@@ -1,5 +1,5 @@
 -- From the first refusal, in turn, to what is asked now.
-use Rattle.std.proofs.Common.{◌≡◌, ℕ, ◌<◌, ◌≤◌, Bool, true, false, nat_lt, List, [], ◌∷◌, length, Option, Some, None, is_some, Result, Ok, Err, refl, sym, ap, ◌∙◌, subst, arith, ◌↔◌, IsTrue}
+use Rattle.std.proofs.Common.{◌≡◌, ℕ, ◌<◌, ◌≤◌, Bool, true, false, nat_lt, List, [], ◌∷◌, length, Option, Some, None, is_some, Ok, Err, refl, sym, ap, ◌∙◌, subst, arith, ◌↔◌, IsTrue}
 use Rattle.std.specs.List.{list_all, cons_option}
 use Rattle.std.specs.Cmp.{both_ways}
 use Rattle.std.proofs.lemmas.Bool.{leb-false}
@@ -12,7 +12,7 @@ use Rattle.verb_core.specs.declared.ask.Refused.TheVariants.{NoBox, Exists, Fixe
 use Rattle.verb_core.specs.Store.{MailStore, is_known}
 use Rattle.verb_core.specs.Items.{IsWellFormed, keys_in, users_in, is_own, has_form}
 use Rattle.verb_core.specs.Step.{step}
-use Rattle.verb_core.specs.Live.{deed_of, asked_item, is_gone, key_count, too_large, if_so, first_of, or_item, answered, live, is_users}
+use Rattle.verb_core.specs.Live.{deed_of, asked_item, is_gone, key_count, if_so, first_of, or_item, answered, live, is_users}
 use Rattle.box_store.specs.Refusing.{IsRefusal, IsDue, by_names, by_keys, by_room, in_turn}
 use Rattle.box_store.proofs.InTurn.{refusal-now}
 

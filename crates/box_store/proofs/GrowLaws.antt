@@ -1,8 +1,7 @@
 -- Mailboxes that grow, and the spare lists that they need.
-use Rattle.std.proofs.Common.{◌≡◌, ℕ, suc, ◌+◌, ◌<◌, ◌≤◌, ◌^◌, ◌-◌, Bool, true, false, cond, List, [], ◌∷◌, ◌++◌, map, Option, Some, None, option_map, unwrap_or, length, get_or, take, drop, arith, refl, sym, ap, ap₂, ◌∙◌, subst, inl, inr}
+use Rattle.std.proofs.Common.{◌≡◌, ℕ, suc, ◌+◌, ◌<◌, ◌≤◌, ◌^◌, Bool, true, false, cond, List, [], ◌∷◌, map, Option, Some, None, option_map, unwrap_or, length, get_or, take, drop, arith, sym, ap, ap₂, ◌∙◌, subst, inl, inr}
 use Rattle.std.proofs.lemmas.Bool.{cases_order}
 use Rattle.std.proofs.lemmas.List.{drop_more, drop_all, length-append, get_or-take, get_or_default}
-use Rattle.undo_base.specs.declared.keys.User.{User}
 use Rattle.std.specs.Ordering.{eq_by_cmp}
 use Rattle.verb_core.specs.declared.mailbox.BoxId.{BoxId}
 use Rattle.verb_core.specs.declared.mailbox.Entry.{Entry}
@@ -10,10 +9,10 @@ use Rattle.verb_core.specs.declared.mailbox.Mailbox.{Mailbox}
 use Rattle.verb_core.specs.Mailboxes.{put_all}
 use Rattle.verb_core.specs.Boxes.{box_cmp, box_of, row_at, change_row, mail_at, next_at}
 use Rattle.verb_core.proofs.BoxLaws.{row_at-change_row}
-use Rattle.box_store.specs.declared.effect.Put.{Put}
+use Rattle.mail_rows.specs.declared.change.Put.{Put}
 use Rattle.box_store.specs.Effects.{HasSpares, mail_in, put_each}
-use Rattle.box_store.specs.Mail.{numbered}
-use Rattle.box_store.proofs.MailLaws.{put_all-numbered, length-numbered}
+use Rattle.mail_rows.specs.Mail.{numbered}
+use Rattle.mail_rows.proofs.MailLaws.{put_all-numbered, length-numbered}
 use Rattle.box_store.proofs.SpareLaws.{HasRoom, spared}
 
 entries_in : Option Mailbox → List Entry

@@ -1,5 +1,5 @@
 -- The refusals by the mailboxes as they are now are those of the definition, and so is the answer.
-use Rattle.std.proofs.Common.{◌≡◌, ℕ, zero, suc, ◌+◌, ◌<◌, ◌≤◌, Bool, true, false, not, ◌&&◌, ◌||◌, ◌==◌, cond, List, [], ◌∷◌, ◌++◌, map, filter, filter_map, find, length, Option, Some, None, is_some, Result, Ok, Err, refl, sym, ap, ap₂, ◌∙◌, subst, arith, nat_lt, nat_le, true≢false, option_map, unwrap_or, bytes_eq}
+use Rattle.std.proofs.Common.{◌≡◌, ℕ, zero, suc, ◌+◌, ◌≤◌, Bool, true, false, not, ◌&&◌, ◌||◌, ◌==◌, cond, List, [], ◌∷◌, ◌++◌, map, filter_map, find, length, Option, Some, None, is_some, refl, sym, ap, ap₂, ◌∙◌, subst, arith, nat_lt, nat_le, true≢false, option_map, unwrap_or, bytes_eq}
 use Rattle.std.specs.List.{list_any, enumerate_from, cons_option}
 use Rattle.std.specs.Ordering.{eq_by_cmp}
 use Rattle.std.specs.Cmp.{both_ways, eq_by_cmp_equiv}
@@ -19,21 +19,21 @@ use Rattle.verb_core.specs.declared.item.Way.TheVariants.{Plain, NoSource, Merge
 use Rattle.verb_core.specs.declared.ask.Ask.{Ask}
 use Rattle.verb_core.specs.declared.ask.Ask.TheVariants.{Deliver, Append, Fetch, Store, Copy, List as Names, Status, Select, Expunge, Close, Create, Rename, Delete}
 use Rattle.verb_core.specs.declared.ask.Refused.{Refused}
-use Rattle.verb_core.specs.declared.ask.Refused.TheVariants.{NoBox, Exists, Fixed, NameShape, TryCreate, Gone, TooMany, TooLarge, BoxesFull, UidWide, Numbers, NoMemory}
+use Rattle.verb_core.specs.declared.ask.Refused.TheVariants.{NoBox, Exists, Fixed, NameShape, TryCreate, Gone, TooMany, TooLarge, BoxesFull, UidWide, Numbers}
 use Rattle.verb_core.specs.declared.mailbox.BoxId.{BoxId}
 use Rattle.verb_core.specs.declared.mailbox.Mailbox.{Mailbox}
 use Rattle.verb_core.specs.declared.mailbox.Entry.{Entry}
 use Rattle.verb_core.specs.Names.{inbox, lost_found, is_fixed, is_empty}
 use Rattle.verb_core.specs.Mailboxes.{no_mail, put_all, emptied, with_entries, there, copies, entry_of, same_key, reflagged, expunged, keys_of, no_flags}
-use Rattle.verb_core.specs.Boxes.{box_cmp, box_of, has_row, row_at, change_row, add_row, drop_row, mail_at, next_at}
+use Rattle.verb_core.specs.Boxes.{box_cmp, box_of, has_row, row_at, change_row, add_row, drop_row, next_at}
 use Rattle.verb_core.specs.Store.{MailStore}
 use Rattle.verb_core.specs.Items.{actor}
-use Rattle.verb_core.specs.Aims.{sought, sought_by, box_aimed, aim_at}
+use Rattle.verb_core.specs.Aims.{sought, sought_by, aim_at}
 use Rattle.verb_core.specs.Step.{Boxes, way_of, left, renamed, after_rename, rearranged, saved, new_mail, step, shown}
-use Rattle.verb_core.specs.Live.{asker, mail_of, marked, deed_of, asked_item, is_misshapen, asks_fixed, named, targets, new_names, is_missing, is_there, is_gone, key_count, too_large, overfills, is_uid_wide, if_so, first_of, refusal, or_item, answered, live}
+use Rattle.verb_core.specs.Live.{asker, mail_of, marked, deed_of, asked_item, is_misshapen, asks_fixed, named, targets, new_names, is_missing, is_there, is_gone, key_count, too_large, overfills, is_uid_wide, if_so, first_of, refusal, answered}
 use Rattle.verb_core.proofs.BoxLaws.{boxes_total, row_at-add_row, row_at-drop_row}
 use Rattle.verb_core.proofs.Validity.{has_row-change_row}
-use Rattle.box_store.specs.Refusing.{IsRefusal, by_names, by_keys, by_room, in_turn, fills_up, uses_up, outgrows, box_outgrows}
+use Rattle.box_store.specs.Refusing.{by_names, by_keys, by_room, in_turn, fills_up, uses_up, outgrows, box_outgrows}
 use Rattle.box_store.proofs.Growth.{no_so, not_above, count_names, names-put_at, names-change, names-drop, names-dropped, names-added, grown-put, grown-put_at, next-put_all}
 
 -- ---- what holds where no name refuses

@@ -1,5 +1,5 @@
 -- How many keys are there, how many are marked, and how many mailboxes a user has.
-use Rattle.std.proofs.Common.{◌≡◌, ℕ, suc, subst, ◌<◌, ◌≤◌, Bool, true, false, not, ◌||◌, cond, List, [], ◌∷◌, map, filter, length, refl, sym, ap, ◌∙◌, arith, nat_lt, ltb-true}
+use Rattle.std.proofs.Common.{◌≡◌, ℕ, suc, subst, ◌<◌, ◌≤◌, Bool, true, false, ◌||◌, cond, List, [], ◌∷◌, filter, length, refl, sym, ◌∙◌, arith, nat_lt, ltb-true}
 use Rattle.std.specs.Cmp.{both_ways}
 use Rattle.std.specs.List.{list_any, count_by}
 use Rattle.std.proofs.lemmas.Bool.{lt-ltb}

@@ -24,8 +24,10 @@ use Rattle.verb_core.specs.Step.{Boxes, way_of, deleted, new_mail, put_at, rearr
 use Rattle.verb_core.specs.Touched.{SameAt, named_boxes}
 use Rattle.verb_core.specs.Aims.{box_aimed}
 use Rattle.verb_core.proofs.BoxLaws.{tied, same_rows, rising-change_row, row_at-change_row, same_box, bytes_eq-refl}
-use Rattle.box_store.specs.Effects.{all_flags_set, flags_set, put_each}
-use Rattle.box_store.specs.Plans.{after, changes_from, own_message, puts_by}
+use Rattle.mail_rows.specs.Mail.{all_flags_set, flags_set}
+use Rattle.box_store.specs.Effects.{put_each}
+use Rattle.mail_rows.specs.Changes.{changes_from, own_message, puts_by}
+use Rattle.box_store.specs.Plans.{after}
 
 -- ---- rows
 

@@ -1,5 +1,5 @@
 -- Spare lists.
-use Rattle.std.proofs.Common.{◌≡◌, ℕ, zero, suc, ◌+◌, ◌<◌, ◌≤◌, ◌^◌, ◌-◌, List, [], ◌∷◌, ◌++◌, map, length, get_or, set, take, drop, arith, refl, ap, ◌∙◌, sym, Option, Some, None, option_map, unwrap_or}
+use Rattle.std.proofs.Common.{◌≡◌, ℕ, zero, suc, ◌+◌, ◌<◌, ◌≤◌, ◌^◌, List, [], ◌∷◌, ◌++◌, map, length, get_or, set, take, drop, arith, refl, ap, ◌∙◌, Option, Some, None, option_map, unwrap_or}
 use Rattle.std.specs.List.{AllByRecursion}
 use Rattle.std.proofs.lemmas.List.{map-set, map-append, drop-set-lt, take-set-le, take-append-le, get_or-set_same}
 use Rattle.verb_core.specs.declared.mailbox.BoxId.{BoxId}

@@ -1,5 +1,5 @@
 -- Mailboxes that are left, joined and deleted.
-use Rattle.std.proofs.Common.{◌≡◌, ℕ, suc, ◌+◌, ◌<◌, ◌≤◌, ◌^◌, ◌-◌, Bool, true, false, not, cond, List, [], ◌∷◌, map, filter, Option, Some, None, option_map, unwrap_or, is_some, length, bytes_eq, arith, refl, sym, ap, ap₂, ◌∙◌, subst}
+use Rattle.std.proofs.Common.{◌≡◌, ℕ, suc, ◌+◌, ◌<◌, ◌≤◌, ◌^◌, Bool, true, false, not, cond, List, [], ◌∷◌, Option, Some, None, option_map, unwrap_or, is_some, length, bytes_eq, arith, refl, sym, ap, ◌∙◌, subst}
 use Rattle.std.specs.Ordering.{eq_by_cmp}
 use Rattle.undo_base.specs.declared.keys.User.{User}
 use Rattle.undo_base.specs.declared.keys.Key.{Key}
@@ -12,10 +12,11 @@ use Rattle.verb_core.specs.Mailboxes.{no_mail, put_all, with_entries, emptied, e
 use Rattle.verb_core.specs.Boxes.{box_cmp, box_of, is_rising, has_row, row_at, add_row, drop_row, change_row, mail_at, next_at}
 use Rattle.verb_core.specs.Step.{Boxes, left, renamed, after_rename, saved, deleted, created}
 use Rattle.verb_core.proofs.BoxLaws.{row_at-change_row, row_at-drop_row, rising-add_row, rising-drop_row, rising-change_row}
-use Rattle.box_store.specs.declared.effect.Put.{Put}
+use Rattle.mail_rows.specs.declared.change.Put.{Put}
 use Rattle.box_store.specs.declared.effect.Work.{Work}
 use Rattle.box_store.specs.declared.effect.Work.TheVariants.{Puts, Flags, Expunge, Remove, Create, Rename, Delete}
-use Rattle.box_store.specs.Effects.{HasSpares, all_flags_set, put_each, worked}
+use Rattle.mail_rows.specs.Mail.{all_flags_set}
+use Rattle.box_store.specs.Effects.{HasSpares, put_each, worked}
 
 entries_of : Option Mailbox → List Entry
 entries_of o = unwrap_or (option_map (λ (m : Mailbox). m.entries) o) []

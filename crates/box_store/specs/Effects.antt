@@ -1,43 +1,30 @@
 -- What an effect does to a store: to whichever has the same mailboxes where the item touches them.
-use Rattle.std.specs.Prelude.{◌≡◌, ℕ, ◌+◌, ◌-◌, ◌^◌, ◌≤◌, ◌<◌, Bool, true, false, not, List, [], ◌∷◌, map, length, slice_get, slice_set, Option, Some, None, option_map, unwrap_or, IsTrue}
+use Rattle.std.specs.Prelude.{◌≡◌, ℕ, ◌+◌, ◌^◌, ◌≤◌, ◌<◌, Bool, true, false, not, List, [], ◌∷◌, map, length, Option, Some, None, IsTrue}
 use Rattle.std.specs.List.{list_all}
-use Rattle.undo_base.specs.declared.keys.Key.{Key}
-use Rattle.undo_base.specs.declared.keys.User.{User}
 use Rattle.verb_core.specs.declared.item.Act.{Act}
 use Rattle.verb_core.specs.declared.item.Deed.TheVariants.{Act as Acts}
 use Rattle.verb_core.specs.declared.item.Item.{Item}
 use Rattle.verb_core.specs.declared.item.Shown.{Shown}
-use Rattle.verb_core.specs.declared.item.Way.TheVariants.{Plain, NoSource, Merged}
+use Rattle.verb_core.specs.declared.item.Way.TheVariants.{Plain, Merged}
 use Rattle.verb_core.specs.declared.item.Resolved.{Resolved}
 use Rattle.verb_core.specs.declared.conf.Conf.{Conf}
 use Rattle.verb_core.specs.declared.conf.House.{House}
 use Rattle.verb_core.specs.declared.mailbox.BoxId.{BoxId}
-use Rattle.verb_core.specs.declared.mailbox.Entry.{Entry}
-use Rattle.verb_core.specs.declared.mailbox.Mailbox.{Mailbox}
 use Rattle.verb_core.specs.Names.{lost_found}
 use Rattle.verb_core.specs.Mailboxes.{put_all, with_entries, expunged, without}
 use Rattle.verb_core.specs.Boxes.{box_of, has_row, change_row, mail_at, next_at}
 use Rattle.verb_core.specs.Store.{MailStore, IsValid}
-use Rattle.verb_core.specs.Aims.{Sought, sought, box_aimed}
+use Rattle.verb_core.specs.Aims.{sought, box_aimed}
 use Rattle.verb_core.specs.Step.{Boxes, created, after_rename, deleted, step_with, conf_after}
 use Rattle.verb_core.specs.Touched.{touched, SameAt}
+use Rattle.mail_rows.specs.declared.change.Put.{Put}
+use Rattle.mail_rows.specs.Mail.{all_flags_set}
 use Rattle.box_store.specs.declared.effect.Effect.{Effect}
-use Rattle.box_store.specs.declared.effect.Put.{Put}
-use Rattle.box_store.specs.declared.effect.FlagChange.{FlagChange}
 use Rattle.box_store.specs.declared.effect.Work.{Work}
 use Rattle.box_store.specs.declared.effect.Work.TheVariants.{Puts, Flags, Expunge, Remove, Create, Rename, Delete}
 use Rattle.box_store.specs.Kept.{Kept, sought_in}
 
 -- ---- the mailboxes afterwards
-
--- with other flags of the entry at a place
-abbrev pub flags_set : FlagChange → List Entry → List Entry
-flags_set c entries = unwrap_or (option_map (λ (e : Entry). slice_set entries c.place (record e { flags = c.flags })) (slice_get entries c.place)) entries
-
--- with other flags of the entries at these places
-abbrev pub all_flags_set : List FlagChange → List Entry → List Entry
-all_flags_set [] entries = entries
-all_flags_set (c ∷ cs) entries = all_flags_set cs (flags_set c entries)
 
 -- with new mail at the end of mailboxes, one after the other
 abbrev pub put_each : List Put → Boxes → Boxes

@@ -1,11 +1,4 @@
 pub mod Kept
-pub mod Fixed
-pub mod Reaching
 pub mod Effects
-pub mod Places
-pub mod Mail
-pub mod Confs
-pub mod Indexed
-pub mod Patterns
 pub mod Plans
 pub mod Refusing

@@ -1,27 +1,14 @@
 -- What the parts of planning an item's work give.
-use Rattle.std.specs.Prelude.{◌≡◌, ℕ, ◌+◌, true, if◌then◌else◌, List, [], ◌∷◌, map, filter_map, Option, Some, None, option_map}
-use Rattle.std.specs.List.{enumerate_from}
-use Rattle.undo_base.specs.declared.keys.Key.{Key}
-use Rattle.undo_base.specs.declared.keys.Flags.{Flags}
+use Rattle.std.specs.Prelude.{◌≡◌, true, List}
 use Rattle.undo_base.specs.declared.keys.User.{User}
-use Rattle.undo_base.specs.declared.asks.How.{How}
 use Rattle.verb_core.specs.declared.item.Aim.{Aim}
-use Rattle.verb_core.specs.declared.item.Act.TheVariants.{Give}
-use Rattle.verb_core.specs.declared.item.Deed.{Deed}
-use Rattle.verb_core.specs.declared.item.Deed.TheVariants.{Deliver, Append, Act as Acts, Notice}
 use Rattle.verb_core.specs.declared.item.Item.{Item}
 use Rattle.verb_core.specs.declared.mailbox.BoxId.{BoxId}
-use Rattle.verb_core.specs.declared.mailbox.Entry.{Entry}
-use Rattle.verb_core.specs.Mailboxes.{is_among, changed, no_flags}
 use Rattle.verb_core.specs.Boxes.{is_rising}
-use Rattle.verb_core.specs.Aims.{box_aimed}
 use Rattle.verb_core.specs.Step.{Boxes, new_mail, put_at, rearranged}
 use Rattle.verb_core.specs.Touched.{SameAt}
-use Rattle.box_store.specs.declared.effect.FlagChange.{FlagChange}
-use Rattle.box_store.specs.declared.effect.Put.{Put}
 use Rattle.box_store.specs.declared.effect.Work.{Work}
 use Rattle.box_store.specs.Effects.{worked}
-use Rattle.box_store.specs.Indexed.{found_at}
 
 -- in all rows that have the same where these mailboxes are, the work does this
 abbrev pub Does : List BoxId → Boxes → Work → (Boxes → Boxes) → Type 0
@@ -30,29 +17,3 @@ Does ids rows w f = (boxes : Boxes) → is_rising boxes ≡ true → SameAt ids 
 -- the mailboxes after an item with these aims
 abbrev pub after : User → Item → List Aim → Boxes → Boxes
 after u i aims boxes = put_at (λ index. new_mail u i boxes index i.deed) aims (rearranged u i.deed boxes)
-
--- the mail of each aim
-abbrev pub puts_by : (ℕ → List Entry) → List Aim → List Put
-puts_by mail aims = map (λ (a : Aim). record { mailbox = box_aimed a; mail = mail a.index }) aims
-
--- the flags that a STORE changes among these entries, of which the first stands at a place
-abbrev pub changes_from : ℕ → List Key → How → Flags → List Entry → List FlagChange
-changes_from place keys how given [] = []
-changes_from place keys how given (e ∷ es) =
-    if is_among keys e.key then record { place = place; flags = changed how given e.flags } ∷ changes_from (place + 1) keys how given es
-    else changes_from (place + 1) keys how given es
-
--- the entry beside a key, under a new key
-abbrev pub copy_by : ℕ → List (Key × Entry) → ℕ × Key → Option Entry
-copy_by number index k = option_map (λ (e : Entry). record e { key = record { item = number; index = k.0 } }) (found_at index k.1)
-
-abbrev pub copies_by : ℕ → List (Key × Entry) → List Key → List Entry
-copies_by number index keys = filter_map (copy_by number index) (enumerate_from 0 keys)
-
--- the flags and the moment of the message that a deed of this moment brings
-abbrev pub own_message : ℕ → Deed → Option (Flags × ℕ)
-own_message at (Deliver from to text) = Some (no_flags, at)
-own_message at (Append mailbox flags moment text) = Some (flags, moment)
-own_message at (Acts (Give u mailbox text)) = Some (no_flags, at)
-own_message at (Notice u text) = Some (no_flags, at)
-own_message at _ = None

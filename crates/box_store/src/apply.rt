@@ -50,9 +50,44 @@ impl Store {
         ensures own_text { text.now ≡ unwrap_or (text_in item.now.deed) [] → OnOk result (self.new.store ≡ (step self.old.store item.now).0) }
         ensures own_shown { text.now ≡ unwrap_or (text_in item.now.deed) [] → IfOk result (λ shown. shown ≡ (step self.old.store item.now).1) }
     {
-        let what = self.aim(alloc, item, text)?;
-        let effect = self.effect(alloc, &what)?;
-        self.reserve(alloc, &effect)?;
+        let effect = self.ready_effect(alloc, item, text)?;
         Ok(self.apply(effect, steps))
+    }
+
+    /// What an item does now whose text is given beside it.
+    fn effect_now(&self, alloc: Global, item: &Item, text: &[u8]) -> Result<Effect, NoMemory>
+        requires valid { IsValid self.now.store }
+        requires formed { IsWellFormed self.now.store.house item.now }
+        ensures store { IfOk result (λ effect. applied effect self.now.store ≡ (step_text self.now.store item.now text.now).0) }
+        ensures shown { IfOk result (λ effect. effect.shown ≡ (step_text self.now.store item.now text.now).1) }
+    {
+        let what = self.aim(alloc, item, text)?;
+        self.effect(alloc, &what)
+    }
+
+    /// The effect, where room for it was found.
+    fn with_room(&mut self, alloc: Global, effect: Effect) -> Result<Effect, NoMemory>
+        ensures store { self.new.store ≡ self.old.store }
+        ensures same { IfOk result (λ ready. ready ≡ effect) }
+        ensures ok { OnOk result (IsReady effect self.new) }
+    {
+        match self.reserve(alloc, &effect) {
+            Ok(()) => Ok(effect),
+            Err(_) => Err(NoMemory),
+        }
+    }
+
+    /// What an item does now, with room for it.
+    fn ready_effect(&mut self, alloc: Global, item: &Item, text: &[u8]) -> Result<Effect, NoMemory>
+        requires valid { IsValid self.old.store }
+        requires formed { IsWellFormed self.old.store.house item.now }
+        ensures kept { self.new.store ≡ self.old.store }
+        ensures ready { IfOk result (λ effect. IsReady effect self.new) }
+        ensures store { IfOk result (λ effect. applied effect self.old.store ≡ (step_text self.old.store item.now text.now).0) }
+        ensures shown { IfOk result (λ effect. effect.shown ≡ (step_text self.old.store item.now text.now).1) }
+    {
+        let effect = self.effect_now(alloc, item, text)?;
+        let ready = self.with_room(alloc, effect)?;
+        Ok(ready)
     }
 }

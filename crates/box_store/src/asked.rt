@@ -5,7 +5,7 @@ ghost use Rattle.verb_core.specs.Names.{is_new_name};
 ghost use Rattle.verb_core.specs.Live.{new_names, named, targets, is_misshapen, asks_fixed, too_large};
 ghost use Rattle.box_store.specs.Refusing.{adds_name};
 
-use crate::fixed::{is_fixed, is_inbox, is_lost_found, is_wildcard};
+use mail_rows::fixed::{is_fixed, is_inbox, is_lost_found, is_wildcard};
 use undo_base::{MOST_FETCHED, MOST_LITERAL, Name, Text};
 use verb_core::Ask;
 

@@ -1,22 +1,8 @@
 //! Effects: what an item does, made from a store and applied to it, or to one that has the same mailboxes where the item
 //! touches them.
-use crate::KeySet;
-use undo_base::{Flags, Key, Name, Sequence, User};
-use verb_core::{Act, BoxId, Entries, Shown, Way};
-
-/// New mail for a mailbox, in order. Its UIDs are those that come next there.
-#[derive(Drop)]
-pub struct Put {
-    pub mailbox: BoxId,
-    pub mail: Entries,
-}
-
-/// Other flags for the entry at a place of a mailbox, from 0.
-#[derive(Clone, Copy)]
-pub struct FlagChange {
-    pub place: usize,
-    pub flags: Flags,
-}
+use mail_rows::{FlagChange, KeySet, Put};
+use undo_base::{Key, Name, Sequence, User};
+use verb_core::{Act, BoxId, Shown, Way};
 
 /// What an item does to mailboxes, as large as what it changes.
 #[derive(Drop)]

@@ -1,19 +1,38 @@
 //! What a user asks now: the item, or why it is refused.
-ghost use Rattle.std.specs.Prelude.{◌≡◌, ◌≤◌, [], IsTrue, IfOk, IfSome, IfNone, map, unwrap_or, if◌then◌else◌};
+ghost use Rattle.std.specs.Prelude.{◌≡◌, ◌≤◌, ◌∷◌, [], false, IsTrue, IfOk, IfSome, IfNone, map, unwrap_or, if◌then◌else◌};
 ghost use Rattle.verb_core.specs.declared.item.Deed.TheVariants as deeds;
 ghost use Rattle.verb_core.specs.Mailboxes.{keys_of};
 ghost use Rattle.verb_core.specs.Store.{is_house};
-ghost use Rattle.verb_core.specs.Live.{mail_of, marked, deed_of, asked_item, answered};
-ghost use Rattle.box_store.specs.Refusing.{IsDue, by_names, in_turn};
+ghost use Rattle.verb_core.specs.Step.{shown};
+ghost use Rattle.verb_core.specs.Live.{mail_of, marked, deed_of, asked_item, answered, asker, first_of};
+ghost use Rattle.box_store.specs.Refusing.{IsDue, by_names, by_keys, by_room, in_turn};
 
 use crate::Store;
-use crate::aims::who_acts;
 use crate::refusals::{mail_of, marked, refused_by_keys, refused_by_names};
 use crate::room::refused_by_room;
-use crate::shown::shown_by;
+use mail_rows::aims::who_acts;
+use mail_rows::shown::shown_by;
 use std::alloc::{AllocError, Global};
 use undo_base::{Flags, Key, Keys, Name, NoMemory, Text, User};
 use verb_core::{Ask, Deed, Entry, Item, Refused};
+
+/// The first refusal by keys, by sizes and by what is used up.
+fn refused_later(
+    alloc: Global,
+    store: &Store,
+    number: u32,
+    by: Option<User>,
+    ask: &Ask,
+) -> Result<Option<Refused>, NoMemory>
+    requires house { IsTrue (is_house store.now.store.house) }
+    requires number { number ≤ 4194304 }
+    ensures { IfOk result (λ refused. refused ≡ first_of (by_keys store.now.store by ask.now ∷ by_room store.now.store number by ask.now ∷ [])) }
+{
+    match refused_by_keys(alloc, store, by, ask)? {
+        Some(refused) => Ok(Some(refused)),
+        None => refused_by_room(alloc, store, number, by, ask),
+    }
+}
 
 /// The first refusal that holds, want of memory aside.
 fn first_refusal(
@@ -27,15 +46,10 @@ fn first_refusal(
     requires number { number ≤ 4194304 }
     ensures { IfOk result (λ refused. refused ≡ in_turn store.now.store number by ask.now) }
 {
-    let by_names = refused_by_names(store, by, ask);
-    if by_names.is_some() {
-        return Ok(by_names);
+    match refused_by_names(store, by, ask) {
+        Some(refused) => Ok(Some(refused)),
+        None => refused_later(alloc, store, number, by, ask),
     }
-    let by_keys = refused_by_keys(alloc, store, by, ask)?;
-    if by_keys.is_some() {
-        return Ok(by_keys);
-    }
-    refused_by_room(alloc, store, number, by, ask)
 }
 
 /// The first refusal that holds, or want of memory.
@@ -188,6 +202,30 @@ fn deed_of(
     }
 }
 
+/// The item of a deed, with its answer.
+fn with_answer(
+    alloc: Global,
+    store: &Store,
+    number: u32,
+    at: u64,
+    by: Option<User>,
+    deed: Deed,
+) -> Result<Item, NoMemory>
+    ensures { IfOk result (λ item. item ≡ record { number = number; at = at; by = by; rev = 0; deed = deed; shown = shown false (asker by) deed store.now.store.boxes }) }
+{
+    match shown_by(alloc, store.rows.as_slice(), false, who_acts(by), &deed) {
+        Ok(shown) => Ok(Item {
+            number,
+            at,
+            by,
+            rev: 0,
+            deed,
+            shown,
+        }),
+        Err(_) => Err(NoMemory),
+    }
+}
+
 /// The item that is asked for, with its answer.
 fn item_of(
     alloc: Global,
@@ -201,15 +239,7 @@ fn item_of(
     ensures { IfOk result (λ item. item ≡ answered store.now.store (asked_item store.now.store number at by ask)) }
 {
     let deed = deed_of(alloc, store, by, at, ask)?;
-    let shown = shown_by(alloc, store.rows.as_slice(), false, who_acts(by), &deed)?;
-    Ok(Item {
-        number,
-        at,
-        by,
-        rev: 0,
-        deed,
-        shown,
-    })
+    with_answer(alloc, store, number, at, by, deed)
 }
 
 impl Store {

@@ -1,19 +1,20 @@
 //! Effects, made on a store.
-ghost use Rattle.std.specs.Prelude.{◌≡◌, not, IfOk};
+ghost use Rattle.std.specs.Prelude.{◌≡◌, not, IsTrue, IfOk};
 ghost use Rattle.verb_core.specs.declared.item.Deed.TheVariants.{Act as Acts};
 ghost use Rattle.verb_core.specs.Items.{IsWellFormed, actor};
 ghost use Rattle.verb_core.specs.Names.{is_empty};
-ghost use Rattle.verb_core.specs.Step.{conf_after};
+ghost use Rattle.verb_core.specs.Step.{conf_after, shown};
+ghost use Rattle.verb_core.specs.Boxes.{is_rising};
 ghost use Rattle.verb_core.specs.Store.{IsValid};
 ghost use Rattle.box_store.specs.Effects.{conf_by};
 
-use crate::aims::who_acts;
 use crate::plan::work_of;
-use crate::shown::shown_by;
-use crate::{Effect, Store};
+use crate::{Effect, Store, Work};
+use mail_rows::aims::who_acts;
+use mail_rows::shown::shown_by;
 use std::alloc::Global;
 use undo_base::{Copies, NoMemory, User};
-use verb_core::{Act, Deed, Item, Resolved};
+use verb_core::{Act, BoxId, Deed, Item, Mailbox, Resolved, Shown};
 
 /// Whose mailboxes an act is about, where it is about a user's; else whoever acts.
 fn act_actor(by: Option<User>, act: &Act) -> User
@@ -64,11 +65,50 @@ fn conf_act(alloc: Global, deed: &Deed) -> Result<Option<Act>, NoMemory>
     }
 }
 
+/// The deed's act, if it changes the configuration, and what the user is shown.
+fn act_and_shown(
+    alloc: Global,
+    rows: &[(BoxId, Mailbox)],
+    redirected: bool,
+    user: User,
+    deed: &Deed,
+) -> Result<(Option<Act>, Shown), NoMemory>
+    requires { IsTrue (is_rising rows.now) }
+    ensures act { IfOk result (λ both. (house conf : _) → conf_by house both.0 conf ≡ conf_after house deed.now conf) }
+    ensures shown { IfOk result (λ both. both.1 ≡ shown redirected user deed.now rows.now) }
+{
+    let shown = shown_by(alloc, rows, redirected, user, deed)?;
+    match conf_act(alloc, deed) {
+        Ok(act) => Ok((act, shown)),
+        Err(_) => Err(NoMemory),
+    }
+}
+
 /// Whether a mailbox was looked for and not found.
 fn missed_some(what: &Resolved) -> bool
     ensures { result ≡ not (is_empty what.now.missed) }
 {
     !what.missed.is_empty()
+}
+
+/// The effect of this work, with what else an item does.
+fn with_rest(
+    alloc: Global,
+    rows: &[(BoxId, Mailbox)],
+    redirected: bool,
+    user: User,
+    deed: &Deed,
+    work: Work,
+) -> Result<Effect, NoMemory>
+    requires { IsTrue (is_rising rows.now) }
+    ensures work { IfOk result (λ effect. effect.work ≡ work) }
+    ensures act { IfOk result (λ effect. (house conf : _) → conf_by house effect.act conf ≡ conf_after house deed.now conf) }
+    ensures shown { IfOk result (λ effect. effect.shown ≡ shown redirected user deed.now rows.now) }
+{
+    match act_and_shown(alloc, rows, redirected, user, deed) {
+        Ok((act, shown)) => Ok(Effect { work, act, shown }),
+        Err(_) => Err(NoMemory),
+    }
 }
 
 impl Store {
@@ -85,8 +125,7 @@ impl Store {
         let rows = self.rows.as_slice();
         let user = actor_of(item);
         let work = work_of(alloc, rows, user, item, &what.aims)?;
-        let act = conf_act(alloc, &item.deed)?;
-        let shown = shown_by(alloc, rows, missed_some(what), user, &item.deed)?;
-        Ok(Effect { work, act, shown })
+        let effect = with_rest(alloc, rows, missed_some(what), user, &item.deed, work)?;
+        Ok(effect)
     }
 }

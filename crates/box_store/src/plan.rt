@@ -1,21 +1,22 @@
 //! What an item does to mailboxes, worked out on those that there are. A work is as large as what it changes.
-ghost use Rattle.std.specs.Prelude.{◌≡◌, ◌++◌, ◌∷◌, ◌+◌, ◌≤◌, ◌<◌, [], IfOk, OnOk, length, map, true, if◌then◌else◌};
+ghost use Rattle.std.specs.Prelude.{◌≡◌, ◌++◌, ◌∷◌, ◌+◌, ◌≤◌, ◌<◌, [], IsTrue, IfOk, OnOk, length, map, true, if◌then◌else◌};
 ghost use Rattle.std.specs.List.{cons_option};
 ghost use Rattle.undo_base.specs.declared.asks.How.TheVariants.{Add};
 ghost use Rattle.verb_core.specs.declared.item.Deed.TheVariants.{Act as Acts};
 ghost use Rattle.verb_core.specs.Aims.{box_aimed};
-ghost use Rattle.verb_core.specs.Boxes.{box_of, change_row};
+ghost use Rattle.verb_core.specs.Boxes.{box_of, change_row, is_rising};
 ghost use Rattle.verb_core.specs.Items.{actor, keys_in};
 ghost use Rattle.verb_core.specs.Mailboxes.{copies, expunged, no_flags, reflagged, with_entries, without};
 ghost use Rattle.verb_core.specs.Step.{after_rename, created, deleted, message, put_at, rearranged, way_of};
 ghost use Rattle.verb_core.specs.Touched.{named_boxes};
 ghost use Rattle.box_store.specs.Effects.{worked};
-ghost use Rattle.box_store.specs.Plans.{Does, after, copies_by, copy_by, puts_by};
+ghost use Rattle.mail_rows.specs.Changes.{copies_by, copy_by, puts_by};
+ghost use Rattle.box_store.specs.Plans.{Does, after};
 
-use crate::flags::changes_of;
-use crate::new_mail::{copy_puts, message_puts, own_message};
-use crate::shown::{mail_of, way_of};
 use crate::{KeySet, Work};
+use mail_rows::flags::changes_of;
+use mail_rows::new_mail::{copy_puts, message_puts, own_message};
+use mail_rows::shown::{mail_of, way_of};
 use std::alloc::Global;
 use undo_base::{Flags, How, Key, Keys, Name, NoMemory, Sequence, User};
 use verb_core::{Act, Aims, BoxId, Deed, Entry, Item, Mailbox};
@@ -42,6 +43,7 @@ fn flags_work(
     how: How,
     given: Flags,
 ) -> Result<Work, NoMemory>
+    requires { IsTrue (is_rising rows.now) }
     ensures { IfOk result (λ w. Does (box_of user mailbox.now ∷ []) rows.now w (change_row (box_of user mailbox.now) (with_entries (reflagged keys.now how given)))) }
 {
     let keys = KeySet::of(alloc, keys.as_slice())?;
@@ -59,6 +61,7 @@ fn seen_work(
     keys: &Keys,
     sets_seen: bool,
 ) -> Result<Work, NoMemory>
+    requires { IsTrue (is_rising rows.now) }
     ensures { IfOk result (λ w. Does (box_of user mailbox.now ∷ []) rows.now w (λ boxes. if sets_seen then change_row (box_of user mailbox.now) (with_entries (reflagged keys.now Add (record no_flags { seen = true }))) boxes else boxes)) }
 {
     if !sets_seen {
@@ -100,6 +103,7 @@ fn rename_work(
     source: &Name,
     target: &Name,
 ) -> Result<Work, NoMemory>
+    requires { IsTrue (is_rising rows.now) }
     ensures { IfOk result (λ w. Does (box_of user source.now ∷ box_of user target.now ∷ []) rows.now w (λ boxes. after_rename (way_of user source.now target.now boxes) user source.now target.now boxes)) }
 {
     let way = way_of(rows, user, source, target);
@@ -175,6 +179,7 @@ fn plain_work(
     user: User,
     deed: &Deed,
 ) -> Result<Work, NoMemory>
+    requires { IsTrue (is_rising rows.now) }
     ensures { IfOk result (λ w. Does (named_boxes user deed.now) rows.now w (rearranged user deed.now)) }
 {
     match deed {
@@ -214,6 +219,7 @@ pub(crate) fn work_of(
     item: &Item,
     aims: &Aims,
 ) -> Result<Work, NoMemory>
+    requires rising { IsTrue (is_rising rows.now) }
     requires few { length (keys_in item.now.deed) ≤ 65536 }
     ensures { IfOk result (λ w. Does (named_boxes user item.now.deed) rows.now w (after user item.now aims.now)) }
 {

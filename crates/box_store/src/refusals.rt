@@ -6,9 +6,9 @@ ghost use Rattle.verb_core.specs.Live.{asker, mail_of, marked, lacks, is_missing
 ghost use Rattle.box_store.specs.Refusing.{by_names, by_keys};
 
 use crate::Store;
-use crate::aims::who_acts;
 use crate::asked::{asks_fixed, is_misshapen, named, new_name, target, too_large};
-use crate::sights::there_of;
+use mail_rows::aims::who_acts;
+use mail_rows::sights::there_of;
 use std::alloc::{AllocError, Global};
 use undo_base::{Key, Keys, MOST_KEYS, Name, NoMemory, User};
 use verb_core::{Ask, Entry, Refused};

@@ -5,11 +5,11 @@ ghost use Rattle.verb_core.specs.Boxes.{box_of, is_rising, mail_at};
 ghost use Rattle.verb_core.specs.declared.item.Act.{Act};
 ghost use Rattle.box_store.specs.Effects.{mail_in, grows, HasSpares, adds_row, conf_by};
 
-use crate::conf_after::conf_after;
-use crate::mail::take_entries;
-use crate::rows::place_of;
 use crate::spares::Spares;
 use crate::{Effect, Put, Store, Work};
+use mail_rows::conf_after::conf_after;
+use mail_rows::mail::take_entries;
+use mail_rows::rows::place_of;
 use std::alloc::Global;
 use undo_base::{NoMemory, User};
 use verb_core::{Act, BoxId, Conf, Entries, House, Mailbox, Way};

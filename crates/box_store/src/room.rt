@@ -12,11 +12,11 @@ ghost use Rattle.verb_core.specs.Live.{asker, mail_of, is_wide};
 ghost use Rattle.box_store.specs.Refusing.{fills_up, outgrows, box_outgrows, aims_at, aims_outgrow, uses_up, by_room};
 
 use crate::Store;
-use crate::aims::{reach_delivery, who_acts};
 use crate::asked::adds_name;
-use crate::fixed::is_inbox;
 use crate::refusals::mail_of;
-use crate::sights::there_of;
+use mail_rows::aims::{reach_delivery, who_acts};
+use mail_rows::fixed::is_inbox;
+use mail_rows::sights::there_of;
 use std::alloc::Global;
 use undo_base::{Keys, LAST_NUMBER, MOST_BOXES, MOST_UID, Name, Names, NoMemory, Text, User};
 use verb_core::{Aim, Ask, Refused};

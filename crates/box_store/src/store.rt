@@ -1,16 +1,15 @@
 //! The store and what it tells.
-ghost use Rattle.std.specs.Prelude.{◌≡◌, ◌++◌, ◌∷◌, [], List, IsTrue, IfOk, OnOk, option_copied, find, if◌then◌else◌};
+ghost use Rattle.std.specs.Prelude.{◌≡◌, [], IsTrue, IfOk, option_copied};
 ghost use Rattle.std.specs.List.{list_all};
-ghost use Rattle.std.specs.Ordering.{eq_by_cmp};
 ghost use Rattle.verb_core.specs.Store.{MailStore, IsValid, is_house, is_known, opening};
-ghost use Rattle.verb_core.specs.Boxes.{box_cmp, box_of, is_rising, row_at, names_of, same_user};
+ghost use Rattle.verb_core.specs.Boxes.{box_of, row_at, names_of};
 ghost use Rattle.verb_core.specs.Items.{IsWellFormed};
 ghost use Rattle.verb_core.specs.Aims.{sought};
 
-use crate::aims::reach_of;
-use crate::opening::fixed_rows;
-use crate::rows::place_of;
 use crate::spares::Spares;
+use mail_rows::aims::reach_of;
+use mail_rows::lookup::{copied_rows, names_in, search_mailbox};
+use mail_rows::opening::fixed_rows;
 use std::alloc::Global;
 use std::marker::Model;
 use undo_base::{Copies, Name, Names, NoMemory, User};
@@ -45,88 +44,6 @@ impl Model for Store {
     } };
 
     ghost invariant = { λ s. IsTrue (is_rising s.rows.items) };
-}
-
-/// Whether the row is the mailbox of that user and name.
-fn is_box(row: &(BoxId, Mailbox), user: User, name: &Name) -> bool
-    ensures { result ≡ eq_by_cmp box_cmp (box_of user name.now) row.now.0 }
-{
-    user == row.0.user && name.bytes() == row.0.name.bytes()
-}
-
-fn find_row<'a>(
-    rows: &'a [(BoxId, Mailbox)],
-    user: User,
-    name: &Name,
-) -> Option<&'a (BoxId, Mailbox)>
-    ensures { option_copied result ≡ find (λ r. eq_by_cmp box_cmp (box_of user name.now) r.0) rows.now }
-{
-    rows.iter().find(|row| is_box(row, user, name))
-}
-
-/// The mailbox of that user and name among rows, in whatever order they are.
-pub(crate) fn find_mailbox<'a>(
-    rows: &'a [(BoxId, Mailbox)],
-    user: User,
-    name: &Name,
-) -> Option<&'a Mailbox>
-    ensures { option_copied result ≡ row_at (box_of user name.now) rows.now }
-{
-    match find_row(rows, user, name) {
-        None => None,
-        Some(row) => Some(&row.1),
-    }
-}
-
-/// The mailbox of that user and name among rows in order.
-pub(crate) fn search_mailbox<'a>(
-    rows: &'a [(BoxId, Mailbox)],
-    user: User,
-    name: &Name,
-) -> Option<&'a Mailbox>
-    requires { IsTrue (is_rising rows.now) }
-    ensures { option_copied result ≡ row_at (box_of user name.now) rows.now }
-{
-    match place_of(rows, user, name.bytes()) {
-        Ok(place) => Some(&rows[place].1),
-        Err(_) => None,
-    }
-}
-
-fn copied_rows(alloc: Global, rows: &[(BoxId, Mailbox)]) -> Result<Rows, NoMemory>
-    ensures { IfOk result (λ copies. copies ≡ rows.now) }
-{
-    let mut copies = Rows::new(alloc);
-    for row in rows {
-        copies.push(row.copy(alloc)?)?;
-    }
-    Ok(copies)
-}
-
-/// Adds the row's name, if the row is the user's.
-fn push_name(
-    alloc: Global,
-    names: &mut Names,
-    user: User,
-    row: &(BoxId, Mailbox),
-) -> Result<(), NoMemory>
-    ensures { OnOk result (names.new ≡ names.old ++ (if same_user user row.now.0.user then row.now.0.name ∷ [] else [])) }
-{
-    if user == row.0.user {
-        names.push(row.0.name.copy(alloc)?)?;
-    }
-    Ok(())
-}
-
-#[tactic(auto, using(crate::proofs::UserNames::names_more))]
-fn names_in(alloc: Global, user: User, rows: &[(BoxId, Mailbox)]) -> Result<Names, NoMemory>
-    ensures { IfOk result (λ names. names ≡ names_of user rows.now) }
-{
-    let mut names = Names::new(alloc);
-    for row in rows {
-        push_name(alloc, &mut names, user, row)?;
-    }
-    Ok(names)
 }
 
 impl Store {

@@ -4,13 +4,14 @@ ghost use Rattle.verb_core.specs.Names.{inbox, lost_found, is_fixed as is_fixed_
 ghost use Rattle.verb_core.specs.Mailboxes.{no_mail as nothing, put_all, with_entries, emptied, expunged, without as left_out};
 ghost use Rattle.verb_core.specs.Boxes.{box_of, is_rising, row_at, mail_at, change_row};
 ghost use Rattle.verb_core.specs.Step.{created, left, renamed, after_rename, deleted};
-ghost use Rattle.box_store.specs.Effects.{all_flags_set, put_each as puts_each, mail_in, grows, HasSpares, adds_row, worked};
+ghost use Rattle.mail_rows.specs.Mail.{all_flags_set};
+ghost use Rattle.box_store.specs.Effects.{put_each as puts_each, mail_in, grows, HasSpares, adds_row, worked};
 
-use crate::fixed::{is_fixed, is_inbox};
-use crate::mail::{begun_anew, expunge, put_mail, remove, set_flags, take_entries, without};
-use crate::rows::{insert_row, place_of, put_row, take_row};
 use crate::spares::Spares;
 use crate::{FlagChange, KeySet, Put, Work};
+use mail_rows::fixed::{is_fixed, is_inbox};
+use mail_rows::mail::{begun_anew, expunge, put_mail, remove, set_flags, take_entries, without};
+use mail_rows::rows::{insert_row, place_of, put_row, take_row};
 use std::alloc::Global;
 use undo_base::{Key, Name, User};
 use verb_core::{BoxId, Entries, Entry, Mailbox, Way};

@@ -1,9 +1,11 @@
-use Rattle.std.proofs.Common.{◌∙◌, ap}
-use Rattle.box_store.specs.Kept.{Kept}
+use Rattle.std.proofs.Common.{◌∙◌, false, refl}
+use Rattle.std.proofs.lemmas.Result.{IfOk-weaker}
+use Rattle.verb_core.specs.Live.{asker}
+use Rattle.verb_core.specs.Step.{shown}
 use Rattle.box_store.proofs.InTurn.{item-now}
 use Rattle.box_store.proofs.live.item_of.Goals as goal
 
 pub returns : goal.returns
-returns c =
-    item-now c.args.store.now.store c.args.by c.args.number c.args.at c.args.ask c.in_ok-deed.deed c.who_acts.result c.as_slice.result.now c.in_ok-shown.shown
-    c.requires c.in_ok-deed.ensures c.who_acts.ensures (c.as_slice.ensures.value ∙ ap (λ (k : Kept). k.store.boxes) c.store.view_is) c.in_ok-shown.ensures
+returns c = IfOk-weaker c.with_answer.result _ _ (λ item is. is ∙
+    item-now c.args.store.now.store c.args.by c.args.number c.args.at c.args.ask c.in_ok-deed.deed (asker c.args.by) c.args.store.now.store.boxes (shown false (asker c.args.by) c.in_ok-deed.deed c.args.store.now.store.boxes)
+    c.requires c.in_ok-deed.ensures refl refl refl) c.with_answer.ensures

@@ -3,9 +3,9 @@ use Rattle.undo_base.specs.declared.keys.Key.{Key}
 use Rattle.verb_core.specs.declared.mailbox.BoxId.{BoxId}
 use Rattle.verb_core.specs.Boxes.{box_of, change_row}
 use Rattle.verb_core.specs.Mailboxes.{reflagged, with_entries}
-use Rattle.box_store.specs.declared.effect.FlagChange.{FlagChange}
-use Rattle.box_store.specs.Effects.{all_flags_set}
-use Rattle.box_store.specs.Plans.{changes_from}
+use Rattle.mail_rows.specs.declared.change.FlagChange.{FlagChange}
+use Rattle.mail_rows.specs.Mail.{all_flags_set}
+use Rattle.mail_rows.specs.Changes.{changes_from}
 use Rattle.box_store.proofs.Plans.{flags_do}
 use Rattle.box_store.proofs.plan.flags_work.Goals as goal
 

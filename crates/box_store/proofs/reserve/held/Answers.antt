@@ -1,7 +1,7 @@
 use Rattle.std.proofs.Common.{◌∙◌, [], Option, option_map, unwrap_or, length, sym, ap}
 use Rattle.verb_core.specs.declared.mailbox.Mailbox.{Mailbox}
 use Rattle.verb_core.specs.Boxes.{box_of}
-use Rattle.box_store.proofs.PlaceLaws.{row_placed, row_missing}
+use Rattle.mail_rows.proofs.PlaceLaws.{row_placed, row_missing}
 use Rattle.box_store.proofs.reserve.held.Goals as goal
 
 pub returns-in-Ok : goal.returns-in-Ok

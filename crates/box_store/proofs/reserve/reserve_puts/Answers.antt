@@ -1,5 +1,5 @@
 use Rattle.std.proofs.Common.{ℕ, map, subst, arith}
-use Rattle.box_store.specs.declared.effect.Put.{Put}
+use Rattle.mail_rows.specs.declared.change.Put.{Put}
 use Rattle.box_store.specs.Effects.{HasSpares}
 use Rattle.box_store.proofs.GrowLaws.{ready_all}
 use Rattle.box_store.proofs.reserve.reserve_puts.Goals as goal

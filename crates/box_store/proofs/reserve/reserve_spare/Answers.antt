@@ -1,6 +1,6 @@
 use Rattle.std.proofs.Common.{refl}
 use Rattle.verb_core.specs.Boxes.{box_of}
-use Rattle.box_store.proofs.PlaceLaws.{placed, gapped, row_read, row_missing}
+use Rattle.mail_rows.proofs.PlaceLaws.{placed, gapped, row_read, row_missing}
 use Rattle.box_store.proofs.SpareLaws.{spared_for, spared_none}
 use Rattle.box_store.proofs.reserve.reserve_spare.Goals as goal
 

@@ -1,5 +1,4 @@
-use Rattle.std.proofs.Common.{◌≡◌, ◌≤◌, ◌∙◌, ap, sym, subst, length, length, filter, List, ℕ}
-use Rattle.undo_base.specs.declared.keys.Key.{Key}
+use Rattle.std.proofs.Common.{◌≡◌, ◌≤◌, ◌∙◌, sym, subst, length, length}
 use Rattle.verb_core.specs.Mailboxes.{there}
 use Rattle.verb_core.specs.Boxes.{box_of}
 use Rattle.verb_core.specs.Live.{asker, mail_of}

@@ -1,8 +1,7 @@
-use Rattle.std.proofs.Common.{◌≡◌, ◌∙◌, ap, subst, List, []}
-use Rattle.verb_core.specs.declared.mailbox.BoxId.{BoxId}
+use Rattle.std.proofs.Common.{◌∙◌, ap, []}
 use Rattle.verb_core.specs.declared.mailbox.Mailbox.{Mailbox}
 use Rattle.verb_core.specs.Boxes.{add_row}
-use Rattle.box_store.proofs.PlaceLaws.{placed, gapped, row_placed, row_missing}
+use Rattle.mail_rows.proofs.PlaceLaws.{placed, gapped, row_placed, row_missing}
 use Rattle.box_store.proofs.WorkLaws.{created_there, created_new}
 use Rattle.box_store.proofs.work.create.Goals as goal
 

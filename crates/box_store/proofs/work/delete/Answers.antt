@@ -1,6 +1,6 @@
-use Rattle.std.proofs.Common.{◌≡◌, ◌∙◌, sym, false, List, ap₂}
+use Rattle.std.proofs.Common.{◌∙◌, sym, List, ap₂}
 use Rattle.verb_core.specs.declared.mailbox.Entry.{Entry}
-use Rattle.verb_core.specs.Names.{lost_found, is_fixed}
+use Rattle.verb_core.specs.Names.{lost_found}
 use Rattle.verb_core.specs.Mailboxes.{put_all}
 use Rattle.verb_core.specs.Boxes.{box_of, change_row}
 use Rattle.verb_core.specs.Step.{Boxes}

@@ -1,8 +1,7 @@
-use Rattle.std.proofs.Common.{◌≡◌, ◌∙◌, refl, sym, Option, Some}
-use Rattle.verb_core.specs.declared.mailbox.Mailbox.{Mailbox}
+use Rattle.std.proofs.Common.{◌∙◌, refl, sym, Some}
 use Rattle.verb_core.specs.Boxes.{box_of}
 use Rattle.verb_core.specs.Mailboxes.{emptied}
-use Rattle.box_store.proofs.PlaceLaws.{placed, gapped, row_read, row_changed, row_missing, change_missing}
+use Rattle.mail_rows.proofs.PlaceLaws.{placed, gapped, row_read, row_changed, row_missing, change_missing}
 use Rattle.box_store.proofs.work.empty_row.Goals as goal
 
 pub returns-in-Ok-clause-row : goal.returns-in-Ok-clause-row

@@ -3,7 +3,7 @@ use Rattle.verb_core.specs.declared.mailbox.BoxId.{BoxId}
 use Rattle.verb_core.specs.declared.mailbox.Mailbox.{Mailbox}
 use Rattle.verb_core.specs.Mailboxes.{put_all}
 use Rattle.verb_core.specs.Boxes.{is_rising, change_row}
-use Rattle.box_store.specs.declared.effect.Put.{Put}
+use Rattle.mail_rows.specs.declared.change.Put.{Put}
 use Rattle.box_store.specs.Effects.{put_each}
 use Rattle.box_store.proofs.GrowLaws.{Growing, put_read, put-step, growing_next}
 use Rattle.box_store.proofs.WorkLaws.{rising_changed}

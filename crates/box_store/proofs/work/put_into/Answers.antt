@@ -1,7 +1,7 @@
 use Rattle.std.proofs.Common.{refl, length}
 use Rattle.verb_core.specs.Boxes.{box_of}
 use Rattle.verb_core.specs.Mailboxes.{put_all}
-use Rattle.box_store.proofs.PlaceLaws.{placed, gapped, row_read, row_changed, change_missing}
+use Rattle.mail_rows.proofs.PlaceLaws.{placed, gapped, row_read, row_changed, change_missing}
 use Rattle.box_store.proofs.SpareLaws.{room_there, uids_there}
 use Rattle.box_store.proofs.work.put_into.Goals as goal
 

@@ -1,8 +1,7 @@
 use Rattle.std.proofs.Common.{[], ◌∷◌}
-use Rattle.verb_core.specs.Mailboxes.{with_entries, expunged}
+use Rattle.verb_core.specs.Mailboxes.{with_entries}
 use Rattle.verb_core.specs.Mailboxes.{without as left_out}
-use Rattle.box_store.specs.Effects.{all_flags_set}
-use Rattle.box_store.proofs.PlaceLaws.{placed, gapped, row_changed, change_missing}
+use Rattle.mail_rows.proofs.PlaceLaws.{placed, gapped, row_changed, change_missing}
 use Rattle.box_store.proofs.work.remove_in.Goals as goal
 
 pub returns-in-Ok : goal.returns-in-Ok

@@ -2,7 +2,6 @@ use Rattle.std.proofs.Common.{◌∙◌, ap}
 use Rattle.verb_core.specs.declared.item.Resolved.{Resolved}
 use Rattle.verb_core.specs.Aims.{sought}
 use Rattle.verb_core.specs.Step.{Boxes}
-use Rattle.verb_core.specs.Store.{MailStore}
 use Rattle.box_store.specs.Kept.{Kept}
 use Rattle.box_store.proofs.Aimed.{aimed}
 use Rattle.box_store.proofs.store.Store.aim.Goals as goal

@@ -1,8 +1,8 @@
-use Rattle.std.proofs.Common.{◌≡◌, List, sym, subst, IsTrue}
+use Rattle.std.proofs.Common.{List, sym, subst, IsTrue}
 use Rattle.verb_core.specs.declared.mailbox.BoxId.{BoxId}
 use Rattle.verb_core.specs.declared.mailbox.Mailbox.{Mailbox}
 use Rattle.verb_core.specs.Boxes.{is_rising}
-use Rattle.verb_core.specs.Store.{MailStore, IsValid, opening}
+use Rattle.verb_core.specs.Store.{IsValid}
 use Rattle.box_store.proofs.store.Store.opening.Goals as goal
 
 pub returns-clause-valid : goal.returns-clause-valid

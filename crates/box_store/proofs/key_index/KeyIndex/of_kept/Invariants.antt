@@ -1,7 +1,0 @@
-use Rattle.std.proofs.Common.{◌≡◌, take, filter}
-use Rattle.undo_base.specs.declared.keys.Key.{Key}
-use Rattle.box_store.specs.Indexed.{found_at, indexed, no_deleted}
-use Rattle.box_store.proofs.key_index.KeyIndex.of_kept.Given as goal
-
-abbrev pub invariant-loop-entry : goal.invariant-loop-entry
-invariant-loop-entry l = (q : Key) → found_at l.index q ≡ indexed l.fn.keys (filter no_deleted (take l.entry-index l.entries)) q

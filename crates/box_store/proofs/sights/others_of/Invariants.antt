@@ -1,6 +1,0 @@
-use Rattle.std.proofs.Common.{◌≡◌, take}
-use Rattle.verb_core.specs.Mailboxes.{keys_of, without}
-use Rattle.box_store.proofs.sights.others_of.Given as goal
-
-abbrev pub invariant-loop-entry : goal.invariant-loop-entry
-invariant-loop-entry l = l.others ≡ keys_of (without l.fn.keys (take l.entry-index l.entries))

@@ -1,7 +1,0 @@
-use Rattle.std.proofs.Common.{◌∙◌}
-use Rattle.std.proofs.lemmas.Result.{IfOk-weaker}
-use Rattle.box_store.proofs.KeysSeen.{sights_are}
-use Rattle.box_store.proofs.sights.sights_of.Goals as goal
-
-pub returns : goal.returns
-returns c = IfOk-weaker c.sights_in.result _ _ (λ r e. e ∙ sights_are c.in_ok-index.index c.args.keys.now c.args.entries.now c.in_ok-index.ensures) c.sights_in.ensures

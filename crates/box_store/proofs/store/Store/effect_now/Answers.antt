@@ -1,0 +1,11 @@
+use Rattle.std.proofs.lemmas.Result.{IfOk-weaker}
+use Rattle.box_store.proofs.Aimed.{same_answer, same_store}
+use Rattle.box_store.proofs.store.Store.effect_now.Goals as goal
+
+pub returns-clause-store : goal.returns-clause-store
+returns-clause-store c = IfOk-weaker c.effect.result _ _ (λ e does.
+    same_store c.args.self.now.store c.args.item.now c.args.text.now c.in_ok-what.what e c.requires.valid c.in_ok-what.ensures.item c.in_ok-what.ensures.sought does) c.effect.ensures
+
+pub returns-clause-shown : goal.returns-clause-shown
+returns-clause-shown c = IfOk-weaker c.effect.result _ _ (λ e does.
+    same_answer c.args.self.now.store c.args.item.now c.args.text.now c.in_ok-what.what e.shown c.in_ok-what.ensures.item c.in_ok-what.ensures.sought does.shown) c.effect.ensures

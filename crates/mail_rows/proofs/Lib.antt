@@ -1,0 +1,10 @@
+pub mod PlaceLaws
+pub mod MailLaws
+mod FixedRows
+mod Keys
+mod Indexes
+mod KeysSeen
+mod Patterns
+mod Reached
+mod ConfLaws
+mod UserNames

@@ -1,0 +1,15 @@
+use Rattle.std.proofs.Common.{◌∙◌, [], ◌∷◌, ap, not, rules}
+use Rattle.std.proofs.lemmas.Fn.{filter_same}
+use Rattle.verb_core.specs.declared.mailbox.Entry.{Entry}
+use Rattle.verb_core.specs.declared.mailbox.Mailbox.{Mailbox}
+use Rattle.verb_core.specs.Mailboxes.{is_among}
+use Rattle.verb_core.specs.Mailboxes.{without as left_out}
+use Rattle.mail_rows.proofs.mail.remove.Goals as goal
+
+pub returns : goal.returns
+returns c = λ j. record {
+  next = (ap (λ (m : Mailbox). m.next) c.take_entries-list.ensures.mailbox) j;
+  entries = (c.from_vec.ensures
+      ∙ filter_same _ (λ (e : Entry). not (is_among (c.args.key ∷ []) e.key)) _ (λ x b f k. search rules) _ _ c.retain.ensures.filtered
+      ∙ ap (left_out (c.args.key ∷ [])) c.take_entries-list.ensures.list) j;
+}

@@ -1,0 +1,11 @@
+use Rattle.std.proofs.Common.{◌∙◌, ap, not, rules}
+use Rattle.std.proofs.lemmas.Fn.{filter_same}
+use Rattle.verb_core.specs.declared.mailbox.Entry.{Entry}
+use Rattle.verb_core.specs.Mailboxes.{is_among}
+use Rattle.verb_core.specs.Mailboxes.{without as left_out}
+use Rattle.mail_rows.proofs.mail.without.Goals as goal
+
+pub returns : goal.returns
+returns c =
+    filter_same _ (λ (e : Entry). not (is_among c.args.keys.now e.key)) _ (λ x b f k. search rules) _ _ c.retain.ensures.filtered
+    ∙ ap (left_out c.args.keys.now) c.into_vec-list.ensures

@@ -1,0 +1,29 @@
+//! Rows of mailboxes, and what is done with one mailbox: all that needs no store and no effect.
+//!
+//! `rows` finds the place of a row and lets rows come and go; `lookup` finds mailboxes and names among rows, `opening`
+//! makes the first rows. `mail` is what comes to a mailbox, changes and goes; `change` is what is to come and to change,
+//! `new_mail` and `flags` say which of it an item brings. `sights` and `shown` are what a user is shown, with entries
+//! looked up by `key_set` and `key_index`; `pattern` has the names of LIST. `reach` and `aims` find where an item's mail
+//! goes, `conf_after` makes the configuration after an act, `fixed` has the names that are always there.
+//! What carries the crate: `shown_by` is what the model shows, `reach_of` is `sought`, `conf_after` is the model's.
+#![tactic(auto)]
+
+pub mod aims;
+mod change;
+pub mod conf_after;
+pub mod fixed;
+pub mod flags;
+mod key_index;
+mod key_set;
+pub mod lookup;
+pub mod mail;
+pub mod new_mail;
+pub mod opening;
+mod pattern;
+pub mod reach;
+pub mod rows;
+pub mod shown;
+pub mod sights;
+
+pub use change::{FlagChange, Put};
+pub use key_set::KeySet;

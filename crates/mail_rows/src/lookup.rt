@@ -1,0 +1,61 @@
+//! Mailboxes found among rows by user and name, copies of rows, and a user's names.
+ghost use Rattle.std.specs.Prelude.{◌≡◌, ◌++◌, ◌∷◌, [], IsTrue, IfOk, OnOk, option_copied, if◌then◌else◌};
+ghost use Rattle.verb_core.specs.Boxes.{box_of, is_rising, row_at, names_of, same_user};
+
+use crate::rows::place_of;
+use std::alloc::Global;
+use undo_base::{Copies, Name, Names, NoMemory, User};
+use verb_core::{BoxId, Mailbox, Rows};
+
+/// The mailbox of that user and name among rows in order.
+pub fn search_mailbox<'a>(
+    rows: &'a [(BoxId, Mailbox)],
+    user: User,
+    name: &Name,
+) -> Option<&'a Mailbox>
+    requires { IsTrue (is_rising rows.now) }
+    ensures { option_copied result ≡ row_at (box_of user name.now) rows.now }
+{
+    match place_of(rows, user, name.bytes()) {
+        Ok(place) => Some(&rows[place].1),
+        Err(_) => None,
+    }
+}
+
+/// Copies of the rows.
+pub fn copied_rows(alloc: Global, rows: &[(BoxId, Mailbox)]) -> Result<Rows, NoMemory>
+    ensures { IfOk result (λ copies. copies ≡ rows.now) }
+{
+    let mut copies = Rows::new(alloc);
+    for row in rows {
+        copies.push(row.copy(alloc)?)?;
+    }
+    Ok(copies)
+}
+
+/// Adds the row's name, if the row is the user's.
+fn push_name(
+    alloc: Global,
+    names: &mut Names,
+    user: User,
+    row: &(BoxId, Mailbox),
+) -> Result<(), NoMemory>
+    ensures { OnOk result (names.new ≡ names.old ++ (if same_user user row.now.0.user then row.now.0.name ∷ [] else [])) }
+{
+    if user == row.0.user {
+        names.push(row.0.name.copy(alloc)?)?;
+    }
+    Ok(())
+}
+
+/// The user's names, in the order of the rows.
+#[tactic(auto, using(crate::proofs::UserNames::names_more))]
+pub fn names_in(alloc: Global, user: User, rows: &[(BoxId, Mailbox)]) -> Result<Names, NoMemory>
+    ensures { IfOk result (λ names. names ≡ names_of user rows.now) }
+{
+    let mut names = Names::new(alloc);
+    for row in rows {
+        push_name(alloc, &mut names, user, row)?;
+    }
+    Ok(names)
+}
