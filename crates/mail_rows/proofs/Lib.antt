@@ -6,5 +6,6 @@ mod Indexes
 mod KeysSeen
 mod Patterns
 mod Reached
+mod Needles
 mod ConfLaws
 mod UserNames

@@ -6,31 +6,19 @@ ghost use Rattle.verb_core.specs.Boxes.{box_of, has_row, is_rising, same_user};
 ghost use Rattle.verb_core.specs.Store.{is_house, users_of};
 ghost use Rattle.verb_core.specs.Aims.{aim_at as makes_aim, into_or};
 ghost use Rattle.mail_rows.specs.Reaching.{is_among_meanings, sought_at};
-ghost use Rattle.verb_core.specs.Recipients.{occurs as occurs_in, is_met as meets, resolved};
+ghost use Rattle.verb_core.specs.Recipients.{is_met as meets, resolved};
 
 use crate::lookup::search_mailbox;
+use bstr::ByteSlice;
 use std::alloc::Global;
 use undo_base::{Name, NoMemory, Sequence, User, Users};
 use verb_core::{Aim, Aims, BoxId, Conf, Filter, House, Mailbox, resolve_local};
 
-/// Whether the needle occurs in the text.
-fn occurs(needle: &[u8], text: &[u8]) -> bool
-    ensures { result ≡ occurs_in needle.now text.now }
-{
-    let mut rest = text;
-    while let Some((_, tail)) = rest.split_first() {
-        if rest.starts_with(needle) {
-            return true;
-        }
-        rest = tail;
-    }
-    needle.is_empty()
-}
-
+/// Whether the filter's needle occurs in the text.
 fn is_met(text: &[u8], filter: &Filter) -> bool
     ensures { result ≡ meets text.now filter.now }
 {
-    occurs(filter.needle.bytes(), text)
+    text.contains_str(filter.needle.bytes())
 }
 
 /// The first filter whose needle occurs in the text.
