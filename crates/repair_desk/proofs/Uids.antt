@@ -1,5 +1,5 @@
 -- Entries by their UIDs.
-use Rattle.std.proofs.Common.{◌≡◌, ◌≢◌, inl, inr, ℕ, zero, suc, ◌<◌, ◌≤◌, ◌==◌, Bool, true, false, ◌||◌, List, [], ◌∷◌, length, get_or, Result, Err, refl, sym, ap, ◌∙◌, arith, nat_lt, rules}
+use Rattle.std.proofs.Common.{◌≡◌, ◌≢◌, inl, inr, ℕ, zero, suc, ◌<◌, ◌==◌, Bool, true, false, ◌||◌, List, [], ◌∷◌, length, get_or, Result, Err, refl, sym, ap, ◌∙◌, arith, nat_lt}
 use Rattle.std.specs.List.{list_any}
 use Rattle.std.specs.List.Sorted.{IsBinarySearchResult, IsNonDecreasingBy}
 use Rattle.std.specs.Ordering.{nat_cmp, ordering_index}
@@ -11,6 +11,7 @@ use Rattle.std.proofs.lemmas.Bool.Decides.{nat_tests}
 use Rattle.std.proofs.lemmas.Cmp.{ranked}
 use Rattle.verb_core.specs.declared.mailbox.Entry.{Entry}
 use Rattle.verb_core.specs.Mailboxes.{uids_rise}
+use Rattle.verb_core.proofs.Searched.{numbers_compared}
 use Rattle.repair_desk.specs.Renewals.{same_mail}
 
 above_low : (low : ℕ) (es : List Entry) (next : ℕ) → uids_rise low es next ≡ true → (j : ℕ) (d : Entry) → j < length es → low < (get_or es j d).uid
@@ -43,42 +44,13 @@ any_there p (e ∷ es) zero d within others =
 any_there p (e ∷ es) (suc at) d within others =
     rw (others 0 d (omega arith) (λ same. absurd (omega arith))) (any_there p es at d (omega arith) (λ j d lt apart. others (suc j) d (omega arith) (λ same. apart (omega arith))))
 
-index_at_most : (o : Ordering) → ordering_index o ≤ 2
-index_at_most Less = search rules
-index_at_most Equal = search rules
-index_at_most Greater = search rules
-
-less_is : (a b : ℕ) → a < b → nat_cmp a b ≡ Less
-less_is a b lt = sym (nat_cmp_is a b Less lt)
-
--- a lower number compares no higher
-compared : (a b n : ℕ) → a < b → ordering_index (nat_cmp a n) ≤ ordering_index (nat_cmp b n)
-compared a b n lt =
-    elim (cases_order a n) [
-      | inl same ↦
-          let more : n < b = omega arith in
-          let first : nat_cmp a n ≡ Equal = sym (nat_cmp_is a n Equal same) in
-          let second : nat_cmp b n ≡ Greater = sym (nat_cmp_is b n Greater more) in
-          rw (first, second) (search rules)
-      | inr (inl less) ↦ rw (less_is a n less) (search rules)
-      | inr (inr more) ↦
-          let also : n < b = omega arith in
-          let second : nat_cmp b n ≡ Greater = sym (nat_cmp_is b n Greater also) in
-          rw second (index_at_most (nat_cmp a n))
-    ]
-
 -- entries with other UIDs are other mail
 other_mail : (e x : Entry) → x.uid ≢ e.uid → same_mail e x ≡ false
 other_mail e x apart = let differs : (e.uid == x.uid) ≡ false = grind (arith, nat_tests) in rw differs refl
 
 module _ (es : List Entry) (low next : ℕ) (rise : uids_rise low es next ≡ true) (e : Entry) where
-  comparisons_rise : IsNonDecreasingBy (λ (x : Entry). ordering_index (nat_cmp x.uid e.uid)) es
-  comparisons_rise i j d le within =
-      elim (cases_order i j) [
-        | inr (inl lt) ↦ compared (get_or es i d).uid (get_or es j d).uid e.uid (by_places low es next rise i j d lt within)
-        | inl same ↦ rw same (search rules)
-        | inr (inr gt) ↦ absurd (omega arith)
-      ]
+  uids_compared : IsNonDecreasingBy (λ (x : Entry). ordering_index (nat_cmp x.uid e.uid)) es
+  uids_compared = numbers_compared (λ (x : Entry). x.uid) e.uid es (by_places low es next rise)
 
   -- a binary search ends at the entry of the UID
   pub uid_found : (at : ℕ) (d : Entry) → at < length es → ((x : Entry) → nat_cmp (get_or es at x).uid e.uid ≡ Equal) → list_any (same_mail e) es ≡ same_mail e (get_or es at d)
@@ -96,7 +68,7 @@ module _ (es : List Entry) (low next : ℕ) (rise : uids_rise low es next ≡ tr
       let differs : (o : Ordering) (a : ℕ) → nat_cmp a e.uid ≡ o → o ≢ Equal → a ≢ e.uid =
       λ o a q apart same. apart (sym q ∙ sym (nat_cmp_is a e.uid Equal same)) in
       any_none (same_mail e) es (λ j d within. other_mail e (get_or es j d) (elim (cases_order j at) [
-        | inr (inl lt) ↦ differs Less _ ((parted comparisons_rise).0 j d (omega arith) lt) (λ q. cc)
-        | inl same ↦ differs Greater _ ((parted comparisons_rise).1 j d (omega arith) within) (λ q. cc)
-        | inr (inr gt) ↦ differs Greater _ ((parted comparisons_rise).1 j d (omega arith) within) (λ q. cc)
+        | inr (inl lt) ↦ differs Less _ ((parted uids_compared).0 j d (omega arith) lt) (λ q. cc)
+        | inl same ↦ differs Greater _ ((parted uids_compared).1 j d (omega arith) within) (λ q. cc)
+        | inr (inr gt) ↦ differs Greater _ ((parted uids_compared).1 j d (omega arith) within) (λ q. cc)
       ]))
