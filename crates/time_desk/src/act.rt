@@ -67,10 +67,15 @@ fn ready_act(
     ensures record { IfOk result (λ parts. IsRecordOf (Operator desk.old.kept.next at act) parts.1 desk.old.kept (act_item desk.old.kept.next at act)) }
 {
     let number = desk.next();
-    let bytes = act_bytes(alloc, number, at, &act)?;
-    match desk.ready_item(alloc, item_of(number, at, act)) {
-        Ok(ready) => Ok((ready, bytes)),
-        Err(NoMemory) => Err(NoMemory),
+    match act_bytes(alloc, number, at, &act) {
+        Ok(bytes) => match desk.ready_item(alloc, item_of(number, at, act)) {
+            Ok(ready) => Ok((ready, bytes)),
+            Err(NoMemory) => Err(NoMemory),
+        },
+        Err(NoMemory) => {
+            drop(act);
+            Err(NoMemory)
+        }
     }
 }
 
@@ -134,7 +139,10 @@ fn act_open<D: Disk>(
             Ok(()) => Ok(number),
             Err(fault) => Err(fault),
         },
-        Err(fault) => Err(fault),
+        Err(fault) => {
+            drop(act);
+            Err(fault)
+        }
     }
 }
 
@@ -150,6 +158,7 @@ impl<D: Disk> Desk<D> {
         ensures closed { IsErrOf result ActFault.Closed ↔ IsTrue self.old.closed }
     {
         if self.journal.is_closed() {
+            drop(act);
             return Err(ActFault::Closed);
         }
         act_open(alloc, &mut self.journal, &mut self.desk, at, act)

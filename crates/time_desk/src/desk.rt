@@ -186,7 +186,8 @@ impl<D: Disk> Desk<D> {
     pub fn into_disk(self) -> D
         ensures { result ≡ self.disk }
     {
-        let Desk { journal, .. } = self;
+        let Desk { journal, desk } = self;
+        drop(desk);
         journal.into_disk()
     }
 }

@@ -36,6 +36,9 @@ pub(crate) fn seal_ready<D: Disk>(
             desk.enter(ready);
             Ok(())
         }
-        Err(fault) => Err(fault),
+        Err(fault) => {
+            drop(ready);
+            Err(fault)
+        }
     }
 }

@@ -52,7 +52,10 @@ fn house_record(alloc: Global, house: &House, conf: &Conf) -> Result<JournalReco
     let house = house.copy(alloc)?;
     match conf.copy(alloc) {
         Ok(conf) => Ok(JournalRecord::Format(house, conf)),
-        Err(NoMemory) => Err(NoMemory),
+        Err(NoMemory) => {
+            drop(house);
+            Err(NoMemory)
+        }
     }
 }
 
@@ -62,5 +65,7 @@ pub(crate) fn house_bytes(alloc: Global, house: &House, conf: &Conf) -> Result<T
     ensures bytes { IfOk result (λ text. text ≡ record_bytes (Format house.now conf.now)) }
 {
     let what = house_record(alloc, house, conf)?;
-    record_text(alloc, &what)
+    let bytes = record_text(alloc, &what);
+    drop(what);
+    bytes
 }

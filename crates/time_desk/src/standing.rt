@@ -23,10 +23,23 @@ fn opening_in(what: JournalRecord) -> Option<(House, Conf)>
 {
     match what {
         JournalRecord::Format(house, conf) => Some((house, conf)),
-        JournalRecord::Verb(_) => None,
-        JournalRecord::Operator { .. } => None,
-        JournalRecord::Cycle { .. } => None,
-        JournalRecord::Snapshot { .. } => None,
+        JournalRecord::Verb(item) => {
+            drop(item);
+            None
+        }
+        JournalRecord::Operator { act, .. } => {
+            drop(act);
+            None
+        }
+        JournalRecord::Cycle { ask, .. } => {
+            drop(ask);
+            None
+        }
+        JournalRecord::Snapshot { conf, rows, .. } => {
+            drop(conf);
+            drop(rows);
+            None
+        }
     }
 }
 
@@ -40,6 +53,8 @@ fn begun_by(alloc: Global, house: House, conf: Conf) -> Result<Option<Desk>, NoM
             Err(NoMemory) => Err(NoMemory),
         }
     } else {
+        drop(house);
+        drop(conf);
         Ok(None)
     }
 }
@@ -165,9 +180,20 @@ fn item_in(what: JournalRecord) -> Option<Item>
             deed: Deed::Act(act),
             shown: Shown::Nothing,
         }),
-        JournalRecord::Format(_, _) => None,
-        JournalRecord::Cycle { .. } => None,
-        JournalRecord::Snapshot { .. } => None,
+        JournalRecord::Format(house, conf) => {
+            drop(house);
+            drop(conf);
+            None
+        }
+        JournalRecord::Cycle { ask, .. } => {
+            drop(ask);
+            None
+        }
+        JournalRecord::Snapshot { conf, rows, .. } => {
+            drop(conf);
+            drop(rows);
+            None
+        }
     }
 }
 
@@ -185,6 +211,7 @@ fn enter(alloc: Global, desk: &mut Desk, item: Item) -> Result<bool, NoMemory>
     ensures { IfOk result (λ stood. Enters desk.old.kept item stood desk.new.kept) }
 {
     if !can_follow(desk, &item) {
+        drop(item);
         return Ok(false);
     }
     match desk.ready_item(alloc, item) {

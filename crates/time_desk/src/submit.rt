@@ -54,7 +54,10 @@ fn with_bytes(alloc: Global, ready: Ready) -> Result<Found, NoMemory>
 {
     match copy_with_bytes(alloc, ready.item()) {
         Ok((item, bytes)) => Ok(Found { ready, item, bytes }),
-        Err(NoMemory) => Err(NoMemory),
+        Err(NoMemory) => {
+            drop(ready);
+            Err(NoMemory)
+        }
     }
 }
 
@@ -116,7 +119,10 @@ fn seal_found<D: Disk>(
     let Found { ready, item, bytes } = found;
     match seal_ready(alloc, journal, desk, &bytes, ready) {
         Ok(()) => Ok(item),
-        Err(fault) => Err(fault_of(fault)),
+        Err(fault) => {
+            drop(item);
+            Err(fault_of(fault))
+        }
     }
 }
 
@@ -167,6 +173,7 @@ impl<D: Disk> Desk<D> {
         ensures closed { IsErrOf result SubmitFault.Closed ↔ IsTrue self.old.closed }
     {
         if self.journal.is_closed() {
+            drop(ask);
             return Err(SubmitFault::Closed);
         }
         submit_open(alloc, &mut self.journal, &mut self.desk, at, by, ask)
