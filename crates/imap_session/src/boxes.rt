@@ -1,15 +1,15 @@
 //! CREATE, DELETE, RENAME, SUBSCRIBE and UNSUBSCRIBE (RFC 3501, sections 6.3.3 to 6.3.7).
 ghost use Rattle.std.specs.Prelude.{◌≡◌, ◌||◌, ◌==◌, not, IfOk, OnErr};
 ghost use Rattle.verb_core.specs.Names.{is_fixed as is_fixed_name, is_new_name as is_new, is_wildcard};
-ghost use Rattle.imap_session.specs.Names.{mailbox_of as mailbox_named};
+ghost use Rattle.imap_view.specs.Names.{mailbox_of as mailbox_named};
 ghost use Rattle.imap_session.specs.Dialog.{took};
 ghost use Rattle.imap_session.specs.Dialog as spec;
 
 use crate::commands::{say, submit};
 use crate::dialog::{Dialog, Pending};
-use crate::names::mailbox_of;
 use crate::out::ImapOut;
 use crate::words::{Answer, Word};
+use imap_view::mailbox_of;
 use std::alloc::Global;
 use undo_base::{Name, NoMemory, Text};
 use verb_core::{Ask, Refused};

@@ -1,0 +1,4 @@
+pub mod Order
+pub mod Views
+pub mod Mail
+pub mod Picked

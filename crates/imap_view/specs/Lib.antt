@@ -1,0 +1,4 @@
+pub mod Names
+pub mod Views
+pub mod Named
+pub mod Facts
