@@ -8,5 +8,6 @@ pub mod Messages
 pub mod Append
 pub mod What
 pub mod Command
+pub mod Grammar
 pub mod Writing
 pub mod PlainCommands

@@ -1,5 +1,8 @@
 //! What the definitions say, in the standard's words.
-ghost use Rattle.std.specs.Prelude.{◌≡◌, ℕ, true, List, [], Some};
+ghost use Rattle.std.specs.Prelude.{◌≡◌, ◌↔◌, ℕ, true, List, [], Some};
+ghost use Rattle.imap_stream.specs.declared.next.RawCommand.{RawCommand};
+ghost use Rattle.imap_lines.specs.Command.{Reading, command_of};
+ghost use Rattle.imap_lines.specs.Grammar.{IsReading};
 ghost use Rattle.imap_lines.specs.Fetch.{asks_in};
 ghost use Rattle.imap_tokens.specs.Spelling.{Spaced};
 ghost use Rattle.imap_lines.specs.Attributes.{SpellsAttribute};
@@ -8,6 +11,17 @@ ghost use Rattle.imap_lines.specs.Lists.{SpellsItems};
 ghost use Rattle.imap_tokens.specs.declared.tokens.Token as token;
 ghost use Rattle.undo_base.specs.declared.asks.StatusAsk as item;
 ghost use Rattle.imap_lines.specs.declared.asks.FetchAsk as ask;
+
+use imap_tokens::{arguments_are_spelled, flags_are_spelled, sets_are_spelled};
+
+/// What lines and literals are read as is what the grammar says, a command or the one cause why they are none, and nothing else.
+pub fn one_command()
+    ensures { (raw : RawCommand) (reading : Reading) → (command_of raw ≡ reading) ↔ IsReading raw reading }
+{
+    arguments_are_spelled();
+    sets_are_spelled();
+    flags_are_spelled();
+}
 
 /// Attributes are those that tokens spell, one or more, with a space between each two, and no others.
 pub fn attributes_are_spelled()
