@@ -2,3 +2,5 @@ pub mod Order
 pub mod Views
 pub mod Mail
 pub mod Picked
+pub mod Told
+pub mod Gone

@@ -64,7 +64,7 @@ lost_more entries view i d lt =
 same_keys : (a b : Key) → same_key a b ≡ true → a ≡ b
 same_keys a b h = λ i. record { item = eqb-true a.item b.item (first_so _ _ h) i; index = eqb-true a.index b.index (second_so _ _ h) i }
 
-known_is : (known : Known) (e : Entry) → is_message known e ≡ true → known_of e ≡ known
+pub known_is : (known : Known) (e : Entry) → is_message known e ≡ true → known_of e ≡ known
 known_is known e h = sym (λ i. record { uid = eqb-true known.uid e.uid (first_so _ _ h) i; key = same_keys known.key e.key (second_so _ _ h) i })
 
 pub current_is : (entries : List Entry) (view : List Known) → is_current entries view ≡ true → view_of entries ≡ view

@@ -1,12 +1,14 @@
 //! What an IMAP session knows of its mailbox, and what the store tells of it.
 //!
 //! `messages` is the view, the messages that a session knows, and how it is told of changes; `facts` has what the store
-//! tells of a mailbox, `named` the messages that a command names, and `names` the mailboxes and accounts. What carries
+//! tells of a mailbox, `named` the messages that a command names, and `names` the mailboxes and accounts; `laws` says
+//! that a client can follow a view. What carries
 //! the crate: each call is the function of its name in specs/Views.antt, specs/Facts.antt, specs/Named.antt or
 //! specs/Names.antt.
 #![tactic(auto)]
 
 mod facts;
+pub mod laws;
 mod messages;
 mod named;
 mod names;
