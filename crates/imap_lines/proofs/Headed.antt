@@ -1,5 +1,5 @@
 -- Tags and words of commands, and what a line has that begins with them.
-use Rattle.std.proofs.Common.{◌≡◌, ℕ, ◌+◌, ◌<◌, Bool, true, false, cond, not, ◌==◌, ◌&&◌, List, [], ◌∷◌, ◌++◌, length, take, drop, codes, Option, None, Some, option_map, option_and_then, refl, ap, sym, ◌∙◌, subst, arith, zero, suc}
+use Rattle.std.proofs.Common.{◌≡◌, ℕ, ◌+◌, Bool, true, false, cond, not, ◌==◌, ◌&&◌, List, [], ◌∷◌, ◌++◌, length, take, drop, codes, Option, None, Some, option_map, refl, ap, sym, ◌∙◌, subst, arith, zero, suc}
 use Rattle.std.specs.List.{list_all, before_first, after_first, position_or_len}
 use Rattle.std.specs.Option.{option_or}
 use Rattle.std.proofs.lemmas.Bool.{eqb-true}
@@ -9,7 +9,7 @@ use Rattle.imap_stream.specs.Marks.{is_tag, tag_of, before_space}
 use Rattle.imap_tokens.specs.Parts.{is_space, from_space}
 use Rattle.imap_tokens.specs.Words.{upper, is_word, row_of}
 use Rattle.imap_lines.specs.Command.{uid_heading_of, heading_of}
-use Rattle.imap_lines.specs.Grammar.{name_of, has_uid_form, IsApart, Begins, BeginsUid, Heads, HasTag}
+use Rattle.imap_lines.specs.Grammar.{name_of, has_uid_form, IsApart, Begins, Heads, HasTag}
 use Rattle.imap_lines.specs.Verbs.{bare_verbs, mailbox_verbs, other_verbs, message_verbs, bare_verb, mailbox_verb, other_verb, message_verb, verb_in}
 use Rattle.imap_lines.specs.declared.verbs.BareVerb.{BareVerb}
 use Rattle.imap_lines.specs.declared.verbs.BareVerb.TheVariants as bare

@@ -13,6 +13,7 @@ pub mod Attributes
 pub mod Asked
 pub mod Items
 pub mod Steps
+pub mod DateLetters
 pub mod Headed
 pub mod SpelledArguments
 pub mod SpelledWhat

@@ -1,12 +1,7 @@
 -- The arguments of each command, and what spells them.
-use Rattle.std.proofs.Common.{◌≡◌, ◌⊎◌, ℕ, ◌-◌, Bool, true, false, cond, ◌==◌, ◌&&◌, List, [], ◌∷◌, ◌++◌, length, take, codes, Option, None, Some, option_map, option_and_then, refl, ap, sym, ◌∙◌, subst, inl, inr, arith, suc, get_or}
-use Rattle.std.specs.Prelude.{slice_get}
-use Rattle.std.specs.Option.{option_map_or}
+use Rattle.std.proofs.Common.{◌≡◌, ℕ, Bool, true, false, cond, ◌==◌, List, [], ◌∷◌, length, Option, None, Some, option_map, option_and_then, refl, ap, sym, ◌∙◌, subst, inl, inr, arith}
 use Rattle.std.proofs.lemmas.Bool.{eqb-true}
-use Rattle.std.proofs.lemmas.List.{nil_from_length}
 use Rattle.std.proofs.lemmas.Option.{same_Some}
-use Rattle.undo_base.specs.declared.asks.How.{How}
-use Rattle.undo_base.specs.declared.asks.StatusAsk.{StatusAsk}
 use Rattle.undo_base.specs.declared.keys.Flags.{Flags}
 use Rattle.imap_stream.specs.declared.picks.SetRange.{SetRange}
 use Rattle.imap_tokens.specs.Dates.{date_in}
@@ -15,14 +10,13 @@ use Rattle.imap_tokens.specs.Lists.{SpellsFlags, SpellsList}
 use Rattle.imap_tokens.specs.Ranges.{SpellsSet}
 use Rattle.imap_tokens.specs.Sets.{set_in}
 use Rattle.imap_tokens.specs.SpelledLines.{SpellsLines}
-use Rattle.imap_tokens.specs.Tokens.{is_space, is_open, word_of, string_of, pattern_of, quoted_of, literal_of, tokens_with}
+use Rattle.imap_tokens.specs.Tokens.{word_of, string_of, pattern_of, quoted_of, literal_of, tokens_with}
 use Rattle.imap_tokens.specs.declared.tokens.Token.{Token}
 use Rattle.imap_tokens.specs.declared.tokens.Token.TheVariants.{Space, Open, Close, Word, Quoted, Literal}
-use Rattle.imap_lines.specs.Append.{spaced_flags, first_flags, spaced_date, date_by, first_date, only_literal, message_in, append_in}
+use Rattle.imap_lines.specs.Append.{spaced_flags, first_flags, date_by, first_date, only_literal}
 use Rattle.imap_lines.specs.Arguments.{behind_space, first_string, next_string, first_word, next_word, last_by, last_string, two_strings, first_pattern, string_and_pattern, in_list, string_and_list}
-use Rattle.imap_lines.specs.Asks.{statuses_from}
-use Rattle.imap_lines.specs.Grammar.{SpellsString, SpellsStrings, SpellsPattern, SpellsStatus, SpellsFirstFlags, SpellsFirstDate, SpellsAppend}
-use Rattle.imap_lines.specs.Lists.{SpellsItems}
+use Rattle.imap_lines.specs.Grammar.{SpellsString, SpellsStrings, SpellsPattern, SpellsFirstFlags, SpellsFirstDate}
+use Rattle.imap_lines.proofs.DateLetters.{read_date, spelled_date}
 use Rattle.imap_lines.proofs.Steps.{stepped, mapped}
 
 -- what stands behind a space
@@ -244,7 +238,7 @@ first_date_sound (token ∷ tokens) r e = by_quoted (quoted_of token) refl e
         let s = stepped (date_in text) (λ (moment : ℕ). option_map (λ (rest : List Token). (Some moment, rest)) (behind_space tokens)) r e in
         let m = mapped (behind_space tokens) (λ (rest : List Token). (Some s.value, rest)) r s.gives in
         subst (λ (p : Option ℕ × List Token). SpellsFirstDate p.0 p.1 (token ∷ tokens)) m.is
-        (text, ap (λ t. t ∷ tokens) (quoted_is token text is) ∙ ap (λ l. Quoted text ∷ l) (space_sound tokens m.value m.was), s.was)
+        (text, ap (λ t. t ∷ tokens) (quoted_is token text is) ∙ ap (λ l. Quoted text ∷ l) (space_sound tokens m.value m.was), spelled_date text s.value s.was)
 
 pub literal_sound : (tokens : List Token) (text : List ℕ) → only_literal tokens ≡ Some text → tokens ≡ Literal text ∷ []
 literal_sound [] text e = absurd (let wrong : None ≡ Some text = e in cc)
@@ -255,4 +249,4 @@ literal_sound (token ∷ tokens) text e =
 pub first_date_complete : (moment : Option ℕ) (text : List ℕ) (tokens : List Token) → SpellsFirstDate moment (Literal text ∷ []) tokens → first_date tokens ≡ Some (moment, Literal text ∷ [])
 first_date_complete None text tokens e = ap first_date e
 first_date_complete (Some moment) text tokens (quoted, whole, is) =
-    ap first_date whole ∙ ap (option_and_then (λ (m : ℕ). option_map (λ (rest : List Token). (Some m, rest)) (behind_space (Space ∷ Literal text ∷ [])))) is
+    ap first_date whole ∙ ap (option_and_then (λ (m : ℕ). option_map (λ (rest : List Token). (Some m, rest)) (behind_space (Space ∷ Literal text ∷ [])))) (read_date quoted moment is)

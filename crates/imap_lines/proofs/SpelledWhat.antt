@@ -1,5 +1,5 @@
 -- What a command asks, and what spells it.
-use Rattle.std.proofs.Common.{◌≡◌, ◌≢◌, ◌⊎◌, ℕ, ◌+◌, ◌-◌, Bool, true, false, cond, ◌==◌, ◌&&◌, List, [], ◌∷◌, ◌++◌, length, take, codes, Option, None, Some, option_map, option_and_then, refl, ap, sym, ◌∙◌, subst, inl, inr, arith, suc}
+use Rattle.std.proofs.Common.{◌≡◌, ℕ, ◌+◌, ◌-◌, Bool, true, false, cond, ◌==◌, ◌&&◌, List, [], ◌∷◌, ◌++◌, length, take, codes, Option, None, Some, option_map, option_and_then, refl, ap, sym, ◌∙◌, subst, inl, inr, arith, suc}
 use Rattle.std.specs.Prelude.{slice_get}
 use Rattle.std.specs.Option.{option_map_or}
 use Rattle.std.proofs.lemmas.Bool.{eqb-true}
@@ -10,11 +10,10 @@ use Rattle.undo_base.specs.declared.asks.StatusAsk.{StatusAsk}
 use Rattle.undo_base.specs.declared.keys.Flags.{Flags}
 use Rattle.imap_stream.specs.declared.picks.SetRange.{SetRange}
 use Rattle.imap_tokens.specs.Flags.{no_flags, flags_in, bare_from}
-use Rattle.imap_tokens.specs.Lists.{SpellsFlag, SpellsFlags, SpellsList}
+use Rattle.imap_tokens.specs.Lists.{SpellsFlag, SpellsList}
 use Rattle.imap_tokens.specs.Sets.{set_in}
-use Rattle.imap_tokens.specs.SpelledLines.{SpellsLines}
 use Rattle.imap_tokens.specs.Spelling.{Spaced}
-use Rattle.imap_tokens.specs.Tokens.{is_close, word_of, string_of, tokens_with}
+use Rattle.imap_tokens.specs.Tokens.{is_close, word_of, tokens_with}
 use Rattle.imap_tokens.specs.Words.{upper, is_word, after_word}
 use Rattle.imap_tokens.specs.declared.tokens.Token.{Token}
 use Rattle.imap_tokens.specs.declared.tokens.Token.TheVariants.{Space, Open, Close, Word, Quoted, Literal}
@@ -26,7 +25,7 @@ use Rattle.imap_lines.specs.Command.{takes_all, spoken}
 use Rattle.imap_lines.specs.Fetch.{plain_asks, plain_in, body_in, peeked_in, begins_by, begins_in, asks_in, is_alone, one_of, single_in, ends_closed, listed_in, fetch_in}
 use Rattle.imap_lines.specs.Grammar.{SpellsFirstFlags, SpellsFirstDate, SpellsAsks, SpellsStoreFlags, SpellsString, SpellsArguments, verb_of, speaks_of_uids, has_uid_form, Asks}
 use Rattle.imap_lines.specs.Messages.{how_in, listed_flags, store_flags, change_in, store_of, fetch_of, copy_of}
-use Rattle.imap_lines.specs.What.{bare as bare_what, bare_in, with_mailbox, with_list, what_in}
+use Rattle.imap_lines.specs.What.{bare as bare_what, bare_in, with_mailbox, what_in}
 use Rattle.imap_lines.specs.declared.asks.FetchAsk.{FetchAsk}
 use Rattle.imap_lines.specs.declared.asks.FetchAsk.TheVariants.{Fast}
 use Rattle.imap_lines.specs.declared.fetch.Begins.{Begins}

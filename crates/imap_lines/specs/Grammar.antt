@@ -6,7 +6,6 @@ use Rattle.undo_base.specs.declared.keys.Flags.{Flags}
 use Rattle.imap_stream.specs.Marks.{is_tag}
 use Rattle.imap_stream.specs.declared.next.RawCommand.{RawCommand}
 use Rattle.imap_stream.specs.declared.picks.SetRange.{SetRange}
-use Rattle.imap_tokens.specs.Dates.{date_in}
 use Rattle.imap_tokens.specs.Flags.{no_flags}
 use Rattle.imap_tokens.specs.Lists.{SpellsFlags, SpellsList}
 use Rattle.imap_tokens.specs.Parts.{line_before}
@@ -19,13 +18,12 @@ use Rattle.imap_tokens.specs.declared.tokens.Token.{Token}
 use Rattle.imap_tokens.specs.declared.tokens.Token.TheVariants.{Space, Open, Close, Word, Quoted, Literal}
 use Rattle.imap_lines.specs.Attributes.{SpellsAttribute}
 use Rattle.imap_lines.specs.Command.{Reading}
+use Rattle.imap_lines.specs.DateText.{SpellsDate}
 use Rattle.imap_lines.specs.Lists.{SpellsItems}
 use Rattle.imap_lines.specs.Messages.{how_in}
 use Rattle.imap_lines.specs.declared.asks.FetchAsk.{FetchAsk}
 use Rattle.imap_lines.specs.declared.asks.FetchAsk.TheVariants.{Fast}
-use Rattle.imap_lines.specs.declared.verbs.BareVerb.{BareVerb}
 use Rattle.imap_lines.specs.declared.verbs.BareVerb.TheVariants as bare
-use Rattle.imap_lines.specs.declared.verbs.MailboxVerb.{MailboxVerb}
 use Rattle.imap_lines.specs.declared.verbs.MailboxVerb.TheVariants as mailbox_verb
 use Rattle.imap_lines.specs.declared.verbs.Verb.{Verb}
 use Rattle.imap_lines.specs.declared.verbs.Verb.TheVariants as verb
@@ -71,7 +69,7 @@ SpellsFirstFlags flags rest tokens = ((flags ≡ no_flags) × (tokens ≡ rest))
 -- a date in quotes and a space, or nothing; and what follows
 abbrev pub SpellsFirstDate : Option ℕ → List Token → List Token → Type 0
 SpellsFirstDate None rest tokens = tokens ≡ rest
-SpellsFirstDate (Some moment) rest tokens = (text : List ℕ) × (tokens ≡ Quoted text ∷ Space ∷ rest) × (date_in text ≡ Some moment)
+SpellsFirstDate (Some moment) rest tokens = (text : List ℕ) × (tokens ≡ Quoted text ∷ Space ∷ rest) × SpellsDate moment text
 
 -- SP mailbox [SP flag-list] [SP date-time] SP literal
 pub record SpellsAppend (mailbox : List ℕ) (flags : Flags) (moment : Option ℕ) (text : List ℕ) (tokens : List Token) : Type 0 where

@@ -1,5 +1,5 @@
 -- The words of commands (RFC 3501, 9: command).
-use Rattle.std.specs.Prelude.{codes, ℕ, List, [], ◌∷◌, Option, None, Some, option_map}
+use Rattle.std.specs.Prelude.{codes, ℕ, List, [], ◌∷◌, Option, option_map}
 use Rattle.std.specs.Option.{option_or}
 use Rattle.imap_tokens.specs.Words.{row_of}
 use Rattle.imap_lines.specs.declared.verbs.BareVerb.{BareVerb}

@@ -3,6 +3,8 @@ ghost use Rattle.std.specs.Prelude.{◌≡◌, ◌↔◌, ℕ, true, List, [], S
 ghost use Rattle.imap_stream.specs.declared.next.RawCommand.{RawCommand};
 ghost use Rattle.imap_lines.specs.Command.{Reading, command_of};
 ghost use Rattle.imap_lines.specs.Grammar.{IsReading};
+ghost use Rattle.imap_lines.specs.DateText.{SpellsDate};
+ghost use Rattle.imap_tokens.specs.Dates.{date_in};
 ghost use Rattle.imap_lines.specs.Fetch.{asks_in};
 ghost use Rattle.imap_tokens.specs.Spelling.{Spaced};
 ghost use Rattle.imap_lines.specs.Attributes.{SpellsAttribute};
@@ -33,4 +35,10 @@ pub fn attributes_are_spelled()
 pub fn items_are_spelled()
     ensures spells { (tokens : List token.Token) (asks : List item.StatusAsk) → statuses_from true [] tokens ≡ Some asks → SpellsItems asks tokens }
     ensures only { (tokens : List token.Token) (asks : List item.StatusAsk) → SpellsItems asks tokens → statuses_from true [] tokens ≡ Some asks }
+{}
+
+/// Dates are those that letters spell, by one equation on their day, their second and their zone, and no others.
+pub fn dates_are_spelled()
+    ensures spells { (bytes : List ℕ) (moment : ℕ) → date_in bytes ≡ Some moment → SpellsDate moment bytes }
+    ensures only { (bytes : List ℕ) (moment : ℕ) → SpellsDate moment bytes → date_in bytes ≡ Some moment }
 {}

@@ -25,6 +25,6 @@ pub use imap_stream::{
     pick,
 };
 pub use imap_tokens::{Part, Token, Tokens, flags_are_spelled, tokens_are_spelled};
-pub use laws::{attributes_are_spelled, items_are_spelled, one_command};
+pub use laws::{attributes_are_spelled, dates_are_spelled, items_are_spelled, one_command};
 pub use reader::read_command;
 pub use round_trip::{cuts_what_is_sent, reads_what_is_written};

@@ -1,4 +1,3 @@
-use Rattle.imap_lines.proofs.SpelledArguments.{TokenLaws}
 use Rattle.imap_lines.proofs.Spoken.{one_command}
 use Rattle.imap_lines.proofs.laws.one_command.Goals as goal
 
