@@ -12,13 +12,12 @@ use Rattle.verb_core.specs.declared.conf.Conf.{Conf}
 use Rattle.verb_core.specs.declared.conf.Filter.{Filter}
 use Rattle.verb_core.specs.declared.conf.House.{House}
 use Rattle.verb_core.specs.declared.item.Item.{Item}
-use Rattle.verb_core.specs.declared.mailbox.Entry.{Entry}
 use Rattle.verb_core.specs.declared.mailbox.Mailbox.{Mailbox}
 use Rattle.console_replies.specs.declared.bodies.Counts.{Counts}
 use Rattle.console_replies.specs.Bodies.{status_data, body_data}
 use Rattle.console_replies.specs.Timeline.{item_data, timeline_data}
 use Rattle.console_replies.specs.Mailboxes.{entry_data, box_data}
-use Rattle.console_replies.specs.Confs.{user_data, users_data, put_alias, aliases_members, file_data, filter_data, conf_data}
+use Rattle.console_replies.specs.Confs.{user_data, users_data, put_alias, file_data, filter_data, conf_data}
 
 -- a list of values of which none has a float
 listed : {A : Type 0} (f : A → Data) → ((a : A) → has_float (f a) ≡ false) → (xs : List A) → items_have_float (items_of (map f xs)) ≡ false

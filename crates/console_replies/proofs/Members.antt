@@ -1,5 +1,5 @@
 -- A member that is put into an object.
-use Rattle.std.proofs.Common.{◌≡◌, ℕ, ◌+◌, ◌<◌, List, ◌∷◌, length, drop, get_or, sym, add-one, drop-cons, Global, String, string_bytes, string_cmp, ◌∙◌, ap, refl}
+use Rattle.std.proofs.Common.{◌≡◌, ℕ, ◌+◌, ◌<◌, List, ◌∷◌, length, drop, get_or, add-one, drop-cons, Global, String, string_bytes, string_cmp, ◌∙◌, ap, refl}
 use Rattle.std.specs.BTreeMap.{insert_entry}
 use Rattle.std.specs.Prelude.{fold}
 use Rattle.verb_core.specs.declared.conf.Alias.{Alias}

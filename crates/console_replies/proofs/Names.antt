@@ -1,13 +1,13 @@
 -- Names are ASCII.
-use Rattle.std.proofs.Common.{◌≡◌, ◌⊎◌, ℕ, ◌≤◌, ◌<◌, List, length, get_or, false, not, ◌&&◌, None, arith, inl, inr}
+use Rattle.std.proofs.Common.{◌≡◌, ℕ, ◌≤◌, ◌<◌, List, length, false, not, arith, inl, inr}
 use Rattle.std.proofs.lemmas.Bool.{cases_lt}
-use Rattle.std.specs.Prelude.{IsUtf8, nat_le, position}
+use Rattle.std.specs.Prelude.{IsUtf8}
 use Rattle.std.specs.List.{position_or_len}
 use Rattle.std.proofs.lemmas.Bool.Decides.{nat_tests}
 use Rattle.std.proofs.lemmas.List.Sums.{fails_before_first}
 use Rattle.std.proofs.lemmas.Str.{IsUtf8-from_ascii}
 use Rattle.std.proofs.lemmas.List.{get_or_past}
-use Rattle.undo_base.specs.Name.{IsName, is_printable, first_unprintable}
+use Rattle.undo_base.specs.Name.{IsName, is_printable}
 
 small : (b : ℕ) → not (is_printable b) ≡ false → b < 128
 small b h = grind (arith, nat_tests)

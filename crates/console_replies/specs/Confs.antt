@@ -1,5 +1,5 @@
 -- A configuration as JSON data.
-use Rattle.std.specs.Prelude.{ℕ, List, [], ◌∷◌, codes, map, fold, Option, Some, None}
+use Rattle.std.specs.Prelude.{ℕ, List, codes, map, fold, Option, Some, None}
 use Rattle.serde_json.specs.Data.{Data, null, string, array, object, Members, no_members, member, put}
 use Rattle.serde_json.specs.View.{items_of}
 use Rattle.undo_base.specs.declared.keys.User.{User}

@@ -1,5 +1,5 @@
 -- The messages of a store, counted by the names of its mailboxes.
-use Rattle.std.proofs.Common.{◌≡◌, ℕ, Bool, true, false, List, [], ◌∷◌, length, map, Option, Some, None, cond, unwrap_or, refl, sym, ap, subst, ◌∙◌}
+use Rattle.std.proofs.Common.{◌≡◌, ℕ, Bool, true, false, List, [], ◌∷◌, length, map, Some, cond, unwrap_or, refl, sym, ap, ◌∙◌}
 use Rattle.std.specs.Prelude.{sum_by, option_map}
 use Rattle.std.specs.List.{sum}
 use Rattle.std.specs.Ordering.{eq_by_cmp, is_eq, is_lt, ordering_reverse}
@@ -10,7 +10,6 @@ use Rattle.std.specs.FinMap.Entries as rows
 use Rattle.std.proofs.lemmas.Bool.{and_parts}
 use Rattle.std.proofs.lemmas.List.Sums.{sum-map}
 use Rattle.verb_core.specs.declared.mailbox.BoxId.{BoxId}
-use Rattle.verb_core.specs.declared.mailbox.Entry.{Entry}
 use Rattle.verb_core.specs.declared.mailbox.Mailbox.{Mailbox}
 use Rattle.verb_core.specs.Boxes.{box_cmp, is_rising, mail_at, row_at}
 use Rattle.verb_core.proofs.BoxLaws.{boxes_total}

@@ -13,13 +13,13 @@ use Rattle.verb_core.specs.Mailboxes.{no_mail}
 use Rattle.verb_core.specs.Names.{inbox, lost_found}
 use Rattle.verb_core.specs.Boxes.{box_of}
 use Rattle.verb_core.specs.Store.{MailStore, IsValid, is_house, is_known, opening, users_of}
-use Rattle.verb_core.specs.Step.{Boxes, step, run}
+use Rattle.verb_core.specs.Step.{step, run}
 use Rattle.verb_core.specs.Stamps.{opening_stamps}
 use Rattle.verb_core.specs.Items.{text_of}
 use Rattle.shelf.specs.declared.note.Note.{Note}
 use Rattle.shelf.specs.Notes.{size_of}
-use Rattle.mail_desk.specs.Kept.{Kept}
-use Rattle.mail_desk.specs.Desk.{IsDesk, new_desk, store_of}
+use Rattle.verb_core.specs.Kept.{Kept, new_desk, store_of}
+use Rattle.mail_desk.specs.Desk.{IsDesk}
 use Rattle.mail_desk.specs.Timeline.{has_text, all_bodies}
 
 -- a run keeps the house
@@ -45,12 +45,9 @@ first_bounds house sound =
     }
 
 -- the parts of a new desk, as they were made
-pub new_desk_is : (house : House) (conf copied : Conf) (store : MailStore) (rows : Boxes) (stamps : List (BoxId × ℕ)) (timeline : List Item)
-    → copied ≡ conf → store ≡ opening house copied → rows ≡ store.boxes → stamps ≡ map (λ (r : BoxId × Mailbox). (r.0, house.first - 1)) rows → timeline ≡ []
+pub new_desk_is : (house : House) (conf : Conf) (stamps : List (BoxId × ℕ)) (timeline : List Item) → stamps ≡ opening_stamps (opening house conf) → timeline ≡ []
     → ◌≡◌ {A = Kept} (record { house = house; opening = conf; timeline = timeline; stamps = stamps; next = house.first }) (new_desk house conf)
-new_desk_is house conf copied store rows stamps timeline same made told stamped empty =
-    let is = stamped ∙ ap (λ (rs : Boxes). map (λ (r : BoxId × Mailbox). (r.0, house.first - 1)) rs) (told ∙ ap (λ (s : MailStore). s.boxes) (made ∙ ap (opening house) same)) in
-    λ j. record { house = house; opening = conf; timeline = empty j; stamps = is j; next = house.first }
+new_desk_is house conf stamps timeline stamped empty = λ j. record { house = house; opening = conf; timeline = empty j; stamps = stamped j; next = house.first }
 
 -- they are a desk
 pub new_desk_holds : (house : House) (conf : Conf) (store : MailStore) (kept : Kept) → is_house house ≡ true → IsValid store → store ≡ opening house conf

@@ -1,8 +1,8 @@
 pub mod Timelines
 pub mod BodyTexts
 pub mod Desks
-pub mod Effects
 pub mod Stampings
+pub mod Searched
 pub mod Going
 pub mod Readied
 pub mod Counted

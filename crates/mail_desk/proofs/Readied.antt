@@ -9,15 +9,19 @@ use Rattle.verb_core.specs.declared.ask.Refused.TheVariants.{NameShape, Fixed, N
 use Rattle.verb_core.specs.declared.ask.SubmitFault.{SubmitFault}
 use Rattle.verb_core.specs.declared.ask.SubmitFault.TheVariants.{Refused as IsRefused}
 use Rattle.verb_core.specs.declared.item.Item.{Item}
-use Rattle.verb_core.specs.Items.{IsWellFormed}
+use Rattle.verb_core.specs.declared.item.Resolved.{Resolved}
+use Rattle.verb_core.specs.Aims.{Sought, sought, sought_by}
+use Rattle.verb_core.specs.Items.{IsWellFormed, text_in}
 use Rattle.verb_core.specs.Live.{asked_item, answered, asks_fixed, first_of, if_so, is_gone, is_misshapen, is_missing, is_there, is_uid_wide, key_count, live, named, new_names, or_item, overfills, targets, too_large}
 use Rattle.verb_core.specs.Stamps.{stamps_after}
-use Rattle.verb_core.specs.Step.{step}
-use Rattle.verb_core.specs.Store.{MailStore}
-use Rattle.box_store.specs.Effects.{IsReady, applied}
+use Rattle.verb_core.specs.Step.{step, step_with}
+use Rattle.verb_core.specs.Store.{MailStore, IsValid}
+use Rattle.box_store.specs.declared.effect.Effect.{Effect}
+use Rattle.box_store.specs.Effects.{IsEffect, IsReady, applied}
+use Rattle.box_store.specs.Kept.{sought_in}
 use Rattle.mail_desk.specs.declared.ready.Ready.{Ready}
-use Rattle.mail_desk.specs.Desk.{IsFaultOf, performed, store_of, submitted_as}
-use Rattle.mail_desk.specs.Kept.{Kept}
+use Rattle.mail_desk.specs.Desk.{IsFaultOf, submitted_as}
+use Rattle.verb_core.specs.Kept.{Kept, performed, store_of}
 use Rattle.mail_desk.specs.Entering.{CanEnter}
 use Rattle.mail_desk.specs.Held.{Held}
 
@@ -55,6 +59,25 @@ number_left (Ok item) s number at by ask most is = let no = (asked_is s number a
 number_left (Err why) s number at by ask most is = tt
 
 -- ---- what is ready
+
+-- what an effect does where it was made
+pub does_here : {W : Type 0} (r : Result Effect W) (what : Resolved) (s : MailStore) (i : Item) (text : List ℕ) → IsValid s → what.item ≡ i → sought_in what ≡ sought s text i.by i.deed
+    → text ≡ unwrap_or (text_in i.deed) [] → IfOk r (λ e. IsEffect e what s) → IfOk r (λ e. applied e s ≡ (step s i).0)
+does_here (Ok e) what s i text valid is to brought made =
+    made.elsewhere s refl valid (λ q there. refl)
+    ∙ ap (λ (t : Sought). (step_with t s what.item).0) (to ∙ ap (λ (n : List ℕ). sought s n i.by i.deed) brought)
+    ∙ ap (λ (j : Item). (step_with (sought_by s i) s j).0) is
+does_here (Err why) what s i text valid is to brought made = tt
+
+-- what holds of what a value was made of
+pub through : {A B W : Type 0} (r : Result A W) (f : A → B) (e : Result B W) → IfOk r (λ x. e ≡ Ok (f x)) → (P : B → Type 0) → IfOk e P → IfOk r (λ x. P (f x))
+through (Ok x) f e is P holds = subst (λ q. IfOk q P) is holds
+through (Err why) f e is P holds = tt
+
+-- and of a part that is one
+pub part_is : {A B W : Type 0} (r : Result A W) (f : A → B) (b : B) → IfOk r (λ x. f x ≡ b) → (P : B → Type 0) → P b → IfOk r (λ x. P (f x))
+part_is (Ok x) f b is P holds = subst P (sym is) holds
+part_is (Err why) f b is P holds = tt
 
 pub can_enter : (r : Result Ready MemoryWant) (held : Held) (item : Item) → IsWellFormed held.kept.house item → item.number ≡ held.kept.next → held.kept.next < 4194304
     → IfOk r (λ ready. ready.item ≡ item)

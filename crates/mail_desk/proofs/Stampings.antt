@@ -60,7 +60,7 @@ has_ids q rs ss same =
     rows.is_some-find box_cmp q rs ∙ ap (list_any (eq_by_cmp box_cmp q)) same ∙ sym (rows.is_some-find box_cmp q ss)
 
 -- lists of the same names rise together
-rise_alike : {A B : Type 0} (rs : List (BoxId × A)) (ss : List (BoxId × B)) → ids_of rs ≡ ids_of ss → rows.is_sorted box_cmp ss ≡ true → rows.is_sorted box_cmp rs ≡ true
+pub rise_alike : {A B : Type 0} (rs : List (BoxId × A)) (ss : List (BoxId × B)) → ids_of rs ≡ ids_of ss → rows.is_sorted box_cmp ss ≡ true → rows.is_sorted box_cmp rs ≡ true
 rise_alike rs ss same rise = rising_ids rs ∙ ap names_rise same ∙ sym (rising_ids ss) ∙ rise
 
 -- ---- the laws of stamps

@@ -1,21 +1,13 @@
 -- What is counted of a desk, and what is listed of its timeline.
-use Rattle.std.specs.Prelude.{ℕ, Bool, true, false, List, [], map, length, sum_by, count_by, min, ◌^◌, ◌-◌, take, drop}
-use Rattle.verb_core.specs.declared.item.Deed.{Deed}
-use Rattle.verb_core.specs.declared.item.Deed.TheVariants.{Deliver, Append, Act as Acts, Notice}
-use Rattle.verb_core.specs.declared.item.Act.TheVariants.{Give}
+use Rattle.std.specs.Prelude.{ℕ, List, [], map, length, sum_by, count_by, min, ◌^◌, ◌-◌, take, drop}
 use Rattle.verb_core.specs.declared.item.Item.{Item}
 use Rattle.verb_core.specs.declared.mailbox.BoxId.{BoxId}
 use Rattle.verb_core.specs.declared.mailbox.Mailbox.{Mailbox}
+use Rattle.verb_core.specs.Deeds.{is_notice, with_text}
+use Rattle.verb_core.specs.Kept.{Kept, store_of}
 use Rattle.mail_desk.specs.declared.counts.Counts.{Counts}
-use Rattle.mail_desk.specs.Desk.{store_of}
-use Rattle.mail_desk.specs.Kept.{Kept}
 
 -- ---- counts
-
--- whether a deed tells a user of a cycle
-unfoldable pub is_notice : Deed → Bool
-is_notice (Notice user text) = true
-is_notice _ = false
 
 -- the most that 64 bits hold
 abbrev pub most : ℕ
@@ -38,18 +30,14 @@ counts_of kept = record {
 
 -- ---- the timeline
 
--- a deed without its text
-abbrev pub bare : Deed → Deed
-bare (Deliver from to text) = Deliver from to []
-bare (Append mailbox flags moment text) = Append mailbox flags moment []
-bare (Acts (Give user mailbox text)) = Acts (Give user mailbox [])
-bare (Notice user text) = Notice user []
-bare deed = deed
-
 -- an item without its text
 abbrev pub bare_item : Item → Item
-bare_item i = record i { deed = bare i.deed }
+bare_item i = record i { deed = with_text [] i.deed }
 
--- at most a thousand items from a place on, without their texts
+-- at most a thousand items from a place on
+abbrev pub page : List Item → ℕ → List Item
+page timeline from = take 1000 (drop from timeline)
+
+-- the same, without their texts
 abbrev pub listed : List Item → ℕ → List Item
-listed timeline from = map bare_item (take 1000 (drop from timeline))
+listed timeline from = map bare_item (page timeline from)

@@ -1,46 +1,20 @@
 -- The desk: the store is what the items in force leave, and each item that is performed is one of them from then on.
-use Rattle.std.specs.Prelude.{◌≡◌, ℕ, ◌+◌, ◌-◌, ◌≤◌, [], ◌∷◌, ◌++◌, map, Option, Result, Ok, Err, IsTrue}
+use Rattle.std.specs.Prelude.{◌≡◌, ℕ, ◌-◌, ◌≤◌, map, Option, Result, Ok, Err, IsTrue}
 use Rattle.std.specs.List.{AllByRecursion}
 use Rattle.undo_base.specs.declared.keys.User.{User}
 use Rattle.verb_core.specs.declared.ask.Ask.{Ask}
 use Rattle.verb_core.specs.declared.ask.Refused.{Refused}
 use Rattle.verb_core.specs.declared.ask.SubmitFault.{SubmitFault}
 use Rattle.verb_core.specs.declared.ask.SubmitFault.TheVariants.{Refused as IsRefused, Disk, Closed}
-use Rattle.verb_core.specs.declared.conf.Conf.{Conf}
-use Rattle.verb_core.specs.declared.conf.House.{House}
 use Rattle.verb_core.specs.declared.item.Item.{Item}
 use Rattle.verb_core.specs.declared.mailbox.BoxId.{BoxId}
 use Rattle.verb_core.specs.declared.mailbox.Mailbox.{Mailbox}
 use Rattle.verb_core.specs.Items.{IsWellFormed}
-use Rattle.verb_core.specs.Store.{MailStore, IsValid, is_house, opening}
-use Rattle.verb_core.specs.Step.{run, step}
-use Rattle.verb_core.specs.Stamps.{opening_stamps, stamps_after}
+use Rattle.verb_core.specs.Store.{MailStore, IsValid, is_house}
+use Rattle.verb_core.specs.Kept.{Kept, performed, store_of}
 use Rattle.verb_core.specs.Live.{live}
 use Rattle.box_store.specs.Refusing.{IsRefusal}
-use Rattle.mail_desk.specs.Kept.{Kept}
 use Rattle.mail_desk.specs.Timeline.{numbers_rise, has_text, all_bodies}
-
--- the store: what the items in force leave, one after the other
-abbrev pub store_of : Kept → MailStore
-store_of kept = run (opening kept.house kept.opening) kept.timeline
-
--- a desk on which nothing was done yet
-abbrev pub new_desk : House → Conf → Kept
-new_desk house conf = record {
-  house = house;
-  opening = conf;
-  timeline = [];
-  stamps = opening_stamps (opening house conf);
-  next = house.first;
-}
-
--- the item is performed, and is the last of those in force
-abbrev pub performed : Kept → Item → Kept
-performed kept item = record kept {
-  timeline = kept.timeline ++ item ∷ [];
-  stamps = stamps_after item.number (step (store_of kept) item).0.boxes kept.stamps;
-  next = kept.next + 1;
-}
 
 -- a store that is kept beside what led to it
 pub record IsDesk (store : MailStore) (kept : Kept) : Type 0 where

@@ -1,4 +1,3 @@
-pub mod Kept
 pub mod Timeline
 pub mod Desk
 pub mod Held

@@ -1,16 +1,16 @@
 //! What is counted of a desk, and what is listed of its timeline.
 ghost use Rattle.std.specs.Prelude.{◌≡◌, ℕ, ◌≤◌, ◌+◌, ◌∷◌, [], ◌++◌, map, min, length, sum_by, count_by, IfOk, OnOk, take, drop};
-ghost use Rattle.verb_core.specs.declared.item.Deed.TheVariants as deeds;
 ghost use Rattle.verb_core.specs.declared.item.Item.{Item as TheItem};
 ghost use Rattle.verb_core.specs.declared.mailbox.BoxId.{BoxId as TheBoxId};
 ghost use Rattle.verb_core.specs.Boxes.{mail_at};
-ghost use Rattle.mail_desk.specs.Counting.{bare, bare_item, counts_of, is_notice as is_of_notice, listed, most};
+ghost use Rattle.verb_core.specs.Deeds.{is_notice as is_of_notice};
+ghost use Rattle.mail_desk.specs.Counting.{bare_item, counts_of, listed, most, page};
 
 use crate::Desk;
 use box_store::Store;
 use std::alloc::Global;
 use undo_base::{Copies, NoMemory, Text};
-use verb_core::{Act, BoxId, Deed, Item, Items};
+use verb_core::{BoxId, Item, Items};
 
 /// How many cycles there were, items in the timeline, messages in all mailboxes, the next number, notices among the items,
 /// and users of the house.
@@ -45,35 +45,12 @@ fn messages_in(store: &Store, rows: &[(BoxId, u32)]) -> u64
     sum
 }
 
-#[tactic(auto, unfolding(crate::specs::Counting::is_notice))]
-fn is_notice(deed: &Deed) -> bool
-    ensures { result ≡ is_of_notice deed.now }
-{
-    match deed {
-        Deed::Notice { .. } => true,
-        Deed::Deliver { .. } => false,
-        Deed::Append { .. } => false,
-        Deed::Fetch { .. } => false,
-        Deed::Store { .. } => false,
-        Deed::Copy { .. } => false,
-        Deed::List { .. } => false,
-        Deed::Status { .. } => false,
-        Deed::Select { .. } => false,
-        Deed::Expunge { .. } => false,
-        Deed::Close { .. } => false,
-        Deed::Create { .. } => false,
-        Deed::Rename { .. } => false,
-        Deed::Delete { .. } => false,
-        Deed::Act(_) => false,
-    }
-}
-
 /// 1 for a notice, else 0.
 fn notices_of(item: &Item) -> usize
     ensures value { result ≡ count_by (λ (i : TheItem). is_of_notice i.deed) (item.now ∷ []) }
     ensures small { result ≤ 1 }
 {
-    if is_notice(&item.deed) { 1 } else { 0 }
+    if item.deed.is_notice() { 1 } else { 0 }
 }
 
 fn notices_in(timeline: &[Item]) -> usize
@@ -86,61 +63,21 @@ fn notices_in(timeline: &[Item]) -> usize
     count
 }
 
-/// A copy of an act, without its text.
-fn bare_act(alloc: Global, act: &Act) -> Result<Act, NoMemory>
-    ensures { IfOk result (λ copy. deeds.Act copy ≡ bare (deeds.Act act.now)) }
+/// A copy of an item, without its text.
+fn bare_copy(alloc: Global, item: &Item) -> Result<Item, NoMemory>
+    ensures { IfOk result (λ copy. copy ≡ bare_item item.now) }
 {
-    match act {
-        Act::Give { user, mailbox, .. } => Ok(Act::Give {
-            user: *user,
-            mailbox: mailbox.copy(alloc)?,
-            text: Text::new(alloc),
+    let shown = item.shown.copy(alloc)?;
+    match item.deed.with_text(alloc, &Text::new(alloc)) {
+        Ok(deed) => Ok(Item {
+            number: item.number,
+            at: item.at,
+            by: item.by,
+            rev: item.rev,
+            deed,
+            shown,
         }),
-        Act::SetAlias { .. } => act.copy(alloc),
-        Act::DropAlias { .. } => act.copy(alloc),
-        Act::SetFilter(_) => act.copy(alloc),
-        Act::DropFilter { .. } => act.copy(alloc),
-        Act::Remove { .. } => act.copy(alloc),
-    }
-}
-
-/// A copy of a deed, without its text.
-fn bare_deed(alloc: Global, deed: &Deed) -> Result<Deed, NoMemory>
-    ensures { IfOk result (λ copy. copy ≡ bare deed.now) }
-{
-    match deed {
-        Deed::Deliver { from, to, .. } => Ok(Deed::Deliver {
-            from: from.copy(alloc)?,
-            to: to.copy(alloc)?,
-            text: Text::new(alloc),
-        }),
-        Deed::Append {
-            mailbox,
-            flags,
-            moment,
-            ..
-        } => Ok(Deed::Append {
-            mailbox: mailbox.copy(alloc)?,
-            flags: *flags,
-            moment: *moment,
-            text: Text::new(alloc),
-        }),
-        Deed::Act(act) => Ok(Deed::Act(bare_act(alloc, act)?)),
-        Deed::Notice { user, .. } => Ok(Deed::Notice {
-            user: *user,
-            text: Text::new(alloc),
-        }),
-        Deed::Fetch { .. } => deed.copy(alloc),
-        Deed::Store { .. } => deed.copy(alloc),
-        Deed::Copy { .. } => deed.copy(alloc),
-        Deed::List { .. } => deed.copy(alloc),
-        Deed::Status { .. } => deed.copy(alloc),
-        Deed::Select { .. } => deed.copy(alloc),
-        Deed::Expunge { .. } => deed.copy(alloc),
-        Deed::Close { .. } => deed.copy(alloc),
-        Deed::Create { .. } => deed.copy(alloc),
-        Deed::Rename { .. } => deed.copy(alloc),
-        Deed::Delete { .. } => deed.copy(alloc),
+        Err(NoMemory) => Err(NoMemory),
     }
 }
 
@@ -148,18 +85,10 @@ fn bare_deed(alloc: Global, deed: &Deed) -> Result<Deed, NoMemory>
 fn push_bare(alloc: Global, items: &mut Items, item: &Item) -> Result<(), NoMemory>
     ensures { OnOk result (items.new ≡ items.old ++ bare_item item.now ∷ []) }
 {
-    let deed = bare_deed(alloc, &item.deed)?;
-    let Ok(shown) = item.shown.copy(alloc) else {
-        return Err(NoMemory);
-    };
-    items.push(Item {
-        number: item.number,
-        at: item.at,
-        by: item.by,
-        rev: item.rev,
-        deed,
-        shown,
-    })
+    match bare_copy(alloc, item) {
+        Ok(copy) => items.push(copy),
+        Err(NoMemory) => Err(NoMemory),
+    }
 }
 
 /// Copies of items, without their texts.
@@ -210,11 +139,17 @@ impl Desk {
         }
     }
 
-    /// At most a thousand items from a place on (0 is the first), without their texts.
+    /// At most a thousand items from a place on (0 is the first), as they are. It takes no memory.
+    pub fn items(&self, from: u32) -> &[Item]
+        ensures { result.now ≡ page self.now.kept.timeline from }
+    {
+        first(from_place(self.timeline.as_slice(), from as usize), 1000)
+    }
+
+    /// Copies of at most a thousand items from a place on (0 is the first), without their texts.
     pub fn timeline(&self, alloc: Global, from: u32) -> Result<Items, NoMemory>
         ensures { IfOk result (λ items. items ≡ listed self.now.kept.timeline from) }
     {
-        let rest = from_place(self.timeline.as_slice(), from as usize);
-        bare_items(alloc, first(rest, 1000))
+        bare_items(alloc, self.items(from))
     }
 }

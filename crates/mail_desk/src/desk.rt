@@ -1,24 +1,24 @@
 //! The desk, and what it tells of itself.
-ghost use Rattle.std.specs.Prelude.{◌≡◌, ℕ, ◌≤◌, ◌-◌, [], map, length, option_map, find, IsTrue, IfOk, option_copied};
+ghost use Rattle.std.specs.Prelude.{◌≡◌, ℕ, ◌≤◌, ◌-◌, [], ◌++◌, map, length, option_map, IsTrue, IfOk, OnOk};
 ghost use Rattle.std.specs.List.{list_all};
 ghost use Rattle.verb_core.specs.declared.mailbox.Body.{Body as TheBody};
 ghost use Rattle.verb_core.specs.declared.mailbox.BoxId.{BoxId as TheBoxId};
 ghost use Rattle.verb_core.specs.declared.mailbox.Mailbox.{Mailbox as TheMailbox};
-ghost use Rattle.std.specs.Ordering.{eq_by_cmp};
-ghost use Rattle.verb_core.specs.Boxes.{box_cmp, box_of, row_at};
+ghost use Rattle.verb_core.specs.Boxes.{box_of, row_at};
 ghost use Rattle.verb_core.specs.Items.{IsTimeline, text_of};
-ghost use Rattle.verb_core.specs.Store.{IsValid, is_house, is_known};
+ghost use Rattle.verb_core.specs.Kept.{new_desk, store_of};
+ghost use Rattle.verb_core.specs.Stamps.{opening_stamps};
+ghost use Rattle.verb_core.specs.Store.{IsValid, is_house, is_known, opening as store_at_first};
 ghost use Rattle.shelf.specs.Notes.{size_of};
-ghost use Rattle.mail_desk.specs.Desk.{new_desk, store_of};
 ghost use Rattle.mail_desk.specs.Timeline.{all_bodies, has_sizes, has_text, numbers_rise};
 
-use crate::stamps::is_row;
+use crate::stamps::{find_stamp, push_stamp};
 use box_store::Store;
 use shelf::Shelf;
 use std::alloc::Global;
 use std::marker::Model;
 use undo_base::{Copies, Name, NoMemory, User};
-use verb_core::laws::{stamps_name_mailboxes, steps_keep_validity};
+use verb_core::laws::stamps_name_mailboxes;
 use verb_core::{BoxId, Conf, House, Item, Mailbox, Stamps};
 
 /// The house, the configuration at first, the store, the items in force in order, the stamp of each mailbox, the next
@@ -55,22 +55,91 @@ impl Model for Desk {
     } };
 }
 
-/// The stamp of each mailbox at first: the number before the first.
+/// Adds the stamp of each mailbox at first: the number before the first.
+fn push_first(
+    alloc: Global,
+    stamps: &mut Stamps,
+    rows: &[(BoxId, Mailbox)],
+    first: u32,
+) -> Result<(), NoMemory>
+    requires { 1 ≤ first }
+    ensures { OnOk result (stamps.new ≡ stamps.old ++ map (λ (r : TheBoxId × TheMailbox). (r.0, first - 1)) rows.now) }
+{
+    for row in rows {
+        push_stamp(alloc, stamps, row.0.user, &row.0.name, first - 1)?;
+    }
+    Ok(())
+}
+
+/// The stamp of each mailbox at first.
 fn first_stamps(alloc: Global, rows: &[(BoxId, Mailbox)], first: u32) -> Result<Stamps, NoMemory>
     requires { 1 ≤ first }
     ensures { IfOk result (λ stamps. stamps ≡ map (λ (r : TheBoxId × TheMailbox). (r.0, first - 1)) rows.now) }
 {
     let mut stamps = Stamps::new(alloc);
-    for row in rows {
-        stamps.push((row.0.copy(alloc)?, first - 1))?;
+    match push_first(alloc, &mut stamps, rows, first) {
+        Ok(()) => Ok(stamps),
+        Err(NoMemory) => Err(NoMemory),
     }
-    Ok(stamps)
 }
 
-fn find_stamp<'a>(stamps: &'a [(BoxId, u32)], user: User, name: &Name) -> Option<&'a (BoxId, u32)>
-    ensures { option_copied result ≡ find (λ r. eq_by_cmp box_cmp (box_of user name.now) r.0) stamps.now }
+/// The stamp of each mailbox of a store at first.
+fn stamps_at_first(alloc: Global, store: &Store, first: u32) -> Result<Stamps, NoMemory>
+    requires { 1 ≤ first }
+    ensures { IfOk result (λ stamps. stamps ≡ map (λ (r : TheBoxId × TheMailbox). (r.0, first - 1)) store.now.store.boxes) }
 {
-    stamps.iter().find(|row| is_row(row, user, name))
+    match store.rows(alloc) {
+        Ok(rows) => first_stamps(alloc, rows.as_slice(), first),
+        Err(NoMemory) => Err(NoMemory),
+    }
+}
+
+/// The store on which nothing was done yet.
+fn first_store(alloc: Global, house: &House, conf: &Conf) -> Result<Store, NoMemory>
+    requires house { IsTrue (is_house house.now) }
+    requires aliases { IsTrue (list_all (λ a. list_all (is_known house.now) a.users) conf.now.aliases) }
+    requires filters { conf.now.filters ≡ [] }
+    ensures store { IfOk result (λ made. made.store ≡ store_at_first house.now conf.now) }
+    ensures valid { IfOk result (λ made. IsValid made.store) }
+{
+    match conf.copy(alloc) {
+        Ok(conf) => Store::opening(alloc, house, conf),
+        Err(NoMemory) => Err(NoMemory),
+    }
+}
+
+/// A desk of a store and stamps on which nothing was done yet.
+fn begun(alloc: Global, house: House, opening: Conf, store: Store, stamps: Stamps) -> Desk
+    requires house { IsTrue (is_house house) }
+    requires store { store.store ≡ store_at_first house opening }
+    requires valid { IsValid store.store }
+    requires stamps { stamps ≡ opening_stamps store.store }
+    ensures { result.kept ≡ new_desk house opening }
+{
+    stamps_name_mailboxes();
+    let next = house.first;
+    Desk {
+        house,
+        opening,
+        store,
+        timeline: Vec::new(alloc),
+        stamps,
+        next,
+        shelf: Shelf::new(alloc),
+    }
+}
+
+/// A desk of a store on which nothing was done yet.
+fn begun_over(alloc: Global, house: House, opening: Conf, store: Store) -> Result<Desk, NoMemory>
+    requires house { IsTrue (is_house house) }
+    requires store { store.store ≡ store_at_first house opening }
+    requires valid { IsValid store.store }
+    ensures { IfOk result (λ desk. desk.kept ≡ new_desk house opening) }
+{
+    match stamps_at_first(alloc, &store, house.first) {
+        Ok(stamps) => Ok(begun(alloc, house, opening, store, stamps)),
+        Err(NoMemory) => Err(NoMemory),
+    }
 }
 
 impl Desk {
@@ -81,20 +150,10 @@ impl Desk {
         requires filters { conf.filters ≡ [] }
         ensures { IfOk result (λ desk. desk.kept ≡ new_desk house conf) }
     {
-        let store = Store::opening(alloc, &house, conf.copy(alloc)?)?;
-        let rows = store.rows(alloc)?;
-        let stamps = first_stamps(alloc, rows.as_slice(), house.first)?;
-        stamps_name_mailboxes();
-        let next = house.first;
-        Ok(Desk {
-            house,
-            opening: conf,
-            store,
-            timeline: Vec::new(alloc),
-            stamps,
-            next,
-            shelf: Shelf::new(alloc),
-        })
+        match first_store(alloc, &house, &conf) {
+            Ok(store) => begun_over(alloc, house, conf, store),
+            Err(NoMemory) => Err(NoMemory),
+        }
     }
 
     /// What its configuration says for good.
@@ -136,14 +195,11 @@ impl Desk {
         &self.stamps
     }
 
-    /// The stamp of the mailbox of that user and name, where it is there.
+    /// The stamp of the mailbox of that user and name, where it is there, found by halves. It takes no memory.
     pub fn stamp(&self, user: User, name: &Name) -> Option<u32>
         ensures { result ≡ row_at (box_of user name.now) self.now.kept.stamps }
     {
-        match find_stamp(self.stamps.as_slice(), user, name) {
-            None => None,
-            Some(row) => Some(row.1),
-        }
+        find_stamp(self.stamps.as_slice(), user, name)
     }
 
     /// The size of each body that has a text.

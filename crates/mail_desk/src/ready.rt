@@ -1,22 +1,22 @@
 //! Items that are asked for: found, made ready, and entered.
-ghost use Rattle.std.specs.Prelude.{◌≡◌, ℕ, ◌<◌, ◌↔◌, map, ◌++◌, ◌∷◌, [], IsTrue, IsSome, IfOk, IfErr, OnOk, OnErr, unwrap_or, vec_len, vec_capacity};
+ghost use Rattle.std.specs.Prelude.{◌≡◌, ℕ, ◌<◌, ◌↔◌, map, ◌++◌, ◌∷◌, [], IsTrue, IsSome, IfOk, IfErr, OnOk, OnErr, Ok, Err, unwrap_or, vec_len, vec_capacity};
 ghost use Rattle.std.specs.List.{list_all, cons_option};
 ghost use Rattle.verb_core.specs.declared.mailbox.BoxId.{BoxId as TheBoxId};
 ghost use Rattle.verb_core.specs.declared.mailbox.Mailbox.{Mailbox as TheMailbox};
 ghost use Rattle.verb_core.specs.Items.{IsWellFormed, text_in};
 ghost use Rattle.verb_core.specs.Stamps.{stamps_after};
+ghost use Rattle.verb_core.specs.Kept.{performed, store_of};
 ghost use Rattle.verb_core.specs.Live.{is_users, live};
 ghost use Rattle.verb_core.specs.Step.{step};
 ghost use Rattle.verb_core.specs.Store.{IsValid, is_known};
 ghost use Rattle.box_store.specs.Effects.{IsReady, applied};
 ghost use Rattle.box_store.specs.Refusing.{IsRefusal};
-ghost use Rattle.mail_desk.specs.Desk.{IsFaultOf, performed, store_of, submitted};
+ghost use Rattle.mail_desk.specs.Desk.{IsFaultOf, submitted};
 ghost use Rattle.mail_desk.specs.Entering.{CanEnter};
 ghost use Rattle.mail_desk.specs.Timeline.{NotesText, body_of};
 
 use crate::Desk;
 use crate::stamps::changed_stamps;
-use crate::texts::{text_bytes, text_in};
 use box_store::{Effect, Steps, Store};
 use seal_log::Place;
 use shelf::Shelf;
@@ -44,6 +44,30 @@ impl Ready {
     }
 }
 
+/// Makes what an item does.
+fn new_effect(alloc: Global, store: &Store, item: &Item) -> Result<Effect, NoMemory>
+    requires valid { IsValid store.now.store }
+    requires formed { IsWellFormed store.now.store.house item.now }
+    ensures { IfOk result (λ effect. applied effect store.now.store ≡ (step store.now.store item.now).0) }
+{
+    match store.aim(alloc, item, item.deed.text_bytes()) {
+        Ok(what) => store.effect(alloc, &what),
+        Err(NoMemory) => Err(NoMemory),
+    }
+}
+
+/// Makes all room that the store needs for an effect.
+fn with_room(alloc: Global, store: &mut Store, effect: Effect) -> Result<Effect, NoMemory>
+    ensures store { store.new.store ≡ store.old.store }
+    ensures ready { IfOk result (λ ready. IsReady ready store.new) }
+    ensures same { IfOk result (λ ready. ready ≡ effect) }
+{
+    match store.reserve(alloc, &effect) {
+        Ok(()) => Ok(effect),
+        Err(NoMemory) => Err(NoMemory),
+    }
+}
+
 /// Makes what an item does, and all room that the store needs for it.
 fn ready_effect(alloc: Global, store: &mut Store, item: &Item) -> Result<Effect, NoMemory>
     requires valid { IsValid store.old.store }
@@ -52,10 +76,10 @@ fn ready_effect(alloc: Global, store: &mut Store, item: &Item) -> Result<Effect,
     ensures ready { IfOk result (λ effect. IsReady effect store.new) }
     ensures does { IfOk result (λ effect. applied effect store.old.store ≡ (step store.old.store item.now).0) }
 {
-    let what = store.aim(alloc, item, text_bytes(&item.deed))?;
-    let effect = store.effect(alloc, &what)?;
-    store.reserve(alloc, &effect)?;
-    Ok(effect)
+    match new_effect(alloc, store, item) {
+        Ok(effect) => with_room(alloc, store, effect),
+        Err(NoMemory) => Err(NoMemory),
+    }
 }
 
 /// Applies an effect over a counter that is made of the blank ledger.
@@ -111,7 +135,7 @@ fn note_text(shelf: &mut Shelf, item: &Item)
     ensures { NotesText (text_in item.now.deed) (body_of item.now) shelf.old.notes shelf.new.notes }
 {
     let place = Place { gate: 0, length: 0 };
-    if let Some(text) = text_in(&item.deed) {
+    if let Some(text) = item.deed.text() {
         let body = Body {
             origin: item.number,
             rev: item.rev,
@@ -120,35 +144,85 @@ fn note_text(shelf: &mut Shelf, item: &Item)
     }
 }
 
+/// Makes room for an item more, and for the note of its text.
+fn make_rooms(timeline: &mut Vec<Item>, shelf: &mut Shelf) -> Result<(), NoMemory>
+    ensures timeline { timeline.new.items ≡ timeline.old.items }
+    ensures shelf { shelf.new.notes ≡ shelf.old.notes }
+    ensures items { OnOk result (vec_len timeline.new < vec_capacity timeline.new) }
+    ensures notes { OnOk result (0 < shelf.new.room) }
+{
+    make_room(timeline)?;
+    shelf.note_room(1)
+}
+
 /// What an item does, and the stamps after it where they change.
 type Parts = (Effect, Option<Stamps>);
 
-/// Makes what an item does, and all room for it.
+/// What an item does, with the stamps.
+fn paired(effect: Result<Effect, NoMemory>, stamps: Option<Stamps>) -> Result<Parts, NoMemory>
+    ensures effect { IfOk result (λ parts. effect ≡ Ok parts.0) }
+    ensures stamps { IfOk result (λ parts. parts.1 ≡ stamps) }
+{
+    match effect {
+        Ok(effect) => Ok((effect, stamps)),
+        Err(NoMemory) => Err(NoMemory),
+    }
+}
+
+/// Makes what an item does, with all room that the store needs for it, and the stamps after it.
 fn make_parts(
     alloc: Global,
     store: &mut Store,
     stamps: &Stamps,
-    timeline: &mut Vec<Item>,
-    shelf: &mut Shelf,
     item: &Item,
 ) -> Result<Parts, NoMemory>
     requires valid { IsValid store.old.store }
     requires formed { IsWellFormed store.old.store.house item.now }
     requires named { map (λ (r : TheBoxId × ℕ). r.0) stamps.now ≡ map (λ (r : TheBoxId × TheMailbox). r.0) store.old.store.boxes }
     ensures store { store.new.store ≡ store.old.store }
-    ensures timeline { timeline.new.items ≡ timeline.old.items }
-    ensures shelf { shelf.new.notes ≡ shelf.old.notes }
     ensures does { IfOk result (λ parts. applied parts.0 store.old.store ≡ (step store.old.store item.now).0) }
     ensures stamps { IfOk result (λ parts. unwrap_or parts.1 stamps.now ≡ stamps_after item.now.number (step store.old.store item.now).0.boxes stamps.now) }
     ensures effect { IfOk result (λ parts. IsReady parts.0 store.new) }
-    ensures items { OnOk result (vec_len timeline.new < vec_capacity timeline.new) }
-    ensures notes { OnOk result (0 < shelf.new.room) }
 {
-    make_room(timeline)?;
-    shelf.note_room(1)?;
-    let stamps = changed_stamps(alloc, store, stamps, item)?;
-    let effect = ready_effect(alloc, store, item)?;
-    Ok((effect, stamps))
+    match changed_stamps(alloc, store, stamps, item) {
+        Ok(changed) => paired(ready_effect(alloc, store, item), changed),
+        Err(NoMemory) => Err(NoMemory),
+    }
+}
+
+/// An item with what was made for it.
+fn with_parts(item: Item, parts: Result<Parts, NoMemory>) -> Result<Ready, NoMemory>
+    ensures item { IfOk result (λ ready. ready.item ≡ item) }
+    ensures parts { IfOk result (λ ready. parts ≡ Ok (ready.effect, ready.stamps)) }
+{
+    match parts {
+        Ok((effect, stamps)) => Ok(Ready {
+            item,
+            effect,
+            stamps,
+        }),
+        Err(NoMemory) => Err(NoMemory),
+    }
+}
+
+/// Makes what an item does, with all room that the store needs for it.
+fn make_over(
+    alloc: Global,
+    store: &mut Store,
+    stamps: &Stamps,
+    item: Item,
+) -> Result<Ready, NoMemory>
+    requires valid { IsValid store.old.store }
+    requires formed { IsWellFormed store.old.store.house item }
+    requires named { map (λ (r : TheBoxId × ℕ). r.0) stamps.now ≡ map (λ (r : TheBoxId × TheMailbox). r.0) store.old.store.boxes }
+    ensures store { store.new.store ≡ store.old.store }
+    ensures item { IfOk result (λ ready. ready.item ≡ item) }
+    ensures does { IfOk result (λ ready. applied ready.effect store.old.store ≡ (step store.old.store item).0) }
+    ensures stamps { IfOk result (λ ready. unwrap_or ready.stamps stamps.now ≡ stamps_after item.number (step store.old.store item).0.boxes stamps.now) }
+    ensures effect { IfOk result (λ ready. IsReady ready.effect store.new) }
+{
+    let parts = make_parts(alloc, store, stamps, &item);
+    with_parts(item, parts)
 }
 
 /// Makes all ready for an item.
@@ -173,14 +247,17 @@ fn make_ready(
     ensures items { OnOk result (vec_len timeline.new < vec_capacity timeline.new) }
     ensures notes { OnOk result (0 < shelf.new.room) }
 {
-    match make_parts(alloc, store, stamps, timeline, shelf, &item) {
-        Ok((effect, stamps)) => Ok(Ready {
-            item,
-            effect,
-            stamps,
-        }),
+    match make_rooms(timeline, shelf) {
+        Ok(()) => make_over(alloc, store, stamps, item),
         Err(NoMemory) => Err(NoMemory),
     }
+}
+
+/// Gives an item up for want of memory.
+fn given_up(_ready: Ready) -> Result<Item, SubmitFault>
+    ensures { result ≡ Err (SubmitFault.Refused Refused.NoMemory) }
+{
+    Err(SubmitFault::Refused(Refused::NoMemory))
 }
 
 impl Desk {
@@ -271,7 +348,7 @@ impl Desk {
                 self.enter(ready);
                 Ok(item)
             }
-            Err(NoMemory) => Err(SubmitFault::Refused(Refused::NoMemory)),
+            Err(NoMemory) => given_up(ready),
         }
     }
 

@@ -1,60 +1,13 @@
 //! The texts that items bring, and the texts of bodies.
 ghost use Rattle.std.specs.Prelude.{◌≡◌, [], ◌∷◌, ◌++◌, unwrap_or, Some, IsTrue, IfOk, OnOk, option_copied};
 ghost use Rattle.std.specs.List.{list_all};
-ghost use Rattle.verb_core.specs.declared.item.Deed.TheVariants as deeds;
-ghost use Rattle.verb_core.specs.Items.{text_in as brought, text_of};
+ghost use Rattle.verb_core.specs.Items.{text_of};
 ghost use Rattle.mail_desk.specs.Timeline.{NumbersRise, has_text, item_of, rev_of, texts_of, told_by};
 
 use crate::Desk;
 use std::alloc::Global;
 use undo_base::{NoMemory, Text, Texts};
-use verb_core::{Act, Body, Deed, Item};
-
-fn act_text(act: &Act) -> Option<&Text>
-    ensures { option_copied result ≡ brought (deeds.Act act.now) }
-{
-    match act {
-        Act::Give { text, .. } => Some(text),
-        Act::SetAlias { .. } => None,
-        Act::DropAlias { .. } => None,
-        Act::SetFilter(_) => None,
-        Act::DropFilter { .. } => None,
-        Act::Remove { .. } => None,
-    }
-}
-
-/// The text that a deed brings.
-pub(crate) fn text_in(deed: &Deed) -> Option<&Text>
-    ensures { option_copied result ≡ brought deed.now }
-{
-    match deed {
-        Deed::Deliver { text, .. } => Some(text),
-        Deed::Append { text, .. } => Some(text),
-        Deed::Notice { text, .. } => Some(text),
-        Deed::Act(act) => act_text(act),
-        Deed::Fetch { .. } => None,
-        Deed::Store { .. } => None,
-        Deed::Copy { .. } => None,
-        Deed::List { .. } => None,
-        Deed::Status { .. } => None,
-        Deed::Select { .. } => None,
-        Deed::Expunge { .. } => None,
-        Deed::Close { .. } => None,
-        Deed::Create { .. } => None,
-        Deed::Rename { .. } => None,
-        Deed::Delete { .. } => None,
-    }
-}
-
-/// The bytes of the text that a deed brings, none where it brings none.
-pub(crate) fn text_bytes(deed: &Deed) -> &[u8]
-    ensures { result.now ≡ unwrap_or (brought deed.now) [] }
-{
-    match text_in(deed) {
-        Some(text) => text.bytes(),
-        None => &[],
-    }
-}
+use verb_core::{Body, Item};
 
 /// The item of a number, found in about as many steps as the length of the timeline has digits.
 fn find_item(timeline: &[Item], number: u32) -> Option<&Item>
@@ -72,7 +25,7 @@ fn told(item: &Item, body: Body) -> Option<&Text>
     ensures { option_copied result ≡ told_by body item.now }
 {
     if item.rev == body.rev {
-        text_in(&item.deed)
+        item.deed.text()
     } else {
         None
     }
@@ -146,7 +99,7 @@ fn find_rev(timeline: &[Item], number: u32) -> Option<u32>
     ensures { result ≡ rev_of timeline.now number }
 {
     match find_item(timeline, number) {
-        Some(item) => match text_in(&item.deed) {
+        Some(item) => match item.deed.text() {
             Some(_) => Some(item.rev),
             None => None,
         },

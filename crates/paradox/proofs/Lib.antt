@@ -1,3 +1,4 @@
+mod Rows
 pub mod Searching
 pub mod Holding
 pub mod Telling

@@ -13,6 +13,7 @@ use Rattle.verb_core.specs.declared.item.Deed.TheVariants as deed
 use Rattle.verb_core.specs.declared.item.Shown.{Shown}
 use Rattle.verb_core.specs.declared.item.Shown.TheVariants.{Nothing}
 use Rattle.verb_core.specs.Boxes.{same_user}
+use Rattle.verb_core.specs.Deeds.{deed_word, mailbox_in}
 use Rattle.verb_core.specs.Items.{IsWellFormed, is_own, has_form, users_in}
 use Rattle.verb_core.specs.Store.{is_known}
 use Rattle.paradox.specs.declared.reports.BrokenItem.{BrokenItem}
@@ -20,7 +21,7 @@ use Rattle.paradox.specs.declared.words.Verb.{Verb}
 use Rattle.paradox.specs.declared.words.Reason.{Reason}
 use Rattle.paradox.specs.Answers.{amiss}
 use Rattle.paradox.specs.Letters.{is_told, users_told}
-use Rattle.paradox.specs.Words.{verb_of, box_of_deed, told_of}
+use Rattle.paradox.specs.Words.{verb_of, verb_word, told_of}
 use Rattle.paradox.proofs.Searching.{or_true}
 
 -- ---- an item that a user did is told
@@ -37,11 +38,11 @@ some_mapped f (Some x) = refl
 -- as it is told where the user is one, and the verb is one
 abbrev told_by : Item → Reason → Option Verb → Option User → Option BrokenItem
 told_by i reason verbs by =
-    option_and_then (λ user. option_map (λ verb. record { number = i.number; user = user; verb = verb; mailbox = box_of_deed i.deed; reason = reason }) verbs) by
+    option_and_then (λ user. option_map (λ verb. record { number = i.number; user = user; verb = verb; mailbox = mailbox_in i.deed; reason = reason }) verbs) by
 
 told_if : (i : Item) (reason : Reason) (verbs : Option Verb) (by : Option User) → is_some by ≡ true → is_some verbs ≡ true → is_some (told_by i reason verbs by) ≡ true
 told_if i reason verbs None has is = cc
-told_if i reason verbs (Some user) has is = some_mapped (λ verb. record { number = i.number; user = user; verb = verb; mailbox = box_of_deed i.deed; reason = reason }) verbs ∙ is
+told_if i reason verbs (Some user) has is = some_mapped (λ verb. record { number = i.number; user = user; verb = verb; mailbox = mailbox_in i.deed; reason = reason }) verbs ∙ is
 
 pub own_is_told : (house : House) (i : Item) (reason : Reason) → IsWellFormed house i → is_some i.by ≡ true → is_some (told_of i reason) ≡ true
 own_is_told house i reason formed by = told_if i reason (verb_of i.deed) i.by by (verb_of_own i.deed (sym formed.by ∙ by))
@@ -109,3 +110,10 @@ below a b is = grind (arith, nat_tests)
 pub who_is_told : (house : House) (before : List BrokenItem) (told : BrokenItem) (after : List BrokenItem) → is_known house told.user ≡ true → list_any (same_user told.user) (users_told house (before ++ told ∷ after)) ≡ true
 who_is_told house before told after known =
     found_among (is_told (before ++ told ∷ after)) told.user (told_in before after told) 0 house.accounts (omega arith) (below told.user.0 (length house.accounts) known)
+
+-- ---- the word of a verb is that of its deed
+
+pub verb_of_deed : (d : Deed) → option_map verb_word (verb_of d) ≡ cond (is_some (verb_of d)) (Some (deed_word d)) None
+verb_of_deed (deed.Act act) = refl
+verb_of_deed (deed.Notice user text) = refl
+verb_of_deed d = refl

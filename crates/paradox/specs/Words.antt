@@ -1,10 +1,9 @@
 -- The verbs of users, the reasons for which an answer no longer holds, and the items that are told of.
 use Rattle.std.specs.Prelude.{ℕ, List, codes, Option, Some, None, option_map, option_and_then}
 use Rattle.verb_core.specs.declared.item.Item.{Item}
-use Rattle.verb_core.specs.declared.item.Act.{Act}
-use Rattle.verb_core.specs.declared.item.Act.TheVariants.{SetAlias, DropAlias, SetFilter, DropFilter, Remove, Give}
 use Rattle.verb_core.specs.declared.item.Deed.{Deed}
 use Rattle.verb_core.specs.declared.item.Deed.TheVariants as deed
+use Rattle.verb_core.specs.Deeds.{mailbox_in}
 use Rattle.paradox.specs.declared.words.Verb.{Verb}
 use Rattle.paradox.specs.declared.words.Verb.TheVariants as verb
 use Rattle.paradox.specs.declared.words.Reason.{Reason}
@@ -57,34 +56,7 @@ verb_of (deed.Delete mailbox keys) = Some verb.Delete
 verb_of (deed.Act act) = None
 verb_of (deed.Notice user text) = None
 
--- the mailbox that an act names
-abbrev pub act_box : Act → Option (List ℕ)
-act_box (SetAlias local users) = None
-act_box (DropAlias local) = None
-act_box (SetFilter filter) = None
-act_box (DropFilter id) = None
-act_box (Remove user mailbox key) = Some mailbox
-act_box (Give user mailbox text) = Some mailbox
-
--- the mailbox that a deed names first, where it names one
-abbrev pub box_of_deed : Deed → Option (List ℕ)
-box_of_deed (deed.Deliver from to text) = None
-box_of_deed (deed.Append mailbox flags moment text) = Some mailbox
-box_of_deed (deed.Fetch mailbox keys sets_seen shows_body) = Some mailbox
-box_of_deed (deed.Store mailbox keys how flags) = Some mailbox
-box_of_deed (deed.Copy mailbox keys target) = Some mailbox
-box_of_deed (deed.List pattern) = None
-box_of_deed (deed.Status mailbox) = Some mailbox
-box_of_deed (deed.Select mailbox) = Some mailbox
-box_of_deed (deed.Expunge mailbox keys) = Some mailbox
-box_of_deed (deed.Close mailbox keys) = Some mailbox
-box_of_deed (deed.Create mailbox) = Some mailbox
-box_of_deed (deed.Rename mailbox target) = Some mailbox
-box_of_deed (deed.Delete mailbox keys) = Some mailbox
-box_of_deed (deed.Act act) = act_box act
-box_of_deed (deed.Notice user text) = None
-
 -- an item as it is told of: only what a user did is told
 abbrev pub told_of : Item → Reason → Option BrokenItem
 told_of i reason =
-    option_and_then (λ user. option_map (λ verb. record { number = i.number; user = user; verb = verb; mailbox = box_of_deed i.deed; reason = reason }) (verb_of i.deed)) i.by
+    option_and_then (λ user. option_map (λ verb. record { number = i.number; user = user; verb = verb; mailbox = mailbox_in i.deed; reason = reason }) (verb_of i.deed)) i.by

@@ -18,7 +18,7 @@ pub use letters::{notice, notices, user_name, users_told};
 pub use reports::{BrokenItem, Report};
 use undo_base::{Sequence, Text, User};
 use verb_core::BoxId;
-pub use words::{Reason, Verb, find_deed_box};
+pub use words::{Reason, Verb};
 
 /// Broken and withdrawn items, in the order of the timeline before the cycle.
 pub type BrokenList = Sequence<BrokenItem>;

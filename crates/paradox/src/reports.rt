@@ -1,7 +1,7 @@
 //! What a cycle reports.
 ghost use Rattle.std.specs.Prelude.{◌≡◌, IfOk, option_copied};
 
-use crate::{BrokenList, Reason, Renewals, Verb, find_deed_box};
+use crate::{BrokenList, Reason, Renewals, Verb};
 use std::alloc::Global;
 use undo_base::{Copies, Name, NoMemory, Numbers, User};
 use verb_core::Item;
@@ -52,7 +52,7 @@ impl BrokenItem {
         let Some(verb) = Verb::of(&item.deed) else {
             return Ok(None);
         };
-        let mailbox = copy_name(alloc, find_deed_box(&item.deed))?;
+        let mailbox = copy_name(alloc, item.deed.mailbox())?;
         Ok(Some(BrokenItem {
             number: item.number,
             user,

@@ -1,9 +1,8 @@
 //! Verbs and reasons.
-ghost use Rattle.std.specs.Prelude.{◌≡◌, option_copied};
-ghost use Rattle.paradox.specs.Words.{verb_word, reason_text, verb_of, act_box, box_of_deed};
+ghost use Rattle.std.specs.Prelude.{◌≡◌};
+ghost use Rattle.paradox.specs.Words.{verb_word, reason_text, verb_of};
 
-use undo_base::Name;
-use verb_core::{Act, Deed};
+use verb_core::Deed;
 
 /// What users do.
 #[derive(Clone, Copy, Debug, PartialEq, Eq)]
@@ -99,41 +98,5 @@ impl Reason {
             Reason::Moved => "mail that you had not seen was kept",
             Reason::Withdrawn => "withdrawn by the operator",
         }
-    }
-}
-
-fn find_act_box(act: &Act) -> Option<&Name>
-    ensures { option_copied result ≡ act_box act.now }
-{
-    match act {
-        Act::SetAlias { .. } => None,
-        Act::DropAlias { .. } => None,
-        Act::SetFilter(_) => None,
-        Act::DropFilter { .. } => None,
-        Act::Remove { mailbox, .. } => Some(mailbox),
-        Act::Give { mailbox, .. } => Some(mailbox),
-    }
-}
-
-/// The mailbox that a deed names first, with no memory taken: `None` where it names none.
-pub fn find_deed_box(deed: &Deed) -> Option<&Name>
-    ensures { option_copied result ≡ box_of_deed deed.now }
-{
-    match deed {
-        Deed::Deliver { .. } => None,
-        Deed::Append { mailbox, .. } => Some(mailbox),
-        Deed::Fetch { mailbox, .. } => Some(mailbox),
-        Deed::Store { mailbox, .. } => Some(mailbox),
-        Deed::Copy { mailbox, .. } => Some(mailbox),
-        Deed::List { .. } => None,
-        Deed::Status { mailbox } => Some(mailbox),
-        Deed::Select { mailbox } => Some(mailbox),
-        Deed::Expunge { mailbox, .. } => Some(mailbox),
-        Deed::Close { mailbox, .. } => Some(mailbox),
-        Deed::Create { mailbox } => Some(mailbox),
-        Deed::Rename { mailbox, .. } => Some(mailbox),
-        Deed::Delete { mailbox, .. } => Some(mailbox),
-        Deed::Act(act) => find_act_box(act),
-        Deed::Notice { .. } => None,
     }
 }

@@ -5,9 +5,11 @@ pub mod Boxes
 pub mod Store
 pub mod Recipients
 pub mod Items
+pub mod Deeds
 pub mod Aims
 pub mod Step
 pub mod Touched
 pub mod Live
 pub mod Stamps
+pub mod Kept
 pub mod Fates

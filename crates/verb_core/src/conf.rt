@@ -1,6 +1,6 @@
 //! The house, and the configuration in force.
 ghost use Rattle.std.specs.Prelude.{◌≡◌};
-ghost use Rattle.verb_core.specs.Store.{is_house};
+ghost use Rattle.verb_core.specs.Store.{is_house, is_known};
 
 use crate::{Accounts, Aliases, Filters};
 use undo_base::{LAST_NUMBER, MOST_USERS, Name, Names, User, Users};
@@ -33,6 +33,13 @@ impl House {
             && (self.postmaster.0 as usize) < users
             && 2 <= self.first
             && self.first <= LAST_NUMBER
+    }
+
+    /// Whether it has that user.
+    pub fn knows(&self, user: User) -> bool
+        ensures { result ≡ is_known self.now user }
+    {
+        (user.0 as usize) < self.accounts.len()
     }
 }
 

@@ -1,4 +1,10 @@
 //! Copies of items, configurations and mailboxes.
+use crate::copy_deeds::{
+    copy_act, copy_append, copy_close, copy_copy, copy_create, copy_delete, copy_deliver,
+    copy_drop_alias, copy_drop_filter, copy_expunge, copy_fetch, copy_give, copy_list, copy_notice,
+    copy_remove, copy_rename, copy_select, copy_set_alias, copy_set_filter, copy_status,
+    copy_store,
+};
 use crate::{
     Account, Act, Aim, Alias, Body, BoxId, Conf, Deed, Entry, Filter, House, Item, Mailbox,
     Resolved, Shown, Sight,
@@ -104,31 +110,16 @@ impl Copies for Aim {
 impl Copies for Act {
     fn copy(&self, alloc: Global) -> Result<Act, NoMemory> {
         match self {
-            Act::SetAlias { local, users } => Ok(Act::SetAlias {
-                local: local.copy(alloc)?,
-                users: users.copy(alloc)?,
-            }),
-            Act::DropAlias { local } => Ok(Act::DropAlias {
-                local: local.copy(alloc)?,
-            }),
-            Act::SetFilter(filter) => Ok(Act::SetFilter(filter.copy(alloc)?)),
-            Act::DropFilter { id } => Ok(Act::DropFilter {
-                id: id.copy(alloc)?,
-            }),
-            Act::Remove { user, mailbox, key } => Ok(Act::Remove {
-                user: *user,
-                mailbox: mailbox.copy(alloc)?,
-                key: *key,
-            }),
+            Act::SetAlias { local, users } => copy_set_alias(alloc, local, users),
+            Act::DropAlias { local } => copy_drop_alias(alloc, local),
+            Act::SetFilter(filter) => copy_set_filter(alloc, filter),
+            Act::DropFilter { id } => copy_drop_filter(alloc, id),
+            Act::Remove { user, mailbox, key } => copy_remove(alloc, *user, mailbox, *key),
             Act::Give {
                 user,
                 mailbox,
                 text,
-            } => Ok(Act::Give {
-                user: *user,
-                mailbox: mailbox.copy(alloc)?,
-                text: text.copy(alloc)?,
-            }),
+            } => copy_give(alloc, *user, mailbox, text),
         }
     }
 }
@@ -158,109 +149,68 @@ impl Copies for Shown {
 impl Copies for Deed {
     fn copy(&self, alloc: Global) -> Result<Deed, NoMemory> {
         match self {
-            Deed::Deliver { from, to, text } => Ok(Deed::Deliver {
-                from: from.copy(alloc)?,
-                to: to.copy(alloc)?,
-                text: text.copy(alloc)?,
-            }),
+            Deed::Deliver { from, to, text } => copy_deliver(alloc, from, to, text),
             Deed::Append {
                 mailbox,
                 flags,
                 moment,
                 text,
-            } => Ok(Deed::Append {
-                mailbox: mailbox.copy(alloc)?,
-                flags: *flags,
-                moment: *moment,
-                text: text.copy(alloc)?,
-            }),
+            } => copy_append(alloc, mailbox, *flags, *moment, text),
             Deed::Fetch {
                 mailbox,
                 keys,
                 sets_seen,
                 shows_body,
-            } => Ok(Deed::Fetch {
-                mailbox: mailbox.copy(alloc)?,
-                keys: keys.copy(alloc)?,
-                sets_seen: *sets_seen,
-                shows_body: *shows_body,
-            }),
+            } => copy_fetch(alloc, mailbox, keys, *sets_seen, *shows_body),
             Deed::Store {
                 mailbox,
                 keys,
                 how,
                 flags,
-            } => Ok(Deed::Store {
-                mailbox: mailbox.copy(alloc)?,
-                keys: keys.copy(alloc)?,
-                how: *how,
-                flags: *flags,
-            }),
+            } => copy_store(alloc, mailbox, keys, *how, *flags),
             Deed::Copy {
                 mailbox,
                 keys,
                 target,
-            } => Ok(Deed::Copy {
-                mailbox: mailbox.copy(alloc)?,
-                keys: keys.copy(alloc)?,
-                target: target.copy(alloc)?,
-            }),
-            Deed::List { pattern } => Ok(Deed::List {
-                pattern: pattern.copy(alloc)?,
-            }),
-            Deed::Status { mailbox } => Ok(Deed::Status {
-                mailbox: mailbox.copy(alloc)?,
-            }),
-            Deed::Select { mailbox } => Ok(Deed::Select {
-                mailbox: mailbox.copy(alloc)?,
-            }),
-            Deed::Expunge { mailbox, keys } => Ok(Deed::Expunge {
-                mailbox: mailbox.copy(alloc)?,
-                keys: keys.copy(alloc)?,
-            }),
-            Deed::Close { mailbox, keys } => Ok(Deed::Close {
-                mailbox: mailbox.copy(alloc)?,
-                keys: keys.copy(alloc)?,
-            }),
-            Deed::Create { mailbox } => Ok(Deed::Create {
-                mailbox: mailbox.copy(alloc)?,
-            }),
-            Deed::Rename { mailbox, target } => Ok(Deed::Rename {
-                mailbox: mailbox.copy(alloc)?,
-                target: target.copy(alloc)?,
-            }),
-            Deed::Delete { mailbox, keys } => Ok(Deed::Delete {
-                mailbox: mailbox.copy(alloc)?,
-                keys: keys.copy(alloc)?,
-            }),
-            Deed::Act(act) => Ok(Deed::Act(act.copy(alloc)?)),
-            Deed::Notice { user, text } => Ok(Deed::Notice {
-                user: *user,
-                text: text.copy(alloc)?,
-            }),
+            } => copy_copy(alloc, mailbox, keys, target),
+            Deed::List { pattern } => copy_list(alloc, pattern),
+            Deed::Status { mailbox } => copy_status(alloc, mailbox),
+            Deed::Select { mailbox } => copy_select(alloc, mailbox),
+            Deed::Expunge { mailbox, keys } => copy_expunge(alloc, mailbox, keys),
+            Deed::Close { mailbox, keys } => copy_close(alloc, mailbox, keys),
+            Deed::Create { mailbox } => copy_create(alloc, mailbox),
+            Deed::Rename { mailbox, target } => copy_rename(alloc, mailbox, target),
+            Deed::Delete { mailbox, keys } => copy_delete(alloc, mailbox, keys),
+            Deed::Act(act) => copy_act(alloc, act),
+            Deed::Notice { user, text } => copy_notice(alloc, *user, text),
         }
     }
 }
 
 impl Copies for Item {
     fn copy(&self, alloc: Global) -> Result<Item, NoMemory> {
-        Ok(Item {
-            number: self.number,
-            at: self.at,
-            by: self.by,
-            rev: self.rev,
-            deed: self.deed.copy(alloc)?,
-            shown: self.shown.copy(alloc)?,
-        })
+        let shown = self.shown.copy(alloc)?;
+        match self.deed.copy(alloc) {
+            Ok(deed) => Ok(Item {
+                number: self.number,
+                at: self.at,
+                by: self.by,
+                rev: self.rev,
+                deed,
+                shown,
+            }),
+            Err(NoMemory) => Err(NoMemory),
+        }
     }
 }
 
 impl Copies for Resolved {
     fn copy(&self, alloc: Global) -> Result<Resolved, NoMemory> {
-        Ok(Resolved {
-            item: self.item.copy(alloc)?,
-            aims: self.aims.copy(alloc)?,
-            missed: self.missed.copy(alloc)?,
-        })
+        let aims = self.aims.copy(alloc)?;
+        let missed = self.missed.copy(alloc)?;
+        match self.item.copy(alloc) {
+            Ok(item) => Ok(Resolved { item, aims, missed }),
+            Err(NoMemory) => Err(NoMemory),
+        }
     }
 }

@@ -37,7 +37,7 @@ pub enum Act {
 }
 
 /// What an item does.
-#[derive(Debug, Drop, PartialEq, Eq)]
+#[derive(Drop)]
 pub enum Deed {
     Deliver {
         from: Text,
@@ -110,7 +110,7 @@ pub struct Sight {
 }
 
 /// What a user was shown.
-#[derive(Debug, Drop, PartialEq, Eq)]
+#[derive(Drop, PartialEq, Eq)]
 pub enum Shown {
     Nothing,
     Seen(Sights),
@@ -125,7 +125,7 @@ pub enum Shown {
 }
 
 /// One recorded action.
-#[derive(Debug, Drop, PartialEq, Eq)]
+#[derive(Drop)]
 pub struct Item {
     pub number: u32,
     pub at: u64,
@@ -144,7 +144,7 @@ pub struct Aim {
 }
 
 /// An item with the mailboxes that its new entries go to, and those that were looked for in vain.
-#[derive(Debug, Drop, PartialEq, Eq)]
+#[derive(Drop)]
 pub struct Resolved {
     pub item: Item,
     pub aims: Aims,

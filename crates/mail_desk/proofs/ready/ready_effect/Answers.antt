@@ -1,5 +1,11 @@
-use Rattle.mail_desk.proofs.Effects.{aimed}
+use Rattle.std.proofs.Common.{◌≡◌}
+use Rattle.verb_core.specs.Step.{step}
+use Rattle.box_store.specs.declared.effect.Effect.{Effect}
+use Rattle.box_store.specs.Effects.{applied}
+use Rattle.mail_desk.proofs.Readied.{part_is}
 use Rattle.mail_desk.proofs.ready.ready_effect.Goals as goal
 
-pub effect-requires-clause-aimed : goal.effect-requires-clause-aimed
-effect-requires-clause-aimed c = aimed c.args.store.now.store c.args.item.now c.text_bytes.result.now c.in_ok-what.what c.requires.valid c.requires.formed c.in_ok-what.ensures.item c.in_ok-what.ensures.sought
+pub returns-in-Ok-clause-does : goal.returns-in-Ok-clause-does
+returns-in-Ok-clause-does c =
+    part_is c.with_room.result (λ (e : Effect). e) c.in-Ok.effect c.with_room.ensures.same
+    (λ (e : Effect). applied e c.args.store.now.store ≡ (step c.args.store.now.store c.args.item.now).0) c.in-Ok.ensures

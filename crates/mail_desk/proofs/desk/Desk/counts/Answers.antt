@@ -5,10 +5,11 @@ use Rattle.verb_core.specs.declared.item.Item.{Item}
 use Rattle.verb_core.specs.declared.mailbox.BoxId.{BoxId}
 use Rattle.verb_core.specs.Boxes.{mail_at}
 use Rattle.verb_core.specs.Store.{MailStore}
-use Rattle.mail_desk.specs.Counting.{counts_of, is_notice, messages_in, most}
+use Rattle.verb_core.specs.Deeds.{is_notice}
+use Rattle.mail_desk.specs.Counting.{counts_of, messages_in, most}
 use Rattle.mail_desk.specs.declared.counts.Counts.{Counts}
 use Rattle.mail_desk.specs.Held.{Held}
-use Rattle.mail_desk.specs.Kept.{Kept}
+use Rattle.verb_core.specs.Kept.{Kept}
 use Rattle.mail_desk.proofs.Counted.{messages_named}
 use Rattle.mail_desk.proofs.Timelines.{few}
 use Rattle.mail_desk.proofs.desk.Desk.counts.Goals as goal

@@ -1,0 +1,26 @@
+use Rattle.std.proofs.Common.{◌≡◌, ℕ, List, Option, unwrap_or}
+use Rattle.verb_core.specs.declared.mailbox.BoxId.{BoxId}
+use Rattle.verb_core.specs.Stamps.{stamps_after}
+use Rattle.verb_core.specs.Step.{step}
+use Rattle.box_store.specs.declared.effect.Effect.{Effect}
+use Rattle.box_store.specs.Effects.{IsReady, applied}
+use Rattle.mail_desk.proofs.Readied.{part_is, through}
+use Rattle.mail_desk.proofs.ready.make_parts.Goals as goal
+
+abbrev Made : Type 0
+Made = Effect × Option (List (BoxId × ℕ))
+
+pub returns-in-Ok-clause-does : goal.returns-in-Ok-clause-does
+returns-in-Ok-clause-does c =
+    through c.paired.result (λ (p : Made). p.0) c.ready_effect.result c.paired.ensures.effect
+    (λ (e : Effect). applied e c.args.store.now.store ≡ (step c.args.store.now.store c.args.item.now).0) c.ready_effect.ensures.does
+
+pub returns-in-Ok-clause-stamps : goal.returns-in-Ok-clause-stamps
+returns-in-Ok-clause-stamps c =
+    part_is c.paired.result (λ (p : Made). p.1) c.in-Ok.changed c.paired.ensures.stamps
+    (λ (s : Option (List (BoxId × ℕ))). unwrap_or s c.args.stamps.now ≡ stamps_after c.args.item.now.number (step c.args.store.now.store c.args.item.now).0.boxes c.args.stamps.now) c.in-Ok.ensures
+
+pub returns-in-Ok-clause-effect : goal.returns-in-Ok-clause-effect
+returns-in-Ok-clause-effect c =
+    through c.paired.result (λ (p : Made). p.0) c.ready_effect.result c.paired.ensures.effect
+    (λ (e : Effect). IsReady e c.ready_effect.new.store) c.ready_effect.ensures.ready
