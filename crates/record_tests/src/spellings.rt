@@ -2,7 +2,8 @@
 
 use std::alloc::Global;
 use std::test::Fail;
-use verb_bytes::{BadBytes, JournalRecord, decode_record, encode_record, has_spelling};
+use undo_base::NoMemory;
+use verb_bytes::{BadBytes, JournalRecord, Unwritten, decode_record, encode_record, spell_record};
 
 /// Number 9 at moment 1, by the key k and behind point 2: item 4 goes, item 3 has the text hi, and the filter f is dropped.
 const CYCLE: &[u8] =
@@ -19,17 +20,19 @@ const SNAPSHOT_FIELDS: &[usize] = &[
     0, 1, 5, 9, 13, 15, 21, 22, 26, 27, 33, 41, 45, 53, 59, 63, 67, 68,
 ];
 
-fn is_written(alloc: Global, what: &JournalRecord, bytes: &[u8]) -> Result<bool, Fail> {
-    if has_spelling(what) {
-        return Ok(encode_record(alloc, what)?.bytes() == bytes);
+/// Whether a record is written as these bytes, by both calls.
+fn is_written(alloc: Global, what: &JournalRecord, bytes: &[u8]) -> Result<bool, NoMemory> {
+    match spell_record(alloc, what) {
+        Ok(text) => Ok(text.bytes() == bytes && encode_record(alloc, what)?.bytes() == bytes),
+        Err(Unwritten::Unspelled) => Ok(false),
+        Err(Unwritten::NoMemory) => Err(NoMemory),
     }
-    Ok(false)
 }
 
 /// Whether bytes are read as a record that is written as these bytes.
 fn is_written_again(alloc: Global, bytes: &[u8]) -> Result<bool, Fail> {
     match decode_record(alloc, bytes) {
-        Ok(what) => is_written(alloc, &what, bytes),
+        Ok(what) => Ok(is_written(alloc, &what, bytes)?),
         Err(_) => Ok(false),
     }
 }

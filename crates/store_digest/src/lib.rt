@@ -12,7 +12,7 @@ use box_store::Store;
 use sha2::{Digest, Sha256};
 use std::alloc::Global;
 use undo_base::{NoMemory, Text};
-use verb_bytes::{encode_snapshot, snapshot_has_spelling};
+use verb_bytes::{Unwritten, spell_snapshot};
 
 /// The SHA-256 of bytes (FIPS 180-4), in 64 digits.
 fn digits(alloc: Global, bytes: &[u8]) -> Result<Text, NoMemory>
@@ -29,9 +29,9 @@ pub fn digest(alloc: Global, store: &Store, items: u32) -> Result<Text, NoMemory
     ensures { IfOk result (λ text. text ≡ digest_of store.now.store items) }
 {
     let rows = store.rows(alloc)?;
-    if !snapshot_has_spelling(items, store.conf(), &rows) {
-        return Err(NoMemory);
+    match spell_snapshot(alloc, items, store.conf(), &rows) {
+        Ok(payload) => digits(alloc, payload.bytes()),
+        Err(Unwritten::Unspelled) => Err(NoMemory),
+        Err(Unwritten::NoMemory) => Err(NoMemory),
     }
-    let payload = encode_snapshot(alloc, items, store.conf(), &rows)?;
-    digits(alloc, payload.bytes())
 }

@@ -3,7 +3,6 @@ pub mod FieldLaws
 pub mod RecordLaws
 pub mod Refusals
 pub mod Ranges
-pub mod RangeLaws
 pub mod Puts
 pub mod TimesLoop
 pub mod Cases

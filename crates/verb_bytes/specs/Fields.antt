@@ -24,21 +24,21 @@ infixr 60 ◌&◌
 abbrev pub ◌&◌ : List Field → List Field → List Field
 a & b = a ++ b
 
--- bytes, with these fields behind them
-unfoldable pub puts : List ℕ → List Field → List ℕ
-puts out fields = out ++ bytes_of fields
+-- one field
+abbrev pub field : Bool → List ℕ → List Field
+field in_range bytes = record { bytes = bytes; in_range = in_range } ∷ []
 
 -- a condition on the record that no byte stands for
 unfoldable pub only_if : Bool → List Field
-only_if holds = record { bytes = []; in_range = holds } ∷ []
+only_if holds = field holds []
 
 -- a byte from the least to the most
 unfoldable pub byte_field : ℕ → ℕ → ℕ → List Field
-byte_field least most n = record { bytes = n ∷ []; in_range = nat_le least n && nat_le n most } ∷ []
+byte_field least most n = field (nat_le least n && nat_le n most) (n ∷ [])
 
 -- a number in big-endian bytes, at most this one
 unfoldable pub number_field : Width → ℕ → ℕ → List Field
-number_field w most n = record { bytes = to_be_bytes w n; in_range = nat_le n most } ∷ []
+number_field w most n = field (nat_le n most) (to_be_bytes w n)
 
 -- 1 to 200 printable bytes
 abbrev pub is_name : List ℕ → Bool
@@ -46,15 +46,15 @@ is_name bytes = nat_le 1 (length bytes) && nat_le (length bytes) 200 && is_none 
 
 -- its length in one byte, and the bytes of the name
 unfoldable pub name_field : List ℕ → List Field
-name_field bytes = record { bytes = length bytes ∷ bytes; in_range = is_name bytes } ∷ []
+name_field bytes = field (is_name bytes) (length bytes ∷ bytes)
 
 -- its length in four bytes, and the bytes of the text
 unfoldable pub text_field : ℕ → List ℕ → List Field
-text_field most bytes = record { bytes = to_be_bytes w32 (length bytes) ++ bytes; in_range = nat_le (length bytes) most } ∷ []
+text_field most bytes = field (nat_le (length bytes) most) (to_be_bytes w32 (length bytes) ++ bytes)
 
 -- the item's number in four bytes, and the index in two: one field
 unfoldable pub key_field : Key → List Field
-key_field k = record { bytes = to_be_bytes w32 k.item ++ to_be_bytes w16 k.index; in_range = nat_lt k.item 4294967296 && nat_lt k.index 65536 } ∷ []
+key_field k = field (nat_lt k.item 4294967296 && nat_lt k.index 65536) (to_be_bytes w32 k.item ++ to_be_bytes w16 k.index)
 
 -- a count of at most this many, and the elements' fields
 abbrev pub list_fields : {A : Type 0} → ℕ → (A → List Field) → List A → List Field

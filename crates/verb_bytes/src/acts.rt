@@ -6,9 +6,9 @@ ghost use Rattle.verb_bytes.specs.Reading.{act_cases, any_list_at, filter_at, bo
 
 use crate::cursor::{Cursor, Stop};
 use crate::part::{Part, put_list, read_list};
-use crate::write::{MOST_BODY, put_body, put_byte, put_key, put_name, put_user};
+use crate::write::{MOST_BODY, Unwritten, put_byte, put_key, put_name, put_text, put_user};
 use std::alloc::Global;
-use undo_base::{NoMemory, Text};
+use undo_base::Text;
 use verb_core::{Act, Filter};
 
 impl Part for Act {
@@ -20,7 +20,7 @@ impl Part for Act {
     ghost reader = { act_at };
 
     #[tactic(auto, using(crate::proofs::Puts::list_steps))]
-    fn put(&self, out: &mut Text) -> Result<(), NoMemory> {
+    fn put(&self, out: &mut Text) -> Result<(), Unwritten> {
         match self {
             Act::SetAlias { local, users } => {
                 put_byte(out, 1, 6, 1)?;
@@ -53,7 +53,7 @@ impl Part for Act {
                 put_byte(out, 1, 6, 6)?;
                 put_user(out, *user)?;
                 put_name(out, mailbox)?;
-                put_body(out, text)
+                put_text(out, MOST_BODY, text)
             }
         }
     }

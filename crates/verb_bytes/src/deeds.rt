@@ -1,23 +1,24 @@
 //! Deeds as parts of records.
-ghost use Rattle.std.specs.Prelude.{◌≡◌, ◌≤◌, ◌-◌, IsTrue, OnOk};
+ghost use Rattle.std.specs.Prelude.{◌≤◌, ◌-◌};
 ghost use Rattle.verb_core.specs.declared.item.Deed.TheVariants.{Deliver, Append, Fetch, Store, Copy, List as Names, Status, Select, Expunge, Close, Create, Rename, Delete};
-ghost use Rattle.verb_bytes.specs.Fields.{puts, are_in_range};
+ghost use Rattle.verb_bytes.specs.Fields.{◌&◌, byte_field, name_field};
 ghost use Rattle.verb_bytes.specs.Readers.{Gives, nth_case, read1, read2, read3, read4, list_at, name_at, flags_at, moment_at, bool_at};
 ghost use Rattle.verb_bytes.specs.Reading.{deed_cases, any_text_at, body_at, keys_at, how_at};
-ghost use Rattle.verb_bytes.specs.Spelling.{deed_fields, how_field};
+ghost use Rattle.verb_bytes.specs.Spelling.{deed_fields, how_field, key_list};
+ghost use Rattle.verb_bytes.specs.Writing.{Puts};
 
 use crate::cursor::{Cursor, Stop};
 use crate::part::{Part, put_list, read_list};
 use crate::write::{
-    MOST_BODY, put_any_text, put_body, put_bool, put_byte, put_flags, put_moment, put_name,
+    MOST_BODY, Unwritten, put_bool, put_byte, put_condition, put_flags, put_name, put_text, put_u64,
 };
 use std::alloc::Global;
-use undo_base::{Flags, How, Keys, LAST_MOMENT, Name, Names, NoMemory, Text};
+use undo_base::{Flags, How, Keys, LAST_MOMENT, Name, Names, Text};
 use verb_core::Deed;
 
 /// Writes how flags change.
-fn put_how(out: &mut Text, how: How) -> Result<(), NoMemory>
-    ensures { OnOk result (out.new ≡ puts out.old (how_field how)) }
+fn put_how(out: &mut Text, how: How) -> Result<(), Unwritten>
+    ensures { Puts (how_field how) out.old out.new result }
 {
     match how {
         How::Replace => put_byte(out, 0, 2, 0),
@@ -49,7 +50,7 @@ impl Part for Deed {
     ghost reader = { deed_at };
 
     #[tactic(auto, using(crate::proofs::Puts::list_steps))]
-    fn put(&self, out: &mut Text) -> Result<(), NoMemory> {
+    fn put(&self, out: &mut Text) -> Result<(), Unwritten> {
         match self {
             Deed::Deliver { from, to, text } => put_deliver(from, to, text, out),
             Deed::Append {
@@ -76,15 +77,15 @@ impl Part for Deed {
                 target,
             } => put_copy(mailbox, keys, target, out),
             Deed::List { pattern } => put_listing(pattern, out),
-            Deed::Status { mailbox } => put_status(mailbox, out),
-            Deed::Select { mailbox } => put_select(mailbox, out),
-            Deed::Expunge { mailbox, keys } => put_expunge(mailbox, keys, out),
-            Deed::Close { mailbox, keys } => put_close(mailbox, keys, out),
-            Deed::Create { mailbox } => put_create(mailbox, out),
+            Deed::Status { mailbox } => put_mailbox(7, mailbox, out),
+            Deed::Select { mailbox } => put_mailbox(8, mailbox, out),
+            Deed::Expunge { mailbox, keys } => put_keys(9, mailbox, keys, out),
+            Deed::Close { mailbox, keys } => put_keys(10, mailbox, keys, out),
+            Deed::Create { mailbox } => put_mailbox(11, mailbox, out),
             Deed::Rename { mailbox, target } => put_rename(mailbox, target, out),
-            Deed::Delete { mailbox, keys } => put_delete(mailbox, keys, out),
-            Deed::Act(_) => unreachable!(),
-            Deed::Notice { .. } => unreachable!(),
+            Deed::Delete { mailbox, keys } => put_keys(13, mailbox, keys, out),
+            Deed::Act(_) => put_condition(out, false),
+            Deed::Notice { .. } => put_condition(out, false),
         }
     }
 
@@ -244,14 +245,13 @@ fn read_delete(alloc: Global, cursor: &mut Cursor<'_>) -> Result<Deed, Stop>
 }
 
 #[tactic(auto, using(crate::proofs::Puts::list_steps))]
-fn put_deliver(from: &Text, to: &Names, text: &Text, out: &mut Text) -> Result<(), NoMemory>
-    requires { IsTrue (are_in_range (deed_fields (Deliver from.now to.now text.now))) }
-    ensures { OnOk result (out.new ≡ puts out.old (deed_fields (Deliver from.now to.now text.now))) }
+fn put_deliver(from: &Text, to: &Names, text: &Text, out: &mut Text) -> Result<(), Unwritten>
+    ensures { Puts (deed_fields (Deliver from.now to.now text.now)) out.old out.new result }
 {
     put_byte(out, 1, 13, 1)?;
-    put_any_text(out, from)?;
+    put_text(out, u32::MAX, from)?;
     put_list(1000, to, out)?;
-    put_body(out, text)
+    put_text(out, MOST_BODY, text)
 }
 
 #[tactic(auto, using(crate::proofs::Puts::list_steps))]
@@ -261,15 +261,14 @@ fn put_append(
     moment: u64,
     text: &Text,
     out: &mut Text,
-) -> Result<(), NoMemory>
-    requires { IsTrue (are_in_range (deed_fields (Append mailbox.now flags moment text.now))) }
-    ensures { OnOk result (out.new ≡ puts out.old (deed_fields (Append mailbox.now flags moment text.now))) }
+) -> Result<(), Unwritten>
+    ensures { Puts (deed_fields (Append mailbox.now flags moment text.now)) out.old out.new result }
 {
     put_byte(out, 1, 13, 2)?;
     put_name(out, mailbox)?;
     put_flags(out, flags)?;
-    put_moment(out, moment)?;
-    put_body(out, text)
+    put_u64(out, LAST_MOMENT, moment)?;
+    put_text(out, MOST_BODY, text)
 }
 
 #[tactic(auto, using(crate::proofs::Puts::list_steps))]
@@ -279,9 +278,8 @@ fn put_fetch(
     sets_seen: bool,
     shows_body: bool,
     out: &mut Text,
-) -> Result<(), NoMemory>
-    requires { IsTrue (are_in_range (deed_fields (Fetch mailbox.now keys.now sets_seen shows_body))) }
-    ensures { OnOk result (out.new ≡ puts out.old (deed_fields (Fetch mailbox.now keys.now sets_seen shows_body))) }
+) -> Result<(), Unwritten>
+    ensures { Puts (deed_fields (Fetch mailbox.now keys.now sets_seen shows_body)) out.old out.new result }
 {
     put_byte(out, 1, 13, 3)?;
     put_name(out, mailbox)?;
@@ -297,9 +295,8 @@ fn put_store(
     how: How,
     flags: Flags,
     out: &mut Text,
-) -> Result<(), NoMemory>
-    requires { IsTrue (are_in_range (deed_fields (Store mailbox.now keys.now how flags))) }
-    ensures { OnOk result (out.new ≡ puts out.old (deed_fields (Store mailbox.now keys.now how flags))) }
+) -> Result<(), Unwritten>
+    ensures { Puts (deed_fields (Store mailbox.now keys.now how flags)) out.old out.new result }
 {
     put_byte(out, 1, 13, 4)?;
     put_name(out, mailbox)?;
@@ -309,9 +306,8 @@ fn put_store(
 }
 
 #[tactic(auto, using(crate::proofs::Puts::list_steps))]
-fn put_copy(mailbox: &Name, keys: &Keys, target: &Name, out: &mut Text) -> Result<(), NoMemory>
-    requires { IsTrue (are_in_range (deed_fields (Copy mailbox.now keys.now target.now))) }
-    ensures { OnOk result (out.new ≡ puts out.old (deed_fields (Copy mailbox.now keys.now target.now))) }
+fn put_copy(mailbox: &Name, keys: &Keys, target: &Name, out: &mut Text) -> Result<(), Unwritten>
+    ensures { Puts (deed_fields (Copy mailbox.now keys.now target.now)) out.old out.new result }
 {
     put_byte(out, 1, 13, 5)?;
     put_name(out, mailbox)?;
@@ -320,77 +316,37 @@ fn put_copy(mailbox: &Name, keys: &Keys, target: &Name, out: &mut Text) -> Resul
 }
 
 #[tactic(auto, using(crate::proofs::Puts::list_steps))]
-fn put_listing(pattern: &Text, out: &mut Text) -> Result<(), NoMemory>
-    requires { IsTrue (are_in_range (deed_fields (Names pattern.now))) }
-    ensures { OnOk result (out.new ≡ puts out.old (deed_fields (Names pattern.now))) }
+fn put_listing(pattern: &Text, out: &mut Text) -> Result<(), Unwritten>
+    ensures { Puts (deed_fields (Names pattern.now)) out.old out.new result }
 {
     put_byte(out, 1, 13, 6)?;
-    put_any_text(out, pattern)
+    put_text(out, u32::MAX, pattern)
 }
 
 #[tactic(auto, using(crate::proofs::Puts::list_steps))]
-fn put_status(mailbox: &Name, out: &mut Text) -> Result<(), NoMemory>
-    requires { IsTrue (are_in_range (deed_fields (Status mailbox.now))) }
-    ensures { OnOk result (out.new ≡ puts out.old (deed_fields (Status mailbox.now))) }
-{
-    put_byte(out, 1, 13, 7)?;
-    put_name(out, mailbox)
-}
-
-#[tactic(auto, using(crate::proofs::Puts::list_steps))]
-fn put_select(mailbox: &Name, out: &mut Text) -> Result<(), NoMemory>
-    requires { IsTrue (are_in_range (deed_fields (Select mailbox.now))) }
-    ensures { OnOk result (out.new ≡ puts out.old (deed_fields (Select mailbox.now))) }
-{
-    put_byte(out, 1, 13, 8)?;
-    put_name(out, mailbox)
-}
-
-#[tactic(auto, using(crate::proofs::Puts::list_steps))]
-fn put_expunge(mailbox: &Name, keys: &Keys, out: &mut Text) -> Result<(), NoMemory>
-    requires { IsTrue (are_in_range (deed_fields (Expunge mailbox.now keys.now))) }
-    ensures { OnOk result (out.new ≡ puts out.old (deed_fields (Expunge mailbox.now keys.now))) }
-{
-    put_byte(out, 1, 13, 9)?;
-    put_name(out, mailbox)?;
-    put_list(65536, keys, out)
-}
-
-#[tactic(auto, using(crate::proofs::Puts::list_steps))]
-fn put_close(mailbox: &Name, keys: &Keys, out: &mut Text) -> Result<(), NoMemory>
-    requires { IsTrue (are_in_range (deed_fields (Close mailbox.now keys.now))) }
-    ensures { OnOk result (out.new ≡ puts out.old (deed_fields (Close mailbox.now keys.now))) }
-{
-    put_byte(out, 1, 13, 10)?;
-    put_name(out, mailbox)?;
-    put_list(65536, keys, out)
-}
-
-#[tactic(auto, using(crate::proofs::Puts::list_steps))]
-fn put_create(mailbox: &Name, out: &mut Text) -> Result<(), NoMemory>
-    requires { IsTrue (are_in_range (deed_fields (Create mailbox.now))) }
-    ensures { OnOk result (out.new ≡ puts out.old (deed_fields (Create mailbox.now))) }
-{
-    put_byte(out, 1, 13, 11)?;
-    put_name(out, mailbox)
-}
-
-#[tactic(auto, using(crate::proofs::Puts::list_steps))]
-fn put_rename(mailbox: &Name, target: &Name, out: &mut Text) -> Result<(), NoMemory>
-    requires { IsTrue (are_in_range (deed_fields (Rename mailbox.now target.now))) }
-    ensures { OnOk result (out.new ≡ puts out.old (deed_fields (Rename mailbox.now target.now))) }
+fn put_rename(mailbox: &Name, target: &Name, out: &mut Text) -> Result<(), Unwritten>
+    ensures { Puts (deed_fields (Rename mailbox.now target.now)) out.old out.new result }
 {
     put_byte(out, 1, 13, 12)?;
     put_name(out, mailbox)?;
     put_name(out, target)
 }
 
+/// Writes a deed of one mailbox.
 #[tactic(auto, using(crate::proofs::Puts::list_steps))]
-fn put_delete(mailbox: &Name, keys: &Keys, out: &mut Text) -> Result<(), NoMemory>
-    requires { IsTrue (are_in_range (deed_fields (Delete mailbox.now keys.now))) }
-    ensures { OnOk result (out.new ≡ puts out.old (deed_fields (Delete mailbox.now keys.now))) }
+fn put_mailbox(kind: u8, mailbox: &Name, out: &mut Text) -> Result<(), Unwritten>
+    ensures { Puts (byte_field 1 13 kind & name_field mailbox.now) out.old out.new result }
 {
-    put_byte(out, 1, 13, 13)?;
+    put_byte(out, 1, 13, kind)?;
+    put_name(out, mailbox)
+}
+
+/// Writes a deed of one mailbox and some of its keys.
+#[tactic(auto, using(crate::proofs::Puts::list_steps))]
+fn put_keys(kind: u8, mailbox: &Name, keys: &Keys, out: &mut Text) -> Result<(), Unwritten>
+    ensures { Puts (byte_field 1 13 kind & name_field mailbox.now & key_list keys.now) out.old out.new result }
+{
+    put_byte(out, 1, 13, kind)?;
     put_name(out, mailbox)?;
     put_list(65536, keys, out)
 }

@@ -1,12 +1,10 @@
 //! A user's item as a part of records.
-ghost use Rattle.verb_bytes.specs.Spelling.{item_fields};
-
 use crate::cursor::{Cursor, Stop};
 use crate::part::Part;
 use crate::shown::{kind_of, put_shown, read_shown};
-use crate::write::{put_actor, put_moment, put_u32};
+use crate::write::{Unwritten, put_actor, put_condition, put_u32, put_u64};
 use std::alloc::Global;
-use undo_base::{LAST_MOMENT, NoMemory, Text};
+use undo_base::{LAST_MOMENT, Text};
 use verb_core::{Deed, Item};
 
 impl Part for Item {
@@ -18,12 +16,13 @@ impl Part for Item {
     ghost reader = { item_at };
 
     #[tactic(auto, using(crate::proofs::Puts::list_steps))]
-    fn put(&self, out: &mut Text) -> Result<(), NoMemory> {
-        put_u32(out, self.number)?;
-        put_moment(out, self.at)?;
+    fn put(&self, out: &mut Text) -> Result<(), Unwritten> {
+        put_u32(out, u32::MAX, self.number)?;
+        put_u64(out, LAST_MOMENT, self.at)?;
         put_actor(out, self.by)?;
         self.deed.put(out)?;
-        put_shown(kind_of(&self.deed), &self.shown, out)
+        put_shown(kind_of(&self.deed), &self.shown, out)?;
+        put_condition(out, self.rev == 0)
     }
 
     fn read(alloc: Global, cursor: &mut Cursor<'_>) -> Result<Item, Stop> {

@@ -1,9 +1,9 @@
 //! Mailboxes as parts of records.
 use crate::cursor::{Cursor, Stop};
 use crate::part::{Part, put_list, read_list};
-use crate::write::{put_flags, put_key, put_moment, put_name, put_u32, put_u64, put_user};
+use crate::write::{Unwritten, put_flags, put_key, put_name, put_u32, put_u64, put_user};
 use std::alloc::Global;
-use undo_base::{LAST_MOMENT, NoMemory, Text};
+use undo_base::{LAST_MOMENT, Text};
 use verb_core::{Body, BoxId, Entry, Mailbox};
 
 impl Part for Entry {
@@ -15,13 +15,13 @@ impl Part for Entry {
     ghost reader = { entry_at };
 
     #[tactic(auto, using(crate::proofs::Puts::list_steps))]
-    fn put(&self, out: &mut Text) -> Result<(), NoMemory> {
-        put_u64(out, self.uid)?;
+    fn put(&self, out: &mut Text) -> Result<(), Unwritten> {
+        put_u64(out, u64::MAX, self.uid)?;
         put_key(out, self.key)?;
-        put_u32(out, self.body.origin)?;
-        put_u32(out, self.body.rev)?;
+        put_u32(out, u32::MAX, self.body.origin)?;
+        put_u32(out, u32::MAX, self.body.rev)?;
         put_flags(out, self.flags)?;
-        put_moment(out, self.at)
+        put_u64(out, LAST_MOMENT, self.at)
     }
 
     fn read(_alloc: Global, cursor: &mut Cursor<'_>) -> Result<Entry, Stop> {
@@ -50,10 +50,10 @@ impl Part for (BoxId, Mailbox) {
     ghost reader = { row_at };
 
     #[tactic(auto, using(crate::proofs::Puts::list_steps))]
-    fn put(&self, out: &mut Text) -> Result<(), NoMemory> {
+    fn put(&self, out: &mut Text) -> Result<(), Unwritten> {
         put_user(out, self.0.user)?;
         put_name(out, &self.0.name)?;
-        put_u64(out, self.1.next)?;
+        put_u64(out, u64::MAX, self.1.next)?;
         put_list(u32::MAX, &self.1.entries, out)
     }
 

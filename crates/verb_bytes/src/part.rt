@@ -1,13 +1,14 @@
 //! Parts of records, and lists of them.
-ghost use Rattle.std.specs.Prelude.{◌≡◌, ◌≤◌, ℕ, List, Result, IsTrue, OnOk, length, Option};
+ghost use Rattle.std.specs.Prelude.{◌≡◌, ◌≤◌, ℕ, List, Result, length, Option};
 ghost use Rattle.std.specs.List.{flat_map};
-ghost use Rattle.verb_bytes.specs.Fields.{Field, puts, are_in_range, list_fields, option_fields};
+ghost use Rattle.verb_bytes.specs.Fields.{Field, list_fields, option_fields};
 ghost use Rattle.verb_bytes.specs.Readers.{Gives, list_at, option_at, read1, times};
+ghost use Rattle.verb_bytes.specs.Writing.{Puts};
 
 use crate::cursor::{Cursor, Stop};
-use crate::write::{put_byte, put_count};
+use crate::write::{Unwritten, put_byte, put_count};
 use std::alloc::Global;
-use undo_base::{NoMemory, Sequence, Text};
+use undo_base::{Sequence, Text};
 
 /// A part of a record: its fields, and how it is read.
 pub(crate) trait Part: Sized + Drop {
@@ -17,10 +18,9 @@ pub(crate) trait Part: Sized + Drop {
     /// What is read at the front of bytes.
     ghost reader: { List ℕ → Result (Self × List ℕ) ℕ };
 
-    /// Writes its fields at the end.
-    fn put(&self, out: &mut Text) -> Result<(), NoMemory>
-        requires { IsTrue (are_in_range (fields self.now)) }
-        ensures { OnOk result (out.new ≡ puts out.old (fields self.now)) };
+    /// Writes its fields at the end, where each value is in its range.
+    fn put(&self, out: &mut Text) -> Result<(), Unwritten>
+        ensures { Puts (fields self.now) out.old out.new result };
 
     /// Reads it.
     fn read(alloc: Global, cursor: &mut Cursor<'_>) -> Result<Self, Stop>
@@ -54,9 +54,8 @@ pub(crate) fn read_list<T: Part>(
     read_times(alloc, count, cursor)
 }
 
-fn put_each<T: Part>(items: &[T], out: &mut Text) -> Result<(), NoMemory>
-    requires { IsTrue (are_in_range (flat_map T.fields items.now)) }
-    ensures { OnOk result (out.new ≡ puts out.old (flat_map T.fields items.now)) }
+fn put_each<T: Part>(items: &[T], out: &mut Text) -> Result<(), Unwritten>
+    ensures { Puts (flat_map T.fields items.now) out.old out.new result }
 {
     for item in items {
         item.put(out)?;
@@ -70,9 +69,8 @@ pub(crate) fn put_list<T: Part>(
     most: u32,
     items: &Sequence<T>,
     out: &mut Text,
-) -> Result<(), NoMemory>
-    requires { IsTrue (are_in_range (list_fields most T.fields items.now)) }
-    ensures { OnOk result (out.new ≡ puts out.old (list_fields most T.fields items.now)) }
+) -> Result<(), Unwritten>
+    ensures { Puts (list_fields most T.fields items.now) out.old out.new result }
 {
     put_count(out, most, items.len())?;
     put_each(items.as_slice(), out)
@@ -101,9 +99,8 @@ fn read_some<T: Part>(alloc: Global, cursor: &mut Cursor<'_>) -> Result<Option<T
 
 /// Writes 0, or 1 and a value.
 #[tactic(auto, using(crate::proofs::Puts::list_steps))]
-pub(crate) fn put_option<T: Part>(value: &Option<T>, out: &mut Text) -> Result<(), NoMemory>
-    requires { IsTrue (are_in_range (option_fields T.fields value.now)) }
-    ensures { OnOk result (out.new ≡ puts out.old (option_fields T.fields value.now)) }
+pub(crate) fn put_option<T: Part>(value: &Option<T>, out: &mut Text) -> Result<(), Unwritten>
+    ensures { Puts (option_fields T.fields value.now) out.old out.new result }
 {
     match value {
         None => put_byte(out, 0, 1, 0),

@@ -1,16 +1,15 @@
 //! Houses and configurations as parts of records.
-ghost use Rattle.std.specs.Prelude.{◌≡◌, IsTrue, OnOk};
-ghost use Rattle.verb_bytes.specs.Fields.{puts, are_in_range};
 ghost use Rattle.verb_bytes.specs.Readers.{Gives};
 ghost use Rattle.verb_bytes.specs.Reading.{format_at};
 ghost use Rattle.verb_bytes.specs.Spelling.{house_fields};
+ghost use Rattle.verb_bytes.specs.Writing.{Puts};
 
 use crate::JournalRecord;
 use crate::cursor::{Cursor, Stop};
 use crate::part::{Part, put_list, put_option, read_list, read_option};
-use crate::write::{put_name, put_u32, put_user};
+use crate::write::{Unwritten, put_condition, put_name, put_u32, put_user};
 use std::alloc::Global;
-use undo_base::{NoMemory, Text};
+use undo_base::Text;
 use verb_core::{Account, Alias, Conf, Filter, Filters, House};
 
 impl Part for Account {
@@ -22,7 +21,7 @@ impl Part for Account {
     ghost reader = { account_at };
 
     #[tactic(auto, using(crate::proofs::Puts::list_steps))]
-    fn put(&self, out: &mut Text) -> Result<(), NoMemory> {
+    fn put(&self, out: &mut Text) -> Result<(), Unwritten> {
         put_name(out, &self.name)?;
         put_name(out, &self.password)
     }
@@ -43,7 +42,7 @@ impl Part for Alias {
     ghost reader = { alias_at };
 
     #[tactic(auto, using(crate::proofs::Puts::list_steps))]
-    fn put(&self, out: &mut Text) -> Result<(), NoMemory> {
+    fn put(&self, out: &mut Text) -> Result<(), Unwritten> {
         put_name(out, &self.local)?;
         put_list(u32::MAX, &self.users, out)
     }
@@ -64,7 +63,7 @@ impl Part for Filter {
     ghost reader = { filter_at };
 
     #[tactic(auto, using(crate::proofs::Puts::list_steps))]
-    fn put(&self, out: &mut Text) -> Result<(), NoMemory> {
+    fn put(&self, out: &mut Text) -> Result<(), Unwritten> {
         put_name(out, &self.id)?;
         put_name(out, &self.needle)?;
         put_option(&self.file, out)
@@ -78,18 +77,18 @@ impl Part for Filter {
     }
 }
 
-/// Writes a house, and the aliases that it begins with.
+/// Writes a house, and the aliases that it begins with. It has no filter yet.
 #[tactic(auto, using(crate::proofs::Puts::list_steps))]
-pub(crate) fn put_house(house: &House, conf: &Conf, out: &mut Text) -> Result<(), NoMemory>
-    requires { IsTrue (are_in_range (house_fields house.now conf.now)) }
-    ensures { OnOk result (out.new ≡ puts out.old (house_fields house.now conf.now)) }
+pub(crate) fn put_house(house: &House, conf: &Conf, out: &mut Text) -> Result<(), Unwritten>
+    ensures { Puts (house_fields house.now conf.now) out.old out.new result }
 {
     put_name(out, &house.host)?;
     put_list(u32::MAX, &house.domains, out)?;
-    put_u32(out, house.first)?;
+    put_u32(out, u32::MAX, house.first)?;
     put_list(200, &house.accounts, out)?;
     put_user(out, house.postmaster)?;
-    put_list(u32::MAX, &conf.aliases, out)
+    put_list(u32::MAX, &conf.aliases, out)?;
+    put_condition(out, conf.filters.is_empty())
 }
 
 /// Reads a house and its aliases. No filter is there at first.

@@ -1,16 +1,17 @@
 //! What was shown, as a part of records.
-ghost use Rattle.std.specs.Prelude.{◌≡◌, ◌≤◌, IsTrue, OnOk};
+ghost use Rattle.std.specs.Prelude.{◌≡◌, ◌≤◌};
 ghost use Rattle.verb_core.specs.declared.item.Shown.TheVariants.{Nothing, Seen, Names as Named, Count, Done, Copied, Put, Left, Way as Went, Moved};
-ghost use Rattle.verb_bytes.specs.Fields.{puts, are_in_range};
+ghost use Rattle.verb_bytes.specs.Fields.{◌&◌, byte_field};
 ghost use Rattle.verb_bytes.specs.Readers.{Gives, nth_case, read1, read2, list_at, option_at, name_at, u32_at, bool_at};
 ghost use Rattle.verb_bytes.specs.Reading.{shown_cases, shown_at, any_list_at, keys_at, sight_at, way_at};
-ghost use Rattle.verb_bytes.specs.Spelling.{shown_fields, shown_kind, way_field};
+ghost use Rattle.verb_bytes.specs.Spelling.{key_list, shown_fields, shown_kind, way_field};
+ghost use Rattle.verb_bytes.specs.Writing.{Puts};
 
 use crate::cursor::{Cursor, Stop};
 use crate::part::{Part, put_list, put_option, read_list, read_option};
-use crate::write::{put_bool, put_byte, put_key, put_u32};
+use crate::write::{Unwritten, put_bool, put_byte, put_key, put_u32};
 use std::alloc::Global;
-use undo_base::{Keys, Names, NoMemory, Text};
+use undo_base::{Keys, Names, Text};
 use verb_core::{Deed, Shown, Sight, Sights, Way};
 
 impl Part for Sight {
@@ -22,9 +23,9 @@ impl Part for Sight {
     ghost reader = { sight_at };
 
     #[tactic(auto, using(crate::proofs::Puts::list_steps))]
-    fn put(&self, out: &mut Text) -> Result<(), NoMemory> {
+    fn put(&self, out: &mut Text) -> Result<(), Unwritten> {
         put_key(out, self.key)?;
-        put_u32(out, self.rev)
+        put_u32(out, u32::MAX, self.rev)
     }
 
     fn read(_alloc: Global, cursor: &mut Cursor<'_>) -> Result<Sight, Stop> {
@@ -35,8 +36,8 @@ impl Part for Sight {
 }
 
 /// Writes how a RENAME went.
-fn put_way(out: &mut Text, way: Way) -> Result<(), NoMemory>
-    ensures { OnOk result (out.new ≡ puts out.old (way_field way)) }
+fn put_way(out: &mut Text, way: Way) -> Result<(), Unwritten>
+    ensures { Puts (way_field way) out.old out.new result }
 {
     match way {
         Way::Plain => put_byte(out, 0, 2, 0),
@@ -83,23 +84,22 @@ pub(crate) fn kind_of(deed: &Deed) -> u8
     }
 }
 
-/// Writes what was shown, which is of this kind.
+/// Writes what was shown, which must be of this kind.
 #[tactic(auto, using(crate::proofs::Puts::list_steps))]
-pub(crate) fn put_shown(kind: u8, shown: &Shown, out: &mut Text) -> Result<(), NoMemory>
-    requires { IsTrue (are_in_range (shown_fields kind shown.now)) }
-    ensures { OnOk result (out.new ≡ puts out.old (shown_fields kind shown.now)) }
+pub(crate) fn put_shown(kind: u8, shown: &Shown, out: &mut Text) -> Result<(), Unwritten>
+    ensures { Puts (shown_fields kind shown.now) out.old out.new result }
 {
     match shown {
         Shown::Nothing => put_byte(out, kind, kind, 0),
         Shown::Seen(sights) => put_shown_seen(kind, sights, out),
         Shown::Names(names) => put_shown_names(kind, names, out),
         Shown::Count(count) => put_shown_count(kind, count, out),
-        Shown::Done(keys) => put_shown_done(kind, keys, out),
+        Shown::Done(keys) => put_shown_keys(kind, 4, keys, out),
         Shown::Copied { keys, redirected } => put_shown_copied(kind, keys, *redirected, out),
         Shown::Put { redirected } => put_shown_put(kind, *redirected, out),
-        Shown::Left(keys) => put_shown_left(kind, keys, out),
+        Shown::Left(keys) => put_shown_keys(kind, 7, keys, out),
         Shown::Way(way) => put_shown_way(kind, *way, out),
-        Shown::Moved(keys) => put_shown_moved(kind, keys, out),
+        Shown::Moved(keys) => put_shown_keys(kind, 9, keys, out),
     }
 }
 
@@ -195,45 +195,37 @@ fn read_moved(alloc: Global, cursor: &mut Cursor<'_>) -> Result<Shown, Stop>
 }
 
 #[tactic(auto, using(crate::proofs::Puts::list_steps))]
-fn put_shown_seen(kind: u8, sights: &Sights, out: &mut Text) -> Result<(), NoMemory>
-    requires { IsTrue (are_in_range (shown_fields kind (Seen sights.now))) }
-    ensures { OnOk result (out.new ≡ puts out.old (shown_fields kind (Seen sights.now))) }
+fn put_shown_seen(kind: u8, sights: &Sights, out: &mut Text) -> Result<(), Unwritten>
+    ensures { Puts (shown_fields kind (Seen sights.now)) out.old out.new result }
 {
     put_byte(out, kind, kind, 1)?;
     put_list(65536, sights, out)
 }
 
 #[tactic(auto, using(crate::proofs::Puts::list_steps))]
-fn put_shown_names(kind: u8, names: &Names, out: &mut Text) -> Result<(), NoMemory>
-    requires { IsTrue (are_in_range (shown_fields kind (Named names.now))) }
-    ensures { OnOk result (out.new ≡ puts out.old (shown_fields kind (Named names.now))) }
+fn put_shown_names(kind: u8, names: &Names, out: &mut Text) -> Result<(), Unwritten>
+    ensures { Puts (shown_fields kind (Named names.now)) out.old out.new result }
 {
     put_byte(out, kind, kind, 2)?;
     put_list(u32::MAX, names, out)
 }
 
 #[tactic(auto, using(crate::proofs::Puts::list_steps))]
-fn put_shown_count(kind: u8, count: &Option<u32>, out: &mut Text) -> Result<(), NoMemory>
-    requires { IsTrue (are_in_range (shown_fields kind (Count count.now))) }
-    ensures { OnOk result (out.new ≡ puts out.old (shown_fields kind (Count count.now))) }
+fn put_shown_count(kind: u8, count: &Option<u32>, out: &mut Text) -> Result<(), Unwritten>
+    ensures { Puts (shown_fields kind (Count count.now)) out.old out.new result }
 {
     put_byte(out, kind, kind, 3)?;
     put_option(count, out)
 }
 
 #[tactic(auto, using(crate::proofs::Puts::list_steps))]
-fn put_shown_done(kind: u8, keys: &Keys, out: &mut Text) -> Result<(), NoMemory>
-    requires { IsTrue (are_in_range (shown_fields kind (Done keys.now))) }
-    ensures { OnOk result (out.new ≡ puts out.old (shown_fields kind (Done keys.now))) }
-{
-    put_byte(out, kind, kind, 4)?;
-    put_list(65536, keys, out)
-}
-
-#[tactic(auto, using(crate::proofs::Puts::list_steps))]
-fn put_shown_copied(kind: u8, keys: &Keys, redirected: bool, out: &mut Text) -> Result<(), NoMemory>
-    requires { IsTrue (are_in_range (shown_fields kind (Copied keys.now redirected))) }
-    ensures { OnOk result (out.new ≡ puts out.old (shown_fields kind (Copied keys.now redirected))) }
+fn put_shown_copied(
+    kind: u8,
+    keys: &Keys,
+    redirected: bool,
+    out: &mut Text,
+) -> Result<(), Unwritten>
+    ensures { Puts (shown_fields kind (Copied keys.now redirected)) out.old out.new result }
 {
     put_byte(out, kind, kind, 5)?;
     put_list(65536, keys, out)?;
@@ -241,37 +233,26 @@ fn put_shown_copied(kind: u8, keys: &Keys, redirected: bool, out: &mut Text) -> 
 }
 
 #[tactic(auto, using(crate::proofs::Puts::list_steps))]
-fn put_shown_put(kind: u8, redirected: bool, out: &mut Text) -> Result<(), NoMemory>
-    requires { IsTrue (are_in_range (shown_fields kind (Put redirected))) }
-    ensures { OnOk result (out.new ≡ puts out.old (shown_fields kind (Put redirected))) }
+fn put_shown_put(kind: u8, redirected: bool, out: &mut Text) -> Result<(), Unwritten>
+    ensures { Puts (shown_fields kind (Put redirected)) out.old out.new result }
 {
     put_byte(out, kind, kind, 6)?;
     put_bool(out, redirected)
 }
 
 #[tactic(auto, using(crate::proofs::Puts::list_steps))]
-fn put_shown_left(kind: u8, keys: &Keys, out: &mut Text) -> Result<(), NoMemory>
-    requires { IsTrue (are_in_range (shown_fields kind (Left keys.now))) }
-    ensures { OnOk result (out.new ≡ puts out.old (shown_fields kind (Left keys.now))) }
-{
-    put_byte(out, kind, kind, 7)?;
-    put_list(65536, keys, out)
-}
-
-#[tactic(auto, using(crate::proofs::Puts::list_steps))]
-fn put_shown_way(kind: u8, way: Way, out: &mut Text) -> Result<(), NoMemory>
-    requires { IsTrue (are_in_range (shown_fields kind (Went way))) }
-    ensures { OnOk result (out.new ≡ puts out.old (shown_fields kind (Went way))) }
+fn put_shown_way(kind: u8, way: Way, out: &mut Text) -> Result<(), Unwritten>
+    ensures { Puts (shown_fields kind (Went way)) out.old out.new result }
 {
     put_byte(out, kind, kind, 8)?;
     put_way(out, way)
 }
 
+/// Writes keys that were shown.
 #[tactic(auto, using(crate::proofs::Puts::list_steps))]
-fn put_shown_moved(kind: u8, keys: &Keys, out: &mut Text) -> Result<(), NoMemory>
-    requires { IsTrue (are_in_range (shown_fields kind (Moved keys.now))) }
-    ensures { OnOk result (out.new ≡ puts out.old (shown_fields kind (Moved keys.now))) }
+fn put_shown_keys(kind: u8, code: u8, keys: &Keys, out: &mut Text) -> Result<(), Unwritten>
+    ensures { Puts (byte_field kind kind code & key_list keys.now) out.old out.new result }
 {
-    put_byte(out, kind, kind, 9)?;
+    put_byte(out, kind, kind, code)?;
     put_list(65536, keys, out)
 }

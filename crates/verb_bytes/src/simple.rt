@@ -1,9 +1,9 @@
 //! Names, numbers, users and keys as parts of records.
 use crate::cursor::{Cursor, Stop};
 use crate::part::Part;
-use crate::write::{MOST_BODY, put_body, put_key, put_name, put_u32, put_user};
+use crate::write::{MOST_BODY, Unwritten, put_key, put_name, put_text, put_u32, put_user};
 use std::alloc::Global;
-use undo_base::{Key, Name, NoMemory, Text, User};
+use undo_base::{Key, Name, Text, User};
 
 impl Part for Name {
     ghost use Rattle.verb_bytes.specs.Fields.{name_field};
@@ -14,7 +14,7 @@ impl Part for Name {
     ghost reader = { name_at };
 
     #[tactic(auto, using(crate::proofs::Puts::list_steps))]
-    fn put(&self, out: &mut Text) -> Result<(), NoMemory> {
+    fn put(&self, out: &mut Text) -> Result<(), Unwritten> {
         put_name(out, self)
     }
 
@@ -32,8 +32,8 @@ impl Part for u32 {
     ghost reader = { u32_at };
 
     #[tactic(auto, using(crate::proofs::Puts::list_steps))]
-    fn put(&self, out: &mut Text) -> Result<(), NoMemory> {
-        put_u32(out, *self)
+    fn put(&self, out: &mut Text) -> Result<(), Unwritten> {
+        put_u32(out, u32::MAX, *self)
     }
 
     fn read(_alloc: Global, cursor: &mut Cursor<'_>) -> Result<u32, Stop> {
@@ -50,7 +50,7 @@ impl Part for User {
     ghost reader = { user_at };
 
     #[tactic(auto, using(crate::proofs::Puts::list_steps))]
-    fn put(&self, out: &mut Text) -> Result<(), NoMemory> {
+    fn put(&self, out: &mut Text) -> Result<(), Unwritten> {
         put_user(out, *self)
     }
 
@@ -68,7 +68,7 @@ impl Part for Key {
     ghost reader = { key_at };
 
     #[tactic(auto, using(crate::proofs::Puts::list_steps))]
-    fn put(&self, out: &mut Text) -> Result<(), NoMemory> {
+    fn put(&self, out: &mut Text) -> Result<(), Unwritten> {
         put_key(out, *self)
     }
 
@@ -86,9 +86,9 @@ impl Part for (u32, Text) {
     ghost reader = { replace_at };
 
     #[tactic(auto, using(crate::proofs::Puts::list_steps))]
-    fn put(&self, out: &mut Text) -> Result<(), NoMemory> {
-        put_u32(out, self.0)?;
-        put_body(out, &self.1)
+    fn put(&self, out: &mut Text) -> Result<(), Unwritten> {
+        put_u32(out, u32::MAX, self.0)?;
+        put_text(out, MOST_BODY, &self.1)
     }
 
     fn read(alloc: Global, cursor: &mut Cursor<'_>) -> Result<(u32, Text), Stop> {

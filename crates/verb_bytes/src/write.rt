@@ -1,112 +1,146 @@
-//! Fields, written at the end of a text.
-ghost use Rattle.std.specs.Prelude.{◌≡◌, ◌≤◌, ◌++◌, length, OnOk, IsTrue};
-ghost use Rattle.std.specs.Int.{w32, to_be_bytes};
-ghost use Rattle.verb_bytes.specs.Fields.{puts, are_in_range, byte_field, number_field, u32_field, u64_field, moment_field, name_field, any_text_field, body_field, key_field, user_field, actor_field, bool_field, flags_field, worth};
+//! Fields, written at the end of a text where their values are in their ranges.
+ghost use Rattle.std.specs.Prelude.{◌≡◌, ◌≤◌, ◌++◌, IsTrue};
+ghost use Rattle.std.specs.Int.{w32, w64};
+ghost use Rattle.verb_bytes.specs.Fields.{field, only_if, byte_field, number_field, name_field, text_field, key_field, user_field, actor_field, bool_field, flags_field, worth};
+ghost use Rattle.verb_bytes.specs.Writing.{Puts};
 
 use undo_base::{Flags, Key, Name, NoMemory, Text, User};
 
 /// The most bytes of a message's text as it is stored.
 pub(crate) const MOST_BODY: u32 = 1052672;
 
-/// A byte, whose range is from the least to the most.
-#[tactic(auto, unfolding(crate::specs::Fields::byte_field, crate::specs::Fields::puts, crate::specs::Fields::bytes_of))]
-pub(crate) fn put_byte(out: &mut Text, least: u8, most: u8, value: u8) -> Result<(), NoMemory>
-    requires low { least ≤ value }
-    requires high { value ≤ most }
-    ensures { OnOk result (out.new ≡ puts out.old (byte_field least most value)) }
-{
-    prove!(least <= value);
-    prove!(value <= most);
-    out.extend(&[value])
+/// Why a record is not written.
+#[derive(Clone, Copy, Debug, PartialEq, Eq)]
+pub enum Unwritten {
+    /// A value is out of its field's range: the record has no spelling.
+    Unspelled,
+    NoMemory,
 }
 
-#[tactic(auto, unfolding(crate::specs::Fields::number_field, crate::specs::Fields::puts, crate::specs::Fields::bytes_of))]
-pub(crate) fn put_u32(out: &mut Text, value: u32) -> Result<(), NoMemory>
-    ensures { OnOk result (out.new ≡ puts out.old (u32_field value)) }
-{
-    out.extend(&value.to_be_bytes())
+impl From<NoMemory> for Unwritten {
+    ghost use Rattle.verb_bytes.specs.declared.write.Unwritten.TheVariants.{NoMemory as no_memory};
+
+    ghost from_gives = { λ _ e. e ≡ no_memory };
+
+    fn from(_: NoMemory) -> Self {
+        Unwritten::NoMemory
+    }
 }
 
-/// A count, whose range ends with the most.
-#[tactic(auto, using(crate::proofs::Puts::number_in_range), unfolding(crate::specs::Fields::number_field, crate::specs::Fields::puts, crate::specs::Fields::bytes_of))]
-pub(crate) fn put_count(out: &mut Text, most: u32, count: usize) -> Result<(), NoMemory>
-    requires { IsTrue (are_in_range (number_field w32 most count)) }
-    ensures { OnOk result (out.new ≡ puts out.old (number_field w32 most count)) }
+/// A field whose bytes are these.
+#[tactic(auto, using(crate::proofs::Puts::one_written))]
+fn put_field(out: &mut Text, in_range: bool, bytes: &[u8]) -> Result<(), Unwritten>
+    ensures { Puts (field in_range bytes.now) out.old out.new result }
 {
-    prove!(count <= most as usize);
-    out.extend(&(count as u32).to_be_bytes())
+    if !in_range {
+        return Err(Unwritten::Unspelled);
+    }
+    out.extend(bytes)?;
+    Ok(())
 }
 
-#[tactic(auto, unfolding(crate::specs::Fields::number_field, crate::specs::Fields::puts, crate::specs::Fields::bytes_of))]
-pub(crate) fn put_u64(out: &mut Text, value: u64) -> Result<(), NoMemory>
-    ensures { OnOk result (out.new ≡ puts out.old (u64_field value)) }
+/// A field whose bytes are these, and then those.
+#[tactic(auto, using(crate::proofs::Puts::both_written))]
+fn put_both(out: &mut Text, in_range: bool, first: &[u8], then: &[u8]) -> Result<(), Unwritten>
+    ensures { Puts (field in_range (first.now ++ then.now)) out.old out.new result }
 {
-    out.extend(&value.to_be_bytes())
+    if !in_range {
+        return Err(Unwritten::Unspelled);
+    }
+    out.extend(first)?;
+    out.extend(then)?;
+    Ok(())
 }
 
-#[tactic(auto, unfolding(crate::specs::Fields::number_field, crate::specs::Fields::puts, crate::specs::Fields::bytes_of))]
-pub(crate) fn put_moment(out: &mut Text, at: u64) -> Result<(), NoMemory>
-    ensures { OnOk result (out.new ≡ puts out.old (moment_field at)) }
+/// A condition on the record that no byte stands for.
+#[tactic(auto, unfolding(crate::specs::Fields::only_if))]
+pub(crate) fn put_condition(out: &mut Text, holds: bool) -> Result<(), Unwritten>
+    ensures { Puts (only_if holds) out.old out.new result }
 {
-    out.extend(&at.to_be_bytes())
+    put_field(out, holds, &[])
+}
+
+/// A byte from the least to the most.
+#[tactic(auto, unfolding(crate::specs::Fields::byte_field))]
+pub(crate) fn put_byte(out: &mut Text, least: u8, most: u8, value: u8) -> Result<(), Unwritten>
+    ensures { Puts (byte_field least most value) out.old out.new result }
+{
+    put_field(out, least <= value && value <= most, &[value])
+}
+
+/// A number of four bytes.
+#[tactic(auto, unfolding(crate::specs::Fields::number_field))]
+pub(crate) fn put_u32(out: &mut Text, most: u32, value: u32) -> Result<(), Unwritten>
+    ensures { Puts (number_field w32 most value) out.old out.new result }
+{
+    put_field(out, value <= most, &value.to_be_bytes())
+}
+
+/// A count, in four bytes.
+#[tactic(auto, using(crate::proofs::Puts::none_past))]
+pub(crate) fn put_count(out: &mut Text, most: u32, count: usize) -> Result<(), Unwritten>
+    ensures { Puts (number_field w32 most count) out.old out.new result }
+{
+    if count > most as usize {
+        return Err(Unwritten::Unspelled);
+    }
+    put_u32(out, most, count as u32)
+}
+
+/// A number of eight bytes.
+#[tactic(auto, unfolding(crate::specs::Fields::number_field))]
+pub(crate) fn put_u64(out: &mut Text, most: u64, value: u64) -> Result<(), Unwritten>
+    ensures { Puts (number_field w64 most value) out.old out.new result }
+{
+    put_field(out, value <= most, &value.to_be_bytes())
 }
 
 /// A name behind its length in one byte.
-#[tactic(auto, unfolding(crate::specs::Fields::name_field, crate::specs::Fields::puts, crate::specs::Fields::bytes_of))]
-pub(crate) fn put_name(out: &mut Text, value: &Name) -> Result<(), NoMemory>
-    ensures { OnOk result (out.new ≡ puts out.old (name_field value.now)) }
+pub(crate) fn put_name(out: &mut Text, value: &Name) -> Result<(), Unwritten>
+    ensures { Puts (name_field value.now) out.old out.new result }
 {
     let bytes = value.bytes();
-    out.extend(&[bytes.len() as u8])?;
-    out.extend(bytes)
+    put_both(out, true, &[bytes.len() as u8], bytes)
 }
 
-fn put_text(out: &mut Text, value: &Text) -> Result<(), NoMemory>
-    ensures { OnOk result (out.new ≡ (out.old ++ to_be_bytes w32 (length value.now)) ++ value.now) }
+/// A text of at most so many bytes, behind its length in four bytes.
+#[tactic(auto, unfolding(crate::specs::Fields::text_field))]
+pub(crate) fn put_text(out: &mut Text, most: u32, value: &Text) -> Result<(), Unwritten>
+    ensures { Puts (text_field most value.now) out.old out.new result }
 {
     let bytes = value.bytes();
-    out.extend(&(bytes.len() as u32).to_be_bytes())?;
-    out.extend(bytes)
-}
-
-/// A text behind its length in four bytes.
-#[tactic(auto, unfolding(crate::specs::Fields::text_field, crate::specs::Fields::puts, crate::specs::Fields::bytes_of))]
-pub(crate) fn put_any_text(out: &mut Text, value: &Text) -> Result<(), NoMemory>
-    ensures { OnOk result (out.new ≡ puts out.old (any_text_field value.now)) }
-{
-    put_text(out, value)
-}
-
-/// The text of a message behind its length in four bytes.
-#[tactic(auto, unfolding(crate::specs::Fields::text_field, crate::specs::Fields::puts, crate::specs::Fields::bytes_of))]
-pub(crate) fn put_body(out: &mut Text, value: &Text) -> Result<(), NoMemory>
-    ensures { OnOk result (out.new ≡ puts out.old (body_field value.now)) }
-{
-    put_text(out, value)
+    let count = bytes.len();
+    put_both(
+        out,
+        count <= most as usize,
+        &(count as u32).to_be_bytes(),
+        bytes,
+    )
 }
 
 /// A key: a number of four bytes, and one of two.
-#[tactic(auto, unfolding(crate::specs::Fields::key_field, crate::specs::Fields::puts, crate::specs::Fields::bytes_of))]
-pub(crate) fn put_key(out: &mut Text, value: Key) -> Result<(), NoMemory>
-    ensures { OnOk result (out.new ≡ puts out.old (key_field value)) }
+#[tactic(auto, using(crate::proofs::Puts::key_same))]
+pub(crate) fn put_key(out: &mut Text, value: Key) -> Result<(), Unwritten>
+    ensures { Puts (key_field value) out.old out.new result }
 {
-    out.extend(&value.item.to_be_bytes())?;
-    out.extend(&value.index.to_be_bytes())
+    put_both(
+        out,
+        true,
+        &value.item.to_be_bytes(),
+        &value.index.to_be_bytes(),
+    )
 }
 
 /// One of 200 users.
-#[tactic(auto, using(crate::proofs::Puts::byte_in_range))]
-pub(crate) fn put_user(out: &mut Text, value: User) -> Result<(), NoMemory>
-    requires { IsTrue (are_in_range (user_field value)) }
-    ensures { OnOk result (out.new ≡ puts out.old (user_field value)) }
+pub(crate) fn put_user(out: &mut Text, value: User) -> Result<(), Unwritten>
+    ensures { Puts (user_field value) out.old out.new result }
 {
     put_byte(out, 0, 199, value.0)
 }
 
 /// Who acted: 255 for nobody.
-pub(crate) fn put_actor(out: &mut Text, by: Option<User>) -> Result<(), NoMemory>
-    requires { IsTrue (are_in_range (actor_field by)) }
-    ensures { OnOk result (out.new ≡ puts out.old (actor_field by)) }
+pub(crate) fn put_actor(out: &mut Text, by: Option<User>) -> Result<(), Unwritten>
+    ensures { Puts (actor_field by) out.old out.new result }
 {
     match by {
         None => put_byte(out, 255, 255, 255),
@@ -115,8 +149,8 @@ pub(crate) fn put_actor(out: &mut Text, by: Option<User>) -> Result<(), NoMemory
 }
 
 /// 0 or 1.
-pub(crate) fn put_bool(out: &mut Text, value: bool) -> Result<(), NoMemory>
-    ensures { OnOk result (out.new ≡ puts out.old (bool_field value)) }
+pub(crate) fn put_bool(out: &mut Text, value: bool) -> Result<(), Unwritten>
+    ensures { Puts (bool_field value) out.old out.new result }
 {
     if value {
         put_byte(out, 0, 1, 1)
@@ -134,8 +168,8 @@ fn worth_of(set: bool, bit: u8) -> u8
 }
 
 /// Five flags in a byte.
-pub(crate) fn put_flags(out: &mut Text, value: Flags) -> Result<(), NoMemory>
-    ensures { OnOk result (out.new ≡ puts out.old (flags_field value)) }
+pub(crate) fn put_flags(out: &mut Text, value: Flags) -> Result<(), Unwritten>
+    ensures { Puts (flags_field value) out.old out.new result }
 {
     let code = worth_of(value.answered, 1)
         + worth_of(value.flagged, 2)

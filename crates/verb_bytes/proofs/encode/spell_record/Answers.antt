@@ -1,0 +1,11 @@
+use Rattle.std.proofs.lemmas.Result.{err_from_is_err_and}
+use Rattle.verb_bytes.proofs.Puts.{spells, spells_none}
+use Rattle.verb_bytes.proofs.encode.spell_record.Goals as goal
+
+pub returns-in_err-put_record : goal.returns-in_err-put_record
+returns-in_err-put_record c =
+    let p = err_from_is_err_and c.from_residual.result c.from_residual.ensures.1 in
+    rw (p.1, p.2) (spells_none c.args.what.now c.new-out.result c.put_record.new.out c.in_err-put_record.field-0.0 c.new-out.ensures c.in_err-put_record.ensures)
+
+pub returns : goal.returns
+returns c = spells c.args.what.now c.new-out.result c.put_record.new.out c.new-out.ensures c.in_ok-put_record.ensures
