@@ -1,6 +1,7 @@
 //! What the operator does.
 ghost use Rattle.std.specs.Prelude.{◌≡◌, ◌<◌, ◌↔◌, ℕ, [], ◌∷◌, false, IsTrue, IfOk, OnOk, IfErr, OnErr, IsErrOf};
 ghost use Rattle.std.specs.List.{list_all};
+ghost use Rattle.verb_core.specs.Deeds.{act_item};
 ghost use Rattle.verb_core.specs.declared.item.Deed.TheVariants.{Act as Acts};
 ghost use Rattle.verb_core.specs.Items.{users_in};
 ghost use Rattle.verb_core.specs.Store.{is_known};
@@ -8,7 +9,6 @@ ghost use Rattle.verb_bytes.specs.declared.journal.JournalRecord.TheVariants.{Op
 ghost use Rattle.verb_core.specs.Kept.{performed};
 ghost use Rattle.mail_desk.specs.Entering.{CanEnter};
 ghost use Rattle.time_desk.specs.Lasting.{lasting};
-ghost use Rattle.time_desk.specs.Records.{act_item};
 ghost use Rattle.time_desk.specs.Sealing.{IsRecordOf, Seals};
 ghost use Rattle.time_desk.specs.Submitting.{ActsNone, IsActOutcomeOf};
 ghost use Rattle.time_desk.specs.declared.fault.ActFault.TheVariants as act_faults;
@@ -25,7 +25,7 @@ use undo_outside::Disk;
 use verb_core::{Act, Deed, Item, Shown};
 
 /// The item of an act.
-fn item_of(number: u32, at: u64, act: Act) -> Item
+pub(crate) fn item_of(number: u32, at: u64, act: Act) -> Item
     ensures { result ≡ act_item number at act }
 {
     Item {

@@ -7,13 +7,14 @@ ghost use Rattle.verb_bytes.specs.Spelling.{HasSpelling};
 ghost use Rattle.time_desk.specs.Records.{after_record, can_follow as follows, first_state};
 ghost use Rattle.time_desk.specs.Standing.{Enters, IsFormed, Performs, begun, has_users as uses, is_actor, item_of, opening_of};
 
+use crate::act::item_of;
 use house_text::can_begin;
 use mail_desk::Desk;
 use std::alloc::Global;
 use undo_base::{LAST_NUMBER, NoMemory, User};
 use verb_bytes::JournalRecord;
 use verb_bytes::laws::spelled_items_are_formed;
-use verb_core::{Act, Conf, Deed, House, Item, Shown};
+use verb_core::{Act, Conf, Deed, House, Item};
 
 // ---- the first record
 
@@ -72,6 +73,7 @@ pub(crate) fn begin(alloc: Global, what: JournalRecord) -> Result<Option<Desk>, 
 
 // ---- the users of an item
 
+/// Whether users are known.
 fn are_known(house: &House, users: &[User]) -> bool
     ensures { result ≡ list_all (knows house.now) users.now }
 {
@@ -143,14 +145,7 @@ fn item_in(what: JournalRecord) -> Option<Item>
     spelled_items_are_formed();
     match what {
         JournalRecord::Verb(item) => Some(item),
-        JournalRecord::Operator { number, at, act } => Some(Item {
-            number,
-            at,
-            by: None,
-            rev: 0,
-            deed: Deed::Act(act),
-            shown: Shown::Nothing,
-        }),
+        JournalRecord::Operator { number, at, act } => Some(item_of(number, at, act)),
         JournalRecord::Format(house, conf) => {
             drop(house);
             drop(conf);
