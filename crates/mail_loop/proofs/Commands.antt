@@ -16,7 +16,7 @@ use Rattle.imap_session.specs.Dialog.{ReadsOf, Took, is_at_home, is_free, is_rea
 use Rattle.mail_desk.specs.Kept.{Kept}
 use Rattle.mail_desk.specs.Desk.{store_of}
 use Rattle.mail_desk.specs.Timeline.{all_bodies, has_text}
-use Rattle.mail_loop.specs.Read.{AreThere, IsAwaitedLast}
+use Rattle.mail_loop.specs.ImapTook.{AreThere, IsAwaitedLast}
 
 -- ---- whose texts are wanted
 

@@ -17,7 +17,7 @@ use Rattle.time_desk.specs.Sealing.{Seals}
 use Rattle.time_desk.specs.Submitting.{SubmitsNone}
 use Rattle.mail_loop.specs.declared.reply.Reply.{Reply}
 use Rattle.mail_loop.specs.Asked.{HaveSealed}
-use Rattle.mail_loop.specs.Dialog.{Turn}
+use Rattle.mail_loop.specs.SmtpTurn.{Turn}
 use Rattle.mail_loop.specs.Took.{Submits, Takes}
 
 module _ {D : Type 0} (told : D → DiskTold) where

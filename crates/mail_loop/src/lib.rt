@@ -6,15 +6,15 @@
 #![tactic(auto)]
 
 mod asking;
-mod console;
-mod dialog;
+mod console_turn;
 mod gone;
+mod imap_turn;
 mod laws;
 mod letters;
-mod reader;
+mod open_connection;
 mod reply;
 mod serve;
-mod session;
+mod smtp_turn;
 
 pub use laws::turns_are_of_the_whole_stream;
 pub use serve::{ServeFault, serve_events};
