@@ -27,8 +27,8 @@ use Rattle.smtp_session.specs.declared.answer.Answer.TheVariants.{Done, Begin, B
 use Rattle.std.specs.Str.{str_to_ascii_lowercase}
 use Rattle.smtp_session.specs.Dialog as session
 use Rattle.mail_loop.specs.declared.reply.Reply.{Reply}
-use Rattle.mail_desk.specs.Kept.{Kept}
-use Rattle.mail_desk.specs.Desk.{Submitted, store_of, submitted_as}
+use Rattle.verb_core.specs.Kept.{Kept, store_of}
+use Rattle.mail_desk.specs.Desk.{Submitted, submitted_as}
 use Rattle.verb_bytes.specs.declared.journal.JournalRecord.{JournalRecord}
 use Rattle.verb_bytes.specs.declared.journal.JournalRecord.TheVariants.{Verb}
 use Rattle.mail_loop.specs.Asked.{Asked, does, fails, unsealed_as}

@@ -7,8 +7,9 @@ use Rattle.imap_stream.specs.declared.next.Next.{Next}
 use Rattle.imap_stream.specs.declared.next.Next.TheVariants.{Command, Ask as Mark, Bad, NotYet}
 use Rattle.imap_session.specs.declared.dialog.Dialog.{Dialog}
 use Rattle.imap_session.specs.declared.words.Answer.TheVariants.{Refused as IsToldRefused}
+use Rattle.imap_session.specs.Dialog.{without_memory}
 use Rattle.imap_session.specs.Words.{tagged}
-use Rattle.mail_desk.specs.Kept.{Kept}
+use Rattle.verb_core.specs.Kept.{Kept}
 use Rattle.mail_loop.specs.Asked.{fails, starves}
 use Rattle.mail_loop.specs.SmtpTurn.{Turn, says}
 use Rattle.mail_loop.specs.Hindrance.{Hindrance, Clear, Refused, Unread, Unstored, Unheard, Unanswered, Unsealed, Untold, lost, unanswered}
@@ -18,9 +19,10 @@ use Rattle.mail_loop.specs.ImapTurn.{Service, service, served, turn}
 abbrev pub memory_told : List ℕ → List ℕ
 memory_told tag = tagged tag (IsToldRefused NoMemory)
 
--- the session found no memory for a command: it is as it was, and the client is told
+-- the session found no memory for a command: the client is told, and after a SELECT or EXAMINE no mailbox is selected, so that what
+-- stands behind it in the stream is not done to the mailbox before; else the session is as it was
 abbrev pub refused_command : Kept → Dialog → Reading → Turn Dialog
-refused_command kept d (Ok command) = says (memory_told command.tag) kept d
+refused_command kept d (Ok command) = says (memory_told command.tag) kept (without_memory command.what d)
 refused_command kept d (Err why) = lost kept
 
 -- only a command is told of want of memory

@@ -17,8 +17,8 @@ use Rattle.smtp_session.specs.declared.answer.SmtpOut.{SmtpOut}
 use Rattle.smtp_session.specs.declared.answer.SmtpOut.TheVariants.{Nothing, Say, Mail, Bye}
 use Rattle.smtp_session.specs.declared.dialog.Dialog.{Dialog}
 use Rattle.smtp_session.specs.Dialog.{is_due}
-use Rattle.mail_desk.specs.Kept.{Kept}
-use Rattle.mail_desk.specs.Desk.{store_of, submitted}
+use Rattle.verb_core.specs.Kept.{Kept, store_of}
+use Rattle.mail_desk.specs.Desk.{submitted}
 use Rattle.mail_loop.specs.State.{Seat}
 use Rattle.verb_bytes.specs.declared.journal.JournalRecord.{JournalRecord}
 use Rattle.verb_bytes.specs.declared.journal.JournalRecord.TheVariants.{Verb}

@@ -1,6 +1,7 @@
 use Rattle.std.proofs.Common.{Ok, refl, subst}
 use Rattle.shelf.specs.Notes.{size_of}
 use Rattle.imap_session.specs.declared.dialog.Dialog.{Dialog}
+use Rattle.imap_session.specs.Dialog.{without_memory}
 use Rattle.mail_loop.specs.Asked.{HaveSealed}
 use Rattle.mail_loop.specs.SmtpTurn.{Turn}
 use Rattle.mail_loop.specs.Hindrance.{Hindrance, Refused}
@@ -29,10 +30,11 @@ pub returns-in-Err-clause-turn : goal.returns-in-Err-clause-turn
 returns-in-Err-clause-turn g c =
     let desk = c.args.desk.now in
     let d = c.args.session.now in
+    let left = without_memory c.args.command.now.what d in
     let old = c.args.reply.now in
     let new = c.answer.new in
     let text = c.no_memory.result in
     let f : Hindrance → Turn Dialog = λ h. obeyed_under h c.args.at desk.kept d (Ok c.args.command.now) in
     lifted_turn (HaveSealed g.D.Disk.told desk desk) f old desk.kept new.session new.reply (unsealed g.D.Disk.told c.seals_join.ensures.nothing desk)
-    (answered_turn (memory_told c.args.command.now.tag) text desk.kept d new.session old new.reply f Refused c.no_memory.ensures refl refl
+    (answered_turn (memory_told c.args.command.now.tag) text desk.kept left new.session old new.reply f Refused c.no_memory.ensures refl refl
     (subst (λ (e : Dialog). IsAnswered text e old new.session new.reply) c.in-Err.ensures.err c.answer.ensures.answered))
