@@ -12,7 +12,8 @@ use Rattle.verb_core.specs.Kept.{performed, Kept}
 use Rattle.time_desk.specs.declared.fault.ActFault.{ActFault}
 use Rattle.time_desk.specs.declared.fault.ActFault.TheVariants as fault
 use Rattle.time_desk.specs.Lasting.{Lasting, IsUnwritten}
-use Rattle.time_desk.specs.Records.{act_item, after_record, after_records, is_formed, is_spelled}
+use Rattle.verb_core.specs.Deeds.{act_item}
+use Rattle.time_desk.specs.Records.{after_record, after_records, is_formed, is_spelled}
 use Rattle.time_desk.specs.Sealing.{Seals}
 use Rattle.time_desk.specs.Submitting.{ActsNone}
 use Rattle.console_head.specs.Request.{Stage, Says}

@@ -7,7 +7,8 @@ use Rattle.verb_bytes.specs.declared.journal.JournalRecord.{JournalRecord}
 use Rattle.verb_bytes.specs.declared.journal.JournalRecord.TheVariants.{Format, Verb, Operator, Cycle, Snapshot}
 use Rattle.verb_core.specs.Kept.{Kept, performed}
 use Rattle.time_desk.specs.Lasting.{Lasting}
-use Rattle.time_desk.specs.Records.{act_item, after_item, after_record, after_records, can_follow, is_spelled}
+use Rattle.verb_core.specs.Deeds.{act_item}
+use Rattle.time_desk.specs.Records.{after_item, after_record, after_records, can_follow, is_spelled}
 use Rattle.console_session.specs.declared.reply.After.{After}
 use Rattle.console_session.specs.declared.reply.After.TheVariants.{Waits, Closes, Stops, Fails}
 use Rattle.console_session.specs.declared.reply.Reply.{Reply}
