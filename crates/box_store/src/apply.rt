@@ -24,9 +24,7 @@ impl Store {
         let Effect { work, act, shown } = effect;
         work_on(&mut self.rows, &mut self.spares, work);
         if act.is_some() {
-            if let Some(conf) = self.ready.take() {
-                self.conf = conf;
-            }
+            self.conf.change();
         }
         steps.tick();
         shown

@@ -1,22 +1,11 @@
 //! What an ask names.
 ghost use Rattle.std.specs.Prelude.{◌≡◌, [], option_copied, nat_lt, length, if◌then◌else◌};
 ghost use Rattle.std.specs.List.{cons_option};
-ghost use Rattle.verb_core.specs.Names.{is_new_name};
 ghost use Rattle.verb_core.specs.Live.{new_names, named, targets, is_misshapen, asks_fixed, too_large};
 ghost use Rattle.box_store.specs.Refusing.{adds_name};
 
-use mail_rows::fixed::{is_fixed, is_inbox, is_lost_found, is_wildcard};
 use undo_base::{MOST_FETCHED, MOST_LITERAL, Name, Text};
-use verb_core::Ask;
-
-/// Whether a new mailbox can have the name.
-fn is_new_name(name: &Name) -> bool
-    ensures { result ≡ is_new_name name.now }
-{
-    name.bytes()
-        .iter()
-        .all(|byte| !(is_wildcard(*byte) || *byte == b'/'))
-}
+use verb_core::{Ask, is_fixed, is_inbox, is_lost_found, is_new_name};
 
 /// The name of a new mailbox.
 pub(crate) fn new_name(ask: &Ask) -> Option<&Name>
@@ -87,7 +76,7 @@ pub(crate) fn is_misshapen(ask: &Ask) -> bool
 {
     match new_name(ask) {
         None => false,
-        Some(name) => !is_new_name(name),
+        Some(name) => !is_new_name(name.bytes()),
     }
 }
 

@@ -7,7 +7,7 @@ ghost use Rattle.box_store.specs.Effects.{mail_in, grows, HasSpares, adds_row, c
 
 use crate::spares::Spares;
 use crate::{Effect, Put, Store, Work};
-use mail_rows::conf_after::conf_after;
+use mail_rows::HeldConf;
 use mail_rows::mail::take_entries;
 use mail_rows::rows::place_of;
 use std::alloc::Global;
@@ -223,18 +223,19 @@ fn reserve_mail(
     }
 }
 
-/// The configuration after an act, where there is one.
-fn ready_conf(
+/// Makes ready what an act changes in the configuration, where there is one.
+fn reserve_conf(
     alloc: Global,
     house: &House,
-    conf: &Conf,
+    conf: &mut HeldConf,
     act: &Option<Act>,
-) -> Result<Option<Conf>, NoMemory>
-    ensures { IfOk result (λ ready. (act' : Act) → act.now ≡ Some act' → ready ≡ Some (conf_by house.now act.now conf.now)) }
+) -> Result<(), NoMemory>
+    ensures conf { conf.new.conf ≡ conf.old.conf }
+    ensures ready { OnOk result ((act' : Act) → act.now ≡ Some act' → conf.new.ready ≡ Some (conf_by house.now act.now conf.old.conf)) }
 {
     match act {
-        None => Ok(None),
-        Some(act) => Ok(Some(conf_after(alloc, house, conf, act)?)),
+        None => Ok(()),
+        Some(act) => conf.make_ready(alloc, house, act),
     }
 }
 
@@ -249,7 +250,7 @@ impl Store {
     {
         self.rows.reserve(1)?;
         reserve_mail(alloc, &mut self.rows, &mut self.spares, &effect.work)?;
-        self.ready = ready_conf(alloc, &self.house, &self.conf, &effect.act)?;
+        reserve_conf(alloc, &self.house, &mut self.conf, &effect.act)?;
         Ok(())
     }
 }

@@ -15,11 +15,10 @@ use crate::Store;
 use crate::asked::adds_name;
 use crate::refusals::mail_of;
 use mail_rows::aims::{reach_delivery, who_acts};
-use mail_rows::fixed::is_inbox;
 use mail_rows::sights::there_of;
 use std::alloc::Global;
 use undo_base::{Keys, LAST_NUMBER, MOST_BOXES, MOST_UID, Name, Names, NoMemory, Text, User};
-use verb_core::{Aim, Ask, Refused};
+use verb_core::{Aim, Ask, Refused, is_inbox};
 
 /// How many mailboxes the user has.
 #[tactic(auto, using(crate::proofs::KeysThere::length_names))]
@@ -89,7 +88,7 @@ fn delivery_outgrows(
         alloc,
         store.rows.as_slice(),
         &store.house,
-        &store.conf,
+        store.conf.conf(),
         to,
         text.bytes(),
     )?;

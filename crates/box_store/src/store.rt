@@ -7,6 +7,7 @@ ghost use Rattle.verb_core.specs.Items.{IsWellFormed};
 ghost use Rattle.verb_core.specs.Aims.{sought};
 
 use crate::spares::Spares;
+use mail_rows::HeldConf;
 use mail_rows::aims::reach_of;
 use mail_rows::lookup::{copied_rows, names_in, search_mailbox};
 use mail_rows::opening::fixed_rows;
@@ -20,12 +21,11 @@ use verb_core::{BoxId, Conf, House, Item, Mailbox, Resolved, Rows};
 #[derive(Drop)]
 pub struct Store {
     pub(crate) house: House,
-    pub(crate) conf: Conf,
+    /// The configuration in force, and the one that the next effect brings.
+    pub(crate) conf: HeldConf,
     pub(crate) rows: Vec<(BoxId, Mailbox)>,
     /// For each mailbox that the next effect makes grow.
     pub(crate) spares: Spares,
-    /// The configuration that the next effect brings.
-    pub(crate) ready: Option<Conf>,
 }
 
 impl Model for Store {
@@ -37,10 +37,10 @@ impl Model for Store {
     ghost Value = { Kept };
 
     ghost view = { λ s. record {
-      store = record { house = s.house; conf = s.conf; boxes = s.rows.items };
+      store = record { house = s.house; conf = s.conf.conf; boxes = s.rows.items };
       room = vec_capacity s.rows - vec_len s.rows;
       spares = s.spares;
-      ready = s.ready;
+      ready = s.conf.ready;
     } };
 
     ghost invariant = { λ s. IsTrue (is_rising s.rows.items) };
@@ -63,10 +63,9 @@ impl Store {
         steps_keep_validity();
         Ok(Store {
             house,
-            conf,
+            conf: HeldConf::new(alloc, conf),
             rows,
             spares: Spares::new(alloc),
-            ready: None,
         })
     }
 
@@ -82,7 +81,7 @@ impl Store {
             alloc,
             self.rows.as_slice(),
             &self.house,
-            &self.conf,
+            self.conf.conf(),
             item,
             text,
         )?;
@@ -105,7 +104,7 @@ impl Store {
     pub fn conf(&self) -> &Conf
         ensures { result.now ≡ self.now.store.conf }
     {
-        &self.conf
+        self.conf.conf()
     }
 
     /// The user's names, in byte order.

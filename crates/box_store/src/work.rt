@@ -9,12 +9,11 @@ ghost use Rattle.box_store.specs.Effects.{put_each as puts_each, mail_in, grows,
 
 use crate::spares::Spares;
 use crate::{FlagChange, KeySet, Put, Work};
-use mail_rows::fixed::{is_fixed, is_inbox};
 use mail_rows::mail::{begun_anew, expunge, put_mail, remove, set_flags, take_entries, without};
 use mail_rows::rows::{insert_row, place_of, put_row, take_row};
 use std::alloc::Global;
 use undo_base::{Key, Name, User};
-use verb_core::{BoxId, Entries, Entry, Mailbox, Way};
+use verb_core::{BoxId, Entries, Entry, Mailbox, Way, is_fixed, is_inbox};
 
 /// Puts mail at the end of a mailbox, where there is one. The spare list at that place has room for all of its entries.
 fn put_into(

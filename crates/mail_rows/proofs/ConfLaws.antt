@@ -1,5 +1,5 @@
 -- Aliases and filters set in their places.
-use Rattle.std.proofs.Common.{◌≡◌, ℕ, suc, Bool, true, false, not, ◌||◌, cond, List, [], ◌∷◌, ◌++◌, refl, ap, ap₂, ◌∙◌, append_assoc, length, take, drop, take_while, filter, bytes_eq, Less, Equal, Greater, is_eq, is_gt, nat_cmp}
+use Rattle.std.proofs.Common.{◌≡◌, ℕ, zero, suc, ◌<◌, ◌≤◌, Bool, true, false, not, ◌||◌, cond, List, [], ◌∷◌, refl, sym, ap, ◌∙◌, arith, true≢false, insert, set, length, take_while, filter, bytes_eq, Less, Equal, Greater, is_eq, is_gt, nat_cmp}
 use Rattle.std.proofs.lemmas.List.Sums.{take_while-cons}
 use Rattle.std.specs.Cmp.Lexicographic.{slice_cmp}
 use Rattle.std.specs.List.{list_any}
@@ -11,7 +11,7 @@ use Rattle.verb_core.specs.declared.conf.House.{House}
 use Rattle.verb_core.specs.Boxes.{same_user}
 use Rattle.verb_core.specs.Store.{users_of}
 use Rattle.verb_core.specs.Step.{in_order, with_alias, with_filter}
-use Rattle.mail_rows.specs.Confs.{stands_before, past_alias, has_other_id, past_filter}
+use Rattle.mail_rows.specs.Confs.{stands_before, stands_here, has_other_id}
 use Rattle.mail_rows.specs.Reaching.{is_among_meanings}
 
 -- how many of the first items pass a test
@@ -25,51 +25,100 @@ length-front p (x ∷ xs) =
     ap length (take_while-cons p x xs)
     ∙ elim (p x) as (λ b. length (cond b (x ∷ take_while p xs) []) ≡ cond b (suc (front p xs)) 0) [ true ↦ ap suc (length-front p xs) | false ↦ refl ]
 
-alias_in_front : (new : Alias) (all : List Alias) → take (front (stands_before new.local) all) all ++ (new ∷ past_alias new.local (drop (front (stands_before new.local) all) all)) ≡ with_alias new all
-alias_in_front new [] = refl
-alias_in_front new (a ∷ rest) =
+front_within : {X : Type 0} (p : X → Bool) (xs : List X) → front p xs ≤ length xs
+front_within p [] = omega arith
+front_within p (x ∷ xs) =
+    let rest : front p xs ≤ length xs = front_within p xs in
+    elim (p x) as (λ b. cond b (suc (front p xs)) 0 ≤ suc (length xs)) [ true ↦ omega arith | false ↦ omega arith ]
+
+-- a place within the list, or at its end
+pub place_within : {X : Type 0} (p : X → Bool) (xs : List X) (n : ℕ) → n ≡ length (take_while p xs) → n ≤ length xs
+place_within p xs n is =
+    let front_is : length (take_while p xs) ≡ front p xs = length-front p xs in
+    let within : front p xs ≤ length xs = front_within p xs in
+    omega arith
+
+-- ---- aliases
+
+here_within : (local : List ℕ) (n : ℕ) (all : List Alias) → stands_here local n all ≡ true → n < length all
+here_within local n [] h = cc
+here_within local zero (a ∷ rest) h = omega arith
+here_within local (suc n) (a ∷ rest) h =
+    let more : n < length rest = here_within local n rest h in
+    omega arith
+
+alias_here : (new : Alias) (all : List Alias) → stands_here new.local (front (stands_before new.local) all) all ≡ true → set all (front (stands_before new.local) all) new ≡ with_alias new all
+alias_here new [] h = cc
+alias_here new (a ∷ rest) h =
     elim (slice_cmp nat_cmp new.local a.local) as (λ o. slice_cmp nat_cmp new.local a.local ≡ o →
-    take (cond (is_gt o) (suc (front (stands_before new.local) rest)) 0) (a ∷ rest) ++ (new ∷ past_alias new.local (drop (cond (is_gt o) (suc (front (stands_before new.local) rest)) 0) (a ∷ rest)))
-    ≡ by_order o (new ∷ a ∷ rest) (new ∷ rest) (a ∷ with_alias new rest)) [
-      | Less ↦ λ e. ap (λ b. new ∷ cond b rest (a ∷ rest)) (ap is_eq e)
-      | Equal ↦ λ e. ap (λ b. new ∷ cond b rest (a ∷ rest)) (ap is_eq e)
-      | Greater ↦ λ e. ap (λ (t : List Alias). a ∷ t) (alias_in_front new rest)
-    ] refl
+    stands_here new.local (cond (is_gt o) (suc (front (stands_before new.local) rest)) 0) (a ∷ rest) ≡ true →
+    set (a ∷ rest) (cond (is_gt o) (suc (front (stands_before new.local) rest)) 0) new ≡ by_order o (new ∷ a ∷ rest) (new ∷ rest) (a ∷ with_alias new rest)) [
+      | Less ↦ λ e here. absurd (true≢false (sym here ∙ ap is_eq e))
+      | Equal ↦ λ e here. refl
+      | Greater ↦ λ e here. ap (λ (t : List Alias). a ∷ t) (alias_here new rest here)
+    ] refl h
 
--- an alias in its place
-pub alias_placed : (new : Alias) (all : List Alias) (n : ℕ) → n ≡ length (take_while (stands_before new.local) all) → take n all ++ (new ∷ past_alias new.local (drop n all)) ≡ with_alias new all
-alias_placed new all n is =
-    ap (λ (k : ℕ). take k all ++ (new ∷ past_alias new.local (drop k all))) (is ∙ length-front (stands_before new.local) all) ∙ alias_in_front new all
+alias_gap : (new : Alias) (all : List Alias) → stands_here new.local (front (stands_before new.local) all) all ≡ false → insert all (front (stands_before new.local) all) new ≡ with_alias new all
+alias_gap new [] h = refl
+alias_gap new (a ∷ rest) h =
+    elim (slice_cmp nat_cmp new.local a.local) as (λ o. slice_cmp nat_cmp new.local a.local ≡ o →
+    stands_here new.local (cond (is_gt o) (suc (front (stands_before new.local) rest)) 0) (a ∷ rest) ≡ false →
+    insert (a ∷ rest) (cond (is_gt o) (suc (front (stands_before new.local) rest)) 0) new ≡ by_order o (new ∷ a ∷ rest) (new ∷ rest) (a ∷ with_alias new rest)) [
+      | Less ↦ λ e here. refl
+      | Equal ↦ λ e here. absurd (true≢false (sym (ap is_eq e) ∙ here))
+      | Greater ↦ λ e here. ap (λ (t : List Alias). a ∷ t) (alias_gap new rest here)
+    ] refl h
 
-filter_in_front : (new : Filter) (all : List Filter) → take (front (has_other_id new.id) all) all ++ (new ∷ past_filter (drop (front (has_other_id new.id) all) all)) ≡ with_filter new all
-filter_in_front new [] = refl
-filter_in_front new (f ∷ rest) =
-    elim (bytes_eq new.id f.id) as (λ b.
-    take (cond (not b) (suc (front (has_other_id new.id) rest)) 0) (f ∷ rest) ++ (new ∷ past_filter (drop (cond (not b) (suc (front (has_other_id new.id) rest)) 0) (f ∷ rest))) ≡ cond b (new ∷ rest) (f ∷ with_filter new rest)) [
-      | true ↦ refl
-      | false ↦ ap (λ (t : List Filter). f ∷ t) (filter_in_front new rest)
-    ]
+module _ (new : Alias) (all : List Alias) (n : ℕ) (is : n ≡ length (take_while (stands_before new.local) all)) where
+  at_front : n ≡ front (stands_before new.local) all
+  at_front = is ∙ length-front (stands_before new.local) all
 
--- a filter in its place
-pub filter_placed : (new : Filter) (all : List Filter) (n : ℕ) → n ≡ length (take_while (has_other_id new.id) all) → take n all ++ (new ∷ past_filter (drop n all)) ≡ with_filter new all
-filter_placed new all n is =
-    ap (λ (k : ℕ). take k all ++ (new ∷ past_filter (drop k all))) (is ∙ length-front (has_other_id new.id) all) ∙ filter_in_front new all
+  -- an alias in the place of another
+  pub alias_replaced : stands_here new.local n all ≡ true → set all n new ≡ with_alias new all
+  alias_replaced here =
+      ap (λ (k : ℕ). set all k new) at_front ∙ alias_here new all (ap (λ (k : ℕ). stands_here new.local k all) (sym at_front) ∙ here)
 
-pub alias_built : (new : Alias) (all : List Alias) (n : ℕ) (none one two three before after rest : List Alias) → n ≡ length (take_while (stands_before new.local) all) → before ≡ take n all → after ≡ drop n all → rest ≡ past_alias new.local after
-    → none ≡ [] → one ≡ none ++ before → two ≡ one ++ new ∷ [] → three ≡ two ++ rest → three ≡ with_alias new all
-alias_built new all n none one two three before after rest is front_is back_is rest_is none_is one_is two_is three_is =
-    three_is
-    ∙ ap₂ (λ (xs ys : List Alias). xs ++ ys) (two_is ∙ ap (λ (xs : List Alias). xs ++ new ∷ []) (one_is ∙ ap₂ (λ (xs ys : List Alias). xs ++ ys) none_is front_is)) (rest_is ∙ ap (past_alias new.local) back_is)
-    ∙ append_assoc (take n all) (new ∷ []) (past_alias new.local (drop n all))
-    ∙ alias_placed new all n is
+  pub alias_within : stands_here new.local n all ≡ true → n < length all
+  alias_within here = here_within new.local n all here
 
-pub filter_built : (new : Filter) (all : List Filter) (n : ℕ) (none one two three before after rest : List Filter) → n ≡ length (take_while (has_other_id new.id) all) → before ≡ take n all → after ≡ drop n all → rest ≡ past_filter after
-    → none ≡ [] → one ≡ none ++ before → two ≡ one ++ new ∷ [] → three ≡ two ++ rest → three ≡ with_filter new all
-filter_built new all n none one two three before after rest is front_is back_is rest_is none_is one_is two_is three_is =
-    three_is
-    ∙ ap₂ (λ (xs ys : List Filter). xs ++ ys) (two_is ∙ ap (λ (xs : List Filter). xs ++ new ∷ []) (one_is ∙ ap₂ (λ (xs ys : List Filter). xs ++ ys) none_is front_is)) (rest_is ∙ ap past_filter back_is)
-    ∙ append_assoc (take n all) (new ∷ []) (past_filter (drop n all))
-    ∙ filter_placed new all n is
+  -- an alias of a new local part
+  pub alias_added : stands_here new.local n all ≡ false → insert all n new ≡ with_alias new all
+  alias_added gap =
+      ap (λ (k : ℕ). insert all k new) at_front ∙ alias_gap new all (ap (λ (k : ℕ). stands_here new.local k all) (sym at_front) ∙ gap)
+
+-- ---- filters
+
+filter_here : (new : Filter) (all : List Filter) → front (has_other_id new.id) all < length all → set all (front (has_other_id new.id) all) new ≡ with_filter new all
+filter_here new [] h = absurd (omega arith)
+filter_here new (f ∷ rest) h =
+    elim (bytes_eq new.id f.id) as (λ b. cond (not b) (suc (front (has_other_id new.id) rest)) 0 < suc (length rest) →
+    set (f ∷ rest) (cond (not b) (suc (front (has_other_id new.id) rest)) 0) new ≡ cond b (new ∷ rest) (f ∷ with_filter new rest)) [
+      | true ↦ λ lt. refl
+      | false ↦ λ lt. ap (λ (t : List Filter). f ∷ t) (filter_here new rest (omega arith))
+    ] h
+
+filter_last : (new : Filter) (all : List Filter) → length all ≤ front (has_other_id new.id) all → insert all (front (has_other_id new.id) all) new ≡ with_filter new all
+filter_last new [] h = refl
+filter_last new (f ∷ rest) h =
+    elim (bytes_eq new.id f.id) as (λ b. suc (length rest) ≤ cond (not b) (suc (front (has_other_id new.id) rest)) 0 →
+    insert (f ∷ rest) (cond (not b) (suc (front (has_other_id new.id) rest)) 0) new ≡ cond b (new ∷ rest) (f ∷ with_filter new rest)) [
+      | true ↦ λ le. absurd (omega arith)
+      | false ↦ λ le. ap (λ (t : List Filter). f ∷ t) (filter_last new rest (omega arith))
+    ] h
+
+module _ (new : Filter) (all : List Filter) (n : ℕ) (is : n ≡ length (take_while (has_other_id new.id) all)) where
+  at_other : n ≡ front (has_other_id new.id) all
+  at_other = is ∙ length-front (has_other_id new.id) all
+
+  -- a filter in the place of another
+  pub filter_replaced : n < length all → set all n new ≡ with_filter new all
+  filter_replaced within =
+      ap (λ (k : ℕ). set all k new) at_other ∙ filter_here new all (omega (arith, at_other))
+
+  -- a filter of a new name
+  pub filter_added : length all ≤ n → insert all n new ≡ with_filter new all
+  filter_added past =
+      ap (λ (k : ℕ). insert all k new) at_other ∙ filter_last new all (omega (arith, at_other))
 
 or_false : (b : Bool) → (b || false) ≡ b
 or_false true = refl

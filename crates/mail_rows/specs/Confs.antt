@@ -1,24 +1,42 @@
--- The places of aliases and filters.
-use Rattle.std.specs.Prelude.{ℕ, Bool, not, if◌then◌else◌, List, [], ◌∷◌, bytes_eq}
+-- The places of aliases and filters, and what an act changes.
+use Rattle.std.specs.Prelude.{ℕ, ◌<◌, Bool, false, not, List, bytes_eq, filter, length, slice_get, Option, Some}
 use Rattle.std.specs.Ordering.{nat_cmp, is_gt, is_eq}
+use Rattle.std.specs.Option.{option_map_or}
 use Rattle.std.specs.Cmp.Lexicographic.{slice_cmp}
 use Rattle.verb_core.specs.declared.conf.Alias.{Alias}
+use Rattle.verb_core.specs.declared.conf.Conf.{Conf}
 use Rattle.verb_core.specs.declared.conf.Filter.{Filter}
+use Rattle.verb_core.specs.Step.{with_alias, with_filter}
+use Rattle.mail_rows.specs.declared.conf_change.ConfChange.{ConfChange}
+use Rattle.mail_rows.specs.declared.conf_change.ConfChange.TheVariants.{SetAlias, DropAlias, SetFilter, DropFilter, Nothing}
 
 -- whether the alias stands before the one of a local part
 abbrev pub stands_before : List ℕ → Alias → Bool
 stands_before local a = is_gt (slice_cmp nat_cmp local a.local)
 
--- without the first alias, if it is that of the local part
-abbrev pub past_alias : List ℕ → List Alias → List Alias
-past_alias local [] = []
-past_alias local (a ∷ rest) = if is_eq (slice_cmp nat_cmp local a.local) then rest else a ∷ rest
+-- whether the alias at a place is that of a local part
+abbrev pub stands_here : List ℕ → ℕ → List Alias → Bool
+stands_here local place all = option_map_or (λ (a : Alias). is_eq (slice_cmp nat_cmp local a.local)) (slice_get all place) false
 
 -- whether the filter has another name
 abbrev pub has_other_id : List ℕ → Filter → Bool
 has_other_id id f = not (bytes_eq id f.id)
 
--- without the first filter
-abbrev pub past_filter : List Filter → List Filter
-past_filter [] = []
-past_filter (f ∷ fs) = fs
+-- the configuration after a change
+abbrev pub changed : ConfChange → Conf → Conf
+changed (SetAlias a) conf = record conf { aliases = with_alias a conf.aliases }
+changed (DropAlias local) conf = record conf { aliases = filter (λ a. not (bytes_eq local a.local)) conf.aliases }
+changed (SetFilter f) conf = record conf { filters = with_filter f conf.filters }
+changed (DropFilter id) conf = record conf { filters = filter (has_other_id id) conf.filters }
+changed Nothing conf = conf
+
+-- the configuration in force, and the one after the change that is ready
+pub record Held : Type 0 where
+  pub conf : Conf
+  pub ready : Option Conf
+
+-- lists of so much room have room for what the change makes of the configuration
+abbrev pub IsRoomy : Option ConfChange → Conf → ℕ → ℕ → Type 0
+IsRoomy (Some (SetAlias a)) conf aliases filters = length conf.aliases < aliases
+IsRoomy (Some (SetFilter f)) conf aliases filters = length conf.filters < filters
+IsRoomy _ conf aliases filters = Unit {0}

@@ -4,15 +4,15 @@
 //! makes the first rows. `mail` is what comes to a mailbox, changes and goes; `change` is what is to come and to change,
 //! `new_mail` and `flags` say which of it an item brings. `sights` and `shown` are what a user is shown, with entries
 //! looked up by `key_set` and `key_index`; `pattern` has the names of LIST. `reach` and `aims` find where an item's mail
-//! goes, `conf_after` makes the configuration after an act, `fixed` has the names that are always there.
-//! What carries the crate: `shown_by` is what the model shows, `reach_of` is `sought`, `conf_after` is the model's.
+//! goes, `held_conf` holds the configuration, and `conf_change` makes what an act changes in it.
+//! What carries the crate: `shown_by` is what the model shows, `reach_of` is `sought`, `HeldConf` is changed as the model's configuration is.
 #![tactic(auto)]
 
 pub mod aims;
 mod change;
-pub mod conf_after;
-pub mod fixed;
+mod conf_change;
 pub mod flags;
+mod held_conf;
 mod key_index;
 mod key_set;
 pub mod lookup;
@@ -26,4 +26,6 @@ pub mod shown;
 pub mod sights;
 
 pub use change::{FlagChange, Put};
+pub use conf_change::ConfChange;
+pub use held_conf::HeldConf;
 pub use key_set::KeySet;

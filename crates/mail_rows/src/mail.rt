@@ -45,7 +45,7 @@ fn add_mail(list: &mut Vec<Entry>, mail: &[Entry], first: u64)
 }
 
 /// Moves a list into a spare one that has room for it.
-fn move_over(list: &mut Vec<Entry>, spare: &mut Vec<Entry>)
+pub(crate) fn move_over<T: Drop>(list: &mut Vec<T>, spare: &mut Vec<T>)
     requires empty { spare.old.items ≡ [] }
     requires room { length list.old.items ≤ vec_capacity spare.old }
     ensures list { list.new.items ≡ [] }

@@ -5,10 +5,9 @@ ghost use Rattle.verb_core.specs.Boxes.{names_of, same_user};
 ghost use Rattle.verb_core.specs.Names.{some_end, matches, is_listed as is_given};
 ghost use Rattle.mail_rows.specs.Patterns.{past_front as behind_front};
 
-use crate::fixed::{is_inbox, is_wildcard};
 use std::alloc::{AllocError, Global};
 use undo_base::{Name, Names, NoMemory, Text, User};
-use verb_core::{BoxId, Mailbox};
+use verb_core::{BoxId, Mailbox, is_inbox, is_wildcard};
 
 /// What is left of both behind the bytes before the pattern's first wildcard, where the name begins with them.
 fn past_front<'a>(pattern: &'a [u8], name: &'a [u8]) -> Option<(&'a [u8], &'a [u8])>

@@ -5,13 +5,12 @@ ghost use Rattle.verb_core.specs.Boxes.{box_of, has_row, is_rising, mail_at, row
 ghost use Rattle.verb_core.specs.Mailboxes.{keys_of};
 ghost use Rattle.verb_core.specs.Step.{saved, shown, way_of};
 
-use crate::fixed::{is_fixed, is_lost_found};
 use crate::lookup::search_mailbox;
 use crate::pattern::listed;
 use crate::sights::{left_of, others_of, sights_of, there_of};
 use std::alloc::Global;
 use undo_base::{Key, Keys, Name, NoMemory, User};
-use verb_core::{BoxId, Deed, Entry, Mailbox, Shown, Way};
+use verb_core::{BoxId, Deed, Entry, Mailbox, Shown, Way, is_fixed, is_lost_found};
 
 /// The entries of the mailbox of that user and name; none where it is missing.
 pub fn mail_of<'a>(rows: &'a [(BoxId, Mailbox)], user: User, name: &Name) -> &'a [Entry]

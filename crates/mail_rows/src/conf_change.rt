@@ -1,0 +1,211 @@
+//! What an act of the operator changes in a configuration: made beforehand, then put in without memory.
+ghost use Rattle.std.specs.Prelude.{◌≡◌, ◌≤◌, ◌<◌, [], not, bytes_eq, filter, insert, length, take_while, IsTrue, IfOk, vec_len, vec_capacity};
+ghost use Rattle.verb_core.specs.Step.{in_order, with_alias as alias_set, with_filter as filter_set, conf_after};
+ghost use Rattle.verb_core.specs.declared.item.Deed.TheVariants.{Act as Acts};
+ghost use Rattle.mail_rows.specs.declared.conf_change.ConfChange.TheVariants as changes;
+ghost use Rattle.mail_rows.specs.Confs.{changed, has_other_id, stands_before, stands_here};
+
+use crate::mail::move_over;
+use crate::reach::recipients;
+use std::alloc::Global;
+use std::{mem, slice};
+use undo_base::{Copies, Name, NoMemory, Users};
+use verb_core::{Act, Alias, Aliases, Filter, Filters, House};
+
+/// What changes in a configuration.
+#[derive(Drop)]
+pub enum ConfChange {
+    /// An alias comes in the place of the one of its local part, or where it belongs.
+    SetAlias(Alias),
+    /// The alias of a local part goes.
+    DropAlias(Name),
+    /// A filter comes in the place of the one of its name, or last.
+    SetFilter(Filter),
+    /// The filters of a name go.
+    DropFilter(Name),
+    /// Nothing.
+    Nothing,
+}
+
+/// The users of a list, rising, each once.
+fn in_rising_order(alloc: Global, house: &House, listed: &Users) -> Result<Users, NoMemory>
+    ensures { IfOk result (λ users. users ≡ in_order house.now listed.now) }
+{
+    if house.is_sound() {
+        recipients(alloc, house, slice::from_ref(listed))
+    } else {
+        Err(NoMemory)
+    }
+}
+
+fn new_alias(
+    alloc: Global,
+    house: &House,
+    local: &Name,
+    users: &Users,
+) -> Result<ConfChange, NoMemory>
+    ensures { IfOk result (λ change. change ≡ changes.SetAlias (record { local = local.now; users = in_order house.now users.now })) }
+{
+    let users = in_rising_order(alloc, house, users)?;
+    let local = local.copy(alloc)?;
+    Ok(ConfChange::SetAlias(Alias { local, users }))
+}
+
+/// What an act changes in a configuration, as large as the act.
+pub fn conf_change(alloc: Global, house: &House, act: &Act) -> Result<ConfChange, NoMemory>
+    ensures { IfOk result (λ change. (conf : _) → changed change conf ≡ conf_after house.now (Acts act.now) conf) }
+{
+    match act {
+        Act::SetAlias { local, users } => new_alias(alloc, house, local, users),
+        Act::DropAlias { local } => Ok(ConfChange::DropAlias(local.copy(alloc)?)),
+        Act::SetFilter(filter) => Ok(ConfChange::SetFilter(filter.copy(alloc)?)),
+        Act::DropFilter { id } => Ok(ConfChange::DropFilter(id.copy(alloc)?)),
+        Act::Remove { .. } => Ok(ConfChange::Nothing),
+        Act::Give { .. } => Ok(ConfChange::Nothing),
+    }
+}
+
+/// A list with room for one item more, and an empty list: the list where it has room, or all of it moved into the spare
+/// one.
+fn with_room<T: Drop>(mut list: Vec<T>, mut spare: Vec<T>) -> (Vec<T>, Vec<T>)
+    requires empty { spare.items ≡ [] }
+    requires room { length list.items < vec_capacity spare }
+    ensures list { result.0.items ≡ list.items }
+    ensures room { vec_len result.0 < vec_capacity result.0 }
+    ensures spare { result.1.items ≡ [] }
+{
+    if list.len() < list.capacity() {
+        (list, spare)
+    } else {
+        move_over(&mut list, &mut spare);
+        (spare, list)
+    }
+}
+
+/// Puts an item at a place. There is room for it.
+fn insert_there<T: Drop>(list: &mut Vec<T>, place: usize, item: T)
+    requires room { vec_len list.old < vec_capacity list.old }
+    requires place { place ≤ length list.old.items }
+    ensures { list.new.items ≡ insert list.old.items place item }
+{
+    match list.insert(place, item) {
+        Ok(()) => {}
+        Err(_) => unreachable!(),
+    }
+}
+
+fn is_before(local: &Name, alias: &Alias) -> bool
+    ensures { result ≡ stands_before local.now alias.now }
+{
+    local.bytes().cmp(alias.local.bytes()).is_gt()
+}
+
+/// How many aliases stand before the one of a local part.
+fn alias_place(aliases: &[Alias], local: &Name) -> usize
+    ensures { result ≡ length (take_while (stands_before local.now) aliases.now) }
+{
+    aliases
+        .iter()
+        .take_while(|alias| is_before(local, alias))
+        .count()
+}
+
+/// Whether the alias at a place is that of a local part.
+fn is_here(aliases: &[Alias], place: usize, local: &Name) -> bool
+    ensures { result ≡ stands_here local.now place aliases.now }
+{
+    match aliases.get(place) {
+        None => false,
+        Some(alias) => local.bytes().cmp(alias.local.bytes()).is_eq(),
+    }
+}
+
+fn set_alias_in(list: &mut Vec<Alias>, alias: Alias)
+    requires { vec_len list.old < vec_capacity list.old }
+    ensures { list.new.items ≡ alias_set alias list.old.items }
+{
+    let place = alias_place(list.as_slice(), &alias.local);
+    if is_here(list.as_slice(), place, &alias.local) {
+        list[place] = alias;
+    } else {
+        insert_there(list, place, alias);
+    }
+}
+
+/// Sets an alias. The spare list has room for all.
+pub(crate) fn set_alias(aliases: &mut Aliases, spare: &mut Vec<Alias>, alias: Alias)
+    requires empty { spare.old.items ≡ [] }
+    requires room { length aliases.old < vec_capacity spare.old }
+    ensures aliases { aliases.new ≡ alias_set alias aliases.old }
+    ensures spare { spare.new.items ≡ [] }
+{
+    let alloc = *spare.allocator();
+    let list = mem::replace(aliases, Aliases::new(alloc)).into_vec();
+    let free = mem::replace(spare, Vec::new(alloc));
+    let (mut list, free) = with_room(list, free);
+    set_alias_in(&mut list, alias);
+    *aliases = Aliases::from_vec(list);
+    *spare = free;
+}
+
+/// The alias of a local part goes.
+pub(crate) fn drop_alias(alloc: Global, aliases: &mut Aliases, local: &Name)
+    ensures { aliases.new ≡ filter (λ a. not (bytes_eq local.now a.local)) aliases.old }
+{
+    let mut list = mem::replace(aliases, Aliases::new(alloc)).into_vec();
+    list.retain(|alias| local.bytes() != alias.local.bytes());
+    *aliases = Aliases::from_vec(list);
+}
+
+fn is_other(id: &Name, filter: &Filter) -> bool
+    ensures { result ≡ has_other_id id.now filter.now }
+{
+    id.bytes() != filter.id.bytes()
+}
+
+/// How many filters stand before the one of that name.
+fn filter_place(filters: &[Filter], id: &Name) -> usize
+    ensures { result ≡ length (take_while (has_other_id id.now) filters.now) }
+{
+    filters
+        .iter()
+        .take_while(|filter| is_other(id, filter))
+        .count()
+}
+
+fn set_filter_in(list: &mut Vec<Filter>, filter: Filter)
+    requires { vec_len list.old < vec_capacity list.old }
+    ensures { list.new.items ≡ filter_set filter list.old.items }
+{
+    let place = filter_place(list.as_slice(), &filter.id);
+    if place < list.len() {
+        list[place] = filter;
+    } else {
+        insert_there(list, place, filter);
+    }
+}
+
+/// Sets a filter. The spare list has room for all.
+pub(crate) fn set_filter(filters: &mut Filters, spare: &mut Vec<Filter>, filter: Filter)
+    requires empty { spare.old.items ≡ [] }
+    requires room { length filters.old < vec_capacity spare.old }
+    ensures filters { filters.new ≡ filter_set filter filters.old }
+    ensures spare { spare.new.items ≡ [] }
+{
+    let alloc = *spare.allocator();
+    let list = mem::replace(filters, Filters::new(alloc)).into_vec();
+    let free = mem::replace(spare, Vec::new(alloc));
+    let (mut list, free) = with_room(list, free);
+    set_filter_in(&mut list, filter);
+    *filters = Filters::from_vec(list);
+    *spare = free;
+}
+
+/// The filters of a name go.
+pub(crate) fn drop_filter(alloc: Global, filters: &mut Filters, id: &Name)
+    ensures { filters.new ≡ filter (has_other_id id.now) filters.old }
+{
+    let mut list = mem::replace(filters, Filters::new(alloc)).into_vec();
+    list.retain(|filter| is_other(id, filter));
+    *filters = Filters::from_vec(list);
+}
