@@ -373,7 +373,7 @@ module _ (laws : TokenLaws) where
       ap (option_and_then (λ (f : Flags × List Token). option_and_then (λ (d : Option ℕ × List Token). option_map (λ (t : List ℕ). (f.0, d.0, t)) (only_literal d.1)) (first_date f.1))) (first_complete flags moment text dated message d f)
       ∙ ap (option_and_then (λ (d : Option ℕ × List Token). option_map (λ (t : List ℕ). (flags, d.0, t)) (only_literal d.1))) (first_date_complete moment text dated d)
 
-  -- a command that has no any arguments
+  -- a command that is read from these arguments
   abbrev Reads : ImapWhat → List Token → Type 0
   Reads asked tokens = (takes_all (verb_of asked) ≡ false) × (what_in (verb_of asked) (speaks_of_uids asked) tokens ≡ Some asked)
 
