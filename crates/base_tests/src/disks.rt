@@ -26,19 +26,35 @@ fn has_image(alloc: Global, disk: &MemDisk, count: usize, bytes: &[u8]) -> Resul
     Ok(disk.image_after(alloc, count)?.bytes() == bytes)
 }
 
-fn has_torn(alloc: Global, disk: &MemDisk, kept: usize, bytes: &[u8]) -> Result<bool, Fail> {
-    Ok(disk.image_torn(alloc, 0, kept)?.bytes() == bytes)
+fn has_torn(alloc: Global, disk: &MemDisk, at: (usize, usize), bytes: &[u8]) -> Result<bool, Fail> {
+    Ok(disk.image_torn(alloc, at.0, at.1)?.bytes() == bytes)
+}
+
+/// So many writes, so many bytes of the next, and what a crash leaves there.
+const LEFT: [((usize, usize), &[u8]); 4] = [
+    ((0, 0), b"mailbox"),
+    ((0, 2), b"mailrox"),
+    ((0, 4), b"mailroom"),
+    ((1, 0), b"mailroom!"),
+];
+
+fn leaves_fronts(alloc: Global, disk: &MemDisk) -> Result<bool, Fail> {
+    for (at, bytes) in LEFT {
+        if !has_torn(alloc, disk, at, bytes)? {
+            return Ok(false);
+        }
+    }
+    Ok(disk.writes() == 1)
+}
+
+fn written_leaves_fronts(alloc: Global) -> Result<bool, Fail> {
+    let disk = written(alloc)?;
+    leaves_fronts(alloc, &disk)
 }
 
 #[test]
 fn a_crash_leaves_a_front_of_the_write(rt: HostRuntime) -> Result<(), Fail> {
-    let alloc = rt.alloc();
-    let disk = written(alloc)?;
-    assert_eq!(rt; disk.writes(), 1);
-    assert!(rt; has_image(alloc, &disk, 0, b"mailbox")?);
-    assert!(rt; has_torn(alloc, &disk, 2, b"mailrox")?);
-    assert!(rt; has_torn(alloc, &disk, 4, b"mailroom")?);
-    assert!(rt; has_image(alloc, &disk, 1, b"mailroom!")?);
+    assert!(rt; written_leaves_fronts(rt.alloc())?);
     Ok(())
 }
 
@@ -83,12 +99,22 @@ fn the_listed_reads_fail(rt: HostRuntime) -> Result<(), Fail> {
     Ok(())
 }
 
+/// Whether the first write left nothing, and the second its byte.
+fn has_images(alloc: Global, disk: &MemDisk) -> Result<bool, Fail> {
+    Ok(has_image(alloc, disk, 1, b"mail")? && has_image(alloc, disk, 2, b"nail")?)
+}
+
+fn writes_and_images(alloc: Global) -> Result<((bool, bool, bool, bool), bool), Fail> {
+    let mut disk = disk_of(alloc, b"mail", &[1, 3])?;
+    let failed = writes_fail(&mut disk);
+    Ok((failed, has_images(alloc, &disk)?))
+}
+
 #[test]
 fn the_listed_writes_and_syncs_fail(rt: HostRuntime) -> Result<(), Fail> {
-    let mut disk = disk_of(rt.alloc(), b"mail", &[1, 3])?;
-    assert_eq!(rt; writes_fail(&mut disk), (true, true, true, true));
-    assert!(rt; has_image(rt.alloc(), &disk, 1, b"mail")?);
-    assert!(rt; has_image(rt.alloc(), &disk, 2, b"nail")?);
+    let (failed, is_left) = writes_and_images(rt.alloc())?;
+    assert!(rt; is_left);
+    assert_eq!(rt; failed, (true, true, true, true));
     Ok(())
 }
 

@@ -8,12 +8,12 @@ use Rattle.verb_core.specs.declared.item.Act.{Act}
 use Rattle.verb_core.specs.Names.{is_empty}
 use Rattle.verb_bytes.specs.declared.journal.JournalRecord.{JournalRecord}
 use Rattle.verb_bytes.specs.declared.journal.JournalRecord.TheVariants.{Operator}
-use Rattle.mail_desk.specs.Desk.{performed}
-use Rattle.mail_desk.specs.Kept.{Kept}
+use Rattle.verb_core.specs.Kept.{performed, Kept}
 use Rattle.time_desk.specs.declared.fault.ActFault.{ActFault}
 use Rattle.time_desk.specs.declared.fault.ActFault.TheVariants as fault
 use Rattle.time_desk.specs.Lasting.{Lasting, IsUnwritten}
-use Rattle.time_desk.specs.Records.{act_item, after_record, after_records, is_formed, is_spelled}
+use Rattle.verb_core.specs.Deeds.{act_item}
+use Rattle.time_desk.specs.Records.{after_record, after_records, is_formed, is_spelled}
 use Rattle.time_desk.specs.Sealing.{Seals}
 use Rattle.time_desk.specs.Submitting.{ActsNone}
 use Rattle.console_head.specs.Request.{Stage, Says}

@@ -4,9 +4,8 @@ use Rattle.verb_core.specs.declared.conf.House.{House}
 use Rattle.verb_core.specs.declared.item.Act.{Act}
 use Rattle.verb_bytes.specs.declared.journal.JournalRecord.{JournalRecord}
 use Rattle.verb_bytes.specs.declared.journal.JournalRecord.TheVariants.{Operator}
-use Rattle.mail_desk.specs.Desk.{performed}
-use Rattle.mail_desk.specs.Kept.{Kept}
-use Rattle.time_desk.specs.Records.{act_item}
+use Rattle.verb_core.specs.Kept.{performed, Kept}
+use Rattle.verb_core.specs.Deeds.{act_item}
 use Rattle.console_head.specs.Request.{Stage}
 use Rattle.console_http.specs.declared.request.Asked.{Asked}
 use Rattle.console_http.specs.declared.request.Asked.TheVariants.{NotYet, Whole}

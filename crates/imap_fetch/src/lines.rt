@@ -4,13 +4,14 @@ ghost use Rattle.std.specs.List.{list_any};
 ghost use Rattle.imap_fetch.specs.Asked.{is_uid as is_uid_of, is_flags as is_flags_of};
 ghost use Rattle.imap_fetch.specs.Told as spec;
 
-use crate::flags::{changed, flags_fetched};
+use crate::flags::flags_fetched;
 use crate::parts::{push_parts, push_where};
 use crate::same::{is_flags, is_uid};
 use crate::{Attribute, Attributes, Message, Messages};
 use imap_text::{FetchParts, render_fetch};
 use std::alloc::Global;
 use undo_base::{Flags, How, NoMemory, Text, Texts};
+use verb_core::flags_after;
 
 /// How a FETCH is told: its attributes, whether it named its messages by UID, and whether it sets `\Seen`.
 #[derive(Debug, Drop)]
@@ -150,7 +151,7 @@ fn push_stored(
 ) -> Result<(), NoMemory>
     ensures { OnOk result (out.new ≡ out.old ++ spec.stored_line form message.now) }
 {
-    let flags = changed(form.how, form.flags, message.entry.flags);
+    let flags = flags_after(form.how, form.flags, message.entry.flags);
     let mut parts = FetchParts::new(alloc);
     push_where(
         alloc,

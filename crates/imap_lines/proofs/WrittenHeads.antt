@@ -49,7 +49,7 @@ before_is word line e space = ap (λ n. take n (word ++ line)) (space_at word li
 from_is : (word line : List ℕ) → list_all plain_byte word ≡ true → StartsSpace line → from_space (word ++ line) ≡ line
 from_is word line e space = ap (λ n. drop n (word ++ line)) (space_at word line e space) ∙ drop_at word line (length word) refl
 
-after_is : (word line : List ℕ) → list_all plain_byte word ≡ true → after_first is_space (word ++ 32 ∷ line) ≡ line
+pub after_is : (word line : List ℕ) → list_all plain_byte word ≡ true → after_first is_space (word ++ 32 ∷ line) ≡ line
 after_is word line e =
     let size : length (word ++ 32 ∷ []) ≡ length word + 1 = simp length-append refl in
     ap (λ n. drop (n + 1) (word ++ 32 ∷ line)) (space_at word (32 ∷ line) e refl)
@@ -96,7 +96,7 @@ tag_word tag e =
     let second = and_true (not (length tag == 0)) (nat_le (length tag) 64) first.0 in
     record { some = some_of tag second.0; bytes = tag_bytes tag first.1 }
 
-tag_is : (tag line : List ℕ) → is_tag tag ≡ true → tag_of (tag ++ 32 ∷ line) ≡ Some tag
+pub tag_is : (tag line : List ℕ) → is_tag tag ≡ true → tag_of (tag ++ 32 ∷ line) ≡ Some tag
 tag_is tag line e = rw (before_tag tag line (tag_word tag e).bytes, e) refl
 
 -- What is known of a command that is read as it is meant.

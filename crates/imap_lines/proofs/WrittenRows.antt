@@ -1,9 +1,8 @@
 -- Commands as a plain client writes them, byte for byte.
-use Rattle.std.proofs.Common.{◌≡◌, true, false, List, [], ◌∷◌, ◌++◌, codes, None, Some, refl}
+use Rattle.std.proofs.Common.{◌≡◌, true, false, [], ◌∷◌, ◌++◌, codes, None, Some, refl}
 use Rattle.std.specs.Fmt.{digits}
 use Rattle.undo_base.specs.declared.asks.How.TheVariants.{Add}
 use Rattle.undo_base.specs.declared.asks.Section.TheVariants.{Header, Fields}
-use Rattle.imap_stream.specs.declared.next.RawCommand.{RawCommand}
 use Rattle.imap_lines.specs.PlainCommands.{write}
 use Rattle.imap_lines.specs.declared.asks.FetchAsk.TheVariants as ask
 use Rattle.imap_lines.specs.declared.command.ImapWhat.TheVariants as what

@@ -3,19 +3,21 @@ use Rattle.std.specs.Prelude.{codes, ℕ, Bool, true, false, not, ◌-◌, ◌==
 use Rattle.std.specs.List.{list_all}
 use Rattle.undo_base.specs.declared.asks.StatusAsk.{StatusAsk}
 use Rattle.undo_base.specs.declared.asks.StatusAsk.TheVariants.{Messages, Recent, UidNext, UidValidity, Unseen}
-use Rattle.imap_tokens.specs.Words.{is_word, number_in, count_in}
+use Rattle.imap_tokens.specs.Words.{row_of, number_in, count_in}
 use Rattle.imap_tokens.specs.Sets.{cut_at}
 use Rattle.imap_tokens.specs.Tokens.{is_space, is_close, word_of}
 use Rattle.imap_tokens.specs.declared.tokens.Token.{Token}
 
+abbrev pub status_items : List (List ℕ × StatusAsk)
+status_items =
+    (codes "MESSAGES", Messages)
+    ∷ (codes "RECENT", Recent)
+    ∷ (codes "UIDNEXT", UidNext)
+    ∷ (codes "UIDVALIDITY", UidValidity)
+    ∷ (codes "UNSEEN", Unseen) ∷ []
+
 abbrev pub status_in : List ℕ → Option StatusAsk
-status_in word =
-    if is_word (codes "MESSAGES") word then Some Messages
-    else if is_word (codes "RECENT") word then Some Recent
-    else if is_word (codes "UIDNEXT") word then Some UidNext
-    else if is_word (codes "UIDVALIDITY") word then Some UidValidity
-    else if is_word (codes "UNSEEN") word then Some Unseen
-    else None
+status_in word = row_of status_items word
 
 abbrev pub status_of : Token → Option StatusAsk
 status_of token = option_and_then status_in (word_of token)

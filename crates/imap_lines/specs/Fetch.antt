@@ -10,22 +10,24 @@ use Rattle.imap_lines.specs.declared.fetch.Wanted.TheVariants.{Attribute, Behind
 use Rattle.imap_lines.specs.declared.fetch.Attributes.{Attributes}
 use Rattle.imap_lines.specs.declared.fetch.Begins.{Begins}
 use Rattle.imap_lines.specs.declared.fetch.Begins.TheVariants.{Whole as WholeAsk, Fields as FieldsAsk}
-use Rattle.imap_tokens.specs.Words.{is_word, after_word}
+use Rattle.imap_tokens.specs.Words.{is_word, row_of, after_word}
 use Rattle.imap_tokens.specs.Sets.{cut_at}
 use Rattle.imap_lines.specs.Asks.{field_in, part_in, tail_in}
 use Rattle.imap_tokens.specs.Tokens.{is_space, is_open, is_close, word_of, string_of}
 use Rattle.imap_tokens.specs.declared.tokens.Token.{Token}
 
+abbrev pub plain_asks : List (List ℕ × FetchAsk)
+plain_asks =
+    (codes "FLAGS", Flags)
+    ∷ (codes "UID", Uid)
+    ∷ (codes "INTERNALDATE", InternalDate)
+    ∷ (codes "RFC822.SIZE", Size)
+    ∷ (codes "RFC822", Rfc822)
+    ∷ (codes "RFC822.HEADER", Rfc822Header)
+    ∷ (codes "RFC822.TEXT", Rfc822Text) ∷ []
+
 abbrev pub plain_in : List ℕ → Option FetchAsk
-plain_in word =
-    if is_word (codes "FLAGS") word then Some Flags
-    else if is_word (codes "UID") word then Some Uid
-    else if is_word (codes "INTERNALDATE") word then Some InternalDate
-    else if is_word (codes "RFC822.SIZE") word then Some Size
-    else if is_word (codes "RFC822") word then Some Rfc822
-    else if is_word (codes "RFC822.HEADER") word then Some Rfc822Header
-    else if is_word (codes "RFC822.TEXT") word then Some Rfc822Text
-    else None
+plain_in word = row_of plain_asks word
 
 abbrev pub section_in : List ℕ → Option Section
 section_in word =

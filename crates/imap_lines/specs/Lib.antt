@@ -7,6 +7,8 @@ pub mod Verbs
 pub mod Messages
 pub mod Append
 pub mod What
+pub mod DateText
 pub mod Command
+pub mod Grammar
 pub mod Writing
 pub mod PlainCommands

@@ -8,21 +8,23 @@ use Rattle.imap_lines.specs.Fetch.{fetch_in}
 use Rattle.imap_tokens.specs.Flags.{no_flags, flags_in, bare_from}
 use Rattle.imap_tokens.specs.Sets.{set_in}
 use Rattle.imap_tokens.specs.Tokens.{is_open}
-use Rattle.imap_tokens.specs.Words.{is_word}
+use Rattle.imap_tokens.specs.Words.{row_of}
 use Rattle.imap_tokens.specs.declared.tokens.Token.{Token}
 use Rattle.imap_lines.specs.declared.command.ImapWhat.{ImapWhat}
 use Rattle.imap_lines.specs.declared.command.ImapWhat.TheVariants.{Fetch, Store, Copy}
 
 -- how flags change, and whether without an answer
+abbrev pub hows : List (List ℕ × (How × Bool))
+hows =
+    (codes "FLAGS", (Replace, false))
+    ∷ (codes "FLAGS.SILENT", (Replace, true))
+    ∷ (codes "+FLAGS", (Add, false))
+    ∷ (codes "+FLAGS.SILENT", (Add, true))
+    ∷ (codes "-FLAGS", (Take, false))
+    ∷ (codes "-FLAGS.SILENT", (Take, true)) ∷ []
+
 abbrev pub how_in : List ℕ → Option (How × Bool)
-how_in word =
-    if is_word (codes "FLAGS") word then Some (Replace, false)
-    else if is_word (codes "FLAGS.SILENT") word then Some (Replace, true)
-    else if is_word (codes "+FLAGS") word then Some (Add, false)
-    else if is_word (codes "+FLAGS.SILENT") word then Some (Add, true)
-    else if is_word (codes "-FLAGS") word then Some (Take, false)
-    else if is_word (codes "-FLAGS.SILENT") word then Some (Take, true)
-    else None
+how_in word = row_of hows word
 
 abbrev pub listed_flags : List Token → Option Flags
 listed_flags tokens = option_and_then (λ r. if length r.1 == 0 then Some r.0 else None) (flags_in tokens)

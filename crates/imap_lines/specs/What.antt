@@ -1,5 +1,5 @@
 -- What a command asks, by its verb and its arguments (RFC 3501, 6 and 9: command).
-use Rattle.std.specs.Prelude.{ℕ, Bool, true, false, ◌==◌, List, [], ◌∷◌, length, Option, None, Some, option_map, option_and_then, if◌then◌else◌}
+use Rattle.std.specs.Prelude.{ℕ, Bool, true, false, ◌==◌, List, [], length, Option, None, Some, option_map, option_and_then, if◌then◌else◌}
 use Rattle.imap_lines.specs.Append.{append_in}
 use Rattle.imap_lines.specs.Arguments.{last_string, two_strings, string_and_pattern, string_and_list}
 use Rattle.imap_lines.specs.Asks.{statuses_from}

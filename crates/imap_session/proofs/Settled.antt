@@ -16,7 +16,7 @@ use Rattle.imap_session.specs.declared.out.ImapOut.{ImapOut}
 use Rattle.imap_session.specs.declared.words.Word.{Word}
 use Rattle.imap_session.specs.Dialog.{AsksAsUser, IsNext, Took, done, follow, is_on, is_free, is_outcome, is_rest, settle_in, settle_pending, took, undone}
 use Rattle.imap_session.specs.Sound.{IsSound}
-use Rattle.imap_session.proofs.Turns.{view_in_order}
+use Rattle.imap_view.proofs.Mail.{view_in_order}
 
 -- what holds of what comes of an awaited answer
 pub record IsSettled (old : Dialog) (t : Took) : Type 0 where
@@ -107,11 +107,12 @@ settled_fine s stamps d (Outcome tag pending) outcome valid sound due user =
 pub fine_settled : (s : MailStore) (stamps : List (BoxId × ℕ)) (d : Dialog) (outcome : Result Item SubmitFault) → IsValid s → IsSound d → is_outcome d.awaits ≡ true → IsSettled d (settle_in s stamps d d.awaits outcome)
 fine_settled s stamps d outcome valid sound due = settled_fine s stamps d d.awaits outcome valid sound due (sound.awaits (waits_for_outcome d.awaits due))
 
--- ---- what holds of the dialog after a call: it is the one of the definition, or the one before
+-- ---- what holds of the dialog after a call: it is the one of the definition, or the one that want of memory leaves
 
-module _ {E : Type 0} (result : Result ImapOut E) (now : Took) (old new : Dialog) (ok : IfOk result (λ out. now ≡ took out new)) (err : OnErr result (new ≡ old)) where
-  pub dialog_after : (P : Dialog → Type 0) → P now.dialog → P old → P new
-  dialog_after P p q = elim result as (λ r. IfOk r (λ out. now ≡ took out new) → OnErr r (new ≡ old) → P new) [
+-- where it found no memory, it is the one that is left then
+module _ {E : Type 0} (result : Result ImapOut E) (now : Took) (left new : Dialog) (ok : IfOk result (λ out. now ≡ took out new)) (err : OnErr result (new ≡ left)) where
+  pub dialog_after : (P : Dialog → Type 0) → P now.dialog → P left → P new
+  dialog_after P p q = elim result as (λ r. IfOk r (λ out. now ≡ took out new) → OnErr r (new ≡ left) → P new) [
     | Ok out ↦ λ is same. subst (λ (t : Took). P t.dialog) is p
     | Err e ↦ λ is same. subst P (sym same) q
   ] ok err

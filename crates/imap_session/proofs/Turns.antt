@@ -1,5 +1,5 @@
 -- What comes of a command keeps what holds of each dialog, and says which call is due.
-use Rattle.std.proofs.Common.{◌≡◌, ℕ, Bool, true, false, cond, nat_lt, List, [], ◌∷◌, length, refl, Option, None, Some, is_some, map}
+use Rattle.std.proofs.Common.{◌≡◌, ℕ, Bool, true, false, cond, nat_lt, List, [], ◌∷◌, length, refl, Option, None, Some, is_some, sym, true≢false}
 use Rattle.undo_base.specs.declared.asks.StatusAsk.{StatusAsk}
 use Rattle.undo_base.specs.declared.keys.Flags.{Flags}
 use Rattle.undo_base.specs.declared.keys.User.{User}
@@ -13,9 +13,8 @@ use Rattle.verb_core.specs.declared.ask.Ask.{Ask}
 use Rattle.verb_core.specs.declared.ask.Ask.TheVariants as ask
 use Rattle.verb_core.specs.declared.conf.House.{House}
 use Rattle.verb_core.specs.declared.mailbox.Body.{Body}
-use Rattle.verb_core.specs.declared.mailbox.Entry.{Entry}
 use Rattle.verb_core.specs.Boxes.{box_of}
-use Rattle.verb_core.specs.Live.{asker, is_users, mail_of}
+use Rattle.verb_core.specs.Live.{asker, is_users}
 use Rattle.verb_core.specs.Store.{MailStore, IsValid}
 use Rattle.imap_session.specs.declared.dialog.Dialog.{Dialog}
 use Rattle.imap_session.specs.declared.dialog.Fetching.{Fetching}
@@ -26,15 +25,13 @@ use Rattle.imap_session.specs.declared.out.ImapOut.TheVariants.{Say}
 use Rattle.imap_session.specs.declared.words.Answer.TheVariants.{ReadOnly}
 use Rattle.imap_session.specs.declared.words.Word.{Word}
 use Rattle.imap_session.specs.declared.words.Word.TheVariants as word
-use Rattle.imap_session.specs.Names.{mailbox_of}
-use Rattle.imap_session.specs.Views.{is_in_order, rises_above, uids_of, view_of}
-use Rattle.imap_session.specs.Fetching.{bodies_of, places_named}
-use Rattle.imap_session.specs.Dialog.{AsksAsUser, IsNext, ReadsOf, Took, append, asks, begin_fetch, check, close, copy, copy_places, create, delete, enter, expunge, fetch, fetch_in, fetch_places, fetching, follow, holds_all, is_at_home, is_free, list, login, logout, obey, rename, says, select, status, store, store_places, subscribe, took}
+use Rattle.imap_view.specs.Names.{mailbox_of}
+use Rattle.imap_session.specs.Fetching.{bodies_of}
+use Rattle.imap_view.specs.Named.{places_named}
+use Rattle.imap_session.specs.Dialog.{AsksAsUser, IsNext, ReadsOf, Took, append, asks, begin_fetch, check, close, copy, copy_places, create, delete, enter, expunge, fetch, fetch_in, fetch_places, fetching, follow, holds_all, is_at_home, is_free, list, login, logout, obey, rename, says, select, status, store, store_places, subscribe, took, unselected, without_memory}
 use Rattle.imap_session.specs.Sound.{IsSound}
-use Rattle.std.specs.Cmp.{first_so, second_so}
-use Rattle.verb_core.proofs.Validity.{both}
 use Rattle.std.specs.List.{list_all}
-use Rattle.imap_session.proofs.Mail.{mail_by_uid}
+use Rattle.imap_view.proofs.Mail.{view_in_order}
 use Rattle.imap_session.proofs.Wanted.{bodies_are}
 
 -- what holds of what comes of a command
@@ -44,14 +41,6 @@ pub record IsFine (house : House) (s : MailStore) (old : Dialog) (t : Took) : Ty
   pub user : AsksAsUser t.out t.dialog
   pub reads : ReadsOf s t.out
   pub home : is_at_home house old ≡ true → is_at_home house t.dialog ≡ true
-
--- a view of what lies by rising UID is in order
-view_rises : (low : ℕ) (entries : List Entry) → rises_above low (map (λ (e : Entry). e.uid) entries) ≡ true → rises_above low (uids_of (view_of entries)) ≡ true
-view_rises low [] h = refl
-view_rises low (e ∷ entries) h = both _ _ (first_so _ _ h) (view_rises e.uid entries (second_so _ _ h))
-
-pub view_in_order : (s : MailStore) (by : Option User) (name : List ℕ) → IsValid s → is_in_order (view_of (mail_of s by name)) ≡ true
-view_in_order s by name valid = view_rises 0 (mail_of s by name) (mail_by_uid s.house (box_of (asker by) name) s.boxes valid.rows)
 
 module _ (house : House) (s : MailStore) (d : Dialog) (sound : IsSound d) (free : is_free d ≡ true) where
   fine_say : (text : List ℕ) → IsFine house s d (took (Say text) d)
@@ -199,13 +188,13 @@ module _ (house : House) (s : MailStore) (d : Dialog) (sound : IsSound d) (free 
   fine_close tag (Some selected) user = fine_asks _ tag _ refl (user refl)
 
   fine_copy_places : (tag : List ℕ) (selected : Selected) (target : Option (List ℕ)) (by_uid : Bool) (places : Option (List ℕ)) → is_some d.user ≡ true
-      → IsFine house s d (copy_places tag d selected target by_uid places)
+      → IsFine house s d (copy_places s tag d selected target by_uid places)
   fine_copy_places tag selected target by_uid None user = fine_say _
   fine_copy_places tag selected None by_uid (Some places) user = fine_say _
   fine_copy_places tag selected (Some target) by_uid (Some places) user = fine_asks _ tag _ refl user
 
   fine_copy : (tag : List ℕ) (selected : Option Selected) (set : List SetRange) (target : Option (List ℕ)) (by_uid : Bool) → (is_some selected ≡ true → is_some d.user ≡ true)
-      → IsFine house s d (copy tag d selected set target by_uid)
+      → IsFine house s d (copy s tag d selected set target by_uid)
   fine_copy tag None set target by_uid user = fine_say _
   fine_copy tag (Some selected) set target by_uid user = fine_copy_places tag selected target by_uid (places_named selected.view set by_uid) (user refl)
 
@@ -242,3 +231,42 @@ check_is house s sizes tag d asked t e h = rw e h
 pub noop_is : (house : House) (s : MailStore) (sizes : Body → Option ℕ) (tag : List ℕ) (d : Dialog) (asked : ImapWhat) (t : Took) → asked ≡ what.Noop
     → follow s tag word.Noop d d.selected ≡ t → obey house s sizes tag d asked ≡ t
 noop_is house s sizes tag d asked t e h = rw e h
+
+-- what want of memory leaves is as sound as it was, and at home
+unselected_sound : (d : Dialog) → IsSound d → IsSound (unselected d)
+unselected_sound d sound = record { view = tt; selected = λ h. absurd (true≢false (sym h)); awaits = sound.awaits }
+
+pub record IsLeft (house : House) (old left : Dialog) : Type 0 where
+  pub sound : IsSound left
+  pub home : is_at_home house old ≡ true → is_at_home house left ≡ true
+  pub free : is_free left ≡ is_free old
+
+left_as_it_was : (house : House) (d : Dialog) → IsSound d → IsLeft house d d
+left_as_it_was house d sound = record { sound = sound; home = λ h. h; free = refl }
+
+left_unselected : (house : House) (d : Dialog) → IsSound d → IsLeft house d (unselected d)
+left_unselected house d sound = record { sound = unselected_sound d sound; home = λ h. h; free = refl }
+
+pub fine_left : (house : House) (d : Dialog) (asked : ImapWhat) → IsSound d → IsLeft house d (without_memory asked d)
+fine_left house d what.Capability sound = left_as_it_was house d sound
+fine_left house d what.Noop sound = left_as_it_was house d sound
+fine_left house d what.Logout sound = left_as_it_was house d sound
+fine_left house d (what.Login user password) sound = left_as_it_was house d sound
+fine_left house d (what.Select mailbox) sound = left_unselected house d sound
+fine_left house d (what.Examine mailbox) sound = left_unselected house d sound
+fine_left house d (what.Create mailbox) sound = left_as_it_was house d sound
+fine_left house d (what.Delete mailbox) sound = left_as_it_was house d sound
+fine_left house d (what.Rename mailbox target) sound = left_as_it_was house d sound
+fine_left house d (what.Subscribe mailbox) sound = left_as_it_was house d sound
+fine_left house d (what.Unsubscribe mailbox) sound = left_as_it_was house d sound
+fine_left house d (what.List reference pattern) sound = left_as_it_was house d sound
+fine_left house d (what.Lsub reference pattern) sound = left_as_it_was house d sound
+fine_left house d (what.Status mailbox asked) sound = left_as_it_was house d sound
+fine_left house d (what.Append mailbox flags moment text) sound = left_as_it_was house d sound
+fine_left house d what.Check sound = left_as_it_was house d sound
+fine_left house d what.Close sound = left_as_it_was house d sound
+fine_left house d what.Expunge sound = left_as_it_was house d sound
+fine_left house d (what.Fetch set asked by_uid) sound = left_as_it_was house d sound
+fine_left house d (what.Store set how silent flags by_uid) sound = left_as_it_was house d sound
+fine_left house d (what.Copy set target by_uid) sound = left_as_it_was house d sound
+fine_left house d what.Authenticate sound = left_as_it_was house d sound

@@ -13,10 +13,11 @@ use Rattle.verb_core.proofs.Validity.{both}
 use Rattle.imap_fetch.specs.declared.messages.Message.{Message}
 use Rattle.imap_fetch.specs.Asked.{body_sections}
 use Rattle.imap_session.specs.declared.dialog.Fetching.{Fetching}
-use Rattle.imap_session.specs.declared.view.Known.{Known}
+use Rattle.imap_view.specs.declared.messages.Known.{Known}
 use Rattle.imap_session.specs.Dialog.{holds_all}
-use Rattle.imap_session.specs.Fetching.{bodies_of, is_vain, rows_at}
-use Rattle.imap_session.specs.Views.{entry_of, is_message}
+use Rattle.imap_session.specs.Fetching.{bodies_of, is_vain}
+use Rattle.imap_view.specs.Named.{rows_at}
+use Rattle.imap_view.specs.Views.{entry_of, is_message}
 
 -- what is found is one of all
 found_is : {X : Type 0} → (p q : X → Bool) (xs : List X) → list_all p xs ≡ true → list_all p (cons_option (find q xs) []) ≡ true

@@ -13,7 +13,6 @@ use Rattle.imap_lines.specs.declared.command.ImapWhat.{ImapWhat}
 use Rattle.imap_lines.specs.declared.command.ImapWhat.TheVariants as what
 use Rattle.imap_lines.specs.Command.{Reading, command_of}
 use Rattle.imap_stream.specs.declared.picks.SetRange.{SetRange}
-use Rattle.imap_text.specs.declared.facts.BoxFacts.{BoxFacts}
 use Rattle.imap_text.specs.Answers.{list_lines, select_lines, status_line}
 use Rattle.imap_fetch.specs.declared.asked.Attribute.{Attribute}
 use Rattle.imap_fetch.specs.declared.lines.StoreForm.{StoreForm}
@@ -33,9 +32,9 @@ use Rattle.verb_core.specs.declared.mailbox.Body.{Body}
 use Rattle.verb_core.specs.declared.mailbox.BoxId.{BoxId}
 use Rattle.verb_core.specs.declared.mailbox.Entry.{Entry}
 use Rattle.verb_core.specs.declared.mailbox.Mailbox.{Mailbox}
-use Rattle.verb_core.specs.Boxes.{box_of, next_at, row_at, same_user}
+use Rattle.verb_core.specs.Boxes.{same_user}
 use Rattle.verb_core.specs.Names.{inbox, is_fixed, is_new_name}
-use Rattle.verb_core.specs.Live.{asker, is_users, mail_of}
+use Rattle.verb_core.specs.Live.{is_users, mail_of}
 use Rattle.verb_core.specs.Store.{MailStore, is_known}
 use Rattle.imap_session.specs.declared.dialog.Awaits.{Awaits}
 use Rattle.imap_session.specs.declared.dialog.Awaits.TheVariants.{Nothing, Texts, Outcome}
@@ -47,13 +46,15 @@ use Rattle.imap_session.specs.declared.dialog.Selected.{Selected}
 use Rattle.imap_session.specs.declared.out.ImapOut.{ImapOut}
 use Rattle.imap_session.specs.declared.out.ImapOut.TheVariants.{Say, Read, Submit, Bye}
 use Rattle.imap_session.specs.declared.words.Answer.{Answer}
-use Rattle.imap_session.specs.declared.words.Answer.TheVariants.{Done, Opened, BadArguments, NotOffered, WrongState, LoginFailed, ReadOnly, BadNumber, Refused, DiskFault}
+use Rattle.imap_session.specs.declared.words.Answer.TheVariants.{Done, Opened, NotOffered, WrongState, LoginFailed, ReadOnly, BadNumber, Refused, DiskFault}
 use Rattle.imap_session.specs.declared.words.Word.{Word}
 use Rattle.imap_session.specs.declared.words.Word.TheVariants as word
 use Rattle.imap_session.specs.Words.{bye_text, capability_text, copy_word, fault_text, fetch_word, list_word, no_names_text, store_word, tagged, unread_text, word_text}
-use Rattle.imap_session.specs.Names.{account_of, mailbox_of}
-use Rattle.imap_session.specs.Views.{facts_of, news, view_of}
-use Rattle.imap_session.specs.Fetching.{ask_of, bodies_of, keys_at, places_named, rows_at}
+use Rattle.imap_view.specs.Names.{account_of, mailbox_of}
+use Rattle.imap_view.specs.Views.{news, view_of}
+use Rattle.imap_view.specs.Named.{keys_at, places_named, rows_at}
+use Rattle.imap_view.specs.Facts.{facts_at, is_there}
+use Rattle.imap_session.specs.Fetching.{ask_of, bodies_of}
 
 -- what comes of a command, and the dialog after it
 pub record Took : Type 0 where
@@ -237,16 +238,20 @@ store s sizes tag d (Some selected) form silent set =
     if selected.writes then store_places s sizes tag d selected form silent (places_named selected.view set form.by_uid)
     else says tag ReadOnly d
 
-abbrev pub copy_places : List ℕ → Dialog → Selected → Option (List ℕ) → Bool → Option (List ℕ) → Took
-copy_places tag d selected target by_uid None = says tag BadNumber d
-copy_places tag d selected None by_uid (Some places) = says tag (Refused TryCreate) d
-copy_places tag d selected (Some target) by_uid (Some places) =
+-- why a COPY to what names no mailbox is refused: whether the selected mailbox is there is looked for first
+abbrev pub no_target : MailStore → Option User → List ℕ → Refusal
+no_target s by mailbox = if is_there s by mailbox then TryCreate else NoBox
+
+abbrev pub copy_places : MailStore → List ℕ → Dialog → Selected → Option (List ℕ) → Bool → Option (List ℕ) → Took
+copy_places s tag d selected target by_uid None = says tag BadNumber d
+copy_places s tag d selected None by_uid (Some places) = says tag (Refused (no_target s d.user selected.mailbox)) d
+copy_places s tag d selected (Some target) by_uid (Some places) =
     asks (ask.Copy selected.mailbox (keys_at selected.view places) target (not by_uid)) tag (on.Follow (copy_word by_uid)) d
 
 -- COPY and UID COPY (RFC 3501, 6.4.7 and 6.4.8)
-abbrev pub copy : List ℕ → Dialog → Option Selected → List SetRange → Option (List ℕ) → Bool → Took
-copy tag d None set target by_uid = says tag WrongState d
-copy tag d (Some selected) set target by_uid = copy_places tag d selected target by_uid (places_named selected.view set by_uid)
+abbrev pub copy : MailStore → List ℕ → Dialog → Option Selected → List SetRange → Option (List ℕ) → Bool → Took
+copy s tag d None set target by_uid = says tag WrongState d
+copy s tag d (Some selected) set target by_uid = copy_places s tag d selected target by_uid (places_named selected.view set by_uid)
 
 -- ---- one command
 
@@ -272,8 +277,34 @@ obey house s sizes tag d what.Expunge = expunge tag d d.selected
 obey house s sizes tag d (what.Fetch set asked by_uid) = fetch s sizes tag d (attributes_of asked) set by_uid
 obey house s sizes tag d (what.Store set how silent flags by_uid) =
     store s sizes tag d d.selected (record { how = how; flags = flags; by_uid = by_uid }) silent set
-obey house s sizes tag d (what.Copy set target by_uid) = copy tag d d.selected set (mailbox_of target) by_uid
+obey house s sizes tag d (what.Copy set target by_uid) = copy s tag d d.selected set (mailbox_of target) by_uid
 obey house s sizes tag d what.Authenticate = says tag NotOffered d
+
+-- what a command leaves that found no memory: a SELECT or EXAMINE leaves no mailbox selected, as one that is refused does, so that a
+-- command behind it is not taken to be of the mailbox before (RFC 3501, 6.3.1); any other leaves all as it was
+abbrev pub without_memory : ImapWhat → Dialog → Dialog
+without_memory what.Capability d = d
+without_memory what.Noop d = d
+without_memory what.Logout d = d
+without_memory (what.Login user password) d = d
+without_memory (what.Select mailbox) d = unselected d
+without_memory (what.Examine mailbox) d = unselected d
+without_memory (what.Create mailbox) d = d
+without_memory (what.Delete mailbox) d = d
+without_memory (what.Rename mailbox target) d = d
+without_memory (what.Subscribe mailbox) d = d
+without_memory (what.Unsubscribe mailbox) d = d
+without_memory (what.List reference pattern) d = d
+without_memory (what.Lsub reference pattern) d = d
+without_memory (what.Status mailbox asked) d = d
+without_memory (what.Append mailbox flags moment text) d = d
+without_memory what.Check d = d
+without_memory what.Close d = d
+without_memory what.Expunge d = d
+without_memory (what.Fetch set asked by_uid) d = d
+without_memory (what.Store set how silent flags by_uid) d = d
+without_memory (what.Copy set target by_uid) d = d
+without_memory what.Authenticate d = d
 
 -- one command; `sizes` has the lengths of texts
 abbrev pub turn : House → MailStore → (Body → Option ℕ) → Dialog → ImapCommand → Took
@@ -303,14 +334,6 @@ heard_in d (Outcome tag pending) texts = took (Say []) d
 -- the texts that a FETCH needs, in order, or why they can't be had
 abbrev pub heard : Dialog → Result (List (List ℕ)) ReadFault → Took
 heard d texts = heard_in d d.awaits texts
-
--- the UIDVALIDITY of a mailbox
-abbrev pub stamp_of : List (BoxId × ℕ) → Option User → List ℕ → ℕ
-stamp_of stamps by name = unwrap_or (row_at (box_of (asker by) name) stamps) 0
-
--- what a user's mailbox tells of itself
-abbrev pub facts_at : MailStore → List (BoxId × ℕ) → Option User → List ℕ → BoxFacts
-facts_at s stamps by name = facts_of (mail_of s by name) (next_at (box_of (asker by) name) s.boxes) (stamp_of stamps by name)
 
 -- a mailbox is selected, and tells of itself
 abbrev pub selects : MailStore → List (BoxId × ℕ) → List ℕ → Dialog → List ℕ → Bool → Took

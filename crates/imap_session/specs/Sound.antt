@@ -1,7 +1,7 @@
 -- What holds of each dialog that is ever reached.
 use Rattle.std.specs.Prelude.{◌≡◌, true, false, is_some, IfSome}
 use Rattle.imap_session.specs.declared.dialog.Dialog.{Dialog}
-use Rattle.imap_session.specs.Views.{is_in_order}
+use Rattle.imap_view.specs.Views.{is_in_order}
 use Rattle.imap_session.specs.Dialog.{is_free}
 
 -- a mailbox is selected, and something awaited, for a user alone

@@ -1,5 +1,5 @@
 -- What a client is told besides untagged data (RFC 3501, 7.1).
-use Rattle.std.specs.Prelude.{ℕ, Bool, List, [], ◌∷◌, ◌++◌, codes, decimal, Option, None, Some, if◌then◌else◌}
+use Rattle.std.specs.Prelude.{ℕ, Bool, List, [], ◌∷◌, ◌++◌, codes, Option, None, Some, if◌then◌else◌}
 use Rattle.verb_core.specs.declared.ask.Refused.{Refused}
 use Rattle.verb_core.specs.declared.ask.Refused.TheVariants as refused
 use Rattle.verb_core.specs.declared.conf.House.{House}
@@ -121,10 +121,6 @@ changed_text = said (codes "* BYE Mailbox changed.")
 abbrev pub rewound_text : List ℕ
 rewound_text = said (codes "* BYE The store was rewound.")
 
--- how many messages there are (RFC 3501, 7.3.1)
-abbrev pub exists_text : ℕ → List ℕ
-exists_text count = said (codes "* " ++ decimal count ++ codes " EXISTS")
-
 abbrev pub fault_answer : LineFault → List ℕ
 fault_answer fault.Long = codes "BAD Line too long."
 fault_answer (fault.Literal asked) = codes "NO Too large."
@@ -139,9 +135,9 @@ tag_or_star (Some tag) = tag
 abbrev pub bad_line_text : BadLine → List ℕ
 bad_line_text line = said (tag_or_star line.tag ++ codes " " ++ fault_answer line.why)
 
--- the answer to lines that are no command
+-- the answer to lines that are no command; where no memory was found for reading them nothing can be said
 abbrev pub unread_text : ImapRefused → List ℕ
 unread_text unread.NoTag = said (codes "* BAD No tag.")
 unread_text (unread.Unknown tag) = tagged tag UnknownCommand
 unread_text (unread.Argument tag) = tagged tag BadArguments
-unread_text unread.NoMemory = said (codes "* NO No memory.")
+unread_text unread.NoMemory = []

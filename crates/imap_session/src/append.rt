@@ -2,20 +2,19 @@
 ghost use Rattle.std.specs.Prelude.{◌≡◌, true, not, IfOk, OnErr, IfSome};
 ghost use Rattle.verb_core.specs.Store.{IsValid};
 ghost use Rattle.imap_session.specs.declared.dialog.Awaits.{Awaits as TheAwaits};
-ghost use Rattle.imap_session.specs.Names.{mailbox_of as mailbox_named};
-ghost use Rattle.imap_session.specs.Views.{is_in_order};
+ghost use Rattle.imap_view.specs.Names.{mailbox_of as mailbox_named};
+ghost use Rattle.imap_view.specs.Views.{is_in_order};
 ghost use Rattle.imap_session.specs.Words as words;
 ghost use Rattle.imap_session.specs.Dialog.{took};
 ghost use Rattle.imap_session.specs.Dialog as spec;
 
 use crate::commands::{follow_view, say, submit};
 use crate::dialog::{Dialog, Pending, Selected};
-use crate::named::{keys_at, places_named};
-use crate::names::mailbox_of;
 use crate::out::ImapOut;
 use crate::words::{Answer, Word, copy_word};
 use box_store::Store;
 use imap_lines::SetText;
+use imap_view::{is_there, keys_at, mailbox_of, places_named};
 use std::alloc::Global;
 use undo_base::{Flags, Keys, Name, NoMemory, Text, User};
 use verb_core::{Ask, Refused};
@@ -129,9 +128,21 @@ fn submit_copy(
     Ok(submit(dialog, tag, asked, pending))
 }
 
+/// Why a COPY to what names no mailbox is refused.
+fn no_target(store: &Store, user: Option<User>, mailbox: &Name) -> Refused
+    ensures { result ≡ spec.no_target store.now.store user mailbox.now }
+{
+    if is_there(store, user, mailbox) {
+        Refused::TryCreate
+    } else {
+        Refused::NoBox
+    }
+}
+
 /// COPY and UID COPY.
 pub(crate) fn copy(
     alloc: Global,
+    store: &Store,
     dialog: &mut Dialog,
     tag: &Name,
     set: &SetText,
@@ -139,7 +150,7 @@ pub(crate) fn copy(
     by_uid: bool,
 ) -> Result<ImapOut, NoMemory>
     requires { IfSome dialog.old.selected (λ s. is_in_order s.view ≡ true) }
-    ensures ok { IfOk result (λ out. spec.copy tag.now dialog.old dialog.old.selected set.now (mailbox_named target.now) by_uid ≡ took out dialog.new) }
+    ensures ok { IfOk result (λ out. spec.copy store.now.store tag.now dialog.old dialog.old.selected set.now (mailbox_named target.now) by_uid ≡ took out dialog.new) }
     ensures err { OnErr result (dialog.new ≡ dialog.old) }
 {
     let Some(selected) = &dialog.selected else {
@@ -149,7 +160,8 @@ pub(crate) fn copy(
         return say(alloc, tag, Answer::BadNumber);
     };
     let Some(target) = mailbox_of(alloc, target)? else {
-        return say(alloc, tag, Answer::Refused(Refused::TryCreate));
+        let why = no_target(store, dialog.user, &selected.mailbox);
+        return say(alloc, tag, Answer::Refused(why));
     };
     let keys = keys_at(alloc, &selected.view, &places)?;
     let mailbox = selected.mailbox.copy(alloc)?;

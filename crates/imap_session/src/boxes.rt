@@ -1,18 +1,17 @@
 //! CREATE, DELETE, RENAME, SUBSCRIBE and UNSUBSCRIBE (RFC 3501, sections 6.3.3 to 6.3.7).
-ghost use Rattle.std.specs.Prelude.{◌≡◌, ◌||◌, ◌==◌, not, IfOk, OnErr};
-ghost use Rattle.verb_core.specs.Names.{is_fixed as is_fixed_name, is_new_name as is_new, is_wildcard};
-ghost use Rattle.imap_session.specs.Names.{mailbox_of as mailbox_named};
+ghost use Rattle.std.specs.Prelude.{◌≡◌, IfOk, OnErr};
+ghost use Rattle.imap_view.specs.Names.{mailbox_of as mailbox_named};
 ghost use Rattle.imap_session.specs.Dialog.{took};
 ghost use Rattle.imap_session.specs.Dialog as spec;
 
 use crate::commands::{say, submit};
 use crate::dialog::{Dialog, Pending};
-use crate::names::mailbox_of;
 use crate::out::ImapOut;
 use crate::words::{Answer, Word};
+use imap_view::mailbox_of;
 use std::alloc::Global;
 use undo_base::{Name, NoMemory, Text};
-use verb_core::{Ask, Refused};
+use verb_core::{Ask, Refused, is_fixed, is_new_name};
 
 fn create_named(
     alloc: Global,
@@ -82,24 +81,6 @@ pub(crate) fn delete(
             Some(mailbox) => delete_named(alloc, dialog, tag, mailbox),
         },
     }
-}
-
-fn is_plain(byte: u8) -> bool
-    ensures { result ≡ not (is_wildcard byte || byte == 47) }
-{
-    byte != b'*' && byte != b'%' && byte != b'/'
-}
-
-fn is_new_name(name: &[u8]) -> bool
-    ensures { result ≡ is_new name.now }
-{
-    name.iter().all(|byte| is_plain(*byte))
-}
-
-fn is_fixed(name: &[u8]) -> bool
-    ensures { result ≡ is_fixed_name name.now }
-{
-    name == b"INBOX".as_slice() || name == b"Lost+Found".as_slice()
 }
 
 /// Why a mailbox that is not there can't get a name.

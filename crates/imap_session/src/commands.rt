@@ -4,19 +4,17 @@ ghost use Rattle.verb_core.specs.Live.{mail_of as mail_in};
 ghost use Rattle.verb_core.specs.Store.{is_house, IsValid};
 ghost use Rattle.imap_session.specs.declared.dialog.Awaits.{Awaits as TheAwaits};
 ghost use Rattle.verb_core.specs.declared.ask.Refused.TheVariants.{NoBox};
-ghost use Rattle.imap_session.specs.Names.{mailbox_of as mailbox_named};
-ghost use Rattle.imap_session.specs.Views as views;
+ghost use Rattle.imap_view.specs.Names.{mailbox_of as mailbox_named};
+ghost use Rattle.imap_view.specs.Views as views;
 ghost use Rattle.imap_session.specs.Words as words;
 ghost use Rattle.imap_session.specs.Dialog.{took};
 ghost use Rattle.imap_session.specs.Dialog as spec;
 
 use crate::dialog::{Awaits, Dialog, Pending, Selected};
-use crate::facts::mail_of;
-use crate::names::{account_of, mailbox_of};
 use crate::out::ImapOut;
-use crate::view::{news, view_of};
 use crate::words::{Answer, Word, push_tagged, tagged};
 use box_store::Store;
+use imap_view::{account_of, is_current, mail_of, mailbox_of, news, view_of};
 use std::alloc::Global;
 use undo_base::{Name, NoMemory, Text, User};
 use verb_core::{Ask, House, Refused};
@@ -51,6 +49,9 @@ pub(crate) fn follow_view(
     ensures err { OnErr result (selected.new ≡ selected.old) }
 {
     let entries = mail_of(store, user, &selected.mailbox);
+    if is_current(entries, &selected.view) {
+        return say(alloc, tag, Answer::Done(word));
+    }
     let text = news(alloc, entries, &selected.view)?;
     let view = view_of(alloc, entries)?;
     let out = tell(text, tag, Answer::Done(word))?;
@@ -162,8 +163,7 @@ fn select_named(
     Ok(ImapOut::Submit(Ask::Select { mailbox }))
 }
 
-/// SELECT and EXAMINE.
-pub(crate) fn select(
+fn begin_select(
     alloc: Global,
     dialog: &mut Dialog,
     tag: &Name,
@@ -179,6 +179,26 @@ pub(crate) fn select(
             None => select_none(alloc, dialog, tag),
             Some(mailbox) => select_named(alloc, dialog, tag, mailbox, writes),
         },
+    }
+}
+
+/// SELECT and EXAMINE. Where no memory is found for it, no mailbox is selected any more.
+pub(crate) fn select(
+    alloc: Global,
+    dialog: &mut Dialog,
+    tag: &Name,
+    mailbox: &Text,
+    writes: bool,
+) -> Result<ImapOut, NoMemory>
+    ensures ok { IfOk result (λ out. spec.select tag.now dialog.old dialog.old.user (mailbox_named mailbox.now) writes ≡ took out dialog.new) }
+    ensures err { OnErr result (dialog.new ≡ spec.unselected dialog.old) }
+{
+    match begin_select(alloc, dialog, tag, mailbox, writes) {
+        Ok(out) => Ok(out),
+        Err(NoMemory) => {
+            dialog.selected = None;
+            Err(NoMemory)
+        }
     }
 }
 

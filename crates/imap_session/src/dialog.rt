@@ -1,7 +1,7 @@
 //! The state of a dialog.
-use crate::view::View;
 use crate::words::Word;
 use imap_fetch::{FetchForm, Messages, StoreForm};
+use imap_view::View;
 use undo_base::{Keys, Name, StatusAsks, Texts, User};
 
 /// The selected mailbox, what is known of it, and whether it can be changed.

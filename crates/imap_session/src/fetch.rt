@@ -3,15 +3,13 @@ ghost use Rattle.std.specs.Prelude.{◌≡◌, map, true, IfOk, OnErr, IfSome, O
 ghost use Rattle.shelf.specs.Notes.{size_of};
 ghost use Rattle.verb_core.specs.Store.{IsValid};
 ghost use Rattle.imap_fetch.specs.Asked.{attributes_of as attributes_in};
-ghost use Rattle.imap_session.specs.Views.{is_in_order};
+ghost use Rattle.imap_view.specs.Views.{is_in_order};
 ghost use Rattle.imap_session.specs.Fetching as fetching_spec;
 ghost use Rattle.imap_session.specs.Dialog.{took};
 ghost use Rattle.imap_session.specs.Dialog as spec;
 
 use crate::commands::say;
 use crate::dialog::{Awaits, Dialog, Fetching, Pending, Selected};
-use crate::facts::mail_of;
-use crate::named::{keys_at, places_named, rows_at};
 use crate::out::{Bodies0, ImapOut};
 use crate::words::Answer;
 use box_store::Store;
@@ -20,6 +18,7 @@ use imap_fetch::{
     shows_body,
 };
 use imap_lines::{FetchAsks, SetText};
+use imap_view::{keys_at, mail_of, places_named, rows_at};
 use seal_log::ReadFault;
 use shelf::Shelf;
 use std::alloc::{AllocError, Global};

@@ -2,19 +2,18 @@
 ghost use Rattle.std.specs.Prelude.{◌≡◌, not, true, IfOk, OnErr, IfSome};
 ghost use Rattle.shelf.specs.Notes.{size_of};
 ghost use Rattle.verb_core.specs.Store.{IsValid};
-ghost use Rattle.imap_session.specs.Views.{is_in_order};
+ghost use Rattle.imap_view.specs.Views.{is_in_order};
 ghost use Rattle.imap_session.specs.Dialog.{took};
 ghost use Rattle.imap_session.specs.Dialog as spec;
 
 use crate::commands::say;
 use crate::dialog::{Awaits, Dialog, Pending};
-use crate::facts::mail_of;
-use crate::named::{keys_at, places_named, rows_at};
 use crate::out::ImapOut;
 use crate::words::Answer;
 use box_store::Store;
 use imap_fetch::{Messages, StoreForm};
 use imap_lines::SetText;
+use imap_view::{keys_at, mail_of, places_named, rows_at};
 use shelf::Shelf;
 use std::alloc::Global;
 use undo_base::{Keys, Name, NoMemory};

@@ -49,7 +49,7 @@ pub fn bad_line(alloc: Global, line: &BadLine) -> Result<Text, NoMemory>
     Ok(text)
 }
 
-/// The answer to lines that are no command.
+/// The answer to lines that are no command: nothing, where no memory was found for reading them.
 pub fn refused(alloc: Global, why: &ImapRefused) -> Result<Text, NoMemory>
     ensures { IfOk result (λ text. text ≡ spec.unread_text why.now) }
 {
@@ -57,7 +57,7 @@ pub fn refused(alloc: Global, why: &ImapRefused) -> Result<Text, NoMemory>
         ImapRefused::NoTag => Text::of(alloc, b"* BAD No tag.\r\n"),
         ImapRefused::Unknown { tag } => tagged(alloc, tag, Answer::UnknownCommand),
         ImapRefused::Argument { tag } => tagged(alloc, tag, Answer::BadArguments),
-        ImapRefused::NoMemory => Text::of(alloc, b"* NO No memory.\r\n"),
+        ImapRefused::NoMemory => Ok(Text::new(alloc)),
     }
 }
 

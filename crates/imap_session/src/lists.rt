@@ -2,19 +2,19 @@
 ghost use Rattle.std.specs.Prelude.{◌≡◌, ◌++◌, [], IfOk, OnErr};
 ghost use Rattle.verb_core.specs.Store.{IsValid};
 ghost use Rattle.imap_text.specs.Answers.{list_lines, status_line};
-ghost use Rattle.imap_session.specs.Names.{mailbox_of as mailbox_named};
+ghost use Rattle.imap_view.specs.Names.{mailbox_of as mailbox_named};
+ghost use Rattle.imap_view.specs.Facts.{facts_at};
 ghost use Rattle.imap_session.specs.Words as words;
 ghost use Rattle.imap_session.specs.Dialog.{took};
 ghost use Rattle.imap_session.specs.Dialog as spec;
 
 use crate::commands::{say, submit, tell};
 use crate::dialog::{Dialog, Pending};
-use crate::facts::facts_of;
-use crate::names::mailbox_of;
 use crate::out::ImapOut;
 use crate::words::{Answer, Word, list_word, word_text};
 use box_store::Store;
 use imap_text::{render_list, render_status};
+use imap_view::{facts_of, mailbox_of};
 use std::alloc::Global;
 use undo_base::{Name, Names, NoMemory, StatusAsks, Text, User};
 use verb_core::{Ask, Refused, Shown, Stamps};
@@ -171,7 +171,7 @@ pub(crate) fn counted(
     asked: &StatusAsks,
 ) -> Result<ImapOut, NoMemory>
     requires { IsValid store.now.store }
-    ensures { IfOk result (λ out. out ≡ ImapOut.Say (status_line mailbox.now asked.now (spec.facts_at store.now.store stamps.now user mailbox.now) ++ words.tagged tag.now (Answer.Done Word.Status))) }
+    ensures { IfOk result (λ out. out ≡ ImapOut.Say (status_line mailbox.now asked.now (facts_at store.now.store stamps.now user mailbox.now) ++ words.tagged tag.now (Answer.Done Word.Status))) }
 {
     let facts = facts_of(store, stamps, user, mailbox)?;
     let text = render_status(alloc, mailbox, asked, &facts)?;

@@ -2,7 +2,7 @@
 ghost use Rattle.std.specs.Prelude.{◌≡◌, true, IsTrue, IfOk, OnErr, IfSome};
 ghost use Rattle.shelf.specs.Notes.{size_of};
 ghost use Rattle.verb_core.specs.Store.{is_house, IsValid};
-ghost use Rattle.imap_session.specs.Views.{is_in_order};
+ghost use Rattle.imap_view.specs.Views.{is_in_order};
 ghost use Rattle.imap_session.specs.Dialog.{took};
 ghost use Rattle.imap_session.specs.Dialog as spec;
 
@@ -37,7 +37,7 @@ pub(crate) fn obey(
     requires valid { IsValid store.now.store }
     requires order { IfSome dialog.old.selected (λ s. is_in_order s.view ≡ true) }
     ensures ok { IfOk result (λ out. spec.obey house.now store.now.store (size_of sizes.now.notes) tag.now dialog.old what.now ≡ took out dialog.new) }
-    ensures err { OnErr result (dialog.new ≡ dialog.old) }
+    ensures err { OnErr result (dialog.new ≡ spec.without_memory what.now dialog.old) }
 {
     match what {
         ImapWhat::Noop => follow(
@@ -93,7 +93,7 @@ pub(crate) fn obey(
             set,
             target,
             by_uid,
-        } => copy(alloc, dialog, tag, set, target, *by_uid),
+        } => copy(alloc, store, dialog, tag, set, target, *by_uid),
         ImapWhat::Authenticate => say(alloc, tag, Answer::NotOffered),
     }
 }

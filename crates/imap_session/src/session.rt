@@ -2,7 +2,7 @@
 ghost use Rattle.std.specs.Prelude.{◌≡◌, IsTrue, IfOk, OnOk, OnErr, true};
 ghost use Rattle.shelf.specs.Notes.{size_of};
 ghost use Rattle.verb_core.specs.Store.{is_house, IsValid};
-ghost use Rattle.imap_session.specs.Dialog.{AsksAsUser, IsNext, ReadsOf, heard, is_at_home, is_due, is_free, is_reading, opening, settle, took, turn};
+ghost use Rattle.imap_session.specs.Dialog.{AsksAsUser, IsNext, ReadsOf, heard, is_at_home, is_due, is_free, is_reading, opening, settle, took, turn, without_memory};
 ghost use Rattle.imap_session.specs.Dialog as spec;
 
 use crate::dialog::{Awaits, Dialog};
@@ -50,7 +50,8 @@ impl ImapSession {
         }
     }
 
-    /// Takes one command. A call that found no memory has changed nothing.
+    /// Takes one command. A SELECT or EXAMINE that found no memory leaves no mailbox selected; any other command that
+    /// found none has changed nothing.
     pub fn take(
         &mut self,
         alloc: Global,
@@ -69,7 +70,8 @@ impl ImapSession {
         ensures user { IfOk result (λ out. AsksAsUser out self.new) }
         ensures reads { IfOk result (λ out. ReadsOf store.now.store out) }
         ensures stays { is_at_home house.now self.new ≡ true }
-        ensures err { OnErr result (self.new ≡ self.old) }
+        ensures err { OnErr result (self.new ≡ without_memory command.now.what self.old) }
+        ensures rests { OnErr result (is_free self.new ≡ true) }
     {
         let _stamps = stamps;
         obey(

@@ -3,6 +3,8 @@ pub mod Parts
 pub mod Tokens
 pub mod Spelling
 pub mod Sets
+pub mod Ranges
 pub mod Flags
 pub mod Lists
+pub mod SpelledLines
 pub mod Dates

@@ -1,5 +1,5 @@
 -- The tokens of arguments (RFC 3501, 9: SP, parentheses, atom, quoted, literal).
-use Rattle.std.specs.Prelude.{ℕ, Bool, true, false, not, ◌==◌, ◌&&◌, ◌||◌, List, [], ◌∷◌, ◌++◌, drop, nat_le, Option, None, Some, option_map, option_and_then, if◌then◌else◌}
+use Rattle.std.specs.Prelude.{ℕ, Bool, not, ◌==◌, ◌&&◌, ◌||◌, List, [], ◌∷◌, ◌++◌, drop, nat_le, Option, None, Some, option_map, option_and_then, if◌then◌else◌}
 use Rattle.std.specs.List.{list_all}
 use Rattle.imap_tokens.specs.Parts.{line_before}
 use Rattle.imap_tokens.specs.Words.{is_atom, is_pattern_byte}
@@ -64,72 +64,57 @@ tokens_from tokens part (b ∷ line) = option_and_then (λ next. tokens_from nex
 abbrev pub tokens_in : List Token → List ℕ → Option (List Token)
 tokens_in tokens line = tokens_from tokens Between line
 
+-- the byte of a space or of a parenthesis; a token that has a text has none
+abbrev pub mark_byte : Token → ℕ
+mark_byte Space = 32
+mark_byte Open = 40
+mark_byte Close = 41
+mark_byte (Word text) = 0
+mark_byte (Quoted text) = 0
+mark_byte (Literal text) = 0
+
 abbrev pub is_space : Token → Bool
-is_space Space = true
-is_space Open = false
-is_space Close = false
-is_space (Word text) = false
-is_space (Quoted text) = false
-is_space (Literal text) = false
+is_space token = mark_byte token == 32
 
 abbrev pub is_open : Token → Bool
-is_open Space = false
-is_open Open = true
-is_open Close = false
-is_open (Word text) = false
-is_open (Quoted text) = false
-is_open (Literal text) = false
+is_open token = mark_byte token == 40
 
 abbrev pub is_close : Token → Bool
-is_close Space = false
-is_close Open = false
-is_close Close = true
-is_close (Word text) = false
-is_close (Quoted text) = false
-is_close (Literal text) = false
+is_close token = mark_byte token == 41
+
+-- what a token's text gives: that of a word, of a quoted string, or of a literal
+abbrev pub text_by : (List ℕ → Option (List ℕ)) → (List ℕ → Option (List ℕ)) → (List ℕ → Option (List ℕ)) → Token → Option (List ℕ)
+text_by word quoted literal Space = None
+text_by word quoted literal Open = None
+text_by word quoted literal Close = None
+text_by word quoted literal (Word text) = word text
+text_by word quoted literal (Quoted text) = quoted text
+text_by word quoted literal (Literal text) = literal text
+
+-- the text, or nothing
+abbrev pub any_text : List ℕ → Option (List ℕ)
+any_text text = Some text
+
+abbrev pub no_text : List ℕ → Option (List ℕ)
+no_text text = None
 
 -- a word
 abbrev pub word_of : Token → Option (List ℕ)
-word_of Space = None
-word_of Open = None
-word_of Close = None
-word_of (Word text) = Some text
-word_of (Quoted text) = None
-word_of (Literal text) = None
+word_of token = text_by any_text no_text no_text token
 
 -- an astring: an atom, a quoted string or a literal
 abbrev pub string_of : Token → Option (List ℕ)
-string_of Space = None
-string_of Open = None
-string_of Close = None
-string_of (Word text) = if is_atom text then Some text else None
-string_of (Quoted text) = Some text
-string_of (Literal text) = Some text
+string_of token = text_by (λ text. if is_atom text then Some text else None) any_text any_text token
 
 -- an astring whose atom may hold % and *
 abbrev pub pattern_of : Token → Option (List ℕ)
-pattern_of Space = None
-pattern_of Open = None
-pattern_of Close = None
-pattern_of (Word text) = if list_all is_pattern_byte text then Some text else None
-pattern_of (Quoted text) = Some text
-pattern_of (Literal text) = Some text
+pattern_of token = text_by (λ text. if list_all is_pattern_byte text then Some text else None) any_text any_text token
 
 abbrev pub quoted_of : Token → Option (List ℕ)
-quoted_of Space = None
-quoted_of Open = None
-quoted_of Close = None
-quoted_of (Word text) = None
-quoted_of (Quoted text) = Some text
-quoted_of (Literal text) = None
+quoted_of token = text_by no_text any_text no_text token
 
 abbrev pub literal_of : Token → Option (List ℕ)
-literal_of Space = None
-literal_of Open = None
-literal_of Close = None
-literal_of (Word text) = None
-literal_of (Quoted text) = None
-literal_of (Literal text) = Some text
+literal_of token = text_by no_text no_text any_text token
 
 -- the literal behind a line, if there is one
 abbrev pub with_first : List Token → List (List ℕ) → List Token

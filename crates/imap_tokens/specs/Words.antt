@@ -14,6 +14,11 @@ is_word [] (b ∷ bytes) = false
 is_word (w ∷ word) [] = false
 is_word (w ∷ word) (b ∷ bytes) = (upper b == w) && is_word word bytes
 
+-- what the first row gives whose word the bytes are, ignoring case
+abbrev pub row_of : {X : Type 0} → List (List ℕ × X) → List ℕ → Option X
+row_of [] bytes = None
+row_of (row ∷ rows) bytes = if is_word row.0 bytes then Some row.1 else row_of rows bytes
+
 -- what follows a word in capitals, ignoring case
 abbrev pub after_word : List ℕ → List ℕ → Option (List ℕ)
 after_word [] bytes = Some bytes

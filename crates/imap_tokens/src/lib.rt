@@ -1,7 +1,7 @@
 //! What stands in the arguments of a mail client's commands (RFC 3501, section 9).
 //!
 //! `parts` has the parts of lines, `words` their words, atoms and numbers, `tokens` the tokens that lines and literals make.
-//! `sets`, `flags` and `dates` read what stands in tokens; `laws` says what tokens and flags are in the standard's words.
+//! `sets`, `flags` and `dates` read what stands in tokens; `laws` says what tokens, sets and flags are in the standard's words.
 //! What carries the crate: `read_tokens` gives the tokens that lines and literals have, which `tokens_are_spelled` says by how they are spelled.
 #![tactic(auto)]
 
@@ -15,7 +15,7 @@ mod words;
 
 pub use dates::read_date;
 pub use flags::{no_flag, read_bare_flags, read_flags};
-pub use laws::{flags_are_spelled, tokens_are_spelled};
+pub use laws::{arguments_are_spelled, flags_are_spelled, sets_are_spelled, tokens_are_spelled};
 pub use parts::{at_space, before_space, behind_space, line_before};
 pub use sets::{find_byte, read_set};
 pub use tokens::{

@@ -1,6 +1,6 @@
 //! The tokens of a command's arguments.
 ghost use Rattle.std.specs.Prelude.{◌≡◌, ◌∷◌, [], ◌++◌, drop, IfOk, OnOk, option_map, if◌then◌else◌};
-ghost use Rattle.imap_tokens.specs.Tokens.{is_word_byte, is_quoted_byte, started, with_byte, tokens_in, is_space, is_open, is_close, word_of, string_of, pattern_of, quoted_of, literal_of, with_first, tokens_of};
+ghost use Rattle.imap_tokens.specs.Tokens.{is_word_byte, is_quoted_byte, started, with_byte, tokens_in, mark_byte, is_space, is_open, is_close, word_of, string_of, pattern_of, quoted_of, literal_of, with_first, tokens_of};
 ghost use Rattle.imap_tokens.specs.Tokens as spec;
 
 use crate::parts::{after, line_before};
@@ -155,46 +155,39 @@ fn add_line(alloc: Global, tokens: &mut Tokens, line: &[u8]) -> Result<bool, NoM
     }
 }
 
+/// The byte of a space or of a parenthesis, or 0.
+fn mark_of(token: &Token) -> u8
+    ensures { result ≡ mark_byte token.now }
+{
+    match token {
+        Token::Space => b' ',
+        Token::Open => b'(',
+        Token::Close => b')',
+        Token::Word(_text) => 0,
+        Token::Quoted(_text) => 0,
+        Token::Literal(_text) => 0,
+    }
+}
+
 /// Whether the token is a space.
 pub fn is_space_token(token: &Token) -> bool
     ensures { result ≡ is_space token.now }
 {
-    match token {
-        Token::Space => true,
-        Token::Open => false,
-        Token::Close => false,
-        Token::Word(_text) => false,
-        Token::Quoted(_text) => false,
-        Token::Literal(_text) => false,
-    }
+    mark_of(token) == b' '
 }
 
 /// Whether the token opens a list.
 pub fn is_open_token(token: &Token) -> bool
     ensures { result ≡ is_open token.now }
 {
-    match token {
-        Token::Space => false,
-        Token::Open => true,
-        Token::Close => false,
-        Token::Word(_text) => false,
-        Token::Quoted(_text) => false,
-        Token::Literal(_text) => false,
-    }
+    mark_of(token) == b'('
 }
 
 /// Whether the token closes a list.
 pub fn is_close_token(token: &Token) -> bool
     ensures { result ≡ is_close token.now }
 {
-    match token {
-        Token::Space => false,
-        Token::Open => false,
-        Token::Close => true,
-        Token::Word(_text) => false,
-        Token::Quoted(_text) => false,
-        Token::Literal(_text) => false,
-    }
+    mark_of(token) == b')'
 }
 
 /// The token's bytes, where it is a word.

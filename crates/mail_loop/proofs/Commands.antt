@@ -13,10 +13,9 @@ use Rattle.imap_session.specs.declared.out.ImapOut.{ImapOut}
 use Rattle.imap_session.specs.declared.out.ImapOut.TheVariants.{Say, Read, Submit, Bye}
 use Rattle.imap_session.specs.Dialog as session
 use Rattle.imap_session.specs.Dialog.{ReadsOf, Took, is_at_home, is_free, is_reading, is_texts}
-use Rattle.mail_desk.specs.Kept.{Kept}
-use Rattle.mail_desk.specs.Desk.{store_of}
+use Rattle.verb_core.specs.Kept.{Kept, store_of}
 use Rattle.mail_desk.specs.Timeline.{all_bodies, has_text}
-use Rattle.mail_loop.specs.Read.{AreThere, IsAwaitedLast}
+use Rattle.mail_loop.specs.ImapTook.{AreThere, IsAwaitedLast}
 
 -- ---- whose texts are wanted
 

@@ -2,12 +2,13 @@ pub mod Links
 pub mod Refusals
 pub mod Turns
 pub mod Commands
-pub mod Readers
+pub mod ImapTurns
 pub mod Nexts
 pub mod Stretch
-pub mod Consoles
+pub mod ConsoleTurns
 pub mod Seats
 pub mod Events
 pub mod Runs
 pub mod Placing
 pub mod Sealed
+pub mod Joining

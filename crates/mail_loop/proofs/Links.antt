@@ -4,11 +4,11 @@ use Rattle.std.proofs.lemmas.List.{append-nil, append_assoc}
 use Rattle.undo_outside.specs.declared.fault.Fault.{Fault}
 use Rattle.undo_outside.specs.declared.fault.Fault.TheVariants.{Failed, NoMemory}
 use Rattle.undo_outside.specs.declared.event.LinkNote.{LinkNote}
-use Rattle.undo_outside.specs.declared.event.LinkNote.TheVariants.{Sent}
-use Rattle.undo_outside.specs.Calls.{LinkTold, Rose, then_told, Sends as LinkSends}
+use Rattle.undo_outside.specs.declared.event.LinkNote.TheVariants.{Closed, Sent}
+use Rattle.undo_outside.specs.Calls.{LinkTold, Rose, RoseOnce, Wants, then_told, Sends as LinkSends}
 use Rattle.undo_base.specs.declared.memory.NoMemory.{NoMemory as WantOfMemory}
 use Rattle.mail_loop.specs.Machine.{Seats, Delivery, Arrives, IsMissed, IsLeftOut, Reply, string_notes, close_notes, reply_notes, after_reply, delivered, remains}
-use Rattle.mail_loop.specs.Did.{Goes, RoseBy, AreLicensed, Told, Replied, Did, Sends, missed_by, missed_of}
+use Rattle.mail_loop.specs.Did.{Goes, Counted, RoseBy, AreLicensed, StopsAtClose, Told, Replied, Did, Sends, left_out_by, left_out_of, missed_by, missed_of, unclosed_by}
 
 -- nothing more is told
 pub then_told-nil : {A : Type 0} (told : Option (List A)) → then_told told [] ≡ told
@@ -42,27 +42,59 @@ rose_add (suc m) (suc n) a b c (r, r') (q, q') =
 pub rose_one : (a b : ℕ) → Rose a b → RoseBy (1 + 0) a b
 rose_one a b (r, q) = (r, q)
 
-pub none_licensed : (a b : LinkTold) → b.missed ≡ a.missed → AreLicensed [] a b
-none_licensed a b e = record { rose = e; reliable = λ _. refl }
+-- a count that stood, rose by one, or rose by some and then by more
+counted_none : (a b : ℕ) → b ≡ a → Counted 0 a b
+counted_none a b e = (e, omega (arith, e))
+
+pub counted_one : (a b : ℕ) → RoseOnce a b → Counted 1 a b
+counted_one a b (r, u) = (rose_one a b r, u)
+
+pub counted_add : (m n a b c : ℕ) → Counted m a b → Counted n b c → Counted (m + n) a c
+counted_add m n a b c (r, u) (q, v) = (rose_add m n a b c r q, omega (arith, u, v))
+
+pub none_licensed : (a b : LinkTold) → b.missed ≡ a.missed → b.starved ≡ a.starved → AreLicensed [] 0 a b
+none_licensed a b e f = record { rose = e; starved = counted_none a.starved b.starved f; reliable = λ _. refl }
 
 -- one string more
-pub licensed_more : (d : Delivery) (ds : List Delivery) (a b c : LinkTold) → AreLicensed (d ∷ []) a b → b.is_reliable ≡ a.is_reliable → AreLicensed ds b c → AreLicensed (d ∷ ds) a c
-licensed_more d ds a b c l same m = record {
+pub licensed_more : (d : Delivery) (ds : List Delivery) (n : ℕ) (a b c : LinkTold) → AreLicensed (d ∷ []) 0 a b → b.is_reliable ≡ a.is_reliable → AreLicensed ds n b c → AreLicensed (d ∷ ds) n a c
+licensed_more d ds n a b c l same m = record {
   rose = subst (λ k. RoseBy (k + missed_of ds) a.missed c.missed) (add-zero (missed_by d)) (rose_add (missed_by d + 0) (missed_of ds) a.missed b.missed c.missed l.rose m.rose);
+  starved =
+      let whole : ((left_out_by d + 0) + 0) + (left_out_of ds + n) ≡ (left_out_by d + left_out_of ds) + n = omega arith in
+      subst (λ k. Counted k a.starved c.starved) whole (counted_add ((left_out_by d + 0) + 0) (left_out_of ds + n) a.starved b.starved c.starved l.starved m.starved);
   reliable = λ e. let one = l.reliable e in let more = m.reliable (same ∙ e) in omega arith;
 }
 
--- a string arrives or is left out
-arrives_licensed : (a b : LinkTold) → b.missed ≡ a.missed → AreLicensed (Arrives ∷ []) a b
-arrives_licensed a b e = record { rose = e; reliable = λ _. refl }
+-- a close more found no memory
+unclosed_more : (d : Delivery) (a b c : LinkTold) → AreLicensed (d ∷ []) 0 a b → Wants b c → AreLicensed (d ∷ []) 1 a c
+unclosed_more d a b c l (e, once) = record {
+  rose = subst (λ m. RoseBy (missed_of (d ∷ [])) a.missed m) (sym (ap (λ (t : LinkTold). t.missed) e)) l.rose;
+  starved =
+      let whole : ((left_out_by d + 0) + 0) + 1 ≡ (left_out_by d + 0) + 1 = omega arith in
+      subst (λ k. Counted k a.starved c.starved) whole (counted_add ((left_out_by d + 0) + 0) 1 a.starved b.starved c.starved l.starved (counted_one b.starved c.starved once));
+  reliable = l.reliable;
+}
 
-left_out_licensed : (a b : LinkTold) → b.missed ≡ a.missed → AreLicensed (IsLeftOut ∷ []) a b
-left_out_licensed a b e = record { rose = e; reliable = λ _. refl }
+-- a string arrives or is left out
+arrives_licensed : (a b : LinkTold) → b.missed ≡ a.missed → b.starved ≡ a.starved → AreLicensed (Arrives ∷ []) 0 a b
+arrives_licensed a b e f = record { rose = e; starved = counted_none a.starved b.starved f; reliable = λ _. refl }
+
+left_out_licensed : (a b : LinkTold) → b.missed ≡ a.missed → RoseOnce a.starved b.starved → AreLicensed (IsLeftOut ∷ []) 0 a b
+left_out_licensed a b e once = record { rose = e; starved = counted_one a.starved b.starved once; reliable = λ _. refl }
 
 -- a note more in the log, and nothing else
-pub one_note : (old new : LinkTold) (note : LinkNote) → new ≡ record old { log = then_told old.log (note ∷ []) } → Goes old new (note ∷ [])
+pub one_note : (old new : LinkTold) (note : LinkNote) → new ≡ record old { log = then_told old.log (note ∷ []); starved_last = false } → Goes old new (note ∷ [])
 one_note old new note e = record {
   log = ap (λ (t : LinkTold). t.log) e;
+  coming = ap (λ (t : LinkTold). t.coming) e;
+  faults = ap (λ (t : LinkTold). t.faults) e;
+  reliable = ap (λ (t : LinkTold). t.is_reliable) e;
+}
+
+-- a call that found no memory leaves no note
+wanted_none : (old new : LinkTold) → Wants old new → Goes old new []
+wanted_none old new (e, once) = record {
+  log = ap (λ (t : LinkTold). t.log) e ∙ sym (then_told-nil old.log);
   coming = ap (λ (t : LinkTold). t.coming) e;
   faults = ap (λ (t : LinkTold). t.faults) e;
   reliable = ap (λ (t : LinkTold). t.is_reliable) e;
@@ -72,7 +104,7 @@ one_note old new note e = record {
 pub told_nothing : (told : LinkTold) (r : Reply) → r.said ≡ [] → Told told told r (not r.closes)
 told_nothing told r none = record {
   delivery = Arrives;
-  licensed = arrives_licensed told told refl;
+  licensed = arrives_licensed told told refl refl;
   stays_is = ap (λ said. remains Arrives said r.closes) (sym none);
   goes = subst (λ said. Goes told told (string_notes Arrives r.conn said)) (sym none) (goes_none told);
 }
@@ -83,7 +115,7 @@ pub told_sent : (old new : LinkTold) (conn : ℕ) (said : List ℕ) (closes : Bo
 told_sent old new conn [] closes some sent = absurd (some refl)
 told_sent old new conn (b ∷ bytes) closes some sent = record {
   delivery = Arrives;
-  licensed = arrives_licensed old new (ap (λ (t : LinkTold). t.missed) sent);
+  licensed = arrives_licensed old new (ap (λ (t : LinkTold). t.missed) sent) (ap (λ (t : LinkTold). t.starved) sent);
   stays_is = refl;
   goes = one_note old new (Sent conn (b ∷ bytes)) sent;
 }
@@ -94,7 +126,11 @@ pub told_not : (old new : LinkTold) (conn : ℕ) (said : List ℕ) (closes : Boo
 told_not old new conn [] closes fault some sent = absurd (some refl)
 told_not old new conn (b ∷ bytes) closes Failed some sent = record {
   delivery = IsMissed;
-  licensed = record { rose = rose_one old.missed new.missed sent.1; reliable = λ e. absurd (let wrong : true ≡ false = sym e ∙ sent.2 in cc) };
+  licensed = record {
+    rose = rose_one old.missed new.missed sent.1;
+    starved = counted_none old.starved new.starved (ap (λ (t : LinkTold). t.starved) sent.0);
+    reliable = λ e. absurd (let wrong : true ≡ false = sym e ∙ sent.2 in cc);
+  };
   stays_is = refl;
   goes = record {
     log = ap (λ (t : LinkTold). t.log) sent.0;
@@ -105,50 +141,59 @@ told_not old new conn (b ∷ bytes) closes Failed some sent = record {
 }
 told_not old new conn (b ∷ bytes) closes NoMemory some sent = record {
   delivery = IsLeftOut;
-  licensed = left_out_licensed old new (ap (λ (t : LinkTold). t.missed) sent);
+  licensed = left_out_licensed old new (ap (λ (t : LinkTold). t.missed) sent.0) sent.1;
   stays_is = refl;
-  goes = subst (λ t. Goes old t []) (sym sent) (goes_none old);
+  goes = wanted_none old new sent;
 }
 
 -- a reply whose close found no memory
-pub replied_unclosed : (old mid new : LinkTold) (r : Reply) (stays : Bool) (w : WantOfMemory) (result : Result Bool WantOfMemory) → result ≡ Err w
-    → Told old mid r stays → new ≡ mid → Replied old new r result
-replied_unclosed old mid new r stays w result failed t same =
-    subst (Replied old new r) (sym failed)
-    (subst (λ m. Replied old m r (Err w)) (sym same)
-    (t.delivery, t.licensed, close_notes r.conn (remains t.delivery r.said r.closes), string_notes t.delivery r.conn r.said, refl, t.goes))
+pub replied_unclosed : (old mid new : LinkTold) (r : Reply) (stays : Bool) (w : WantOfMemory) (result : Result Bool WantOfMemory) → result ≡ Err w → stays ≡ false
+    → Told old mid r stays → Wants mid new → Replied old new r result
+replied_unclosed old mid new r stays w result failed closes t wants =
+    let string = string_notes t.delivery r.conn r.said in
+    let last : remains t.delivery r.said r.closes ≡ false = sym t.stays_is ∙ closes in
+    subst (Replied old new r) (sym failed) (
+      t.delivery,
+      unclosed_more t.delivery old mid new t.licensed wants,
+      Closed r.conn ∷ [],
+      string,
+      ap (λ b. string ++ close_notes r.conn b) last,
+      subst (λ n. Goes old new n) (append-nil string) (goes_on_goes old mid new string [] t.goes (wanted_none mid new wants)),
+      record { conn = r.conn; rest = []; more_is = refl; starved_last = ap (λ (t : LinkTold). t.starved_last) wants.0 },
+    )
 
 -- the link did more after this
-did_more : (all more : List LinkNote) (old mid new : LinkTold) (result : Result (Unit {0}) WantOfMemory) → Goes old mid all → Did more mid new result → Did (all ++ more) old new result
-did_more all more old mid new (Ok x) g d = record {
+did_more : (P : List LinkNote → Type 0) (all more : List LinkNote) (old mid new : LinkTold) (result : Result (Unit {0}) WantOfMemory)
+    → Goes old mid all → Did (λ notes left. P left) more mid new result → Did (λ notes left. P left) (all ++ more) old new result
+did_more P all more old mid new (Ok x) g d = record {
   notes = all ++ d.notes;
   goes = goes_on_goes old mid new all d.notes g d.goes;
   whole = ap (λ n. all ++ n) d.whole;
 }
-did_more all more old mid new (Err e) g d = record {
+did_more P all more old mid new (Err e) g d = record {
   notes = all ++ d.notes;
   goes = goes_on_goes old mid new all d.notes g d.goes;
-  whole = (d.whole.0, ap (λ n. all ++ n) d.whole.1 ∙ sym (append_assoc all d.notes d.whole.0));
+  whole = (d.whole.0, ap (λ n. all ++ n) d.whole.1 ∙ sym (append_assoc all d.notes d.whole.0), d.whole.2);
 }
 
 -- no reply is to be sent
 sends_none : (told : LinkTold) (seats seats' : Seats) → seats' ≡ seats
-    → (ds : List Delivery) × AreLicensed ds told told × Sends (delivered ds seats []) told told seats' (Ok tt)
+    → (ds : List Delivery) × AreLicensed ds 0 told told × Sends (delivered ds seats []) told told seats' (Ok tt)
 sends_none told seats seats' same =
-    ([], none_licensed told told refl, record { did = record { notes = []; goes = goes_none told; whole = refl }; seats_are = same })
+    ([], none_licensed told told refl refl, record { did = record { notes = []; goes = goes_none told; whole = refl }; seats_are = same })
 
 -- a reply went out, and then the others
 sends_more : (old mid new : LinkTold) (seats seats1 seats2 : Seats) (r : Reply) (rs : List Reply) (stays : Bool) (result : Result (Unit {0}) WantOfMemory)
     → Replied old mid r (Ok stays) → seats1 ≡ after_reply stays r.conn seats
-    → (ds : List Delivery) × AreLicensed ds mid new × Sends (delivered ds seats1 rs) mid new seats2 result
-    → (ds : List Delivery) × AreLicensed ds old new × Sends (delivered ds seats (r ∷ rs)) old new seats2 result
+    → (ds : List Delivery) × AreLicensed ds (unclosed_by result) mid new × Sends (delivered ds seats1 rs) mid new seats2 result
+    → (ds : List Delivery) × AreLicensed ds (unclosed_by result) old new × Sends (delivered ds seats (r ∷ rs)) old new seats2 result
 sends_more old mid new seats seats1 seats2 r rs stays result (d, licensed, is, goes) kept (ds, more, s) =
     let same : seats1 ≡ after_reply (remains d r.said r.closes) r.conn seats = kept ∙ ap (λ b. after_reply b r.conn seats) is in
     let s' = subst (λ l. Sends (delivered ds l rs) mid new seats2 result) same s in (
       d ∷ ds,
-      licensed_more d ds old mid new licensed goes.reliable more,
+      licensed_more d ds (unclosed_by result) old mid new licensed goes.reliable more,
       record {
-        did = did_more (reply_notes d r) (delivered ds (after_reply (remains d r.said r.closes) r.conn seats) rs).notes old mid new result goes s'.did;
+        did = did_more (λ left. StopsAtClose left new) (reply_notes d r) (delivered ds (after_reply (remains d r.said r.closes) r.conn seats) rs).notes old mid new result goes s'.did;
         seats_are = s'.seats_are;
       },
     )
@@ -156,14 +201,22 @@ sends_more old mid new seats seats1 seats2 r rs stays result (d, licensed, is, g
 -- a reply's close found no memory
 sends_stopped : (old new : LinkTold) (seats seats2 : Seats) (r : Reply) (rs : List Reply) (w v : WantOfMemory) (result : Result (Unit {0}) WantOfMemory) → result ≡ Err v
     → Replied old new r (Err w)
-    → (ds : List Delivery) × AreLicensed ds old new × Sends (delivered ds seats (r ∷ rs)) old new seats2 result
-sends_stopped old new seats seats2 r rs w v result failed (d, licensed, more, notes, e, goes) =
+    → (ds : List Delivery) × AreLicensed ds (unclosed_by result) old new × Sends (delivered ds seats (r ∷ rs)) old new seats2 result
+sends_stopped old new seats seats2 r rs w v result failed (d, licensed, more, notes, e, goes, stops) =
     let rest = (delivered [] (after_reply (remains d r.said r.closes) r.conn seats) rs).notes in (
       d ∷ [],
-      licensed,
+      subst (λ (q : Result (Unit {0}) WantOfMemory). AreLicensed (d ∷ []) (unclosed_by q) old new) (sym failed) licensed,
       subst (λ q. Sends (delivered (d ∷ []) seats (r ∷ rs)) old new seats2 q) (sym failed)
           (record {
-            did = record { notes = notes; goes = goes; whole = (more ++ rest, ap (λ n. n ++ rest) e ∙ append_assoc notes more rest) };
+            did = record {
+              notes = notes;
+              goes = goes;
+              whole = (
+                more ++ rest,
+                ap (λ n. n ++ rest) e ∙ append_assoc notes more rest,
+                record { conn = stops.conn; rest = stops.rest ++ rest; more_is = ap (λ n. n ++ rest) stops.more_is; starved_last = stops.starved_last },
+              );
+            };
             seats_are = tt;
           }),
     )
@@ -172,7 +225,7 @@ sends_stopped old new seats seats2 r rs w v result failed (d, licensed, more, no
 
 -- the strings of these replies went out, or as far as memory was found
 abbrev pub SendsAll : List Reply → Seats → LinkTold → LinkTold → Seats → Result (Unit {0}) WantOfMemory → Type 0
-SendsAll rs seats old new seats' result = (ds : List Delivery) × AreLicensed ds old new × Sends (delivered ds seats rs) old new seats' result
+SendsAll rs seats old new seats' result = (ds : List Delivery) × AreLicensed ds (unclosed_by result) old new × Sends (delivered ds seats rs) old new seats' result
 
 -- what the replies that are left lead to from now on is what all lead to
 abbrev pub SendsOn : LinkTold → LinkTold → Seats → Seats → List Reply → List Reply → Type 0

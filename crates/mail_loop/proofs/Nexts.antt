@@ -3,7 +3,7 @@ use Rattle.std.proofs.Common.{◌≡◌, true, false, List, [], ◌∷◌, ◌++
 use Rattle.imap_stream.specs.Commands.{Heard, TakesNext, emptied}
 use Rattle.imap_stream.specs.declared.next.Next.{Next}
 use Rattle.imap_stream.specs.declared.next.Next.TheVariants.{Command, Ask as Mark, Bad, NotYet}
-use Rattle.mail_loop.specs.Read.{is_not_yet}
+use Rattle.mail_loop.specs.ImapTook.{is_not_yet}
 
 -- something was there
 pub taken : (old new : Heard) (next : Next) → TakesNext old next new → is_not_yet next ≡ false → (old.said ≡ next ∷ new.said) × (emptied old ≡ emptied new)

@@ -1,5 +1,5 @@
 -- Runs of the machine, step after step.
-use Rattle.std.proofs.Common.{◌≡◌, ◌≢◌, ℕ, ◌+◌, ◌<◌, ◌≤◌, min, Bool, true, false, ◌||◌, List, [], ◌∷◌, ◌++◌, length, None, Some, Option, Result, MatchResult, Ok, Err, refl, ap, subst, sym, inl, inr, ◌∙◌, arith}
+use Rattle.std.proofs.Common.{◌≡◌, ◌≢◌, ℕ, ◌+◌, ◌<◌, ◌≤◌, min, Bool, true, false, ◌||◌, List, [], ◌∷◌, ◌++◌, length, None, Some, Option, Result, MatchResult, Ok, Err, refl, ap, subst, sym, inl, inr, ◌⊎◌, ◌∙◌, arith}
 use Rattle.std.specs.List.{AllByRecursion}
 use Rattle.std.proofs.lemmas.List.{append-nil, append_assoc, length-append}
 use Rattle.undo_base.specs.declared.memory.NoMemory.{NoMemory as WantOfMemory}
@@ -13,13 +13,13 @@ use Rattle.undo_outside.specs.Calls.{LinkTold, Rose, then_told, IsNext, Comes}
 use Rattle.mail_loop.specs.declared.serve.ServeFault.{ServeFault}
 use Rattle.mail_loop.specs.declared.serve.ServeFault.TheVariants.{Link, Disk, Turns, NoMemory}
 use Rattle.verb_bytes.specs.declared.journal.JournalRecord.{JournalRecord}
-use Rattle.mail_desk.specs.Kept.{Kept}
+use Rattle.verb_core.specs.Kept.{Kept}
 use Rattle.mail_loop.specs.State.{State}
-use Rattle.mail_loop.specs.Console.{AreSaid, Reading, both, no_consoles}
+use Rattle.mail_loop.specs.ConsoleTurn.{AreSaid, Reading, both, no_consoles}
 use Rattle.mail_loop.specs.Machine.{Seats, Hindrances, Outcome, outcome, delivered, happens, answers, ignored}
-use Rattle.mail_loop.specs.Did.{RoseBy, AreLicensed, Leads, missed_of}
-use Rattle.mail_loop.specs.Serving.{Step, is_end, after_notes, run, at_first, NoEnd, missed_in, ComeInOrder, events_of, readings_in, stopped_in, unsealed_in, Serves, ServedOver}
-use Rattle.mail_loop.proofs.Links.{then_told-nil, then_told-append, rose_add}
+use Rattle.mail_loop.specs.Did.{Counted, RoseBy, AreLicensed, Goes, Leads, StopsAtClose, WantsIn, left_out_of, missed_of}
+use Rattle.mail_loop.specs.Serving.{Step, is_end, after_notes, run, at_first, NoEnd, missed_in, ComeInOrder, events_of, readings_in, stopped_in, unsealed_in, left_out_in, CountsFaults, IsCutAtClose, IsLeftStarved, IsLeftUnsealed, Serves, Served, ServedOver}
+use Rattle.mail_loop.proofs.Links.{counted_add, counted_one, goes_none, none_licensed, then_told-nil, then_told-append, rose_add}
 
 -- one element more has it too
 all_more : {A : Type 0} (P : A → Type 0) (xs : List A) (x : A) → AllByRecursion P xs → P x → AllByRecursion P (xs ++ x ∷ [])
@@ -81,16 +81,35 @@ missed_more : (steps : List Step) (step : Step) → missed_in (steps ++ step ∷
 missed_more [] step = omega arith
 missed_more (s ∷ steps) step = let more = missed_more steps step in omega arith
 
+left_out_more : (steps : List Step) (step : Step) → left_out_in (steps ++ step ∷ []) ≡ left_out_in steps + left_out_of step.hindrances.deliveries
+left_out_more [] step = omega arith
+left_out_more (s ∷ steps) step = let more = left_out_more steps step in omega arith
+
 -- serving ended so; T holds of the record whose sealing failed
 abbrev pub Ran : (List JournalRecord → Type 0) → ℕ → LinkTold → LinkTold → Kept → Kept → Result (Unit {0}) ServeFault → Type 0
 Ran T limit old new kept kept' result =
     (steps : List Step) × (notes : List LinkNote) × ServedOver limit steps notes old new kept kept' result × T (unsealed_in steps kept)
 
--- what the link did not do of an event
-left_out : (r : Result Bool WantOfMemory) (all notes : List LinkNote) → MatchResult r (λ _. all ≡ notes) (λ _. (more : List LinkNote) × (all ≡ notes ++ more))
-    → (more : List LinkNote) × (all ≡ notes ++ more)
-left_out (Ok x) all notes e = ([], e ∙ sym (append-nil notes))
-left_out (Err w) all notes e = e
+-- What the link did and counted over these steps. So many calls more found no memory than there are strings left out.
+pub record Done (wants : ℕ) (old new : LinkTold) (steps : List Step) (notes : List LinkNote) : Type 0 where
+  pub log : new.log ≡ then_told old.log notes
+  pub order : ComeInOrder old.coming (events_of steps) new.coming
+  pub missed : RoseBy (missed_in steps) old.missed new.missed
+  pub none_missed : old.is_reliable ≡ true → missed_in steps ≡ 0
+  pub starved : Counted (left_out_in steps + wants) old.starved new.starved
+  pub reliable : new.is_reliable ≡ old.is_reliable
+  pub faults : new.faults ≡ old.faults
+
+done_none : (told : LinkTold) → Done 0 told told [] []
+done_none told = record {
+  log = sym (then_told-nil told.log);
+  order = refl;
+  missed = refl;
+  none_missed = λ _. refl;
+  starved = (refl, omega arith);
+  reliable = refl;
+  faults = refl;
+}
 
 -- what serving has done after so many turns
 pub record SoServed (turns : ℕ) (old new : LinkTold) (kept : Kept) (state : State) : Type 0 where
@@ -101,12 +120,7 @@ pub record SoServed (turns : ℕ) (old new : LinkTold) (kept : Kept) (state : St
   pub readings : List Reading
   pub leaves : run steps (at_first kept) ≡ record { state = state; notes = notes; unsealed = []; consoles = record { readings = readings; stops = false } }
   pub said : AreSaid readings
-  pub log : new.log ≡ then_told old.log notes
-  pub order : ComeInOrder old.coming (events_of steps) new.coming
-  pub missed : RoseBy (missed_in steps) old.missed new.missed
-  pub none_missed : old.is_reliable ≡ true → missed_in steps ≡ 0
-  pub reliable : new.is_reliable ≡ old.is_reliable
-  pub faults : new.faults ≡ old.faults
+  pub done : Done 0 old new steps notes
 
 pub so_served_none : (told : LinkTold) (kept : Kept) (seats : Seats) → seats ≡ [] → SoServed 0 told told kept (record { kept = kept; seats = seats })
 so_served_none told kept seats none = record {
@@ -117,12 +131,7 @@ so_served_none told kept seats none = record {
   readings = [];
   leaves = ap (λ (c : Seats). record { state = record { kept = kept; seats = c }; notes = []; unsealed = []; consoles = no_consoles }) (sym none);
   said = tt;
-  log = sym (then_told-nil told.log);
-  order = refl;
-  missed = refl;
-  none_missed = λ _. refl;
-  reliable = refl;
-  faults = refl;
+  done = done_none told;
 }
 
 -- the log after an event and what the link did for it
@@ -139,6 +148,16 @@ rose_more steps step old mid got new before same more =
     subst (λ n. RoseBy n old new) (sym (missed_more steps step))
     (rose_add (missed_in steps) (missed_of step.hindrances.deliveries) old mid new before (subst (λ m. RoseBy (missed_of step.hindrances.deliveries) m new) same more))
 
+-- strings that one step more left out, and calls that found no memory then
+starved_more : (steps : List Step) (step : Step) (n old mid got new : ℕ) → Counted (left_out_in steps + 0) old mid → got ≡ mid
+    → Counted (left_out_of step.hindrances.deliveries + n) got new → Counted (left_out_in (steps ++ step ∷ []) + n) old new
+starved_more steps step n old mid got new before same more =
+    let here = left_out_of step.hindrances.deliveries in
+    let whole : (left_out_in steps + 0) + (here + n) ≡ (left_out_in steps + here) + n = omega arith in
+    subst (λ k. Counted (k + n) old new) (sym (left_out_more steps step))
+    (subst (λ k. Counted k old new) whole
+    (counted_add (left_out_in steps + 0) (here + n) old mid new before (subst (λ m. Counted (here + n) m new) same more)))
+
 none_more : (steps : List Step) (step : Step) → missed_in steps ≡ 0 → missed_of step.hindrances.deliveries ≡ 0 → missed_in (steps ++ step ∷ []) ≡ 0
 none_more steps step before here = missed_more steps step ∙ (omega arith)
 
@@ -147,11 +166,31 @@ few_more : (steps : List Step) (step : Step) (turns limit : ℕ) → length step
 few_more steps step turns limit count some = let more = length-append steps (step ∷ []) in omega (arith, more, count, some)
 
 -- all of an event was done
-all_done : (r : Result Bool WantOfMemory) (b : Bool) (all notes : List LinkNote) → r ≡ Ok b → MatchResult r (λ _. all ≡ notes) (λ _. (more : List LinkNote) × (all ≡ notes ++ more)) → all ≡ notes
-all_done r b all notes ok e = subst (λ (q : Result Bool WantOfMemory). MatchResult q (λ _. all ≡ notes) (λ _. (more : List LinkNote) × (all ≡ notes ++ more))) ok e
+all_done : (C : List LinkNote → List LinkNote → Type 0) (r : Result Bool WantOfMemory) (b : Bool) (all notes : List LinkNote) → r ≡ Ok b
+    → MatchResult r (λ _. all ≡ notes) (λ _. (more : List LinkNote) × (all ≡ notes ++ more) × C notes more) → all ≡ notes
+all_done C r b all notes ok e = subst (λ (q : Result Bool WantOfMemory). MatchResult q (λ _. all ≡ notes) (λ _. (more : List LinkNote) × (all ≡ notes ++ more) × C notes more)) ok e
 
 seats_left : (r : Result Bool WantOfMemory) (b : Bool) (seats all : Seats) (stops : Bool) → r ≡ Ok b → MatchResult r (λ c. (seats ≡ all) × (c ≡ stops)) (λ _. Unit {0}) → (seats ≡ all) × (b ≡ stops)
 seats_left r b seats all stops ok e = subst (λ (q : Result Bool WantOfMemory). MatchResult q (λ c. (seats ≡ all) × (c ≡ stops)) (λ _. Unit {0})) ok e
+
+-- each close of an event that was done whole found memory
+all_closed : (r : Result Bool WantOfMemory) (b : Bool) (n : ℕ) → r ≡ Ok b → MatchResult r (λ _. n ≡ 0) (λ _. Unit {0}) → n ≡ 0
+all_closed r b n ok e = subst (λ (q : Result Bool WantOfMemory). MatchResult q (λ _. n ≡ 0) (λ _. Unit {0})) ok e
+
+-- what an event left undone for want of memory
+starved_in : (o : Outcome) (n : ℕ) (new : LinkTold) (r : Result Bool WantOfMemory) (w : WantOfMemory) (all notes : List LinkNote) → r ≡ Err w
+    → MatchResult r (λ _. all ≡ notes) (λ _. (more : List LinkNote) × (all ≡ notes ++ more) × WantsIn o n new notes more)
+    → (more : List LinkNote) × (all ≡ notes ++ more) × WantsIn o n new notes more
+starved_in o n new r w all notes bad e =
+    subst (λ (q : Result Bool WantOfMemory). MatchResult q (λ _. all ≡ notes) (λ _. (more : List LinkNote) × (all ≡ notes ++ more) × WantsIn o n new notes more)) bad e
+
+-- what an event left undone in which sealing failed: nothing, or what follows from a close on
+cut_in : (o : Outcome) (n : ℕ) (new : LinkTold) (r : Result Bool WantOfMemory) (all notes : List LinkNote) → (o.unsealed ≡ [] → ⊥)
+    → MatchResult r (λ _. all ≡ notes) (λ _. (more : List LinkNote) × (all ≡ notes ++ more) × WantsIn o n new notes more) → MatchResult r (λ _. n ≡ 0) (λ _. Unit {0})
+    → (more : List LinkNote) × (all ≡ notes ++ more) × (((more ≡ []) × (n ≡ 0)) ⊎ ((n ≡ 1) × StopsAtClose more new))
+cut_in o n new (Ok b) all notes some e closed = ([], e ∙ sym (append-nil notes), inl (refl, closed))
+cut_in o n new (Err w) all notes some (more, e, inl wanted) closed = absurd (some wanted.2)
+cut_in o n new (Err w) all notes some (more, e, inr stops) closed = (more, e, inr stops)
 
 said_more : (a b : List Reading) → AreSaid a → AreSaid b → AreSaid (a ++ b)
 said_more [] b first second = second
@@ -159,8 +198,8 @@ said_more (r ∷ a) b first second = (first.0, said_more a b first.1 second)
 
 -- no sealing failed in an event after which the desk is open
 pub sealed_all : (S : List JournalRecord → Type 0) (old new : LinkTold) (s : State) (event : Event) (after : Kept) (seats : Seats) (r : Result Bool WantOfMemory)
-    → (h : Hindrances) × AreLicensed h.deliveries old new × Leads S (happens h s event) old new after seats r → ((failed : List JournalRecord) → S failed → failed ≡ []) → S []
-sealed_all S old new s event after seats r (h, licensed, leads) only = subst S (only (happens h s event).unsealed leads.seals) leads.seals
+    → (h : Hindrances) × (n : ℕ) × AreLicensed h.deliveries n old new × Leads S n (happens h s event) old new after seats r → ((failed : List JournalRecord) → S failed → failed ≡ []) → S []
+sealed_all S old new s event after seats r (h, n, licensed, leads) only = subst S (only (happens h s event).unsealed leads.seals) leads.seals
 
 -- no console asked serving to stop so far
 so_goes : (turns : ℕ) (old new : LinkTold) (kept : Kept) (s : State) → (so : SoServed turns old new kept s) → stopped_in so.steps kept ≡ false
@@ -169,79 +208,139 @@ so_goes turns old new kept s so = ap (λ (o : Outcome). o.consoles.stops) so.lea
 so_read : (turns : ℕ) (old new : LinkTold) (kept : Kept) (s : State) → (so : SoServed turns old new kept s) → AreSaid (readings_in so.steps kept)
 so_read turns old new kept s so = subst AreSaid (sym (ap (λ (o : Outcome). o.consoles.readings) so.leaves)) so.said
 
+-- what the link did with one step more
+done_more : (turns n : ℕ) (old mid got new : LinkTold) (kept : Kept) (s : State) (event : Event) (h : Hindrances) (more : List LinkNote) → (so : SoServed turns old mid kept s)
+    → Comes mid got (Ok event) → AreLicensed h.deliveries n got new → Goes got new more
+    → Done n old new (so.steps ++ record { event = event; hindrances = h } ∷ []) (so.notes ++ Came event ∷ more)
+done_more turns n old mid got new kept s event h more so came licensed goes =
+    let step : Step = record { event = event; hindrances = h } in
+    let done = so.done in
+    record {
+      log = log_more old.log mid.log got.log new.log so.notes more (Came event) done.log came.0 goes.log;
+      order = rw events_more (subst (λ c. ComeInOrder old.coming (events_of so.steps ++ event ∷ []) c) (sym goes.coming)
+          (order_more old.coming mid.coming got.coming (events_of so.steps) event done.order came.1));
+      missed = rose_more so.steps step old.missed mid.missed got.missed new.missed done.missed came.3 licensed.rose;
+      none_missed = λ e. none_more so.steps step (done.none_missed e) (licensed.reliable (came.4 ∙ done.reliable ∙ e));
+      starved = starved_more so.steps step n old.starved mid.starved got.starved new.starved done.starved came.6 licensed.starved;
+      reliable = goes.reliable ∙ came.4 ∙ done.reliable;
+      faults = goes.faults ∙ came.2 ∙ done.faults;
+    }
+
+-- what the steps leave with one more
+leaves_more : (turns : ℕ) (old mid : LinkTold) (kept : Kept) (s : State) (step : Step) → (so : SoServed turns old mid kept s)
+    → run (so.steps ++ step ∷ []) (at_first kept) ≡ then_step (record { state = s; notes = so.notes; unsealed = []; consoles = record { readings = so.readings; stops = false } }) step
+leaves_more turns old mid kept s step so = run_more so.steps (at_first kept) step ∙ ap (λ q. then_step q step) so.leaves
+
+-- the last step's event, after those before
+here_is : (turns : ℕ) (old mid : LinkTold) (kept : Kept) (s : State) (step : Step) → (so : SoServed turns old mid kept s)
+    → happens step.hindrances (run so.steps (at_first kept)).state step.event ≡ happens step.hindrances s step.event
+here_is turns old mid kept s step so = ap (λ (q : Outcome). happens step.hindrances q.state step.event) so.leaves
+
+-- serving ended after these steps
+ended_over : (T : List JournalRecord → Type 0) (limit wants : ℕ) (old new : LinkTold) (kept kept' : Kept) (steps : List Step) (notes : List LinkNote) (result : Result (Unit {0}) ServeFault)
+    → Done wants old new steps notes → Served limit wants steps kept notes kept' result → (wants ≡ 1 → new.starved_last ≡ true) → CountsFaults result old new
+    → AreSaid (readings_in steps kept) → T (unsealed_in steps kept) → Ran T limit old new kept kept' result
+ended_over T limit wants old new kept kept' steps notes result done served last faults read seals = (
+  steps,
+  notes,
+  record {
+    wants = wants;
+    served = served;
+    log = done.log;
+    order = done.order;
+    missed = done.missed;
+    none_missed = done.none_missed;
+    starved = done.starved;
+    starved_last = last;
+    faults = faults;
+    read = read;
+  },
+  seals,
+)
+
+-- no call of `next` or `close` found no memory
+none_wanted : (b : Bool) → ◌≡◌ {A = ℕ} 0 1 → b ≡ true
+none_wanted b e = absurd (let wrong : ◌≡◌ {A = ℕ} 0 1 = e in cc)
+
 -- one step more
 pub so_more : (S : List JournalRecord → Type 0) (turns : ℕ) (old mid got new : LinkTold) (kept after : Kept) (s : State) (seats : Seats) (event : Event) (r : Result Bool WantOfMemory) (b : Bool)
     → SoServed turns old mid kept s → Comes mid got (Ok event) → is_end event.what ≡ false
-    → (h : Hindrances) × AreLicensed h.deliveries got new × Leads S (happens h s event) got new after seats r
+    → (h : Hindrances) × (n : ℕ) × AreLicensed h.deliveries n got new × Leads S n (happens h s event) got new after seats r
     → r ≡ Ok b → b ≡ false → ((failed : List JournalRecord) → S failed → failed ≡ [])
     → SoServed (turns + 1) old new kept (record { kept = after; seats = seats })
-so_more S turns old mid got new kept after s seats event r b so came goes (h, licensed, leads) ok on only =
+so_more S turns old mid got new kept after s seats event r b so came goes (h, n, licensed, leads) ok on only =
     let step : Step = record { event = event; hindrances = h } in
     let o = happens h s event in
     let did = leads.did in
-    let whole = all_done r b o.notes did.notes ok did.whole in
+    let whole = all_done (WantsIn o n new) r b o.notes did.notes ok did.whole in
     let left = seats_left r b seats o.state.seats o.consoles.stops ok leads.seats_are in
     let readings = so.readings ++ o.consoles.readings in
+    let steps = so.steps ++ step ∷ [] in
+    let notes = so.notes ++ Came event ∷ did.notes in
     record {
-      steps = so.steps ++ step ∷ [];
-      notes = so.notes ++ Came event ∷ did.notes;
+      steps = steps;
+      notes = notes;
       count = length-append so.steps (step ∷ []) ∙ (omega (arith, so.count));
       no_end = all_more (λ t. is_end t.event.what ≡ false) so.steps step so.no_end goes;
       readings = readings;
       leaves =
-          run_more so.steps (at_first kept) step
-          ∙ ap (λ q. then_step q step) so.leaves
+          leaves_more turns old mid kept s step so
           ∙ ap (λ (k : Kept). record { state = record { kept = k; seats = o.state.seats }; notes = so.notes ++ Came event ∷ o.notes; unsealed = o.unsealed; consoles = record { readings = readings; stops = o.consoles.stops } }) (sym leads.kept_is)
           ∙ ap (λ (c : Seats). record { state = record { kept = after; seats = c }; notes = so.notes ++ Came event ∷ o.notes; unsealed = o.unsealed; consoles = record { readings = readings; stops = o.consoles.stops } }) (sym left.0)
-          ∙ ap (λ (n : List LinkNote). record { state = record { kept = after; seats = seats }; notes = so.notes ++ Came event ∷ n; unsealed = o.unsealed; consoles = record { readings = readings; stops = o.consoles.stops } }) whole
-          ∙ ap (λ (u : List JournalRecord). record { state = record { kept = after; seats = seats }; notes = so.notes ++ Came event ∷ did.notes; unsealed = u; consoles = record { readings = readings; stops = o.consoles.stops } }) (only o.unsealed leads.seals)
-          ∙ ap (λ (c : Bool). record { state = record { kept = after; seats = seats }; notes = so.notes ++ Came event ∷ did.notes; unsealed = []; consoles = record { readings = readings; stops = c } }) (sym left.1 ∙ on);
+          ∙ ap (λ (l : List LinkNote). record { state = record { kept = after; seats = seats }; notes = so.notes ++ Came event ∷ l; unsealed = o.unsealed; consoles = record { readings = readings; stops = o.consoles.stops } }) whole
+          ∙ ap (λ (u : List JournalRecord). record { state = record { kept = after; seats = seats }; notes = notes; unsealed = u; consoles = record { readings = readings; stops = o.consoles.stops } }) (only o.unsealed leads.seals)
+          ∙ ap (λ (c : Bool). record { state = record { kept = after; seats = seats }; notes = notes; unsealed = []; consoles = record { readings = readings; stops = c } }) (sym left.1 ∙ on);
       said = said_more so.readings o.consoles.readings so.said leads.read;
-      log = log_more old.log mid.log got.log new.log so.notes did.notes (Came event) so.log came.0 did.goes.log;
-      order = rw events_more (subst (λ c. ComeInOrder old.coming (events_of so.steps ++ event ∷ []) c) (sym did.goes.coming)
-          (order_more old.coming mid.coming got.coming (events_of so.steps) event so.order came.1));
-      missed = rose_more so.steps step old.missed mid.missed got.missed new.missed so.missed came.3 licensed.rose;
-      none_missed = λ e. none_more so.steps step (so.none_missed e) (licensed.reliable (came.4 ∙ so.reliable ∙ e));
-      reliable = did.goes.reliable ∙ came.4 ∙ so.reliable;
-      faults = did.goes.faults ∙ came.2 ∙ so.faults;
+      done = subst (λ k. Done k old new steps notes) (all_closed r b n ok leads.closed) (done_more turns n old mid got new kept s event h did.notes so came licensed did.goes);
+    }
+
+-- what consoles' bytes were read as, with one step more
+read_more : (turns : ℕ) (old mid : LinkTold) (kept : Kept) (s : State) (step : Step) → (so : SoServed turns old mid kept s)
+    → AreSaid (happens step.hindrances s step.event).consoles.readings → AreSaid (readings_in (so.steps ++ step ∷ []) kept)
+read_more turns old mid kept s step so said =
+    subst AreSaid (sym (ap (λ (q : Outcome). q.consoles.readings) (leaves_more turns old mid kept s step so)))
+    (said_more so.readings (happens step.hindrances s step.event).consoles.readings so.said said)
+
+-- what the link did, and what it did not, is what it does for the steps
+serves_more : (turns : ℕ) (old mid : LinkTold) (kept after : Kept) (s : State) (step : Step) (notes more : List LinkNote) → (so : SoServed turns old mid kept s)
+    → after ≡ (happens step.hindrances s step.event).state.kept → (happens step.hindrances s step.event).notes ≡ notes ++ more
+    → Serves (so.steps ++ step ∷ []) kept ((so.notes ++ Came step.event ∷ notes) ++ more) after
+serves_more turns old mid kept after s step notes more so kept_is all =
+    let leaves = leaves_more turns old mid kept s step so in
+    record {
+      notes_are = append_assoc so.notes (Came step.event ∷ notes) more ∙ ap (λ l. so.notes ++ Came step.event ∷ l) (sym all) ∙ sym (ap (λ (q : Outcome). q.notes) leaves);
+      kept_is = kept_is ∙ sym (ap (λ (q : Outcome). q.state.kept) leaves);
     }
 
 -- a console asked serving to stop
 pub so_stopped : (S T : List JournalRecord → Type 0) (turns limit : ℕ) (old mid got new : LinkTold) (kept after : Kept) (s : State) (seats : Seats) (event : Event) (r : Result Bool WantOfMemory) (b : Bool)
     → SoServed turns old mid kept s → turns < limit → Comes mid got (Ok event) → is_end event.what ≡ false
-    → (h : Hindrances) × AreLicensed h.deliveries got new × Leads S (happens h s event) got new after seats r
+    → (h : Hindrances) × (n : ℕ) × AreLicensed h.deliveries n got new × Leads S n (happens h s event) got new after seats r
     → r ≡ Ok b → b ≡ true → ((failed : List JournalRecord) → S failed → failed ≡ []) → ((failed : List JournalRecord) → S failed → T failed)
     → Ran T limit old new kept after (Ok tt)
-so_stopped S T turns limit old mid got new kept after s seats event r b so few came goes (h, licensed, leads) ok stop only then =
+so_stopped S T turns limit old mid got new kept after s seats event r b so few came goes (h, n, licensed, leads) ok stop only then =
     let step : Step = record { event = event; hindrances = h } in
     let o = happens h s event in
     let did = leads.did in
-    let whole = all_done r b o.notes did.notes ok did.whole in
+    let whole = all_done (WantsIn o n new) r b o.notes did.notes ok did.whole in
     let left = seats_left r b seats o.state.seats o.consoles.stops ok leads.seats_are in
-    let leaves = run_more so.steps (at_first kept) step ∙ ap (λ q. then_step q step) so.leaves in
-    let here : happens h (run so.steps (at_first kept)).state event ≡ o = ap (λ (q : Outcome). happens h q.state event) so.leaves in (
-      so.steps ++ step ∷ [],
-      so.notes ++ Came event ∷ did.notes,
+    let zero = all_closed r b n ok leads.closed in
+    let leaves = leaves_more turns old mid kept s step so in
+    let done = done_more turns n old mid got new kept s event h did.notes so came licensed did.goes in
+    let steps = so.steps ++ step ∷ [] in
+    let notes = so.notes ++ Came event ∷ did.notes in
+    ended_over T limit 0 old new kept after steps notes (Ok tt) (subst (λ k. Done k old new steps notes) zero done) (
       record {
-        served = (
-          record {
-            notes_are = ap (λ n. so.notes ++ Came event ∷ n) (sym whole) ∙ sym (ap (λ (q : Outcome). q.notes) leaves);
-            kept_is = leads.kept_is ∙ sym (ap (λ (q : Outcome). q.state.kept) leaves);
-          },
-          (so.steps, step, refl, so.no_end, so_goes turns old mid kept s so, inr (goes, ap (λ (q : Outcome). q.consoles.stops) here ∙ sym left.1 ∙ stop)),
-          ap (λ (q : Outcome). q.unsealed) leaves ∙ only o.unsealed leads.seals,
-          few_more so.steps step turns limit so.count few,
-        );
-        log = log_more old.log mid.log got.log new.log so.notes did.notes (Came event) so.log came.0 did.goes.log;
-        order = rw events_more (subst (λ c. ComeInOrder old.coming (events_of so.steps ++ event ∷ []) c) (sym did.goes.coming)
-            (order_more old.coming mid.coming got.coming (events_of so.steps) event so.order came.1));
-        missed = rose_more so.steps step old.missed mid.missed got.missed new.missed so.missed came.3 licensed.rose;
-        none_missed = λ e. none_more so.steps step (so.none_missed e) (licensed.reliable (came.4 ∙ so.reliable ∙ e));
-        faults = did.goes.faults ∙ came.2 ∙ so.faults;
-        read = subst AreSaid (sym (ap (λ (q : Outcome). q.consoles.readings) leaves)) (said_more so.readings o.consoles.readings so.said leads.read);
+        notes_are = ap (λ l. so.notes ++ Came event ∷ l) (sym whole) ∙ sym (ap (λ (q : Outcome). q.notes) leaves);
+        kept_is = leads.kept_is ∙ sym (ap (λ (q : Outcome). q.state.kept) leaves);
       },
-      subst T (sym (ap (λ (q : Outcome). q.unsealed) leaves)) (then o.unsealed leads.seals),
+      (so.steps, step, refl, so.no_end, so_goes turns old mid kept s so, inr (goes, ap (λ (q : Outcome). q.consoles.stops) (here_is turns old mid kept s step so) ∙ sym left.1 ∙ stop)),
+      ap (λ (q : Outcome). q.unsealed) leaves ∙ only o.unsealed leads.seals,
+      few_more so.steps step turns limit so.count few,
+      refl,
     )
+    (none_wanted new.starved_last) done.faults (read_more turns old mid kept s step so leads.read)
+    (subst T (sym (ap (λ (q : Outcome). q.unsealed) leaves)) (then o.unsealed leads.seals))
 
 -- the end changes nothing
 end_ignored : (h : Hindrances) (s : State) (conn at : ℕ) (what : What) → is_end what ≡ true → answers what h.unfed h.turns h.stage at s conn ≡ ignored s
@@ -263,26 +362,19 @@ so_ended S turns limit old mid got kept s event so some came ends seals =
     let nothing : happens unhindered s event ≡ record { state = s; notes = []; unsealed = []; consoles = no_consoles } =
     ap (λ a. outcome a (delivered [] a.state.seats a.replies)) (end_ignored unhindered s event.conn (min event.at 253402300799) event.what ends) in
     let leaves : run (so.steps ++ step ∷ []) (at_first kept) ≡ record { state = s; notes = so.notes ++ Came event ∷ []; unsealed = []; consoles = record { readings = so.readings ++ []; stops = false } } =
-    run_more so.steps (at_first kept) step ∙ ap (λ o. then_step o step) so.leaves
-    ∙ ap (λ (p : Outcome). record { state = p.state; notes = so.notes ++ Came event ∷ p.notes; unsealed = p.unsealed; consoles = record { readings = so.readings ++ p.consoles.readings; stops = p.consoles.stops } }) nothing in (
-      so.steps ++ step ∷ [],
-      so.notes ++ Came event ∷ [],
-      record {
-        served = (
-          record { notes_are = sym (ap (λ (o : Outcome). o.notes) leaves); kept_is = sym (ap (λ (o : Outcome). o.state.kept) leaves) },
-          (so.steps, step, refl, so.no_end, so_goes turns old mid kept s so, inl ends),
-          ap (λ (o : Outcome). o.unsealed) leaves,
-          few_more so.steps step turns limit so.count some,
-        );
-        log = came.0 ∙ ap (λ o. then_told o (Came event ∷ [])) so.log ∙ then_told-append old.log so.notes (Came event ∷ []);
-        order = rw events_more (order_more old.coming mid.coming got.coming (events_of so.steps) event so.order came.1);
-        missed = rose_more so.steps step old.missed mid.missed got.missed got.missed so.missed came.3 refl;
-        none_missed = λ e. none_more so.steps step (so.none_missed e) refl;
-        faults = came.2 ∙ so.faults;
-        read = subst AreSaid (sym (ap (λ (o : Outcome). o.consoles.readings) leaves)) (said_more so.readings [] so.said tt);
-      },
-      subst S (sym (ap (λ (o : Outcome). o.unsealed) leaves)) seals,
+    leaves_more turns old mid kept s step so
+    ∙ ap (λ (p : Outcome). record { state = p.state; notes = so.notes ++ Came event ∷ p.notes; unsealed = p.unsealed; consoles = record { readings = so.readings ++ p.consoles.readings; stops = p.consoles.stops } }) nothing in
+    let done = done_more turns 0 old mid got got kept s event unhindered [] so came (none_licensed got got refl refl) (goes_none got) in
+    ended_over S limit 0 old got kept s.kept (so.steps ++ step ∷ []) (so.notes ++ Came event ∷ []) (Ok tt) done (
+      record { notes_are = sym (ap (λ (o : Outcome). o.notes) leaves); kept_is = sym (ap (λ (o : Outcome). o.state.kept) leaves) },
+      (so.steps, step, refl, so.no_end, so_goes turns old mid kept s so, inl ends),
+      ap (λ (o : Outcome). o.unsealed) leaves,
+      few_more so.steps step turns limit so.count some,
+      refl,
     )
+    (none_wanted got.starved_last) done.faults
+    (subst AreSaid (sym (ap (λ (o : Outcome). o.consoles.readings) leaves)) (said_more so.readings [] so.said tt))
+    (subst S (sym (ap (λ (o : Outcome). o.unsealed) leaves)) seals)
 
 -- ---- serving ended between two events
 
@@ -295,6 +387,24 @@ so_serves turns old new kept s so = record {
 so_sealed : (turns : ℕ) (old new : LinkTold) (kept : Kept) (s : State) → (so : SoServed turns old new kept s) → unsealed_in so.steps kept ≡ []
 so_sealed turns old new kept s so = ap (λ (o : Outcome). o.unsealed) so.leaves
 
+-- `next` failed, or found no memory: nothing came
+done_still : (turns n : ℕ) (old mid got : LinkTold) (kept : Kept) (s : State) → (so : SoServed turns old mid kept s)
+    → got.log ≡ mid.log → got.coming ≡ mid.coming → got.missed ≡ mid.missed → Counted n mid.starved got.starved → got.is_reliable ≡ mid.is_reliable → got.faults ≡ mid.faults
+    → Done n old got so.steps so.notes
+done_still turns n old mid got kept s so log coming missed starved reliable faults =
+    let done = so.done in
+    record {
+      log = log ∙ done.log;
+      order = subst (λ c. ComeInOrder old.coming (events_of so.steps) c) (sym coming) done.order;
+      missed = subst (λ k. RoseBy (missed_in so.steps) old.missed k) (sym missed) done.missed;
+      none_missed = done.none_missed;
+      starved =
+          let whole : (left_out_in so.steps + 0) + n ≡ left_out_in so.steps + n = omega arith in
+          subst (λ k. Counted k old.starved got.starved) whole (counted_add (left_out_in so.steps + 0) n old.starved mid.starved got.starved done.starved starved);
+      reliable = reliable ∙ done.reliable;
+      faults = faults ∙ done.faults;
+    }
+
 -- `next` failed
 pub so_unlinked : (S : List JournalRecord → Type 0) (turns limit : ℕ) (old mid got : LinkTold) (kept : Kept) (s : State)
     → SoServed turns old mid kept s → turns < limit → Comes mid got (Err Failed) → S [] → Ran S limit old got kept s.kept (Err Link)
@@ -302,16 +412,19 @@ so_unlinked S turns limit old mid got kept s so few came seals = (
   so.steps,
   so.notes,
   record {
-    served = (so_serves turns old mid kept s so, so.no_end, subst (λ n. n < limit) (sym so.count) few, so_sealed turns old mid kept s so, so_goes turns old mid kept s so);
-    log = ap (λ (t : LinkTold). t.log) came.0 ∙ so.log;
-    order = subst (λ c. ComeInOrder old.coming (events_of so.steps) c) (sym (ap (λ (t : LinkTold). t.coming) came.0)) so.order;
-    missed = subst (λ n. RoseBy (missed_in so.steps) old.missed n) (sym (ap (λ (t : LinkTold). t.missed) came.0)) so.missed;
-    none_missed = so.none_missed;
+    wants = 0;
+    served = (so_serves turns old mid kept s so, so.no_end, subst (λ n. n < limit) (sym so.count) few, so_sealed turns old mid kept s so, so_goes turns old mid kept s so, refl);
+    log = ap (λ (t : LinkTold). t.log) came.0 ∙ so.done.log;
+    order = subst (λ c. ComeInOrder old.coming (events_of so.steps) c) (sym (ap (λ (t : LinkTold). t.coming) came.0)) so.done.order;
+    missed = subst (λ n. RoseBy (missed_in so.steps) old.missed n) (sym (ap (λ (t : LinkTold). t.missed) came.0)) so.done.missed;
+    none_missed = so.done.none_missed;
+    starved = subst (λ n. Counted (left_out_in so.steps + 0) old.starved n) (sym (ap (λ (t : LinkTold). t.starved) came.0)) so.done.starved;
+    starved_last = none_wanted got.starved_last;
     faults = (
-      subst (λ n. Rose n got.faults) so.faults came.1,
-      sym so.reliable ∙ came.2,
+      subst (λ n. Rose n got.faults) so.done.faults came.1,
+      sym so.done.reliable ∙ came.2,
       ap (λ (t : LinkTold). t.failed_last) came.0,
-      subst (λ n. got.faults ≤ n + 1) so.faults came.3,
+      subst (λ n. got.faults ≤ n + 1) so.done.faults came.3,
     );
     read = so_read turns old mid kept s so;
   },
@@ -321,125 +434,123 @@ so_unlinked S turns limit old mid got kept s so few came seals = (
 -- `next` found no memory
 pub so_unfed : (S : List JournalRecord → Type 0) (turns limit : ℕ) (old mid got : LinkTold) (kept : Kept) (s : State)
     → SoServed turns old mid kept s → turns < limit → Comes mid got (Err NoneForNext) → S [] → Ran S limit old got kept s.kept (Err NoMemory)
-so_unfed S turns limit old mid got kept s so few same seals = subst (λ (t : LinkTold). Ran S limit old t kept s.kept (Err NoMemory)) (sym same) (
-  so.steps,
-  so.notes,
-  record {
-    served = (
+so_unfed S turns limit old mid got kept s so few (same, once) seals =
+    let done = done_still turns 1 old mid got kept s so (ap (λ (t : LinkTold). t.log) same) (ap (λ (t : LinkTold). t.coming) same) (ap (λ (t : LinkTold). t.missed) same)
+    (counted_one mid.starved got.starved once) (ap (λ (t : LinkTold). t.is_reliable) same) (ap (λ (t : LinkTold). t.faults) same) in
+    ended_over S limit 1 old got kept s.kept so.steps so.notes (Err NoMemory) done (
       [],
       record { notes_are = append-nil so.notes ∙ (so_serves turns old mid kept s so).notes_are; kept_is = (so_serves turns old mid kept s so).kept_is },
       so.no_end,
-      inl refl,
+      inl (refl, refl),
       so_sealed turns old mid kept s so,
       omega (arith, so.count, few),
       inl (so_goes turns old mid kept s so),
-    );
-    log = so.log;
-    order = so.order;
-    missed = so.missed;
-    none_missed = so.none_missed;
-    faults = so.faults;
-    read = so_read turns old mid kept s so;
-  },
-  subst S (sym (so_sealed turns old mid kept s so)) seals,
-)
+    )
+    (λ _. ap (λ (t : LinkTold). t.starved_last) same) done.faults (so_read turns old mid kept s so) (subst S (sym (so_sealed turns old mid kept s so)) seals)
 
 -- so many events were taken
 pub so_spent : (S : List JournalRecord → Type 0) (turns limit : ℕ) (old new : LinkTold) (kept : Kept) (s : State)
     → SoServed turns old new kept s → turns ≡ limit → S [] → Ran S limit old new kept s.kept (Err Turns)
-so_spent S turns limit old new kept s so all seals = (
-  so.steps,
-  so.notes,
-  record {
-    served = (so_serves turns old new kept s so, so.no_end, so.count ∙ all, so_sealed turns old new kept s so, so_goes turns old new kept s so);
-    log = so.log;
-    order = so.order;
-    missed = so.missed;
-    none_missed = so.none_missed;
-    faults = so.faults;
-    read = so_read turns old new kept s so;
-  },
-  subst S (sym (so_sealed turns old new kept s so)) seals,
-)
+so_spent S turns limit old new kept s so all seals =
+    ended_over S limit 0 old new kept s.kept so.steps so.notes (Err Turns) so.done
+    (so_serves turns old new kept s so, so.no_end, so.count ∙ all, so_sealed turns old new kept s so, so_goes turns old new kept s so, refl)
+    (none_wanted new.starved_last) so.done.faults (so_read turns old new kept s so) (subst S (sym (so_sealed turns old new kept s so)) seals)
 
 -- ---- and within one
 
+-- a close in the last step found no memory
+cut_at_close : (turns n : ℕ) (old mid new : LinkTold) (kept : Kept) (s : State) (step : Step) (notes more : List LinkNote) → (so : SoServed turns old mid kept s)
+    → (happens step.hindrances s step.event).notes ≡ notes ++ more → n ≡ 1 → StopsAtClose more new → IsCutAtClose n (so.steps ++ step ∷ []) kept more
+cut_at_close turns n old mid new kept s step notes more so all one stops = record {
+  front = notes;
+  conn = stops.conn;
+  rest = stops.rest;
+  more_is = stops.more_is;
+  of_last = record { before = so.steps; last = step; steps_are = refl; notes_are = ap (λ (q : Outcome). q.notes) (here_is turns old mid kept s step so) ∙ all };
+  wanted = one;
+}
+
+-- how memory was wanted in the last step
+left_starved : (turns n : ℕ) (old mid new : LinkTold) (kept : Kept) (s : State) (step : Step) (notes more : List LinkNote) → (so : SoServed turns old mid kept s)
+    → (happens step.hindrances s step.event).notes ≡ notes ++ more → WantsIn (happens step.hindrances s step.event) n new notes more
+    → IsLeftStarved n (so.steps ++ step ∷ []) kept more × (n ≡ 1 → new.starved_last ≡ true)
+left_starved turns n old mid new kept s step notes more so all (inl (none, zero, sealed)) = (
+  inr (inl (
+    record {
+      before = so.steps;
+      last = step;
+      steps_are = refl;
+      notes_are = ap (λ (q : Outcome). q.notes) (here_is turns old mid kept s step so) ∙ all ∙ ap (λ l. l ++ more) none;
+    },
+    zero,
+  )),
+  λ one. none_wanted new.starved_last (sym zero ∙ one),
+)
+left_starved turns n old mid new kept s step notes more so all (inr (one, stops)) =
+    (inr (inr (cut_at_close turns n old mid new kept s step notes more so all one stops)), λ _. stops.starved_last)
+
+-- what was left undone where sealing failed in the last step
+left_unsealed : (turns n : ℕ) (old mid new : LinkTold) (kept : Kept) (s : State) (step : Step) (notes more : List LinkNote) → (so : SoServed turns old mid kept s)
+    → (happens step.hindrances s step.event).notes ≡ notes ++ more → ((more ≡ []) × (n ≡ 0)) ⊎ ((n ≡ 1) × StopsAtClose more new)
+    → IsLeftUnsealed n (so.steps ++ step ∷ []) kept more × (n ≡ 1 → new.starved_last ≡ true)
+left_unsealed turns n old mid new kept s step notes more so all (inl none) = (inl none, λ one. none_wanted new.starved_last (sym none.1 ∙ one))
+left_unsealed turns n old mid new kept s step notes more so all (inr (one, stops)) =
+    (inr (cut_at_close turns n old mid new kept s step notes more so all one stops), λ _. stops.starved_last)
+
 -- memory was wanted in an event
-pub so_starved : (S T : List JournalRecord → Type 0) (turns limit : ℕ) (old mid got new : LinkTold) (kept after : Kept) (s : State) (seats : Seats) (event : Event) (r : Result Bool WantOfMemory)
+pub so_starved : (S T : List JournalRecord → Type 0) (turns limit : ℕ) (old mid got new : LinkTold) (kept after : Kept) (s : State) (seats : Seats) (event : Event) (r : Result Bool WantOfMemory) (w : WantOfMemory)
     → SoServed turns old mid kept s → turns < limit → Comes mid got (Ok event) → is_end event.what ≡ false
-    → (h : Hindrances) × AreLicensed h.deliveries got new × Leads S (happens h s event) got new after seats r
-    → ((failed : List JournalRecord) → S failed → failed ≡ []) → ((failed : List JournalRecord) → S failed → T failed)
+    → (h : Hindrances) × (n : ℕ) × AreLicensed h.deliveries n got new × Leads S n (happens h s event) got new after seats r
+    → r ≡ Err w → ((failed : List JournalRecord) → S failed → failed ≡ []) → ((failed : List JournalRecord) → S failed → T failed)
     → Ran T limit old new kept after (Err NoMemory)
-so_starved S T turns limit old mid got new kept after s seats event r so few came goes (h, licensed, leads) only then =
+so_starved S T turns limit old mid got new kept after s seats event r w so few came goes (h, n, licensed, leads) bad only then =
     let step : Step = record { event = event; hindrances = h } in
     let o = happens h s event in
     let did = leads.did in
-    let more = left_out r o.notes did.notes did.whole in
-    let leaves = run_more so.steps (at_first kept) step ∙ ap (λ q. then_step q step) so.leaves in
-    let sealed = ap (λ (q : Outcome). q.unsealed) leaves ∙ only o.unsealed leads.seals in
-    let notes = so.notes ++ Came event ∷ did.notes in (
-      so.steps ++ step ∷ [],
-      notes,
-      record {
-        served = (
-          more.0,
-          record {
-            notes_are = append_assoc so.notes (Came event ∷ did.notes) more.0 ∙ ap (λ n. so.notes ++ Came event ∷ n) (sym more.1) ∙ sym (ap (λ (q : Outcome). q.notes) leaves);
-            kept_is = leads.kept_is ∙ sym (ap (λ (q : Outcome). q.state.kept) leaves);
-          },
-          all_more (λ t. is_end t.event.what ≡ false) so.steps step so.no_end goes,
-          inr (so.steps, step, did.notes, refl, ap (λ (q : Outcome). (happens h q.state event).notes) so.leaves ∙ more.1),
-          sealed,
-          few_more so.steps step turns limit so.count few,
-          inr (so.steps, step, refl, so_goes turns old mid kept s so),
-        );
-        log = log_more old.log mid.log got.log new.log so.notes did.notes (Came event) so.log came.0 did.goes.log;
-        order = rw events_more (subst (λ c. ComeInOrder old.coming (events_of so.steps ++ event ∷ []) c) (sym did.goes.coming)
-            (order_more old.coming mid.coming got.coming (events_of so.steps) event so.order came.1));
-        missed = rose_more so.steps step old.missed mid.missed got.missed new.missed so.missed came.3 licensed.rose;
-        none_missed = λ e. none_more so.steps step (so.none_missed e) (licensed.reliable (came.4 ∙ so.reliable ∙ e));
-        faults = did.goes.faults ∙ came.2 ∙ so.faults;
-        read = subst AreSaid (sym (ap (λ (q : Outcome). q.consoles.readings) leaves)) (said_more so.readings o.consoles.readings so.said leads.read);
-      },
-      subst T (sym (ap (λ (q : Outcome). q.unsealed) leaves)) (then o.unsealed leads.seals),
+    let (more, all, wants) = starved_in o n new r w o.notes did.notes bad did.whole in
+    let leaves = leaves_more turns old mid kept s step so in
+    let done = done_more turns n old mid got new kept s event h did.notes so came licensed did.goes in
+    let left = left_starved turns n old mid new kept s step did.notes more so all wants in
+    ended_over T limit n old new kept after (so.steps ++ step ∷ []) (so.notes ++ Came event ∷ did.notes) (Err NoMemory) done (
+      more,
+      serves_more turns old mid kept after s step did.notes more so leads.kept_is all,
+      all_more (λ t. is_end t.event.what ≡ false) so.steps step so.no_end goes,
+      left.0,
+      ap (λ (q : Outcome). q.unsealed) leaves ∙ only o.unsealed leads.seals,
+      few_more so.steps step turns limit so.count few,
+      inr (so.steps, step, refl, so_goes turns old mid kept s so),
     )
+    left.1 done.faults (read_more turns old mid kept s step so leads.read)
+    (subst T (sym (ap (λ (q : Outcome). q.unsealed) leaves)) (then o.unsealed leads.seals))
 
 -- sealing failed in an event
 pub so_failed : (S T : List JournalRecord → Type 0) (turns limit : ℕ) (old mid got new : LinkTold) (kept after : Kept) (s : State) (seats : Seats) (event : Event) (r : Result Bool WantOfMemory)
     → SoServed turns old mid kept s → turns < limit → Comes mid got (Ok event) → is_end event.what ≡ false
-    → (h : Hindrances) × AreLicensed h.deliveries got new × Leads S (happens h s event) got new after seats r
+    → (h : Hindrances) × (n : ℕ) × AreLicensed h.deliveries n got new × Leads S n (happens h s event) got new after seats r
     → ((failed : List JournalRecord) → S failed → failed ≢ []) → ((failed : List JournalRecord) → S failed → T failed)
     → Ran T limit old new kept after (Err Disk)
-so_failed S T turns limit old mid got new kept after s seats event r so few came goes (h, licensed, leads) some then =
+so_failed S T turns limit old mid got new kept after s seats event r so few came goes (h, n, licensed, leads) some then =
     let step : Step = record { event = event; hindrances = h } in
     let o = happens h s event in
     let did = leads.did in
-    let more = left_out r o.notes did.notes did.whole in
-    let leaves = run_more so.steps (at_first kept) step ∙ ap (λ q. then_step q step) so.leaves in
-    let here : (happens h (run so.steps (at_first kept)).state event) ≡ o = ap (λ (q : Outcome). happens h q.state event) so.leaves in
-    let notes = so.notes ++ Came event ∷ did.notes in (
-      so.steps ++ step ∷ [],
-      notes,
-      record {
-        served = (
-          more.0,
-          record {
-            notes_are = append_assoc so.notes (Came event ∷ did.notes) more.0 ∙ ap (λ n. so.notes ++ Came event ∷ n) (sym more.1) ∙ sym (ap (λ (q : Outcome). q.notes) leaves);
-            kept_is = leads.kept_is ∙ sym (ap (λ (q : Outcome). q.state.kept) leaves);
-          },
-          all_more (λ t. is_end t.event.what ≡ false) so.steps step so.no_end goes,
-          inr (so.steps, step, did.notes, refl, ap (λ (q : Outcome). q.notes) here ∙ more.1),
-          (so.steps, step, refl, ap (λ (q : Outcome). q.unsealed) so.leaves, λ none. some o.unsealed leads.seals (sym (ap (λ (q : Outcome). q.unsealed) here) ∙ none)),
-          few_more so.steps step turns limit so.count few,
-          inr (so.steps, step, refl, so_goes turns old mid kept s so),
-        );
-        log = log_more old.log mid.log got.log new.log so.notes did.notes (Came event) so.log came.0 did.goes.log;
-        order = rw events_more (subst (λ c. ComeInOrder old.coming (events_of so.steps ++ event ∷ []) c) (sym did.goes.coming)
-            (order_more old.coming mid.coming got.coming (events_of so.steps) event so.order came.1));
-        missed = rose_more so.steps step old.missed mid.missed got.missed new.missed so.missed came.3 licensed.rose;
-        none_missed = λ e. none_more so.steps step (so.none_missed e) (licensed.reliable (came.4 ∙ so.reliable ∙ e));
-        faults = did.goes.faults ∙ came.2 ∙ so.faults;
-        read = subst AreSaid (sym (ap (λ (q : Outcome). q.consoles.readings) leaves)) (said_more so.readings o.consoles.readings so.said leads.read);
-      },
-      subst T (sym (ap (λ (q : Outcome). q.unsealed) leaves)) (then o.unsealed leads.seals),
+    let (more, all, cut) = cut_in o n new r o.notes did.notes (some o.unsealed leads.seals) did.whole leads.closed in
+    let leaves = leaves_more turns old mid kept s step so in
+    let done = done_more turns n old mid got new kept s event h did.notes so came licensed did.goes in
+    let left = left_unsealed turns n old mid new kept s step did.notes more so all cut in
+    ended_over T limit n old new kept after (so.steps ++ step ∷ []) (so.notes ++ Came event ∷ did.notes) (Err Disk) done (
+      more,
+      serves_more turns old mid kept after s step did.notes more so leads.kept_is all,
+      all_more (λ t. is_end t.event.what ≡ false) so.steps step so.no_end goes,
+      left.0,
+      (
+        so.steps,
+        step,
+        refl,
+        ap (λ (q : Outcome). q.unsealed) so.leaves,
+        λ none. some o.unsealed leads.seals (sym (ap (λ (q : Outcome). q.unsealed) (here_is turns old mid kept s step so)) ∙ none),
+      ),
+      few_more so.steps step turns limit so.count few,
+      inr (so.steps, step, refl, so_goes turns old mid kept s so),
     )
+    left.1 done.faults (read_more turns old mid kept s step so leads.read)
+    (subst T (sym (ap (λ (q : Outcome). q.unsealed) leaves)) (then o.unsealed leads.seals))

@@ -10,14 +10,14 @@ use Rattle.verb_core.specs.Live.{live}
 use Rattle.verb_core.specs.Names.{is_empty}
 use Rattle.verb_bytes.specs.declared.journal.JournalRecord.{JournalRecord}
 use Rattle.verb_bytes.specs.declared.journal.JournalRecord.TheVariants.{Verb}
-use Rattle.mail_desk.specs.Kept.{Kept}
-use Rattle.mail_desk.specs.Desk.{store_of, submitted}
+use Rattle.verb_core.specs.Kept.{Kept, store_of}
+use Rattle.mail_desk.specs.Desk.{submitted}
 use Rattle.time_desk.specs.Lasting.{Lasting, IsUnwritten}
 use Rattle.time_desk.specs.Sealing.{Seals}
 use Rattle.time_desk.specs.Submitting.{SubmitsNone}
 use Rattle.mail_loop.specs.declared.reply.Reply.{Reply}
 use Rattle.mail_loop.specs.Asked.{HaveSealed}
-use Rattle.mail_loop.specs.Dialog.{Turn}
+use Rattle.mail_loop.specs.SmtpTurn.{Turn}
 use Rattle.mail_loop.specs.Took.{Submits, Takes}
 
 module _ {D : Type 0} (told : D → DiskTold) where

@@ -19,6 +19,18 @@ remove_set {X} test (e ∷ es) w = by_test (test e.0) refl (remove_set test es w
     by_test true is more = ap (λ c. cond c es ((e.0, w) ∷ remove_entry test es)) is
     by_test false is more = ap (λ c. cond c (set_value test es w) (e ∷ remove_entry test (set_value test es w))) is ∙ ap (λ l. e ∷ l) more
 
+-- no more are left where one is removed
+pub fewer_left : {X : Type 0} → (test : ℕ → Bool) (es : List (ℕ × X)) → length (remove_entry test es) ≤ length es
+fewer_left test [] = omega arith
+fewer_left {X} test (e ∷ es) = by_test (test e.0) (fewer_left test es)
+  where
+    by_test : (b : Bool) → length (remove_entry test es) ≤ length es → length (cond b es (e ∷ remove_entry test es)) ≤ length (e ∷ es)
+    by_test true less = let more : length (e ∷ es) ≡ suc (length es) = refl in omega (arith, more)
+    by_test false less =
+        let more : length (e ∷ es) ≡ suc (length es) = refl in
+        let left : length (e ∷ remove_entry test es) ≡ suc (length (remove_entry test es)) = refl in
+        omega (arith, more, left, less)
+
 -- a client joins on a connection that is open, or is not
 pub joins_open : (o : Option Seat) (role : Role) (s : State) (conn : ℕ) → is_some o ≡ true → joins o role s conn ≡ ignored s
 joins_open None role s conn wrong = absurd (let w : false ≡ true = wrong in cc)

@@ -4,15 +4,15 @@ use Rattle.std.specs.Option.{option_map}
 use Rattle.std.proofs.lemmas.List.{append-nil, append_assoc}
 use Rattle.verb_core.specs.declared.mailbox.BoxId.{BoxId}
 use Rattle.mail_loop.specs.declared.reply.Reply.{Reply}
-use Rattle.mail_desk.specs.Kept.{Kept}
+use Rattle.verb_core.specs.Kept.{Kept}
 use Rattle.verb_bytes.specs.declared.journal.JournalRecord.{JournalRecord}
 use Rattle.mail_loop.specs.State.{Seat, State}
-use Rattle.mail_loop.specs.Dialog.{Turn}
+use Rattle.mail_loop.specs.SmtpTurn.{Turn}
 use Rattle.mail_loop.specs.Hindrance.{Hindrance, Clear, Unheard}
 use Rattle.mail_loop.specs.Turns.{Outcome, Heard, after, goes_on, turns, outcome_of, heard_by}
 use Rattle.console_head.specs.Request.{Stage}
-use Rattle.mail_loop.specs.declared.console.Turned.{Turned}
-use Rattle.mail_loop.specs.Console.{AreSaid, Reading, no_consoles}
+use Rattle.mail_loop.specs.declared.console_turn.Turned.{Turned}
+use Rattle.mail_loop.specs.ConsoleTurn.{AreSaid, Reading, no_consoles}
 use Rattle.mail_loop.specs.Machine.{Seats, closed_others, heard, hears, seated, with_reply}
 use Rattle.mail_loop.specs.Took.{Takes, Tells, seat_left, answered_alone}
 

@@ -27,12 +27,12 @@ use Rattle.smtp_session.specs.declared.answer.Answer.TheVariants.{Done, Begin, B
 use Rattle.std.specs.Str.{str_to_ascii_lowercase}
 use Rattle.smtp_session.specs.Dialog as session
 use Rattle.mail_loop.specs.declared.reply.Reply.{Reply}
-use Rattle.mail_desk.specs.Kept.{Kept}
-use Rattle.mail_desk.specs.Desk.{Submitted, store_of, submitted_as}
+use Rattle.verb_core.specs.Kept.{Kept, store_of}
+use Rattle.mail_desk.specs.Desk.{Submitted, submitted_as}
 use Rattle.verb_bytes.specs.declared.journal.JournalRecord.{JournalRecord}
 use Rattle.verb_bytes.specs.declared.journal.JournalRecord.TheVariants.{Verb}
 use Rattle.mail_loop.specs.Asked.{Asked, does, fails, unsealed_as}
-use Rattle.mail_loop.specs.Dialog.{Turn, says, ends, settled_as, settled, followed}
+use Rattle.mail_loop.specs.SmtpTurn.{Turn, says, ends, settled_as, settled, followed}
 use Rattle.mail_loop.specs.Hindrance.{Hindrance, Clear, Refused as IsTold452, Unread, Unstored, Unheard, Unanswered, Unsealed, Untold, hindered, memory_told, refused_in_text, unanswered}
 use Rattle.mail_loop.specs.Took.{Adds, IsTold, IsAsked, IsNone, Takes, SettlesAgain, Settles, Submits, asked_as, hindered_after}
 use Rattle.mail_loop.proofs.Refusals.{due_or_starved}

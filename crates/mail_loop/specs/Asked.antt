@@ -13,8 +13,8 @@ use Rattle.verb_bytes.specs.declared.journal.JournalRecord.TheVariants.{Verb}
 use Rattle.undo_outside.specs.Disk.{DiskTold}
 use Rattle.time_desk.specs.Lasting.{Lasting}
 use Rattle.time_desk.specs.Sealing.{Seals}
-use Rattle.mail_desk.specs.Kept.{Kept}
-use Rattle.mail_desk.specs.Desk.{store_of, submitted}
+use Rattle.verb_core.specs.Kept.{Kept, store_of}
+use Rattle.mail_desk.specs.Desk.{submitted}
 
 -- the item or why there is none, what is kept, and the record whose sealing failed, where one did
 pub record Asked : Type 0 where

@@ -1,11 +1,12 @@
 -- What calls of the serving loop do to the link, in the machine's words.
-use Rattle.std.specs.Prelude.{◌≡◌, ℕ, zero, suc, ◌+◌, ◌-◌, ◌^◌, ◌≤◌, min, Bool, true, List, [], ◌∷◌, ◌++◌, Result, Ok, Err, MatchResult}
+use Rattle.std.specs.Prelude.{◌≡◌, ◌⊎◌, ℕ, zero, suc, ◌+◌, ◌-◌, ◌^◌, ◌≤◌, min, Bool, true, List, [], ◌∷◌, ◌++◌, Result, Ok, Err, MatchResult}
 use Rattle.undo_base.specs.declared.memory.NoMemory.{NoMemory as WantOfMemory}
 use Rattle.undo_outside.specs.declared.event.LinkNote.{LinkNote}
+use Rattle.undo_outside.specs.declared.event.LinkNote.TheVariants.{Closed}
 use Rattle.undo_outside.specs.Calls.{LinkTold, then_told}
 use Rattle.verb_bytes.specs.declared.journal.JournalRecord.{JournalRecord}
-use Rattle.mail_desk.specs.Kept.{Kept}
-use Rattle.mail_loop.specs.Console.{AreSaid}
+use Rattle.verb_core.specs.Kept.{Kept}
+use Rattle.mail_loop.specs.ConsoleTurn.{AreSaid}
 use Rattle.mail_loop.specs.Machine.{Seats, Delivery, Arrives, IsMissed, IsLeftOut, Reply, Answered, Delivered, Outcome, string_notes, reply_notes, remains}
 
 -- the link did this, and gave no event
@@ -25,56 +26,89 @@ abbrev pub missed_of : List Delivery → ℕ
 missed_of [] = 0
 missed_of (d ∷ ds) = missed_by d + missed_of ds
 
+-- how many strings were left out
+abbrev pub left_out_by : Delivery → ℕ
+left_out_by IsMissed = 0
+left_out_by Arrives = 0
+left_out_by IsLeftOut = 1
+
+abbrev pub left_out_of : List Delivery → ℕ
+left_out_of [] = 0
+left_out_of (d ∷ ds) = left_out_by d + left_out_of ds
+
 -- a count rose by so many at least, or stands at its last value; by none, it is as it was
 abbrev pub RoseBy : ℕ → ℕ → ℕ → Type 0
 RoseBy zero before now = now ≡ before
 RoseBy (suc n) before now = (before ≤ now) × (min (before + suc n) (2 ^ 64 - 1) ≤ now)
 
--- strings are missed only where the link counted each, and not on a link that misses none
-pub record AreLicensed (ds : List Delivery) (old new : LinkTold) : Type 0 where
+-- a count rose by just so many, or stands at its last value
+abbrev pub Counted : ℕ → ℕ → ℕ → Type 0
+Counted n before now = RoseBy n before now × (now ≤ before + n)
+
+-- Strings are missed only where the link counted each, and not on a link that misses none. They are left out only where a call found no memory for
+-- each: the link counted these, and so many a `close` that found none, and no other.
+pub record AreLicensed (ds : List Delivery) (unclosed : ℕ) (old new : LinkTold) : Type 0 where
   pub rose : RoseBy (missed_of ds) old.missed new.missed
+  pub starved : Counted (left_out_of ds + unclosed) old.starved new.starved
   pub reliable : old.is_reliable ≡ true → missed_of ds ≡ 0
 
 -- the string of a reply went out, was missed or was left out; whether the connection stays open
 pub record Told (old new : LinkTold) (r : Reply) (stays : Bool) : Type 0 where
   pub delivery : Delivery
-  pub licensed : AreLicensed (delivery ∷ []) old new
+  pub licensed : AreLicensed (delivery ∷ []) 0 old new
   pub stays_is : stays ≡ remains delivery r.said r.closes
   pub goes : Goes old new (string_notes delivery r.conn r.said)
+
+-- what was not done begins with a close, for which no memory was found, and the link got no call after that
+pub record StopsAtClose (more : List LinkNote) (new : LinkTold) : Type 0 where
+  pub conn : ℕ
+  pub rest : List LinkNote
+  pub more_is : more ≡ Closed conn ∷ rest
+  pub starved_last : new.starved_last ≡ true
 
 -- a reply went out: its string, and its close where it is to be closed; or no memory was found for the close
 abbrev pub Replied : LinkTold → LinkTold → Reply → Result Bool WantOfMemory → Type 0
 Replied old new r (Ok stays) =
-    (delivery : Delivery) × AreLicensed (delivery ∷ []) old new × (stays ≡ remains delivery r.said r.closes) × Goes old new (reply_notes delivery r)
+    (delivery : Delivery) × AreLicensed (delivery ∷ []) 0 old new × (stays ≡ remains delivery r.said r.closes) × Goes old new (reply_notes delivery r)
 Replied old new r (Err e) =
-    (delivery : Delivery) × AreLicensed (delivery ∷ []) old new × (more : List LinkNote) × (notes : List LinkNote)
-    × (reply_notes delivery r ≡ notes ++ more) × Goes old new notes
+    (delivery : Delivery) × AreLicensed (delivery ∷ []) 1 old new × (more : List LinkNote) × (notes : List LinkNote)
+    × (reply_notes delivery r ≡ notes ++ more) × Goes old new notes × StopsAtClose more new
 
--- the link did all of this, or memory was wanted before it had done all
-pub record Did {T : Type 0} (all : List LinkNote) (old new : LinkTold) (result : Result T WantOfMemory) : Type 0 where
+-- the link did all of this, or memory was wanted before it had done all: C holds then of what it did and of what it did not
+pub record Did {T : Type 0} (C : List LinkNote → List LinkNote → Type 0) (all : List LinkNote) (old new : LinkTold) (result : Result T WantOfMemory) : Type 0 where
   pub notes : List LinkNote
   pub goes : Goes old new notes
-  pub whole : MatchResult result (λ _. all ≡ notes) (λ _. (more : List LinkNote) × (all ≡ notes ++ more))
+  pub whole : MatchResult result (λ _. all ≡ notes) (λ _. (more : List LinkNote) × (all ≡ notes ++ more) × C notes more)
 
--- replies went out, and these are the open connections then, unless memory was wanted
+-- how many a `close` found no memory
+abbrev pub unclosed_by : {T : Type 0} → Result T WantOfMemory → ℕ
+unclosed_by (Ok x) = 0
+unclosed_by (Err e) = 1
+
+-- replies went out, and these are the open connections then, unless no memory was found for a close
 pub record Sends (d : Delivered) (old new : LinkTold) (seats : Seats) (result : Result (Unit {0}) WantOfMemory) : Type 0 where
-  pub did : Did d.notes old new result
+  pub did : Did (λ notes more. StopsAtClose more new) d.notes old new result
   pub seats_are : MatchResult result (λ _. seats ≡ d.seats) (λ _. Unit {0})
+
+-- memory was wanted in an event: for its bytes and its strings, before anything was sealed and done; or for a close of it
+abbrev pub WantsIn : Outcome → ℕ → LinkTold → List LinkNote → List LinkNote → Type 0
+WantsIn o unclosed new notes more = ((notes ≡ []) × (unclosed ≡ 0) × (o.unsealed ≡ [])) ⊎ ((unclosed ≡ 1) × StopsAtClose more new)
 
 -- an event led to this outcome, and serving is asked to stop or not, or memory was wanted before the link had done all of it; S holds of the record
 -- whose sealing failed, and what consoles' bytes were read as is so
-pub record Leads (S : List JournalRecord → Type 0) (o : Outcome) (old new : LinkTold) (kept : Kept) (seats : Seats) (result : Result Bool WantOfMemory) : Type 0 where
-  pub did : Did o.notes old new result
+pub record Leads (S : List JournalRecord → Type 0) (unclosed : ℕ) (o : Outcome) (old new : LinkTold) (kept : Kept) (seats : Seats) (result : Result Bool WantOfMemory) : Type 0 where
+  pub did : Did (WantsIn o unclosed new) o.notes old new result
   pub kept_is : kept ≡ o.state.kept
   pub seats_are : MatchResult result (λ stops. (seats ≡ o.state.seats) × (stops ≡ o.consoles.stops)) (λ _. Unit {0})
+  pub closed : MatchResult result (λ _. unclosed ≡ 0) (λ _. Unit {0})
   pub seals : S o.unsealed
   pub read : AreSaid o.consoles.readings
 
--- what an event leaves before its strings are sent, or memory was wanted for the replies
+-- what an event leaves before its strings are sent, or memory was wanted for it or for the replies, and nothing was sealed
 abbrev pub AnswersWith : {T : Type 0} → Answered → Kept → Seats → (T → List Reply) → (T → Bool) → Result T WantOfMemory → Type 0
 AnswersWith a kept seats view stops (Ok replies) =
     (kept ≡ a.state.kept) × (seats ≡ a.state.seats) × (view replies ≡ a.replies) × (stops replies ≡ a.consoles.stops)
-AnswersWith a kept seats view stops (Err e) = kept ≡ a.state.kept
+AnswersWith a kept seats view stops (Err e) = (kept ≡ a.state.kept) × (a.unsealed ≡ [])
 
 -- S holds of the record whose sealing failed, and what consoles' bytes were read as is so
 abbrev pub Answers : {T : Type 0} → (List JournalRecord → Type 0) → Answered → Kept → Seats → (T → List Reply) → (T → Bool) → Result T WantOfMemory → Type 0

@@ -7,10 +7,9 @@ use Rattle.smtp_session.specs.declared.answer.SmtpOut.TheVariants.{Nothing, Say,
 use Rattle.smtp_session.specs.declared.dialog.Dialog.{Dialog}
 use Rattle.smtp_session.specs.Answer.{answer_text}
 use Rattle.smtp_session.specs.Dialog as session
-use Rattle.mail_desk.specs.Kept.{Kept}
-use Rattle.mail_desk.specs.Desk.{store_of}
+use Rattle.verb_core.specs.Kept.{Kept, store_of}
 use Rattle.mail_loop.specs.Asked.{fails, starves}
-use Rattle.mail_loop.specs.Dialog.{Turn, turn, says, ends, served, settled}
+use Rattle.mail_loop.specs.SmtpTurn.{Turn, turn, says, ends, served, settled}
 
 -- How a turn may go otherwise.
 pub data Hindrance : Type 0 where

@@ -23,7 +23,7 @@ use Rattle.verb_bytes.specs.declared.journal.JournalRecord.{JournalRecord}
 use Rattle.console_head.specs.Request.{Stage}
 use Rattle.mail_loop.specs.State.{Seat, Smtp, Imap, Http, State}
 use Rattle.mail_loop.specs.Hindrance.{Hindrance}
-use Rattle.mail_loop.specs.Console.{Consoles, no_consoles}
+use Rattle.mail_loop.specs.ConsoleTurn.{Consoles, no_consoles}
 use Rattle.mail_loop.specs.Turns.{Heard, hears_seat}
 
 -- How the string for a connection may go.

@@ -5,16 +5,16 @@ use Rattle.undo_outside.specs.declared.event.Event.{Event}
 use Rattle.undo_outside.specs.declared.event.What.{What}
 use Rattle.undo_outside.specs.declared.event.What.TheVariants.{Joined, Bytes, Left, Idle, End}
 use Rattle.undo_outside.specs.declared.event.LinkNote.{LinkNote}
-use Rattle.undo_outside.specs.declared.event.LinkNote.TheVariants.{Came}
+use Rattle.undo_outside.specs.declared.event.LinkNote.TheVariants.{Came, Closed}
 use Rattle.undo_outside.specs.Calls.{LinkTold, Rose, then_told}
 use Rattle.mail_loop.specs.declared.serve.ServeFault.{ServeFault}
 use Rattle.mail_loop.specs.declared.serve.ServeFault.TheVariants.{Link, Disk, Turns, NoMemory}
-use Rattle.mail_desk.specs.Kept.{Kept}
+use Rattle.verb_core.specs.Kept.{Kept}
 use Rattle.verb_bytes.specs.declared.journal.JournalRecord.{JournalRecord}
 use Rattle.mail_loop.specs.State.{State}
-use Rattle.mail_loop.specs.Console.{AreSaid, Consoles, Reading, both, no_consoles}
+use Rattle.mail_loop.specs.ConsoleTurn.{AreSaid, Consoles, Reading, both, no_consoles}
 use Rattle.mail_loop.specs.Machine.{Hindrances, Outcome, happens}
-use Rattle.mail_loop.specs.Did.{RoseBy, missed_of}
+use Rattle.mail_loop.specs.Did.{Counted, RoseBy, left_out_of, missed_of}
 
 -- an event that came, and what hindered it
 pub record Step : Type 0 where
@@ -76,12 +76,31 @@ Ends steps old =
 abbrev pub NoStop : List Step → Kept → Type 0
 NoStop steps old = (stopped_in steps old ≡ false) ⊎ ((before : List Step) × (last : Step) × (steps ≡ before ++ last ∷ []) × (stopped_in before old ≡ false))
 
--- what the link did not do: nothing, or some of what the last step's event leads to
-abbrev pub IsLeftOfLast : List Step → Kept → List LinkNote → Type 0
-IsLeftOfLast steps old more =
-    (more ≡ [])
-    ⊎ ((before : List Step) × (last : Step) × (front : List LinkNote) × (steps ≡ before ++ last ∷ [])
-    × ((happens last.hindrances (run before (at_first old)).state last.event).notes ≡ front ++ more))
+-- the last step's event leads to this front and then to more, which the link did not do
+pub record IsOfLast (steps : List Step) (old : Kept) (front more : List LinkNote) : Type 0 where
+  pub before : List Step
+  pub last : Step
+  pub steps_are : steps ≡ before ++ last ∷ []
+  pub notes_are : (happens last.hindrances (run before (at_first old)).state last.event).notes ≡ front ++ more
+
+-- no memory was found for a close in the last step: the link did all before it
+pub record IsCutAtClose (wants : ℕ) (steps : List Step) (old : Kept) (more : List LinkNote) : Type 0 where
+  pub front : List LinkNote
+  pub conn : ℕ
+  pub rest : List LinkNote
+  pub more_is : more ≡ Closed conn ∷ rest
+  pub of_last : IsOfLast steps old front more
+  pub wanted : wants ≡ 1
+
+-- what the link did not do where sealing failed: nothing, or what follows from a close on for which no memory was found
+abbrev pub IsLeftUnsealed : ℕ → List Step → Kept → List LinkNote → Type 0
+IsLeftUnsealed wants steps old more = ((more ≡ []) × (wants ≡ 0)) ⊎ IsCutAtClose wants steps old more
+
+-- what the link did not do where memory was wanted: nothing, where `next` found none; all that the last step leads to, where none was found for its
+-- bytes or strings; or what follows from a close on for which none was found
+abbrev pub IsLeftStarved : ℕ → List Step → Kept → List LinkNote → Type 0
+IsLeftStarved wants steps old more =
+    ((more ≡ []) × (wants ≡ 1)) ⊎ (IsOfLast steps old [] more × (wants ≡ 0)) ⊎ IsCutAtClose wants steps old more
 
 -- the last step is the first in which sealing failed
 abbrev pub EndsUnsealed : List Step → Kept → Type 0
@@ -90,18 +109,19 @@ EndsUnsealed steps old =
     × ((happens last.hindrances (run before (at_first old)).state last.event).unsealed ≢ [])
 
 -- Serving ended: with the end or as a console asked; after so many turns without it; where the link failed; where sealing failed in the last step; or where memory was
--- wanted, somewhere in the last step. No more events were taken than so many.
-abbrev pub Served : ℕ → List Step → Kept → List LinkNote → Kept → Result (Unit {0}) ServeFault → Type 0
-Served turns steps old notes new (Ok x) = Serves steps old notes new × Ends steps old × (unsealed_in steps old ≡ []) × (length steps ≤ turns)
-Served turns steps old notes new (Err Turns) =
-    Serves steps old notes new × NoEnd steps × (length steps ≡ turns) × (unsealed_in steps old ≡ []) × (stopped_in steps old ≡ false)
-Served turns steps old notes new (Err Link) =
-    Serves steps old notes new × NoEnd steps × (length steps < turns) × (unsealed_in steps old ≡ []) × (stopped_in steps old ≡ false)
-Served turns steps old notes new (Err Disk) =
-    (more : List LinkNote) × Serves steps old (notes ++ more) new × NoEnd steps × IsLeftOfLast steps old more × EndsUnsealed steps old × (length steps ≤ turns)
+-- wanted, somewhere in the last step or for the next. No more events were taken than so many. So many a `next` or a `close` found no memory: the last, or none.
+abbrev pub Served : ℕ → ℕ → List Step → Kept → List LinkNote → Kept → Result (Unit {0}) ServeFault → Type 0
+Served turns wants steps old notes new (Ok x) =
+    Serves steps old notes new × Ends steps old × (unsealed_in steps old ≡ []) × (length steps ≤ turns) × (wants ≡ 0)
+Served turns wants steps old notes new (Err Turns) =
+    Serves steps old notes new × NoEnd steps × (length steps ≡ turns) × (unsealed_in steps old ≡ []) × (stopped_in steps old ≡ false) × (wants ≡ 0)
+Served turns wants steps old notes new (Err Link) =
+    Serves steps old notes new × NoEnd steps × (length steps < turns) × (unsealed_in steps old ≡ []) × (stopped_in steps old ≡ false) × (wants ≡ 0)
+Served turns wants steps old notes new (Err Disk) =
+    (more : List LinkNote) × Serves steps old (notes ++ more) new × NoEnd steps × IsLeftUnsealed wants steps old more × EndsUnsealed steps old × (length steps ≤ turns)
     × NoStop steps old
-Served turns steps old notes new (Err NoMemory) =
-    (more : List LinkNote) × Serves steps old (notes ++ more) new × NoEnd steps × IsLeftOfLast steps old more × (unsealed_in steps old ≡ []) × (length steps ≤ turns)
+Served turns wants steps old notes new (Err NoMemory) =
+    (more : List LinkNote) × Serves steps old (notes ++ more) new × NoEnd steps × IsLeftStarved wants steps old more × (unsealed_in steps old ≡ []) × (length steps ≤ turns)
     × NoStop steps old
 
 -- whether serving ended because sealing failed
@@ -116,6 +136,11 @@ is_disk (Err NoMemory) = false
 abbrev pub missed_in : List Step → ℕ
 missed_in [] = 0
 missed_in (step ∷ steps) = missed_of step.hindrances.deliveries + missed_in steps
+
+-- how many strings the steps left out
+abbrev pub left_out_in : List Step → ℕ
+left_out_in [] = 0
+left_out_in (step ∷ steps) = left_out_of step.hindrances.deliveries + left_out_in steps
 
 -- the events are those that were to come, as far as these were told
 abbrev pub ComeInOrder : Option (List Event) → List Event → Option (List Event) → Type 0
@@ -136,12 +161,16 @@ CountsFaults (Err Disk) old new = new.faults ≡ old.faults
 CountsFaults (Err NoMemory) old new = new.faults ≡ old.faults
 
 -- How serving went: the machine's steps for the events that came, in order, and what the link did. A string was missed, and `next` failed,
--- only where the link counted it.
+-- only where the link counted it. A string was left out only where a call found no memory for it: the link counted these and the last `next` or `close` that
+-- found none, if one did, and no other; there was no call after that.
 pub record ServedOver (turns : ℕ) (steps : List Step) (notes : List LinkNote) (old new : LinkTold) (kept kept' : Kept) (result : Result (Unit {0}) ServeFault) : Type 0 where
-  pub served : Served turns steps kept notes kept' result
+  pub wants : ℕ
+  pub served : Served turns wants steps kept notes kept' result
   pub log : new.log ≡ then_told old.log notes
   pub order : ComeInOrder old.coming (events_of steps) new.coming
   pub missed : RoseBy (missed_in steps) old.missed new.missed
   pub none_missed : old.is_reliable ≡ true → missed_in steps ≡ 0
+  pub starved : Counted (left_out_in steps + wants) old.starved new.starved
+  pub starved_last : wants ≡ 1 → new.starved_last ≡ true
   pub faults : CountsFaults result old new
   pub read : AreSaid (readings_in steps kept)

@@ -7,8 +7,8 @@ use Rattle.mail_loop.specs.declared.letters.Letter.{Letter}
 use Rattle.mail_loop.specs.declared.reply.Reply.{Reply as CodeReply}
 use Rattle.mail_loop.specs.declared.letters.Said.{Said}
 use Rattle.mail_loop.specs.declared.letters.Said.TheVariants.{Answers, Changed}
-use Rattle.mail_loop.specs.declared.session.Kind.{Kind}
-use Rattle.mail_loop.specs.declared.session.Kind.TheVariants as kind
+use Rattle.mail_loop.specs.declared.open_connection.Kind.{Kind}
+use Rattle.mail_loop.specs.declared.open_connection.Kind.TheVariants as kind
 use Rattle.smtp_session.specs.Dialog.{is_due}
 use Rattle.imap_session.specs.Dialog.{is_at_home, is_free}
 use Rattle.imap_session.specs.Words.{changed_text}

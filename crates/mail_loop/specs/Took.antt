@@ -4,7 +4,7 @@ use Rattle.undo_base.specs.declared.keys.User.{User}
 use Rattle.console_session.specs.declared.reply.After.{After}
 use Rattle.console_session.specs.declared.reply.After.TheVariants.{Waits, Closes, Stops, Fails}
 use Rattle.console_session.specs.declared.reply.Reply.{Reply as ConsoleReply}
-use Rattle.mail_loop.specs.declared.console.Turned.{Turned}
+use Rattle.mail_loop.specs.declared.console_turn.Turned.{Turned}
 use Rattle.mail_loop.specs.declared.reply.Reply.{Reply}
 use Rattle.verb_core.specs.declared.ask.Ask.{Ask}
 use Rattle.verb_core.specs.declared.ask.Refused.TheVariants.{NoMemory}
@@ -17,15 +17,15 @@ use Rattle.smtp_session.specs.declared.answer.SmtpOut.{SmtpOut}
 use Rattle.smtp_session.specs.declared.answer.SmtpOut.TheVariants.{Nothing, Say, Mail, Bye}
 use Rattle.smtp_session.specs.declared.dialog.Dialog.{Dialog}
 use Rattle.smtp_session.specs.Dialog.{is_due}
-use Rattle.mail_desk.specs.Kept.{Kept}
-use Rattle.mail_desk.specs.Desk.{store_of, submitted}
+use Rattle.verb_core.specs.Kept.{Kept, store_of}
+use Rattle.mail_desk.specs.Desk.{submitted}
 use Rattle.mail_loop.specs.State.{Seat}
 use Rattle.verb_bytes.specs.declared.journal.JournalRecord.{JournalRecord}
 use Rattle.verb_bytes.specs.declared.journal.JournalRecord.TheVariants.{Verb}
 use Rattle.mail_loop.specs.Asked.{Asked, does, fails}
-use Rattle.mail_loop.specs.Dialog.{Turn, ends, followed, settled}
+use Rattle.mail_loop.specs.SmtpTurn.{Turn, ends, followed, settled}
 use Rattle.mail_loop.specs.Hindrance.{Hindrance, Clear, Refused, Unread, Unstored, Unheard, Unanswered, Unsealed, Untold, lost, unanswered, refused_in_text}
-use Rattle.mail_loop.specs.Console.{Consoles, no_consoles, stops_by}
+use Rattle.mail_loop.specs.ConsoleTurn.{Consoles, no_consoles, stops_by}
 use Rattle.mail_loop.specs.Turns.{Heard}
 use Rattle.mail_loop.specs.Machine.{Seats, Answered as AnsweredEvent, closed_others, seated, with_reply}
 use Rattle.mail_loop.specs.Stands.{reply_of}

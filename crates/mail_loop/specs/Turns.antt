@@ -15,10 +15,10 @@ use Rattle.imap_session.specs.declared.dialog.Dialog.{Dialog as ImapDialog}
 use Rattle.verb_bytes.specs.declared.journal.JournalRecord.{JournalRecord}
 use Rattle.console_head.specs.Request.{Stage}
 use Rattle.mail_loop.specs.State.{Seat, Smtp, Imap, Http, State}
-use Rattle.mail_loop.specs.Dialog.{Turn}
+use Rattle.mail_loop.specs.SmtpTurn.{Turn}
 use Rattle.mail_loop.specs.Hindrance.{Hindrance, hindered, first_hindrance, other_hindrances}
-use Rattle.mail_loop.specs.ReaderHindrance.{imap_hindered}
-use Rattle.mail_loop.specs.Console.{Consoles, console_turn, left_by, no_consoles, stops_by}
+use Rattle.mail_loop.specs.ImapHindrance.{imap_hindered}
+use Rattle.mail_loop.specs.ConsoleTurn.{Consoles, console_turn, left_by, no_consoles, stops_by}
 
 -- What turns leave: what they say, the state, the dialog after them or none where the connection is closed, the mailboxes whose other sessions
 -- are told and closed, and the record whose sealing failed, where one did.

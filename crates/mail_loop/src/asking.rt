@@ -4,9 +4,9 @@ ghost use Rattle.std.specs.List.{cons_option, list_all};
 ghost use Rattle.verb_core.specs.Live.{is_users};
 ghost use Rattle.verb_core.specs.Names.{inbox};
 ghost use Rattle.verb_core.specs.Store.{is_known};
-ghost use Rattle.mail_loop.specs.Reader.{name_taken, taken_by};
+ghost use Rattle.mail_loop.specs.ImapTurn.{name_taken, taken_by};
 ghost use Rattle.mail_loop.specs.Asked.{HaveSealed};
-ghost use Rattle.mail_loop.specs.Read.{where_done};
+ghost use Rattle.mail_loop.specs.ImapTook.{where_done};
 ghost use Rattle.mail_loop.specs.Took.{Submits, is_refused};
 
 use crate::gone::Gone;

@@ -1,11 +1,11 @@
 //! The strings of an event: that of the connection that it is about, and those of others whose mailbox changed.
-ghost use Rattle.std.specs.Prelude.{◌≡◌, ◌≤◌, ◌∷◌, [], length, nat_lt, position, IfOk};
-ghost use Rattle.std.specs.List.{position_or_len};
+ghost use Rattle.std.specs.Prelude.{◌≡◌, ◌<◌, ◌≤◌, ◌∷◌, [], length, nat_lt, position, vec_capacity, vec_len, IfOk};
+ghost use Rattle.std.specs.List.{insert, position_or_len};
 ghost use Rattle.mail_loop.specs.Machine.{closed_others, closing, with_reply};
 ghost use Rattle.mail_loop.specs.Stands.{letter_of, replies_of, reply_of, said_of};
 
+use crate::open_connection::Connection;
 use crate::reply::Reply;
-use crate::session::Session;
 use imap_session::changed;
 use std::alloc::Global;
 use std::collections::BTreeMap;
@@ -93,38 +93,70 @@ fn last_letter(conn: u32) -> Letter
     }
 }
 
-/// The letters to other connections that have one of these mailboxes selected.
-fn letters_to_others(
+/// Room for a letter to each open connection, and one more.
+pub fn room_for_letters(
     alloc: Global,
-    connections: &BTreeMap<u32, Session>,
-    conn: u32,
-    boxes: &[BoxId],
+    connections: &BTreeMap<u32, Connection>,
 ) -> Result<Vec<Letter>, NoMemory>
-    ensures { IfOk result (λ letters. replies_of letters.items ≡ closed_others conn boxes.now connections.now.entries) }
+    ensures none { IfOk result (λ room. room.items ≡ []) }
+    ensures room { IfOk result (λ room. length connections.now.entries < vec_capacity room) }
 {
-    let mut letters = Vec::new(alloc);
-    for (number, session) in connections {
-        if *number != conn && session.holds_one(boxes) {
-            letters.push(last_letter(*number))?;
-        }
+    match connections.len().checked_add(1) {
+        Some(count) => Ok(Vec::with_capacity(alloc, count)?),
+        None => Err(NoMemory),
     }
-    Ok(letters)
 }
 
-/// The letters of an event, by rising connection. Other connections are looked at only where a mailbox was taken away.
+/// The letters to other connections that have one of these mailboxes selected. There is room for them.
+fn letters_to_others(
+    room: Vec<Letter>,
+    connections: &BTreeMap<u32, Connection>,
+    conn: u32,
+    boxes: &[BoxId],
+) -> Vec<Letter>
+    requires none { room.items ≡ [] }
+    requires room { length connections.now.entries < vec_capacity room }
+    ensures letters { replies_of result.items ≡ closed_others conn boxes.now connections.now.entries }
+    ensures room { vec_len result < vec_capacity result }
+{
+    let mut letters = room;
+    for (number, connection) in connections {
+        if *number != conn && connection.holds_one(boxes) {
+            letters.push_reserved(last_letter(*number));
+        }
+    }
+    letters
+}
+
+/// A letter at a place among others. There is room for it.
+fn with_letter(letters: Vec<Letter>, place: usize, letter: Letter) -> Vec<Letter>
+    requires place { place ≤ length letters.items }
+    requires room { vec_len letters < vec_capacity letters }
+    ensures { result.items ≡ insert letters.items place letter }
+{
+    let mut letters = letters;
+    match letters.insert(place, letter) {
+        Ok(()) => {}
+        Err(_) => unreachable!(),
+    }
+    letters
+}
+
+/// The letters of an event, by rising connection, which take no memory. Other connections are looked at only where a mailbox was taken away.
 pub fn letters_of(
-    alloc: Global,
-    connections: &BTreeMap<u32, Session>,
+    room: Vec<Letter>,
+    connections: &BTreeMap<u32, Connection>,
     conn: u32,
     reply: Reply,
-) -> Result<Vec<Letter>, NoMemory>
-    ensures { IfOk result (λ letters. replies_of letters.items ≡ with_reply (reply_of reply) (closed_others conn reply.changed connections.now.entries)) }
+) -> Vec<Letter>
+    requires none { room.items ≡ [] }
+    requires room { length connections.now.entries < vec_capacity room }
+    ensures { replies_of result.items ≡ with_reply (reply_of reply) (closed_others conn reply.changed connections.now.entries) }
 {
     if reply.changed.is_empty() {
-        return alone(alloc, own_letter(reply));
+        return with_letter(room, 0, own_letter(reply));
     }
-    let mut letters = letters_to_others(alloc, connections, conn, reply.changed.as_slice())?;
+    let letters = letters_to_others(room, connections, conn, reply.changed.as_slice());
     let place = place_of(reply.conn, letters.as_slice());
-    letters.insert(place, own_letter(reply))?;
-    Ok(letters)
+    with_letter(letters, place, own_letter(reply))
 }

@@ -1,20 +1,22 @@
 //! The desk behind its connections: turns of mail clients and mail readers, and the serving loop.
 //!
-//! `dialog` is a turn of a mail client, `reader` one of a mail reader, `console` one of a console; `asking` hands what a session asks to the desk.
-//! `session`, `reply`, `letters` and `serve` are the loop over any number of connections, and `gone` closes those whose mailbox was changed; `laws` says what turns of a stream are turns of. In specs/, `State`, `Dialog`, `Reader`, the two of
-//! hindrances, `Turns` and `Machine` are the machine, `Serving` its runs. What carries the crate: `serves` of `serve_events`.
+//! `smtp_turn` is a turn of a mail client, `imap_turn` one of a mail reader, `console_turn` one of a console; `asking` hands what
+//! a session asks to the desk. `open_connection`, `reply`, `letters` and `serve` are the loop over any number of connections,
+//! and `gone` closes those whose mailbox was changed; `laws` says what turns of a stream are turns of. In specs/, `State`, the
+//! three turns, the two of hindrances, `Turns` and `Machine` are the machine, `Serving` its runs. What carries the crate: `serves`
+//! of `serve_events`.
 #![tactic(auto)]
 
 mod asking;
-mod console;
-mod dialog;
+mod console_turn;
 mod gone;
+mod imap_turn;
 mod laws;
 mod letters;
-mod reader;
+mod open_connection;
 mod reply;
 mod serve;
-mod session;
+mod smtp_turn;
 
 pub use laws::turns_are_of_the_whole_stream;
 pub use serve::{ServeFault, serve_events};

@@ -1,5 +1,5 @@
 //! The serving loop.
-ghost use Rattle.std.specs.Prelude.{◌≡◌, ◌≤◌, Bool, List, Ok, Err, IfOk, IfErr, false, []};
+ghost use Rattle.std.specs.Prelude.{◌≡◌, ◌≤◌, ℕ, Bool, List, Ok, Err, IfOk, IfErr, false, [], length};
 ghost use Rattle.console_head.specs.Request.{Stage};
 ghost use Rattle.undo_outside.specs.declared.event.LinkNote.{LinkNote};
 ghost use Rattle.mail_loop.specs.Asked.{HaveSealed};
@@ -8,13 +8,15 @@ ghost use Rattle.mail_loop.specs.Took.{IsNone};
 ghost use Rattle.mail_loop.specs.Machine.{Hindrances, Delivery, admits, after_reply, answered, delivered, happens, hears_at, joins, seat_at};
 ghost use Rattle.verb_core.specs.declared.conf.House.{House as TheHouse};
 ghost use Rattle.mail_loop.specs.Stands.{AreHome, letter_of, replies_of};
-ghost use Rattle.mail_loop.specs.Did.{AreLicensed, Told, Replied, Sends, Leads, Answers};
+ghost use Rattle.mail_loop.specs.Did.{AreLicensed, Told, Replied, Sends, Leads, Answers, unclosed_by};
 ghost use Rattle.mail_loop.specs.Serving.{Step, ServedOver, is_disk, is_end, unsealed_in};
 
-use crate::console::Turned;
-use crate::letters::{Letter, alone, letters_of};
+use crate::console_turn::Turned;
+use crate::letters::{Letter, alone, letters_of, room_for_letters};
+use crate::open_connection::{
+    Connection, console_connection, hear, imap_connection, smtp_connection,
+};
 use crate::reply::{greet, greet_reader};
-use crate::session::{Session, hear, new_console, new_reader, new_session};
 use std::alloc::Global;
 use std::collections::BTreeMap;
 use std::thread::Threads;
@@ -47,7 +49,7 @@ struct Answer {
 }
 
 /// The open connections, by number.
-type Connections = BTreeMap<u32, Session>;
+type Connections = BTreeMap<u32, Connection>;
 
 /// Sends the string of a reply, if there is one. Answers whether the connection stays open.
 fn tell<L: Link>(link: &mut L, letter: &Letter) -> bool
@@ -81,7 +83,7 @@ fn deliver_all<L: Link>(
     letters: &[Letter],
 ) -> Result<(), NoMemory>
     ensures home { (house : TheHouse) → AreHome house connections.old.entries → AreHome house connections.new.entries }
-    ensures sends { (ds : List Delivery) × AreLicensed ds (L.told link.old) (L.told link.new) ×
+    ensures sends { (ds : List Delivery) × AreLicensed ds (unclosed_by result) (L.told link.old) (L.told link.new) ×
         Sends (delivered ds connections.old.entries (replies_of letters.now)) (L.told link.old) (L.told link.new) connections.new.entries result }
 {
     for letter in letters {
@@ -94,6 +96,7 @@ fn deliver_all<L: Link>(
 /// Forgets a connection, unless it stays open.
 fn keep_if(connections: &mut Connections, conn: u32, stays: bool)
     ensures entries { connections.new.entries ≡ after_reply stays conn connections.old.entries }
+    ensures fewer { length connections.new.entries ≤ length connections.old.entries }
     ensures home { (house : TheHouse) → AreHome house connections.old.entries → AreHome house connections.new.entries }
 {
     if !stays {
@@ -116,16 +119,16 @@ fn admit<D: Disk + Drop>(
     match role {
         Role::Smtp => {
             let replies = alone(alloc, greet(alloc, desk.house(), conn)?)?;
-            connections.insert(conn, new_session(alloc))?;
+            connections.insert(conn, smtp_connection(alloc))?;
             Ok(replies)
         }
         Role::Imap => {
             let replies = alone(alloc, greet_reader(alloc, desk.house(), conn)?)?;
-            connections.insert(conn, new_reader(alloc))?;
+            connections.insert(conn, imap_connection(alloc))?;
             Ok(replies)
         }
         Role::Http => {
-            connections.insert(conn, new_console(alloc))?;
+            connections.insert(conn, console_connection(alloc))?;
             Ok(Vec::new(alloc))
         }
     }
@@ -175,7 +178,7 @@ fn nothing(alloc: Global) -> Answer
     }
 }
 
-/// Serves bytes that came over a connection. Where it is not open they are ignored.
+/// Serves bytes that came over a connection. Where it is not open they are ignored. The memory for the strings' places is taken before anything is sealed.
 fn hear_at<D: Disk + Drop>(
     alloc: Global,
     desk: &mut Desk<D>,
@@ -193,16 +196,15 @@ fn hear_at<D: Disk + Drop>(
         desk.new.kept connections.new.entries (λ answer. replies_of answer.letters.items) (λ answer. answer.stops) result }
 {
     seals_join::<D>();
+    let room = room_for_letters(alloc, connections)?;
     let turned = match connections.get_mut(&conn) {
         None => return Ok(nothing(alloc)),
-        Some(session) => hear(alloc, desk, session, conn, at, bytes),
+        Some(connection) => hear(alloc, desk, connection, conn, at, bytes),
     };
     let Turned { reply, stops } = turned;
     keep_if(connections, conn, !reply.closes);
-    match letters_of(alloc, connections, conn, reply) {
-        Ok(letters) => Ok(Answer { letters, stops }),
-        Err(NoMemory) => Err(NoMemory),
-    }
+    let letters = letters_of(room, connections, conn, reply);
+    Ok(Answer { letters, stops })
 }
 
 /// What an event leaves before its strings are sent: the replies by rising connection.
@@ -247,8 +249,8 @@ fn serve_event<L: Link, D: Disk + Drop>(
     requires sealed { desk.old.closed ≡ false }
     requires home { AreHome desk.old.kept.house connections.old.entries }
     ensures home { AreHome desk.new.kept.house connections.new.entries }
-    ensures leads { (h : Hindrances) × AreLicensed h.deliveries (L.told link.old) (L.told link.new) ×
-        Leads (HaveSealed D.told desk.old desk.new) (happens h (record { kept = desk.old.kept; seats = connections.old.entries }) event.now) (L.told link.old) (L.told link.new)
+    ensures leads { (h : Hindrances) × (unclosed : ℕ) × AreLicensed h.deliveries unclosed (L.told link.old) (L.told link.new) ×
+        Leads (HaveSealed D.told desk.old desk.new) unclosed (happens h (record { kept = desk.old.kept; seats = connections.old.entries }) event.now) (L.told link.old) (L.told link.new)
         desk.new.kept connections.new.entries result }
 {
     seals_join::<D>();

@@ -5,7 +5,7 @@ use Rattle.undo_outside.specs.declared.event.LinkNote.{LinkNote}
 use Rattle.undo_outside.specs.Calls.{LinkTold, SourceTold, SinkTold}
 use Rattle.undo_outside.specs.Disk.{DiskTold, ReadFailed, WriteFailed}
 use Rattle.seal_log.specs.Loading.{IsNotFormatted}
-use Rattle.mail_desk.specs.Kept.{Kept}
+use Rattle.verb_core.specs.Kept.{Kept}
 use Rattle.mail_loop.specs.declared.serve.ServeFault.TheVariants.{Link, Turns}
 use Rattle.mail_loop.specs.Serving.{Step, CountsFaults, ServedOver}
 use Rattle.script_link.specs.Script.{script_of}

@@ -1,35 +1,12 @@
 //! The flags that a STORE changes.
 ghost use Rattle.std.specs.Prelude.{◌≡◌, ◌++◌, ◌∷◌, [], IfOk, OnOk, if◌then◌else◌};
-ghost use Rattle.verb_core.specs.Mailboxes.{changed as flags_after, is_among};
+ghost use Rattle.verb_core.specs.Mailboxes.{changed, is_among};
 ghost use Rattle.mail_rows.specs.Changes.{changes_from};
 
 use crate::{FlagChange, KeySet};
 use std::alloc::Global;
 use undo_base::{Flags, How, NoMemory, Sequence};
-use verb_core::Entry;
-
-/// The flags after a STORE of the given ones (RFC 3501, section 6.4.6).
-fn changed(how: How, given: Flags, old: Flags) -> Flags
-    ensures { result ≡ flags_after how given old }
-{
-    match how {
-        How::Replace => given,
-        How::Add => Flags {
-            answered: old.answered || given.answered,
-            flagged: old.flagged || given.flagged,
-            deleted: old.deleted || given.deleted,
-            seen: old.seen || given.seen,
-            draft: old.draft || given.draft,
-        },
-        How::Take => Flags {
-            answered: old.answered && !given.answered,
-            flagged: old.flagged && !given.flagged,
-            deleted: old.deleted && !given.deleted,
-            seen: old.seen && !given.seen,
-            draft: old.draft && !given.draft,
-        },
-    }
-}
+use verb_core::{Entry, flags_after};
 
 /// Adds the change of the entry at a place, if its key is one of the keys.
 fn push_change(
@@ -40,12 +17,12 @@ fn push_change(
     place: usize,
     entry: &Entry,
 ) -> Result<(), NoMemory>
-    ensures { OnOk result (changes.new ≡ changes.old ++ (if is_among keys.now entry.now.key then record { place = place; flags = flags_after how given entry.now.flags } ∷ [] else [])) }
+    ensures { OnOk result (changes.new ≡ changes.old ++ (if is_among keys.now entry.now.key then record { place = place; flags = changed how given entry.now.flags } ∷ [] else [])) }
 {
     if keys.contains(entry.key) {
         changes.push(FlagChange {
             place,
-            flags: changed(how, given, entry.flags),
+            flags: flags_after(how, given, entry.flags),
         })?;
     }
     Ok(())

@@ -2,8 +2,7 @@
 
 use std::alloc::Global;
 use std::test::Fail;
-use undo_base::NoMemory;
-use verb_bytes::{BadBytes, JournalRecord, Unwritten, decode_record, encode_record, spell_record};
+use verb_bytes::{BadBytes, JournalRecord, decode_record, encode_record, spell_record};
 
 /// Number 9 at moment 1, by the key k and behind point 2: item 4 goes, item 3 has the text hi, and the filter f is dropped.
 const CYCLE: &[u8] =
@@ -21,18 +20,16 @@ const SNAPSHOT_FIELDS: &[usize] = &[
 ];
 
 /// Whether a record is written as these bytes, by both calls.
-fn is_written(alloc: Global, what: &JournalRecord, bytes: &[u8]) -> Result<bool, NoMemory> {
-    match spell_record(alloc, what) {
-        Ok(text) => Ok(text.bytes() == bytes && encode_record(alloc, what)?.bytes() == bytes),
-        Err(Unwritten::Unspelled) => Ok(false),
-        Err(Unwritten::NoMemory) => Err(NoMemory),
-    }
+fn is_written(alloc: Global, what: &JournalRecord, bytes: &[u8]) -> Result<bool, Fail> {
+    let text = spell_record(alloc, what)?;
+    let again = encode_record(alloc, what)?;
+    Ok(text.bytes() == bytes && again.bytes() == bytes)
 }
 
 /// Whether bytes are read as a record that is written as these bytes.
 fn is_written_again(alloc: Global, bytes: &[u8]) -> Result<bool, Fail> {
     match decode_record(alloc, bytes) {
-        Ok(what) => Ok(is_written(alloc, &what, bytes)?),
+        Ok(what) => is_written(alloc, &what, bytes),
         Err(_) => Ok(false),
     }
 }

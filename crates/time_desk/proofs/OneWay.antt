@@ -3,20 +3,19 @@ use Rattle.std.proofs.Common.{◌≡◌, ◌⊎◌, inl, inr, ℕ, ◌<◌, ◌�
 use Rattle.std.proofs.lemmas.List.{append-nil}
 use Rattle.std.specs.Prelude.{option_and_then, if◌then◌else◌}
 use Rattle.std.specs.List.{AllByRecursion}
+use Rattle.verb_core.specs.Deeds.{act_item}
 use Rattle.verb_core.specs.declared.item.Item.{Item}
 use Rattle.verb_bytes.specs.declared.journal.JournalRecord.{JournalRecord}
 use Rattle.verb_bytes.specs.declared.journal.JournalRecord.TheVariants.{Format, Verb, Operator, Cycle, Snapshot}
 use Rattle.verb_bytes.specs.Spelling.{HasSpelling, Spells, record_bytes}
 use Rattle.seal_log.specs.Journal.{frame, sealed, BeginsClosed, IsPayload, StandsFor}
 use Rattle.seal_log.specs.Loading.{BeginsCut, GoesOn, IsNotFormatted}
-use Rattle.mail_desk.specs.Kept.{Kept}
-use Rattle.mail_desk.specs.Desk.{performed}
+use Rattle.verb_core.specs.Kept.{Kept, performed, new_desk}
 use Rattle.house_text.specs.Beginning.{can_begin}
-use Rattle.mail_desk.specs.Desk.{new_desk}
 use Rattle.time_desk.specs.declared.fault.StartFault.{StartFault}
 use Rattle.time_desk.specs.declared.fault.StartFault.TheVariants.{NotFormatted, Damaged, Disk, NoMemory}
 use Rattle.time_desk.specs.Opening.{BeginsBad, CanStand, IsDamaged, OpensAs}
-use Rattle.time_desk.specs.Records.{Leaves, act_item, after_item, after_record, after_records, can_follow, first_state, is_spelled, payloads_of, state}
+use Rattle.time_desk.specs.Records.{Leaves, after_item, after_record, after_records, can_follow, first_state, is_spelled, payloads_of, state}
 
 -- ---- records that can stand have their spelling
 

@@ -4,6 +4,7 @@ use Rattle.std.proofs.lemmas.List.{map-append, take_all}
 use Rattle.std.proofs.lemmas.List.Concat.{flat_map-append}
 use Rattle.std.specs.Prelude.{option_and_then, if◌then◌else◌, IfOk, IfErr, slice_get}
 use Rattle.std.specs.List.{slice_range}
+use Rattle.verb_core.specs.Deeds.{act_item}
 use Rattle.verb_core.specs.declared.item.Item.{Item}
 use Rattle.std.specs.Int.{w32, to_be_bytes}
 use Rattle.undo_outside.specs.Disk.{DiskTold}
@@ -15,12 +16,11 @@ use Rattle.seal_log.specs.declared.place.Place.{Place}
 use Rattle.seal_log.specs.Journal.{frame, sealed, LiesAt}
 use Rattle.seal_log.specs.Loading.{places_from}
 use Rattle.seal_log.specs.Settled.{Holds, IsSettled}
-use Rattle.mail_desk.specs.Kept.{Kept}
-use Rattle.mail_desk.specs.Desk.{performed}
+use Rattle.verb_core.specs.Kept.{Kept, performed}
 use Rattle.time_desk.specs.declared.fault.StartFault.{StartFault}
 use Rattle.time_desk.specs.declared.fault.StartFault.TheVariants.{NotFormatted, Damaged, Disk, NoMemory}
 use Rattle.time_desk.specs.Opening.{CanStand}
-use Rattle.time_desk.specs.Records.{act_item, after_item, after_record, after_records, can_follow, first_state, payloads_of, state}
+use Rattle.time_desk.specs.Records.{after_item, after_record, after_records, can_follow, first_state, payloads_of, state}
 use Rattle.time_desk.specs.Standing.{BreaksFor, Enters, Fails, FailsPayload, LeadsTo, Performed, Performs, SpellsAll, SpellsNothing, StopsFor, item_of}
 
 -- ---- what stays while a disk is read

@@ -11,9 +11,9 @@ use Rattle.verb_core.specs.declared.item.Act.{Act}
 use Rattle.verb_core.specs.declared.item.Item.{Item}
 use Rattle.verb_bytes.specs.declared.journal.JournalRecord.{JournalRecord}
 use Rattle.verb_bytes.specs.declared.journal.JournalRecord.TheVariants.{Verb, Operator}
-use Rattle.mail_desk.specs.Desk.{performed, submitted_as}
+use Rattle.verb_core.specs.Kept.{performed, Kept}
+use Rattle.mail_desk.specs.Desk.{submitted_as}
 use Rattle.mail_desk.specs.Held.{Held}
-use Rattle.mail_desk.specs.Kept.{Kept}
 use Rattle.time_desk.specs.declared.fault.ActFault.{ActFault}
 use Rattle.time_desk.specs.Lasting.{JournalTold, Lasting, lasting}
 use Rattle.time_desk.specs.Records.{after_records}

@@ -1,11 +1,9 @@
 -- Records, what they leave one after the other, and when one can stand.
 use Rattle.std.specs.Prelude.{◌≡◌, ℕ, ◌==◌, nat_lt, Bool, true, false, ◌&&◌, not, List, [], ◌∷◌, map, length, nat_le, is_some, Option, Some, None, option_and_then, if◌then◌else◌}
 use Rattle.std.specs.List.{list_all, cons_option}
+use Rattle.verb_core.specs.Deeds.{act_item}
 use Rattle.verb_core.specs.declared.conf.House.{House}
-use Rattle.verb_core.specs.declared.item.Act.{Act}
 use Rattle.verb_core.specs.declared.item.Item.{Item}
-use Rattle.verb_core.specs.declared.item.Deed.TheVariants.{Act as Acts}
-use Rattle.verb_core.specs.declared.item.Shown.TheVariants.{Nothing}
 use Rattle.verb_core.specs.Items.{is_own, users_in, keys_in, has_form}
 use Rattle.verb_core.specs.Store.{is_known}
 use Rattle.verb_bytes.specs.declared.journal.JournalRecord.{JournalRecord}
@@ -13,15 +11,10 @@ use Rattle.verb_bytes.specs.declared.journal.JournalRecord.TheVariants.{Format, 
 use Rattle.verb_bytes.specs.Fields.{are_in_range}
 use Rattle.verb_bytes.specs.Spelling.{record_bytes, record_fields}
 use Rattle.seal_log.specs.Journal.{StandsFor}
-use Rattle.mail_desk.specs.Kept.{Kept}
-use Rattle.mail_desk.specs.Desk.{new_desk, performed}
+use Rattle.verb_core.specs.Kept.{Kept, new_desk, performed}
 use Rattle.house_text.specs.Beginning.{can_begin}
 
 -- ---- one record
-
--- the item of an operator's act: it has no user
-abbrev pub act_item : ℕ → ℕ → Act → Item
-act_item number at act = record { number = number; at = at; by = None; rev = 0; deed = Acts act; shown = Nothing }
 
 -- whether two answers are the same
 abbrev pub agree : Bool → Bool → Bool

@@ -2,6 +2,7 @@
 use Rattle.std.specs.Prelude.{◌≡◌, ◌≤◌, ◌+◌, ℕ, Bool, true, false, ◌&&◌, not, List, ◌∷◌, ◌++◌, length, Option, Some, None, IsTrue, if◌then◌else◌}
 use Rattle.std.specs.List.{list_all}
 use Rattle.undo_base.specs.declared.keys.User.{User}
+use Rattle.verb_core.specs.Deeds.{act_item}
 use Rattle.verb_core.specs.declared.conf.Conf.{Conf}
 use Rattle.verb_core.specs.declared.conf.House.{House}
 use Rattle.verb_core.specs.declared.item.Deed.{Deed}
@@ -13,13 +14,12 @@ use Rattle.verb_bytes.specs.declared.journal.JournalRecord.TheVariants.{Format, 
 use Rattle.verb_bytes.specs.Spelling.{Spells}
 use Rattle.undo_outside.specs.Disk.{DiskTold, ReadFailed}
 use Rattle.seal_log.specs.Journal.{sealed}
-use Rattle.mail_desk.specs.Desk.{new_desk, performed}
-use Rattle.mail_desk.specs.Kept.{Kept}
+use Rattle.verb_core.specs.Kept.{new_desk, performed, Kept}
 use Rattle.house_text.specs.Beginning.{can_begin}
 use Rattle.time_desk.specs.declared.fault.StartFault.{StartFault}
 use Rattle.time_desk.specs.declared.fault.StartFault.TheVariants.{NotFormatted, Damaged, Disk, NoMemory}
 use Rattle.time_desk.specs.Opening.{CanStand, SpellsNone}
-use Rattle.time_desk.specs.Records.{act_item, after_record, after_records, can_follow, payloads_of, state}
+use Rattle.time_desk.specs.Records.{after_record, after_records, can_follow, payloads_of, state}
 
 -- ---- one record
 

@@ -1,14 +1,14 @@
 //! What the operator does.
 ghost use Rattle.std.specs.Prelude.{◌≡◌, ◌<◌, ◌↔◌, ℕ, [], ◌∷◌, false, IsTrue, IfOk, OnOk, IfErr, OnErr, IsErrOf};
 ghost use Rattle.std.specs.List.{list_all};
+ghost use Rattle.verb_core.specs.Deeds.{act_item};
 ghost use Rattle.verb_core.specs.declared.item.Deed.TheVariants.{Act as Acts};
 ghost use Rattle.verb_core.specs.Items.{users_in};
 ghost use Rattle.verb_core.specs.Store.{is_known};
 ghost use Rattle.verb_bytes.specs.declared.journal.JournalRecord.TheVariants.{Operator};
-ghost use Rattle.mail_desk.specs.Desk.{performed};
+ghost use Rattle.verb_core.specs.Kept.{performed};
 ghost use Rattle.mail_desk.specs.Entering.{CanEnter};
 ghost use Rattle.time_desk.specs.Lasting.{lasting};
-ghost use Rattle.time_desk.specs.Records.{act_item};
 ghost use Rattle.time_desk.specs.Sealing.{IsRecordOf, Seals};
 ghost use Rattle.time_desk.specs.Submitting.{ActsNone, IsActOutcomeOf};
 ghost use Rattle.time_desk.specs.declared.fault.ActFault.TheVariants as act_faults;
@@ -25,7 +25,7 @@ use undo_outside::Disk;
 use verb_core::{Act, Deed, Item, Shown};
 
 /// The item of an act.
-fn item_of(number: u32, at: u64, act: Act) -> Item
+pub(crate) fn item_of(number: u32, at: u64, act: Act) -> Item
     ensures { result ≡ act_item number at act }
 {
     Item {
@@ -67,10 +67,15 @@ fn ready_act(
     ensures record { IfOk result (λ parts. IsRecordOf (Operator desk.old.kept.next at act) parts.1 desk.old.kept (act_item desk.old.kept.next at act)) }
 {
     let number = desk.next();
-    let bytes = act_bytes(alloc, number, at, &act)?;
-    match desk.ready_item(alloc, item_of(number, at, act)) {
-        Ok(ready) => Ok((ready, bytes)),
-        Err(NoMemory) => Err(NoMemory),
+    match act_bytes(alloc, number, at, &act) {
+        Ok(bytes) => match desk.ready_item(alloc, item_of(number, at, act)) {
+            Ok(ready) => Ok((ready, bytes)),
+            Err(NoMemory) => Err(NoMemory),
+        },
+        Err(NoMemory) => {
+            drop(act);
+            Err(NoMemory)
+        }
     }
 }
 
@@ -134,7 +139,10 @@ fn act_open<D: Disk>(
             Ok(()) => Ok(number),
             Err(fault) => Err(fault),
         },
-        Err(fault) => Err(fault),
+        Err(fault) => {
+            drop(act);
+            Err(fault)
+        }
     }
 }
 
@@ -150,6 +158,7 @@ impl<D: Disk> Desk<D> {
         ensures closed { IsErrOf result ActFault.Closed ↔ IsTrue self.old.closed }
     {
         if self.journal.is_closed() {
+            drop(act);
             return Err(ActFault::Closed);
         }
         act_open(alloc, &mut self.journal, &mut self.desk, at, act)

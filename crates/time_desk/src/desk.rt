@@ -10,8 +10,8 @@ ghost use Rattle.verb_core.specs.Store.{IsValid, is_house};
 ghost use Rattle.seal_log.specs.declared.fault.ReadFault.TheVariants as read_faults;
 ghost use Rattle.shelf.specs.Notes.{size_of};
 ghost use Rattle.store_digest.specs.Snapshots.{digest_of};
-ghost use Rattle.mail_desk.specs.Counting.{counts_of, listed};
-ghost use Rattle.mail_desk.specs.Desk.{store_of};
+ghost use Rattle.mail_desk.specs.Counting.{counts_of, listed, page};
+ghost use Rattle.verb_core.specs.Kept.{store_of};
 ghost use Rattle.mail_desk.specs.Timeline.{all_bodies, has_sizes, has_text, numbers_rise, rev_of, texts_of};
 
 use crate::on_disk::Journal;
@@ -24,7 +24,7 @@ use std::marker::Model;
 use store_digest::digest;
 use undo_base::{Name, NoMemory, Text, Texts, User};
 use undo_outside::Disk;
-use verb_core::{Body, Conf, House, Items, Stamps};
+use verb_core::{Body, Conf, House, Item, Items, Stamps};
 
 /// A desk in memory, and its journal on a disk.
 #[derive(Drop)]
@@ -124,6 +124,13 @@ impl<D: Disk> Desk<D> {
         self.desk.timeline(alloc, from)
     }
 
+    /// The same items as they are, with no memory taken.
+    pub fn items(&self, from: u32) -> &[Item]
+        ensures { result.now ≡ page self.now.kept.timeline from }
+    {
+        self.desk.items(from)
+    }
+
     /// The digest of the store, of 64 digits.
     pub fn digest(&self, alloc: Global) -> Result<Text, NoMemory>
         ensures { IfOk result (λ text. text ≡ digest_of (store_of self.now.kept) (length self.now.kept.timeline)) }
@@ -186,7 +193,8 @@ impl<D: Disk> Desk<D> {
     pub fn into_disk(self) -> D
         ensures { result ≡ self.disk }
     {
-        let Desk { journal, .. } = self;
+        let Desk { journal, desk } = self;
+        drop(desk);
         journal.into_disk()
     }
 }

@@ -3,7 +3,7 @@ ghost use Rattle.std.specs.Prelude.{◌≡◌, ◌<◌, ◌∷◌, [], Some, fal
 ghost use Rattle.verb_bytes.specs.declared.journal.JournalRecord.TheVariants.{Format};
 ghost use Rattle.verb_bytes.specs.Spelling.{record_bytes};
 ghost use Rattle.seal_log.specs.Log.{last_gate};
-ghost use Rattle.mail_desk.specs.Desk.{new_desk};
+ghost use Rattle.verb_core.specs.Kept.{new_desk};
 ghost use Rattle.house_text.specs.Beginning.{can_begin};
 ghost use Rattle.time_desk.specs.Making.{Begins, LooksEmpty, Makes};
 ghost use Rattle.time_desk.specs.Records.{state};
@@ -55,6 +55,48 @@ fn begin<D: Disk>(alloc: Global, disk: &mut D, head: &Text) -> Result<Log, MakeF
     }
 }
 
+/// The same beside the desk.
+fn begin_with<D: Disk>(
+    alloc: Global,
+    disk: &mut D,
+    desk: mail_desk::Desk,
+    head: &Text,
+) -> Result<(Log, mail_desk::Desk), MakeFault>
+    requires { (D.told disk.old).size ≡ 0 }
+    ensures desk { IfOk result (λ parts. parts.1 ≡ desk) }
+    ensures begun { IfOk result (λ parts. Begins head.now (D.told disk.old) (D.told disk.new) (Ok parts.0)) }
+    ensures why { IfErr result (λ fault. Begins head.now (D.told disk.old) (D.told disk.new) (Err fault)) }
+{
+    match begin(alloc, disk, head) {
+        Ok(log) => Ok((log, desk)),
+        Err(fault) => {
+            drop(desk);
+            Err(fault)
+        }
+    }
+}
+
+/// Makes the desk and its journal on a disk that is empty.
+fn make_empty<D: Disk>(
+    alloc: Global,
+    disk: &mut D,
+    house: House,
+    conf: Conf,
+) -> Result<(Log, mail_desk::Desk), MakeFault>
+    requires begins { IsTrue (can_begin house conf) }
+    requires empty { (D.told disk.old).size ≡ 0 }
+    ensures kept { IfOk result (λ parts. parts.1.kept ≡ new_desk house conf) }
+    ensures open { IfOk result (λ parts. parts.0.closed ≡ false) }
+    ensures made { IfOk result (λ parts. Makes house conf (D.told disk.old) (D.told disk.new) (Ok (parts.1.kept, last_gate parts.0))) }
+    ensures why { IfErr result (λ fault. Makes house conf (D.told disk.old) (D.told disk.new) (Err fault)) }
+    ensures within { IfOk result (λ parts. last_gate parts.0 < (D.told disk.new).size) }
+{
+    match first_parts(alloc, house, conf) {
+        Ok((desk, head)) => begin_with(alloc, disk, desk, &head),
+        Err(NoMemory) => Err(MakeFault::NoMemory),
+    }
+}
+
 /// Makes the desk and its journal.
 fn make_parts<D: Disk>(
     alloc: Global,
@@ -69,13 +111,13 @@ fn make_parts<D: Disk>(
     ensures why { IfErr result (λ fault. Makes house conf (D.told disk.old) (D.told disk.new) (Err fault)) }
     ensures within { IfOk result (λ parts. last_gate parts.0 < (D.told disk.new).size) }
 {
-    check_empty(disk)?;
-    match first_parts(alloc, house, conf) {
-        Ok((desk, head)) => match begin(alloc, disk, &head) {
-            Ok(log) => Ok((log, desk)),
-            Err(fault) => Err(fault),
-        },
-        Err(NoMemory) => Err(MakeFault::NoMemory),
+    match check_empty(disk) {
+        Ok(()) => make_empty(alloc, disk, house, conf),
+        Err(fault) => {
+            drop(house);
+            drop(conf);
+            Err(fault)
+        }
     }
 }
 

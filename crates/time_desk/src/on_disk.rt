@@ -99,7 +99,8 @@ impl<D: Disk> Journal<D> {
     pub(crate) fn into_disk(self) -> D
         ensures { result ≡ self.disk }
     {
-        let Journal { disk, .. } = self;
+        let Journal { disk, log } = self;
+        drop(log);
         disk
     }
 }

@@ -6,10 +6,7 @@ ghost use Rattle.time_desk.specs.Records.{is_spelled};
 
 use std::alloc::Global;
 use undo_base::{Copies, NoMemory, Text};
-use verb_bytes::{
-    JournalRecord, act_has_spelling, encode_act, encode_item, encode_record, has_spelling,
-    item_has_spelling,
-};
+use verb_bytes::{JournalRecord, Unwritten, spell_act, spell_item, spell_record};
 use verb_core::{Act, Conf, House, Item};
 
 /// The bytes of the record of a user's item. One without a spelling finds no memory.
@@ -17,10 +14,11 @@ pub(crate) fn item_bytes(alloc: Global, item: &Item) -> Result<Text, NoMemory>
     ensures spelled { OnOk result (IsTrue (is_spelled (Verb item.now))) }
     ensures bytes { IfOk result (λ text. text ≡ record_bytes (Verb item.now)) }
 {
-    if !item_has_spelling(item) {
-        return Err(NoMemory);
+    match spell_item(alloc, item) {
+        Ok(bytes) => Ok(bytes),
+        Err(Unwritten::Unspelled) => Err(NoMemory),
+        Err(Unwritten::NoMemory) => Err(NoMemory),
     }
-    encode_item(alloc, item)
 }
 
 /// The same of an operator's act.
@@ -28,10 +26,11 @@ pub(crate) fn act_bytes(alloc: Global, number: u32, at: u64, act: &Act) -> Resul
     ensures spelled { OnOk result (IsTrue (is_spelled (Operator number at act.now))) }
     ensures bytes { IfOk result (λ text. text ≡ record_bytes (Operator number at act.now)) }
 {
-    if !act_has_spelling(number, at, act) {
-        return Err(NoMemory);
+    match spell_act(alloc, number, at, act) {
+        Ok(bytes) => Ok(bytes),
+        Err(Unwritten::Unspelled) => Err(NoMemory),
+        Err(Unwritten::NoMemory) => Err(NoMemory),
     }
-    encode_act(alloc, number, at, act)
 }
 
 /// The bytes of a record, where it has a spelling.
@@ -39,10 +38,11 @@ fn record_text(alloc: Global, what: &JournalRecord) -> Result<Text, NoMemory>
     ensures spelled { OnOk result (IsTrue (is_spelled what.now)) }
     ensures bytes { IfOk result (λ text. text ≡ record_bytes what.now) }
 {
-    if !has_spelling(what) {
-        return Err(NoMemory);
+    match spell_record(alloc, what) {
+        Ok(bytes) => Ok(bytes),
+        Err(Unwritten::Unspelled) => Err(NoMemory),
+        Err(Unwritten::NoMemory) => Err(NoMemory),
     }
-    encode_record(alloc, what)
 }
 
 /// The first record.
@@ -52,7 +52,10 @@ fn house_record(alloc: Global, house: &House, conf: &Conf) -> Result<JournalReco
     let house = house.copy(alloc)?;
     match conf.copy(alloc) {
         Ok(conf) => Ok(JournalRecord::Format(house, conf)),
-        Err(NoMemory) => Err(NoMemory),
+        Err(NoMemory) => {
+            drop(house);
+            Err(NoMemory)
+        }
     }
 }
 
@@ -62,5 +65,7 @@ pub(crate) fn house_bytes(alloc: Global, house: &House, conf: &Conf) -> Result<T
     ensures bytes { IfOk result (λ text. text ≡ record_bytes (Format house.now conf.now)) }
 {
     let what = house_record(alloc, house, conf)?;
-    record_text(alloc, &what)
+    let bytes = record_text(alloc, &what);
+    drop(what);
+    bytes
 }

@@ -1,19 +1,20 @@
 //! Records that can stand: the first of a journal, and each behind it, performed.
 ghost use Rattle.std.specs.Prelude.{◌≡◌, IfOk, IfSome, option_map};
 ghost use Rattle.std.specs.List.{list_all};
-ghost use Rattle.verb_core.specs.Items.{is_own as owns, users_in};
+ghost use Rattle.verb_core.specs.Items.{users_in};
 ghost use Rattle.verb_core.specs.Store.{is_known as knows};
 ghost use Rattle.verb_bytes.specs.Spelling.{HasSpelling};
 ghost use Rattle.time_desk.specs.Records.{after_record, can_follow as follows, first_state};
 ghost use Rattle.time_desk.specs.Standing.{Enters, IsFormed, Performs, begun, has_users as uses, is_actor, item_of, opening_of};
 
+use crate::act::item_of;
 use house_text::can_begin;
 use mail_desk::Desk;
 use std::alloc::Global;
 use undo_base::{LAST_NUMBER, NoMemory, User};
 use verb_bytes::JournalRecord;
 use verb_bytes::laws::spelled_items_are_formed;
-use verb_core::{Act, Conf, Deed, House, Item, Shown};
+use verb_core::{Act, Conf, Deed, House, Item};
 
 // ---- the first record
 
@@ -23,10 +24,23 @@ fn opening_in(what: JournalRecord) -> Option<(House, Conf)>
 {
     match what {
         JournalRecord::Format(house, conf) => Some((house, conf)),
-        JournalRecord::Verb(_) => None,
-        JournalRecord::Operator { .. } => None,
-        JournalRecord::Cycle { .. } => None,
-        JournalRecord::Snapshot { .. } => None,
+        JournalRecord::Verb(item) => {
+            drop(item);
+            None
+        }
+        JournalRecord::Operator { act, .. } => {
+            drop(act);
+            None
+        }
+        JournalRecord::Cycle { ask, .. } => {
+            drop(ask);
+            None
+        }
+        JournalRecord::Snapshot { conf, rows, .. } => {
+            drop(conf);
+            drop(rows);
+            None
+        }
     }
 }
 
@@ -40,6 +54,8 @@ fn begun_by(alloc: Global, house: House, conf: Conf) -> Result<Option<Desk>, NoM
             Err(NoMemory) => Err(NoMemory),
         }
     } else {
+        drop(house);
+        drop(conf);
         Ok(None)
     }
 }
@@ -57,16 +73,11 @@ pub(crate) fn begin(alloc: Global, what: JournalRecord) -> Result<Option<Desk>, 
 
 // ---- the users of an item
 
-fn is_known(house: &House, user: User) -> bool
-    ensures { result ≡ knows house.now user }
-{
-    (user.0 as usize) < house.accounts.len()
-}
-
+/// Whether users are known.
 fn are_known(house: &House, users: &[User]) -> bool
     ensures { result ≡ list_all (knows house.now) users.now }
 {
-    users.iter().all(|user| is_known(house, *user))
+    users.iter().all(|user| house.knows(*user))
 }
 
 /// Whether the users that an act names are known.
@@ -78,8 +89,8 @@ fn act_knows(house: &House, act: &Act) -> bool
         Act::DropAlias { .. } => true,
         Act::SetFilter(_) => true,
         Act::DropFilter { .. } => true,
-        Act::Remove { user, .. } => is_known(house, *user),
-        Act::Give { user, .. } => is_known(house, *user),
+        Act::Remove { user, .. } => house.knows(*user),
+        Act::Give { user, .. } => house.knows(*user),
     }
 }
 
@@ -89,31 +100,8 @@ fn deed_knows(house: &House, deed: &Deed) -> bool
 {
     match deed {
         Deed::Act(act) => act_knows(house, act),
-        Deed::Notice { user, .. } => is_known(house, *user),
+        Deed::Notice { user, .. } => house.knows(*user),
         Deed::Deliver { .. } => true,
-        Deed::Append { .. } => true,
-        Deed::Fetch { .. } => true,
-        Deed::Store { .. } => true,
-        Deed::Copy { .. } => true,
-        Deed::List { .. } => true,
-        Deed::Status { .. } => true,
-        Deed::Select { .. } => true,
-        Deed::Expunge { .. } => true,
-        Deed::Close { .. } => true,
-        Deed::Create { .. } => true,
-        Deed::Rename { .. } => true,
-        Deed::Delete { .. } => true,
-    }
-}
-
-/// Whether a deed is a user's own.
-fn is_own(deed: &Deed) -> bool
-    ensures { result ≡ owns deed.now }
-{
-    match deed {
-        Deed::Deliver { .. } => false,
-        Deed::Act(_) => false,
-        Deed::Notice { .. } => false,
         Deed::Append { .. } => true,
         Deed::Fetch { .. } => true,
         Deed::Store { .. } => true,
@@ -134,8 +122,8 @@ fn has_actor(house: &House, by: Option<User>, deed: &Deed) -> bool
     ensures { result ≡ is_actor house.now by deed.now }
 {
     match by {
-        Some(user) => is_own(deed) && is_known(house, user),
-        None => !is_own(deed),
+        Some(user) => deed.is_own() && house.knows(user),
+        None => !deed.is_own(),
     }
 }
 
@@ -157,17 +145,21 @@ fn item_in(what: JournalRecord) -> Option<Item>
     spelled_items_are_formed();
     match what {
         JournalRecord::Verb(item) => Some(item),
-        JournalRecord::Operator { number, at, act } => Some(Item {
-            number,
-            at,
-            by: None,
-            rev: 0,
-            deed: Deed::Act(act),
-            shown: Shown::Nothing,
-        }),
-        JournalRecord::Format(_, _) => None,
-        JournalRecord::Cycle { .. } => None,
-        JournalRecord::Snapshot { .. } => None,
+        JournalRecord::Operator { number, at, act } => Some(item_of(number, at, act)),
+        JournalRecord::Format(house, conf) => {
+            drop(house);
+            drop(conf);
+            None
+        }
+        JournalRecord::Cycle { ask, .. } => {
+            drop(ask);
+            None
+        }
+        JournalRecord::Snapshot { conf, rows, .. } => {
+            drop(conf);
+            drop(rows);
+            None
+        }
     }
 }
 
@@ -185,6 +177,7 @@ fn enter(alloc: Global, desk: &mut Desk, item: Item) -> Result<bool, NoMemory>
     ensures { IfOk result (λ stood. Enters desk.old.kept item stood desk.new.kept) }
 {
     if !can_follow(desk, &item) {
+        drop(item);
         return Ok(false);
     }
     match desk.ready_item(alloc, item) {

@@ -201,7 +201,10 @@ fn followed_by<D: Disk>(
     let mut desk = desk;
     match perform_all(alloc, disk, end, places, &mut desk) {
         Ok(()) => Ok(desk),
-        Err(fault) => Err(fault),
+        Err(fault) => {
+            drop(desk);
+            Err(fault)
+        }
     }
 }
 
@@ -265,7 +268,10 @@ fn ended(end: End, desk: mail_desk::Desk) -> Result<(Log, mail_desk::Desk), Star
 {
     match log_of(end) {
         Ok(log) => Ok((log, desk)),
-        Err(fault) => Err(fault),
+        Err(fault) => {
+            drop(desk);
+            Err(fault)
+        }
     }
 }
 
@@ -294,7 +300,10 @@ fn opened_from<D: Disk>(
     }
     match read_all(alloc, disk, end.gate(), places.as_slice()) {
         Ok(desk) => ended(end, desk),
-        Err(fault) => Err(fault),
+        Err(fault) => {
+            drop(end);
+            Err(fault)
+        }
     }
 }
 

@@ -6,7 +6,8 @@ ghost use Rattle.verb_core.specs.Store.{is_known};
 ghost use Rattle.box_store.specs.Refusing.{IsRefusal};
 ghost use Rattle.verb_bytes.specs.declared.journal.JournalRecord.TheVariants.{Verb};
 ghost use Rattle.verb_bytes.specs.Spelling.{record_bytes};
-ghost use Rattle.mail_desk.specs.Desk.{performed, store_of, submitted};
+ghost use Rattle.verb_core.specs.Kept.{performed, store_of};
+ghost use Rattle.mail_desk.specs.Desk.{submitted};
 ghost use Rattle.mail_desk.specs.Entering.{CanEnter};
 ghost use Rattle.time_desk.specs.Lasting.{lasting};
 ghost use Rattle.time_desk.specs.Records.{is_spelled};
@@ -54,7 +55,10 @@ fn with_bytes(alloc: Global, ready: Ready) -> Result<Found, NoMemory>
 {
     match copy_with_bytes(alloc, ready.item()) {
         Ok((item, bytes)) => Ok(Found { ready, item, bytes }),
-        Err(NoMemory) => Err(NoMemory),
+        Err(NoMemory) => {
+            drop(ready);
+            Err(NoMemory)
+        }
     }
 }
 
@@ -116,7 +120,10 @@ fn seal_found<D: Disk>(
     let Found { ready, item, bytes } = found;
     match seal_ready(alloc, journal, desk, &bytes, ready) {
         Ok(()) => Ok(item),
-        Err(fault) => Err(fault_of(fault)),
+        Err(fault) => {
+            drop(item);
+            Err(fault_of(fault))
+        }
     }
 }
 
@@ -167,6 +174,7 @@ impl<D: Disk> Desk<D> {
         ensures closed { IsErrOf result SubmitFault.Closed ↔ IsTrue self.old.closed }
     {
         if self.journal.is_closed() {
+            drop(ask);
             return Err(SubmitFault::Closed);
         }
         submit_open(alloc, &mut self.journal, &mut self.desk, at, by, ask)

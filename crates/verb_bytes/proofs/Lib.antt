@@ -3,6 +3,7 @@ pub mod FieldLaws
 pub mod RecordLaws
 pub mod Refusals
 pub mod Ranges
+pub mod AskedRanges
 pub mod Puts
 pub mod TimesLoop
 pub mod Cases

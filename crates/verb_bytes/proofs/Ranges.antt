@@ -18,15 +18,15 @@ use Rattle.verb_bytes.specs.Spelling.{HasSpelling, account_fields, alias_fields}
 use Rattle.verb_bytes.specs.Limits.{AreMany, IsUser, IsAccount, IsAlias, IsOpening, IsMail, delivery}
 use Rattle.verb_bytes.proofs.Exact.{in_range_both}
 
-byte_fits : (least most n : ℕ) → least ≤ n → n ≤ most → are_in_range (byte_field least most n) ≡ true
+pub byte_fits : (least most n : ℕ) → least ≤ n → n ≤ most → are_in_range (byte_field least most n) ≡ true
 unfolding byte_field are_in_range
 byte_fits least most n low high = and_from _ _ (and_from (nat_le least n) (nat_le n most) (le-leb _ _ low) (le-leb _ _ high)) refl
 
-number_fits : (w : Width) (most n : ℕ) → n ≤ most → are_in_range (number_field w most n) ≡ true
+pub number_fits : (w : Width) (most n : ℕ) → n ≤ most → are_in_range (number_field w most n) ≡ true
 unfolding number_field are_in_range
 number_fits w most n le = and_from _ _ (le-leb _ _ le) refl
 
-text_fits : (most : ℕ) (bytes : List ℕ) → length bytes ≤ most → are_in_range (text_field most bytes) ≡ true
+pub text_fits : (most : ℕ) (bytes : List ℕ) → length bytes ≤ most → are_in_range (text_field most bytes) ≡ true
 unfolding text_field are_in_range
 text_fits most bytes le = and_from _ _ (le-leb _ _ le) refl
 
@@ -38,11 +38,11 @@ name_fits bytes name =
     let short : nat_le (length bytes) 200 ≡ true = le-leb _ _ name.most in
     rw (long, short, printable) refl
 
-holds : are_in_range (only_if true) ≡ true
+pub holds : are_in_range (only_if true) ≡ true
 unfolding only_if are_in_range
 holds = refl
 
-user_fits : (u : User) → IsUser u → are_in_range (user_field u) ≡ true
+pub user_fits : (u : User) → IsUser u → are_in_range (user_field u) ≡ true
 user_fits u le = byte_fits 0 199 u.0 (omega arith) le
 
 each_fits : {A : Type 0} (F : A → List Field) (P : A → Type 0) → ((x : A) → P x → are_in_range (F x) ≡ true) → (xs : List A) → AllByRecursion P xs → are_in_range (flat_map F xs) ≡ true
@@ -50,10 +50,10 @@ unfolding are_in_range
 each_fits F P h [] all = refl
 each_fits F P h (x ∷ xs) all = in_range_both (F x) (flat_map F xs) (h x all.0) (each_fits F P h xs all.1)
 
-list_fits : {A : Type 0} (most : ℕ) (F : A → List Field) (P : A → Type 0) → ((x : A) → P x → are_in_range (F x) ≡ true) → (xs : List A) → AllByRecursion P xs → length xs ≤ most → are_in_range (list_fields most F xs) ≡ true
+pub list_fits : {A : Type 0} (most : ℕ) (F : A → List Field) (P : A → Type 0) → ((x : A) → P x → are_in_range (F x) ≡ true) → (xs : List A) → AllByRecursion P xs → length xs ≤ most → are_in_range (list_fields most F xs) ≡ true
 list_fits most F P h xs all few = in_range_both (number_field w32 most (length xs)) (flat_map F xs) (number_fits w32 most (length xs) few) (each_fits F P h xs all)
 
-many_fit : {A : Type 0} (F : A → List Field) (P : A → Type 0) → ((x : A) → P x → are_in_range (F x) ≡ true) → (xs : List A) → AreMany P xs → are_in_range (any_list_fields F xs) ≡ true
+pub many_fit : {A : Type 0} (F : A → List Field) (P : A → Type 0) → ((x : A) → P x → are_in_range (F x) ≡ true) → (xs : List A) → AreMany P xs → are_in_range (any_list_fields F xs) ≡ true
 many_fit F P h xs all = list_fits 4294967295 F P h xs all.each all.few
 
 account_fits : (a : Account) → IsAccount a → are_in_range (account_fields a) ≡ true

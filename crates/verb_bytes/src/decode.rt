@@ -1,5 +1,5 @@
 //! Records, read from their bytes.
-ghost use Rattle.std.specs.Prelude.{◌≡◌, ◌≤◌, ◌-◌};
+ghost use Rattle.std.specs.Prelude.{◌≡◌, ◌≤◌, ◌-◌, Ok};
 ghost use Rattle.verb_bytes.specs.declared.journal.JournalRecord.{JournalRecord};
 ghost use Rattle.verb_bytes.specs.declared.journal.JournalRecord.TheVariants.{Verb, Operator, Cycle};
 ghost use Rattle.verb_bytes.specs.Readers.{Gives, nth_case, read1, read3, u32_at, moment_at};
@@ -106,17 +106,25 @@ fn refused_at(count: usize, left: usize) -> BadBytes
     }
 }
 
+/// A record that was read of all bytes, where none is left.
+fn all_of(bytes: &[u8], rest: &[u8], found: JournalRecord) -> Result<JournalRecord, BadBytes>
+    requires { record_at bytes.now ≡ Ok (found, rest.now) }
+    ensures { AnswersAll bytes.now result }
+{
+    if rest.is_empty() {
+        Ok(found)
+    } else {
+        drop(found);
+        Err(refused_at(bytes.len(), rest.len()))
+    }
+}
+
 fn read_all(alloc: Global, bytes: &[u8]) -> Result<JournalRecord, BadBytes>
     ensures { AnswersAll bytes.now result }
 {
     let mut cursor = Cursor { rest: bytes };
     match read_record(alloc, &mut cursor) {
-        Ok(record) => {
-            if cursor.rest.is_empty() {
-                return Ok(record);
-            }
-            Err(refused_at(bytes.len(), cursor.rest.len()))
-        }
+        Ok(found) => all_of(bytes, cursor.rest, found),
         Err(Stop::At { left }) => Err(refused_at(bytes.len(), left)),
         Err(Stop::NoMemory) => Err(BadBytes::NoMemory),
     }

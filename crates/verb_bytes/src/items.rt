@@ -1,10 +1,14 @@
 //! A user's item as a part of records.
+ghost use Rattle.verb_bytes.specs.Readers.{Gives, read1};
+ghost use Rattle.verb_bytes.specs.Reading.{item_of, shown_at};
+ghost use Rattle.verb_bytes.specs.Spelling.{shown_kind};
+
 use crate::cursor::{Cursor, Stop};
 use crate::part::Part;
 use crate::shown::{kind_of, put_shown, read_shown};
 use crate::write::{Unwritten, put_actor, put_condition, put_u32, put_u64};
 use std::alloc::Global;
-use undo_base::{LAST_MOMENT, Text};
+use undo_base::{LAST_MOMENT, Text, User};
 use verb_core::{Deed, Item};
 
 impl Part for Item {
@@ -30,15 +34,30 @@ impl Part for Item {
         let at = cursor.u64(LAST_MOMENT)?;
         let by = cursor.actor()?;
         let deed = Deed::read(alloc, cursor)?;
-        let kind = kind_of(&deed);
-        let shown = read_shown(alloc, kind, cursor)?;
-        Ok(Item {
+        read_rest(alloc, number, at, by, deed, cursor)
+    }
+}
+
+/// Reads what was shown, behind the other fields of an item.
+fn read_rest(
+    alloc: Global,
+    number: u32,
+    at: u64,
+    by: Option<User>,
+    deed: Deed,
+    cursor: &mut Cursor<'_>,
+) -> Result<Item, Stop>
+    ensures { Gives (read1 (item_of number at by deed) (shown_at (shown_kind deed))) cursor.old.rest.now cursor.new.rest.now result }
+{
+    match read_shown(alloc, kind_of(&deed), cursor) {
+        Ok(shown) => Ok(Item {
             number,
             at,
             by,
             rev: 0,
             deed,
             shown,
-        })
+        }),
+        Err(stop) => Err(stop),
     }
 }

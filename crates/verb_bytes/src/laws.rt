@@ -2,12 +2,13 @@
 ghost use Rattle.std.specs.Prelude.{◌≡◌, ℕ, ◌≤◌, ◌⊎◌, List, IsTrue, length};
 ghost use Rattle.verb_core.specs.declared.conf.Conf.{Conf};
 ghost use Rattle.verb_core.specs.declared.conf.House.{House};
+ghost use Rattle.verb_core.specs.declared.item.Act.{Act};
 ghost use Rattle.verb_core.specs.declared.item.Item.{Item};
 ghost use Rattle.verb_core.specs.Items.{has_form, keys_in};
 ghost use Rattle.verb_bytes.specs.declared.journal.JournalRecord.{JournalRecord};
-ghost use Rattle.verb_bytes.specs.declared.journal.JournalRecord.TheVariants.{Format, Verb};
+ghost use Rattle.verb_bytes.specs.declared.journal.JournalRecord.TheVariants.{Format, Verb, Operator};
 ghost use Rattle.verb_bytes.specs.Decoding.{IsBytes, IsRefused, IsRefusedAt, IsSpelled};
-ghost use Rattle.verb_bytes.specs.Limits.{delivery, IsMail, IsOpening};
+ghost use Rattle.verb_bytes.specs.Limits.{delivery, IsAct, IsAsked, IsMail, IsOpening};
 ghost use Rattle.verb_bytes.specs.Spelling.{HasSpelling, Spells};
 
 /// Bytes spell one record at most, and a record has one spelling. Bytes spell a record or are refused, at one place.
@@ -26,6 +27,16 @@ pub fn openings_have_spellings()
 /// A delivery of such mail has a spelling.
 pub fn deliveries_have_spellings()
     ensures { (number at : ℕ) (from : List ℕ) (to : List (List ℕ)) (text : List ℕ) → number ≤ 4294967295 → at ≤ 253402300799 → IsMail from to text → HasSpelling (Verb (delivery number at from to text)) }
+{}
+
+/// An item that a user asked for has a spelling, with what was shown for it.
+pub fn items_have_spellings()
+    ensures { (item : Item) → IsAsked item → HasSpelling (Verb item) }
+{}
+
+/// An act of the operator has a spelling.
+pub fn acts_have_spellings()
+    ensures { (number at : ℕ) (act : Act) → number ≤ 4294967295 → at ≤ 253402300799 → IsAct act → HasSpelling (Operator number at act) }
 {}
 
 /// The item of a record that has a spelling shows what its deed shows, and it has few keys.

@@ -1,7 +1,7 @@
 //! The verbs of the mail store: its parts, its items, and what each item does.
 //!
 //! `mailbox` and `conf` are the parts of a store, `item` what is recorded, `deed` what a deed has, `fixed` the names that are
-//! always there, `ask` what is asked and refused, `bodies` where texts are read, `copy` and `copy_deeds` the copies,
+//! always there, `flags` those that a STORE leaves, `ask` what is asked and refused, `bodies` where texts are read, `copy` and `copy_deeds` the copies,
 //! `recipients` whom a local part means; `threads` says what may cross threads, and `laws` what holds of every store and
 //! item. `specs/` says what each item does to the store, what it answers, and what is kept of a store in use.
 #![tactic(auto)]
@@ -13,6 +13,7 @@ mod copy;
 mod copy_deeds;
 mod deed;
 mod fixed;
+mod flags;
 mod item;
 pub mod laws;
 mod mailbox;
@@ -23,6 +24,7 @@ pub use ask::{Ask, Refused, SubmitFault};
 pub use bodies::{Bodies, BodiesFault};
 pub use conf::{Account, Alias, Conf, Filter, House};
 pub use fixed::{is_fixed, is_inbox, is_lost_found, is_new_name, is_wildcard};
+pub use flags::flags_after;
 pub use item::{Act, Aim, Deed, Item, Resolved, Shown, Sight, Way};
 pub use mailbox::{Body, BoxId, Entry, Mailbox};
 pub use recipients::resolve_local;

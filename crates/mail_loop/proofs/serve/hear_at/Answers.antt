@@ -1,4 +1,6 @@
-use Rattle.std.proofs.Common.{Ok, Err, ap, refl, subst, sym}
+use Rattle.std.proofs.Common.{Ok, ◌<◌, ◌∙◌, length, vec_capacity, ap, refl, subst, sym, arith}
+use Rattle.std.proofs.lemmas.Map.{length-set_value}
+use Rattle.std.proofs.lemmas.Result.{err_from_is_err_and}
 use Rattle.std.proofs.lemmas.Map.Views.{All-values-set_value}
 use Rattle.std.specs.BTreeMap.{is_at}
 use Rattle.std.specs.Ordering.{nat_cmp}
@@ -8,8 +10,15 @@ use Rattle.mail_loop.specs.Asked.{HaveSealed}
 use Rattle.mail_loop.specs.Machine.{Seats}
 use Rattle.mail_loop.specs.Stands.{AreHome, IsHome, replies_of}
 use Rattle.mail_loop.proofs.Sealed.{unsealed}
-use Rattle.mail_loop.proofs.Events.{bytes_ignored, bytes_heard}
+use Rattle.mail_loop.proofs.Events.{bytes_ignored, bytes_heard, bytes_unserved}
 use Rattle.mail_loop.proofs.serve.hear_at.Goals as goal
+
+pub returns-in_err-room-clause-answers : goal.returns-in_err-room-clause-answers
+returns-in_err-room-clause-answers g c =
+    let p = err_from_is_err_and c.from_residual.result c.from_residual.ensures.1 in
+    bytes_unserved (HaveSealed g.D.Disk.told c.args.desk.now c.args.desk.now) c.args.conn c.args.at c.args.desk.now.kept c.args.connections.now.entries c.args.bytes.now
+    (λ (answer : Answer). replies_of answer.letters.items) (λ (answer : Answer). answer.stops) p.0 c.from_residual.result p.1
+    (unsealed g.D.Disk.told c.seals_join.ensures.nothing c.args.desk.now)
 
 pub returns-in-None-clause-answers : goal.returns-in-None-clause-answers
 returns-in-None-clause-answers g c =
@@ -18,39 +27,29 @@ returns-in-None-clause-answers g c =
     c.in-None.ensures.value (ap (λ m. m.entries) c.get_mut.follows.holds-at-none) (ap replies_of c.nothing.ensures.letters) c.nothing.ensures.goes_on
     (unsealed g.D.Disk.told c.seals_join.ensures.nothing c.args.desk.now)
 
-pub returns-in-Ok-clause-answers : goal.returns-in-Ok-clause-answers
-returns-in-Ok-clause-answers g c =
-    let session = c.hear-turned.new.session in
-    let lent = (c.get_mut.follows.lender session).entries in
-    let answer : Answer = record { letters = c.in-Ok.letters; stops = c.hear-turned.result.stops } in
-    bytes_heard (HaveSealed g.D.Disk.told c.args.desk.now c.hear-turned.new.desk) c.args.conn c.args.at c.args.desk.now.kept c.hear-turned.new.desk.kept c.args.connections.now.entries lent c.keep_if.new.connections.entries c.in-Some.session.now session
-    c.args.bytes.now c.hear-turned.result (λ (answer : Answer). replies_of answer.letters.items) (λ (answer : Answer). answer.stops) (Ok answer) c.in-Some.ensures.value (c.get_mut.follows.holds session).0
-    c.keep_if.ensures.entries c.hear-turned.ensures.heard c.in-Ok.ensures refl
+-- there is room for a letter to each that is left
+pub letters_of-letters-requires-clause-room : goal.letters_of-letters-requires-clause-room
+letters_of-letters-requires-clause-room g c =
+    let es = c.args.connections.now.entries in
+    let connection = c.hear-turned.new.connection in
+    let set = ap (λ (l : Seats). length l) (c.get_mut.follows.holds connection).0 ∙ length-set_value (is_at (nat_cmp c.args.conn)) es connection in
+    omega (arith, set, c.keep_if.ensures.fewer, c.in_ok-room.ensures.room)
 
-pub returns-in-Err-clause-answers : goal.returns-in-Err-clause-answers
-returns-in-Err-clause-answers g c =
-    let session = c.hear-turned.new.session in
-    let lent = (c.get_mut.follows.lender session).entries in
-    bytes_heard (HaveSealed g.D.Disk.told c.args.desk.now c.hear-turned.new.desk) c.args.conn c.args.at c.args.desk.now.kept c.hear-turned.new.desk.kept c.args.connections.now.entries lent c.keep_if.new.connections.entries c.in-Some.session.now session
-    c.args.bytes.now c.hear-turned.result (λ (answer : Answer). replies_of answer.letters.items) (λ (answer : Answer). answer.stops) (Err _) c.in-Some.ensures.value (c.get_mut.follows.holds session).0
-    c.keep_if.ensures.entries c.hear-turned.ensures.heard tt tt
+pub returns-clause-answers : goal.returns-clause-answers
+returns-clause-answers g c =
+    let connection = c.hear-turned.new.connection in
+    let lent = (c.get_mut.follows.lender connection).entries in
+    let answer : Answer = record { letters = c.letters_of-letters.result; stops = c.hear-turned.result.stops } in
+    bytes_heard (HaveSealed g.D.Disk.told c.args.desk.now c.hear-turned.new.desk) c.args.conn c.args.at c.args.desk.now.kept c.hear-turned.new.desk.kept c.args.connections.now.entries lent c.keep_if.new.connections.entries c.in-Some.connection.now connection
+    c.args.bytes.now c.hear-turned.result (λ (answer : Answer). replies_of answer.letters.items) (λ (answer : Answer). answer.stops) answer c.in-Some.ensures.value (c.get_mut.follows.holds connection).0
+    c.keep_if.ensures.entries c.hear-turned.ensures.heard c.letters_of-letters.ensures refl
 
-pub returns-in-Ok-clause-home : goal.returns-in-Ok-clause-home
-returns-in-Ok-clause-home g c =
-    let session = c.hear-turned.new.session in
+pub returns-clause-home : goal.returns-clause-home
+returns-clause-home g c =
+    let connection = c.hear-turned.new.connection in
     let house = c.hear-turned.new.desk.kept.house in
     let es = c.args.connections.now.entries in
     let held = subst (λ (h : House). AreHome h es) (sym c.hear-turned.ensures.house) c.requires.home in
     c.keep_if.ensures.home house
-    (subst (λ (l : Seats). AreHome house l) (sym (c.get_mut.follows.holds session).0)
-    (All-values-set_value (is_at (nat_cmp c.args.conn)) (IsHome house) es session held c.hear-turned.ensures.home))
-
-pub returns-in-Err-clause-home : goal.returns-in-Err-clause-home
-returns-in-Err-clause-home g c =
-    let session = c.hear-turned.new.session in
-    let house = c.hear-turned.new.desk.kept.house in
-    let es = c.args.connections.now.entries in
-    let held = subst (λ (h : House). AreHome h es) (sym c.hear-turned.ensures.house) c.requires.home in
-    c.keep_if.ensures.home house
-    (subst (λ (l : Seats). AreHome house l) (sym (c.get_mut.follows.holds session).0)
-    (All-values-set_value (is_at (nat_cmp c.args.conn)) (IsHome house) es session held c.hear-turned.ensures.home))
+    (subst (λ (l : Seats). AreHome house l) (sym (c.get_mut.follows.holds connection).0)
+    (All-values-set_value (is_at (nat_cmp c.args.conn)) (IsHome house) es connection held c.hear-turned.ensures.home))

@@ -1,7 +1,7 @@
 use Rattle.std.proofs.Common.{[], ◌∷◌}
+use Rattle.verb_core.specs.Deeds.{act_item}
 use Rattle.verb_bytes.specs.declared.journal.JournalRecord.TheVariants.{Operator}
 use Rattle.time_desk.specs.Lasting.{lasting}
-use Rattle.time_desk.specs.Records.{act_item}
 use Rattle.time_desk.proofs.Submits.{acts_none, never_closed, record_as, seals_from}
 use Rattle.time_desk.proofs.act.act_numbered.Goals as goal
 

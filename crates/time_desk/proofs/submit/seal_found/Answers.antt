@@ -19,11 +19,11 @@ fault_of-requires g c =
 pub returns-in-Ok-clause-ok : goal.returns-in-Ok-clause-ok
 returns-in-Ok-clause-ok g c = c.in-Ok.ensures.ok (Verb c.args.found.item) (made g (goal.at.returns-in-Ok-clause-ok g c).After-seal_ready)
 
-pub returns-in-Err-clause-err : goal.returns-in-Err-clause-err
-returns-in-Err-clause-err g c =
+pub returns-clause-err : goal.returns-clause-err
+returns-clause-err g c =
     submits_none g.D.Disk.told c.args.found.item (lasting c.args.desk.now c.args.journal.now) (lasting c.seal_ready.new.desk c.seal_ready.new.journal) c.in-Err.fault c.fault_of.result
     c.requires.open c.fault_of.ensures
-    (c.in-Err.ensures.err (Verb c.args.found.item) (made g (goal.at.returns-in-Err-clause-err g c).After-seal_ready))
+    (c.in-Err.ensures.err (Verb c.args.found.item) (made g (goal.at.returns-clause-err g c).After-seal_ready))
 
-pub returns-in-Err-clause-refuses_none : goal.returns-in-Err-clause-refuses_none
-returns-in-Err-clause-refuses_none g c = outcome_refuses_none c.in-Err.fault c.fault_of.result c.fault_of.ensures
+pub returns-clause-refuses_none : goal.returns-clause-refuses_none
+returns-clause-refuses_none g c = outcome_refuses_none c.in-Err.fault c.fault_of.result c.fault_of.ensures

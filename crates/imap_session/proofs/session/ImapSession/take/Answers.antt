@@ -1,16 +1,16 @@
 use Rattle.std.proofs.Common.{◌≡◌, subst, sym, true}
 use Rattle.shelf.specs.Notes.{size_of}
 use Rattle.imap_session.specs.declared.dialog.Dialog.{Dialog}
-use Rattle.imap_session.specs.Dialog.{AsksAsUser, IsNext, ReadsOf, is_at_home, is_free, turn}
+use Rattle.imap_session.specs.Dialog.{AsksAsUser, IsNext, ReadsOf, is_at_home, is_free, turn, without_memory}
 use Rattle.imap_session.specs.Sound.{IsSound}
-use Rattle.imap_session.proofs.Turns.{fine_obey}
+use Rattle.imap_session.proofs.Turns.{fine_left, fine_obey}
 use Rattle.imap_session.proofs.Settled.{dialog_after, out_after}
 use Rattle.imap_session.proofs.session.ImapSession.take.Goals as goal
 
 pub invariant_of-self : goal.invariant_of-self
 invariant_of-self c =
-    dialog_after c.obey.result (turn c.args.house.now c.args.store.now.store (size_of c.args.sizes.now.notes) c.self.inside.dialog c.args.command.now) c.self.inside.dialog c.obey.new.dialog c.obey.ensures.ok c.obey.ensures.err IsSound
-    (fine_obey c.args.house.now c.args.store.now.store c.self.inside.dialog c.self.invariant (subst (λ (d : Dialog). is_free d ≡ true) (sym c.self.view_is) c.requires.free) (size_of c.args.sizes.now.notes) c.args.command.now.tag c.args.command.now.what c.requires.valid).sound c.self.invariant
+    dialog_after c.obey.result (turn c.args.house.now c.args.store.now.store (size_of c.args.sizes.now.notes) c.self.inside.dialog c.args.command.now) (without_memory c.args.command.now.what c.self.inside.dialog) c.obey.new.dialog c.obey.ensures.ok c.obey.ensures.err IsSound
+    (fine_obey c.args.house.now c.args.store.now.store c.self.inside.dialog c.self.invariant (subst (λ (d : Dialog). is_free d ≡ true) (sym c.self.view_is) c.requires.free) (size_of c.args.sizes.now.notes) c.args.command.now.tag c.args.command.now.what c.requires.valid).sound (fine_left c.args.house.now c.self.inside.dialog c.args.command.now.what c.self.invariant).sound
 
 pub returns-clause-next : goal.returns-clause-next
 returns-clause-next c =
@@ -29,5 +29,5 @@ returns-clause-reads c =
 
 pub returns-clause-stays : goal.returns-clause-stays
 returns-clause-stays c =
-    dialog_after c.obey.result (turn c.args.house.now c.args.store.now.store (size_of c.args.sizes.now.notes) c.self.inside.dialog c.args.command.now) c.self.inside.dialog c.obey.new.dialog c.obey.ensures.ok c.obey.ensures.err (λ (d : Dialog). is_at_home c.args.house.now d ≡ true)
-    ((fine_obey c.args.house.now c.args.store.now.store c.self.inside.dialog c.self.invariant (subst (λ (d : Dialog). is_free d ≡ true) (sym c.self.view_is) c.requires.free) (size_of c.args.sizes.now.notes) c.args.command.now.tag c.args.command.now.what c.requires.valid).home (subst (λ (d : Dialog). is_at_home c.args.house.now d ≡ true) (sym c.self.view_is) c.requires.home)) (subst (λ (d : Dialog). is_at_home c.args.house.now d ≡ true) (sym c.self.view_is) c.requires.home)
+    dialog_after c.obey.result (turn c.args.house.now c.args.store.now.store (size_of c.args.sizes.now.notes) c.self.inside.dialog c.args.command.now) (without_memory c.args.command.now.what c.self.inside.dialog) c.obey.new.dialog c.obey.ensures.ok c.obey.ensures.err (λ (d : Dialog). is_at_home c.args.house.now d ≡ true)
+    ((fine_obey c.args.house.now c.args.store.now.store c.self.inside.dialog c.self.invariant (subst (λ (d : Dialog). is_free d ≡ true) (sym c.self.view_is) c.requires.free) (size_of c.args.sizes.now.notes) c.args.command.now.tag c.args.command.now.what c.requires.valid).home (subst (λ (d : Dialog). is_at_home c.args.house.now d ≡ true) (sym c.self.view_is) c.requires.home)) ((fine_left c.args.house.now c.self.inside.dialog c.args.command.now.what c.self.invariant).home (subst (λ (d : Dialog). is_at_home c.args.house.now d ≡ true) (sym c.self.view_is) c.requires.home))

@@ -1,0 +1,6 @@
+pub mod Order
+pub mod Views
+pub mod Mail
+pub mod Picked
+pub mod Told
+pub mod Gone

@@ -1,0 +1,5 @@
+pub mod Names
+pub mod Views
+pub mod Named
+pub mod Facts
+pub mod Following

@@ -1,0 +1,137 @@
+//! What the store tells of a mailbox.
+ghost use Rattle.std.specs.Prelude.{◌≡◌, ◌+◌, true, find, option_copied, option_map, unwrap_or, count_by, position, IfOk};
+ghost use Rattle.std.specs.Ordering.{eq_by_cmp};
+ghost use Rattle.verb_core.specs.Boxes.{box_cmp, box_of, next_at, row_at};
+ghost use Rattle.verb_core.specs.Live as live;
+ghost use Rattle.verb_core.specs.Store.{IsValid};
+ghost use Rattle.imap_view.specs.Facts as fact;
+ghost use Rattle.imap_view.specs.Views as spec;
+
+use crate::messages::number;
+use box_store::Store;
+use imap_text::BoxFacts;
+use undo_base::{Name, NoMemory, User};
+use verb_core::{BoxId, Entry, Stamps};
+
+fn asker(user: Option<User>) -> User
+    ensures { result ≡ live.asker user }
+{
+    match user {
+        Some(user) => user,
+        None => User(0),
+    }
+}
+
+/// What lies in a mailbox: nothing where it is missing.
+pub fn mail_of<'a>(store: &'a Store, user: Option<User>, name: &Name) -> &'a [Entry]
+    requires { IsValid store.now.store }
+    ensures mail { result.now ≡ live.mail_of store.entry.now.store user name.now }
+    ensures order { spec.is_by_uid result.now ≡ true }
+{
+    match store.mailbox(asker(user), name) {
+        Some(mailbox) => mailbox.entries.as_slice(),
+        None => &[],
+    }
+}
+
+/// Whether a user's mailbox is there. Takes no memory.
+pub fn is_there(store: &Store, user: Option<User>, name: &Name) -> bool
+    ensures { result ≡ fact.is_there store.now.store user name.now }
+{
+    match store.mailbox(asker(user), name) {
+        Some(_) => true,
+        None => false,
+    }
+}
+
+/// The next UID of a mailbox: 0 where it is missing.
+fn next_of(store: &Store, user: Option<User>, name: &Name) -> u64
+    ensures { result ≡ next_at (box_of (live.asker user) name.now) store.now.store.boxes }
+{
+    match store.mailbox(asker(user), name) {
+        Some(mailbox) => mailbox.next,
+        None => 0,
+    }
+}
+
+fn is_stamp_of(row: &(BoxId, u32), user: User, name: &Name) -> bool
+    ensures { result ≡ eq_by_cmp box_cmp (box_of user name.now) row.now.0 }
+{
+    user == row.0.user && name.bytes() == row.0.name.bytes()
+}
+
+fn find_stamp<'a>(stamps: &'a [(BoxId, u32)], user: User, name: &Name) -> Option<&'a (BoxId, u32)>
+    ensures { option_copied result ≡ find (λ r. eq_by_cmp box_cmp (box_of user name.now) r.0) stamps.entry.now }
+{
+    stamps.iter().find(|row| is_stamp_of(row, user, name))
+}
+
+fn stamp_at(stamps: &[(BoxId, u32)], user: User, name: &Name) -> u32
+    ensures { result ≡ unwrap_or (row_at (box_of user name.now) stamps.now) 0 }
+{
+    match find_stamp(stamps, user, name) {
+        Some(row) => row.1,
+        None => 0,
+    }
+}
+
+/// The UIDVALIDITY of a mailbox.
+fn stamp_of(stamps: &Stamps, user: Option<User>, name: &Name) -> u32
+    ensures { result ≡ fact.stamp_of stamps.now user name.now }
+{
+    stamp_at(stamps.as_slice(), asker(user), name)
+}
+
+fn is_unseen(entry: &Entry) -> bool
+    ensures { result ≡ spec.is_unseen entry.now }
+{
+    !entry.flags.seen
+}
+
+fn count_unseen(entries: &[Entry]) -> Result<u32, NoMemory>
+    ensures { IfOk result (λ n. n ≡ count_by spec.is_unseen entries.now) }
+{
+    number(entries.iter().filter(|entry| is_unseen(entry)).count())
+}
+
+fn find_unseen(entries: &[Entry]) -> Option<usize>
+    ensures { result ≡ position spec.is_unseen entries.now }
+{
+    entries.iter().position(is_unseen)
+}
+
+/// The number, from 1, of the first message that lacks `\Seen`.
+fn first_unseen(entries: &[Entry]) -> Result<Option<u32>, NoMemory>
+    ensures { IfOk result (λ n. n ≡ option_map (λ place. place + 1) (position spec.is_unseen entries.now)) }
+{
+    match find_unseen(entries) {
+        None => Ok(None),
+        Some(place) => {
+            let place = number(place)?;
+            match place.checked_add(1) {
+                None => Err(NoMemory),
+                Some(number) => Ok(Some(number)),
+            }
+        }
+    }
+}
+
+/// What a mailbox tells of itself.
+pub fn facts_of(
+    store: &Store,
+    stamps: &Stamps,
+    user: Option<User>,
+    name: &Name,
+) -> Result<BoxFacts, NoMemory>
+    requires { IsValid store.now.store }
+    ensures { IfOk result (λ facts. facts ≡ fact.facts_at store.now.store stamps.now user name.now) }
+{
+    let entries = mail_of(store, user, name);
+    Ok(BoxFacts {
+        messages: number(entries.len())?,
+        next: next_of(store, user, name),
+        stamp: stamp_of(stamps, user, name),
+        unseen: count_unseen(entries)?,
+        first_unseen: first_unseen(entries)?,
+    })
+}

@@ -1,0 +1,19 @@
+//! What an IMAP session knows of its mailbox, and what the store tells of it.
+//!
+//! `messages` is the view, the messages that a session knows, and how it is told of changes; `facts` has what the store
+//! tells of a mailbox, `named` the messages that a command names, and `names` the mailboxes and accounts; `laws` says
+//! that a client can follow a view. What carries
+//! the crate: each call is the function of its name in specs/Views.antt, specs/Facts.antt, specs/Named.antt or
+//! specs/Names.antt.
+#![tactic(auto)]
+
+mod facts;
+pub mod laws;
+mod messages;
+mod named;
+mod names;
+
+pub use facts::{facts_of, is_there, mail_of};
+pub use messages::{Known, View, is_current, news, view_of};
+pub use named::{keys_at, places_named, rows_at};
+pub use names::{account_of, mailbox_of};

@@ -1,0 +1,140 @@
+//! The messages that a command names.
+ghost use Rattle.std.specs.Prelude.{◌≡◌, ℕ, ◌<◌, Bool, List, Err, true, length, option_map, unwrap_or, IfOk};
+ghost use Rattle.shelf.specs.Notes.{size_of};
+ghost use Rattle.imap_stream.specs.declared.picks.SetRange.{SetRange as TheRange};
+ghost use Rattle.imap_stream.specs.Sets.{Picks};
+ghost use Rattle.imap_view.specs.Views.{entry_of, is_by_uid, is_in_order};
+ghost use Rattle.imap_view.specs.Named as spec;
+
+use crate::messages::{Known, View, find_entry, uids_of};
+use imap_fetch::{Message, Messages};
+use imap_lines::{PickRefused, SetText, pick};
+use shelf::Shelf;
+use std::alloc::{AllocError, Global};
+use undo_base::{Key, Keys, NoMemory, Places};
+use verb_core::{Body, Entry};
+
+/// Why nothing is picked.
+fn unpicked(why: PickRefused) -> Result<Option<Places>, NoMemory>
+    ensures { IfOk result (λ places. (set : List TheRange) → (uids : List ℕ) → (by_uid : Bool) → Picks set uids by_uid (Err why) → places ≡ spec.places_by uids set by_uid) }
+{
+    match why {
+        PickRefused::Number { given: _ } => Ok(None),
+        PickRefused::NoMemory => Err(NoMemory),
+    }
+}
+
+/// The places in a view of the messages that a set names; none where it names a number that the view does not have.
+pub fn places_named(
+    alloc: Global,
+    view: &View,
+    set: &SetText,
+    by_uid: bool,
+) -> Result<Option<Places>, NoMemory>
+    requires { is_in_order view.now ≡ true }
+    ensures { IfOk result (λ places. places ≡ spec.places_named view.now set.now by_uid) }
+{
+    let uids = uids_of(alloc, view)?;
+    match pick(alloc, set, &uids, by_uid) {
+        Ok(places) => Ok(Some(places)),
+        Err(why) => unpicked(why),
+    }
+}
+
+fn key_at(view: &[Known], place: u32) -> Option<Key>
+    ensures { result ≡ spec.key_at view.now place }
+{
+    match view.get(place as usize) {
+        None => None,
+        Some(known) => Some(known.key),
+    }
+}
+
+fn all_keys(alloc: Global, view: &[Known], places: &[u32]) -> Result<Vec<Key>, AllocError>
+    ensures { IfOk result (λ keys. keys.items ≡ spec.keys_at view.now places.now) }
+{
+    places
+        .iter()
+        .filter_map(|place| key_at(view, *place))
+        .collect(alloc)
+}
+
+/// The keys of the messages at these places.
+pub fn keys_at(alloc: Global, view: &View, places: &Places) -> Result<Keys, NoMemory>
+    ensures { IfOk result (λ keys. keys ≡ spec.keys_at view.now places.now) }
+{
+    let keys = all_keys(alloc, view.as_slice(), places.as_slice())?;
+    Ok(Keys::from_vec(keys))
+}
+
+/// How long a text is: 0 where it is not known.
+fn length_of(sizes: &Shelf, body: Body) -> u32
+    ensures { result ≡ unwrap_or (size_of sizes.now.notes body) 0 }
+{
+    match sizes.size(body) {
+        None => 0,
+        Some(size) => size,
+    }
+}
+
+/// A message with its number, as it lies now.
+fn message_of(sizes: &Shelf, entries: &[Entry], place: u32, known: Known) -> Option<Message>
+    requires { is_by_uid entries.now ≡ true }
+    ensures { result ≡ option_map (λ e. record { place = place; entry = e; size = unwrap_or (size_of sizes.now.notes e.body) 0 }) (entry_of entries.now known) }
+{
+    match find_entry(entries, known) {
+        None => None,
+        Some(entry) => Some(Message {
+            place,
+            entry: *entry,
+            size: length_of(sizes, entry.body),
+        }),
+    }
+}
+
+/// The message at a place, with its number from 1, as it lies now.
+fn message_at(sizes: &Shelf, entries: &[Entry], view: &[Known], place: u32) -> Option<Message>
+    requires order { is_by_uid entries.now ≡ true }
+    requires few { length view.now < 4294967295 }
+    ensures { result ≡ spec.message_at (size_of sizes.now.notes) entries.now view.now place }
+{
+    match view.get(place as usize) {
+        None => None,
+        Some(known) => message_of(sizes, entries, place + 1, *known),
+    }
+}
+
+fn all_rows(
+    alloc: Global,
+    sizes: &Shelf,
+    entries: &[Entry],
+    view: &[Known],
+    places: &[u32],
+) -> Result<Vec<Message>, AllocError>
+    requires order { is_by_uid entries.now ≡ true }
+    requires few { length view.now < 4294967295 }
+    ensures { IfOk result (λ rows. rows.items ≡ spec.rows_at (size_of sizes.now.notes) entries.now view.now places.now) }
+{
+    places
+        .iter()
+        .filter_map(|place| message_at(sizes, entries, view, *place))
+        .collect(alloc)
+}
+
+/// The messages at these places that are still there.
+pub fn rows_at(
+    alloc: Global,
+    sizes: &Shelf,
+    entries: &[Entry],
+    view: &View,
+    places: &Places,
+) -> Result<Messages, NoMemory>
+    requires { is_by_uid entries.now ≡ true }
+    ensures { IfOk result (λ rows. rows ≡ spec.rows_at (size_of sizes.now.notes) entries.now view.now places.now) }
+{
+    if view.len() >= u32::MAX as usize {
+        return Err(NoMemory);
+    }
+    let rows = all_rows(alloc, sizes, entries, view.as_slice(), places.as_slice())?;
+    Ok(Messages::from_vec(rows))
+}

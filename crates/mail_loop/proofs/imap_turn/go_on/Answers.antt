@@ -1,0 +1,34 @@
+use Rattle.std.proofs.Common.{refl, ap}
+use Rattle.imap_session.specs.declared.dialog.Dialog.{Dialog}
+use Rattle.imap_session.specs.declared.out.ImapOut.{ImapOut}
+use Rattle.mail_loop.specs.Asked.{HaveSealed}
+use Rattle.mail_loop.specs.SmtpTurn.{Turn}
+use Rattle.mail_loop.specs.Hindrance.{Hindrance}
+use Rattle.mail_loop.specs.ImapTurn.{service, submits}
+use Rattle.mail_loop.specs.ImapTook.{under}
+use Rattle.mail_loop.proofs.ImapTurns.{bye_turn, said_turn}
+use Rattle.mail_loop.proofs.Sealed.{unsealed}
+use Rattle.mail_loop.proofs.Turns.{lifted_turn}
+use Rattle.mail_loop.proofs.imap_turn.go_on.Goals as goal
+
+pub returns-in-Say-clause-turn : goal.returns-in-Say-clause-turn
+returns-in-Say-clause-turn g c =
+    let desk = c.args.desk.now in
+    let d = c.args.session.now in
+    let old = c.args.reply.now in
+    let new = c.say.new.reply in
+    let f : Hindrance → Turn Dialog = λ h. under h c.args.at desk.kept (λ service. submits service desk.kept c.args.out d) in
+    lifted_turn (HaveSealed g.D.Disk.told desk desk) f old desk.kept d new (unsealed g.D.Disk.told c.seals_join.ensures.nothing desk)
+    (said_turn c.in-Say.text c.bytes.result.now desk.kept d old new f c.bytes.ensures.value
+    (ap (λ (o : ImapOut). submits (service c.args.at desk.kept) desk.kept o d) c.in-Say.is) refl c.say.ensures)
+
+pub returns-in-Bye-clause-turn : goal.returns-in-Bye-clause-turn
+returns-in-Bye-clause-turn g c =
+    let desk = c.args.desk.now in
+    let d = c.args.session.now in
+    let old = c.args.reply.now in
+    let new = c.say-in-Bye.new.reply in
+    let f : Hindrance → Turn Dialog = λ h. under h c.args.at desk.kept (λ service. submits service desk.kept c.args.out d) in
+    lifted_turn (HaveSealed g.D.Disk.told desk desk) f old desk.kept d new (unsealed g.D.Disk.told c.seals_join.ensures.nothing desk)
+    (bye_turn c.in-Bye.text c.bytes-in-Bye.result.now desk.kept d old new f c.bytes-in-Bye.ensures.value
+    (ap (λ (o : ImapOut). submits (service c.args.at desk.kept) desk.kept o d) c.in-Bye.is) refl c.say-in-Bye.ensures)

@@ -1,0 +1,40 @@
+use Rattle.std.proofs.Common.{Ok, refl, subst}
+use Rattle.shelf.specs.Notes.{size_of}
+use Rattle.imap_session.specs.declared.dialog.Dialog.{Dialog}
+use Rattle.imap_session.specs.Dialog.{without_memory}
+use Rattle.mail_loop.specs.Asked.{HaveSealed}
+use Rattle.mail_loop.specs.SmtpTurn.{Turn}
+use Rattle.mail_loop.specs.Hindrance.{Hindrance, Refused}
+use Rattle.mail_loop.specs.ImapTook.{IsAnswered, obeyed_under}
+use Rattle.mail_loop.specs.ImapHindrance.{memory_told}
+use Rattle.mail_loop.proofs.Commands.{there_of}
+use Rattle.mail_loop.proofs.ImapTurns.{answered_turn, command_is, command_turn}
+use Rattle.mail_loop.proofs.Sealed.{unsealed}
+use Rattle.mail_loop.proofs.Turns.{lifted_turn}
+use Rattle.mail_loop.proofs.imap_turn.take_command.Goals as goal
+
+pub follow-requires-clause-there : goal.follow-requires-clause-there
+follow-requires-clause-there g c =
+    there_of c.args.desk.now.kept c.store-store.result.now.store c.in-Ok.out c.store-store.ensures.value c.in-Ok.ensures.reads c.stands.ensures.texts
+
+pub returns-in-Ok-clause-turn : goal.returns-in-Ok-clause-turn
+returns-in-Ok-clause-turn g c =
+    let kept = c.args.desk.now.kept in
+    let d = c.args.session.now in
+    let e = c.take.new.self in
+    let is = command_is kept c.house-house.result.now c.store-store.result.now.store (size_of c.shelf-sizes.result.now.notes) d e c.args.command.now c.in-Ok.out
+    c.house-house.ensures.value c.store-store.ensures.value c.shelf-sizes.ensures.sizes c.in-Ok.ensures.ok in
+    command_turn (HaveSealed g.D.Disk.told c.args.desk.now c.follow.new.desk) c.args.at kept c.follow.new.desk.kept c.args.command.now c.in-Ok.out d e c.follow.new.session c.args.reply.now c.follow.new.reply is c.follow.ensures.turn
+
+pub returns-in-Err-clause-turn : goal.returns-in-Err-clause-turn
+returns-in-Err-clause-turn g c =
+    let desk = c.args.desk.now in
+    let d = c.args.session.now in
+    let left = without_memory c.args.command.now.what d in
+    let old = c.args.reply.now in
+    let new = c.answer.new in
+    let text = c.no_memory.result in
+    let f : Hindrance → Turn Dialog = λ h. obeyed_under h c.args.at desk.kept d (Ok c.args.command.now) in
+    lifted_turn (HaveSealed g.D.Disk.told desk desk) f old desk.kept new.session new.reply (unsealed g.D.Disk.told c.seals_join.ensures.nothing desk)
+    (answered_turn (memory_told c.args.command.now.tag) text desk.kept left new.session old new.reply f Refused c.no_memory.ensures refl refl
+    (subst (λ (e : Dialog). IsAnswered text e old new.session new.reply) c.in-Err.ensures.err c.answer.ensures.answered))

@@ -1,0 +1,25 @@
+use Rattle.std.proofs.Common.{◌≡◌, [], false, length}
+use Rattle.smtp_lines.specs.Lines.{rest_of}
+use Rattle.smtp_lines.specs.Line.{smtp_lines_of}
+use Rattle.smtp_session.specs.Dialog.{is_due}
+use Rattle.mail_loop.specs.Asked.{HaveSealed}
+use Rattle.mail_loop.specs.Machine.{Seats}
+use Rattle.mail_loop.proofs.Stretch.{SoFar}
+use Rattle.mail_loop.proofs.Turns.{line_at}
+use Rattle.mail_loop.proofs.open_connection.serve_lines.Given as goal
+
+-- the turns so far, and those of the lines that are left
+abbrev pub invariant-loop-line : goal.invariant-loop-line
+invariant-loop-line g l = record {
+  stays : l.reply.closes ≡ false;
+  conn : l.reply.conn ≡ l.conn;
+  free : is_due l.dialog ≡ false;
+  house : l.desk.kept.house ≡ l.fn.desk.kept.house;
+  rest : rest_of l.unserved ≡ rest_of l.fn.unserved;
+  open' : l.desk.closed ≡ false;
+  seals : HaveSealed g.D.Disk.told l.fn.desk l.desk [];
+  turns : (seats : Seats) → SoFar (line_at l.at) seats l.fn.desk.kept l.fn.dialog (smtp_lines_of l.fn.unserved) l.reply l.desk.kept l.dialog (smtp_lines_of l.unserved);
+}
+
+abbrev pub decreases-loop-line : goal.decreases-loop-line
+decreases-loop-line g l = length (smtp_lines_of l.unserved)

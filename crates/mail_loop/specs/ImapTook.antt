@@ -1,0 +1,107 @@
+-- What the code's answers to a mail reader are in the machine.
+use Rattle.std.specs.Prelude.{◌≡◌, ◌⊎◌, ℕ, Bool, true, false, List, [], Result, Ok, Err, IsTrue}
+use Rattle.std.specs.List.{list_all}
+use Rattle.undo_base.specs.declared.memory.NoMemory.{NoMemory as WantOfMemory}
+use Rattle.seal_log.specs.declared.fault.ReadFault.TheVariants.{NoMemory as NoneForTexts}
+use Rattle.verb_core.specs.declared.ask.Refused.TheVariants.{NoMemory}
+use Rattle.verb_core.specs.declared.ask.SubmitFault.{SubmitFault}
+use Rattle.verb_core.specs.declared.ask.SubmitFault.TheVariants.{Refused as IsRefused}
+use Rattle.verb_core.specs.declared.item.Item.{Item}
+use Rattle.verb_core.specs.declared.mailbox.BoxId.{BoxId}
+use Rattle.imap_lines.specs.Command.{Reading}
+use Rattle.imap_stream.specs.declared.next.Next.{Next}
+use Rattle.imap_stream.specs.declared.next.Next.TheVariants.{Command, Ask as Mark, Bad, NotYet}
+use Rattle.imap_session.specs.declared.dialog.Dialog.{Dialog}
+use Rattle.imap_session.specs.declared.out.ImapOut.{ImapOut}
+use Rattle.imap_session.specs.declared.out.ImapOut.TheVariants.{Say, Read, Submit, Bye}
+use Rattle.imap_session.specs.Dialog as session
+use Rattle.imap_session.specs.Dialog.{is_due, is_free}
+use Rattle.verb_core.specs.Kept.{Kept, store_of}
+use Rattle.mail_desk.specs.Timeline.{has_text}
+use Rattle.mail_loop.specs.declared.reply.Reply.{Reply}
+use Rattle.mail_loop.specs.SmtpTurn.{Turn, ends}
+use Rattle.mail_loop.specs.Hindrance.{Hindrance, Clear, Refused, Unread, Unstored, Unheard, Unanswered, Unsealed, Untold, lost, unanswered}
+use Rattle.mail_loop.specs.ImapTurn.{Service, service, followed, settled, settled_as, size_in}
+use Rattle.mail_loop.specs.ImapHindrance.{refused_command, without_items, without_seals, without_texts}
+use Rattle.mail_loop.specs.Took.{Adds, IsNone, Takes, asked_as, is_refused}
+
+-- nothing whole is there
+abbrev pub is_not_yet : Next → Bool
+is_not_yet (Command raw) = false
+is_not_yet (Mark length) = false
+is_not_yet (Bad line) = false
+is_not_yet NotYet = true
+
+-- what is said is in the reply, or no memory was found for it
+abbrev pub IsReaderTold : ImapOut → Reply → Reply → Type 0
+IsReaderTold (Say said) old new = Adds said false old new
+IsReaderTold (Bye said) old new = Adds said true old new
+IsReaderTold (Read bodies) old new = new ≡ old
+IsReaderTold (Submit ask) old new = new ≡ old
+
+-- an answer was made and is in the reply, or the connection closes
+abbrev pub IsAnswered : Result (List ℕ) WantOfMemory → Dialog → Reply → Dialog → Reply → Type 0
+IsAnswered (Ok said) d old d' new = (d' ≡ d) × Adds said false old new
+IsAnswered (Err e) d old d' new = new ≡ record old { closes = true }
+
+-- what is awaited once no texts are wanted any more
+abbrev pub IsAwaitedLast : ImapOut → Dialog → Type 0
+IsAwaitedLast (Say said) d = is_free d ≡ true
+IsAwaitedLast (Bye said) d = is_free d ≡ true
+IsAwaitedLast (Read bodies) d = ⊥
+IsAwaitedLast (Submit ask) d = is_due d ≡ true
+
+-- the items in force have the texts that are wanted
+abbrev pub AreThere : Kept → ImapOut → Type 0
+AreThere kept (Say said) = Unit {0}
+AreThere kept (Bye said) = Unit {0}
+AreThere kept (Read bodies) = IsTrue (list_all (has_text kept.timeline) bodies)
+AreThere kept (Submit ask) = Unit {0}
+
+-- what the desk serves, hindered or not
+abbrev pub under : Hindrance → ℕ → Kept → (Service → Turn Dialog) → Turn Dialog
+under Clear at kept turn = turn (service at kept)
+under Refused at kept turn = lost kept
+under Unread at kept turn = turn (without_texts (service at kept))
+under Unstored at kept turn = turn (without_items kept (service at kept))
+under Unheard at kept turn = lost kept
+under Unanswered at kept turn = unanswered (turn (service at kept))
+under Unsealed at kept turn = turn (without_seals at kept (service at kept))
+under Untold at kept turn = unanswered (turn (without_seals at kept (service at kept)))
+
+-- a command, or what is none
+abbrev pub obeyed : Service → Kept → Dialog → Reading → Turn Dialog
+obeyed desk kept d reading = let t = session.hears_reading kept.house (store_of kept) (size_in kept) d reading in followed desk kept t.out t.dialog
+
+-- a command, or what is none, hindered or not
+abbrev pub obeyed_under : Hindrance → ℕ → Kept → Dialog → Reading → Turn Dialog
+obeyed_under Clear at kept d reading = obeyed (service at kept) kept d reading
+obeyed_under Refused at kept d reading = refused_command kept d reading
+obeyed_under Unread at kept d reading = obeyed (without_texts (service at kept)) kept d reading
+obeyed_under Unstored at kept d reading = obeyed (without_items kept (service at kept)) kept d reading
+obeyed_under Unheard at kept d reading = lost kept
+obeyed_under Unanswered at kept d reading = unanswered (obeyed (service at kept) kept d reading)
+obeyed_under Unsealed at kept d reading = obeyed (without_seals at kept (service at kept)) kept d reading
+obeyed_under Untold at kept d reading = unanswered (obeyed (without_seals at kept (service at kept)) kept d reading)
+
+-- the mailboxes that an ask takes away, where it was done
+abbrev pub where_done : Result Item SubmitFault → List BoxId → List BoxId
+where_done (Ok item) boxes = boxes
+where_done (Err fault) boxes = []
+
+-- the connection closes with no answer, or the dialog is told that no memory was found for the texts
+abbrev pub ReadsNone : Kept → Dialog → Reply → Dialog → Reply → Type 0
+ReadsNone kept d old d' new =
+    Takes IsNone (ends [] kept) old kept d' new
+    ⊎ Takes IsNone (let t = session.heard d (Err NoneForTexts) in settled_as t.out kept t.dialog) old kept d' new
+
+-- the connection closes with no answer, or an ask that was refused is settled as one for which no memory was found
+abbrev pub SettlesAgain : Bool → Kept → Dialog → Reply → Dialog → Reply → Type 0
+SettlesAgain was_refused kept d old d' new =
+    Takes IsNone (ends [] kept) old kept d' new
+    ⊎ ((was_refused ≡ true) × Takes IsNone (settled d (asked_as (Err (IsRefused NoMemory)) kept)) old kept d' new)
+
+-- the dialog is told what became of its ask, or that in its place
+abbrev pub Settles : Result Item SubmitFault → Kept → Dialog → Reply → Dialog → Reply → Type 0
+Settles outcome kept d old d' new =
+    Takes IsNone (settled d (asked_as outcome kept)) old kept d' new ⊎ SettlesAgain (is_refused outcome) kept d old d' new

@@ -1,0 +1,285 @@
+//! An open connection: what it speaks, its stream and its dialog, and what it makes of the bytes that come.
+ghost use Rattle.std.specs.Prelude.{◌≡◌, ◌≤◌, ◌++◌, Bool, List, ℕ, false, true};
+ghost use Rattle.std.specs.List.{list_any};
+ghost use Rattle.verb_core.specs.declared.mailbox.BoxId.{BoxId as TheBoxId};
+ghost use Rattle.smtp_session.specs.Dialog.{is_due};
+ghost use Rattle.imap_session.specs.Dialog.{holds, is_at_home, is_free};
+ghost use Rattle.verb_bytes.specs.declared.journal.JournalRecord.{JournalRecord};
+ghost use Rattle.mail_loop.specs.State.{State, Smtp as SmtpSeat, Imap as ImapSeat};
+ghost use Rattle.mail_loop.specs.Asked.{HaveSealed};
+ghost use Rattle.mail_loop.specs.Hindrance.{Hindrance};
+ghost use Rattle.mail_loop.specs.Turns.{hears_lines, hears_commands};
+ghost use Rattle.console_head.specs.Request.{Stage};
+ghost use Rattle.mail_loop.specs.ConsoleTurn.{AreSaid, Reading};
+ghost use Rattle.mail_loop.specs.Machine.{Seats, fresh, fresh_console, fresh_reader, hears, holds_one};
+ghost use Rattle.mail_loop.specs.ImapTook.{is_not_yet};
+ghost use Rattle.mail_loop.specs.Stands.{IsHome};
+ghost use Rattle.mail_loop.specs.Took.{Tells, answered_alone};
+
+use crate::console_turn::{Turned, going_on, hear_console};
+use crate::imap_turn::take_next;
+use crate::reply::{Reply, empty_reply};
+use crate::smtp_turn::take_line;
+use console_session::ConsoleSession;
+use imap_session::ImapSession;
+use imap_stream::{Next, Pieces};
+use smtp_lines::Cutter;
+use smtp_session::SmtpSession;
+use std::alloc::Global;
+use std::marker::Model;
+use time_desk::Desk;
+use time_desk::laws::seals_join;
+use undo_base::NoMemory;
+use undo_outside::Disk;
+use verb_core::BoxId;
+
+/// What a connection speaks, with its stream as far as it was not served, and its dialog.
+#[derive(Drop)]
+enum Kind {
+    Smtp {
+        unserved: Cutter,
+        dialog: SmtpSession,
+    },
+    Imap {
+        stream: Pieces,
+        dialog: ImapSession,
+    },
+    Http(ConsoleSession),
+}
+
+/// An open connection.
+#[derive(Drop)]
+pub struct Connection {
+    kind: Kind,
+}
+
+impl Model for Connection {
+    ghost use Rattle.mail_loop.specs.State.{Seat};
+    ghost use Rattle.mail_loop.specs.Stands.{IsFree, seat_of};
+
+    ghost Value = { Seat };
+
+    ghost view = { λ s. seat_of s.kind };
+
+    ghost invariant = { λ s. IsFree s.kind };
+}
+
+/// A mail client's connection at first.
+pub fn smtp_connection(alloc: Global) -> Connection
+    ensures { result ≡ fresh }
+{
+    Connection {
+        kind: Kind::Smtp {
+            unserved: Cutter::new(alloc),
+            dialog: SmtpSession::new(),
+        },
+    }
+}
+
+/// A mail reader's connection at first.
+pub fn imap_connection(alloc: Global) -> Connection
+    ensures { result ≡ fresh_reader }
+{
+    Connection {
+        kind: Kind::Imap {
+            stream: Pieces::new(alloc),
+            dialog: ImapSession::new(),
+        },
+    }
+}
+
+/// A console's connection at first.
+pub fn console_connection(alloc: Global) -> Connection
+    ensures { result ≡ fresh_console }
+{
+    Connection {
+        kind: Kind::Http(ConsoleSession::new(alloc)),
+    }
+}
+
+impl Connection {
+    /// Whether it has one of these mailboxes selected.
+    pub fn holds_one(&self, boxes: &[BoxId]) -> bool
+        ensures { result ≡ holds_one boxes.now self.now }
+    {
+        match &self.kind {
+            Kind::Smtp {
+                unserved: _,
+                dialog: _,
+            } => false,
+            Kind::Imap { stream: _, dialog } => dialog_holds(dialog, boxes),
+            Kind::Http(_) => false,
+        }
+    }
+}
+
+/// Whether a dialog has one of these mailboxes selected.
+fn dialog_holds(dialog: &ImapSession, boxes: &[BoxId]) -> bool
+    ensures { result ≡ list_any (λ (box : TheBoxId). holds dialog.now box.user box.name) boxes.now }
+{
+    boxes.iter().any(|id| dialog.holds(id.user, &id.name))
+}
+
+/// Serves the lines that are whole, each of which is a turn.
+fn serve_lines<D: Disk + Drop>(
+    alloc: Global,
+    desk: &mut Desk<D>,
+    unserved: &mut Cutter,
+    dialog: &mut SmtpSession,
+    conn: u32,
+    at: u64,
+) -> Reply
+    requires moment { at ≤ 253402300799 }
+    requires sealed { desk.old.closed ≡ false }
+    requires free { is_due dialog.old ≡ false }
+    ensures free { is_due dialog.new ≡ false }
+    ensures house { desk.new.kept.house ≡ desk.old.kept.house }
+    ensures turns { (seats : Seats) → (hs : List Hindrance) × (failed : List JournalRecord) × HaveSealed D.told desk.old desk.new failed ×
+        Tells (hears_lines hs at (record { kept = desk.old.kept; seats = seats }) dialog.old unserved.old) seats conn result desk.new.kept failed (SmtpSeat unserved.new dialog.new) }
+{
+    seals_join::<D>();
+    let mut reply = empty_reply(alloc, conn, false);
+    loop {
+        let line = match unserved.next(alloc) {
+            Ok(Some(line)) => line,
+            Ok(None) => return reply,
+            Err(NoMemory) => {
+                reply.closes = true;
+                return reply;
+            }
+        };
+        take_line(alloc, desk, dialog, at, &line, &mut reply);
+        if reply.closes {
+            return reply;
+        }
+    }
+}
+
+/// Serves the bytes that came over a mail client's connection.
+fn hear_smtp<D: Disk + Drop>(
+    alloc: Global,
+    desk: &mut Desk<D>,
+    unserved: &mut Cutter,
+    dialog: &mut SmtpSession,
+    conn: u32,
+    at: u64,
+    bytes: &[u8],
+) -> Turned
+    requires moment { at ≤ 253402300799 }
+    requires sealed { desk.old.closed ≡ false }
+    requires free { is_due dialog.old ≡ false }
+    ensures free { is_due dialog.new ≡ false }
+    ensures house { desk.new.kept.house ≡ desk.old.kept.house }
+    ensures heard { (seats : Seats) → (no_memory : Bool) × (hs : List Hindrance) × (stage : Stage) × (failed : List JournalRecord) ×
+        HaveSealed D.told desk.old desk.new failed × (readings : List Reading) × AreSaid readings ×
+        (hears no_memory hs stage at (record { kept = desk.old.kept; seats = seats }) conn (SmtpSeat unserved.old dialog.old) bytes.now
+        ≡ answered_alone conn result.reply desk.new.kept failed (record { readings = readings; stops = result.stops }) (SmtpSeat unserved.new dialog.new) seats) }
+{
+    seals_join::<D>();
+    match unserved.feed(bytes) {
+        Ok(()) => going_on(serve_lines(alloc, desk, unserved, dialog, conn, at)),
+        Err(NoMemory) => going_on(empty_reply(alloc, conn, true)),
+    }
+}
+
+fn is_not_yet(next: &Next) -> bool
+    ensures { result ≡ is_not_yet next.now }
+{
+    matches!(next, Next::NotYet)
+}
+
+/// Serves the commands, literal marks and bad lines that are whole, each of which is a turn.
+fn serve_commands<D: Disk + Drop>(
+    alloc: Global,
+    desk: &mut Desk<D>,
+    stream: &mut Pieces,
+    dialog: &mut ImapSession,
+    conn: u32,
+    at: u64,
+) -> Reply
+    requires moment { at ≤ 253402300799 }
+    requires sealed { desk.old.closed ≡ false }
+    requires free { is_free dialog.old ≡ true }
+    requires home { is_at_home desk.old.kept.house dialog.old ≡ true }
+    ensures free { is_free dialog.new ≡ true }
+    ensures home { is_at_home desk.new.kept.house dialog.new ≡ true }
+    ensures house { desk.new.kept.house ≡ desk.old.kept.house }
+    ensures turns { (seats : Seats) → (hs : List Hindrance) × (failed : List JournalRecord) × HaveSealed D.told desk.old desk.new failed ×
+        Tells (hears_commands hs at (record { kept = desk.old.kept; seats = seats }) dialog.old stream.old) seats conn result desk.new.kept failed (ImapSeat stream.new dialog.new) }
+{
+    seals_join::<D>();
+    let mut reply = empty_reply(alloc, conn, false);
+    loop {
+        let next = match stream.next(alloc) {
+            Ok(next) => next,
+            Err(NoMemory) => {
+                reply.closes = true;
+                return reply;
+            }
+        };
+        if is_not_yet(&next) {
+            return reply;
+        }
+        take_next(alloc, desk, dialog, at, next, &mut reply);
+        if reply.closes {
+            return reply;
+        }
+    }
+}
+
+/// Serves the bytes that came over a mail reader's connection.
+fn hear_imap<D: Disk + Drop>(
+    alloc: Global,
+    desk: &mut Desk<D>,
+    stream: &mut Pieces,
+    dialog: &mut ImapSession,
+    conn: u32,
+    at: u64,
+    bytes: &[u8],
+) -> Turned
+    requires moment { at ≤ 253402300799 }
+    requires sealed { desk.old.closed ≡ false }
+    requires free { is_free dialog.old ≡ true }
+    requires home { is_at_home desk.old.kept.house dialog.old ≡ true }
+    ensures free { is_free dialog.new ≡ true }
+    ensures home { is_at_home desk.new.kept.house dialog.new ≡ true }
+    ensures house { desk.new.kept.house ≡ desk.old.kept.house }
+    ensures heard { (seats : Seats) → (no_memory : Bool) × (hs : List Hindrance) × (stage : Stage) × (failed : List JournalRecord) ×
+        HaveSealed D.told desk.old desk.new failed × (readings : List Reading) × AreSaid readings ×
+        (hears no_memory hs stage at (record { kept = desk.old.kept; seats = seats }) conn (ImapSeat stream.old dialog.old) bytes.now
+        ≡ answered_alone conn result.reply desk.new.kept failed (record { readings = readings; stops = result.stops }) (ImapSeat stream.new dialog.new) seats) }
+{
+    seals_join::<D>();
+    match stream.feed(bytes) {
+        Ok(()) => going_on(serve_commands(alloc, desk, stream, dialog, conn, at)),
+        Err(NoMemory) => going_on(empty_reply(alloc, conn, true)),
+    }
+}
+
+/// Serves the bytes that came over a connection.
+pub fn hear<D: Disk + Drop>(
+    alloc: Global,
+    desk: &mut Desk<D>,
+    connection: &mut Connection,
+    conn: u32,
+    at: u64,
+    bytes: &[u8],
+) -> Turned
+    requires moment { at ≤ 253402300799 }
+    requires sealed { desk.old.closed ≡ false }
+    requires home { IsHome desk.old.kept.house connection.old }
+    ensures home { IsHome desk.new.kept.house connection.new }
+    ensures house { desk.new.kept.house ≡ desk.old.kept.house }
+    ensures heard { (seats : Seats) → (no_memory : Bool) × (hs : List Hindrance) × (stage : Stage) × (failed : List JournalRecord) ×
+        HaveSealed D.told desk.old desk.new failed × (readings : List Reading) × AreSaid readings ×
+        (hears no_memory hs stage at (record { kept = desk.old.kept; seats = seats }) conn connection.old bytes.now
+        ≡ answered_alone conn result.reply desk.new.kept failed (record { readings = readings; stops = result.stops }) connection.new seats) }
+{
+    match &mut connection.kind {
+        Kind::Smtp { unserved, dialog } => {
+            hear_smtp(alloc, desk, unserved, dialog, conn, at, bytes)
+        }
+        Kind::Imap { stream, dialog } => { hear_imap(alloc, desk, stream, dialog, conn, at, bytes) }
+        Kind::Http(console) => hear_console(alloc, desk, console, conn, at, bytes),
+    }
+}
