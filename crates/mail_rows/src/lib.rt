@@ -5,7 +5,8 @@
 //! `new_mail` and `flags` say which of it an item brings. `sights` and `shown` are what a user is shown, with entries
 //! looked up by `key_set` and `key_index`; `pattern` has the names of LIST. `reach` and `aims` find where an item's mail
 //! goes, `held_conf` holds the configuration, and `conf_change` makes what an act changes in it.
-//! What carries the crate: `shown_by` is what the model shows, `reach_of` is `sought`, `HeldConf` is changed as the model's configuration is.
+//! What carries the crate: `shown_by` is what the model shows, `reach_of` is `sought`, `HeldConf` is changed as the model's
+//! configuration is.
 #![tactic(auto)]
 
 pub mod aims;
