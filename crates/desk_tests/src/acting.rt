@@ -18,7 +18,9 @@ fn closes(alloc: Global, desk: &mut Desk<MemDisk>) -> Result<bool, Fail> {
 }
 
 fn closes_this(alloc: Global, mut desk: Desk<MemDisk>) -> Result<bool, Fail> {
-    closes(alloc, &mut desk)
+    let closes = closes(alloc, &mut desk);
+    drop(desk);
+    closes
 }
 
 fn closes_at(alloc: Global, ordinal: u32) -> Result<bool, Fail> {

@@ -8,9 +8,9 @@ use mail_desk::Counts;
 use std::alloc::Global;
 use std::test::Fail;
 use time_desk::{ActFault, Desk, MakeFault, StartFault};
-use undo_base::{Numbers, Text};
+use undo_base::{NoMemory, Numbers, Text};
 use undo_outside::MemDisk;
-use verb_core::SubmitFault;
+use verb_core::{Item, SubmitFault};
 
 /// A disk with these bytes, whose calls of these ordinals fail.
 pub(crate) fn disk_of(alloc: Global, bytes: &[u8], failing: &[u32]) -> Result<MemDisk, Fail>
@@ -20,38 +20,71 @@ pub(crate) fn disk_of(alloc: Global, bytes: &[u8], failing: &[u32]) -> Result<Me
     Ok(MemDisk::new(alloc, Text::of(alloc, bytes)?, failing))
 }
 
-/// A desk that is made on such a disk, or why there is none, and how many writes were tried.
-pub(crate) fn made(
+/// Why there is no desk, and how many writes were tried.
+fn fault_of(made: Result<Desk<MemDisk>, (MemDisk, MakeFault)>) -> Option<(MakeFault, usize)> {
+    match made {
+        Ok(desk) => {
+            drop(desk);
+            None
+        }
+        Err((disk, fault)) => {
+            let writes = disk.writes();
+            drop(disk);
+            Some((fault, writes))
+        }
+    }
+}
+
+/// Why no desk is made on such a disk, and how many writes were tried; none where it is made.
+pub(crate) fn make_fault(
     alloc: Global,
-    bytes: &[u8],
     failing: &[u32],
-) -> Result<Result<Desk<MemDisk>, (MakeFault, usize)>, Fail> {
-    let disk = disk_of(alloc, bytes, failing)?;
-    let (house, conf) = playing_config(alloc)?;
-    match Desk::make(alloc, disk, house, conf) {
-        Ok(desk) => Ok(Ok(desk)),
-        Err((disk, fault)) => Ok(Err((fault, disk.writes()))),
+) -> Result<Option<(MakeFault, usize)>, Fail> {
+    let disk = disk_of(alloc, b"", failing)?;
+    match playing_config(alloc) {
+        Ok((house, conf)) => Ok(fault_of(Desk::make(alloc, disk, house, conf))),
+        Err(NoMemory) => {
+            drop(disk);
+            Err(Fail::new("no memory"))
+        }
+    }
+}
+
+/// The desk that was made.
+fn desk_of(made: Result<Desk<MemDisk>, (MemDisk, MakeFault)>) -> Result<Desk<MemDisk>, Fail> {
+    match made {
+        Ok(desk) => Ok(desk),
+        Err((disk, _fault)) => {
+            drop(disk);
+            Err(Fail::new("no desk"))
+        }
     }
 }
 
 /// A desk whose disk fails where it is told to, but not while the desk is made.
 pub(crate) fn new_desk(alloc: Global, failing: &[u32]) -> Result<Desk<MemDisk>, Fail> {
-    match made(alloc, b"", failing)? {
-        Ok(desk) => Ok(desk),
-        Err(_) => Err(Fail::new("no desk")),
+    let disk = disk_of(alloc, b"", failing)?;
+    match playing_config(alloc) {
+        Ok((house, conf)) => desk_of(Desk::make(alloc, disk, house, conf)),
+        Err(NoMemory) => {
+            drop(disk);
+            Err(Fail::new("no memory"))
+        }
     }
 }
 
-/// A desk that is started from an image, or why there is none.
-pub(crate) fn started(
-    alloc: Global,
-    image: &[u8],
-    failing: &[u32],
-) -> Result<Result<Desk<MemDisk>, StartFault>, Fail> {
-    let disk = disk_of(alloc, image, failing)?;
-    match Desk::start(alloc, disk) {
-        Ok(desk) => Ok(Ok(desk)),
-        Err((_disk, fault)) => Ok(Err(fault)),
+/// The number that the next item gets, or why there is no desk.
+fn next_of(started: Result<Desk<MemDisk>, (MemDisk, StartFault)>) -> Result<u32, StartFault> {
+    match started {
+        Ok(desk) => {
+            let next = desk.next();
+            drop(desk);
+            Ok(next)
+        }
+        Err((disk, fault)) => {
+            drop(disk);
+            Err(fault)
+        }
     }
 }
 
@@ -61,9 +94,18 @@ pub(crate) fn started_next(
     image: &[u8],
     failing: &[u32],
 ) -> Result<Result<u32, StartFault>, Fail> {
-    match started(alloc, image, failing)? {
-        Ok(desk) => Ok(Ok(desk.next())),
-        Err(fault) => Ok(Err(fault)),
+    Ok(next_of(Desk::start(alloc, disk_of(alloc, image, failing)?)))
+}
+
+/// The number of the item, or why there is none.
+fn number_of(asked: Result<Item, SubmitFault>) -> Result<u32, SubmitFault> {
+    match asked {
+        Ok(item) => {
+            let number = item.number;
+            drop(item);
+            Ok(number)
+        }
+        Err(fault) => Err(fault),
     }
 }
 
@@ -75,10 +117,7 @@ pub(crate) fn asked(
 ) -> Result<Result<u32, SubmitFault>, Fail> {
     let (by, ask) = ask_of(alloc, asked)?;
     desk.stands();
-    match desk.submit(alloc, NOW, by, ask) {
-        Ok(item) => Ok(Ok(item.number)),
-        Err(fault) => Ok(Err(fault)),
-    }
+    Ok(number_of(desk.submit(alloc, NOW, by, ask)))
 }
 
 /// Does what the operator does, and tells the number of the act.
