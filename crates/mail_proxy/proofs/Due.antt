@@ -32,7 +32,7 @@ use Rattle.mail_proxy.specs.Check.{Checks, TellsCounts}
 use Rattle.mail_proxy.specs.Script.{Played, Plays, PlaysScript, PlaysText, RunsScript, Scripts, Tells, status_of}
 use Rattle.mail_proxy.specs.Serve.{ServesStore}
 use Rattle.mail_proxy.specs.Texts.{End, ending, FromText, IsText}
-use Rattle.mail_proxy.proofs.Causes.{fault_stays}
+use Rattle.mail_proxy.proofs.Causes.{fault_stays, opened_as}
 
 -- a text that is told is that text
 the_text : (told : Option (List ℕ)) (known text : List ℕ) → told ≡ Some known → IsText told text → text ≡ known
@@ -197,12 +197,6 @@ module _ {D : Type 0} (told : D → DiskTold) (disk : D) (end : End D) (text tex
     due_unopened (start.Disk, starts, five, is) due = inr (by_disk (stays 5 five (λ z. omega arith)))
     due_unopened (start.NoMemory, starts, eight, is) due = starved eight
 
-    -- what an opened desk keeps is what the image leaves
-    leaves : (kept : Kept) (gate : ℕ) (new : DiskTold) → Starts (told disk) new (Ok (kept, gate)) → (told disk).honest → OpensAs (told disk).content (Ok kept)
-    leaves kept gate new starts honest =
-        let started = starts.found honest in
-        record { records = started.records; stands = started.stands; state_is = started.state_is }
-
     due_script : (known : List ℕ) → text.left ≡ Some known → nat_lt 67108864 (length known) ≡ false → IsDueFor (Some Script) known (told disk) k → Scripts told text text' disk end
         → (s ≡ k) ⊎ IsHindered s
     due_script known is short (events, script, due) scripts =
@@ -212,20 +206,20 @@ module _ {D : Type 0} (told : D → DiskTold) (disk : D) (end : End D) (text tex
         by_script (Err n) e runs = absurd (let wrong : ◌≡◌ {A = Result (List Event) ℕ} (Err n) (Ok events) = e in cc)
         by_script (Ok all) e (inl none) = due_unopened none due
         by_script (Ok all) e (inr (desk, starts, (last, run, disk_is, journals))) =
-            served run.outcome desk.kept all run.notes run.steps last.kept run.played run.tells (due_opened desk.kept (leaves desk.kept desk.gate (told desk.disk) starts) due)
+            served run.outcome desk.kept all run.notes run.steps last.kept run.played run.tells (due_opened desk.kept (opened_as (told disk) (told desk.disk) desk.kept desk.gate starts) due)
 
     due_check : Checks told disk end → IsDueStore (told disk) k → (s ≡ k) ⊎ IsHindered s
     due_check (inl none, kept) due = due_unopened none due
     due_check (inr (desk, starts, counted), kept) due = by_told counted.0
       where
         by_told : TellsCounts desk.kept end.status end.output → (s ≡ k) ⊎ IsHindered s
-        by_told (inl (nought, is)) = well nought (due_opened desk.kept (leaves desk.kept desk.gate (told desk.disk) starts) due)
+        by_told (inl (nought, is)) = well nought (due_opened desk.kept (opened_as (told disk) (told desk.disk) desk.kept desk.gate starts) due)
         by_told (inr (eight, is)) = starved eight
 
     due_serve : ServesStore told link link' disk end → IsDueStore (told disk) k → (s ≡ k) ⊎ IsHindered s
     due_serve (inl (none, still)) due = due_unopened none due
     due_serve (inr (desk, starts, (last, run, disk_is, journals))) due =
-        by_outcome run.outcome run.status_is (due_opened desk.kept (leaves desk.kept desk.gate (told desk.disk) starts) due)
+        by_outcome run.outcome run.status_is (due_opened desk.kept (opened_as (told disk) (told desk.disk) desk.kept desk.gate starts) due)
       where
         by_outcome : (outcome : Result (Unit {0}) ServeFault) → end.status ≡ status_of outcome → k ≡ 0 → (s ≡ k) ⊎ IsHindered s
         by_outcome (Ok x) status zero = well status zero

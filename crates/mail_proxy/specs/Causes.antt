@@ -1,22 +1,23 @@
 -- When each status of `run` comes, and what is written then.
-use Rattle.std.specs.Prelude.{◌≡◌, ◌≢◌, ◌≤◌, ◌⊎◌, ℕ, ◌^◌, Bool, true, false, List, ◌++◌, length, MatchBool, nat_lt, Option, None, Some, Result, Ok, Err}
+use Rattle.std.specs.Prelude.{◌≡◌, ◌≢◌, ◌≤◌, ◌⊎◌, ℕ, ◌^◌, Bool, true, false, List, [], ◌++◌, length, MatchBool, nat_lt, Option, None, Some, Result, Ok, Err}
 use Rattle.undo_outside.specs.declared.event.Event.{Event}
 use Rattle.undo_outside.specs.declared.event.LinkNote.{LinkNote}
 use Rattle.undo_outside.specs.Calls.{LinkTold, SourceTold, SinkTold}
 use Rattle.undo_outside.specs.Disk.{DiskTold, ReadFailed, WriteFailed}
 use Rattle.seal_log.specs.Loading.{IsNotFormatted}
 use Rattle.verb_core.specs.Kept.{Kept}
-use Rattle.mail_loop.specs.declared.serve.ServeFault.TheVariants.{Link, Turns}
+use Rattle.mail_loop.specs.declared.serve.ServeFault.{ServeFault}
+use Rattle.mail_loop.specs.declared.serve.ServeFault.TheVariants.{Link, Disk, Turns, NoMemory}
 use Rattle.mail_loop.specs.Serving.{Step, CountsFaults, ServedOver}
 use Rattle.script_link.specs.Script.{script_of}
 use Rattle.script_link.specs.Transcript.{transcript_of}
-use Rattle.time_desk.specs.Opening.{IsDamaged}
+use Rattle.time_desk.specs.Opening.{IsDamaged, OpensAs}
 use Rattle.command_words.specs.declared.commands.Command.{Command}
 use Rattle.command_words.specs.declared.commands.Command.TheVariants.{Init, Serve, Script, Play, Grow, Check}
 use Rattle.mail_proxy.specs.Init.{IsNoConfig}
 use Rattle.mail_proxy.specs.Lines.{usage, too_long, bad_configuration, bad_line, not_empty, not_a_store, link_fault, disk_fault, read_fault, too_many, no_memory, damaged}
 use Rattle.mail_proxy.specs.Reading.{ReadFails, WriteFails, WriteStarves, Wrote}
-use Rattle.mail_proxy.specs.Script.{Played}
+use Rattle.mail_proxy.specs.Script.{Played, opening}
 use Rattle.mail_proxy.specs.Texts.{IsText}
 
 -- what the objects of the outside tell
@@ -135,20 +136,37 @@ pub record IsScript (told : Option (List ℕ)) (events : List Event) : Type 0 wh
   pub short : nat_lt 67108864 (length text) ≡ false
   pub events_are : script_of text ≡ Ok events
 
--- 2^40 events of the script were served without an end, with this transcript
-pub record RanOut (told : Option (List ℕ)) (transcript : List ℕ) : Type 0 where
+-- What the desk keeps when serving begins: for `play` what its own house begins with, else what an honest disk opens as.
+abbrev pub IsFirst : Option Command → DiskTold → Kept → Type 0
+IsFirst None disk first = ⊥
+IsFirst (Some Init) disk first = ⊥
+IsFirst (Some (Serve smtp imap http)) disk first = disk.honest → OpensAs disk.content (Ok first)
+IsFirst (Some Script) disk first = disk.honest → OpensAs disk.content (Ok first)
+IsFirst (Some Play) disk first = first ≡ opening
+IsFirst (Some (Grow rounds)) disk first = ⊥
+IsFirst (Some Check) disk first = ⊥
+
+-- the events of the script were served over what the desk kept at first, until serving ended so, with this transcript
+pub record RanTo (command : Option Command) (told : Option (List ℕ)) (disk : DiskTold) (outcome : Result (Unit {0}) ServeFault) (transcript : List ℕ) : Type 0 where
+  pub takes : takes_script command ≡ true
   pub events : List Event
   pub script : IsScript told events
   pub first : Kept
+  pub is_first : IsFirst command disk first
   pub notes : List LinkNote
   pub steps : List Step
   pub last : Kept
-  pub played : Played first events (Err Turns) notes steps last
+  pub played : Played first events outcome notes steps last
   pub transcript_is : transcript ≡ transcript_of notes
 
+-- before the last line nothing stands, or the transcript of a script whose serving ended so
+abbrev pub IsFront : Option Command → Option (List ℕ) → DiskTold → Result (Unit {0}) ServeFault → List ℕ → Type 0
+IsFront command told disk outcome front = (front ≡ []) ⊎ RanTo command told disk outcome front
+
 -- 2^40 events of the link were served without an end
-pub record RanOn (link link' : LinkTold) : Type 0 where
+pub record RanOn (command : Option Command) (disk : DiskTold) (link link' : LinkTold) : Type 0 where
   pub first : Kept
+  pub is_first : IsFirst command disk first
   pub notes : List LinkNote
   pub steps : List Step
   pub last : Kept
@@ -180,7 +198,8 @@ module _ (command : Option Command) (old new : Outside) where
   -- 5: a call on the disk failed, and it alone; the last line may stand behind a transcript
   abbrev pub EndsFailed : Type 0
   EndsFailed =
-      (uses_disk command ≡ true) × (ReadFailed old.disk new.disk ⊎ WriteFailed old.disk new.disk) × ((front : List ℕ) × Wrote old.out new.out (front ++ disk_fault))
+      (uses_disk command ≡ true) × (ReadFailed old.disk new.disk ⊎ WriteFailed old.disk new.disk)
+      × ((front : List ℕ) × IsFront command old.text.left old.disk (Err Disk) front × Wrote old.out new.out (front ++ disk_fault))
 
   -- 6: a read of the text failed
   abbrev pub EndsUnread : Type 0
@@ -189,13 +208,15 @@ module _ (command : Option Command) (old new : Outside) where
   -- 7: 2^40 events were served without an end; a transcript is left out where no memory is found for it
   abbrev pub EndsLate : Type 0
   EndsLate =
-      ((takes_script command ≡ true)
-      × ((transcript : List ℕ) × RanOut old.text.left transcript × (Wrote old.out new.out (transcript ++ too_many) ⊎ Wrote old.out new.out too_many)))
-      ⊎ ((uses_link command ≡ true) × RanOn old.link new.link × Wrote old.out new.out too_many)
+      ((transcript : List ℕ) × RanTo command old.text.left old.disk (Err Turns) transcript
+      × (Wrote old.out new.out (transcript ++ too_many) ⊎ Wrote old.out new.out too_many))
+      ⊎ ((uses_link command ≡ true) × RanOn command old.disk old.link new.link × Wrote old.out new.out too_many)
 
   -- 8: the last line is that of want of memory, maybe behind a transcript; or the sink found no memory before that
   abbrev pub EndsStarved : Type 0
-  EndsStarved = (front : List ℕ) × (Wrote old.out new.out (front ++ no_memory) ⊎ WriteStarves old.out new.out front)
+  EndsStarved =
+      (front : List ℕ)
+      × ((IsFront command old.text.left old.disk (Err NoMemory) front × Wrote old.out new.out (front ++ no_memory)) ⊎ WriteStarves old.out new.out front)
 
   -- 9: a write of the transcript or of the counts failed
   abbrev pub EndsUnwritten : Type 0

@@ -1,5 +1,5 @@
 -- The last lines of the program.
-use Rattle.std.specs.Prelude.{ℕ, List, [], ◌∷◌, ◌++◌, codes, decimal}
+use Rattle.std.specs.Prelude.{ℕ, List, [], ◌∷◌, ◌++◌, codes, decimal, Bool, true, false}
 use Rattle.mail_proxy.specs.declared.plan.LastLine.{LastLine}
 use Rattle.mail_proxy.specs.declared.plan.LastLine.TheVariants as last
 
@@ -57,3 +57,19 @@ line_text last.ReadFault = read_fault
 line_text last.TooMany = too_many
 line_text last.NoMemory = no_memory
 line_text (last.Damaged place) = damaged place
+
+-- whether there is no last line
+abbrev pub is_nothing : LastLine → Bool
+is_nothing last.Nothing = true
+is_nothing last.Usage = false
+is_nothing last.TooLong = false
+is_nothing last.BadConfiguration = false
+is_nothing (last.BadLine n) = false
+is_nothing last.NotEmpty = false
+is_nothing last.NotStore = false
+is_nothing last.LinkFault = false
+is_nothing last.DiskFault = false
+is_nothing last.ReadFault = false
+is_nothing last.TooMany = false
+is_nothing last.NoMemory = false
+is_nothing (last.Damaged place) = false

@@ -1,7 +1,7 @@
 //! What is to be answered and written, and the writing of it.
 ghost use Rattle.std.specs.Prelude.{◌≡◌, ◌≢◌, ℕ, [], ◌++◌, IfOk};
 ghost use Rattle.mail_proxy.specs.Reading.{Wrote, WritesAll};
-ghost use Rattle.mail_proxy.specs.Lines.{bad_line, damaged, line_text, no_memory};
+ghost use Rattle.mail_proxy.specs.Lines.{bad_line, damaged, is_nothing, line_text, no_memory};
 ghost use Rattle.mail_proxy.specs.Answers.{Shows, first_fault};
 ghost use Rattle.mail_proxy.specs.Plans.{output_of, refused_line, refused_status};
 
@@ -107,14 +107,22 @@ fn make_damaged(alloc: Global, place: u64) -> Result<Text, NoMemory>
     Text::of(alloc, text.as_bytes())
 }
 
+fn is_nothing(last: LastLine) -> bool
+    ensures { result ≡ is_nothing last }
+{
+    matches!(last, LastLine::Nothing)
+}
+
 fn write_last<W: Sink>(alloc: Global, last: LastLine, out: &mut W) -> Result<(), SinkFault>
     ensures { WritesAll (W.told out.old) (W.told out.new) (line_text last) result }
 {
-    if last == LastLine::Nothing {
+    if is_nothing(last) {
         return Ok(());
     }
-    let line = make_line(alloc, last)?;
-    write_all(out, line.bytes())
+    match make_line(alloc, last) {
+        Ok(line) => write_all(out, line.bytes()),
+        Err(NoMemory) => Err(Fault::NoMemory),
+    }
 }
 
 fn write_plan<W: Sink>(alloc: Global, plan: &Plan, out: &mut W) -> Result<(), SinkFault>
