@@ -5,7 +5,8 @@ ghost use Rattle.verb_core.specs.declared.conf.House.{House as TheHouse};
 ghost use Rattle.verb_core.specs.declared.mailbox.BoxId.{BoxId as TheBoxId};
 ghost use Rattle.verb_core.specs.declared.mailbox.Mailbox.{Mailbox as TheMailbox};
 ghost use Rattle.verb_core.specs.Items.{IsWellFormed};
-ghost use Rattle.verb_core.specs.Store.{is_house, is_known};
+ghost use Rattle.verb_core.specs.Step.{run};
+ghost use Rattle.verb_core.specs.Store.{IsValid, is_house, is_known, opening};
 
 use crate::doing::perform_all;
 use box_store::{Steps, Store};
@@ -15,7 +16,7 @@ use std::alloc::Global;
 use std::marker::Brand;
 use std::sync::ledger::{Blank, Ledger};
 use std::test::Fail;
-use undo_base::{Copies, Flags, Key, Keys, Name, Names, Numbers, Text, User};
+use undo_base::{Copies, Flags, Key, Keys, Name, Names, NoMemory, Numbers, Text, User};
 use verb_bytes::{Acts, CycleAsk, Replaces};
 use verb_core::{
     Account, Accounts, Aliases, BoxId, Conf, Deed, Filters, House, Item, Items, Mailbox, Shown,
@@ -267,6 +268,71 @@ fn stamps_of(alloc: Global, store: &Store) -> Result<Stamps, Fail>
     first_stamps(alloc, rows.as_slice())
 }
 
+/// A configuration with no alias and no filter.
+fn no_conf(alloc: Global) -> Conf
+    ensures { result ≡ record { aliases = []; filters = [] } }
+{
+    Conf {
+        aliases: Aliases::new(alloc),
+        filters: Filters::new(alloc),
+    }
+}
+
+/// The opening store.
+fn opened(alloc: Global, house: &House) -> Result<Store, NoMemory>
+    requires house { IsTrue (is_house house.now) }
+    ensures store { IfOk result (λ store. store.store ≡ opening house.now (record { aliases = []; filters = [] })) }
+    ensures valid { IfOk result (λ store. IsValid store.store) }
+{
+    Store::opening(alloc, house, no_conf(alloc))
+}
+
+/// The store that the items leave, one after the other.
+fn performed<L: Ledger>(
+    alloc: Global,
+    house: &House,
+    items: &[Item],
+    steps: &mut Steps<L>,
+) -> Result<Store, NoMemory>
+    requires house { IsTrue (is_house house.now) }
+    requires formed { AllByRecursion (IsWellFormed house.now) items.now }
+    ensures store { IfOk result (λ store. store.store ≡ run (opening house.now (record { aliases = []; filters = [] })) items.now) }
+    ensures valid { IfOk result (λ store. IsValid store.store) }
+{
+    let mut store = opened(alloc, house)?;
+    match perform_all(alloc, &mut store, items, steps) {
+        Ok(()) => Ok(store),
+        Err(NoMemory) => {
+            drop(store);
+            Err(NoMemory)
+        }
+    }
+}
+
+/// The cycle over a store, with the stamps 1.
+fn cycle_over<L: Ledger>(
+    alloc: Global,
+    house: &House,
+    store: &Store,
+    items: &[Item],
+    next: u32,
+    ask: &CycleAsk,
+    steps: &mut Steps<L>,
+) -> Result<Result<Rewound, CycleRefused>, Fail>
+    requires house { IsTrue (is_house house.now) }
+    requires store { store.now.store ≡ run (opening house.now (record { aliases = []; filters = [] })) items.now }
+    requires valid { IsValid store.now.store }
+    requires formed { AllByRecursion (IsWellFormed house.now) items.now }
+    requires next { next ≤ 4194304 }
+    requires inserts { ask.now.inserts ≡ [] }
+{
+    let stamps = stamps_of(alloc, store)?;
+    let conf = no_conf(alloc);
+    let before = Before::of(house, &conf, store, items, &stamps, next);
+    let made = cycle(alloc, &before, AT, ask, steps);
+    Ok(made)
+}
+
 /// Performs the items on the opening store, and then the cycle over what they leave.
 fn over<L: Ledger>(
     alloc: Global,
@@ -285,15 +351,8 @@ fn over<L: Ledger>(
     requires inserts { ask.now.inserts ≡ [] }
 {
     let mut steps: Steps<L> = Steps::new(blank);
-    let opening = Conf {
-        aliases: Aliases::new(alloc),
-        filters: Filters::new(alloc),
-    };
-    let mut store = Store::opening(alloc, house, opening.copy(alloc)?)?;
-    perform_all(alloc, &mut store, items, &mut steps)?;
-    let stamps = stamps_of(alloc, &store)?;
-    let before = Before::of(house, &opening, &store, items, &stamps, next);
-    Ok(cycle(alloc, &before, AT, ask, &mut steps))
+    let store = performed(alloc, house, items, &mut steps)?;
+    cycle_over(alloc, house, &store, items, next, ask, &mut steps)
 }
 
 fn outcome(

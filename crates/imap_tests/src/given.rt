@@ -47,6 +47,17 @@ fn house(alloc: Global) -> Result<House, Fail> {
     })
 }
 
+fn sound_house(alloc: Global) -> Result<House, Fail>
+    ensures { IfOk result (λ house. IsTrue (is_house house)) }
+{
+    let house = house(alloc)?;
+    if house.is_sound() {
+        return Ok(house);
+    }
+    drop(house);
+    Err(Fail::new("the house is not sound"))
+}
+
 fn stamps(alloc: Global) -> Result<Stamps, Fail> {
     let mut stamps = Stamps::new(alloc);
     let inbox = BoxId {
@@ -102,7 +113,7 @@ fn perform<L: Ledger>(
     ensures { IsValid store.new.store }
 {
     store.stays_valid(item);
-    let _shown = store.perform(alloc, item, &[], steps)?;
+    drop(store.perform(alloc, item, &[], steps)?);
     Ok(())
 }
 
@@ -130,7 +141,9 @@ fn perform_this<L: Ledger>(
     requires text { unwrap_or (text_in item.deed) [] ≡ [] }
     ensures { IsValid store.new.store }
 {
-    perform(alloc, store, steps, &item)
+    let done = perform(alloc, store, steps, &item);
+    drop(item);
+    done
 }
 
 fn fill_over<L: Ledger>(alloc: Global, store: &mut Store, blank: Blank) -> Result<(), Fail>
@@ -161,8 +174,13 @@ fn store(alloc: Global, house: &House) -> Result<Store, Fail>
         filters: Filters::new(alloc),
     };
     let mut store = Store::opening(alloc, house, conf)?;
-    fill(alloc, &mut store)?;
-    Ok(store)
+    match fill(alloc, &mut store) {
+        Ok(()) => Ok(store),
+        Err(fail) => {
+            drop(store);
+            Err(fail)
+        }
+    }
 }
 
 /// What a session sees.
@@ -176,18 +194,45 @@ pub(crate) struct Desk {
     ghost valid: { IsValid store.store },
 }
 
-pub(crate) fn new_desk(alloc: Global) -> Result<Desk, Fail> {
-    let house = house(alloc)?;
-    if !house.is_sound() {
-        return Err(Fail::new("the house is not sound"));
+fn desk_with(alloc: Global, house: House, stamps: Stamps, shelf: Shelf) -> Result<Desk, Fail>
+    requires { IsTrue (is_house house) }
+{
+    match store(alloc, &house) {
+        Ok(store) => Ok(Desk {
+            house,
+            store,
+            stamps,
+            shelf,
+        }),
+        Err(fail) => {
+            drop(house);
+            drop(stamps);
+            drop(shelf);
+            Err(fail)
+        }
     }
+}
+
+fn desk_of(alloc: Global, house: House, stamps: Stamps) -> Result<Desk, Fail>
+    requires { IsTrue (is_house house) }
+{
+    match shelf(alloc) {
+        Ok(shelf) => desk_with(alloc, house, stamps, shelf),
+        Err(fail) => {
+            drop(house);
+            drop(stamps);
+            Err(fail)
+        }
+    }
+}
+
+pub(crate) fn new_desk(alloc: Global) -> Result<Desk, Fail> {
     let stamps = stamps(alloc)?;
-    let shelf = shelf(alloc)?;
-    let store = store(alloc, &house)?;
-    Ok(Desk {
-        house,
-        store,
-        stamps,
-        shelf,
-    })
+    match sound_house(alloc) {
+        Ok(house) => desk_of(alloc, house, stamps),
+        Err(fail) => {
+            drop(stamps);
+            Err(fail)
+        }
+    }
 }

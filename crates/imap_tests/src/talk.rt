@@ -39,9 +39,8 @@ fn command(alloc: Global, line: &[u8]) -> Result<ImapCommand, Fail> {
     }
 }
 
-/// What comes of a line.
-pub(crate) fn takes(alloc: Global, talk: &mut Talk, line: &[u8]) -> Result<ImapOut, Fail> {
-    let command = command(alloc, line)?;
+/// What comes of a command.
+fn obeyed(alloc: Global, talk: &mut Talk, command: &ImapCommand) -> Result<ImapOut, Fail> {
     if !talk.session.is_free() {
         return Err(Fail::new("something is awaited"));
     }
@@ -52,9 +51,17 @@ pub(crate) fn takes(alloc: Global, talk: &mut Talk, line: &[u8]) -> Result<ImapO
             &talk.desk.store,
             &talk.desk.stamps,
             &talk.desk.shelf,
-            &command,
+            command,
         )?,
     )
+}
+
+/// What comes of a line.
+pub(crate) fn takes(alloc: Global, talk: &mut Talk, line: &[u8]) -> Result<ImapOut, Fail> {
+    let command = command(alloc, line)?;
+    let out = obeyed(alloc, talk, &command);
+    drop(command);
+    out
 }
 
 /// What comes of the texts that are awaited, or of why they can't be had.
@@ -128,13 +135,17 @@ pub(crate) fn hears(
     answer: &[u8],
 ) -> Result<bool, Fail> {
     let out = takes(alloc, talk, line)?;
-    Ok(is_said(&out, false, answer))
+    let said = is_said(&out, false, answer);
+    drop(out);
+    Ok(said)
 }
 
 /// Whether the store is asked of a line.
 pub(crate) fn asks(alloc: Global, talk: &mut Talk, line: &[u8]) -> Result<bool, Fail> {
     let out = takes(alloc, talk, line)?;
-    Ok(is_asked(&out))
+    let asked = is_asked(&out);
+    drop(out);
+    Ok(asked)
 }
 
 fn settles_by(
@@ -145,7 +156,9 @@ fn settles_by(
     answer: &[u8],
 ) -> Result<bool, Fail> {
     let out = settled(alloc, talk, outcome)?;
-    Ok(is_said(&out, last, answer) && talk.session.is_free())
+    let said = is_said(&out, last, answer);
+    drop(out);
+    Ok(said && talk.session.is_free())
 }
 
 /// Whether this is said of what was asked, and nothing is awaited any more.
@@ -157,7 +170,9 @@ pub(crate) fn settles(
     answer: &[u8],
 ) -> Result<bool, Fail> {
     let outcome = outcome(alloc, fault)?;
-    settles_by(alloc, talk, &outcome, last, answer)
+    let told = settles_by(alloc, talk, &outcome, last, answer);
+    drop(outcome);
+    told
 }
 
 /// A session in which nobody is logged in.

@@ -24,7 +24,9 @@ fn hears_last(
 /// Whether a session has last words where the item of a line can't be kept.
 fn is_last(alloc: Global, line: &[u8], fault: SubmitFault) -> Result<bool, Fail> {
     let mut talk = new_talk(alloc)?;
-    hears_last(alloc, &mut talk, line, fault)
+    let told = hears_last(alloc, &mut talk, line, fault);
+    drop(talk);
+    told
 }
 
 #[test]
@@ -54,7 +56,9 @@ fn is_read(out: &ImapOut, bodies: &[Body]) -> bool {
 /// Whether the texts of these bodies are needed for a line.
 fn needs(alloc: Global, talk: &mut Talk, line: &[u8], bodies: &[Body]) -> Result<bool, Fail> {
     let out = takes(alloc, talk, line)?;
-    Ok(is_read(&out, bodies))
+    let read = is_read(&out, bodies);
+    drop(out);
+    Ok(read)
 }
 
 /// Whether this is said of the texts that are awaited, or of why they can't be had.
@@ -65,7 +69,9 @@ fn hears_of_texts(
     answer: &[u8],
 ) -> Result<bool, Fail> {
     let out = reads(alloc, talk, texts)?;
-    Ok(is_said(&out, false, answer))
+    let said = is_said(&out, false, answer);
+    drop(out);
+    Ok(said)
 }
 
 fn hears_of_fault(
@@ -89,7 +95,9 @@ fn misses(alloc: Global, talk: &mut Talk, fault: ReadFault, answer: &[u8]) -> Re
 /// Whether a session hears this where a text can't be had, and goes on.
 fn is_missed(alloc: Global, fault: ReadFault, answer: &[u8]) -> Result<bool, Fail> {
     let mut talk = new_talk(alloc)?;
-    misses(alloc, &mut talk, fault, answer)
+    let told = misses(alloc, &mut talk, fault, answer);
+    drop(talk);
+    told
 }
 
 #[test]
