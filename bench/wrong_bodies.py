@@ -13,7 +13,7 @@ PATH, NET, SEATS = 'crates/host_outside/src/path_file.rt', 'crates/host_outside/
 PORTS, MAIN = 'crates/host_outside/src/listeners.rt', 'crates/undomail/src/main.rt'
 WRONG = {
     'file-is-not-synced': (PATH, '.sync_all().map_err(failed)', '.metadata().map(|_| ()).map_err(failed)'),
-    'bytes-are-not-synced': (PATH, '.sync_data().map_err(failed)', '.metadata().map(|_| ()).map_err(failed)'),
+    'bytes-are-not-synced': (PATH, '.sync_data()', '.metadata()\n            .map(|_| ())'),
     'folder-is-not-synced': (PATH, 'fs::open(files, folder)?.sync_all()', 'fs::open(files, folder)?.metadata().map(|_| ())'),
     'written-at-the-end': (PATH, 'file.seek(SeekFrom::Start(place))?;\n    file.write_all(bytes)', 'file.seek(SeekFrom::End(0))?;\n    file.write_all(bytes)'),
     'read-at-the-start': (PATH, 'file.seek(SeekFrom::Start(place))?;\n    file.read_exact(buf)', 'file.seek(SeekFrom::Start(0))?;\n    file.read_exact(buf)'),
