@@ -10,7 +10,7 @@ use Rattle.verb_core.specs.Boxes.{box_of, row_at}
 use Rattle.verb_core.specs.Items.{text_in}
 use Rattle.mail_desk.specs.declared.counts.Counts.{Counts as DeskCounts}
 use Rattle.mail_desk.specs.Counting.{counts_of, listed}
-use Rattle.verb_core.specs.Kept.{store_of, Kept}
+use Rattle.paradox.specs.Kept.{store_of, Kept}
 use Rattle.mail_desk.specs.Timeline.{item_of}
 use Rattle.console_http.specs.declared.request.HttpRefused.{HttpRefused}
 use Rattle.console_http.specs.declared.request.HttpRefused.TheVariants as why

@@ -1,7 +1,7 @@
 -- How a turn may go otherwise.
 use Rattle.std.specs.Prelude.{ℕ, [], Result, Ok, Err}
 use Rattle.verb_core.specs.declared.item.Act.{Act}
-use Rattle.verb_core.specs.Kept.{Kept}
+use Rattle.paradox.specs.Kept.{Kept}
 use Rattle.console_http.specs.declared.request.Asked.{Asked}
 use Rattle.console_http.specs.declared.request.Asked.TheVariants.{NotYet, Whole}
 use Rattle.console_http.specs.declared.request.HttpRefused.{HttpRefused}

@@ -4,7 +4,7 @@ use Rattle.verb_core.specs.declared.conf.House.{House}
 use Rattle.verb_core.specs.declared.item.Act.{Act}
 use Rattle.verb_bytes.specs.declared.journal.JournalRecord.{JournalRecord}
 use Rattle.verb_bytes.specs.declared.journal.JournalRecord.TheVariants.{Operator}
-use Rattle.verb_core.specs.Kept.{performed, Kept}
+use Rattle.paradox.specs.Kept.{performed, Kept}
 use Rattle.verb_core.specs.Deeds.{act_item}
 use Rattle.console_head.specs.Request.{Stage}
 use Rattle.console_http.specs.declared.request.Asked.{Asked}

@@ -27,7 +27,7 @@ use Rattle.repair_desk.specs.Repairs.{are_known, inserted, is_among, kept, repai
 use Rattle.repair_desk.proofs.Everywhere.{all_apart, all_below, all_formed, joined, revs_below, weaker}
 use Rattle.mail_cycle.specs.Cycles.{broken_at, cycled_at, front_of, kept_at, leaves_numbers, notice_items, repaired_items, shown_now, stamps_at, timeline_at, told_at}
 use Rattle.mail_cycle.specs.Judging.{judged, shown_after, shown_by, told as tell}
-use Rattle.verb_core.specs.Kept.{Kept, base_of}
+use Rattle.paradox.specs.Kept.{Kept}
 use Rattle.mail_cycle.proofs.Cycled.{few_told, told_formed}
 
 -- ---- answers
@@ -127,7 +127,7 @@ module _ (s : Kept) (at : ℕ) (ask : CycleAsk) (place : ℕ) where
 
   pub left_formed : AllByRecursion (IsWellFormed s.house) s.timeline → are_known s.house ask.inserts ≡ true → AllByRecursion (IsWellFormed s.house) (timeline_at s at ask place)
   left_formed formed known = joined (IsWellFormed s.house) (kept_at s at ask place) told
-      (shown_formed s.house (base_of s) (front_of ask place) (repaired_items s at ask place) (all_formed s.house s.timeline ask s.next at place formed known))
+      (shown_formed s.house s.base (front_of ask place) (repaired_items s at ask place) (all_formed s.house s.timeline ask s.next at place formed known))
       (told_formed s.house last at s.next _)
 
   kept_low : AllByRecursion (λ (i : Item). i.number < s.next) s.timeline → AllByRecursion (λ (i : Item). i.number ≤ last) (kept_at s at ask place)
@@ -156,8 +156,8 @@ module _ (s : Kept) (at : ℕ) (ask : CycleAsk) (place : ℕ) where
   names [] f = refl
   names (r ∷ rows) f = ap (λ (ids : List BoxId). r.0 ∷ ids) (names rows f)
 
-  pub left_named : map (λ (r : BoxId × ℕ). r.0) (stamps_at s at ask place) ≡ map (λ (r : BoxId × Mailbox). r.0) (run (base_of s) (timeline_at s at ask place)).boxes
-  left_named = names (run (base_of s) (timeline_at s at ask place)).boxes _
+  pub left_named : map (λ (r : BoxId × ℕ). r.0) (stamps_at s at ask place) ≡ map (λ (r : BoxId × Mailbox). r.0) (run s.base (timeline_at s at ask place)).boxes
+  left_named = names (run s.base (timeline_at s at ask place)).boxes _
 
   pub left_next : leaves_numbers s ask ≡ true → (cycled_at s at ask place).next ≤ 4194303
   left_next left =
@@ -224,9 +224,9 @@ still_shown [] = refl
 still_shown (i ∷ t) = ap (λ (reason : Option Reason). tell i reason (judged [] t (map (λ (j : Item). j.shown) t))) (holds (looks_at_texts i.deed) i.shown) ∙ still_shown t
 
 pub shown_still : (s : Kept) (at : ℕ) (ask : CycleAsk) (place : ℕ) → ask.drops ≡ [] → ask.replaces ≡ [] → ask.inserts ≡ []
-    → drop place (answers (base_of s) s.timeline) ≡ map (λ (i : Item). i.shown) (drop place s.timeline) → broken_at s at ask place ≡ []
+    → drop place (answers s.base s.timeline) ≡ map (λ (i : Item). i.shown) (drop place s.timeline) → broken_at s at ask place ≡ []
 shown_still s at ask place drops replaces inserts same =
     ap₂ (λ (ds : List ℕ) (now : List Shown). judged ds (drop place s.timeline) now) drops
-    (ap₂ (λ (acts : List Act) (t : List Item). drop (place + length acts) (answers (base_of s) t)) inserts (as_before s at ask place drops replaces inserts)
-    ∙ ap (λ (n : ℕ). drop n (answers (base_of s) s.timeline)) (let same_place : place + 0 ≡ place = omega arith in same_place) ∙ same)
+    (ap₂ (λ (acts : List Act) (t : List Item). drop (place + length acts) (answers s.base t)) inserts (as_before s at ask place drops replaces inserts)
+    ∙ ap (λ (n : ℕ). drop n (answers s.base s.timeline)) (let same_place : place + 0 ≡ place = omega arith in same_place) ∙ same)
     ∙ still_shown (drop place s.timeline)

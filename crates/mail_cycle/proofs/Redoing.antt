@@ -7,7 +7,7 @@ use Rattle.verb_core.specs.declared.item.Item.{Item}
 use Rattle.verb_core.specs.declared.item.Shown.{Shown}
 use Rattle.verb_core.specs.declared.mailbox.BoxId.{BoxId}
 use Rattle.verb_core.specs.Items.{IsWellFormed}
-use Rattle.verb_core.specs.Kept.{Kept, base_of, store_of}
+use Rattle.paradox.specs.Kept.{Kept, store_of}
 use Rattle.verb_core.specs.Step.{answers, run}
 use Rattle.verb_core.specs.Store.{MailStore}
 use Rattle.paradox.specs.Letters.{notices}
@@ -23,7 +23,7 @@ use Rattle.mail_cycle.proofs.Cycled.{length_map, length_shown}
 -- what is lent of a state is that state
 module _ (v s : Kept) (same : v ≡ s) (ask : CycleAsk) (at place : ℕ) where
   -- the repaired items are well formed
-  pub items_formed : (base : MailStore) (e : Edited) (items : List Item) → AllByRecursion (IsWellFormed v.house) v.timeline → are_known s.house ask.inserts ≡ true → base ≡ base_of s
+  pub items_formed : (base : MailStore) (e : Edited) (items : List Item) → AllByRecursion (IsWellFormed v.house) v.timeline → are_known s.house ask.inserts ≡ true → base ≡ s.base
       → e ≡ edited_at v.timeline ask v.next at place → items ≡ e.items → AllByRecursion (IsWellFormed base.house) items
   items_formed base e items formed known opens edits is =
       let acts : are_known v.house ask.inserts ≡ true = subst (λ (h : House). are_known h ask.inserts ≡ true) (ap (λ (k : Kept). k.house) (sym same)) known in
@@ -32,7 +32,7 @@ module _ (v s : Kept) (same : v ≡ s) (ask : CycleAsk) (at place : ℕ) where
       (subst (AllByRecursion (IsWellFormed v.house)) (sym (is ∙ ap (λ (x : Edited). x.items) edits)) all)
 
   -- the numbers of the notices
-  pub numbers_told : (base : MailStore) (e : Edited) (items more : List Item) (inserts : ℕ) (list : List BrokenItem) (told : List ℕ) → base ≡ base_of s
+  pub numbers_told : (base : MailStore) (e : Edited) (items more : List Item) (inserts : ℕ) (list : List BrokenItem) (told : List ℕ) → base ≡ s.base
       → e ≡ edited_at v.timeline ask v.next at place → items ≡ e.items → inserts ≡ length ask.inserts
       → list ≡ judged ask.drops (drop place s.timeline) (drop (front_of ask place) (answers base items))
       → more ≡ notice_items (s.next + inserts) at (notices s.house s.next at list) → told ≡ numbers_of more → told ≡ numbers_of (told_at s at ask place)
@@ -45,7 +45,7 @@ module _ (v s : Kept) (same : v ≡ s) (ask : CycleAsk) (at place : ℕ) where
   unmatched_is e edits = ap (λ (x : Edited). x.unmatched) edits ∙ ap (λ (k : Kept). (edited_at k.timeline ask k.next at place).unmatched) same
 
   -- the stamps
-  pub stamps_are : (before after : MailStore) (stamps : List (BoxId × ℕ)) → before ≡ store_of v → after ≡ run (base_of s) (timeline_at s at ask place)
+  pub stamps_are : (before after : MailStore) (stamps : List (BoxId × ℕ)) → before ≡ store_of v → after ≡ run s.base (timeline_at s at ask place)
       → stamps ≡ renewed before.boxes after.boxes v.stamps v.next → stamps ≡ stamps_at s at ask place
   stamps_are before after stamps first last is =
       is

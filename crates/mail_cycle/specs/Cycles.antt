@@ -1,6 +1,6 @@
 -- A cycle: the timeline is repaired and performed from its beginning, what users were shown is compared with what they would
 -- be shown now, and each user whose answers no longer hold gets a notice.
-use Rattle.std.specs.Prelude.{ℕ, ◌+◌, Bool, ◌==◌, nat_le, if◌then◌else◌, List, [], ◌∷◌, ◌++◌, drop, filter, length, Option, None, option_map}
+use Rattle.std.specs.Prelude.{ℕ, ◌+◌, Bool, ◌==◌, nat_le, if◌then◌else◌, List, [], ◌∷◌, ◌++◌, drop, filter, length, None}
 use Rattle.undo_base.specs.declared.keys.User.{User}
 use Rattle.verb_bytes.specs.declared.journal.CycleAsk.{CycleAsk}
 use Rattle.verb_core.specs.declared.item.Deed.TheVariants.{Notice}
@@ -12,10 +12,10 @@ use Rattle.verb_core.specs.Step.{answers, run}
 use Rattle.paradox.specs.Letters.{notices}
 use Rattle.paradox.specs.declared.reports.BrokenItem.{BrokenItem}
 use Rattle.paradox.specs.declared.reports.Report.{Report}
-use Rattle.repair_desk.specs.Repairs.{edited_at, numbers_of, position}
+use Rattle.repair_desk.specs.Repairs.{edited_at, numbers_of}
 use Rattle.repair_desk.specs.Renewals.{renewed}
 use Rattle.mail_cycle.specs.Judging.{judged, shown_after}
-use Rattle.verb_core.specs.Kept.{Kept, base_of, store_of}
+use Rattle.paradox.specs.Kept.{Kept, store_of}
 
 -- ---- notices
 
@@ -47,7 +47,7 @@ front_of ask place = place + length ask.inserts
 
 -- what each repaired item shows now
 abbrev pub shown_now : Kept → ℕ → CycleAsk → ℕ → List Shown
-shown_now s at ask place = answers (base_of s) (repaired_items s at ask place)
+shown_now s at ask place = answers s.base (repaired_items s at ask place)
 
 -- the broken and withdrawn items, in the order of the timeline before
 abbrev pub broken_at : Kept → ℕ → CycleAsk → ℕ → List BrokenItem
@@ -67,7 +67,7 @@ timeline_at s at ask place = kept_at s at ask place ++ told_at s at ask place
 
 -- the stamps, by the store before and the store after
 abbrev pub stamps_at : Kept → ℕ → CycleAsk → ℕ → List (BoxId × ℕ)
-stamps_at s at ask place = renewed (store_of s).boxes (run (base_of s) (timeline_at s at ask place)).boxes s.stamps s.next
+stamps_at s at ask place = renewed (store_of s).boxes (run s.base (timeline_at s at ask place)).boxes s.stamps s.next
 
 -- the mailboxes that have the stamp of the cycle
 abbrev pub renewed_by : ℕ → List (BoxId × ℕ) → List (BoxId × ℕ)
@@ -96,7 +96,3 @@ cycled_at s at ask place = record {
 -- whether numbers are left for the cycle, its acts and a notice to each user
 abbrev pub leaves_numbers : Kept → CycleAsk → Bool
 leaves_numbers s ask = nat_le (s.next + 1 + length ask.inserts + length s.house.accounts) 4194303
-
--- the cycle at a moment, where the timeline has the point and numbers are left
-abbrev pub cycled : Kept → ℕ → CycleAsk → Option Cycled
-cycled s at ask = if leaves_numbers s ask then option_map (cycled_at s at ask) (position s.timeline ask.point) else None

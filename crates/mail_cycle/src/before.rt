@@ -25,7 +25,7 @@ pub struct Before<'a> {
 
 impl<'a> Model for Before<'a> {
     ghost use Rattle.mail_cycle.specs.Begun.{IsBegun};
-    ghost use Rattle.verb_core.specs.Kept.{Kept};
+    ghost use Rattle.paradox.specs.Kept.{Kept};
 
     ghost Value = { Kept };
 

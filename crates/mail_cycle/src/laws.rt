@@ -9,7 +9,7 @@ ghost use Rattle.verb_core.specs.Step.{answers, run};
 ghost use Rattle.verb_bytes.specs.declared.journal.CycleAsk.{CycleAsk};
 ghost use Rattle.repair_desk.specs.Repairs.{are_known};
 ghost use Rattle.mail_cycle.specs.Cycles.{broken_at, cycled_at, leaves_numbers, stamps_at, timeline_at};
-ghost use Rattle.verb_core.specs.Kept.{Kept, base_of};
+ghost use Rattle.paradox.specs.Kept.{Kept};
 
 /// What a cycle leaves can be gone on with: the items are well formed, their numbers distinct and below the next one, the
 /// stamps name the mailboxes, and the next number is one that an item can have.
@@ -23,7 +23,7 @@ pub fn cycles_leave_states()
     ensures revs { (s : Kept) (at : ℕ) (ask : CycleAsk) (place : ℕ) → AllByRecursion (λ (i : Item). i.rev < s.next) s.timeline →
         AllByRecursion (λ (i : Item). i.rev < (cycled_at s at ask place).next) (timeline_at s at ask place) }
     ensures named { (s : Kept) (at : ℕ) (ask : CycleAsk) (place : ℕ) →
-        map (λ (r : BoxId × ℕ). r.0) (stamps_at s at ask place) ≡ map (λ (r : BoxId × Mailbox). r.0) (run (base_of s) (timeline_at s at ask place)).boxes }
+        map (λ (r : BoxId × ℕ). r.0) (stamps_at s at ask place) ≡ map (λ (r : BoxId × Mailbox). r.0) (run s.base (timeline_at s at ask place)).boxes }
     ensures next { (s : Kept) (at : ℕ) (ask : CycleAsk) (place : ℕ) → leaves_numbers s ask ≡ true → (cycled_at s at ask place).next ≤ 4194303 }
 {}
 
@@ -36,5 +36,5 @@ pub fn nothing_asked_changes_nothing()
 /// Where later items show what they would show now, a cycle without repairs breaks none of them.
 pub fn answers_that_are_shown_hold()
     ensures { (s : Kept) (at : ℕ) (ask : CycleAsk) (place : ℕ) → ask.drops ≡ [] → ask.replaces ≡ [] → ask.inserts ≡ [] →
-        drop place (answers (base_of s) s.timeline) ≡ map (λ (i : Item). i.shown) (drop place s.timeline) → broken_at s at ask place ≡ [] }
+        drop place (answers s.base s.timeline) ≡ map (λ (i : Item). i.shown) (drop place s.timeline) → broken_at s at ask place ≡ [] }
 {}

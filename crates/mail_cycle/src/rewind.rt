@@ -10,7 +10,6 @@ ghost use Rattle.mail_cycle.specs.Cycles.{broken_at, cycled, cycled_at, front_of
 ghost use Rattle.mail_cycle.specs.Judging.{judged, shown_after};
 ghost use Rattle.mail_cycle.specs.Leaving.{Leaves};
 ghost use Rattle.mail_cycle.specs.Refusing.{IsRefusalOf};
-ghost use Rattle.verb_core.specs.Kept.{base_of};
 
 use crate::judge::{behind, judge};
 use crate::notices::items_of;
@@ -40,7 +39,7 @@ pub struct Rewound {
 
 /// The store before the first item.
 fn opened(alloc: Global, before: &Before<'_>) -> Result<Store, NoMemory>
-    ensures store { IfOk result (λ store. store.store ≡ base_of before.now) }
+    ensures store { IfOk result (λ store. store.store ≡ before.now.base) }
     ensures valid { IfOk result (λ store. IsValid store.store) }
 {
     let conf = before.opening.copy(alloc)?;
@@ -59,7 +58,7 @@ fn compare<L: Ledger>(
 ) -> Result<BrokenList, NoMemory>
     requires place { place ≤ length before.now.timeline }
     requires few { length ask.now.inserts ≤ LAST_NUMBER }
-    requires store { store.old.store ≡ base_of before.now }
+    requires store { store.old.store ≡ before.now.base }
     requires valid { IsValid store.old.store }
     requires formed { AllByRecursion (IsWellFormed store.old.store.house) items.old.items }
     ensures store { OnOk result (store.new.store ≡ run store.old.store items.old.items) }
@@ -137,7 +136,7 @@ fn redo<L: Ledger>(
     requires numbers { IsTrue (leaves_numbers before.now ask.now) }
     requires acts { IsTrue (are_known before.now.house ask.now.inserts) }
     requires place { place ≤ length before.now.timeline }
-    ensures store { IfOk result (λ r. r.store.store ≡ run (base_of before.now) r.timeline) }
+    ensures store { IfOk result (λ r. r.store.store ≡ run (before.now.base) r.timeline) }
     ensures valid { IfOk result (λ r. IsValid r.store.store) }
     ensures timeline { IfOk result (λ r. r.timeline ≡ timeline_at before.now at ask.now place) }
     ensures broken { IfOk result (λ r. r.broken ≡ broken_at before.now at ask.now place) }

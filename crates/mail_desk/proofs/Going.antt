@@ -28,7 +28,7 @@ use Rattle.verb_core.proofs.BoxLaws.{same_user-refl}
 use Rattle.verb_core.proofs.FateLaws.{count_in-cons}
 use Rattle.verb_core.proofs.Validity.{all_kept}
 use Rattle.mail_desk.specs.Desk.{IsDesk}
-use Rattle.verb_core.specs.Kept.{Kept}
+use Rattle.paradox.specs.Kept.{Kept}
 use Rattle.mail_desk.specs.Timeline.{all_bodies, body_of, has_text}
 use Rattle.mail_desk.proofs.BodyTexts.{text_added, text_stays}
 use Rattle.mail_desk.proofs.Timelines.{rise_on}

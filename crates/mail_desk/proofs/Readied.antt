@@ -21,7 +21,7 @@ use Rattle.box_store.specs.Effects.{IsEffect, IsReady, applied}
 use Rattle.box_store.specs.Kept.{sought_in}
 use Rattle.mail_desk.specs.declared.ready.Ready.{Ready}
 use Rattle.mail_desk.specs.Desk.{IsFaultOf, submitted_as}
-use Rattle.verb_core.specs.Kept.{Kept, performed, store_of}
+use Rattle.paradox.specs.Kept.{Kept, performed, store_of}
 use Rattle.mail_desk.specs.Entering.{CanEnter}
 use Rattle.mail_desk.specs.Held.{Held}
 

@@ -11,7 +11,7 @@ use Rattle.verb_core.specs.declared.mailbox.BoxId.{BoxId}
 use Rattle.verb_core.specs.declared.mailbox.Mailbox.{Mailbox}
 use Rattle.verb_core.specs.Items.{IsWellFormed}
 use Rattle.verb_core.specs.Store.{MailStore, IsValid, is_house}
-use Rattle.verb_core.specs.Kept.{Kept, performed, store_of}
+use Rattle.paradox.specs.Kept.{Kept, performed, store_of}
 use Rattle.verb_core.specs.Live.{live}
 use Rattle.box_store.specs.Refusing.{IsRefusal}
 use Rattle.mail_desk.specs.Timeline.{numbers_rise, has_text, all_bodies}

@@ -1,7 +1,7 @@
 -- What contracts see of a desk.
 use Rattle.std.specs.Prelude.{ℕ}
 use Rattle.box_store.specs.Kept.{Kept as StoreHeld}
-use Rattle.verb_core.specs.Kept.{Kept}
+use Rattle.paradox.specs.Kept.{Kept}
 
 -- the store with the room that it has; room for so many items more, and for so many notes
 pub record Room : Type 0 where

@@ -6,7 +6,7 @@ ghost use Rattle.verb_core.specs.declared.mailbox.BoxId.{BoxId as TheBoxId};
 ghost use Rattle.verb_core.specs.declared.mailbox.Mailbox.{Mailbox as TheMailbox};
 ghost use Rattle.verb_core.specs.Boxes.{box_of, row_at};
 ghost use Rattle.verb_core.specs.Items.{IsTimeline, text_of};
-ghost use Rattle.verb_core.specs.Kept.{new_desk, store_of};
+ghost use Rattle.paradox.specs.Kept.{new_desk, store_of};
 ghost use Rattle.verb_core.specs.Stamps.{opening_stamps};
 ghost use Rattle.verb_core.specs.Store.{IsValid, is_house, is_known, opening as store_at_first};
 ghost use Rattle.shelf.specs.Notes.{size_of};

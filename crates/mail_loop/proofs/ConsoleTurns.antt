@@ -5,7 +5,7 @@ use Rattle.undo_outside.specs.Disk.{DiskTold}
 use Rattle.verb_core.specs.declared.item.Item.{Item}
 use Rattle.verb_bytes.specs.declared.journal.JournalRecord.{JournalRecord}
 use Rattle.verb_bytes.specs.declared.journal.JournalRecord.TheVariants.{Format, Verb, Operator, Cycle, Snapshot}
-use Rattle.verb_core.specs.Kept.{Kept, performed}
+use Rattle.paradox.specs.Kept.{Kept, performed}
 use Rattle.time_desk.specs.Lasting.{Lasting}
 use Rattle.verb_core.specs.Deeds.{act_item}
 use Rattle.time_desk.specs.Records.{after_item, after_record, after_records, can_follow, is_spelled}

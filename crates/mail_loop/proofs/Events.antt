@@ -9,7 +9,7 @@ use Rattle.undo_outside.specs.Calls.{LinkTold}
 use Rattle.console_head.specs.Request.{Stage}
 use Rattle.mail_loop.specs.declared.console_turn.Turned.{Turned}
 use Rattle.mail_loop.specs.ConsoleTurn.{AreSaid, Reading}
-use Rattle.verb_core.specs.Kept.{Kept}
+use Rattle.paradox.specs.Kept.{Kept}
 use Rattle.verb_bytes.specs.declared.journal.JournalRecord.{JournalRecord}
 use Rattle.mail_loop.specs.State.{Seat, State}
 use Rattle.mail_loop.specs.Hindrance.{Hindrance}

@@ -1,7 +1,7 @@
 -- What a client that joins leaves.
 use Rattle.std.proofs.Common.{◌≡◌, ℕ, false, List, [], ◌∷◌, Ok, refl, ap, subst, sym, ◌∙◌}
 use Rattle.verb_core.specs.declared.conf.House.{House}
-use Rattle.verb_core.specs.Kept.{Kept}
+use Rattle.paradox.specs.Kept.{Kept}
 use Rattle.mail_loop.specs.State.{Seat, State}
 use Rattle.mail_loop.specs.ConsoleTurn.{no_consoles}
 use Rattle.mail_loop.specs.Machine.{Answered, Reply, Seats, with_new_seat}

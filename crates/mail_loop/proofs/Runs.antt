@@ -13,7 +13,7 @@ use Rattle.undo_outside.specs.Calls.{LinkTold, Rose, then_told, IsNext, Comes}
 use Rattle.mail_loop.specs.declared.serve.ServeFault.{ServeFault}
 use Rattle.mail_loop.specs.declared.serve.ServeFault.TheVariants.{Link, Disk, Turns, NoMemory}
 use Rattle.verb_bytes.specs.declared.journal.JournalRecord.{JournalRecord}
-use Rattle.verb_core.specs.Kept.{Kept}
+use Rattle.paradox.specs.Kept.{Kept}
 use Rattle.mail_loop.specs.State.{State}
 use Rattle.mail_loop.specs.ConsoleTurn.{AreSaid, Reading, both, no_consoles}
 use Rattle.mail_loop.specs.Machine.{Seats, Hindrances, Outcome, outcome, delivered, happens, answers, ignored}

@@ -10,7 +10,7 @@ use Rattle.verb_core.specs.Live.{live}
 use Rattle.verb_core.specs.Names.{is_empty}
 use Rattle.verb_bytes.specs.declared.journal.JournalRecord.{JournalRecord}
 use Rattle.verb_bytes.specs.declared.journal.JournalRecord.TheVariants.{Verb}
-use Rattle.verb_core.specs.Kept.{Kept, store_of}
+use Rattle.paradox.specs.Kept.{Kept, store_of}
 use Rattle.mail_desk.specs.Desk.{submitted}
 use Rattle.time_desk.specs.Lasting.{Lasting, IsUnwritten}
 use Rattle.time_desk.specs.Sealing.{Seals}

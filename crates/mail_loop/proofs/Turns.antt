@@ -27,7 +27,7 @@ use Rattle.smtp_session.specs.declared.answer.Answer.TheVariants.{Done, Begin, B
 use Rattle.std.specs.Str.{str_to_ascii_lowercase}
 use Rattle.smtp_session.specs.Dialog as session
 use Rattle.mail_loop.specs.declared.reply.Reply.{Reply}
-use Rattle.verb_core.specs.Kept.{Kept, store_of}
+use Rattle.paradox.specs.Kept.{Kept, store_of}
 use Rattle.mail_desk.specs.Desk.{Submitted, submitted_as}
 use Rattle.verb_bytes.specs.declared.journal.JournalRecord.{JournalRecord}
 use Rattle.verb_bytes.specs.declared.journal.JournalRecord.TheVariants.{Verb}

@@ -13,7 +13,7 @@ use Rattle.verb_bytes.specs.declared.journal.JournalRecord.TheVariants.{Verb}
 use Rattle.undo_outside.specs.Disk.{DiskTold}
 use Rattle.time_desk.specs.Lasting.{Lasting}
 use Rattle.time_desk.specs.Sealing.{Seals}
-use Rattle.verb_core.specs.Kept.{Kept, store_of}
+use Rattle.paradox.specs.Kept.{Kept, store_of}
 use Rattle.mail_desk.specs.Desk.{submitted}
 
 -- the item or why there is none, what is kept, and the record whose sealing failed, where one did

@@ -6,7 +6,7 @@ use Rattle.console_session.specs.declared.reply.After.{After}
 use Rattle.console_session.specs.declared.reply.After.TheVariants.{Waits, Closes, Stops, Fails}
 use Rattle.console_session.specs.Hindrance as console
 use Rattle.console_session.specs.Turn.{Turn as ConsoleTurn, asked_of}
-use Rattle.verb_core.specs.Kept.{Kept}
+use Rattle.paradox.specs.Kept.{Kept}
 use Rattle.mail_loop.specs.Hindrance.{Hindrance, Clear, Refused, Unread, Unstored, Unheard, Unanswered, Unsealed, Untold}
 
 -- the bytes of a console, and what they were read as

@@ -7,7 +7,7 @@ use Rattle.smtp_session.specs.declared.answer.SmtpOut.TheVariants.{Nothing, Say,
 use Rattle.smtp_session.specs.declared.dialog.Dialog.{Dialog}
 use Rattle.smtp_session.specs.Answer.{answer_text}
 use Rattle.smtp_session.specs.Dialog as session
-use Rattle.verb_core.specs.Kept.{Kept, store_of}
+use Rattle.paradox.specs.Kept.{Kept, store_of}
 use Rattle.mail_loop.specs.Asked.{fails, starves}
 use Rattle.mail_loop.specs.SmtpTurn.{Turn, turn, says, ends, served, settled}
 

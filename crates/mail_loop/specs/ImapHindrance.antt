@@ -9,7 +9,7 @@ use Rattle.imap_session.specs.declared.dialog.Dialog.{Dialog}
 use Rattle.imap_session.specs.declared.words.Answer.TheVariants.{Refused as IsToldRefused}
 use Rattle.imap_session.specs.Dialog.{without_memory}
 use Rattle.imap_session.specs.Words.{tagged}
-use Rattle.verb_core.specs.Kept.{Kept}
+use Rattle.paradox.specs.Kept.{Kept}
 use Rattle.mail_loop.specs.Asked.{fails, starves}
 use Rattle.mail_loop.specs.SmtpTurn.{Turn, says}
 use Rattle.mail_loop.specs.Hindrance.{Hindrance, Clear, Refused, Unread, Unstored, Unheard, Unanswered, Unsealed, Untold, lost, unanswered}

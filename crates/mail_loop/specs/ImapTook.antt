@@ -16,7 +16,7 @@ use Rattle.imap_session.specs.declared.out.ImapOut.{ImapOut}
 use Rattle.imap_session.specs.declared.out.ImapOut.TheVariants.{Say, Read, Submit, Bye}
 use Rattle.imap_session.specs.Dialog as session
 use Rattle.imap_session.specs.Dialog.{is_due, is_free}
-use Rattle.verb_core.specs.Kept.{Kept, store_of}
+use Rattle.paradox.specs.Kept.{Kept, store_of}
 use Rattle.mail_desk.specs.Timeline.{has_text}
 use Rattle.mail_loop.specs.declared.reply.Reply.{Reply}
 use Rattle.mail_loop.specs.SmtpTurn.{Turn, ends}

@@ -9,7 +9,7 @@ use Rattle.undo_outside.specs.declared.event.LinkNote.TheVariants.{Came, Closed}
 use Rattle.undo_outside.specs.Calls.{LinkTold, Rose, then_told}
 use Rattle.mail_loop.specs.declared.serve.ServeFault.{ServeFault}
 use Rattle.mail_loop.specs.declared.serve.ServeFault.TheVariants.{Link, Disk, Turns, NoMemory}
-use Rattle.verb_core.specs.Kept.{Kept}
+use Rattle.paradox.specs.Kept.{Kept}
 use Rattle.verb_bytes.specs.declared.journal.JournalRecord.{JournalRecord}
 use Rattle.mail_loop.specs.State.{State}
 use Rattle.mail_loop.specs.ConsoleTurn.{AreSaid, Consoles, Reading, both, no_consoles}

@@ -4,7 +4,7 @@ ghost use Rattle.std.specs.List.{list_all};
 ghost use Rattle.verb_core.specs.declared.conf.House.{House as TheHouse};
 ghost use Rattle.imap_lines.specs.Command.{ReadsCommand, Reading, command_of};
 ghost use Rattle.imap_session.specs.Dialog.{AsksAsUser, IsNext, is_at_home, is_due, is_free, is_reading, settle, took};
-ghost use Rattle.verb_core.specs.Kept.{store_of, Kept};
+ghost use Rattle.paradox.specs.Kept.{store_of, Kept};
 ghost use Rattle.mail_desk.specs.Timeline.{has_text, texts_of};
 ghost use Rattle.mail_loop.specs.Asked.{HaveSealed};
 ghost use Rattle.mail_loop.specs.Hindrance.{Hindrance};

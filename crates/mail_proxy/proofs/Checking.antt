@@ -1,7 +1,7 @@
 -- What opening a store leaves of its disk.
 use Rattle.std.proofs.Common.{ℕ, Result}
 use Rattle.undo_outside.specs.Disk.{DiskTold, IsHonest}
-use Rattle.verb_core.specs.Kept.{Kept}
+use Rattle.paradox.specs.Kept.{Kept}
 use Rattle.time_desk.specs.declared.fault.StartFault.{StartFault}
 use Rattle.time_desk.specs.Opening.{Starts}
 use Rattle.mail_proxy.specs.Check.{IsOnlyRead}

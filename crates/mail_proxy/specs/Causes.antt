@@ -5,7 +5,7 @@ use Rattle.undo_outside.specs.declared.event.LinkNote.{LinkNote}
 use Rattle.undo_outside.specs.Calls.{LinkTold, SourceTold, SinkTold}
 use Rattle.undo_outside.specs.Disk.{DiskTold, ReadFailed, WriteFailed}
 use Rattle.seal_log.specs.Loading.{IsNotFormatted}
-use Rattle.verb_core.specs.Kept.{Kept}
+use Rattle.paradox.specs.Kept.{Kept}
 use Rattle.mail_loop.specs.declared.serve.ServeFault.{ServeFault}
 use Rattle.mail_loop.specs.declared.serve.ServeFault.TheVariants.{Link, Disk, Turns, NoMemory}
 use Rattle.mail_loop.specs.Serving.{Step, CountsFaults, ServedOver}

@@ -10,7 +10,7 @@ use Rattle.verb_bytes.specs.declared.journal.JournalRecord.TheVariants.{Format, 
 use Rattle.verb_bytes.specs.Spelling.{HasSpelling, Spells, record_bytes}
 use Rattle.seal_log.specs.Journal.{frame, sealed, BeginsClosed, IsPayload, StandsFor}
 use Rattle.seal_log.specs.Loading.{BeginsCut, GoesOn, IsNotFormatted}
-use Rattle.verb_core.specs.Kept.{Kept, performed, new_desk}
+use Rattle.paradox.specs.Kept.{Kept, performed, new_desk}
 use Rattle.house_text.specs.Beginning.{can_begin}
 use Rattle.time_desk.specs.declared.fault.StartFault.{StartFault}
 use Rattle.time_desk.specs.declared.fault.StartFault.TheVariants.{NotFormatted, Damaged, Disk, NoMemory}

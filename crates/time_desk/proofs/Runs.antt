@@ -8,7 +8,7 @@ use Rattle.seal_log.specs.Journal.{StandsFor, StandsForFront}
 use Rattle.verb_core.specs.Names.{is_empty}
 use Rattle.verb_bytes.specs.declared.journal.JournalRecord.{JournalRecord}
 use Rattle.verb_bytes.specs.Spelling.{record_bytes}
-use Rattle.verb_core.specs.Kept.{Kept}
+use Rattle.paradox.specs.Kept.{Kept}
 use Rattle.time_desk.specs.Crashing.{LeavesFront}
 use Rattle.time_desk.specs.Lasting.{IsUnwritten, Lasting}
 use Rattle.time_desk.specs.Records.{after_record, after_records, first_state, payloads_of, state}

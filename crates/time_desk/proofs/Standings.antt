@@ -16,7 +16,7 @@ use Rattle.seal_log.specs.declared.place.Place.{Place}
 use Rattle.seal_log.specs.Journal.{frame, sealed, LiesAt}
 use Rattle.seal_log.specs.Loading.{places_from}
 use Rattle.seal_log.specs.Settled.{Holds, IsSettled}
-use Rattle.verb_core.specs.Kept.{Kept, performed}
+use Rattle.paradox.specs.Kept.{Kept, performed}
 use Rattle.time_desk.specs.declared.fault.StartFault.{StartFault}
 use Rattle.time_desk.specs.declared.fault.StartFault.TheVariants.{NotFormatted, Damaged, Disk, NoMemory}
 use Rattle.time_desk.specs.Opening.{CanStand}

@@ -11,7 +11,7 @@ use Rattle.verb_core.specs.declared.item.Act.{Act}
 use Rattle.verb_core.specs.declared.item.Item.{Item}
 use Rattle.verb_bytes.specs.declared.journal.JournalRecord.{JournalRecord}
 use Rattle.verb_bytes.specs.declared.journal.JournalRecord.TheVariants.{Verb, Operator}
-use Rattle.verb_core.specs.Kept.{performed, Kept}
+use Rattle.paradox.specs.Kept.{performed, Kept}
 use Rattle.mail_desk.specs.Desk.{submitted_as}
 use Rattle.mail_desk.specs.Held.{Held}
 use Rattle.time_desk.specs.declared.fault.ActFault.{ActFault}

@@ -9,7 +9,7 @@ use Rattle.seal_log.specs.Journal.{frame, sealed, IsPayload, StandsFor}
 use Rattle.seal_log.specs.Loading.{places_from}
 use Rattle.seal_log.specs.Loads.{Ends, IsSurveyed}
 use Rattle.seal_log.specs.Settled.{IsSettled}
-use Rattle.verb_core.specs.Kept.{Kept}
+use Rattle.paradox.specs.Kept.{Kept}
 use Rattle.time_desk.specs.declared.fault.StartFault.{StartFault}
 use Rattle.time_desk.specs.declared.fault.StartFault.TheVariants.{NotFormatted, Damaged, Disk, NoMemory}
 use Rattle.time_desk.specs.Opening.{IsDamaged, IsStarted, Refuses}

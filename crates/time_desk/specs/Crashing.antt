@@ -1,7 +1,7 @@
 -- What a crash leaves of a run of calls.
 use Rattle.std.specs.Prelude.{◌≡◌, ◌≤◌, ℕ, List, ◌++◌, length, take, Some}
 use Rattle.verb_bytes.specs.declared.journal.JournalRecord.{JournalRecord}
-use Rattle.verb_core.specs.Kept.{Kept}
+use Rattle.paradox.specs.Kept.{Kept}
 use Rattle.time_desk.specs.Records.{StandsForRecords, state}
 
 -- the image stands for the records from before and the first of the others, and each of them can stand

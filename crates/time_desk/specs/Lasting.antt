@@ -3,7 +3,7 @@ use Rattle.std.specs.Prelude.{◌≡◌, ℕ, Bool}
 use Rattle.seal_log.specs.declared.log.Log.{Log}
 use Rattle.seal_log.specs.Log.{last_gate}
 use Rattle.mail_desk.specs.Held.{Held, Room}
-use Rattle.verb_core.specs.Kept.{Kept}
+use Rattle.paradox.specs.Kept.{Kept}
 
 -- what is kept, and the room that was made; the disk, the place of the journal's last gate, and whether a write or a sync
 -- failed

@@ -10,7 +10,7 @@ use Rattle.seal_log.specs.Journal.{frame}
 use Rattle.seal_log.specs.declared.log.Log.{Log}
 use Rattle.seal_log.specs.Log.{last_gate}
 use Rattle.seal_log.specs.Settled.{IsSettled}
-use Rattle.verb_core.specs.Kept.{Kept}
+use Rattle.paradox.specs.Kept.{Kept}
 use Rattle.time_desk.specs.declared.fault.MakeFault.{MakeFault}
 use Rattle.time_desk.specs.declared.fault.MakeFault.TheVariants.{NotEmpty, Disk, NoMemory}
 use Rattle.time_desk.specs.Records.{payloads_of, state}

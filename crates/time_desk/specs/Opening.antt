@@ -9,7 +9,7 @@ use Rattle.seal_log.specs.Causes.{SameCounts}
 use Rattle.seal_log.specs.Journal.{frame, sealed, IsPayload}
 use Rattle.seal_log.specs.Loading.{BeginsCut, IsNotFormatted}
 use Rattle.seal_log.specs.Settled.{IsSettled}
-use Rattle.verb_core.specs.Kept.{Kept}
+use Rattle.paradox.specs.Kept.{Kept}
 use Rattle.time_desk.specs.declared.fault.StartFault.{StartFault}
 use Rattle.time_desk.specs.declared.fault.StartFault.TheVariants.{NotFormatted, Damaged, Disk, NoMemory}
 use Rattle.time_desk.specs.Records.{Leaves, StandsForRecords, payloads_of, state}

@@ -11,7 +11,7 @@ use Rattle.verb_bytes.specs.declared.journal.JournalRecord.TheVariants.{Format, 
 use Rattle.verb_bytes.specs.Fields.{are_in_range}
 use Rattle.verb_bytes.specs.Spelling.{record_bytes, record_fields}
 use Rattle.seal_log.specs.Journal.{StandsFor}
-use Rattle.verb_core.specs.Kept.{Kept, new_desk, performed}
+use Rattle.paradox.specs.Kept.{Kept, new_desk, performed}
 use Rattle.house_text.specs.Beginning.{can_begin}
 
 -- ---- one record

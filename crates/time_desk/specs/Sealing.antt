@@ -8,7 +8,7 @@ use Rattle.verb_core.specs.Names.{is_empty}
 use Rattle.verb_core.specs.declared.item.Item.{Item}
 use Rattle.verb_bytes.specs.declared.journal.JournalRecord.{JournalRecord}
 use Rattle.verb_bytes.specs.Spelling.{record_bytes}
-use Rattle.verb_core.specs.Kept.{Kept, performed}
+use Rattle.paradox.specs.Kept.{Kept, performed}
 use Rattle.time_desk.specs.Lasting.{Lasting}
 use Rattle.time_desk.specs.Records.{after_record, after_records, payloads_of}
 

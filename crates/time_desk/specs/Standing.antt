@@ -14,7 +14,7 @@ use Rattle.verb_bytes.specs.declared.journal.JournalRecord.TheVariants.{Format, 
 use Rattle.verb_bytes.specs.Spelling.{Spells}
 use Rattle.undo_outside.specs.Disk.{DiskTold, ReadFailed}
 use Rattle.seal_log.specs.Journal.{sealed}
-use Rattle.verb_core.specs.Kept.{new_desk, performed, Kept}
+use Rattle.paradox.specs.Kept.{new_desk, performed, Kept}
 use Rattle.house_text.specs.Beginning.{can_begin}
 use Rattle.time_desk.specs.declared.fault.StartFault.{StartFault}
 use Rattle.time_desk.specs.declared.fault.StartFault.TheVariants.{NotFormatted, Damaged, Disk, NoMemory}

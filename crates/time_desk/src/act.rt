@@ -6,7 +6,7 @@ ghost use Rattle.verb_core.specs.declared.item.Deed.TheVariants.{Act as Acts};
 ghost use Rattle.verb_core.specs.Items.{users_in};
 ghost use Rattle.verb_core.specs.Store.{is_known};
 ghost use Rattle.verb_bytes.specs.declared.journal.JournalRecord.TheVariants.{Operator};
-ghost use Rattle.verb_core.specs.Kept.{performed};
+ghost use Rattle.paradox.specs.Kept.{performed};
 ghost use Rattle.mail_desk.specs.Entering.{CanEnter};
 ghost use Rattle.time_desk.specs.Lasting.{lasting};
 ghost use Rattle.time_desk.specs.Sealing.{IsRecordOf, Seals};

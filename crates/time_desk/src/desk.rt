@@ -11,7 +11,7 @@ ghost use Rattle.seal_log.specs.declared.fault.ReadFault.TheVariants as read_fau
 ghost use Rattle.shelf.specs.Notes.{size_of};
 ghost use Rattle.store_digest.specs.Snapshots.{digest_of};
 ghost use Rattle.mail_desk.specs.Counting.{counts_of, listed, page};
-ghost use Rattle.verb_core.specs.Kept.{store_of};
+ghost use Rattle.paradox.specs.Kept.{store_of};
 ghost use Rattle.mail_desk.specs.Timeline.{all_bodies, has_sizes, has_text, numbers_rise, rev_of, texts_of};
 
 use crate::on_disk::Journal;

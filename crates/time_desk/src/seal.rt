@@ -1,7 +1,7 @@
 //! One record, sealed, and its item then entered.
 ghost use Rattle.std.specs.Prelude.{◌≡◌, [], ◌∷◌, Some, true, false, OnOk, OnErr, IfErr};
 ghost use Rattle.verb_bytes.specs.declared.journal.JournalRecord.{JournalRecord};
-ghost use Rattle.verb_core.specs.Kept.{performed};
+ghost use Rattle.paradox.specs.Kept.{performed};
 ghost use Rattle.mail_desk.specs.Entering.{CanEnter};
 ghost use Rattle.time_desk.specs.Lasting.{lasting};
 ghost use Rattle.time_desk.specs.Sealing.{IsRecordOf, Seals};

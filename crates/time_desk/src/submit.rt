@@ -6,7 +6,7 @@ ghost use Rattle.verb_core.specs.Store.{is_known};
 ghost use Rattle.box_store.specs.Refusing.{IsRefusal};
 ghost use Rattle.verb_bytes.specs.declared.journal.JournalRecord.TheVariants.{Verb};
 ghost use Rattle.verb_bytes.specs.Spelling.{record_bytes};
-ghost use Rattle.verb_core.specs.Kept.{performed, store_of};
+ghost use Rattle.paradox.specs.Kept.{performed, store_of};
 ghost use Rattle.mail_desk.specs.Desk.{submitted};
 ghost use Rattle.mail_desk.specs.Entering.{CanEnter};
 ghost use Rattle.time_desk.specs.Lasting.{lasting};

@@ -11,5 +11,4 @@ pub mod Step
 pub mod Touched
 pub mod Live
 pub mod Stamps
-pub mod Kept
 pub mod Fates

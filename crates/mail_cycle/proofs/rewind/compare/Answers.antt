@@ -4,7 +4,7 @@ use Rattle.verb_core.specs.declared.item.Shown.{Shown}
 use Rattle.verb_core.specs.Step.{answers}
 use Rattle.repair_desk.specs.Repairs.{is_among}
 use Rattle.mail_cycle.specs.Judging.{judged}
-use Rattle.verb_core.specs.Kept.{Kept}
+use Rattle.paradox.specs.Kept.{Kept}
 use Rattle.mail_cycle.proofs.Cycled.{judged_same}
 use Rattle.mail_cycle.proofs.rewind.compare.Goals as goal
 

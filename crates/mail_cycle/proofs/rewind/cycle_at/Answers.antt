@@ -1,5 +1,4 @@
 use Rattle.std.proofs.Common.{◌≡◌, ◌∙◌, ap}
-use Rattle.verb_core.specs.Kept.{base_of}
 use Rattle.verb_core.specs.Step.{run}
 use Rattle.mail_cycle.specs.Cycles.{timeline_at}
 use Rattle.mail_cycle.proofs.Redoing.{next_is, report_is, stamps_are}
@@ -9,7 +8,7 @@ pub returns-clause-made : goal.returns-clause-made
 returns-clause-made g c =
     let s = c.args.before.now in
     let is = c.in_ok-store.ensures in
-    let store : c.in_ok-store.field-0.store.store ≡ run (base_of s) (timeline_at s c.args.at c.args.ask.now c.args.place) = is.store ∙ ap (run (base_of s)) is.timeline in
+    let store : c.in_ok-store.field-0.store.store ≡ run s.base (timeline_at s c.args.at c.args.ask.now c.args.place) = is.store ∙ ap (run s.base) is.timeline in
     let stamps = stamps_are _ _ c.before-2.view_is c.args.ask.now c.args.at c.args.place _ _ c.in_ok-stamps.stamps c.before-2.invariant.store_is store c.in_ok-stamps.ensures in
     record {
       timeline = is.timeline;

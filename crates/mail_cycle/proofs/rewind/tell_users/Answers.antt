@@ -4,7 +4,7 @@ use Rattle.undo_base.specs.declared.keys.User.{User}
 use Rattle.verb_core.specs.declared.conf.House.{House}
 use Rattle.verb_core.specs.declared.item.Item.{Item}
 use Rattle.verb_core.specs.Items.{IsWellFormed}
-use Rattle.verb_core.specs.Kept.{Kept}
+use Rattle.paradox.specs.Kept.{Kept}
 use Rattle.mail_cycle.specs.Cycles.{notice_items}
 use Rattle.mail_cycle.proofs.Cycled.{few_notices, few_told, told_formed}
 use Rattle.mail_cycle.proofs.rewind.tell_users.Goals as goal

@@ -1,7 +1,7 @@
 use Rattle.std.proofs.Common.{◌≡◌, OnOk, refl, subst}
 use Rattle.verb_bytes.specs.declared.journal.JournalRecord.TheVariants.{Verb}
 use Rattle.verb_core.specs.Live.{live}
-use Rattle.verb_core.specs.Kept.{performed, store_of, Kept}
+use Rattle.paradox.specs.Kept.{performed, store_of, Kept}
 use Rattle.time_desk.specs.Lasting.{lasting}
 use Rattle.time_desk.proofs.Runs.{seals_nothing}
 use Rattle.time_desk.proofs.Submits.{none_written, ok_submitted, record_as}

@@ -1,6 +1,6 @@
 use Rattle.std.proofs.Common.{◌≡◌, OnOk, OnErr, subst}
 use Rattle.verb_core.specs.Live.{live}
-use Rattle.verb_core.specs.Kept.{Kept, performed, store_of}
+use Rattle.paradox.specs.Kept.{Kept, performed, store_of}
 use Rattle.mail_desk.proofs.Readied.{refused_memory, submitted_ok}
 use Rattle.mail_desk.proofs.desk.Desk.submit.Goals as goal
 

@@ -1,6 +1,6 @@
 use Rattle.std.proofs.Common.{IfErr, subst}
 use Rattle.verb_core.specs.Live.{live}
-use Rattle.verb_core.specs.Kept.{store_of}
+use Rattle.paradox.specs.Kept.{store_of}
 use Rattle.time_desk.specs.Lasting.{Lasting, lasting}
 use Rattle.time_desk.specs.Submitting.{SubmitsNone, WritesNone}
 use Rattle.time_desk.proofs.desk.Desk.submit.Goals as goal

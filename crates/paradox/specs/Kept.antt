@@ -1,5 +1,5 @@
 -- What is kept of a store in use: all that is needed to have it again, and to go on.
-use Rattle.std.specs.Prelude.{ℕ, ◌+◌, List, [], ◌∷◌, ◌++◌}
+use Rattle.std.specs.Prelude.{ℕ, ◌+◌, List, [], ◌∷◌, ◌++◌, bytes_eq, find, Option, option_map}
 use Rattle.verb_core.specs.declared.conf.Conf.{Conf}
 use Rattle.verb_core.specs.declared.conf.House.{House}
 use Rattle.verb_core.specs.declared.item.Item.{Item}
@@ -7,31 +7,45 @@ use Rattle.verb_core.specs.declared.mailbox.BoxId.{BoxId}
 use Rattle.verb_core.specs.Store.{MailStore, opening}
 use Rattle.verb_core.specs.Step.{run, step}
 use Rattle.verb_core.specs.Stamps.{opening_stamps, stamps_after}
+use Rattle.paradox.specs.declared.reports.Report.{Report}
 
--- the house, the configuration at first, the items in force in order, the stamp of each mailbox, and the next number
+-- ---- the reports of cycles
+
+-- each cycle's report by the key of its request, in the order of the cycles
+abbrev pub Reports : Type 0
+Reports = List (List ℕ × Report)
+
+-- the report of the cycle that was asked for under a key
+abbrev pub report_of : Reports → List ℕ → Option Report
+report_of reports key = option_map (λ (r : List ℕ × Report). r.1) (find (λ (r : List ℕ × Report). bytes_eq r.0 key) reports)
+
+-- ---- what is kept
+
+-- the house, the configuration at first, the store before the first item, the items in force in order, the stamp of each
+-- mailbox, the next number, and the reports of cycles
 pub record Kept : Type 0 where
   pub house : House
   pub opening : Conf
+  pub base : MailStore
   pub timeline : List Item
   pub stamps : List (BoxId × ℕ)
   pub next : ℕ
-
--- the store before the first item
-abbrev pub base_of : Kept → MailStore
-base_of kept = opening kept.house kept.opening
+  pub reports : Reports
 
 -- the store that the items in force leave, one after the other
 abbrev pub store_of : Kept → MailStore
-store_of kept = run (base_of kept) kept.timeline
+store_of kept = run kept.base kept.timeline
 
 -- a store on which nothing was done yet
 abbrev pub new_desk : House → Conf → Kept
 new_desk house conf = record {
   house = house;
   opening = conf;
+  base = opening house conf;
   timeline = [];
   stamps = opening_stamps (opening house conf);
   next = house.first;
+  reports = [];
 }
 
 -- the item is performed, and is the last of those in force
