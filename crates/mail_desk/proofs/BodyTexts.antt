@@ -1,5 +1,5 @@
 -- The texts of bodies, by the items that brought them.
-use Rattle.std.proofs.Common.{◌≡◌, ◌≢◌, ℕ, ◌<◌, ◌≤◌, ◌==◌, Bool, true, false, ◌&&◌, cond, List, [], ◌∷◌, ◌++◌, length, find, Option, None, Some, is_some, option_map, option_and_then, refl, ap, sym, ◌∙◌, arith, nat_lt}
+use Rattle.std.proofs.Common.{◌≡◌, ◌≢◌, ℕ, ◌==◌, Bool, true, false, ◌&&◌, cond, List, [], ◌∷◌, ◌++◌, length, find, Option, None, Some, is_some, option_map, option_and_then, refl, ap, sym, ◌∙◌, arith}
 use Rattle.std.specs.List.{AllByRecursion}
 use Rattle.std.specs.Cmp.{second_so}
 use Rattle.std.proofs.lemmas.Bool.Decides.{nat_tests}
@@ -8,8 +8,8 @@ use Rattle.verb_core.specs.declared.mailbox.Body.{Body}
 use Rattle.verb_core.specs.Items.{NumbersApart, text_in, text_of}
 use Rattle.shelf.specs.declared.note.Note.{Note}
 use Rattle.shelf.specs.Notes.{same_body, size_of}
-use Rattle.mail_desk.specs.Timeline.{numbers_rise, item_of, body_of, has_text, told_by, NotesText}
-use Rattle.mail_desk.proofs.Timelines.{low_below, unequal}
+use Rattle.mail_desk.specs.Timeline.{item_of, body_of, has_text, told_by, NotesText}
+use Rattle.mail_desk.proofs.Timelines.{unequal}
 
 -- whether an item brought the text of a body
 abbrev brings : Body → Item → Bool
@@ -44,15 +44,6 @@ text_by_item (i ∷ t) apart body =
     ] refl
 
 -- ---- an item more
-
--- a body of a number that comes later has no text
-pub text_none : (low : ℕ) (t : List Item) (next : ℕ) (body : Body) → numbers_rise low t next ≡ true → next ≤ body.origin → text_of t body ≡ None
-text_none low [] next body rise later = refl
-text_none low (i ∷ t) next body rise later =
-    let rest = second_so (nat_lt low i.number) _ rise in
-    let below : i.number < next = low_below i.number t next rest in
-    let no : (i.number == body.origin) ≡ false = unequal i.number body.origin (λ e. let wrong : i.number ≡ body.origin = e in absurd (omega arith)) in
-    rw no (text_none i.number t next body rest later)
 
 -- of the first that brings the text, or else of the last
 first_or : (b : Bool) (o rest last : Option (List ℕ)) → (b ≡ true → is_some o ≡ true) → cond b o (cond (is_some rest) rest last) ≡ cond (is_some (cond b o rest)) (cond b o rest) last
@@ -107,18 +98,18 @@ none_either : (b : Bool) → ◌≡◌ {A = Option (List ℕ)} (cond b None None
 none_either true = refl
 none_either false = refl
 
--- the sizes of the texts that were there, and of the one that an item of the next number brings
-pub sizes_on : (low : ℕ) (t : List Item) (next : ℕ) (i : Item) (old new : List (Body × Note)) → numbers_rise low t next ≡ true → i.number ≡ next
+-- the sizes of the texts that were there, and of the one that an item of another number brings
+pub sizes_on : (t : List Item) (i : Item) (old new : List (Body × Note)) → AllByRecursion (λ (j : Item). i.number ≢ j.number) t
     → (o : Option (List ℕ)) → text_in i.deed ≡ o → NotesText o (body_of i) old new → SizesOf old t → SizesOf new (t ++ i ∷ [])
-sizes_on low t next i old new rise is None brought noted sizes body =
+sizes_on t i old new others None brought noted sizes body =
     ap (λ (n : List (Body × Note)). size_of n body) noted ∙ sizes body
     ∙ ap (option_map length) (sym (text_more t i body ∙ ap (λ o. cond (is_some (text_of t body)) (text_of t body) o) (text_single i body ∙ ap (λ o. cond (same_body (body_of i) body) o None) brought ∙ none_either (same_body (body_of i) body)) ∙ or_none (text_of t body)))
-sizes_on low t next i old new rise is (Some text) brought noted sizes body =
+sizes_on t i old new others (Some text) brought noted sizes body =
     noted body
     ∙ elim (same_body (body_of i) body) as (λ b. same_body (body_of i) body ≡ b → cond b (Some (length text)) (size_of old body) ≡ option_map length (cond (is_some (text_of t body)) (text_of t body) (cond b (Some text) None))) [
       | true ↦ λ e.
           let same : i.number ≡ body.origin = grind (arith, nat_tests) in
-          let none : text_of t body ≡ None = text_none low t next body rise (omega arith) in
+          let none : text_of t body ≡ None = none_numbered t body i.number others same in
           ap (λ (o : Option (List ℕ)). option_map length (cond (is_some o) o (Some text))) (sym none)
       | false ↦ λ e. sizes body ∙ ap (option_map length) (sym (or_none (text_of t body)))
     ] refl

@@ -1,4 +1,5 @@
 pub mod Timelines
+pub mod Indexes
 pub mod BodyTexts
 pub mod Desks
 pub mod Stampings

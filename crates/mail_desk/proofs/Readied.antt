@@ -98,10 +98,6 @@ can_enter (Ok ready) held item formed number left is does stamps effect items no
 }
 can_enter (Err why) held item formed number left is does stamps effect items notes = tt
 
-pub some_room : {T E : Type 0} (r : Result T E) (len capacity : ℕ) → OnOk r (len < capacity) → OnOk r (0 < capacity - len)
-some_room (Ok x) len capacity lt = omega arith
-some_room (Err e) len capacity lt = tt
-
 -- ---- what becomes of it
 
 pub submitted_ok : (r : Result Item SubmitFault) (kept new : Kept) (due : Result Item Refused) (item : Item) → due ≡ Ok item → IfOk r (λ i. i ≡ item) → OnOk r (new ≡ performed kept item)

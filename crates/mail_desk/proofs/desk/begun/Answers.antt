@@ -11,10 +11,10 @@ invariant_of-result c =
     let conf = c.args.opening in
     let kept : Kept = record { house = house; opening = conf; timeline = c.new.result.items; stamps = c.args.stamps; next = house.first } in
     record {
-      desk = new_desk_holds house conf c.args.store.store kept c.requires.house c.requires.valid c.requires.store
-          (new_desk_is house conf c.args.stamps c.new.result.items (c.requires.stamps ∙ ap opening_stamps c.requires.store) c.new.ensures.items) (c.stamps_name_mailboxes.ensures.opening (opening house conf));
-      sizes = nothing_known c.new-2.result.notes c.new.result.items c.new-2.ensures c.new.ensures.items;
+      desk = new_desk_holds house conf c.args.store.store kept c.requires.house c.requires.aliases c.requires.filters c.requires.valid c.requires.store
+          (new_desk_is house conf c.args.stamps c.new.result.items (c.requires.stamps ∙ ap opening_stamps c.requires.store) c.new.ensures) (c.stamps_name_mailboxes.ensures.opening (opening house conf));
+      sizes = nothing_known c.new-2.result.notes c.new.result.items c.new-2.ensures c.new.ensures;
     }
 
 pub returns : goal.returns
-returns c = new_desk_is c.args.house c.args.opening c.args.stamps c.new.result.items (c.requires.stamps ∙ ap opening_stamps c.requires.store) c.new.ensures.items
+returns c = new_desk_is c.args.house c.args.opening c.args.stamps c.new.result.items (c.requires.stamps ∙ ap opening_stamps c.requires.store) c.new.ensures

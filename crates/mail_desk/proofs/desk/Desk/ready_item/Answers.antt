@@ -1,4 +1,4 @@
-use Rattle.std.proofs.Common.{◌≡◌, ◌-◌, ◌<◌, List, IfOk, ap, subst, sym, ◌∙◌, length, option_map, unwrap_or, vec_len, vec_capacity}
+use Rattle.std.proofs.Common.{◌≡◌, ◌<◌, List, IfOk, ap, subst, sym, ◌∙◌, length, option_map, unwrap_or}
 use Rattle.verb_core.specs.declared.conf.House.{House}
 use Rattle.verb_core.specs.declared.item.Item.{Item}
 use Rattle.verb_core.specs.declared.mailbox.Body.{Body}
@@ -14,7 +14,7 @@ use Rattle.mail_desk.specs.Entering.{CanEnter}
 use Rattle.mail_desk.specs.Held.{Held}
 use Rattle.paradox.specs.Kept.{Kept}
 use Rattle.mail_desk.proofs.Desks.{house_stays}
-use Rattle.mail_desk.proofs.Readied.{can_enter, some_room}
+use Rattle.mail_desk.proofs.Readied.{can_enter}
 use Rattle.mail_desk.proofs.desk.Desk.ready_item.Goals as goal
 
 pub make_ready-requires-clause-formed : goal.make_ready-requires-clause-formed
@@ -50,11 +50,11 @@ returns-clause-ready c =
     let store_is = c.self.invariant.desk.store_is in
     let held : Held = record {
       kept = record { house = d.house; opening = d.opening; timeline = d.timeline.items; stamps = d.stamps; next = d.next };
-      room = record { store = new.store; items = vec_capacity new.timeline - vec_len new.timeline; notes = new.shelf.room };
+      room = record { store = new.store; items = new.timeline.room; notes = new.shelf.room };
     } in
     subst (λ (t : List Item). IfOk c.make_ready.result (λ ready. CanEnter ready (record {
       kept = record { house = d.house; opening = d.opening; timeline = t; stamps = d.stamps; next = d.next };
-      room = record { store = new.store; items = vec_capacity new.timeline - vec_len new.timeline; notes = new.shelf.room };
+      room = record { store = new.store; items = new.timeline.room; notes = new.shelf.room };
     }))) (sym made.timeline)
     (can_enter c.make_ready.result held c.args.item
     (subst (λ (h : Held). IsWellFormed h.kept.house c.args.item) (sym c.self.view_is) c.requires.formed)
@@ -64,5 +64,5 @@ returns-clause-ready c =
     (subst (λ (s : MailStore). IfOk c.make_ready.result (λ ready. applied ready.effect s ≡ (step s c.args.item).0)) store_is made.does)
     (subst (λ (s : MailStore). IfOk c.make_ready.result (λ ready. unwrap_or ready.stamps d.stamps ≡ stamps_after c.args.item.number (step s c.args.item).0.boxes d.stamps)) store_is made.stamps)
     made.effect
-    (some_room c.make_ready.result (vec_len new.timeline) (vec_capacity new.timeline) made.items)
+    made.items
     made.notes)

@@ -11,4 +11,4 @@ returns-clause-house_stays c = house_stays c.args.self.now.kept
 pub returns-clause-timeline : goal.returns-clause-timeline
 returns-clause-timeline c =
     let desk = c.self.invariant.desk in
-    subst (λ (h : Held). IsTimeline h.kept.house h.kept.timeline) c.self.view_is (is_timeline c.self.inside.house c.self.inside.timeline.items _ _ desk.formed desk.rising)
+    subst (λ (h : Held). IsTimeline h.kept.house h.kept.timeline) c.self.view_is (is_timeline c.self.inside.house c.self.inside.timeline.items desk.formed desk.apart)
