@@ -2,7 +2,8 @@
 ghost use Rattle.std.specs.Prelude.{◌≡◌, IfOk, map, string_bytes, option_map, unwrap_or, []};
 ghost use Rattle.serde_json.specs.View.{view, items_view, items_of};
 ghost use Rattle.serde_json.specs.Written.{compact_text};
-ghost use Rattle.console_replies.specs.Timeline.{user_name as name_of_user, actor_name as name_of_actor, item_data, timeline_data};
+ghost use Rattle.paradox.specs.Letters.{user_name as name_of_user};
+ghost use Rattle.console_replies.specs.Timeline.{actor_name as name_of_actor, item_data, timeline_data};
 
 use crate::text::{name_text, text_of};
 use serde_json::{Value, json};
