@@ -164,6 +164,9 @@ module _ (s : Kept) (at : ℕ) (ask : CycleAsk) (place : ℕ) where
   pub left_named : map (λ (r : BoxId × ℕ). r.0) (stamps_at s at ask place) ≡ map (λ (r : BoxId × Mailbox). r.0) (run s.base (timeline_at s at ask place)).boxes
   left_named = names (run s.base (timeline_at s at ask place)).boxes _
 
+  pub left_rises : s.next < (cycled_at s at ask place).next
+  left_rises = omega arith
+
   pub left_next : leaves_numbers s ask ≡ true → (cycled_at s at ask place).next ≤ 4194303
   left_next left =
       let room = leb-true (s.next + 1 + length ask.inserts + length s.house.accounts) 4194303 left in
@@ -213,9 +216,11 @@ module _ (s : Kept) (at : ℕ) (ask : CycleAsk) where
         below = left_below s at ask place below;
         named = left_named s at ask place;
         fresh = left_fresh s at ask place fresh;
+        rises = left_rises s at ask place;
         next = left_next s at ask place left;
       }
       by_numbers place false left = tt
+
       by_place : (o : Option ℕ) → GoesOnBy (due_at s at ask o)
       by_place None = tt
       by_place (Some place) = by_numbers place (leaves_numbers s ask) refl

@@ -98,9 +98,9 @@ here : (drops : List ℕ) (i : Item) (later : List Item) (now : List Shown) → 
     → under i.number (judged drops (i ∷ later) now) ≡ option_and_then (told_of i) (cond (is_among drops i.number) (Some Withdrawn) (reason_by i now))
 here drops i later now apart = elim (is_among drops i.number) as (λ b. under i.number (cond b (told i (Some Withdrawn) (judged drops later now)) (told i (reason_by i now) (judged drops later (drop 1 now))))
     ≡ option_and_then (told_of i) (cond b (Some Withdrawn) (reason_by i now))) [
-  | true ↦ met i (Some Withdrawn) (judged drops later now) (under_none i.number (judged drops later now) (judged_numbers (λ n. i.number ≢ n) drops later now apart))
-  | false ↦ met i (reason_by i now) (judged drops later (drop 1 now)) (under_none i.number (judged drops later (drop 1 now)) (judged_numbers (λ n. i.number ≢ n) drops later (drop 1 now) apart))
-]
+      | true ↦ met i (Some Withdrawn) (judged drops later now) (under_none i.number (judged drops later now) (judged_numbers (λ n. i.number ≢ n) drops later now apart))
+      | false ↦ met i (reason_by i now) (judged drops later (drop 1 now)) (under_none i.number (judged drops later (drop 1 now)) (judged_numbers (λ n. i.number ≢ n) drops later (drop 1 now) apart))
+    ]
 
 last_differs : (e : List Item) (i : Item) (later : List Item) (n : ℕ) → AllByRecursion (λ (j : Item). n ≢ j.number) (e ++ i ∷ later) → n ≢ i.number
 last_differs [] i later n all = all.0
@@ -113,7 +113,7 @@ judged_alone drops [] i later now apart = here drops i later now apart.0
 judged_alone drops (j ∷ e) i later now apart =
     let differs : (j.number == i.number) ≡ false = differ j.number i.number (last_differs e i later j.number apart.0) in
     elim (is_among drops j.number) as (λ b. under i.number (cond b (told j (Some Withdrawn) (judged drops (e ++ i ∷ later) now)) (told j (reason_by j now) (judged drops (e ++ i ∷ later) (drop 1 now))))
-        ≡ option_and_then (told_of i) (cond (is_among drops i.number) (Some Withdrawn) (reason_by i (drop (length (cond (not b) (j ∷ staying drops e) (staying drops e))) now)))) [
+    ≡ option_and_then (told_of i) (cond (is_among drops i.number) (Some Withdrawn) (reason_by i (drop (length (cond (not b) (j ∷ staying drops e) (staying drops e))) now)))) [
       | true ↦ passed i.number j (Some Withdrawn) (judged drops (e ++ i ∷ later) now) differs ∙ judged_alone drops e i later now apart.1
       | false ↦ passed i.number j (reason_by j now) (judged drops (e ++ i ∷ later) (drop 1 now)) differs ∙ judged_alone drops e i later (drop 1 now) apart.1
           ∙ ap (λ (rest : List Shown). option_and_then (told_of i) (cond (is_among drops i.number) (Some Withdrawn) (reason_by i rest))) (drop_more (length (staying drops e)) 1 now)
