@@ -1,5 +1,5 @@
 -- What a cycle leaves.
-use Rattle.std.proofs.Common.{◌≡◌, ◌≢◌, ℕ, zero, suc, ◌+◌, ◌<◌, ◌≤◌, Bool, cond, true, false, arith, refl, sym, ◌∙◌, ap, ap₂, subst, List, [], ◌∷◌, ◌++◌, take, drop, length, filter, length-append, length-map, map, not, None, Option, Some, is_some}
+use Rattle.std.proofs.Common.{◌≡◌, ◌≢◌, ℕ, zero, suc, ◌+◌, ◌<◌, ◌≤◌, Bool, cond, true, false, arith, refl, sym, ◌∙◌, ap, ap₂, subst, List, [], ◌∷◌, ◌++◌, take, drop, length, filter, length-append, map, not, None, Option, Some, is_some}
 use Rattle.std.specs.List.{AllByRecursion}
 use Rattle.std.proofs.lemmas.Bool.{leb-true}
 use Rattle.std.proofs.lemmas.List.{append-nil, length-take-le, take-append-drop, take_all}
@@ -33,7 +33,7 @@ use Rattle.mail_cycle.specs.Cycles.{Cycled, broken_at, compared_at, cycled_at, f
 use Rattle.mail_cycle.specs.Leaving.{GoesOn}
 use Rattle.mail_cycle.specs.Judging.{judged, shown_after, shown_by, told as tell}
 use Rattle.paradox.specs.Kept.{Kept, store_of}
-use Rattle.mail_cycle.proofs.Cycled.{few_told, length_acts, length_shown, told_formed}
+use Rattle.mail_cycle.proofs.Cycled.{few_told, length_acts, length_map, length_shown, told_formed}
 
 -- ---- answers
 
@@ -190,13 +190,13 @@ module _ (s : Kept) (at : ℕ) (ask : CycleAsk) (place : ℕ) where
       ∙ length-append (take place s.timeline ++ inserted s.next at ask.inserts) (map (repaired ask s.next) (kept ask (drop place s.timeline)))
       ∙ ap₂ (λ (a b : ℕ). a + b)
       (length-append (take place s.timeline) (inserted s.next at ask.inserts) ∙ ap₂ (λ (a b : ℕ). a + b) (length-take-le place s.timeline le) (length_acts s.next at ask.inserts))
-      (length-map (repaired ask s.next) (kept ask (drop place s.timeline))))
-      (sym (length-map (λ (i : Item). i.number) told))
+      (length_map (repaired ask s.next) (kept ask (drop place s.timeline))))
+      (sym (length_map (λ (i : Item). i.number) told))
 
   pub left_few : length (report_at s at ask place).notices ≤ length s.house.accounts
   left_few =
       let few = few_told s.house last s.next at (broken_at s at ask place) in
-      omega (arith, few, length-map (λ (i : Item). i.number) told)
+      omega (arith, few, length_map (λ (i : Item). i.number) told)
 
 -- what is due can be gone on with
 module _ (s : Kept) (at : ℕ) (ask : CycleAsk) where

@@ -154,7 +154,7 @@ fn finish(
     led: Led,
     found: Found,
 ) -> Result<Rewound, NoMemory>
-    ensures store { IfOk result (λ made. made.store ≡ led.store) }
+    ensures store { IfOk result (λ made. made.store.store ≡ led.store.store) }
     ensures timeline { IfOk result (λ made. made.timeline ≡ led.timeline) }
     ensures stamps { IfOk result (λ made. made.stamps ≡ renewed_stamps (store_of before.now).boxes led.store.store.boxes before.now.stamps before.now.next) }
     ensures next { IfOk result (λ made. made.next ≡ found.next) }
@@ -211,6 +211,7 @@ pub fn settle<L: Ledger>(
     ensures made { IfOk result (λ made. Leaves before.now (cycled_at before.now at ask.now place) made) }
     ensures steps { IfOk result (λ made. steps.new ≤ steps.old + length made.report.notices) }
 {
+    before.has_a_house();
     let Told {
         broken,
         notices,
