@@ -148,8 +148,8 @@ module _ (s : Kept) (at : ℕ) (ask : CycleAsk) (place : ℕ) where
       let now : drop inserts shows ≡ compared_at s at ask place = ap (λ (n : ℕ). drop n shows) acts ∙ now_is s at ask place shows (shown ∙ ap (λ (t : List Item). drop place (answers s.base t)) repairs) in
       let at_front : front ≡ front_of ask place = fronts ∙ ap (λ (n : ℕ). place + n) acts in
       let all : made.timeline ≡ timeline_at s at ask place =
-          timed ∙ times ∙ ap (λ (n : ℕ). shown_after n e.items (drop inserts shows) ++ more) at_front
-          ∙ timeline_is s at ask place e.items more _ (drop inserts shows) repairs now tells refl in
+      timed ∙ times ∙ ap (λ (n : ℕ). shown_after n e.items (drop inserts shows) ++ more) at_front
+      ∙ timeline_is s at ask place e.items more _ (drop inserts shows) repairs now tells refl in
       let leads : after ≡ run s.base (timeline_at s at ask place) = store_is s at ask place first after e.items more repairs tells firsts afters in
       let stamps : made.stamps ≡ stamps_at s at ask place = stamps_are s at ask place after made.stamps leads stamped in
       record {
@@ -169,5 +169,14 @@ module _ (s : Kept) (at : ℕ) (ask : CycleAsk) (place : ℕ) where
       let count : length items ≡ length (repaired_items s at ask place) = ap (λ (t : List Item). length t) (lends ∙ ap (λ (x : Edited). x.items) edits) in
       let all : length made.timeline ≡ length (timeline_at s at ask place) = ap (λ (t : List Item). length t) leaves.timeline in
       let told : length made.report.notices ≡ length (numbers_of (told_at s at ask place)) = ap (λ (x : Report). length x.notices) leaves.report in
-      omega (arith, steps, then, count, all, told, length-append (kept_at s at ask place) (told_at s at ask place),
-      length_shown (front_of ask place) (repaired_items s at ask place) (compared_at s at ask place), length_map (λ (i : Item). i.number) (told_at s at ask place))
+      omega (
+        arith,
+        steps,
+        then,
+        count,
+        all,
+        told,
+        length-append (kept_at s at ask place) (told_at s at ask place),
+        length_shown (front_of ask place) (repaired_items s at ask place) (compared_at s at ask place),
+        length_map (λ (i : Item). i.number) (told_at s at ask place),
+      )

@@ -1,5 +1,5 @@
 -- Each later item is judged by its own answer, and shows it where what it showed no longer holds.
-use Rattle.std.proofs.Common.{◌≡◌, ◌≢◌, ℕ, zero, suc, ◌+◌, ◌≤◌, Bool, cond, true, false, ◌||◌, ◌==◌, arith, refl, sym, ◌∙◌, ap, ap₂, subst, List, [], ◌∷◌, ◌++◌, take, drop, length, filter, find, map, not, Option, Some, None, is_some, option_and_then, option_map, slice_get, eqb-true, length-append}
+use Rattle.std.proofs.Common.{◌≡◌, ◌≢◌, ℕ, zero, suc, ◌+◌, ◌≤◌, Bool, cond, true, false, ◌||◌, ◌==◌, arith, refl, sym, ◌∙◌, ap, ap₂, subst, List, [], ◌∷◌, ◌++◌, take, drop, length, filter, find, map, not, Option, Some, None, option_and_then, option_map, slice_get, eqb-true, length-append}
 use Rattle.std.specs.List.{AllByRecursion, cons_option}
 use Rattle.std.proofs.lemmas.Bool.Decides.{nat_tests}
 use Rattle.std.proofs.lemmas.List.{append_assoc, length-take-le, map-append}
@@ -10,7 +10,6 @@ use Rattle.verb_core.specs.declared.item.Shown.{Shown}
 use Rattle.verb_core.specs.Deeds.{mailbox_in}
 use Rattle.verb_core.specs.Items.{NumbersApart}
 use Rattle.verb_core.specs.Step.{answers, run, step}
-use Rattle.verb_core.specs.Store.{MailStore}
 use Rattle.verb_core.proofs.Joins.{answers_behind}
 use Rattle.verb_bytes.specs.declared.journal.CycleAsk.{CycleAsk}
 use Rattle.paradox.specs.Answers.{broken}

@@ -1,4 +1,4 @@
-use Rattle.std.proofs.Common.{◌∙◌, ap, arith, length}
+use Rattle.std.proofs.Common.{◌∙◌, arith}
 use Rattle.mail_cycle.proofs.Parts.{few_for}
 use Rattle.mail_cycle.proofs.telling.notices_for.Goals as goal
 
