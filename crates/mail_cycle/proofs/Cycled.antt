@@ -1,5 +1,5 @@
 -- What holds of the parts of a cycle.
-use Rattle.std.proofs.Common.{◌≡◌, ℕ, zero, suc, ◌+◌, ◌≤◌, Bool, cond, true, false, ◌&&◌, arith, nat_lt, refl, sym, ◌∙◌, ap, ap₂, List, [], ◌∷◌, ◌++◌, drop, length, filter, map, Some, is_some, take}
+use Rattle.std.proofs.Common.{◌≡◌, ℕ, zero, suc, ◌+◌, ◌≤◌, Bool, cond, true, false, ◌&&◌, arith, nat_lt, refl, ◌∙◌, ap, ap₂, List, [], ◌∷◌, drop, length, filter, map, Some, is_some, take}
 use Rattle.std.specs.List.{AllByRecursion, enumerate_from, list_all}
 use Rattle.std.specs.Cmp.{first_so, second_so}
 use Rattle.std.proofs.lemmas.Bool.{lt-ltb}
@@ -13,7 +13,6 @@ use Rattle.verb_core.specs.declared.item.Shown.{Shown}
 use Rattle.verb_core.specs.Items.{IsWellFormed}
 use Rattle.verb_core.specs.Step.{answers, run, step}
 use Rattle.verb_core.specs.Store.{MailStore, is_known, users_of}
-use Rattle.verb_core.proofs.Joins.{run_joined}
 use Rattle.verb_core.proofs.Validity.{all-filter, both}
 use Rattle.paradox.specs.Answers.{broken}
 use Rattle.paradox.specs.Letters.{is_told, notice_text, notices, users_told}

@@ -1,5 +1,5 @@
 -- What a cycle leaves.
-use Rattle.std.proofs.Common.{◌≡◌, ◌≢◌, ℕ, zero, suc, ◌+◌, ◌<◌, ◌≤◌, Bool, cond, true, false, arith, refl, sym, ◌∙◌, ap, ap₂, subst, List, [], ◌∷◌, ◌++◌, take, drop, length, filter, length-append, length-map, map, not, None, Option, Some, is_some}
+use Rattle.std.proofs.Common.{◌≡◌, ◌≢◌, ℕ, zero, suc, ◌+◌, ◌<◌, ◌≤◌, Bool, cond, true, false, arith, refl, sym, ◌∙◌, ap, ap₂, subst, List, [], ◌∷◌, ◌++◌, take, drop, length, filter, length-append, map, not, None, Option, Some, is_some}
 use Rattle.std.specs.List.{AllByRecursion}
 use Rattle.std.proofs.lemmas.Bool.{leb-true}
 use Rattle.std.proofs.lemmas.List.{append-nil, length-take-le, take-append-drop, take_all}
@@ -33,7 +33,7 @@ use Rattle.mail_cycle.specs.Cycles.{Cycled, broken_at, compared_at, cycled_at, f
 use Rattle.mail_cycle.specs.Leaving.{GoesOn}
 use Rattle.mail_cycle.specs.Judging.{judged, shown_after, shown_by, told as tell}
 use Rattle.paradox.specs.Kept.{Kept, store_of}
-use Rattle.mail_cycle.proofs.Cycled.{few_told, length_acts, length_shown, told_formed}
+use Rattle.mail_cycle.proofs.Cycled.{few_told, length_acts, length_map, length_shown, told_formed}
 
 -- ---- answers
 
@@ -164,6 +164,9 @@ module _ (s : Kept) (at : ℕ) (ask : CycleAsk) (place : ℕ) where
   pub left_named : map (λ (r : BoxId × ℕ). r.0) (stamps_at s at ask place) ≡ map (λ (r : BoxId × Mailbox). r.0) (run s.base (timeline_at s at ask place)).boxes
   left_named = names (run s.base (timeline_at s at ask place)).boxes _
 
+  pub left_rises : s.next < (cycled_at s at ask place).next
+  left_rises = omega arith
+
   pub left_next : leaves_numbers s ask ≡ true → (cycled_at s at ask place).next ≤ 4194303
   left_next left =
       let room = leb-true (s.next + 1 + length ask.inserts + length s.house.accounts) 4194303 left in
@@ -187,13 +190,13 @@ module _ (s : Kept) (at : ℕ) (ask : CycleAsk) (place : ℕ) where
       ∙ length-append (take place s.timeline ++ inserted s.next at ask.inserts) (map (repaired ask s.next) (kept ask (drop place s.timeline)))
       ∙ ap₂ (λ (a b : ℕ). a + b)
       (length-append (take place s.timeline) (inserted s.next at ask.inserts) ∙ ap₂ (λ (a b : ℕ). a + b) (length-take-le place s.timeline le) (length_acts s.next at ask.inserts))
-      (length-map (repaired ask s.next) (kept ask (drop place s.timeline))))
-      (sym (length-map (λ (i : Item). i.number) told))
+      (length_map (repaired ask s.next) (kept ask (drop place s.timeline))))
+      (sym (length_map (λ (i : Item). i.number) told))
 
   pub left_few : length (report_at s at ask place).notices ≤ length s.house.accounts
   left_few =
       let few = few_told s.house last s.next at (broken_at s at ask place) in
-      omega (arith, few, length-map (λ (i : Item). i.number) told)
+      omega (arith, few, length_map (λ (i : Item). i.number) told)
 
 -- what is due can be gone on with
 module _ (s : Kept) (at : ℕ) (ask : CycleAsk) where
@@ -213,9 +216,11 @@ module _ (s : Kept) (at : ℕ) (ask : CycleAsk) where
         below = left_below s at ask place below;
         named = left_named s at ask place;
         fresh = left_fresh s at ask place fresh;
+        rises = left_rises s at ask place;
         next = left_next s at ask place left;
       }
       by_numbers place false left = tt
+
       by_place : (o : Option ℕ) → GoesOnBy (due_at s at ask o)
       by_place None = tt
       by_place (Some place) = by_numbers place (leaves_numbers s ask) refl

@@ -1,6 +1,7 @@
 -- Each later item is judged by its own answer, and shows it where what it showed no longer holds.
-use Rattle.std.proofs.Common.{◌≡◌, ◌≢◌, ℕ, zero, suc, ◌+◌, ◌≤◌, Bool, cond, true, false, ◌||◌, ◌==◌, arith, refl, sym, ◌∙◌, ap, ap₂, subst, List, [], ◌∷◌, ◌++◌, take, drop, length, filter, find, map, not, Option, Some, None, is_some, option_and_then, option_map, slice_get, eqb-true, eqb-refl, true≢false, length-append, length-map}
+use Rattle.std.proofs.Common.{◌≡◌, ◌≢◌, ℕ, zero, suc, ◌+◌, ◌≤◌, Bool, cond, true, false, ◌||◌, ◌==◌, arith, refl, sym, ◌∙◌, ap, ap₂, subst, List, [], ◌∷◌, ◌++◌, take, drop, length, filter, find, map, not, Option, Some, None, option_and_then, option_map, slice_get, eqb-true, length-append}
 use Rattle.std.specs.List.{AllByRecursion, cons_option}
+use Rattle.std.proofs.lemmas.Bool.Decides.{nat_tests}
 use Rattle.std.proofs.lemmas.List.{append_assoc, length-take-le, map-append}
 use Rattle.std.proofs.lemmas.List.Elements.{filter-append}
 use Rattle.undo_base.specs.declared.keys.User.{User}
@@ -9,7 +10,6 @@ use Rattle.verb_core.specs.declared.item.Shown.{Shown}
 use Rattle.verb_core.specs.Deeds.{mailbox_in}
 use Rattle.verb_core.specs.Items.{NumbersApart}
 use Rattle.verb_core.specs.Step.{answers, run, step}
-use Rattle.verb_core.specs.Store.{MailStore}
 use Rattle.verb_core.proofs.Joins.{answers_behind}
 use Rattle.verb_bytes.specs.declared.journal.CycleAsk.{CycleAsk}
 use Rattle.paradox.specs.Answers.{broken}
@@ -24,7 +24,7 @@ use Rattle.repair_desk.proofs.Everywhere.{weaker}
 use Rattle.mail_cycle.specs.Cycles.{broken_at, compared_at, front_of, kept_at, repaired_items, shown_now, timeline_at, told_at}
 use Rattle.mail_cycle.specs.Judging.{judged, reason_by, shown_after, shown_by, told}
 use Rattle.mail_cycle.specs.Places.{items_before, own_answer, reason_at, shown_at}
-use Rattle.mail_cycle.proofs.Cycled.{drop_more, length_acts}
+use Rattle.mail_cycle.proofs.Cycled.{drop_more, length_acts, length_map}
 
 -- ---- what is told of one item
 
@@ -46,6 +46,9 @@ judged_numbers P drops (i ∷ t) now all = elim (is_among drops i.number) as (λ
   | true ↦ numbered P i (Some Withdrawn) (judged drops t now) all.0 (judged_numbers P drops t now all.1)
   | false ↦ numbered P i (reason_by i now) (judged drops t (drop 1 now)) all.0 (judged_numbers P drops t (drop 1 now) all.1)
 ]
+
+same_number : (n : ℕ) → (n == n) ≡ true
+same_number n = grind (arith, nat_tests)
 
 -- what is told under a number
 abbrev under : ℕ → List BrokenItem → Option BrokenItem
@@ -79,16 +82,21 @@ met i (Some reason) list none = by i.by (verb_of i.deed)
         ≡ option_and_then (λ (u : User). option_map (λ (v : Verb). record { number = i.number; user = u; verb = v; mailbox = mailbox_in i.deed; reason = reason }) verb) user
     by None verb = none
     by (Some u) None = none
-    by (Some u) (Some v) = ap (λ b. cond b (Some (record { number = i.number; user = u; verb = v; mailbox = mailbox_in i.deed; reason = reason })) (under i.number list)) (eqb-refl i.number)
+    by (Some u) (Some v) = ap (λ b. cond b (Some (record { number = i.number; user = u; verb = v; mailbox = mailbox_in i.deed; reason = reason })) (under i.number list)) (same_number i.number)
 
 -- ---- the judge
+
+drop_one : {X : Type 0} (k : ℕ) (xs : List X) → drop k (drop 1 xs) ≡ drop (suc k) xs
+drop_one zero [] = refl
+drop_one (suc k) [] = refl
+drop_one k (x ∷ xs) = refl
 
 differ : (a b : ℕ) → a ≢ b → (a == b) ≡ false
 differ a b h = by (a == b) refl
   where
     by : (t : Bool) → (a == b) ≡ t → t ≡ false
     by true same = absurd (h (eqb-true a b same))
-    by false no = refl
+    by false other = refl
 
 -- those of items that stay, by the numbers of those that go
 abbrev staying : List ℕ → List Item → List Item
@@ -98,9 +106,9 @@ here : (drops : List ℕ) (i : Item) (later : List Item) (now : List Shown) → 
     → under i.number (judged drops (i ∷ later) now) ≡ option_and_then (told_of i) (cond (is_among drops i.number) (Some Withdrawn) (reason_by i now))
 here drops i later now apart = elim (is_among drops i.number) as (λ b. under i.number (cond b (told i (Some Withdrawn) (judged drops later now)) (told i (reason_by i now) (judged drops later (drop 1 now))))
     ≡ option_and_then (told_of i) (cond b (Some Withdrawn) (reason_by i now))) [
-  | true ↦ met i (Some Withdrawn) (judged drops later now) (under_none i.number (judged drops later now) (judged_numbers (λ n. i.number ≢ n) drops later now apart))
-  | false ↦ met i (reason_by i now) (judged drops later (drop 1 now)) (under_none i.number (judged drops later (drop 1 now)) (judged_numbers (λ n. i.number ≢ n) drops later (drop 1 now) apart))
-]
+      | true ↦ met i (Some Withdrawn) (judged drops later now) (under_none i.number (judged drops later now) (judged_numbers (λ n. i.number ≢ n) drops later now apart))
+      | false ↦ met i (reason_by i now) (judged drops later (drop 1 now)) (under_none i.number (judged drops later (drop 1 now)) (judged_numbers (λ n. i.number ≢ n) drops later (drop 1 now) apart))
+    ]
 
 last_differs : (e : List Item) (i : Item) (later : List Item) (n : ℕ) → AllByRecursion (λ (j : Item). n ≢ j.number) (e ++ i ∷ later) → n ≢ i.number
 last_differs [] i later n all = all.0
@@ -113,10 +121,10 @@ judged_alone drops [] i later now apart = here drops i later now apart.0
 judged_alone drops (j ∷ e) i later now apart =
     let differs : (j.number == i.number) ≡ false = differ j.number i.number (last_differs e i later j.number apart.0) in
     elim (is_among drops j.number) as (λ b. under i.number (cond b (told j (Some Withdrawn) (judged drops (e ++ i ∷ later) now)) (told j (reason_by j now) (judged drops (e ++ i ∷ later) (drop 1 now))))
-        ≡ option_and_then (told_of i) (cond (is_among drops i.number) (Some Withdrawn) (reason_by i (drop (length (cond (not b) (j ∷ staying drops e) (staying drops e))) now)))) [
+    ≡ option_and_then (told_of i) (cond (is_among drops i.number) (Some Withdrawn) (reason_by i (drop (length (cond (not b) (j ∷ staying drops e) (staying drops e))) now)))) [
       | true ↦ passed i.number j (Some Withdrawn) (judged drops (e ++ i ∷ later) now) differs ∙ judged_alone drops e i later now apart.1
       | false ↦ passed i.number j (reason_by j now) (judged drops (e ++ i ∷ later) (drop 1 now)) differs ∙ judged_alone drops e i later (drop 1 now) apart.1
-          ∙ ap (λ (rest : List Shown). option_and_then (told_of i) (cond (is_among drops i.number) (Some Withdrawn) (reason_by i rest))) (drop_more (length (staying drops e)) 1 now)
+          ∙ ap (λ (rest : List Shown). option_and_then (told_of i) (cond (is_among drops i.number) (Some Withdrawn) (reason_by i rest))) (drop_one (length (staying drops e)) now)
     ]
 
 -- nothing but the later items is told of
@@ -130,7 +138,7 @@ among_more n m t h = ap (λ b. (n == m) || b) h ∙ or_true (n == m)
 all_among : (t : List Item) → AllByRecursion (λ (j : Item). is_among (numbers_of t) j.number ≡ true) t
 all_among [] = tt
 all_among (i ∷ t) = (
-  ap (λ b. b || is_among (numbers_of t) i.number) (eqb-refl i.number),
+  ap (λ b. b || is_among (numbers_of t) i.number) (same_number i.number),
   weaker (λ (j : Item). is_among (numbers_of t) j.number ≡ true) (λ (j : Item). is_among (numbers_of (i ∷ t)) j.number ≡ true) (λ j h. among_more j.number i.number t h) t (all_among t),
 )
 
@@ -150,7 +158,7 @@ shown_there zero zero [] i behind now e = refl
 shown_there zero (suc k) [] i behind now e = absurd (omega arith)
 shown_there (suc front) k [] i behind now e = absurd (omega arith)
 shown_there zero zero (j ∷ before) i behind now e = absurd (omega arith)
-shown_there zero (suc k) (j ∷ before) i behind now e = shown_there zero k before i behind (drop 1 now) (omega arith) ∙ ap (λ (rest : List Shown). Some (shown_by i rest)) (drop_more k 1 now)
+shown_there zero (suc k) (j ∷ before) i behind now e = shown_there zero k before i behind (drop 1 now) (omega arith) ∙ ap (λ (rest : List Shown). Some (shown_by i rest)) (drop_one k now)
 shown_there (suc front) k (j ∷ before) i behind now e = shown_there front k before i behind now (omega arith)
 
 -- ---- the place in the new timeline
@@ -167,7 +175,7 @@ module _ (s : Kept) (at : ℕ) (ask : CycleAsk) (place : ℕ) (earlier : List It
       length-append (take place s.timeline ++ inserted s.next at ask.inserts) (map (repaired ask s.next) (kept ask earlier))
       ∙ ap₂ (λ (a b : ℕ). a + b)
       (length-append (take place s.timeline) (inserted s.next at ask.inserts) ∙ ap₂ (λ (a b : ℕ). a + b) (length-take-le place s.timeline le) (length_acts s.next at ask.inserts))
-      (length-map (repaired ask s.next) (kept ask earlier))
+      (length_map (repaired ask s.next) (kept ask earlier))
 
   -- the new timeline, around the item that stays
   pub around : drop place s.timeline ≡ earlier ++ i ∷ later → is_among ask.drops i.number ≡ false → repaired_items s at ask place ≡ before ++ repaired ask s.next i ∷ behind

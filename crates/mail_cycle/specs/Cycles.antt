@@ -1,6 +1,6 @@
 -- A cycle: the timeline is repaired and performed from its beginning, what users were shown is compared with what they would
 -- be shown now, and each user whose answers no longer hold gets a notice.
-use Rattle.std.specs.Prelude.{ℕ, ◌+◌, Bool, ◌==◌, nat_le, if◌then◌else◌, List, [], ◌∷◌, ◌++◌, drop, filter, length, None}
+use Rattle.std.specs.Prelude.{ℕ, ◌+◌, Bool, ◌==◌, nat_le, List, [], ◌∷◌, ◌++◌, drop, filter, length, None}
 use Rattle.undo_base.specs.declared.keys.User.{User}
 use Rattle.verb_bytes.specs.declared.journal.CycleAsk.{CycleAsk}
 use Rattle.verb_core.specs.declared.item.Deed.TheVariants.{Notice}

@@ -21,10 +21,11 @@ pub record Leaves (s : Kept) (due : Cycled) (made : Rewound) : Type 0 where
   pub valid : IsValid made.store.store
 
 -- what is left can be gone on with: the items are a timeline with numbers below the next one, the stamps name the mailboxes and
--- are below it too, and it is one that an item can have
+-- are below it too, and it has risen and is one that an item can have
 pub record GoesOn (s : Kept) (due : Cycled) : Type 0 where
   pub timeline : IsTimeline s.house due.timeline
   pub below : AllByRecursion (λ (i : Item). i.number < due.next) due.timeline
   pub named : map (λ (r : BoxId × ℕ). r.0) due.stamps ≡ map (λ (r : BoxId × Mailbox). r.0) (run s.base due.timeline).boxes
   pub fresh : AllByRecursion (λ (r : BoxId × ℕ). r.1 < due.next) due.stamps
+  pub rises : s.next < due.next
   pub next : due.next ≤ 4194303

@@ -11,11 +11,11 @@ ghost use Rattle.repair_desk.specs.Renewals.{renewed};
 ghost use Rattle.repair_desk.specs.Repairs.{are_known, edited_at, position};
 
 use box_store::Store;
-use paradox::Reports;
+use paradox::Report;
 use repair_desk::{Edited, edit_at, position_of, renew};
 use std::alloc::Global;
 use std::marker::Model;
-use undo_base::{Copies, LAST_NUMBER, NoMemory};
+use undo_base::{Copies, LAST_NUMBER, Name, NoMemory};
 use verb_bytes::CycleAsk;
 use verb_core::{Conf, House, Item, Stamps};
 
@@ -29,7 +29,7 @@ pub struct Before<'a> {
     timeline: &'a [Item],
     stamps: &'a Stamps,
     next: u32,
-    reports: &'a Reports,
+    reports: &'a [(Name, Report)],
 }
 
 impl<'a> Model for Before<'a> {
@@ -54,7 +54,7 @@ impl<'a> Before<'a> {
         timeline: &'a [Item],
         stamps: &'a Stamps,
         next: u32,
-        reports: &'a Reports,
+        reports: &'a [(Name, Report)],
     ) -> Before<'a>
         requires house { IsTrue (is_house house.now) }
         requires aliases { IsTrue (list_all (λ a. list_all (is_known house.now) a.users) opening.now.aliases) }
@@ -80,9 +80,15 @@ impl<'a> Before<'a> {
     pub(crate) fn house(&self) -> &House
         ensures house { result.now ≡ self.now.house }
         ensures is { IsTrue (is_house result.now) }
-        ensures base { self.now.base.house ≡ self.now.house }
     {
         self.house
+    }
+
+    /// It does nothing: the store before the first item has the same house.
+    pub(crate) fn has_a_house(&self)
+        ensures { self.now.base.house ≡ self.now.house }
+    {
+        let _ = &self.house;
     }
 
     pub(crate) fn next(&self) -> u32

@@ -18,7 +18,7 @@ ghost use Rattle.mail_cycle.specs.Places.{items_before, reason_at, shown_at};
 ghost use Rattle.paradox.specs.Kept.{Kept};
 
 /// What a cycle leaves can be gone on with: the items are well formed, their numbers distinct and below the next one, the
-/// stamps name the mailboxes and are below the next number, and it is one that an item can have.
+/// stamps name the mailboxes and are below the next number, and it has risen and is one that an item can have.
 pub fn cycles_leave_states()
     ensures formed { (s : Kept) (at : ℕ) (ask : CycleAsk) (place : ℕ) → AllByRecursion (IsWellFormed s.house) s.timeline →
         IsTrue (are_known s.house ask.inserts) → AllByRecursion (IsWellFormed s.house) (timeline_at s at ask place) }

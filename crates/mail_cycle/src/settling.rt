@@ -11,12 +11,12 @@ ghost use Rattle.mail_cycle.specs.Cycles.{cycled_at, leaves_numbers, renewed_by 
 ghost use Rattle.mail_cycle.specs.Judging.{shown_after};
 ghost use Rattle.mail_cycle.specs.Leaving.{Leaves};
 
+use crate::Before;
 use crate::judge::behind;
 use crate::report::renewed_by;
 use crate::running::{Replayed, perform_all};
 use crate::showing::show;
 use crate::telling::{Told, tell_users};
-use crate::Before;
 use box_store::{Steps, Store};
 use paradox::{BrokenList, Renewals, Report};
 use repair_desk::Edited;
@@ -154,12 +154,19 @@ fn finish(
     led: Led,
     found: Found,
 ) -> Result<Rewound, NoMemory>
-    ensures store { IfOk result (λ made. made.store ≡ led.store) }
+    ensures store { IfOk result (λ made. made.store.store ≡ led.store.store) }
     ensures timeline { IfOk result (λ made. made.timeline ≡ led.timeline) }
     ensures stamps { IfOk result (λ made. made.stamps ≡ renewed_stamps (store_of before.now).boxes led.store.store.boxes before.now.stamps before.now.next) }
     ensures next { IfOk result (λ made. made.next ≡ found.next) }
-    ensures report { IfOk result (λ made. made.report ≡ record { cycle = before.now.next; point = point; kept = found.kept; broken = found.broken;
-        notices = found.notices; renewed = renewed_in before.now.next made.stamps; unmatched = found.unmatched }) }
+    ensures report { IfOk result (λ made. made.report ≡ record {
+      cycle = before.now.next;
+      point = point;
+      kept = found.kept;
+      broken = found.broken;
+      notices = found.notices;
+      renewed = renewed_in before.now.next made.stamps;
+      unmatched = found.unmatched;
+    }) }
 {
     match marks_of(alloc, before, &led.store) {
         Ok(marks) => Ok(Rewound {
@@ -204,6 +211,7 @@ pub fn settle<L: Ledger>(
     ensures made { IfOk result (λ made. Leaves before.now (cycled_at before.now at ask.now place) made) }
     ensures steps { IfOk result (λ made. steps.new ≤ steps.old + length made.report.notices) }
 {
+    before.has_a_house();
     let Told {
         broken,
         notices,
@@ -224,6 +232,14 @@ pub fn settle<L: Ledger>(
         notices: numbers,
         unmatched,
     };
-    let led = lead(alloc, before.front_with(place, inserts), inserts, items, replayed, notices, steps)?;
+    let led = lead(
+        alloc,
+        before.front_with(place, inserts),
+        inserts,
+        items,
+        replayed,
+        notices,
+        steps,
+    )?;
     finish(alloc, before, ask.point, led, found)
 }
