@@ -6,4 +6,5 @@ pub mod Stampings
 pub mod Searched
 pub mod Going
 pub mod Readied
+pub mod Remades
 pub mod Counted
