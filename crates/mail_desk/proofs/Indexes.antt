@@ -1,19 +1,19 @@
 -- The places of items, by their numbers.
-use Rattle.std.proofs.Common.{◌≡◌, ◌≢◌, inl, inr, ℕ, ◌-◌, ◌<◌, ◌≤◌, List, [], ◌∷◌, ◌++◌, length, get_or, None, Some, Result, Err, refl, ap, sym, subst, ◌∙◌, arith, rules}
+use Rattle.std.proofs.Common.{◌≡◌, ◌≢◌, inl, inr, ℕ, ◌+◌, ◌-◌, ◌<◌, ◌≤◌, List, [], ◌∷◌, ◌++◌, length, get_or, None, Some, Result, Err, refl, ap, sym, subst, ◌∙◌, arith, rules}
 use Rattle.std.specs.List.{AllByRecursion, Contains}
-use Rattle.std.specs.List.Sorted.{IsBinarySearchResult, IsNonDecreasingBy}
+use Rattle.std.specs.List.Sorted.{IsBinarySearchResult, IsNonDecreasingBy, IsPermutation}
 use Rattle.std.specs.Ordering.{nat_cmp, ordering_index}
 use Rattle.std.specs.declared.cmp.Ordering.{Ordering}
 use Rattle.std.specs.declared.cmp.Ordering.TheVariants.{Less, Equal, Greater}
 use Rattle.std.specs.Cmp.{nat_cmp_is}
 use Rattle.std.proofs.lemmas.Bool.{cases_order}
 use Rattle.std.proofs.lemmas.Cmp.{ranked}
-use Rattle.std.proofs.lemmas.List.{get_or_append_left, get_or_push, length_push}
+use Rattle.std.proofs.lemmas.List.{get_or_append_left, get_or_default, get_or_push, length_push}
 use Rattle.std.proofs.lemmas.List.Elements.{All-from_recursion, All-push, All-weaker, Contains-append_left, Contains-push}
-use Rattle.std.proofs.lemmas.List.Sorted.{IsNonDecreasingBy-push}
+use Rattle.std.proofs.lemmas.List.Sorted.{All-permutation, Contains-permutation, IsNonDecreasingBy-push}
 use Rattle.verb_core.specs.declared.item.Item.{Item}
 use Rattle.verb_core.specs.Items.{NumbersApart}
-use Rattle.mail_desk.specs.Places.{IsIndex, IsPlaceIn}
+use Rattle.mail_desk.specs.Places.{HasPlaces, IsIndex, IsPlaceIn}
 use Rattle.mail_desk.specs.Timeline.{item_of}
 use Rattle.mail_desk.proofs.Timelines.{item_at, none_at}
 
@@ -121,3 +121,35 @@ index_none rows t none empty =
       right = λ k d within. absurd (omega arith);
       whole = λ place d within. absurd (omega arith);
     }))
+
+-- ---- items in any order
+
+-- the rows of the items before a place, and one more
+pub places_none : (rows : List (ℕ × ℕ)) (t : List Item) → rows ≡ [] → HasPlaces rows t 0
+places_none rows t none = subst (λ (rs : List (ℕ × ℕ)). HasPlaces rs t 0) (sym none) (record {
+  right = λ k d within. absurd (omega arith);
+  whole = λ place d less. absurd (omega arith);
+})
+
+pub place_more : (rows : List (ℕ × ℕ)) (t : List Item) (count : ℕ) (i : Item) → count < length t → i ≡ get_or t count i → HasPlaces rows t count → HasPlaces (rows ++ (i.number, count) ∷ []) t (count + 1)
+place_more rows t count i within is places = record {
+  right = All-push (IsPlaceIn t) rows (i.number, count) places.right (record {
+    within = within;
+    number = λ d. ap (λ (j : Item). j.number) (get_or_default t count d i within ∙ sym is);
+  });
+  whole = λ place d less. elim (cases_order place count) [
+    | inl same ↦
+        subst (λ (n : ℕ). Contains (rows ++ (i.number, count) ∷ []) ((get_or t n d).number, n)) (sym same)
+        (subst (λ (j : Item). Contains (rows ++ (i.number, count) ∷ []) (j.number, count)) (is ∙ get_or_default t count i d within) (Contains-push rows (i.number, count)))
+    | inr (inl lt) ↦ Contains-append_left rows ((i.number, count) ∷ []) ((get_or t place d).number, place) (places.whole place d lt)
+    | inr (inr gt) ↦ absurd (omega arith)
+  ];
+}
+
+-- sorted they are an index
+pub index_sorted : (rows sorted : List (ℕ × ℕ)) (t : List Item) → HasPlaces rows t (length t) → IsNonDecreasingBy (λ (r : ℕ × ℕ). r.0) sorted → IsPermutation rows sorted → IsIndex sorted t
+index_sorted rows sorted t places ordered same = record {
+  ordered = ordered;
+  right = All-permutation (IsPlaceIn t) rows sorted same places.right;
+  whole = λ place d within. Contains-permutation rows sorted ((get_or t place d).number, place) same (places.whole place d within);
+}

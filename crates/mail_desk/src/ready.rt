@@ -3,7 +3,7 @@ ghost use Rattle.std.specs.Prelude.{◌≡◌, ℕ, ◌<◌, ◌↔◌, map, [],
 ghost use Rattle.std.specs.List.{list_all, cons_option};
 ghost use Rattle.verb_core.specs.declared.mailbox.BoxId.{BoxId as TheBoxId};
 ghost use Rattle.verb_core.specs.declared.mailbox.Mailbox.{Mailbox as TheMailbox};
-ghost use Rattle.verb_core.specs.Items.{IsWellFormed, text_in};
+ghost use Rattle.verb_core.specs.Items.{IsWellFormed};
 ghost use Rattle.verb_core.specs.Stamps.{stamps_after};
 ghost use Rattle.paradox.specs.Kept.{performed, store_of};
 ghost use Rattle.verb_core.specs.Live.{is_users, live};
@@ -13,20 +13,19 @@ ghost use Rattle.box_store.specs.Effects.{IsReady, applied};
 ghost use Rattle.box_store.specs.Refusing.{IsRefusal};
 ghost use Rattle.mail_desk.specs.Desk.{IsFaultOf, submitted};
 ghost use Rattle.mail_desk.specs.Entering.{CanEnter};
-ghost use Rattle.mail_desk.specs.Timeline.{NotesText, body_of};
 
 use crate::Desk;
 use crate::numbered::Numbered;
+use crate::sizes::note_text;
 use crate::stamps::changed_stamps;
 use box_store::{Effect, Steps, Store};
-use seal_log::Place;
 use shelf::Shelf;
 use std::alloc::Global;
 use std::marker::Brand;
 use std::sync::ledger::{Blank, Ledger};
 use undo_base::{Copies, NoMemory, User};
 use verb_core::laws::{mail_is_kept, stamps_name_mailboxes, steps_keep_validity};
-use verb_core::{Ask, Body, Item, Refused, Stamps, SubmitFault};
+use verb_core::{Ask, Item, Refused, Stamps, SubmitFault};
 
 /// An item that a desk can enter with no memory taken: its effect, and the stamps after it where they change.
 #[derive(Drop)]
@@ -115,21 +114,6 @@ fn change_stamps(stamps: &mut Stamps, changed: Option<Stamps>)
 {
     if let Some(changed) = changed {
         *stamps = changed;
-    }
-}
-
-/// Notes the size of the text that an item brings. There is room for a note.
-pub(crate) fn note_text(shelf: &mut Shelf, item: &Item)
-    requires { 0 < shelf.old.room }
-    ensures { NotesText (text_in item.now.deed) (body_of item.now) shelf.old.notes shelf.new.notes }
-{
-    let place = Place { gate: 0, length: 0 };
-    if let Some(text) = item.deed.text() {
-        let body = Body {
-            origin: item.number,
-            rev: item.rev,
-        };
-        shelf.note(body, place, 0, text.bytes().len() as u32);
     }
 }
 

@@ -14,13 +14,13 @@ ghost use Rattle.mail_desk.specs.Remaking.{CanReplace, remade_as};
 use crate::Desk;
 use crate::laws::bodies_have_texts;
 use crate::numbered::{Numbered, push_within};
-use crate::ready::note_text;
+use crate::sizes::sizes_of;
 use box_store::Store;
 use paradox::Report;
 use shelf::Shelf;
 use std::alloc::Global;
 use undo_base::{Name, NoMemory};
-use verb_core::{Item, Items, Stamps};
+use verb_core::{Items, Stamps};
 
 /// What a cycle leaves, with all that a desk keeps beside it: it can be put in place with no memory taken.
 #[derive(Drop)]
@@ -41,19 +41,6 @@ impl Remade {
     {
         &self.report
     }
-}
-
-/// The sizes of the texts that items bring.
-fn sizes_of(alloc: Global, items: &[Item]) -> Result<Shelf, NoMemory>
-    requires { NumbersApart items.now }
-    ensures { IfOk result (λ shelf. (body : TheBody) → size_of shelf.notes body ≡ option_map length (text_of items.now body)) }
-{
-    let mut shelf = Shelf::new(alloc);
-    for item in items {
-        shelf.note_room(1)?;
-        note_text(&mut shelf, item);
-    }
-    Ok(shelf)
 }
 
 /// Items found by their numbers, and the sizes of their texts.
@@ -145,6 +132,13 @@ fn completed(
     }
 }
 
+/// Puts a value in the place of another.
+fn put<T: Drop>(place: &mut T, value: T)
+    ensures { place.new ≡ value }
+{
+    *place = value;
+}
+
 impl Desk {
     /// Makes the outcome of a cycle ready, whose items have any order: their places by number, the sizes of their texts, and
     /// room for its report under the key of its request. The desk stays as it was but for its room.
@@ -190,11 +184,11 @@ impl Desk {
             report,
             shelf,
         } = remade;
-        self.store = store;
-        self.timeline = timeline;
-        self.stamps = stamps;
+        put(&mut self.store, store);
+        put(&mut self.timeline, timeline);
+        put(&mut self.stamps, stamps);
+        put(&mut self.shelf, shelf);
         self.next = next;
-        self.shelf = shelf;
         push_within(&mut self.reports, (key, report));
     }
 }
