@@ -1,7 +1,6 @@
 -- What contracts say of a console connection's session.
-use Rattle.std.specs.Prelude.{◌≡◌, ◌⊎◌, ℕ, Bool, true, false, List, [], ◌++◌, Result, Ok, Err}
+use Rattle.std.specs.Prelude.{◌≡◌, ◌⊎◌, ℕ, Bool, true, false, List, [], ◌++◌, Result}
 use Rattle.undo_outside.specs.Disk.{DiskTold}
-use Rattle.paradox.specs.Kept.{Kept}
 use Rattle.time_desk.specs.declared.fault.ActFault.{ActFault}
 use Rattle.time_desk.specs.declared.fault.ActFault.TheVariants as fault
 use Rattle.time_desk.specs.declared.fault.CycleFault.{CycleFault}
@@ -12,11 +11,8 @@ use Rattle.console_head.specs.declared.request.Coming.{Coming}
 use Rattle.console_head.specs.Coming.{IsKnown}
 use Rattle.console_head.specs.Request.{Stage, Says}
 use Rattle.console_http.specs.declared.request.Asked.{Asked}
-use Rattle.console_http.specs.declared.request.Asked.TheVariants.{NotYet, Whole}
 use Rattle.console_http.specs.declared.request.HttpRefused.{HttpRefused}
 use Rattle.console_http.specs.declared.request.HttpRefused.TheVariants.{NoMemory}
-use Rattle.console_http.specs.declared.request.Route.{Route}
-use Rattle.console_http.specs.declared.request.Route.TheVariants as route
 use Rattle.console_replies.specs.declared.bodies.ErrorWord.TheVariants.{Disk}
 use Rattle.console_replies.specs.Bodies.{error_data, numbers_data, point_data}
 use Rattle.console_session.specs.declared.reply.After.{After}
@@ -24,7 +20,7 @@ use Rattle.console_session.specs.declared.reply.After.TheVariants.{Waits, Closes
 use Rattle.console_session.specs.declared.reply.Reply.{Reply}
 use Rattle.console_session.specs.Answers.{Answer, answer, answer_text, refused}
 use Rattle.console_session.specs.Turn.{Turn, asked_of, turn}
-use Rattle.console_session.specs.Hindrance.{Hindrance, hindered, lost}
+use Rattle.console_session.specs.Hindrance.{Hindrance, hindered}
 
 -- what is known of bytes stays known whatever follows them
 abbrev pub StaysKnown : Coming → List ℕ → Type 0

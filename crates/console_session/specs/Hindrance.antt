@@ -12,7 +12,7 @@ use Rattle.console_http.specs.declared.request.HttpRefused.TheVariants.{NoMemory
 use Rattle.console_http.specs.declared.request.Route.{Route}
 use Rattle.console_http.specs.declared.request.Route.TheVariants as route
 use Rattle.console_session.specs.declared.reply.After.TheVariants.{Closes}
-use Rattle.console_session.specs.Answers.{Answer, answer_text, refused}
+use Rattle.console_session.specs.Answers.{refused}
 use Rattle.console_session.specs.Turn.{Turn, waits, tells, done, failed, numberless, pointless, reported, rewound, routed}
 
 -- How a turn may go otherwise.

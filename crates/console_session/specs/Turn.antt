@@ -1,5 +1,5 @@
 -- One turn of a console connection: the answer to its request.
-use Rattle.std.specs.Prelude.{ℕ, List, [], ◌∷◌, nat_lt, Option, None, Some, Result, Ok, Err, if◌then◌else◌}
+use Rattle.std.specs.Prelude.{ℕ, List, [], ◌∷◌, nat_lt, None, Some, Result, Ok, Err, if◌then◌else◌}
 use Rattle.verb_core.specs.declared.conf.House.{House}
 use Rattle.verb_core.specs.declared.item.Act.{Act}
 use Rattle.verb_bytes.specs.declared.journal.CycleAsk.{CycleAsk}

@@ -1,5 +1,5 @@
 //! Cycles: sealed, put in place and then answered; or only tried.
-ghost use Rattle.std.specs.Prelude.{◌≡◌, ◌≤◌, ◌<◌, IfOk, IfErr, IsTrue, None, Ok};
+ghost use Rattle.std.specs.Prelude.{◌≡◌, ◌≤◌, ◌<◌, IfOk, IfErr, IsTrue, None, Ok, false};
 ghost use Rattle.serde_json.specs.Data.{Data};
 ghost use Rattle.serde_json.specs.Written.{compact_text};
 ghost use Rattle.paradox.specs.Kept.{report_of};
@@ -32,9 +32,7 @@ fn tell_fault(alloc: Global, fault: CycleFault) -> Reply
     ensures { TellsCycleFault fault result }
 {
     match fault {
-        CycleFault::Point { given } => {
-            tell(alloc, 422, point_json(alloc, given), After::Closes)
-        }
+        CycleFault::Point { given } => { tell(alloc, 422, point_json(alloc, given), After::Closes) }
         CycleFault::Numbers { next } => tell(alloc, 507, numbers_json(alloc, next), After::Closes),
         CycleFault::Disk => {
             tell_only(alloc, 500, error_json(alloc, ErrorWord::Disk), After::Fails)
