@@ -6,7 +6,9 @@ ghost use Rattle.time_desk.specs.Records.{is_spelled};
 
 use std::alloc::Global;
 use undo_base::{Copies, NoMemory, Text};
-use verb_bytes::{CycleAsk, JournalRecord, Unwritten, spell_act, spell_cycle, spell_item, spell_record};
+use verb_bytes::{
+    CycleAsk, JournalRecord, Unwritten, spell_act, spell_cycle, spell_item, spell_record,
+};
 use verb_core::{Act, Conf, House, Item};
 
 /// The bytes of the record of a user's item. One without a spelling finds no memory.
