@@ -15,7 +15,11 @@ use Rattle.paradox.specs.Kept.{Kept, report_of}
 use Rattle.mail_cycle.specs.Asking.{Due, Repeats, NoPoint, NoNumbers, Rewinds, after_cycle, cycle_due, due_anew}
 use Rattle.mail_cycle.specs.Cycles.{Cycled}
 use Rattle.mail_cycle.specs.Leaving.{Leaves}
-use Rattle.mail_cycle.specs.declared.rewind.Rewound.{Rewound}
+use Rattle.mail_cycle.specs.declared.settling.Rewound.{Rewound}
+use Rattle.mail_cycle.specs.declared.refused.CycleRefused.{CycleRefused}
+use Rattle.mail_cycle.specs.declared.refused.CycleRefused.TheVariants as refusals
+use Rattle.seal_log.specs.declared.fault.SealFault.{SealFault}
+use Rattle.seal_log.specs.declared.fault.SealFault.TheVariants as log_faults
 use Rattle.time_desk.specs.declared.fault.CycleFault.{CycleFault}
 use Rattle.time_desk.specs.declared.fault.CycleFault.TheVariants.{Point, Numbers, Disk, NoMemory, Closed}
 use Rattle.time_desk.specs.Lasting.{Lasting}
@@ -47,6 +51,18 @@ after_rewound kept key made = record kept {
   next = made.next;
   reports = kept.reports ++ (key, made.report) ∷ [];
 }
+
+-- a refusal of a cycle in memory, as it is told
+abbrev pub IsTold : CycleRefused → CycleFault → Type 0
+IsTold (refusals.Point given) fault = fault ≡ Point given
+IsTold (refusals.Numbers next) fault = fault ≡ Numbers next
+IsTold refusals.NoMemory fault = fault ≡ NoMemory
+
+-- a fault of sealing, as a fault of a cycle
+abbrev pub IsCycleOutcomeOf : SealFault → CycleFault → Type 0
+IsCycleOutcomeOf log_faults.Disk fault = fault ≡ Disk
+IsCycleOutcomeOf log_faults.NoMemory fault = fault ≡ NoMemory
+IsCycleOutcomeOf log_faults.Closed fault = ⊥
 
 -- ---- a trial
 
