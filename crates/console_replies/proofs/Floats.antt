@@ -40,8 +40,13 @@ box_has_none d box stamp e = rw (e, listed entry_data (λ i. refl) box.entries) 
 
 pub report_has_none : (d : Data) (house : House) (r : Report) → d ≡ report_data house r → has_float d ≡ false
 report_has_none d house r e =
-    rw (e, listed (broken_data house) (λ b. refl) r.broken, listed counted (λ n. refl) r.notices, listed (renewal_data house) (λ x. refl) r.renewed,
-    listed counted (λ n. refl) r.unmatched) refl
+    rw (
+      e,
+      listed (broken_data house) (λ b. refl) r.broken,
+      listed counted (λ n. refl) r.notices,
+      listed (renewal_data house) (λ x. refl) r.renewed,
+      listed counted (λ n. refl) r.unmatched,
+    ) refl
 
 file_has_none : (file : Option (List ℕ)) → has_float (file_data file) ≡ false
 file_has_none None = refl
