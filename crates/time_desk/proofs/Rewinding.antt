@@ -1,5 +1,5 @@
 -- What becomes of a request for a cycle, from what a cycle leaves in memory and what became of sealing it.
-use Rattle.std.proofs.Common.{◌≡◌, ◌==◌, ◌<◌, ◌≤◌, ◌+◌, ◌∷◌, ◌++◌, ◌∙◌, ◌&&◌, [], ℕ, List, Bool, true, false, Option, Some, None, Result, Ok, Err, IfOk, map, refl, sym, ap, subst, arith}
+use Rattle.std.proofs.Common.{◌≡◌, ◌<◌, ◌∷◌, ◌++◌, ◌∙◌, ◌&&◌, [], ℕ, List, Bool, true, false, Option, Some, None, Result, Ok, Err, IfOk, map, refl, sym, ap, subst, arith}
 use Rattle.std.specs.Prelude.{if◌then◌else◌, is_none, IsSome}
 use Rattle.std.proofs.lemmas.Bool.{eq-eqb}
 use Rattle.std.specs.List.{AllByRecursion}
@@ -13,7 +13,6 @@ use Rattle.verb_core.specs.Items.{IsTimeline}
 use Rattle.verb_core.specs.Step.{run}
 use Rattle.verb_core.specs.Store.{MailStore}
 use Rattle.verb_bytes.specs.declared.journal.CycleAsk.{CycleAsk}
-use Rattle.verb_bytes.specs.declared.journal.JournalRecord.{JournalRecord}
 use Rattle.verb_bytes.specs.declared.journal.JournalRecord.TheVariants.{Cycle}
 use Rattle.verb_bytes.specs.Spelling.{record_bytes}
 use Rattle.paradox.specs.declared.reports.Report.{Report}
