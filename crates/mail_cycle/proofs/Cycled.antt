@@ -1,34 +1,39 @@
 -- What holds of the parts of a cycle.
-use Rattle.std.proofs.Common.{◌≡◌, ℕ, zero, suc, ◌+◌, ◌≤◌, Bool, cond, true, false, ◌&&◌, arith, nat_lt, refl, sym, ◌∙◌, ap, ap₂, List, [], ◌∷◌, ◌++◌, drop, length, filter, map, Some, is_some}
+use Rattle.std.proofs.Common.{◌≡◌, ℕ, zero, suc, ◌+◌, ◌≤◌, Bool, cond, true, false, ◌&&◌, arith, nat_lt, refl, ◌∙◌, ap, ap₂, List, [], ◌∷◌, drop, length, filter, map, Some, is_some, take}
 use Rattle.std.specs.List.{AllByRecursion, enumerate_from, list_all}
 use Rattle.std.specs.Cmp.{first_so, second_so}
 use Rattle.std.proofs.lemmas.Bool.{lt-ltb}
+use Rattle.std.proofs.lemmas.List.{drop-drop}
 use Rattle.undo_base.specs.declared.keys.User.{User}
 use Rattle.verb_core.specs.declared.conf.Account.{Account}
 use Rattle.verb_core.specs.declared.conf.House.{House}
+use Rattle.verb_core.specs.declared.item.Act.{Act}
 use Rattle.verb_core.specs.declared.item.Item.{Item}
 use Rattle.verb_core.specs.declared.item.Shown.{Shown}
 use Rattle.verb_core.specs.Items.{IsWellFormed}
-use Rattle.verb_core.specs.Step.{run, step}
+use Rattle.verb_core.specs.Step.{answers, run, step}
 use Rattle.verb_core.specs.Store.{MailStore, is_known, users_of}
 use Rattle.verb_core.proofs.Validity.{all-filter, both}
 use Rattle.paradox.specs.Answers.{broken}
 use Rattle.paradox.specs.Letters.{is_told, notice_text, notices, users_told}
 use Rattle.paradox.specs.declared.reports.BrokenItem.{BrokenItem}
 use Rattle.paradox.specs.declared.words.Reason.TheVariants.{Withdrawn}
-use Rattle.repair_desk.specs.Repairs.{is_among}
+use Rattle.repair_desk.specs.Repairs.{inserted, is_among}
 use Rattle.mail_cycle.specs.Cycles.{notice_items}
 use Rattle.mail_cycle.specs.Judging.{judged, reason_by, shown_after, shown_by, told}
 
 -- ---- runs
 
-pub run_house : (base : MailStore) (t : List Item) → (run base t).house ≡ base.house
-run_house base [] = refl
-run_house base (i ∷ t) = run_house (step base i).0 t
+-- behind a place
+pub run_behind : (place : ℕ) (base : MailStore) (t : List Item) → run (run base (take place t)) (drop place t) ≡ run base t
+run_behind zero base t = refl
+run_behind (suc place) base [] = refl
+run_behind (suc place) base (i ∷ t) = run_behind place (step base i).0 t
 
-pub run_joined : (base : MailStore) (t more : List Item) → run base (t ++ more) ≡ run (run base t) more
-run_joined base [] more = refl
-run_joined base (i ∷ t) more = run_joined (step base i).0 t more
+pub answers_behind : (place : ℕ) (base : MailStore) (t : List Item) → answers (run base (take place t)) (drop place t) ≡ drop place (answers base t)
+answers_behind zero base t = refl
+answers_behind (suc place) base [] = refl
+answers_behind (suc place) base (i ∷ t) = answers_behind place (step base i).0 t
 
 -- what an item showed does not matter to the store
 shows_apart : (s : MailStore) (i : Item) (now : List Shown) → (step s (shown_by i now)).0 ≡ (step s i).0
@@ -38,17 +43,21 @@ shows_apart s i (x ∷ rest) = elim (is_some (broken i x)) as (λ b. (step s (co
 pub run_shown : (base : MailStore) (front : ℕ) (t : List Item) (now : List Shown) → run base (shown_after front t now) ≡ run base t
 run_shown base front [] now = refl
 run_shown base zero (i ∷ t) now = run_shown (step base (shown_by i now)).0 zero t (drop 1 now) ∙ ap (λ (s : MailStore). run s t) (shows_apart base i now)
-run_shown base (suc front) (i ∷ t) now = run_shown (step base i).0 front t (drop 1 now)
+run_shown base (suc front) (i ∷ t) now = run_shown (step base i).0 front t now
 
 pub length_shown : (front : ℕ) (t : List Item) (now : List Shown) → length (shown_after front t now) ≡ length t
 length_shown front [] now = refl
 length_shown zero (i ∷ t) now = ap suc (length_shown zero t (drop 1 now))
-length_shown (suc front) (i ∷ t) now = ap suc (length_shown front t (drop 1 now))
+length_shown (suc front) (i ∷ t) now = ap suc (length_shown front t now)
 
--- the store that performed items and performed notices lead to, where the items show other answers
-pub run_all : (base m n : MailStore) (front : ℕ) (t shown more all : List Item) (now : List Shown) → m ≡ run base t → n ≡ run m more → shown ≡ shown_after front t now → all ≡ shown ++ more → n ≡ run base all
-run_all base m n front t shown more all now first last shows is =
-    last ∙ ap (λ (s : MailStore). run s more) (first ∙ sym (run_shown base front t now) ∙ ap (run base) (sym shows)) ∙ sym (run_joined base shown more) ∙ ap (run base) (sym is)
+-- ---- the answers that are compared
+
+pub drop_more : {X : Type 0} (n place : ℕ) (xs : List X) → drop n (drop place xs) ≡ drop (place + n) xs
+drop_more n place xs = drop-drop n place xs
+
+pub length_acts : (number at : ℕ) (acts : List Act) → length (inserted number at acts) ≡ length acts
+length_acts number at [] = refl
+length_acts number at (act ∷ acts) = ap suc (length_acts (number + 1) at acts)
 
 -- ---- what is dropped
 

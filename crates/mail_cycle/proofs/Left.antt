@@ -1,8 +1,8 @@
 -- What a cycle leaves.
-use Rattle.std.proofs.Common.{◌≡◌, ◌≢◌, ℕ, zero, suc, ◌+◌, ◌<◌, ◌≤◌, Bool, cond, true, false, arith, refl, sym, ◌∙◌, ap, ap₂, subst, List, [], ◌∷◌, ◌++◌, take, drop, length, filter, map, not, Option, is_some}
+use Rattle.std.proofs.Common.{◌≡◌, ◌≢◌, ℕ, zero, suc, ◌+◌, ◌<◌, ◌≤◌, Bool, cond, true, false, arith, refl, sym, ◌∙◌, ap, ap₂, subst, List, [], ◌∷◌, ◌++◌, take, drop, length, filter, length-append, map, not, None, Option, Some, is_some}
 use Rattle.std.specs.List.{AllByRecursion}
 use Rattle.std.proofs.lemmas.Bool.{leb-true}
-use Rattle.std.proofs.lemmas.List.{append-nil, take-append-drop, take_all}
+use Rattle.std.proofs.lemmas.List.{append-nil, length-take-le, take-append-drop, take_all}
 use Rattle.std.proofs.Math.Seq.{drop-length}
 use Rattle.undo_base.specs.declared.keys.User.{User}
 use Rattle.verb_core.specs.declared.conf.House.{House}
@@ -11,9 +11,10 @@ use Rattle.verb_core.specs.declared.item.Deed.{Deed}
 use Rattle.verb_core.specs.declared.item.Deed.TheVariants.{Deliver, Append, Fetch, Store, Copy, List as Names, Status, Select, Expunge, Close, Create, Rename, Delete, Act as Acts, Notice}
 use Rattle.verb_core.specs.declared.item.Item.{Item}
 use Rattle.verb_core.specs.declared.item.Shown.{Shown}
+use Rattle.verb_core.specs.declared.mailbox.Body.{Body}
 use Rattle.verb_core.specs.declared.mailbox.BoxId.{BoxId}
 use Rattle.verb_core.specs.declared.mailbox.Mailbox.{Mailbox}
-use Rattle.verb_core.specs.Items.{IsTimeline, IsWellFormed, NumbersApart, has_form}
+use Rattle.verb_core.specs.Items.{IsTimeline, IsWellFormed, NumbersApart, has_form, text_of}
 use Rattle.verb_core.specs.Step.{Boxes, answers, run, shown, step}
 use Rattle.verb_core.specs.Store.{MailStore, users_of}
 use Rattle.verb_bytes.specs.declared.journal.CycleAsk.{CycleAsk}
@@ -23,12 +24,16 @@ use Rattle.paradox.specs.declared.reports.BrokenItem.{BrokenItem}
 use Rattle.paradox.specs.declared.words.Reason.{Reason}
 use Rattle.paradox.proofs.Holding.{holds}
 use Rattle.paradox.specs.Answers.{looks_at_texts}
-use Rattle.repair_desk.specs.Repairs.{are_known, inserted, is_among, kept, repaired, replaced_by, text_asked}
+use Rattle.repair_desk.specs.Repairs.{are_known, inserted, is_among, kept, position, repaired, replaced_by, text_asked}
 use Rattle.repair_desk.proofs.Everywhere.{all_apart, all_below, all_formed, joined, revs_below, weaker}
-use Rattle.mail_cycle.specs.Cycles.{broken_at, cycled_at, front_of, kept_at, leaves_numbers, notice_items, repaired_items, shown_now, stamps_at, timeline_at, told_at}
+use Rattle.repair_desk.proofs.Extended.{below as stamps_below}
+use Rattle.repair_desk.proofs.Texts.{IsOld, found_old, higher_old, new_old}
+use Rattle.mail_cycle.specs.Asking.{Due, NoNumbers, NoPoint, Repeats, Rewinds, due_anew, due_at}
+use Rattle.mail_cycle.specs.Cycles.{Cycled, broken_at, compared_at, cycled_at, front_of, kept_at, leaves_numbers, notice_items, repaired_items, report_at, stamps_at, timeline_at, told_at}
+use Rattle.mail_cycle.specs.Leaving.{GoesOn}
 use Rattle.mail_cycle.specs.Judging.{judged, shown_after, shown_by, told as tell}
-use Rattle.paradox.specs.Kept.{Kept}
-use Rattle.mail_cycle.proofs.Cycled.{few_told, told_formed}
+use Rattle.paradox.specs.Kept.{Kept, store_of}
+use Rattle.mail_cycle.proofs.Cycled.{few_told, length_acts, length_map, length_shown, told_formed}
 
 -- ---- answers
 
@@ -56,7 +61,7 @@ one_formed house i now rest formed form = elim (is_some (broken i now)) as (λ b
   | false ↦ formed
 ]
 
-pub shown_formed : (house : House) (base : MailStore) (front : ℕ) (t : List Item) → AllByRecursion (IsWellFormed house) t → AllByRecursion (IsWellFormed house) (shown_after front t (answers base t))
+pub shown_formed : (house : House) (base : MailStore) (front : ℕ) (t : List Item) → AllByRecursion (IsWellFormed house) t → AllByRecursion (IsWellFormed house) (shown_after front t (drop front (answers base t)))
 shown_formed house base front [] formed = tt
 shown_formed house base zero (i ∷ t) formed = (one_formed house i (step base i).1 (answers (step base i).0 t) formed.0 (form_of _ _ i.deed base.boxes), shown_formed house (step base i).0 zero t formed.1)
 shown_formed house base (suc front) (i ∷ t) formed = (formed.0, shown_formed house (step base i).0 front t formed.1)
@@ -74,17 +79,17 @@ same_rev i (x ∷ rest) = elim (is_some (broken i x)) as (λ b. (cond b (record 
 shown_numbers : (P : ℕ → Type 0) (front : ℕ) (t : List Item) (now : List Shown) → AllByRecursion (λ (i : Item). P i.number) t → AllByRecursion (λ (i : Item). P i.number) (shown_after front t now)
 shown_numbers P front [] now all = tt
 shown_numbers P zero (i ∷ t) now all = (subst P (sym (same_number i now)) all.0, shown_numbers P zero t (drop 1 now) all.1)
-shown_numbers P (suc front) (i ∷ t) now all = (all.0, shown_numbers P front t (drop 1 now) all.1)
+shown_numbers P (suc front) (i ∷ t) now all = (all.0, shown_numbers P front t now all.1)
 
 shown_revs : (P : ℕ → Type 0) (front : ℕ) (t : List Item) (now : List Shown) → AllByRecursion (λ (i : Item). P i.rev) t → AllByRecursion (λ (i : Item). P i.rev) (shown_after front t now)
 shown_revs P front [] now all = tt
 shown_revs P zero (i ∷ t) now all = (subst P (sym (same_rev i now)) all.0, shown_revs P zero t (drop 1 now) all.1)
-shown_revs P (suc front) (i ∷ t) now all = (all.0, shown_revs P front t (drop 1 now) all.1)
+shown_revs P (suc front) (i ∷ t) now all = (all.0, shown_revs P front t now all.1)
 
 shown_apart : (front : ℕ) (t : List Item) (now : List Shown) → NumbersApart t → NumbersApart (shown_after front t now)
 shown_apart front [] now apart = tt
 shown_apart zero (i ∷ t) now apart = (subst (λ n. AllByRecursion (λ (j : Item). n ≢ j.number) (shown_after zero t (drop 1 now))) (sym (same_number i now)) (shown_numbers (λ n. i.number ≢ n) zero t (drop 1 now) apart.0), shown_apart zero t (drop 1 now) apart.1)
-shown_apart (suc front) (i ∷ t) now apart = (shown_numbers (λ n. i.number ≢ n) front t (drop 1 now) apart.0, shown_apart front t (drop 1 now) apart.1)
+shown_apart (suc front) (i ∷ t) now apart = (shown_numbers (λ n. i.number ≢ n) front t now apart.0, shown_apart front t now apart.1)
 
 -- ---- notices come last
 
@@ -131,7 +136,7 @@ module _ (s : Kept) (at : ℕ) (ask : CycleAsk) (place : ℕ) where
       (told_formed s.house last at s.next _)
 
   kept_low : AllByRecursion (λ (i : Item). i.number < s.next) s.timeline → AllByRecursion (λ (i : Item). i.number ≤ last) (kept_at s at ask place)
-  kept_low below = shown_numbers (λ n. n ≤ last) (front_of ask place) (repaired_items s at ask place) (shown_now s at ask place) (all_below s.timeline ask s.next at place below)
+  kept_low below = shown_numbers (λ n. n ≤ last) (front_of ask place) (repaired_items s at ask place) (compared_at s at ask place) (all_below s.timeline ask s.next at place below)
 
   pub left_below : AllByRecursion (λ (i : Item). i.number < s.next) s.timeline → AllByRecursion (λ (i : Item). i.number < (cycled_at s at ask place).next) (timeline_at s at ask place)
   left_below below = joined (λ (i : Item). i.number < (cycled_at s at ask place).next) (kept_at s at ask place) told
@@ -142,14 +147,14 @@ module _ (s : Kept) (at : ℕ) (ask : CycleAsk) (place : ℕ) where
   left_timeline is below known = record {
     formed = left_formed is.formed known;
     apart = both_apart last (kept_at s at ask place) told
-        (shown_apart (front_of ask place) (repaired_items s at ask place) (shown_now s at ask place) (all_apart s.timeline ask s.next at place is.apart below))
+        (shown_apart (front_of ask place) (repaired_items s at ask place) (compared_at s at ask place) (all_apart s.timeline ask s.next at place is.apart below))
         (notices_apart last at _) (kept_low below) (above last last at _ (omega arith));
   }
 
   pub left_revs : AllByRecursion (λ (i : Item). i.rev < s.next) s.timeline → AllByRecursion (λ (i : Item). i.rev < (cycled_at s at ask place).next) (timeline_at s at ask place)
   left_revs below = joined (λ (i : Item). i.rev < (cycled_at s at ask place).next) (kept_at s at ask place) told
       (weaker (λ (i : Item). i.rev ≤ s.next) (λ (i : Item). i.rev < (cycled_at s at ask place).next) (λ i le. omega arith) (kept_at s at ask place)
-      (shown_revs (λ n. n ≤ s.next) (front_of ask place) (repaired_items s at ask place) (shown_now s at ask place) (revs_below s.timeline ask s.next at place below)))
+      (shown_revs (λ n. n ≤ s.next) (front_of ask place) (repaired_items s at ask place) (compared_at s at ask place) (revs_below s.timeline ask s.next at place below)))
       (notice_revs (cycled_at s at ask place).next last at _ (omega arith))
 
   names : (rows : Boxes) (f : BoxId × Mailbox → ℕ) → map (λ (r : BoxId × ℕ). r.0) (map (λ (r : BoxId × Mailbox). (r.0, f r)) rows) ≡ map (λ (r : BoxId × Mailbox). r.0) rows
@@ -159,16 +164,94 @@ module _ (s : Kept) (at : ℕ) (ask : CycleAsk) (place : ℕ) where
   pub left_named : map (λ (r : BoxId × ℕ). r.0) (stamps_at s at ask place) ≡ map (λ (r : BoxId × Mailbox). r.0) (run s.base (timeline_at s at ask place)).boxes
   left_named = names (run s.base (timeline_at s at ask place)).boxes _
 
+  pub left_rises : s.next < (cycled_at s at ask place).next
+  left_rises = omega arith
+
   pub left_next : leaves_numbers s ask ≡ true → (cycled_at s at ask place).next ≤ 4194303
   left_next left =
       let room = leb-true (s.next + 1 + length ask.inserts + length s.house.accounts) 4194303 left in
       let few = few_told s.house last s.next at (broken_at s at ask place) in
       omega arith
 
+  -- the stamps
+  pub left_fresh : AllByRecursion (λ (r : BoxId × ℕ). r.1 < s.next) s.stamps → AllByRecursion (λ (r : BoxId × ℕ). r.1 < (cycled_at s at ask place).next) (stamps_at s at ask place)
+  left_fresh fresh = lower (stamps_at s at ask place) (stamps_below (store_of s).boxes (run s.base (timeline_at s at ask place)).boxes s.stamps s.next fresh)
+    where
+      lower : (rows : List (BoxId × ℕ)) → AllByRecursion (λ (r : BoxId × ℕ). r.1 ≤ s.next) rows → AllByRecursion (λ (r : BoxId × ℕ). r.1 < (cycled_at s at ask place).next) rows
+      lower [] low = tt
+      lower (r ∷ rows) low = (omega (arith, low.0), lower rows low.1)
+
+  -- how long the timeline is
+  pub left_length : place ≤ length s.timeline → length (timeline_at s at ask place) ≡ place + length ask.inserts + (report_at s at ask place).kept + length (report_at s at ask place).notices
+  left_length le =
+      length-append (kept_at s at ask place) told
+      ∙ ap₂ (λ (a b : ℕ). a + b)
+      (length_shown (front_of ask place) (repaired_items s at ask place) (compared_at s at ask place)
+      ∙ length-append (take place s.timeline ++ inserted s.next at ask.inserts) (map (repaired ask s.next) (kept ask (drop place s.timeline)))
+      ∙ ap₂ (λ (a b : ℕ). a + b)
+      (length-append (take place s.timeline) (inserted s.next at ask.inserts) ∙ ap₂ (λ (a b : ℕ). a + b) (length-take-le place s.timeline le) (length_acts s.next at ask.inserts))
+      (length_map (repaired ask s.next) (kept ask (drop place s.timeline))))
+      (sym (length_map (λ (i : Item). i.number) told))
+
+  pub left_few : length (report_at s at ask place).notices ≤ length s.house.accounts
+  left_few =
+      let few = few_told s.house last s.next at (broken_at s at ask place) in
+      omega (arith, few, length_map (λ (i : Item). i.number) told)
+
+-- what is due can be gone on with
+module _ (s : Kept) (at : ℕ) (ask : CycleAsk) where
+  abbrev GoesOnBy : Due → Type 0
+  GoesOnBy (Repeats report) = Unit {0}
+  GoesOnBy NoPoint = Unit {0}
+  GoesOnBy NoNumbers = Unit {0}
+  GoesOnBy (Rewinds due) = GoesOn s due
+
+  pub left_due : (due : Cycled) → IsTimeline s.house s.timeline → AllByRecursion (λ (i : Item). i.number < s.next) s.timeline → AllByRecursion (λ (r : BoxId × ℕ). r.1 < s.next) s.stamps
+      → are_known s.house ask.inserts ≡ true → due_anew s at ask ≡ Rewinds due → GoesOn s due
+  left_due due timeline below fresh known is = subst GoesOnBy is (by_place (position s.timeline ask.point))
+    where
+      by_numbers : (place : ℕ) (b : Bool) → leaves_numbers s ask ≡ b → GoesOnBy (cond b (Rewinds (cycled_at s at ask place)) NoNumbers)
+      by_numbers place true left = record {
+        timeline = left_timeline s at ask place timeline below known;
+        below = left_below s at ask place below;
+        named = left_named s at ask place;
+        fresh = left_fresh s at ask place fresh;
+        rises = left_rises s at ask place;
+        next = left_next s at ask place left;
+      }
+      by_numbers place false left = tt
+
+      by_place : (o : Option ℕ) → GoesOnBy (due_at s at ask o)
+      by_place None = tt
+      by_place (Some place) = by_numbers place (leaves_numbers s ask) refl
+
+-- ---- texts
+
+-- what answers do not change
+shown_parts : (P : ℕ → ℕ → Deed → Type 0) (i : Item) (now : List Shown) → P i.number i.rev i.deed → P (shown_by i now).number (shown_by i now).rev (shown_by i now).deed
+shown_parts P i [] h = h
+shown_parts P i (x ∷ rest) h = elim (is_some (broken i x)) as (λ b. (λ (j : Item). P j.number j.rev j.deed) (cond b (record i { shown = x }) i)) [ true ↦ h | false ↦ h ]
+
+shown_all : (P : ℕ → ℕ → Deed → Type 0) (front : ℕ) (t : List Item) (now : List Shown) → AllByRecursion (λ (i : Item). P i.number i.rev i.deed) t
+    → AllByRecursion (λ (i : Item). P i.number i.rev i.deed) (shown_after front t now)
+shown_all P front [] now all = tt
+shown_all P zero (i ∷ t) now all = (shown_parts P i now all.0, shown_all P zero t (drop 1 now) all.1)
+shown_all P (suc front) (i ∷ t) now all = (all.0, shown_all P front t now all.1)
+
+pub left_texts : (s : Kept) (at : ℕ) (ask : CycleAsk) (place : ℕ) (body : Body) (text : List ℕ) → NumbersApart s.timeline → body.origin ≤ s.next → body.rev ≢ s.next
+    → text_of (timeline_at s at ask place) body ≡ Some text → text_of s.timeline body ≡ Some text
+left_texts s at ask place body text apart low differs new =
+    let Old : Item → Type 0 = λ i. IsOld s.timeline body i.number i.rev i.deed in
+    found_old s.timeline body text (timeline_at s at ask place)
+    (joined Old (kept_at s at ask place) (told_at s at ask place)
+    (shown_all (IsOld s.timeline body) (front_of ask place) (repaired_items s at ask place) (compared_at s at ask place) (new_old s.timeline ask s.next at place body apart low differs))
+    (weaker (λ (j : Item). s.next < j.number) Old (λ j higher. higher_old s.timeline body s.next low j higher) (told_at s at ask place) (above s.next (s.next + length ask.inserts) at _ (omega arith))))
+    new
+
 -- ---- a cycle that asks for nothing
 
 pub nothing_broken : (s : Kept) (at : ℕ) (ask : CycleAsk) → broken_at s at ask (length s.timeline) ≡ []
-nothing_broken s at ask = ap (λ (later : List Item). judged ask.drops later (drop (front_of ask (length s.timeline)) (shown_now s at ask (length s.timeline)))) (drop-length s.timeline)
+nothing_broken s at ask = ap (λ (later : List Item). judged ask.drops later (compared_at s at ask (length s.timeline))) (drop-length s.timeline)
 
 none_told : (users : List User) → filter (is_told []) users ≡ []
 none_told [] = refl
@@ -182,7 +265,7 @@ nobody_told s at ask =
 front_stays : (front : ℕ) (t : List Item) (now : List Shown) → length t ≤ front → shown_after front t now ≡ t
 front_stays front [] now le = refl
 front_stays zero (i ∷ t) now le = absurd (omega arith)
-front_stays (suc front) (i ∷ t) now le = ap (λ (rest : List Item). i ∷ rest) (front_stays front t (drop 1 now) (omega arith))
+front_stays (suc front) (i ∷ t) now le = ap (λ (rest : List Item). i ∷ rest) (front_stays front t now (omega arith))
 
 no_repairs : (s : Kept) (at : ℕ) (ask : CycleAsk) → ask.inserts ≡ [] → repaired_items s at ask (length s.timeline) ≡ s.timeline
 no_repairs s at ask none =
@@ -193,7 +276,7 @@ pub nothing_new : (s : Kept) (at : ℕ) (ask : CycleAsk) → ask.inserts ≡ [] 
 nothing_new s at ask none =
     let same = no_repairs s at ask none in
     let all = ap (λ (t : List Item). length t) same in
-    ap₂ (λ (a b : List Item). a ++ b) (front_stays (front_of ask (length s.timeline)) (repaired_items s at ask (length s.timeline)) (shown_now s at ask (length s.timeline)) (omega arith) ∙ same) (nobody_told s at ask)
+    ap₂ (λ (a b : List Item). a ++ b) (front_stays (front_of ask (length s.timeline)) (repaired_items s at ask (length s.timeline)) (compared_at s at ask (length s.timeline)) (omega arith) ∙ same) (nobody_told s at ask)
     ∙ append-nil s.timeline
 
 -- ---- answers that are shown still

@@ -1,3 +1,4 @@
 pub mod Cycled
 pub mod Left
-pub mod Redoing
+pub mod Placing
+pub mod Parts

@@ -17,6 +17,13 @@ pub data Due : Type 0 where
   -- the cycle
   Rewinds : Cycled → Due
 
+-- whether a cycle is due
+abbrev pub IsRewinds : Due → Type 0
+IsRewinds (Repeats report) = ⊥
+IsRewinds NoPoint = ⊥
+IsRewinds NoNumbers = ⊥
+IsRewinds (Rewinds due) = Unit {0}
+
 -- by the place of its point
 abbrev pub due_at : Kept → ℕ → CycleAsk → Option ℕ → Due
 due_at s at ask None = NoPoint

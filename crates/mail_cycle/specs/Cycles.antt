@@ -1,6 +1,6 @@
 -- A cycle: the timeline is repaired and performed from its beginning, what users were shown is compared with what they would
 -- be shown now, and each user whose answers no longer hold gets a notice.
-use Rattle.std.specs.Prelude.{ℕ, ◌+◌, Bool, ◌==◌, nat_le, if◌then◌else◌, List, [], ◌∷◌, ◌++◌, drop, filter, length, None}
+use Rattle.std.specs.Prelude.{ℕ, ◌+◌, Bool, ◌==◌, nat_le, List, [], ◌∷◌, ◌++◌, drop, filter, length, None}
 use Rattle.undo_base.specs.declared.keys.User.{User}
 use Rattle.verb_bytes.specs.declared.journal.CycleAsk.{CycleAsk}
 use Rattle.verb_core.specs.declared.item.Deed.TheVariants.{Notice}
@@ -49,13 +49,17 @@ front_of ask place = place + length ask.inserts
 abbrev pub shown_now : Kept → ℕ → CycleAsk → ℕ → List Shown
 shown_now s at ask place = answers s.base (repaired_items s at ask place)
 
+-- what each later item that stays shows now
+abbrev pub compared_at : Kept → ℕ → CycleAsk → ℕ → List Shown
+compared_at s at ask place = drop (front_of ask place) (shown_now s at ask place)
+
 -- the broken and withdrawn items, in the order of the timeline before
 abbrev pub broken_at : Kept → ℕ → CycleAsk → ℕ → List BrokenItem
-broken_at s at ask place = judged ask.drops (drop place s.timeline) (drop (front_of ask place) (shown_now s at ask place))
+broken_at s at ask place = judged ask.drops (drop place s.timeline) (compared_at s at ask place)
 
 -- the items in force before the notices
 abbrev pub kept_at : Kept → ℕ → CycleAsk → ℕ → List Item
-kept_at s at ask place = shown_after (front_of ask place) (repaired_items s at ask place) (shown_now s at ask place)
+kept_at s at ask place = shown_after (front_of ask place) (repaired_items s at ask place) (compared_at s at ask place)
 
 -- the notices, as items
 abbrev pub told_at : Kept → ℕ → CycleAsk → ℕ → List Item

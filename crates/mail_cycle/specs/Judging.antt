@@ -32,8 +32,8 @@ abbrev pub shown_by : Item → List Shown → Item
 shown_by i [] = i
 shown_by i (now ∷ rest) = if is_some (broken i now) then record i { shown = now } else i
 
--- the items with their answers: the first so many are never compared
+-- the items with their answers: the first so many are never compared, and the answers are those of the others
 abbrev pub shown_after : ℕ → List Item → List Shown → List Item
 shown_after front [] now = []
 shown_after zero (i ∷ is) now = shown_by i now ∷ shown_after zero is (drop 1 now)
-shown_after (suc front) (i ∷ is) now = i ∷ shown_after front is (drop 1 now)
+shown_after (suc front) (i ∷ is) now = i ∷ shown_after front is now

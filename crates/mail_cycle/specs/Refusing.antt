@@ -4,10 +4,10 @@ use Rattle.verb_bytes.specs.declared.journal.CycleAsk.{CycleAsk}
 use Rattle.paradox.specs.Kept.{Kept}
 use Rattle.mail_cycle.specs.declared.refused.CycleRefused.{CycleRefused}
 use Rattle.mail_cycle.specs.declared.refused.CycleRefused.TheVariants.{Point, Numbers, NoMemory}
-use Rattle.mail_cycle.specs.Asking.{Due, NoPoint, NoNumbers}
+use Rattle.mail_cycle.specs.Asking.{Due, IsRewinds, NoPoint, NoNumbers}
 
--- by what is due: the timeline does not have the point, or else too few numbers are left; want of memory is free
+-- by what is due: the timeline does not have the point, or else too few numbers are left; memory is wanted for a cycle alone
 abbrev pub IsRefusalOf : Kept → CycleAsk → Due → CycleRefused → Type 0
 IsRefusalOf s ask due (Point given) = (due ≡ NoPoint) × (given ≡ ask.point)
 IsRefusalOf s ask due (Numbers next) = (due ≡ NoNumbers) × (next ≡ s.next)
-IsRefusalOf s ask due NoMemory = Unit {0}
+IsRefusalOf s ask due NoMemory = IsRewinds due

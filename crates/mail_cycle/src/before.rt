@@ -1,40 +1,51 @@
 //! What a cycle begins with.
-ghost use Rattle.std.specs.Prelude.{◌≡◌, ℕ, ◌≤◌, [], map, IsTrue};
+ghost use Rattle.std.specs.Prelude.{◌≡◌, ℕ, ◌+◌, ◌≤◌, [], drop, map, take, length, IfOk, IfSome, IsTrue};
 ghost use Rattle.std.specs.List.{AllByRecursion, list_all};
 ghost use Rattle.verb_core.specs.declared.mailbox.BoxId.{BoxId as TheBoxId};
 ghost use Rattle.verb_core.specs.declared.mailbox.Mailbox.{Mailbox as TheMailbox};
 ghost use Rattle.verb_core.specs.Items.{IsWellFormed};
 ghost use Rattle.verb_core.specs.Step.{run};
 ghost use Rattle.verb_core.specs.Store.{IsValid, is_house, is_known, opening as opening_store};
+ghost use Rattle.paradox.specs.Kept.{store_of};
+ghost use Rattle.repair_desk.specs.Renewals.{renewed};
+ghost use Rattle.repair_desk.specs.Repairs.{are_known, edited_at, position};
 
 use box_store::Store;
+use paradox::Report;
+use repair_desk::{Edited, edit_at, position_of, renew};
+use std::alloc::Global;
 use std::marker::Model;
+use undo_base::{Copies, LAST_NUMBER, Name, NoMemory};
+use verb_bytes::CycleAsk;
 use verb_core::{Conf, House, Item, Stamps};
 
 /// A store in use: its house, the configuration at first, the items in force, which led to the store, the stamp of each
-/// mailbox, and the next number.
+/// mailbox, the next number, and the reports of earlier cycles.
 #[derive(Drop)]
 pub struct Before<'a> {
-    pub(crate) house: &'a House,
-    pub(crate) opening: &'a Conf,
-    pub(crate) store: &'a Store,
-    pub(crate) timeline: &'a [Item],
-    pub(crate) stamps: &'a Stamps,
-    pub(crate) next: u32,
+    house: &'a House,
+    opening: &'a Conf,
+    store: &'a Store,
+    timeline: &'a [Item],
+    stamps: &'a Stamps,
+    next: u32,
+    reports: &'a [(Name, Report)],
 }
 
 impl<'a> Model for Before<'a> {
-    ghost use Rattle.mail_cycle.specs.Begun.{IsBegun};
+    ghost use Rattle.mail_cycle.specs.Begun.{IsBegun, begun};
     ghost use Rattle.paradox.specs.Kept.{Kept};
 
     ghost Value = { Kept };
 
-    ghost view = { λ b. record { house = b.house.now; opening = b.opening.now; timeline = b.timeline.now; stamps = b.stamps.now; next = b.next } };
+    ghost view = { λ b. begun b.house.now b.opening.now b.timeline.now b.stamps.now b.next b.reports.now };
 
-    ghost invariant = { λ b. IsBegun b.store.now.store (record { house = b.house.now; opening = b.opening.now; timeline = b.timeline.now; stamps = b.stamps.now; next = b.next }) };
+    ghost invariant = { λ b. IsBegun b.store.now.store (begun b.house.now b.opening.now b.timeline.now b.stamps.now b.next b.reports.now) };
 }
 
 impl<'a> Before<'a> {
+    ghost use Rattle.mail_cycle.specs.Begun.{begun};
+
     /// A store in use.
     pub fn of(
         house: &'a House,
@@ -43,6 +54,7 @@ impl<'a> Before<'a> {
         timeline: &'a [Item],
         stamps: &'a Stamps,
         next: u32,
+        reports: &'a [(Name, Report)],
     ) -> Before<'a>
         requires house { IsTrue (is_house house.now) }
         requires aliases { IsTrue (list_all (λ a. list_all (is_known house.now) a.users) opening.now.aliases) }
@@ -52,7 +64,7 @@ impl<'a> Before<'a> {
         requires formed { AllByRecursion (IsWellFormed house.now) timeline.now }
         requires named { map (λ (r : TheBoxId × ℕ). r.0) stamps.now ≡ map (λ (r : TheBoxId × TheMailbox). r.0) store.now.store.boxes }
         requires next { next ≤ 4194304 }
-        ensures { result ≡ record { house = house.now; opening = opening.now; timeline = timeline.now; stamps = stamps.now; next = next } }
+        ensures { result ≡ begun house.now opening.now timeline.now stamps.now next reports.now }
     {
         Before {
             house,
@@ -61,6 +73,96 @@ impl<'a> Before<'a> {
             timeline,
             stamps,
             next,
+            reports,
         }
+    }
+
+    pub(crate) fn house(&self) -> &House
+        ensures house { result.now ≡ self.now.house }
+        ensures is { IsTrue (is_house result.now) }
+    {
+        self.house
+    }
+
+    /// It does nothing: the store before the first item has the same house.
+    pub(crate) fn has_a_house(&self)
+        ensures { self.now.base.house ≡ self.now.house }
+    {
+        let _ = &self.house;
+    }
+
+    pub(crate) fn next(&self) -> u32
+        ensures next { result ≡ self.now.next }
+        ensures fits { result ≤ 4194304 }
+    {
+        self.next
+    }
+
+    /// The place of a point.
+    pub(crate) fn place_of(&self, point: u32) -> Option<usize>
+        ensures place { result ≡ position self.now.timeline point }
+        ensures within { IfSome result (λ place. place ≤ length self.now.timeline) }
+    {
+        position_of(self.timeline, point)
+    }
+
+    /// The items through a place.
+    pub(crate) fn front(&self, place: usize) -> &[Item]
+        requires { place ≤ length self.now.timeline }
+        ensures front { result.now ≡ take place self.now.timeline }
+        ensures formed { AllByRecursion (IsWellFormed self.now.house) result.now }
+    {
+        self.timeline.split_at(place).0
+    }
+
+    /// How many items stand through a place and the acts behind it.
+    pub(crate) fn front_with(&self, place: usize, inserts: usize) -> usize
+        requires place { place ≤ length self.now.timeline }
+        requires few { inserts ≤ LAST_NUMBER }
+        ensures { result ≡ place + inserts }
+    {
+        self.timeline.split_at(place).0.len() + inserts
+    }
+
+    /// The items behind a place.
+    pub(crate) fn later(&self, place: usize) -> &[Item]
+        requires { place ≤ length self.now.timeline }
+        ensures { result.now ≡ drop place self.now.timeline }
+    {
+        self.timeline.split_at(place).1
+    }
+
+    /// The store before the first item.
+    pub(crate) fn opened(&self, alloc: Global) -> Result<Store, NoMemory>
+        ensures store { IfOk result (λ store. store.store ≡ self.now.base) }
+        ensures valid { IfOk result (λ store. IsValid store.store) }
+        ensures house { IfOk result (λ store. store.store.house ≡ self.now.house) }
+    {
+        let conf = self.opening.copy(alloc)?;
+        Store::opening(alloc, self.house, conf)
+    }
+
+    /// The timeline after the repairs that are asked for.
+    pub(crate) fn repaired(
+        &self,
+        alloc: Global,
+        ask: &CycleAsk,
+        at: u64,
+        place: usize,
+    ) -> Result<Edited, NoMemory>
+        requires place { place ≤ length self.now.timeline }
+        requires numbers { self.now.next + length ask.now.inserts ≤ LAST_NUMBER }
+        requires acts { IsTrue (are_known self.now.house ask.now.inserts) }
+        ensures edited { IfOk result (λ edited. edited ≡ edited_at self.now.timeline ask.now self.now.next at place) }
+        ensures formed { IfOk result (λ edited. AllByRecursion (IsWellFormed self.now.house) edited.items) }
+    {
+        edit_at(alloc, self.timeline, ask, self.next, at, place)
+    }
+
+    /// The stamps of the mailboxes that a store has after the cycle.
+    pub(crate) fn renewed(&self, alloc: Global, after: &Store) -> Result<Stamps, NoMemory>
+        ensures { IfOk result (λ stamps. stamps ≡ renewed (store_of self.now).boxes after.now.store.boxes self.now.stamps self.now.next) }
+    {
+        renew(alloc, self.store, after, self.stamps, self.next)
     }
 }

@@ -1,18 +1,24 @@
 //! What holds of every cycle. These functions do nothing: their contracts are laws of the definitions.
-ghost use Rattle.std.specs.Prelude.{◌≡◌, ℕ, ◌+◌, ◌<◌, ◌≤◌, [], true, map, drop, length, IsTrue};
+ghost use Rattle.std.specs.Prelude.{◌≡◌, ◌≢◌, ℕ, ◌+◌, ◌<◌, ◌≤◌, ◌==◌, List, [], ◌∷◌, ◌++◌, false, true, find, map, drop, length, option_and_then, slice_get, IsTrue, Some};
 ghost use Rattle.std.specs.List.{AllByRecursion};
 ghost use Rattle.verb_core.specs.declared.item.Item.{Item};
+ghost use Rattle.verb_core.specs.declared.mailbox.Body.{Body};
 ghost use Rattle.verb_core.specs.declared.mailbox.BoxId.{BoxId};
 ghost use Rattle.verb_core.specs.declared.mailbox.Mailbox.{Mailbox};
-ghost use Rattle.verb_core.specs.Items.{IsTimeline, IsWellFormed};
+ghost use Rattle.verb_core.specs.Items.{IsTimeline, IsWellFormed, NumbersApart, text_of};
 ghost use Rattle.verb_core.specs.Step.{answers, run};
 ghost use Rattle.verb_bytes.specs.declared.journal.CycleAsk.{CycleAsk};
-ghost use Rattle.repair_desk.specs.Repairs.{are_known};
-ghost use Rattle.mail_cycle.specs.Cycles.{broken_at, cycled_at, leaves_numbers, stamps_at, timeline_at};
+ghost use Rattle.paradox.specs.Words.{told_of};
+ghost use Rattle.paradox.specs.declared.reports.BrokenItem.{BrokenItem};
+ghost use Rattle.repair_desk.specs.Repairs.{are_known, is_among, is_dropped, numbers_of};
+ghost use Rattle.mail_cycle.specs.Asking.{Rewinds, due_anew};
+ghost use Rattle.mail_cycle.specs.Cycles.{Cycled, broken_at, cycled_at, leaves_numbers, report_at, stamps_at, timeline_at};
+ghost use Rattle.mail_cycle.specs.Leaving.{GoesOn};
+ghost use Rattle.mail_cycle.specs.Places.{items_before, reason_at, shown_at};
 ghost use Rattle.paradox.specs.Kept.{Kept};
 
 /// What a cycle leaves can be gone on with: the items are well formed, their numbers distinct and below the next one, the
-/// stamps name the mailboxes, and the next number is one that an item can have.
+/// stamps name the mailboxes and are below the next number, and it has risen and is one that an item can have.
 pub fn cycles_leave_states()
     ensures formed { (s : Kept) (at : ℕ) (ask : CycleAsk) (place : ℕ) → AllByRecursion (IsWellFormed s.house) s.timeline →
         IsTrue (are_known s.house ask.inserts) → AllByRecursion (IsWellFormed s.house) (timeline_at s at ask place) }
@@ -24,7 +30,41 @@ pub fn cycles_leave_states()
         AllByRecursion (λ (i : Item). i.rev < (cycled_at s at ask place).next) (timeline_at s at ask place) }
     ensures named { (s : Kept) (at : ℕ) (ask : CycleAsk) (place : ℕ) →
         map (λ (r : BoxId × ℕ). r.0) (stamps_at s at ask place) ≡ map (λ (r : BoxId × Mailbox). r.0) (run s.base (timeline_at s at ask place)).boxes }
+    ensures fresh { (s : Kept) (at : ℕ) (ask : CycleAsk) (place : ℕ) → AllByRecursion (λ (r : BoxId × ℕ). r.1 < s.next) s.stamps →
+        AllByRecursion (λ (r : BoxId × ℕ). r.1 < (cycled_at s at ask place).next) (stamps_at s at ask place) }
     ensures next { (s : Kept) (at : ℕ) (ask : CycleAsk) (place : ℕ) → leaves_numbers s ask ≡ true → (cycled_at s at ask place).next ≤ 4194303 }
+    ensures due { (s : Kept) (at : ℕ) (ask : CycleAsk) (due : Cycled) → IsTimeline s.house s.timeline →
+        AllByRecursion (λ (i : Item). i.number < s.next) s.timeline → AllByRecursion (λ (r : BoxId × ℕ). r.1 < s.next) s.stamps →
+        IsTrue (are_known s.house ask.inserts) → due_anew s at ask ≡ Rewinds due → GoesOn s due }
+{}
+
+/// The new timeline has the items through the point, the acts that come in, the later items that stay, and the notices: one to
+/// a user at most.
+pub fn timelines_have_their_length()
+    ensures items { (s : Kept) (at : ℕ) (ask : CycleAsk) (place : ℕ) → place ≤ length s.timeline →
+        length (timeline_at s at ask place) ≡ place + length ask.inserts + (report_at s at ask place).kept + length (report_at s at ask place).notices }
+    ensures notices { (s : Kept) (at : ℕ) (ask : CycleAsk) (place : ℕ) → length (report_at s at ask place).notices ≤ length s.house.accounts }
+{}
+
+/// Each later item is judged by its own answer, at its own place of the new timeline: it is told of exactly where it is dropped
+/// and a user's, or stays and what it showed no longer holds there; and nothing but later items is told of. The one that stays
+/// shows its own answer afterwards exactly where what it showed no longer holds.
+pub fn later_items_are_judged_alone()
+    ensures told { (s : Kept) (at : ℕ) (ask : CycleAsk) (place : ℕ) (earlier : List Item) (i : Item) (later : List Item) → place ≤ length s.timeline →
+        NumbersApart (drop place s.timeline) → drop place s.timeline ≡ earlier ++ i ∷ later →
+        find (λ (b : BrokenItem). b.number == i.number) (broken_at s at ask place) ≡ option_and_then (told_of i) (reason_at s at ask place earlier i) }
+    ensures others { (s : Kept) (at : ℕ) (ask : CycleAsk) (place : ℕ) →
+        AllByRecursion (λ (b : BrokenItem). is_among (numbers_of (drop place s.timeline)) b.number ≡ true) (broken_at s at ask place) }
+    ensures shown { (s : Kept) (at : ℕ) (ask : CycleAsk) (place : ℕ) (earlier : List Item) (i : Item) (later : List Item) → place ≤ length s.timeline →
+        drop place s.timeline ≡ earlier ++ i ∷ later → is_dropped ask i ≡ false →
+        slice_get (timeline_at s at ask place) (length (items_before s at ask place earlier)) ≡ Some (shown_at s at ask place earlier i) }
+{}
+
+/// A body that has a text in the new timeline had it before the cycle, unless it is a replacement of the cycle, or an act or a
+/// notice of the cycle brought it. So it goes back over any number of cycles.
+pub fn bodies_keep_their_texts()
+    ensures { (s : Kept) (at : ℕ) (ask : CycleAsk) (place : ℕ) (body : Body) (text : List ℕ) → NumbersApart s.timeline → body.origin ≤ s.next → body.rev ≢ s.next →
+        text_of (timeline_at s at ask place) body ≡ Some text → text_of s.timeline body ≡ Some text }
 {}
 
 /// A cycle without repairs behind the last item changes no item and tells nobody.

@@ -1,28 +1,35 @@
-//! A cycle in memory: the timeline is repaired and performed from its beginning, what users were shown is compared with what
-//! they would be shown now, and each user whose answers no longer hold gets a notice.
+//! A cycle in memory: the store is rewound to a point, the repaired items behind it are replayed, what users were shown is
+//! compared with what they would be shown now, and each user whose answers no longer hold gets a notice.
 //!
-//! `before` is what a cycle begins with. `rewind` puts it together: `perform` performs items, `judge` finds the broken and
-//! withdrawn ones, `settle` lets the broken ones show what they show now, `notices` makes the notices items, and `report` what
-//! is told of them. `refused` says why there is no cycle, and `laws` what holds of every one. In specs/, `Begun` and `Judging`
-//! lead up to `Cycles`; `Refusing` and `Leaving` are what the contract of `cycle` says of its answers.
-//! What carries the crate: `cycle` answers `cycled`, exactly where the timeline has the point and numbers are left.
+//! `before` is what a cycle begins with. Three calls do the work, each with a contract of its own, so that each can be done in
+//! another way: `rewind` gives the store through the point, `replay` (both in `running`) the store and the answers of the
+//! items from there, and `settle` (in `settling`) makes the rest of these: `judge` finds the broken and withdrawn items,
+//! `showing` lets the broken ones show what they show now, `telling` writes to the users, `notices` makes the notices items,
+//! and `report` what is told of them. `cycle` (in `cycling`) is the three, one after the other. `refused` says why there is no
+//! cycle, and `laws` what holds of every one. In specs/, `Begun` and `Judging` lead up to `Cycles`; `Asking` says what is due to
+//! a request, `Refusing` and `Leaving` what the contract of `cycle` says of its answers.
+//! What carries the crate: `cycle` answers what `due_anew` says, exactly where the timeline has the point and numbers are left.
 #![tactic(auto)]
 
 mod before;
+mod cycling;
 mod judge;
 pub mod laws;
 mod notices;
-mod perform;
 mod refused;
 mod report;
-mod rewind;
-mod settle;
+mod running;
+mod settling;
+mod showing;
+mod telling;
 
 pub use before::Before;
+pub use cycling::cycle;
 pub use refused::CycleRefused;
-pub use rewind::{Rewound, cycle};
+pub use running::{Replayed, replay, rewind};
+pub use settling::{Rewound, settle};
 use undo_base::Sequence;
 use verb_core::Shown;
 
 /// What items show, in their order.
-type Shows = Sequence<Shown>;
+pub type Shows = Sequence<Shown>;

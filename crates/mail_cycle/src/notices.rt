@@ -1,15 +1,8 @@
 //! Notices, as items that are performed last.
-ghost use Rattle.std.specs.Prelude.{◌≡◌, ◌+◌, ◌≤◌, ◌++◌, length, IfOk, OnOk, IsTrue};
-ghost use Rattle.std.specs.List.{list_all};
-ghost use Rattle.verb_core.specs.Step.{run};
-ghost use Rattle.verb_core.specs.Store.{IsValid, is_known};
+ghost use Rattle.std.specs.Prelude.{◌≡◌, ◌+◌, ◌≤◌, length, IfOk};
 ghost use Rattle.mail_cycle.specs.Cycles.{notice_item as item_of, notice_items};
 
-use crate::Shows;
-use crate::perform::perform;
-use box_store::{Steps, Store};
 use std::alloc::Global;
-use std::sync::ledger::Ledger;
 use undo_base::{Copies, LAST_NUMBER, NoMemory, Text, User};
 use verb_core::{Deed, Item, Items, Shown};
 

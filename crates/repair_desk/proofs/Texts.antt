@@ -1,7 +1,8 @@
 -- A body that had a text has no other.
-use Rattle.std.proofs.Common.{◌≡◌, ◌≢◌, ℕ, ◌<◌, ◌==◌, Bool, true, false, ◌&&◌, cond, arith, refl, sym, ◌∙◌, List, [], ◌∷◌, drop, find, Some, None, is_some, option_and_then, eqb-true, true≢false}
+use Rattle.std.proofs.Common.{◌≡◌, ◌≢◌, ℕ, ◌<◌, ◌≤◌, ◌==◌, Bool, true, false, ◌&&◌, cond, arith, ap, refl, sym, ◌∙◌, List, [], ◌∷◌, drop, find, Some, None, is_some, option_and_then, eqb-true, true≢false}
 use Rattle.std.specs.List.{AllByRecursion}
 use Rattle.std.specs.Cmp.{first_so, second_so}
+use Rattle.verb_core.specs.declared.item.Deed.{Deed}
 use Rattle.verb_core.specs.declared.item.Item.{Item}
 use Rattle.verb_core.specs.declared.mailbox.Body.{Body}
 use Rattle.verb_core.specs.Items.{NumbersApart, text_in, text_of}
@@ -82,3 +83,61 @@ one_text t ask c at place body x y apart before old new =
     (weaker (λ (j : Item). c < j.number) (Tells body x) (λ j above h. let same : j.number ≡ body.origin = number_of body j h in let lower : body.origin < c = is.0 in absurd (omega arith)) (inserted c at ask.inserts) (inserted_above c c at ask.inserts (omega arith)))
     (mapped (Tells body x) (Tells body x) (repaired ask c) (repaired_tells body x ask c is.1) (kept ask (drop place t)) (passing (Tells body x) _ (drop place t) (rest_of (Tells body x) place t tell))))
     new
+
+-- ---- from the new timeline back
+
+-- if an item of a number, a rev and a deed brings the text of a body, the timeline has that text
+abbrev pub IsOld : List Item → Body → ℕ → ℕ → Deed → Type 0
+IsOld t body number rev deed = ((number == body.origin) && (rev == body.rev) && is_some (text_in deed)) ≡ true → text_of t body ≡ text_in deed
+
+-- each item of a timeline does
+all_old : (body : Body) (t : List Item) → NumbersApart t → AllByRecursion (λ (i : Item). IsOld t body i.number i.rev i.deed) t
+all_old body [] apart = tt
+all_old body (i ∷ t) apart = by (brings body i) refl (all_old body t apart.1)
+  where
+    by : (b : Bool) → brings body i ≡ b → AllByRecursion (λ (j : Item). IsOld t body j.number j.rev j.deed) t → AllByRecursion (λ (j : Item). IsOld (i ∷ t) body j.number j.rev j.deed) (i ∷ t)
+    by true here rest = (
+      (λ h. ap (λ b. option_and_then (λ (j : Item). text_in j.deed) (cond b (Some i) (find (brings body) t))) here),
+      weaker (λ (j : Item). i.number ≢ j.number) (λ (j : Item). IsOld (i ∷ t) body j.number j.rev j.deed)
+          (λ j differs h. absurd (differs (number_of body i here ∙ sym (number_of body j h)))) t apart.0,
+    )
+    by false here rest = (
+      (λ h. absurd (true≢false (sym h ∙ here))),
+      weaker (λ (j : Item). IsOld t body j.number j.rev j.deed) (λ (j : Item). IsOld (i ∷ t) body j.number j.rev j.deed)
+          (λ j old h. ap (λ b. option_and_then (λ (k : Item). text_in k.deed) (cond b (Some i) (find (brings body) t))) here ∙ old h) t rest,
+    )
+
+repaired_old : (t : List Item) (body : Body) (ask : CycleAsk) (c : ℕ) → body.rev ≢ c → (i : Item) → IsOld t body i.number i.rev i.deed → IsOld t body (repaired ask c i).number (repaired ask c i).rev (repaired ask c i).deed
+repaired_old t body ask c differs i old = elim (text_asked ask.replaces i.number) as (λ o. IsOld t body (replaced_by c i o).number (replaced_by c i o).rev (replaced_by c i o).deed) [
+  | None ↦ old
+  | Some text ↦ elim (takes_text i.deed) as (λ b. (λ (j : Item). IsOld t body j.number j.rev j.deed) (cond b (record i { rev = c; deed = with_text text i.deed }) i)) [
+    | true ↦ λ h. absurd (differs (sym (rev_is body (record i { rev = c; deed = with_text text i.deed }) h)))
+    | false ↦ old
+  ]
+]
+
+-- an item of a higher number brings none of its texts
+pub higher_old : (t : List Item) (body : Body) (c : ℕ) → body.origin ≤ c → (j : Item) → c < j.number → IsOld t body j.number j.rev j.deed
+higher_old t body c low j above h = let same : j.number ≡ body.origin = number_of body j h in absurd (omega arith)
+
+-- so does each item of the repaired timeline, where the body is no replacement of the cycle, and none of its acts brought it
+pub new_old : (t : List Item) (ask : CycleAsk) (c at place : ℕ) (body : Body) → NumbersApart t → body.origin ≤ c → body.rev ≢ c
+    → AllByRecursion (λ (i : Item). IsOld t body i.number i.rev i.deed) (new_timeline t ask c at place)
+new_old t ask c at place body apart low differs =
+    let Old : Item → Type 0 = λ i. IsOld t body i.number i.rev i.deed in
+    let all : AllByRecursion Old t = all_old body t apart in
+    everywhere Old t ask c at place (taken Old place t all)
+    (weaker (λ (j : Item). c < j.number) Old (λ j above. higher_old t body c low j above) (inserted c at ask.inserts) (inserted_above c c at ask.inserts (omega arith)))
+    (mapped Old Old (repaired ask c) (repaired_old t body ask c differs) (kept ask (drop place t)) (passing Old _ (drop place t) (rest_of Old place t all)))
+
+-- what is found among such items is the text of the timeline
+pub found_old : (t : List Item) (body : Body) (y : List ℕ) (new : List Item) → AllByRecursion (λ (i : Item). IsOld t body i.number i.rev i.deed) new → text_of new body ≡ Some y → text_of t body ≡ Some y
+found_old t body y [] all e = cc
+found_old t body y (i ∷ new) all e = by (brings body i) refl e (found_old t body y new all.1)
+  where
+    by : (b : Bool) → brings body i ≡ b → option_and_then (λ (j : Item). text_in j.deed) (cond b (Some i) (find (brings body) new)) ≡ Some y → (text_of new body ≡ Some y → text_of t body ≡ Some y) → text_of t body ≡ Some y
+    by true here e rest = all.0 here ∙ e
+    by false here e rest = rest e
+
+pub old_text : (t : List Item) (ask : CycleAsk) (c at place : ℕ) (body : Body) (y : List ℕ) → NumbersApart t → body.origin ≤ c → body.rev ≢ c → text_of (new_timeline t ask c at place) body ≡ Some y → text_of t body ≡ Some y
+old_text t ask c at place body y apart low differs new = found_old t body y (new_timeline t ask c at place) (new_old t ask c at place body apart low differs) new

@@ -39,10 +39,13 @@ pub fn unmatched_numbers_did_nothing()
         is_among (numbers_of (replaced ask later)) n ≡ list_any (λ (i : Item). (n == i.number) && (not (is_dropped ask i) && takes_text i.deed)) later }
 {}
 
-/// A body that has a text in a timeline has that text or none in the repaired one, where the cycle's number is above those
-/// of the timeline and above its revs.
+/// A body that has a text in a repaired timeline had it before, unless it is a replacement of the cycle or an act of the cycle
+/// brought it. So a body that had a text has that one or none, where the cycle's number is above those of the timeline and
+/// above its revs.
 pub fn bodies_keep_their_texts()
-    ensures { (t : List Item) (ask : CycleAsk) (c at place : ℕ) (body : Body) (x y : List ℕ) → NumbersApart t →
+    ensures back { (t : List Item) (ask : CycleAsk) (c at place : ℕ) (body : Body) (text : List ℕ) → NumbersApart t → body.origin ≤ c → body.rev ≢ c →
+        text_of (new_timeline t ask c at place) body ≡ Some text → text_of t body ≡ Some text }
+    ensures same { (t : List Item) (ask : CycleAsk) (c at place : ℕ) (body : Body) (x y : List ℕ) → NumbersApart t →
         AllByRecursion (λ (i : Item). (i.number < c) × (i.rev < c)) t → text_of t body ≡ Some x → text_of (new_timeline t ask c at place) body ≡ Some y → x ≡ y }
 {}
 

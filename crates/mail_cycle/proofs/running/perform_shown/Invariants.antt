@@ -1,7 +1,7 @@
 use Rattle.std.proofs.Common.{◌≡◌, ◌+◌, ◌++◌, drop}
 use Rattle.verb_core.specs.Step.{answers, run}
 use Rattle.verb_core.specs.Store.{IsValid}
-use Rattle.mail_cycle.proofs.perform.perform_all.Given as goal
+use Rattle.mail_cycle.proofs.running.perform_shown.Given as goal
 
 -- the items that are left, performed on the store so far, lead to the store and the answers of all
 abbrev pub invariant-loop-item : goal.invariant-loop-item

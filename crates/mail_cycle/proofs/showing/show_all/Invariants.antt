@@ -1,6 +1,6 @@
 use Rattle.std.proofs.Common.{◌≡◌, ◌++◌, take, drop}
 use Rattle.mail_cycle.specs.Judging.{shown_after}
-use Rattle.mail_cycle.proofs.settle.settle.Given as goal
+use Rattle.mail_cycle.proofs.showing.show_all.Given as goal
 
 -- the items so far, and what the answers that are left make of those that are left, are all of them
 abbrev pub invariant-loop-item : goal.invariant-loop-item

@@ -1,15 +1,15 @@
 //! What items show after a cycle.
-ghost use Rattle.std.specs.Prelude.{◌≡◌, OnOk};
+ghost use Rattle.std.specs.Prelude.{◌≡◌, IfOk, OnOk};
 ghost use Rattle.mail_cycle.specs.Judging.{shown_after, shown_by};
 
 use crate::judge::rest;
 use paradox::broken;
 use std::alloc::Global;
 use undo_base::{Copies, NoMemory};
-use verb_core::{Item, Shown};
+use verb_core::{Item, Items, Shown};
 
 /// Lets an item show the first of these answers, where what it showed no longer holds.
-fn settle_one(alloc: Global, item: &mut Item, now: &[Shown]) -> Result<(), NoMemory>
+fn show_one(alloc: Global, item: &mut Item, now: &[Shown]) -> Result<(), NoMemory>
     ensures { OnOk result (item.new ≡ shown_by item.old now.now) }
 {
     if let Some(shown) = now.first() {
@@ -21,7 +21,7 @@ fn settle_one(alloc: Global, item: &mut Item, now: &[Shown]) -> Result<(), NoMem
 }
 
 /// Lets the items behind the first so many show their answers, where what they showed no longer holds.
-pub(crate) fn settle(
+fn show_all(
     alloc: Global,
     front: usize,
     items: &mut Vec<Item>,
@@ -33,11 +33,27 @@ pub(crate) fn settle(
     let mut now = now;
     for item in items.iter_mut() {
         if left == 0 {
-            settle_one(alloc, item, now)?;
+            show_one(alloc, item, now)?;
+            now = rest(now);
         } else {
             left -= 1;
         }
-        now = rest(now);
     }
     Ok(())
+}
+
+/// The items, of which those behind the first so many show their answers, where what they showed no longer holds.
+pub(crate) fn show(
+    alloc: Global,
+    front: usize,
+    items: Items,
+    now: &[Shown],
+) -> Result<Items, NoMemory>
+    ensures { IfOk result (λ all. all ≡ shown_after front items now.now) }
+{
+    let mut items = items.into_vec();
+    match show_all(alloc, front, &mut items, now) {
+        Ok(()) => Ok(Items::from_vec(items)),
+        Err(NoMemory) => Err(NoMemory),
+    }
 }

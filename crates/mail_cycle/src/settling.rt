@@ -1,0 +1,245 @@
+//! The end of a cycle: what replayed items show is compared with what users were shown, users are told, and all is put together.
+ghost use Rattle.std.specs.Prelude.{◌≡◌, ◌+◌, ◌≤◌, ◌++◌, drop, length, IfOk, IsTrue};
+ghost use Rattle.std.specs.List.{AllByRecursion};
+ghost use Rattle.verb_core.specs.Items.{IsWellFormed};
+ghost use Rattle.verb_core.specs.Step.{answers, run};
+ghost use Rattle.verb_core.specs.Store.{IsValid};
+ghost use Rattle.paradox.specs.Kept.{store_of};
+ghost use Rattle.repair_desk.specs.Renewals.{renewed as renewed_stamps};
+ghost use Rattle.repair_desk.specs.Repairs.{edited_at};
+ghost use Rattle.mail_cycle.specs.Cycles.{cycled_at, leaves_numbers, renewed_by as renewed_in};
+ghost use Rattle.mail_cycle.specs.Judging.{shown_after};
+ghost use Rattle.mail_cycle.specs.Leaving.{Leaves};
+
+use crate::Before;
+use crate::judge::behind;
+use crate::report::renewed_by;
+use crate::running::{Replayed, perform_all};
+use crate::showing::show;
+use crate::telling::{Told, tell_users};
+use box_store::{Steps, Store};
+use paradox::{BrokenList, Renewals, Report};
+use repair_desk::Edited;
+use std::alloc::Global;
+use std::sync::ledger::Ledger;
+use undo_base::{LAST_MOMENT, NoMemory, Numbers};
+use verb_bytes::CycleAsk;
+use verb_core::{Item, Items, Shown, Stamps};
+
+/// What a cycle leaves: the store, the items in force that lead to it, the stamp of each mailbox, the next number, and the
+/// report.
+#[derive(Drop)]
+pub struct Rewound {
+    pub store: Store,
+    pub timeline: Items,
+    pub stamps: Stamps,
+    pub next: u32,
+    pub report: Report,
+}
+
+/// Items, and others behind them.
+fn joined(items: Items, more: Items) -> Result<Items, NoMemory>
+    ensures { IfOk result (λ all. all ≡ items ++ more) }
+{
+    let mut items = items.into_vec();
+    let mut more = more.into_vec();
+    items.append(&mut more)?;
+    Ok(Items::from_vec(items))
+}
+
+/// The items in force: the repaired ones, of which those behind the front show their answers where what they showed no longer
+/// holds, and the notices.
+fn in_force(
+    alloc: Global,
+    front: usize,
+    items: Items,
+    now: &[Shown],
+    notices: Items,
+) -> Result<Items, NoMemory>
+    ensures { IfOk result (λ all. all ≡ shown_after front items now.now ++ notices) }
+{
+    match show(alloc, front, items, now) {
+        Ok(items) => joined(items, notices),
+        Err(NoMemory) => Err(NoMemory),
+    }
+}
+
+/// Performs the notices.
+fn performed<L: Ledger>(
+    alloc: Global,
+    store: Store,
+    notices: &[Item],
+    steps: &mut Steps<L>,
+) -> Result<Store, NoMemory>
+    requires valid { IsValid store.store }
+    requires formed { AllByRecursion (IsWellFormed store.store.house) notices.now }
+    ensures store { IfOk result (λ made. made.store ≡ run store.store notices.now) }
+    ensures valid { IfOk result (λ made. IsValid made.store) }
+    ensures steps { IfOk result (λ made. steps.new ≡ steps.old + length notices.now) }
+{
+    let mut store = store;
+    match perform_all(alloc, &mut store, notices, steps) {
+        Ok(()) => Ok(store),
+        Err(NoMemory) => Err(NoMemory),
+    }
+}
+
+/// The stamps after the cycle, and the mailboxes to which it gave one.
+#[derive(Drop)]
+struct Marks {
+    stamps: Stamps,
+    renewed: Renewals,
+}
+
+fn marks_of(alloc: Global, before: &Before<'_>, after: &Store) -> Result<Marks, NoMemory>
+    ensures stamps { IfOk result (λ marks. marks.stamps ≡ renewed_stamps (store_of before.now).boxes after.now.store.boxes before.now.stamps before.now.next) }
+    ensures renewed { IfOk result (λ marks. marks.renewed ≡ renewed_in before.now.next marks.stamps) }
+{
+    let stamps = before.renewed(alloc, after)?;
+    match renewed_by(alloc, before.next(), stamps.as_slice()) {
+        Ok(renewed) => Ok(Marks { stamps, renewed }),
+        Err(NoMemory) => Err(NoMemory),
+    }
+}
+
+/// The store behind the notices, and the items in force that lead to it.
+#[derive(Drop)]
+struct Led {
+    store: Store,
+    timeline: Items,
+}
+
+/// Performs the notices, and puts them behind the items, which show what they show now where what they showed no longer holds:
+/// all but the front, of which the last ones are the acts that come in.
+fn lead<L: Ledger>(
+    alloc: Global,
+    front: usize,
+    inserts: usize,
+    items: Items,
+    replayed: Replayed,
+    notices: Items,
+    steps: &mut Steps<L>,
+) -> Result<Led, NoMemory>
+    requires valid { IsValid replayed.store.store }
+    requires formed { AllByRecursion (IsWellFormed replayed.store.store.house) notices }
+    ensures store { IfOk result (λ led. led.store.store ≡ run replayed.store.store notices) }
+    ensures valid { IfOk result (λ led. IsValid led.store.store) }
+    ensures timeline { IfOk result (λ led. led.timeline ≡ shown_after front items (drop inserts replayed.shows) ++ notices) }
+    ensures steps { IfOk result (λ led. steps.new ≡ steps.old + length notices) }
+{
+    let Replayed { store, shows } = replayed;
+    let store = performed(alloc, store, notices.as_slice(), steps)?;
+    let now = behind(shows.as_slice(), inserts);
+    match in_force(alloc, front, items, now, notices) {
+        Ok(timeline) => Ok(Led { store, timeline }),
+        Err(NoMemory) => Err(NoMemory),
+    }
+}
+
+/// What is told of a cycle, but for the stamps, and the next number.
+#[derive(Drop)]
+struct Found {
+    next: u32,
+    kept: u32,
+    broken: BrokenList,
+    notices: Numbers,
+    unmatched: Numbers,
+}
+
+/// Puts all together, with the stamps.
+fn finish(
+    alloc: Global,
+    before: &Before<'_>,
+    point: u32,
+    led: Led,
+    found: Found,
+) -> Result<Rewound, NoMemory>
+    ensures store { IfOk result (λ made. made.store.store ≡ led.store.store) }
+    ensures timeline { IfOk result (λ made. made.timeline ≡ led.timeline) }
+    ensures stamps { IfOk result (λ made. made.stamps ≡ renewed_stamps (store_of before.now).boxes led.store.store.boxes before.now.stamps before.now.next) }
+    ensures next { IfOk result (λ made. made.next ≡ found.next) }
+    ensures report { IfOk result (λ made. made.report ≡ record {
+      cycle = before.now.next;
+      point = point;
+      kept = found.kept;
+      broken = found.broken;
+      notices = found.notices;
+      renewed = renewed_in before.now.next made.stamps;
+      unmatched = found.unmatched;
+    }) }
+{
+    match marks_of(alloc, before, &led.store) {
+        Ok(marks) => Ok(Rewound {
+            store: led.store,
+            timeline: led.timeline,
+            stamps: marks.stamps,
+            next: found.next,
+            report: Report {
+                cycle: before.next(),
+                point,
+                kept: found.kept,
+                broken: found.broken,
+                notices: found.notices,
+                renewed: marks.renewed,
+                unmatched: found.unmatched,
+            },
+        }),
+        Err(NoMemory) => Err(NoMemory),
+    }
+}
+
+/// What the cycle leaves behind a place, from the repaired timeline and the store and the answers that the items behind the
+/// place gave: the broken and the withdrawn items, what the broken ones show, the notices, which are performed, the stamps and
+/// the report. In time that grows as the timeline and the mailboxes.
+pub fn settle<L: Ledger>(
+    alloc: Global,
+    before: &Before<'_>,
+    at: u64,
+    ask: &CycleAsk,
+    place: usize,
+    edited: Edited,
+    replayed: Replayed,
+    steps: &mut Steps<L>,
+) -> Result<Rewound, NoMemory>
+    requires moment { at ≤ LAST_MOMENT }
+    requires numbers { IsTrue (leaves_numbers before.now ask.now) }
+    requires place { place ≤ length before.now.timeline }
+    requires edited { edited ≡ edited_at before.now.timeline ask.now before.now.next at place }
+    requires store { replayed.store.store ≡ run before.now.base edited.items }
+    requires valid { IsValid replayed.store.store }
+    requires shows { replayed.shows ≡ drop place (answers before.now.base edited.items) }
+    ensures made { IfOk result (λ made. Leaves before.now (cycled_at before.now at ask.now place) made) }
+    ensures steps { IfOk result (λ made. steps.new ≤ steps.old + length made.report.notices) }
+{
+    before.has_a_house();
+    let Told {
+        broken,
+        notices,
+        numbers,
+    } = tell_users(alloc, before, at, ask, place, replayed.shows.as_slice())?;
+    let Edited {
+        items,
+        kept,
+        unmatched,
+        ..
+    } = edited;
+    let inserts = ask.inserts.len();
+    let next = before.next() + 1 + inserts as u32 + numbers.len() as u32;
+    let found = Found {
+        next,
+        kept,
+        broken,
+        notices: numbers,
+        unmatched,
+    };
+    let led = lead(
+        alloc,
+        before.front_with(place, inserts),
+        inserts,
+        items,
+        replayed,
+        notices,
+        steps,
+    )?;
+    finish(alloc, before, ask.point, led, found)
+}
