@@ -1,5 +1,5 @@
 -- The texts of bodies, by the items that brought them.
-use Rattle.std.proofs.Common.{◌≡◌, ◌≢◌, ℕ, ◌<◌, ◌≤◌, ◌==◌, Bool, true, false, ◌&&◌, cond, List, [], ◌∷◌, ◌++◌, length, find, Option, None, Some, is_some, option_map, option_and_then, refl, ap, sym, ◌∙◌, arith, nat_lt}
+use Rattle.std.proofs.Common.{◌≡◌, ◌≢◌, ℕ, ◌==◌, Bool, true, false, ◌&&◌, cond, List, [], ◌∷◌, ◌++◌, length, find, Option, None, Some, is_some, option_map, option_and_then, refl, ap, sym, ◌∙◌, arith}
 use Rattle.std.specs.List.{AllByRecursion}
 use Rattle.std.specs.Cmp.{second_so}
 use Rattle.std.proofs.lemmas.Bool.Decides.{nat_tests}
@@ -8,11 +8,11 @@ use Rattle.verb_core.specs.declared.mailbox.Body.{Body}
 use Rattle.verb_core.specs.Items.{NumbersApart, text_in, text_of}
 use Rattle.shelf.specs.declared.note.Note.{Note}
 use Rattle.shelf.specs.Notes.{same_body, size_of}
-use Rattle.mail_desk.specs.Timeline.{numbers_rise, item_of, body_of, has_text, told_by, NotesText}
-use Rattle.mail_desk.proofs.Timelines.{low_below, unequal}
+use Rattle.mail_desk.specs.Timeline.{item_of, body_of, has_text, told_by, NotesText}
+use Rattle.mail_desk.proofs.Timelines.{all_weaker, unequal}
 
 -- whether an item brought the text of a body
-abbrev brings : Body → Item → Bool
+abbrev pub brings : Body → Item → Bool
 brings body i = (i.number == body.origin) && (i.rev == body.rev) && is_some (text_in i.deed)
 
 -- no item of these has the body's number
@@ -30,7 +30,7 @@ by_item i body rest true None is none = none
 by_item i body rest false (Some text) is none = none
 by_item i body rest false None is none = none
 
-through : {A B : Type 0} (f : A → Option B) (b : Bool) (x : A) (o : Option A) → option_and_then f (cond b (Some x) o) ≡ cond b (f x) (option_and_then f o)
+pub through : {A B : Type 0} (f : A → Option B) (b : Bool) (x : A) (o : Option A) → option_and_then f (cond b (Some x) o) ≡ cond b (f x) (option_and_then f o)
 through f true x o = refl
 through f false x o = refl
 
@@ -44,15 +44,6 @@ text_by_item (i ∷ t) apart body =
     ] refl
 
 -- ---- an item more
-
--- a body of a number that comes later has no text
-pub text_none : (low : ℕ) (t : List Item) (next : ℕ) (body : Body) → numbers_rise low t next ≡ true → next ≤ body.origin → text_of t body ≡ None
-text_none low [] next body rise later = refl
-text_none low (i ∷ t) next body rise later =
-    let rest = second_so (nat_lt low i.number) _ rise in
-    let below : i.number < next = low_below i.number t next rest in
-    let no : (i.number == body.origin) ≡ false = unequal i.number body.origin (λ e. let wrong : i.number ≡ body.origin = e in absurd (omega arith)) in
-    rw no (text_none i.number t next body rest later)
 
 -- of the first that brings the text, or else of the last
 first_or : (b : Bool) (o rest last : Option (List ℕ)) → (b ≡ true → is_some o ≡ true) → cond b o (cond (is_some rest) rest last) ≡ cond (is_some (cond b o rest)) (cond b o rest) last
@@ -85,14 +76,46 @@ or_there : (o : Option (List ℕ)) (last : Option (List ℕ)) → is_some last �
 or_there None last some = some
 or_there (Some text) last some = refl
 
-itself : (i : Item) → same_body (body_of i) (body_of i) ≡ true
-itself i = grind (arith, nat_tests)
+pub itself : (body : Body) → same_body body body ≡ true
+itself body = grind (arith, nat_tests)
 
 -- an item's own text is there
 pub text_added : (t : List Item) (i : Item) → is_some (text_in i.deed) ≡ true → has_text (t ++ i ∷ []) (body_of i) ≡ true
 text_added t i some =
     ap is_some (text_more t i (body_of i)) ∙ or_there (text_of t (body_of i)) (text_of (i ∷ []) (body_of i))
-    (ap is_some (text_single i (body_of i) ∙ ap (λ b. cond b (text_in i.deed) None) (itself i)) ∙ some)
+    (ap is_some (text_single i (body_of i) ∙ ap (λ b. cond b (text_in i.deed) None) (itself (body_of i))) ∙ some)
+
+-- ---- an item before
+
+first_some : (b : Bool) (o rest : Option (List ℕ)) → (b ≡ true → is_some o ≡ true) → is_some rest ≡ true → is_some (cond b o rest) ≡ true
+first_some true o rest some has = some refl
+first_some false o rest some has = has
+
+-- a text stays
+pub text_later : (j : Item) (t : List Item) (body : Body) → has_text t body ≡ true → has_text (j ∷ t) body ≡ true
+text_later j t body has =
+    ap is_some (through (λ (k : Item). text_in k.deed) (brings body j) j (find (brings body) t))
+    ∙ first_some (brings body j) (text_in j.deed) (text_of t body) (λ e. second_so ((j.number == body.origin) && (j.rev == body.rev)) (is_some (text_in j.deed)) e) has
+
+own_first : (same : Bool) (o rest : Option (List ℕ)) → same ≡ true → is_some o ≡ true → is_some (cond (same && is_some o) o rest) ≡ true
+own_first true (Some text) rest e some = refl
+own_first true None rest e some = absurd (let wrong : false ≡ true = some in cc)
+own_first false o rest e some = absurd (let wrong : false ≡ true = e in cc)
+
+-- an item's own text is there
+text_first : (i : Item) (t : List Item) → is_some (text_in i.deed) ≡ true → has_text (i ∷ t) (body_of i) ≡ true
+text_first i t some =
+    ap is_some (through (λ (k : Item). text_in k.deed) (brings (body_of i) i) i (find (brings (body_of i)) t))
+    ∙ own_first (same_body (body_of i) (body_of i)) (text_in i.deed) (text_of t (body_of i)) (itself (body_of i)) some
+
+-- each item's own
+pub own_texts : (t : List Item) → AllByRecursion (λ (i : Item). is_some (text_in i.deed) ≡ true → has_text t (body_of i) ≡ true) t
+own_texts [] = tt
+own_texts (i ∷ t) = (
+  text_first i t,
+  all_weaker (λ (j : Item). is_some (text_in j.deed) ≡ true → has_text t (body_of j) ≡ true) (λ (j : Item). is_some (text_in j.deed) ≡ true → has_text (i ∷ t) (body_of j) ≡ true)
+      (λ j own some. text_later i t (body_of j) (own some)) t (own_texts t),
+)
 
 -- ---- sizes
 
@@ -107,18 +130,18 @@ none_either : (b : Bool) → ◌≡◌ {A = Option (List ℕ)} (cond b None None
 none_either true = refl
 none_either false = refl
 
--- the sizes of the texts that were there, and of the one that an item of the next number brings
-pub sizes_on : (low : ℕ) (t : List Item) (next : ℕ) (i : Item) (old new : List (Body × Note)) → numbers_rise low t next ≡ true → i.number ≡ next
+-- the sizes of the texts that were there, and of the one that an item of another number brings
+pub sizes_on : (t : List Item) (i : Item) (old new : List (Body × Note)) → AllByRecursion (λ (j : Item). i.number ≢ j.number) t
     → (o : Option (List ℕ)) → text_in i.deed ≡ o → NotesText o (body_of i) old new → SizesOf old t → SizesOf new (t ++ i ∷ [])
-sizes_on low t next i old new rise is None brought noted sizes body =
+sizes_on t i old new others None brought noted sizes body =
     ap (λ (n : List (Body × Note)). size_of n body) noted ∙ sizes body
     ∙ ap (option_map length) (sym (text_more t i body ∙ ap (λ o. cond (is_some (text_of t body)) (text_of t body) o) (text_single i body ∙ ap (λ o. cond (same_body (body_of i) body) o None) brought ∙ none_either (same_body (body_of i) body)) ∙ or_none (text_of t body)))
-sizes_on low t next i old new rise is (Some text) brought noted sizes body =
+sizes_on t i old new others (Some text) brought noted sizes body =
     noted body
     ∙ elim (same_body (body_of i) body) as (λ b. same_body (body_of i) body ≡ b → cond b (Some (length text)) (size_of old body) ≡ option_map length (cond (is_some (text_of t body)) (text_of t body) (cond b (Some text) None))) [
       | true ↦ λ e.
           let same : i.number ≡ body.origin = grind (arith, nat_tests) in
-          let none : text_of t body ≡ None = text_none low t next body rise (omega arith) in
+          let none : text_of t body ≡ None = none_numbered t body i.number others same in
           ap (λ (o : Option (List ℕ)). option_map length (cond (is_some o) o (Some text))) (sym none)
       | false ↦ λ e. sizes body ∙ ap (option_map length) (sym (or_none (text_of t body)))
     ] refl

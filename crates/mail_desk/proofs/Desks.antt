@@ -1,7 +1,8 @@
 -- The desk at first, and what every desk has.
 use Rattle.std.proofs.Common.{◌≡◌, ℕ, ◌-◌, ◌<◌, ◌≤◌, Bool, true, ◌&&◌, List, [], ◌∷◌, map, flat_map, option_map, refl, ap, sym, subst, ◌∙◌, arith, length, nat_le}
+use Rattle.std.specs.List.{AllByRecursion, list_all}
 use Rattle.std.specs.Cmp.{first_so, second_so}
-use Rattle.std.proofs.lemmas.Bool.{leb-true, lt-ltb}
+use Rattle.std.proofs.lemmas.Bool.{leb-true}
 use Rattle.undo_base.specs.declared.keys.User.{User}
 use Rattle.verb_core.specs.declared.conf.House.{House}
 use Rattle.verb_core.specs.declared.conf.Conf.{Conf}
@@ -13,13 +14,14 @@ use Rattle.verb_core.specs.Mailboxes.{no_mail}
 use Rattle.verb_core.specs.Names.{inbox, lost_found}
 use Rattle.verb_core.specs.Boxes.{box_of}
 use Rattle.verb_core.specs.Store.{MailStore, IsValid, is_house, is_known, opening, users_of}
-use Rattle.verb_core.specs.Step.{step, run}
+use Rattle.verb_core.specs.Step.{Boxes, step, run}
 use Rattle.verb_core.specs.Stamps.{opening_stamps}
 use Rattle.verb_core.specs.Items.{text_of}
 use Rattle.shelf.specs.declared.note.Note.{Note}
 use Rattle.shelf.specs.Notes.{size_of}
-use Rattle.paradox.specs.Kept.{Kept, new_desk, store_of}
+use Rattle.paradox.specs.Kept.{Kept, Reports, new_desk, store_of}
 use Rattle.mail_desk.specs.Desk.{IsDesk}
+use Rattle.mail_desk.specs.Held.{kept_from}
 use Rattle.mail_desk.specs.Timeline.{has_text, all_bodies}
 
 -- a run keeps the house
@@ -27,11 +29,11 @@ run-house : (base : MailStore) (t : List Item) → (run base t).house ≡ base.h
 run-house base [] = refl
 run-house base (i ∷ t) = run-house (step base i).0 t
 
-pub house_stays : (kept : Kept) → (store_of kept).house ≡ kept.house
-house_stays kept = run-house (opening kept.house kept.opening) kept.timeline
+pub house_stays : (kept : Kept) → kept.base ≡ opening kept.house kept.opening → (store_of kept).house ≡ kept.house
+house_stays kept began = run-house kept.base kept.timeline ∙ ap (λ (s : MailStore). s.house) began
 
 -- empty mailboxes name no body
-empty_boxes : (test : Body → Bool) (users : List User) →
+pub empty_boxes : (test : Body → Bool) (users : List User) →
     all_bodies test (flat_map (λ (u : User). (box_of u inbox, no_mail) ∷ (box_of u lost_found, no_mail) ∷ []) users) ≡ true
 empty_boxes test [] = refl
 empty_boxes test (u ∷ users) = empty_boxes test users
@@ -45,26 +47,37 @@ first_bounds house sound =
     }
 
 -- the parts of a new desk, as they were made
-pub new_desk_is : (house : House) (conf : Conf) (stamps : List (BoxId × ℕ)) (timeline : List Item) → stamps ≡ opening_stamps (opening house conf) → timeline ≡ []
-    → ◌≡◌ {A = Kept} (record { house = house; opening = conf; timeline = timeline; stamps = stamps; next = house.first }) (new_desk house conf)
-new_desk_is house conf stamps timeline stamped empty = λ j. record { house = house; opening = conf; timeline = empty j; stamps = stamped j; next = house.first }
+pub new_desk_is : (house : House) (conf : Conf) (stamps : List (BoxId × ℕ)) (timeline : List Item) (reports : Reports) → stamps ≡ opening_stamps (opening house conf) → timeline ≡ [] → reports ≡ []
+    → kept_from house conf timeline stamps house.first reports ≡ new_desk house conf
+new_desk_is house conf stamps timeline reports stamped empty none = λ j. kept_from house conf (empty j) (stamped j) house.first (none j)
+
+-- one stamp is below the next number
+first_fresh : (n next : ℕ) → n < next → (rs : Boxes) → AllByRecursion (λ (r : BoxId × ℕ). r.1 < next) (map (λ (r : BoxId × Mailbox). (r.0, n)) rs)
+first_fresh n next less [] = tt
+first_fresh n next less (r ∷ rs) = (less, first_fresh n next less rs)
 
 -- they are a desk
-pub new_desk_holds : (house : House) (conf : Conf) (store : MailStore) (kept : Kept) → is_house house ≡ true → IsValid store → store ≡ opening house conf
+pub new_desk_holds : (house : House) (conf : Conf) (store : MailStore) (kept : Kept) → is_house house ≡ true
+    → list_all (λ a. list_all (is_known house) a.users) conf.aliases ≡ true → conf.filters ≡ [] → IsValid store → store ≡ opening house conf
     → kept ≡ new_desk house conf
     → map (λ (r : BoxId × ℕ). r.0) (opening_stamps (opening house conf)) ≡ map (λ (r : BoxId × Mailbox). r.0) (opening house conf).boxes
     → IsDesk store kept
-new_desk_holds house conf store kept sound valid made is named =
+new_desk_holds house conf store kept sound aliases filters valid made is named =
     let bounds = first_bounds house sound in
-    let below : house.first - 1 < house.first = omega arith in
     subst (λ (k : Kept). IsDesk store k) (sym is) (subst (λ (s : MailStore). IsDesk s (new_desk house conf)) (sym made) (record {
       house = sound;
+      aliases = aliases;
+      filters = filters;
+      base = refl;
       store_is = refl;
       valid = subst IsValid made valid;
       next = omega arith;
       stamps = named;
+      fresh = first_fresh (house.first - 1) house.first (omega arith) (opening house conf).boxes;
       formed = tt;
-      rising = lt-ltb (house.first - 1) house.first below;
+      apart = tt;
+      below = tt;
+      few = omega arith;
       texts = empty_boxes (has_text []) (users_of house);
     }))
 

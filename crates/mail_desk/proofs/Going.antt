@@ -1,5 +1,5 @@
 -- A desk goes on by an item.
-use Rattle.std.proofs.Common.{◌≡◌, ℕ, ◌+◌, ◌-◌, ◌<◌, Bool, true, false, not, ◌&&◌, cond, List, [], ◌∷◌, ◌++◌, map, filter_map, Option, None, Some, is_some, option_map, unwrap_or, sum_by, refl, ap, sym, subst, ◌∙◌, arith, zero-add}
+use Rattle.std.proofs.Common.{◌≡◌, ℕ, ◌+◌, ◌<◌, ◌≤◌, Bool, true, false, not, ◌&&◌, cond, List, [], ◌∷◌, ◌++◌, length, map, filter_map, Option, None, Some, is_some, option_map, unwrap_or, sum_by, refl, ap, sym, subst, ◌∙◌, arith, zero-add}
 use Rattle.std.proofs.lemmas.List.Sums.{sum_by-cons}
 use Rattle.std.specs.List.{list_all, cons_option, enumerate_from, AllByRecursion}
 use Rattle.std.specs.Cmp.{first_so, second_so}
@@ -23,7 +23,7 @@ use Rattle.verb_core.specs.Items.{IsWellFormed, actor, text_in}
 use Rattle.verb_core.specs.Mailboxes.{entry_of, same_key}
 use Rattle.verb_core.specs.Stamps.{stamps_after}
 use Rattle.verb_core.specs.Step.{Boxes, new_mail, step, run}
-use Rattle.verb_core.specs.Store.{MailStore, IsValid, opening}
+use Rattle.verb_core.specs.Store.{MailStore, IsValid}
 use Rattle.verb_core.proofs.BoxLaws.{same_user-refl}
 use Rattle.verb_core.proofs.FateLaws.{count_in-cons}
 use Rattle.verb_core.proofs.Validity.{all_kept}
@@ -31,7 +31,7 @@ use Rattle.mail_desk.specs.Desk.{IsDesk}
 use Rattle.paradox.specs.Kept.{Kept}
 use Rattle.mail_desk.specs.Timeline.{all_bodies, body_of, has_text}
 use Rattle.mail_desk.proofs.BodyTexts.{text_added, text_stays}
-use Rattle.mail_desk.proofs.Timelines.{rise_on}
+use Rattle.mail_desk.proofs.Timelines.{all_on, apart_on, below_on, others_below}
 
 -- ---- entries whose bodies pass a test, by how many fail
 
@@ -180,6 +180,13 @@ step_known law test s i valid formed all own =
     all_held test (step s i).0.boxes (λ u. none_after _ (count_taken u (fails test) s i) (count_held u (fails test) s.boxes) (count_given u (fails test) s i)
     (law u (fails test) s i valid formed (λ e uid. refl) (λ is e flags. refl)) (none_held test u s.boxes all) (none_given test u s i all own))
 
+-- items of which each brings none but bodies that pass
+pub run_known : MailIsKept → StepsKeep → (test : Body → Bool) (s : MailStore) (t : List Item) → IsValid s → AllByRecursion (IsWellFormed s.house) t
+    → AllByRecursion (λ (i : Item). is_some (text_in i.deed) ≡ true → test (body_of i) ≡ true) t → all_bodies test s.boxes ≡ true → all_bodies test (run s t).boxes ≡ true
+run_known law stays test s [] valid formed own all = all
+run_known law stays test s (i ∷ t) valid formed own all =
+    run_known law stays test (step s i).0 t (stays s i valid formed.0) formed.1 own.1 (step_known law test s i valid formed.0 all own.0)
+
 more_known : (t : List Item) (i : Item) (boxes : Boxes) → all_bodies (has_text t) boxes ≡ true → all_bodies (has_text (t ++ i ∷ [])) boxes ≡ true
 more_known t i boxes all =
     all_kept (λ (r : BoxId × Mailbox). list_all (λ (e : Entry). has_text t e.body) r.1.entries) (λ (r : BoxId × Mailbox). list_all (λ (e : Entry). has_text (t ++ i ∷ []) e.body) r.1.entries) boxes
@@ -191,19 +198,25 @@ run_then : (base : MailStore) (t : List Item) (i : Item) → run base (t ++ i �
 run_then base [] i = refl
 run_then base (j ∷ t) i = run_then (step base j).0 t i
 
-formed_on : (P : Item → Type 0) (t : List Item) (i : Item) → AllByRecursion P t → P i → AllByRecursion P (t ++ i ∷ [])
-formed_on P [] i all here = (here, tt)
-formed_on P (j ∷ t) i all here = (all.0, formed_on P t i all.1 here)
+-- the stamp of a mailbox after an item of the next number
+fresh_at : (number next : ℕ) (id : BoxId) (stamps : List (BoxId × ℕ)) → number ≡ next → AllByRecursion (λ (r : BoxId × ℕ). r.1 < next) stamps → unwrap_or (row_at id stamps) number < next + 1
+fresh_at number next id [] is below = omega arith
+fresh_at number next id (r ∷ rs) is below =
+    let first : r.1 < next = below.0 in
+    elim (eq_by_cmp box_cmp id r.0) as (λ b. unwrap_or (cond b (Some r.1) (row_at id rs)) number < next + 1) [
+      | true ↦ omega arith
+      | false ↦ fresh_at number next id rs is below.1
+    ]
+
+-- each of them is below the number after it
+fresh_on : (number next : ℕ) (boxes : Boxes) (stamps : List (BoxId × ℕ)) → number ≡ next → AllByRecursion (λ (r : BoxId × ℕ). r.1 < next) stamps
+    → AllByRecursion (λ (r : BoxId × ℕ). r.1 < next + 1) (stamps_after number boxes stamps)
+fresh_on number next [] stamps is below = tt
+fresh_on number next (b ∷ boxes) stamps is below = (fresh_at number next b.0 stamps is below, fresh_on number next boxes stamps is below)
 
 -- what is kept with these stamps, and an item more
 abbrev pub with_item : Kept → Item → List (BoxId × ℕ) → Kept
-with_item kept item stamps = record {
-  house = kept.house;
-  opening = kept.opening;
-  timeline = kept.timeline ++ item ∷ [];
-  stamps = stamps;
-  next = kept.next + 1;
-}
+with_item kept item stamps = record kept { timeline = kept.timeline ++ item ∷ []; stamps = stamps; next = kept.next + 1 }
 
 pub desk_goes_on : MailIsKept → StepsKeep → StampsAreNamed → (store store' : MailStore) (kept : Kept) (item : Item) (stamps : List (BoxId × ℕ)) → IsDesk store kept
     → IsWellFormed store.house item → kept.house ≡ store.house → item.number ≡ kept.next → kept.next < 4194304 → store' ≡ (step store item).0
@@ -213,11 +226,17 @@ desk_goes_on keeps stays named store store' kept item stamps is formed house num
     let known = step_known keeps (has_text (kept.timeline ++ item ∷ [])) store item is.valid formed (more_known kept.timeline item store.boxes is.texts) (text_added kept.timeline item) in
     record {
       house = is.house;
-      store_is = performs ∙ ap (λ s. (step s item).0) is.store_is ∙ sym (run_then (opening kept.house kept.opening) kept.timeline item);
+      aliases = is.aliases;
+      filters = is.filters;
+      base = is.base;
+      store_is = performs ∙ ap (λ s. (step s item).0) is.store_is ∙ sym (run_then kept.base kept.timeline item);
       valid = subst IsValid (sym performs) (stays store item is.valid formed);
       next = omega arith;
       stamps = ap (λ (t : List (BoxId × ℕ)). map (λ (r : BoxId × ℕ). r.0) t) after ∙ named item.number (step store item).0.boxes kept.stamps ∙ ap (λ (s : MailStore). map (λ (r : BoxId × Mailbox). r.0) s.boxes) (sym performs);
-      formed = formed_on (IsWellFormed kept.house) kept.timeline item is.formed (subst (λ (h : House). IsWellFormed h item) (sym house) formed);
-      rising = rise_on (kept.house.first - 1) kept.timeline kept.next item is.rising number;
+      fresh = subst (λ (t : List (BoxId × ℕ)). AllByRecursion (λ (r : BoxId × ℕ). r.1 < kept.next + 1) t) (sym after) (fresh_on item.number kept.next (step store item).0.boxes kept.stamps number is.fresh);
+      formed = all_on (IsWellFormed kept.house) kept.timeline item is.formed (subst (λ (h : House). IsWellFormed h item) (sym house) formed);
+      apart = apart_on kept.timeline item is.apart (others_below kept.next kept.timeline item is.below number);
+      below = below_on kept.next kept.timeline item is.below number;
+      few = let few : length kept.reports ≤ kept.next = is.few in omega arith;
       texts = subst (λ (s : MailStore). all_bodies (has_text (kept.timeline ++ item ∷ [])) s.boxes ≡ true) (sym performs) known;
     }

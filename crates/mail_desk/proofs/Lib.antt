@@ -1,8 +1,11 @@
 pub mod Timelines
+pub mod Indexes
 pub mod BodyTexts
+pub mod Sizings
 pub mod Desks
 pub mod Stampings
 pub mod Searched
 pub mod Going
 pub mod Readied
+pub mod Remades
 pub mod Counted

@@ -1,5 +1,5 @@
 -- What is known of an item that is asked for, and of one for which all is ready.
-use Rattle.std.proofs.Common.{◌≡◌, ℕ, ◌-◌, ◌<◌, ◌≤◌, ◌==◌, Bool, true, false, List, [], ◌∷◌, ◌++◌, Option, None, Some, Result, Ok, Err, IfOk, IfErr, OnOk, unwrap_or, nat_lt, option_map, refl, ap, sym, subst, ◌∙◌, arith}
+use Rattle.std.proofs.Common.{◌≡◌, ℕ, ◌<◌, ◌≤◌, ◌==◌, Bool, true, false, List, [], ◌∷◌, ◌++◌, Option, None, Some, Result, Ok, Err, IfOk, IfErr, OnOk, unwrap_or, nat_lt, option_map, refl, ap, sym, subst, ◌∙◌, arith}
 use Rattle.std.proofs.lemmas.Bool.Decides.{nat_tests}
 use Rattle.undo_base.specs.declared.keys.User.{User}
 use Rattle.undo_base.specs.declared.memory.NoMemory.{NoMemory as MemoryWant}
@@ -97,10 +97,6 @@ can_enter (Ok ready) held item formed number left is does stamps effect items no
   notes = notes;
 }
 can_enter (Err why) held item formed number left is does stamps effect items notes = tt
-
-pub some_room : {T E : Type 0} (r : Result T E) (len capacity : ℕ) → OnOk r (len < capacity) → OnOk r (0 < capacity - len)
-some_room (Ok x) len capacity lt = omega arith
-some_room (Err e) len capacity lt = tt
 
 -- ---- what becomes of it
 

@@ -20,7 +20,7 @@ messages_in boxes = sum_by (λ (r : BoxId × Mailbox). length r.1.entries) boxes
 -- the counts; more messages than 64 bits hold are told as the most that they hold
 abbrev pub counts_of : Kept → Counts
 counts_of kept = record {
-  cycles = 0;
+  cycles = length kept.reports;
   items = length kept.timeline;
   messages = min (messages_in (store_of kept).boxes) most;
   next = kept.next;

@@ -1,5 +1,5 @@
 -- The numbers and the texts of a timeline.
-use Rattle.std.specs.Prelude.{◌≡◌, ℕ, Bool, nat_lt, ◌&&◌, ◌==◌, List, [], ◌∷◌, map, find, length, true, is_some, Option, Some, None, if◌then◌else◌, unwrap_or, option_map, option_and_then}
+use Rattle.std.specs.Prelude.{◌≡◌, ℕ, Bool, ◌==◌, List, [], map, find, length, is_some, Option, Some, None, if◌then◌else◌, unwrap_or, option_map, option_and_then}
 use Rattle.std.specs.List.{list_all}
 use Rattle.verb_core.specs.declared.item.Item.{Item}
 use Rattle.verb_core.specs.declared.mailbox.Body.{Body}
@@ -9,15 +9,6 @@ use Rattle.verb_core.specs.declared.mailbox.Mailbox.{Mailbox}
 use Rattle.verb_core.specs.Items.{text_in, text_of}
 use Rattle.shelf.specs.declared.note.Note.{Note}
 use Rattle.shelf.specs.Notes.{same_body, size_of}
-
--- the numbers are above low, strictly rise, and stay below next
-abbrev pub numbers_rise : ℕ → List Item → ℕ → Bool
-numbers_rise low [] next = nat_lt low next
-numbers_rise low (i ∷ is) next = nat_lt low i.number && numbers_rise i.number is next
-
--- the numbers strictly rise
-abbrev pub NumbersRise : List Item → Type 0
-NumbersRise t = (low : ℕ) × ((next : ℕ) × (numbers_rise low t next ≡ true))
 
 -- the item of a number
 abbrev pub item_of : List Item → ℕ → Option Item

@@ -77,7 +77,10 @@ fn bare_copy(alloc: Global, item: &Item) -> Result<Item, NoMemory>
             deed,
             shown,
         }),
-        Err(NoMemory) => Err(NoMemory),
+        Err(NoMemory) => {
+            drop(shown);
+            Err(NoMemory)
+        }
     }
 }
 
@@ -130,13 +133,20 @@ impl Desk {
         ensures { result ≡ counts_of self.now.kept }
     {
         Counts {
-            cycles: 0,
-            items: self.timeline.len() as u32,
+            cycles: self.reports.len() as u32,
+            items: self.timeline.len(self.next) as u32,
             messages: messages_in(&self.store, self.stamps.as_slice()),
             next: self.next,
             notices: notices_in(self.timeline.as_slice()) as u32,
             users: self.house.accounts.len() as u32,
         }
+    }
+
+    /// All items in force, in order. It takes no memory.
+    pub fn all_items(&self) -> &[Item]
+        ensures { result.now ≡ self.now.kept.timeline }
+    {
+        self.timeline.as_slice()
     }
 
     /// At most a thousand items from a place on (0 is the first), as they are. It takes no memory.

@@ -1,36 +1,40 @@
 //! The desk, and what it tells of itself.
-ghost use Rattle.std.specs.Prelude.{◌≡◌, ℕ, ◌≤◌, ◌-◌, [], ◌++◌, map, length, option_map, IsTrue, IfOk, OnOk};
-ghost use Rattle.std.specs.List.{list_all};
+ghost use Rattle.std.specs.Prelude.{◌≡◌, ℕ, ◌<◌, ◌≤◌, ◌-◌, [], ◌++◌, map, length, option_copied, option_map, IsTrue, IfOk, OnOk};
+ghost use Rattle.std.specs.List.{AllByRecursion, list_all};
+ghost use Rattle.verb_core.specs.declared.item.Item.{Item as TheItem};
 ghost use Rattle.verb_core.specs.declared.mailbox.Body.{Body as TheBody};
 ghost use Rattle.verb_core.specs.declared.mailbox.BoxId.{BoxId as TheBoxId};
 ghost use Rattle.verb_core.specs.declared.mailbox.Mailbox.{Mailbox as TheMailbox};
 ghost use Rattle.verb_core.specs.Boxes.{box_of, row_at};
 ghost use Rattle.verb_core.specs.Items.{IsTimeline, text_of};
-ghost use Rattle.paradox.specs.Kept.{new_desk, store_of};
+ghost use Rattle.paradox.specs.Kept.{new_desk, report_of as report_in, store_of};
 ghost use Rattle.verb_core.specs.Stamps.{opening_stamps};
 ghost use Rattle.verb_core.specs.Store.{IsValid, is_house, is_known, opening as store_at_first};
 ghost use Rattle.shelf.specs.Notes.{size_of};
-ghost use Rattle.mail_desk.specs.Timeline.{all_bodies, has_sizes, has_text, numbers_rise};
+ghost use Rattle.mail_desk.specs.Timeline.{all_bodies, has_sizes, has_text};
 
+use crate::numbered::Numbered;
 use crate::stamps::{find_stamp, push_stamp};
 use box_store::Store;
+use paradox::{Report, report_of};
 use shelf::Shelf;
 use std::alloc::Global;
 use std::marker::Model;
 use undo_base::{Copies, Name, NoMemory, User};
 use verb_core::laws::stamps_name_mailboxes;
-use verb_core::{BoxId, Conf, House, Item, Mailbox, Stamps};
+use verb_core::{BoxId, Conf, House, Mailbox, Stamps};
 
 /// The house, the configuration at first, the store, the items in force in order, the stamp of each mailbox, the next
-/// number, and the sizes of texts.
+/// number, each cycle's report by the key of its request, and the sizes of texts.
 #[derive(Drop)]
 pub struct Desk {
     pub(crate) house: House,
     pub(crate) opening: Conf,
     pub(crate) store: Store,
-    pub(crate) timeline: Vec<Item>,
+    pub(crate) timeline: Numbered,
     pub(crate) stamps: Stamps,
     pub(crate) next: u32,
+    pub(crate) reports: Vec<(Name, Report)>,
     pub(crate) shelf: Shelf,
 }
 
@@ -40,17 +44,22 @@ impl Model for Desk {
     ghost use Rattle.verb_core.specs.Items.{text_of};
     ghost use Rattle.shelf.specs.Notes.{size_of};
     ghost use Rattle.mail_desk.specs.Desk.{IsDesk};
-    ghost use Rattle.mail_desk.specs.Held.{Held};
+    ghost use Rattle.mail_desk.specs.Held.{Held, kept_from};
 
     ghost Value = { Held };
 
     ghost view = { λ d. record {
-      kept = record { house = d.house; opening = d.opening; timeline = d.timeline.items; stamps = d.stamps; next = d.next };
-      room = record { store = d.store; items = vec_capacity d.timeline - vec_len d.timeline; notes = d.shelf.room };
+      kept = kept_from d.house d.opening d.timeline.items d.stamps d.next d.reports.items;
+      room = record {
+        store = d.store;
+        items = d.timeline.room;
+        notes = d.shelf.room;
+        reports = vec_capacity d.reports - vec_len d.reports;
+      };
     } };
 
     ghost invariant = { λ d. record {
-      desk : IsDesk d.store.store (record { house = d.house; opening = d.opening; timeline = d.timeline.items; stamps = d.stamps; next = d.next });
+      desk : IsDesk d.store.store (kept_from d.house d.opening d.timeline.items d.stamps d.next d.reports.items);
       sizes : (body : Body) → size_of d.shelf.notes body ≡ option_map length (text_of d.timeline.items body);
     } };
 }
@@ -114,6 +123,8 @@ fn begun(alloc: Global, house: House, opening: Conf, store: Store, stamps: Stamp
     requires store { store.store ≡ store_at_first house opening }
     requires valid { IsValid store.store }
     requires stamps { stamps ≡ opening_stamps store.store }
+    requires aliases { IsTrue (list_all (λ a. list_all (is_known house) a.users) opening.aliases) }
+    requires filters { opening.filters ≡ [] }
     ensures { result.kept ≡ new_desk house opening }
 {
     stamps_name_mailboxes();
@@ -122,9 +133,10 @@ fn begun(alloc: Global, house: House, opening: Conf, store: Store, stamps: Stamp
         house,
         opening,
         store,
-        timeline: Vec::new(alloc),
+        timeline: Numbered::new(alloc),
         stamps,
         next,
+        reports: Vec::new(alloc),
         shelf: Shelf::new(alloc),
     }
 }
@@ -134,11 +146,18 @@ fn begun_over(alloc: Global, house: House, opening: Conf, store: Store) -> Resul
     requires house { IsTrue (is_house house) }
     requires store { store.store ≡ store_at_first house opening }
     requires valid { IsValid store.store }
+    requires aliases { IsTrue (list_all (λ a. list_all (is_known house) a.users) opening.aliases) }
+    requires filters { opening.filters ≡ [] }
     ensures { IfOk result (λ desk. desk.kept ≡ new_desk house opening) }
 {
     match stamps_at_first(alloc, &store, house.first) {
         Ok(stamps) => Ok(begun(alloc, house, opening, store, stamps)),
-        Err(NoMemory) => Err(NoMemory),
+        Err(NoMemory) => {
+            drop(house);
+            drop(opening);
+            drop(store);
+            Err(NoMemory)
+        }
     }
 }
 
@@ -152,7 +171,11 @@ impl Desk {
     {
         match first_store(alloc, &house, &conf) {
             Ok(store) => begun_over(alloc, house, conf, store),
-            Err(NoMemory) => Err(NoMemory),
+            Err(NoMemory) => {
+                drop(house);
+                drop(conf);
+                Err(NoMemory)
+            }
         }
     }
 
@@ -217,14 +240,33 @@ impl Desk {
         self.next
     }
 
+    /// Each cycle's report by the key of its request, in the order of the cycles. It takes no memory.
+    pub fn reports(&self) -> &[(Name, Report)]
+        ensures { result.now ≡ self.now.kept.reports }
+    {
+        self.reports.as_slice()
+    }
+
+    /// The report of the cycle that was asked for under a key. It takes no memory.
+    pub fn report(&self, key: &Name) -> Option<&Report>
+        ensures { option_copied result ≡ report_in self.now.kept.reports key.now }
+    {
+        report_of(self.reports.as_slice(), key)
+    }
+
     /// What holds of each desk: this does nothing.
     pub fn stands(&self)
         ensures house { IsTrue (is_house self.now.kept.house) }
+        ensures base { self.now.kept.base ≡ store_at_first self.now.kept.house self.now.kept.opening }
+        ensures aliases { IsTrue (list_all (λ a. list_all (is_known self.now.kept.house) a.users) self.now.kept.opening.aliases) }
+        ensures filters { self.now.kept.opening.filters ≡ [] }
         ensures valid { IsValid (store_of self.now.kept) }
         ensures house_stays { (store_of self.now.kept).house ≡ self.now.kept.house }
         ensures timeline { IsTimeline self.now.kept.house self.now.kept.timeline }
-        ensures rising { IsTrue (numbers_rise (self.now.kept.house.first - 1) self.now.kept.timeline self.now.kept.next) }
+        ensures below { AllByRecursion (λ (i : TheItem). i.number < self.now.kept.next) self.now.kept.timeline }
+        ensures fresh { AllByRecursion (λ (r : TheBoxId × ℕ). r.1 < self.now.kept.next) self.now.kept.stamps }
         ensures next { self.now.kept.next ≤ 4194304 }
+        ensures reports { length self.now.kept.reports ≤ self.now.kept.next }
         ensures texts { IsTrue (all_bodies (has_text self.now.kept.timeline) (store_of self.now.kept).boxes) }
     {
         let _shelf = &self.shelf;

@@ -1,9 +1,9 @@
 //! Items that are asked for: found, made ready, and entered.
-ghost use Rattle.std.specs.Prelude.{◌≡◌, ℕ, ◌<◌, ◌↔◌, map, ◌++◌, ◌∷◌, [], IsTrue, IsSome, IfOk, IfErr, OnOk, OnErr, Ok, Err, unwrap_or, vec_len, vec_capacity};
+ghost use Rattle.std.specs.Prelude.{◌≡◌, ℕ, ◌<◌, ◌↔◌, map, [], IsTrue, IsSome, IfOk, IfErr, OnOk, OnErr, Ok, unwrap_or};
 ghost use Rattle.std.specs.List.{list_all, cons_option};
 ghost use Rattle.verb_core.specs.declared.mailbox.BoxId.{BoxId as TheBoxId};
 ghost use Rattle.verb_core.specs.declared.mailbox.Mailbox.{Mailbox as TheMailbox};
-ghost use Rattle.verb_core.specs.Items.{IsWellFormed, text_in};
+ghost use Rattle.verb_core.specs.Items.{IsWellFormed};
 ghost use Rattle.verb_core.specs.Stamps.{stamps_after};
 ghost use Rattle.paradox.specs.Kept.{performed, store_of};
 ghost use Rattle.verb_core.specs.Live.{is_users, live};
@@ -13,19 +13,19 @@ ghost use Rattle.box_store.specs.Effects.{IsReady, applied};
 ghost use Rattle.box_store.specs.Refusing.{IsRefusal};
 ghost use Rattle.mail_desk.specs.Desk.{IsFaultOf, submitted};
 ghost use Rattle.mail_desk.specs.Entering.{CanEnter};
-ghost use Rattle.mail_desk.specs.Timeline.{NotesText, body_of};
 
 use crate::Desk;
+use crate::numbered::Numbered;
+use crate::sizes::note_text;
 use crate::stamps::changed_stamps;
 use box_store::{Effect, Steps, Store};
-use seal_log::Place;
 use shelf::Shelf;
 use std::alloc::Global;
 use std::marker::Brand;
 use std::sync::ledger::{Blank, Ledger};
 use undo_base::{Copies, NoMemory, User};
 use verb_core::laws::{mail_is_kept, stamps_name_mailboxes, steps_keep_validity};
-use verb_core::{Ask, Body, Item, Refused, Stamps, SubmitFault};
+use verb_core::{Ask, Item, Refused, Stamps, SubmitFault};
 
 /// An item that a desk can enter with no memory taken: its effect, and the stamps after it where they change.
 #[derive(Drop)]
@@ -51,7 +51,11 @@ fn new_effect(alloc: Global, store: &Store, item: &Item) -> Result<Effect, NoMem
     ensures { IfOk result (λ effect. applied effect store.now.store ≡ (step store.now.store item.now).0) }
 {
     match store.aim(alloc, item, item.deed.text_bytes()) {
-        Ok(what) => store.effect(alloc, &what),
+        Ok(what) => {
+            let effect = store.effect(alloc, &what);
+            drop(what);
+            effect
+        }
         Err(NoMemory) => Err(NoMemory),
     }
 }
@@ -64,7 +68,10 @@ fn with_room(alloc: Global, store: &mut Store, effect: Effect) -> Result<Effect,
 {
     match store.reserve(alloc, &effect) {
         Ok(()) => Ok(effect),
-        Err(NoMemory) => Err(NoMemory),
+        Err(NoMemory) => {
+            drop(effect);
+            Err(NoMemory)
+        }
     }
 }
 
@@ -102,25 +109,6 @@ fn apply_alone(store: &mut Store, effect: Effect)
     apply_over::<Brand>(store, effect, Blank::new(1))
 }
 
-fn make_room(timeline: &mut Vec<Item>) -> Result<(), NoMemory>
-    ensures items { timeline.new.items ≡ timeline.old.items }
-    ensures ok { OnOk result (vec_len timeline.new < vec_capacity timeline.new) }
-{
-    timeline.reserve(1)?;
-    Ok(())
-}
-
-/// Adds an item for which there is room.
-fn push_within(timeline: &mut Vec<Item>, item: Item)
-    requires { vec_len timeline.old < vec_capacity timeline.old }
-    ensures { timeline.new.items ≡ timeline.old.items ++ item ∷ [] }
-{
-    match timeline.push(item) {
-        Ok(()) => {}
-        Err(_) => unreachable!(),
-    }
-}
-
 fn change_stamps(stamps: &mut Stamps, changed: Option<Stamps>)
     ensures { stamps.new ≡ unwrap_or changed stamps.old }
 {
@@ -129,29 +117,14 @@ fn change_stamps(stamps: &mut Stamps, changed: Option<Stamps>)
     }
 }
 
-/// Notes the size of the text that an item brings. There is room for a note.
-fn note_text(shelf: &mut Shelf, item: &Item)
-    requires { 0 < shelf.old.room }
-    ensures { NotesText (text_in item.now.deed) (body_of item.now) shelf.old.notes shelf.new.notes }
-{
-    let place = Place { gate: 0, length: 0 };
-    if let Some(text) = item.deed.text() {
-        let body = Body {
-            origin: item.number,
-            rev: item.rev,
-        };
-        shelf.note(body, place, 0, text.bytes().len() as u32);
-    }
-}
-
 /// Makes room for an item more, and for the note of its text.
-fn make_rooms(timeline: &mut Vec<Item>, shelf: &mut Shelf) -> Result<(), NoMemory>
+fn make_rooms(timeline: &mut Numbered, shelf: &mut Shelf) -> Result<(), NoMemory>
     ensures timeline { timeline.new.items ≡ timeline.old.items }
     ensures shelf { shelf.new.notes ≡ shelf.old.notes }
-    ensures items { OnOk result (vec_len timeline.new < vec_capacity timeline.new) }
+    ensures items { OnOk result (0 < timeline.new.room) }
     ensures notes { OnOk result (0 < shelf.new.room) }
 {
-    make_room(timeline)?;
+    timeline.make_room()?;
     shelf.note_room(1)
 }
 
@@ -165,7 +138,10 @@ fn paired(effect: Result<Effect, NoMemory>, stamps: Option<Stamps>) -> Result<Pa
 {
     match effect {
         Ok(effect) => Ok((effect, stamps)),
-        Err(NoMemory) => Err(NoMemory),
+        Err(NoMemory) => {
+            drop(stamps);
+            Err(NoMemory)
+        }
     }
 }
 
@@ -201,7 +177,10 @@ fn with_parts(item: Item, parts: Result<Parts, NoMemory>) -> Result<Ready, NoMem
             effect,
             stamps,
         }),
-        Err(NoMemory) => Err(NoMemory),
+        Err(NoMemory) => {
+            drop(item);
+            Err(NoMemory)
+        }
     }
 }
 
@@ -230,7 +209,7 @@ fn make_ready(
     alloc: Global,
     store: &mut Store,
     stamps: &Stamps,
-    timeline: &mut Vec<Item>,
+    timeline: &mut Numbered,
     shelf: &mut Shelf,
     item: Item,
 ) -> Result<Ready, NoMemory>
@@ -244,20 +223,16 @@ fn make_ready(
     ensures does { IfOk result (λ ready. applied ready.effect store.old.store ≡ (step store.old.store item).0) }
     ensures stamps { IfOk result (λ ready. unwrap_or ready.stamps stamps.now ≡ stamps_after item.number (step store.old.store item).0.boxes stamps.now) }
     ensures effect { IfOk result (λ ready. IsReady ready.effect store.new) }
-    ensures items { OnOk result (vec_len timeline.new < vec_capacity timeline.new) }
+    ensures items { OnOk result (0 < timeline.new.room) }
     ensures notes { OnOk result (0 < shelf.new.room) }
 {
     match make_rooms(timeline, shelf) {
         Ok(()) => make_over(alloc, store, stamps, item),
-        Err(NoMemory) => Err(NoMemory),
+        Err(NoMemory) => {
+            drop(item);
+            Err(NoMemory)
+        }
     }
-}
-
-/// Gives an item up for want of memory.
-fn given_up(_ready: Ready) -> Result<Item, SubmitFault>
-    ensures { result ≡ Err (SubmitFault.Refused Refused.NoMemory) }
-{
-    Err(SubmitFault::Refused(Refused::NoMemory))
 }
 
 impl Desk {
@@ -331,7 +306,7 @@ impl Desk {
         apply_alone(&mut self.store, effect);
         change_stamps(&mut self.stamps, stamps);
         note_text(&mut self.shelf, &item);
-        push_within(&mut self.timeline, item);
+        self.timeline.push(item);
         self.next += 1;
     }
 
@@ -348,7 +323,10 @@ impl Desk {
                 self.enter(ready);
                 Ok(item)
             }
-            Err(NoMemory) => given_up(ready),
+            Err(NoMemory) => {
+                drop(ready);
+                Err(SubmitFault::Refused(Refused::NoMemory))
+            }
         }
     }
 

@@ -1,24 +1,14 @@
 //! The texts that items bring, and the texts of bodies.
 ghost use Rattle.std.specs.Prelude.{◌≡◌, [], ◌∷◌, ◌++◌, unwrap_or, Some, IsTrue, IfOk, OnOk, option_copied};
 ghost use Rattle.std.specs.List.{list_all};
-ghost use Rattle.verb_core.specs.Items.{text_of};
-ghost use Rattle.mail_desk.specs.Timeline.{NumbersRise, has_text, item_of, rev_of, texts_of, told_by};
+ghost use Rattle.verb_core.specs.Items.{NumbersApart, text_of};
+ghost use Rattle.mail_desk.specs.Timeline.{has_text, rev_of, texts_of, told_by};
 
 use crate::Desk;
+use crate::numbered::Numbered;
 use std::alloc::Global;
 use undo_base::{NoMemory, Text, Texts};
 use verb_core::{Body, Item};
-
-/// The item of a number, found in about as many steps as the length of the timeline has digits.
-fn find_item(timeline: &[Item], number: u32) -> Option<&Item>
-    requires { NumbersRise timeline.now }
-    ensures { option_copied result ≡ item_of timeline.now number }
-{
-    match timeline.binary_search_by_key(&number, |item| item.number) {
-        Ok(place) => Some(&timeline[place]),
-        Err(_) => None,
-    }
-}
 
 /// The text that an item of the body's number tells of it.
 fn told(item: &Item, body: Body) -> Option<&Text>
@@ -31,11 +21,11 @@ fn told(item: &Item, body: Body) -> Option<&Text>
     }
 }
 
-fn find_text(timeline: &[Item], body: Body) -> Option<&Text>
-    requires { NumbersRise timeline.now }
-    ensures { option_copied result ≡ text_of timeline.now body }
+fn find_text(timeline: &Numbered, body: Body) -> Option<&Text>
+    requires { NumbersApart timeline.now.items }
+    ensures { option_copied result ≡ text_of timeline.now.items body }
 {
-    match find_item(timeline, body.origin) {
+    match timeline.find(body.origin) {
         Some(item) => told(item, body),
         None => None,
     }
@@ -45,12 +35,12 @@ fn find_text(timeline: &[Item], body: Body) -> Option<&Text>
 fn push_text(
     alloc: Global,
     texts: &mut Texts,
-    timeline: &[Item],
+    timeline: &Numbered,
     body: Body,
 ) -> Result<(), NoMemory>
-    requires rise { NumbersRise timeline.now }
-    requires there { IsTrue (has_text timeline.now body) }
-    ensures { OnOk result (texts.new ≡ texts.old ++ unwrap_or (text_of timeline.now body) [] ∷ []) }
+    requires apart { NumbersApart timeline.now.items }
+    requires there { IsTrue (has_text timeline.now.items body) }
+    ensures { OnOk result (texts.new ≡ texts.old ++ unwrap_or (text_of timeline.now.items body) [] ∷ []) }
 {
     match find_text(timeline, body) {
         Some(text) => texts.push(text.copy(alloc)?),
@@ -58,10 +48,10 @@ fn push_text(
     }
 }
 
-fn copied_texts(alloc: Global, timeline: &[Item], bodies: &[Body]) -> Result<Texts, NoMemory>
-    requires rise { NumbersRise timeline.now }
-    requires there { IsTrue (list_all (has_text timeline.now) bodies.now) }
-    ensures { IfOk result (λ texts. texts ≡ texts_of timeline.now bodies.now) }
+fn copied_texts(alloc: Global, timeline: &Numbered, bodies: &[Body]) -> Result<Texts, NoMemory>
+    requires apart { NumbersApart timeline.now.items }
+    requires there { IsTrue (list_all (has_text timeline.now.items) bodies.now) }
+    ensures { IfOk result (λ texts. texts ≡ texts_of timeline.now.items bodies.now) }
 {
     let mut texts = Texts::new(alloc);
     for body in bodies {
@@ -70,10 +60,10 @@ fn copied_texts(alloc: Global, timeline: &[Item], bodies: &[Body]) -> Result<Tex
     Ok(texts)
 }
 
-fn copied_text(alloc: Global, timeline: &[Item], body: Body) -> Result<Text, NoMemory>
-    requires rise { NumbersRise timeline.now }
-    requires there { IsTrue (has_text timeline.now body) }
-    ensures { IfOk result (λ text. text_of timeline.now body ≡ Some text) }
+fn copied_text(alloc: Global, timeline: &Numbered, body: Body) -> Result<Text, NoMemory>
+    requires apart { NumbersApart timeline.now.items }
+    requires there { IsTrue (has_text timeline.now.items body) }
+    ensures { IfOk result (λ text. text_of timeline.now.items body ≡ Some text) }
 {
     match find_text(timeline, body) {
         Some(text) => text.copy(alloc),
@@ -81,9 +71,9 @@ fn copied_text(alloc: Global, timeline: &[Item], body: Body) -> Result<Text, NoM
     }
 }
 
-fn copied_body(alloc: Global, timeline: &[Item], body: Body) -> Result<Option<Text>, NoMemory>
-    requires { NumbersRise timeline.now }
-    ensures { IfOk result (λ found. found ≡ text_of timeline.now body) }
+fn copied_body(alloc: Global, timeline: &Numbered, body: Body) -> Result<Option<Text>, NoMemory>
+    requires { NumbersApart timeline.now.items }
+    ensures { IfOk result (λ found. found ≡ text_of timeline.now.items body) }
 {
     match find_text(timeline, body) {
         Some(text) => match text.copy(alloc) {
@@ -94,11 +84,11 @@ fn copied_body(alloc: Global, timeline: &[Item], body: Body) -> Result<Option<Te
     }
 }
 
-fn find_rev(timeline: &[Item], number: u32) -> Option<u32>
-    requires { NumbersRise timeline.now }
-    ensures { result ≡ rev_of timeline.now number }
+fn find_rev(timeline: &Numbered, number: u32) -> Option<u32>
+    requires { NumbersApart timeline.now.items }
+    ensures { result ≡ rev_of timeline.now.items number }
 {
-    match find_item(timeline, number) {
+    match timeline.find(number) {
         Some(item) => match item.deed.text() {
             Some(_) => Some(item.rev),
             None => None,
@@ -113,14 +103,14 @@ impl Desk {
         requires { IsTrue (has_text self.now.kept.timeline body) }
         ensures { IfOk result (λ text. text_of self.now.kept.timeline body ≡ Some text) }
     {
-        copied_text(alloc, self.timeline.as_slice(), body)
+        copied_text(alloc, &self.timeline, body)
     }
 
     /// The text of a body. None exactly where no item in force has it.
     pub fn body(&self, alloc: Global, body: Body) -> Result<Option<Text>, NoMemory>
         ensures { IfOk result (λ found. found ≡ text_of self.now.kept.timeline body) }
     {
-        copied_body(alloc, self.timeline.as_slice(), body)
+        copied_body(alloc, &self.timeline, body)
     }
 
     /// The texts of bodies, in order.
@@ -128,13 +118,13 @@ impl Desk {
         requires { IsTrue (list_all (has_text self.now.kept.timeline) bodies.now) }
         ensures { IfOk result (λ texts. texts ≡ texts_of self.now.kept.timeline bodies.now) }
     {
-        copied_texts(alloc, self.timeline.as_slice(), bodies)
+        copied_texts(alloc, &self.timeline, bodies)
     }
 
     /// The rev of the item of a number, where it has a text.
     pub fn rev(&self, number: u32) -> Option<u32>
         ensures { result ≡ rev_of self.now.kept.timeline number }
     {
-        find_rev(self.timeline.as_slice(), number)
+        find_rev(&self.timeline, number)
     }
 }

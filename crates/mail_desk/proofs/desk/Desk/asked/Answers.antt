@@ -5,7 +5,7 @@ use Rattle.verb_core.specs.Items.{IsWellFormed}
 use Rattle.verb_core.specs.Live.{live}
 use Rattle.verb_core.specs.Store.{MailStore, is_known}
 use Rattle.box_store.specs.Refusing.{IsRefusal}
-use Rattle.mail_desk.specs.Held.{Held}
+use Rattle.mail_desk.specs.Held.{Held, kept_from}
 use Rattle.paradox.specs.Kept.{Kept, store_of}
 use Rattle.mail_desk.proofs.Desks.{house_stays}
 use Rattle.mail_desk.proofs.Readied.{number_asked, number_left}
@@ -14,8 +14,8 @@ use Rattle.mail_desk.proofs.desk.Desk.asked.Goals as goal
 pub live-requires-clause-known : goal.live-requires-clause-known
 live-requires-clause-known c =
     let d = c.self.inside in
-    let kept : Kept = record { house = d.house; opening = d.opening; timeline = d.timeline.items; stamps = d.stamps; next = d.next } in
-    let house = ap (λ (s : MailStore). s.house) c.self.invariant.desk.store_is ∙ house_stays kept ∙ ap (λ (h : Held). h.kept.house) c.self.view_is in
+    let kept : Kept = kept_from d.house d.opening d.timeline.items d.stamps d.next d.reports.items in
+    let house = ap (λ (s : MailStore). s.house) c.self.invariant.desk.store_is ∙ house_stays kept c.self.invariant.desk.base ∙ ap (λ (h : Held). h.kept.house) c.self.view_is in
     subst (λ (h : House). IsTrue (list_all (is_known h) (cons_option c.args.by []))) (sym house) c.requires.known
 
 pub returns-clause-item : goal.returns-clause-item
@@ -26,8 +26,8 @@ returns-clause-item c =
 pub returns-clause-formed : goal.returns-clause-formed
 returns-clause-formed c =
     let d = c.self.inside in
-    let kept : Kept = record { house = d.house; opening = d.opening; timeline = d.timeline.items; stamps = d.stamps; next = d.next } in
-    let house = ap (λ (s : MailStore). s.house) c.self.invariant.desk.store_is ∙ house_stays kept ∙ ap (λ (h : Held). h.kept.house) c.self.view_is in
+    let kept : Kept = kept_from d.house d.opening d.timeline.items d.stamps d.next d.reports.items in
+    let house = ap (λ (s : MailStore). s.house) c.self.invariant.desk.store_is ∙ house_stays kept c.self.invariant.desk.base ∙ ap (λ (h : Held). h.kept.house) c.self.view_is in
     subst (λ (h : House). IfOk c.live.result (λ item. IsWellFormed h item)) house c.live.ensures.formed
 
 pub returns-clause-number : goal.returns-clause-number

@@ -1,4 +1,4 @@
-use Rattle.std.proofs.Common.{◌≡◌, ℕ, ◌-◌, ◌∙◌, List, ap, arith, length, min, subst, sym}
+use Rattle.std.proofs.Common.{◌≡◌, ℕ, ◌∙◌, List, ap, arith, length, min, subst}
 use Rattle.std.specs.List.{count_by, sum_by}
 use Rattle.std.proofs.lemmas.List.Sums.{count_by-le-length}
 use Rattle.verb_core.specs.declared.item.Item.{Item}
@@ -8,38 +8,37 @@ use Rattle.verb_core.specs.Store.{MailStore}
 use Rattle.verb_core.specs.Deeds.{is_notice}
 use Rattle.mail_desk.specs.Counting.{counts_of, messages_in, most}
 use Rattle.mail_desk.specs.declared.counts.Counts.{Counts}
-use Rattle.mail_desk.specs.Held.{Held}
+use Rattle.mail_desk.specs.Held.{Held, kept_from}
 use Rattle.paradox.specs.Kept.{Kept}
 use Rattle.mail_desk.proofs.Counted.{messages_named}
-use Rattle.mail_desk.proofs.Timelines.{few}
 use Rattle.mail_desk.proofs.desk.Desk.counts.Goals as goal
 
 pub overflow_cast-result : goal.overflow_cast-result
 overflow_cast-result c =
-    let d = c.self.inside in
-    let desk = c.self.invariant.desk in
-    let fits = few (d.house.first - 1) d.timeline.items d.next desk.rising in
-    omega (arith, fits, desk.next, c.len.ensures)
+    omega (arith, c.len.ensures, c.self.inside.reports.ok.0, c.self.invariant.desk.few, c.self.invariant.desk.next)
 
 pub overflow_cast-result-2 : goal.overflow_cast-result-2
 overflow_cast-result-2 c =
+    omega (arith, c.len-2.ensures.few, c.self.invariant.desk.next)
+
+pub overflow_cast-result-3 : goal.overflow_cast-result-3
+overflow_cast-result-3 c =
     let d = c.self.inside in
     let desk = c.self.invariant.desk in
-    let fits = few (d.house.first - 1) d.timeline.items d.next desk.rising in
     let no_more = count_by-le-length (λ (i : Item). is_notice i.deed) d.timeline.items in
-    let notices = c.notices_in.ensures ∙ ap (count_by (λ (i : Item). is_notice i.deed)) c.as_slice-2.ensures.value in
-    omega (arith, fits, no_more, desk.next, notices)
+    let notices = c.notices_in.ensures ∙ ap (count_by (λ (i : Item). is_notice i.deed)) c.as_slice-2.ensures in
+    omega (arith, c.len-2.ensures, no_more, desk.next, notices)
 
 pub returns : goal.returns
 returns c =
     let d = c.self.inside in
     let desk = c.self.invariant.desk in
-    let kept : Kept = record { house = d.house; opening = d.opening; timeline = d.timeline.items; stamps = d.stamps; next = d.next } in
+    let kept : Kept = kept_from d.house d.opening d.timeline.items d.stamps d.next d.reports.items in
     let by_name : c.messages_in.result ≡ min (sum_by (λ (r : BoxId × ℕ). length (mail_at r.0 d.store.store.boxes)) d.stamps) most =
     subst (λ (rows : List (BoxId × ℕ)). c.messages_in.result ≡ min (sum_by (λ (r : BoxId × ℕ). length (mail_at r.0 d.store.store.boxes)) rows) most) c.as_slice.ensures c.messages_in.ensures in
-    let notices = c.notices_in.ensures ∙ ap (count_by (λ (i : Item). is_notice i.deed)) c.as_slice-2.ensures.value in
-    let items = c.len.ensures ∙ sym c.as_slice-2.ensures.len ∙ ap length c.as_slice-2.ensures.value in
+    let notices = c.notices_in.ensures ∙ ap (count_by (λ (i : Item). is_notice i.deed)) c.as_slice-2.ensures in
     let messages = by_name ∙ ap (λ (n : ℕ). min n most) (messages_named d.stamps d.store.store.boxes desk.valid.rising desk.stamps) ∙ ap (λ (s : MailStore). min (messages_in s.boxes) most) desk.store_is in
-    let counted : ◌≡◌ {A = Counts} (record { cycles = 0; items = c.len.result; messages = c.messages_in.result; next = d.next; notices = c.notices_in.result; users = c.len-2.result }) (counts_of kept) =
-    λ j. record { cycles = 0; items = items j; messages = messages j; next = d.next; notices = notices j; users = c.len-2.ensures j } in
+    let cycles : c.len.result ≡ length d.reports.items = omega (arith, c.len.ensures, d.reports.ok.0) in
+    let counted : ◌≡◌ {A = Counts} (record { cycles = c.len.result; items = c.len-2.result; messages = c.messages_in.result; next = d.next; notices = c.notices_in.result; users = c.len-3.result }) (counts_of kept) =
+    λ j. record { cycles = cycles j; items = c.len-2.ensures.value j; messages = messages j; next = d.next; notices = notices j; users = c.len-3.ensures j } in
     counted ∙ ap (λ (h : Held). counts_of h.kept) c.self.view_is

@@ -1,4 +1,4 @@
-use Rattle.std.proofs.Common.{◌≡◌, ◌-◌, ◌<◌, List, IfOk, ap, subst, sym, ◌∙◌, length, option_map, unwrap_or, vec_len, vec_capacity}
+use Rattle.std.proofs.Common.{◌≡◌, ◌<◌, List, IfOk, ap, subst, sym, ◌∙◌, ◌-◌, length, option_map, unwrap_or, vec_len, vec_capacity}
 use Rattle.verb_core.specs.declared.conf.House.{House}
 use Rattle.verb_core.specs.declared.item.Item.{Item}
 use Rattle.verb_core.specs.declared.mailbox.Body.{Body}
@@ -11,17 +11,17 @@ use Rattle.shelf.specs.declared.note.Note.{Note}
 use Rattle.shelf.specs.Notes.{size_of}
 use Rattle.mail_desk.specs.Desk.{IsDesk}
 use Rattle.mail_desk.specs.Entering.{CanEnter}
-use Rattle.mail_desk.specs.Held.{Held}
+use Rattle.mail_desk.specs.Held.{Held, kept_from}
 use Rattle.paradox.specs.Kept.{Kept}
 use Rattle.mail_desk.proofs.Desks.{house_stays}
-use Rattle.mail_desk.proofs.Readied.{can_enter, some_room}
+use Rattle.mail_desk.proofs.Readied.{can_enter}
 use Rattle.mail_desk.proofs.desk.Desk.ready_item.Goals as goal
 
 pub make_ready-requires-clause-formed : goal.make_ready-requires-clause-formed
 make_ready-requires-clause-formed c =
     let d = c.self.inside in
-    let kept : Kept = record { house = d.house; opening = d.opening; timeline = d.timeline.items; stamps = d.stamps; next = d.next } in
-    let house = ap (λ (s : MailStore). s.house) c.self.invariant.desk.store_is ∙ house_stays kept ∙ ap (λ (h : Held). h.kept.house) c.self.view_is in
+    let kept : Kept = kept_from d.house d.opening d.timeline.items d.stamps d.next d.reports.items in
+    let house = ap (λ (s : MailStore). s.house) c.self.invariant.desk.store_is ∙ house_stays kept c.self.invariant.desk.base ∙ ap (λ (h : Held). h.kept.house) c.self.view_is in
     subst (λ (h : House). IsWellFormed h c.args.item) (sym house) c.requires.formed
 
 pub invariant_of-self : goal.invariant_of-self
@@ -29,15 +29,15 @@ invariant_of-self c =
     let d = c.self.inside in
     let made = c.make_ready.ensures in
     record {
-      desk = subst (λ (s : MailStore). IsDesk s (record { house = d.house; opening = d.opening; timeline = c.make_ready.new.timeline.items; stamps = d.stamps; next = d.next })) (sym made.store)
-          (subst (λ (t : List Item). IsDesk d.store.store (record { house = d.house; opening = d.opening; timeline = t; stamps = d.stamps; next = d.next })) (sym made.timeline) c.self.invariant.desk);
+      desk = subst (λ (s : MailStore). IsDesk s (kept_from d.house d.opening c.make_ready.new.timeline.items d.stamps d.next d.reports.items)) (sym made.store)
+          (subst (λ (t : List Item). IsDesk d.store.store (kept_from d.house d.opening t d.stamps d.next d.reports.items)) (sym made.timeline) c.self.invariant.desk);
       sizes = λ body. ap (λ (n : List (Body × Note)). size_of n body) made.shelf ∙ c.self.invariant.sizes body ∙ ap (λ (t : List Item). option_map length (text_of t body)) (sym made.timeline);
     }
 
 pub returns-clause-kept : goal.returns-clause-kept
 returns-clause-kept c =
     let d = c.self.inside in
-    ap (λ (t : List Item). let k : Kept = record { house = d.house; opening = d.opening; timeline = t; stamps = d.stamps; next = d.next } in k) c.make_ready.ensures.timeline
+    ap (λ (t : List Item). kept_from d.house d.opening t d.stamps d.next d.reports.items) c.make_ready.ensures.timeline
     ∙ ap (λ (h : Held). h.kept) c.self.view_is
 
 pub returns-clause-ready : goal.returns-clause-ready
@@ -49,12 +49,12 @@ returns-clause-ready c =
     let item = c.args.item in
     let store_is = c.self.invariant.desk.store_is in
     let held : Held = record {
-      kept = record { house = d.house; opening = d.opening; timeline = d.timeline.items; stamps = d.stamps; next = d.next };
-      room = record { store = new.store; items = vec_capacity new.timeline - vec_len new.timeline; notes = new.shelf.room };
+      kept = kept_from d.house d.opening d.timeline.items d.stamps d.next d.reports.items;
+      room = record { store = new.store; items = new.timeline.room; notes = new.shelf.room; reports = vec_capacity d.reports - vec_len d.reports };
     } in
     subst (λ (t : List Item). IfOk c.make_ready.result (λ ready. CanEnter ready (record {
-      kept = record { house = d.house; opening = d.opening; timeline = t; stamps = d.stamps; next = d.next };
-      room = record { store = new.store; items = vec_capacity new.timeline - vec_len new.timeline; notes = new.shelf.room };
+      kept = kept_from d.house d.opening t d.stamps d.next d.reports.items;
+      room = record { store = new.store; items = new.timeline.room; notes = new.shelf.room; reports = vec_capacity d.reports - vec_len d.reports };
     }))) (sym made.timeline)
     (can_enter c.make_ready.result held c.args.item
     (subst (λ (h : Held). IsWellFormed h.kept.house c.args.item) (sym c.self.view_is) c.requires.formed)
@@ -64,5 +64,5 @@ returns-clause-ready c =
     (subst (λ (s : MailStore). IfOk c.make_ready.result (λ ready. applied ready.effect s ≡ (step s c.args.item).0)) store_is made.does)
     (subst (λ (s : MailStore). IfOk c.make_ready.result (λ ready. unwrap_or ready.stamps d.stamps ≡ stamps_after c.args.item.number (step s c.args.item).0.boxes d.stamps)) store_is made.stamps)
     made.effect
-    (some_room c.make_ready.result (vec_len new.timeline) (vec_capacity new.timeline) made.items)
+    made.items
     made.notes)

@@ -1,0 +1,155 @@
+-- The places of items, by their numbers.
+use Rattle.std.proofs.Common.{◌≡◌, ◌≢◌, inl, inr, ℕ, ◌+◌, ◌-◌, ◌<◌, ◌≤◌, List, [], ◌∷◌, ◌++◌, length, get_or, None, Some, Result, Err, refl, ap, sym, subst, ◌∙◌, arith, rules}
+use Rattle.std.specs.List.{AllByRecursion, Contains}
+use Rattle.std.specs.List.Sorted.{IsBinarySearchResult, IsNonDecreasingBy, IsPermutation}
+use Rattle.std.specs.Ordering.{nat_cmp, ordering_index}
+use Rattle.std.specs.declared.cmp.Ordering.{Ordering}
+use Rattle.std.specs.declared.cmp.Ordering.TheVariants.{Less, Equal, Greater}
+use Rattle.std.specs.Cmp.{nat_cmp_is}
+use Rattle.std.proofs.lemmas.Bool.{cases_order}
+use Rattle.std.proofs.lemmas.Cmp.{ranked}
+use Rattle.std.proofs.lemmas.List.{get_or_append_left, get_or_default, get_or_push, length_push}
+use Rattle.std.proofs.lemmas.List.Elements.{All-from_recursion, All-push, All-weaker, Contains-append_left, Contains-push}
+use Rattle.std.proofs.lemmas.List.Sorted.{All-permutation, Contains-permutation, IsNonDecreasingBy-push}
+use Rattle.verb_core.specs.declared.item.Item.{Item}
+use Rattle.verb_core.specs.Items.{NumbersApart}
+use Rattle.mail_desk.specs.Places.{HasPlaces, IsIndex, IsPlaceIn}
+use Rattle.mail_desk.specs.Timeline.{item_of}
+use Rattle.mail_desk.proofs.Timelines.{item_at, none_at}
+
+-- ---- comparing numbers
+
+index_at_most : (o : Ordering) → ordering_index o ≤ 2
+index_at_most Less = search rules
+index_at_most Equal = search rules
+index_at_most Greater = search rules
+
+less_is : (a b : ℕ) → a < b → nat_cmp a b ≡ Less
+less_is a b lt = sym (nat_cmp_is a b Less lt)
+
+-- a lower number compares no higher
+less_compared : (a b n : ℕ) → a < b → ordering_index (nat_cmp a n) ≤ ordering_index (nat_cmp b n)
+less_compared a b n lt =
+    elim (cases_order a n) [
+      | inl same ↦
+          let more : n < b = omega arith in
+          let first : nat_cmp a n ≡ Equal = sym (nat_cmp_is a n Equal same) in
+          let second : nat_cmp b n ≡ Greater = sym (nat_cmp_is b n Greater more) in
+          rw (first, second) (search rules)
+      | inr (inl less) ↦ rw (less_is a n less) (search rules)
+      | inr (inr more) ↦
+          let also : n < b = omega arith in
+          let second : nat_cmp b n ≡ Greater = sym (nat_cmp_is b n Greater also) in
+          rw second (index_at_most (nat_cmp a n))
+    ]
+
+compared : (a b n : ℕ) → a ≤ b → ordering_index (nat_cmp a n) ≤ ordering_index (nat_cmp b n)
+compared a b n le =
+    elim (cases_order a b) [
+      | inl same ↦ rw same (search rules)
+      | inr (inl lt) ↦ less_compared a b n lt
+      | inr (inr gt) ↦ absurd (omega arith)
+    ]
+
+-- ---- the row of a number
+
+module _ (rows : List (ℕ × ℕ)) (t : List Item) (index : IsIndex rows t) (number : ℕ) where
+  comparisons_rise : IsNonDecreasingBy (λ (r : ℕ × ℕ). ordering_index (nat_cmp r.0 number)) rows
+  comparisons_rise i j d le within = compared (get_or rows i d).0 (get_or rows j d).0 number (index.ordered i j d le within)
+
+  -- a binary search ends at a row of the item of the number
+  pub item_found : NumbersApart t → (at : ℕ) (d : ℕ × ℕ) (e : Item) → at < length rows → ((r : ℕ × ℕ) → nat_cmp (get_or rows at r).0 number ≡ Equal) → item_of t number ≡ Some (get_or t (get_or rows at d).1 e)
+  item_found apart at d e within equal =
+      let placed = index.right at d within in
+      item_at t apart (get_or rows at d).1 e number placed.within (placed.number e ∙ ranked _ _ Equal (sym (equal d)))
+
+  -- or there is none
+  pub item_missing : (at : ℕ) → IsBinarySearchResult (λ (r : ℕ × ℕ). nat_cmp r.0 number) rows (let r : Result ℕ ℕ = Err at in r) → item_of t number ≡ None
+  item_missing at parted =
+      let differs : (o : Ordering) (a : ℕ) → nat_cmp a number ≡ o → o ≢ Equal → a ≢ number =
+      λ o a e no same. no (sym e ∙ sym (nat_cmp_is a number Equal same)) in
+      let other : (k : ℕ) (d : ℕ × ℕ) → k < length rows → (get_or rows k d).0 ≢ number =
+      λ k d within. elim (cases_order k at) [
+        | inr (inl lt) ↦ differs Less _ ((parted comparisons_rise).0 k d (omega arith) lt) (λ e. cc)
+        | inl same ↦ differs Greater _ ((parted comparisons_rise).1 k d (omega arith) within) (λ e. cc)
+        | inr (inr gt) ↦ differs Greater _ ((parted comparisons_rise).1 k d (omega arith) within) (λ e. cc)
+      ] in
+      none_at t number (λ place d within e.
+      let row = index.whole place d within in
+      other row.0 ((get_or t place d).number, place) row.1 (ap (λ (r : ℕ × ℕ). r.0) row.2 ∙ e))
+
+-- ---- an item more
+
+place_on : (t : List Item) (i : Item) (r : ℕ × ℕ) → IsPlaceIn t r → IsPlaceIn (t ++ i ∷ []) r
+place_on t i r is =
+    let inside : r.1 < length t = is.within in
+    record {
+      within = omega (arith, length_push t i);
+      number = λ d. ap (λ (j : Item). j.number) (get_or_append_left t (i ∷ []) d r.1 inside) ∙ is.number d;
+    }
+
+-- of a number above all before it
+pub index_on : (rows : List (ℕ × ℕ)) (t : List Item) (i : Item) → IsIndex rows t → AllByRecursion (λ (j : Item). j.number < i.number) t → IsIndex (rows ++ (i.number, length t) ∷ []) (t ++ i ∷ [])
+index_on rows t i index lower = record {
+  ordered = IsNonDecreasingBy-push (λ (r : ℕ × ℕ). r.0) rows (i.number, length t) index.ordered (λ d some.
+      let last : length rows - 1 < length rows = omega arith in
+      let placed = index.right (length rows - 1) d last in
+      let less : (get_or t (get_or rows (length rows - 1) d).1 i).number < i.number = All-from_recursion (λ (j : Item). j.number < i.number) t lower (get_or rows (length rows - 1) d).1 i placed.within in
+      let is : (get_or t (get_or rows (length rows - 1) d).1 i).number ≡ (get_or rows (length rows - 1) d).0 = placed.number i in
+      omega arith);
+  right = All-push (IsPlaceIn (t ++ i ∷ [])) rows (i.number, length t) (All-weaker (IsPlaceIn t) (IsPlaceIn (t ++ i ∷ [])) (place_on t i) rows index.right) (record {
+    within = omega (arith, length_push t i);
+    number = λ d. ap (λ (j : Item). j.number) (get_or_push t i d (length t) refl);
+  });
+  whole = λ place d within. elim (cases_order place (length t)) [
+    | inl same ↦
+        subst (λ (n : ℕ). Contains (rows ++ (i.number, length t) ∷ []) ((get_or (t ++ i ∷ []) n d).number, n)) (sym same)
+        (subst (λ (j : Item). Contains (rows ++ (i.number, length t) ∷ []) (j.number, length t)) (sym (get_or_push t i d (length t) refl)) (Contains-push rows (i.number, length t)))
+    | inr (inl lt) ↦
+        subst (λ (j : Item). Contains (rows ++ (i.number, length t) ∷ []) (j.number, place)) (sym (get_or_append_left t (i ∷ []) d place lt))
+        (Contains-append_left rows ((i.number, length t) ∷ []) ((get_or t place d).number, place) (index.whole place d lt))
+    | inr (inr gt) ↦ absurd (omega (arith, length_push t i))
+  ];
+}
+
+-- ---- no items
+
+pub index_none : (rows : List (ℕ × ℕ)) (t : List Item) → rows ≡ [] → t ≡ [] → IsIndex rows t
+index_none rows t none empty =
+    subst (λ (rs : List (ℕ × ℕ)). IsIndex rs t) (sym none) (subst (λ (s : List Item). IsIndex [] s) (sym empty) (record {
+      ordered = λ i j d le within. absurd (omega arith);
+      right = λ k d within. absurd (omega arith);
+      whole = λ place d within. absurd (omega arith);
+    }))
+
+-- ---- items in any order
+
+-- the rows of the items before a place, and one more
+pub places_none : (rows : List (ℕ × ℕ)) (t : List Item) → rows ≡ [] → HasPlaces rows t 0
+places_none rows t none = subst (λ (rs : List (ℕ × ℕ)). HasPlaces rs t 0) (sym none) (record {
+  right = λ k d within. absurd (omega arith);
+  whole = λ place d less. absurd (omega arith);
+})
+
+pub place_more : (rows : List (ℕ × ℕ)) (t : List Item) (count : ℕ) (i : Item) → count < length t → i ≡ get_or t count i → HasPlaces rows t count → HasPlaces (rows ++ (i.number, count) ∷ []) t (count + 1)
+place_more rows t count i within is places = record {
+  right = All-push (IsPlaceIn t) rows (i.number, count) places.right (record {
+    within = within;
+    number = λ d. ap (λ (j : Item). j.number) (get_or_default t count d i within ∙ sym is);
+  });
+  whole = λ place d less. elim (cases_order place count) [
+    | inl same ↦
+        subst (λ (n : ℕ). Contains (rows ++ (i.number, count) ∷ []) ((get_or t n d).number, n)) (sym same)
+        (subst (λ (j : Item). Contains (rows ++ (i.number, count) ∷ []) (j.number, count)) (is ∙ get_or_default t count i d within) (Contains-push rows (i.number, count)))
+    | inr (inl lt) ↦ Contains-append_left rows ((i.number, count) ∷ []) ((get_or t place d).number, place) (places.whole place d lt)
+    | inr (inr gt) ↦ absurd (omega arith)
+  ];
+}
+
+-- sorted they are an index
+pub index_sorted : (rows sorted : List (ℕ × ℕ)) (t : List Item) → HasPlaces rows t (length t) → IsNonDecreasingBy (λ (r : ℕ × ℕ). r.0) sorted → IsPermutation rows sorted → IsIndex sorted t
+index_sorted rows sorted t places ordered same = record {
+  ordered = ordered;
+  right = All-permutation (IsPlaceIn t) rows sorted same places.right;
+  whole = λ place d within. Contains-permutation rows sorted ((get_or t place d).number, place) same (places.whole place d within);
+}

@@ -1,0 +1,40 @@
+use Rattle.std.proofs.Common.{◌≡◌, ◌<◌, ◌-◌, length, option_map, subst, sym, vec_len, vec_capacity}
+use Rattle.verb_core.specs.declared.mailbox.Body.{Body}
+use Rattle.verb_core.specs.Items.{IsTimeline, text_of}
+use Rattle.verb_core.specs.Step.{run}
+use Rattle.paradox.specs.Kept.{Kept, Reports}
+use Rattle.shelf.specs.Notes.{Noted, size_of}
+use Rattle.mail_desk.specs.declared.remake.Remade.{Remade}
+use Rattle.mail_desk.specs.Desk.{IsDesk}
+use Rattle.mail_desk.specs.Held.{Held, kept_from}
+use Rattle.mail_desk.specs.Places.{Placed}
+use Rattle.mail_desk.proofs.Readied.{through}
+use Rattle.mail_desk.proofs.Remades.{can_replace, desk_remade, made_is, some_room, stored_is, with_parts}
+use Rattle.mail_desk.proofs.desk.Desk.remake.Goals as goal
+
+abbrev parts_of : Remade → Placed × Noted
+parts_of made = (made.timeline, made.shelf)
+
+pub returns-clause-ready : goal.returns-clause-ready
+returns-clause-ready c =
+    let d = c.self.inside in
+    let a = c.args in
+    let indexed = c.indexed_with_room-indexed in
+    let made = c.completed in
+    let kept : Kept = kept_from d.house d.opening d.timeline.items d.stamps d.next indexed.new.reports.items in
+    let held : Held = record {
+      kept = kept_from d.house d.opening d.timeline.items d.stamps d.next indexed.new.reports.items;
+      room = record { store = d.store; items = d.timeline.room; notes = d.shelf.room; reports = vec_capacity indexed.new.reports - vec_len indexed.new.reports };
+    } in
+    let items = through made.result parts_of indexed.result made.ensures.parts (λ (p : Placed × Noted). p.0.items ≡ a.timeline) indexed.ensures.items in
+    let sizes = through made.result parts_of indexed.result made.ensures.parts (λ (p : Placed × Noted). (body : Body) → size_of p.1.notes body ≡ option_map length (text_of a.timeline body)) indexed.ensures.sizes in
+    let desk = subst (λ (rs : Reports). IsDesk d.store.store (kept_from d.house d.opening d.timeline.items d.stamps d.next rs)) (sym indexed.ensures.same) c.self.invariant.desk in
+    can_replace made.result held a.store.store a.timeline (with_parts kept a.timeline a.stamps a.next (a.key, a.report))
+    (made_is made.result kept a.timeline a.stamps a.next a.key a.report items made.ensures.stamps made.ensures.next made.ensures.key made.ensures.report)
+    (stored_is made.result a.store made.ensures.store)
+    (desk_remade c.bodies_have_texts.ensures.opening d.store.store a.store.store kept a.timeline a.stamps a.next (a.key, a.report) desk
+    (subst (λ (h : Held). a.store.store ≡ run h.kept.base a.timeline) (sym c.self.view_is) c.requires.store) c.requires.valid
+    (subst (λ (h : Held). IsTimeline h.kept.house a.timeline) (sym c.self.view_is) c.requires.timeline) c.requires.below c.requires.named c.requires.fresh
+    (subst (λ (h : Held). h.kept.next < a.next) (sym c.self.view_is) c.requires.rises) c.requires.next)
+    items sizes (through made.result parts_of indexed.result made.ensures.parts (λ (p : Placed × Noted). 0 < vec_capacity indexed.new.reports - vec_len indexed.new.reports)
+    (some_room indexed.result (vec_len indexed.new.reports) (vec_capacity indexed.new.reports) indexed.ensures.room))

@@ -1,0 +1,13 @@
+use Rattle.mail_desk.specs.Timeline.{has_text}
+use Rattle.verb_core.specs.Store.{opening, users_of}
+use Rattle.mail_desk.proofs.BodyTexts.{own_texts}
+use Rattle.mail_desk.proofs.Desks.{empty_boxes}
+use Rattle.mail_desk.proofs.Going.{run_known}
+use Rattle.mail_desk.proofs.laws.bodies_have_texts.Goals as goal
+
+pub returns-clause-base : goal.returns-clause-base
+returns-clause-base c = λ base t valid formed all. run_known c.mail_is_kept.ensures c.steps_keep_validity.ensures.step (has_text t) base t valid formed (own_texts t) all
+
+pub returns-clause-opening : goal.returns-clause-opening
+returns-clause-opening c = λ house conf t sound aliases formed.
+    run_known c.mail_is_kept.ensures c.steps_keep_validity.ensures.step (has_text t) (opening house conf) t (c.steps_keep_validity.ensures.opening house conf sound aliases) formed (own_texts t) (empty_boxes (has_text t) (users_of house))

@@ -1,0 +1,27 @@
+use Rattle.std.proofs.Common.{◌≡◌, ◌<◌, ℕ, List, Some, Result, Err, length, get_or, ap, subst, sym, ◌∙◌, rules}
+use Rattle.std.specs.List.Sorted.{IsBinarySearchResult}
+use Rattle.std.specs.Ordering.{nat_cmp}
+use Rattle.std.specs.declared.cmp.Ordering.TheVariants.{Equal}
+use Rattle.std.proofs.lemmas.List.Sorted.{answers_always}
+use Rattle.verb_core.specs.Items.{NumbersApart}
+use Rattle.mail_desk.specs.Places.{Placed}
+use Rattle.mail_desk.specs.Timeline.{item_of}
+use Rattle.mail_desk.proofs.Indexes.{item_found, item_missing}
+use Rattle.mail_desk.proofs.numbered.Numbered.find.Goals as goal
+
+pub returns-in-Ok : goal.returns-in-Ok
+returns-in-Ok c =
+    let by_number = c.in-Ok.ensures.position (λ (r : ℕ × ℕ). r.0) (answers_always _ _ _ (λ f a r g called. search rules)) in
+    let equal = subst (λ (rows : List (ℕ × ℕ)). (r : ℕ × ℕ) → nat_cmp (get_or rows c.in-Ok.at r).0 c.args.number ≡ Equal) c.deref.ensures.value by_number in
+    let within = subst (λ (rows : List (ℕ × ℕ)). c.in-Ok.at < length rows) c.deref.ensures.value c.in-Ok.ensures.bound in
+    let apart = subst (λ (p : Placed). NumbersApart p.items) (sym c.self.view_is) c.requires in
+    let d = c.self.inside in
+    ap Some (c.index-in-Ok.ensures ∙ ap (λ (r : ℕ × ℕ). get_or d.items.items r.1 c.index-in-Ok.result.now) c.index.ensures)
+    ∙ sym (item_found d.places.items d.items.items c.self.invariant c.args.number apart c.in-Ok.at c.index.result.now c.index-in-Ok.result.now within equal)
+    ∙ ap (λ (p : Placed). item_of p.items c.args.number) c.self.view_is
+
+pub returns-in-Err : goal.returns-in-Err
+returns-in-Err c =
+    let by_number = c.in-Err.ensures.position (λ (r : ℕ × ℕ). r.0) (answers_always _ _ _ (λ f a r g called. search rules)) in
+    let missing = subst (λ (rows : List (ℕ × ℕ)). IsBinarySearchResult (λ (r : ℕ × ℕ). nat_cmp r.0 c.args.number) rows (let r : Result ℕ ℕ = Err c.in-Err.field-0 in r)) c.deref.ensures.value by_number in
+    sym (item_missing c.self.inside.places.items c.self.inside.items.items c.self.invariant c.args.number c.in-Err.field-0 missing) ∙ ap (λ (p : Placed). item_of p.items c.args.number) c.self.view_is
