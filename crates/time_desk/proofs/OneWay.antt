@@ -5,17 +5,19 @@ use Rattle.std.specs.Prelude.{option_and_then, if◌then◌else◌}
 use Rattle.std.specs.List.{AllByRecursion}
 use Rattle.verb_core.specs.Deeds.{act_item}
 use Rattle.verb_core.specs.declared.item.Item.{Item}
+use Rattle.verb_bytes.specs.declared.journal.CycleAsk.{CycleAsk}
 use Rattle.verb_bytes.specs.declared.journal.JournalRecord.{JournalRecord}
 use Rattle.verb_bytes.specs.declared.journal.JournalRecord.TheVariants.{Format, Verb, Operator, Cycle, Snapshot}
 use Rattle.verb_bytes.specs.Spelling.{HasSpelling, Spells, record_bytes}
 use Rattle.seal_log.specs.Journal.{frame, sealed, BeginsClosed, IsPayload, StandsFor}
 use Rattle.seal_log.specs.Loading.{BeginsCut, GoesOn, IsNotFormatted}
 use Rattle.paradox.specs.Kept.{Kept, performed, new_desk}
+use Rattle.mail_cycle.specs.Asking.{cycle_due}
 use Rattle.house_text.specs.Beginning.{can_begin}
 use Rattle.time_desk.specs.declared.fault.StartFault.{StartFault}
 use Rattle.time_desk.specs.declared.fault.StartFault.TheVariants.{NotFormatted, Damaged, Disk, NoMemory}
 use Rattle.time_desk.specs.Opening.{BeginsBad, CanStand, IsDamaged, OpensAs}
-use Rattle.time_desk.specs.Records.{Leaves, after_item, after_record, after_records, can_follow, first_state, is_spelled, payloads_of, state}
+use Rattle.time_desk.specs.Records.{Leaves, after_cycle_record, after_due, after_item, after_record, after_records, can_follow, can_rewind, first_state, is_spelled, payloads_of, state}
 
 -- ---- records that can stand have their spelling
 
@@ -25,11 +27,18 @@ item_spelled kept what item = elim (is_spelled what) as (λ b. is_some (if b && 
   | false ↦ λ h. h
 ]
 
+cycle_spelled : (kept : Kept) (number at : ℕ) (ask : CycleAsk) → IsTrue (is_some (after_cycle_record kept number at ask)) → HasSpelling (Cycle number at ask)
+cycle_spelled kept number at ask = by_test (is_spelled (Cycle number at ask))
+  where
+    by_test : (b : Bool) → is_some (if b && can_rewind kept number ask then after_due kept ask (cycle_due kept at ask) else None) ≡ true → b ≡ true
+    by_test true h = refl
+    by_test false h = h
+
 record_spelled : (kept : Kept) (r : JournalRecord) → IsTrue (is_some (after_record kept r)) → HasSpelling r
 record_spelled kept (Verb item) h = item_spelled kept (Verb item) item h
 record_spelled kept (Operator number at act) h = item_spelled kept (Operator number at act) (act_item number at act) h
 record_spelled kept (Format house conf) h = absurd (cc h)
-record_spelled kept (Cycle number at ask) h = absurd (cc h)
+record_spelled kept (Cycle number at ask) h = cycle_spelled kept number at ask h
 record_spelled kept (Snapshot items conf rows) h = absurd (cc h)
 
 first_spelled : (r : JournalRecord) → IsTrue (is_some (first_state r)) → HasSpelling r

@@ -4,13 +4,11 @@ use Rattle.std.proofs.lemmas.List.{map-append, take_all}
 use Rattle.std.proofs.lemmas.List.Concat.{flat_map-append}
 use Rattle.std.specs.Prelude.{option_and_then, if◌then◌else◌, IfOk, IfErr, slice_get}
 use Rattle.std.specs.List.{slice_range}
-use Rattle.verb_core.specs.Deeds.{act_item}
 use Rattle.verb_core.specs.declared.item.Item.{Item}
 use Rattle.std.specs.Int.{w32, to_be_bytes}
 use Rattle.undo_outside.specs.Disk.{DiskTold}
 use Rattle.undo_outside.specs.Moments.{OnlyReads}
 use Rattle.verb_bytes.specs.declared.journal.JournalRecord.{JournalRecord}
-use Rattle.verb_bytes.specs.declared.journal.JournalRecord.TheVariants.{Format, Verb, Operator, Cycle, Snapshot}
 use Rattle.verb_bytes.specs.Spelling.{HasSpelling, Spells, record_bytes}
 use Rattle.seal_log.specs.declared.place.Place.{Place}
 use Rattle.seal_log.specs.Journal.{frame, sealed, LiesAt}
@@ -21,7 +19,7 @@ use Rattle.time_desk.specs.declared.fault.StartFault.{StartFault}
 use Rattle.time_desk.specs.declared.fault.StartFault.TheVariants.{NotFormatted, Damaged, Disk, NoMemory}
 use Rattle.time_desk.specs.Opening.{CanStand}
 use Rattle.time_desk.specs.Records.{after_item, after_record, after_records, can_follow, first_state, payloads_of, state}
-use Rattle.time_desk.specs.Standing.{BreaksFor, Enters, Fails, FailsPayload, LeadsTo, Performed, Performs, SpellsAll, SpellsNothing, StopsFor, item_of}
+use Rattle.time_desk.specs.Standing.{BreaksFor, Enters, Fails, FailsPayload, LeadsTo, Performed, Performs, SpellsAll, SpellsNothing, StopsFor}
 
 -- ---- what stays while a disk is read
 
@@ -117,17 +115,9 @@ after_entering : (kept : Kept) (item : Item) (stood : Bool) (new : Kept) → Ent
 after_entering kept item true new entered = ap (λ (b : Bool). if b then Some (performed kept item) else None) entered.0 ∙ ap Some (sym entered.1)
 after_entering kept item false new entered = ap (λ (b : Bool). if b then Some (performed kept item) else None) entered
 
-item_after : (kept : Kept) (what : JournalRecord) (item : Item) (stood : Bool) (new : Kept) → HasSpelling what → Enters kept item stood new → Performs (after_item kept what item) stood new
+pub item_after : (kept : Kept) (what : JournalRecord) (item : Item) (stood : Bool) (new : Kept) → HasSpelling what → Enters kept item stood new → Performs (after_item kept what item) stood new
 item_after kept what item stood new fits entered =
     subst (λ (b : Bool). Performs (if b && can_follow kept item then Some (performed kept item) else None) stood new) (sym fits) (after_entering kept item stood new entered)
-
--- the item of a record was entered
-pub enters_record : (kept : Kept) (what : JournalRecord) (item : Item) (stood : Bool) (new : Kept) → HasSpelling what → Some item ≡ item_of what → Enters kept item stood new → Performs (after_record kept what) stood new
-enters_record kept (Verb i) item stood new fits is entered = item_after kept (Verb i) i stood new fits (let same : item ≡ i = cc is in subst (λ (j : Item). Enters kept j stood new) same entered)
-enters_record kept (Operator number at act) item stood new fits is entered = item_after kept (Operator number at act) (act_item number at act) stood new fits (let same : item ≡ act_item number at act = cc is in subst (λ (j : Item). Enters kept j stood new) same entered)
-enters_record kept (Format house conf) item stood new fits is entered = absurd (cc is)
-enters_record kept (Cycle number at ask) item stood new fits is entered = absurd (cc is)
-enters_record kept (Snapshot items conf rows) item stood new fits is entered = absurd (cc is)
 
 -- ---- the first record
 

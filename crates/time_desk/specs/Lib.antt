@@ -4,5 +4,6 @@ pub mod Sealing
 pub mod Crashing
 pub mod Making
 pub mod Submitting
+pub mod Cycling
 pub mod Opening
 pub mod Standing

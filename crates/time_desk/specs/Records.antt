@@ -6,12 +6,15 @@ use Rattle.verb_core.specs.declared.conf.House.{House}
 use Rattle.verb_core.specs.declared.item.Item.{Item}
 use Rattle.verb_core.specs.Items.{is_own, users_in, keys_in, has_form}
 use Rattle.verb_core.specs.Store.{is_known}
+use Rattle.verb_bytes.specs.declared.journal.CycleAsk.{CycleAsk}
 use Rattle.verb_bytes.specs.declared.journal.JournalRecord.{JournalRecord}
 use Rattle.verb_bytes.specs.declared.journal.JournalRecord.TheVariants.{Format, Verb, Operator, Cycle, Snapshot}
 use Rattle.verb_bytes.specs.Fields.{are_in_range}
 use Rattle.verb_bytes.specs.Spelling.{record_bytes, record_fields}
 use Rattle.seal_log.specs.Journal.{StandsFor}
 use Rattle.paradox.specs.Kept.{Kept, new_desk, performed}
+use Rattle.repair_desk.specs.Repairs.{are_known}
+use Rattle.mail_cycle.specs.Asking.{Due, Repeats, NoPoint, NoNumbers, Rewinds, after_cycle, cycle_due}
 use Rattle.house_text.specs.Beginning.{can_begin}
 
 -- ---- one record
@@ -40,12 +43,28 @@ is_spelled what = are_in_range (record_fields what)
 abbrev pub after_item : Kept → JournalRecord → Item → Option Kept
 after_item kept what item = if is_spelled what && can_follow kept item then Some (performed kept item) else None
 
+-- what is kept after a request for a cycle, where a cycle is due: its key is new, its point known, and numbers are left
+abbrev pub after_due : Kept → CycleAsk → Due → Option Kept
+after_due kept ask (Repeats report) = None
+after_due kept ask NoPoint = None
+after_due kept ask NoNumbers = None
+after_due kept ask (Rewinds due) = Some (after_cycle kept ask due)
+
+-- whether a cycle can follow: it has the next number, and the users that its acts name are known
+abbrev pub can_rewind : Kept → ℕ → CycleAsk → Bool
+can_rewind kept number ask = (number == kept.next) && are_known kept.house ask.inserts
+
+-- what is kept after the record of a cycle, where it can stand
+abbrev pub after_cycle_record : Kept → ℕ → ℕ → CycleAsk → Option Kept
+after_cycle_record kept number at ask =
+    if is_spelled (Cycle number at ask) && can_rewind kept number ask then after_due kept ask (cycle_due kept at ask) else None
+
 -- what is kept after one more record; none where it can't stand
 abbrev pub after_record : Kept → JournalRecord → Option Kept
 after_record kept (Verb item) = after_item kept (Verb item) item
 after_record kept (Operator number at act) = after_item kept (Operator number at act) (act_item number at act)
 after_record kept (Format house conf) = None
-after_record kept (Cycle number at ask) = None
+after_record kept (Cycle number at ask) = after_cycle_record kept number at ask
 after_record kept (Snapshot items conf rows) = None
 
 -- ---- many

@@ -12,10 +12,14 @@ use Rattle.paradox.specs.Kept.{Kept, performed}
 use Rattle.time_desk.specs.Lasting.{Lasting}
 use Rattle.time_desk.specs.Records.{after_record, after_records, payloads_of}
 
--- the record of an item: these are its bytes, and it leaves the item performed
-pub record IsRecordOf (what : JournalRecord) (bytes : List ℕ) (kept : Kept) (item : Item) : Type 0 where
+-- a record that can stand: these are its bytes, and this is what it leaves
+pub record IsRecordTo (what : JournalRecord) (bytes : List ℕ) (kept next : Kept) : Type 0 where
   pub bytes_are : record_bytes what ≡ bytes
-  pub can_stand : after_record kept what ≡ Some (performed kept item)
+  pub can_stand : after_record kept what ≡ Some next
+
+-- the record of an item: it leaves the item performed
+abbrev pub IsRecordOf : JournalRecord → List ℕ → Kept → Item → Type 0
+IsRecordOf what bytes kept item = IsRecordTo what bytes kept (performed kept item)
 
 -- a write or a sync failed exactly where there is something whose sealing failed
 abbrev pub FailsFor : List (List ℕ) → DiskTold → DiskTold → Type 0

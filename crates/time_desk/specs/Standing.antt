@@ -2,7 +2,6 @@
 use Rattle.std.specs.Prelude.{◌≡◌, ◌≤◌, ◌+◌, ℕ, Bool, true, false, ◌&&◌, not, List, ◌∷◌, ◌++◌, length, Option, Some, None, IsTrue, if◌then◌else◌}
 use Rattle.std.specs.List.{list_all}
 use Rattle.undo_base.specs.declared.keys.User.{User}
-use Rattle.verb_core.specs.Deeds.{act_item}
 use Rattle.verb_core.specs.declared.conf.Conf.{Conf}
 use Rattle.verb_core.specs.declared.conf.House.{House}
 use Rattle.verb_core.specs.declared.item.Deed.{Deed}
@@ -22,14 +21,6 @@ use Rattle.time_desk.specs.Opening.{CanStand, SpellsNone}
 use Rattle.time_desk.specs.Records.{after_record, after_records, can_follow, payloads_of, state}
 
 -- ---- one record
-
--- the item of a record that has one
-abbrev pub item_of : JournalRecord → Option Item
-item_of (Verb item) = Some item
-item_of (Operator number at act) = Some (act_item number at act)
-item_of (Format house conf) = None
-item_of (Cycle number at ask) = None
-item_of (Snapshot items conf rows) = None
 
 -- the house and the opening configuration of a record that has them
 abbrev pub opening_of : JournalRecord → Option (House × Conf)

@@ -1,18 +1,19 @@
 //! The desk over its disk, and what it tells of itself.
-ghost use Rattle.std.specs.Prelude.{◌≡◌, ℕ, ◌≤◌, ◌<◌, ◌-◌, map, length, option_map, Some, IsTrue, IfOk, IfErr};
-ghost use Rattle.std.specs.List.{list_all};
+ghost use Rattle.std.specs.Prelude.{◌≡◌, ℕ, ◌≤◌, ◌<◌, [], map, length, option_map, Some, IsTrue, IfOk, IfErr};
+ghost use Rattle.std.specs.List.{AllByRecursion, list_all};
+ghost use Rattle.verb_core.specs.declared.item.Item.{Item as TheItem};
 ghost use Rattle.verb_core.specs.declared.mailbox.Body.{Body as TheBody};
 ghost use Rattle.verb_core.specs.declared.mailbox.BoxId.{BoxId as TheBoxId};
 ghost use Rattle.verb_core.specs.declared.mailbox.Mailbox.{Mailbox as TheMailbox};
 ghost use Rattle.verb_core.specs.Boxes.{box_of, row_at};
 ghost use Rattle.verb_core.specs.Items.{IsTimeline, text_of};
-ghost use Rattle.verb_core.specs.Store.{IsValid, is_house};
+ghost use Rattle.verb_core.specs.Store.{IsValid, is_house, is_known, opening as store_at_first};
 ghost use Rattle.seal_log.specs.declared.fault.ReadFault.TheVariants as read_faults;
 ghost use Rattle.shelf.specs.Notes.{size_of};
 ghost use Rattle.store_digest.specs.Snapshots.{digest_of};
 ghost use Rattle.mail_desk.specs.Counting.{counts_of, listed, page};
 ghost use Rattle.paradox.specs.Kept.{store_of};
-ghost use Rattle.mail_desk.specs.Timeline.{all_bodies, has_sizes, has_text, numbers_rise, rev_of, texts_of};
+ghost use Rattle.mail_desk.specs.Timeline.{all_bodies, has_sizes, has_text, rev_of, texts_of};
 
 use crate::on_disk::Journal;
 use box_store::Store;
@@ -177,11 +178,16 @@ impl<D: Disk> Desk<D> {
     /// What holds of each desk: this does nothing.
     pub fn stands(&self)
         ensures house { IsTrue (is_house self.now.kept.house) }
+        ensures base { self.now.kept.base ≡ store_at_first self.now.kept.house self.now.kept.opening }
+        ensures aliases { IsTrue (list_all (λ a. list_all (is_known self.now.kept.house) a.users) self.now.kept.opening.aliases) }
+        ensures filters { self.now.kept.opening.filters ≡ [] }
         ensures valid { IsValid (store_of self.now.kept) }
         ensures house_stays { (store_of self.now.kept).house ≡ self.now.kept.house }
         ensures timeline { IsTimeline self.now.kept.house self.now.kept.timeline }
-        ensures rising { IsTrue (numbers_rise (self.now.kept.house.first - 1) self.now.kept.timeline self.now.kept.next) }
+        ensures below { AllByRecursion (λ (i : TheItem). i.number < self.now.kept.next) self.now.kept.timeline }
+        ensures fresh { AllByRecursion (λ (r : TheBoxId × ℕ). r.1 < self.now.kept.next) self.now.kept.stamps }
         ensures next { self.now.kept.next ≤ 4194304 }
+        ensures reports { length self.now.kept.reports ≤ self.now.kept.next }
         ensures texts { IsTrue (all_bodies (has_text self.now.kept.timeline) (store_of self.now.kept).boxes) }
         ensures within { self.now.gate < (D.told self.now.disk).size }
     {

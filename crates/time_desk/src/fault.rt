@@ -33,3 +33,18 @@ pub enum ActFault {
     /// A write or a sync failed earlier.
     Closed,
 }
+
+/// Why a request for a cycle has no report. But for `NoMemory` the first that holds is told, in this order: `Closed`, `Point`,
+/// `Numbers`, `Disk`. A key that a cycle had is answered before all of them.
+#[derive(Clone, Copy, Debug, PartialEq, Eq)]
+pub enum CycleFault {
+    /// The timeline has no item of this number, which is not 0.
+    Point { given: u32 },
+    /// Too few numbers are left for the cycle, its acts and a notice to each user: the next would be this one.
+    Numbers { next: u32 },
+    /// A write or a sync failed in this call. The desk is closed from then on.
+    Disk,
+    NoMemory,
+    /// A write or a sync failed earlier.
+    Closed,
+}

@@ -1,21 +1,24 @@
 //! The desk over a disk: each item is sealed in the journal, and then performed in memory.
 //!
 //! `on_disk` has a journal on its disk, and `desk` the desk over it, and tells its parts. `make` begins a journal, `start` reads one, with `standing` for the records that
-//! can stand, and `openings` has the law that an image opens in one way. `seal` seals one record; `submit` and `act` take what
-//! users and the operator ask; `spelling` says which items have a record, and `fault` why a desk is not made, not started or an act not
-//! done. In specs/, `Records` says what records leave one after the other and when one can stand,
+//! can stand, and `openings` has the law that an image opens in one way. `seal` seals the record of an item; `submit` and `act` take
+//! what users and the operator ask, and `cycle` what the operator asks of the past, with `redo` for a cycle in memory; `spelling`
+//! says which items have a record, and `fault` why a desk is not made, not started, an act or a cycle not done. In specs/, `Records` says what records leave one after the other and when one can stand,
 //! `Lasting` what contracts see of a desk, `Sealing` what a call seals and what a crash at any moment of it leaves, `Opening`
-//! what an image opens as, `Standing` how its records are read, `Making` and `Submitting` why calls are refused.
-//! What carries the crate: `Desk::submit` and `Desk::act`, by `Seals`, and `Desk::start`, by `Starts`.
+//! what an image opens as, `Standing` how its records are read, `Making`, `Submitting` and `Cycling` why calls are refused, and what a
+//! cycle comes to.
+//! What carries the crate: `Desk::submit` and `Desk::act`, by `Seals`, `Desk::cycle`, by `Cycles`, and `Desk::start`, by `Starts`.
 #![tactic(auto)]
 
 mod act;
+mod cycle;
 mod desk;
 mod fault;
 pub mod laws;
 mod make;
 mod on_disk;
 mod openings;
+mod redo;
 mod seal;
 mod spelling;
 mod standing;
@@ -23,5 +26,5 @@ mod start;
 mod submit;
 
 pub use desk::Desk;
-pub use fault::{ActFault, MakeFault, StartFault};
+pub use fault::{ActFault, CycleFault, MakeFault, StartFault};
 pub use openings::one_opening;

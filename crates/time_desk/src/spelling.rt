@@ -1,12 +1,14 @@
 //! The bytes of records.
 ghost use Rattle.std.specs.Prelude.{◌≡◌, IsTrue, IfOk, OnOk};
-ghost use Rattle.verb_bytes.specs.declared.journal.JournalRecord.TheVariants.{Format, Verb, Operator};
+ghost use Rattle.verb_bytes.specs.declared.journal.JournalRecord.TheVariants.{Format, Verb, Operator, Cycle};
 ghost use Rattle.verb_bytes.specs.Spelling.{record_bytes};
 ghost use Rattle.time_desk.specs.Records.{is_spelled};
 
 use std::alloc::Global;
 use undo_base::{Copies, NoMemory, Text};
-use verb_bytes::{JournalRecord, Unwritten, spell_act, spell_item, spell_record};
+use verb_bytes::{
+    CycleAsk, JournalRecord, Unwritten, spell_act, spell_cycle, spell_item, spell_record,
+};
 use verb_core::{Act, Conf, House, Item};
 
 /// The bytes of the record of a user's item. One without a spelling finds no memory.
@@ -27,6 +29,23 @@ pub(crate) fn act_bytes(alloc: Global, number: u32, at: u64, act: &Act) -> Resul
     ensures bytes { IfOk result (λ text. text ≡ record_bytes (Operator number at act.now)) }
 {
     match spell_act(alloc, number, at, act) {
+        Ok(bytes) => Ok(bytes),
+        Err(Unwritten::Unspelled) => Err(NoMemory),
+        Err(Unwritten::NoMemory) => Err(NoMemory),
+    }
+}
+
+/// The same of a cycle.
+pub(crate) fn cycle_bytes(
+    alloc: Global,
+    number: u32,
+    at: u64,
+    ask: &CycleAsk,
+) -> Result<Text, NoMemory>
+    ensures spelled { OnOk result (IsTrue (is_spelled (Cycle number at ask.now))) }
+    ensures bytes { IfOk result (λ text. text ≡ record_bytes (Cycle number at ask.now)) }
+{
+    match spell_cycle(alloc, number, at, ask) {
         Ok(bytes) => Ok(bytes),
         Err(Unwritten::Unspelled) => Err(NoMemory),
         Err(Unwritten::NoMemory) => Err(NoMemory),

@@ -1,19 +1,26 @@
 //! Records that can stand: the first of a journal, and each behind it, performed.
-ghost use Rattle.std.specs.Prelude.{◌≡◌, IfOk, IfSome, option_map};
+ghost use Rattle.std.specs.Prelude.{◌≡◌, ◌≤◌, true, false, is_none, IsTrue, IfOk, OnOk, option_map};
 ghost use Rattle.std.specs.List.{list_all};
 ghost use Rattle.verb_core.specs.Items.{users_in};
 ghost use Rattle.verb_core.specs.Store.{is_known as knows};
+ghost use Rattle.verb_bytes.specs.declared.journal.JournalRecord.TheVariants.{Cycle};
 ghost use Rattle.verb_bytes.specs.Spelling.{HasSpelling};
-ghost use Rattle.time_desk.specs.Records.{after_record, can_follow as follows, first_state};
-ghost use Rattle.time_desk.specs.Standing.{Enters, IsFormed, Performs, begun, has_users as uses, is_actor, item_of, opening_of};
+ghost use Rattle.paradox.specs.Kept.{report_of};
+ghost use Rattle.repair_desk.specs.Repairs.{are_known as acts_name_known};
+ghost use Rattle.mail_cycle.specs.Asking.{due_anew};
+ghost use Rattle.time_desk.specs.Cycling.{IsFit, after_rewound};
+ghost use Rattle.time_desk.specs.Records.{after_cycle_record, after_due, after_record, can_follow as follows, can_rewind as rewinds, first_state};
+ghost use Rattle.time_desk.specs.Standing.{Enters, IsFormed, Performs, begun, has_users as uses, is_actor, opening_of};
 
 use crate::act::item_of;
+use crate::redo::{key_in, remade, rewound_alone};
 use house_text::can_begin;
+use mail_cycle::{CycleRefused, Rewound};
 use mail_desk::Desk;
 use std::alloc::Global;
-use undo_base::{LAST_NUMBER, NoMemory, User};
-use verb_bytes::JournalRecord;
-use verb_bytes::laws::spelled_items_are_formed;
+use undo_base::{LAST_MOMENT, LAST_NUMBER, Name, NoMemory, User};
+use verb_bytes::laws::{spelled_cycles_have_moments, spelled_items_are_formed};
+use verb_bytes::{CycleAsk, JournalRecord};
 use verb_core::{Act, Conf, Deed, House, Item};
 
 // ---- the first record
@@ -134,34 +141,7 @@ fn has_users(house: &House, item: &Item) -> bool
     has_actor(house, item.by, &item.deed) && deed_knows(house, &item.deed)
 }
 
-// ---- the next record
-
-/// The item of a record that has one.
-fn item_in(what: JournalRecord) -> Option<Item>
-    requires { HasSpelling what }
-    ensures item { result ≡ item_of what }
-    ensures formed { IfSome result IsFormed }
-{
-    spelled_items_are_formed();
-    match what {
-        JournalRecord::Verb(item) => Some(item),
-        JournalRecord::Operator { number, at, act } => Some(item_of(number, at, act)),
-        JournalRecord::Format(house, conf) => {
-            drop(house);
-            drop(conf);
-            None
-        }
-        JournalRecord::Cycle { ask, .. } => {
-            drop(ask);
-            None
-        }
-        JournalRecord::Snapshot { conf, rows, .. } => {
-            drop(conf);
-            drop(rows);
-            None
-        }
-    }
-}
+// ---- an item
 
 /// Whether an item can follow: it has the next number, there is one left, and its users are such as it may have.
 fn can_follow(desk: &Desk, item: &Item) -> bool
@@ -189,13 +169,113 @@ fn enter(alloc: Global, desk: &mut Desk, item: Item) -> Result<bool, NoMemory>
     }
 }
 
+// ---- a cycle
+
+/// Whether the users that acts name are known.
+fn acts_known(house: &House, acts: &[Act]) -> bool
+    ensures { result ≡ acts_name_known house.now acts.now }
+{
+    acts.iter().all(|act| act_knows(house, act))
+}
+
+/// Whether a cycle can follow: it has the next number, and the users that its acts name are known.
+fn can_rewind(desk: &Desk, number: u32, ask: &CycleAsk) -> bool
+    ensures { result ≡ rewinds desk.now.kept number ask.now }
+{
+    number == desk.next() && acts_known(desk.house(), ask.inserts.as_slice())
+}
+
+/// Whether no cycle had a key.
+fn is_new(desk: &Desk, key: &Name) -> bool
+    ensures { result ≡ is_none (report_of desk.now.kept.reports key.now) }
+{
+    desk.report(key).is_none()
+}
+
+/// Puts what a cycle leaves in place, under a key.
+fn put_in_place(alloc: Global, desk: &mut Desk, key: Name, made: Rewound) -> Result<bool, NoMemory>
+    requires { IsFit desk.old.kept made }
+    ensures { IfOk result (λ stood. (stood ≡ true) × (desk.new.kept ≡ after_rewound desk.old.kept key made)) }
+{
+    match remade(alloc, desk, key, made) {
+        Ok(remade) => {
+            desk.replace(remade);
+            Ok(true)
+        }
+        Err(NoMemory) => Err(NoMemory),
+    }
+}
+
+/// A cycle can't stand that is refused for more than want of memory.
+fn none_due(refused: CycleRefused) -> Result<bool, NoMemory>
+    ensures none { IfOk result (λ stood. stood ≡ false) }
+    ensures why { OnOk result (refused ≡ CycleRefused.NoMemory → ⊥) }
+{
+    match refused {
+        CycleRefused::Point { .. } => Ok(false),
+        CycleRefused::Numbers { .. } => Ok(false),
+        CycleRefused::NoMemory => Err(NoMemory),
+    }
+}
+
+/// Performs a cycle under a new key, where its point is known and numbers are left.
+fn rewind_anew(alloc: Global, desk: &mut Desk, at: u64, ask: CycleAsk) -> Result<bool, NoMemory>
+    requires moment { at ≤ LAST_MOMENT }
+    requires known { IsTrue (acts_name_known desk.old.kept.house ask.inserts) }
+    ensures { IfOk result (λ stood. Performs (after_due desk.old.kept ask (due_anew desk.old.kept at ask)) stood desk.new.kept) }
+{
+    match rewound_alone(alloc, desk, at, &ask) {
+        Ok(made) => put_in_place(alloc, desk, key_in(ask), made),
+        Err(refused) => {
+            drop(ask);
+            none_due(refused)
+        }
+    }
+}
+
+/// Performs a cycle, where it can stand: its number is the next, its users are known, its key is new, its point known, and
+/// numbers are left.
+fn rewind(
+    alloc: Global,
+    desk: &mut Desk,
+    number: u32,
+    at: u64,
+    ask: CycleAsk,
+) -> Result<bool, NoMemory>
+    requires { HasSpelling (Cycle number at ask) }
+    ensures { IfOk result (λ stood. Performs (after_cycle_record desk.old.kept number at ask) stood desk.new.kept) }
+{
+    spelled_cycles_have_moments();
+    if !can_rewind(desk, number, &ask) || !is_new(desk, &ask.key) {
+        drop(ask);
+        return Ok(false);
+    }
+    rewind_anew(alloc, desk, at, ask)
+}
+
+// ---- the next record
+
 /// Performs a record behind others, where it can stand, and answers whether it can.
 pub(crate) fn follow(alloc: Global, desk: &mut Desk, what: JournalRecord) -> Result<bool, NoMemory>
     requires { HasSpelling what }
     ensures { IfOk result (λ stood. Performs (after_record desk.old.kept what) stood desk.new.kept) }
 {
-    match item_in(what) {
-        Some(item) => enter(alloc, desk, item),
-        None => Ok(false),
+    spelled_items_are_formed();
+    match what {
+        JournalRecord::Verb(item) => enter(alloc, desk, item),
+        JournalRecord::Operator { number, at, act } => {
+            enter(alloc, desk, item_of(number, at, act))
+        }
+        JournalRecord::Cycle { number, at, ask } => rewind(alloc, desk, number, at, ask),
+        JournalRecord::Format(house, conf) => {
+            drop(house);
+            drop(conf);
+            Ok(false)
+        }
+        JournalRecord::Snapshot { conf, rows, .. } => {
+            drop(conf);
+            drop(rows);
+            Ok(false)
+        }
     }
 }

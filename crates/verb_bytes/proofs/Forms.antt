@@ -1,7 +1,7 @@
 -- What the spelling of an item says of what was shown, and of its keys.
 use Rattle.std.proofs.Common.{◌≡◌, ◌≤◌, ◌==◌, ◌∙◌, ℕ, Bool, true, List, Option, length, refl, arith}
 use Rattle.std.proofs.lemmas.Bool.{eq-eqb}
-use Rattle.std.specs.Int.{w32}
+use Rattle.std.specs.Int.{w32, w64}
 use Rattle.undo_base.specs.declared.keys.Key.{Key}
 use Rattle.verb_core.specs.declared.item.Item.{Item}
 use Rattle.verb_core.specs.declared.item.Sight.{Sight}
@@ -11,9 +11,10 @@ use Rattle.verb_core.specs.declared.item.Deed.TheVariants.{Deliver, Append, Fetc
 use Rattle.verb_core.specs.declared.item.Shown.{Shown}
 use Rattle.verb_core.specs.declared.item.Shown.TheVariants.{Nothing, Seen, Names as Named, Count, Done, Copied, Put, Left, Way as Went, Moved}
 use Rattle.verb_core.specs.Items.{has_form, keys_in}
-use Rattle.verb_bytes.specs.declared.journal.JournalRecord.TheVariants.{Verb}
+use Rattle.verb_bytes.specs.declared.journal.CycleAsk.{CycleAsk}
+use Rattle.verb_bytes.specs.declared.journal.JournalRecord.TheVariants.{Verb, Cycle}
 use Rattle.verb_bytes.specs.Fields.{are_in_range, byte_field, u32_field, moment_field, actor_field, only_if, ◌&◌}
-use Rattle.verb_bytes.specs.Spelling.{HasSpelling, deed_fields, item_fields, key_list, shown_fields, shown_kind}
+use Rattle.verb_bytes.specs.Spelling.{HasSpelling, ask_fields, deed_fields, item_fields, key_list, shown_fields, shown_kind}
 use Rattle.verb_bytes.proofs.FieldLaws.{byte_bounds}
 use Rattle.verb_bytes.proofs.Puts.{first_in_range, others_in_range, number_in_range}
 
@@ -111,3 +112,10 @@ is_formed i fits =
       form_is i.deed i.shown ∙ eq-eqb (shown_kind i.deed) (kind_of i.shown) (kind_is (shown_kind i.deed) i.shown is_shown),
       few_keys i.deed (first_in_range (deed_fields i.deed) (shown & only_if (i.rev == 0)) behind),
     )
+
+-- ---- cycles
+
+pub cycle_moment : (number at : ℕ) (ask : CycleAsk) → HasSpelling (Cycle number at ask) → at ≤ 253402300799
+cycle_moment number at ask fits =
+    let behind = others_in_range (byte_field 0 4 3) (u32_field number & moment_field at & ask_fields ask) fits in
+    number_in_range w64 253402300799 at (first_in_range (moment_field at) (ask_fields ask) (others_in_range (u32_field number) (moment_field at & ask_fields ask) behind))

@@ -1,6 +1,6 @@
 //! Records, written as their bytes.
 ghost use Rattle.std.specs.Prelude.{◌≡◌, IfOk};
-ghost use Rattle.verb_bytes.specs.declared.journal.JournalRecord.TheVariants.{Verb, Operator, Snapshot};
+ghost use Rattle.verb_bytes.specs.declared.journal.JournalRecord.TheVariants.{Verb, Operator, Cycle, Snapshot};
 ghost use Rattle.verb_bytes.specs.Spelling.{ask_fields, record_fields, record_bytes, HasSpelling};
 ghost use Rattle.verb_bytes.specs.Writing.{Encodes, Puts};
 
@@ -42,6 +42,16 @@ fn put_operator(number: u32, at: u64, act: &Act, out: &mut Text) -> Result<(), U
 }
 
 #[tactic(auto, using(crate::proofs::Puts::list_steps))]
+fn put_cycle(number: u32, at: u64, ask: &CycleAsk, out: &mut Text) -> Result<(), Unwritten>
+    ensures { Puts (record_fields (Cycle number at ask.now)) out.old out.new result }
+{
+    put_byte(out, 0, 4, 3)?;
+    put_u32(out, u32::MAX, number)?;
+    put_u64(out, LAST_MOMENT, at)?;
+    put_ask(ask, out)
+}
+
+#[tactic(auto, using(crate::proofs::Puts::list_steps))]
 fn put_snapshot(items: u32, conf: &Conf, rows: &Rows, out: &mut Text) -> Result<(), Unwritten>
     ensures { Puts (record_fields (Snapshot items conf.now rows.now)) out.old out.new result }
 {
@@ -63,12 +73,7 @@ fn put_record(what: &JournalRecord, out: &mut Text) -> Result<(), Unwritten>
         }
         JournalRecord::Verb(item) => put_verb(item, out),
         JournalRecord::Operator { number, at, act } => put_operator(*number, *at, act, out),
-        JournalRecord::Cycle { number, at, ask } => {
-            put_byte(out, 0, 4, 3)?;
-            put_u32(out, u32::MAX, *number)?;
-            put_u64(out, LAST_MOMENT, *at)?;
-            put_ask(ask, out)
-        }
+        JournalRecord::Cycle { number, at, ask } => put_cycle(*number, *at, ask, out),
         JournalRecord::Snapshot { items, conf, rows } => put_snapshot(*items, conf, rows, out),
     }
 }
@@ -97,6 +102,15 @@ pub fn spell_act(alloc: Global, number: u32, at: u64, act: &Act) -> Result<Text,
 {
     let mut out = Text::new(alloc);
     put_operator(number, at, act, &mut out)?;
+    Ok(out)
+}
+
+/// The same of the record of a cycle.
+pub fn spell_cycle(alloc: Global, number: u32, at: u64, ask: &CycleAsk) -> Result<Text, Unwritten>
+    ensures { Encodes (Cycle number at ask.now) result }
+{
+    let mut out = Text::new(alloc);
+    put_cycle(number, at, ask, &mut out)?;
     Ok(out)
 }
 

@@ -5,8 +5,9 @@ ghost use Rattle.verb_core.specs.declared.conf.House.{House};
 ghost use Rattle.verb_core.specs.declared.item.Act.{Act};
 ghost use Rattle.verb_core.specs.declared.item.Item.{Item};
 ghost use Rattle.verb_core.specs.Items.{has_form, keys_in};
+ghost use Rattle.verb_bytes.specs.declared.journal.CycleAsk.{CycleAsk};
 ghost use Rattle.verb_bytes.specs.declared.journal.JournalRecord.{JournalRecord};
-ghost use Rattle.verb_bytes.specs.declared.journal.JournalRecord.TheVariants.{Format, Verb, Operator};
+ghost use Rattle.verb_bytes.specs.declared.journal.JournalRecord.TheVariants.{Format, Verb, Operator, Cycle};
 ghost use Rattle.verb_bytes.specs.Decoding.{IsBytes, IsRefused, IsRefusedAt, IsSpelled};
 ghost use Rattle.verb_bytes.specs.Limits.{delivery, IsAct, IsAsked, IsMail, IsOpening};
 ghost use Rattle.verb_bytes.specs.Spelling.{HasSpelling, Spells};
@@ -43,4 +44,9 @@ pub fn acts_have_spellings()
 pub fn spelled_items_are_formed()
     ensures form { (item : Item) → HasSpelling (Verb item) → IsTrue (has_form item.deed item.shown) }
     ensures keys { (item : Item) → HasSpelling (Verb item) → length (keys_in item.deed) ≤ 65536 }
+{}
+
+/// The moment of a cycle whose record has a spelling is within the years that dates can say.
+pub fn spelled_cycles_have_moments()
+    ensures { (number at : ℕ) (ask : CycleAsk) → HasSpelling (Cycle number at ask) → at ≤ 253402300799 }
 {}

@@ -24,6 +24,6 @@ mod simple;
 mod write;
 
 pub use decode::{BadBytes, decode_record};
-pub use encode::{encode_record, spell_act, spell_item, spell_record, spell_snapshot};
+pub use encode::{encode_record, spell_act, spell_cycle, spell_item, spell_record, spell_snapshot};
 pub use journal::{Acts, CycleAsk, JournalRecord, Replaces};
 pub use write::Unwritten;
