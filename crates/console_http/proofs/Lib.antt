@@ -1,4 +1,9 @@
 pub mod Counts
+pub mod Each
+pub mod Names
+pub mod Sizes
+pub mod Made
+pub mod Recording
 pub mod Knowing
 pub mod Lists
 pub mod Bodies

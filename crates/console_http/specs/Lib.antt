@@ -1,5 +1,6 @@
 pub mod Parts
 pub mod Members
 pub mod Acts
+pub mod Cycles
 pub mod Routes
 pub mod Requests

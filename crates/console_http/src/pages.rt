@@ -12,6 +12,8 @@ pub enum Page {
     Body,
     Conf,
     Act,
+    Cycle,
+    Try,
     Stop,
 }
 
@@ -27,6 +29,8 @@ impl Page {
             Page::Body => b"/body/",
             Page::Conf => b"/conf",
             Page::Act => b"/act",
+            Page::Cycle => b"/cycle",
+            Page::Try => b"/try",
             Page::Stop => b"/stop",
         }
     }
@@ -37,7 +41,7 @@ impl Page {
     {
         match self {
             Page::Status | Page::Timeline | Page::Box | Page::Body | Page::Conf => b"GET",
-            Page::Act | Page::Stop => b"POST",
+            Page::Act | Page::Cycle | Page::Try | Page::Stop => b"POST",
         }
     }
 }
@@ -73,6 +77,8 @@ pub fn find_page(path: &[u8]) -> Option<Page>
         Page::Body,
         Page::Conf,
         Page::Act,
+        Page::Cycle,
+        Page::Try,
         Page::Stop,
     ];
     first_at(pages.as_slice(), path)

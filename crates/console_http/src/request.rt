@@ -4,19 +4,22 @@ ghost use Rattle.verb_core.specs.Store.{is_house};
 ghost use Rattle.console_head.specs.Coming.{IsKnown, looked_at};
 ghost use Rattle.console_head.specs.Seen.{parts_seen};
 ghost use Rattle.console_http.specs.Acts.{act_in};
-ghost use Rattle.console_http.specs.Routes.{number_in, box_in, alone as alone_at, taken, acted, route_on, route_of};
+ghost use Rattle.console_http.specs.Cycles.{cycle_in, try_in};
+ghost use Rattle.console_http.specs.Routes.{number_in, box_in, alone as alone_at, taken, said as said_of, route_on, route_of};
 ghost use Rattle.console_http.specs.Requests.{Asks, AsksOf, Found, Learns, told_of};
 
 use crate::acts::read_act;
+use crate::cycles::{read_cycle, read_try};
 use crate::pages::{Page, find_page};
 use crate::parts::{before_slash, behind_slash, find_user, read_box, read_number, read_part};
 use console_head::{Coming, HeadRefused, Request};
 use std::alloc::Global;
 use undo_base::{Name, NoMemory, User};
+use verb_bytes::CycleAsk;
 use verb_core::{Act, House};
 
-/// What a request asks for.
-#[derive(Debug, Drop, PartialEq, Eq)]
+/// What a request asks for. The key of a `Try` is a hyphen.
+#[derive(Drop)]
 pub enum Route {
     Status,
     Timeline { start: u32 },
@@ -24,11 +27,13 @@ pub enum Route {
     Body { number: u32 },
     Conf,
     Act(Act),
+    Cycle(CycleAsk),
+    Try(CycleAsk),
     Stop,
 }
 
 /// What the bytes of a connection ask, if they are a request already.
-#[derive(Debug, Drop, PartialEq, Eq)]
+#[derive(Drop)]
 pub enum Asked {
     NotYet,
     Whole { route: Route },
@@ -124,17 +129,49 @@ fn read_mailbox(alloc: Global, house: &House, parts: &[u8]) -> Result<Route, Htt
     }
 }
 
+/// What a body asks for, where it is that.
+fn said(route: Option<Route>) -> Result<Route, HttpRefused>
+    ensures { result ≡ said_of route }
+{
+    match route {
+        None => Err(HttpRefused::Json),
+        Some(route) => Ok(route),
+    }
+}
+
 fn read_acted(alloc: Global, house: &House, parts: &[u8], body: &[u8]) -> Result<Route, HttpRefused>
     requires { IsTrue (is_house house.now) }
-    ensures { Found (alone_at (acted (act_in house.now body.now)) parts.now) result }
+    ensures { Found (alone_at (said_of (option_map (λ act. Route.Act act) (act_in house.now body.now))) parts.now) result }
 {
     if !parts.is_empty() {
         return Err(HttpRefused::Route);
     }
-    match read_act(alloc, house, body)? {
-        None => Err(HttpRefused::Json),
-        Some(act) => Ok(Route::Act(act)),
+    said(read_act(alloc, house, body)?.map(|act| Route::Act(act)))
+}
+
+fn read_cycled(
+    alloc: Global,
+    house: &House,
+    parts: &[u8],
+    body: &[u8],
+) -> Result<Route, HttpRefused>
+    requires { IsTrue (is_house house.now) }
+    ensures { Found (alone_at (said_of (option_map (λ ask. Route.Cycle ask) (cycle_in house.now body.now))) parts.now) result }
+{
+    if !parts.is_empty() {
+        return Err(HttpRefused::Route);
     }
+    said(read_cycle(alloc, house, body)?.map(|ask| Route::Cycle(ask)))
+}
+
+fn read_tried(alloc: Global, house: &House, parts: &[u8], body: &[u8]) -> Result<Route, HttpRefused>
+    requires { IsTrue (is_house house.now) }
+    ensures { Found (alone_at (said_of (option_map (λ ask. Route.Try ask) (try_in house.now body.now))) parts.now) result }
+{
+    if !parts.is_empty() {
+        return Err(HttpRefused::Route);
+    }
+    said(read_try(alloc, house, body)?.map(|ask| Route::Try(ask)))
 }
 
 /// The route of a page, by the parts of its path and the body.
@@ -155,6 +192,8 @@ fn read_parts(
         Page::Body => read_body(alloc, parts),
         Page::Conf => alone(Route::Conf, parts),
         Page::Act => read_acted(alloc, house, parts, body),
+        Page::Cycle => read_cycled(alloc, house, parts, body),
+        Page::Try => read_tried(alloc, house, parts, body),
         Page::Stop => alone(Route::Stop, parts),
     }
 }
