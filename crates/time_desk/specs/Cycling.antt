@@ -1,5 +1,5 @@
 -- What becomes of a request for a cycle.
-use Rattle.std.specs.Prelude.{◌≡◌, ◌<◌, ◌≤◌, ℕ, false, [], ◌∷◌, ◌++◌, List, map, Some, None, IsTrue}
+use Rattle.std.specs.Prelude.{◌≡◌, ◌<◌, ◌≤◌, ℕ, false, [], ◌∷◌, ◌++◌, List, map, None, IsTrue}
 use Rattle.std.specs.List.{AllByRecursion}
 use Rattle.undo_outside.specs.Disk.{DiskTold}
 use Rattle.verb_core.specs.declared.item.Item.{Item}
