@@ -1,5 +1,5 @@
 -- What becomes of a request for a cycle, from what a cycle leaves in memory and what became of sealing it.
-use Rattle.std.proofs.Common.{◌≡◌, ◌==◌, ◌<◌, ◌≤◌, ◌+◌, ◌∷◌, ◌++◌, ◌∙◌, ◌&&◌, [], ℕ, List, Bool, true, false, Option, Some, None, Result, Ok, Err, IfErr, map, refl, sym, ap, subst, arith}
+use Rattle.std.proofs.Common.{◌≡◌, ◌==◌, ◌<◌, ◌≤◌, ◌+◌, ◌∷◌, ◌++◌, ◌∙◌, ◌&&◌, [], ℕ, List, Bool, true, false, Option, Some, None, Result, Ok, Err, IfOk, map, refl, sym, ap, subst, arith}
 use Rattle.std.specs.Prelude.{if◌then◌else◌, is_none, IsSome}
 use Rattle.std.proofs.lemmas.Bool.{eq-eqb}
 use Rattle.std.specs.List.{AllByRecursion}
@@ -26,7 +26,9 @@ use Rattle.mail_cycle.specs.Asking.{Due, Repeats, NoPoint, NoNumbers, Rewinds, a
 use Rattle.mail_cycle.specs.Cycles.{Cycled}
 use Rattle.mail_cycle.specs.Leaving.{GoesOn, Leaves}
 use Rattle.mail_cycle.specs.Refusing.{IsRefusalOf}
+use Rattle.mail_desk.specs.declared.remake.Remade.{Remade}
 use Rattle.mail_desk.specs.Held.{Held}
+use Rattle.mail_desk.specs.Remaking.{remade_as}
 use Rattle.time_desk.specs.declared.fault.CycleFault.{CycleFault}
 use Rattle.time_desk.specs.declared.fault.CycleFault.TheVariants as cycle_faults
 use Rattle.time_desk.specs.Cycling.{Cycles, CyclesBy, CyclesNone, IsCycleOutcomeOf, IsFit, IsTold, Redoes, StarvesBy, TriesNone, after_rewound}
@@ -52,6 +54,15 @@ fits kept due made leaves goes = record {
   rises = omega (arith, leaves.next, goes.rises);
   next = omega (arith, leaves.next, goes.next);
 }
+
+-- the same of what a call gave
+pub fits_made : (kept before : Kept) (at : ℕ) (ask : CycleAsk) (result : Result Rewound CycleRefused) → before ≡ kept → ((due : Cycled) → due_anew kept at ask ≡ Rewinds due → GoesOn kept due)
+    → IfOk result (Redoes before at ask) → IfOk result (IsFit kept)
+fits_made kept before at ask result same goes redone = by_result result (subst (λ (k : Kept). IfOk result (Redoes k at ask)) same redone)
+  where
+    by_result : (r : Result Rewound CycleRefused) → IfOk r (Redoes kept at ask) → IfOk r (IsFit kept)
+    by_result (Ok made) (due, due_is, leaves) = fits kept due made leaves (goes due due_is)
+    by_result (Err refused) redone = tt
 
 -- what is kept then is what is kept after the cycle
 pub after_is : (kept : Kept) (ask : CycleAsk) (due : Cycled) (made : Rewound) → Leaves kept due made → after_cycle kept ask due ≡ after_rewound kept ask.key made
@@ -96,6 +107,14 @@ record_is kept at ask made bytes next new (due, due_is, leaves) next_is bytes_ar
   bytes_are = sym bytes_are;
   can_stand = record_after kept at ask spelled known ∙ ap (after_due kept ask) (due_new kept at ask new ∙ due_is) ∙ ap Some (after_is kept ask due made leaves ∙ sym next_is);
 }
+
+-- the same of a desk that made room
+pub ready_record : (at : ℕ) (ask : CycleAsk) (kept held : Kept) (made : Rewound) (remade : Remade) (bytes : List ℕ) → report_of kept.reports ask.key ≡ None → Redoes kept at ask made → held ≡ kept
+    → remade_as kept remade ≡ after_rewound kept ask.key made → bytes ≡ record_bytes (Cycle kept.next at ask) → is_spelled (Cycle kept.next at ask) ≡ true → are_known kept.house ask.inserts ≡ true
+    → IsRecordTo (Cycle kept.next at ask) bytes held (remade_as held remade)
+ready_record at ask kept held made remade bytes new redone same made_is bytes_are spelled known =
+    subst (λ (k : Kept). IsRecordTo (Cycle kept.next at ask) bytes k (remade_as k remade)) (sym same)
+    (record_is kept at ask made bytes (remade_as kept remade) new redone made_is bytes_are spelled known)
 
 -- ---- answers
 
