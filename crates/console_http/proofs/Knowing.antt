@@ -1,5 +1,5 @@
 -- What is made of a request: each act and each cycle that it asks for names known users, and has a spelling as a record.
-use Rattle.std.proofs.Common.{◌≡◌, ℕ, ◌≤◌, Bool, true, false, List, [], ◌∷◌, length, drop, Option, Some, None, refl, subst}
+use Rattle.std.proofs.Common.{ℕ, ◌≤◌, true, false, List, [], ◌∷◌, length, drop, Option, Some, None, refl, subst}
 use Rattle.std.specs.Prelude.{Result, Ok, Err, IsTrue, option_and_then, option_map, if◌then◌else◌}
 use Rattle.std.specs.List.{AllByRecursion, list_all, after_first, before_first}
 use Rattle.std.specs.Str.{bytes_eq}
@@ -27,9 +27,9 @@ use Rattle.console_http.specs.Cycles.{cycle_in, try_in}
 use Rattle.console_http.specs.Routes.{Choice, alone, box_in, front_of, method_of, number_in, page_of, route_at, route_on, said, taken}
 use Rattle.repair_desk.specs.Repairs.{are_known}
 use Rattle.console_http.specs.Requests.{AskKnows, AskRecords, Asks, IsRecordable, KnowsUsers}
-use Rattle.console_http.proofs.Bodies.{body_fits}
+use Rattle.console_http.proofs.Bodies.{request_fits}
 use Rattle.console_http.proofs.Each.{Each, Anything, anything, each_then, each_map}
-use Rattle.console_http.proofs.Made.{Knows, KnowsAll, IsMade, IsAsk, act_in_made, cycle_in_made, try_in_made}
+use Rattle.console_http.proofs.Made.{IsMade, IsAsk, act_in_made, cycle_in_made, try_in_made}
 use Rattle.console_http.proofs.Recording.{act_recorded, ask_recorded}
 
 -- ---- what a route is made of
@@ -126,7 +126,7 @@ route_knows house route.Stop made = tt
 pub ask_knows : (house : House) (bytes : List ℕ) (asked : Result Asked HttpRefused) → Asks house bytes asked → AskKnows house asked
 ask_knows house bytes (Ok NotYet) asks = tt
 ask_knows house bytes (Ok (Whole route)) asks =
-    route_knows house route (subst (ChoiceMade house) asks.route (at_page house asks.request (page_of asks.request.target) (body_fits bytes asks.request asks.says)))
+    route_knows house route (subst (ChoiceMade house) asks.route (at_page house asks.request (page_of asks.request.target) (request_fits bytes asks.request asks.says).body))
 ask_knows house bytes (Err e) asks = tt
 
 -- ---- what is recorded
@@ -146,5 +146,5 @@ pub ask_records : (house : House) (bytes : List ℕ) (asked : Result Asked HttpR
     → Asks house bytes asked → AskRecords number at asked
 ask_records house bytes (Ok NotYet) number at is n t asks = tt
 ask_records house bytes (Ok (Whole route)) number at is n t asks =
-    route_recorded house number at route is n t (subst (ChoiceMade house) asks.route (at_page house asks.request (page_of asks.request.target) (body_fits bytes asks.request asks.says)))
+    route_recorded house number at route is n t (subst (ChoiceMade house) asks.route (at_page house asks.request (page_of asks.request.target) (request_fits bytes asks.request asks.says).body))
 ask_records house bytes (Err e) number at is n t asks = tt

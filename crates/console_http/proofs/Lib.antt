@@ -8,3 +8,5 @@ pub mod Knowing
 pub mod Lists
 pub mod Bodies
 pub mod Asking
+pub mod Rows
+pub mod Routing

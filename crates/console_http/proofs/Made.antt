@@ -1,6 +1,6 @@
 -- What acts and cycles are made of: names, known users, and numbers, texts and lists in their ranges.
-use Rattle.std.proofs.Common.{◌≡◌, ℕ, ◌≤◌, Bool, List, [], ◌∷◌, length, Option, Some, None, refl, ap, cond, true, false, nat_lt, arith}
-use Rattle.std.specs.Prelude.{IsTrue, nat_le, codes, option_and_then, option_map, if◌then◌else◌}
+use Rattle.std.proofs.Common.{◌≡◌, ℕ, ◌≤◌, List, [], ◌∷◌, length, Option, Some, None, refl, cond, true, false, nat_lt, arith}
+use Rattle.std.specs.Prelude.{IsTrue, nat_le, codes, option_and_then, option_map}
 use Rattle.std.specs.List.{AllByRecursion, list_all, position_or_len}
 use Rattle.std.specs.Str.{bytes_eq}
 use Rattle.std.proofs.lemmas.Bool.{leb-true}
@@ -26,7 +26,7 @@ use Rattle.console_http.specs.Acts.{act_by, act_in, act_of, act_sized, alias_of,
 use Rattle.console_http.specs.Cycles.{ask_of, cycle_in, cycle_of, drops_at, has_cycle_members, inserts_at, key_at, key_of, replace_of, replaces_at, try_in, try_of}
 use Rattle.console_http.proofs.Each.{Each, Anything, anything, each_then, each_map, each_weaker, each_if, each_when}
 use Rattle.console_http.proofs.Names.{name_is, name_named, box_named, local_named}
-use Rattle.console_http.proofs.Sizes.{size, items_size, got_size, array_size, listed_size, value_size, few_items}
+use Rattle.console_http.proofs.Sizes.{size, items_size, got_size, array_size, listed_size, value_size}
 
 -- ---- the parts
 

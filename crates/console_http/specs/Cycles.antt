@@ -1,5 +1,5 @@
 -- What is asked of a cycle as a JSON object.
-use Rattle.std.specs.Prelude.{ℕ, ◌+◌, Bool, List, length, nat_le, codes, Option, Some, None, option_and_then, option_map, if◌then◌else◌}
+use Rattle.std.specs.Prelude.{ℕ, ◌+◌, Bool, List, length, nat_le, codes, Option, None, option_and_then, option_map, if◌then◌else◌}
 use Rattle.serde_json.specs.Data.{Data}
 use Rattle.verb_core.specs.declared.conf.House.{House}
 use Rattle.verb_core.specs.declared.item.Act.{Act}

@@ -1,5 +1,5 @@
 -- Which route a request takes.
-use Rattle.std.specs.Prelude.{ℕ, Bool, List, [], ◌∷◌, length, drop, find, nat_eq, codes, Option, Some, None, Ok, Err, Result, option_and_then, option_map, if◌then◌else◌}
+use Rattle.std.specs.Prelude.{ℕ, List, [], ◌∷◌, length, drop, find, nat_eq, codes, Option, Some, None, Ok, Err, Result, option_and_then, option_map, if◌then◌else◌}
 use Rattle.std.specs.List.{starts_with, before_first, after_first}
 use Rattle.std.specs.Str.{bytes_eq}
 use Rattle.verb_core.specs.declared.conf.House.{House}

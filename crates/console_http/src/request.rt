@@ -1,10 +1,11 @@
 //! What the bytes of a connection ask of the console.
-ghost use Rattle.std.specs.Prelude.{◌≡◌, ◌≤◌, ◌++◌, List, ℕ, IsTrue, IfOk, Ok, option_map};
+ghost use Rattle.std.specs.Prelude.{◌≡◌, ◌≤◌, ◌++◌, List, ℕ, IsTrue, IsUtf8, IfOk, IfSome, Ok, option_map};
 ghost use Rattle.verb_core.specs.Store.{is_house};
 ghost use Rattle.console_head.specs.Coming.{IsKnown, looked_at};
 ghost use Rattle.console_head.specs.Seen.{parts_seen};
 ghost use Rattle.console_http.specs.Acts.{act_in};
 ghost use Rattle.console_http.specs.Cycles.{cycle_in, try_in};
+ghost use Rattle.console_http.specs.Pages.{route_by};
 ghost use Rattle.console_http.specs.Routes.{number_in, box_in, alone as alone_at, taken, said as said_of, route_on, route_of};
 ghost use Rattle.console_http.specs.Requests.{Asks, AsksOf, Found, Learns, told_of};
 
@@ -198,14 +199,16 @@ fn read_parts(
     }
 }
 
-/// The route that a request takes.
-fn read_route(alloc: Global, house: &House, request: Request<'_>) -> Result<Route, HttpRefused>
+/// The route that a request takes as this page's.
+fn read_page(
+    alloc: Global,
+    house: &House,
+    page: Page,
+    request: Request<'_>,
+) -> Result<Route, HttpRefused>
     requires { IsTrue (is_house house.now) }
-    ensures { Found (route_of house.now (parts_seen request.entry)) result }
+    ensures { Found (route_by house.now (parts_seen request.entry) page) result }
 {
-    let Some(page) = find_page(request.target) else {
-        return Err(HttpRefused::Route);
-    };
     if request.method != page.method() {
         return Err(HttpRefused::Route);
     }
@@ -215,13 +218,26 @@ fn read_route(alloc: Global, house: &House, request: Request<'_>) -> Result<Rout
     }
 }
 
+/// The route that a request takes: that of the page whose row its path matches.
+fn read_route(alloc: Global, house: &House, request: Request<'_>) -> Result<Route, HttpRefused>
+    requires house { IsTrue (is_house house.now) }
+    requires text { IsUtf8 request.target.now }
+    ensures { Found (route_of house.now (parts_seen request.entry)) result }
+{
+    match find_page(alloc, request.target)? {
+        None => Err(HttpRefused::Route),
+        Some(page) => read_page(alloc, house, page, request),
+    }
+}
+
 /// What is asked by a request, or by none yet.
 fn read_asked(
     alloc: Global,
     house: &House,
     request: Option<Request<'_>>,
 ) -> Result<Asked, HttpRefused>
-    requires { IsTrue (is_house house.now) }
+    requires house { IsTrue (is_house house.now) }
+    requires text { IfSome request (λ r. IsUtf8 r.target.now) }
     ensures { AsksOf house.now (option_map parts_seen request.entry) result }
 {
     match request {
