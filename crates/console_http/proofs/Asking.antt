@@ -1,5 +1,5 @@
 -- What the bytes ask, by the request that they are.
-use Rattle.std.proofs.Common.{◌≡◌, ℕ, List, Option, Some, None}
+use Rattle.std.proofs.Common.{ℕ, List, Option, Some, None}
 use Rattle.std.specs.Prelude.{Result, Ok, Err, IfNone, option_map}
 use Rattle.verb_core.specs.declared.conf.House.{House}
 use Rattle.console_head.specs.Request.{Request, Says}

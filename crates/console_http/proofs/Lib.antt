@@ -1,5 +1,12 @@
 pub mod Counts
+pub mod Each
+pub mod Names
+pub mod Sizes
+pub mod Made
+pub mod Recording
 pub mod Knowing
 pub mod Lists
 pub mod Bodies
 pub mod Asking
+pub mod Rows
+pub mod Routing

@@ -1,5 +1,7 @@
 pub mod Parts
 pub mod Members
 pub mod Acts
+pub mod Cycles
 pub mod Routes
+pub mod Pages
 pub mod Requests

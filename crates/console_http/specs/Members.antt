@@ -1,5 +1,5 @@
 -- The members of a JSON object.
-use Rattle.std.specs.Prelude.{◌≡◌, ℕ, Bool, false, ◌==◌, nat_le, List, [], ◌∷◌, length, codes, Option, Some, None, Ok, Err, Result, option_and_then, option_map, if◌then◌else◌}
+use Rattle.std.specs.Prelude.{ℕ, Bool, false, ◌==◌, nat_le, List, [], ◌∷◌, length, codes, Option, Some, None, is_some, Ok, Err, Result, option_and_then, option_map, if◌then◌else◌}
 use Rattle.std.specs.Str.{is_utf8}
 use Rattle.base64.specs.Engines.{standard}
 use Rattle.base64.specs.GeneralPurpose.{decode_of}
@@ -25,6 +25,10 @@ is_count n (Some m) = m == n
 abbrev pub has_members : ℕ → Data → Bool
 has_members n d = is_count n (option_map members_len (as_object d))
 
+-- 1 where there is such a member, else 0
+abbrev pub one_at : List ℕ → Data → ℕ
+one_at key d = if is_some (get key d) then 1 else 0
+
 abbrev pub text_at : List ℕ → Data → Option (List ℕ)
 text_at key d = option_and_then as_str (get key d)
 
@@ -32,8 +36,11 @@ text_at key d = option_and_then as_str (get key d)
 abbrev pub at_most : ℕ → ℕ → Option ℕ
 at_most most n = if nat_le n most then Some n else None
 
+abbrev pub whole_number : ℕ → Data → Option ℕ
+whole_number most d = option_and_then (at_most most) (option_and_then as_u64 (as_number d))
+
 abbrev pub number_at : List ℕ → ℕ → Data → Option ℕ
-number_at key most d = option_and_then (at_most most) (option_and_then as_u64 (option_and_then as_number (get key d)))
+number_at key most d = option_and_then (whole_number most) (get key d)
 
 abbrev pub name_at : List ℕ → Data → Option (List ℕ)
 name_at key d = option_and_then name_of (text_at key d)
@@ -47,13 +54,25 @@ local_at d = option_and_then local_of (text_at (codes "local") d)
 abbrev pub user_at : House → Data → Option User
 user_at house d = option_and_then (user_named house) (text_at (codes "user") d)
 
--- a list of users, each by name
+-- the items of a list, each as it is read
+abbrev pub each_of : {A : Type 0} → (Data → Option A) → Items → Option (List A)
+each_of f no_items = Some []
+each_of f (item d ds) = option_and_then (λ x. option_map (λ xs. x ∷ xs) (each_of f ds)) (f d)
+
+-- the items of a list that may be missing
+abbrev pub list_in : Option Data → Option Items
+list_in None = Some no_items
+list_in (Some d) = as_array d
+
+abbrev pub list_at : List ℕ → Data → Option Items
+list_at key d = list_in (get key d)
+
+-- a user by name
 abbrev pub user_in : House → Data → Option User
 user_in house d = option_and_then (user_named house) (as_str d)
 
 abbrev pub users_in : House → Items → Option (List User)
-users_in house no_items = Some []
-users_in house (item d ds) = option_and_then (λ user. option_map (λ users. user ∷ users) (users_in house ds)) (user_in house d)
+users_in house ds = each_of (user_in house) ds
 
 -- at least one
 abbrev pub some_users : List User → Option (List User)

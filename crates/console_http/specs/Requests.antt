@@ -5,6 +5,9 @@ use Rattle.verb_core.specs.declared.conf.House.{House}
 use Rattle.verb_core.specs.declared.item.Deed.TheVariants.{Act as Acts}
 use Rattle.verb_core.specs.Items.{users_in}
 use Rattle.verb_core.specs.Store.{is_known}
+use Rattle.verb_bytes.specs.Spelling.{HasSpelling}
+use Rattle.verb_bytes.specs.declared.journal.JournalRecord.TheVariants.{Operator, Cycle}
+use Rattle.repair_desk.specs.Repairs.{are_known}
 use Rattle.console_head.specs.Request.{Request, Says}
 use Rattle.console_head.specs.declared.request.HeadRefused.{HeadRefused}
 use Rattle.console_head.specs.declared.request.HeadRefused.TheVariants.{Head as BadHead, Size as TooLarge}
@@ -71,7 +74,7 @@ Learns coming bytes (Ok NotYet) = HasLearnt coming bytes
 Learns coming bytes (Ok (Whole route)) = Unit {0}
 Learns coming bytes (Err e) = Unit {0}
 
--- an act names no other users than those of the house
+-- an act, and the acts of a cycle, name no other users than those of the house
 abbrev pub KnowsUsers : House → Taken → Type 0
 KnowsUsers house route.Status = Unit {0}
 KnowsUsers house (route.Timeline start) = Unit {0}
@@ -79,9 +82,28 @@ KnowsUsers house (route.Box user name) = Unit {0}
 KnowsUsers house (route.Body number) = Unit {0}
 KnowsUsers house route.Conf = Unit {0}
 KnowsUsers house (route.Act act) = IsTrue (list_all (is_known house) (users_in (Acts act)))
+KnowsUsers house (route.Cycle ask) = IsTrue (are_known house ask.inserts)
+KnowsUsers house (route.Try ask) = IsTrue (are_known house ask.inserts)
 KnowsUsers house route.Stop = Unit {0}
 
 abbrev pub AskKnows : House → Result Asked HttpRefused → Type 0
 AskKnows house (Ok NotYet) = Unit {0}
 AskKnows house (Ok (Whole route)) = KnowsUsers house route
 AskKnows house (Err e) = Unit {0}
+
+-- the record of what is asked has a spelling, under a number and at a moment
+abbrev pub IsRecordable : ℕ → ℕ → Taken → Type 0
+IsRecordable number at route.Status = Unit {0}
+IsRecordable number at (route.Timeline start) = Unit {0}
+IsRecordable number at (route.Box user name) = Unit {0}
+IsRecordable number at (route.Body n) = Unit {0}
+IsRecordable number at route.Conf = Unit {0}
+IsRecordable number at (route.Act act) = HasSpelling (Operator number at act)
+IsRecordable number at (route.Cycle ask) = HasSpelling (Cycle number at ask)
+IsRecordable number at (route.Try ask) = HasSpelling (Cycle number at ask)
+IsRecordable number at route.Stop = Unit {0}
+
+abbrev pub AskRecords : ℕ → ℕ → Result Asked HttpRefused → Type 0
+AskRecords number at (Ok NotYet) = Unit {0}
+AskRecords number at (Ok (Whole route)) = IsRecordable number at route
+AskRecords number at (Err e) = Unit {0}

@@ -1,19 +1,19 @@
 -- Which route a request takes.
-use Rattle.std.specs.Prelude.{ℕ, Bool, List, [], ◌∷◌, length, drop, find, nat_eq, codes, Option, Some, None, Ok, Err, Result, option_and_then, option_map, if◌then◌else◌}
+use Rattle.std.specs.Prelude.{ℕ, List, [], ◌∷◌, length, drop, find, nat_eq, codes, Option, Some, None, Ok, Err, Result, option_and_then, option_map, if◌then◌else◌}
 use Rattle.std.specs.List.{starts_with, before_first, after_first}
 use Rattle.std.specs.Str.{bytes_eq}
 use Rattle.verb_core.specs.declared.conf.House.{House}
-use Rattle.verb_core.specs.declared.item.Act.{Act as OperatorAct}
 use Rattle.verb_core.specs.Recipients.{user_named}
 use Rattle.console_head.specs.Request.{Request}
 use Rattle.console_http.specs.declared.pages.Page.{Page}
 use Rattle.console_http.specs.declared.pages.Page.TheVariants as page
 use Rattle.console_http.specs.declared.request.Route.{Route as Taken}
-use Rattle.console_http.specs.declared.request.Route.TheVariants.{Status, Timeline, Box, Body, Conf, Act, Stop}
+use Rattle.console_http.specs.declared.request.Route.TheVariants.{Status, Timeline, Box, Body, Conf, Act, Cycle, Try, Stop}
 use Rattle.console_http.specs.declared.request.HttpRefused.{HttpRefused}
 use Rattle.console_http.specs.declared.request.HttpRefused.TheVariants.{Route, Json}
 use Rattle.console_http.specs.Parts.{part_of, number32, box_name, is_slash}
 use Rattle.console_http.specs.Acts.{act_in}
+use Rattle.console_http.specs.Cycles.{cycle_in, try_in}
 
 -- what stands before the parts of a page's path
 abbrev pub front_of : Page → List ℕ
@@ -23,10 +23,12 @@ front_of page.Box = codes "/box/"
 front_of page.Body = codes "/body/"
 front_of page.Conf = codes "/conf"
 front_of page.Act = codes "/act"
+front_of page.Cycle = codes "/cycle"
+front_of page.Try = codes "/try"
 front_of page.Stop = codes "/stop"
 
 abbrev pub all_pages : List Page
-all_pages = page.Status ∷ page.Timeline ∷ page.Box ∷ page.Body ∷ page.Conf ∷ page.Act ∷ page.Stop ∷ []
+all_pages = page.Status ∷ page.Timeline ∷ page.Box ∷ page.Body ∷ page.Conf ∷ page.Act ∷ page.Cycle ∷ page.Try ∷ page.Stop ∷ []
 
 -- the page whose front the path has
 abbrev pub page_of : List ℕ → Option Page
@@ -39,6 +41,8 @@ method_of page.Box = codes "GET"
 method_of page.Body = codes "GET"
 method_of page.Conf = codes "GET"
 method_of page.Act = codes "POST"
+method_of page.Cycle = codes "POST"
+method_of page.Try = codes "POST"
 method_of page.Stop = codes "POST"
 
 abbrev pub Choice : Type 0
@@ -63,9 +67,10 @@ box_in house raw =
     option_and_then (λ user. option_map (λ name. Box user name) (option_and_then box_name (part_of (after_first is_slash raw))))
     (option_and_then (user_named house) (part_of (before_first is_slash raw)))
 
-abbrev pub acted : Option OperatorAct → Choice
-acted None = Err Json
-acted (Some act) = Ok (Act act)
+-- what a body asks for
+abbrev pub said : Option Taken → Choice
+said None = Err Json
+said (Some route) = Ok route
 
 -- the route of a page, by the parts of its path and the body
 abbrev pub route_on : House → Page → List ℕ → List ℕ → Choice
@@ -74,7 +79,9 @@ route_on house page.Timeline parts body = taken (option_map (λ start. Timeline 
 route_on house page.Box parts body = taken (box_in house parts)
 route_on house page.Body parts body = taken (option_map (λ number. Body number) (number_in parts))
 route_on house page.Conf parts body = alone (Ok Conf) parts
-route_on house page.Act parts body = alone (acted (act_in house body)) parts
+route_on house page.Act parts body = alone (said (option_map (λ act. Act act) (act_in house body))) parts
+route_on house page.Cycle parts body = alone (said (option_map (λ ask. Cycle ask) (cycle_in house body))) parts
+route_on house page.Try parts body = alone (said (option_map (λ ask. Try ask) (try_in house body))) parts
 route_on house page.Stop parts body = alone (Ok Stop) parts
 
 abbrev pub route_at : House → Request → Option Page → Choice

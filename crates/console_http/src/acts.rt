@@ -167,7 +167,7 @@ fn read_worded(
 }
 
 /// The act that a value is: an object with the members of one, and no others.
-fn act_from(alloc: Global, house: &House, value: &Value) -> Result<Option<Act>, NoMemory>
+pub fn act_from(alloc: Global, house: &House, value: &Value) -> Result<Option<Act>, NoMemory>
     requires { IsTrue (is_house house.now) }
     ensures { IfOk result (λ act. act ≡ act_of house.now (view value.now)) }
 {

@@ -1,12 +1,13 @@
 //! The operator's console: what a request asks.
 //!
 //! `parts` reads the parts of paths and the names in members; `members` the members of a JSON object, `acts` the acts
-//! that they make; `pages` which page a path is of; `request` puts them together over `console_head`;
-//! `laws` says that acts name known users.
+//! that they make, `cycles` what is asked of a cycle; `pages` which page a path is of, by a router; `request` puts them together
+//! over `console_head`; `laws` says that acts and cycles name known users and can be recorded.
 //! What carries the crate: `read_request` answers what `Asks` says of a connection's bytes, up to want of memory.
 #![tactic(auto)]
 
 mod acts;
+mod cycles;
 pub mod laws;
 mod members;
 mod pages;

@@ -1,10 +1,11 @@
 //! The members of a JSON object.
-ghost use Rattle.std.specs.Prelude.{◌≡◌, ◌<◌, ◌^◌, IsTrue, IfOk, IfSome, Some, codes, option_map, option_and_then};
+ghost use Rattle.std.specs.Prelude.{◌≡◌, ◌≤◌, ◌<◌, ◌^◌, IsTrue, IfOk, IfSome, Some, codes, option_map, option_and_then};
 ghost use Rattle.serde_json.specs.Events.{members_len};
 ghost use Rattle.serde_json.specs.Find.{as_object, get};
 ghost use Rattle.serde_json.specs.View.{view, items_view};
 ghost use Rattle.verb_core.specs.Store.{is_house};
-ghost use Rattle.console_http.specs.Members.{value_of, has_members as counted, text_at as text_member, number_at as number_member, name_at as name_member, box_at as box_member, local_at as local_member, user_at as user_member, user_in, users_in, users_at as users_member, file_in, file_at as file_member, text_in, body_at as body_member};
+ghost use Rattle.console_http.specs.Members.{value_of, has_members as counted, one_at as one_member, text_at as text_member, number_at as number_member, name_at as name_member, box_at as box_member, local_at as local_member, user_at as user_member, user_in, users_in, users_at as users_member, file_in, file_at as file_member, text_in, body_at as body_member};
+ghost use Rattle.console_http.specs.Members as spec;
 
 use crate::parts::{find_user, read_box, read_local, read_name};
 use base64::DecodeAllocError;
@@ -55,6 +56,17 @@ pub fn has_members(value: &Value, count: usize) -> bool
     }
 }
 
+/// 1 where there is such a member, else 0.
+pub fn one_at(value: &Value, key: &str) -> usize
+    ensures value { result ≡ one_member key.now (view value.now) }
+    ensures most { result ≤ 1 }
+{
+    match value.get(key) {
+        None => 0,
+        Some(_) => 1,
+    }
+}
+
 /// A member's text, where it is a text.
 pub fn text_at<'a>(value: &'a Value, key: &str) -> Option<&'a str>
     ensures { option_map (λ text. text.now) result ≡ text_member key.now (view value.now) }
@@ -63,11 +75,34 @@ pub fn text_at<'a>(value: &'a Value, key: &str) -> Option<&'a str>
 }
 
 /// A whole number up to a greatest.
+pub fn whole_number(value: &Value, most: u64) -> Option<u64>
+    ensures { result ≡ spec.whole_number most (view value.now) }
+{
+    let number = value.as_u64()?;
+    if number <= most { Some(number) } else { None }
+}
+
+/// A member that is a whole number up to a greatest.
 pub fn number_at(value: &Value, key: &str, most: u64) -> Option<u64>
     ensures { result ≡ number_member key.now most (view value.now) }
 {
-    let number = value.get(key).and_then(Value::as_u64)?;
-    if number <= most { Some(number) } else { None }
+    match value.get(key) {
+        None => None,
+        Some(number) => whole_number(number, most),
+    }
+}
+
+/// The items of a list that may be missing.
+pub fn list_at<'a>(value: &'a Value, key: &str) -> Option<&'a [Value]>
+    ensures { option_map (λ values. items_view values.now) result ≡ spec.list_at key.now (view value.now) }
+{
+    match value.get(key) {
+        None => Some(&[]),
+        Some(list) => match list.as_array() {
+            None => None,
+            Some(values) => Some(values.as_slice()),
+        },
+    }
 }
 
 /// A member's text, where it is a name.

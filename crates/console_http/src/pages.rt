@@ -1,7 +1,11 @@
 //! Which page a path is of.
-ghost use Rattle.std.specs.Prelude.{◌≡◌, true, find, nat_eq, IfSome};
-ghost use Rattle.std.specs.List.{starts_with};
-ghost use Rattle.console_http.specs.Routes.{front_of, page_of, method_of};
+ghost use Rattle.std.specs.Prelude.{◌≡◌, [], IfOk, IsUtf8, OnOk};
+ghost use Rattle.console_http.specs.Pages.{AreBytes, acting_rows, page_at, page_rows, whole_rows};
+ghost use Rattle.console_http.specs.Routes.{front_of, method_of};
+
+use matchit::{InsertError, Router};
+use std::alloc::Global;
+use undo_base::NoMemory;
 
 /// A page of the console.
 #[derive(Clone, Copy, Debug, PartialEq, Eq)]
@@ -12,6 +16,8 @@ pub enum Page {
     Body,
     Conf,
     Act,
+    Cycle,
+    Try,
     Stop,
 }
 
@@ -27,6 +33,8 @@ impl Page {
             Page::Body => b"/body/",
             Page::Conf => b"/conf",
             Page::Act => b"/act",
+            Page::Cycle => b"/cycle",
+            Page::Try => b"/try",
             Page::Stop => b"/stop",
         }
     }
@@ -37,43 +45,76 @@ impl Page {
     {
         match self {
             Page::Status | Page::Timeline | Page::Box | Page::Body | Page::Conf => b"GET",
-            Page::Act | Page::Stop => b"POST",
+            Page::Act | Page::Cycle | Page::Try | Page::Stop => b"POST",
         }
     }
 }
 
-fn is_at(page: Page, path: &[u8]) -> bool
-    ensures { result ≡ starts_with nat_eq path.now (front_of page) }
+fn add_acting(router: &mut Router<Page>) -> Result<(), InsertError>
+    ensures { OnOk result (router.old ≡ [] → router.new ≡ acting_rows) }
 {
-    path.starts_with(page.front())
+    router.insert("/act", Page::Act)?;
+    router.insert("/cycle", Page::Cycle)?;
+    router.insert("/try", Page::Try)?;
+    router.insert("/stop", Page::Stop)?;
+    Ok(())
 }
 
-/// The first of some pages whose front the path has.
-fn first_at(pages: &[Page], path: &[u8]) -> Option<Page>
-    ensures value { result ≡ find (λ page. starts_with nat_eq path.now (front_of page)) pages.now }
-    ensures front { IfSome result (λ page. starts_with nat_eq path.now (front_of page) ≡ true) }
+fn add_whole(router: &mut Router<Page>) -> Result<(), InsertError>
+    ensures { OnOk result (router.old ≡ acting_rows → router.new ≡ whole_rows) }
 {
-    for page in pages {
-        if is_at(*page, path) {
-            return Some(*page);
-        }
+    router.insert("/status", Page::Status)?;
+    router.insert("/conf", Page::Conf)?;
+    Ok(())
+}
+
+fn add_parted(router: &mut Router<Page>) -> Result<(), InsertError>
+    ensures { OnOk result (router.old ≡ whole_rows → router.new ≡ page_rows) }
+{
+    router.insert("/timeline/{start}", Page::Timeline)?;
+    router.insert("/box/{*mailbox}", Page::Box)?;
+    router.insert("/body/{number}", Page::Body)?;
+    Ok(())
+}
+
+fn add_pages(router: &mut Router<Page>) -> Result<(), InsertError>
+    ensures { OnOk result (router.old ≡ [] → router.new ≡ page_rows) }
+{
+    add_acting(router)?;
+    add_whole(router)?;
+    add_parted(router)
+}
+
+/// The router of all pages. That two routes conflict does not come about: what is refused was want of memory.
+fn page_router(alloc: Global) -> Result<Router<Page>, NoMemory>
+    ensures { IfOk result (λ router. router ≡ page_rows) }
+{
+    let mut router = Router::new(alloc);
+    match add_pages(&mut router) {
+        Ok(()) => Ok(router),
+        Err(_) => Err(NoMemory),
     }
-    None
 }
 
-/// The page whose front the path has.
-pub fn find_page(path: &[u8]) -> Option<Page>
-    ensures value { result ≡ page_of path.now }
-    ensures front { IfSome result (λ page. starts_with nat_eq path.now (front_of page) ≡ true) }
+fn page_in(router: &Router<Page>, path: &str) -> Option<Page>
+    requires { router.now ≡ page_rows }
+    ensures { result ≡ page_at path.now }
 {
-    let pages = [
-        Page::Status,
-        Page::Timeline,
-        Page::Box,
-        Page::Body,
-        Page::Conf,
-        Page::Act,
-        Page::Stop,
-    ];
-    first_at(pages.as_slice(), path)
+    match router.at(path) {
+        Ok(found) => Some(*found.value),
+        Err(_) => None,
+    }
+}
+
+/// The page whose route a path matches.
+pub fn find_page(alloc: Global, path: &[u8]) -> Result<Option<Page>, NoMemory>
+    requires { IsUtf8 path.now }
+    ensures page { IfOk result (λ page. page ≡ page_at path.now) }
+    ensures bytes { AreBytes path.now }
+{
+    let router = page_router(alloc)?;
+    match str::from_utf8(path) {
+        Ok(path) => Ok(page_in(&router, path)),
+        Err(_) => unreachable!(),
+    }
 }

@@ -111,7 +111,7 @@ fn is_name(text: &[u8]) -> bool
 }
 
 /// The name that is spelled.
-fn made_name(alloc: Global, text: &[u8]) -> Result<Name, NoMemory>
+pub fn made_name(alloc: Global, text: &[u8]) -> Result<Name, NoMemory>
     ensures { IfOk result (λ name. name ≡ text.now) }
 {
     match Name::read(alloc, text) {

@@ -1,22 +1,26 @@
 //! What the bytes of a connection ask of the console.
-ghost use Rattle.std.specs.Prelude.{◌≡◌, ◌≤◌, ◌++◌, List, ℕ, IsTrue, IfOk, Ok, option_map};
+ghost use Rattle.std.specs.Prelude.{◌≡◌, ◌≤◌, ◌++◌, List, ℕ, IsTrue, IsUtf8, IfOk, IfSome, Ok, option_map};
 ghost use Rattle.verb_core.specs.Store.{is_house};
 ghost use Rattle.console_head.specs.Coming.{IsKnown, looked_at};
 ghost use Rattle.console_head.specs.Seen.{parts_seen};
 ghost use Rattle.console_http.specs.Acts.{act_in};
-ghost use Rattle.console_http.specs.Routes.{number_in, box_in, alone as alone_at, taken, acted, route_on, route_of};
+ghost use Rattle.console_http.specs.Cycles.{cycle_in, try_in};
+ghost use Rattle.console_http.specs.Pages.{route_by};
+ghost use Rattle.console_http.specs.Routes.{number_in, box_in, alone as alone_at, taken, said as said_of, route_on, route_of};
 ghost use Rattle.console_http.specs.Requests.{Asks, AsksOf, Found, Learns, told_of};
 
 use crate::acts::read_act;
+use crate::cycles::{read_cycle, read_try};
 use crate::pages::{Page, find_page};
 use crate::parts::{before_slash, behind_slash, find_user, read_box, read_number, read_part};
 use console_head::{Coming, HeadRefused, Request};
 use std::alloc::Global;
 use undo_base::{Name, NoMemory, User};
+use verb_bytes::CycleAsk;
 use verb_core::{Act, House};
 
-/// What a request asks for.
-#[derive(Debug, Drop, PartialEq, Eq)]
+/// What a request asks for. The key of a `Try` is a hyphen.
+#[derive(Drop)]
 pub enum Route {
     Status,
     Timeline { start: u32 },
@@ -24,11 +28,13 @@ pub enum Route {
     Body { number: u32 },
     Conf,
     Act(Act),
+    Cycle(CycleAsk),
+    Try(CycleAsk),
     Stop,
 }
 
 /// What the bytes of a connection ask, if they are a request already.
-#[derive(Debug, Drop, PartialEq, Eq)]
+#[derive(Drop)]
 pub enum Asked {
     NotYet,
     Whole { route: Route },
@@ -124,17 +130,49 @@ fn read_mailbox(alloc: Global, house: &House, parts: &[u8]) -> Result<Route, Htt
     }
 }
 
+/// What a body asks for, where it is that.
+fn said(route: Option<Route>) -> Result<Route, HttpRefused>
+    ensures { result ≡ said_of route }
+{
+    match route {
+        None => Err(HttpRefused::Json),
+        Some(route) => Ok(route),
+    }
+}
+
 fn read_acted(alloc: Global, house: &House, parts: &[u8], body: &[u8]) -> Result<Route, HttpRefused>
     requires { IsTrue (is_house house.now) }
-    ensures { Found (alone_at (acted (act_in house.now body.now)) parts.now) result }
+    ensures { Found (alone_at (said_of (option_map (λ act. Route.Act act) (act_in house.now body.now))) parts.now) result }
 {
     if !parts.is_empty() {
         return Err(HttpRefused::Route);
     }
-    match read_act(alloc, house, body)? {
-        None => Err(HttpRefused::Json),
-        Some(act) => Ok(Route::Act(act)),
+    said(read_act(alloc, house, body)?.map(|act| Route::Act(act)))
+}
+
+fn read_cycled(
+    alloc: Global,
+    house: &House,
+    parts: &[u8],
+    body: &[u8],
+) -> Result<Route, HttpRefused>
+    requires { IsTrue (is_house house.now) }
+    ensures { Found (alone_at (said_of (option_map (λ ask. Route.Cycle ask) (cycle_in house.now body.now))) parts.now) result }
+{
+    if !parts.is_empty() {
+        return Err(HttpRefused::Route);
     }
+    said(read_cycle(alloc, house, body)?.map(|ask| Route::Cycle(ask)))
+}
+
+fn read_tried(alloc: Global, house: &House, parts: &[u8], body: &[u8]) -> Result<Route, HttpRefused>
+    requires { IsTrue (is_house house.now) }
+    ensures { Found (alone_at (said_of (option_map (λ ask. Route.Try ask) (try_in house.now body.now))) parts.now) result }
+{
+    if !parts.is_empty() {
+        return Err(HttpRefused::Route);
+    }
+    said(read_try(alloc, house, body)?.map(|ask| Route::Try(ask)))
 }
 
 /// The route of a page, by the parts of its path and the body.
@@ -155,18 +193,22 @@ fn read_parts(
         Page::Body => read_body(alloc, parts),
         Page::Conf => alone(Route::Conf, parts),
         Page::Act => read_acted(alloc, house, parts, body),
+        Page::Cycle => read_cycled(alloc, house, parts, body),
+        Page::Try => read_tried(alloc, house, parts, body),
         Page::Stop => alone(Route::Stop, parts),
     }
 }
 
-/// The route that a request takes.
-fn read_route(alloc: Global, house: &House, request: Request<'_>) -> Result<Route, HttpRefused>
+/// The route that a request takes as this page's.
+fn read_page(
+    alloc: Global,
+    house: &House,
+    page: Page,
+    request: Request<'_>,
+) -> Result<Route, HttpRefused>
     requires { IsTrue (is_house house.now) }
-    ensures { Found (route_of house.now (parts_seen request.entry)) result }
+    ensures { Found (route_by house.now (parts_seen request.entry) page) result }
 {
-    let Some(page) = find_page(request.target) else {
-        return Err(HttpRefused::Route);
-    };
     if request.method != page.method() {
         return Err(HttpRefused::Route);
     }
@@ -176,13 +218,26 @@ fn read_route(alloc: Global, house: &House, request: Request<'_>) -> Result<Rout
     }
 }
 
+/// The route that a request takes: that of the page whose row its path matches.
+fn read_route(alloc: Global, house: &House, request: Request<'_>) -> Result<Route, HttpRefused>
+    requires house { IsTrue (is_house house.now) }
+    requires text { IsUtf8 request.target.now }
+    ensures { Found (route_of house.now (parts_seen request.entry)) result }
+{
+    match find_page(alloc, request.target)? {
+        None => Err(HttpRefused::Route),
+        Some(page) => read_page(alloc, house, page, request),
+    }
+}
+
 /// What is asked by a request, or by none yet.
 fn read_asked(
     alloc: Global,
     house: &House,
     request: Option<Request<'_>>,
 ) -> Result<Asked, HttpRefused>
-    requires { IsTrue (is_house house.now) }
+    requires house { IsTrue (is_house house.now) }
+    requires text { IfSome request (λ r. IsUtf8 r.target.now) }
     ensures { AsksOf house.now (option_map parts_seen request.entry) result }
 {
     match request {

@@ -14,9 +14,11 @@ use Rattle.verb_core.specs.declared.conf.House.{House}
 use Rattle.verb_core.specs.declared.item.Item.{Item}
 use Rattle.verb_core.specs.declared.mailbox.Mailbox.{Mailbox}
 use Rattle.console_replies.specs.declared.bodies.Counts.{Counts}
-use Rattle.console_replies.specs.Bodies.{status_data, body_data}
+use Rattle.paradox.specs.declared.reports.Report.{Report}
+use Rattle.console_replies.specs.Bodies.{counted, status_data, body_data}
 use Rattle.console_replies.specs.Timeline.{item_data, timeline_data}
 use Rattle.console_replies.specs.Mailboxes.{entry_data, box_data}
+use Rattle.console_replies.specs.Reports.{broken_data, renewal_data, report_data}
 use Rattle.console_replies.specs.Confs.{user_data, users_data, put_alias, file_data, filter_data, conf_data}
 
 -- a list of values of which none has a float
@@ -35,6 +37,16 @@ timeline_has_none d house items e = rw (e, listed (item_data house) (λ i. refl)
 
 pub box_has_none : (d : Data) (box : Mailbox) (stamp : ℕ) → d ≡ box_data box stamp → has_float d ≡ false
 box_has_none d box stamp e = rw (e, listed entry_data (λ i. refl) box.entries) refl
+
+pub report_has_none : (d : Data) (house : House) (r : Report) → d ≡ report_data house r → has_float d ≡ false
+report_has_none d house r e =
+    rw (
+      e,
+      listed (broken_data house) (λ b. refl) r.broken,
+      listed counted (λ n. refl) r.notices,
+      listed (renewal_data house) (λ x. refl) r.renewed,
+      listed counted (λ n. refl) r.unmatched,
+    ) refl
 
 file_has_none : (file : Option (List ℕ)) → has_float (file_data file) ≡ false
 file_has_none None = refl

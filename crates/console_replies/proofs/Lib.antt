@@ -1,3 +1,4 @@
 pub mod Floats
 pub mod Names
 pub mod Members
+pub mod Rows

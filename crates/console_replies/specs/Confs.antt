@@ -7,7 +7,7 @@ use Rattle.verb_core.specs.declared.conf.Alias.{Alias}
 use Rattle.verb_core.specs.declared.conf.Filter.{Filter}
 use Rattle.verb_core.specs.declared.conf.Conf.{Conf}
 use Rattle.verb_core.specs.declared.conf.House.{House}
-use Rattle.console_replies.specs.Timeline.{user_name}
+use Rattle.paradox.specs.Letters.{user_name}
 
 abbrev pub user_data : House → User → Data
 user_data house user = string (user_name house user)

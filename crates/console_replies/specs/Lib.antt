@@ -3,3 +3,4 @@ pub mod Bodies
 pub mod Timeline
 pub mod Mailboxes
 pub mod Confs
+pub mod Reports

@@ -1,18 +1,15 @@
 -- Items of the timeline as JSON data.
-use Rattle.std.specs.Prelude.{ℕ, List, [], codes, map, slice_get, option_map, unwrap_or, Option, Some, None}
+use Rattle.std.specs.Prelude.{ℕ, List, [], codes, map, unwrap_or, Option, Some, None}
 use Rattle.serde_json.specs.Data.{Data, string, array, object, no_members, member}
 use Rattle.serde_json.specs.View.{items_of}
 use Rattle.undo_base.specs.declared.keys.User.{User}
-use Rattle.verb_core.specs.declared.conf.Account.{Account}
 use Rattle.verb_core.specs.declared.conf.House.{House}
 use Rattle.verb_core.specs.declared.item.Item.{Item}
 use Rattle.verb_core.specs.Deeds.{deed_word, mailbox_in}
+use Rattle.paradox.specs.Letters.{user_name}
 use Rattle.console_replies.specs.Bodies.{counted}
 
--- the user's name, or no bytes
-abbrev pub user_name : House → User → List ℕ
-user_name house user = unwrap_or (option_map (λ (a : Account). a.name) (slice_get house.accounts user.0)) []
-
+-- who did it, or no bytes
 abbrev pub actor_name : House → Option User → List ℕ
 actor_name house None = []
 actor_name house (Some user) = user_name house user

@@ -1,7 +1,7 @@
 //! The operator's console: what it answers.
 //!
 //! `reply` has a whole answer with its head (RFC 9112); `bodies` the short bodies, `timeline`, `mailboxes` and `confs`
-//! those that tell of the store; `text` what they are made of.
+//! those that tell of the store, and `reports` those of cycles; `text` what they are made of.
 //! What carries the crate: each call's bytes are those of a definition over JSON data (RFC 8259), compact and with
 //! members in byte order.
 #![tactic(auto)]
@@ -10,6 +10,7 @@ mod bodies;
 mod confs;
 mod mailboxes;
 mod reply;
+mod reports;
 mod text;
 mod timeline;
 
@@ -20,4 +21,5 @@ pub use bodies::{
 pub use confs::conf_json;
 pub use mailboxes::box_json;
 pub use reply::render;
+pub use reports::report_json;
 pub use timeline::timeline_json;

@@ -2,13 +2,14 @@
 ghost use Rattle.std.specs.Prelude.{◌≡◌, IfOk, map, string_bytes, option_map, unwrap_or, []};
 ghost use Rattle.serde_json.specs.View.{view, items_view, items_of};
 ghost use Rattle.serde_json.specs.Written.{compact_text};
-ghost use Rattle.console_replies.specs.Timeline.{user_name as name_of_user, actor_name as name_of_actor, item_data, timeline_data};
+ghost use Rattle.paradox.specs.Letters.{user_name as name_of_user};
+ghost use Rattle.console_replies.specs.Timeline.{actor_name as name_of_actor, item_data, timeline_data};
 
 use crate::text::{name_text, text_of};
 use serde_json::{Value, json};
 use std::alloc::{AllocError, Global};
 use undo_base::{Name, NoMemory, Text, User};
-use verb_core::{House, Item, Items};
+use verb_core::{House, Item};
 
 /// A name, or no bytes.
 fn name_or_none(alloc: Global, name: Option<&Name>) -> Result<String, AllocError>
@@ -67,8 +68,8 @@ fn timeline_value(alloc: Global, house: &House, items: &[Item]) -> Result<Value,
 
 /// The answer to GET /timeline: items in order, of which the desk tells at most 1,000.
 #[tactic(auto, using(crate::proofs::Floats::timeline_has_none))]
-pub fn timeline_json(alloc: Global, house: &House, items: &Items) -> Result<Text, NoMemory>
+pub fn timeline_json(alloc: Global, house: &House, items: &[Item]) -> Result<Text, NoMemory>
     ensures { IfOk result (λ text. text ≡ compact_text (timeline_data house.now items.now)) }
 {
-    text_of(alloc, timeline_value(alloc, house, items.as_slice())?)
+    text_of(alloc, timeline_value(alloc, house, items)?)
 }

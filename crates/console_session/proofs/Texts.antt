@@ -1,10 +1,9 @@
 -- The text of an item, and its rev.
-use Rattle.std.proofs.Common.{◌≡◌, ◌&&◌, ℕ, Bool, true, false, ◌==◌, List, [], ◌∷◌, Option, Some, None, refl, sym, ap, ◌∙◌, subst, cond, eq-eqb, true≢false}
-use Rattle.std.specs.Prelude.{find, is_some, option_and_then, option_map}
-use Rattle.serde_json.specs.Data.{Data}
+use Rattle.std.proofs.Common.{◌≡◌, ◌&&◌, ℕ, Bool, true, false, ◌==◌, List, [], ◌∷◌, Option, Some, None, refl, sym, ap, subst, eq-eqb}
+use Rattle.std.specs.Prelude.{is_some, option_map}
 use Rattle.verb_core.specs.declared.item.Item.{Item}
 use Rattle.verb_core.specs.Items.{text_in, text_of}
-use Rattle.mail_desk.specs.Timeline.{item_of, rev_of}
+use Rattle.mail_desk.specs.Timeline.{rev_of}
 use Rattle.console_replies.specs.Bodies.{body_data}
 use Rattle.console_session.specs.Answers.{body_at, body_found, body_told}
 

@@ -1,22 +1,28 @@
 -- Replies as turns.
-use Rattle.std.proofs.Common.{◌≡◌, ◌≢◌, ◌&&◌, ◌||◌, ℕ, ◌<◌, Bool, true, false, not, ◌==◌, List, [], ◌∷◌, ◌++◌, Option, Some, None, refl, sym, ap, ◌∙◌, subst, arith, inl, inr, true≢false}
+use Rattle.std.proofs.Common.{◌≡◌, ◌&&◌, ◌||◌, ℕ, ◌<◌, Bool, true, false, not, ◌==◌, List, [], ◌∷◌, ◌++◌, Option, Some, None, refl, sym, ap, ◌∙◌, subst, arith, inl, inr}
 use Rattle.std.specs.Prelude.{◌⊎◌, nat_lt, option_and_then, Result, Ok, Err, if◌then◌else◌}
 use Rattle.std.proofs.lemmas.Bool.Decides.{nat_tests}
 use Rattle.undo_outside.specs.Disk.{DiskTold}
-use Rattle.verb_core.specs.declared.conf.House.{House}
 use Rattle.verb_core.specs.declared.item.Act.{Act}
 use Rattle.verb_core.specs.Names.{is_empty}
+use Rattle.verb_bytes.specs.declared.journal.CycleAsk.{CycleAsk}
 use Rattle.verb_bytes.specs.declared.journal.JournalRecord.{JournalRecord}
-use Rattle.verb_bytes.specs.declared.journal.JournalRecord.TheVariants.{Operator}
-use Rattle.paradox.specs.Kept.{performed, Kept}
+use Rattle.verb_bytes.specs.declared.journal.JournalRecord.TheVariants.{Operator, Cycle}
+use Rattle.paradox.specs.declared.reports.Report.{Report}
+use Rattle.paradox.specs.Kept.{performed, report_of, Kept}
+use Rattle.repair_desk.specs.Repairs.{position}
+use Rattle.mail_cycle.specs.Asking.{Due, Repeats, NoPoint, NoNumbers, Rewinds as IsDue, cycle_due, due_anew, due_at, due_by}
+use Rattle.mail_cycle.specs.Cycles.{cycled_at, leaves_numbers}
 use Rattle.time_desk.specs.declared.fault.ActFault.{ActFault}
 use Rattle.time_desk.specs.declared.fault.ActFault.TheVariants as fault
+use Rattle.time_desk.specs.declared.fault.CycleFault.{CycleFault}
+use Rattle.time_desk.specs.declared.fault.CycleFault.TheVariants as cycle_fault
+use Rattle.time_desk.specs.Cycling.{Cycles, CyclesBy, CyclesNone, StarvesBy, Tries, TriesNone}
 use Rattle.time_desk.specs.Lasting.{Lasting, IsUnwritten}
 use Rattle.verb_core.specs.Deeds.{act_item}
 use Rattle.time_desk.specs.Records.{after_record, after_records, is_formed, is_spelled}
 use Rattle.time_desk.specs.Sealing.{Seals}
 use Rattle.time_desk.specs.Submitting.{ActsNone}
-use Rattle.console_head.specs.Request.{Stage, Says}
 use Rattle.console_head.specs.declared.request.HeadRefused.TheVariants.{Head as BadHead, Size as TooLarge}
 use Rattle.console_http.specs.declared.request.Asked.{Asked}
 use Rattle.console_http.specs.declared.request.Asked.TheVariants.{NotYet, Whole}
@@ -26,15 +32,15 @@ use Rattle.console_http.specs.declared.request.Route.{Route as Taken}
 use Rattle.console_http.specs.declared.request.Route.TheVariants as route
 use Rattle.console_http.specs.Requests.{Asks}
 use Rattle.console_http.specs.Routes.{Choice, route_of}
-use Rattle.console_replies.specs.declared.bodies.ErrorWord.TheVariants.{Disk}
-use Rattle.console_replies.specs.Bodies.{error_data, number_data, numbers_data}
+use Rattle.console_replies.specs.Bodies.{number_data, numbers_data, point_data}
+use Rattle.console_replies.specs.Reports.{report_data}
 use Rattle.console_session.specs.declared.reply.After.{After}
-use Rattle.console_session.specs.declared.reply.After.TheVariants.{Waits, Closes, Stops, Fails}
+use Rattle.console_session.specs.declared.reply.After.TheVariants.{Closes, Rewinds}
 use Rattle.console_session.specs.declared.reply.Reply.{Reply}
 use Rattle.console_session.specs.Answers.{Answer, answer, answer_text, refused}
-use Rattle.console_session.specs.Turn.{Turn, asked_of, chosen, done, failed, numbered, routed, tells, waits}
-use Rattle.console_session.specs.Hindrance.{Hindrance, Clear, Refused, Unheard, Unanswered, Unsealed, Untold, acted_under, hindered, lost, routed_under, starved, told_under, unanswered}
-use Rattle.console_session.specs.Hearing.{Hears, AreServed, IsTurn, Serves, Starves, Tells, TellsFault, TellsOnly, asks_act, is_act, is_failure, reply}
+use Rattle.console_session.specs.Turn.{Turn, chosen, cycled, done, failed, numbered, numberless, rewound, tells, tried, turn}
+use Rattle.console_session.specs.Hindrance.{Hindrance, Clear, Refused, Unheard, Unanswered, Unsealed, Untold, acted_under, cycled_under, hindered, lost, routed_under, sealed_under, starved, told_under}
+use Rattle.console_session.specs.Hearing.{Hears, AreServed, IsTurn, Serves, Starves, Tells, TellsCycleFault, TellsFault, TellsOnly, is_failure, reply}
 
 -- ---- numbers
 
@@ -61,14 +67,43 @@ number_left kept k at act e =
     must_pass (is_spelled (Operator kept.next at act)) (kept.next == kept.next) (nat_lt kept.next 4194304) (is_formed kept.house (act_item kept.next at act))
     (performed kept (act_item kept.next at act)) k (sym (then_some (after_record kept (Operator kept.next at act))) ∙ e)
 
-with_number : (kept : Kept) (t : Turn) → nat_lt kept.next 4194304 ≡ true → numbered kept t ≡ t
-with_number kept t e = rw e refl
+act_with : (h : Hindrance) (at : ℕ) (kept : Kept) (act : Act) → nat_lt kept.next 4194304 ≡ true
+    → acted_under h at kept act ≡ sealed_under h kept (done at kept act) (failed kept (Operator kept.next at act))
+act_with h at kept act e = rw e refl
 
-without_number : (kept : Kept) (t : Turn) → kept.next ≡ 4194304 → numbered kept t ≡ tells (answer 507 (numbers_data kept.next)) Closes kept
-without_number kept t e = let none : nat_lt kept.next 4194304 ≡ false = grind (arith, nat_tests, e) in rw none refl
+act_without : (h : Hindrance) (at : ℕ) (kept : Kept) (act : Act) → kept.next ≡ 4194304 → acted_under h at kept act ≡ told_under h kept (numberless kept)
+act_without h at kept act e = let none : nat_lt kept.next 4194304 ≡ false = grind (arith, nat_tests, e) in rw none refl
+
+record_is_not : (x : JournalRecord) (xs : List JournalRecord) → x ∷ xs ≡ [] → ⊥
+record_is_not x xs e = subst is_there e tt
+  where
+    is_there : List JournalRecord → Type 0
+    is_there [] = ⊥
+    is_there (x ∷ xs) = Unit {0}
+
+-- an act with a number is to be sealed
+act_seals : (at : ℕ) (kept : Kept) (act : Act) → nat_lt kept.next 4194304 ≡ true → (numbered kept (done at kept act)).sealed ≡ [] → ⊥
+act_seals at kept act left e = record_is_not (Operator kept.next at act) [] (rw left at e)
 
 less_is : (n : ℕ) → n < 4194304 → nat_lt n 4194304 ≡ true
 less_is n lt = grind (arith, nat_tests, lt)
+
+-- ---- keys
+
+-- no cycle had the key
+abbrev IsNew : Due → Type 0
+IsNew (Repeats report) = ⊥
+IsNew NoPoint = Unit {0}
+IsNew NoNumbers = Unit {0}
+IsNew (IsDue due) = Unit {0}
+
+new_at : (kept : Kept) (at : ℕ) (ask : CycleAsk) (place : Option ℕ) → IsNew (due_at kept at ask place)
+new_at kept at ask None = tt
+new_at kept at ask (Some place) = elim (leaves_numbers kept ask) as (λ b. IsNew (if b then IsDue (cycled_at kept at ask place) else NoNumbers)) [ true ↦ tt | false ↦ tt ]
+
+fresh_is_new : (kept : Kept) (at : ℕ) (ask : CycleAsk) → report_of kept.reports ask.key ≡ None → IsNew (cycle_due kept at ask)
+fresh_is_new kept at ask e =
+    subst (λ (o : Option Report). IsNew (due_by o (due_anew kept at ask))) (sym e) (new_at kept at ask (position kept.timeline ask.point))
 
 module _ {D : Type 0} (told : D → DiskTold) where
   -- a desk that nothing was done to sealed nothing
@@ -95,62 +130,183 @@ module _ {D : Type 0} (told : D → DiskTold) where
   told_turn still a after old new r same (inr (inl e)) = (Refused, same_turn still (answer_text (refused NoMemory)) Closes old new r same e)
   told_turn still a after old new r same (inr (inr e)) = (Unheard, same_turn still [] Closes old new r same e)
 
+  under_as : (f g : Hindrance → Turn) (old new : Lasting D) (r : Reply) → ((h : Hindrance) → f h ≡ g h) → Under g old new r → Under f old new r
+  under_as f g old new r same u = (u.0, turn_at _ _ old new r (same u.0) u.1)
+
   -- what is asked for and is told over the desk as it is
-  pub serves_told : Still → (at : ℕ) (asked : Result Asked HttpRefused) (a : Answer) (after : After) (old : Lasting D) (r : Reply)
-      → ((h : Hindrance) → hindered h at old.kept asked ≡ told_under h old.kept (tells a after old.kept)) → Tells a after r → Serves told at asked old old r
-  serves_told still at asked a after old r same says =
-      let u = told_turn still a after old old r refl says in
-      record { hindrance = u.0; turn_is = turn_at _ _ old old r (same u.0) u.1; still = λ e. refl }
+  pub serves_told : Still → (at : ℕ) (asked : Result Asked HttpRefused) (a : Answer) (after : After) (old new : Lasting D) (r : Reply) → new ≡ old
+      → ((h : Hindrance) → hindered h at old.kept asked ≡ told_under h old.kept (tells a after old.kept)) → Tells a after r → Serves told at asked old new r
+  serves_told still at asked a after old new r unchanged same says =
+      let u = told_turn still a after old new r unchanged says in
+      record { hindrance = u.0; turn_is = turn_at _ _ old new r (same u.0) u.1; still = λ e. unchanged }
 
   pub serves_route : Still → (at : ℕ) (t s : Taken) (a : Answer) (after : After) (old : Lasting D) (r : Reply) → t ≡ s
       → ((h : Hindrance) → routed_under h at old.kept s ≡ told_under h old.kept (tells a after old.kept)) → Tells a after r → Serves told at (Ok (Whole t)) old old r
   serves_route still at t s a after old r e same says =
-      subst (λ (v : Taken). Serves told at (Ok (Whole v)) old old r) (sym e) (serves_told still at (Ok (Whole s)) a after old r same says)
+      subst (λ (v : Taken). Serves told at (Ok (Whole v)) old old r) (sym e) (serves_told still at (Ok (Whole s)) a after old old r refl same says)
 
   pub serves_refusal : Still → (at : ℕ) (asked : Result Asked HttpRefused) (why : HttpRefused) (old : Lasting D) (r : Reply) → asked ≡ Err why
       → Tells (refused why) Closes r → Serves told at asked old old r
   serves_refusal still at asked why old r e says =
-      subst (λ (v : Result Asked HttpRefused). Serves told at v old old r) (sym e) (serves_told still at (Err why) (refused why) Closes old r (λ h. refl) says)
+      subst (λ (v : Result Asked HttpRefused). Serves told at v old old r) (sym e) (serves_told still at (Err why) (refused why) Closes old old r refl (λ h. refl) says)
+
+  -- ---- turns that seal a record
+
+  abbrev SaysAs : Turn → Reply → Type 0
+  SaysAs t r = (r ≡ reply t.said t.after) ⊎ (r ≡ reply [] t.after)
+
+  -- it was sealed, and that is told or nothing is said
+  sealed_turn : (t u : Turn) (old new : Lasting D) (r : Reply) → SaysAs t r → new.kept ≡ t.kept → Seals told t.sealed t.unsealed old new
+      → Under (λ h. sealed_under h old.kept t u) old new r
+  sealed_turn t u old new r (inl e) kept seals = (Clear, record { reply_is = e; kept = kept; seals = seals })
+  sealed_turn t u old new r (inr e) kept seals = (Unanswered, record { reply_is = e; kept = kept; seals = seals })
+
+  -- it could not be sealed
+  unsealed_turn : (t u : Turn) (old new : Lasting D) (r : Reply) → SaysAs u r → new.kept ≡ u.kept → Seals told u.sealed u.unsealed old new
+      → Under (λ h. sealed_under h old.kept t u) old new r
+  unsealed_turn t u old new r (inl e) kept seals = (Unsealed, record { reply_is = e; kept = kept; seals = seals })
+  unsealed_turn t u old new r (inr e) kept seals = (Untold, record { reply_is = e; kept = kept; seals = seals })
+
+  -- no memory was found before it
+  starved_turn : (t u : Turn) (old new : Lasting D) (r : Reply) → new.kept ≡ old.kept → Seals told [] [] old new → Starves r
+      → Under (λ h. sealed_under h old.kept t u) old new r
+  starved_turn t u old new r kept seals (inl e) = (Refused, record { reply_is = e; kept = kept; seals = seals })
+  starved_turn t u old new r kept seals (inr e) = (Unheard, record { reply_is = e; kept = kept; seals = seals })
 
   -- ---- acts
 
-  pub done_turn : (at : ℕ) (act : Act) (old new : Lasting D) (r : Reply) → TellsOnly (answer 200 (number_data old.kept.next)) Closes r
+  acts : (at : ℕ) (act : Act) (old new : Lasting D) (r : Reply) → nat_lt old.kept.next 4194304 ≡ true
+      → Under (λ h. sealed_under h old.kept (done at old.kept act) (failed old.kept (Operator old.kept.next at act))) old new r → Serves told at (Ok (Whole (route.Act act))) old new r
+  acts at act old new r left under =
+      let u = under_as _ _ old new r (λ h. act_with h at old.kept act left) under in
+      record { hindrance = u.0; turn_is = u.1; still = λ e. absurd (act_seals at old.kept act left e) }
+
+  pub act_done : (at : ℕ) (act : Act) (old new : Lasting D) (r : Reply) → TellsOnly (answer 200 (number_data old.kept.next)) Closes r
       → new.kept ≡ performed old.kept (act_item old.kept.next at act) → Seals told (Operator old.kept.next at act ∷ []) [] old new
-      → Under (λ h. acted_under h at old.kept act) old new r
-  done_turn at act old new r (inl e) kept seals =
-      (Clear, turn_at _ (done at old.kept act) old new r (with_number old.kept _ (number_left old.kept new.kept at act seals.kept)) (record { reply_is = e; kept = kept; seals = seals }))
-  done_turn at act old new r (inr e) kept seals =
-      (Unanswered, turn_at _ (unanswered (done at old.kept act)) old new r (with_number old.kept _ (number_left old.kept new.kept at act seals.kept)) (record { reply_is = e; kept = kept; seals = seals }))
+      → Serves told at (Ok (Whole (route.Act act))) old new r
+  act_done at act old new r says kept seals =
+      acts at act old new r (number_left old.kept new.kept at act seals.kept)
+      (sealed_turn (done at old.kept act) (failed old.kept (Operator old.kept.next at act)) old new r says kept seals)
 
   none_left : Still → (at next : ℕ) (act : Act) (old new : Lasting D) (r : Reply) → next ≡ old.kept.next → old.kept.next ≡ 4194304 → new ≡ old
-      → Tells (answer 507 (numbers_data next)) Closes r → Under (λ h. acted_under h at old.kept act) old new r
-  none_left still at next act old new r is_next e same (inl said) = (
-    Clear,
-    turn_at _ _ old new r (without_number old.kept _ e)
-        (same_turn still (answer_text (answer 507 (numbers_data old.kept.next))) Closes old new r same (said ∙ ap (λ (n : ℕ). reply (answer_text (answer 507 (numbers_data n))) Closes) is_next)),
+      → Tells (answer 507 (numbers_data next)) Closes r → Serves told at (Ok (Whole (route.Act act))) old new r
+  none_left still at next act old new r is_next e same says =
+      serves_told still at (Ok (Whole (route.Act act))) (answer 507 (numbers_data old.kept.next)) Closes old new r same (λ h. act_without h at old.kept act e)
+      (subst (λ (n : ℕ). Tells (answer 507 (numbers_data n)) Closes r) is_next says)
+
+  pub act_not_done : Still → (at : ℕ) (act : Act) (old new : Lasting D) (f : ActFault) (r : Reply) → ActsNone told at act old new f → new.kept ≡ old.kept → TellsFault f r
+      → Serves told at (Ok (Whole (route.Act act))) old new r
+  act_not_done still at act old new (fault.Numbers next) r none kept says = none_left still at next act old new r none.1 none.2 none.3 says
+  act_not_done still at act old new fault.Disk r none kept says =
+      acts at act old new r (less_is old.kept.next none.1) (unsealed_turn (done at old.kept act) (failed old.kept (Operator old.kept.next at act)) old new r says kept none.2)
+  act_not_done still at act old new fault.NoMemory r none kept says =
+      acts at act old new r (less_is old.kept.next none.1) (starved_turn (done at old.kept act) (failed old.kept (Operator old.kept.next at act)) old new r kept none.2 says)
+  act_not_done still at act old new fault.Closed r none kept says = absurd says
+
+  -- ---- cycles
+
+  -- a request for a cycle was served, by what was due to it
+  abbrev ServesDue : ℕ → CycleAsk → Due → Lasting D → Lasting D → Reply → Type 0
+  ServesDue at ask due old new r = Under (λ h. cycled_under h at old.kept ask due) old new r × ((cycled at old.kept ask due).sealed ≡ [] → new ≡ old)
+
+  serves_due : (at : ℕ) (ask : CycleAsk) (old new : Lasting D) (r : Reply) (due : Due) → cycle_due old.kept at ask ≡ due → ServesDue at ask due old new r
+      → Serves told at (Ok (Whole (route.Cycle ask))) old new r
+  serves_due at ask old new r due e s =
+      let t : ServesDue at ask (cycle_due old.kept at ask) old new r = subst (λ (d : Due). ServesDue at ask d old new r) (sym e) s in
+      record { hindrance = t.0.0; turn_is = t.0.1; still = t.1 }
+
+  due_told : Still → (at : ℕ) (ask : CycleAsk) (due : Due) (a : Answer) (old new : Lasting D) (r : Reply) → new ≡ old
+      → ((h : Hindrance) → cycled_under h at old.kept ask due ≡ told_under h old.kept (tells a Closes old.kept)) → Tells a Closes r → ServesDue at ask due old new r
+  due_told still at ask due a old new r same as_told says = (under_as _ _ old new r as_told (told_turn still a Closes old new r same says), λ e. same)
+
+  kept_stays : (old new : Lasting D) → after_records old.kept [] ≡ Some new.kept → new.kept ≡ old.kept
+  kept_stays old new e = sym (ap (λ (o : Option Kept). or_old o) e)
+    where
+      or_old : Option Kept → Kept
+      or_old None = old.kept
+      or_old (Some k) = k
+
+  -- a key that a cycle had
+  pub cycle_known : Still → (at : ℕ) (ask : CycleAsk) (report : Report) (old : Lasting D) (r : Reply) → report_of old.kept.reports ask.key ≡ Some report
+      → Tells (answer 200 (report_data old.kept.house report)) Closes r → Serves told at (Ok (Whole (route.Cycle ask))) old old r
+  cycle_known still at ask report old r e says =
+      serves_due at ask old old r (Repeats report) (ap (λ (o : Option Report). due_by o (due_anew old.kept at ask)) e)
+      (due_told still at ask (Repeats report) (answer 200 (report_data old.kept.house report)) old old r refl (λ h. refl) says)
+
+  cycle_rewinds : (at : ℕ) (ask : CycleAsk) (due : Due) (report : Report) (old new : Lasting D) (r : Reply) → IsNew due → CyclesBy told at ask old new report due
+      → TellsOnly (answer 200 (report_data new.kept.house report)) Rewinds r → ServesDue at ask due old new r
+  cycle_rewinds at ask (Repeats earlier) report old new r is_new by says = absurd is_new
+  cycle_rewinds at ask NoPoint report old new r is_new by says = absurd by
+  cycle_rewinds at ask NoNumbers report old new r is_new by says = absurd by
+  cycle_rewinds at ask (IsDue due) report old new r is_new by says =
+      let of_old = subst (λ (k : Kept). TellsOnly (answer 200 (report_data k.house report)) Rewinds r) by.2 says in
+      let of_due = subst (λ (p : Report). TellsOnly (answer 200 (report_data old.kept.house p)) Rewinds r) by.1 of_old in (
+        sealed_turn (rewound at old.kept ask due) (failed old.kept (Cycle old.kept.next at ask)) old new r of_due by.2 by.3,
+        λ e. absurd (record_is_not (Cycle old.kept.next at ask) [] e),
+      )
+
+  -- a cycle under a new key is done
+  pub cycle_done : (at : ℕ) (ask : CycleAsk) (report : Report) (old new : Lasting D) (r : Reply) → report_of old.kept.reports ask.key ≡ None
+      → Cycles told at ask old new report → TellsOnly (answer 200 (report_data new.kept.house report)) Rewinds r → Serves told at (Ok (Whole (route.Cycle ask))) old new r
+  cycle_done at ask report old new r fresh by says =
+      serves_due at ask old new r (cycle_due old.kept at ask) refl (cycle_rewinds at ask (cycle_due old.kept at ask) report old new r (fresh_is_new old.kept at ask fresh) by says)
+
+  starved_due : Still → (at : ℕ) (ask : CycleAsk) (due : Due) (old new : Lasting D) (r : Reply) → StarvesBy told old new due → Starves r → ServesDue at ask due old new r
+  starved_due still at ask (Repeats report) old new r by says =
+      due_told still at ask (Repeats report) (answer 200 (report_data old.kept.house report)) old new r by (λ h. refl) (inr says)
+  starved_due still at ask NoPoint old new r by says = due_told still at ask NoPoint (answer 422 (point_data ask.point)) old new r by.1 (λ h. refl) (inr says)
+  starved_due still at ask NoNumbers old new r by says = due_told still at ask NoNumbers (answer 507 (numbers_data old.kept.next)) old new r by.1 (λ h. refl) (inr says)
+  starved_due still at ask (IsDue due) old new r by says = (
+    starved_turn (rewound at old.kept ask due) (failed old.kept (Cycle old.kept.next at ask)) old new r (kept_stays old new by.1.kept) by.1 says,
+    λ e. absurd (record_is_not (Cycle old.kept.next at ask) [] e),
   )
-  none_left still at next act old new r is_next e same (inr (inl said)) = (Refused, same_turn still (answer_text (refused NoMemory)) Closes old new r same said)
-  none_left still at next act old new r is_next e same (inr (inr said)) = (Unheard, same_turn still [] Closes old new r same said)
 
-  failed_turn : (at : ℕ) (act : Act) (old new : Lasting D) (r : Reply) → nat_lt old.kept.next 4194304 ≡ true → new.kept ≡ old.kept
-      → Seals told [] (Operator old.kept.next at act ∷ []) old new → TellsOnly (answer 500 (error_data Disk)) Fails r
-      → Under (λ h. acted_under h at old.kept act) old new r
-  failed_turn at act old new r left kept seals (inl e) =
-      (Unsealed, turn_at _ (failed at old.kept act) old new r (with_number old.kept _ left) (record { reply_is = e; kept = kept; seals = seals }))
-  failed_turn at act old new r left kept seals (inr e) =
-      (Untold, turn_at _ (unanswered (failed at old.kept act)) old new r (with_number old.kept _ left) (record { reply_is = e; kept = kept; seals = seals }))
+  -- a cycle is not done
+  pub cycle_not_done : Still → (at : ℕ) (ask : CycleAsk) (old new : Lasting D) (f : CycleFault) (r : Reply) → CyclesNone told at ask old new f → TellsCycleFault f r
+      → Serves told at (Ok (Whole (route.Cycle ask))) old new r
+  cycle_not_done still at ask old new (cycle_fault.Point given) r none says =
+      serves_due at ask old new r NoPoint none.1
+      (due_told still at ask NoPoint (answer 422 (point_data ask.point)) old new r none.3 (λ h. refl) (subst (λ (n : ℕ). Tells (answer 422 (point_data n)) Closes r) none.2 says))
+  cycle_not_done still at ask old new (cycle_fault.Numbers next) r none says =
+      serves_due at ask old new r NoNumbers none.1
+      (due_told still at ask NoNumbers (answer 507 (numbers_data old.kept.next)) old new r none.3 (λ h. refl) (subst (λ (n : ℕ). Tells (answer 507 (numbers_data n)) Closes r) none.2 says))
+  cycle_not_done still at ask old new cycle_fault.Disk r none says =
+      let due = none.1.0 in
+      serves_due at ask old new r (IsDue due) none.1.1 (
+        unsealed_turn (rewound at old.kept ask due) (failed old.kept (Cycle old.kept.next at ask)) old new r says (kept_stays old new none.1.2.kept) none.1.2,
+        λ e. absurd (record_is_not (Cycle old.kept.next at ask) [] e),
+      )
+  cycle_not_done still at ask old new cycle_fault.NoMemory r none says =
+      serves_due at ask old new r (cycle_due old.kept at ask) refl (starved_due still at ask (cycle_due old.kept at ask) old new r none says)
+  cycle_not_done still at ask old new cycle_fault.Closed r none says = absurd says
 
-  starved_turn : (at : ℕ) (act : Act) (old new : Lasting D) (r : Reply) → new.kept ≡ old.kept → Seals told [] [] old new → Starves r
-      → Under (λ h. acted_under h at old.kept act) old new r
-  starved_turn at act old new r kept seals (inl e) = (Refused, record { reply_is = e; kept = kept; seals = seals })
-  starved_turn at act old new r kept seals (inr e) = (Unheard, record { reply_is = e; kept = kept; seals = seals })
+  -- ---- trials
 
-  pub fault_turn : Still → (at : ℕ) (act : Act) (old new : Lasting D) (f : ActFault) (r : Reply) → ActsNone told at act old new f → new.kept ≡ old.kept → TellsFault f r
-      → Under (λ h. acted_under h at old.kept act) old new r
-  fault_turn still at act old new (fault.Numbers next) r none kept says = none_left still at next act old new r none.1 none.2 none.3 says
-  fault_turn still at act old new fault.Disk r none kept says = failed_turn at act old new r (less_is old.kept.next none.1) kept none.2 says
-  fault_turn still at act old new fault.NoMemory r none kept says = starved_turn at act old new r kept none.2 says
-  fault_turn still at act old new fault.Closed r none kept says = absurd says
+  -- what is tried, by what is due to it
+  abbrev tried_by : Still → (at : ℕ) (ask : CycleAsk) (due : Due) (a : Answer) (old new : Lasting D) (r : Reply) → new ≡ old → due_anew old.kept at ask ≡ due
+      → tried old.kept ask due ≡ tells a Closes old.kept → Tells a Closes r → Serves told at (Ok (Whole (route.Try ask))) old new r
+  tried_by still at ask due a old new r same e as_told says =
+      serves_told still at (Ok (Whole (route.Try ask))) a Closes old new r same (λ h. ap (λ (d : Due). told_under h old.kept (tried old.kept ask d)) e ∙ ap (λ (t : Turn). told_under h old.kept t) as_told) says
+
+  pub try_told : Still → (at : ℕ) (ask : CycleAsk) (report : Report) (old new : Lasting D) (r : Reply) → new ≡ old → Tries old.kept at ask report
+      → Tells (answer 200 (report_data new.kept.house report)) Closes r → Serves told at (Ok (Whole (route.Try ask))) old new r
+  try_told still at ask report old new r same tries says =
+      let due = tries.0 in
+      let of_old = subst (λ (l : Lasting D). Tells (answer 200 (report_data l.kept.house report)) Closes r) same says in
+      let of_due = subst (λ (p : Report). Tells (answer 200 (report_data old.kept.house p)) Closes r) tries.2 of_old in
+      tried_by still at ask (IsDue due) (answer 200 (report_data old.kept.house due.report)) old new r same tries.1 refl of_due
+
+  pub try_not_told : Still → (at : ℕ) (ask : CycleAsk) (old new : Lasting D) (f : CycleFault) (r : Reply) → new ≡ old → TriesNone old.kept at ask f → TellsCycleFault f r
+      → Serves told at (Ok (Whole (route.Try ask))) old new r
+  try_not_told still at ask old new (cycle_fault.Point given) r same none says =
+      tried_by still at ask NoPoint (answer 422 (point_data ask.point)) old new r same none.0 refl (subst (λ (n : ℕ). Tells (answer 422 (point_data n)) Closes r) none.1 says)
+  try_not_told still at ask old new (cycle_fault.Numbers next) r same none says =
+      tried_by still at ask NoNumbers (answer 507 (numbers_data old.kept.next)) old new r same none.0 refl (subst (λ (n : ℕ). Tells (answer 507 (numbers_data n)) Closes r) none.1 says)
+  try_not_told still at ask old new cycle_fault.Disk r same none says = absurd none
+  try_not_told still at ask old new cycle_fault.NoMemory r same none (inl e) =
+      record { hindrance = Refused; turn_is = same_turn still (answer_text (refused NoMemory)) Closes old new r same e; still = λ x. same }
+  try_not_told still at ask old new cycle_fault.NoMemory r same none (inr e) = record { hindrance = Unheard; turn_is = same_turn still [] Closes old new r same e; still = λ x. same }
+  try_not_told still at ask old new cycle_fault.Closed r same none says = absurd none
 
   -- ---- what is asked
 
@@ -158,13 +314,27 @@ module _ {D : Type 0} (told : D → DiskTold) where
   serves_as at old new r a b e s = subst (λ (v : Result Asked HttpRefused). Serves told at v old new r) (sym e) s
 
   -- want of memory before anything is sealed, whatever is chosen
+  starved_cycle : (at : ℕ) (kept : Kept) (ask : CycleAsk) (due : Due) → cycled_under Refused at kept ask due ≡ starved kept
+  starved_cycle at kept ask (Repeats report) = refl
+  starved_cycle at kept ask NoPoint = refl
+  starved_cycle at kept ask NoNumbers = refl
+  starved_cycle at kept ask (IsDue due) = refl
+
+  lost_cycle : (at : ℕ) (kept : Kept) (ask : CycleAsk) (due : Due) → cycled_under Unheard at kept ask due ≡ lost kept
+  lost_cycle at kept ask (Repeats report) = refl
+  lost_cycle at kept ask NoPoint = refl
+  lost_cycle at kept ask NoNumbers = refl
+  lost_cycle at kept ask (IsDue due) = refl
+
   starved_route : (at : ℕ) (kept : Kept) (t : Taken) → routed_under Refused at kept t ≡ starved kept
   starved_route at kept route.Status = refl
   starved_route at kept (route.Timeline start) = refl
   starved_route at kept (route.Box user name) = refl
   starved_route at kept (route.Body number) = refl
   starved_route at kept route.Conf = refl
-  starved_route at kept (route.Act act) = refl
+  starved_route at kept (route.Act act) = elim (nat_lt kept.next 4194304) as (λ b. (if b then starved kept else starved kept) ≡ starved kept) [ true ↦ refl | false ↦ refl ]
+  starved_route at kept (route.Cycle ask) = starved_cycle at kept ask (cycle_due kept at ask)
+  starved_route at kept (route.Try ask) = refl
   starved_route at kept route.Stop = refl
 
   lost_route : (at : ℕ) (kept : Kept) (t : Taken) → routed_under Unheard at kept t ≡ lost kept
@@ -173,7 +343,9 @@ module _ {D : Type 0} (told : D → DiskTold) where
   lost_route at kept (route.Box user name) = refl
   lost_route at kept (route.Body number) = refl
   lost_route at kept route.Conf = refl
-  lost_route at kept (route.Act act) = refl
+  lost_route at kept (route.Act act) = elim (nat_lt kept.next 4194304) as (λ b. (if b then lost kept else lost kept) ≡ lost kept) [ true ↦ refl | false ↦ refl ]
+  lost_route at kept (route.Cycle ask) = lost_cycle at kept ask (cycle_due kept at ask)
+  lost_route at kept (route.Try ask) = refl
   lost_route at kept route.Stop = refl
 
   starved_choice : (at : ℕ) (kept : Kept) (c : Choice) → hindered Refused at kept (chosen c) ≡ starved kept
@@ -223,16 +395,32 @@ module _ {D : Type 0} (told : D → DiskTold) where
   ends_told Unsealed kept t e = e
   ends_told Untold kept t e = e
 
-  ends_numbered : (kept : Kept) (t : Turn) → EndsSo t → EndsSo (numbered kept t)
-  ends_numbered kept t e = elim (nat_lt kept.next 4194304) as (λ b. EndsSo (if b then t else tells (answer 507 (numbers_data kept.next)) Closes kept)) [ true ↦ e | false ↦ refl ]
+  ends_sealed : (h : Hindrance) (kept : Kept) (t u : Turn) → EndsSo t → EndsSo u → EndsSo (sealed_under h kept t u)
+  ends_sealed Clear kept t u e f = e
+  ends_sealed Refused kept t u e f = refl
+  ends_sealed Unheard kept t u e f = refl
+  ends_sealed Unanswered kept t u e f = e
+  ends_sealed Unsealed kept t u e f = f
+  ends_sealed Untold kept t u e f = f
 
   ends_acted : (h : Hindrance) (at : ℕ) (kept : Kept) (act : Act) → EndsSo (acted_under h at kept act)
-  ends_acted Clear at kept act = ends_numbered kept _ refl
-  ends_acted Refused at kept act = refl
-  ends_acted Unheard at kept act = refl
-  ends_acted Unanswered at kept act = ends_numbered kept _ refl
-  ends_acted Unsealed at kept act = ends_numbered kept _ refl
-  ends_acted Untold at kept act = ends_numbered kept _ refl
+  ends_acted h at kept act =
+      elim (nat_lt kept.next 4194304) as (λ b. EndsSo (if b then sealed_under h kept (done at kept act) (failed kept (Operator kept.next at act)) else told_under h kept (numberless kept))) [
+        | true ↦ ends_sealed h kept _ _ refl refl
+        | false ↦ ends_told h kept _ refl
+      ]
+
+  ends_cycled : (h : Hindrance) (at : ℕ) (kept : Kept) (ask : CycleAsk) (due : Due) → EndsSo (cycled_under h at kept ask due)
+  ends_cycled h at kept ask (Repeats report) = ends_told h kept _ refl
+  ends_cycled h at kept ask NoPoint = ends_told h kept _ refl
+  ends_cycled h at kept ask NoNumbers = ends_told h kept _ refl
+  ends_cycled h at kept ask (IsDue due) = ends_sealed h kept _ _ refl refl
+
+  ends_tried : (kept : Kept) (ask : CycleAsk) (due : Due) → EndsSo (tried kept ask due)
+  ends_tried kept ask (Repeats report) = refl
+  ends_tried kept ask NoPoint = refl
+  ends_tried kept ask NoNumbers = refl
+  ends_tried kept ask (IsDue due) = refl
 
   ends_routed : (h : Hindrance) (at : ℕ) (kept : Kept) (t : Taken) → EndsSo (routed_under h at kept t)
   ends_routed h at kept route.Status = ends_told h kept _ refl
@@ -241,6 +429,8 @@ module _ {D : Type 0} (told : D → DiskTold) where
   ends_routed h at kept (route.Body number) = ends_told h kept _ refl
   ends_routed h at kept route.Conf = ends_told h kept _ refl
   ends_routed h at kept (route.Act act) = ends_acted h at kept act
+  ends_routed h at kept (route.Cycle ask) = ends_cycled h at kept ask (cycle_due kept at ask)
+  ends_routed h at kept (route.Try ask) = ends_told h kept (tried kept ask (due_anew kept at ask)) (ends_tried kept ask (due_anew kept at ask))
   ends_routed h at kept route.Stop = ends_told h kept _ refl
 
   ends_so : (h : Hindrance) (at : ℕ) (kept : Kept) (asked : Result Asked HttpRefused) → EndsSo (hindered h at kept asked)

@@ -9,7 +9,7 @@ use Rattle.verb_core.specs.declared.mailbox.Mailbox.{Mailbox}
 use Rattle.verb_core.specs.Boxes.{box_of, row_at}
 use Rattle.verb_core.specs.Items.{text_in}
 use Rattle.mail_desk.specs.declared.counts.Counts.{Counts as DeskCounts}
-use Rattle.mail_desk.specs.Counting.{counts_of, listed}
+use Rattle.mail_desk.specs.Counting.{counts_of, page}
 use Rattle.paradox.specs.Kept.{store_of, Kept}
 use Rattle.mail_desk.specs.Timeline.{item_of}
 use Rattle.console_http.specs.declared.request.HttpRefused.{HttpRefused}
@@ -52,7 +52,7 @@ status_answer kept = answer 200 (status_data (counted_as (counts_of kept)))
 
 -- at most a thousand items from a place on
 abbrev pub timeline_answer : Kept → ℕ → Answer
-timeline_answer kept start = answer 200 (timeline_data kept.house (listed kept.timeline start))
+timeline_answer kept start = answer 200 (timeline_data kept.house (page kept.timeline start))
 
 -- the mailbox of a user and a name with its stamp, where it is there; each that is there has one
 abbrev pub box_found : Kept → User → List ℕ → Option Data

@@ -1,28 +1,26 @@
 -- What contracts say of a console connection's session.
-use Rattle.std.specs.Prelude.{◌≡◌, ◌⊎◌, ℕ, Bool, true, false, List, [], ◌++◌, Result, Ok, Err}
+use Rattle.std.specs.Prelude.{◌≡◌, ◌⊎◌, ℕ, Bool, true, false, List, [], ◌++◌, Result}
 use Rattle.undo_outside.specs.Disk.{DiskTold}
-use Rattle.paradox.specs.Kept.{Kept}
 use Rattle.time_desk.specs.declared.fault.ActFault.{ActFault}
 use Rattle.time_desk.specs.declared.fault.ActFault.TheVariants as fault
+use Rattle.time_desk.specs.declared.fault.CycleFault.{CycleFault}
+use Rattle.time_desk.specs.declared.fault.CycleFault.TheVariants as cycle_fault
 use Rattle.time_desk.specs.Lasting.{Lasting}
 use Rattle.time_desk.specs.Sealing.{Seals}
 use Rattle.console_head.specs.declared.request.Coming.{Coming}
 use Rattle.console_head.specs.Coming.{IsKnown}
 use Rattle.console_head.specs.Request.{Stage, Says}
 use Rattle.console_http.specs.declared.request.Asked.{Asked}
-use Rattle.console_http.specs.declared.request.Asked.TheVariants.{NotYet, Whole}
 use Rattle.console_http.specs.declared.request.HttpRefused.{HttpRefused}
 use Rattle.console_http.specs.declared.request.HttpRefused.TheVariants.{NoMemory}
-use Rattle.console_http.specs.declared.request.Route.{Route}
-use Rattle.console_http.specs.declared.request.Route.TheVariants as route
 use Rattle.console_replies.specs.declared.bodies.ErrorWord.TheVariants.{Disk}
-use Rattle.console_replies.specs.Bodies.{error_data, numbers_data}
+use Rattle.console_replies.specs.Bodies.{error_data, numbers_data, point_data}
 use Rattle.console_session.specs.declared.reply.After.{After}
-use Rattle.console_session.specs.declared.reply.After.TheVariants.{Waits, Closes, Stops, Fails}
+use Rattle.console_session.specs.declared.reply.After.TheVariants.{Waits, Closes, Stops, Fails, Rewinds}
 use Rattle.console_session.specs.declared.reply.Reply.{Reply}
 use Rattle.console_session.specs.Answers.{Answer, answer, answer_text, refused}
-use Rattle.console_session.specs.Turn.{Turn, asked_of}
-use Rattle.console_session.specs.Hindrance.{Hindrance, hindered, lost}
+use Rattle.console_session.specs.Turn.{Turn, asked_of, turn}
+use Rattle.console_session.specs.Hindrance.{Hindrance, hindered}
 
 -- what is known of bytes stays known whatever follows them
 abbrev pub StaysKnown : Coming → List ℕ → Type 0
@@ -52,29 +50,23 @@ TellsFault fault.Disk r = TellsOnly (answer 500 (error_data Disk)) Fails r
 TellsFault fault.NoMemory r = Starves r
 TellsFault fault.Closed r = ⊥
 
+-- why a cycle was not done is told
+abbrev pub TellsCycleFault : CycleFault → Reply → Type 0
+TellsCycleFault (cycle_fault.Point given) r = Tells (answer 422 (point_data given)) Closes r
+TellsCycleFault (cycle_fault.Numbers next) r = Tells (answer 507 (numbers_data next)) Closes r
+TellsCycleFault cycle_fault.Disk r = TellsOnly (answer 500 (error_data Disk)) Fails r
+TellsCycleFault cycle_fault.NoMemory r = Starves r
+TellsCycleFault cycle_fault.Closed r = ⊥
+
 -- ---- turns
 
--- whether an act is asked for
-abbrev pub is_act : Route → Bool
-is_act route.Status = false
-is_act (route.Timeline start) = false
-is_act (route.Box user name) = false
-is_act (route.Body number) = false
-is_act route.Conf = false
-is_act (route.Act act) = true
-is_act route.Stop = false
-
-abbrev pub asks_act : Result Asked HttpRefused → Bool
-asks_act (Ok NotYet) = false
-asks_act (Ok (Whole route)) = is_act route
-asks_act (Err why) = false
-
--- whether serving ends since an act could not be sealed
+-- whether serving ends since a record could not be sealed
 abbrev pub is_failure : After → Bool
 is_failure Waits = false
 is_failure Closes = false
 is_failure Stops = false
 is_failure Fails = true
+is_failure Rewinds = false
 
 module _ {D : Type 0} (told : D → DiskTold) where
   -- a turn was said and sealed
@@ -83,11 +75,11 @@ module _ {D : Type 0} (told : D → DiskTold) where
     pub kept : new.kept ≡ t.kept
     pub seals : Seals told t.sealed t.unsealed old new
 
-  -- a turn, hindered or not; where no act is asked for, the desk is as it was
+  -- a turn, hindered or not; where nothing is to be sealed the desk is as it was, and nothing was written
   pub record Serves (at : ℕ) (asked : Result Asked HttpRefused) (old new : Lasting D) (r : Reply) : Type 0 where
     pub hindrance : Hindrance
     pub turn_is : IsTurn (hindered hindrance at old.kept asked) old new r
-    pub still : asks_act asked ≡ false → new ≡ old
+    pub still : (turn at old.kept asked).sealed ≡ [] → new ≡ old
 
   -- no memory was found for the bytes that came; or they and those before are served as what they are
   pub data Hears (at : ℕ) (unserved bytes : List ℕ) (old new : Lasting D) (r : Reply) : Type 0 where

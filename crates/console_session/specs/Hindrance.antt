@@ -1,7 +1,10 @@
 -- How a turn may go otherwise.
-use Rattle.std.specs.Prelude.{ℕ, [], Result, Ok, Err}
+use Rattle.std.specs.Prelude.{ℕ, [], nat_lt, Result, Ok, Err, if◌then◌else◌}
 use Rattle.verb_core.specs.declared.item.Act.{Act}
+use Rattle.verb_bytes.specs.declared.journal.CycleAsk.{CycleAsk}
+use Rattle.verb_bytes.specs.declared.journal.JournalRecord.TheVariants.{Operator, Cycle}
 use Rattle.paradox.specs.Kept.{Kept}
+use Rattle.mail_cycle.specs.Asking.{Due, Repeats, NoPoint, NoNumbers, Rewinds, cycle_due}
 use Rattle.console_http.specs.declared.request.Asked.{Asked}
 use Rattle.console_http.specs.declared.request.Asked.TheVariants.{NotYet, Whole}
 use Rattle.console_http.specs.declared.request.HttpRefused.{HttpRefused}
@@ -9,8 +12,8 @@ use Rattle.console_http.specs.declared.request.HttpRefused.TheVariants.{NoMemory
 use Rattle.console_http.specs.declared.request.Route.{Route}
 use Rattle.console_http.specs.declared.request.Route.TheVariants as route
 use Rattle.console_session.specs.declared.reply.After.TheVariants.{Closes}
-use Rattle.console_session.specs.Answers.{Answer, answer_text, refused}
-use Rattle.console_session.specs.Turn.{Turn, waits, tells, done, failed, numbered, routed}
+use Rattle.console_session.specs.Answers.{refused}
+use Rattle.console_session.specs.Turn.{Turn, waits, tells, done, failed, numberless, pointless, reported, rewound, routed}
 
 -- How a turn may go otherwise.
 pub data Hindrance : Type 0 where
@@ -20,9 +23,9 @@ pub data Hindrance : Type 0 where
   Refused : Hindrance
   -- the same, and no memory was found for telling the operator
   Unheard : Hindrance
-  -- no memory was found for the answer to an act that is done
+  -- no memory was found for the answer to an act or a cycle that is done
   Unanswered : Hindrance
-  -- an act could not be sealed: the operator is told, and serving ends
+  -- an act or a cycle could not be sealed: the operator is told, and serving ends
   Unsealed : Hindrance
   -- the same, and no memory was found for telling the operator
   Untold : Hindrance
@@ -39,7 +42,7 @@ starved kept = tells (refused NoMemory) Closes kept
 abbrev pub unanswered : Turn → Turn
 unanswered t = record t { said = [] }
 
--- a turn that asks nothing of the desk is hindered by want of memory alone
+-- a turn that seals nothing is hindered by want of memory alone
 abbrev pub told_under : Hindrance → Kept → Turn → Turn
 told_under Clear kept t = t
 told_under Refused kept t = starved kept
@@ -48,14 +51,26 @@ told_under Unanswered kept t = t
 told_under Unsealed kept t = t
 told_under Untold kept t = t
 
+-- a turn that seals a record: by how it goes where that is done, and where it can't be sealed
+abbrev pub sealed_under : Hindrance → Kept → Turn → Turn → Turn
+sealed_under Clear kept done unsealed = done
+sealed_under Refused kept done unsealed = starved kept
+sealed_under Unheard kept done unsealed = lost kept
+sealed_under Unanswered kept done unsealed = unanswered done
+sealed_under Unsealed kept done unsealed = unsealed
+sealed_under Untold kept done unsealed = unanswered unsealed
+
 -- what becomes of an act; where no number is left nothing is to be sealed
 abbrev pub acted_under : Hindrance → ℕ → Kept → Act → Turn
-acted_under Clear at kept act = numbered kept (done at kept act)
-acted_under Refused at kept act = starved kept
-acted_under Unheard at kept act = lost kept
-acted_under Unanswered at kept act = numbered kept (unanswered (done at kept act))
-acted_under Unsealed at kept act = numbered kept (failed at kept act)
-acted_under Untold at kept act = numbered kept (unanswered (failed at kept act))
+acted_under h at kept act =
+    if nat_lt kept.next 4194304 then sealed_under h kept (done at kept act) (failed kept (Operator kept.next at act)) else told_under h kept (numberless kept)
+
+-- what becomes of a request for a cycle, by what is due to it
+abbrev pub cycled_under : Hindrance → ℕ → Kept → CycleAsk → Due → Turn
+cycled_under h at kept ask (Repeats report) = told_under h kept (reported kept report)
+cycled_under h at kept ask NoPoint = told_under h kept (pointless kept ask.point)
+cycled_under h at kept ask NoNumbers = told_under h kept (numberless kept)
+cycled_under h at kept ask (Rewinds due) = sealed_under h kept (rewound at kept ask due) (failed kept (Cycle kept.next at ask))
 
 abbrev pub routed_under : Hindrance → ℕ → Kept → Route → Turn
 routed_under h at kept route.Status = told_under h kept (routed at kept route.Status)
@@ -64,6 +79,8 @@ routed_under h at kept (route.Box user name) = told_under h kept (routed at kept
 routed_under h at kept (route.Body number) = told_under h kept (routed at kept (route.Body number))
 routed_under h at kept route.Conf = told_under h kept (routed at kept route.Conf)
 routed_under h at kept (route.Act act) = acted_under h at kept act
+routed_under h at kept (route.Cycle ask) = cycled_under h at kept ask (cycle_due kept at ask)
+routed_under h at kept (route.Try ask) = told_under h kept (routed at kept (route.Try ask))
 routed_under h at kept route.Stop = told_under h kept (routed at kept route.Stop)
 
 -- a turn, hindered or not; bytes that are not yet a request want no memory

@@ -1,10 +1,14 @@
 -- One turn of a console connection: the answer to its request.
-use Rattle.std.specs.Prelude.{ℕ, List, [], ◌∷◌, nat_lt, Option, None, Some, Result, Ok, Err, if◌then◌else◌}
+use Rattle.std.specs.Prelude.{ℕ, List, [], ◌∷◌, nat_lt, None, Some, Result, Ok, Err, if◌then◌else◌}
 use Rattle.verb_core.specs.declared.conf.House.{House}
 use Rattle.verb_core.specs.declared.item.Act.{Act}
+use Rattle.verb_bytes.specs.declared.journal.CycleAsk.{CycleAsk}
 use Rattle.verb_bytes.specs.declared.journal.JournalRecord.{JournalRecord}
-use Rattle.verb_bytes.specs.declared.journal.JournalRecord.TheVariants.{Operator}
+use Rattle.verb_bytes.specs.declared.journal.JournalRecord.TheVariants.{Operator, Cycle}
+use Rattle.paradox.specs.declared.reports.Report.{Report}
 use Rattle.paradox.specs.Kept.{performed, Kept}
+use Rattle.mail_cycle.specs.Asking.{Due, Repeats, NoPoint, NoNumbers, Rewinds as IsDue, after_cycle, cycle_due, due_anew}
+use Rattle.mail_cycle.specs.Cycles.{Cycled}
 use Rattle.verb_core.specs.Deeds.{act_item}
 use Rattle.console_head.specs.Request.{Stage}
 use Rattle.console_http.specs.declared.request.Asked.{Asked}
@@ -15,9 +19,10 @@ use Rattle.console_http.specs.declared.request.Route.TheVariants as route
 use Rattle.console_http.specs.Requests.{told_of}
 use Rattle.console_http.specs.Routes.{Choice, route_of}
 use Rattle.console_replies.specs.declared.bodies.ErrorWord.TheVariants as word
-use Rattle.console_replies.specs.Bodies.{error_data, number_data, numbers_data, stopped_data}
+use Rattle.console_replies.specs.Bodies.{error_data, number_data, numbers_data, point_data, stopped_data}
+use Rattle.console_replies.specs.Reports.{report_data}
 use Rattle.console_session.specs.declared.reply.After.{After}
-use Rattle.console_session.specs.declared.reply.After.TheVariants.{Waits, Closes, Stops, Fails}
+use Rattle.console_session.specs.declared.reply.After.TheVariants.{Waits, Closes, Stops, Fails, Rewinds}
 use Rattle.console_session.specs.Answers.{Answer, answer, answer_text, body_answer, box_answer, conf_answer, refused, status_answer, timeline_answer}
 
 -- what a turn says, what is kept after it, what follows, and the record that was sealed in it, or that could not be
@@ -36,6 +41,12 @@ waits kept = record { said = []; kept = kept; after = Waits; sealed = []; unseal
 abbrev pub tells : Answer → After → Kept → Turn
 tells a after kept = record { said = answer_text a; kept = kept; after = after; sealed = []; unsealed = [] }
 
+-- too few numbers are left
+abbrev pub numberless : Kept → Turn
+numberless kept = tells (answer 507 (numbers_data kept.next)) Closes kept
+
+-- ---- acts
+
 -- an act is done, and answered with its number
 abbrev pub done : ℕ → Kept → Act → Turn
 done at kept act = record {
@@ -46,19 +57,55 @@ done at kept act = record {
   unsealed = [];
 }
 
--- an act could not be sealed, and nothing is kept of it
-abbrev pub failed : ℕ → Kept → Act → Turn
-failed at kept act = record {
+-- a record could not be sealed, and nothing is kept of it
+abbrev pub failed : Kept → JournalRecord → Turn
+failed kept what = record {
   said = answer_text (answer 500 (error_data word.Disk));
   kept = kept;
   after = Fails;
   sealed = [];
-  unsealed = Operator kept.next at act ∷ [];
+  unsealed = what ∷ [];
 }
 
 -- what becomes of an act for which a number is left, or that none is left
 abbrev pub numbered : Kept → Turn → Turn
-numbered kept t = if nat_lt kept.next 4194304 then t else tells (answer 507 (numbers_data kept.next)) Closes kept
+numbered kept t = if nat_lt kept.next 4194304 then t else numberless kept
+
+-- ---- cycles
+
+-- a cycle is told by its report, and changes nothing
+abbrev pub reported : Kept → Report → Turn
+reported kept report = tells (answer 200 (report_data kept.house report)) Closes kept
+
+-- the timeline does not have the point
+abbrev pub pointless : Kept → ℕ → Turn
+pointless kept given = tells (answer 422 (point_data given)) Closes kept
+
+-- a cycle is done, and answered with its report
+abbrev pub rewound : ℕ → Kept → CycleAsk → Cycled → Turn
+rewound at kept ask due = record {
+  said = answer_text (answer 200 (report_data kept.house due.report));
+  kept = after_cycle kept ask due;
+  after = Rewinds;
+  sealed = Cycle kept.next at ask ∷ [];
+  unsealed = [];
+}
+
+-- what becomes of a request for a cycle, by what is due to it
+abbrev pub cycled : ℕ → Kept → CycleAsk → Due → Turn
+cycled at kept ask (Repeats report) = reported kept report
+cycled at kept ask NoPoint = pointless kept ask.point
+cycled at kept ask NoNumbers = numberless kept
+cycled at kept ask (IsDue due) = rewound at kept ask due
+
+-- the same of a cycle that is only tried: it is told, and not done
+abbrev pub tried : Kept → CycleAsk → Due → Turn
+tried kept ask (Repeats report) = reported kept report
+tried kept ask NoPoint = pointless kept ask.point
+tried kept ask NoNumbers = numberless kept
+tried kept ask (IsDue due) = reported kept due.report
+
+-- ---- turns
 
 -- the answer to a route at a moment
 abbrev pub routed : ℕ → Kept → Route → Turn
@@ -68,6 +115,8 @@ routed at kept (route.Box user name) = tells (box_answer kept user name) Closes 
 routed at kept (route.Body number) = tells (body_answer kept number) Closes kept
 routed at kept route.Conf = tells (conf_answer kept) Closes kept
 routed at kept (route.Act act) = numbered kept (done at kept act)
+routed at kept (route.Cycle ask) = cycled at kept ask (cycle_due kept at ask)
+routed at kept (route.Try ask) = tried kept ask (due_anew kept at ask)
 routed at kept route.Stop = tells (answer 200 stopped_data) Stops kept
 
 -- the turn of what is asked at a moment

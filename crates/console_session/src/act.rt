@@ -1,11 +1,12 @@
 //! The operator's acts: sealed, performed and then answered.
-ghost use Rattle.std.specs.Prelude.{◌≡◌, IsTrue, false};
+ghost use Rattle.std.specs.Prelude.{◌≡◌, IsTrue, Ok, false};
 ghost use Rattle.std.specs.List.{list_all};
 ghost use Rattle.verb_core.specs.declared.item.Deed.TheVariants.{Act as Acts};
 ghost use Rattle.verb_core.specs.Items.{users_in};
 ghost use Rattle.verb_core.specs.Store.{is_known};
-ghost use Rattle.console_session.specs.Hearing.{IsTurn, TellsFault};
-ghost use Rattle.console_session.specs.Hindrance.{Hindrance, acted_under};
+ghost use Rattle.console_http.specs.declared.request.Asked.TheVariants.{Whole};
+ghost use Rattle.console_http.specs.declared.request.Route.TheVariants as route;
+ghost use Rattle.console_session.specs.Hearing.{Serves, TellsFault};
 
 use crate::reply::{After, Reply, starve, tell, tell_only};
 use console_replies::{ErrorWord, error_json, number_json, numbers_json};
@@ -34,7 +35,7 @@ fn tell_fault(alloc: Global, fault: ActFault) -> Reply
 pub fn act<D: Disk>(alloc: Global, desk: &mut Desk<D>, at: u64, asked: Act) -> Reply
     requires open { desk.old.closed ≡ false }
     requires known { IsTrue (list_all (is_known desk.old.kept.house) (users_in (Acts asked))) }
-    ensures { (h : Hindrance) × IsTurn D.told (acted_under h at desk.old.kept asked) desk.old desk.new result }
+    ensures { Serves D.told at (Ok (Whole (route.Act asked))) desk.old desk.new result }
 {
     seals_join::<D>();
     match desk.act(alloc, at, asked) {

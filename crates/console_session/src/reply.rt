@@ -20,8 +20,10 @@ pub enum After {
     Closes,
     /// The connection is closed, and serving ends as it was asked to.
     Stops,
-    /// The connection is closed. An act could not be sealed, and serving ends with that.
+    /// The connection is closed. An act or a cycle could not be sealed, and serving ends with that.
     Fails,
+    /// The connection is closed. A cycle was done: each mail reader's connection is told that the store was rewound, and closed.
+    Rewinds,
 }
 
 /// What a connection is told, and what follows.

@@ -5,7 +5,7 @@ ghost use Rattle.console_replies.specs.Bodies.{body_data, error_data};
 ghost use Rattle.console_replies.specs.Reply.{is_status};
 ghost use Rattle.console_replies.specs.Timeline.{timeline_data};
 ghost use Rattle.verb_core.specs.Boxes.{box_of, row_at};
-ghost use Rattle.mail_desk.specs.Counting.{listed};
+ghost use Rattle.mail_desk.specs.Counting.{page};
 ghost use Rattle.mail_desk.specs.Timeline.{has_text};
 ghost use Rattle.verb_core.specs.Items.{text_of};
 ghost use Rattle.console_session.specs.Answers.{answer, body_answer, body_at, box_answer, conf_answer, counted_as, not_found, refused, status_answer, timeline_answer};
@@ -47,12 +47,9 @@ pub fn tell_status<D: Disk>(alloc: Global, desk: &Desk<D>) -> Reply
 
 /// The items from a place on.
 fn timeline_text<D: Disk>(alloc: Global, desk: &Desk<D>, start: u32) -> Result<Text, NoMemory>
-    ensures { IfOk result (λ text. text ≡ compact_text (timeline_data desk.now.kept.house (listed desk.now.kept.timeline start))) }
+    ensures { IfOk result (λ text. text ≡ compact_text (timeline_data desk.now.kept.house (page desk.now.kept.timeline start))) }
 {
-    match desk.timeline(alloc, start) {
-        Ok(items) => timeline_json(alloc, desk.house(), &items),
-        Err(NoMemory) => Err(NoMemory),
-    }
+    timeline_json(alloc, desk.house(), desk.items(start))
 }
 
 /// GET /timeline.

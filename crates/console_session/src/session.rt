@@ -1,11 +1,12 @@
 //! A console connection, as far as its bytes came.
-ghost use Rattle.std.specs.Prelude.{◌≡◌, ◌++◌, [], false, Ok};
+ghost use Rattle.std.specs.Prelude.{◌≡◌, ◌≤◌, ◌++◌, [], false, Ok};
 ghost use Rattle.console_http.specs.Requests.{AskKnows, KnowsUsers};
 ghost use Rattle.console_http.specs.declared.request.Asked.TheVariants.{Whole};
 ghost use Rattle.console_session.specs.Hearing.{Hears, Serves, is_failure};
 ghost use Rattle.console_session.specs.declared.reply.After.TheVariants.{Waits};
 
 use crate::act::act;
+use crate::cycle::{cycle, try_cycle};
 use crate::reply::{After, Reply, silent, tell};
 use crate::routes::{tell_body, tell_box, tell_conf, tell_refused, tell_status, tell_timeline};
 use console_http::laws::acts_name_known_users;
@@ -13,10 +14,11 @@ use console_http::{Asked, Coming, HttpRefused, Route, read_coming};
 use console_replies::stopped_json;
 use std::alloc::Global;
 use std::marker::Model;
+use std::thread::Threads;
 use time_desk::Desk;
 use time_desk::laws::seals_join;
-use undo_base::{NoMemory, Text};
-use undo_outside::Disk;
+use undo_base::{LAST_MOMENT, NoMemory, Text};
+use undo_outside::{Disk, Gate};
 
 /// The bytes of a connection that has not had its answer, and what is known of them.
 #[derive(Drop)]
@@ -37,8 +39,16 @@ impl Model for ConsoleSession {
 }
 
 /// Answers a route.
-fn follow<D: Disk>(alloc: Global, desk: &mut Desk<D>, at: u64, route: Route) -> Reply
+fn follow<D: Disk, R: Threads + Sync, G: Gate>(
+    rt: &R,
+    alloc: Global,
+    desk: &mut Desk<D>,
+    at: u64,
+    route: Route,
+    gate: &G,
+) -> Reply
     requires open { desk.old.closed ≡ false }
+    requires moment { at ≤ LAST_MOMENT }
     requires known { KnowsUsers desk.old.kept.house route }
     ensures { Serves D.told at (Ok (Whole route)) desk.old desk.new result }
 {
@@ -50,25 +60,30 @@ fn follow<D: Disk>(alloc: Global, desk: &mut Desk<D>, at: u64, route: Route) -> 
         Route::Body { number } => tell_body(alloc, desk, number),
         Route::Conf => tell_conf(alloc, desk),
         Route::Act(asked) => act(alloc, desk, at, asked),
+        Route::Cycle(ask) => cycle(rt, alloc, desk, at, ask, gate),
+        Route::Try(ask) => try_cycle(rt, alloc, desk, at, &ask, gate),
         Route::Stop => tell(alloc, 200, stopped_json(alloc), After::Stops),
     }
 }
 
 /// Answers what is asked, if it is a request already.
-fn serve<D: Disk>(
+fn serve<D: Disk, R: Threads + Sync, G: Gate>(
+    rt: &R,
     alloc: Global,
     desk: &mut Desk<D>,
     at: u64,
     asked: Result<Asked, HttpRefused>,
+    gate: &G,
 ) -> Reply
     requires open { desk.old.closed ≡ false }
+    requires moment { at ≤ LAST_MOMENT }
     requires known { AskKnows desk.old.kept.house asked }
     ensures { Serves D.told at asked desk.old desk.new result }
 {
     seals_join::<D>();
     match asked {
         Ok(Asked::NotYet) => silent(alloc, After::Waits),
-        Ok(Asked::Whole { route }) => follow(alloc, desk, at, route),
+        Ok(Asked::Whole { route }) => follow(rt, alloc, desk, at, route, gate),
         Err(why) => tell_refused(alloc, why),
     }
 }
@@ -86,14 +101,17 @@ impl ConsoleSession {
 
     /// Hears bytes that came. While they and those before are not yet a request nothing is said; else they are answered once,
     /// and the connection is to be closed. What follows a request is not looked at.
-    pub fn hear<D: Disk>(
+    pub fn hear<D: Disk, R: Threads + Sync, G: Gate>(
         &mut self,
+        rt: &R,
         alloc: Global,
         desk: &mut Desk<D>,
         at: u64,
+        gate: &G,
         bytes: &[u8],
     ) -> Reply
         requires open { desk.old.closed ≡ false }
+        requires moment { at ≤ LAST_MOMENT }
         ensures heard { Hears D.told at self.old bytes.now desk.old desk.new result }
         ensures waits { result.after ≡ Waits → self.new ≡ self.old ++ bytes.now }
         ensures closed { desk.new.closed ≡ is_failure result.after }
@@ -103,6 +121,6 @@ impl ConsoleSession {
         }
         acts_name_known_users();
         let asked = read_coming(alloc, &mut self.coming, desk.house(), self.came.bytes());
-        serve(alloc, desk, at, asked)
+        serve(rt, alloc, desk, at, asked, gate)
     }
 }

@@ -1,8 +1,7 @@
 -- The texts of bodies, by the items that brought them.
-use Rattle.std.proofs.Common.{◌≡◌, ◌≢◌, ℕ, ◌+◌, ◌<◌, ◌==◌, Bool, true, false, ◌&&◌, cond, List, [], ◌∷◌, ◌++◌, length, find, get_or, take, Option, None, Some, is_some, option_map, option_and_then, refl, ap, sym, subst, ◌∙◌, arith}
+use Rattle.std.proofs.Common.{◌≡◌, ◌≢◌, ℕ, ◌==◌, Bool, true, false, ◌&&◌, cond, List, [], ◌∷◌, ◌++◌, length, find, Option, None, Some, is_some, option_map, option_and_then, refl, ap, sym, ◌∙◌, arith}
 use Rattle.std.specs.List.{AllByRecursion}
 use Rattle.std.specs.Cmp.{second_so}
-use Rattle.std.proofs.lemmas.List.{take_more}
 use Rattle.std.proofs.lemmas.Bool.Decides.{nat_tests}
 use Rattle.verb_core.specs.declared.item.Item.{Item}
 use Rattle.verb_core.specs.declared.mailbox.Body.{Body}
@@ -10,10 +9,10 @@ use Rattle.verb_core.specs.Items.{NumbersApart, text_in, text_of}
 use Rattle.shelf.specs.declared.note.Note.{Note}
 use Rattle.shelf.specs.Notes.{same_body, size_of}
 use Rattle.mail_desk.specs.Timeline.{item_of, body_of, has_text, told_by, NotesText}
-use Rattle.mail_desk.proofs.Timelines.{all_weaker, others_before, unequal}
+use Rattle.mail_desk.proofs.Timelines.{all_weaker, unequal}
 
 -- whether an item brought the text of a body
-abbrev brings : Body → Item → Bool
+abbrev pub brings : Body → Item → Bool
 brings body i = (i.number == body.origin) && (i.rev == body.rev) && is_some (text_in i.deed)
 
 -- no item of these has the body's number
@@ -31,7 +30,7 @@ by_item i body rest true None is none = none
 by_item i body rest false (Some text) is none = none
 by_item i body rest false None is none = none
 
-through : {A B : Type 0} (f : A → Option B) (b : Bool) (x : A) (o : Option A) → option_and_then f (cond b (Some x) o) ≡ cond b (f x) (option_and_then f o)
+pub through : {A B : Type 0} (f : A → Option B) (b : Bool) (x : A) (o : Option A) → option_and_then f (cond b (Some x) o) ≡ cond b (f x) (option_and_then f o)
 through f true x o = refl
 through f false x o = refl
 
@@ -77,14 +76,14 @@ or_there : (o : Option (List ℕ)) (last : Option (List ℕ)) → is_some last �
 or_there None last some = some
 or_there (Some text) last some = refl
 
-itself : (i : Item) → same_body (body_of i) (body_of i) ≡ true
-itself i = grind (arith, nat_tests)
+pub itself : (body : Body) → same_body body body ≡ true
+itself body = grind (arith, nat_tests)
 
 -- an item's own text is there
 pub text_added : (t : List Item) (i : Item) → is_some (text_in i.deed) ≡ true → has_text (t ++ i ∷ []) (body_of i) ≡ true
 text_added t i some =
     ap is_some (text_more t i (body_of i)) ∙ or_there (text_of t (body_of i)) (text_of (i ∷ []) (body_of i))
-    (ap is_some (text_single i (body_of i) ∙ ap (λ b. cond b (text_in i.deed) None) (itself i)) ∙ some)
+    (ap is_some (text_single i (body_of i) ∙ ap (λ b. cond b (text_in i.deed) None) (itself (body_of i))) ∙ some)
 
 -- ---- an item before
 
@@ -107,7 +106,7 @@ own_first false o rest e some = absurd (let wrong : false ≡ true = e in cc)
 text_first : (i : Item) (t : List Item) → is_some (text_in i.deed) ≡ true → has_text (i ∷ t) (body_of i) ≡ true
 text_first i t some =
     ap is_some (through (λ (k : Item). text_in k.deed) (brings (body_of i) i) i (find (brings (body_of i)) t))
-    ∙ own_first (same_body (body_of i) (body_of i)) (text_in i.deed) (text_of t (body_of i)) (itself i) some
+    ∙ own_first (same_body (body_of i) (body_of i)) (text_in i.deed) (text_of t (body_of i)) (itself (body_of i)) some
 
 -- each item's own
 pub own_texts : (t : List Item) → AllByRecursion (λ (i : Item). is_some (text_in i.deed) ≡ true → has_text t (body_of i) ≡ true) t
@@ -147,14 +146,3 @@ sizes_on t i old new others (Some text) brought noted sizes body =
       | false ↦ λ e. sizes body ∙ ap (option_map length) (sym (or_none (text_of t body)))
     ] refl
     ∙ ap (option_map length) (sym (text_more t i body ∙ ap (λ o. cond (is_some (text_of t body)) (text_of t body) o) (text_single i body ∙ ap (λ o. cond (same_body (body_of i) body) o None) brought)))
-
--- and of one item more of a timeline
-pub sizes_more : (t : List Item) (k : ℕ) (i : Item) (old new : List (Body × Note)) → NumbersApart t → k < length t → i ≡ get_or t k i
-    → NotesText (text_in i.deed) (body_of i) old new → SizesOf old (take k t) → SizesOf new (take (k + 1) t)
-sizes_more t k i old new apart within is noted sizes =
-    subst (λ (s : List Item). SizesOf new s) (sym (take_more t k i within ∙ ap (λ (j : Item). take k t ++ j ∷ []) (sym is)))
-    (sizes_on (take k t) i old new (others_before t apart k i within is) (text_in i.deed) refl noted sizes)
-
--- of no item
-pub sizes_none : (notes : List (Body × Note)) (t : List Item) → notes ≡ [] → SizesOf notes (take 0 t)
-sizes_none notes t none = subst (λ (n : List (Body × Note)). SizesOf n (take 0 t)) (sym none) (λ body. refl)

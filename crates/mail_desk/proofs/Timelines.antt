@@ -1,5 +1,5 @@
 -- The numbers of timelines.
-use Rattle.std.proofs.Common.{◌≡◌, ◌≢◌, ℕ, zero, suc, ◌+◌, ◌<◌, ◌≤◌, ◌==◌, Bool, true, false, not, cond, List, [], ◌∷◌, ◌++◌, length, get_or, take, filter, None, Some, refl, ap, sym, subst, ◌∙◌, arith}
+use Rattle.std.proofs.Common.{◌≡◌, ◌≢◌, ℕ, zero, suc, ◌+◌, ◌<◌, ◌≤◌, ◌==◌, Bool, true, false, not, cond, List, [], ◌∷◌, ◌++◌, length, get_or, filter, None, Some, refl, ap, sym, subst, ◌∙◌, arith}
 use Rattle.std.specs.List.{AllByRecursion}
 use Rattle.std.proofs.lemmas.Bool.Decides.{nat_tests}
 use Rattle.std.proofs.lemmas.List.Elements.{All-from_recursion}
@@ -32,15 +32,6 @@ others_below next [] i below is = tt
 others_below next (j ∷ t) i below is =
     let first : j.number < next = below.0 in
     ((λ e. let wrong : i.number ≡ j.number = e in absurd (omega arith)), others_below next t i below.1 is)
-
--- so is that of each item but those behind it
-pub others_before : (t : List Item) → NumbersApart t → (place : ℕ) (i : Item) → place < length t → i ≡ get_or t place i → AllByRecursion (λ (j : Item). i.number ≢ j.number) (take place t)
-others_before [] apart place i within is = absurd (omega arith)
-others_before (j ∷ t) apart zero i within is = tt
-others_before (j ∷ t) apart (suc place) i within is =
-    let inside : place < length t = omega arith in
-    let other : j.number ≢ (get_or t place i).number = All-from_recursion (λ (k : Item). j.number ≢ k.number) t apart.0 place i inside in
-    ((λ e. other (sym e ∙ ap (λ (k : Item). k.number) is)), others_before t apart.1 place i inside is)
 
 -- and above all before
 pub lower : (next : ℕ) (t : List Item) (i : Item) → AllByRecursion (λ (j : Item). j.number < next) t → i.number ≡ next → AllByRecursion (λ (j : Item). j.number < i.number) t

@@ -1,5 +1,6 @@
 pub mod Timeline
 pub mod Places
+pub mod Sizing
 pub mod Desk
 pub mod Held
 pub mod Entering

@@ -1,11 +1,13 @@
 -- A text that comes line by line is the text that its lines make.
 use Rattle.std.proofs.Common.{◌≡◌, ℕ, ◌+◌, ◌≤◌, ◌<◌, Bool, true, false, ◌==◌, List, [], ◌∷◌, ◌++◌, length, map, refl, ap, sym, ◌∙◌, arith, nat_le}
-use Rattle.std.proofs.lemmas.List.{length-append, length-take-le, append_assoc, append-nil, take_all}
-use Rattle.std.proofs.lemmas.Bool.{leb-true, leb-false, lt-leb}
-use Rattle.std.specs.Prelude.{Option, None, Some, if◌then◌else◌}
+use Rattle.std.proofs.lemmas.List.{length-append, append_assoc, append-nil, take_all}
+use Rattle.std.proofs.lemmas.Bool.{leb-false, lt-leb}
+use Rattle.std.proofs.lemmas.Bool.Decides.{nat_tests}
+use Rattle.std.specs.Prelude.{Option, None, Some, nat_lt, take, if◌then◌else◌}
+use Rattle.smtp_lines.specs.Line.{kept_of}
 use Rattle.smtp_lines.specs.Stuffing.{unstuffed}
 use Rattle.smtp_session.specs.Bytes.{crlf, said}
-use Rattle.smtp_session.specs.Text.{add_line, fits, kept_bytes, text_after, text_of}
+use Rattle.smtp_session.specs.Text.{add_line, add_whole, fits, text_after, text_of}
 
 -- a text that is too large is none
 too_large : (text : List ℕ) → 1048576 < length text → fits text ≡ None
@@ -23,27 +25,28 @@ unstuffed_long (b ∷ line) = omega (arith, unstuffed_by b line (b == 46))
 said_long : (text line : List ℕ) → length text + length line + 1 ≤ length (text ++ said (unstuffed line))
 said_long text line = omega (arith, unstuffed_long line, length-append text (said (unstuffed line)), length-append (unstuffed line) crlf)
 
--- one line, which fits in what is kept or not
-one_by : (text line : List ℕ) (t : Bool) → nat_le (length line) 1048576 ≡ t → fits (text ++ said (unstuffed (kept_bytes line))) ≡ fits (text ++ said (unstuffed line))
-one_by text line true e = ap (λ (l : List ℕ). fits (text ++ said (unstuffed l))) (take_all 1048576 line (leb-true (length line) 1048576 e))
-one_by text line false e =
-    let long = leb-false (length line) 1048576 e in
-    let kept : length (kept_bytes line) ≡ 1048576 = length-take-le 1048576 line (omega (arith, long)) in
-    too_large (text ++ said (unstuffed (kept_bytes line))) (omega (arith, kept, said_long text (kept_bytes line)))
-    ∙ sym (too_large (text ++ said (unstuffed line)) (omega (arith, long, said_long text line)))
-
-add_by : (text line : List ℕ) (t : Bool) → nat_le (length text) 1048576 ≡ t → add_line (fits text) (kept_bytes line) ≡ fits (text ++ said (unstuffed line))
-add_by text line true e =
-    ap (λ (b : Bool). add_line (if b then Some text else None) (kept_bytes line)) e ∙ one_by text line (nat_le (length line) 1048576) refl
-add_by text line false e =
-    ap (λ (b : Bool). add_line (if b then Some text else None) (kept_bytes line)) e
+-- a line that is whole
+whole_by : (text line : List ℕ) (t : Bool) → nat_le (length text) 1048576 ≡ t → add_whole (fits text) line ≡ fits (text ++ said (unstuffed line))
+whole_by text line true e = ap (λ (b : Bool). add_whole (if b then Some text else None) line) e
+whole_by text line false e =
+    ap (λ (b : Bool). add_whole (if b then Some text else None) line) e
     ∙ sym (too_large (text ++ said (unstuffed line)) (omega (arith, leb-false (length text) 1048576 e, length-append text (said (unstuffed line)))))
 
-after : (text : List ℕ) (lines : List (List ℕ)) → text_after (fits text) (map kept_bytes lines) ≡ fits (text ++ text_of lines)
+-- a line as it is kept, which was cut or not
+add_by : (text line : List ℕ) (t : Bool) → nat_lt 1048576 (length line) ≡ t → add_line (fits text) (kept_of line) ≡ fits (text ++ said (unstuffed line))
+add_by text line true e =
+    let long : 1048576 < length line = grind (arith, nat_tests, e) in
+    ap (λ (b : Bool). if b then None else add_whole (fits text) (take 1048576 line)) e ∙ sym (too_large (text ++ said (unstuffed line)) (omega (arith, long, said_long text line)))
+add_by text line false e =
+    let short : length line ≤ 1048576 = grind (arith, nat_tests, e) in
+    ap (λ (b : Bool). if b then None else add_whole (fits text) (take 1048576 line)) e ∙ ap (λ (l : List ℕ). add_whole (fits text) l) (take_all 1048576 line short)
+    ∙ whole_by text line (nat_le (length text) 1048576) refl
+
+after : (text : List ℕ) (lines : List (List ℕ)) → text_after (fits text) (map kept_of lines) ≡ fits (text ++ text_of lines)
 after text [] = ap fits (sym (append-nil text))
 after text (line ∷ lines) =
-    ap (λ (o : Option (List ℕ)). text_after o (map kept_bytes lines)) (add_by text line (nat_le (length text) 1048576) refl)
+    ap (λ (o : Option (List ℕ)). text_after o (map kept_of lines)) (add_by text line (nat_lt 1048576 (length line)) refl)
     ∙ after (text ++ said (unstuffed line)) lines ∙ ap fits (append_assoc text (said (unstuffed line)) (text_of lines))
 
-pub whole_text : (lines : List (List ℕ)) → text_after (Some []) (map kept_bytes lines) ≡ fits (text_of lines)
+pub whole_text : (lines : List (List ℕ)) → text_after (Some []) (map kept_of lines) ≡ fits (text_of lines)
 whole_text lines = after [] lines

@@ -16,7 +16,7 @@ use Rattle.smtp_session.specs.declared.dialog.Transaction.{Transaction}
 use Rattle.smtp_session.specs.declared.dialog.Transaction.TheVariants.{Idle, Begun, Writing, Due}
 use Rattle.smtp_session.specs.Bytes.{said}
 use Rattle.smtp_session.specs.Body.{body_of}
-use Rattle.smtp_session.specs.Text.{add_line, fits}
+use Rattle.smtp_session.specs.Text.{add_line, add_whole, fits}
 use Rattle.smtp_session.specs.Recipients.{put_once, is_here}
 use Rattle.smtp_session.specs.Dialog.{Turn, begin, end_text, has_recipient, obey, receive, take_text, turn, turn_in, turns, write}
 use Rattle.smtp_session.specs.Limits.{AsksWithin, IsSmall, IsWithin}
@@ -90,9 +90,16 @@ some_if false text f = tt
 fits_small : (text : List ℕ) → IfSome (fits text) (λ t. length t ≤ 1048576)
 fits_small text = some_if (nat_le (length text) 1048576) text (leb-true (length text) 1048576)
 
-add_line_small : (text : Option (List ℕ)) (line : List ℕ) → IfSome (add_line text line) (λ t. length t ≤ 1048576)
-add_line_small None line = tt
-add_line_small (Some text) line = fits_small (text ++ said (unstuffed line))
+add_whole_small : (text : Option (List ℕ)) (line : List ℕ) → IfSome (add_whole text line) (λ t. length t ≤ 1048576)
+add_whole_small None line = tt
+add_whole_small (Some text) line = fits_small (text ++ said (unstuffed line))
+
+unless_long : (b : Bool) (text : Option (List ℕ)) → IfSome text (λ t. length t ≤ 1048576) → IfSome (if b then None else text) (λ t. length t ≤ 1048576)
+unless_long true text h = tt
+unless_long false text h = h
+
+add_line_small : (text : Option (List ℕ)) (line : SmtpLine) → IfSome (add_line text line) (λ t. length t ≤ 1048576)
+add_line_small text line = unless_long line.long (add_whole text line.bytes) (add_whole_small text line.bytes)
 
 small_end : (house : House) (client : Option (List ℕ)) (t : Transaction) (path : List ℕ) (to : List (List ℕ)) (body : Option (List ℕ)) → Client client
     → IsSmall (end_text house (record { client = client; transaction = t }) path to body).dialog
@@ -100,11 +107,11 @@ small_end house client t path to None h = small client Idle h tt
 small_end house client t path to (Some body) h = small client (Due house.host) h tt
 
 -- a line of a text keeps them
-small_text : (house : House) (at : ℕ) (client : Option (List ℕ)) (path : List ℕ) (to : List (List ℕ)) (text : Option (List ℕ)) (line : List ℕ)
+small_text : (house : House) (at : ℕ) (client : Option (List ℕ)) (path : List ℕ) (to : List (List ℕ)) (text : Option (List ℕ)) (line : SmtpLine)
     → Client client → IsWithin (Writing path to text)
     → IsSmall (take_text house at (record { client = client; transaction = Writing path to text }) path to text line).dialog
 small_text house at client path to text line h k =
-    small_if (bytes_eq line (codes ".")) _ _ (λ _. small_end house client (Writing path to text) path to _ h)
+    small_if (bytes_eq line.bytes (codes ".")) _ _ (λ _. small_end house client (Writing path to text) path to _ h)
     (λ _. small client (Writing path to (add_line text line)) h (k.0, (k.1.0, add_line_small text line)))
 
 small_turn_in : (house : House) (conf : Conf) (at : ℕ) (client : Option (List ℕ)) (t : Transaction) (line : SmtpLine) → Client client → IsWithin t
@@ -112,7 +119,7 @@ small_turn_in : (house : House) (conf : Conf) (at : ℕ) (client : Option (List 
 small_turn_in house conf at client Idle line h k = small_obey house conf client Idle (command_of line) h k (small_reading line)
 small_turn_in house conf at client (Begun path to) line h k = small_obey house conf client (Begun path to) (command_of line) h k (small_reading line)
 small_turn_in house conf at client (Due host) line h k = small_obey house conf client (Due host) (command_of line) h k (small_reading line)
-small_turn_in house conf at client (Writing path to text) line h k = small_text house at client path to text line.bytes h k
+small_turn_in house conf at client (Writing path to text) line h k = small_text house at client path to text line h k
 
 -- a turn keeps a dialog within the limits
 pub small_turn : (house : House) (conf : Conf) (at : ℕ) (d : Dialog) (line : SmtpLine) → IsSmall d → IsSmall (turn house conf at d line).dialog

@@ -101,14 +101,14 @@ end_text house d path to None = says house TextTooLarge (with_transaction d Idle
 end_text house d path to (Some body) = turns (Asks (Deliver path to body)) (with_transaction d (Due house.host))
 
 -- a line of a text
-abbrev pub take_text : House → ℕ → Dialog → List ℕ → List (List ℕ) → Option (List ℕ) → List ℕ → Turn
+abbrev pub take_text : House → ℕ → Dialog → List ℕ → List (List ℕ) → Option (List ℕ) → SmtpLine → Turn
 take_text house at d path to text line =
-    if bytes_eq line (codes ".") then end_text house d path to (option_map (body_of house.host at (unwrap_or d.client []) path) text)
+    if bytes_eq line.bytes (codes ".") then end_text house d path to (option_map (body_of house.host at (unwrap_or d.client []) path) text)
     else turns Nothing (with_transaction d (Writing path to (add_line text line)))
 
 -- one line, by the state of the transaction
 abbrev pub turn_in : House → Conf → ℕ → Dialog → Transaction → SmtpLine → Turn
-turn_in house conf at d (Writing path to text) line = take_text house at d path to text line.bytes
+turn_in house conf at d (Writing path to text) line = take_text house at d path to text line
 turn_in house conf at d Idle line = obey house conf d (command_of line)
 turn_in house conf at d (Begun path to) line = obey house conf d (command_of line)
 turn_in house conf at d (Due host) line = obey house conf d (command_of line)

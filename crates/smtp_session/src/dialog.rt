@@ -116,12 +116,11 @@ pub(crate) fn take_line(
 {
     match &mut dialog.transaction {
         Transaction::Writing { path, to: _, text } => {
-            let bytes = line.bytes.bytes();
-            if bytes == b".".as_slice() {
+            if line.bytes.bytes() == b".".as_slice() {
                 let body = end_draft(alloc, &house.host, at, dialog.client.as_ref(), path, text)?;
                 end_transaction(alloc, &house.host, &mut dialog.transaction, body)
             } else {
-                push_line(alloc, text, bytes)?;
+                push_line(alloc, text, line)?;
                 Ok(SmtpOut::Nothing)
             }
         }

@@ -2,10 +2,10 @@
 ghost use Rattle.std.specs.Prelude.{◌≡◌, ◌++◌, IfOk, OnOk, OnErr, length, ◌≤◌, option_map, option_copied, unwrap_or, []};
 ghost use Rattle.smtp_session.specs.Bytes.{said};
 ghost use Rattle.smtp_session.specs.Body.{body_of};
-ghost use Rattle.smtp_session.specs.Text.{add_line};
+ghost use Rattle.smtp_session.specs.Text.{add_line, add_whole};
 
 use crate::body::make_body;
-use smtp_lines::unstuff;
+use smtp_lines::{SmtpLine, unstuff};
 use std::alloc::Global;
 use undo_base::{LAST_MOMENT, MOST_LITERAL, Name, NoMemory, Text};
 
@@ -18,9 +18,9 @@ fn ended(alloc: Global, line: &[u8]) -> Result<Text, NoMemory>
     Ok(bytes)
 }
 
-/// Adds a line to a text, which is none once it has more than `MOST_LITERAL` octets.
-pub(crate) fn push_line(alloc: Global, text: &mut Option<Text>, line: &[u8]) -> Result<(), NoMemory>
-    ensures ok { OnOk result (text.new ≡ add_line text.old line.now) }
+/// Adds a whole line to a text, which is none once it has more than `MOST_LITERAL` octets.
+fn push_whole(alloc: Global, text: &mut Option<Text>, line: &[u8]) -> Result<(), NoMemory>
+    ensures ok { OnOk result (text.new ≡ add_whole text.old line.now) }
     ensures err { OnErr result (text.new ≡ text.old) }
 {
     let Some(held) = text else {
@@ -33,6 +33,22 @@ pub(crate) fn push_line(alloc: Global, text: &mut Option<Text>, line: &[u8]) -> 
     }
     let bytes = ended(alloc, line)?;
     held.extend(bytes.bytes())
+}
+
+/// Adds a line to a text. One that was cut makes the text too large.
+pub(crate) fn push_line(
+    alloc: Global,
+    text: &mut Option<Text>,
+    line: &SmtpLine,
+) -> Result<(), NoMemory>
+    ensures ok { OnOk result (text.new ≡ add_line text.old line.now) }
+    ensures err { OnErr result (text.new ≡ text.old) }
+{
+    if line.long {
+        *text = None;
+        return Ok(());
+    }
+    push_whole(alloc, text, line.bytes.bytes())
 }
 
 /// The body of a text that has ended; none where the text was too large.

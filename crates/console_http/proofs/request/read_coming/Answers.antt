@@ -1,4 +1,5 @@
 use Rattle.console_http.proofs.Asking.{asks_of, asks_refused, learns_of}
+use Rattle.console_http.proofs.Bodies.{target_is_text}
 use Rattle.console_http.proofs.request.read_coming.Goals as goal
 
 pub returns-in-Ok-clause-asks : goal.returns-in-Ok-clause-asks
@@ -10,3 +11,6 @@ returns-in-Err-clause-asks c = rw c.head_refused.ensures (asks_refused c.args.ho
 pub returns-in-Ok-clause-learns : goal.returns-in-Ok-clause-learns
 returns-in-Ok-clause-learns c =
     learns_of c.args.house.now c.read.new.self c.args.bytes.now c.in-Ok.request c.read_asked.result c.read_asked.ensures c.in-Ok.ensures.learnt
+
+pub read_asked-requires-clause-text : goal.read_asked-requires-clause-text
+read_asked-requires-clause-text c = target_is_text c.args.bytes.now c.in-Ok.request c.in-Ok.ensures.says

@@ -3,17 +3,17 @@ use Rattle.console_replies.specs.Bodies.{number_data}
 use Rattle.console_session.specs.declared.reply.After.TheVariants.{Closes}
 use Rattle.console_session.specs.Answers.{answer}
 use Rattle.console_session.specs.Hearing.{TellsOnly}
-use Rattle.console_session.proofs.Turns.{done_turn, fault_turn}
+use Rattle.console_session.proofs.Turns.{act_done, act_not_done}
 use Rattle.console_session.proofs.act.act.Goals as goal
 
 pub returns-in-Ok : goal.returns-in-Ok
 returns-in-Ok g c =
     let says = c.tell_only.ensures (number_data c.in-Ok.number) c.number_json.ensures in
-    done_turn g.D.Disk.told c.args.at c.args.asked c.args.desk.now c.act.new.self c.tell_only.result
+    act_done g.D.Disk.told c.args.at c.args.asked c.args.desk.now c.act.new.self c.tell_only.result
     (subst (λ (n : ℕ). TellsOnly (answer 200 (number_data n)) Closes c.tell_only.result) c.in-Ok.ensures.number says)
     c.in-Ok.ensures.ok c.in-Ok.ensures.sealed
 
 pub returns-in-Err : goal.returns-in-Err
 returns-in-Err g c =
-    fault_turn g.D.Disk.told c.seals_join.ensures.nothing c.args.at c.args.asked c.args.desk.now c.act.new.self c.in-Err.fault c.tell_fault.result
+    act_not_done g.D.Disk.told c.seals_join.ensures.nothing c.args.at c.args.asked c.args.desk.now c.act.new.self c.in-Err.fault c.tell_fault.result
     c.in-Err.ensures.why c.in-Err.ensures.err c.tell_fault.ensures

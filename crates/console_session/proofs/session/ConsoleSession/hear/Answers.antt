@@ -1,11 +1,11 @@
 use Rattle.std.proofs.Common.{◌≡◌, ℕ, List, ◌++◌, ap, ◌∙◌, subst}
 use Rattle.verb_core.specs.declared.conf.House.{House}
 use Rattle.console_http.specs.Requests.{AskKnows, Asks}
-use Rattle.console_session.proofs.Turns.{heard}
+use Rattle.console_session.proofs.Turns.{heard, serves_closed}
 use Rattle.console_session.proofs.session.ConsoleSession.hear.Goals as goal
 
 pub serve-requires-clause-known : goal.serve-requires-clause-known
-serve-requires-clause-known g c =
+serve-requires-clause-known g c κs within =
     subst (λ (h : House). AskKnows h c.read_coming-asked.result) c.house.ensures.value
     (c.acts_name_known_users.ensures c.house.result.now c.bytes.result.now c.read_coming-asked.result c.read_coming-asked.ensures.asks)
 
@@ -17,3 +17,7 @@ returns-clause-heard g c =
     (subst (λ (l : List ℕ). Asks c.args.desk.now.kept.house l c.read_coming-asked.result) came
     (subst (λ (h : House). Asks h c.bytes.result.now c.read_coming-asked.result) c.house.ensures.value c.read_coming-asked.ensures.asks))
     c.serve.ensures
+
+pub returns-clause-closed : goal.returns-clause-closed
+returns-clause-closed g c =
+    serves_closed g.D.Disk.told c.args.at c.read_coming-asked.result c.args.desk.now c.serve.new.desk c.serve.result c.requires.open c.serve.ensures

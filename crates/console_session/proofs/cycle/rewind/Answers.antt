@@ -1,0 +1,18 @@
+use Rattle.std.proofs.Common.{subst}
+use Rattle.verb_core.specs.declared.conf.House.{House}
+use Rattle.console_replies.specs.Reports.{report_data}
+use Rattle.console_session.specs.declared.reply.After.TheVariants.{Rewinds}
+use Rattle.console_session.specs.Answers.{answer}
+use Rattle.console_session.specs.Hearing.{TellsOnly}
+use Rattle.console_session.proofs.Turns.{cycle_done, cycle_not_done}
+use Rattle.console_session.proofs.cycle.rewind.Goals as goal
+
+pub returns-in-Ok : goal.returns-in-Ok
+returns-in-Ok g c =
+    cycle_done g.D.Disk.told c.args.at c.args.ask c.in-Ok.report c.args.desk.now c.rewind_desk.new.desk c.tell_only.result c.requires.fresh c.in-Ok.ensures.done
+    (subst (λ (h : House). TellsOnly (answer 200 (report_data h c.in-Ok.report)) Rewinds c.tell_only.result) c.house.ensures.value
+    (c.tell_only.ensures (report_data c.house.result.now c.in-Ok.report) c.report_json.ensures))
+
+pub returns-in-Err : goal.returns-in-Err
+returns-in-Err g c =
+    cycle_not_done g.D.Disk.told c.seals_join.ensures.nothing c.args.at c.args.ask c.args.desk.now c.rewind_desk.new.desk c.in-Err.fault c.tell_fault.result c.in-Err.ensures.why c.tell_fault.ensures

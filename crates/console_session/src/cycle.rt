@@ -1,0 +1,162 @@
+//! Cycles: sealed, put in place and then answered; or only tried.
+ghost use Rattle.std.specs.Prelude.{◌≡◌, ◌≤◌, ◌<◌, IfOk, IfErr, IsTrue, None, Ok, false};
+ghost use Rattle.serde_json.specs.Data.{Data};
+ghost use Rattle.serde_json.specs.Written.{compact_text};
+ghost use Rattle.paradox.specs.Kept.{report_of};
+ghost use Rattle.repair_desk.specs.Repairs.{are_known};
+ghost use Rattle.time_desk.specs.Cycling.{Cycles, CyclesNone};
+ghost use Rattle.console_replies.specs.Reports.{report_data};
+ghost use Rattle.console_http.specs.declared.request.Asked.TheVariants.{Whole};
+ghost use Rattle.console_http.specs.declared.request.Route.TheVariants as route;
+ghost use Rattle.console_session.specs.Answers.{answer};
+ghost use Rattle.console_session.specs.Hearing.{Serves, Tells, TellsCycleFault};
+ghost use Rattle.console_session.specs.declared.reply.After.TheVariants as after;
+
+use crate::reply::{After, Reply, starve, tell, tell_only};
+use box_store::Steps;
+use console_replies::{ErrorWord, error_json, numbers_json, point_json, report_json};
+use paradox::Report;
+use std::alloc::Global;
+use std::marker::Brand;
+use std::sync::ledger::{Blank, Ledger};
+use std::thread::Threads;
+use time_desk::laws::seals_join;
+use time_desk::{CycleFault, Desk};
+use undo_base::LAST_MOMENT;
+use undo_outside::{Disk, Gate};
+use verb_bytes::CycleAsk;
+
+/// Tells why a cycle was not done.
+fn tell_fault(alloc: Global, fault: CycleFault) -> Reply
+    requires { fault ≡ CycleFault.Closed → ⊥ }
+    ensures { TellsCycleFault fault result }
+{
+    match fault {
+        CycleFault::Point { given } => { tell(alloc, 422, point_json(alloc, given), After::Closes) }
+        CycleFault::Numbers { next } => tell(alloc, 507, numbers_json(alloc, next), After::Closes),
+        CycleFault::Disk => {
+            tell_only(alloc, 500, error_json(alloc, ErrorWord::Disk), After::Fails)
+        }
+        CycleFault::NoMemory => starve(alloc),
+        CycleFault::Closed => unreachable!(),
+    }
+}
+
+/// Tells the report of a cycle that changes nothing now.
+fn tell_report<D: Disk>(alloc: Global, desk: &Desk<D>, report: &Report) -> Reply
+    ensures { Tells (answer 200 (report_data desk.now.kept.house report.now)) after.Closes result }
+{
+    tell(
+        alloc,
+        200,
+        report_json(alloc, report, desk.house()),
+        After::Closes,
+    )
+}
+
+/// Asks the desk for a cycle over a counter that is made of the blank ledger.
+fn rewind_over<D: Disk, R: Threads + Sync, G: Gate, L: Ledger>(
+    rt: &R,
+    alloc: Global,
+    desk: &mut Desk<D>,
+    at: u64,
+    ask: CycleAsk,
+    gate: &G,
+    blank: Blank,
+) -> Result<Report, CycleFault>
+    requires name { blank.name ≡ L.name }
+    requires parts { blank.parts ≡ L.parts }
+    requires some { 0 < blank.parts }
+    requires moment { at ≤ LAST_MOMENT }
+    requires known { IsTrue (are_known desk.old.kept.house ask.inserts) }
+    ensures done { IfOk result (λ report. Cycles D.told at ask desk.old desk.new report) }
+    ensures why { IfErr result (λ fault. CyclesNone D.told at ask desk.old desk.new fault) }
+{
+    let mut steps: Steps<L> = Steps::new(blank);
+    desk.cycle(rt, alloc, at, ask, gate, &mut steps)
+}
+
+/// Asks the desk for a cycle, and counts nothing.
+fn rewind_desk<D: Disk, R: Threads + Sync, G: Gate>(
+    rt: &R,
+    alloc: Global,
+    desk: &mut Desk<D>,
+    at: u64,
+    ask: CycleAsk,
+    gate: &G,
+) -> Result<Report, CycleFault>
+    requires moment { at ≤ LAST_MOMENT }
+    requires known { IsTrue (are_known desk.old.kept.house ask.inserts) }
+    ensures done { IfOk result (λ report. Cycles D.told at ask desk.old desk.new report) }
+    ensures why { IfErr result (λ fault. CyclesNone D.told at ask desk.old desk.new fault) }
+{
+    rewind_over::<D, R, G, Brand>(rt, alloc, desk, at, ask, gate, Blank::new(1))
+}
+
+/// A cycle under a new key.
+fn rewind<D: Disk, R: Threads + Sync, G: Gate>(
+    rt: &R,
+    alloc: Global,
+    desk: &mut Desk<D>,
+    at: u64,
+    ask: CycleAsk,
+    gate: &G,
+) -> Reply
+    requires open { desk.old.closed ≡ false }
+    requires moment { at ≤ LAST_MOMENT }
+    requires known { IsTrue (are_known desk.old.kept.house ask.inserts) }
+    requires fresh { report_of desk.old.kept.reports ask.key ≡ None }
+    ensures { Serves D.told at (Ok (Whole (route.Cycle ask))) desk.old desk.new result }
+{
+    seals_join::<D>();
+    match rewind_desk(rt, alloc, desk, at, ask, gate) {
+        Ok(report) => tell_only(
+            alloc,
+            200,
+            report_json(alloc, &report, desk.house()),
+            After::Rewinds,
+        ),
+        Err(fault) => tell_fault(alloc, fault),
+    }
+}
+
+/// POST /cycle. A key that an earlier cycle had is answered with that cycle's report.
+pub fn cycle<D: Disk, R: Threads + Sync, G: Gate>(
+    rt: &R,
+    alloc: Global,
+    desk: &mut Desk<D>,
+    at: u64,
+    ask: CycleAsk,
+    gate: &G,
+) -> Reply
+    requires open { desk.old.closed ≡ false }
+    requires moment { at ≤ LAST_MOMENT }
+    requires known { IsTrue (are_known desk.old.kept.house ask.inserts) }
+    ensures { Serves D.told at (Ok (Whole (route.Cycle ask))) desk.old desk.new result }
+{
+    seals_join::<D>();
+    match desk.report(&ask.key) {
+        Some(report) => tell_report(alloc, desk, report),
+        None => rewind(rt, alloc, desk, at, ask, gate),
+    }
+}
+
+/// POST /try.
+pub fn try_cycle<D: Disk, R: Threads + Sync, G: Gate>(
+    rt: &R,
+    alloc: Global,
+    desk: &mut Desk<D>,
+    at: u64,
+    ask: &CycleAsk,
+    gate: &G,
+) -> Reply
+    requires moment { at ≤ LAST_MOMENT }
+    requires known { IsTrue (are_known desk.old.kept.house ask.now.inserts) }
+    ensures { Serves D.told at (Ok (Whole (route.Try ask.now))) desk.old desk.new result }
+{
+    seals_join::<D>();
+    match desk.try_cycle(rt, alloc, at, ask, gate) {
+        Ok(report) => tell_report(alloc, desk, &report),
+        Err(fault) => tell_fault(alloc, fault),
+    }
+}
