@@ -8,16 +8,18 @@ use Rattle.verb_bytes.specs.declared.journal.JournalRecord.TheVariants.{Format, 
 use Rattle.paradox.specs.Kept.{Kept, performed}
 use Rattle.time_desk.specs.Lasting.{Lasting}
 use Rattle.verb_core.specs.Deeds.{act_item}
-use Rattle.time_desk.specs.Records.{after_item, after_record, after_records, can_follow, is_spelled}
+use Rattle.verb_bytes.specs.declared.journal.CycleAsk.{CycleAsk}
+use Rattle.mail_cycle.specs.Asking.{Due, Repeats, NoPoint, NoNumbers, Rewinds as IsCycle, after_cycle, cycle_due}
+use Rattle.time_desk.specs.Records.{after_due, after_item, after_record, after_records, can_follow, can_rewind, is_spelled}
 use Rattle.console_session.specs.declared.reply.After.{After}
-use Rattle.console_session.specs.declared.reply.After.TheVariants.{Waits, Closes, Stops, Fails}
+use Rattle.console_session.specs.declared.reply.After.TheVariants.{Waits, Closes, Stops, Fails, Rewinds}
 use Rattle.console_session.specs.declared.reply.Reply.{Reply}
 use Rattle.console_session.specs.Hearing.{Hears, IsUnfed, AreServed}
 use Rattle.console_session.specs.Hindrance as console
 use Rattle.console_session.specs.Turn.{asked_of}
 use Rattle.mail_loop.specs.State.{State, Http}
 use Rattle.mail_loop.specs.Asked.{HaveSealed}
-use Rattle.mail_loop.specs.ConsoleTurn.{Reading, left_by, of_console, stops_by}
+use Rattle.mail_loop.specs.ConsoleTurn.{Reading, left_by, of_console, rewinds_by, stops_by}
 use Rattle.mail_loop.specs.Hindrance.{Hindrance, Clear, Refused, Unheard, Unanswered, Unsealed, Untold}
 use Rattle.mail_loop.specs.Machine.{Seats, heard}
 use Rattle.mail_loop.specs.Took.{answered_alone, turned_as}
@@ -49,21 +51,24 @@ by_after : (conn : ℕ) (said : List ℕ) (after : After) (kept : Kept) (seats :
       state = record { kept = kept; seats = seats };
       seat = option_map Http (left_by after all);
       changed = [];
+      rewound = rewinds_by after;
       unsealed = failed;
       consoles = record { readings = readings; stops = stops_by after };
-    }) ≡ answered_alone conn (turned_as conn (record { said = said; after = after })).reply kept failed (record { readings = readings; stops = stops_by after }) (Http came) seats
+    }) ≡ answered_alone conn (turned_as conn (record { said = said; after = after })) kept failed readings (Http came) seats
 by_after conn said Waits kept seats failed readings all came waits =
     ap (λ (b : List ℕ). heard conn (record {
       said = said;
       state = record { kept = kept; seats = seats };
       seat = Some (Http b);
       changed = [];
+      rewound = false;
       unsealed = failed;
       consoles = record { readings = readings; stops = false };
     })) (sym (waits refl))
 by_after conn said Closes kept seats failed readings all came waits = refl
 by_after conn said Stops kept seats failed readings all came waits = refl
 by_after conn said Fails kept seats failed readings all came waits = refl
+by_after conn said Rewinds kept seats failed readings all came waits = refl
 
 -- what a console's session made of its bytes is what the machine makes of them
 pub console_heard : {D : Type 0} → (told : D → DiskTold) → Nothing told → (at : ℕ) (came came' bytes : List ℕ) (conn : ℕ) (seats : Seats) (old new : Lasting D) (r : Reply)
@@ -93,12 +98,13 @@ console_heard {D} told nothing at came came' bytes conn seats old new r (AreServ
             state = record { kept = u.kept; seats = seats };
             seat = option_map Http (left_by u.after (came ++ bytes));
             changed = [];
+            rewound = rewinds_by u.after;
             unsealed = u.unsealed;
             consoles = record { readings = readings; stops = stops_by u.after };
           })) (as_it_is serves.hindrance)
           ∙ by_after conn t.said t.after t.kept seats t.unsealed readings (came ++ bytes) came' (λ e. waits (ap (λ (q : Reply). q.after) turn.reply_is ∙ e))
-          ∙ ap (λ (q : Reply). answered_alone conn (turned_as conn q).reply t.kept t.unsealed (record { readings = readings; stops = stops_by q.after }) (Http came') seats) (sym turn.reply_is)
-          ∙ ap (λ (k : Kept). answered_alone conn (turned_as conn r).reply k t.unsealed (record { readings = readings; stops = stops_by r.after }) (Http came') seats) (sym turn.kept),
+          ∙ ap (λ (q : Reply). answered_alone conn (turned_as conn q) t.kept t.unsealed readings (Http came') seats) (sym turn.reply_is)
+          ∙ ap (λ (k : Kept). answered_alone conn (turned_as conn r) k t.unsealed readings (Http came') seats) (sym turn.kept),
     )
 
 -- ---- the house
@@ -113,11 +119,23 @@ house_after_item kept new what item e = sym (ap (λ (k : Kept). k.house) (some_i
 none_is : {A : Type 0} → (x : A) → ◌≡◌ {A = Option A} None (Some x) → ⊥
 none_is x e = let wrong = e in cc
 
+-- a cycle leaves the house as it is
+house_after_due : (kept new : Kept) (ask : CycleAsk) (due : Due) → after_due kept ask due ≡ Some new → new.house ≡ kept.house
+house_after_due kept new ask (IsCycle due) e = sym (ap (λ (k : Kept). k.house) (some_is true (after_cycle kept ask due) new e))
+house_after_due kept new ask (Repeats report) e = absurd (none_is new e)
+house_after_due kept new ask NoPoint e = absurd (none_is new e)
+house_after_due kept new ask NoNumbers e = absurd (none_is new e)
+
+house_if : (b : Bool) (kept new : Kept) (o : Option Kept) → (o ≡ Some new → new.house ≡ kept.house) → cond b o None ≡ Some new → new.house ≡ kept.house
+house_if true kept new o same e = same e
+house_if false kept new o same e = absurd (none_is new e)
+
 house_after_record : (kept new : Kept) (what : JournalRecord) → after_record kept what ≡ Some new → new.house ≡ kept.house
 house_after_record kept new (Verb item) e = house_after_item kept new (Verb item) item e
 house_after_record kept new (Operator number at act) e = house_after_item kept new (Operator number at act) (act_item number at act) e
 house_after_record kept new (Format house conf) e = absurd (none_is new e)
-house_after_record kept new (Cycle number at ask) e = absurd (none_is new e)
+house_after_record kept new (Cycle number at ask) e =
+    house_if (is_spelled (Cycle number at ask) && can_rewind kept number ask) kept new (after_due kept ask (cycle_due kept at ask)) (house_after_due kept new ask (cycle_due kept at ask)) e
 house_after_record kept new (Snapshot items conf rows) e = absurd (none_is new e)
 
 house_step : (kept new : Kept) (r : JournalRecord) (rs : List JournalRecord) (o : Option Kept) → after_record kept r ≡ o

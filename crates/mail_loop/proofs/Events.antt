@@ -13,7 +13,7 @@ use Rattle.paradox.specs.Kept.{Kept}
 use Rattle.verb_bytes.specs.declared.journal.JournalRecord.{JournalRecord}
 use Rattle.mail_loop.specs.State.{Seat, State}
 use Rattle.mail_loop.specs.Hindrance.{Hindrance}
-use Rattle.mail_loop.specs.Machine.{Seats, Delivery, closed_others, ignored, unfed, with_reply, Hindrances, Reply, Answered, answered, hears_at, seat_at, seated, after_reply, delivered, happens}
+use Rattle.mail_loop.specs.Machine.{Seats, Delivery, told_others, ignored, unfed, with_reply, Hindrances, Reply, Answered, answered, hears_at, seat_at, seated, after_reply, delivered, happens}
 use Rattle.mail_loop.specs.Stands.{reply_of}
 use Rattle.mail_loop.specs.Took.{seat_left}
 use Rattle.mail_loop.specs.Did.{AreLicensed, Sends, Leads, Answers, unclosed_by}
@@ -60,7 +60,7 @@ pub bytes_heard : {T : Type 0} → (S : List JournalRecord → Type 0) (conn at 
     → lent ≡ set_value (is_at (nat_cmp conn)) es s'
     → es' ≡ after_reply (not turned.reply.closes) conn lent
     → ((seats : Seats) → HeardAlone S at kept seats conn s bytes turned kept' s')
-    → view answer ≡ with_reply (reply_of turned.reply) (closed_others conn turned.reply.changed es')
+    → view answer ≡ with_reply (reply_of turned.reply) (told_others conn turned.rewound turned.reply.changed es')
     → stops answer ≡ turned.stops
     → (b : Bool) × (hs : List Hindrance) × (stage : Stage)
     × Answers S (hears_at (seat_at conn es) b hs stage at (record { kept = kept; seats = es }) conn bytes) kept' es' view stops (Ok answer)
@@ -72,7 +72,7 @@ bytes_heard S conn at kept kept' es lent es' s s' bytes turned view stops answer
       hs,
       stage,
       subst (λ (a : Answered). Answers S a kept' es' view stops (Ok answer)) (sym whole) (
-        (refl, left_is, those ∙ ap (λ (l : Seats). with_reply (reply_of turned.reply) (closed_others conn turned.reply.changed l)) left_is, stop),
+        (refl, left_is, those ∙ ap (λ (l : Seats). with_reply (reply_of turned.reply) (told_others conn turned.rewound turned.reply.changed l)) left_is, stop),
         seals,
         said,
       ),
@@ -90,16 +90,16 @@ going_answers {T} S a kept seats view of stops letters (Err e) ok err answers =
 
 -- memory was wanted before a string was sent
 pub leads_starved : (S : List JournalRecord → Type 0) (told : LinkTold) (s : State) (event : Event) (b : Bool) (hs : List Hindrance) (stage : Stage) (kept : Kept) (seats : Seats) (w : WantOfMemory) (result : Result Bool WantOfMemory)
-    → result ≡ Err w → kept ≡ (answered b hs stage s event).state.kept → (answered b hs stage s event).unsealed ≡ []
+    → result ≡ Err w → kept ≡ (answered b hs stage s event).state.kept → (answered b hs stage s event).unsealed ≡ [] → kept ≡ s.kept
     → S (answered b hs stage s event).unsealed → AreSaid (answered b hs stage s event).consoles.readings
-    → (h : Hindrances) × (unclosed : ℕ) × AreLicensed h.deliveries unclosed told told × Leads S unclosed (happens h s event) told told kept seats result
-leads_starved S told s event b hs stage kept seats w result starved same none seals said =
+    → (h : Hindrances) × (unclosed : ℕ) × AreLicensed h.deliveries unclosed told told × Leads S unclosed s.kept (happens h s event) told told kept seats result
+leads_starved S told s event b hs stage kept seats w result starved same none undone seals said =
     let h : Hindrances = record { unfed = b; turns = hs; stage = stage; deliveries = [] } in (
       h,
       0,
       none_licensed told told refl refl,
-      subst (λ (r : Result Bool WantOfMemory). Leads S 0 (happens h s event) told told kept seats r) (sym starved) (record {
-        did = record { notes = []; goes = goes_none told; whole = ((happens h s event).notes, refl, inl (refl, refl, none)) };
+      subst (λ (r : Result Bool WantOfMemory). Leads S 0 s.kept (happens h s event) told told kept seats r) (sym starved) (record {
+        did = record { notes = []; goes = goes_none told; whole = ((happens h s event).notes, refl, inl (refl, refl, none, sym same ∙ undone)) };
         kept_is = same;
         seats_are = tt;
         closed = tt;
@@ -115,7 +115,7 @@ pub leads_by : (S : List JournalRecord → Type 0) (old new : LinkTold) (s : Sta
     → stops ≡ (answered b hs stage s event).consoles.stops
     → (ds : List Delivery) × AreLicensed ds (unclosed_by sent) old new × Sends (delivered ds seats rs) old new seats' sent → sent ≡ Ok x
     → S (answered b hs stage s event).unsealed → AreSaid (answered b hs stage s event).consoles.readings
-    → (h : Hindrances) × (unclosed : ℕ) × AreLicensed h.deliveries unclosed old new × Leads S unclosed (happens h s event) old new kept seats' (Ok stops)
+    → (h : Hindrances) × (unclosed : ℕ) × AreLicensed h.deliveries unclosed old new × Leads S unclosed s.kept (happens h s event) old new kept seats' (Ok stops)
 leads_by S old new s event b hs stage kept seats seats' rs stops sent x same open' replies stop (ds, licensed, sends) ok seals said =
     let h : Hindrances = record { unfed = b; turns = hs; stage = stage; deliveries = ds } in
     let a = answered b hs stage s event in
@@ -141,7 +141,7 @@ pub leads_cut : (S : List JournalRecord → Type 0) (old new : LinkTold) (s : St
     → kept ≡ (answered b hs stage s event).state.kept → seats ≡ (answered b hs stage s event).state.seats → rs ≡ (answered b hs stage s event).replies
     → (ds : List Delivery) × AreLicensed ds (unclosed_by sent) old new × Sends (delivered ds seats rs) old new seats' sent → sent ≡ Err w
     → S (answered b hs stage s event).unsealed → AreSaid (answered b hs stage s event).consoles.readings
-    → (h : Hindrances) × (unclosed : ℕ) × AreLicensed h.deliveries unclosed old new × Leads S unclosed (happens h s event) old new kept seats' (Err v)
+    → (h : Hindrances) × (unclosed : ℕ) × AreLicensed h.deliveries unclosed old new × Leads S unclosed s.kept (happens h s event) old new kept seats' (Err v)
 leads_cut S old new s event b hs stage kept seats seats' rs sent w v same open' replies (ds, licensed, sends) bad seals said =
     let h : Hindrances = record { unfed = b; turns = hs; stage = stage; deliveries = ds } in
     let a = answered b hs stage s event in

@@ -178,19 +178,19 @@ all_closed : (r : Result Bool WantOfMemory) (b : Bool) (n : ℕ) → r ≡ Ok b 
 all_closed r b n ok e = subst (λ (q : Result Bool WantOfMemory). MatchResult q (λ _. n ≡ 0) (λ _. Unit {0})) ok e
 
 -- what an event left undone for want of memory
-starved_in : (o : Outcome) (n : ℕ) (new : LinkTold) (r : Result Bool WantOfMemory) (w : WantOfMemory) (all notes : List LinkNote) → r ≡ Err w
-    → MatchResult r (λ _. all ≡ notes) (λ _. (more : List LinkNote) × (all ≡ notes ++ more) × WantsIn o n new notes more)
-    → (more : List LinkNote) × (all ≡ notes ++ more) × WantsIn o n new notes more
-starved_in o n new r w all notes bad e =
-    subst (λ (q : Result Bool WantOfMemory). MatchResult q (λ _. all ≡ notes) (λ _. (more : List LinkNote) × (all ≡ notes ++ more) × WantsIn o n new notes more)) bad e
+starved_in : (o : Outcome) (before : Kept) (n : ℕ) (new : LinkTold) (r : Result Bool WantOfMemory) (w : WantOfMemory) (all notes : List LinkNote) → r ≡ Err w
+    → MatchResult r (λ _. all ≡ notes) (λ _. (more : List LinkNote) × (all ≡ notes ++ more) × WantsIn o before n new notes more)
+    → (more : List LinkNote) × (all ≡ notes ++ more) × WantsIn o before n new notes more
+starved_in o before n new r w all notes bad e =
+    subst (λ (q : Result Bool WantOfMemory). MatchResult q (λ _. all ≡ notes) (λ _. (more : List LinkNote) × (all ≡ notes ++ more) × WantsIn o before n new notes more)) bad e
 
 -- what an event left undone in which sealing failed: nothing, or what follows from a close on
-cut_in : (o : Outcome) (n : ℕ) (new : LinkTold) (r : Result Bool WantOfMemory) (all notes : List LinkNote) → (o.unsealed ≡ [] → ⊥)
-    → MatchResult r (λ _. all ≡ notes) (λ _. (more : List LinkNote) × (all ≡ notes ++ more) × WantsIn o n new notes more) → MatchResult r (λ _. n ≡ 0) (λ _. Unit {0})
+cut_in : (o : Outcome) (before : Kept) (n : ℕ) (new : LinkTold) (r : Result Bool WantOfMemory) (all notes : List LinkNote) → (o.unsealed ≡ [] → ⊥)
+    → MatchResult r (λ _. all ≡ notes) (λ _. (more : List LinkNote) × (all ≡ notes ++ more) × WantsIn o before n new notes more) → MatchResult r (λ _. n ≡ 0) (λ _. Unit {0})
     → (more : List LinkNote) × (all ≡ notes ++ more) × (((more ≡ []) × (n ≡ 0)) ⊎ ((n ≡ 1) × StopsAtClose more new))
-cut_in o n new (Ok b) all notes some e closed = ([], e ∙ sym (append-nil notes), inl (refl, closed))
-cut_in o n new (Err w) all notes some (more, e, inl wanted) closed = absurd (some wanted.2)
-cut_in o n new (Err w) all notes some (more, e, inr stops) closed = (more, e, inr stops)
+cut_in o before n new (Ok b) all notes some e closed = ([], e ∙ sym (append-nil notes), inl (refl, closed))
+cut_in o before n new (Err w) all notes some (more, e, inl wanted) closed = absurd (some wanted.2)
+cut_in o before n new (Err w) all notes some (more, e, inr stops) closed = (more, e, inr stops)
 
 said_more : (a b : List Reading) → AreSaid a → AreSaid b → AreSaid (a ++ b)
 said_more [] b first second = second
@@ -198,7 +198,7 @@ said_more (r ∷ a) b first second = (first.0, said_more a b first.1 second)
 
 -- no sealing failed in an event after which the desk is open
 pub sealed_all : (S : List JournalRecord → Type 0) (old new : LinkTold) (s : State) (event : Event) (after : Kept) (seats : Seats) (r : Result Bool WantOfMemory)
-    → (h : Hindrances) × (n : ℕ) × AreLicensed h.deliveries n old new × Leads S n (happens h s event) old new after seats r → ((failed : List JournalRecord) → S failed → failed ≡ []) → S []
+    → (h : Hindrances) × (n : ℕ) × AreLicensed h.deliveries n old new × Leads S n s.kept (happens h s event) old new after seats r → ((failed : List JournalRecord) → S failed → failed ≡ []) → S []
 sealed_all S old new s event after seats r (h, n, licensed, leads) only = subst S (only (happens h s event).unsealed leads.seals) leads.seals
 
 -- no console asked serving to stop so far
@@ -265,14 +265,14 @@ none_wanted b e = absurd (let wrong : ◌≡◌ {A = ℕ} 0 1 = e in cc)
 -- one step more
 pub so_more : (S : List JournalRecord → Type 0) (turns : ℕ) (old mid got new : LinkTold) (kept after : Kept) (s : State) (seats : Seats) (event : Event) (r : Result Bool WantOfMemory) (b : Bool)
     → SoServed turns old mid kept s → Comes mid got (Ok event) → is_end event.what ≡ false
-    → (h : Hindrances) × (n : ℕ) × AreLicensed h.deliveries n got new × Leads S n (happens h s event) got new after seats r
+    → (h : Hindrances) × (n : ℕ) × AreLicensed h.deliveries n got new × Leads S n s.kept (happens h s event) got new after seats r
     → r ≡ Ok b → b ≡ false → ((failed : List JournalRecord) → S failed → failed ≡ [])
     → SoServed (turns + 1) old new kept (record { kept = after; seats = seats })
 so_more S turns old mid got new kept after s seats event r b so came goes (h, n, licensed, leads) ok on only =
     let step : Step = record { event = event; hindrances = h } in
     let o = happens h s event in
     let did = leads.did in
-    let whole = all_done (WantsIn o n new) r b o.notes did.notes ok did.whole in
+    let whole = all_done (WantsIn o s.kept n new) r b o.notes did.notes ok did.whole in
     let left = seats_left r b seats o.state.seats o.consoles.stops ok leads.seats_are in
     let readings = so.readings ++ o.consoles.readings in
     let steps = so.steps ++ step ∷ [] in
@@ -315,14 +315,14 @@ serves_more turns old mid kept after s step notes more so kept_is all =
 -- a console asked serving to stop
 pub so_stopped : (S T : List JournalRecord → Type 0) (turns limit : ℕ) (old mid got new : LinkTold) (kept after : Kept) (s : State) (seats : Seats) (event : Event) (r : Result Bool WantOfMemory) (b : Bool)
     → SoServed turns old mid kept s → turns < limit → Comes mid got (Ok event) → is_end event.what ≡ false
-    → (h : Hindrances) × (n : ℕ) × AreLicensed h.deliveries n got new × Leads S n (happens h s event) got new after seats r
+    → (h : Hindrances) × (n : ℕ) × AreLicensed h.deliveries n got new × Leads S n s.kept (happens h s event) got new after seats r
     → r ≡ Ok b → b ≡ true → ((failed : List JournalRecord) → S failed → failed ≡ []) → ((failed : List JournalRecord) → S failed → T failed)
     → Ran T limit old new kept after (Ok tt)
 so_stopped S T turns limit old mid got new kept after s seats event r b so few came goes (h, n, licensed, leads) ok stop only then =
     let step : Step = record { event = event; hindrances = h } in
     let o = happens h s event in
     let did = leads.did in
-    let whole = all_done (WantsIn o n new) r b o.notes did.notes ok did.whole in
+    let whole = all_done (WantsIn o s.kept n new) r b o.notes did.notes ok did.whole in
     let left = seats_left r b seats o.state.seats o.consoles.stops ok leads.seats_are in
     let zero = all_closed r b n ok leads.closed in
     let leaves = leaves_more turns old mid kept s step so in
@@ -472,15 +472,18 @@ cut_at_close turns n old mid new kept s step notes more so all one stops = recor
 
 -- how memory was wanted in the last step
 left_starved : (turns n : ℕ) (old mid new : LinkTold) (kept : Kept) (s : State) (step : Step) (notes more : List LinkNote) → (so : SoServed turns old mid kept s)
-    → (happens step.hindrances s step.event).notes ≡ notes ++ more → WantsIn (happens step.hindrances s step.event) n new notes more
+    → (happens step.hindrances s step.event).notes ≡ notes ++ more → WantsIn (happens step.hindrances s step.event) s.kept n new notes more
     → IsLeftStarved n (so.steps ++ step ∷ []) kept more × (n ≡ 1 → new.starved_last ≡ true)
-left_starved turns n old mid new kept s step notes more so all (inl (none, zero, sealed)) = (
+left_starved turns n old mid new kept s step notes more so all (inl (none, zero, sealed, undone)) = (
   inr (inl (
     record {
-      before = so.steps;
-      last = step;
-      steps_are = refl;
-      notes_are = ap (λ (q : Outcome). q.notes) (here_is turns old mid kept s step so) ∙ all ∙ ap (λ l. l ++ more) none;
+      of_last = record {
+        before = so.steps;
+        last = step;
+        steps_are = refl;
+        notes_are = ap (λ (q : Outcome). q.notes) (here_is turns old mid kept s step so) ∙ all ∙ ap (λ l. l ++ more) none;
+      };
+      kept_is = ap (λ (q : Outcome). q.state.kept) (here_is turns old mid kept s step so) ∙ undone ∙ ap (λ (q : Outcome). q.state.kept) (sym so.leaves);
     },
     zero,
   )),
@@ -500,14 +503,14 @@ left_unsealed turns n old mid new kept s step notes more so all (inr (one, stops
 -- memory was wanted in an event
 pub so_starved : (S T : List JournalRecord → Type 0) (turns limit : ℕ) (old mid got new : LinkTold) (kept after : Kept) (s : State) (seats : Seats) (event : Event) (r : Result Bool WantOfMemory) (w : WantOfMemory)
     → SoServed turns old mid kept s → turns < limit → Comes mid got (Ok event) → is_end event.what ≡ false
-    → (h : Hindrances) × (n : ℕ) × AreLicensed h.deliveries n got new × Leads S n (happens h s event) got new after seats r
+    → (h : Hindrances) × (n : ℕ) × AreLicensed h.deliveries n got new × Leads S n s.kept (happens h s event) got new after seats r
     → r ≡ Err w → ((failed : List JournalRecord) → S failed → failed ≡ []) → ((failed : List JournalRecord) → S failed → T failed)
     → Ran T limit old new kept after (Err NoMemory)
 so_starved S T turns limit old mid got new kept after s seats event r w so few came goes (h, n, licensed, leads) bad only then =
     let step : Step = record { event = event; hindrances = h } in
     let o = happens h s event in
     let did = leads.did in
-    let (more, all, wants) = starved_in o n new r w o.notes did.notes bad did.whole in
+    let (more, all, wants) = starved_in o s.kept n new r w o.notes did.notes bad did.whole in
     let leaves = leaves_more turns old mid kept s step so in
     let done = done_more turns n old mid got new kept s event h did.notes so came licensed did.goes in
     let left = left_starved turns n old mid new kept s step did.notes more so all wants in
@@ -526,14 +529,14 @@ so_starved S T turns limit old mid got new kept after s seats event r w so few c
 -- sealing failed in an event
 pub so_failed : (S T : List JournalRecord → Type 0) (turns limit : ℕ) (old mid got new : LinkTold) (kept after : Kept) (s : State) (seats : Seats) (event : Event) (r : Result Bool WantOfMemory)
     → SoServed turns old mid kept s → turns < limit → Comes mid got (Ok event) → is_end event.what ≡ false
-    → (h : Hindrances) × (n : ℕ) × AreLicensed h.deliveries n got new × Leads S n (happens h s event) got new after seats r
+    → (h : Hindrances) × (n : ℕ) × AreLicensed h.deliveries n got new × Leads S n s.kept (happens h s event) got new after seats r
     → ((failed : List JournalRecord) → S failed → failed ≢ []) → ((failed : List JournalRecord) → S failed → T failed)
     → Ran T limit old new kept after (Err Disk)
 so_failed S T turns limit old mid got new kept after s seats event r so few came goes (h, n, licensed, leads) some then =
     let step : Step = record { event = event; hindrances = h } in
     let o = happens h s event in
     let did = leads.did in
-    let (more, all, cut) = cut_in o n new r o.notes did.notes (some o.unsealed leads.seals) did.whole leads.closed in
+    let (more, all, cut) = cut_in o s.kept n new r o.notes did.notes (some o.unsealed leads.seals) did.whole leads.closed in
     let leaves = leaves_more turns old mid kept s step so in
     let done = done_more turns n old mid got new kept s event h did.notes so came licensed did.goes in
     let left = left_unsealed turns n old mid new kept s step did.notes more so all cut in

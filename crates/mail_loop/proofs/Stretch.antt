@@ -14,7 +14,7 @@ use Rattle.console_head.specs.Request.{Stage}
 use Rattle.mail_loop.specs.declared.console_turn.Turned.{Turned}
 use Rattle.mail_loop.specs.ConsoleTurn.{AreSaid, Reading, no_consoles}
 use Rattle.mail_loop.specs.Machine.{Seats, closed_others, heard, hears, seated, with_reply}
-use Rattle.mail_loop.specs.Took.{Takes, Tells, seat_left, answered_alone}
+use Rattle.mail_loop.specs.Took.{Takes, Tells, seat_left, answered_alone, going_on_with}
 
 -- what is kept, beside seats that no turn touches
 abbrev beside : Seats → Kept → State
@@ -166,7 +166,7 @@ told_by one seat_of seats kept d all conn reply kept' failed seat o S same (hs, 
   record {
     conn_is = same;
     heard_is = ap (heard_by seat_of) is
-        ∙ ap (λ (s : Option Seat). record { said = reply.said; state = record { kept = kept'; seats = seats }; seat = s; changed = reply.changed; unsealed = failed; consoles = no_consoles }) left_is;
+        ∙ ap (λ (s : Option Seat). record { said = reply.said; state = record { kept = kept'; seats = seats }; seat = s; changed = reply.changed; rewound = false; unsealed = failed; consoles = no_consoles }) left_is;
   },
 )
 
@@ -177,7 +177,7 @@ none_left false seat = refl
 -- the answers of the turns are the one reply
 pub heard_alone : (h : Heard) (seats : Seats) (conn : ℕ) (reply : Reply) (kept : Kept) (failed : List JournalRecord) (seat : Seat)
     → Tells h seats conn reply kept failed seat
-    → heard conn h ≡ answered_alone conn reply kept failed no_consoles seat seats
+    → heard conn h ≡ answered_alone conn (going_on_with reply) kept failed [] seat seats
 heard_alone h seats conn reply kept failed seat t =
     ap (heard conn) t.heard_is
     ∙ ap (λ (b : Bool). record {
@@ -196,9 +196,9 @@ heard_alone h seats conn reply kept failed seat t =
 -- no memory was found for the bytes
 pub unfed_alone : (hs : List Hindrance) (stage : Stage) (at : ℕ) (kept : Kept) (seats : Seats) (conn : ℕ) (seat seat' : Seat) (bytes : List ℕ) (reply : Reply)
     → reply ≡ record { conn = conn; said = []; closes = true; changed = [] }
-    → hears true hs stage at (record { kept = kept; seats = seats }) conn seat bytes ≡ answered_alone conn reply kept [] no_consoles seat' seats
+    → hears true hs stage at (record { kept = kept; seats = seats }) conn seat bytes ≡ answered_alone conn (going_on_with reply) kept [] [] seat' seats
 unfed_alone hs stage at kept seats conn seat seat' bytes reply e =
-    sym (ap (λ (r : Reply). answered_alone conn r kept [] no_consoles seat' seats) e)
+    sym (ap (λ (r : Reply). answered_alone conn (going_on_with r) kept [] [] seat' seats) e)
 
 -- the seat of a connection that stays open
 pub seat_stays : (closes : Bool) (seat seat' : Seat) → closes ≡ false → seat ≡ seat' → Some seat ≡ seat_left closes seat'
@@ -216,13 +216,13 @@ abbrev pub HeardAlone : (List JournalRecord → Type 0) → ℕ → Kept → Sea
 HeardAlone S at kept seats conn seat bytes turned kept' seat' =
     (no_memory : Bool) × (hs : List Hindrance) × (stage : Stage) × (failed : List JournalRecord) × S failed × (readings : List Reading) × AreSaid readings
     × (hears no_memory hs stage at (record { kept = kept; seats = seats }) conn seat bytes
-    ≡ answered_alone conn turned.reply kept' failed (record { readings = readings; stops = turned.stops }) seat' seats)
+    ≡ answered_alone conn turned kept' failed readings seat' seats)
 
 -- the turns of a mail client or a mail reader
 pub going : (S : List JournalRecord → Type 0) (at : ℕ) (kept : Kept) (seats : Seats) (conn : ℕ) (seat : Seat) (bytes : List ℕ) (reply : Reply) (turned : Turned) (kept' : Kept) (seat' : Seat)
-    → turned ≡ record { reply = reply; stops = false }
+    → turned ≡ going_on_with reply
     → (b : Bool) (hs : List Hindrance) (stage : Stage) (failed : List JournalRecord) → S failed
-    → hears b hs stage at (record { kept = kept; seats = seats }) conn seat bytes ≡ answered_alone conn reply kept' failed no_consoles seat' seats
+    → hears b hs stage at (record { kept = kept; seats = seats }) conn seat bytes ≡ answered_alone conn (going_on_with reply) kept' failed [] seat' seats
     → HeardAlone S at kept seats conn seat bytes turned kept' seat'
 going S at kept seats conn seat bytes reply turned kept' seat' is b hs stage failed seals e =
     subst (λ (t : Turned). HeardAlone S at kept seats conn seat bytes t kept' seat') (sym is) (b, hs, stage, failed, seals, [], tt, e)
@@ -239,7 +239,7 @@ heard_same S T at kept seats conn seat seat0 bytes turned turned0 kept' kept0 se
   readings,
   said,
   ap (λ (x : Seat). hears b hs stage at (record { kept = kept; seats = seats }) conn x bytes) (sym s) ∙ is
-      ∙ ap (λ (x : Turned). answered_alone conn x.reply kept' failed (record { readings = readings; stops = x.stops }) seat' seats) (sym r)
-      ∙ ap (λ (x : Kept). answered_alone conn turned0.reply x failed (record { readings = readings; stops = turned0.stops }) seat' seats) (sym k)
-      ∙ ap (λ (x : Seat). answered_alone conn turned0.reply kept0 failed (record { readings = readings; stops = turned0.stops }) x seats) (sym t),
+      ∙ ap (λ (x : Turned). answered_alone conn x kept' failed readings seat' seats) (sym r)
+      ∙ ap (λ (x : Kept). answered_alone conn turned0 x failed readings seat' seats) (sym k)
+      ∙ ap (λ (x : Seat). answered_alone conn turned0 kept0 failed readings x seats) (sym t),
 )

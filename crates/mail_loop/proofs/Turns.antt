@@ -317,13 +317,13 @@ end_asks : (house : House) (d : Dialog) (path : List ℕ) (to : List (List ℕ))
 end_asks house d path to None writing = refl
 end_asks house d path to (Some body) writing = (writing, refl, refl)
 
-text_asks : (house : House) (at : ℕ) (d : Dialog) (path : List ℕ) (to : List (List ℕ)) (text : Option (List ℕ)) (line : List ℕ) → session.is_writing d ≡ true
+text_asks : (house : House) (at : ℕ) (d : Dialog) (path : List ℕ) (to : List (List ℕ)) (text : Option (List ℕ)) (line : SmtpLine) → session.is_writing d ≡ true
     → AsksAtEnd d (session.take_text house at d path to text line).out (session.take_text house at d path to text line).dialog
 text_asks house at d path to text line writing =
     let body = option_map (body_of house.host at (unwrap_or d.client []) path) text in
     let ends = session.end_text house d path to body in
     let goes_on = session.turns Nothing (session.with_transaction d (Writing path to (add_line text line))) in
-    elim (bytes_eq line (codes ".")) as (λ b. AsksAtEnd d (cond b ends goes_on).out (cond b ends goes_on).dialog)
+    elim (bytes_eq line.bytes (codes ".")) as (λ b. AsksAtEnd d (cond b ends goes_on).out (cond b ends goes_on).dialog)
     [ true ↦ end_asks house d path to body writing | false ↦ refl ]
 
 line_asks : (house : House) (conf : Conf) (at : ℕ) (client : Option (List ℕ)) (t : Transaction) (line : SmtpLine) → session.is_due_in t ≡ false
@@ -333,7 +333,7 @@ line_asks house conf at client Idle line free = obey_asks house conf (record { c
 line_asks house conf at client (Begun path to) line free = obey_asks house conf (record { client = client; transaction = Begun path to }) (command_of line) free
 line_asks house conf at client (Due host) line free = obey_asks house conf (record { client = client; transaction = Due host }) (command_of line) free
 line_asks house conf at client (Writing path to text) line free =
-    text_asks house at (record { client = client; transaction = Writing path to text }) path to text line.bytes refl
+    text_asks house at (record { client = client; transaction = Writing path to text }) path to text line refl
 
 -- what a line gives
 pub line_gives : (house : House) (conf : Conf) (at : ℕ) (d e : Dialog) (line : SmtpLine) (out : SmtpOut) → session.is_due d ≡ false

@@ -3,7 +3,7 @@ use Rattle.std.specs.Prelude.{ℕ, Bool, true, false, ◌||◌, List, [], ◌++�
 use Rattle.std.specs.List.{AllByRecursion}
 use Rattle.console_head.specs.Request.{Says, Stage}
 use Rattle.console_session.specs.declared.reply.After.{After}
-use Rattle.console_session.specs.declared.reply.After.TheVariants.{Waits, Closes, Stops, Fails}
+use Rattle.console_session.specs.declared.reply.After.TheVariants.{Waits, Closes, Stops, Fails, Rewinds}
 use Rattle.console_session.specs.Hindrance as console
 use Rattle.console_session.specs.Turn.{Turn as ConsoleTurn, asked_of}
 use Rattle.paradox.specs.Kept.{Kept}
@@ -51,6 +51,7 @@ left_by Waits bytes = Some bytes
 left_by Closes bytes = None
 left_by Stops bytes = None
 left_by Fails bytes = None
+left_by Rewinds bytes = None
 
 -- whether serving is asked to stop
 abbrev pub stops_by : After → Bool
@@ -58,3 +59,12 @@ stops_by Waits = false
 stops_by Closes = false
 stops_by Stops = true
 stops_by Fails = false
+stops_by Rewinds = false
+
+-- whether the store was rewound, so that each mail reader is closed
+abbrev pub rewinds_by : After → Bool
+rewinds_by Waits = false
+rewinds_by Closes = false
+rewinds_by Stops = false
+rewinds_by Fails = false
+rewinds_by Rewinds = true

@@ -7,7 +7,8 @@ use Rattle.undo_outside.specs.Calls.{LinkTold, then_told}
 use Rattle.verb_bytes.specs.declared.journal.JournalRecord.{JournalRecord}
 use Rattle.paradox.specs.Kept.{Kept}
 use Rattle.mail_loop.specs.ConsoleTurn.{AreSaid}
-use Rattle.mail_loop.specs.Machine.{Seats, Delivery, Arrives, IsMissed, IsLeftOut, Reply, Answered, Delivered, Outcome, string_notes, reply_notes, remains}
+use Rattle.mail_loop.specs.State.{Seat}
+use Rattle.mail_loop.specs.Machine.{Seats, Delivery, Arrives, IsMissed, IsLeftOut, Reply, Answered, Delivered, Outcome, string_notes, reply_notes, remains, with_new_seat}
 
 -- the link did this, and gave no event
 pub record Goes (old new : LinkTold) (notes : List LinkNote) : Type 0 where
@@ -90,14 +91,16 @@ pub record Sends (d : Delivered) (old new : LinkTold) (seats : Seats) (result : 
   pub did : Did (λ notes more. StopsAtClose more new) d.notes old new result
   pub seats_are : MatchResult result (λ _. seats ≡ d.seats) (λ _. Unit {0})
 
--- memory was wanted in an event: for its bytes and its strings, before anything was sealed and done; or for a close of it
-abbrev pub WantsIn : Outcome → ℕ → LinkTold → List LinkNote → List LinkNote → Type 0
-WantsIn o unclosed new notes more = ((notes ≡ []) × (unclosed ≡ 0) × (o.unsealed ≡ [])) ⊎ ((unclosed ≡ 1) × StopsAtClose more new)
+-- memory was wanted in an event: for its bytes and its strings, before anything was sealed and done, so that what was kept before is kept; or for a
+-- close of it
+abbrev pub WantsIn : Outcome → Kept → ℕ → LinkTold → List LinkNote → List LinkNote → Type 0
+WantsIn o before unclosed new notes more =
+    ((notes ≡ []) × (unclosed ≡ 0) × (o.unsealed ≡ []) × (o.state.kept ≡ before)) ⊎ ((unclosed ≡ 1) × StopsAtClose more new)
 
--- an event led to this outcome, and serving is asked to stop or not, or memory was wanted before the link had done all of it; S holds of the record
+-- an event, before which this was kept, led to this outcome, and serving is asked to stop or not, or memory was wanted before the link had done all of it; S holds of the record
 -- whose sealing failed, and what consoles' bytes were read as is so
-pub record Leads (S : List JournalRecord → Type 0) (unclosed : ℕ) (o : Outcome) (old new : LinkTold) (kept : Kept) (seats : Seats) (result : Result Bool WantOfMemory) : Type 0 where
-  pub did : Did (WantsIn o unclosed new) o.notes old new result
+pub record Leads (S : List JournalRecord → Type 0) (unclosed : ℕ) (before : Kept) (o : Outcome) (old new : LinkTold) (kept : Kept) (seats : Seats) (result : Result Bool WantOfMemory) : Type 0 where
+  pub did : Did (WantsIn o before unclosed new) o.notes old new result
   pub kept_is : kept ≡ o.state.kept
   pub seats_are : MatchResult result (λ stops. (seats ≡ o.state.seats) × (stops ≡ o.consoles.stops)) (λ _. Unit {0})
   pub closed : MatchResult result (λ _. unclosed ≡ 0) (λ _. Unit {0})
@@ -113,3 +116,8 @@ AnswersWith a kept seats view stops (Err e) = (kept ≡ a.state.kept) × (a.unse
 -- S holds of the record whose sealing failed, and what consoles' bytes were read as is so
 abbrev pub Answers : {T : Type 0} → (List JournalRecord → Type 0) → Answered → Kept → Seats → (T → List Reply) → (T → Bool) → Result T WantOfMemory → Type 0
 Answers S a kept seats view stops result = AnswersWith a kept seats view stops result × S a.unsealed × AreSaid a.consoles.readings
+
+-- a connection is opened with this seat, and these are its replies; or memory was wanted
+abbrev pub Opens : {T : Type 0} → ℕ → Seat → List Reply → Seats → Seats → (T → List Reply) → Result T WantOfMemory → Type 0
+Opens conn seat replies old new view (Ok letters) = (new ≡ with_new_seat conn seat old) × (view letters ≡ replies)
+Opens conn seat replies old new view (Err e) = Unit {0}

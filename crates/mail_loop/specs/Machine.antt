@@ -18,7 +18,7 @@ use Rattle.smtp_session.specs.Dialog.{opening}
 use Rattle.imap_stream.specs.Commands.{before, nothing}
 use Rattle.imap_stream.specs.declared.begun.Awaits.TheVariants.{Line}
 use Rattle.imap_session.specs.Dialog as imap
-use Rattle.imap_session.specs.Words.{changed_text, greeting_text}
+use Rattle.imap_session.specs.Words.{changed_text, greeting_text, rewound_text}
 use Rattle.verb_bytes.specs.declared.journal.JournalRecord.{JournalRecord}
 use Rattle.console_head.specs.Request.{Stage}
 use Rattle.mail_loop.specs.State.{Seat, Smtp, Imap, Http, State}
@@ -101,25 +101,46 @@ closing conn = record { conn = conn; said = changed_text; closes = true }
 abbrev pub closed_others : ℕ → List BoxId → Seats → List Reply
 closed_others conn boxes seats = map (λ (e : ℕ × Seat). closing e.0) (others_with conn boxes seats)
 
+-- whether a session is a mail reader's
+abbrev pub is_reader : Seat → Bool
+is_reader (Smtp unserved d) = false
+is_reader (Http came) = false
+is_reader (Imap stream d) = true
+
+-- a mail reader is told that the store was rewound, and closed
+abbrev pub rewinding : ℕ → Reply
+rewinding conn = record { conn = conn; said = rewound_text; closes = true }
+
+-- each mail reader is told that the store was rewound, and closed; mail clients and consoles go on
+abbrev pub closed_readers : Seats → List Reply
+closed_readers seats = map (λ (e : ℕ × Seat). rewinding e.0) (filter (λ (e : ℕ × Seat). is_reader e.1) seats)
+
+-- who is told and closed beside a connection: each mail reader where the store was rewound, and else each other session that has one of
+-- these mailboxes selected
+abbrev pub told_others : ℕ → Bool → List BoxId → Seats → List Reply
+told_others conn true boxes seats = closed_readers seats
+told_others conn false boxes seats = closed_others conn boxes seats
+
 -- a connection's seat after its turns, or none where it is to be closed
 abbrev pub seated : ℕ → Option Seat → Seats → Seats
 seated conn None seats = without_seat conn seats
 seated conn (Some seat) seats = with_seat conn seat seats
 
--- a connection has its turns' answers, and others whose mailbox they took away are told; the replies stand by rising connection
+-- a connection has its turns' answers, and others whose mailbox they took away, or whose store they rewound, are told; the replies stand by
+-- rising connection
 abbrev pub heard : ℕ → Heard → Answered
 heard conn h =
     let seats = seated conn h.seat h.state.seats in
     record {
       state = record { kept = h.state.kept; seats = seats };
-      replies = with_reply (record { conn = conn; said = h.said; closes = is_none h.seat }) (closed_others conn h.changed seats);
+      replies = with_reply (record { conn = conn; said = h.said; closes = is_none h.seat }) (told_others conn h.rewound h.changed seats);
       unsealed = h.unsealed;
       consoles = h.consoles;
     }
 
 -- no memory was found for the bytes that came: the connection is closed without an answer
 abbrev pub unfed : ℕ → State → Answered
-unfed conn s = heard conn (record { said = []; state = s; seat = None; changed = []; unsealed = []; consoles = no_consoles })
+unfed conn s = heard conn (record { said = []; state = s; seat = None; changed = []; rewound = false; unsealed = []; consoles = no_consoles })
 
 -- bytes come over an open connection, and find memory or none
 abbrev pub hears : Bool → List Hindrance → Stage → ℕ → State → ℕ → Seat → List ℕ → Answered

@@ -83,6 +83,11 @@ pub record IsOfLast (steps : List Step) (old : Kept) (front more : List LinkNote
   pub steps_are : steps ≡ before ++ last ∷ []
   pub notes_are : (happens last.hindrances (run before (at_first old)).state last.event).notes ≡ front ++ more
 
+-- the last step's event leads to all this, of which nothing was done: what was kept before it is kept
+pub record IsUndone (steps : List Step) (old : Kept) (more : List LinkNote) : Type 0 where
+  pub of_last : IsOfLast steps old [] more
+  pub kept_is : (happens of_last.last.hindrances (run of_last.before (at_first old)).state of_last.last.event).state.kept ≡ (run of_last.before (at_first old)).state.kept
+
 -- no memory was found for a close in the last step: the link did all before it
 pub record IsCutAtClose (wants : ℕ) (steps : List Step) (old : Kept) (more : List LinkNote) : Type 0 where
   pub front : List LinkNote
@@ -97,10 +102,10 @@ abbrev pub IsLeftUnsealed : ℕ → List Step → Kept → List LinkNote → Typ
 IsLeftUnsealed wants steps old more = ((more ≡ []) × (wants ≡ 0)) ⊎ IsCutAtClose wants steps old more
 
 -- what the link did not do where memory was wanted: nothing, where `next` found none; all that the last step leads to, where none was found for its
--- bytes or strings; or what follows from a close on for which none was found
+-- bytes or strings and nothing of it was done; or what follows from a close on for which none was found
 abbrev pub IsLeftStarved : ℕ → List Step → Kept → List LinkNote → Type 0
 IsLeftStarved wants steps old more =
-    ((more ≡ []) × (wants ≡ 1)) ⊎ (IsOfLast steps old [] more × (wants ≡ 0)) ⊎ IsCutAtClose wants steps old more
+    ((more ≡ []) × (wants ≡ 1)) ⊎ (IsUndone steps old more × (wants ≡ 0)) ⊎ IsCutAtClose wants steps old more
 
 -- the last step is the first in which sealing failed
 abbrev pub EndsUnsealed : List Step → Kept → Type 0

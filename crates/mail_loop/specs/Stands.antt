@@ -6,12 +6,12 @@ use Rattle.verb_core.specs.declared.conf.House.{House}
 use Rattle.mail_loop.specs.declared.letters.Letter.{Letter}
 use Rattle.mail_loop.specs.declared.reply.Reply.{Reply as CodeReply}
 use Rattle.mail_loop.specs.declared.letters.Said.{Said}
-use Rattle.mail_loop.specs.declared.letters.Said.TheVariants.{Answers, Changed}
+use Rattle.mail_loop.specs.declared.letters.Said.TheVariants.{Answers, Changed, Rewound}
 use Rattle.mail_loop.specs.declared.open_connection.Kind.{Kind}
 use Rattle.mail_loop.specs.declared.open_connection.Kind.TheVariants as kind
 use Rattle.smtp_session.specs.Dialog.{is_due}
 use Rattle.imap_session.specs.Dialog.{is_at_home, is_free}
-use Rattle.imap_session.specs.Words.{changed_text}
+use Rattle.imap_session.specs.Words.{changed_text, rewound_text}
 use Rattle.mail_loop.specs.State.{Seat, Smtp, Imap, Http}
 use Rattle.mail_loop.specs.Machine.{Reply, Seats}
 
@@ -22,6 +22,7 @@ reply_of r = record { conn = r.conn; said = r.said; closes = r.closes }
 abbrev pub said_of : Said → List ℕ
 said_of (Answers text) = text
 said_of Changed = changed_text
+said_of Rewound = rewound_text
 
 abbrev pub letter_of : Letter → Reply
 letter_of l = record { conn = l.conn; said = said_of l.said; closes = l.closes }

@@ -2,7 +2,7 @@
 use Rattle.std.specs.Prelude.{◌≡◌, ◌⊎◌, ℕ, Bool, true, false, List, [], ◌∷◌, ◌++◌, Option, None, Some, MatchOption, Result, Ok, Err}
 use Rattle.undo_base.specs.declared.keys.User.{User}
 use Rattle.console_session.specs.declared.reply.After.{After}
-use Rattle.console_session.specs.declared.reply.After.TheVariants.{Waits, Closes, Stops, Fails}
+use Rattle.console_session.specs.declared.reply.After.TheVariants.{Waits, Closes, Stops, Fails, Rewinds}
 use Rattle.console_session.specs.declared.reply.Reply.{Reply as ConsoleReply}
 use Rattle.mail_loop.specs.declared.console_turn.Turned.{Turned}
 use Rattle.mail_loop.specs.declared.reply.Reply.{Reply}
@@ -25,9 +25,9 @@ use Rattle.verb_bytes.specs.declared.journal.JournalRecord.TheVariants.{Verb}
 use Rattle.mail_loop.specs.Asked.{Asked, does, fails}
 use Rattle.mail_loop.specs.SmtpTurn.{Turn, ends, followed, settled}
 use Rattle.mail_loop.specs.Hindrance.{Hindrance, Clear, Refused, Unread, Unstored, Unheard, Unanswered, Unsealed, Untold, lost, unanswered, refused_in_text}
-use Rattle.mail_loop.specs.ConsoleTurn.{Consoles, no_consoles, stops_by}
+use Rattle.mail_loop.specs.ConsoleTurn.{Reading, no_consoles, rewinds_by, stops_by}
 use Rattle.mail_loop.specs.Turns.{Heard}
-use Rattle.mail_loop.specs.Machine.{Seats, Answered as AnsweredEvent, closed_others, seated, with_reply}
+use Rattle.mail_loop.specs.Machine.{Seats, Answered as AnsweredEvent, seated, told_others, with_reply}
 use Rattle.mail_loop.specs.Stands.{reply_of}
 
 -- A string is added, whole, and the connection closes after the last one; or no memory is found for it, and the connection closes.
@@ -108,10 +108,19 @@ closes_by Waits = false
 closes_by Closes = true
 closes_by Stops = true
 closes_by Fails = true
+closes_by Rewinds = true
 
 -- a console's answer as a connection's reply
 abbrev pub turned_as : ℕ → ConsoleReply → Turned
-turned_as conn r = record { reply = record { conn = conn; said = r.said; closes = closes_by r.after; changed = [] }; stops = stops_by r.after }
+turned_as conn r = record {
+  reply = record { conn = conn; said = r.said; closes = closes_by r.after; changed = [] };
+  stops = stops_by r.after;
+  rewound = rewinds_by r.after;
+}
+
+-- turns after which serving goes on, over a store that was not rewound
+abbrev pub going_on_with : Reply → Turned
+going_on_with reply = record { reply = reply; stops = false; rewound = false }
 
 -- the seat of a connection that stays open
 abbrev pub seat_left : Bool → Seat → Option Seat
@@ -122,16 +131,18 @@ seat_left false seat = Some seat
 -- its seat then.
 pub record Tells (h : Heard) (seats : Seats) (conn : ℕ) (reply : Reply) (kept : Kept) (failed : List JournalRecord) (seat : Seat) : Type 0 where
   pub conn_is : reply.conn ≡ conn
-  pub heard_is : h ≡ record { said = reply.said; state = record { kept = kept; seats = seats }; seat = seat_left reply.closes seat; changed = reply.changed; unsealed = failed; consoles = no_consoles }
+  pub heard_is : h ≡ record { said = reply.said; state = record { kept = kept; seats = seats }; seat = seat_left reply.closes seat; changed = reply.changed; rewound = false; unsealed = failed; consoles = no_consoles }
 
--- a connection has this reply, and its seat is now this one, or none where it is closed; others are told of the mailboxes that are gone
-abbrev pub answered_with : ℕ → Reply → Kept → List JournalRecord → Consoles → Seats → AnsweredEvent
-answered_with conn reply kept failed consoles seats = record {
+-- a connection has the reply of its turns; others whose mailbox they took away, or whose store they rewound, are told
+abbrev pub answered_with : ℕ → Turned → Kept → List JournalRecord → List Reading → Seats → AnsweredEvent
+answered_with conn turned kept failed readings seats = record {
   state = record { kept = kept; seats = seats };
-  replies = with_reply (reply_of reply) (closed_others conn reply.changed seats);
+  replies = with_reply (reply_of turned.reply) (told_others conn turned.rewound turned.reply.changed seats);
   unsealed = failed;
-  consoles = consoles;
+  consoles = record { readings = readings; stops = turned.stops };
 }
 
-abbrev pub answered_alone : ℕ → Reply → Kept → List JournalRecord → Consoles → Seat → Seats → AnsweredEvent
-answered_alone conn reply kept failed consoles seat seats = answered_with conn reply kept failed consoles (seated conn (seat_left reply.closes seat) seats)
+-- the same, and its seat is now this one, or none where it is closed
+abbrev pub answered_alone : ℕ → Turned → Kept → List JournalRecord → List Reading → Seat → Seats → AnsweredEvent
+answered_alone conn turned kept failed readings seat seats =
+    answered_with conn turned kept failed readings (seated conn (seat_left turned.reply.closes seat) seats)

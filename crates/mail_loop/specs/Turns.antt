@@ -1,6 +1,6 @@
 -- The turns of an event, one after the other: one for each whole line of a mail client's stream, and for each command, literal mark and bad line of a
 -- mail reader's.
-use Rattle.std.specs.Prelude.{ℕ, List, [], ◌∷◌, ◌++◌, Option, None, Some}
+use Rattle.std.specs.Prelude.{ℕ, Bool, false, List, [], ◌∷◌, ◌++◌, Option, None, Some}
 use Rattle.std.specs.Option.{option_map}
 use Rattle.verb_core.specs.declared.mailbox.BoxId.{BoxId}
 use Rattle.smtp_lines.specs.declared.line.SmtpLine.{SmtpLine}
@@ -18,7 +18,7 @@ use Rattle.mail_loop.specs.State.{Seat, Smtp, Imap, Http, State}
 use Rattle.mail_loop.specs.SmtpTurn.{Turn}
 use Rattle.mail_loop.specs.Hindrance.{Hindrance, hindered, first_hindrance, other_hindrances}
 use Rattle.mail_loop.specs.ImapHindrance.{imap_hindered}
-use Rattle.mail_loop.specs.ConsoleTurn.{Consoles, console_turn, left_by, no_consoles, stops_by}
+use Rattle.mail_loop.specs.ConsoleTurn.{Consoles, console_turn, left_by, no_consoles, rewinds_by, stops_by}
 
 -- What turns leave: what they say, the state, the dialog after them or none where the connection is closed, the mailboxes whose other sessions
 -- are told and closed, and the record whose sealing failed, where one did.
@@ -68,17 +68,19 @@ abbrev pub imap_turn : ℕ → Hindrance → State → ImapDialog → Next → O
 imap_turn at h s d next = outcome_of s (imap_hindered h at s.kept d next)
 
 -- what comes of a connection's stream: what it is told, the state, its seat after that or none where it is closed, the mailboxes
--- whose other sessions are told and closed, the record whose sealing failed, where one did, and what came of consoles
+-- whose other sessions are told and closed, whether the store was rewound, so that each mail reader is told and closed, the record
+-- whose sealing failed, where one did, and what came of consoles
 pub record Heard : Type 0 where
   pub said : List ℕ
   pub state : State
   pub seat : Option Seat
   pub changed : List BoxId
+  pub rewound : Bool
   pub unsealed : List JournalRecord
   pub consoles : Consoles
 
 abbrev pub heard_by : {D : Type 0} → (D → Seat) → Outcome D → Heard
-heard_by seat o = record { said = o.said; state = o.state; seat = option_map seat o.dialog; changed = o.changed; unsealed = o.unsealed; consoles = no_consoles }
+heard_by seat o = record { said = o.said; state = o.state; seat = option_map seat o.dialog; changed = o.changed; rewound = false; unsealed = o.unsealed; consoles = no_consoles }
 
 -- the turns of a mail client's lines; what follows the last line stays unserved
 abbrev pub hears_lines : List Hindrance → ℕ → State → Dialog → List ℕ → Heard
@@ -97,6 +99,7 @@ hears_console hs stage at s bytes =
       state = record { kept = t.kept; seats = s.seats };
       seat = option_map Http (left_by t.after bytes);
       changed = [];
+      rewound = rewinds_by t.after;
       unsealed = t.unsealed;
       consoles = record { readings = record { bytes = bytes; stage = stage } ∷ []; stops = stops_by t.after };
     }

@@ -1,22 +1,25 @@
 //! The strings of an event: that of the connection that it is about, and those of others whose mailbox changed.
-ghost use Rattle.std.specs.Prelude.{◌≡◌, ◌<◌, ◌≤◌, ◌∷◌, [], length, nat_lt, position, vec_capacity, vec_len, IfOk};
+ghost use Rattle.std.specs.Prelude.{◌≡◌, ◌<◌, ◌≤◌, ◌∷◌, [], length, nat_lt, position, true, vec_capacity, vec_len, IfOk};
 ghost use Rattle.std.specs.List.{insert, position_or_len};
-ghost use Rattle.mail_loop.specs.Machine.{closed_others, closing, with_reply};
+ghost use Rattle.mail_loop.specs.Machine.{closed_others, closed_readers, told_others, with_reply};
 ghost use Rattle.mail_loop.specs.Stands.{letter_of, replies_of, reply_of, said_of};
 
+use crate::console_turn::Turned;
+use crate::gone::Gone;
 use crate::open_connection::Connection;
 use crate::reply::Reply;
-use imap_session::changed;
+use imap_session::{changed, rewound};
 use std::alloc::Global;
 use std::collections::BTreeMap;
 use undo_base::{NoMemory, Text};
 use verb_core::BoxId;
 
-/// The string of a connection: its turns' answers, or that its mailbox changed.
+/// The string of a connection: its turns' answers, that its mailbox changed, or that the store was rewound.
 #[derive(Debug, Drop)]
 pub enum Said {
     Answers(Text),
     Changed,
+    Rewound,
 }
 
 /// What a connection is told at the end of an event, and whether it is closed then.
@@ -35,6 +38,7 @@ impl Letter {
         match &self.said {
             Said::Answers(text) => text.bytes(),
             Said::Changed => changed(),
+            Said::Rewound => rewound(),
         }
     }
 }
@@ -82,13 +86,13 @@ fn place_of(conn: u32, letters: &[Letter]) -> usize
     }
 }
 
-/// The last letter to a connection whose mailbox changed.
-fn last_letter(conn: u32) -> Letter
-    ensures { letter_of result ≡ closing conn }
+/// The last letter to a connection.
+fn last_letter(conn: u32, said: Said) -> Letter
+    ensures { letter_of result ≡ record { conn = conn; said = said_of said; closes = true } }
 {
     Letter {
         conn,
-        said: Said::Changed,
+        said,
         closes: true,
     }
 }
@@ -122,10 +126,48 @@ fn letters_to_others(
     let mut letters = room;
     for (number, connection) in connections {
         if *number != conn && connection.holds_one(boxes) {
-            letters.push_reserved(last_letter(*number));
+            letters.push_reserved(last_letter(*number, Said::Changed));
         }
     }
     letters
+}
+
+/// The letters to mail readers. There is room for them.
+fn letters_to_readers(room: Vec<Letter>, connections: &BTreeMap<u32, Connection>) -> Vec<Letter>
+    requires none { room.items ≡ [] }
+    requires room { length connections.now.entries < vec_capacity room }
+    ensures letters { replies_of result.items ≡ closed_readers connections.now.entries }
+    ensures room { vec_len result < vec_capacity result }
+{
+    let mut letters = room;
+    for (number, connection) in connections {
+        if connection.is_reader() {
+            letters.push_reserved(last_letter(*number, Said::Rewound));
+        }
+    }
+    letters
+}
+
+/// The letters to others, by rising connection. They are looked at only where the store was rewound or a mailbox was taken away.
+fn letters_beside(
+    room: Vec<Letter>,
+    connections: &BTreeMap<u32, Connection>,
+    conn: u32,
+    boxes: &Gone,
+    rewound: bool,
+) -> Vec<Letter>
+    requires none { room.items ≡ [] }
+    requires room { length connections.now.entries < vec_capacity room }
+    ensures letters { replies_of result.items ≡ told_others conn rewound boxes.now connections.now.entries }
+    ensures room { vec_len result < vec_capacity result }
+{
+    if rewound {
+        return letters_to_readers(room, connections);
+    }
+    if boxes.is_empty() {
+        return room;
+    }
+    letters_to_others(room, connections, conn, boxes.as_slice())
 }
 
 /// A letter at a place among others. There is room for it.
@@ -142,21 +184,31 @@ fn with_letter(letters: Vec<Letter>, place: usize, letter: Letter) -> Vec<Letter
     letters
 }
 
-/// The letters of an event, by rising connection, which take no memory. Other connections are looked at only where a mailbox was taken away.
+/// A connection's letter in its place among those of others, which are by rising connection. There is room for it.
+fn with_own(letters: Vec<Letter>, reply: Reply) -> Vec<Letter>
+    requires room { vec_len letters < vec_capacity letters }
+    ensures { replies_of result.items ≡ with_reply (reply_of reply) (replies_of letters.items) }
+{
+    let place = place_of(reply.conn, letters.as_slice());
+    with_letter(letters, place, own_letter(reply))
+}
+
+/// The letters of an event, by rising connection, which take no memory.
 pub fn letters_of(
     room: Vec<Letter>,
     connections: &BTreeMap<u32, Connection>,
     conn: u32,
-    reply: Reply,
+    turned: Turned,
 ) -> Vec<Letter>
     requires none { room.items ≡ [] }
     requires room { length connections.now.entries < vec_capacity room }
-    ensures { replies_of result.items ≡ with_reply (reply_of reply) (closed_others conn reply.changed connections.now.entries) }
+    ensures { replies_of result.items ≡ with_reply (reply_of turned.reply) (told_others conn turned.rewound turned.reply.changed connections.now.entries) }
 {
-    if reply.changed.is_empty() {
-        return with_letter(room, 0, own_letter(reply));
-    }
-    let letters = letters_to_others(room, connections, conn, reply.changed.as_slice());
-    let place = place_of(reply.conn, letters.as_slice());
-    with_letter(letters, place, own_letter(reply))
+    let Turned {
+        reply,
+        stops: _,
+        rewound,
+    } = turned;
+    let letters = letters_beside(room, connections, conn, &reply.changed, rewound);
+    with_own(letters, reply)
 }

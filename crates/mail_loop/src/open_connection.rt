@@ -11,7 +11,7 @@ ghost use Rattle.mail_loop.specs.Hindrance.{Hindrance};
 ghost use Rattle.mail_loop.specs.Turns.{hears_lines, hears_commands};
 ghost use Rattle.console_head.specs.Request.{Stage};
 ghost use Rattle.mail_loop.specs.ConsoleTurn.{AreSaid, Reading};
-ghost use Rattle.mail_loop.specs.Machine.{Seats, fresh, fresh_console, fresh_reader, hears, holds_one};
+ghost use Rattle.mail_loop.specs.Machine.{Seats, fresh, fresh_console, fresh_reader, hears, holds_one, is_reader};
 ghost use Rattle.mail_loop.specs.ImapTook.{is_not_yet};
 ghost use Rattle.mail_loop.specs.Stands.{IsHome};
 ghost use Rattle.mail_loop.specs.Took.{Tells, answered_alone};
@@ -27,10 +27,11 @@ use smtp_lines::Cutter;
 use smtp_session::SmtpSession;
 use std::alloc::Global;
 use std::marker::Model;
+use std::thread::Threads;
 use time_desk::Desk;
 use time_desk::laws::seals_join;
 use undo_base::NoMemory;
-use undo_outside::Disk;
+use undo_outside::{Disk, Gate};
 use verb_core::BoxId;
 
 /// What a connection speaks, with its stream as far as it was not served, and its dialog.
@@ -98,6 +99,23 @@ pub fn console_connection(alloc: Global) -> Connection
 }
 
 impl Connection {
+    /// Whether it is a mail reader's.
+    pub fn is_reader(&self) -> bool
+        ensures { result ≡ is_reader self.now }
+    {
+        match &self.kind {
+            Kind::Smtp {
+                unserved: _,
+                dialog: _,
+            } => false,
+            Kind::Imap {
+                stream: _,
+                dialog: _,
+            } => true,
+            Kind::Http(_) => false,
+        }
+    }
+
     /// Whether it has one of these mailboxes selected.
     pub fn holds_one(&self, boxes: &[BoxId]) -> bool
         ensures { result ≡ holds_one boxes.now self.now }
@@ -173,7 +191,7 @@ fn hear_smtp<D: Disk + Drop>(
     ensures heard { (seats : Seats) → (no_memory : Bool) × (hs : List Hindrance) × (stage : Stage) × (failed : List JournalRecord) ×
         HaveSealed D.told desk.old desk.new failed × (readings : List Reading) × AreSaid readings ×
         (hears no_memory hs stage at (record { kept = desk.old.kept; seats = seats }) conn (SmtpSeat unserved.old dialog.old) bytes.now
-        ≡ answered_alone conn result.reply desk.new.kept failed (record { readings = readings; stops = result.stops }) (SmtpSeat unserved.new dialog.new) seats) }
+        ≡ answered_alone conn result desk.new.kept failed readings (SmtpSeat unserved.new dialog.new) seats) }
 {
     seals_join::<D>();
     match unserved.feed(bytes) {
@@ -247,7 +265,7 @@ fn hear_imap<D: Disk + Drop>(
     ensures heard { (seats : Seats) → (no_memory : Bool) × (hs : List Hindrance) × (stage : Stage) × (failed : List JournalRecord) ×
         HaveSealed D.told desk.old desk.new failed × (readings : List Reading) × AreSaid readings ×
         (hears no_memory hs stage at (record { kept = desk.old.kept; seats = seats }) conn (ImapSeat stream.old dialog.old) bytes.now
-        ≡ answered_alone conn result.reply desk.new.kept failed (record { readings = readings; stops = result.stops }) (ImapSeat stream.new dialog.new) seats) }
+        ≡ answered_alone conn result desk.new.kept failed readings (ImapSeat stream.new dialog.new) seats) }
 {
     seals_join::<D>();
     match stream.feed(bytes) {
@@ -257,12 +275,14 @@ fn hear_imap<D: Disk + Drop>(
 }
 
 /// Serves the bytes that came over a connection.
-pub fn hear<D: Disk + Drop>(
+pub fn hear<R: Threads + Sync, D: Disk + Drop, G: Gate>(
+    rt: &R,
     alloc: Global,
     desk: &mut Desk<D>,
     connection: &mut Connection,
     conn: u32,
     at: u64,
+    gate: &G,
     bytes: &[u8],
 ) -> Turned
     requires moment { at ≤ 253402300799 }
@@ -273,13 +293,13 @@ pub fn hear<D: Disk + Drop>(
     ensures heard { (seats : Seats) → (no_memory : Bool) × (hs : List Hindrance) × (stage : Stage) × (failed : List JournalRecord) ×
         HaveSealed D.told desk.old desk.new failed × (readings : List Reading) × AreSaid readings ×
         (hears no_memory hs stage at (record { kept = desk.old.kept; seats = seats }) conn connection.old bytes.now
-        ≡ answered_alone conn result.reply desk.new.kept failed (record { readings = readings; stops = result.stops }) connection.new seats) }
+        ≡ answered_alone conn result desk.new.kept failed readings connection.new seats) }
 {
     match &mut connection.kind {
         Kind::Smtp { unserved, dialog } => {
             hear_smtp(alloc, desk, unserved, dialog, conn, at, bytes)
         }
         Kind::Imap { stream, dialog } => { hear_imap(alloc, desk, stream, dialog, conn, at, bytes) }
-        Kind::Http(console) => hear_console(alloc, desk, console, conn, at, bytes),
+        Kind::Http(console) => hear_console(rt, alloc, desk, console, conn, at, gate, bytes),
     }
 }

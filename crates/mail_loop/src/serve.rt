@@ -1,17 +1,19 @@
 //! The serving loop.
-ghost use Rattle.std.specs.Prelude.{◌≡◌, ◌≤◌, ℕ, Bool, List, Ok, Err, IfOk, IfErr, false, [], length};
+ghost use Rattle.std.specs.Prelude.{◌≡◌, ◌≤◌, ◌∷◌, ℕ, Bool, List, Ok, Err, IfOk, IfErr, OnErr, false, [], length};
 ghost use Rattle.console_head.specs.Request.{Stage};
 ghost use Rattle.undo_outside.specs.declared.event.LinkNote.{LinkNote};
 ghost use Rattle.mail_loop.specs.Asked.{HaveSealed};
 ghost use Rattle.mail_loop.specs.Hindrance.{Hindrance};
 ghost use Rattle.mail_loop.specs.Took.{IsNone};
-ghost use Rattle.mail_loop.specs.Machine.{Hindrances, Delivery, admits, after_reply, answered, delivered, happens, hears_at, joins, seat_at};
+ghost use Rattle.smtp_session.specs.declared.answer.Answer.TheVariants.{Ready};
+ghost use Rattle.smtp_session.specs.Answer.{answer_text};
+ghost use Rattle.imap_session.specs.Words.{greeting_text};
+ghost use Rattle.mail_loop.specs.Machine.{Hindrances, Delivery, admits, after_reply, answered, delivered, fresh, fresh_console, fresh_reader, happens, hears_at, joins, seat_at};
 ghost use Rattle.verb_core.specs.declared.conf.House.{House as TheHouse};
-ghost use Rattle.mail_loop.specs.Stands.{AreHome, letter_of, replies_of};
-ghost use Rattle.mail_loop.specs.Did.{AreLicensed, Told, Replied, Sends, Leads, Answers, unclosed_by};
+ghost use Rattle.mail_loop.specs.Stands.{AreHome, IsHome, letter_of, replies_of};
+ghost use Rattle.mail_loop.specs.Did.{AreLicensed, Told, Replied, Sends, Leads, Answers, Opens, unclosed_by};
 ghost use Rattle.mail_loop.specs.Serving.{Step, ServedOver, is_disk, is_end, unsealed_in};
 
-use crate::console_turn::Turned;
 use crate::letters::{Letter, alone, letters_of, room_for_letters};
 use crate::open_connection::{
     Connection, console_connection, hear, imap_connection, smtp_connection,
@@ -25,6 +27,7 @@ use time_desk::Desk;
 use time_desk::laws::seals_join;
 use undo_base::{LAST_MOMENT, NoMemory};
 use undo_outside::{Disk, Event, Fault, Gate, Link, Role, What};
+use verb_core::House;
 
 /// Why serving ended before the end.
 #[derive(Clone, Copy, Debug, PartialEq, Eq, Error)]
@@ -104,6 +107,66 @@ fn keep_if(connections: &mut Connections, conn: u32, stays: bool)
     }
 }
 
+/// Opens a connection. Where no memory is found for it none is opened.
+fn enter(
+    connections: &mut Connections,
+    conn: u32,
+    connection: Connection,
+    letters: Vec<Letter>,
+) -> Result<Vec<Letter>, NoMemory>
+    requires home { (house : TheHouse) → IsHome house connection }
+    ensures home { (house : TheHouse) → AreHome house connections.old.entries → AreHome house connections.new.entries }
+    ensures opens { Opens conn connection (replies_of letters.items) connections.old.entries connections.new.entries (λ replies. replies_of replies.items) result }
+{
+    connections.insert(conn, connection)?;
+    Ok(letters)
+}
+
+/// Opens a mail client's connection, and greets the client.
+fn admit_client(
+    alloc: Global,
+    house: &House,
+    connections: &mut Connections,
+    conn: u32,
+) -> Result<Vec<Letter>, NoMemory>
+    ensures home { (house : TheHouse) → AreHome house connections.old.entries → AreHome house connections.new.entries }
+    ensures opens { Opens conn fresh (record { conn = conn; said = answer_text house.now.host Ready; closes = false } ∷ []) connections.old.entries connections.new.entries (λ replies. replies_of replies.items) result }
+{
+    let letters = alone(alloc, greet(alloc, house, conn)?)?;
+    enter(connections, conn, smtp_connection(alloc), letters)
+}
+
+/// Opens a mail reader's connection, and greets the reader.
+fn admit_reader(
+    alloc: Global,
+    house: &House,
+    connections: &mut Connections,
+    conn: u32,
+) -> Result<Vec<Letter>, NoMemory>
+    ensures home { (house : TheHouse) → AreHome house connections.old.entries → AreHome house connections.new.entries }
+    ensures opens { Opens conn fresh_reader (record { conn = conn; said = greeting_text house.now; closes = false } ∷ []) connections.old.entries connections.new.entries (λ replies. replies_of replies.items) result }
+{
+    let letters = alone(alloc, greet_reader(alloc, house, conn)?)?;
+    enter(connections, conn, imap_connection(alloc), letters)
+}
+
+/// Opens a console's connection, which is not greeted.
+fn admit_console(
+    alloc: Global,
+    connections: &mut Connections,
+    conn: u32,
+) -> Result<Vec<Letter>, NoMemory>
+    ensures home { (house : TheHouse) → AreHome house connections.old.entries → AreHome house connections.new.entries }
+    ensures opens { Opens conn fresh_console [] connections.old.entries connections.new.entries (λ replies. replies_of replies.items) result }
+{
+    enter(
+        connections,
+        conn,
+        console_connection(alloc),
+        Vec::new(alloc),
+    )
+}
+
 /// Opens a connection of a kind that is served, and greets the client.
 fn admit<D: Disk + Drop>(
     alloc: Global,
@@ -117,20 +180,9 @@ fn admit<D: Disk + Drop>(
         desk.now.kept connections.new.entries (λ replies. replies_of replies.items) (λ _. false) result }
 {
     match role {
-        Role::Smtp => {
-            let replies = alone(alloc, greet(alloc, desk.house(), conn)?)?;
-            connections.insert(conn, smtp_connection(alloc))?;
-            Ok(replies)
-        }
-        Role::Imap => {
-            let replies = alone(alloc, greet_reader(alloc, desk.house(), conn)?)?;
-            connections.insert(conn, imap_connection(alloc))?;
-            Ok(replies)
-        }
-        Role::Http => {
-            connections.insert(conn, console_connection(alloc))?;
-            Ok(Vec::new(alloc))
-        }
+        Role::Smtp => admit_client(alloc, desk.house(), connections, conn),
+        Role::Imap => admit_reader(alloc, desk.house(), connections, conn),
+        Role::Http => admit_console(alloc, connections, conn),
     }
 }
 
@@ -179,18 +231,21 @@ fn nothing(alloc: Global) -> Answer
 }
 
 /// Serves bytes that came over a connection. Where it is not open they are ignored. The memory for the strings' places is taken before anything is sealed.
-fn hear_at<D: Disk + Drop>(
+fn hear_at<R: Threads + Sync, D: Disk + Drop, G: Gate>(
+    rt: &R,
     alloc: Global,
     desk: &mut Desk<D>,
     connections: &mut Connections,
     conn: u32,
     at: u64,
+    gate: &G,
     bytes: &[u8],
 ) -> Result<Answer, NoMemory>
     requires moment { at ≤ 253402300799 }
     requires sealed { desk.old.closed ≡ false }
     requires home { AreHome desk.old.kept.house connections.old.entries }
     ensures home { AreHome desk.new.kept.house connections.new.entries }
+    ensures undone { OnErr result (desk.new.kept ≡ desk.old.kept) }
     ensures answers { (no_memory : Bool) × (hs : List Hindrance) × (stage : Stage) ×
         Answers (HaveSealed D.told desk.old desk.new) (hears_at (seat_at conn connections.old.entries) no_memory hs stage at (record { kept = desk.old.kept; seats = connections.old.entries }) conn bytes.now)
         desk.new.kept connections.new.entries (λ answer. replies_of answer.letters.items) (λ answer. answer.stops) result }
@@ -199,24 +254,27 @@ fn hear_at<D: Disk + Drop>(
     let room = room_for_letters(alloc, connections)?;
     let turned = match connections.get_mut(&conn) {
         None => return Ok(nothing(alloc)),
-        Some(connection) => hear(alloc, desk, connection, conn, at, bytes),
+        Some(connection) => hear(rt, alloc, desk, connection, conn, at, gate, bytes),
     };
-    let Turned { reply, stops } = turned;
-    keep_if(connections, conn, !reply.closes);
-    let letters = letters_of(room, connections, conn, reply);
+    keep_if(connections, conn, !turned.reply.closes);
+    let stops = turned.stops;
+    let letters = letters_of(room, connections, conn, turned);
     Ok(Answer { letters, stops })
 }
 
 /// What an event leaves before its strings are sent: the replies by rising connection.
-fn answer_event<D: Disk + Drop>(
+fn answer_event<R: Threads + Sync, D: Disk + Drop, G: Gate>(
+    rt: &R,
     alloc: Global,
     desk: &mut Desk<D>,
     connections: &mut Connections,
+    gate: &G,
     event: &Event,
 ) -> Result<Answer, NoMemory>
     requires sealed { desk.old.closed ≡ false }
     requires home { AreHome desk.old.kept.house connections.old.entries }
     ensures home { AreHome desk.new.kept.house connections.new.entries }
+    ensures undone { OnErr result (desk.new.kept ≡ desk.old.kept) }
     ensures answers { (no_memory : Bool) × (hs : List Hindrance) × (stage : Stage) ×
         Answers (HaveSealed D.told desk.old desk.new) (answered no_memory hs stage (record { kept = desk.old.kept; seats = connections.old.entries }) event.now)
         desk.new.kept connections.new.entries (λ answer. replies_of answer.letters.items) (λ answer. answer.stops) result }
@@ -227,7 +285,7 @@ fn answer_event<D: Disk + Drop>(
         What::Joined(role) => going_on_with(join(alloc, desk, connections, conn, *role)),
         What::Bytes(bytes) => {
             let at = event.at.min(LAST_MOMENT);
-            hear_at(alloc, desk, connections, conn, at, bytes.bytes())
+            hear_at(rt, alloc, desk, connections, conn, at, gate, bytes.bytes())
         }
         What::Left => {
             keep_if(connections, conn, false);
@@ -239,22 +297,24 @@ fn answer_event<D: Disk + Drop>(
 }
 
 /// Serves one event. Answers whether serving is to stop after it.
-fn serve_event<L: Link, D: Disk + Drop>(
+fn serve_event<R: Threads + Sync, L: Link, D: Disk + Drop, G: Gate>(
+    rt: &R,
     alloc: Global,
     desk: &mut Desk<D>,
     connections: &mut Connections,
     link: &mut L,
+    gate: &G,
     event: &Event,
 ) -> Result<bool, NoMemory>
     requires sealed { desk.old.closed ≡ false }
     requires home { AreHome desk.old.kept.house connections.old.entries }
     ensures home { AreHome desk.new.kept.house connections.new.entries }
     ensures leads { (h : Hindrances) × (unclosed : ℕ) × AreLicensed h.deliveries unclosed (L.told link.old) (L.told link.new) ×
-        Leads (HaveSealed D.told desk.old desk.new) unclosed (happens h (record { kept = desk.old.kept; seats = connections.old.entries }) event.now) (L.told link.old) (L.told link.new)
+        Leads (HaveSealed D.told desk.old desk.new) unclosed desk.old.kept (happens h (record { kept = desk.old.kept; seats = connections.old.entries }) event.now) (L.told link.old) (L.told link.new)
         desk.new.kept connections.new.entries result }
 {
     seals_join::<D>();
-    let answer = answer_event(alloc, desk, connections, event)?;
+    let answer = answer_event(rt, alloc, desk, connections, gate, event)?;
     match deliver_all(connections, link, answer.letters.as_slice()) {
         Ok(()) => Ok(answer.stops),
         Err(NoMemory) => Err(NoMemory),
@@ -263,11 +323,11 @@ fn serve_event<L: Link, D: Disk + Drop>(
 
 /// Serves the events of a link until the end comes or a console asks it to stop, at most so many.
 pub fn serve_events<R: Threads + Sync, L: Link, D: Disk + Drop, G: Gate>(
-    _rt: &R,
+    rt: &R,
     alloc: Global,
     desk: &mut Desk<D>,
     link: &mut L,
-    _gate: &G,
+    gate: &G,
     turns: u64,
 ) -> Result<(), ServeFault>
     requires sealed { desk.old.closed ≡ false }
@@ -287,7 +347,7 @@ pub fn serve_events<R: Threads + Sync, L: Link, D: Disk + Drop, G: Gate>(
         if is_end_of(&event) {
             return Ok(());
         }
-        let sent = serve_event(alloc, desk, &mut connections, link, &event);
+        let sent = serve_event(rt, alloc, desk, &mut connections, link, gate, &event);
         if desk.closed() {
             return Err(ServeFault::Disk);
         }

@@ -11,7 +11,7 @@ returns-in_err-answer-clause-leads g c =
     let p = err_from_is_err_and c.from_residual.result c.from_residual.ensures.1 in
     let (b, hs, stage, a) = c.in_err-answer.ensures.answers in
     leads_starved (HaveSealed g.D.Disk.told c.args.desk.now c.answer_event.new.desk) (told c.args.link.now) (record { kept = c.args.desk.now.kept; seats = c.args.connections.now.entries }) c.args.event.now b hs stage c.answer_event.new.desk.kept
-    c.answer_event.new.connections.entries p.0 c.from_residual.result p.1 a.0.0 a.0.1 a.1 a.2
+    c.answer_event.new.connections.entries p.0 c.from_residual.result p.1 a.0.0 a.0.1 c.in_err-answer.ensures.undone a.1 a.2
 
 pub returns-in-Ok-clause-leads : goal.returns-in-Ok-clause-leads
 returns-in-Ok-clause-leads g c =
