@@ -1,5 +1,6 @@
 -- Which status is due comes, unless a call failed or memory was wanted.
 use Rattle.std.proofs.Common.{◌≡◌, ◌≢◌, ◌⊎◌, ℕ, Bool, true, false, List, length, MatchBool, Option, None, Some, Result, Ok, Err, refl, ap, subst, sym, ◌∙◌, inl, inr, arith, nat_lt}
+use Rattle.std.specs.Prelude.{IsErrOf}
 use Rattle.undo_outside.specs.declared.event.Event.{Event}
 use Rattle.undo_outside.specs.declared.event.LinkNote.{LinkNote}
 use Rattle.undo_outside.specs.declared.fault.Fault.{Fault}
@@ -38,6 +39,22 @@ use Rattle.mail_proxy.proofs.Causes.{fault_stays, opened_as}
 the_text : (told : Option (List ℕ)) (known text : List ℕ) → told ≡ Some known → IsText told text → text ≡ known
 the_text None known text e is = cc
 the_text (Some x) known text e is = cc
+
+-- a disk without a byte is not opened
+opened_some : (old new : DiskTold) (x : Kept × ℕ) → Starts old new (Ok x) → old.size ≡ 0 → ⊥
+opened_some old new x starts empty = by_fault (starts.empty empty)
+  where
+    by_fault : IsErrOf {T = Kept × ℕ} (Ok x) start.NotFormatted ⊎ IsErrOf {T = Kept × ℕ} (Ok x) start.Disk → ⊥
+    by_fault (inl e) = let wrong : ◌≡◌ {A = Result (Kept × ℕ) StartFault} (Ok x) (Err start.NotFormatted) = e in cc
+    by_fault (inr e) = let wrong : ◌≡◌ {A = Result (Kept × ℕ) StartFault} (Ok x) (Err start.Disk) = e in cc
+
+-- nor is it damaged
+undamaged : (old new : DiskTold) (place : ℕ) → Starts old new (Err (start.Damaged place)) → old.size ≡ 0 → ⊥
+undamaged old new place starts empty = by_fault (starts.empty empty)
+  where
+    by_fault : IsErrOf {T = Kept × ℕ} (Err (start.Damaged place)) start.NotFormatted ⊎ IsErrOf {T = Kept × ℕ} (Err (start.Damaged place)) start.Disk → ⊥
+    by_fault (inl e) = let wrong : ◌≡◌ {A = Result (Kept × ℕ) StartFault} (Err (start.Damaged place)) (Err start.NotFormatted) = e in cc
+    by_fault (inr e) = let wrong : ◌≡◌ {A = Result (Kept × ℕ) StartFault} (Err (start.Damaged place)) (Err start.Disk) = e in cc
 
 by_disk : {s : ℕ} → s ≡ 5 → IsHindered s
 by_disk e = inl e
@@ -173,27 +190,30 @@ module _ {D : Type 0} (told : D → DiskTold) (disk : D) (end : End D) (text tex
 
   module _ (one_opening : (image : List ℕ) (one two : Result Kept StartFault) → OpensAs image one → OpensAs image two → one ≡ two) where
     -- a store that opened was to open
-    due_opened : (kept : Kept) → ((told disk).honest → OpensAs (told disk).content (Ok kept)) → IsDueStore (told disk) k → k ≡ 0
-    due_opened kept opens (honest, inl (other, leaves, due)) = due
-    due_opened kept opens (honest, inr (inl (not, due))) =
-        absurd (let wrong : ◌≡◌ {A = Result Kept StartFault} (Ok kept) (Err start.NotFormatted) = one_opening (told disk).content (Ok kept) (Err start.NotFormatted) (opens honest) not in cc)
-    due_opened kept opens (honest, inr (inr (place, damaged, due))) =
-        absurd (let wrong : ◌≡◌ {A = Result Kept StartFault} (Ok kept) (Err (start.Damaged place)) = one_opening (told disk).content (Ok kept) (Err (start.Damaged place)) (opens honest) damaged in cc)
+    due_opened : (kept : Kept) (gate : ℕ) (new : DiskTold) → Starts (told disk) new (Ok (kept, gate)) → IsDueStore (told disk) k → k ≡ 0
+    due_opened kept gate new starts (inl (empty, three)) = absurd (opened_some (told disk) new (kept, gate) starts empty)
+    due_opened kept gate new starts (inr (honest, inl (other, leaves, due))) = due
+    due_opened kept gate new starts (inr (honest, inr (inl (not, due)))) =
+        absurd (let wrong : ◌≡◌ {A = Result Kept StartFault} (Ok kept) (Err start.NotFormatted) = one_opening (told disk).content (Ok kept) (Err start.NotFormatted) (opened_as (told disk) new kept gate starts honest) not in cc)
+    due_opened kept gate new starts (inr (honest, inr (inr (place, damaged, due)))) =
+        absurd (let wrong : ◌≡◌ {A = Result Kept StartFault} (Ok kept) (Err (start.Damaged place)) = one_opening (told disk).content (Ok kept) (Err (start.Damaged place)) (opened_as (told disk) new kept gate starts honest) damaged in cc)
 
     -- one that was not opened was not to open
     due_unopened : OpensNone told disk end → IsDueStore (told disk) k → (s ≡ k) ⊎ IsHindered s
-    due_unopened (start.NotFormatted, starts, three, is) (honest, inl (kept, leaves, due)) =
+    due_unopened (start.NotFormatted, starts, three, is) (inl (empty, due)) = inl (stays 3 three (λ z. omega arith) ∙ sym due)
+    due_unopened (start.NotFormatted, starts, three, is) (inr (honest, inl (kept, leaves, due))) =
         absurd (let wrong : ◌≡◌ {A = Result Kept StartFault} (Err start.NotFormatted) (Ok kept) = one_opening (told disk).content (Err start.NotFormatted) (Ok kept) (starts.found honest) leaves in cc)
-    due_unopened (start.NotFormatted, starts, three, is) (honest, inr (inl (not, due))) = inl (stays 3 three (λ z. omega arith) ∙ sym due)
-    due_unopened (start.NotFormatted, starts, three, is) (honest, inr (inr (place, damaged, due))) =
+    due_unopened (start.NotFormatted, starts, three, is) (inr (honest, inr (inl (not, due)))) = inl (stays 3 three (λ z. omega arith) ∙ sym due)
+    due_unopened (start.NotFormatted, starts, three, is) (inr (honest, inr (inr (place, damaged, due)))) =
         absurd (let wrong : ◌≡◌ {A = Result Kept StartFault} (Err start.NotFormatted) (Err (start.Damaged place)) =
         one_opening (told disk).content (Err start.NotFormatted) (Err (start.Damaged place)) (starts.found honest) damaged in cc)
-    due_unopened (start.Damaged p, starts, ten, is) (honest, inl (kept, leaves, due)) =
+    due_unopened (start.Damaged p, starts, ten, is) (inl (empty, due)) = absurd (undamaged (told disk) (told end.disk) p starts empty)
+    due_unopened (start.Damaged p, starts, ten, is) (inr (honest, inl (kept, leaves, due))) =
         absurd (let wrong : ◌≡◌ {A = Result Kept StartFault} (Err (start.Damaged p)) (Ok kept) = one_opening (told disk).content (Err (start.Damaged p)) (Ok kept) (starts.found honest) leaves in cc)
-    due_unopened (start.Damaged p, starts, ten, is) (honest, inr (inl (not, due))) =
+    due_unopened (start.Damaged p, starts, ten, is) (inr (honest, inr (inl (not, due)))) =
         absurd (let wrong : ◌≡◌ {A = Result Kept StartFault} (Err (start.Damaged p)) (Err start.NotFormatted) =
         one_opening (told disk).content (Err (start.Damaged p)) (Err start.NotFormatted) (starts.found honest) not in cc)
-    due_unopened (start.Damaged p, starts, ten, is) (honest, inr (inr (place, damaged, due))) = inl (stays 10 ten (λ z. omega arith) ∙ sym due)
+    due_unopened (start.Damaged p, starts, ten, is) (inr (honest, inr (inr (place, damaged, due)))) = inl (stays 10 ten (λ z. omega arith) ∙ sym due)
     due_unopened (start.Disk, starts, five, is) due = inr (by_disk (stays 5 five (λ z. omega arith)))
     due_unopened (start.NoMemory, starts, eight, is) due = starved eight
 
@@ -206,20 +226,20 @@ module _ {D : Type 0} (told : D → DiskTold) (disk : D) (end : End D) (text tex
         by_script (Err n) e runs = absurd (let wrong : ◌≡◌ {A = Result (List Event) ℕ} (Err n) (Ok events) = e in cc)
         by_script (Ok all) e (inl none) = due_unopened none due
         by_script (Ok all) e (inr (desk, starts, (last, run, disk_is, journals))) =
-            served run.outcome desk.kept all run.notes run.steps last.kept run.played run.tells (due_opened desk.kept (opened_as (told disk) (told desk.disk) desk.kept desk.gate starts) due)
+            served run.outcome desk.kept all run.notes run.steps last.kept run.played run.tells (due_opened desk.kept desk.gate (told desk.disk) starts due)
 
     due_check : Checks told disk end → IsDueStore (told disk) k → (s ≡ k) ⊎ IsHindered s
     due_check (inl none, kept) due = due_unopened none due
     due_check (inr (desk, starts, counted), kept) due = by_told counted.0
       where
         by_told : TellsCounts desk.kept end.status end.output → (s ≡ k) ⊎ IsHindered s
-        by_told (inl (nought, is)) = well nought (due_opened desk.kept (opened_as (told disk) (told desk.disk) desk.kept desk.gate starts) due)
+        by_told (inl (nought, is)) = well nought (due_opened desk.kept desk.gate (told desk.disk) starts due)
         by_told (inr (eight, is)) = starved eight
 
     due_serve : ServesStore told link link' disk end → IsDueStore (told disk) k → (s ≡ k) ⊎ IsHindered s
     due_serve (inl (none, still)) due = due_unopened none due
     due_serve (inr (desk, starts, (last, run, disk_is, journals))) due =
-        by_outcome run.outcome run.status_is (due_opened desk.kept (opened_as (told disk) (told desk.disk) desk.kept desk.gate starts) due)
+        by_outcome run.outcome run.status_is (due_opened desk.kept desk.gate (told desk.disk) starts due)
       where
         by_outcome : (outcome : Result (Unit {0}) ServeFault) → end.status ≡ status_of outcome → k ≡ 0 → (s ≡ k) ⊎ IsHindered s
         by_outcome (Ok x) status zero = well status zero

@@ -17,13 +17,15 @@ use Rattle.mail_proxy.specs.Init.{IsConfig}
 abbrev pub IsDueInit : DiskTold → ℕ → Type 0
 IsDueInit disk k = ((disk.size ≡ 0) × (k ≡ 0)) ⊎ ((disk.size ≢ 0) × (k ≡ 3))
 
--- a store is opened where its records can stand; else it is no store, or damaged
+-- An empty disk is no store, also one of which nothing more is known. An honest one is opened where its records can stand; else it is no store, or
+-- damaged.
 abbrev pub IsDueStore : DiskTold → ℕ → Type 0
 IsDueStore disk k =
-    disk.honest
+    ((disk.size ≡ 0) × (k ≡ 3))
+    ⊎ (disk.honest
     × (((kept : Kept) × OpensAs disk.content (Ok kept) × (k ≡ 0))
     ⊎ (OpensAs disk.content (Err NotFormatted) × (k ≡ 3))
-    ⊎ ((place : ℕ) × OpensAs disk.content (Err (Damaged place)) × (k ≡ 10)))
+    ⊎ ((place : ℕ) × OpensAs disk.content (Err (Damaged place)) × (k ≡ 10))))
 
 -- what is due for a text in the grammar of the command
 abbrev pub IsDueFor : Option Command → List ℕ → DiskTold → ℕ → Type 0

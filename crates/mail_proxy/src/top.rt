@@ -1,15 +1,18 @@
 //! The top call.
-ghost use Rattle.std.specs.Prelude.{◌≡◌, ◌⊎◌, ℕ, false, Some, map, string_bytes};
+ghost use Rattle.std.specs.Prelude.{◌≡◌, ◌⊎◌, ℕ, false, Some, IfErr, IfOk, map, string_bytes};
 ghost use Rattle.command_words.specs.Usage.{command_of};
 ghost use Rattle.mail_proxy.specs.Answers.{Answers, Does, Shows};
 ghost use Rattle.mail_proxy.specs.Causes.{Comes, uses_disk, uses_link, uses_text};
 ghost use Rattle.mail_proxy.specs.Due.{IsDue, IsHindered};
 ghost use Rattle.mail_proxy.specs.Plans.{end_of};
+ghost use Rattle.mail_proxy.specs.Lines.{no_memory};
+ghost use Rattle.mail_proxy.specs.Reading.{Wrote};
+ghost use Rattle.mail_proxy.specs.Runs.{Runs};
 ghost use Rattle.mail_proxy.specs.Texts.{End};
 
 use crate::check::plan_check;
 use crate::init::plan_init;
-use crate::plan::{LastLine, Plan, only_line, show};
+use crate::plan::{LastLine, Plan, only_line, show, without_memory};
 use crate::play::plan_play;
 use crate::script::plan_script;
 use crate::serve::plan_serve;
@@ -17,6 +20,7 @@ use command_words::{Command, WordsRefused, read_words};
 use std::alloc::Global;
 use std::thread::Threads;
 use time_desk::one_opening;
+use undo_base::NoMemory;
 use undo_outside::{Disk, Gate, Link, Sink, Source};
 
 /// What the words come to.
@@ -93,4 +97,27 @@ pub fn run<R: Threads + Sync, S: Source, L: Link, D: Disk + Drop, W: Sink, G: Ga
     one_opening();
     let (plan, disk) = make_plan(rt, alloc, words, text, link, disk, gate);
     (show(alloc, &plan, out), disk)
+}
+
+/// The program's status: does what the words say, where memory was found for them.
+pub fn status_of_words<R: Threads + Sync, S: Source, L: Link, D: Disk + Drop, W: Sink, G: Gate>(
+    rt: &R,
+    alloc: Global,
+    words: &Vec<String>,
+    found: Result<(), NoMemory>,
+    text: &mut S,
+    link: &mut L,
+    disk: D,
+    out: &mut W,
+    gate: &G,
+) -> u8
+    ensures found { IfOk found (λ _. Runs D.told (map string_bytes words.now.items) disk
+        (record { text = S.told text.old; link = L.told link.old; disk = D.told disk; out = W.told out.old })
+        (S.told text.new) (L.told link.new) (W.told out.new) result) }
+    ensures lacked { IfErr found (λ _. (result ≡ 8) × Wrote (W.told out.old) (W.told out.new) no_memory × (text.new ≡ text.old) × (link.new ≡ link.old)) }
+{
+    match found {
+        Ok(()) => run(rt, alloc, words, text, link, disk, out, gate).0,
+        Err(NoMemory) => without_memory(out),
+    }
 }
