@@ -5,7 +5,7 @@ use Rattle.std.specs.Ordering.{nat_cmp}
 use Rattle.undo_base.specs.declared.memory.NoMemory.{NoMemory as WantOfMemory}
 use Rattle.verb_core.specs.declared.conf.House.{House}
 use Rattle.paradox.specs.Kept.{Kept}
-use Rattle.mail_loop.specs.State.{Seat, State}
+use Rattle.mail_loop.specs.State.{Seat}
 use Rattle.mail_loop.specs.ConsoleTurn.{no_consoles}
 use Rattle.mail_loop.specs.Machine.{Answered, Reply, Seats, with_new_seat}
 use Rattle.mail_loop.specs.Did.{Answers, Opens}

@@ -1,4 +1,4 @@
-use Rattle.std.proofs.Common.{◌∷◌, [], false, refl, subst, sym}
+use Rattle.std.proofs.Common.{◌∷◌, [], false, subst, sym}
 use Rattle.smtp_session.specs.declared.answer.Answer.TheVariants.{Ready}
 use Rattle.smtp_session.specs.Answer.{answer_text}
 use Rattle.mail_loop.specs.State.{Seat}
