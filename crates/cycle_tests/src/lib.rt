@@ -1,8 +1,17 @@
-//! Tests of mail_cycle, which nothing of the program calls: each public call that can want memory is called with ample
-//! memory, and its answer compared. They stand in a crate of their own, since a crate with tests is proved twice.
+//! Tests of cycles in memory: their exact values, over what two users did and the operator. They stand in a crate of their
+//! own, since a crate with tests is proved twice.
+//!
+//! `moves` says what is done and asked, `past` does it on a store, `cycling` asks for cycles over it, and `told` compares what
+//! they leave; `tests` has the tables.
 #![tactic(auto)]
 
 #[cfg(test)]
-mod cycles;
+mod cycling;
 #[cfg(test)]
-mod doing;
+mod moves;
+#[cfg(test)]
+mod past;
+#[cfg(test)]
+mod tests;
+#[cfg(test)]
+mod told;
