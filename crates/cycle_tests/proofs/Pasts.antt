@@ -8,7 +8,7 @@ use Rattle.verb_core.specs.Step.{run, step}
 use Rattle.verb_core.specs.Store.{IsValid, MailStore}
 use Rattle.verb_core.proofs.Joins.{run_joined}
 use Rattle.cycle_tests.specs.Pasts.{IsPast, first_store}
-use Rattle.cycle_tests.specs.declared.past.Past.{Past}
+use Rattle.cycle_tests.specs.declared.states.Past.{Past}
 
 all_with : {X : Type 0} (P : X → Type 0) (xs : List X) (x : X) → P x → AllByRecursion P xs → AllByRecursion P (xs ++ x ∷ [])
 all_with P [] x p all = (p, tt)

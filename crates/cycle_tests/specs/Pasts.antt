@@ -11,8 +11,8 @@ use Rattle.verb_core.specs.Items.{IsWellFormed, users_in}
 use Rattle.verb_core.specs.Step.{run}
 use Rattle.verb_core.specs.Store.{IsValid, MailStore, is_house, is_known, opening}
 use Rattle.mail_cycle.specs.declared.settling.Rewound.{Rewound}
-use Rattle.cycle_tests.specs.declared.cycling.Standing.{Standing}
-use Rattle.cycle_tests.specs.declared.past.Past.{Past}
+use Rattle.cycle_tests.specs.declared.states.Standing.{Standing}
+use Rattle.cycle_tests.specs.declared.states.Past.{Past}
 
 -- an act that names known users alone
 abbrev pub NamesKnown : House → Act → Type 0

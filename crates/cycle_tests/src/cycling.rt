@@ -7,7 +7,8 @@ ghost use Rattle.repair_desk.specs.Repairs.{are_known};
 ghost use Rattle.cycle_tests.specs.Pasts.{IsPast, IsStanding, left};
 
 use crate::moves::{Acted, Move, act, name, text};
-use crate::past::{AT, Past, begin, done, house, opening};
+use crate::past::{AT, begin, done, house, opening};
+use crate::states::{Past, Standing};
 use crate::told::{Told, leaves};
 use box_store::{Steps, Store};
 use mail_cycle::laws::cycles_leave_states;
@@ -80,14 +81,6 @@ fn stamps_of(alloc: Global, store: &Store) -> Result<Stamps, NoMemory>
 {
     let rows = store.rows(alloc)?;
     first_stamps(alloc, rows.as_slice())
-}
-
-/// What was done, with a stamp for each mailbox, and the next number.
-#[derive(Drop)]
-pub(crate) struct Standing {
-    pub(crate) past: Past,
-    pub(crate) stamps: Stamps,
-    pub(crate) next: u32,
 }
 
 fn stamped(alloc: Global, house: &House, past: Past, next: u32) -> Result<Standing, NoMemory>

@@ -8,6 +8,7 @@ ghost use Rattle.verb_core.specs.Store.{IsValid, is_house, is_known};
 ghost use Rattle.cycle_tests.specs.Pasts.{IsPast, NamesKnown, first_store, no_conf};
 
 use crate::moves::{Move, act, ask_of, mail, name};
+use crate::states::Past;
 use box_store::{Steps, Store};
 use std::alloc::Global;
 use std::sync::ledger::Ledger;
@@ -18,13 +19,6 @@ use verb_core::{Account, Accounts, Act, Aliases, Ask, Conf, Filters, House, Item
 
 /// The moment of each item.
 pub(crate) const AT: u64 = 1105092000;
-
-/// A store, and the items that led to it.
-#[derive(Drop)]
-pub(crate) struct Past {
-    pub(crate) store: Store,
-    pub(crate) items: Items,
-}
 
 fn account(alloc: Global, user: &str) -> Result<Account, Fail> {
     let password = name(alloc, "p")?;
