@@ -2,8 +2,7 @@
 //! crate with tests is proved twice.
 //!
 //! `asks` makes what is asked and what the operator does. `desks` has desks over disks in memory, and asks them. `making`,
-//! `submitting`, `acting` and `starting` have the tests of calls that fail, `crashing` starts from what a crash leaves, and
-//! `cycling` has both of cycles.
+//! `submitting`, `acting` and `starting` have the tests of calls that fail, and `crashing` starts from what a crash leaves.
 #![tactic(auto)]
 
 #[cfg(test)]
@@ -12,8 +11,6 @@ mod acting;
 mod asks;
 #[cfg(test)]
 mod crashing;
-#[cfg(test)]
-mod cycling;
 #[cfg(test)]
 mod desks;
 #[cfg(test)]
