@@ -1,0 +1,54 @@
+//! Desks that are started over disks in memory.
+use mail_desk::Counts;
+use std::alloc::Global;
+use std::test::Fail;
+use time_desk::{Desk, StartFault};
+use undo_base::{Numbers, Text};
+use undo_outside::MemDisk;
+
+/// The journal of ann, bob and carl in which ann made Work, by the item of number 2.
+pub(crate) const JOURNAL: &[u8] =
+    b"\x55\x00\x00\x00\x47\x00\x09mail.test\x00\x00\x00\x01\x09mail.test\x00\x00\x00\x02\x00\x00\x00\x03\x03ann\x02a1\x03bob\x02b2\x04carl\x02c3\x00\x00\x00\x00\x01\x04team\x00\x00\x00\x02\x00\x01\x55\x00\x00\x00\x15\x01\x00\x00\x00\x02\x00\x00\x00\x00\x41\xde\x5d\xa0\x00\x0b\x04Work\x00\x00";
+
+/// What is kept, as far as it is compared: the digest of the store, and the counts.
+pub(crate) type Kept = (Text, Counts);
+
+/// A disk with these bytes, whose calls of these ordinals fail.
+fn disk_of(alloc: Global, bytes: &[u8], failing: &[u32]) -> Result<MemDisk, Fail> {
+    let failing = Numbers::from_vec(Vec::from_slice(alloc, failing)?);
+    Ok(MemDisk::new(alloc, Text::of(alloc, bytes)?, failing))
+}
+
+/// The desk that was started.
+fn desk_of(started: Result<Desk<MemDisk>, (MemDisk, StartFault)>) -> Result<Desk<MemDisk>, Fail> {
+    match started {
+        Ok(desk) => Ok(desk),
+        Err((disk, _fault)) => {
+            drop(disk);
+            Err(Fail::new("no desk"))
+        }
+    }
+}
+
+/// A desk that is started over an image, on a disk whose calls of these ordinals fail.
+pub(crate) fn started(alloc: Global, image: &[u8], failing: &[u32]) -> Result<Desk<MemDisk>, Fail> {
+    let disk = disk_of(alloc, image, failing)?;
+    desk_of(Desk::start(alloc, disk))
+}
+
+pub(crate) fn kept(alloc: Global, desk: &Desk<MemDisk>) -> Result<Kept, Fail> {
+    Ok((desk.digest(alloc)?, desk.counts()))
+}
+
+pub(crate) fn keeps(alloc: Global, desk: &Desk<MemDisk>, wanted: &Kept) -> Result<bool, Fail> {
+    let digest = desk.digest(alloc)?;
+    Ok(digest == wanted.0 && desk.counts() == wanted.1)
+}
+
+/// Whether a desk that is started over an image keeps this.
+pub(crate) fn starts_with(alloc: Global, image: &[u8], wanted: &Kept) -> Result<bool, Fail> {
+    let desk = started(alloc, image, &[])?;
+    let keeps = keeps(alloc, &desk, wanted);
+    drop(desk);
+    keeps
+}
