@@ -1,0 +1,101 @@
+#!/usr/bin/env python3
+"""Refuses one allocation of a cycle after the other, and looks at what is left.
+
+usage: bench/starve.py PROGRAM      (the built program; needs cc, to make a malloc that refuses its Nth call)
+
+For each of three stories of tests/cases/cycles (a filter by mistake, an infected delivery, a wrong alias): what comes before
+the cycle is done over a store; then, for each N until none is refused, a copy of that store gets the cycle while the Nth
+allocation of the run is refused, and is looked at in the same run and in the next, where none is. What is seen must be the
+store without the cycle or with all of it: with it where the operator was told the report, without it where want of memory
+was told, and either where the connection closed without a word or the run ended for want of memory.
+"""
+import collections, os, re, shutil, subprocess, sys, tempfile
+
+TOP = os.path.dirname(os.path.dirname(os.path.abspath(__file__)))
+SHIM = r'''
+#define _GNU_SOURCE
+#include <dlfcn.h>
+#include <fcntl.h>
+#include <stdlib.h>
+#include <unistd.h>
+static long at = -1, count;
+static int refused(void) {
+    if (at < 0) { char *word = getenv("REFUSE_AT"); at = word ? atol(word) : 0; }
+    count++;
+    if (count != at) return 0;
+    char *told = getenv("REFUSE_TOLD");
+    if (told) { int unused = open(told, O_CREAT | O_WRONLY, 0600); if (unused >= 0) close(unused); }
+    return 1;
+}
+void *malloc(size_t n) { static void *(*real)(size_t); if (!real) real = dlsym(RTLD_NEXT, "malloc"); return refused() ? 0 : real(n); }
+void *realloc(void *p, size_t n) { static void *(*real)(void *, size_t); if (!real) real = dlsym(RTLD_NEXT, "realloc"); return refused() ? 0 : real(p, n); }
+void *aligned_alloc(size_t a, size_t n) { static void *(*real)(size_t, size_t); if (!real) real = dlsym(RTLD_NEXT, "aligned_alloc"); return refused() ? 0 : real(a, n); }
+int posix_memalign(void **p, size_t a, size_t n) { static int (*real)(void **, size_t, size_t); if (!real) real = dlsym(RTLD_NEXT, "posix_memalign"); return refused() ? 12 : real(p, a, n); }
+'''
+LOOKS = ['/status', '/timeline/0', '/conf'] + [f'/box/{user}/{box}' for user in ('ann', 'bob', 'carl') for box in ('INBOX', 'Lost+Found', 'Keep')]
+
+def looks(first): return ''.join(f'open {first + n} http\nline {first + n} GET {path} HTTP/1.1\nline {first + n}\n' for n, path in enumerate(LOOKS))
+
+def said(transcript):
+    """What each connection was told."""
+    found = collections.defaultdict(str)
+    for number, kind, text in re.findall(r'(?m)^(\d+)([<+])(.*)$', transcript): found[int(number)] += kind + text + '\n'
+    return found
+
+def answers(transcript, first):
+    told = said(transcript)
+    return [told.get(first + n, '') for n in range(len(LOOKS))]
+
+def main():
+    if len(sys.argv) != 2: sys.exit(__doc__)
+    program = os.path.abspath(sys.argv[1])
+    work = tempfile.mkdtemp()
+    shim, mark = os.path.join(work, 'refuse.so'), os.path.join(work, 'mark')
+    with open(os.path.join(work, 'refuse.c'), 'w') as out: out.write(SHIM)
+    subprocess.run(['cc', '-shared', '-fPIC', '-w', '-o', shim, os.path.join(work, 'refuse.c'), '-ldl'], check=True)
+    base, store = os.path.join(work, 'base'), os.path.join(work, 'store')
+
+    def run(words, text, at=0):
+        env = dict(os.environ, LD_PRELOAD=shim, REFUSE_AT=str(at), REFUSE_TOLD=mark) if at else dict(os.environ)
+        done = subprocess.run([program, *words], input=text.encode(), stdout=subprocess.PIPE, stderr=subprocess.STDOUT, env=env, timeout=60)
+        return done.returncode, done.stdout.decode('latin-1')
+
+    bad = 0
+    for name in ('filter-by-mistake', 'infected-delivery', 'wrong-alias'):
+        case = open(os.path.join(TOP, 'tests', 'cases', 'cycles', name + '.case'), encoding='latin-1').read()
+        text = re.search(r'(?ms)^=== stdin\n(.*?)^=== ', case)[1]
+        before, asker, rest = re.match(r'(?s)(.*?)^(open (?:\d+) http\n(?:data|line) \d+ POST /cycle.*?)(?=^(?:open|at)\b|\Z)(.*)', text, re.M).groups()
+        number = int(re.match(r'open (\d+)', asker)[1])
+        for path in (base, store):
+            if os.path.exists(path): os.remove(path)
+        run(['init', base], open(os.path.join(TOP, 'examples', 'house.toml')).read())
+        run(['script', base], before)
+        moment = 'at 1105092000\n'
+        without = answers(run(['play'], before + looks(500))[1], 500)
+        shutil.copy(base, store)
+        whole = answers(run(['script', store], moment + asker + looks(500))[1], 500)
+        if without == whole: sys.exit(f'{name}: the cycle changes nothing that is looked at')
+        count, at = collections.Counter(), 0
+        while True:
+            at += 1
+            shutil.copy(base, store)
+            if os.path.exists(mark): os.remove(mark)
+            status, out = run(['script', store], moment + asker + looks(500), at)
+            if not os.path.exists(mark): break
+            told = said(out).get(number, '')
+            kind = 'done' if ' 200 ' in told else 'refused' if ' 503 ' in told else 'silent'
+            after = answers(run(['script', store], moment + looks(700))[1], 700)
+            left = 'whole' if after == whole else 'without' if after == without else 'NEITHER'
+            here = [it for it in zip(answers(out, 500), without, whole) if ' 200 ' in it[0]]
+            same = all(it[0] == it[2] for it in here) if left == 'whole' else all(it[0] == it[1] for it in here)
+            fits = left != 'NEITHER' and same and (kind, left) not in (('done', 'without'), ('refused', 'whole'))
+            count[(kind, left)] += 1
+            if not fits:
+                bad += 1
+                print(f'{name}: allocation {at}: {kind}, {left}, in the run {"the same" if same else "another"}, status {status}')
+        print(f'{name}: {at - 1} allocations; ' + ', '.join(f'{kind} and {left}: {n}' for (kind, left), n in sorted(count.items())))
+    shutil.rmtree(work)
+    print('each left the store as it was, or with the whole cycle' if not bad else f'{bad} did not')
+    sys.exit(1 if bad else 0)
+
+main()
