@@ -1,0 +1,5 @@
+pub mod Asked
+pub mod Lines
+pub mod Fields
+pub mod Occurs
+pub mod Meets
