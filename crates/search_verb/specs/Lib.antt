@@ -3,3 +3,4 @@ pub mod Lines
 pub mod Fields
 pub mod Occurs
 pub mod Meets
+pub mod Codes

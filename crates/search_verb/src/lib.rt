@@ -5,10 +5,12 @@
 //! `looked_at`, both with no memory and no refusal.
 #![tactic(auto)]
 
+mod building;
 mod candidate;
 mod keys;
 mod matching;
 
+pub use building::{Search, Searches};
 pub use candidate::{Candidate, Look};
 pub use keys::{Bytes, SearchKey, SearchKeys, SearchRange, SearchRanges};
 pub use matching::looks;
