@@ -1,7 +1,7 @@
 -- Fields of a header, their names and values, and what follows the header (RFC 5322, 2.1 and 2.2).
-use Rattle.std.specs.Prelude.{ℕ, Bool, false, ◌+◌, ◌-◌, ◌==◌, ◌||◌, ◌&&◌, List, [], ◌∷◌, ◌++◌, length, take, drop, flat_map, if◌then◌else◌}
-use Rattle.std.specs.List.{list_any, before_first, position_or_len, suffix_len}
-use Rattle.std.specs.Str.{bytes_eq, str_eq_ignore_ascii_case}
+use Rattle.std.specs.Prelude.{ℕ, Bool, false, ◌-◌, ◌==◌, ◌||◌, ◌&&◌, List, [], ◌∷◌, ◌++◌, length, take, drop, flat_map, if◌then◌else◌}
+use Rattle.std.specs.List.{list_any, before_first, after_first, suffix_len}
+use Rattle.std.specs.Str.{str_eq_ignore_ascii_case}
 use Rattle.search_verb.specs.Lines.{lines_of, is_empty_line}
 
 -- a space or a tab
@@ -66,14 +66,10 @@ name_of field = trimmed (before_first is_colon field)
 abbrev pub is_named : List ℕ → List ℕ → Bool
 is_named name field = list_any is_colon field && str_eq_ignore_ascii_case (name_of field) name
 
--- whether CRLF stands at the end
-abbrev pub ends_line : List ℕ → Bool
-ends_line bytes = bytes_eq (drop (length bytes - 2) bytes) (13 ∷ 10 ∷ [])
-
--- bytes without the CRLF at their end
+-- bytes without the CRLF at their end, where one stands there
 abbrev pub without_end : List ℕ → List ℕ
-without_end bytes = if ends_line bytes then take (length bytes - 2) bytes else bytes
+without_end bytes = if is_empty_line (drop (length bytes - 2) bytes) then take (length bytes - 2) bytes else bytes
 
 -- the value of a field: what stands behind its first colon, without the last CRLF
 abbrev pub value_of : List ℕ → List ℕ
-value_of field = without_end (drop (position_or_len is_colon field + 1) field)
+value_of field = without_end (after_first is_colon field)

@@ -30,8 +30,39 @@ day_of at = pos (at / 86400)
 abbrev pub has_field : (name string text : List ℕ) → Bool
 has_field name string text = list_any (λ field. is_named name field && occurs_in string (value_of field)) (fields_of text)
 
+-- what is known of a message of a view: its place and UID with the last of the view, its flags, its moment in seconds from 1970, its size and its text
+pub record Facts : Type 0 where
+  pub place : ℕ
+  pub uid : ℕ
+  pub last_place : ℕ
+  pub last_uid : ℕ
+  pub answered : Bool
+  pub flagged : Bool
+  pub deleted : Bool
+  pub seen : Bool
+  pub draft : Bool
+  pub at : ℕ
+  pub size : ℕ
+  pub text : List ℕ
+
+abbrev pub facts_of : Candidate → Facts
+facts_of what = record {
+  place = what.place;
+  uid = what.uid;
+  last_place = what.last_place;
+  last_uid = what.last_uid;
+  answered = what.answered;
+  flagged = what.flagged;
+  deleted = what.deleted;
+  seen = what.seen;
+  draft = what.draft;
+  at = what.at;
+  size = what.size;
+  text = what.text.now;
+}
+
 -- whether a message meets what is asked
-abbrev pub meets : Asked → Candidate → Bool
+abbrev pub meets : Asked → Facts → Bool
 meets Every what = true
 meets Never what = false
 meets Answered what = what.answered
@@ -46,16 +77,16 @@ meets (On day) what = int_eq (day_of what.at) day
 meets (Since day) what = int_le day (day_of what.at)
 meets (Larger size) what = nat_lt size what.size
 meets (Smaller size) what = nat_lt what.size size
-meets (Field name string) what = has_field name string what.text.now
-meets (Body string) what = occurs_in string (behind_header what.text.now)
-meets (Text string) what = occurs_in string what.text.now
+meets (Field name string) what = has_field name string what.text
+meets (Body string) what = occurs_in string (behind_header what.text)
+meets (Text string) what = occurs_in string what.text
 meets (Not asked) what = not (meets asked what)
 meets (Or first second) what = meets first what || meets second what
 meets (And first rest) what = meets first what && meets rest what
 
 -- whether a message matches a key
 abbrev pub does_match : SearchKey → Candidate → Bool
-does_match key what = meets (asked_by key) what
+does_match key what = meets (asked_by key) (facts_of what)
 
 -- the greater of two: nothing, then the size, then the text
 abbrev pub greater : Look → Look → Look

@@ -2,10 +2,9 @@
 ghost use Rattle.std.specs.Prelude.{◌≡◌, [], ◌∷◌, ◌++◌, IfOk, OnOk, OnErr, length};
 ghost use Rattle.search_verb.specs.Asked.{asked_by, Every, Never, Answered, Deleted, Draft, Flagged, Seen, Places, Uids, Before, On, Since, Larger, Smaller, Field, Body, Text, Not, Or};
 ghost use Rattle.search_verb.specs.Asked as asked;
-ghost use Rattle.search_verb.specs.Meets.{meets, needed};
+ghost use Rattle.search_verb.specs.Meets.{meets, facts_of, needed};
 
-use crate::matching;
-use crate::{Bytes, Candidate, Look, SearchKey, SearchKeys, SearchRanges};
+use crate::{Bytes, Candidate, Look, SearchKey, SearchKeys, SearchRanges, matching};
 use std::alloc::Global;
 use std::marker::Model;
 use undo_base::NoMemory;
@@ -237,6 +236,13 @@ impl Search {
     {
         let Searches { keys } = searches;
         Search::of(SearchKey::And(keys))
+    }
+
+    /// Whether a message matches. It takes no memory.
+    pub fn matches(&self, what: &Candidate<'_>) -> bool
+        ensures { result ≡ meets self.now (facts_of what.now) }
+    {
+        matching::matches(&self.key, what)
     }
 
     /// What of a message has to be looked at to tell whether it matches.

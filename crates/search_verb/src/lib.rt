@@ -7,10 +7,13 @@
 
 mod building;
 mod candidate;
+mod fields;
 mod keys;
+mod lines;
 mod matching;
+mod occurs;
 
 pub use building::{Search, Searches};
 pub use candidate::{Candidate, Look};
 pub use keys::{Bytes, SearchKey, SearchKeys, SearchRange, SearchRanges};
-pub use matching::looks;
+pub use matching::{looks, matches};
