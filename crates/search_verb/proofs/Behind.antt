@@ -1,7 +1,7 @@
 -- What stands behind a line, and behind a field.
-use Rattle.std.proofs.Common.{◌≡◌, ℕ, ◌<◌, ◌==◌, ◌&&◌, Bool, true, false, List, [], ◌∷◌, ◌++◌, length, refl, ap, sym, ◌∙◌, arith}
+use Rattle.std.proofs.Common.{◌≡◌, ℕ, ◌<◌, ◌&&◌, Bool, true, false, List, [], ◌∷◌, length, refl, ap, ◌∙◌, arith}
 use Rattle.search_verb.specs.Lines.{is_end, onto_first, lines_of, is_empty_line, begins_empty}
-use Rattle.search_verb.specs.Fields.{header_lines, later_lines, fields_of, joined, behind_header, is_named, value_of}
+use Rattle.search_verb.specs.Fields.{fields_of, joined, behind_header, is_named, value_of}
 use Rattle.search_verb.specs.Occurs.{occurs_in}
 use Rattle.search_verb.specs.Meets.{has_field}
 use Rattle.search_verb.proofs.Grouping.{Begins, begins}

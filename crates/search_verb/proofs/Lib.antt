@@ -1,5 +1,5 @@
-pub mod Asking
 pub mod Cutting
 pub mod Grouping
 pub mod Behind
 pub mod Finding
+pub mod Rows

@@ -1,5 +1,5 @@
 -- What a search key asks, as a tree of parts of one and of two (RFC 3501, 6.4.4).
-use Rattle.std.specs.Prelude.{ℕ, ℤ, List, [], ◌∷◌, map}
+use Rattle.std.specs.Prelude.{ℕ, ℤ, List, [], ◌∷◌}
 use Rattle.search_verb.specs.declared.keys.SearchRange.{SearchRange}
 use Rattle.search_verb.specs.declared.keys.SearchKey.{SearchKey}
 use Rattle.search_verb.specs.declared.keys.SearchKey.TheOpen.{SearchKey-F}

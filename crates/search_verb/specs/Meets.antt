@@ -1,5 +1,5 @@
 -- Which messages a search key matches, and what of a message has to be looked at (RFC 3501, 6.4.4).
-use Rattle.std.specs.Prelude.{ℕ, ◌/◌, Bool, true, false, not, ◌&&◌, ◌||◌, List, min, max, nat_lt, nat_le, ℤ, pos, int_lt, int_le, Option, Some, None, unwrap_or}
+use Rattle.std.specs.Prelude.{ℕ, ◌/◌, Bool, true, false, not, ◌&&◌, ◌||◌, List, min, max, nat_lt, nat_le, ℤ, pos, int_lt, int_le, unwrap_or}
 use Rattle.std.specs.Ordering.{int_eq}
 use Rattle.std.specs.List.{list_any}
 use Rattle.search_verb.specs.declared.keys.SearchRange.{SearchRange}

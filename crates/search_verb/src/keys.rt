@@ -1,5 +1,6 @@
 //! Search keys.
-use undo_base::{Sequence, Text};
+use std::alloc::Global;
+use undo_base::{Copies, NoMemory, Sequence, Text};
 
 /// The string of a key, or the name of a field.
 pub type Bytes = Text;
@@ -9,6 +10,12 @@ pub type Bytes = Text;
 pub struct SearchRange {
     pub from: Option<u32>,
     pub to: Option<u32>,
+}
+
+impl Copies for SearchRange {
+    fn copy(&self, _alloc: Global) -> Result<SearchRange, NoMemory> {
+        Ok(*self)
+    }
 }
 
 /// Ranges of numbers, in the order in which they are written.

@@ -7,6 +7,7 @@
 
 mod building;
 mod candidate;
+mod copying;
 mod fields;
 mod keys;
 mod lines;

@@ -1,4 +1,4 @@
-use Rattle.std.proofs.Common.{length, take, drop, arith, ap, sym, ◌∙◌}
+use Rattle.std.proofs.Common.{take, drop, arith, ap, sym, ◌∙◌}
 use Rattle.search_verb.specs.Lines.{is_empty_line}
 use Rattle.search_verb.proofs.Behind.{behind_end}
 use Rattle.search_verb.proofs.fields.behind_header.Goals as goal

@@ -1,4 +1,4 @@
-use Rattle.std.proofs.Common.{length, drop, arith, ap, sym, ◌∙◌}
+use Rattle.std.proofs.Common.{drop, ap, sym, ◌∙◌}
 use Rattle.memchr.specs.Find.{is_byte2}
 use Rattle.search_verb.specs.Occurs.{begins_with as with_begin}
 use Rattle.search_verb.specs.Occurs.{occurs_in}
