@@ -174,6 +174,7 @@ named verb.Append = record { capital = refl; plain = refl; no_uid = refl; is = r
 named verb.Fetch = record { capital = refl; plain = refl; no_uid = refl; is = refl; by_uid = λ e. refl }
 named verb.Store = record { capital = refl; plain = refl; no_uid = refl; is = refl; by_uid = λ e. refl }
 named verb.Copy = record { capital = refl; plain = refl; no_uid = refl; is = refl; by_uid = λ e. refl }
+named verb.Search = record { capital = refl; plain = refl; no_uid = refl; is = refl; by_uid = λ e. refl }
 named verb.Authenticate = record { capital = refl; plain = refl; no_uid = refl; is = refl; by_uid = λ e. no_form e }
 
 -- each row has the name of its verb
@@ -192,16 +193,17 @@ row_sound f (row ∷ rows) word x are e = by_test (is_word row.0 word) refl (row
     by_test false is more = more (rw is at e)
 
 form_of : (word : List ℕ) (v : Verb) → message_verb word ≡ Some v → has_uid_form v ≡ true
-form_of word v e = by_tests (is_word (codes "FETCH") word) (is_word (codes "STORE") word) (is_word (codes "COPY") word) e
+form_of word v e = by_tests (is_word (codes "FETCH") word) (is_word (codes "STORE") word) (is_word (codes "COPY") word) (is_word (codes "SEARCH") word) e
   where
-    by_tests : (a b c : Bool) → cond {A = Option Verb} a (Some verb.Fetch) (cond b (Some verb.Store) (cond c (Some verb.Copy) None)) ≡ Some v → has_uid_form v ≡ true
-    by_tests true b c e = ap has_uid_form (sym (same_Some verb.Fetch v e))
-    by_tests false true c e = ap has_uid_form (sym (same_Some verb.Store v e))
-    by_tests false false true e = ap has_uid_form (sym (same_Some verb.Copy v e))
-    by_tests false false false e = absurd (let wrong : None ≡ Some v = e in cc)
+    by_tests : (a b c d : Bool) → cond {A = Option Verb} a (Some verb.Fetch) (cond b (Some verb.Store) (cond c (Some verb.Copy) (cond d (Some verb.Search) None))) ≡ Some v → has_uid_form v ≡ true
+    by_tests true b c d e = ap has_uid_form (sym (same_Some verb.Fetch v e))
+    by_tests false true c d e = ap has_uid_form (sym (same_Some verb.Store v e))
+    by_tests false false true d e = ap has_uid_form (sym (same_Some verb.Copy v e))
+    by_tests false false false true e = ap has_uid_form (sym (same_Some verb.Search v e))
+    by_tests false false false false e = absurd (let wrong : None ≡ Some v = e in cc)
 
 message_sound : (word : List ℕ) (v : Verb) → message_verb word ≡ Some v → is_word (name_of v) word ≡ true
-message_sound word v e = row_sound (λ x. x) message_verbs word v (refl, (refl, (refl, tt))) e
+message_sound word v e = row_sound (λ x. x) message_verbs word v (refl, (refl, (refl, (refl, tt)))) e
 
 verb_sound : (word : List ℕ) (v : Verb) → verb_in word ≡ Some v → is_word (name_of v) word ≡ true
 verb_sound word v e = by_bare (bare_verb word) refl e

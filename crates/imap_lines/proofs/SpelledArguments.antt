@@ -13,6 +13,9 @@ use Rattle.imap_tokens.specs.SpelledLines.{SpellsLines}
 use Rattle.imap_tokens.specs.Tokens.{word_of, string_of, pattern_of, quoted_of, literal_of, tokens_with}
 use Rattle.imap_tokens.specs.declared.tokens.Token.{Token}
 use Rattle.imap_tokens.specs.declared.tokens.Token.TheVariants.{Space, Open, Close, Word, Quoted, Literal}
+use Rattle.search_lines.specs.Grammar.{SpellsSought}
+use Rattle.search_lines.specs.Sought.{sought_in}
+use Rattle.search_lines.specs.declared.sought.Sought.{Sought}
 use Rattle.imap_lines.specs.Append.{spaced_flags, first_flags, date_by, first_date, only_literal}
 use Rattle.imap_lines.specs.Arguments.{behind_space, first_string, next_string, first_word, next_word, last_by, last_string, two_strings, first_pattern, string_and_pattern, in_list, string_and_list}
 use Rattle.imap_lines.specs.Grammar.{SpellsString, SpellsStrings, SpellsPattern, SpellsFirstFlags, SpellsFirstDate}
@@ -189,7 +192,7 @@ listed_complete tokens list token text whole is =
     ap (option_and_then (λ (a : List ℕ × List Token). option_and_then (λ (rest : List Token). option_map (λ (l : List Token). (a.0, l)) (in_list rest)) (behind_space a.1)))
     (string_complete tokens (Space ∷ Open ∷ list) token text whole is)
 
--- what is known of tokens, sets and flags
+-- what is known of tokens, sets, flags and searches
 pub record TokenLaws : Type 0 where
   pub lines_sound : (line : List ℕ) (lines literals : List (List ℕ)) (tokens : List Token) → tokens_with line lines literals ≡ Some tokens → SpellsLines line lines literals tokens
   pub lines_complete : (line : List ℕ) (lines literals : List (List ℕ)) (tokens : List Token) → SpellsLines line lines literals tokens → tokens_with line lines literals ≡ Some tokens
@@ -199,6 +202,8 @@ pub record TokenLaws : Type 0 where
   pub bare_complete : (tokens : List Token) (flags : Flags) → SpellsFlags flags tokens → bare_from true no_flags tokens ≡ Some flags
   pub list_sound : (tokens rest : List Token) (flags : Flags) → flags_in tokens ≡ Some (flags, rest) → SpellsList flags rest tokens
   pub list_complete : (tokens rest : List Token) (flags : Flags) → SpellsList flags rest tokens → flags_in tokens ≡ Some (flags, rest)
+  pub search_sound : (tokens : List Token) (s : Sought) → sought_in tokens ≡ Some s → SpellsSought s tokens
+  pub search_complete : (tokens : List Token) (s : Sought) → SpellsSought s tokens → sought_in tokens ≡ Some s
 
 -- the message of an APPEND
 module _ (laws : TokenLaws) where

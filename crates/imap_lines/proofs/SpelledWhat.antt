@@ -24,7 +24,7 @@ use Rattle.imap_lines.specs.Attributes.{SpellsAttribute}
 use Rattle.imap_lines.specs.Command.{takes_all, spoken}
 use Rattle.imap_lines.specs.Fetch.{plain_asks, plain_in, body_in, peeked_in, begins_by, begins_in, asks_in, is_alone, one_of, single_in, ends_closed, listed_in, fetch_in}
 use Rattle.imap_lines.specs.Grammar.{SpellsFirstFlags, SpellsFirstDate, SpellsAsks, SpellsStoreFlags, SpellsString, SpellsArguments, verb_of, speaks_of_uids, has_uid_form, Asks}
-use Rattle.imap_lines.specs.Messages.{how_in, listed_flags, store_flags, change_in, store_of, fetch_of, copy_of}
+use Rattle.imap_lines.specs.Messages.{how_in, listed_flags, store_flags, change_in, store_of, fetch_of, copy_of, with_sought}
 use Rattle.imap_lines.specs.What.{bare as bare_what, bare_in, with_mailbox, what_in}
 use Rattle.imap_lines.specs.declared.asks.FetchAsk.{FetchAsk}
 use Rattle.imap_lines.specs.declared.asks.FetchAsk.TheVariants.{Fast}
@@ -43,6 +43,7 @@ use Rattle.imap_lines.proofs.Items.{read_items, items}
 use Rattle.imap_lines.proofs.Headed.{same_row}
 use Rattle.imap_lines.proofs.WrittenTokens.{and_true}
 use Rattle.imap_lines.proofs.Steps.{stepped, mapped}
+use Rattle.search_lines.specs.Sought.{sought_in}
 use Rattle.imap_lines.proofs.SpelledArguments.{TokenLaws, space_sound, string_sound, word_sound, string_complete, none_by, last_sound, last_complete, two_sound, two_complete, pattern_sound, pattern_complete, listed_sound, listed_complete, first_flags_sound, spaced_complete, first_date_sound, literal_sound, first_date_complete}
 
 -- a list is closed by its last token
@@ -356,6 +357,9 @@ module _ (laws : TokenLaws) where
   what_sound verb.Fetch by_uid tokens asked few e = fetch_sound by_uid tokens asked e
   what_sound verb.Store by_uid tokens asked few e = store_sound by_uid tokens asked e
   what_sound verb.Copy by_uid tokens asked few e = copy_sound by_uid tokens asked e
+  what_sound verb.Search by_uid tokens asked few e =
+      let m = mapped (sought_in tokens) (with_sought by_uid) asked e in
+      subst (Sound verb.Search by_uid tokens) m.is (record { is_verb = refl; is_uid = refl; spells = laws.search_sound tokens m.value m.was })
   what_sound verb.Authenticate by_uid tokens asked few e = absurd (let wrong : true ≡ false = few in cc)
 
   plain_flags : (moment : Option ℕ) (text : List ℕ) (dated : List Token) → SpellsFirstDate moment (Literal text ∷ []) dated → first_flags dated ≡ Some (no_flags, dated)
@@ -426,6 +430,7 @@ module _ (laws : TokenLaws) where
         ∙ ap (option_and_then (λ (t : List ℕ). option_map (λ (q : List SetRange). what.Copy q t by_uid) (set_in s.word))) (last_complete (Space ∷ s.token ∷ []) target (record { token = s.token; whole = refl; is = s.is }))
         ∙ ap (option_map (λ (q : List SetRange). what.Copy q target by_uid)) (laws.set_complete s.word set s.is_set),
   )
+  what_complete (what.Search charset key by_uid) tokens s = (refl, ap (option_map (with_sought by_uid)) (laws.search_complete tokens (record { charset = charset; key = key }) s))
   what_complete what.Authenticate tokens s = absurd s
 
   -- what the rest of a command asks
@@ -446,6 +451,7 @@ module _ (laws : TokenLaws) where
   all_taken verb.Fetch e = absurd (let wrong : false ≡ true = e in cc)
   all_taken verb.Store e = absurd (let wrong : false ≡ true = e in cc)
   all_taken verb.Copy e = absurd (let wrong : false ≡ true = e in cc)
+  all_taken verb.Search e = absurd (let wrong : false ≡ true = e in cc)
   all_taken verb.Authenticate e = refl
 
   pub spoken_sound : (v : Verb) (by_uid : Bool) (line : List ℕ) (lines literals : List (List ℕ)) (asked : ImapWhat) → spoken v by_uid line lines literals ≡ Some asked → AsksSo v by_uid line lines literals asked

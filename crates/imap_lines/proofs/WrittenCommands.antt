@@ -36,4 +36,5 @@ command_read dates what.Expunge is = bare_read bare_verb.Expunge
 command_read dates (what.Fetch set asked by_uid) is = fetch_read set asked by_uid is.0 is.1
 command_read dates (what.Store set how silent flags by_uid) is = store_read set how silent flags by_uid is
 command_read dates (what.Copy set target by_uid) is = copy_read set target by_uid is
+command_read dates (what.Search charset key by_uid) is = absurd is
 command_read dates what.Authenticate is = authenticate_read

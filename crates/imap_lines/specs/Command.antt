@@ -43,6 +43,7 @@ takes_all verb.Append = false
 takes_all verb.Fetch = false
 takes_all verb.Store = false
 takes_all verb.Copy = false
+takes_all verb.Search = false
 takes_all verb.Authenticate = true
 
 -- what a verb asks with the arguments in the rest of its line, in the lines that follow and in the literals

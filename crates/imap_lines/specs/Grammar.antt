@@ -30,6 +30,7 @@ use Rattle.imap_lines.specs.declared.verbs.Verb.TheVariants as verb
 use Rattle.imap_lines.specs.declared.command.ImapWhat.{ImapWhat}
 use Rattle.imap_lines.specs.declared.command.ImapWhat.TheVariants as what
 use Rattle.imap_lines.specs.declared.command.ImapCommand.{ImapCommand}
+use Rattle.search_lines.specs.Grammar.{SpellsSought}
 use Rattle.imap_lines.specs.declared.command.ImapRefused.TheVariants.{NoTag, Unknown, Argument, NoMemory}
 
 -- SP astring
@@ -156,6 +157,7 @@ SpellsArguments what.Expunge tokens = tokens ≡ []
 SpellsArguments (what.Fetch set asked by_uid) tokens = SpellsFetch set asked tokens
 SpellsArguments (what.Store set how silent flags by_uid) tokens = SpellsStore set how silent flags tokens
 SpellsArguments (what.Copy set target by_uid) tokens = SpellsCopy set target tokens
+SpellsArguments (what.Search charset key by_uid) tokens = SpellsSought (record { charset = charset; key = key }) tokens
 SpellsArguments what.Authenticate tokens = ⊥
 
 -- the verb of each command
@@ -181,6 +183,7 @@ verb_of what.Expunge = verb.Bare bare.Expunge
 verb_of (what.Fetch set asked by_uid) = verb.Fetch
 verb_of (what.Store set how silent flags by_uid) = verb.Store
 verb_of (what.Copy set target by_uid) = verb.Copy
+verb_of (what.Search charset key by_uid) = verb.Search
 verb_of what.Authenticate = verb.Authenticate
 
 -- whether it speaks of UIDs
@@ -206,6 +209,7 @@ speaks_of_uids what.Expunge = false
 speaks_of_uids (what.Fetch set asked by_uid) = by_uid
 speaks_of_uids (what.Store set how silent flags by_uid) = by_uid
 speaks_of_uids (what.Copy set target by_uid) = by_uid
+speaks_of_uids (what.Search charset key by_uid) = by_uid
 speaks_of_uids what.Authenticate = false
 
 -- the words of commands
@@ -231,6 +235,7 @@ name_of verb.Append = codes "APPEND"
 name_of verb.Fetch = codes "FETCH"
 name_of verb.Store = codes "STORE"
 name_of verb.Copy = codes "COPY"
+name_of verb.Search = codes "SEARCH"
 name_of verb.Authenticate = codes "AUTHENTICATE"
 
 -- a command that has a form with UIDs
@@ -246,6 +251,7 @@ has_uid_form verb.Append = false
 has_uid_form verb.Fetch = true
 has_uid_form verb.Store = true
 has_uid_form verb.Copy = true
+has_uid_form verb.Search = true
 has_uid_form verb.Authenticate = false
 
 -- nothing, or a space and more

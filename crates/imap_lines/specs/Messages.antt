@@ -1,4 +1,4 @@
--- The arguments of FETCH, STORE and COPY (RFC 3501, 6.4.5 to 6.4.8 and 9: fetch, store, copy).
+-- The arguments of FETCH, STORE, COPY and SEARCH (RFC 3501, 6.4.4 to 6.4.8 and 9: fetch, store, copy, search).
 use Rattle.std.specs.Prelude.{codes, ℕ, Bool, true, false, ◌==◌, List, [], ◌∷◌, length, Option, None, Some, option_map, option_and_then, if◌then◌else◌}
 use Rattle.undo_base.specs.declared.asks.How.{How}
 use Rattle.undo_base.specs.declared.asks.How.TheVariants.{Replace, Add, Take}
@@ -10,8 +10,10 @@ use Rattle.imap_tokens.specs.Sets.{set_in}
 use Rattle.imap_tokens.specs.Tokens.{is_open}
 use Rattle.imap_tokens.specs.Words.{row_of}
 use Rattle.imap_tokens.specs.declared.tokens.Token.{Token}
+use Rattle.search_lines.specs.Sought.{sought_in}
+use Rattle.search_lines.specs.declared.sought.Sought.{Sought}
 use Rattle.imap_lines.specs.declared.command.ImapWhat.{ImapWhat}
-use Rattle.imap_lines.specs.declared.command.ImapWhat.TheVariants.{Fetch, Store, Copy}
+use Rattle.imap_lines.specs.declared.command.ImapWhat.TheVariants.{Fetch, Store, Copy, Search}
 
 -- how flags change, and whether without an answer
 abbrev pub hows : List (List ℕ × (How × Bool))
@@ -50,3 +52,9 @@ fetch_of by_uid tokens =
 abbrev pub copy_of : Bool → List Token → Option ImapWhat
 copy_of by_uid tokens =
     option_and_then (λ w. option_and_then (λ target. option_map (λ set. Copy set target by_uid) (set_in w.0)) (last_string w.1)) (next_word tokens)
+
+abbrev pub with_sought : Bool → Sought → ImapWhat
+with_sought by_uid s = Search s.charset s.key by_uid
+
+abbrev pub search_of : Bool → List Token → Option ImapWhat
+search_of by_uid tokens = option_map (with_sought by_uid) (sought_in tokens)

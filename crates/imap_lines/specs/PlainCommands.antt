@@ -159,7 +159,7 @@ one argument = Space ∷ argument ∷ []
 abbrev pub two : Token → Token → List Token
 two first second = Space ∷ first ∷ Space ∷ second ∷ []
 
--- each command
+-- each command, but SEARCH, whose keys are not written
 abbrev pub plain_of : ImapWhat → Plain
 plain_of what.Capability = plain (codes "CAPABILITY") []
 plain_of what.Noop = plain (codes "NOOP") []
@@ -184,6 +184,7 @@ plain_of (what.Fetch set asked by_uid) = record { word = codes "FETCH"; by_uid =
 plain_of (what.Store set how silent flags by_uid) =
     record { word = codes "STORE"; by_uid = by_uid; arguments = Space ∷ Word (set_text set) ∷ Space ∷ Word (how_word how silent) ∷ Space ∷ listed (flag_tokens flags) }
 plain_of (what.Copy set target by_uid) = record { word = codes "COPY"; by_uid = by_uid; arguments = two (Word (set_text set)) (string_token target) }
+plain_of (what.Search charset key by_uid) = record { word = codes "SEARCH"; by_uid = by_uid; arguments = [] }
 plain_of what.Authenticate = plain (codes "AUTHENTICATE") []
 
 -- the tokens of a command behind its tag
@@ -264,4 +265,5 @@ IsWritable what.Expunge = Unit {0}
 IsWritable (what.Fetch set asked by_uid) = IsSet set × AreAsks asked
 IsWritable (what.Store set how silent flags by_uid) = IsSet set
 IsWritable (what.Copy set target by_uid) = IsSet set
+IsWritable (what.Search charset key by_uid) = ⊥
 IsWritable what.Authenticate = Unit {0}

@@ -7,7 +7,7 @@ use Rattle.imap_lines.specs.declared.verbs.BareVerb.TheVariants.{Capability, Noo
 use Rattle.imap_lines.specs.declared.verbs.MailboxVerb.{MailboxVerb}
 use Rattle.imap_lines.specs.declared.verbs.MailboxVerb.TheVariants.{Select, Examine, Create, Delete, Subscribe, Unsubscribe}
 use Rattle.imap_lines.specs.declared.verbs.Verb.{Verb}
-use Rattle.imap_lines.specs.declared.verbs.Verb.TheVariants.{Bare, Mailbox, Login, Rename, List as ListVerb, Lsub, Status, Append, Fetch, Store, Copy, Authenticate}
+use Rattle.imap_lines.specs.declared.verbs.Verb.TheVariants.{Bare, Mailbox, Login, Rename, List as ListVerb, Lsub, Status, Append, Fetch, Store, Copy, Search, Authenticate}
 
 -- commands without arguments
 abbrev pub bare_verbs : List (List ℕ × BareVerb)
@@ -54,7 +54,8 @@ abbrev pub message_verbs : List (List ℕ × Verb)
 message_verbs =
     (codes "FETCH", Fetch)
     ∷ (codes "STORE", Store)
-    ∷ (codes "COPY", Copy) ∷ []
+    ∷ (codes "COPY", Copy)
+    ∷ (codes "SEARCH", Search) ∷ []
 
 abbrev pub message_verb : List ℕ → Option Verb
 message_verb word = row_of message_verbs word

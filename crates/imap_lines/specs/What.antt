@@ -3,7 +3,7 @@ use Rattle.std.specs.Prelude.{ℕ, Bool, true, false, ◌==◌, List, [], length
 use Rattle.imap_lines.specs.Append.{append_in}
 use Rattle.imap_lines.specs.Arguments.{last_string, two_strings, string_and_pattern, string_and_list}
 use Rattle.imap_lines.specs.Asks.{statuses_from}
-use Rattle.imap_lines.specs.Messages.{fetch_of, store_of, copy_of}
+use Rattle.imap_lines.specs.Messages.{fetch_of, store_of, copy_of, search_of}
 use Rattle.imap_tokens.specs.declared.tokens.Token.{Token}
 use Rattle.imap_lines.specs.declared.verbs.BareVerb.{BareVerb}
 use Rattle.imap_lines.specs.declared.verbs.BareVerb.TheVariants as bare_verb
@@ -67,4 +67,5 @@ what_in verb.Append by_uid tokens = append_in tokens
 what_in verb.Fetch by_uid tokens = fetch_of by_uid tokens
 what_in verb.Store by_uid tokens = store_of by_uid tokens
 what_in verb.Copy by_uid tokens = copy_of by_uid tokens
+what_in verb.Search by_uid tokens = search_of by_uid tokens
 what_in verb.Authenticate by_uid tokens = Some Authenticate

@@ -1,6 +1,7 @@
 //! The commands.
 use crate::FetchAsks;
 use imap_stream::SetText;
+use search_verb::Search;
 use undo_base::{Flags, How, Name, NoMemory, StatusAsks, Text};
 
 /// What a client asks (RFC 3501, section 6). A mailbox is a text, since it may be no name.
@@ -72,6 +73,11 @@ pub enum ImapWhat {
     Copy {
         set: SetText,
         target: Text,
+        by_uid: bool,
+    },
+    Search {
+        charset: Option<Text>,
+        key: Search,
         by_uid: bool,
     },
     /// With any arguments; it is not offered.

@@ -15,6 +15,7 @@ ghost use Rattle.undo_base.specs.declared.asks.StatusAsk as item;
 ghost use Rattle.imap_lines.specs.declared.asks.FetchAsk as ask;
 
 use imap_tokens::{arguments_are_spelled, flags_are_spelled, sets_are_spelled};
+use search_lines::searches_are_spelled;
 
 /// What lines and literals are read as is what the grammar says, a command or the one cause why they are none, and nothing else.
 pub fn one_command()
@@ -23,6 +24,7 @@ pub fn one_command()
     arguments_are_spelled();
     sets_are_spelled();
     flags_are_spelled();
+    searches_are_spelled();
 }
 
 /// Attributes are those that tokens spell, one or more, with a space between each two, and no others.

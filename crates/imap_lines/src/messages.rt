@@ -1,11 +1,12 @@
-//! The arguments of FETCH, STORE and COPY (RFC 3501, sections 6.4.5 to 6.4.8).
+//! The arguments of FETCH, STORE, COPY and SEARCH (RFC 3501, sections 6.4.4 to 6.4.8).
 ghost use Rattle.std.specs.Prelude.{◌≡◌, [], option_map, IfOk};
-ghost use Rattle.imap_lines.specs.Messages.{how_in, listed_flags, store_flags, change_in, fetch_of, store_of, copy_of};
+ghost use Rattle.imap_lines.specs.Messages.{how_in, listed_flags, store_flags, change_in, fetch_of, store_of, copy_of, search_of, with_sought};
 
 use crate::ImapWhat;
 use crate::arguments::{behind_space, last_string, next_word};
 use crate::fetch::read_fetch;
 use imap_tokens::{Token, is_open_token, is_same_word, read_bare_flags, read_flags, read_set};
+use search_lines::{Sought, read_sought};
 use std::alloc::Global;
 use undo_base::{Flags, How, NoMemory, Text};
 
@@ -140,4 +141,29 @@ pub fn read_copy(
         target,
         by_uid,
     }))
+}
+
+fn search(by_uid: bool, sought: Sought) -> ImapWhat
+    ensures { result ≡ with_sought by_uid sought }
+{
+    let Sought { charset, key } = sought;
+    ImapWhat::Search {
+        charset,
+        key,
+        by_uid,
+    }
+}
+
+/// The arguments of SEARCH.
+pub fn read_search(
+    alloc: Global,
+    by_uid: bool,
+    tokens: &[Token],
+) -> Result<Option<ImapWhat>, NoMemory>
+    ensures { IfOk result (λ what. what ≡ search_of by_uid tokens.now) }
+{
+    match read_sought(alloc, tokens)? {
+        None => Ok(None),
+        Some(sought) => Ok(Some(search(by_uid, sought))),
+    }
 }

@@ -40,6 +40,7 @@ pub enum Verb {
     Fetch,
     Store,
     Copy,
+    Search,
     Authenticate,
 }
 
@@ -130,6 +131,9 @@ pub fn message_verb(word: &[u8]) -> Option<Verb>
     }
     if is_same_word(word, b"COPY") {
         return Some(Verb::Copy);
+    }
+    if is_same_word(word, b"SEARCH") {
+        return Some(Verb::Search);
     }
     None
 }

@@ -7,7 +7,7 @@ use crate::ImapWhat;
 use crate::append::read_append;
 use crate::arguments::{last_string, string_and_list, string_and_pattern, two_strings};
 use crate::asks::read_statuses;
-use crate::messages::{read_copy, read_fetch_of, read_store};
+use crate::messages::{read_copy, read_fetch_of, read_search, read_store};
 use crate::verbs::{BareVerb, MailboxVerb, Verb};
 use imap_tokens::Token;
 use std::alloc::Global;
@@ -146,6 +146,7 @@ pub fn read_what(
         Verb::Fetch => read_fetch_of(alloc, by_uid, tokens),
         Verb::Store => read_store(alloc, by_uid, tokens),
         Verb::Copy => read_copy(alloc, by_uid, tokens),
+        Verb::Search => read_search(alloc, by_uid, tokens),
         Verb::Authenticate => Ok(Some(ImapWhat::Authenticate)),
     }
 }

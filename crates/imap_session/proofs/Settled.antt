@@ -55,6 +55,7 @@ module _ (s : MailStore) (valid : IsValid s) (d : Dialog) (sound : IsSound d) (u
     stays = refl;
   }
   fine_done stamps tag item (on.Fetch form rows texts) free = record { sound = sound; next = free; user = tt; stays = refl }
+  fine_done stamps tag item (on.Search by_uid numbers) free = record { sound = sound; next = free; user = tt; stays = refl }
   fine_done stamps tag item (on.Store form silent rows) free = record { sound = sound; next = free; user = tt; stays = refl }
   fine_done stamps tag item (on.Plain w) free = record { sound = sound; next = free; user = tt; stays = refl }
   fine_done stamps tag item (on.Leave w mailbox) free = record {
@@ -84,6 +85,7 @@ module _ (s : MailStore) (valid : IsValid s) (d : Dialog) (sound : IsSound d) (u
   fine_undone tag (on.Store form silent rows) (WasRefused why) free = record { sound = sound; next = free; user = tt; stays = refl }
   fine_undone tag (on.Plain w) (WasRefused why) free = record { sound = sound; next = free; user = tt; stays = refl }
   fine_undone tag (on.Leave w mailbox) (WasRefused why) free = record { sound = sound; next = free; user = tt; stays = refl }
+  fine_undone tag (on.Search by_uid numbers) (WasRefused why) free = record { sound = sound; next = free; user = tt; stays = refl }
   fine_undone tag on.Close (WasRefused why) free = record { sound = sound; next = free; user = tt; stays = refl }
   fine_undone tag (on.List subscribed) (WasRefused why) free = record { sound = sound; next = free; user = tt; stays = refl }
   fine_undone tag (on.Status mailbox asked) (WasRefused why) free = record { sound = sound; next = free; user = tt; stays = refl }

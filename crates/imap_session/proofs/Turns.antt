@@ -20,19 +20,22 @@ use Rattle.imap_session.specs.declared.dialog.Dialog.{Dialog}
 use Rattle.imap_session.specs.declared.dialog.Fetching.{Fetching}
 use Rattle.imap_session.specs.declared.dialog.Pending.{Pending}
 use Rattle.imap_session.specs.declared.dialog.Pending.TheVariants as on
+use Rattle.imap_session.specs.declared.dialog.Searching.{Searching}
 use Rattle.imap_session.specs.declared.dialog.Selected.{Selected}
 use Rattle.imap_session.specs.declared.out.ImapOut.TheVariants.{Say}
-use Rattle.imap_session.specs.declared.words.Answer.TheVariants.{ReadOnly}
+use Rattle.imap_session.specs.declared.words.Answer.TheVariants.{ReadOnly, BadCharset}
 use Rattle.imap_session.specs.declared.words.Word.{Word}
 use Rattle.imap_session.specs.declared.words.Word.TheVariants as word
 use Rattle.imap_view.specs.Names.{mailbox_of}
 use Rattle.imap_session.specs.Fetching.{bodies_of}
+use Rattle.imap_session.specs.Searching.{all_places, is_known_charset, search_bodies}
+use Rattle.search_verb.specs.Asked.{Asked}
 use Rattle.imap_view.specs.Named.{places_named}
-use Rattle.imap_session.specs.Dialog.{AsksAsUser, IsNext, ReadsOf, Took, append, asks, begin_fetch, check, close, copy, copy_places, create, delete, enter, expunge, fetch, fetch_in, fetch_places, fetching, follow, holds_all, is_at_home, is_free, list, login, logout, obey, rename, says, select, status, store, store_places, subscribe, took, unselected, without_memory}
+use Rattle.imap_session.specs.Dialog.{AsksAsUser, IsNext, ReadsOf, Took, append, asks, begin_fetch, begin_search, check, close, copy, copy_places, create, delete, enter, expunge, fetch, fetch_in, fetch_places, fetching, follow, holds_all, is_at_home, is_free, list, login, logout, obey, rename, says, search, search_in, searching, select, status, store, store_places, subscribe, took, unselected, without_memory}
 use Rattle.imap_session.specs.Sound.{IsSound}
 use Rattle.std.specs.List.{list_all}
 use Rattle.imap_view.proofs.Mail.{view_in_order}
-use Rattle.imap_session.proofs.Wanted.{bodies_are}
+use Rattle.imap_session.proofs.Wanted.{bodies_are, searched_are}
 
 -- what holds of what comes of a command
 pub record IsFine (house : House) (s : MailStore) (old : Dialog) (t : Took) : Type 0 where
@@ -131,6 +134,26 @@ module _ (house : House) (s : MailStore) (d : Dialog) (sound : IsSound d) (free 
       → IsFine house s d (fetch s sizes tag d attributes set by_uid)
   fine_fetch sizes tag attributes set by_uid = fine_fetch_in sizes tag d.selected attributes set by_uid sound.selected
 
+  fine_begin_search : (tag : List ℕ) (q : Searching) (bodies : List Body) → is_some d.user ≡ true → ((test : Body → Bool) → holds_all test s.boxes ≡ true → list_all test bodies ≡ true)
+      → IsFine house s d (begin_search tag d q bodies)
+  fine_begin_search tag q [] user held = fine_asks _ tag _ refl user
+  fine_begin_search tag q (body ∷ bodies) user held = record {
+    sound = record { view = sound.view; selected = sound.selected; awaits = λ h. user };
+    next = refl;
+    user = tt;
+    reads = held;
+    home = λ h. h;
+  }
+
+  fine_search : (sizes : Body → Option ℕ) (tag : List ℕ) (selected : Option Selected) (charset : Option (List ℕ)) (key : Asked) (by_uid : Bool) → (is_some selected ≡ true → is_some d.user ≡ true)
+      → IsFine house s d (search s sizes tag d selected charset key by_uid)
+  fine_search sizes tag None charset key by_uid user = fine_say _
+  fine_search sizes tag (Some selected) charset key by_uid user =
+      let q = searching s sizes d selected key by_uid in
+      fine_if (is_known_charset charset) (search_in s sizes tag d selected key by_uid) (says tag BadCharset d)
+      (fine_begin_search tag q (search_bodies q) (user refl) (λ test held. searched_are test sizes (box_of (asker d.user) selected.mailbox) s.boxes q selected.view (all_places selected.view) refl held))
+      (fine_say _)
+
   fine_store_places : (sizes : Body → Option ℕ) (tag : List ℕ) (selected : Selected) (form : StoreForm) (silent : Bool) (places : Option (List ℕ))
       → is_some d.user ≡ true → IsFine house s d (store_places s sizes tag d selected form silent places)
   fine_store_places sizes tag selected form silent None user = fine_say _
@@ -220,6 +243,7 @@ module _ (house : House) (s : MailStore) (d : Dialog) (sound : IsSound d) (free 
   fine_obey sizes tag (what.Fetch set asked by_uid) valid = fine_fetch sizes tag (attributes_of asked) set by_uid
   fine_obey sizes tag (what.Store set how silent flags by_uid) valid = fine_store sizes tag d.selected (record { how = how; flags = flags; by_uid = by_uid }) silent set sound.selected
   fine_obey sizes tag (what.Copy set target by_uid) valid = fine_copy tag d.selected set (mailbox_of target) by_uid sound.selected
+  fine_obey sizes tag (what.Search charset key by_uid) valid = fine_search sizes tag d.selected charset key by_uid sound.selected
   fine_obey sizes tag what.Authenticate valid = fine_say _
 
 -- CHECK, by what the view is told
@@ -269,4 +293,5 @@ fine_left house d what.Expunge sound = left_as_it_was house d sound
 fine_left house d (what.Fetch set asked by_uid) sound = left_as_it_was house d sound
 fine_left house d (what.Store set how silent flags by_uid) sound = left_as_it_was house d sound
 fine_left house d (what.Copy set target by_uid) sound = left_as_it_was house d sound
+fine_left house d (what.Search charset key by_uid) sound = left_as_it_was house d sound
 fine_left house d what.Authenticate sound = left_as_it_was house d sound

@@ -1,5 +1,5 @@
--- The texts that a FETCH needs are those of entries of the store.
-use Rattle.std.proofs.Common.{◌≡◌, ◌+◌, ◌==◌, ◌||◌, ℕ, Bool, cond, true, false, List, [], ◌∷◌, map, find, slice_get, Option, None, Some, option_map, option_and_then, refl}
+-- The texts that a FETCH or a SEARCH needs are those of entries of the store.
+use Rattle.std.proofs.Common.{◌≡◌, ◌+◌, ◌==◌, ◌||◌, ℕ, Bool, cond, true, false, not, List, [], ◌∷◌, map, find, slice_get, Option, None, Some, option_map, option_and_then, refl}
 use Rattle.std.specs.Prelude.{unwrap_or}
 use Rattle.std.specs.Cmp.{first_so, second_so}
 use Rattle.std.specs.List.{list_all, cons_option}
@@ -13,6 +13,9 @@ use Rattle.verb_core.proofs.Validity.{both}
 use Rattle.imap_fetch.specs.declared.messages.Message.{Message}
 use Rattle.imap_fetch.specs.Asked.{body_sections}
 use Rattle.imap_session.specs.declared.dialog.Fetching.{Fetching}
+use Rattle.imap_session.specs.declared.dialog.Searching.{Searching}
+use Rattle.imap_session.specs.Searching.{is_of_texts, is_vast, search_bodies}
+use Rattle.search_verb.specs.Meets.{needed}
 use Rattle.imap_view.specs.declared.messages.Known.{Known}
 use Rattle.imap_session.specs.Dialog.{holds_all}
 use Rattle.imap_session.specs.Fetching.{bodies_of, is_vain}
@@ -65,4 +68,11 @@ pub bodies_are : (test : Body → Bool) (sizes : Body → Option ℕ) (id : BoxI
     → f.rows ≡ rows_at sizes (mail_at id rs) view places → holds_all test rs ≡ true → list_all test (bodies_of f) ≡ true
 bodies_are test sizes id rs f view places is h =
     bodies_if test ((body_sections f.form.attributes == 0) || is_vain f) (map (λ (m : Message). m.entry.body) f.rows)
+    (rw is (rows_are test sizes (mail_at id rs) view places (mail_is test id rs h)))
+
+-- so are those that a SEARCH needs
+pub searched_are : (test : Body → Bool) (sizes : Body → Option ℕ) (id : BoxId) (rs : List (BoxId × Mailbox)) (q : Searching) (view : List Known) (places : List ℕ)
+    → q.rows ≡ rows_at sizes (mail_at id rs) view places → holds_all test rs ≡ true → list_all test (search_bodies q) ≡ true
+searched_are test sizes id rs q view places is h =
+    bodies_if test (not (is_of_texts (needed q.key)) || is_vast q) (map (λ (m : Message). m.entry.body) q.rows)
     (rw is (rows_are test sizes (mail_at id rs) view places (mail_is test id rs h)))

@@ -1,6 +1,6 @@
 -- The dialog with a mail client (RFC 3501, 3 and 6), as a function of its state, the house, the store, the lengths of
 -- texts and one command. It gives what is said, read or asked of the store, and the state after it.
-use Rattle.std.specs.Prelude.{◌≡◌, ℕ, Bool, true, false, not, ◌&&◌, List, [], ◌∷◌, ◌++◌, bytes_eq, is_some, option_map, unwrap_or, Option, None, Some, Result, Ok, Err, if◌then◌else◌}
+use Rattle.std.specs.Prelude.{◌≡◌, ℕ, Bool, true, false, not, ◌&&◌, List, [], ◌∷◌, ◌++◌, length, bytes_eq, is_some, option_map, unwrap_or, Option, None, Some, Result, Ok, Err, if◌then◌else◌}
 use Rattle.std.specs.List.{list_all}
 use Rattle.undo_base.specs.declared.asks.StatusAsk.{StatusAsk}
 use Rattle.undo_base.specs.declared.keys.Flags.{Flags}
@@ -40,21 +40,26 @@ use Rattle.imap_session.specs.declared.dialog.Awaits.{Awaits}
 use Rattle.imap_session.specs.declared.dialog.Awaits.TheVariants.{Nothing, Texts, Outcome}
 use Rattle.imap_session.specs.declared.dialog.Dialog.{Dialog}
 use Rattle.imap_session.specs.declared.dialog.Fetching.{Fetching}
+use Rattle.imap_session.specs.declared.dialog.Searching.{Searching}
+use Rattle.imap_session.specs.declared.dialog.Wanted.{Wanted}
+use Rattle.imap_session.specs.declared.dialog.Wanted.TheVariants as wanted
 use Rattle.imap_session.specs.declared.dialog.Pending.{Pending}
 use Rattle.imap_session.specs.declared.dialog.Pending.TheVariants as on
 use Rattle.imap_session.specs.declared.dialog.Selected.{Selected}
 use Rattle.imap_session.specs.declared.out.ImapOut.{ImapOut}
 use Rattle.imap_session.specs.declared.out.ImapOut.TheVariants.{Say, Read, Submit, Bye}
 use Rattle.imap_session.specs.declared.words.Answer.{Answer}
-use Rattle.imap_session.specs.declared.words.Answer.TheVariants.{Done, Opened, NotOffered, WrongState, LoginFailed, ReadOnly, BadNumber, Refused, DiskFault}
+use Rattle.imap_session.specs.declared.words.Answer.TheVariants.{Done, Opened, NotOffered, WrongState, LoginFailed, ReadOnly, BadNumber, BadCharset, Refused, DiskFault}
 use Rattle.imap_session.specs.declared.words.Word.{Word}
 use Rattle.imap_session.specs.declared.words.Word.TheVariants as word
-use Rattle.imap_session.specs.Words.{bye_text, capability_text, copy_word, fault_text, fetch_word, list_word, no_names_text, store_word, tagged, unread_text, word_text}
+use Rattle.imap_session.specs.Words.{bye_text, capability_text, copy_word, fault_text, fetch_word, list_word, no_names_text, search_word, store_word, tagged, unread_text, word_text}
 use Rattle.imap_view.specs.Names.{account_of, mailbox_of}
 use Rattle.imap_view.specs.Views.{news, view_of}
 use Rattle.imap_view.specs.Named.{keys_at, places_named, rows_at}
 use Rattle.imap_view.specs.Facts.{facts_at, is_there}
 use Rattle.imap_session.specs.Fetching.{ask_of, bodies_of}
+use Rattle.imap_session.specs.Searching.{all_places, found, is_known_charset, last_uid, numbers_of, search_ask, search_bodies, search_line}
+use Rattle.search_verb.specs.Asked.{Asked}
 
 -- what comes of a command, and the dialog after it
 pub record Took : Type 0 where
@@ -87,6 +92,10 @@ tells text tag answer d = took (Say (text ++ tagged tag answer)) d
 -- the store is asked, and the outcome is awaited
 abbrev pub asks : Ask → List ℕ → Pending → Dialog → Took
 asks asked tag pending d = took (Submit asked) (record d { awaits = Outcome tag pending })
+
+-- texts are read first, and awaited
+abbrev pub reads : List ℕ → Wanted → List Body → Dialog → Took
+reads tag w bodies d = took (Read bodies) (record d { awaits = Texts tag w })
 
 -- ---- commands of any state
 
@@ -209,7 +218,7 @@ fetching s sizes d selected attributes by_uid places =
 -- the texts are read first, where it needs any
 abbrev pub begin_fetch : List ℕ → Dialog → Fetching → List Body → Took
 begin_fetch tag d f [] = asks (ask_of f) tag (on.Fetch f.form f.rows []) d
-begin_fetch tag d f (body ∷ bodies) = took (Read (body ∷ bodies)) (record d { awaits = Texts tag f })
+begin_fetch tag d f (body ∷ bodies) = reads tag (wanted.Fetch f) (body ∷ bodies) d
 
 abbrev pub fetch_places : MailStore → (Body → Option ℕ) → List ℕ → Dialog → Selected → List Attribute → Bool → Option (List ℕ) → Took
 fetch_places s sizes tag d selected attributes by_uid None = says tag BadNumber d
@@ -224,6 +233,36 @@ fetch_in s sizes tag d (Some selected) attributes set by_uid =
 -- FETCH and UID FETCH (RFC 3501, 6.4.5 and 6.4.8)
 abbrev pub fetch : MailStore → (Body → Option ℕ) → List ℕ → Dialog → List Attribute → List SetRange → Bool → Took
 fetch s sizes tag d attributes set by_uid = fetch_in s sizes tag d d.selected attributes set by_uid
+
+-- a SEARCH of the selected mailbox
+abbrev pub searching : MailStore → (Body → Option ℕ) → Dialog → Selected → Asked → Bool → Searching
+searching s sizes d selected key by_uid = record {
+  mailbox = selected.mailbox;
+  key = key;
+  by_uid = by_uid;
+  last_place = length selected.view;
+  last_uid = last_uid selected.view;
+  rows = rows_at sizes (mail_of s d.user selected.mailbox) selected.view (all_places selected.view);
+}
+
+-- what is to be told of what it found
+abbrev pub search_pending : Searching → List (List ℕ) → Pending
+search_pending q texts = on.Search q.by_uid (numbers_of q.by_uid (found q texts))
+
+-- the texts are read first, where it needs any
+abbrev pub begin_search : List ℕ → Dialog → Searching → List Body → Took
+begin_search tag d q [] = asks (search_ask q []) tag (search_pending q []) d
+begin_search tag d q (body ∷ bodies) = reads tag (wanted.Search q) (body ∷ bodies) d
+
+abbrev pub search_in : MailStore → (Body → Option ℕ) → List ℕ → Dialog → Selected → Asked → Bool → Took
+search_in s sizes tag d selected key by_uid =
+    let q = searching s sizes d selected key by_uid in begin_search tag d q (search_bodies q)
+
+-- SEARCH and UID SEARCH (RFC 3501, 6.4.4 and 6.4.8)
+abbrev pub search : MailStore → (Body → Option ℕ) → List ℕ → Dialog → Option Selected → Option (List ℕ) → Asked → Bool → Took
+search s sizes tag d None charset key by_uid = says tag WrongState d
+search s sizes tag d (Some selected) charset key by_uid =
+    if is_known_charset charset then search_in s sizes tag d selected key by_uid else says tag BadCharset d
 
 abbrev pub store_places : MailStore → (Body → Option ℕ) → List ℕ → Dialog → Selected → StoreForm → Bool → Option (List ℕ) → Took
 store_places s sizes tag d selected form silent None = says tag BadNumber d
@@ -278,6 +317,7 @@ obey house s sizes tag d (what.Fetch set asked by_uid) = fetch s sizes tag d (at
 obey house s sizes tag d (what.Store set how silent flags by_uid) =
     store s sizes tag d d.selected (record { how = how; flags = flags; by_uid = by_uid }) silent set
 obey house s sizes tag d (what.Copy set target by_uid) = copy s tag d d.selected set (mailbox_of target) by_uid
+obey house s sizes tag d (what.Search charset key by_uid) = search s sizes tag d d.selected charset key by_uid
 obey house s sizes tag d what.Authenticate = says tag NotOffered d
 
 -- what a command leaves that found no memory: a SELECT or EXAMINE leaves no mailbox selected, as one that is refused does, so that a
@@ -304,6 +344,7 @@ without_memory what.Expunge d = d
 without_memory (what.Fetch set asked by_uid) d = d
 without_memory (what.Store set how silent flags by_uid) d = d
 without_memory (what.Copy set target by_uid) d = d
+without_memory (what.Search charset key by_uid) d = d
 without_memory what.Authenticate d = d
 
 -- one command; `sizes` has the lengths of texts
@@ -325,13 +366,22 @@ abbrev pub fault_answer : ReadFault → Answer
 fault_answer read_fault.Disk = DiskFault
 fault_answer read_fault.NoMemory = Refused NoMemory
 
+-- what is asked of the store with the texts that were needed, and what is to be told then
+abbrev pub wanted_ask : Wanted → List (List ℕ) → Ask
+wanted_ask (wanted.Fetch f) texts = ask_of f
+wanted_ask (wanted.Search q) texts = search_ask q texts
+
+abbrev pub wanted_pending : Wanted → List (List ℕ) → Pending
+wanted_pending (wanted.Fetch f) texts = on.Fetch f.form f.rows texts
+wanted_pending (wanted.Search q) texts = search_pending q texts
+
 abbrev pub heard_in : Dialog → Awaits → Result (List (List ℕ)) ReadFault → Took
 heard_in d Nothing texts = took (Say []) d
-heard_in d (Texts tag f) (Ok texts) = asks (ask_of f) tag (on.Fetch f.form f.rows texts) d
-heard_in d (Texts tag f) (Err why) = says tag (fault_answer why) (at_rest d)
+heard_in d (Texts tag w) (Ok texts) = asks (wanted_ask w texts) tag (wanted_pending w texts) d
+heard_in d (Texts tag w) (Err why) = says tag (fault_answer why) (at_rest d)
 heard_in d (Outcome tag pending) texts = took (Say []) d
 
--- the texts that a FETCH needs, in order, or why they can't be had
+-- the texts that a FETCH or a SEARCH needs, in order, or why they can't be had
 abbrev pub heard : Dialog → Result (List (List ℕ)) ReadFault → Took
 heard d texts = heard_in d d.awaits texts
 
@@ -359,6 +409,7 @@ names_in _ = []
 abbrev pub done : MailStore → List (BoxId × ℕ) → List ℕ → Dialog → Item → Pending → Took
 done s stamps tag d item (on.Select mailbox writes) = selects s stamps tag d mailbox writes
 done s stamps tag d item (on.Fetch form rows texts) = tells (fetch_lines form rows texts) tag (Done (fetch_word form.by_uid)) d
+done s stamps tag d item (on.Search by_uid numbers) = tells (search_line numbers) tag (Done (search_word by_uid)) d
 done s stamps tag d item (on.Store form silent rows) = tells (if silent then [] else store_lines form rows) tag (Done (store_word form.by_uid)) d
 done s stamps tag d item (on.Plain w) = says tag (Done w) d
 done s stamps tag d item (on.Leave w mailbox) = says tag (Done w) (record d { selected = kept_beside mailbox d.selected })
@@ -371,6 +422,7 @@ done s stamps tag d item (on.Follow w) = follow s tag w d d.selected
 abbrev pub selected_after : Pending → Option Selected → Option Selected
 selected_after (on.Select mailbox writes) selected = None
 selected_after (on.Fetch form rows texts) selected = selected
+selected_after (on.Search by_uid numbers) selected = selected
 selected_after (on.Store form silent rows) selected = selected
 selected_after (on.Plain w) selected = selected
 selected_after (on.Leave w mailbox) selected = selected
@@ -415,11 +467,21 @@ is_outcome Nothing = false
 is_outcome (Texts tag f) = false
 is_outcome (Outcome tag pending) = true
 
+-- the texts of a FETCH are awaited, or those of a SEARCH
+abbrev pub is_of_search : Wanted → Bool
+is_of_search (wanted.Fetch f) = false
+is_of_search (wanted.Search q) = true
+
+abbrev pub is_search : Awaits → Bool
+is_search Nothing = false
+is_search (Texts tag w) = is_of_search w
+is_search (Outcome tag pending) = false
+
 -- nothing is awaited
 abbrev pub is_free : Dialog → Bool
 is_free d = is_rest d.awaits
 
--- the texts of a FETCH are awaited
+-- texts are awaited
 abbrev pub is_reading : Dialog → Bool
 is_reading d = is_texts d.awaits
 

@@ -1,4 +1,5 @@
 pub mod Words
 pub mod Fetching
+pub mod Searching
 pub mod Dialog
 pub mod Sound

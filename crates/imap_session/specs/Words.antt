@@ -11,7 +11,7 @@ use Rattle.imap_lines.specs.declared.command.ImapRefused.TheVariants as unread
 use Rattle.imap_session.specs.declared.words.Word.{Word}
 use Rattle.imap_session.specs.declared.words.Word.TheVariants as word
 use Rattle.imap_session.specs.declared.words.Answer.{Answer}
-use Rattle.imap_session.specs.declared.words.Answer.TheVariants.{Done, Opened, UnknownCommand, BadArguments, NotOffered, WrongState, LoginFailed, ReadOnly, BadNumber, Refused as IsRefused, DiskFault}
+use Rattle.imap_session.specs.declared.words.Answer.TheVariants.{Done, Opened, UnknownCommand, BadArguments, NotOffered, WrongState, LoginFailed, ReadOnly, BadNumber, BadCharset, Refused as IsRefused, DiskFault}
 
 abbrev pub crlf : List ℕ
 crlf = 13 ∷ 10 ∷ []
@@ -41,9 +41,11 @@ word_text word.Expunge = codes "EXPUNGE"
 word_text word.Fetch = codes "FETCH"
 word_text word.Store = codes "STORE"
 word_text word.Copy = codes "COPY"
+word_text word.Search = codes "SEARCH"
 word_text word.UidFetch = codes "UID FETCH"
 word_text word.UidStore = codes "UID STORE"
 word_text word.UidCopy = codes "UID COPY"
+word_text word.UidSearch = codes "UID SEARCH"
 
 -- the form with UIDs, or that with sequence numbers
 abbrev pub fetch_word : Bool → Word
@@ -51,6 +53,9 @@ fetch_word by_uid = if by_uid then word.UidFetch else word.Fetch
 
 abbrev pub store_word : Bool → Word
 store_word by_uid = if by_uid then word.UidStore else word.Store
+
+abbrev pub search_word : Bool → Word
+search_word by_uid = if by_uid then word.UidSearch else word.Search
 
 abbrev pub copy_word : Bool → Word
 copy_word by_uid = if by_uid then word.UidCopy else word.Copy
@@ -85,6 +90,7 @@ answer_text WrongState = codes "BAD Wrong state."
 answer_text LoginFailed = codes "NO Login failed."
 answer_text ReadOnly = codes "NO Read only."
 answer_text BadNumber = codes "BAD Bad message number."
+answer_text BadCharset = codes "NO [BADCHARSET] Charset not known."
 answer_text (IsRefused why) = refusal_text why
 answer_text DiskFault = codes "NO Disk fault."
 

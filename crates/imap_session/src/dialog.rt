@@ -2,7 +2,8 @@
 use crate::words::Word;
 use imap_fetch::{FetchForm, Messages, StoreForm};
 use imap_view::View;
-use undo_base::{Keys, Name, StatusAsks, Texts, User};
+use search_verb::Search;
+use undo_base::{Keys, Name, StatusAsks, Texts, Uids, User};
 
 /// The selected mailbox, what is known of it, and whether it can be changed.
 #[derive(Drop)]
@@ -23,6 +24,25 @@ pub struct Fetching {
     pub rows: Messages,
 }
 
+/// A SEARCH: its mailbox, what it asks, whether UIDs are told, the view's last place and UID, and the messages of the view that
+/// are still there.
+#[derive(Drop)]
+pub struct Searching {
+    pub mailbox: Name,
+    pub key: Search,
+    pub by_uid: bool,
+    pub last_place: u32,
+    pub last_uid: u64,
+    pub rows: Messages,
+}
+
+/// What needs texts.
+#[derive(Drop)]
+pub enum Wanted {
+    Fetch(Fetching),
+    Search(Searching),
+}
+
 /// What is to be said once the store has done what was asked.
 #[derive(Drop)]
 pub enum Pending {
@@ -36,6 +56,11 @@ pub enum Pending {
         form: FetchForm,
         rows: Messages,
         texts: Texts,
+    },
+    /// These places or UIDs are told.
+    Search {
+        by_uid: bool,
+        numbers: Uids,
     },
     /// These messages' new flags are told, unless it is silent.
     Store {
@@ -73,8 +98,8 @@ pub enum Pending {
 #[derive(Drop)]
 pub enum Awaits {
     Nothing,
-    /// The texts that a FETCH needs.
-    Texts { tag: Name, fetching: Fetching },
+    /// The texts that a FETCH or a SEARCH needs.
+    Texts { tag: Name, wanted: Wanted },
     /// The outcome of what was asked of the store.
     Outcome { tag: Name, pending: Pending },
 }

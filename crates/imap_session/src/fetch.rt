@@ -9,8 +9,9 @@ ghost use Rattle.imap_session.specs.Dialog.{took};
 ghost use Rattle.imap_session.specs.Dialog as spec;
 
 use crate::commands::say;
-use crate::dialog::{Awaits, Dialog, Fetching, Pending, Selected};
+use crate::dialog::{Awaits, Dialog, Fetching, Pending, Selected, Wanted};
 use crate::out::{Bodies0, ImapOut};
+use crate::search::search_texts;
 use crate::words::Answer;
 use box_store::Store;
 use imap_fetch::{
@@ -127,7 +128,10 @@ fn begin_fetch(
     if bodies.is_empty() {
         submit_fetch(dialog, tag, fetching, Texts::new(alloc))
     } else {
-        dialog.awaits = Awaits::Texts { tag, fetching };
+        dialog.awaits = Awaits::Texts {
+            tag,
+            wanted: Wanted::Fetch(fetching),
+        };
         ImapOut::Read(bodies)
     }
 }
@@ -181,13 +185,25 @@ pub(crate) fn fetch(
     fetch_in(alloc, store, sizes, dialog, tag, attributes, set, by_uid)
 }
 
-/// Goes on with the texts.
+/// Asks the store for what a FETCH wanted, with its texts.
+fn submit_wanted(dialog: &mut Dialog, tag: Name, wanted: Wanted, texts: Texts) -> ImapOut
+    requires { spec.is_of_search wanted ≡ false }
+    ensures { spec.asks (spec.wanted_ask wanted texts) tag (spec.wanted_pending wanted texts) dialog.old ≡ took result dialog.new }
+{
+    match wanted {
+        Wanted::Fetch(fetching) => submit_fetch(dialog, tag, fetching, texts),
+        Wanted::Search(_) => unreachable!(),
+    }
+}
+
+/// Goes on with the texts of a FETCH.
 fn read_texts(dialog: &mut Dialog, texts: Texts) -> ImapOut
-    requires { spec.is_texts dialog.old.awaits ≡ true }
+    requires texts { spec.is_texts dialog.old.awaits ≡ true }
+    requires fetch { spec.is_search dialog.old.awaits ≡ false }
     ensures { spec.heard dialog.old (Ok texts) ≡ took result dialog.new }
 {
     match mem::replace(&mut dialog.awaits, Awaits::Nothing) {
-        Awaits::Texts { tag, fetching } => submit_fetch(dialog, tag, fetching, texts),
+        Awaits::Texts { tag, wanted } => submit_wanted(dialog, tag, wanted, texts),
         Awaits::Nothing => unreachable!(),
         Awaits::Outcome { tag: _, pending: _ } => unreachable!(),
     }
@@ -209,7 +225,7 @@ fn miss_texts(alloc: Global, dialog: &mut Dialog, fault: ReadFault) -> Result<Im
     ensures err { OnErr result (dialog.new ≡ dialog.old) }
 {
     let out = match &dialog.awaits {
-        Awaits::Texts { tag, fetching: _ } => say(alloc, tag, fault_answer(fault))?,
+        Awaits::Texts { tag, wanted: _ } => say(alloc, tag, fault_answer(fault))?,
         Awaits::Nothing => unreachable!(),
         Awaits::Outcome { tag: _, pending: _ } => unreachable!(),
     };
@@ -217,7 +233,39 @@ fn miss_texts(alloc: Global, dialog: &mut Dialog, fault: ReadFault) -> Result<Im
     Ok(out)
 }
 
-/// The texts that a FETCH needs, or why they can't be had.
+fn is_of_search(wanted: &Wanted) -> bool
+    ensures { result ≡ spec.is_of_search wanted.now }
+{
+    match wanted {
+        Wanted::Fetch(_) => false,
+        Wanted::Search(_) => true,
+    }
+}
+
+fn is_search(awaits: &Awaits) -> bool
+    ensures { result ≡ spec.is_search awaits.now }
+{
+    match awaits {
+        Awaits::Nothing => false,
+        Awaits::Texts { tag: _, wanted } => is_of_search(wanted),
+        Awaits::Outcome { tag: _, pending: _ } => false,
+    }
+}
+
+/// Goes on with the texts.
+fn hear_texts(alloc: Global, dialog: &mut Dialog, texts: &Texts) -> Result<ImapOut, NoMemory>
+    requires { spec.is_texts dialog.old.awaits ≡ true }
+    ensures ok { IfOk result (λ out. spec.heard dialog.old (Ok texts.now) ≡ took out dialog.new) }
+    ensures err { OnErr result (dialog.new ≡ dialog.old) }
+{
+    if is_search(&dialog.awaits) {
+        return search_texts(alloc, dialog, texts.as_slice());
+    }
+    let texts = texts.copy(alloc)?;
+    Ok(read_texts(dialog, texts))
+}
+
+/// The texts that a FETCH or a SEARCH needs, or why they can't be had.
 pub(crate) fn hear(
     alloc: Global,
     dialog: &mut Dialog,
@@ -228,10 +276,7 @@ pub(crate) fn hear(
     ensures err { OnErr result (dialog.new ≡ dialog.old) }
 {
     match texts {
-        Ok(texts) => {
-            let texts = texts.copy(alloc)?;
-            Ok(read_texts(dialog, texts))
-        }
+        Ok(texts) => hear_texts(alloc, dialog, texts),
         Err(fault) => miss_texts(alloc, dialog, *fault),
     }
 }

@@ -14,6 +14,7 @@ use crate::fetch::fetch;
 use crate::flags::store_flags;
 use crate::lists::{list, status};
 use crate::out::ImapOut;
+use crate::search::search;
 use crate::words::{Answer, Word};
 use box_store::Store;
 use imap_fetch::StoreForm;
@@ -94,6 +95,11 @@ pub(crate) fn obey(
             target,
             by_uid,
         } => copy(alloc, store, dialog, tag, set, target, *by_uid),
+        ImapWhat::Search {
+            charset,
+            key,
+            by_uid,
+        } => search(alloc, store, sizes, dialog, tag, charset, key, *by_uid),
         ImapWhat::Authenticate => say(alloc, tag, Answer::NotOffered),
     }
 }

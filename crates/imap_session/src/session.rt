@@ -147,7 +147,7 @@ impl ImapSession {
         matches!(&self.dialog.awaits, Awaits::Nothing)
     }
 
-    /// Whether the texts of a FETCH are awaited.
+    /// Whether texts are awaited.
     pub fn is_reading(&self) -> bool
         ensures { result ≡ is_reading self.now }
     {

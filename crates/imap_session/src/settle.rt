@@ -13,6 +13,7 @@ use crate::commands::{follow, say, tell};
 use crate::dialog::{Awaits, Dialog, Pending, Selected};
 use crate::lists::{counted, listed};
 use crate::out::ImapOut;
+use crate::search::searched;
 use crate::words::{Answer, Word, fetch_word, store_word};
 use box_store::Store;
 use imap_fetch::{FetchForm, Messages, StoreForm, fetch_lines, store_lines};
@@ -170,6 +171,7 @@ fn done(
             alloc, store, stamps, user, selected, tag, mailbox, *writes,
         ),
         Pending::Fetch { form, rows, texts } => fetched(alloc, tag, form, rows, texts),
+        Pending::Search { by_uid, numbers } => searched(alloc, tag, *by_uid, numbers),
         Pending::Store { form, silent, rows } => stored(alloc, tag, *form, *silent, rows),
         Pending::Plain { word } => say(alloc, tag, Answer::Done(*word)),
         Pending::Leave { word, mailbox } => leave(alloc, selected, tag, *word, mailbox),
@@ -195,6 +197,10 @@ fn give_up(selected: &mut Option<Selected>, pending: &Pending)
             form: _,
             rows: _,
             texts: _,
+        } => {}
+        Pending::Search {
+            by_uid: _,
+            numbers: _,
         } => {}
         Pending::Store {
             form: _,
@@ -297,10 +303,7 @@ pub(crate) fn settle(
             outcome,
         )?,
         Awaits::Nothing => unreachable!(),
-        Awaits::Texts {
-            tag: _,
-            fetching: _,
-        } => unreachable!(),
+        Awaits::Texts { tag: _, wanted: _ } => unreachable!(),
     };
     dialog.awaits = Awaits::Nothing;
     Ok(out)

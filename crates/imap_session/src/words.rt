@@ -28,9 +28,11 @@ pub enum Word {
     Fetch,
     Store,
     Copy,
+    Search,
     UidFetch,
     UidStore,
     UidCopy,
+    UidSearch,
 }
 
 /// What is told of a command behind its tag.
@@ -46,6 +48,8 @@ pub enum Answer {
     LoginFailed,
     ReadOnly,
     BadNumber,
+    /// Strings of a charset that is not known.
+    BadCharset,
     Refused(Refused),
     DiskFault,
 }
@@ -69,6 +73,17 @@ pub(crate) fn copy_word(by_uid: bool) -> Word
     ensures { result ≡ spec.copy_word by_uid }
 {
     if by_uid { Word::UidCopy } else { Word::Copy }
+}
+
+/// The word of a SEARCH.
+pub(crate) fn search_word(by_uid: bool) -> Word
+    ensures { result ≡ spec.search_word by_uid }
+{
+    if by_uid {
+        Word::UidSearch
+    } else {
+        Word::Search
+    }
 }
 
 /// The word of LIST, or of LSUB.
@@ -101,9 +116,11 @@ pub(crate) fn word_text(word: Word) -> &'static [u8]
         Word::Fetch => b"FETCH",
         Word::Store => b"STORE",
         Word::Copy => b"COPY",
+        Word::Search => b"SEARCH",
         Word::UidFetch => b"UID FETCH",
         Word::UidStore => b"UID STORE",
         Word::UidCopy => b"UID COPY",
+        Word::UidSearch => b"UID SEARCH",
     }
 }
 
@@ -158,6 +175,7 @@ fn push_answer(out: &mut Text, answer: Answer) -> Result<(), NoMemory>
         Answer::LoginFailed => out.extend(b"NO Login failed."),
         Answer::ReadOnly => out.extend(b"NO Read only."),
         Answer::BadNumber => out.extend(b"BAD Bad message number."),
+        Answer::BadCharset => out.extend(b"NO [BADCHARSET] Charset not known."),
         Answer::Refused(refused) => out.extend(refusal_text(refused)),
         Answer::DiskFault => out.extend(b"NO Disk fault."),
     }

@@ -12,4 +12,6 @@ returns c =
       bare_complete = c.flags_are_spelled.ensures.only_bare;
       list_sound = λ tokens rest flags. c.flags_are_spelled.ensures.listed tokens rest flags;
       list_complete = λ tokens rest flags. c.flags_are_spelled.ensures.only_listed tokens rest flags;
+      search_sound = λ tokens s e. (c.searches_are_spelled.ensures tokens s).0 e;
+      search_complete = λ tokens s spells. (c.searches_are_spelled.ensures tokens s).1 spells;
     })

@@ -1,0 +1,433 @@
+//! SEARCH: the messages that match, the texts that it needs, and what it asks of the store.
+ghost use Rattle.std.specs.Prelude.{◌≡◌, ◌++◌, length, map, flat_map, get_or, true, IfOk, OnErr, OnOk, IfSome};
+ghost use Rattle.std.specs.Fmt.{decimal};
+ghost use Rattle.std.specs.Prelude.{◌∷◌};
+ghost use Rattle.std.specs.List.{range_with_len};
+ghost use Rattle.shelf.specs.Notes.{size_of};
+ghost use Rattle.verb_core.specs.Store.{IsValid};
+ghost use Rattle.imap_session.specs.Searching as search_spec;
+ghost use Rattle.imap_session.specs.Words as words;
+ghost use Rattle.imap_session.specs.Dialog.{took};
+ghost use Rattle.imap_session.specs.Dialog as spec;
+
+use crate::commands::{say, tell};
+use crate::dialog::{Awaits, Dialog, Pending, Searching, Selected, Wanted};
+use crate::out::{Bodies0, ImapOut};
+use crate::words::{Answer, search_word};
+use box_store::Store;
+use imap_fetch::{Message, Messages};
+use imap_tokens::is_same_word;
+use imap_view::{View, mail_of, rows_at};
+use search_verb::{Candidate, Look, Search};
+use shelf::Shelf;
+use std::alloc::{AllocError, Global};
+use undo_base::{Copies, Key, Keys, MOST_FETCHED, Name, NoMemory, Places, Text, Texts, Uids};
+use verb_core::{Ask, Body};
+
+/// What a SEARCH asks of the store, and what is to be said of it then.
+struct Found {
+    tag: Name,
+    asked: Ask,
+    pending: Pending,
+}
+
+fn is_known_charset(charset: &Option<Text>) -> bool
+    ensures { result ≡ search_spec.is_known_charset charset.now }
+{
+    match charset {
+        None => true,
+        Some(name) => {
+            is_same_word(name.bytes(), b"US-ASCII") || is_same_word(name.bytes(), b"UTF-8")
+        }
+    }
+}
+
+/// How many messages a view has.
+fn count_of(view: &View) -> Result<u32, NoMemory>
+    ensures { IfOk result (λ count. count ≡ length view.now) }
+{
+    if view.len() > u32::MAX as usize {
+        return Err(NoMemory);
+    }
+    Ok(view.len() as u32)
+}
+
+fn places_below(alloc: Global, count: u32) -> Result<Vec<u32>, AllocError>
+    ensures { IfOk result (λ places. places.items ≡ range_with_len 0 count) }
+{
+    (0..count).collect(alloc)
+}
+
+fn all_places(alloc: Global, count: u32) -> Result<Places, NoMemory>
+    ensures { IfOk result (λ places. places ≡ range_with_len 0 count) }
+{
+    let places = places_below(alloc, count)?;
+    Ok(Places::from_vec(places))
+}
+
+fn last_uid(view: &View) -> u64
+    ensures { result ≡ search_spec.last_uid view.now }
+{
+    match view.as_slice().last() {
+        None => 0,
+        Some(known) => known.uid,
+    }
+}
+
+/// A SEARCH of the selected mailbox.
+fn searching_of(
+    alloc: Global,
+    store: &Store,
+    sizes: &Shelf,
+    dialog: &Dialog,
+    selected: &Selected,
+    key: &Search,
+    by_uid: bool,
+) -> Result<Searching, NoMemory>
+    requires { IsValid store.now.store }
+    ensures { IfOk result (λ q. q ≡ spec.searching store.now.store (size_of sizes.now.notes) dialog.now selected.now key.now by_uid) }
+{
+    let entries = mail_of(store, dialog.user, &selected.mailbox);
+    let last_place = count_of(&selected.view)?;
+    let places = all_places(alloc, last_place)?;
+    let rows = rows_at(alloc, sizes, entries, &selected.view, &places)?;
+    let mailbox = selected.mailbox.copy(alloc)?;
+    let key = key.copy(alloc)?;
+    Ok(Searching {
+        mailbox,
+        key,
+        by_uid,
+        last_place,
+        last_uid: last_uid(&selected.view),
+        rows,
+    })
+}
+
+fn is_of_texts(look: Look) -> bool
+    ensures { result ≡ search_spec.is_of_texts look }
+{
+    match look {
+        Look::Nothing => false,
+        Look::Size => false,
+        Look::Text => true,
+    }
+}
+
+fn is_of_more(look: Look) -> bool
+    ensures { result ≡ search_spec.is_of_more look }
+{
+    match look {
+        Look::Nothing => false,
+        Look::Size => true,
+        Look::Text => true,
+    }
+}
+
+#[tactic(auto, unfolding(crate::specs::Searching::total_size))]
+fn total_size(rows: &[Message]) -> u64
+    ensures { result ≡ search_spec.total_size rows.now }
+{
+    let mut total: u64 = 0;
+    for row in rows {
+        total = total.saturating_add(row.size as u64);
+    }
+    total
+}
+
+/// How many octets of texts it looks at.
+fn octets_of(searching: &Searching) -> u64
+    ensures { result ≡ search_spec.octets_of searching.now }
+{
+    if is_of_texts(searching.key.looks()) {
+        total_size(searching.rows.as_slice())
+    } else {
+        0
+    }
+}
+
+fn is_vast(searching: &Searching) -> bool
+    ensures { result ≡ search_spec.is_vast searching.now }
+{
+    MOST_FETCHED < octets_of(searching)
+}
+
+fn text_at(texts: &[Text], place: usize) -> &[u8]
+    ensures { result.now ≡ get_or texts.now place [] }
+{
+    match texts.get(place) {
+        None => b"",
+        Some(text) => text.bytes(),
+    }
+}
+
+/// Whether a message matches.
+fn finds(searching: &Searching, texts: &[Text], place: usize, row: &Message) -> bool
+    ensures { result ≡ search_spec.finds searching.now texts.now place row.now }
+{
+    let flags = row.entry.flags;
+    let what = Candidate {
+        place: row.place,
+        uid: row.entry.uid,
+        last_place: searching.last_place,
+        last_uid: searching.last_uid,
+        answered: flags.answered,
+        flagged: flags.flagged,
+        deleted: flags.deleted,
+        seen: flags.seen,
+        draft: flags.draft,
+        at: row.entry.at,
+        size: row.size,
+        text: text_at(texts, place),
+    };
+    searching.key.matches(&what)
+}
+
+/// The messages that match.
+fn matching(alloc: Global, searching: &Searching, texts: &[Text]) -> Result<Messages, NoMemory>
+    ensures { IfOk result (λ rows. rows ≡ search_spec.found_from searching.now texts.now 0 searching.now.rows) }
+{
+    let mut found = Messages::new(alloc);
+    let rows = searching.rows.as_slice();
+    for (place, row) in rows.iter().enumerate() {
+        if finds(searching, texts, place, row) {
+            found.push(*row)?;
+        }
+    }
+    Ok(found)
+}
+
+/// The messages that match; none where the store is to refuse it.
+fn found_of(alloc: Global, searching: &Searching, texts: &[Text]) -> Result<Messages, NoMemory>
+    ensures { IfOk result (λ rows. rows ≡ search_spec.found searching.now texts.now) }
+{
+    if is_vast(searching) {
+        Ok(Messages::new(alloc))
+    } else {
+        matching(alloc, searching, texts)
+    }
+}
+
+fn keys_vec(alloc: Global, rows: &[Message]) -> Result<Vec<Key>, AllocError>
+    ensures { IfOk result (λ keys. keys.items ≡ search_spec.keys_of rows.now) }
+{
+    rows.iter().map(|row| row.entry.key).collect(alloc)
+}
+
+fn keys_of(alloc: Global, rows: &Messages) -> Result<Keys, NoMemory>
+    ensures { IfOk result (λ keys. keys ≡ search_spec.keys_of rows.now) }
+{
+    let keys = keys_vec(alloc, rows.as_slice())?;
+    Ok(Keys::from_vec(keys))
+}
+
+fn number_of(by_uid: bool, row: &Message) -> u64
+    ensures { result ≡ search_spec.number_of by_uid row.now }
+{
+    if by_uid {
+        row.entry.uid
+    } else {
+        row.place as u64
+    }
+}
+
+fn numbers_vec(alloc: Global, by_uid: bool, rows: &[Message]) -> Result<Vec<u64>, AllocError>
+    ensures { IfOk result (λ numbers. numbers.items ≡ search_spec.numbers_of by_uid rows.now) }
+{
+    rows.iter().map(|row| number_of(by_uid, row)).collect(alloc)
+}
+
+fn numbers_of(alloc: Global, by_uid: bool, rows: &Messages) -> Result<Uids, NoMemory>
+    ensures { IfOk result (λ numbers. numbers ≡ search_spec.numbers_of by_uid rows.now) }
+{
+    let numbers = numbers_vec(alloc, by_uid, rows.as_slice())?;
+    Ok(Uids::from_vec(numbers))
+}
+
+/// What it asks of the store with the texts that it needs, and what is to be said then.
+fn found_with(
+    alloc: Global,
+    tag: &Name,
+    searching: &Searching,
+    texts: &[Text],
+) -> Result<Found, NoMemory>
+    ensures tag { IfOk result (λ f. f.tag ≡ tag.now) }
+    ensures asked { IfOk result (λ f. f.asked ≡ search_spec.search_ask searching.now texts.now) }
+    ensures pending { IfOk result (λ f. f.pending ≡ spec.search_pending searching.now texts.now) }
+{
+    let rows = found_of(alloc, searching, texts)?;
+    let keys = keys_of(alloc, &rows)?;
+    let numbers = numbers_of(alloc, searching.by_uid, &rows)?;
+    let mailbox = searching.mailbox.copy(alloc)?;
+    let tag = tag.copy(alloc)?;
+    Ok(Found {
+        tag,
+        asked: Ask::Fetch {
+            mailbox,
+            keys,
+            sets_seen: false,
+            shows_body: is_of_more(searching.key.looks()),
+            strict: false,
+            asked: octets_of(searching),
+        },
+        pending: Pending::Search {
+            by_uid: searching.by_uid,
+            numbers,
+        },
+    })
+}
+
+fn submit_found(dialog: &mut Dialog, found: Found) -> ImapOut
+    ensures { spec.asks found.asked found.tag found.pending dialog.old ≡ took result dialog.new }
+{
+    let Found {
+        tag,
+        asked,
+        pending,
+    } = found;
+    dialog.awaits = Awaits::Outcome { tag, pending };
+    ImapOut::Submit(asked)
+}
+
+fn bodies_vec(alloc: Global, rows: &[Message]) -> Result<Vec<Body>, AllocError>
+    ensures { IfOk result (λ bodies. bodies.items ≡ map (λ m. m.entry.body) rows.now) }
+{
+    rows.iter().map(|row| row.entry.body).collect(alloc)
+}
+
+/// The bodies whose texts it needs.
+fn bodies_of(alloc: Global, searching: &Searching) -> Result<Bodies0, NoMemory>
+    ensures { IfOk result (λ bodies. bodies ≡ search_spec.search_bodies searching.now) }
+{
+    if !is_of_texts(searching.key.looks()) || is_vast(searching) {
+        return Ok(Bodies0::new(alloc));
+    }
+    let bodies = bodies_vec(alloc, searching.rows.as_slice())?;
+    Ok(Bodies0::from_vec(bodies))
+}
+
+fn read_first(dialog: &mut Dialog, tag: Name, searching: Searching, bodies: Bodies0) -> ImapOut
+    ensures { spec.reads tag (Wanted.Search searching) bodies dialog.old ≡ took result dialog.new }
+{
+    dialog.awaits = Awaits::Texts {
+        tag,
+        wanted: Wanted::Search(searching),
+    };
+    ImapOut::Read(bodies)
+}
+
+/// The texts are read first, where it needs any.
+fn begin_search(
+    alloc: Global,
+    dialog: &mut Dialog,
+    tag: &Name,
+    searching: Searching,
+    bodies: Bodies0,
+) -> Result<ImapOut, NoMemory>
+    ensures ok { IfOk result (λ out. spec.begin_search tag.now dialog.old searching bodies ≡ took out dialog.new) }
+    ensures err { OnErr result (dialog.new ≡ dialog.old) }
+{
+    if bodies.is_empty() {
+        let none = Texts::new(alloc);
+        let found = found_with(alloc, tag, &searching, none.as_slice())?;
+        Ok(submit_found(dialog, found))
+    } else {
+        let tag = tag.copy(alloc)?;
+        Ok(read_first(dialog, tag, searching, bodies))
+    }
+}
+
+/// SEARCH and UID SEARCH.
+pub(crate) fn search(
+    alloc: Global,
+    store: &Store,
+    sizes: &Shelf,
+    dialog: &mut Dialog,
+    tag: &Name,
+    charset: &Option<Text>,
+    key: &Search,
+    by_uid: bool,
+) -> Result<ImapOut, NoMemory>
+    requires valid { IsValid store.now.store }
+    ensures ok { IfOk result (λ out. spec.search store.now.store (size_of sizes.now.notes) tag.now dialog.old dialog.old.selected charset.now key.now by_uid ≡ took out dialog.new) }
+    ensures err { OnErr result (dialog.new ≡ dialog.old) }
+{
+    let Some(selected) = &dialog.selected else {
+        return say(alloc, tag, Answer::WrongState);
+    };
+    if !is_known_charset(charset) {
+        return say(alloc, tag, Answer::BadCharset);
+    }
+    let searching = searching_of(alloc, store, sizes, dialog, selected, key, by_uid)?;
+    let bodies = bodies_of(alloc, &searching)?;
+    begin_search(alloc, dialog, tag, searching, bodies)
+}
+
+/// Goes on with the texts.
+pub(crate) fn search_texts(
+    alloc: Global,
+    dialog: &mut Dialog,
+    texts: &[Text],
+) -> Result<ImapOut, NoMemory>
+    requires { spec.is_search dialog.old.awaits ≡ true }
+    ensures ok { IfOk result (λ out. spec.heard dialog.old (Ok texts.now) ≡ took out dialog.new) }
+    ensures err { OnErr result (dialog.new ≡ dialog.old) }
+{
+    let found = match &dialog.awaits {
+        Awaits::Texts { tag, wanted } => found_for(alloc, tag, wanted, texts)?,
+        Awaits::Nothing => unreachable!(),
+        Awaits::Outcome { tag: _, pending: _ } => unreachable!(),
+    };
+    Ok(submit_found(dialog, found))
+}
+
+fn found_for(alloc: Global, tag: &Name, wanted: &Wanted, texts: &[Text]) -> Result<Found, NoMemory>
+    requires { spec.is_of_search wanted.now ≡ true }
+    ensures tag { IfOk result (λ f. f.tag ≡ tag.now) }
+    ensures asked { IfOk result (λ f. f.asked ≡ spec.wanted_ask wanted.now texts.now) }
+    ensures pending { IfOk result (λ f. f.pending ≡ spec.wanted_pending wanted.now texts.now) }
+{
+    match wanted {
+        Wanted::Search(searching) => found_with(alloc, tag, searching, texts),
+        Wanted::Fetch(_) => unreachable!(),
+    }
+}
+
+fn push_number(alloc: Global, out: &mut Text, number: u64) -> Result<(), NoMemory>
+    ensures { OnOk result (out.new ≡ out.old ++ 32 ∷ decimal number) }
+{
+    let digits = format!(in alloc; "{}", number)?;
+    out.extend(b" ")?;
+    out.extend(digits.as_bytes())
+}
+
+fn push_numbers(alloc: Global, out: &mut Text, numbers: &[u64]) -> Result<(), NoMemory>
+    ensures { OnOk result (out.new ≡ out.old ++ flat_map (λ n. 32 ∷ decimal n) numbers.now) }
+{
+    for number in numbers {
+        push_number(alloc, out, *number)?;
+    }
+    Ok(())
+}
+
+/// The numbers that a SEARCH found.
+fn search_line(alloc: Global, numbers: &Uids) -> Result<Text, NoMemory>
+    ensures { IfOk result (λ text. text ≡ search_spec.search_line numbers.now) }
+{
+    let mut out = Text::of(alloc, b"* SEARCH")?;
+    push_numbers(alloc, &mut out, numbers.as_slice())?;
+    out.extend(b"\r\n")?;
+    Ok(out)
+}
+
+/// What it found is told.
+pub(crate) fn searched(
+    alloc: Global,
+    tag: &Name,
+    by_uid: bool,
+    numbers: &Uids,
+) -> Result<ImapOut, NoMemory>
+    ensures { IfOk result (λ out. out ≡ ImapOut.Say (search_spec.search_line numbers.now ++ words.tagged tag.now (Answer.Done (words.search_word by_uid)))) }
+{
+    let text = search_line(alloc, numbers)?;
+    tell(text, tag, Answer::Done(search_word(by_uid)))
+}
