@@ -1,3 +1,4 @@
 pub mod Wanted
 pub mod Turns
 pub mod Settled
+pub mod Found

@@ -73,10 +73,14 @@ facts_of q m text = record {
 abbrev pub finds : Searching → List (List ℕ) → ℕ → Message → Bool
 finds q texts place m = meets q.key (facts_of q m (get_or texts place []))
 
+-- the message, where it matches
+abbrev pub kept : Searching → List (List ℕ) → ℕ → Message → List Message
+kept q texts place m = if finds q texts place m then m ∷ [] else []
+
 -- the messages that match, from a place of the texts on
-abbrev pub found_from : Searching → List (List ℕ) → ℕ → List Message → List Message
+unfoldable pub found_from : Searching → List (List ℕ) → ℕ → List Message → List Message
 found_from q texts place [] = []
-found_from q texts place (m ∷ rows) = if finds q texts place m then m ∷ found_from q texts (place + 1) rows else found_from q texts (place + 1) rows
+found_from q texts place (m ∷ rows) = kept q texts place m ++ found_from q texts (place + 1) rows
 
 -- the messages that match, in order; none where the store is to refuse it
 abbrev pub found : Searching → List (List ℕ) → List Message

@@ -1,7 +1,6 @@
 //! SEARCH: the messages that match, the texts that it needs, and what it asks of the store.
-ghost use Rattle.std.specs.Prelude.{◌≡◌, ◌++◌, length, map, flat_map, get_or, true, IfOk, OnErr, OnOk, IfSome};
+ghost use Rattle.std.specs.Prelude.{◌≡◌, ◌+◌, ◌++◌, ◌∷◌, [], Ok, min, length, map, flat_map, get_or, true, IfOk, OnErr, OnOk, IfSome};
 ghost use Rattle.std.specs.Fmt.{decimal};
-ghost use Rattle.std.specs.Prelude.{◌∷◌};
 ghost use Rattle.std.specs.List.{range_with_len};
 ghost use Rattle.shelf.specs.Notes.{size_of};
 ghost use Rattle.verb_core.specs.Store.{IsValid};
@@ -123,13 +122,19 @@ fn is_of_more(look: Look) -> bool
     }
 }
 
+fn add_size(total: u64, row: &Message) -> u64
+    ensures { result ≡ min (total + row.now.size) 18446744073709551615 }
+{
+    total.saturating_add(row.size as u64)
+}
+
 #[tactic(auto, unfolding(crate::specs::Searching::total_size))]
 fn total_size(rows: &[Message]) -> u64
     ensures { result ≡ search_spec.total_size rows.now }
 {
     let mut total: u64 = 0;
     for row in rows {
-        total = total.saturating_add(row.size as u64);
+        total = add_size(total, row);
     }
     total
 }
@@ -182,6 +187,22 @@ fn finds(searching: &Searching, texts: &[Text], place: usize, row: &Message) -> 
     searching.key.matches(&what)
 }
 
+/// Adds a message, where it matches.
+fn keep(
+    found: &mut Messages,
+    searching: &Searching,
+    texts: &[Text],
+    place: usize,
+    row: &Message,
+) -> Result<(), NoMemory>
+    ensures { OnOk result (found.new ≡ found.old ++ search_spec.kept searching.now texts.now place row.now) }
+{
+    if finds(searching, texts, place, row) {
+        found.push(*row)?;
+    }
+    Ok(())
+}
+
 /// The messages that match.
 fn matching(alloc: Global, searching: &Searching, texts: &[Text]) -> Result<Messages, NoMemory>
     ensures { IfOk result (λ rows. rows ≡ search_spec.found_from searching.now texts.now 0 searching.now.rows) }
@@ -189,9 +210,7 @@ fn matching(alloc: Global, searching: &Searching, texts: &[Text]) -> Result<Mess
     let mut found = Messages::new(alloc);
     let rows = searching.rows.as_slice();
     for (place, row) in rows.iter().enumerate() {
-        if finds(searching, texts, place, row) {
-            found.push(*row)?;
-        }
+        keep(&mut found, searching, texts, place, row)?;
     }
     Ok(found)
 }
