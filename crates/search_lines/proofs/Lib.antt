@@ -1,0 +1,4 @@
+mod Arguments
+mod Held
+mod Searches
+mod Turns
