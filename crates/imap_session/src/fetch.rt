@@ -1,5 +1,5 @@
 //! FETCH: the messages that it names, the texts that it needs, and what it asks of the store.
-ghost use Rattle.std.specs.Prelude.{◌≡◌, map, true, IfOk, OnErr, IfSome, Ok, Err};
+ghost use Rattle.std.specs.Prelude.{◌≡◌, map, true, false, IfOk, OnErr, IfSome, Ok, Err};
 ghost use Rattle.shelf.specs.Notes.{size_of};
 ghost use Rattle.verb_core.specs.Store.{IsValid};
 ghost use Rattle.imap_fetch.specs.Asked.{attributes_of as attributes_in};

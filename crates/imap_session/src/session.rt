@@ -28,8 +28,12 @@ pub struct ImapSession {
 impl Model for ImapSession {
     ghost use Rattle.imap_session.specs.declared.dialog.Dialog.{Dialog as TheDialog};
     ghost use Rattle.imap_session.specs.Sound.{IsSound};
+    ghost use Rattle.search_verb.specs.contracts.building.Search as search;
+    ghost use Rattle.std.specs.Coded.{codes};
 
     ghost Value = { TheDialog };
+
+    ghost coded = { Prim.hlevel (codes, search.the_row.coded) };
 
     ghost view = { λ s. s.dialog };
 
