@@ -57,8 +57,12 @@ pub struct Connection {
 impl Model for Connection {
     ghost use Rattle.mail_loop.specs.State.{Seat};
     ghost use Rattle.mail_loop.specs.Stands.{IsFree, seat_of};
+    ghost use Rattle.imap_session.specs.contracts.session.ImapSession as session;
+    ghost use Rattle.std.specs.Coded.{codes};
 
     ghost Value = { Seat };
+
+    ghost coded = { Prim.hlevel (codes, session.the_row.coded) };
 
     ghost view = { λ s. seat_of s.kind };
 
