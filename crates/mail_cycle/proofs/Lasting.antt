@@ -64,14 +64,15 @@ text_before body text i [] apart e = by ((i.number == body.origin) && (i.rev == 
     by : (b : Bool) → ((i.number == body.origin) && (i.rev == body.rev) && is_some (text_in i.deed)) ≡ b → option_and_then (λ (j : Item). text_in j.deed) (cond b (Some i) None) ≡ Some text → text_of [] body ≡ Some text
     by true here is = absurd (apart (eqb-true i.number body.origin (first_so (i.number == body.origin) (i.rev == body.rev) (first_so _ (is_some (text_in i.deed)) here))))
     by false here is = is
-text_before body text i (j ∷ t) apart e = by ((j.number == body.origin) && (j.rev == body.rev) && is_some (text_in j.deed)) e
+text_before body text i (j ∷ t) apart e = by ((j.number == body.origin) && (j.rev == body.rev) && is_some (text_in j.deed)) e (text_before body text i t apart)
   where
     brings : Item → Bool
     brings x = (x.number == body.origin) && (x.rev == body.rev) && is_some (text_in x.deed)
 
-    by : (b : Bool) → option_and_then (λ (x : Item). text_in x.deed) (cond b (Some j) (find brings (t ++ i ∷ []))) ≡ Some text → option_and_then (λ (x : Item). text_in x.deed) (cond b (Some j) (find brings t)) ≡ Some text
-    by true is = is
-    by false is = text_before body text i t apart is
+    by : (b : Bool) → option_and_then (λ (x : Item). text_in x.deed) (cond b (Some j) (find brings (t ++ i ∷ []))) ≡ Some text → (text_of (t ++ i ∷ []) body ≡ Some text → text_of t body ≡ Some text)
+        → option_and_then (λ (x : Item). text_in x.deed) (cond b (Some j) (find brings t)) ≡ Some text
+    by true is rest = is
+    by false is rest = rest is
 
 module _ (s : Kept) (i : Item) (named : map (λ (r : BoxId × ℕ). r.0) s.stamps ≡ map (λ (r : BoxId × Mailbox). r.0) (store_of s).boxes) (number : i.number ≡ s.next) where
   item_stamps : StampsLast s (performed s i)
