@@ -254,8 +254,8 @@ module _ {D : Type 0} (told : D → DiskTold) where
   starved_due : Still → (at : ℕ) (ask : CycleAsk) (due : Due) (old new : Lasting D) (r : Reply) → StarvesBy told old new due → Starves r → ServesDue at ask due old new r
   starved_due still at ask (Repeats report) old new r by says =
       due_told still at ask (Repeats report) (answer 200 (report_data old.kept.house report)) old new r by (λ h. refl) (inr says)
-  starved_due still at ask NoPoint old new r by says = due_told still at ask NoPoint (answer 422 (point_data ask.point)) old new r by.1 (λ h. refl) (inr says)
-  starved_due still at ask NoNumbers old new r by says = due_told still at ask NoNumbers (answer 507 (numbers_data old.kept.next)) old new r by.1 (λ h. refl) (inr says)
+  starved_due still at ask NoPoint old new r by says = absurd by
+  starved_due still at ask NoNumbers old new r by says = absurd by
   starved_due still at ask (IsDue due) old new r by says = (
     starved_turn (rewound at old.kept ask due) (failed old.kept (Cycle old.kept.next at ask)) old new r (kept_stays old new by.1.kept) by.1 says,
     λ e. absurd (record_is_not (Cycle old.kept.next at ask) [] e),

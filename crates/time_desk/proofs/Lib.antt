@@ -6,3 +6,7 @@ pub mod Rewinding
 pub mod Standings
 pub mod OneWay
 pub mod Surveys
+pub mod Soundness
+pub mod Messages
+pub mod Accounts
+pub mod States

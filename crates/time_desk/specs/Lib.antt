@@ -7,3 +7,4 @@ pub mod Submitting
 pub mod Cycling
 pub mod Opening
 pub mod Standing
+pub mod Permanence

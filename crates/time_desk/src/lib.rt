@@ -4,11 +4,14 @@
 //! one, with `standing` for the records that can stand, and `openings` has the law that an image opens in one way. `seal` seals
 //! the record of an item; `submit` and `act` take what users and the operator ask, and `cycle` what the operator asks of the
 //! past, with `redo` for a cycle in memory; `spelling` says what has a record, and `fault` why a desk is not made, not started,
-//! an act or a cycle not done. In specs/, `Records` says what records leave one after the other and when one can stand,
+//! an act or a cycle not done. `permanence` has the laws that no UID ever names two messages, and that each message is accounted
+//! for. In specs/, `Records` says what records leave one after the other and when one can stand, `Permanence` what a client
+//! knows of a message, and what holds of all that is kept,
 //! `Lasting` what contracts see of a desk, `Sealing` what a call seals and what a crash at any moment of it leaves, `Opening`
 //! what an image opens as, `Standing` how its records are read, `Making` and `Submitting` why calls are refused, and `Cycling`
 //! what becomes of a request for a cycle.
-//! What carries the crate: `Desk::submit` and `Desk::act`, by `Seals`, `Desk::cycle`, by `Cycles`, and `Desk::start`, by `Starts`.
+//! What carries the crate: `Desk::submit` and `Desk::act`, by `Seals`, `Desk::cycle`, by `Cycles`, `Desk::start`, by `Starts`,
+//! and the laws of `permanence`.
 #![tactic(auto)]
 
 mod act;
@@ -19,6 +22,7 @@ pub mod laws;
 mod make;
 mod on_disk;
 mod openings;
+pub mod permanence;
 mod redo;
 mod seal;
 mod spelling;
