@@ -1,6 +1,5 @@
 -- Each message that was given is accounted for.
-use Rattle.std.proofs.Common.{◌≡◌, ◌≢◌, ℕ, ◌≤◌, Bool, true, false, cond, List, [], ◌∷◌, ◌++◌, Option, Some, None, refl, sym, ap, ◌∙◌, subst, arith, true≢false, eqb, eq-eqb, unwrap_or, option_map, is_none, zero-add}
-use Rattle.std.specs.List.{list_any}
+use Rattle.std.proofs.Common.{◌≡◌, ◌≢◌, ℕ, ◌≤◌, true, false, cond, List, [], ◌∷◌, ◌++◌, Option, Some, None, refl, sym, ap, ◌∙◌, subst, arith, true≢false, eq-eqb, unwrap_or, option_map, is_none, zero-add}
 use Rattle.std.specs.Option.{option_map_or}
 use Rattle.std.proofs.lemmas.List.Sums.{sum_by-append}
 use Rattle.undo_base.specs.declared.keys.User.{User}
@@ -21,7 +20,6 @@ use Rattle.verb_core.specs.Recipients.{deciding, recipients, some_unknown}
 use Rattle.verb_core.specs.Step.{message, new_mail, run}
 use Rattle.verb_core.specs.Store.{IsValid, MailStore}
 use Rattle.verb_core.proofs.BoxLaws.{same_user-refl}
-use Rattle.verb_core.proofs.Deliveries.{arrives-step}
 use Rattle.verb_core.proofs.NoTwice.{given_at, message_once, times_given-le}
 use Rattle.verb_core.proofs.OpeningLaws.{opening-IsBase}
 use Rattle.verb_core.proofs.Runs.{one_fate-run, valid-run}

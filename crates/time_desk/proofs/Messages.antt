@@ -1,5 +1,5 @@
 -- The message under a UID, before and afterwards.
-use Rattle.std.proofs.Common.{◌≡◌, ◌≢◌, ℕ, zero, suc, ◌<◌, ◌≤◌, ◌==◌, Bool, true, false, ◌&&◌, ◌||◌, cond, nat_le, nat_lt, arith, refl, sym, ◌∙◌, ap, subst, List, [], ◌∷◌, map, find, Option, Some, None, option_map, option_and_then, is_some, is_eq, Ordering, Less, Equal, Greater, eqb-true, true≢false, unwrap_or}
+use Rattle.std.proofs.Common.{◌≡◌, ◌≢◌, ℕ, ◌<◌, ◌≤◌, ◌==◌, Bool, true, false, ◌&&◌, ◌||◌, cond, nat_le, nat_lt, arith, refl, sym, ◌∙◌, ap, subst, List, [], ◌∷◌, map, find, Option, Some, None, option_map, option_and_then, is_some, is_eq, eqb-true, true≢false, unwrap_or}
 use Rattle.std.specs.List.{AllByRecursion, list_all, list_any}
 use Rattle.std.specs.Cmp.{first_so, second_so}
 use Rattle.std.specs.Option.{option_map_or}
@@ -11,16 +11,16 @@ use Rattle.verb_core.specs.declared.mailbox.Body.{Body}
 use Rattle.verb_core.specs.declared.mailbox.BoxId.{BoxId}
 use Rattle.verb_core.specs.declared.mailbox.Entry.{Entry}
 use Rattle.verb_core.specs.declared.mailbox.Mailbox.{Mailbox}
-use Rattle.verb_core.specs.Boxes.{box_cmp, mail_at, row_at}
+use Rattle.verb_core.specs.Boxes.{box_cmp, row_at}
 use Rattle.verb_core.specs.Deeds.{same_body}
 use Rattle.verb_core.specs.Items.{text_in, text_of}
 use Rattle.verb_core.specs.Mailboxes.{same_key, uids_rise}
-use Rattle.verb_core.specs.Store.{IsValid, MailStore, is_row}
+use Rattle.verb_core.specs.Store.{IsValid, is_row}
 use Rattle.paradox.specs.Kept.{Kept, mailbox_at, stamp_at, store_of}
 use Rattle.repair_desk.specs.Renewals.{extends, extends_one, is_old, same_mail}
 use Rattle.mail_cycle.specs.Permanence.{UidsLast}
 use Rattle.mail_desk.specs.Timeline.{all_bodies, has_text}
-use Rattle.time_desk.specs.Permanence.{IsSound, Message, RevsBelow, entry_at, has_stamp, message_at, message_of}
+use Rattle.time_desk.specs.Permanence.{IsSound, Message, RevsBelow, entry_at, message_at, message_of}
 
 -- ---- rows
 

@@ -1,10 +1,8 @@
 -- What holds of all that records leave, and what lasts from one of them to a later one.
-use Rattle.std.proofs.Common.{◌≡◌, ◌≢◌, ℕ, ◌+◌, ◌-◌, ◌<◌, ◌≤◌, ◌==◌, Bool, true, false, ◌&&◌, cond, not, nat_le, nat_lt, arith, refl, sym, ◌∙◌, ap, subst, List, [], ◌∷◌, ◌++◌, length, map, Option, Some, None, is_some, is_eq, eqb-true, unwrap_or, option_and_then}
+use Rattle.std.proofs.Common.{◌≡◌, ℕ, ◌+◌, ◌-◌, ◌<◌, ◌≤◌, ◌==◌, Bool, true, false, ◌&&◌, cond, nat_le, nat_lt, arith, refl, sym, ◌∙◌, ap, subst, List, [], ◌∷◌, length, map, Option, Some, None, is_some, is_eq, eqb-true, unwrap_or, option_and_then}
 use Rattle.std.specs.List.{AllByRecursion, list_all, cons_option}
-use Rattle.std.specs.Cmp.{first_so, second_so}
+use Rattle.std.specs.Cmp.{first_so}
 use Rattle.std.proofs.lemmas.Bool.{and_parts, leb-true}
-use Rattle.undo_base.specs.declared.keys.User.{User}
-use Rattle.verb_core.specs.declared.conf.Alias.{Alias}
 use Rattle.verb_core.specs.declared.conf.Conf.{Conf}
 use Rattle.verb_core.specs.declared.conf.House.{House}
 use Rattle.verb_core.specs.declared.item.Item.{Item}
@@ -12,9 +10,9 @@ use Rattle.verb_core.specs.declared.mailbox.BoxId.{BoxId}
 use Rattle.verb_core.specs.declared.mailbox.Mailbox.{Mailbox}
 use Rattle.verb_core.specs.Boxes.{box_cmp, row_at}
 use Rattle.verb_core.specs.Deeds.{act_item}
-use Rattle.verb_core.specs.Items.{IsTimeline, IsWellFormed, NumbersApart, has_form, is_own, keys_in, users_in}
-use Rattle.verb_core.specs.Stamps.{opening_stamps, stamps_after}
-use Rattle.verb_core.specs.Step.{Boxes, run, step}
+use Rattle.verb_core.specs.Items.{IsWellFormed, has_form, is_own, keys_in, users_in}
+use Rattle.verb_core.specs.Stamps.{stamps_after}
+use Rattle.verb_core.specs.Step.{Boxes, step}
 use Rattle.verb_core.specs.Store.{MailStore, is_house, is_known, opening}
 use Rattle.verb_core.proofs.Joins.{run_joined}
 use Rattle.verb_core.proofs.StampLaws.{after-ids, opening-ids}
@@ -28,7 +26,7 @@ use Rattle.paradox.specs.declared.reports.Report.{Report}
 use Rattle.paradox.specs.Kept.{Kept, new_desk, performed, report_of, store_of}
 use Rattle.repair_desk.specs.Repairs.{are_known, position}
 use Rattle.mail_cycle.specs.Asking.{Due, NoNumbers, NoPoint, Repeats, Rewinds, after_cycle, cycle_due, due_anew, due_at, due_by}
-use Rattle.mail_cycle.specs.Cycles.{Cycled, cycled_at, leaves_numbers, timeline_at}
+use Rattle.mail_cycle.specs.Cycles.{Cycled, cycled_at, leaves_numbers}
 use Rattle.mail_cycle.specs.Permanence.{UidsLast}
 use Rattle.mail_cycle.proofs.Lasting.{lasts_cycled, lasts_itself, lasts_on, lasts_performed}
 use Rattle.mail_cycle.proofs.Left.{left_due, left_revs}

@@ -1,6 +1,6 @@
 -- What holds over all that a journal's records leave.
-use Rattle.std.proofs.Common.{◌≡◌, ◌≢◌, ℕ, ◌<◌, ◌≤◌, Bool, true, false, List, [], ◌∷◌, ◌++◌, Option, Some, None, refl, sym, ap, ◌∙◌, subst, arith}
-use Rattle.std.specs.Prelude.{IfOk, IsTrue, OnErr, Result, Ok, Err}
+use Rattle.std.proofs.Common.{◌≡◌, ◌≢◌, ℕ, ◌<◌, true, false, List, [], ◌∷◌, ◌++◌, Some, sym, ap, ◌∙◌, subst, arith}
+use Rattle.std.specs.Prelude.{IfOk, IsTrue, OnErr, OnOk, Result, Ok, Err}
 use Rattle.std.specs.List.{AllByRecursion, list_all, list_any}
 use Rattle.undo_base.specs.declared.keys.User.{User}
 use Rattle.undo_base.specs.declared.keys.Key.{Key}
@@ -115,6 +115,12 @@ module _ (law : LetsUidsLast) where
         → OnErr result (new.kept ≡ old.kept) → UidsLast old.kept new.kept
     lasts_sealed (Ok x) added old new sound seals same = law old.kept new.kept (added x) sound seals.kept
     lasts_sealed (Err e) added old new sound seals same = lasts_same old.kept new.kept sound same
+
+    -- the same of one record
+    pub lasts_operated : {T E : Type 0} (result : Result T E) (added : List JournalRecord) (old new : Lasting D) → IsSound old.kept → OnOk result (Seals told added [] old new)
+        → OnErr result (new.kept ≡ old.kept) → UidsLast old.kept new.kept
+    lasts_operated (Ok x) added old new sound seals same = law old.kept new.kept added sound seals.kept
+    lasts_operated (Err e) added old new sound seals same = lasts_same old.kept new.kept sound same
 
     lasts_by : (at : ℕ) (ask : CycleAsk) (old new : Lasting D) (report : Report) (due : Due) → IsSound old.kept → CyclesBy told at ask old new report due → UidsLast old.kept new.kept
     lasts_by at ask old new report (Repeats earlier) sound done = lasts_same old.kept new.kept sound (ap (λ (l : Lasting D). l.kept) done.1)
