@@ -332,6 +332,7 @@ module _ {D : Type 0} (told : D → DiskTold) where
   starved_route at kept (route.Box user name) = refl
   starved_route at kept (route.Body number) = refl
   starved_route at kept route.Conf = refl
+  starved_route at kept (route.Plan point) = refl
   starved_route at kept (route.Act act) = elim (nat_lt kept.next 4194304) as (λ b. (if b then starved kept else starved kept) ≡ starved kept) [ true ↦ refl | false ↦ refl ]
   starved_route at kept (route.Cycle ask) = starved_cycle at kept ask (cycle_due kept at ask)
   starved_route at kept (route.Try ask) = refl
@@ -343,6 +344,7 @@ module _ {D : Type 0} (told : D → DiskTold) where
   lost_route at kept (route.Box user name) = refl
   lost_route at kept (route.Body number) = refl
   lost_route at kept route.Conf = refl
+  lost_route at kept (route.Plan point) = refl
   lost_route at kept (route.Act act) = elim (nat_lt kept.next 4194304) as (λ b. (if b then lost kept else lost kept) ≡ lost kept) [ true ↦ refl | false ↦ refl ]
   lost_route at kept (route.Cycle ask) = lost_cycle at kept ask (cycle_due kept at ask)
   lost_route at kept (route.Try ask) = refl
@@ -428,6 +430,7 @@ module _ {D : Type 0} (told : D → DiskTold) where
   ends_routed h at kept (route.Box user name) = ends_told h kept _ refl
   ends_routed h at kept (route.Body number) = ends_told h kept _ refl
   ends_routed h at kept route.Conf = ends_told h kept _ refl
+  ends_routed h at kept (route.Plan point) = ends_told h kept _ refl
   ends_routed h at kept (route.Act act) = ends_acted h at kept act
   ends_routed h at kept (route.Cycle ask) = ends_cycled h at kept ask (cycle_due kept at ask)
   ends_routed h at kept (route.Try ask) = ends_told h kept (tried kept ask (due_anew kept at ask)) (ends_tried kept ask (due_anew kept at ask))

@@ -19,6 +19,7 @@ pub mod laws;
 mod make;
 mod on_disk;
 mod openings;
+mod plan;
 mod redo;
 mod seal;
 mod spelling;
