@@ -7,8 +7,9 @@ use Rattle.verb_core.specs.Step.{run, step}
 use Rattle.verb_core.specs.Store.{MailStore}
 use Rattle.paradox.specs.Kept.{Kept}
 use Rattle.repair_desk.specs.Repairs.{numbers_of, position}
-use Rattle.touch_rules.specs.Touches.{touches_of}
-use Rattle.replay_plan.specs.Levels.{levels_of, text_of_levels}
+use Rattle.touch_rules.specs.Table.{touches_of}
+use Rattle.replay_plan.specs.Lines.{text_of_levels}
+use Rattle.replay_plan.specs.Placing.{levels_of}
 use Rattle.time_desk.specs.declared.fault.CycleFault.{CycleFault}
 use Rattle.time_desk.specs.declared.fault.CycleFault.TheVariants.{Point, Numbers, Disk, NoMemory, Closed}
 

@@ -5,7 +5,9 @@ ghost use Rattle.verb_core.specs.Items.{IsWellFormed};
 ghost use Rattle.verb_core.specs.Step.{run, step};
 ghost use Rattle.verb_core.specs.Store.{IsValid};
 ghost use Rattle.repair_desk.specs.Repairs.{numbers_of};
-ghost use Rattle.touch_rules.specs.Touches.{touches_of};
+ghost use Rattle.touch_rules.specs.Table.{touches_of};
+ghost use Rattle.replay_plan.specs.Lines.{text_of_levels};
+ghost use Rattle.replay_plan.specs.Placing.{levels_of};
 ghost use Rattle.time_desk.specs.Planning.{PlansNone, plan_at, plan_from, plan_of, resolved, resolved_on};
 
 use crate::redo::begun;
