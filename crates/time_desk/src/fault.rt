@@ -34,7 +34,7 @@ pub enum ActFault {
     Closed,
 }
 
-/// Why a request for a cycle has no report. But for `NoMemory` the first that holds is told, in this order: `Closed`, `Point`,
+/// Why a request for a cycle has no report, or one for a plan no plan, which is `Point` or `NoMemory`. But for `NoMemory` the first that holds is told, in this order: `Closed`, `Point`,
 /// `Numbers`, `Disk`. A key that a cycle had is answered before all of them.
 #[derive(Clone, Copy, Debug, PartialEq, Eq)]
 pub enum CycleFault {

@@ -1,9 +1,10 @@
 //! What the operator asks of the items later than a point: which of them could be done side by side.
-ghost use Rattle.std.specs.Prelude.{◌≡◌, ◌<◌, ◌≤◌, drop, length, map, take, IfErr, IfOk, OnErr, OnOk, Some};
+ghost use Rattle.std.specs.Prelude.{◌≡◌, ◌++◌, ◌∷◌, [], List, ◌<◌, ◌≤◌, drop, length, map, take, IfErr, IfOk, OnErr, OnOk, Some};
 ghost use Rattle.std.specs.List.{AllByRecursion};
 ghost use Rattle.verb_core.specs.Items.{IsWellFormed};
 ghost use Rattle.verb_core.specs.Step.{run, step};
-ghost use Rattle.verb_core.specs.Store.{IsValid};
+ghost use Rattle.verb_core.specs.declared.item.Item.{Item as TheItem};
+ghost use Rattle.verb_core.specs.Store.{IsValid, MailStore};
 ghost use Rattle.repair_desk.specs.Repairs.{numbers_of};
 ghost use Rattle.touch_rules.specs.Table.{touches_of};
 ghost use Rattle.replay_plan.specs.Lines.{text_of_levels};
@@ -170,6 +171,12 @@ fn plan_of_point(alloc: Global, desk: &mail_desk::Desk, point: u32) -> Result<Te
         Err(NoMemory) => Err(CycleFault::NoMemory),
     }
 }
+
+/// Of items that are performed one after the other, each is resolved on the store that those before it lead to. This does
+/// nothing.
+pub fn items_are_resolved_in_turn()
+    ensures { (s : MailStore) (before later : List TheItem) (i : TheItem) → resolved s (before ++ i ∷ later) ≡ resolved s before ++ resolved_on (run s before) i ∷ resolved (run s (before ++ i ∷ [])) later }
+{}
 
 impl<D: Disk> Desk<D> {
     /// The levels of the items later than a point: two items of one level could be done side by side, and what commutes could
