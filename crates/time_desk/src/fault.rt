@@ -34,8 +34,8 @@ pub enum ActFault {
     Closed,
 }
 
-/// Why a request for a cycle has no report, or one for a plan no plan, which is `Point` or `NoMemory`. But for `NoMemory` the first that holds is told, in this order: `Closed`, `Point`,
-/// `Numbers`, `Disk`. A key that a cycle had is answered before all of them.
+/// Why a request for a cycle has no report. But for `NoMemory` the first that holds is told, in this order: `Closed`, `Point`,
+/// `Numbers`, `Disk`. A key that a cycle had is answered before all of them. A plan is missing for `Point` or `NoMemory` alone.
 #[derive(Clone, Copy, Debug, PartialEq, Eq)]
 pub enum CycleFault {
     /// The timeline has no item of this number, which is not 0.
