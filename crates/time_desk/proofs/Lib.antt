@@ -2,6 +2,7 @@ pub mod Beginnings
 pub mod Payloads
 pub mod Runs
 pub mod Submits
+pub mod Resolving
 pub mod Rewinding
 pub mod Standings
 pub mod OneWay
