@@ -16,6 +16,7 @@ use crate::{CycleFault, Desk};
 use box_store::{Steps, Store};
 use mail_cycle::rewind;
 use repair_desk::position_of;
+use replay_plan::laws::levels_have_places;
 use std::alloc::Global;
 use std::marker::Brand;
 use std::sync::ledger::{Blank, Ledger};
@@ -103,6 +104,7 @@ fn spell(alloc: Global, all: &TouchList, items: &[Item]) -> Result<Text, NoMemor
     requires { length all.now ≡ length items.now }
     ensures { IfOk result (λ text. text ≡ text_of_levels (levels_of all.now) (numbers_of items.now)) }
 {
+    levels_have_places();
     let levels = replay_plan::plan(alloc, all)?;
     let numbers = numbers(alloc, items)?;
     replay_plan::plan_text(alloc, &levels, &numbers)
