@@ -1,11 +1,13 @@
-//! A test of cycles that can't be sealed.
+//! Tests of what can't be sealed: it closes the desk, which then does nothing, and what is kept stays.
+use crate::asks::{acted, mailed};
 use crate::cycles::{cycled, tried};
 use crate::desks::{JOURNAL, Kept, keeps, kept, started};
 use std::alloc::Global;
 use std::test::Fail;
 use std::thread::Threads;
-use time_desk::{CycleFault, Desk};
+use time_desk::{ActFault, CycleFault, Desk};
 use undo_outside::MemDisk;
+use verb_core::SubmitFault;
 
 /// Whether a cycle is not sealed and closes the desk: one under a new key is not done any more, one under a key that a cycle
 /// had is answered as it was, whatever it asks, and one can be tried.
@@ -71,6 +73,45 @@ fn closes_at<R: Threads + Sync>(
 fn a_failed_cycle_closes_the_desk(rt: HostRuntime) -> Result<(), Fail> {
     for (ordinal, writes) in [(14, 3), (15, 3), (16, 4), (17, 4)] {
         assert!(rt; closes_at(&rt, rt.alloc(), ordinal, writes)?);
+    }
+    Ok(())
+}
+
+/// Whether a mail is not sealed, or an act; and then neither is done any more.
+fn is_closed_by(alloc: Global, desk: &mut Desk<MemDisk>, by_mail: bool) -> Result<bool, Fail> {
+    let failed = match by_mail {
+        true => mailed(alloc, desk)? == Err(SubmitFault::Disk),
+        false => acted(alloc, desk)? == Err(ActFault::Disk),
+    };
+    let closed = mailed(alloc, desk)? == Err(SubmitFault::Closed);
+    Ok(failed && closed && acted(alloc, desk)? == Err(ActFault::Closed))
+}
+
+/// Whether that closes the desk, and all is kept that was.
+fn stays(alloc: Global, desk: &mut Desk<MemDisk>, by_mail: bool) -> Result<bool, Fail> {
+    let before = kept(alloc, desk)?;
+    let closed = is_closed_by(alloc, desk, by_mail);
+    let same = keeps(alloc, desk, &before);
+    drop(before);
+    Ok(closed? && same? && desk.closed() && desk.next() == 3)
+}
+
+/// The same, where this call fails and so many writes are tried.
+fn stays_at(alloc: Global, ordinal: u32, by_mail: bool, writes: usize) -> Result<bool, Fail> {
+    let mut desk = started(alloc, JOURNAL, &[ordinal])?;
+    let stays = stays(alloc, &mut desk, by_mail);
+    let disk = desk.into_disk();
+    let tried = disk.writes();
+    drop(disk);
+    Ok(stays? && tried == writes)
+}
+
+// Nine calls start the desk, and a seal is a write, a sync, a write and a sync. A closed desk writes nothing.
+#[test]
+fn a_failed_seal_closes_the_desk(rt: HostRuntime) -> Result<(), Fail> {
+    for (ordinal, writes) in [(10, 1), (11, 1), (12, 2), (13, 2)] {
+        assert!(rt; stays_at(rt.alloc(), ordinal, true, writes)?);
+        assert!(rt; stays_at(rt.alloc(), ordinal, false, writes)?);
     }
     Ok(())
 }
