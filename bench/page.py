@@ -49,6 +49,11 @@ class Browser:
             pieces += it
         return bytes(pieces)
     def open(self, port): self.ask('Page.navigate', url=f'http://127.0.0.1:{port}/')
+    def leave(self):
+        """Leaves the page of the case before, whose server has ended, and forgets what it told."""
+        self.ask('Page.navigate', url='about:blank')
+        self.wait('location.href === "about:blank"')
+        self.events.clear()
     def value(self, code):
         done = self.ask('Runtime.evaluate', expression=code, awaitPromise=True, returnByValue=True)
         if 'exceptionDetails' in done: raise tests.Wrong(f'{code}: {done["exceptionDetails"]}')
@@ -82,7 +87,7 @@ REPORT = 'document.getElementById("report").innerText'
 READ = 'store.counts && store.items.length === store.counts.items && document.querySelectorAll("#rows tr").length'
 
 def opened(browser, page):
-    browser.events.clear()
+    browser.leave()
     browser.open(page.port)
     browser.wait('typeof store !== "undefined" && ' + READ)
 
@@ -212,7 +217,7 @@ def twenty_thousand_items(folder, browser, pictures):
     long = 'name ' * 30
     lines = [*tests.START, *(line for n in range(19990) for line in tests.letter(('ann', 'bob', 'carl', 'team')[n % 4], f'Subject: m{n} {long}', *(['', 'sought'] if n % 5000 == 7 else []), sender=f'joe{n % 50}@far.test') + ([f'at {tests.NINE + n * 20}'] if n % 10 == 0 else []))]
     with tests.Server(folder, lines) as it, tests.Page(it) as page:
-        browser.events.clear()
+        browser.leave()
         began = time.monotonic()
         browser.open(page.port)
         browser.wait('typeof store !== "undefined" && document.querySelectorAll("#rows tr").length')
