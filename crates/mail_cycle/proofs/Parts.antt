@@ -133,32 +133,33 @@ module _ (s : Kept) (ask : CycleAsk) (place : ℕ) where
       ∙ ap₂ (λ (t : List Item) (xs : List Shown). judged ask.drops t xs) laters (nows ∙ ap (λ (n : ℕ). drop n shows) counts ∙ now_is s at ask place shows are)
 
 module _ (s : Kept) (at : ℕ) (ask : CycleAsk) (place : ℕ) where
-  pub settled : (e : Edited) (first after : MailStore) (shows : List Shown) (broken : List BrokenItem) (more timeline : List Item) (numbers : List ℕ) (front inserts next count : ℕ) (r : Result Rewound NoMemory)
+  pub settled : (e : Edited) (first : MailStore) (shows : List Shown) (broken : List BrokenItem) (more : List Item) (numbers : List ℕ) (front inserts next count : ℕ) (r : Result Rewound NoMemory)
       → e ≡ edited_at s.timeline ask s.next at place → first ≡ run s.base e.items → shows ≡ drop place (answers s.base e.items)
       → broken ≡ broken_at s at ask place → more ≡ told_at s at ask place → numbers ≡ numbers_of more
-      → after ≡ run first more → IsValid after → timeline ≡ shown_after front e.items (drop inserts shows) ++ more
       → front ≡ place + inserts → inserts ≡ length ask.inserts → next ≡ s.next → count ≡ length numbers
-      → IfOk r (λ made. made.store.store ≡ after) → IfOk r (λ made. made.timeline ≡ timeline) → IfOk r (λ made. made.stamps ≡ renewed (store_of s).boxes after.boxes s.stamps s.next)
+      → IfOk r (λ made. made.store.store ≡ run first more) → IfOk r (λ made. IsValid made.store.store)
+      → IfOk r (λ made. made.timeline ≡ shown_after front e.items (drop inserts shows) ++ more)
+      → IfOk r (λ made. made.stamps ≡ renewed (store_of s).boxes made.store.store.boxes s.stamps s.next)
       → IfOk r (λ made. made.next ≡ next + 1 + inserts + count)
       → IfOk r (λ made. made.report ≡ record { cycle = s.next; point = ask.point; kept = e.kept; broken = broken; notices = numbers; renewed = renewed_by s.next made.stamps; unmatched = e.unmatched })
       → IfOk r (λ made. Leaves s (cycled_at s at ask place) made)
-  settled e first after shows broken more timeline numbers front inserts next count (Err x) edits firsts shown breaks tells nums afters valid times fronts acts nexts counts a b c d f = tt
-  settled e first after shows broken more timeline numbers front inserts next count (Ok made) edits firsts shown breaks tells nums afters valid times fronts acts nexts counts stored timed stamped numbered reported =
+  settled e first shows broken more numbers front inserts next count (Err x) edits firsts shown breaks tells nums fronts acts nexts counts a b c d f g = tt
+  settled e first shows broken more numbers front inserts next count (Ok made) edits firsts shown breaks tells nums fronts acts nexts counts stored valid timed stamped numbered reported =
       let repairs : e.items ≡ repaired_items s at ask place = ap (λ (x : Edited). x.items) edits in
       let now : drop inserts shows ≡ compared_at s at ask place = ap (λ (n : ℕ). drop n shows) acts ∙ now_is s at ask place shows (shown ∙ ap (λ (t : List Item). drop place (answers s.base t)) repairs) in
       let at_front : front ≡ front_of ask place = fronts ∙ ap (λ (n : ℕ). place + n) acts in
       let all : made.timeline ≡ timeline_at s at ask place =
-      timed ∙ times ∙ ap (λ (n : ℕ). shown_after n e.items (drop inserts shows) ++ more) at_front
+      timed ∙ ap (λ (n : ℕ). shown_after n e.items (drop inserts shows) ++ more) at_front
       ∙ timeline_is s at ask place e.items more _ (drop inserts shows) repairs now tells refl in
-      let leads : after ≡ run s.base (timeline_at s at ask place) = store_is s at ask place first after e.items more repairs tells firsts afters in
-      let stamps : made.stamps ≡ stamps_at s at ask place = stamps_are s at ask place after made.stamps leads stamped in
+      let leads : made.store.store ≡ run s.base (timeline_at s at ask place) = store_is s at ask place first made.store.store e.items more repairs tells firsts stored in
+      let stamps : made.stamps ≡ stamps_at s at ask place = stamps_are s at ask place made.store.store made.stamps leads stamped in
       record {
         timeline = all;
         stamps = stamps;
         next = numbered ∙ next_is s at ask place numbers more next inserts count tells nums nexts acts counts;
         report = reported ∙ report_is s at ask place e broken numbers more made.stamps edits breaks tells nums stamps;
-        store = stored ∙ leads;
-        valid = subst IsValid (sym stored) valid;
+        store = leads;
+        valid = valid;
       }
 
   -- each item and each notice is one step at most

@@ -156,7 +156,7 @@ fn finish(
 ) -> Result<Rewound, NoMemory>
     ensures store { IfOk result (λ made. made.store.store ≡ led.store.store) }
     ensures timeline { IfOk result (λ made. made.timeline ≡ led.timeline) }
-    ensures stamps { IfOk result (λ made. made.stamps ≡ renewed_stamps (store_of before.now).boxes led.store.store.boxes before.now.stamps before.now.next) }
+    ensures stamps { IfOk result (λ made. made.stamps ≡ renewed_stamps (store_of before.now).boxes made.store.store.boxes before.now.stamps before.now.next) }
     ensures next { IfOk result (λ made. made.next ≡ found.next) }
     ensures report { IfOk result (λ made. made.report ≡ record {
       cycle = before.now.next;
@@ -184,6 +184,43 @@ fn finish(
                 unmatched: found.unmatched,
             },
         }),
+        Err(NoMemory) => Err(NoMemory),
+    }
+}
+
+/// Performs the notices, and puts all together, where what is told is found.
+fn close<L: Ledger>(
+    alloc: Global,
+    before: &Before<'_>,
+    point: u32,
+    front: usize,
+    inserts: usize,
+    items: Items,
+    replayed: Replayed,
+    notices: Items,
+    found: Found,
+    steps: &mut Steps<L>,
+) -> Result<Rewound, NoMemory>
+    requires valid { IsValid replayed.store.store }
+    requires formed { AllByRecursion (IsWellFormed replayed.store.store.house) notices }
+    ensures store { IfOk result (λ made. made.store.store ≡ run replayed.store.store notices) }
+    ensures valid { IfOk result (λ made. IsValid made.store.store) }
+    ensures timeline { IfOk result (λ made. made.timeline ≡ shown_after front items (drop inserts replayed.shows) ++ notices) }
+    ensures stamps { IfOk result (λ made. made.stamps ≡ renewed_stamps (store_of before.now).boxes made.store.store.boxes before.now.stamps before.now.next) }
+    ensures next { IfOk result (λ made. made.next ≡ found.next) }
+    ensures report { IfOk result (λ made. made.report ≡ record {
+      cycle = before.now.next;
+      point = point;
+      kept = found.kept;
+      broken = found.broken;
+      notices = found.notices;
+      renewed = renewed_in before.now.next made.stamps;
+      unmatched = found.unmatched;
+    }) }
+    ensures steps { IfOk result (λ made. steps.new ≤ steps.old + length notices) }
+{
+    match lead(alloc, front, inserts, items, replayed, notices, steps) {
+        Ok(led) => finish(alloc, before, point, led, found),
         Err(NoMemory) => Err(NoMemory),
     }
 }
@@ -232,14 +269,16 @@ pub fn settle<L: Ledger>(
         notices: numbers,
         unmatched,
     };
-    let led = lead(
+    close(
         alloc,
+        before,
+        ask.point,
         before.front_with(place, inserts),
         inserts,
         items,
         replayed,
         notices,
+        found,
         steps,
-    )?;
-    finish(alloc, before, ask.point, led, found)
+    )
 }
