@@ -1,0 +1,101 @@
+#!/usr/bin/env python3
+"""Makes the layers of docs/MAP.md from crates.txt and the crates' heads: the drawing docs/map.svg, and the table between the page's two marks.
+
+usage: bench/map.py            writes both
+       bench/map.py --check    says whether they are as crates.txt has it, and writes nothing
+
+A crate's layer is one above the highest of those that it uses. A line goes to each crate that it uses, but for those that one of its others uses already.
+"""
+import os, re, sys
+from xml.sax.saxutils import escape
+
+TOP = os.path.dirname(os.path.dirname(os.path.abspath(__file__)))
+PAGE, DRAWING, CRATES = (os.path.join(TOP, *path) for path in (('docs', 'MAP.md'), ('docs', 'map.svg'), ('crates.txt',)))
+BEGINS, ENDS = '<!-- layers, by bench/map.py -->\n', '<!-- end of the layers -->'
+WIDE, HIGH, ACROSS, DOWN, LEFT = 118, 26, 128, 78, 40   # a box, and the distance from one to the next
+
+def used():
+    """For each crate those of this tree that it uses."""
+    rows = {name: uses.split() for name, _, uses in (line.partition(':') for line in open(CRATES) if line.strip())}
+    return {name: [it for it in uses if it in rows] for name, uses in rows.items()}
+
+def layers(uses):
+    found = {}
+    def layer(name):
+        if name not in found: found[name] = 1 + max(map(layer, uses[name]), default=0)
+        return found[name]
+    for name in uses: layer(name)
+    return found
+
+def below(uses):
+    """For each crate all that it uses, straight or through others."""
+    found = {}
+    def all_of(name):
+        if name not in found: found[name] = set(uses[name]).union(*map(all_of, uses[name]))
+        return found[name]
+    for name in uses: all_of(name)
+    return found
+
+def straight(uses):
+    """For each crate what it uses that none of its others uses already."""
+    under = below(uses)
+    return {name: [it for it in its if not any(it in under[other] for other in its)] for name, its in uses.items()}
+
+def head(name):
+    """The first sentence of a crate's head."""
+    for file in ('lib.rt', 'main.rt'):
+        path = os.path.join(TOP, 'crates', name, 'src', file)
+        if os.path.exists(path):
+            said = re.match(r'((?://!.*\n)+)', open(path).read())
+            text = ' '.join(line[3:].strip() for line in said[1].split('\n')) if said else ''
+            return re.split(r'(?<=\.) ', text.strip())[0].replace('|', '\\|')
+    return ''
+
+def places(uses, layer, lines):
+    """Where each crate stands in its layer: near those that use it, and then near those that it uses."""
+    rows = [[name for name in uses if layer[name] == n] for n in range(1, max(layer.values()) + 1)]
+    users = {name: [it for it in lines if name in lines[it]] for name in uses}
+    widest = max(map(len, rows))
+    at = {name: place + (widest - len(row)) / 2 for row in rows for place, name in enumerate(row)}
+    for sweep in range(24):
+        near = users if sweep % 2 else lines
+        for row in rows if near is lines else reversed(rows):
+            row.sort(key=lambda name: (sum(at[it] for it in near[name]) / len(near[name]) if near[name] else at[name], name))
+            at.update({name: place + (widest - len(row)) / 2 for place, name in enumerate(row)})
+    return at, widest
+
+def drawing(uses):
+    layer, lines = layers(uses), straight(uses)
+    at, widest = places(uses, layer, lines)
+    highest = max(layer.values())
+    x, y = (lambda name: LEFT + 10 + at[name] * ACROSS), (lambda name: 10 + (highest - layer[name]) * DOWN)
+    shapes = [f'<path d="M{x(name) + WIDE / 2:.0f} {y(name) + HIGH} C{x(name) + WIDE / 2:.0f} {y(name) + DOWN - 8:.0f} {x(it) + WIDE / 2:.0f} {y(it) - DOWN + HIGH + 8:.0f} {x(it) + WIDE / 2:.0f} {y(it)}"/>'
+              for name in uses for it in lines[name]]
+    for n in range(1, highest + 1): shapes.append(f'<text x="8" y="{10 + (highest - n) * DOWN + 17}">{n}</text>')
+    for name in uses:
+        shapes.append(f'<rect x="{x(name):.0f}" y="{y(name)}" width="{WIDE}" height="{HIGH}" rx="4" class="{"tests" if name.endswith("_tests") else "crate"}"/>')
+        shapes.append(f'<text x="{x(name) + WIDE / 2:.0f}" y="{y(name) + 17}" text-anchor="middle">{escape(name)}</text>')
+    style = 'text{font:13px sans-serif;fill:#1c2430}path{fill:none;stroke:#8b94a3;stroke-width:1}.crate{fill:#e4f0ff;stroke:#0b57a4}.tests{fill:#f3f5f8;stroke:#8b94a3}'
+    size = f'width="{LEFT + 20 + widest * ACROSS}" height="{highest * DOWN}"'
+    return '\n'.join([f'<svg xmlns="http://www.w3.org/2000/svg" {size}>', f'<style>{style}</style>', '<rect width="100%" height="100%" fill="#fff"/>', *shapes, '</svg>', ''])
+
+def table(uses):
+    layer, lines = layers(uses), straight(uses)
+    rows = ['| Layer | Crate | What it is | Stands on |', '|---|---|---|---|']
+    for name in sorted(uses, key=lambda name: (-layer[name], list(uses).index(name))): rows.append(f'| {layer[name]} | {name} | {head(name)} | {", ".join(lines[name])} |')
+    return '\n'.join(rows) + '\n'
+
+def main():
+    if sys.argv[1:] not in ([], ['--check']): sys.exit(__doc__)
+    uses, page = used(), open(PAGE).read()
+    front, found, rest = page.partition(BEGINS)
+    _, ends, back = rest.partition(ENDS)
+    if not (found and ends): sys.exit(f'{PAGE} lacks its two marks')
+    wanted = {PAGE: front + BEGINS + table(uses) + ENDS + back, DRAWING: drawing(uses)}
+    for path, text in wanted.items():
+        if os.path.exists(path) and open(path).read() == text: continue
+        if sys.argv[1:]: sys.exit(f'{os.path.relpath(path, TOP)} is not as crates.txt has it: run bench/map.py')
+        with open(path, 'w') as out: out.write(text)
+        print(os.path.relpath(path, TOP))
+
+main()

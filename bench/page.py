@@ -1,0 +1,256 @@
+#!/usr/bin/env python3
+"""Drives the page of `operate/undo page` in headless Chromium: the three cases of docs/OPERATING.md by clicks, one by the keyboard alone, texts that would be HTML, a server that stops, and 20,000 items.
+
+usage: bench/page.py PROGRAM [FOLDER]      FOLDER: where the screenshots go (docs/page has those of the documents); it must be there
+
+Wants Chromium (Debian's package `chromium`). It is no part of the gate. Servers and their stores are those of tests/undo.
+"""
+import base64, importlib.machinery, importlib.util, json, os, shutil, subprocess, sys, tempfile, time
+
+def loaded(path):
+    """A script of this repository as a module."""
+    loader = importlib.machinery.SourceFileLoader('undo_tests', path)
+    module = importlib.util.module_from_spec(importlib.util.spec_from_loader('undo_tests', loader))
+    sys.dont_write_bytecode = True
+    loader.exec_module(module)
+    return module
+
+tests = loaded(os.path.join(os.path.dirname(os.path.dirname(os.path.abspath(__file__))), 'tests', 'undo'))
+same, has = tests.same, tests.has
+
+class Browser:
+    """Headless Chromium over its debugging pipe: each message ends with a NUL."""
+    def __enter__(self):
+        self.home = tempfile.mkdtemp()
+        (its_read, own_write), (own_read, its_write) = os.pipe(), os.pipe()
+        def pipes(): os.dup2(its_read, 103); os.dup2(its_write, 104); os.dup2(103, 3); os.dup2(104, 4)
+        words = ['chromium', '--headless=new', '--no-sandbox', '--disable-gpu', '--remote-debugging-pipe', f'--user-data-dir={self.home}', '--window-size=1500,1000', '--lang=en', 'about:blank']
+        self.process = subprocess.Popen(words, preexec_fn=pipes, close_fds=False, stdin=subprocess.DEVNULL, stdout=subprocess.DEVNULL, stderr=subprocess.DEVNULL, env={**os.environ, 'TZ': 'Europe/Berlin'})
+        os.close(its_read); os.close(its_write)
+        self.out, self.into, self.number, self.session, self.events = os.fdopen(own_write, 'wb', 0), os.fdopen(own_read, 'rb'), 0, None, []
+        target = next(it for it in self.ask('Target.getTargets')['targetInfos'] if it['type'] == 'page')
+        self.session = self.ask('Target.attachToTarget', targetId=target['targetId'], flatten=True)['sessionId']
+        for domain in ('Page', 'Runtime', 'Log'): self.ask(f'{domain}.enable')
+        return self
+    def __exit__(self, *_): self.process.kill(); self.process.wait(); shutil.rmtree(self.home, ignore_errors=True)
+    def ask(self, method, **given):
+        self.number += 1
+        self.out.write(json.dumps({'id': self.number, 'method': method, 'params': given, **({'sessionId': self.session} if self.session else {})}).encode() + b'\0')
+        while True:
+            said = json.loads(self.message())
+            if said.get('id') == self.number:
+                if 'error' in said: raise tests.Wrong(f'{method}: {said["error"]}')
+                return said['result']
+            self.events.append(said)
+    def message(self):
+        pieces = bytearray()
+        while (it := self.into.read(1)) != b'\0':
+            if not it: raise tests.Wrong('the browser ended')
+            pieces += it
+        return bytes(pieces)
+    def open(self, port): self.ask('Page.navigate', url=f'http://127.0.0.1:{port}/')
+    def leave(self):
+        """Leaves the page of the case before, whose server has ended, and forgets what it told."""
+        self.ask('Page.navigate', url='about:blank')
+        self.wait('location.href === "about:blank"')
+        self.events.clear()
+    def value(self, code):
+        done = self.ask('Runtime.evaluate', expression=code, awaitPromise=True, returnByValue=True)
+        if 'exceptionDetails' in done: raise tests.Wrong(f'{code}: {done["exceptionDetails"]}')
+        return done['result'].get('value')
+    def wait(self, code, seconds=60):
+        until = time.monotonic() + seconds
+        while not self.value(f'Boolean({code})'):
+            if time.monotonic() > until: raise tests.Wrong(f'it never comes: {code}; the page says {self.value("document.body.innerText")[:3000]}')
+            time.sleep(.02)
+    def click(self, css):
+        """A real click in the middle of an element."""
+        self.wait(f'document.querySelector({css!r})')
+        x, y = self.value(f'(() => {{ const it = document.querySelector({css!r}); it.scrollIntoView({{block: "center"}}); const r = it.getBoundingClientRect(); return [r.x + r.width / 2, r.y + r.height / 2]; }})()')
+        for kind in ('mousePressed', 'mouseReleased'): self.ask('Input.dispatchMouseEvent', type=kind, x=x, y=y, button='left', clickCount=1)
+    def write(self, css, text): self.click(css); self.ask('Input.insertText', text=text)
+    def choose(self, css, value): self.value(f'(() => {{ const it = document.querySelector({css!r}); it.value = {value!r}; it.dispatchEvent(new Event("change", {{bubbles: true}})); }})()')
+    def key(self, name, text=''):
+        codes = {'Enter': 13, 'Tab': 9, 'ArrowDown': 40, 'ArrowUp': 38, ' ': 32, 'Escape': 27}
+        text = {'Enter': '\r', ' ': ' '}.get(name, text)
+        self.ask('Input.dispatchKeyEvent', type='keyDown', key=name, text=text, windowsVirtualKeyCode=codes.get(name, ord(name.upper()[0])))
+        self.ask('Input.dispatchKeyEvent', type='keyUp', key=name, windowsVirtualKeyCode=codes.get(name, ord(name.upper()[0])))
+    def picture(self, folder, name):
+        if not folder: return
+        time.sleep(.4)
+        with open(os.path.join(folder, name + '.png'), 'wb') as out: out.write(base64.b64decode(self.ask('Page.captureScreenshot', format='png')['data']))
+    def faults(self):
+        """What the page's console tells: errors, and what its policy refused."""
+        return [it for it in self.events if it.get('method') in ('Runtime.exceptionThrown', 'Page.javascriptDialogOpening') or (it.get('method') == 'Log.entryAdded' and it['params']['entry']['level'] == 'error')]
+
+REPORT = 'document.getElementById("report").innerText'
+READ = 'store.counts && store.items.length === store.counts.items && document.querySelectorAll("#rows tr").length'
+
+def opened(browser, page):
+    browser.leave()
+    browser.open(page.port)
+    browser.wait('typeof store !== "undefined" && ' + READ)
+
+def a_filter_by_mistake(folder, browser, pictures):
+    with tests.Server(folder, tests.FILTER) as it, tests.Page(it) as page:
+        opened(browser, page)
+        browser.write('#text', 'offer')
+        browser.click('#find')
+        browser.wait('document.querySelectorAll("#rows tr").length === 1')
+        browser.wait('document.querySelector("#text-6").innerText.includes("boss@far.test: the job")')
+        browser.click('#text-6 button')
+        browser.wait('document.getElementById("message").open')
+        has('the text', 'This is our offer.', browser.value('document.getElementById("message-text").innerText'))
+        browser.picture(pictures, 'text')
+        browser.click('#message button')
+        browser.click('#clear')
+        browser.wait('document.querySelectorAll("#rows tr").length === 6')
+        browser.click('tr[data-number="4"] input[type=radio]')
+        browser.click('tr[data-number="5"] input[type=checkbox]')
+        browser.click('#try')
+        browser.wait(f'{REPORT}.includes("Nobody gets a notice")')
+        has('the try', ['It would be cycle 8, back to point 4. 2 later items would stay.', 'ann: INBOX'], browser.value(REPORT))
+        browser.picture(pictures, 'filter-try')
+        same('nothing was done', 0, it.get('/status')['cycles'])
+        browser.click('#run')
+        browser.wait('document.getElementById("confirm").open')
+        has('it asks', 'Nobody will get a notice.', browser.value('document.getElementById("confirm-text").innerText'))
+        browser.click('#confirm button[value=no]')
+        browser.wait('!document.getElementById("confirm").open')
+        same('no is no', 0, it.get('/status')['cycles'])
+        browser.click('#run')
+        browser.wait('document.getElementById("confirm").open')
+        browser.click('#yes')
+        browser.wait(f'{REPORT}.includes("Done.")')
+        same('the mail is back', [2, 6, 7], [row['item'] for row in it.get('/box/ann/INBOX')['entries']])
+        browser.wait('document.querySelectorAll("#rows tr").length === 5')
+        same('the page has no fault', [], browser.faults())
+
+def an_infected_delivery(folder, browser, pictures):
+    with tests.Server(folder, tests.WORM) as it, tests.Page(it) as page:
+        opened(browser, page)
+        browser.click('#beginning')
+        browser.click('#add summary')
+        browser.choose('#kind', 'replace')
+        browser.write('#of-item', '2')
+        browser.write('#of-body', 'Subject: removed\n\nIt was removed.\n')
+        browser.click('#repair button[type=submit]')
+        browser.wait('document.querySelectorAll("#repairs li").length === 1')
+        browser.click('#try')
+        browser.wait(f'{REPORT}.includes("a message was changed")')
+        browser.click('#repairs button')
+        browser.click('tr[data-number="2"] input[type=checkbox]')
+        browser.click('#run')
+        browser.wait('document.getElementById("confirm").open')
+        has('it names who is told', 'These users will get a notice: ann, bob.', browser.value('document.getElementById("confirm-text").innerText'))
+        browser.picture(pictures, 'worm-confirm')
+        browser.click('#yes')
+        browser.wait(f'{REPORT}.includes("Done.")')
+        has('the report', ['2 users get a notice', 'a message is missing', 'ann: Keep'], browser.value(REPORT))
+        same('the mail is gone', [], [row['item'] for row in it.get('/box/ann/Keep')['entries']])
+        browser.wait('document.querySelector("#text-9") || document.querySelector("#text-10")')
+        browser.picture(pictures, 'worm-done')
+        same('the page has no fault', [], browser.faults())
+
+def a_wrong_alias_by_the_keyboard(folder, browser, pictures):
+    with tests.Server(folder, tests.ALIAS) as it, tests.Page(it) as page:
+        opened(browser, page)
+        tab_to(browser, '#rows tr')
+        browser.key('ArrowDown')
+        browser.key('ArrowDown')
+        same('the row', '2', browser.value('document.activeElement.dataset.number'))
+        browser.key('d', 'd')
+        browser.wait('document.querySelectorAll("#drops li").length === 1')
+        same('the row has the focus still', '2', browser.value('document.activeElement.dataset.number'))
+        tab_to(browser, '#beginning'); browser.key('Enter')
+        tab_to(browser, '#add summary'); browser.key('Enter')
+        browser.choose('#kind', 'alias')
+        tab_to(browser, '#of-local'); browser.ask('Input.insertText', text='desk')
+        browser.key('Tab'); browser.ask('Input.insertText', text='bob')
+        browser.key('Enter')
+        browser.wait('document.querySelectorAll("#repairs li").length === 1')
+        tab_to(browser, '#run'); browser.key('Enter')
+        browser.wait('document.getElementById("confirm").open')
+        has('it names who is told', 'These users will get a notice: carl.', browser.value('document.getElementById("confirm-text").innerText'))
+        tab_to(browser, '#yes'); browser.key('Enter')
+        browser.wait(f'{REPORT}.includes("Done.")')
+        same('the alias', ['bob'], it.get('/conf')['aliases']['desk'])
+        same('the page has no fault', [], browser.faults())
+
+def tab_to(browser, css):
+    """Presses Tab until an element has the focus."""
+    for _ in range(80):
+        if browser.value(f'Boolean(document.activeElement && document.activeElement.matches({css!r}))'): return
+        browser.key('Tab')
+    raise tests.Wrong(f'Tab does not come to {css}')
+
+def texts_that_would_be_html(folder, browser, pictures):
+    image = '<img src=x onerror=alert(1)>'
+    lines = [*tests.START, *tests.letter('ann', f'Subject: {image}', '', '<script>alert(2)</script>'), *tests.letter('ann', 'Subject: caf~xe9 =?utf-8?Q?=3Cb=3Eh=C3=A9?='),
+             *tests.reads(2, 'ann', 'a1', f'CREATE "{image}"', f'CREATE "{"long " * 39}"', 'SELECT INBOX', f'STATUS "{image}" (MESSAGES)')]
+    with tests.Server(folder, lines) as it, tests.Page(it) as page:
+        opened(browser, page)
+        browser.wait(f'document.querySelector("#text-2").innerText.includes({image!r})')
+        has('8-bit and encoded', 'café <b>hé', browser.value('document.querySelector("#text-3").innerText'))
+        browser.click('#text-2 button')
+        browser.wait('document.getElementById("message").open')
+        has('its text', '<script>alert(2)</script>', browser.value('document.getElementById("message-text").innerText'))
+        same('no element comes of it', 0, browser.value('document.querySelectorAll("img, #message-text script, #rows b").length'))
+        browser.picture(pictures, 'html')
+        browser.click('#message button')
+        has('a mailbox', image, browser.value('document.getElementById("rows").innerText'))
+        same('the page has no fault', [], browser.faults())
+
+def a_server_that_stops(folder, browser, pictures):
+    with tests.Server(folder, tests.FILTER, status=-9) as it, tests.Page(it) as page:
+        opened(browser, page)
+        browser.click('#beginning')
+        it.process.kill(); it.process.wait()
+        browser.click('#try')
+        browser.wait(f'{REPORT}.includes("No server answers")')
+        browser.click('#reload')
+        browser.wait('document.getElementById("said").innerText.includes("No server answers")')
+        browser.picture(pictures, 'stopped')
+
+def twenty_thousand_items(folder, browser, pictures):
+    """What the first screen and a find over all texts take; told, not judged."""
+    long = 'name ' * 30
+    lines = [*tests.START, *(line for n in range(19990) for line in tests.letter(('ann', 'bob', 'carl', 'team')[n % 4], f'Subject: m{n} {long}', *(['', 'sought'] if n % 5000 == 7 else []), sender=f'joe{n % 50}@far.test') + ([f'at {tests.NINE + n * 20}'] if n % 10 == 0 else []))]
+    with tests.Server(folder, lines) as it, tests.Page(it) as page:
+        browser.leave()
+        began = time.monotonic()
+        browser.open(page.port)
+        browser.wait('typeof store !== "undefined" && document.querySelectorAll("#rows tr").length')
+        first = time.monotonic() - began
+        browser.wait(READ)
+        whole = time.monotonic() - began
+        browser.write('#text', 'sought')
+        began = time.monotonic()
+        browser.click('#find')
+        browser.wait('document.querySelectorAll("#rows tr").length === 4')
+        found = time.monotonic() - began
+        browser.click('#clear')
+        browser.wait('document.querySelectorAll("#rows tr").length === 100')
+        browser.wait('document.querySelector("#rows tr td:last-child").innerText.includes("m1")')
+        browser.picture(pictures, 'many')
+        print(f'19,990 deliveries: the first screen after {first:.2f} s, all items after {whole:.2f} s, a find on the page {found:.2f} s')
+        for words in (['find', 'sought'], ['timeline', '--verb', 'FILTER'], ['show', '15000'], ['timeline', '--last', '20']):
+            began = time.monotonic()
+            it.undo(*words, status=1 if 'FILTER' in words else 0)
+            print(f'undo {" ".join(words)}: {time.monotonic() - began:.2f} s')
+        same('the page has no fault', [], browser.faults())
+
+CASES = (a_filter_by_mistake, an_infected_delivery, a_wrong_alias_by_the_keyboard, texts_that_would_be_html, a_server_that_stops, twenty_thousand_items)
+
+def main():
+    if len(sys.argv) not in (2, 3): sys.exit(__doc__)
+    tests.PROGRAM, failed = os.path.abspath(sys.argv[1]), 0
+    with Browser() as browser:
+        for case in CASES:
+            folder = tempfile.mkdtemp()
+            try: case(folder, browser, sys.argv[2] if len(sys.argv) == 3 else None); print(f'{case.__name__}: as it should be', flush=True)
+            except Exception as it: failed += 1; print(f'{case.__name__}: {type(it).__name__}: {it}', flush=True)
+            finally: shutil.rmtree(folder, ignore_errors=True)
+    sys.exit(1 if failed else 0)
+
+main()
