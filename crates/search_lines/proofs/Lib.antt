@@ -2,3 +2,4 @@ mod Arguments
 mod Held
 mod Searches
 mod Turns
+mod Rows
