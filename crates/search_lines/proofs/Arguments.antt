@@ -1,5 +1,5 @@
 -- The arguments of keys that hold no other, and what spells them.
-use Rattle.std.proofs.Common.{◌≡◌, ℕ, ℤ, Bool, true, false, ◌&&◌, List, [], ◌∷◌, ◌++◌, map, is_some, Option, None, Some, option_map, option_and_then, refl, ap, sym, ◌∙◌, subst}
+use Rattle.std.proofs.Common.{◌≡◌, ℕ, ℤ, Bool, true, false, List, [], ◌∷◌, ◌++◌, map, Option, None, Some, option_map, option_and_then, refl, ap, sym, ◌∙◌, subst}
 use Rattle.std.proofs.lemmas.Option.{same_Some}
 use Rattle.imap_stream.specs.declared.picks.SetRange.{SetRange}
 use Rattle.imap_tokens.specs.Ranges.{SpellsSet}
@@ -10,12 +10,11 @@ use Rattle.imap_tokens.specs.Words as words
 use Rattle.imap_tokens.specs.declared.tokens.Token.{Token}
 use Rattle.imap_tokens.specs.declared.tokens.Token.TheVariants.{Space, Open, Close, Word, Quoted, Literal}
 use Rattle.imap_tokens.proofs.Ranges.{stepped, mapped}
-use Rattle.search_verb.specs.Asked.{Asked, Places, Uids, Field, Not}
+use Rattle.search_verb.specs.Asked.{Asked, Uids}
 use Rattle.search_lines.specs.Grammar.{SpellsArgument}
-use Rattle.search_lines.specs.Leaves.{sign_key, unsign_key, field_key, place_key, when_key, size_key, known_key, range_of, place_in, when_in, size_in, header_in, keyword_in, uids_of, uids_in, leaf_in}
+use Rattle.search_lines.specs.Leaves.{field_key, place_key, when_key, size_key, known_key, range_of, place_in, when_in, size_in, header_in, keyword_in, uids_of, uids_in, leaf_in}
 use Rattle.search_lines.specs.Strings.{behind_space, first_by, next_string, next_word, dated, next_day, next_count, is_atom, behind_first_atom, behind_atom}
 use Rattle.search_lines.specs.declared.words.Place.{Place}
-use Rattle.search_lines.specs.declared.words.Sign.{Sign}
 use Rattle.search_lines.specs.declared.words.When.{When}
 use Rattle.search_lines.specs.declared.words.KeyWord.{KeyWord}
 use Rattle.search_lines.specs.declared.words.KeyWord.TheVariants as word

@@ -1,17 +1,16 @@
 -- Keys that may hold others, and what spells them.
-use Rattle.std.proofs.Common.{◌≡◌, ℕ, ◌+◌, zero, suc, ◌<◌, ◌≤◌, Bool, true, false, cond, ◌&&◌, List, [], ◌∷◌, ◌++◌, map, length, Option, None, Some, option_map, option_and_then, refl, ap, sym, ◌∙◌, subst, ◌⊎◌, inl, inr, arith}
-use Rattle.std.proofs.lemmas.List.{append_assoc, append-nil, length-append}
+use Rattle.std.proofs.Common.{◌≡◌, ℕ, ◌+◌, zero, suc, ◌<◌, ◌≤◌, Bool, true, false, List, [], ◌∷◌, ◌++◌, map, length, Option, None, Some, option_map, option_and_then, refl, ap, sym, ◌∙◌, subst, ◌⊎◌, inl, inr, arith}
+use Rattle.std.proofs.lemmas.List.{append_assoc, length-append}
 use Rattle.std.proofs.lemmas.Option.{same_Some}
 use Rattle.imap_stream.specs.declared.picks.SetRange.{SetRange}
 use Rattle.imap_tokens.specs.Sets.{set_in}
 use Rattle.imap_tokens.specs.Spelling.{Spaced}
-use Rattle.imap_tokens.specs.Tokens.{is_close}
 use Rattle.imap_tokens.specs.declared.tokens.Token.{Token}
 use Rattle.imap_tokens.specs.declared.tokens.Token.TheVariants.{Space, Open, Close, Word, Quoted, Literal}
 use Rattle.imap_tokens.proofs.Ranges.{Stepped, stepped, mapped}
 use Rattle.search_verb.specs.Asked.{Asked, Places, Not, Or, all_of}
 use Rattle.search_lines.specs.Grammar.{SpellsArgument, SpellsLeaf, SpellsPlaces, SpellsNot, SpellsOr, SpellsListed, SpellsKey}
-use Rattle.search_lines.specs.Keys.{at_end, next_key, not_in, or_in, with_key, keys_in, listed_in, key_by, set_key, known_by, worded_in, opened_in, key_in}
+use Rattle.search_lines.specs.Keys.{at_end, next_key, not_in, or_in, with_key, keys_in, listed_in, key_by, known_by, opened_in, key_in}
 use Rattle.search_lines.specs.Leaves.{Found, leaf_in, places_in, range_of}
 use Rattle.search_lines.specs.Strings.{behind_space}
 use Rattle.search_lines.specs.Words.{key_word}

@@ -1,8 +1,7 @@
 -- The arguments of SEARCH, and what spells them.
-use Rattle.std.proofs.Common.{◌≡◌, ◌↔◌, ℕ, ◌≤◌, Bool, true, false, List, [], ◌∷◌, ◌++◌, length, codes, Option, None, Some, option_map, option_and_then, refl, ap, sym, ◌∙◌, subst, ◌⊎◌, inl, inr}
+use Rattle.std.proofs.Common.{◌≡◌, ℕ, Bool, true, false, List, [], ◌∷◌, ◌++◌, length, codes, Option, None, Some, option_map, option_and_then, refl, ap, sym, ◌∙◌, subst, inl, inr}
 use Rattle.std.proofs.lemmas.List.{append-nil}
 use Rattle.std.proofs.lemmas.Option.{same_Some}
-use Rattle.std.specs.Option.{option_map_or}
 use Rattle.imap_tokens.specs.Spelling.{Spaced}
 use Rattle.imap_tokens.specs.Tokens.{string_of}
 use Rattle.imap_tokens.specs.Words.{is_word}
@@ -12,7 +11,7 @@ use Rattle.imap_tokens.proofs.Ranges.{stepped, mapped}
 use Rattle.search_verb.specs.Asked.{Asked, all_of}
 use Rattle.search_lines.specs.Grammar.{SpellsKey, SpellsKeys, SpellsPlain, SpellsCharset, SpellsSought}
 use Rattle.search_lines.specs.Keys.{keys_in, key_in, whole_keys}
-use Rattle.search_lines.specs.Sought.{sought, is_charset, behind_charset, charset_in, with_charset, plain_in, sought_by, sought_in}
+use Rattle.search_lines.specs.Sought.{sought, is_charset, behind_charset, charset_in, sought_by, sought_in}
 use Rattle.search_lines.specs.Strings.{behind_space, next_string}
 use Rattle.search_lines.specs.declared.sought.Sought.{Sought}
 use Rattle.search_lines.proofs.Arguments.{SetLaws, space_sound, next_sound, string_complete}

@@ -1,10 +1,9 @@
 -- One key of several is read.
-use Rattle.std.proofs.Common.{◌≡◌, ℕ, zero, suc, ◌-◌, ◌<◌, Bool, List, [], ◌∷◌, ◌++◌, Option, None, Some, option_map, option_and_then, refl, ap, sym, ◌∙◌, arith}
+use Rattle.std.proofs.Common.{◌≡◌, ℕ, zero, suc, ◌-◌, ◌<◌, Bool, List, [], ◌∷◌, ◌++◌, Option, None, Some, option_map, refl, ap, sym, ◌∙◌, arith}
 use Rattle.std.proofs.lemmas.List.{append_assoc}
 use Rattle.imap_tokens.specs.declared.tokens.Token.{Token}
 use Rattle.search_verb.specs.Asked.{Asked}
 use Rattle.search_lines.specs.Keys.{at_end, with_key, keys_in, opened_in, key_in}
-use Rattle.search_lines.specs.Leaves.{Found}
 use Rattle.search_lines.specs.Strings.{behind_space}
 
 -- keys, and those behind them

@@ -1,5 +1,5 @@
 -- The dates of keys (RFC 3501, 9: date, date-text, date-day): d-Mon-yyyy, with one digit or two before the month.
-use Rattle.std.specs.Prelude.{ℕ, ℤ, pos, Bool, not, ◌==◌, ◌||◌, List, length, nat_lt, Option, None, Some, option_map, option_and_then, if◌then◌else◌}
+use Rattle.std.specs.Prelude.{ℕ, ℤ, pos, not, ◌==◌, ◌||◌, List, length, nat_lt, Option, None, Some, option_and_then, if◌then◌else◌}
 use Rattle.jiff_core.specs.Calendar.{days_from_civil}
 use Rattle.civil_dates.specs.declared.days.Day.{Day}
 use Rattle.civil_dates.specs.Months.{month_of}

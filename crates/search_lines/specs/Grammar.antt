@@ -1,5 +1,5 @@
 -- The grammar of SEARCH's arguments (RFC 3501, 9: search, search-key): which tokens ask what.
-use Rattle.std.specs.Prelude.{◌≡◌, ◌⊎◌, codes, ℕ, ℤ, zero, suc, Bool, true, false, List, [], ◌∷◌, ◌++◌, map, Option, None, Some}
+use Rattle.std.specs.Prelude.{◌≡◌, ◌⊎◌, codes, ℕ, ℤ, zero, suc, Bool, true, false, List, [], ◌∷◌, ◌++◌, map, None, Some}
 use Rattle.imap_stream.specs.declared.picks.SetRange.{SetRange}
 use Rattle.imap_tokens.specs.Ranges.{SpellsSet}
 use Rattle.imap_tokens.specs.Spelling.{Spaced}
@@ -9,7 +9,7 @@ use Rattle.imap_tokens.specs.declared.tokens.Token.{Token}
 use Rattle.imap_tokens.specs.declared.tokens.Token.TheVariants.{Space, Open, Close, Word}
 use Rattle.search_verb.specs.Asked.{Asked, Places, Uids, Field, Not, Or, all_of}
 use Rattle.search_lines.specs.Leaves.{sign_key, place_key, when_key, size_key, known_key, range_of}
-use Rattle.search_lines.specs.Sought.{behind_charset, sought}
+use Rattle.search_lines.specs.Sought.{behind_charset}
 use Rattle.search_lines.specs.Strings.{dated}
 use Rattle.search_lines.specs.Words.{key_word}
 use Rattle.search_lines.specs.declared.sought.Sought.{Sought}

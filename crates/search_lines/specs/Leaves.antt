@@ -1,5 +1,5 @@
 -- Keys that hold no other key (RFC 3501, 6.4.4 and 9: search-key).
-use Rattle.std.specs.Prelude.{codes, ℕ, ℤ, Bool, true, false, List, [], map, Option, None, Some, option_map, option_and_then, if◌then◌else◌}
+use Rattle.std.specs.Prelude.{codes, ℕ, ℤ, Bool, true, false, List, map, Option, None, Some, option_map, option_and_then, if◌then◌else◌}
 use Rattle.imap_stream.specs.declared.picks.SetRange.{SetRange}
 use Rattle.imap_tokens.specs.Sets.{set_in}
 use Rattle.imap_tokens.specs.declared.tokens.Token.{Token}

@@ -1,4 +1,4 @@
-use Rattle.std.proofs.Common.{◌≡◌, length, ℕ, ◌+◌, ◌*◌}
+use Rattle.std.proofs.Common.{◌≡◌, length, ◌+◌, ◌*◌}
 use Rattle.search_lines.specs.Keys.{key_in, keys_in}
 use Rattle.search_lines.proofs.Turns.{onto}
 use Rattle.search_lines.proofs.keys.+key.Given as goal
