@@ -3,3 +3,4 @@ pub mod Grouping
 pub mod Behind
 pub mod Finding
 pub mod Rows
+pub mod Parts
