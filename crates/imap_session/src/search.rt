@@ -51,17 +51,15 @@ fn count_of(view: &View) -> Result<u32, NoMemory>
     Ok(view.len() as u32)
 }
 
-fn places_below(alloc: Global, count: u32) -> Result<Vec<u32>, AllocError>
-    ensures { IfOk result (λ places. places.items ≡ range_with_len 0 count) }
-{
-    (0..count).collect(alloc)
-}
-
+#[tactic(auto, using(crate::proofs::Found::place_end))]
 fn all_places(alloc: Global, count: u32) -> Result<Places, NoMemory>
     ensures { IfOk result (λ places. places ≡ range_with_len 0 count) }
 {
-    let places = places_below(alloc, count)?;
-    Ok(Places::from_vec(places))
+    let mut places = Places::new(alloc);
+    for place in 0..count {
+        places.push(place)?;
+    }
+    Ok(places)
 }
 
 fn last_uid(view: &View) -> u64
