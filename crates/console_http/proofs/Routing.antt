@@ -60,6 +60,10 @@ finds_body : (b : ℕ) (p : List ℕ) → Plain (b ∷ p) → page_at (codes "/b
 unfolding matchit_on_literals
 finds_body b p h = ap (option_map (λ (e : RouteOf Page). e.value)) (seek-along (codes "/body/") (b ∷ p) page_rows refl ∙ seek-part b p (entry_of page.Body) h)
 
+finds_plan : (b : ℕ) (p : List ℕ) → Plain (b ∷ p) → page_at (codes "/plan/" ++ b ∷ p) ≡ Some page.Plan
+unfolding matchit_on_literals
+finds_plan b p h = ap (option_map (λ (e : RouteOf Page). e.value)) (seek-along (codes "/plan/") (b ∷ p) page_rows refl ∙ seek-part b p (entry_of page.Plan) h)
+
 finds_box : (b : ℕ) (p : List ℕ) → b < 256 → page_at (codes "/box/" ++ b ∷ p) ≡ Some page.Box
 unfolding matchit_on_literals
 finds_box b p h = ap (option_map (λ (e : RouteOf Page). e.value)) (seek-along (codes "/box/") (b ∷ p) page_rows refl ∙ seek-all b p (entry_of page.Box) h)
@@ -71,6 +75,7 @@ finds_alone page.Timeline e = absurd (cc)
 finds_alone page.Box e = absurd (cc)
 finds_alone page.Body e = absurd (cc)
 finds_alone page.Conf e = refl
+finds_alone page.Plan e = absurd (cc)
 finds_alone page.Act e = refl
 finds_alone page.Cycle e = refl
 finds_alone page.Try e = refl
@@ -102,6 +107,7 @@ on_row house page.Timeline parts body h = by_number (λ start. route.Timeline st
 on_row house page.Box parts body h = by_box house parts h
 on_row house page.Body parts body h = by_number (λ number. route.Body number) (λ raw. page_at (codes "/body/" ++ raw) ≡ Some page.Body) finds_body parts h
 on_row house page.Conf parts body h = by_none page.Conf (Ok route.Conf) refl parts
+on_row house page.Plan parts body h = by_number (λ point. route.Plan point) (λ raw. page_at (codes "/plan/" ++ raw) ≡ Some page.Plan) finds_plan parts h
 on_row house page.Act parts body h = by_none page.Act (said (option_map (λ act. route.Act act) (act_in house body))) refl parts
 on_row house page.Cycle parts body h = by_none page.Cycle (said (option_map (λ ask. route.Cycle ask) (cycle_in house body))) refl parts
 on_row house page.Try parts body h = by_none page.Try (said (option_map (λ ask. route.Try ask) (try_in house body))) refl parts
@@ -146,6 +152,7 @@ page_front page.Timeline rest = refl
 page_front page.Box rest = refl
 page_front page.Body rest = refl
 page_front page.Conf rest = refl
+page_front page.Plan rest = refl
 page_front page.Act rest = refl
 page_front page.Cycle rest = refl
 page_front page.Try rest = refl

@@ -18,6 +18,7 @@ text_of page.Timeline = codes "/timeline/{start}"
 text_of page.Box = codes "/box/{*mailbox}"
 text_of page.Body = codes "/body/{number}"
 text_of page.Conf = codes "/conf"
+text_of page.Plan = codes "/plan/{point}"
 text_of page.Act = codes "/act"
 text_of page.Cycle = codes "/cycle"
 text_of page.Try = codes "/try"
@@ -30,6 +31,7 @@ pattern_of page.Timeline = codes "/timeline/" ++ param_token ∷ []
 pattern_of page.Box = codes "/box/" ++ catch_all_token ∷ []
 pattern_of page.Body = codes "/body/" ++ param_token ∷ []
 pattern_of page.Conf = codes "/conf"
+pattern_of page.Plan = codes "/plan/" ++ param_token ∷ []
 pattern_of page.Act = codes "/act"
 pattern_of page.Cycle = codes "/cycle"
 pattern_of page.Try = codes "/try"
@@ -40,6 +42,7 @@ abbrev pub is_alone : Page → Bool
 is_alone page.Timeline = false
 is_alone page.Box = false
 is_alone page.Body = false
+is_alone page.Plan = false
 is_alone p = true
 
 -- where the name of its parameter stands in its text
@@ -49,6 +52,7 @@ names_of page.Timeline = (11, 16) ∷ []
 names_of page.Box = (7, 14) ∷ []
 names_of page.Body = (7, 13) ∷ []
 names_of page.Conf = []
+names_of page.Plan = (7, 12) ∷ []
 names_of page.Act = []
 names_of page.Cycle = []
 names_of page.Try = []
@@ -70,8 +74,8 @@ whole_rows = row_of page.Act ∷ row_of page.Conf ∷ row_of page.Cycle ∷ row_
 
 abbrev pub page_rows : RowsOf (RouteOf Page)
 page_rows =
-    row_of page.Act ∷ row_of page.Body ∷ row_of page.Box ∷ row_of page.Conf ∷ row_of page.Cycle ∷ row_of page.Status ∷ row_of page.Stop ∷ row_of page.Timeline
-    ∷ row_of page.Try ∷ []
+    row_of page.Act ∷ row_of page.Body ∷ row_of page.Box ∷ row_of page.Conf ∷ row_of page.Cycle ∷ row_of page.Plan ∷ row_of page.Status ∷ row_of page.Stop
+    ∷ row_of page.Timeline ∷ row_of page.Try ∷ []
 
 -- each is below 256
 abbrev pub AreBytes : List ℕ → Type 0

@@ -15,6 +15,7 @@ pub enum Page {
     Box,
     Body,
     Conf,
+    Plan,
     Act,
     Cycle,
     Try,
@@ -32,6 +33,7 @@ impl Page {
             Page::Box => b"/box/",
             Page::Body => b"/body/",
             Page::Conf => b"/conf",
+            Page::Plan => b"/plan/",
             Page::Act => b"/act",
             Page::Cycle => b"/cycle",
             Page::Try => b"/try",
@@ -44,7 +46,8 @@ impl Page {
         ensures { result.now ≡ method_of self }
     {
         match self {
-            Page::Status | Page::Timeline | Page::Box | Page::Body | Page::Conf => b"GET",
+            Page::Status | Page::Timeline | Page::Box | Page::Body | Page::Conf | Page::Plan =>
+                b"GET",
             Page::Act | Page::Cycle | Page::Try | Page::Stop => b"POST",
         }
     }
@@ -74,6 +77,7 @@ fn add_parted(router: &mut Router<Page>) -> Result<(), InsertError>
     router.insert("/timeline/{start}", Page::Timeline)?;
     router.insert("/box/{*mailbox}", Page::Box)?;
     router.insert("/body/{number}", Page::Body)?;
+    router.insert("/plan/{point}", Page::Plan)?;
     Ok(())
 }
 

@@ -27,6 +27,7 @@ pub enum Route {
     Box { user: User, name: Name },
     Body { number: u32 },
     Conf,
+    Plan { point: u32 },
     Act(Act),
     Cycle(CycleAsk),
     Try(CycleAsk),
@@ -120,6 +121,15 @@ fn read_body(alloc: Global, parts: &[u8]) -> Result<Route, HttpRefused>
     }
 }
 
+fn read_plan(alloc: Global, parts: &[u8]) -> Result<Route, HttpRefused>
+    ensures { Found (taken (option_map (λ point. Route.Plan point) (number_in parts.now))) result }
+{
+    match read_number_part(alloc, parts)? {
+        None => Err(HttpRefused::Route),
+        Some(point) => Ok(Route::Plan { point }),
+    }
+}
+
 fn read_mailbox(alloc: Global, house: &House, parts: &[u8]) -> Result<Route, HttpRefused>
     requires { IsTrue (is_house house.now) }
     ensures { Found (taken (box_in house.now parts.now)) result }
@@ -192,6 +202,7 @@ fn read_parts(
         Page::Box => read_mailbox(alloc, house, parts),
         Page::Body => read_body(alloc, parts),
         Page::Conf => alone(Route::Conf, parts),
+        Page::Plan => read_plan(alloc, parts),
         Page::Act => read_acted(alloc, house, parts, body),
         Page::Cycle => read_cycled(alloc, house, parts, body),
         Page::Try => read_tried(alloc, house, parts, body),

@@ -1,6 +1,6 @@
 -- Replies as turns.
 use Rattle.std.proofs.Common.{◌≡◌, ◌&&◌, ◌||◌, ℕ, ◌<◌, Bool, true, false, not, ◌==◌, List, [], ◌∷◌, ◌++◌, Option, Some, None, refl, sym, ap, ◌∙◌, subst, arith, inl, inr}
-use Rattle.std.specs.Prelude.{◌⊎◌, nat_lt, option_and_then, Result, Ok, Err, if◌then◌else◌}
+use Rattle.std.specs.Prelude.{◌⊎◌, nat_lt, option_and_then, option_map, Result, Ok, Err, if◌then◌else◌}
 use Rattle.std.proofs.lemmas.Bool.Decides.{nat_tests}
 use Rattle.undo_outside.specs.Disk.{DiskTold}
 use Rattle.verb_core.specs.declared.item.Act.{Act}
@@ -19,6 +19,7 @@ use Rattle.time_desk.specs.declared.fault.CycleFault.{CycleFault}
 use Rattle.time_desk.specs.declared.fault.CycleFault.TheVariants as cycle_fault
 use Rattle.time_desk.specs.Cycling.{Cycles, CyclesBy, CyclesNone, StarvesBy, Tries, TriesNone}
 use Rattle.time_desk.specs.Lasting.{Lasting, IsUnwritten}
+use Rattle.time_desk.specs.Planning.{PlansNone, plan_at, plan_of}
 use Rattle.verb_core.specs.Deeds.{act_item}
 use Rattle.time_desk.specs.Records.{after_record, after_records, is_formed, is_spelled}
 use Rattle.time_desk.specs.Sealing.{Seals}
@@ -35,12 +36,27 @@ use Rattle.console_http.specs.Routes.{Choice, route_of}
 use Rattle.console_replies.specs.Bodies.{number_data, numbers_data, point_data}
 use Rattle.console_replies.specs.Reports.{report_data}
 use Rattle.console_session.specs.declared.reply.After.{After}
-use Rattle.console_session.specs.declared.reply.After.TheVariants.{Closes, Rewinds}
+use Rattle.console_session.specs.declared.reply.After.TheVariants.{Closes, Rewinds, Waits}
 use Rattle.console_session.specs.declared.reply.Reply.{Reply}
-use Rattle.console_session.specs.Answers.{Answer, answer, answer_text, refused}
+use Rattle.console_session.specs.Answers.{Answer, answer, answer_text, plan_answer, planned, refused, told_plainly}
 use Rattle.console_session.specs.Turn.{Turn, chosen, cycled, done, failed, numbered, numberless, rewound, tells, tried, turn}
 use Rattle.console_session.specs.Hindrance.{Hindrance, Clear, Refused, Unheard, Unanswered, Unsealed, Untold, acted_under, cycled_under, hindered, lost, routed_under, sealed_under, starved, told_under}
 use Rattle.console_session.specs.Hearing.{Hears, AreServed, IsTurn, Serves, Starves, Tells, TellsCycleFault, TellsFault, TellsOnly, is_failure, reply}
+
+-- ---- plans
+
+-- a plan that is there is the answer
+pub plan_told : (kept : Kept) (point : ℕ) (text : List ℕ) → plan_of kept point ≡ Some text → plan_answer kept point ≡ told_plainly text
+plan_told kept point text e = ap (planned point) e
+
+-- why there is none is the answer, but for want of memory
+pub plan_not_told : (kept : Kept) (point : ℕ) (f : CycleFault) (r : Reply) → PlansNone kept point f → TellsCycleFault f r → Tells (plan_answer kept point) Closes r
+plan_not_told kept point (cycle_fault.Point given) r none says =
+    subst (λ (a : Answer). Tells a Closes r) (ap (λ (n : ℕ). answer 422 (point_data n)) none.1 ∙ sym (ap (λ (o : Option ℕ). planned point (option_map (plan_at kept) o)) none.0)) says
+plan_not_told kept point (cycle_fault.Numbers next) r none says = absurd none
+plan_not_told kept point cycle_fault.Disk r none says = absurd none
+plan_not_told kept point cycle_fault.NoMemory r none says = inr says
+plan_not_told kept point cycle_fault.Closed r none says = absurd none
 
 -- ---- numbers
 
@@ -140,15 +156,26 @@ module _ {D : Type 0} (told : D → DiskTold) where
       let u = told_turn still a after old new r unchanged says in
       record { hindrance = u.0; turn_is = turn_at _ _ old new r (same u.0) u.1; still = λ e. unchanged }
 
+  -- the same of a route
+  pub serves_still : Still → (at : ℕ) (t s : Taken) (a : Answer) (after : After) (old new : Lasting D) (r : Reply) → t ≡ s → new ≡ old
+      → ((h : Hindrance) → routed_under h at old.kept s ≡ told_under h old.kept (tells a after old.kept)) → Tells a after r → Serves told at (Ok (Whole t)) old new r
+  serves_still still at t s a after old new r e unchanged same says =
+      subst (λ (v : Taken). Serves told at (Ok (Whole v)) old new r) (sym e) (serves_told still at (Ok (Whole s)) a after old new r unchanged same says)
+
   pub serves_route : Still → (at : ℕ) (t s : Taken) (a : Answer) (after : After) (old : Lasting D) (r : Reply) → t ≡ s
       → ((h : Hindrance) → routed_under h at old.kept s ≡ told_under h old.kept (tells a after old.kept)) → Tells a after r → Serves told at (Ok (Whole t)) old old r
-  serves_route still at t s a after old r e same says =
-      subst (λ (v : Taken). Serves told at (Ok (Whole v)) old old r) (sym e) (serves_told still at (Ok (Whole s)) a after old old r refl same says)
+  serves_route still at t s a after old r e same says = serves_still still at t s a after old old r e refl same says
 
   pub serves_refusal : Still → (at : ℕ) (asked : Result Asked HttpRefused) (why : HttpRefused) (old : Lasting D) (r : Reply) → asked ≡ Err why
       → Tells (refused why) Closes r → Serves told at asked old old r
   serves_refusal still at asked why old r e says =
       subst (λ (v : Result Asked HttpRefused). Serves told at v old old r) (sym e) (serves_told still at (Err why) (refused why) Closes old old r refl (λ h. refl) says)
+
+  -- bytes that are not yet a request
+  pub serves_waiting : Still → (at : ℕ) (asked : Result Asked HttpRefused) (yet : Asked) (old : Lasting D) (r : Reply) → asked ≡ Ok yet → yet ≡ NotYet → r ≡ reply [] Waits → Serves told at asked old old r
+  serves_waiting still at asked yet old r e f says =
+      subst (λ (v : Result Asked HttpRefused). Serves told at v old old r) (sym (e ∙ ap (λ (y : Asked). Ok y) f))
+      (record { hindrance = Clear; turn_is = same_turn still [] Waits old old r refl says; still = λ e. refl })
 
   -- ---- turns that seal a record
 
@@ -254,8 +281,8 @@ module _ {D : Type 0} (told : D → DiskTold) where
   starved_due : Still → (at : ℕ) (ask : CycleAsk) (due : Due) (old new : Lasting D) (r : Reply) → StarvesBy told old new due → Starves r → ServesDue at ask due old new r
   starved_due still at ask (Repeats report) old new r by says =
       due_told still at ask (Repeats report) (answer 200 (report_data old.kept.house report)) old new r by (λ h. refl) (inr says)
-  starved_due still at ask NoPoint old new r by says = due_told still at ask NoPoint (answer 422 (point_data ask.point)) old new r by.1 (λ h. refl) (inr says)
-  starved_due still at ask NoNumbers old new r by says = due_told still at ask NoNumbers (answer 507 (numbers_data old.kept.next)) old new r by.1 (λ h. refl) (inr says)
+  starved_due still at ask NoPoint old new r by says = absurd by
+  starved_due still at ask NoNumbers old new r by says = absurd by
   starved_due still at ask (IsDue due) old new r by says = (
     starved_turn (rewound at old.kept ask due) (failed old.kept (Cycle old.kept.next at ask)) old new r (kept_stays old new by.1.kept) by.1 says,
     λ e. absurd (record_is_not (Cycle old.kept.next at ask) [] e),
@@ -332,6 +359,7 @@ module _ {D : Type 0} (told : D → DiskTold) where
   starved_route at kept (route.Box user name) = refl
   starved_route at kept (route.Body number) = refl
   starved_route at kept route.Conf = refl
+  starved_route at kept (route.Plan point) = refl
   starved_route at kept (route.Act act) = elim (nat_lt kept.next 4194304) as (λ b. (if b then starved kept else starved kept) ≡ starved kept) [ true ↦ refl | false ↦ refl ]
   starved_route at kept (route.Cycle ask) = starved_cycle at kept ask (cycle_due kept at ask)
   starved_route at kept (route.Try ask) = refl
@@ -343,6 +371,7 @@ module _ {D : Type 0} (told : D → DiskTold) where
   lost_route at kept (route.Box user name) = refl
   lost_route at kept (route.Body number) = refl
   lost_route at kept route.Conf = refl
+  lost_route at kept (route.Plan point) = refl
   lost_route at kept (route.Act act) = elim (nat_lt kept.next 4194304) as (λ b. (if b then lost kept else lost kept) ≡ lost kept) [ true ↦ refl | false ↦ refl ]
   lost_route at kept (route.Cycle ask) = lost_cycle at kept ask (cycle_due kept at ask)
   lost_route at kept (route.Try ask) = refl
@@ -428,6 +457,7 @@ module _ {D : Type 0} (told : D → DiskTold) where
   ends_routed h at kept (route.Box user name) = ends_told h kept _ refl
   ends_routed h at kept (route.Body number) = ends_told h kept _ refl
   ends_routed h at kept route.Conf = ends_told h kept _ refl
+  ends_routed h at kept (route.Plan point) = ends_told h kept _ refl
   ends_routed h at kept (route.Act act) = ends_acted h at kept act
   ends_routed h at kept (route.Cycle ask) = ends_cycled h at kept ask (cycle_due kept at ask)
   ends_routed h at kept (route.Try ask) = ends_told h kept (tried kept ask (due_anew kept at ask)) (ends_tried kept ask (due_anew kept at ask))

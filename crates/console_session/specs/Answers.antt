@@ -12,27 +12,47 @@ use Rattle.mail_desk.specs.declared.counts.Counts.{Counts as DeskCounts}
 use Rattle.mail_desk.specs.Counting.{counts_of, page}
 use Rattle.paradox.specs.Kept.{store_of, Kept}
 use Rattle.mail_desk.specs.Timeline.{item_of}
+use Rattle.time_desk.specs.Planning.{plan_of}
 use Rattle.console_http.specs.declared.request.HttpRefused.{HttpRefused}
 use Rattle.console_http.specs.declared.request.HttpRefused.TheVariants as why
 use Rattle.console_replies.specs.declared.bodies.Counts.{Counts}
 use Rattle.console_replies.specs.declared.bodies.ErrorWord.TheVariants as word
-use Rattle.console_replies.specs.Bodies.{status_data, body_data, error_data}
+use Rattle.console_replies.specs.Bodies.{status_data, body_data, error_data, point_data}
 use Rattle.console_replies.specs.Confs.{conf_data}
 use Rattle.console_replies.specs.Mailboxes.{box_data}
 use Rattle.console_replies.specs.Reply.{reply_of}
 use Rattle.console_replies.specs.Timeline.{timeline_data}
 
--- an answer: its status, and its body as JSON data
+-- the body of an answer: JSON data, or text
+pub data Content : Type 0 where
+  Json : Data → Content
+  Plain : List ℕ → Content
+
+-- the kind of a body (RFC 9110, 8.3)
+abbrev pub kind_of : Content → List ℕ
+kind_of (Json body) = codes "application/json"
+kind_of (Plain text) = codes "text/plain"
+
+-- its bytes
+abbrev pub content_of : Content → List ℕ
+content_of (Json body) = compact_text body
+content_of (Plain text) = text
+
+-- an answer: its status, and its body
 pub record Answer : Type 0 where
   pub status : ℕ
-  pub body : Data
+  pub body : Content
 
 abbrev pub answer : ℕ → Data → Answer
-answer status body = record { status = status; body = body }
+answer status body = record { status = status; body = Json body }
+
+-- text that is found
+abbrev pub told_plainly : List ℕ → Answer
+told_plainly text = record { status = 200; body = Plain text }
 
 -- the bytes of an answer
 unfoldable pub answer_text : Answer → List ℕ
-answer_text a = reply_of a.status (codes "application/json") (compact_text a.body)
+answer_text a = reply_of a.status (kind_of a.body) (content_of a.body)
 
 -- a route that names nothing
 abbrev pub not_found : Answer
@@ -80,6 +100,14 @@ body_answer kept number = found (body_found kept.timeline number)
 -- the configuration in force
 abbrev pub conf_answer : Kept → Answer
 conf_answer kept = answer 200 (conf_data kept.house (store_of kept).conf)
+
+-- a plan of what could run side by side, or that the timeline does not have its point
+abbrev pub planned : ℕ → Option (List ℕ) → Answer
+planned point None = answer 422 (point_data point)
+planned point (Some text) = told_plainly text
+
+abbrev pub plan_answer : Kept → ℕ → Answer
+plan_answer kept point = planned point (plan_of kept point)
 
 -- why a request is refused
 abbrev pub refused : HttpRefused → Answer

@@ -78,6 +78,7 @@ routed_under h at kept (route.Timeline start) = told_under h kept (routed at kep
 routed_under h at kept (route.Box user name) = told_under h kept (routed at kept (route.Box user name))
 routed_under h at kept (route.Body number) = told_under h kept (routed at kept (route.Body number))
 routed_under h at kept route.Conf = told_under h kept (routed at kept route.Conf)
+routed_under h at kept (route.Plan point) = told_under h kept (routed at kept (route.Plan point))
 routed_under h at kept (route.Act act) = acted_under h at kept act
 routed_under h at kept (route.Cycle ask) = cycled_under h at kept ask (cycle_due kept at ask)
 routed_under h at kept (route.Try ask) = told_under h kept (routed at kept (route.Try ask))

@@ -23,7 +23,7 @@ use Rattle.console_replies.specs.Bodies.{error_data, number_data, numbers_data, 
 use Rattle.console_replies.specs.Reports.{report_data}
 use Rattle.console_session.specs.declared.reply.After.{After}
 use Rattle.console_session.specs.declared.reply.After.TheVariants.{Waits, Closes, Stops, Fails, Rewinds}
-use Rattle.console_session.specs.Answers.{Answer, answer, answer_text, body_answer, box_answer, conf_answer, refused, status_answer, timeline_answer}
+use Rattle.console_session.specs.Answers.{Answer, answer, answer_text, body_answer, box_answer, conf_answer, plan_answer, refused, status_answer, timeline_answer}
 
 -- what a turn says, what is kept after it, what follows, and the record that was sealed in it, or that could not be
 pub record Turn : Type 0 where
@@ -114,6 +114,7 @@ routed at kept (route.Timeline start) = tells (timeline_answer kept start) Close
 routed at kept (route.Box user name) = tells (box_answer kept user name) Closes kept
 routed at kept (route.Body number) = tells (body_answer kept number) Closes kept
 routed at kept route.Conf = tells (conf_answer kept) Closes kept
+routed at kept (route.Plan point) = tells (plan_answer kept point) Closes kept
 routed at kept (route.Act act) = numbered kept (done at kept act)
 routed at kept (route.Cycle ask) = cycled at kept ask (cycle_due kept at ask)
 routed at kept (route.Try ask) = tried kept ask (due_anew kept at ask)

@@ -26,8 +26,8 @@ use undo_base::LAST_MOMENT;
 use undo_outside::{Disk, Gate};
 use verb_bytes::CycleAsk;
 
-/// Tells why a cycle was not done.
-fn tell_fault(alloc: Global, fault: CycleFault) -> Reply
+/// Tells why a cycle was not done, or what was asked of the past not told.
+pub(crate) fn tell_fault(alloc: Global, fault: CycleFault) -> Reply
     requires { fault ≡ CycleFault.Closed → ⊥ }
     ensures { TellsCycleFault fault result }
 {

@@ -4,8 +4,9 @@ ghost use Rattle.serde_json.specs.Data.{Data};
 ghost use Rattle.serde_json.specs.Written.{compact_text};
 ghost use Rattle.console_http.specs.declared.request.HttpRefused.TheVariants.{NoMemory as WantOfMemory};
 ghost use Rattle.console_replies.specs.Reply.{is_status};
-ghost use Rattle.console_session.specs.Answers.{answer, answer_text, refused};
+ghost use Rattle.console_session.specs.Answers.{answer, answer_text, refused, told_plainly};
 ghost use Rattle.console_session.specs.Hearing.{Starves, Tells, TellsOnly};
+ghost use Rattle.console_session.specs.declared.reply.After.TheVariants.{Closes};
 
 use console_replies::{ErrorWord, error_json, render};
 use std::alloc::Global;
@@ -82,6 +83,27 @@ pub fn tell(alloc: Global, status: u16, body: Result<Text, NoMemory>, after: Aft
 {
     match spell(alloc, status, body) {
         Ok(said) => Reply { said, after },
+        Err(NoMemory) => starve(alloc),
+    }
+}
+
+/// The bytes of an answer of text.
+#[tactic(auto, unfolding(crate::specs::Answers::answer_text))]
+fn spell_plainly(alloc: Global, text: &Text) -> Result<Text, NoMemory>
+    ensures { IfOk result (λ said. said ≡ answer_text (told_plainly text.now)) }
+{
+    render(alloc, 200, b"text/plain", text.bytes())
+}
+
+/// Tells a text, or of want of memory.
+pub fn tell_plainly(alloc: Global, text: Text) -> Reply
+    ensures { Tells (told_plainly text) Closes result }
+{
+    match spell_plainly(alloc, &text) {
+        Ok(said) => Reply {
+            said,
+            after: After::Closes,
+        },
         Err(NoMemory) => starve(alloc),
     }
 }

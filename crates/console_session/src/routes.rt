@@ -8,11 +8,12 @@ ghost use Rattle.verb_core.specs.Boxes.{box_of, row_at};
 ghost use Rattle.mail_desk.specs.Counting.{page};
 ghost use Rattle.mail_desk.specs.Timeline.{has_text};
 ghost use Rattle.verb_core.specs.Items.{text_of};
-ghost use Rattle.console_session.specs.Answers.{answer, body_answer, body_at, box_answer, conf_answer, counted_as, not_found, refused, status_answer, timeline_answer};
+ghost use Rattle.console_session.specs.Answers.{answer, body_answer, body_at, box_answer, conf_answer, counted_as, not_found, plan_answer, refused, status_answer, timeline_answer};
 ghost use Rattle.console_session.specs.Hearing.{Tells};
 ghost use Rattle.console_session.specs.declared.reply.After.TheVariants as after;
 
-use crate::reply::{After, Reply, tell};
+use crate::cycle::tell_fault;
+use crate::reply::{After, Reply, tell, tell_plainly};
 use console_http::HttpRefused;
 use console_replies::{
     Counts, ErrorWord, body_json, box_json, conf_json, error_json, status_json, timeline_json,
@@ -131,6 +132,17 @@ pub fn tell_conf<D: Disk>(alloc: Global, desk: &Desk<D>) -> Reply
 {
     let body = conf_json(alloc, desk.house(), desk.conf());
     tell(alloc, 200, body, After::Closes)
+}
+
+/// GET /plan. The desk stays as it is.
+pub fn tell_plan<D: Disk>(alloc: Global, desk: &mut Desk<D>, point: u32) -> Reply
+    ensures told { Tells (plan_answer desk.old.kept point) after.Closes result }
+    ensures still { desk.new ≡ desk.old }
+{
+    match desk.plan_text(alloc, point) {
+        Ok(text) => tell_plainly(alloc, text),
+        Err(fault) => tell_fault(alloc, fault),
+    }
 }
 
 /// The status of a refusal, and its word.

@@ -8,7 +8,9 @@ ghost use Rattle.console_session.specs.declared.reply.After.TheVariants.{Waits};
 use crate::act::act;
 use crate::cycle::{cycle, try_cycle};
 use crate::reply::{After, Reply, silent, tell};
-use crate::routes::{tell_body, tell_box, tell_conf, tell_refused, tell_status, tell_timeline};
+use crate::routes::{
+    tell_body, tell_box, tell_conf, tell_plan, tell_refused, tell_status, tell_timeline,
+};
 use console_http::laws::acts_name_known_users;
 use console_http::{Asked, Coming, HttpRefused, Route, read_coming};
 use console_replies::stopped_json;
@@ -59,6 +61,7 @@ fn follow<D: Disk, R: Threads + Sync, G: Gate>(
         Route::Box { user, name } => tell_box(alloc, desk, user, &name),
         Route::Body { number } => tell_body(alloc, desk, number),
         Route::Conf => tell_conf(alloc, desk),
+        Route::Plan { point } => tell_plan(alloc, desk, point),
         Route::Act(asked) => act(alloc, desk, at, asked),
         Route::Cycle(ask) => cycle(rt, alloc, desk, at, ask, gate),
         Route::Try(ask) => try_cycle(rt, alloc, desk, at, &ask, gate),

@@ -4,7 +4,7 @@
 //! a session asks to the desk. `open_connection`, `reply`, `letters` and `serve` are the loop over any number of connections,
 //! and `gone` closes those whose mailbox was changed; `laws` says what turns of a stream are turns of. In specs/, `State`, the
 //! three turns, the two of hindrances, `Turns` and `Machine` are the machine, `Serving` its runs. What carries the crate: `serves`
-//! of `serve_events`.
+//! and `uids` of `serve_events`.
 #![tactic(auto)]
 
 mod asking;

@@ -2,6 +2,7 @@
 ghost use Rattle.std.specs.Prelude.{◌≡◌, ◌≤◌, ◌∷◌, ℕ, Bool, List, Ok, Err, IfOk, IfErr, OnErr, false, [], length};
 ghost use Rattle.console_head.specs.Request.{Stage};
 ghost use Rattle.undo_outside.specs.declared.event.LinkNote.{LinkNote};
+ghost use Rattle.mail_cycle.specs.Permanence.{UidsLast};
 ghost use Rattle.mail_loop.specs.Asked.{HaveSealed};
 ghost use Rattle.mail_loop.specs.Hindrance.{Hindrance};
 ghost use Rattle.mail_loop.specs.Took.{IsNone};
@@ -25,6 +26,7 @@ use std::thread::Threads;
 use thiserror::Error;
 use time_desk::Desk;
 use time_desk::laws::seals_join;
+use time_desk::permanence::records_let_uids_last;
 use undo_base::{LAST_MOMENT, NoMemory};
 use undo_outside::{Disk, Event, Fault, Gate, Link, Role, What};
 use verb_core::House;
@@ -321,8 +323,8 @@ fn serve_event<R: Threads + Sync, L: Link, D: Disk + Drop, G: Gate>(
     }
 }
 
-/// Serves the events of a link until the end comes or a console asks it to stop, at most so many.
-pub fn serve_events<R: Threads + Sync, L: Link, D: Disk + Drop, G: Gate>(
+/// Serves the events of a link, one after the other.
+fn serve_each<R: Threads + Sync, L: Link, D: Disk + Drop, G: Gate>(
     rt: &R,
     alloc: Global,
     desk: &mut Desk<D>,
@@ -360,6 +362,28 @@ pub fn serve_events<R: Threads + Sync, L: Link, D: Disk + Drop, G: Gate>(
         }
     }
     Err(ServeFault::Turns)
+}
+
+/// Serves the events of a link until the end comes or a console asks it to stop, at most so many. Whatever came, no UID names
+/// another message or another text than before (RFC 3501, section 2.3.1.1).
+pub fn serve_events<R: Threads + Sync, L: Link, D: Disk + Drop, G: Gate>(
+    rt: &R,
+    alloc: Global,
+    desk: &mut Desk<D>,
+    link: &mut L,
+    gate: &G,
+    turns: u64,
+) -> Result<(), ServeFault>
+    requires sealed { desk.old.closed ≡ false }
+    ensures serves { (steps : List Step) × (notes : List LinkNote) ×
+        ServedOver turns steps notes (L.told link.old) (L.told link.new) desk.old.kept desk.new.kept result ×
+        HaveSealed D.told desk.old desk.new (unsealed_in steps desk.old.kept) }
+    ensures closed { desk.new.closed ≡ is_disk result }
+    ensures uids { UidsLast desk.old.kept desk.new.kept }
+{
+    desk.stands();
+    records_let_uids_last();
+    serve_each(rt, alloc, desk, link, gate, turns)
 }
 
 fn is_end_of(event: &Event) -> bool

@@ -2,7 +2,12 @@ pub mod Beginnings
 pub mod Payloads
 pub mod Runs
 pub mod Submits
+pub mod Resolving
 pub mod Rewinding
 pub mod Standings
 pub mod OneWay
 pub mod Surveys
+pub mod Soundness
+pub mod Messages
+pub mod Accounts
+pub mod States

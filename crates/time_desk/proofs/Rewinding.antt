@@ -21,7 +21,7 @@ use Rattle.repair_desk.specs.Repairs.{are_known}
 use Rattle.mail_cycle.specs.declared.refused.CycleRefused.{CycleRefused}
 use Rattle.mail_cycle.specs.declared.refused.CycleRefused.TheVariants as refusals
 use Rattle.mail_cycle.specs.declared.settling.Rewound.{Rewound}
-use Rattle.mail_cycle.specs.Asking.{Due, Repeats, NoPoint, NoNumbers, Rewinds, after_cycle, cycle_due, due_anew, due_by}
+use Rattle.mail_cycle.specs.Asking.{Due, IsRewinds, NoNumbers, NoPoint, Repeats, Rewinds, after_cycle, cycle_due, due_anew, due_by}
 use Rattle.mail_cycle.specs.Cycles.{Cycled}
 use Rattle.mail_cycle.specs.Leaving.{GoesOn, Leaves}
 use Rattle.mail_cycle.specs.Refusing.{IsRefusalOf}
@@ -121,7 +121,7 @@ ready_record at ask kept held made remade bytes new redone same made_is bytes_ar
 pub tries_none : (kept : Kept) (at : ℕ) (ask : CycleAsk) (refused : CycleRefused) (fault : CycleFault) → IsRefusalOf kept ask (due_anew kept at ask) refused → IsTold refused fault → TriesNone kept at ask fault
 tries_none kept at ask (refusals.Point given) fault refusal is = subst (TriesNone kept at ask) (sym is) refusal
 tries_none kept at ask (refusals.Numbers next) fault refusal is = subst (TriesNone kept at ask) (sym is) refusal
-tries_none kept at ask refusals.NoMemory fault refusal is = subst (TriesNone kept at ask) (sym is) tt
+tries_none kept at ask refusals.NoMemory fault refusal is = subst (TriesNone kept at ask) (sym is) refusal
 
 module _ {D : Type 0} (told : D → DiskTold) where
   -- a report of before
@@ -173,13 +173,13 @@ module _ {D : Type 0} (told : D → DiskTold) where
   refused at ask old (refusals.Numbers next) out nothing anew open_ refusal is =
       subst (CyclesNone told at ask old old) (sym is) (open_, due_new old.kept at ask anew ∙ refusal.0, refusal.1, refl)
   refused at ask old refusals.NoMemory out nothing anew open_ refusal is =
-      subst (CyclesNone told at ask old old) (sym is) (by_due (cycle_due old.kept at ask))
+      subst (CyclesNone told at ask old old) (sym is) (subst (StarvesBy told old old) (sym (due_new old.kept at ask anew)) (by_due (due_anew old.kept at ask) refusal))
     where
-      by_due : (due : Due) → StarvesBy told old old due
-      by_due (Repeats report) = refl
-      by_due NoPoint = (open_, refl)
-      by_due NoNumbers = (open_, refl)
-      by_due (Rewinds due) = (open_, nothing)
+      by_due : (due : Due) → IsRewinds due → StarvesBy told old old due
+      by_due (Repeats report) wanted = absurd wanted
+      by_due NoPoint wanted = absurd wanted
+      by_due NoNumbers wanted = absurd wanted
+      by_due (Rewinds due) wanted = (open_, nothing)
 
 -- ---- a record of a cycle that is read
 

@@ -12,7 +12,7 @@ use Rattle.verb_bytes.specs.declared.journal.CycleAsk.{CycleAsk}
 use Rattle.verb_bytes.specs.declared.journal.JournalRecord.TheVariants.{Cycle}
 use Rattle.paradox.specs.declared.reports.Report.{Report}
 use Rattle.paradox.specs.Kept.{Kept, report_of}
-use Rattle.mail_cycle.specs.Asking.{Due, Repeats, NoPoint, NoNumbers, Rewinds, after_cycle, cycle_due, due_anew}
+use Rattle.mail_cycle.specs.Asking.{Due, IsRewinds, Repeats, NoPoint, NoNumbers, Rewinds, after_cycle, cycle_due, due_anew}
 use Rattle.mail_cycle.specs.Cycles.{Cycled}
 use Rattle.mail_cycle.specs.Leaving.{Leaves}
 use Rattle.mail_cycle.specs.declared.settling.Rewound.{Rewound}
@@ -70,12 +70,13 @@ IsCycleOutcomeOf log_faults.Closed fault = ⊥
 abbrev pub Tries : Kept → ℕ → CycleAsk → Report → Type 0
 Tries kept at ask report = (due : Cycled) × (due_anew kept at ask ≡ Rewinds due) × (report ≡ due.report)
 
--- why a trial has no report: the timeline does not have the point, or else too few numbers are left; want of memory is free
+-- why a trial has no report: the timeline does not have the point, or else too few numbers are left; memory is wanted where a
+-- cycle is due alone
 abbrev pub TriesNone : Kept → ℕ → CycleAsk → CycleFault → Type 0
 TriesNone kept at ask (Point given) = (due_anew kept at ask ≡ NoPoint) × (given ≡ ask.point)
 TriesNone kept at ask (Numbers next) = (due_anew kept at ask ≡ NoNumbers) × (next ≡ kept.next)
 TriesNone kept at ask Disk = ⊥
-TriesNone kept at ask NoMemory = Unit {0}
+TriesNone kept at ask NoMemory = IsRewinds (due_anew kept at ask)
 TriesNone kept at ask Closed = ⊥
 
 -- ---- a cycle
@@ -95,11 +96,12 @@ module _ {D : Type 0} (told : D → DiskTold) where
   abbrev pub Cycles : ℕ → CycleAsk → Lasting D → Lasting D → Report → Type 0
   Cycles at ask old new report = CyclesBy at ask old new report (cycle_due old.kept at ask)
 
-  -- want of memory, by what is due: nothing was sealed, and where no cycle is due nothing changed at all
+  -- want of memory, by what is due: it is wanted for a report or for a cycle, never where the point or the numbers are missing;
+  -- nothing was sealed
   abbrev pub StarvesBy : Lasting D → Lasting D → Due → Type 0
   StarvesBy old new (Repeats earlier) = new ≡ old
-  StarvesBy old new NoPoint = (old.closed ≡ false) × (new ≡ old)
-  StarvesBy old new NoNumbers = (old.closed ≡ false) × (new ≡ old)
+  StarvesBy old new NoPoint = ⊥
+  StarvesBy old new NoNumbers = ⊥
   StarvesBy old new (Rewinds due) = (old.closed ≡ false) × SealsNothing told old new
 
   -- a cycle is due, and the sealing of its record failed

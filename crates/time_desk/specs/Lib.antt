@@ -5,5 +5,7 @@ pub mod Crashing
 pub mod Making
 pub mod Submitting
 pub mod Cycling
+pub mod Planning
 pub mod Opening
 pub mod Standing
+pub mod Permanence

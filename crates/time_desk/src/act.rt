@@ -7,6 +7,7 @@ ghost use Rattle.verb_core.specs.Items.{users_in};
 ghost use Rattle.verb_core.specs.Store.{is_known};
 ghost use Rattle.verb_bytes.specs.declared.journal.JournalRecord.TheVariants.{Operator};
 ghost use Rattle.paradox.specs.Kept.{performed};
+ghost use Rattle.mail_cycle.specs.Permanence.{UidsLast};
 ghost use Rattle.mail_desk.specs.Entering.{CanEnter};
 ghost use Rattle.time_desk.specs.Lasting.{lasting};
 ghost use Rattle.time_desk.specs.Sealing.{IsRecordOf, Seals};
@@ -14,6 +15,7 @@ ghost use Rattle.time_desk.specs.Submitting.{ActsNone, IsActOutcomeOf};
 ghost use Rattle.time_desk.specs.declared.fault.ActFault.TheVariants as act_faults;
 
 use crate::on_disk::Journal;
+use crate::permanence::records_let_uids_last;
 use crate::seal::seal_ready;
 use crate::spelling::act_bytes;
 use crate::{ActFault, Desk};
@@ -156,7 +158,10 @@ impl<D: Disk> Desk<D> {
         ensures err { OnErr result (self.new.kept ≡ self.old.kept) }
         ensures why { IfErr result (λ fault. ActsNone D.told at act self.old self.new fault) }
         ensures closed { IsErrOf result ActFault.Closed ↔ IsTrue self.old.closed }
+        ensures uids { UidsLast self.old.kept self.new.kept }
     {
+        self.stands();
+        records_let_uids_last();
         if self.journal.is_closed() {
             drop(act);
             return Err(ActFault::Closed);

@@ -7,6 +7,7 @@ ghost use Rattle.paradox.specs.declared.reports.Report.{Report as TheReport};
 ghost use Rattle.paradox.specs.Kept.{report_of};
 ghost use Rattle.repair_desk.specs.Repairs.{are_known};
 ghost use Rattle.mail_cycle.specs.Asking.{cycle_due, Repeats};
+ghost use Rattle.mail_cycle.specs.Permanence.{UidsLast};
 ghost use Rattle.mail_desk.specs.Remaking.{CanReplace, remade_as};
 ghost use Rattle.time_desk.specs.Cycling.{Cycles, CyclesNone, IsCycleOutcomeOf, IsFit, IsTold, Redoes, Tries, TriesNone, after_rewound};
 ghost use Rattle.time_desk.specs.Lasting.{lasting};
@@ -15,6 +16,7 @@ ghost use Rattle.time_desk.specs.Sealing.{IsRecordTo, Seals};
 ghost use Rattle.time_desk.specs.Submitting.{SealsNone};
 
 use crate::on_disk::Journal;
+use crate::permanence::records_let_uids_last;
 use crate::redo::{key_in, remade, rewound, rewound_alone};
 use crate::spelling::cycle_bytes;
 use crate::{CycleFault, Desk};
@@ -335,7 +337,10 @@ impl<D: Disk> Desk<D> {
         ensures why { IfErr result (λ fault. CyclesNone D.told at ask self.old self.new fault) }
         ensures steps { OnOk result (steps.new ≤ steps.old + length self.new.kept.timeline) }
         ensures once { (earlier : TheReport) → cycle_due self.old.kept at ask ≡ Repeats earlier → steps.new ≡ steps.old }
+        ensures uids { UidsLast self.old.kept self.new.kept }
     {
+        self.stands();
+        records_let_uids_last();
         match known_report(alloc, &self.desk, &ask.key) {
             Ok(Some(report)) => {
                 drop(ask);

@@ -14,6 +14,7 @@ ghost use Rattle.store_digest.specs.Snapshots.{digest_of};
 ghost use Rattle.mail_desk.specs.Counting.{counts_of, listed, page};
 ghost use Rattle.paradox.specs.Kept.{store_of};
 ghost use Rattle.mail_desk.specs.Timeline.{all_bodies, has_sizes, has_text, rev_of, texts_of};
+ghost use Rattle.time_desk.specs.Permanence.{IsSound};
 
 use crate::on_disk::Journal;
 use box_store::Store;
@@ -185,10 +186,12 @@ impl<D: Disk> Desk<D> {
         ensures house_stays { (store_of self.now.kept).house ≡ self.now.kept.house }
         ensures timeline { IsTimeline self.now.kept.house self.now.kept.timeline }
         ensures below { AllByRecursion (λ (i : TheItem). i.number < self.now.kept.next) self.now.kept.timeline }
+        ensures named { map (λ (r : TheBoxId × ℕ). r.0) self.now.kept.stamps ≡ map (λ (r : TheBoxId × TheMailbox). r.0) (store_of self.now.kept).boxes }
         ensures fresh { AllByRecursion (λ (r : TheBoxId × ℕ). r.1 < self.now.kept.next) self.now.kept.stamps }
         ensures next { self.now.kept.next ≤ 4194304 }
         ensures reports { length self.now.kept.reports ≤ self.now.kept.next }
         ensures texts { IsTrue (all_bodies (has_text self.now.kept.timeline) (store_of self.now.kept).boxes) }
+        ensures sound { IsSound self.now.kept }
         ensures within { self.now.gate < (D.told self.now.disk).size }
     {
         self.desk.stands();

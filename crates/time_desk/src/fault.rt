@@ -35,7 +35,7 @@ pub enum ActFault {
 }
 
 /// Why a request for a cycle has no report. But for `NoMemory` the first that holds is told, in this order: `Closed`, `Point`,
-/// `Numbers`, `Disk`. A key that a cycle had is answered before all of them.
+/// `Numbers`, `Disk`. A key that a cycle had is answered before all of them. A plan is missing for `Point` or `NoMemory` alone.
 #[derive(Clone, Copy, Debug, PartialEq, Eq)]
 pub enum CycleFault {
     /// The timeline has no item of this number, which is not 0.

@@ -17,7 +17,7 @@ use undo_base::{LAST_MOMENT, Name, NoMemory};
 use verb_bytes::CycleAsk;
 
 /// What a cycle begins with.
-fn begun(desk: &Desk) -> Before<'_>
+pub(crate) fn begun(desk: &Desk) -> Before<'_>
     ensures { result ≡ desk.now.kept }
 {
     desk.stands();

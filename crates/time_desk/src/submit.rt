@@ -8,6 +8,7 @@ ghost use Rattle.verb_bytes.specs.declared.journal.JournalRecord.TheVariants.{Ve
 ghost use Rattle.verb_bytes.specs.Spelling.{record_bytes};
 ghost use Rattle.paradox.specs.Kept.{performed, store_of};
 ghost use Rattle.mail_desk.specs.Desk.{submitted};
+ghost use Rattle.mail_cycle.specs.Permanence.{UidsLast};
 ghost use Rattle.mail_desk.specs.Entering.{CanEnter};
 ghost use Rattle.time_desk.specs.Lasting.{lasting};
 ghost use Rattle.time_desk.specs.Records.{is_spelled};
@@ -16,6 +17,7 @@ ghost use Rattle.time_desk.specs.Submitting.{IsOutcomeOf, RefusesNone, SubmitsNo
 
 use crate::Desk;
 use crate::on_disk::Journal;
+use crate::permanence::records_let_uids_last;
 use crate::seal::seal_ready;
 use crate::spelling::item_bytes;
 use mail_desk::Ready;
@@ -172,7 +174,10 @@ impl<D: Disk> Desk<D> {
         ensures why { IfErr result (λ fault. SubmitsNone D.told (live (store_of self.old.kept) self.old.kept.next at by ask) self.old self.new fault) }
         ensures writes_none { WritesNone result self.old self.new }
         ensures closed { IsErrOf result SubmitFault.Closed ↔ IsTrue self.old.closed }
+        ensures uids { UidsLast self.old.kept self.new.kept }
     {
+        self.stands();
+        records_let_uids_last();
         if self.journal.is_closed() {
             drop(ask);
             return Err(SubmitFault::Closed);

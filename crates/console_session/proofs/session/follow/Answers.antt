@@ -2,8 +2,8 @@ use Rattle.std.proofs.Common.{refl}
 use Rattle.console_http.specs.declared.request.Route.TheVariants as route
 use Rattle.console_replies.specs.Bodies.{stopped_data}
 use Rattle.console_session.specs.declared.reply.After.TheVariants.{Closes, Stops}
-use Rattle.console_session.specs.Answers.{answer, body_answer, box_answer, conf_answer, status_answer, timeline_answer}
-use Rattle.console_session.proofs.Turns.{serves_route}
+use Rattle.console_session.specs.Answers.{answer, body_answer, box_answer, conf_answer, plan_answer, status_answer, timeline_answer}
+use Rattle.console_session.proofs.Turns.{serves_route, serves_still}
 use Rattle.console_session.proofs.session.follow.Goals as goal
 
 pub returns-in-Status : goal.returns-in-Status
@@ -35,3 +35,8 @@ pub returns-in-Stop : goal.returns-in-Stop
 returns-in-Stop g c =
     serves_route g.D.Disk.told c.seals_join.ensures.nothing c.args.at c.args.route route.Stop (answer 200 stopped_data) Stops c.args.desk.now c.tell.result
     c.in-Stop.is (λ h. refl) (c.tell.ensures stopped_data c.stopped_json.ensures)
+
+pub returns-in-Plan : goal.returns-in-Plan
+returns-in-Plan g c =
+    serves_still g.D.Disk.told c.seals_join.ensures.nothing c.args.at c.args.route (route.Plan c.in-Plan.point) (plan_answer c.args.desk.now.kept c.in-Plan.point) Closes
+    c.args.desk.now c.tell_plan.new.desk c.tell_plan.result c.in-Plan.is c.tell_plan.ensures.still (λ h. refl) c.tell_plan.ensures.told

@@ -2,7 +2,7 @@ use Rattle.std.proofs.Common.{◌≡◌, [], false}
 use Rattle.mail_loop.specs.Asked.{HaveSealed}
 use Rattle.mail_loop.specs.Stands.{AreHome}
 use Rattle.mail_loop.proofs.Runs.{SoServed}
-use Rattle.mail_loop.proofs.serve.serve_events.Given as goal
+use Rattle.mail_loop.proofs.serve.serve_each.Given as goal
 
 -- the machine's steps so far, and who is logged in is known
 abbrev pub invariant-loop : goal.invariant-loop

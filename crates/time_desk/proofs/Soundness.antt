@@ -1,0 +1,253 @@
+-- What holds of all that records leave, and what lasts from one of them to a later one.
+use Rattle.std.proofs.Common.{◌≡◌, ℕ, ◌+◌, ◌-◌, ◌<◌, ◌≤◌, ◌==◌, Bool, true, false, ◌&&◌, cond, nat_le, nat_lt, arith, refl, sym, ◌∙◌, ap, subst, List, [], ◌∷◌, length, map, Option, Some, None, is_some, is_eq, eqb-true, unwrap_or, option_and_then}
+use Rattle.std.specs.List.{AllByRecursion, list_all, cons_option}
+use Rattle.std.specs.Cmp.{first_so}
+use Rattle.std.proofs.lemmas.Bool.{and_parts, leb-true}
+use Rattle.verb_core.specs.declared.conf.Conf.{Conf}
+use Rattle.verb_core.specs.declared.conf.House.{House}
+use Rattle.verb_core.specs.declared.item.Item.{Item}
+use Rattle.verb_core.specs.declared.mailbox.BoxId.{BoxId}
+use Rattle.verb_core.specs.declared.mailbox.Mailbox.{Mailbox}
+use Rattle.verb_core.specs.Boxes.{box_cmp, row_at}
+use Rattle.verb_core.specs.Deeds.{act_item}
+use Rattle.verb_core.specs.Items.{IsWellFormed, has_form, is_own, keys_in, users_in}
+use Rattle.verb_core.specs.Stamps.{stamps_after}
+use Rattle.verb_core.specs.Step.{Boxes, step}
+use Rattle.verb_core.specs.Store.{MailStore, is_house, is_known, opening}
+use Rattle.verb_core.proofs.Joins.{run_joined}
+use Rattle.verb_core.proofs.StampLaws.{after-ids, opening-ids}
+use Rattle.verb_bytes.specs.declared.journal.CycleAsk.{CycleAsk}
+use Rattle.verb_bytes.specs.declared.journal.JournalRecord.{JournalRecord}
+use Rattle.verb_bytes.specs.declared.journal.JournalRecord.TheVariants.{Format, Verb, Operator, Cycle, Snapshot}
+use Rattle.verb_bytes.specs.Fields.{◌&◌, actor_field, are_in_range, byte_field, moment_field, only_if, u32_field}
+use Rattle.verb_bytes.specs.Spelling.{HasSpelling, deed_fields, item_fields, shown_fields, shown_kind}
+use Rattle.verb_bytes.proofs.Puts.{others_in_range}
+use Rattle.paradox.specs.declared.reports.Report.{Report}
+use Rattle.paradox.specs.Kept.{Kept, new_desk, performed, report_of, store_of}
+use Rattle.repair_desk.specs.Repairs.{are_known, position}
+use Rattle.mail_cycle.specs.Asking.{Due, NoNumbers, NoPoint, Repeats, Rewinds, after_cycle, cycle_due, due_anew, due_at, due_by}
+use Rattle.mail_cycle.specs.Cycles.{Cycled, cycled_at, leaves_numbers}
+use Rattle.mail_cycle.specs.Permanence.{UidsLast}
+use Rattle.mail_cycle.proofs.Lasting.{lasts_cycled, lasts_itself, lasts_on, lasts_performed}
+use Rattle.mail_cycle.proofs.Left.{left_due, left_revs}
+use Rattle.mail_desk.proofs.Timelines.{all_on, all_weaker, apart_on, below_on, others_below}
+use Rattle.house_text.specs.Beginning.{can_begin}
+use Rattle.time_desk.specs.Records.{after_cycle_record, after_due, after_item, after_record, after_records, agree, can_follow, can_rewind, first_state, is_formed, is_spelled, state}
+use Rattle.time_desk.specs.Permanence.{IsSound, RevsBelow}
+use Rattle.time_desk.proofs.Beginnings.{begins_known}
+
+-- ---- at first
+
+-- each stamp is the number before the first
+first_fresh : (n next : ℕ) → n < next → (rs : Boxes) → AllByRecursion (λ (r : BoxId × ℕ). r.1 < next) (map (λ (r : BoxId × Mailbox). (r.0, n)) rs)
+first_fresh n next less [] = tt
+first_fresh n next less (r ∷ rs) = (less, first_fresh n next less rs)
+
+begins_house : (house : House) (conf : Conf) → can_begin house conf ≡ true → is_house house ≡ true
+begins_house house conf can = (and_parts _ _ (and_parts _ _ (and_parts _ _ (and_parts _ _ (and_parts _ _ (and_parts _ _ can).0).0).0).0).0).0
+
+first_positive : (house : House) → is_house house ≡ true → 2 ≤ house.first
+first_positive house good = leb-true 2 house.first (and_parts _ _ (and_parts _ _ good).0).1
+
+begun_sound : (house : House) (conf : Conf) → can_begin house conf ≡ true → IsSound (new_desk house conf)
+begun_sound house conf can =
+    let good = begins_house house conf can in
+    let positive = first_positive house good in
+    record {
+      house = good;
+      aliases = begins_known house conf can;
+      base = refl;
+      timeline = record { formed = tt; apart = tt };
+      below = tt;
+      named = opening-ids (opening house conf);
+      fresh = first_fresh (house.first - 1) house.first (omega arith) (opening house conf).boxes;
+    }
+
+-- what holds of what is kept, and of the revs of its texts
+abbrev pub Holds : Kept → Type 0
+Holds kept = IsSound kept × RevsBelow kept
+
+pub first_holds : (r : JournalRecord) (kept : Kept) → first_state r ≡ Some kept → Holds kept
+first_holds (Format house conf) kept is = by (is_spelled (Format house conf)) (can_begin house conf) refl is
+  where
+    by : (spelled can : Bool) → can_begin house conf ≡ can → cond (spelled && can) (Some (new_desk house conf)) None ≡ Some kept → Holds kept
+    by true true e is = let same : new_desk house conf ≡ kept = cc is in subst Holds same (begun_sound house conf e, tt)
+    by true false e is = absurd (cc is)
+    by false can e is = absurd (cc is)
+first_holds (Verb item) kept is = absurd (cc is)
+first_holds (Operator number at act) kept is = absurd (cc is)
+first_holds (Cycle number at ask) kept is = absurd (cc is)
+first_holds (Snapshot items conf rows) kept is = absurd (cc is)
+
+-- ---- an item more
+
+row_low : (stamps : List (BoxId × ℕ)) (id : BoxId) (number next : ℕ) → number ≡ next → AllByRecursion (λ (r : BoxId × ℕ). r.1 < next) stamps → unwrap_or (row_at id stamps) number < next + 1
+row_low [] id number next is all = omega arith
+row_low (r ∷ stamps) id number next is all = elim (is_eq (box_cmp id r.0)) as (λ b. unwrap_or (cond b (Some r.1) (row_at id stamps)) number < next + 1) [
+  | true ↦ let low : r.1 < next = all.0 in omega arith
+  | false ↦ row_low stamps id number next is all.1
+]
+
+fresh_on : (stamps : List (BoxId × ℕ)) (number next : ℕ) → number ≡ next → AllByRecursion (λ (r : BoxId × ℕ). r.1 < next) stamps → (boxes : Boxes) → AllByRecursion (λ (r : BoxId × ℕ). r.1 < next + 1) (stamps_after number boxes stamps)
+fresh_on stamps number next is all [] = tt
+fresh_on stamps number next is all (r ∷ boxes) = (row_low stamps r.0 number next is all, fresh_on stamps number next is all boxes)
+
+pub item_sound : (kept : Kept) (i : Item) → IsSound kept → IsWellFormed kept.house i → i.number ≡ kept.next → IsSound (performed kept i)
+item_sound kept i sound formed number = record {
+  house = sound.house;
+  aliases = sound.aliases;
+  base = sound.base;
+  timeline = record {
+    formed = all_on (IsWellFormed kept.house) kept.timeline i sound.timeline.formed formed;
+    apart = apart_on kept.timeline i sound.timeline.apart (others_below kept.next kept.timeline i sound.below number);
+  };
+  below = below_on kept.next kept.timeline i sound.below number;
+  named = after-ids i.number (step (store_of kept) i).0.boxes kept.stamps ∙ ap (λ (s : MailStore). map (λ (r : BoxId × Mailbox). r.0) s.boxes) (sym (run_joined kept.base kept.timeline (i ∷ [])));
+  fresh = fresh_on kept.stamps i.number kept.next number sound.fresh (step (store_of kept) i).0.boxes;
+}
+
+item_revs : (kept : Kept) (i : Item) → i.rev ≡ 0 → RevsBelow kept → RevsBelow (performed kept i)
+item_revs kept i none revs =
+    all_on (λ (j : Item). j.rev < kept.next + 1) kept.timeline i
+    (all_weaker (λ (j : Item). j.rev < kept.next) (λ (j : Item). j.rev < kept.next + 1) (λ j less. omega arith) kept.timeline revs) (omega arith)
+
+agreed : (a b : Bool) → agree a b ≡ true → a ≡ b
+agreed true b e = sym e
+agreed false true e = absurd (cc e)
+agreed false false e = refl
+
+-- an item that can follow is well formed, and has the next number
+follows_formed : (kept : Kept) (i : Item) → can_follow kept i ≡ true → IsWellFormed kept.house i × (i.number ≡ kept.next)
+follows_formed kept i can =
+    let parts = and_parts ((i.number == kept.next) && nat_lt kept.next 4194304) (is_formed kept.house i) can in
+    let formed = and_parts (agree (is_some i.by) (is_own i.deed) && list_all (is_known kept.house) (cons_option i.by (users_in i.deed)) && nat_le (length (keys_in i.deed)) 65536) (has_form i.deed i.shown) parts.1 in
+    let others = and_parts (agree (is_some i.by) (is_own i.deed) && list_all (is_known kept.house) (cons_option i.by (users_in i.deed))) (nat_le (length (keys_in i.deed)) 65536) formed.0 in
+    let users = and_parts (agree (is_some i.by) (is_own i.deed)) (list_all (is_known kept.house) (cons_option i.by (users_in i.deed))) others.0 in (
+      record {
+        by = agreed (is_some i.by) (is_own i.deed) users.0;
+        users = users.1;
+        few = leb-true (length (keys_in i.deed)) 65536 others.1;
+        form = formed.1;
+      },
+      eqb-true i.number kept.next (and_parts (i.number == kept.next) (nat_lt kept.next 4194304) parts.0).0,
+    )
+
+-- ---- from what is kept to what is kept behind more records
+
+pub record Follows (old new : Kept) : Type 0 where
+  pub sound : IsSound new
+  pub revs : RevsBelow old → RevsBelow new
+  pub lasts : UidsLast old new
+
+pub item_follows : (kept : Kept) (i : Item) → IsSound kept → IsWellFormed kept.house i → i.number ≡ kept.next → i.rev ≡ 0 → Follows kept (performed kept i)
+item_follows kept i sound formed number rev = record {
+  sound = item_sound kept i sound formed number;
+  revs = item_revs kept i rev;
+  lasts = lasts_performed kept i sound.named number;
+}
+
+-- an item of a record has no rev
+no_rev : (i : Item) → HasSpelling (Verb i) → i.rev ≡ 0
+unfolding are_in_range only_if
+no_rev i fits =
+    let shown = shown_fields (shown_kind i.deed) i.shown in
+    let fields = deed_fields i.deed & shown & only_if (i.rev == 0) in
+    let behind = others_in_range (actor_field i.by) fields (others_in_range (moment_field i.at) (actor_field i.by & fields) (others_in_range (u32_field i.number) (moment_field i.at & actor_field i.by & fields) (others_in_range (byte_field 0 4 1) (item_fields i) fits))) in
+    let last = others_in_range shown (only_if (i.rev == 0)) (others_in_range (deed_fields i.deed) (shown & only_if (i.rev == 0)) behind) in
+    eqb-true i.rev 0 (first_so (i.rev == 0) true last)
+
+-- the record of an item
+item_record : (kept new : Kept) (what : JournalRecord) (i : Item) → (HasSpelling what → i.rev ≡ 0) → IsSound kept → after_item kept what i ≡ Some new → Follows kept new
+item_record kept new what i rev sound is = by (is_spelled what) (can_follow kept i) refl refl is
+  where
+    by : (spelled can : Bool) → is_spelled what ≡ spelled → can_follow kept i ≡ can → cond (spelled && can) (Some (performed kept i)) None ≡ Some new → Follows kept new
+    by true true e f is =
+        let same : performed kept i ≡ new = cc is in
+        let formed = follows_formed kept i f in
+        subst (Follows kept) same (item_follows kept i sound formed.0 formed.1 (rev e))
+    by true false e f is = absurd (cc is)
+    by false can e f is = absurd (cc is)
+
+-- ---- a cycle
+
+module _ (kept : Kept) (at : ℕ) (ask : CycleAsk) (sound : IsSound kept) (known : are_known kept.house ask.inserts ≡ true) where
+  abbrev RevsBy : Due → Type 0
+  RevsBy (Repeats report) = Unit {0}
+  RevsBy NoPoint = Unit {0}
+  RevsBy NoNumbers = Unit {0}
+  RevsBy (Rewinds due) = RevsBelow kept → RevsBelow (after_cycle kept ask due)
+
+  revs_by_place : (o : Option ℕ) → RevsBy (due_at kept at ask o)
+  revs_by_place None = tt
+  revs_by_place (Some place) = elim (leaves_numbers kept ask) as (λ b. RevsBy (cond b (Rewinds (cycled_at kept at ask place)) NoNumbers)) [ true ↦ left_revs kept at ask place | false ↦ tt ]
+
+  pub cycle_follows : (due : Cycled) → due_anew kept at ask ≡ Rewinds due → Follows kept (after_cycle kept ask due)
+  cycle_follows due is =
+      let goes = left_due kept at ask due sound.timeline sound.below sound.fresh known is in
+      record {
+        sound = record {
+          house = sound.house;
+          aliases = sound.aliases;
+          base = sound.base;
+          timeline = goes.timeline;
+          below = goes.below;
+          named = goes.named;
+          fresh = goes.fresh;
+        };
+        revs = subst RevsBy is (revs_by_place (position kept.timeline ask.point));
+        lasts = lasts_cycled kept at ask due sound.timeline.apart is;
+      }
+
+cycle_record : (kept new : Kept) (number at : ℕ) (ask : CycleAsk) → IsSound kept → after_cycle_record kept number at ask ≡ Some new → Follows kept new
+cycle_record kept new number at ask sound is = by (is_spelled (Cycle number at ask)) (can_rewind kept number ask) refl is
+  where
+    by_due : are_known kept.house ask.inserts ≡ true → (due : Due) → due_anew kept at ask ≡ due → after_due kept ask due ≡ Some new → Follows kept new
+    by_due known (Repeats report) e is = absurd (cc is)
+    by_due known NoPoint e is = absurd (cc is)
+    by_due known NoNumbers e is = absurd (cc is)
+    by_due known (Rewinds due) e is = let same : after_cycle kept ask due ≡ new = cc is in subst (Follows kept) same (cycle_follows kept at ask sound known due e)
+
+    by_report : are_known kept.house ask.inserts ≡ true → (found : Option Report) → after_due kept ask (due_by found (due_anew kept at ask)) ≡ Some new → Follows kept new
+    by_report known None is = by_due known (due_anew kept at ask) refl is
+    by_report known (Some report) is = absurd (cc is)
+
+    by : (spelled can : Bool) → can_rewind kept number ask ≡ can → cond (spelled && can) (after_due kept ask (cycle_due kept at ask)) None ≡ Some new → Follows kept new
+    by true true e is = by_report (and_parts (number == kept.next) (are_known kept.house ask.inserts) e).1 (report_of kept.reports ask.key) is
+    by true false e is = absurd (cc is)
+    by false can e is = absurd (cc is)
+
+-- ---- records
+
+pub record_follows : (kept new : Kept) (r : JournalRecord) → IsSound kept → after_record kept r ≡ Some new → Follows kept new
+record_follows kept new (Verb item) sound is = item_record kept new (Verb item) item (no_rev item) sound is
+record_follows kept new (Operator number at act) sound is = item_record kept new (Operator number at act) (act_item number at act) (λ fits. refl) sound is
+record_follows kept new (Cycle number at ask) sound is = cycle_record kept new number at ask sound is
+record_follows kept new (Format house conf) sound is = absurd (cc is)
+record_follows kept new (Snapshot items conf rows) sound is = absurd (cc is)
+
+follows_itself : (kept : Kept) → IsSound kept → Follows kept kept
+follows_itself kept sound = record { sound = sound; revs = λ revs. revs; lasts = lasts_itself kept }
+
+follows_on : (a b c : Kept) → Follows a b → Follows b c → Follows a c
+follows_on a b c first second = record { sound = second.sound; revs = λ revs. second.revs (first.revs revs); lasts = lasts_on a b c first.lasts second.lasts }
+
+pub records_follow : (rs : List JournalRecord) (kept new : Kept) → IsSound kept → after_records kept rs ≡ Some new → Follows kept new
+records_follow [] kept new sound is = let same : kept ≡ new = cc is in subst (Follows kept) same (follows_itself kept sound)
+records_follow (r ∷ rs) kept new sound is = elim (after_record kept r) as (λ o. after_record kept r ≡ o → option_and_then (λ (next : Kept). after_records next rs) o ≡ Some new → Follows kept new) [
+  | None ↦ λ e is. absurd (cc is)
+  | Some next ↦ λ e is.
+      let first = record_follows kept next r sound e in
+      follows_on kept next new first (records_follow rs next new first.sound is)
+] refl is
+
+-- a journal's
+pub state_holds : (rs : List JournalRecord) (kept : Kept) → state rs ≡ Some kept → Holds kept
+state_holds [] kept is = absurd (cc is)
+state_holds (r ∷ rs) kept is = by (first_state r) refl is
+  where
+    by : (o : Option Kept) → first_state r ≡ o → option_and_then (λ (k : Kept). after_records k rs) o ≡ Some kept → Holds kept
+    by None e is = absurd (cc is)
+    by (Some first) e is =
+        let held = first_holds r first e in
+        let follows = records_follow rs first kept held.0 is in
+        (follows.sound, follows.revs held.1)

@@ -1,0 +1,17 @@
+use Rattle.std.proofs.Common.{subst}
+use Rattle.time_desk.specs.Lasting.{Lasting}
+use Rattle.time_desk.specs.Permanence.{IsSound}
+use Rattle.time_desk.proofs.desk.Desk.stands.Goals as goal
+
+pub returns-clause-sound : goal.returns-clause-sound
+returns-clause-sound g c =
+    let told = c.stands.ensures in
+    subst (λ (l : Lasting g.row.D.Denot). IsSound l.kept) c.self.view_is (record {
+      house = told.house;
+      aliases = told.aliases;
+      base = told.base;
+      timeline = told.timeline;
+      below = told.below;
+      named = told.named;
+      fresh = told.fresh;
+    })

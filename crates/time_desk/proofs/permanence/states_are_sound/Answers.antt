@@ -1,0 +1,8 @@
+use Rattle.time_desk.proofs.Soundness.{state_holds}
+use Rattle.time_desk.proofs.permanence.states_are_sound.Goals as goal
+
+pub returns-clause-sound : goal.returns-clause-sound
+returns-clause-sound c = λ records kept is. (state_holds records kept is).0
+
+pub returns-clause-revs : goal.returns-clause-revs
+returns-clause-revs c = λ records kept is. (state_holds records kept is).1
