@@ -25,9 +25,13 @@ counts_text counts =
 abbrev pub check_text : Kept → List ℕ
 check_text kept = counts_text (counts_of kept) ++ codes "digest " ++ digest_of (store_of kept) (length kept.timeline) ++ lf
 
+-- this is told, or no memory is found for it
+abbrev pub TellsText : List ℕ → ℕ → List ℕ → Type 0
+TellsText text status output = ((status ≡ 0) × (output ≡ text)) ⊎ ((status ≡ 8) × (output ≡ no_memory))
+
 -- the counts are told, or no memory is found for them
 abbrev pub TellsCounts : Kept → ℕ → List ℕ → Type 0
-TellsCounts kept status output = ((status ≡ 0) × (output ≡ check_text kept)) ⊎ ((status ≡ 8) × (output ≡ no_memory))
+TellsCounts kept status output = TellsText (check_text kept) status output
 
 -- Nothing was written: the length is as it was, a crash at any moment leaves what it could have left at first, and what reads give is one of that.
 pub record IsOnlyRead (old new : DiskTold) : Type 0 where

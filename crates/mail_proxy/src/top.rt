@@ -11,6 +11,7 @@ ghost use Rattle.mail_proxy.specs.Runs.{Runs};
 ghost use Rattle.mail_proxy.specs.Texts.{End};
 
 use crate::check::plan_check;
+use crate::grow::plan_grow;
 use crate::init::plan_init;
 use crate::plan::{LastLine, Plan, only_line, show, without_memory};
 use crate::play::plan_play;
@@ -63,7 +64,7 @@ fn plan_command<R: Threads + Sync, S: Source, L: Link, D: Disk + Drop, G: Gate>(
         Command::Serve { .. } => plan_serve(rt, alloc, link, disk, gate),
         Command::Script => plan_script(rt, alloc, text, disk, gate),
         Command::Play => plan_play(rt, alloc, text, disk, gate),
-        Command::Grow { .. } => (only_line(alloc, 1, LastLine::Usage), disk),
+        Command::Grow { rounds } => (plan_grow(rt, alloc, rounds, gate), disk),
         Command::Check => plan_check(alloc, disk),
     }
 }
