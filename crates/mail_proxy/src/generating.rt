@@ -96,7 +96,13 @@ fn receiver_of(round: u32) -> &'static [u8]
 }
 
 /// Adds a line of a text and a number.
-fn push_numbered(alloc: Global, events: &mut Events, at: u64, text: &[u8], number: u32) -> Result<(), NoMemory>
+fn push_numbered(
+    alloc: Global,
+    events: &mut Events,
+    at: u64,
+    text: &[u8],
+    number: u32,
+) -> Result<(), NoMemory>
     ensures { OnOk result (events.new ≡ events.old ++ event_of 1 at (Bytes (said (text.now ++ decimal number))) ∷ []) }
 {
     let line = numbered_line(alloc, text, number)?;
@@ -142,7 +148,13 @@ fn push_joined(events: &mut Events, conn: u32, at: u64, role: Role) -> Result<()
 }
 
 /// Adds a line that a connection sends.
-fn push_line(alloc: Global, events: &mut Events, conn: u32, at: u64, line: &[u8]) -> Result<(), NoMemory>
+fn push_line(
+    alloc: Global,
+    events: &mut Events,
+    conn: u32,
+    at: u64,
+    line: &[u8],
+) -> Result<(), NoMemory>
     ensures { OnOk result (events.new ≡ events.old ++ event_of conn at (Bytes (said line.now)) ∷ []) }
 {
     let mut bytes = Text::of(alloc, line)?;

@@ -1,4 +1,4 @@
-use Rattle.std.proofs.Common.{◌≡◌, ◌++◌, ◌∷◌, [], ℕ, List, OnOk, ◌∙◌, subst}
+use Rattle.std.proofs.Common.{◌≡◌, ◌++◌, ◌∷◌, [], ℕ, List, OnOk, subst}
 use Rattle.undo_outside.specs.declared.event.What.TheVariants.{Bytes, Joined}
 use Rattle.undo_outside.specs.declared.event.Role.TheVariants.{Http}
 use Rattle.std.proofs.lemmas.Result.{on_ok_weaker}
