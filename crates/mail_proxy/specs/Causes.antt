@@ -19,7 +19,6 @@ use Rattle.time_desk.specs.Making.{Makes}
 use Rattle.time_desk.specs.Opening.{IsDamaged, OpensAs, Starts}
 use Rattle.command_words.specs.declared.commands.Command.{Command}
 use Rattle.command_words.specs.declared.commands.Command.TheVariants.{Init, Serve, Script, Play, Grow, Check}
-use Rattle.mail_proxy.specs.Generated.{generated}
 use Rattle.mail_proxy.specs.Init.{IsNoConfig}
 use Rattle.mail_proxy.specs.Lines.{usage, too_long, bad_configuration, bad_line, not_empty, not_a_store, link_fault, disk_fault, read_fault, too_many, no_memory, damaged}
 use Rattle.mail_proxy.specs.Reading.{ReadFails, WriteFails, WriteStarves, Wrote}
@@ -142,16 +141,6 @@ pub record IsScript (told : Option (List ℕ)) (events : List Event) : Type 0 wh
   pub short : nat_lt 67108864 (length text) ≡ false
   pub events_are : script_of text ≡ Ok events
 
--- the events that a command serves over a link of its own: those of the script in its text, or those that are generated
-abbrev pub AreEvents : Option Command → Option (List ℕ) → List Event → Type 0
-AreEvents None told events = ⊥
-AreEvents (Some Init) told events = ⊥
-AreEvents (Some (Serve smtp imap http)) told events = ⊥
-AreEvents (Some Script) told events = IsScript told events
-AreEvents (Some Play) told events = IsScript told events
-AreEvents (Some (Grow rounds)) told events = events ≡ generated rounds
-AreEvents (Some Check) told events = ⊥
-
 -- the disk is not empty, and an honest one opens as this
 abbrev pub IsOpened : DiskTold → Kept → Type 0
 IsOpened disk first = (disk.size ≢ 0) × (disk.honest → OpensAs disk.content (Ok first))
@@ -170,10 +159,11 @@ IsFirst (Some Check) disk first = IsOpened disk first
 abbrev pub HasDesk : Option Command → DiskTold → Type 0
 HasDesk command disk = (first : Kept) × IsFirst command disk first
 
--- the events were served over what the desk kept at first, until serving ended so, with this transcript
+-- the events of the script were served over what the desk kept at first, until serving ended so, with this transcript
 pub record RanTo (command : Option Command) (told : Option (List ℕ)) (disk : DiskTold) (outcome : Result (Unit {0}) ServeFault) (transcript : List ℕ) : Type 0 where
+  pub takes : takes_script command ≡ true
   pub events : List Event
-  pub are_events : AreEvents command told events
+  pub script : IsScript told events
   pub first : Kept
   pub is_first : IsFirst command disk first
   pub notes : List LinkNote
@@ -184,7 +174,7 @@ pub record RanTo (command : Option Command) (told : Option (List ℕ)) (disk : D
 
 -- before the last line nothing stands, or the transcript of a script whose serving ended so
 abbrev pub IsFront : Option Command → Option (List ℕ) → DiskTold → Result (Unit {0}) ServeFault → List ℕ → Type 0
-IsFront command told disk outcome front = (front ≡ []) ⊎ ((takes_script command ≡ true) × RanTo command told disk outcome front)
+IsFront command told disk outcome front = (front ≡ []) ⊎ RanTo command told disk outcome front
 
 -- Formatting or opening failed, as these say, and no event of the link came.
 abbrev pub FailsAtFirst : Option Command → Outside → Outside → Type 0
@@ -241,11 +231,11 @@ module _ (command : Option Command) (old new : Outside) where
   abbrev pub EndsUnread : Type 0
   EndsUnread = (uses_text command ≡ true) × ReadFails old.text new.text × Wrote old.out new.out read_fault
 
-  -- 7: 2^40 events were served without an end; a transcript is left out where no memory is found for it, or none is due
+  -- 7: 2^40 events were served without an end; a transcript is left out where no memory is found for it
   abbrev pub EndsLate : Type 0
   EndsLate =
       ((transcript : List ℕ) × RanTo command old.text.left old.disk (Err Turns) transcript
-      × (((takes_script command ≡ true) × Wrote old.out new.out (transcript ++ too_many)) ⊎ Wrote old.out new.out too_many))
+      × (Wrote old.out new.out (transcript ++ too_many) ⊎ Wrote old.out new.out too_many))
       ⊎ ((uses_link command ≡ true) × RanOn command old.disk old.link new.link × Wrote old.out new.out too_many)
 
   -- 8: the last line is that of want of memory, maybe behind a transcript; or the sink found no memory before that

@@ -17,7 +17,7 @@ use crate::plan::{LastLine, Plan, only_line, show, without_memory};
 use crate::play::plan_play;
 use crate::script::plan_script;
 use crate::serve::plan_serve;
-use command_words::{Command, WordsRefused, read_words};
+use command_words::{Command, WordsRefused, one_reading, read_words};
 use std::alloc::Global;
 use std::thread::Threads;
 use time_desk::one_opening;
@@ -96,6 +96,7 @@ pub fn run<R: Threads + Sync, S: Source, L: Link, D: Disk + Drop, W: Sink, G: Ga
     ensures disk { uses_disk (command_of (map string_bytes words.now.items)) ≡ false → result.1 ≡ disk }
 {
     one_opening();
+    one_reading();
     let (plan, disk) = make_plan(rt, alloc, words, text, link, disk, gate);
     (show(alloc, &plan, out), disk)
 }
