@@ -1,4 +1,4 @@
-use Rattle.std.proofs.Common.{◌==◌, ◌++◌, ℕ, List, length, ap, subst, sym, ◌∙◌, Result, Err}
+use Rattle.std.proofs.Common.{◌==◌, ◌++◌, ℕ, List, length, ap, subst, sym, ◌∙◌, Result}
 use Rattle.mail_desk.specs.declared.counts.Counts.{Counts}
 use Rattle.mail_loop.specs.declared.serve.ServeFault.{ServeFault}
 use Rattle.mail_proxy.specs.Check.{TellsText}
@@ -18,8 +18,8 @@ returns-in-Ok g c =
     (subst (λ (o : Result (Unit {0}) ServeFault). TellsGrown c.args.rounds o last.kept plan.status (output_of plan)) (sym c.in-Ok.is)
     (subst (λ (n : Counts). TellsText (grown_text c.args.rounds n) plan.status (output_of plan)) c.counts.ensures c.plan_grown.ensures))
 
-pub returns-in-Err : goal.returns-in-Err
-returns-in-Err g c =
+pub returns : goal.returns
+returns g c =
     let (steps, notes, over, (added, seals)) = c.serve_events.ensures.serves in
     let last = c.serve_events.new.desk in
     let plan = c.plan_of.result in

@@ -14,7 +14,7 @@ returns-clause-comes g c =
     let words = map string_bytes c.args.words.now.items in
     comes g.D.Disk.told c.args.disk (end_of plan.0 plan.1) (text c.args.text.now) (text c.make_plan-plan.new.text) (link c.args.link.now) (link c.make_plan-plan.new.link)
     (out c.args.out.now) (out c.show.new.out) c.show.result c.show.ensures
-    words (few_rounds c.one_reading.ensures words) (λ e. ap link (c.make_plan-plan.ensures.unlinked e)) c.make_plan-plan.ensures.answers
+    words (few_rounds c.one_reading.ensures words) (λ e. ap link {x = c.make_plan-plan.new.link} (c.make_plan-plan.ensures.unlinked e)) c.make_plan-plan.ensures.answers
 
 pub returns-clause-disk : goal.returns-clause-disk
 returns-clause-disk g c =
