@@ -1,21 +1,14 @@
-//! Tests of the desk over a disk whose calls fail, and over what a crash leaves. They stand in a crate of their own, since a
-//! crate with tests is proved twice.
+//! Tests of a desk over a disk whose calls fail, in a crate of their own, since a crate with tests is proved twice: what no
+//! conversation shows is what a desk that was closed still answers.
 //!
-//! `asks` makes what is asked and what the operator does. `desks` has desks over disks in memory, and asks them. `making`,
-//! `submitting`, `acting` and `starting` have the tests of calls that fail, and `crashing` starts from what a crash leaves.
+//! `desks` starts desks over disks in memory; `asks` and `cycles` ask them; `failing` has the tests.
 #![tactic(auto)]
 
 #[cfg(test)]
-mod acting;
-#[cfg(test)]
 mod asks;
 #[cfg(test)]
-mod crashing;
+mod cycles;
 #[cfg(test)]
 mod desks;
 #[cfg(test)]
-mod making;
-#[cfg(test)]
-mod starting;
-#[cfg(test)]
-mod submitting;
+mod failing;

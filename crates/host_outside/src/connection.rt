@@ -39,6 +39,14 @@ pub(crate) struct Connection<S> {
     has_moved: bool,
 }
 
+impl<S> Connection<S> {
+    pub(crate) fn is_over(&self) -> bool
+        ensures { result ≡ self.now.is_over }
+    {
+        self.is_over
+    }
+}
+
 impl<S: Read + Write + OpenStream> Connection<S> {
     /// A connection that has just come. From now on no call on it waits.
     pub(crate) fn new(alloc: Global, stream: S) -> io::Result<Connection<S>>
@@ -54,10 +62,6 @@ impl<S: Read + Write + OpenStream> Connection<S> {
             is_over: false,
             has_moved: false,
         })
-    }
-
-    pub(crate) fn is_over(&self) -> bool {
-        self.is_over
     }
 
     pub(crate) fn has_moved(&self) -> bool {

@@ -1,5 +1,5 @@
 //! The listeners and the connections, visited in rounds: those that were active lately in each, the others by turns.
-ghost use Rattle.std.specs.Prelude.{◌≡◌, ◌≤◌, IfSome};
+ghost use Rattle.std.specs.Prelude.{◌≡◌, ◌≤◌, true, IfSome, IsNone};
 ghost use Rattle.host_outside.specs.Seats.{IsAt, IsOf};
 ghost use Rattle.undo_outside.specs.declared.event.What.TheVariants.{Joined};
 
@@ -51,6 +51,22 @@ struct Seat<S> {
     connection: Option<Connection<S>>,
     /// Where it stands in the list of those that were active lately: the second at which it leaves that.
     lively_until: Option<u64>,
+}
+
+impl<S: Drop> Seat<S> {
+    /// Nobody has the seat any more where its connection is over.
+    fn free(&mut self)
+        ensures freed { IsNone self.new.connection → IfSome self.old.connection (λ connection. connection.is_over ≡ true) }
+        ensures lively { self.new.lively_until ≡ self.old.lively_until }
+    {
+        let is_over = match &self.connection {
+            Some(connection) => connection.is_over(),
+            None => false,
+        };
+        if is_over {
+            self.connection = None;
+        }
+    }
 }
 
 /// Whose turn it is in a round.
@@ -273,9 +289,7 @@ impl<R: Net + Clock> Sockets<R> {
         let connection = self.seats.get_mut(place)?.connection.as_mut()?;
         let received = connection.receive(now / 1000, &mut self.spare);
         let has_moved = connection.has_moved();
-        if connection.is_over() {
-            self.free(place);
-        }
+        self.free(place);
         if has_moved {
             self.sleep = SHORTEST_SLEEP;
             self.enliven(place, now);
@@ -289,10 +303,10 @@ impl<R: Net + Clock> Sockets<R> {
         Some(self.event_of(place, what))
     }
 
-    /// Nobody has the seat any more.
+    /// Nobody has the seat any more where its connection is over.
     fn free(&mut self, place: usize) {
         if let Some(seat) = self.seats.get_mut(place) {
-            seat.connection = None;
+            seat.free();
         }
     }
 

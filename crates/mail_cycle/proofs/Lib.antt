@@ -2,3 +2,4 @@ pub mod Cycled
 pub mod Left
 pub mod Placing
 pub mod Parts
+pub mod Lasting

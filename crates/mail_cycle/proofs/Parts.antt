@@ -114,11 +114,10 @@ module _ (s : Kept) (at : ℕ) (ask : CycleAsk) (place : ℕ) where
       λ j. record { cycle = s.next; point = ask.point; kept = (edits j).kept; broken = breaks j; notices = all j; renewed = renewed_by s.next (stamped j); unmatched = (edits j).unmatched }
 
   -- the next number
-  pub next_is : (numbers : List ℕ) (more : List Item) (next inserts count : ℕ) → more ≡ told_at s at ask place → numbers ≡ numbers_of more → next ≡ s.next → inserts ≡ length ask.inserts
-      → count ≡ length numbers → next + 1 + inserts + count ≡ s.next + 1 + length ask.inserts + length (told_at s at ask place)
-  next_is numbers more next inserts count tells are is acts many =
-      let all : length numbers ≡ length (numbers_of (told_at s at ask place)) = ap (λ (ns : List ℕ). length ns) (are ∙ ap numbers_of tells) in
-      omega (arith, is, all, acts, many, length_map (λ (i : Item). i.number) (told_at s at ask place))
+  pub next_is : (numbers : List ℕ) (more : List Item) → more ≡ told_at s at ask place → numbers ≡ numbers_of more
+      → s.next + 1 + length ask.inserts + length numbers ≡ s.next + 1 + length ask.inserts + length (told_at s at ask place)
+  next_is numbers more tells are =
+      ap (λ (n : ℕ). s.next + 1 + length ask.inserts + n) (ap (λ (ns : List ℕ). length ns) (are ∙ ap numbers_of tells) ∙ length_map (λ (i : Item). i.number) (told_at s at ask place))
 
 -- ---- the whole
 
@@ -133,32 +132,30 @@ module _ (s : Kept) (ask : CycleAsk) (place : ℕ) where
       ∙ ap₂ (λ (t : List Item) (xs : List Shown). judged ask.drops t xs) laters (nows ∙ ap (λ (n : ℕ). drop n shows) counts ∙ now_is s at ask place shows are)
 
 module _ (s : Kept) (at : ℕ) (ask : CycleAsk) (place : ℕ) where
-  pub settled : (e : Edited) (first after : MailStore) (shows : List Shown) (broken : List BrokenItem) (more timeline : List Item) (numbers : List ℕ) (front inserts next count : ℕ) (r : Result Rewound NoMemory)
+  pub settled : (e : Edited) (first : MailStore) (shows : List Shown) (broken : List BrokenItem) (more : List Item) (numbers : List ℕ) (r : Result Rewound NoMemory)
       → e ≡ edited_at s.timeline ask s.next at place → first ≡ run s.base e.items → shows ≡ drop place (answers s.base e.items)
       → broken ≡ broken_at s at ask place → more ≡ told_at s at ask place → numbers ≡ numbers_of more
-      → after ≡ run first more → IsValid after → timeline ≡ shown_after front e.items (drop inserts shows) ++ more
-      → front ≡ place + inserts → inserts ≡ length ask.inserts → next ≡ s.next → count ≡ length numbers
-      → IfOk r (λ made. made.store.store ≡ after) → IfOk r (λ made. made.timeline ≡ timeline) → IfOk r (λ made. made.stamps ≡ renewed (store_of s).boxes after.boxes s.stamps s.next)
-      → IfOk r (λ made. made.next ≡ next + 1 + inserts + count)
+      → IfOk r (λ made. made.store.store ≡ run first more) → IfOk r (λ made. IsValid made.store.store)
+      → IfOk r (λ made. made.timeline ≡ shown_after (front_of ask place) e.items (drop (length ask.inserts) shows) ++ more)
+      → IfOk r (λ made. made.stamps ≡ renewed (store_of s).boxes made.store.store.boxes s.stamps s.next)
+      → IfOk r (λ made. made.next ≡ s.next + 1 + length ask.inserts + length numbers)
       → IfOk r (λ made. made.report ≡ record { cycle = s.next; point = ask.point; kept = e.kept; broken = broken; notices = numbers; renewed = renewed_by s.next made.stamps; unmatched = e.unmatched })
       → IfOk r (λ made. Leaves s (cycled_at s at ask place) made)
-  settled e first after shows broken more timeline numbers front inserts next count (Err x) edits firsts shown breaks tells nums afters valid times fronts acts nexts counts a b c d f = tt
-  settled e first after shows broken more timeline numbers front inserts next count (Ok made) edits firsts shown breaks tells nums afters valid times fronts acts nexts counts stored timed stamped numbered reported =
+  settled e first shows broken more numbers (Err x) edits firsts shown breaks tells nums a b c d f g = tt
+  settled e first shows broken more numbers (Ok made) edits firsts shown breaks tells nums stored valid timed stamped numbered reported =
       let repairs : e.items ≡ repaired_items s at ask place = ap (λ (x : Edited). x.items) edits in
-      let now : drop inserts shows ≡ compared_at s at ask place = ap (λ (n : ℕ). drop n shows) acts ∙ now_is s at ask place shows (shown ∙ ap (λ (t : List Item). drop place (answers s.base t)) repairs) in
-      let at_front : front ≡ front_of ask place = fronts ∙ ap (λ (n : ℕ). place + n) acts in
+      let now : drop (length ask.inserts) shows ≡ compared_at s at ask place = now_is s at ask place shows (shown ∙ ap (λ (t : List Item). drop place (answers s.base t)) repairs) in
       let all : made.timeline ≡ timeline_at s at ask place =
-      timed ∙ times ∙ ap (λ (n : ℕ). shown_after n e.items (drop inserts shows) ++ more) at_front
-      ∙ timeline_is s at ask place e.items more _ (drop inserts shows) repairs now tells refl in
-      let leads : after ≡ run s.base (timeline_at s at ask place) = store_is s at ask place first after e.items more repairs tells firsts afters in
-      let stamps : made.stamps ≡ stamps_at s at ask place = stamps_are s at ask place after made.stamps leads stamped in
+      timed ∙ timeline_is s at ask place e.items more _ (drop (length ask.inserts) shows) repairs now tells refl in
+      let leads : made.store.store ≡ run s.base (timeline_at s at ask place) = store_is s at ask place first made.store.store e.items more repairs tells firsts stored in
+      let stamps : made.stamps ≡ stamps_at s at ask place = stamps_are s at ask place made.store.store made.stamps leads stamped in
       record {
         timeline = all;
         stamps = stamps;
-        next = numbered ∙ next_is s at ask place numbers more next inserts count tells nums nexts acts counts;
+        next = numbered ∙ next_is s at ask place numbers more tells nums;
         report = reported ∙ report_is s at ask place e broken numbers more made.stamps edits breaks tells nums stamps;
-        store = stored ∙ leads;
-        valid = subst IsValid (sym stored) valid;
+        store = leads;
+        valid = valid;
       }
 
   -- each item and each notice is one step at most

@@ -1,26 +1,11 @@
--- What a cycle begins with: a store, and all that is kept of it.
-use Rattle.std.specs.Prelude.{◌≡◌, ℕ, ◌≤◌, List, [], map, IsTrue}
+-- What holds of a store in use, and of what is kept of it.
+use Rattle.std.specs.Prelude.{◌≡◌, ℕ, ◌≤◌, [], map, IsTrue}
 use Rattle.std.specs.List.{AllByRecursion, list_all}
-use Rattle.verb_core.specs.declared.conf.Conf.{Conf}
-use Rattle.verb_core.specs.declared.conf.House.{House}
-use Rattle.verb_core.specs.declared.item.Item.{Item}
 use Rattle.verb_core.specs.declared.mailbox.BoxId.{BoxId}
 use Rattle.verb_core.specs.declared.mailbox.Mailbox.{Mailbox}
 use Rattle.verb_core.specs.Items.{IsWellFormed}
-use Rattle.verb_core.specs.Store.{MailStore, IsValid, is_house, is_known, opening}
-use Rattle.paradox.specs.Kept.{Kept, Reports, store_of}
-
--- what is kept of a store whose first item was performed on the opening store
-abbrev pub begun : House → Conf → List Item → List (BoxId × ℕ) → ℕ → Reports → Kept
-begun house conf timeline stamps next reports = record {
-  house = house;
-  opening = conf;
-  base = opening house conf;
-  timeline = timeline;
-  stamps = stamps;
-  next = next;
-  reports = reports;
-}
+use Rattle.verb_core.specs.Store.{MailStore, IsValid, is_house, is_known}
+use Rattle.paradox.specs.Kept.{Kept, store_of}
 
 -- what holds of every store in use, and of what is kept of it
 pub record IsBegun (store : MailStore) (s : Kept) : Type 0 where

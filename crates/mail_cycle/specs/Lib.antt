@@ -5,3 +5,4 @@ pub mod Places
 pub mod Asking
 pub mod Refusing
 pub mod Leaving
+pub mod Permanence

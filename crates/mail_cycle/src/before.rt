@@ -33,18 +33,18 @@ pub struct Before<'a> {
 }
 
 impl<'a> Model for Before<'a> {
-    ghost use Rattle.mail_cycle.specs.Begun.{IsBegun, begun};
-    ghost use Rattle.paradox.specs.Kept.{Kept};
+    ghost use Rattle.mail_cycle.specs.Begun.{IsBegun};
+    ghost use Rattle.paradox.specs.Kept.{Kept, kept_from};
 
     ghost Value = { Kept };
 
-    ghost view = { λ b. begun b.house.now b.opening.now b.timeline.now b.stamps.now b.next b.reports.now };
+    ghost view = { λ b. kept_from b.house.now b.opening.now b.timeline.now b.stamps.now b.next b.reports.now };
 
-    ghost invariant = { λ b. IsBegun b.store.now.store (begun b.house.now b.opening.now b.timeline.now b.stamps.now b.next b.reports.now) };
+    ghost invariant = { λ b. IsBegun b.store.now.store (kept_from b.house.now b.opening.now b.timeline.now b.stamps.now b.next b.reports.now) };
 }
 
 impl<'a> Before<'a> {
-    ghost use Rattle.mail_cycle.specs.Begun.{begun};
+    ghost use Rattle.paradox.specs.Kept.{kept_from};
 
     /// A store in use.
     pub fn of(
@@ -64,7 +64,7 @@ impl<'a> Before<'a> {
         requires formed { AllByRecursion (IsWellFormed house.now) timeline.now }
         requires named { map (λ (r : TheBoxId × ℕ). r.0) stamps.now ≡ map (λ (r : TheBoxId × TheMailbox). r.0) store.now.store.boxes }
         requires next { next ≤ 4194304 }
-        ensures { result ≡ begun house.now opening.now timeline.now stamps.now next reports.now }
+        ensures { result ≡ kept_from house.now opening.now timeline.now stamps.now next reports.now }
     {
         Before {
             house,

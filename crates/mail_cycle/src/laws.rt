@@ -11,11 +11,12 @@ ghost use Rattle.verb_bytes.specs.declared.journal.CycleAsk.{CycleAsk};
 ghost use Rattle.paradox.specs.Words.{told_of};
 ghost use Rattle.paradox.specs.declared.reports.BrokenItem.{BrokenItem};
 ghost use Rattle.repair_desk.specs.Repairs.{are_known, is_among, is_dropped, numbers_of};
-ghost use Rattle.mail_cycle.specs.Asking.{Rewinds, due_anew};
+ghost use Rattle.mail_cycle.specs.Asking.{Rewinds, after_cycle, due_anew};
 ghost use Rattle.mail_cycle.specs.Cycles.{Cycled, broken_at, cycled_at, leaves_numbers, report_at, stamps_at, timeline_at};
 ghost use Rattle.mail_cycle.specs.Leaving.{GoesOn};
+ghost use Rattle.mail_cycle.specs.Permanence.{UidsLast};
 ghost use Rattle.mail_cycle.specs.Places.{items_before, reason_at, shown_at};
-ghost use Rattle.paradox.specs.Kept.{Kept};
+ghost use Rattle.paradox.specs.Kept.{Kept, performed, store_of};
 
 /// What a cycle leaves can be gone on with: the items are well formed, their numbers distinct and below the next one, the
 /// stamps name the mailboxes and are below the next number, and it has risen and is one that an item can have.
@@ -77,4 +78,15 @@ pub fn nothing_asked_changes_nothing()
 pub fn answers_that_are_shown_hold()
     ensures { (s : Kept) (at : ℕ) (ask : CycleAsk) (place : ℕ) → ask.drops ≡ [] → ask.replaces ≡ [] → ask.inserts ≡ [] →
         drop place (answers s.base s.timeline) ≡ map (λ (i : Item). i.shown) (drop place s.timeline) → broken_at s at ask place ≡ [] }
+{}
+
+/// What a client that keeps mail by UID knows lasts: over no step at all, over two that follow one another, over each item
+/// with the next number, and over each cycle (RFC 3501, section 2.3.1.1).
+pub fn uids_last()
+    ensures itself { (s : Kept) → UidsLast s s }
+    ensures followed { (a b c : Kept) → UidsLast a b → UidsLast b c → UidsLast a c }
+    ensures item { (s : Kept) (i : Item) → map (λ (r : BoxId × ℕ). r.0) s.stamps ≡ map (λ (r : BoxId × Mailbox). r.0) (store_of s).boxes → i.number ≡ s.next →
+        UidsLast s (performed s i) }
+    ensures cycle { (s : Kept) (at : ℕ) (ask : CycleAsk) (due : Cycled) → NumbersApart s.timeline → due_anew s at ask ≡ Rewinds due →
+        UidsLast s (after_cycle s ask due) }
 {}

@@ -7,7 +7,8 @@
 //! `showing` lets the broken ones show what they show now, `telling` writes to the users, `notices` makes the notices items,
 //! and `report` what is told of them. `cycle` (in `cycling`) is the three, one after the other. `refused` says why there is no
 //! cycle, and `laws` what holds of every one. In specs/, `Begun` and `Judging` lead up to `Cycles`; `Asking` says what is due to
-//! a request, `Refusing` and `Leaving` what the contract of `cycle` says of its answers.
+//! a request, `Refusing` and `Leaving` what the contract of `cycle` says of its answers, and `Permanence` what a mail client may
+//! rely on that keeps mail by UID.
 //! What carries the crate: `cycle` answers what `due_anew` says, exactly where the timeline has the point and numbers are left.
 #![tactic(auto)]
 

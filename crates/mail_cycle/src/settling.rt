@@ -22,7 +22,7 @@ use paradox::{BrokenList, Renewals, Report};
 use repair_desk::Edited;
 use std::alloc::Global;
 use std::sync::ledger::Ledger;
-use undo_base::{LAST_MOMENT, NoMemory, Numbers};
+use undo_base::{LAST_MOMENT, LAST_NUMBER, NoMemory, Numbers};
 use verb_bytes::CycleAsk;
 use verb_core::{Item, Items, Shown, Stamps};
 
@@ -156,7 +156,7 @@ fn finish(
 ) -> Result<Rewound, NoMemory>
     ensures store { IfOk result (λ made. made.store.store ≡ led.store.store) }
     ensures timeline { IfOk result (λ made. made.timeline ≡ led.timeline) }
-    ensures stamps { IfOk result (λ made. made.stamps ≡ renewed_stamps (store_of before.now).boxes led.store.store.boxes before.now.stamps before.now.next) }
+    ensures stamps { IfOk result (λ made. made.stamps ≡ renewed_stamps (store_of before.now).boxes made.store.store.boxes before.now.stamps before.now.next) }
     ensures next { IfOk result (λ made. made.next ≡ found.next) }
     ensures report { IfOk result (λ made. made.report ≡ record {
       cycle = before.now.next;
@@ -188,6 +188,61 @@ fn finish(
     }
 }
 
+/// Puts all together by what users are told, with the notices performed.
+fn close<L: Ledger>(
+    alloc: Global,
+    before: &Before<'_>,
+    ask: &CycleAsk,
+    place: usize,
+    edited: Edited,
+    replayed: Replayed,
+    told: Told,
+    steps: &mut Steps<L>,
+) -> Result<Rewound, NoMemory>
+    requires numbers { before.now.next + 1 + length ask.now.inserts + length before.now.house.accounts ≤ LAST_NUMBER }
+    requires place { place ≤ length before.now.timeline }
+    requires valid { IsValid replayed.store.store }
+    requires few { length told.numbers ≤ length before.now.house.accounts }
+    requires formed { AllByRecursion (IsWellFormed replayed.store.store.house) told.notices }
+    ensures store { IfOk result (λ made. made.store.store ≡ run replayed.store.store told.notices) }
+    ensures valid { IfOk result (λ made. IsValid made.store.store) }
+    ensures timeline { IfOk result (λ made. made.timeline ≡ shown_after (place + length ask.now.inserts) edited.items (drop (length ask.now.inserts) replayed.shows) ++ told.notices) }
+    ensures stamps { IfOk result (λ made. made.stamps ≡ renewed_stamps (store_of before.now).boxes made.store.store.boxes before.now.stamps before.now.next) }
+    ensures next { IfOk result (λ made. made.next ≡ before.now.next + 1 + length ask.now.inserts + length told.numbers) }
+    ensures report { IfOk result (λ made. made.report ≡ record {
+      cycle = before.now.next;
+      point = ask.now.point;
+      kept = edited.kept;
+      broken = told.broken;
+      notices = told.numbers;
+      renewed = renewed_in before.now.next made.stamps;
+      unmatched = edited.unmatched;
+    }) }
+    ensures steps { IfOk result (λ made. steps.new ≤ steps.old + length told.notices) }
+{
+    let inserts = ask.inserts.len();
+    let front = before.front_with(place, inserts);
+    let found = Found {
+        next: before.next() + 1 + inserts as u32 + told.numbers.len() as u32,
+        kept: edited.kept,
+        broken: told.broken,
+        notices: told.numbers,
+        unmatched: edited.unmatched,
+    };
+    match lead(
+        alloc,
+        front,
+        inserts,
+        edited.items,
+        replayed,
+        told.notices,
+        steps,
+    ) {
+        Ok(led) => finish(alloc, before, ask.point, led, found),
+        Err(NoMemory) => Err(NoMemory),
+    }
+}
+
 /// What the cycle leaves behind a place, from the repaired timeline and the store and the answers that the items behind the
 /// place gave: the broken and the withdrawn items, what the broken ones show, the notices, which are performed, the stamps and
 /// the report. In time that grows as the timeline and the mailboxes.
@@ -212,34 +267,8 @@ pub fn settle<L: Ledger>(
     ensures steps { IfOk result (λ made. steps.new ≤ steps.old + length made.report.notices) }
 {
     before.has_a_house();
-    let Told {
-        broken,
-        notices,
-        numbers,
-    } = tell_users(alloc, before, at, ask, place, replayed.shows.as_slice())?;
-    let Edited {
-        items,
-        kept,
-        unmatched,
-        ..
-    } = edited;
-    let inserts = ask.inserts.len();
-    let next = before.next() + 1 + inserts as u32 + numbers.len() as u32;
-    let found = Found {
-        next,
-        kept,
-        broken,
-        notices: numbers,
-        unmatched,
-    };
-    let led = lead(
-        alloc,
-        before.front_with(place, inserts),
-        inserts,
-        items,
-        replayed,
-        notices,
-        steps,
-    )?;
-    finish(alloc, before, ask.point, led, found)
+    match tell_users(alloc, before, at, ask, place, replayed.shows.as_slice()) {
+        Ok(told) => close(alloc, before, ask, place, edited, replayed, told, steps),
+        Err(NoMemory) => Err(NoMemory),
+    }
 }

@@ -19,9 +19,8 @@ use Rattle.verb_core.specs.Stamps.{opening_stamps}
 use Rattle.verb_core.specs.Items.{text_of}
 use Rattle.shelf.specs.declared.note.Note.{Note}
 use Rattle.shelf.specs.Notes.{size_of}
-use Rattle.paradox.specs.Kept.{Kept, Reports, new_desk, store_of}
+use Rattle.paradox.specs.Kept.{Kept, Reports, kept_from, new_desk, store_of}
 use Rattle.mail_desk.specs.Desk.{IsDesk}
-use Rattle.mail_desk.specs.Held.{kept_from}
 use Rattle.mail_desk.specs.Timeline.{has_text, all_bodies}
 
 -- a run keeps the house

@@ -13,19 +13,12 @@ use Rattle.std.proofs.lemmas.List.Elements.{All-from_recursion, All-push, All-we
 use Rattle.std.proofs.lemmas.List.Sorted.{All-permutation, Contains-permutation, IsNonDecreasingBy-push}
 use Rattle.verb_core.specs.declared.item.Item.{Item}
 use Rattle.verb_core.specs.Items.{NumbersApart}
+use Rattle.verb_core.proofs.Searched.{index_at_most, lower_is}
 use Rattle.mail_desk.specs.Places.{HasPlaces, IsIndex, IsPlaceIn}
 use Rattle.mail_desk.specs.Timeline.{item_of}
 use Rattle.mail_desk.proofs.Timelines.{item_at, none_at}
 
 -- ---- comparing numbers
-
-index_at_most : (o : Ordering) → ordering_index o ≤ 2
-index_at_most Less = search rules
-index_at_most Equal = search rules
-index_at_most Greater = search rules
-
-less_is : (a b : ℕ) → a < b → nat_cmp a b ≡ Less
-less_is a b lt = sym (nat_cmp_is a b Less lt)
 
 -- a lower number compares no higher
 less_compared : (a b n : ℕ) → a < b → ordering_index (nat_cmp a n) ≤ ordering_index (nat_cmp b n)
@@ -36,7 +29,7 @@ less_compared a b n lt =
           let first : nat_cmp a n ≡ Equal = sym (nat_cmp_is a n Equal same) in
           let second : nat_cmp b n ≡ Greater = sym (nat_cmp_is b n Greater more) in
           rw (first, second) (search rules)
-      | inr (inl less) ↦ rw (less_is a n less) (search rules)
+      | inr (inl less) ↦ rw (lower_is a n less) (search rules)
       | inr (inr more) ↦
           let also : n < b = omega arith in
           let second : nat_cmp b n ≡ Greater = sym (nat_cmp_is b n Greater also) in

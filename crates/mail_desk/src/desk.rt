@@ -44,7 +44,8 @@ impl Model for Desk {
     ghost use Rattle.verb_core.specs.Items.{text_of};
     ghost use Rattle.shelf.specs.Notes.{size_of};
     ghost use Rattle.mail_desk.specs.Desk.{IsDesk};
-    ghost use Rattle.mail_desk.specs.Held.{Held, kept_from};
+    ghost use Rattle.mail_desk.specs.Held.{Held};
+    ghost use Rattle.paradox.specs.Kept.{kept_from};
 
     ghost Value = { Held };
 
@@ -264,6 +265,7 @@ impl Desk {
         ensures house_stays { (store_of self.now.kept).house ≡ self.now.kept.house }
         ensures timeline { IsTimeline self.now.kept.house self.now.kept.timeline }
         ensures below { AllByRecursion (λ (i : TheItem). i.number < self.now.kept.next) self.now.kept.timeline }
+        ensures named { map (λ (r : TheBoxId × ℕ). r.0) self.now.kept.stamps ≡ map (λ (r : TheBoxId × TheMailbox). r.0) (store_of self.now.kept).boxes }
         ensures fresh { AllByRecursion (λ (r : TheBoxId × ℕ). r.1 < self.now.kept.next) self.now.kept.stamps }
         ensures next { self.now.kept.next ≤ 4194304 }
         ensures reports { length self.now.kept.reports ≤ self.now.kept.next }

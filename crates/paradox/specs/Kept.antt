@@ -4,6 +4,8 @@ use Rattle.verb_core.specs.declared.conf.Conf.{Conf}
 use Rattle.verb_core.specs.declared.conf.House.{House}
 use Rattle.verb_core.specs.declared.item.Item.{Item}
 use Rattle.verb_core.specs.declared.mailbox.BoxId.{BoxId}
+use Rattle.verb_core.specs.declared.mailbox.Mailbox.{Mailbox}
+use Rattle.verb_core.specs.Boxes.{row_at}
 use Rattle.verb_core.specs.Store.{MailStore, opening}
 use Rattle.verb_core.specs.Step.{run, step}
 use Rattle.verb_core.specs.Stamps.{opening_stamps, stamps_after}
@@ -32,9 +34,29 @@ pub record Kept : Type 0 where
   pub next : ℕ
   pub reports : Reports
 
+-- what is kept where the items began with the opening store of a house and a configuration
+abbrev pub kept_from : House → Conf → List Item → List (BoxId × ℕ) → ℕ → Reports → Kept
+kept_from house conf timeline stamps next reports = record {
+  house = house;
+  opening = conf;
+  base = opening house conf;
+  timeline = timeline;
+  stamps = stamps;
+  next = next;
+  reports = reports;
+}
+
 -- the store that the items in force leave, one after the other
 abbrev pub store_of : Kept → MailStore
 store_of kept = run kept.base kept.timeline
+
+-- the mailbox of a user and name, if there is one
+abbrev pub mailbox_at : Kept → BoxId → Option Mailbox
+mailbox_at kept id = row_at id (store_of kept).boxes
+
+-- its stamp, the UIDVALIDITY (RFC 3501, section 2.3.1.1)
+abbrev pub stamp_at : Kept → BoxId → Option ℕ
+stamp_at kept id = row_at id kept.stamps
 
 -- a store on which nothing was done yet
 abbrev pub new_desk : House → Conf → Kept

@@ -15,7 +15,7 @@ use Rattle.verb_core.proofs.BoxLaws.{exact_boxes}
 use Rattle.verb_core.specs.Deeds.{same_body}
 use Rattle.repair_desk.specs.Renewals.{extends, extends_one, is_old, renewed, same_mail, stamp_after}
 
-both : (p q : Bool) → p ≡ true → q ≡ true → (p && q) ≡ true
+pub both : (p q : Bool) → p ≡ true → q ≡ true → (p && q) ≡ true
 both p q e f = rw (e, f) refl
 
 equal_is : (o : Ordering) → is_eq o ≡ true → o ≡ Equal
@@ -76,7 +76,8 @@ same_number n = grind (arith, nat_tests)
 same_itself : (e : Entry) → same_mail e e ≡ true
 same_itself e = rw (same_number e.uid, same_number e.key.item, same_number e.key.index, same_number e.body.origin, same_number e.body.rev) refl
 
-among : (n : ℕ) (front es : List Entry) → list_all (λ (e : Entry). nat_le n e.uid || list_any (same_mail e) (front ++ es)) es ≡ true
+-- a mailbox's own entries are among them
+pub among : (n : ℕ) (front es : List Entry) → list_all (λ (e : Entry). nat_le n e.uid || list_any (same_mail e) (front ++ es)) es ≡ true
 among n front [] = refl
 among n front (e ∷ es) =
     both (nat_le n e.uid || list_any (same_mail e) (front ++ e ∷ es)) _

@@ -7,3 +7,4 @@ pub mod Uids
 pub mod Stamped
 pub mod Extended
 pub mod Texts
+pub mod Growth

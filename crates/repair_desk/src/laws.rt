@@ -1,4 +1,5 @@
-//! What holds of every repaired timeline, and of stamps after a cycle. These functions do nothing: their contracts are laws of the definitions.
+//! What holds of every repaired timeline, of stamps after a cycle, and of mailboxes after an item. These functions do nothing:
+//! their contracts are laws of the definitions.
 ghost use Rattle.std.specs.Prelude.{◌≡◌, ◌≢◌, ℕ, ◌+◌, ◌<◌, ◌≤◌, ◌==◌, Bool, true, not, ◌&&◌, List, map, take, length, IsTrue, Some};
 ghost use Rattle.std.specs.List.{AllByRecursion, list_any};
 ghost use Rattle.verb_core.specs.declared.conf.House.{House};
@@ -6,8 +7,10 @@ ghost use Rattle.verb_core.specs.declared.item.Item.{Item};
 ghost use Rattle.verb_core.specs.declared.mailbox.Body.{Body};
 ghost use Rattle.verb_core.specs.declared.mailbox.BoxId.{BoxId};
 ghost use Rattle.verb_core.specs.declared.mailbox.Mailbox.{Mailbox};
-ghost use Rattle.verb_core.specs.Boxes.{row_at};
+ghost use Rattle.verb_core.specs.Boxes.{has_row, row_at};
 ghost use Rattle.verb_core.specs.Items.{IsTimeline, NumbersApart, text_of};
+ghost use Rattle.verb_core.specs.Step.{step};
+ghost use Rattle.verb_core.specs.Store.{MailStore};
 ghost use Rattle.verb_bytes.specs.declared.journal.CycleAsk.{CycleAsk};
 ghost use Rattle.repair_desk.specs.Renewals.{extends, extends_one, renewed, stamp_after};
 ghost use Rattle.repair_desk.specs.Repairs.{are_known, dropped, is_among, is_dropped, new_timeline, numbers_of, position, replaced, takes_text};
@@ -66,4 +69,10 @@ pub fn renewed_stamps_name_mailboxes()
 pub fn extending_goes_on()
     ensures itself { (m : Mailbox) → extends m m ≡ true }
     ensures transitive { (a b c : Mailbox) → extends a b ≡ true → extends b c ≡ true → extends a c ≡ true }
+{}
+
+/// A mailbox that was there before an item and is there after it is extended.
+pub fn items_extend_mailboxes()
+    ensures { (s : MailStore) (i : Item) (id : BoxId) (m : Mailbox) → row_at id (step s i).0.boxes ≡ Some m → has_row id s.boxes ≡ true →
+        extends_one (row_at id s.boxes) m ≡ true }
 {}

@@ -4,13 +4,12 @@ use Rattle.verb_core.proofs.Joins.{run_house}
 use Rattle.mail_cycle.proofs.Parts.{notices_formed, settled}
 use Rattle.mail_cycle.proofs.settling.settle.Goals as goal
 
-pub lead-requires-clause-formed : goal.lead-requires-clause-formed
-lead-requires-clause-formed g c =
+pub close-requires-clause-formed : goal.close-requires-clause-formed
+close-requires-clause-formed g c =
     notices_formed c.args.before.now c.args.at c.args.ask.now c.args.place _ _
-    (ap (λ (m : MailStore). m.house) c.requires.store ∙ run_house c.args.before.now.base c.args.edited.items ∙ c.has_a_house.ensures) c.in_ok-broken.ensures.notices
+    (ap (λ (m : MailStore). m.house) c.requires.store ∙ run_house c.args.before.now.base c.args.edited.items ∙ c.has_a_house.ensures) c.in-Ok.ensures.notices
 
-pub returns-clause-made : goal.returns-clause-made
-returns-clause-made g c =
-    settled c.args.before.now c.args.at c.args.ask.now c.args.place c.args.edited _ _ _ _ _ _ _ _ _ _ _ _ c.requires.edited c.requires.store c.requires.shows c.in_ok-broken.ensures.broken
-    c.in_ok-broken.ensures.notices c.in_ok-broken.ensures.numbers c.in_ok-led.ensures.store c.in_ok-led.ensures.valid c.in_ok-led.ensures.timeline c.front_with.ensures c.len-inserts.ensures
-    c.next.ensures.next c.len.ensures c.finish.ensures.store c.finish.ensures.timeline c.finish.ensures.stamps c.finish.ensures.next c.finish.ensures.report
+pub returns-in-Ok-clause-made : goal.returns-in-Ok-clause-made
+returns-in-Ok-clause-made g c =
+    settled c.args.before.now c.args.at c.args.ask.now c.args.place c.args.edited _ _ _ _ _ _ c.requires.edited c.requires.store c.requires.shows c.in-Ok.ensures.broken c.in-Ok.ensures.notices
+    c.in-Ok.ensures.numbers c.close.ensures.store c.close.ensures.valid c.close.ensures.timeline c.close.ensures.stamps c.close.ensures.next c.close.ensures.report

@@ -1,8 +1,7 @@
 use Rattle.std.proofs.Common.{◌∙◌, ap}
 use Rattle.verb_core.specs.Stamps.{opening_stamps}
 use Rattle.verb_core.specs.Store.{opening}
-use Rattle.paradox.specs.Kept.{Kept}
-use Rattle.mail_desk.specs.Held.{kept_from}
+use Rattle.paradox.specs.Kept.{Kept, kept_from}
 use Rattle.mail_desk.proofs.Desks.{new_desk_holds, new_desk_is, nothing_known}
 use Rattle.mail_desk.proofs.desk.begun.Goals as goal
 

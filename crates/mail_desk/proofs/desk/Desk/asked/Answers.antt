@@ -5,8 +5,8 @@ use Rattle.verb_core.specs.Items.{IsWellFormed}
 use Rattle.verb_core.specs.Live.{live}
 use Rattle.verb_core.specs.Store.{MailStore, is_known}
 use Rattle.box_store.specs.Refusing.{IsRefusal}
-use Rattle.mail_desk.specs.Held.{Held, kept_from}
-use Rattle.paradox.specs.Kept.{Kept, store_of}
+use Rattle.mail_desk.specs.Held.{Held}
+use Rattle.paradox.specs.Kept.{Kept, kept_from, store_of}
 use Rattle.mail_desk.proofs.Desks.{house_stays}
 use Rattle.mail_desk.proofs.Readied.{number_asked, number_left}
 use Rattle.mail_desk.proofs.desk.Desk.asked.Goals as goal

@@ -8,8 +8,8 @@ use Rattle.verb_core.specs.Store.{MailStore}
 use Rattle.verb_core.specs.Deeds.{is_notice}
 use Rattle.mail_desk.specs.Counting.{counts_of, messages_in, most}
 use Rattle.mail_desk.specs.declared.counts.Counts.{Counts}
-use Rattle.mail_desk.specs.Held.{Held, kept_from}
-use Rattle.paradox.specs.Kept.{Kept}
+use Rattle.mail_desk.specs.Held.{Held}
+use Rattle.paradox.specs.Kept.{Kept, kept_from}
 use Rattle.mail_desk.proofs.Counted.{messages_named}
 use Rattle.mail_desk.proofs.desk.Desk.counts.Goals as goal
 

@@ -8,8 +8,8 @@ use Rattle.verb_core.specs.Store.{MailStore}
 use Rattle.box_store.specs.Effects.{applied}
 use Rattle.mail_desk.specs.Desk.{IsDesk}
 use Rattle.mail_desk.specs.Entering.{CanEnter}
-use Rattle.mail_desk.specs.Held.{Held, kept_from}
-use Rattle.paradox.specs.Kept.{Kept, performed}
+use Rattle.mail_desk.specs.Held.{Held}
+use Rattle.paradox.specs.Kept.{Kept, kept_from, performed}
 use Rattle.mail_desk.proofs.BodyTexts.{SizesOf, sizes_on}
 use Rattle.mail_desk.proofs.Desks.{house_stays}
 use Rattle.mail_desk.proofs.Going.{desk_goes_on}

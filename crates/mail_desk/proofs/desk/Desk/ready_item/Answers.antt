@@ -11,8 +11,8 @@ use Rattle.shelf.specs.declared.note.Note.{Note}
 use Rattle.shelf.specs.Notes.{size_of}
 use Rattle.mail_desk.specs.Desk.{IsDesk}
 use Rattle.mail_desk.specs.Entering.{CanEnter}
-use Rattle.mail_desk.specs.Held.{Held, kept_from}
-use Rattle.paradox.specs.Kept.{Kept}
+use Rattle.mail_desk.specs.Held.{Held}
+use Rattle.paradox.specs.Kept.{Kept, kept_from}
 use Rattle.mail_desk.proofs.Desks.{house_stays}
 use Rattle.mail_desk.proofs.Readied.{can_enter}
 use Rattle.mail_desk.proofs.desk.Desk.ready_item.Goals as goal

@@ -2,11 +2,11 @@ use Rattle.std.proofs.Common.{◌≡◌, ◌<◌, ◌-◌, length, option_map, s
 use Rattle.verb_core.specs.declared.mailbox.Body.{Body}
 use Rattle.verb_core.specs.Items.{IsTimeline, text_of}
 use Rattle.verb_core.specs.Step.{run}
-use Rattle.paradox.specs.Kept.{Kept, Reports}
+use Rattle.paradox.specs.Kept.{Kept, Reports, kept_from}
 use Rattle.shelf.specs.Notes.{Noted, size_of}
 use Rattle.mail_desk.specs.declared.remake.Remade.{Remade}
 use Rattle.mail_desk.specs.Desk.{IsDesk}
-use Rattle.mail_desk.specs.Held.{Held, kept_from}
+use Rattle.mail_desk.specs.Held.{Held}
 use Rattle.mail_desk.specs.Places.{Placed}
 use Rattle.mail_desk.proofs.Readied.{through}
 use Rattle.mail_desk.proofs.Remades.{can_replace, desk_remade, made_is, some_room, stored_is, with_parts}

@@ -1,10 +1,10 @@
 use Rattle.std.proofs.Common.{◌≡◌, length, option_map, ap, subst, sym, ◌∙◌}
 use Rattle.verb_core.specs.Items.{text_of}
 use Rattle.box_store.specs.Kept.{Kept as StoreHeld}
-use Rattle.paradox.specs.Kept.{Kept}
+use Rattle.paradox.specs.Kept.{Kept, kept_from}
 use Rattle.shelf.specs.Notes.{Noted, size_of}
 use Rattle.mail_desk.specs.Desk.{IsDesk}
-use Rattle.mail_desk.specs.Held.{Held, kept_from}
+use Rattle.mail_desk.specs.Held.{Held}
 use Rattle.mail_desk.specs.Places.{Placed}
 use Rattle.mail_desk.specs.Remaking.{CanReplace, remade_as}
 use Rattle.mail_desk.proofs.desk.Desk.replace.Goals as goal

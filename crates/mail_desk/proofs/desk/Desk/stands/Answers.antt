@@ -1,7 +1,7 @@
 use Rattle.std.proofs.Common.{◌≡◌, subst}
 use Rattle.verb_core.specs.Items.{IsTimeline}
-use Rattle.mail_desk.specs.Held.{Held, kept_from}
-use Rattle.paradox.specs.Kept.{store_of}
+use Rattle.mail_desk.specs.Held.{Held}
+use Rattle.paradox.specs.Kept.{kept_from, store_of}
 use Rattle.mail_desk.proofs.Desks.{house_stays}
 use Rattle.mail_desk.proofs.Timelines.{is_timeline}
 use Rattle.mail_desk.proofs.desk.Desk.stands.Goals as goal

@@ -1,6 +1,7 @@
 use Rattle.std.proofs.Common.{ap, ◌∙◌}
 use Rattle.verb_core.specs.Store.{MailStore}
-use Rattle.mail_desk.specs.Held.{Held, kept_from}
+use Rattle.paradox.specs.Kept.{kept_from}
+use Rattle.mail_desk.specs.Held.{Held}
 use Rattle.mail_desk.proofs.Desks.{house_stays}
 use Rattle.mail_desk.proofs.desk.Desk.store.Goals as goal
 

@@ -1,2 +1,0 @@
-mod Pasts
-mod Standings

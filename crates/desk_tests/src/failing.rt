@@ -1,0 +1,117 @@
+//! Tests of what can't be sealed: it closes the desk, which then does nothing, and what is kept stays.
+use crate::asks::{acted, mailed};
+use crate::cycles::{cycled, tried};
+use crate::desks::{JOURNAL, Kept, keeps, kept, started};
+use std::alloc::Global;
+use std::test::Fail;
+use std::thread::Threads;
+use time_desk::{ActFault, CycleFault, Desk};
+use undo_outside::MemDisk;
+use verb_core::SubmitFault;
+
+/// Whether a cycle is not sealed and closes the desk: one under a new key is not done any more, one under a key that a cycle
+/// had is answered as it was, whatever it asks, and one can be tried.
+fn answers<R: Threads + Sync>(
+    rt: &R,
+    alloc: Global,
+    desk: &mut Desk<MemDisk>,
+) -> Result<bool, Fail> {
+    let failed = cycled(rt, alloc, desk, "two", &[])?;
+    let closed = cycled(rt, alloc, desk, "two", &[])?;
+    let again = cycled(rt, alloc, desk, "one", &[9])?;
+    let tried = tried(rt, alloc, desk, &[])?;
+    Ok(
+        failed == Err(CycleFault::Disk)
+            && closed == Err(CycleFault::Closed)
+            && again == Ok(3)
+            && tried == Ok(5),
+    )
+}
+
+/// Whether all is kept that was.
+fn keeps_all<R: Threads + Sync>(
+    rt: &R,
+    alloc: Global,
+    desk: &mut Desk<MemDisk>,
+    before: &Kept,
+) -> Result<bool, Fail> {
+    let answers = answers(rt, alloc, desk)?;
+    Ok(answers && desk.closed() && desk.next() == 5 && keeps(alloc, desk, before)?)
+}
+
+/// The cycle 3 takes Work away, and its notice to ann is number 4. Then one fails.
+fn closes<R: Threads + Sync>(
+    rt: &R,
+    alloc: Global,
+    desk: &mut Desk<MemDisk>,
+) -> Result<bool, Fail> {
+    let first = cycled(rt, alloc, desk, "one", &[2])?;
+    let before = kept(alloc, desk)?;
+    let closes = keeps_all(rt, alloc, desk, &before);
+    drop(before);
+    let closes = closes?;
+    Ok(closes && first == Ok(3))
+}
+
+/// The same, where this call fails and so many writes are tried.
+fn closes_at<R: Threads + Sync>(
+    rt: &R,
+    alloc: Global,
+    ordinal: u32,
+    writes: usize,
+) -> Result<bool, Fail> {
+    let mut desk = started(alloc, JOURNAL, &[ordinal])?;
+    let closes = closes(rt, alloc, &mut desk);
+    let disk = desk.into_disk();
+    let tried = disk.writes();
+    drop(disk);
+    Ok(closes? && tried == writes)
+}
+
+// Nine calls start the desk, and four seal the first cycle. A cycle is one record: a write, a sync, a write and a sync.
+#[test]
+fn a_failed_cycle_closes_the_desk(rt: HostRuntime) -> Result<(), Fail> {
+    for (ordinal, writes) in [(14, 3), (15, 3), (16, 4), (17, 4)] {
+        assert!(rt; closes_at(&rt, rt.alloc(), ordinal, writes)?);
+    }
+    Ok(())
+}
+
+/// Whether a mail is not sealed, or an act; and then neither is done any more.
+fn is_closed_by(alloc: Global, desk: &mut Desk<MemDisk>, by_mail: bool) -> Result<bool, Fail> {
+    let failed = match by_mail {
+        true => mailed(alloc, desk)? == Err(SubmitFault::Disk),
+        false => acted(alloc, desk)? == Err(ActFault::Disk),
+    };
+    let closed = mailed(alloc, desk)? == Err(SubmitFault::Closed);
+    Ok(failed && closed && acted(alloc, desk)? == Err(ActFault::Closed))
+}
+
+/// Whether that closes the desk, and all is kept that was.
+fn stays(alloc: Global, desk: &mut Desk<MemDisk>, by_mail: bool) -> Result<bool, Fail> {
+    let before = kept(alloc, desk)?;
+    let closed = is_closed_by(alloc, desk, by_mail);
+    let same = keeps(alloc, desk, &before);
+    drop(before);
+    Ok(closed? && same? && desk.closed() && desk.next() == 3)
+}
+
+/// The same, where this call fails and so many writes are tried.
+fn stays_at(alloc: Global, ordinal: u32, by_mail: bool, writes: usize) -> Result<bool, Fail> {
+    let mut desk = started(alloc, JOURNAL, &[ordinal])?;
+    let stays = stays(alloc, &mut desk, by_mail);
+    let disk = desk.into_disk();
+    let tried = disk.writes();
+    drop(disk);
+    Ok(stays? && tried == writes)
+}
+
+// Nine calls start the desk, and a seal is a write, a sync, a write and a sync. A closed desk writes nothing.
+#[test]
+fn a_failed_seal_closes_the_desk(rt: HostRuntime) -> Result<(), Fail> {
+    for (ordinal, writes) in [(10, 1), (11, 1), (12, 2), (13, 2)] {
+        assert!(rt; stays_at(rt.alloc(), ordinal, true, writes)?);
+        assert!(rt; stays_at(rt.alloc(), ordinal, false, writes)?);
+    }
+    Ok(())
+}

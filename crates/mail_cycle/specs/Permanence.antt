@@ -1,0 +1,25 @@
+-- What a mail client may rely on that keeps mail by UID (RFC 3501, section 2.3.1.1): what lasts from one moment of a store to a
+-- later one.
+use Rattle.std.specs.Prelude.{◌≡◌, ℕ, ◌<◌, ◌≤◌, true, List, Some}
+use Rattle.verb_core.specs.declared.mailbox.Body.{Body}
+use Rattle.verb_core.specs.declared.mailbox.BoxId.{BoxId}
+use Rattle.verb_core.specs.declared.mailbox.Mailbox.{Mailbox}
+use Rattle.verb_core.specs.Items.{text_of}
+use Rattle.paradox.specs.Kept.{Kept, mailbox_at, stamp_at}
+use Rattle.repair_desk.specs.Renewals.{extends_one}
+
+-- a mailbox with a stamp that was given before had it then, and extends the one of then
+abbrev pub StampsLast : Kept → Kept → Type 0
+StampsLast old new = (id : BoxId) (stamp : ℕ) (m : Mailbox) → stamp < old.next → stamp_at new id ≡ Some stamp → mailbox_at new id ≡ Some m →
+    (stamp_at old id ≡ Some stamp) × (extends_one (mailbox_at old id) m ≡ true)
+
+-- a body whose number and rev were given before has the text that it had then
+abbrev pub TextsLast : Kept → Kept → Type 0
+TextsLast old new = (body : Body) (text : List ℕ) → body.origin < old.next → body.rev < old.next → text_of new.timeline body ≡ Some text →
+    text_of old.timeline body ≡ Some text
+
+-- the next number has not fallen, and stamps and texts last
+pub record UidsLast (old new : Kept) : Type 0 where
+  pub next : old.next ≤ new.next
+  pub stamps : StampsLast old new
+  pub texts : TextsLast old new

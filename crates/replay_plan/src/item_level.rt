@@ -1,0 +1,44 @@
+//! The level of an item behind items that have theirs.
+ghost use Rattle.std.specs.Prelude.{◌≡◌, ◌≤◌, ◌<◌, ◌^◌, ◌&&◌, ◌||◌, ◌==◌, not, nat_lt, length, zip};
+ghost use Rattle.touch_rules.specs.Commuting.{are_independent, commute};
+ghost use Rattle.replay_plan.specs.Placing.{may_have, level_behind};
+
+use touch_rules::{TouchSet, commutes, independent};
+
+/// Whether an item may have a level behind one that has its own.
+fn fits_behind(earlier: &TouchSet, placed: u32, touches: &TouchSet, level: u32) -> bool
+    ensures { result ≡ ((commute earlier.now touches.now || nat_lt placed level) && (are_independent earlier.now touches.now || not (placed == level))) }
+{
+    (commutes(earlier, touches) || placed < level)
+        && (independent(earlier, touches) || placed != level)
+}
+
+/// Whether an item may have a level behind all that have theirs.
+fn may_stand(all: &[TouchSet], levels: &[u32], touches: &TouchSet, level: u32) -> bool
+    requires { length levels.now ≤ length all.now }
+    ensures { result ≡ may_have (zip all.now levels.now) touches.now level }
+{
+    for place in 0..levels.len() {
+        if !fits_behind(&all[place], levels[place], touches, level) {
+            return false;
+        }
+    }
+    true
+}
+
+/// The level of an item behind all that have theirs.
+pub(crate) fn level_of(all: &[TouchSet], levels: &[u32], touches: &TouchSet) -> u32
+    requires many { length levels.now < 4294967295 }
+    requires enough { length levels.now ≤ length all.now }
+    ensures { result ≡ level_behind (zip all.now levels.now) touches.now }
+{
+    let behind = levels.len() as u32 + 1;
+    let mut level: u32 = 1;
+    while level < behind {
+        if may_stand(all, levels, touches, level) {
+            return level;
+        }
+        level += 1;
+    }
+    behind
+}

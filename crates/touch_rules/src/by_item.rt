@@ -1,0 +1,282 @@
+//! The touches of an item whose aims are known.
+ghost use Rattle.std.specs.Prelude.{◌≡◌, [], ◌∷◌, ◌++◌, map, is_some, true, false, IfOk};
+ghost use Rattle.verb_core.specs.declared.item.Deed.TheVariants.{Act as Acts};
+ghost use Rattle.verb_core.specs.declared.item.Act.TheVariants.{DropAlias};
+ghost use Rattle.verb_core.specs.Names.{lost_found};
+ghost use Rattle.verb_core.specs.Items.{actor, is_own};
+ghost use Rattle.touch_rules.specs.declared.touched.Touch.TheVariants.{Keys as OnKeys, Whole, Names as OnNames};
+ghost use Rattle.touch_rules.specs.Table.{tail_on, looked_for, arrivals, act_row, table_row, touches_of};
+
+use crate::{Touch, TouchSet};
+use std::alloc::Global;
+use undo_base::{Copies, Key, Keys, Name, NoMemory, Sequence, User};
+use verb_core::{Act, Aim, Deed, Item, Resolved};
+
+/// Who acts, and where nobody does, user 0, whom every house has.
+fn who_acts(by: Option<User>) -> User
+    ensures { result ≡ actor by (Acts (DropAlias [])) }
+{
+    by.unwrap_or(User(0))
+}
+
+fn act_actor(by: Option<User>, act: &Act) -> User
+    ensures { result ≡ actor by (Acts act.now) }
+{
+    match act {
+        Act::Remove { user, .. } => *user,
+        Act::Give { user, .. } => *user,
+        Act::SetAlias { .. } => who_acts(by),
+        Act::DropAlias { .. } => who_acts(by),
+        Act::SetFilter(_) => who_acts(by),
+        Act::DropFilter { .. } => who_acts(by),
+    }
+}
+
+/// Whose mailboxes an item acts on.
+fn actor_of(item: &Item) -> User
+    ensures { result ≡ actor item.now.by item.now.deed }
+{
+    match &item.deed {
+        Deed::Act(act) => act_actor(item.by, act),
+        Deed::Notice { user, .. } => *user,
+        _ => who_acts(item.by),
+    }
+}
+
+fn lost_found_name(alloc: Global) -> Result<Name, NoMemory>
+    ensures { IfOk result (λ name. name ≡ lost_found) }
+{
+    match Name::read(alloc, b"Lost+Found") {
+        Ok(name) => Ok(name),
+        Err(_) => Err(NoMemory),
+    }
+}
+
+// ---- single touches
+
+fn tail(alloc: Global, aim: &Aim, number: u32) -> Result<Touch, NoMemory>
+    ensures { IfOk result (λ touch. touch ≡ tail_on number aim.now) }
+{
+    let mailbox = aim.mailbox.copy(alloc)?;
+    Ok(Touch::Tail {
+        user: aim.user,
+        mailbox,
+        number,
+    })
+}
+
+fn whole(alloc: Global, user: User, mailbox: &Name, writes: bool) -> Result<Touch, NoMemory>
+    ensures { IfOk result (λ touch. touch ≡ Whole user mailbox.now writes) }
+{
+    let mailbox = mailbox.copy(alloc)?;
+    Ok(Touch::Whole {
+        user,
+        mailbox,
+        writes,
+    })
+}
+
+fn on_keys(
+    alloc: Global,
+    user: User,
+    mailbox: &Name,
+    keys: &Keys,
+    writes: bool,
+) -> Result<Touch, NoMemory>
+    ensures { IfOk result (λ touch. touch ≡ OnKeys user mailbox.now keys.now writes) }
+{
+    let mailbox = mailbox.copy(alloc)?;
+    let keys = keys.copy(alloc)?;
+    Ok(Touch::Keys {
+        user,
+        mailbox,
+        keys,
+        writes,
+    })
+}
+
+// ---- sets of touches
+
+fn one(alloc: Global, touch: Touch) -> Result<TouchSet, NoMemory>
+    ensures { IfOk result (λ set. set ≡ touch ∷ []) }
+{
+    let mut set = Sequence::new(alloc);
+    set.push(touch)?;
+    Ok(set)
+}
+
+fn with(mut set: TouchSet, touch: Touch) -> Result<TouchSet, NoMemory>
+    ensures { IfOk result (λ all. all ≡ set ++ touch ∷ []) }
+{
+    set.push(touch)?;
+    Ok(set)
+}
+
+fn with_tails(alloc: Global, set: TouchSet, aims: &[Aim], number: u32) -> Result<TouchSet, NoMemory>
+    ensures { IfOk result (λ all. all ≡ set ++ map (tail_on number) aims.now) }
+{
+    let mut all = set;
+    for aim in aims {
+        let touch = tail(alloc, aim, number)?;
+        all.push(touch)?;
+    }
+    Ok(all)
+}
+
+fn with_misses(alloc: Global, set: TouchSet, missed: &[Aim]) -> Result<TouchSet, NoMemory>
+    ensures { IfOk result (λ all. all ≡ set ++ map looked_for missed.now) }
+{
+    let mut all = set;
+    for aim in missed {
+        let touch = whole(alloc, aim.user, &aim.mailbox, false)?;
+        all.push(touch)?;
+    }
+    Ok(all)
+}
+
+/// With where the item's new mail goes, and where it looked in vain.
+fn with_arrivals(alloc: Global, set: TouchSet, what: &Resolved) -> Result<TouchSet, NoMemory>
+    ensures { IfOk result (λ all. all ≡ set ++ arrivals what.now) }
+{
+    let tails = with_tails(alloc, set, what.aims.as_slice(), what.item.number)?;
+    with_misses(alloc, tails, what.missed.as_slice())
+}
+
+fn arriving(alloc: Global, what: &Resolved) -> Result<TouchSet, NoMemory>
+    ensures { IfOk result (λ set. set ≡ arrivals what.now) }
+{
+    with_arrivals(alloc, Sequence::new(alloc), what)
+}
+
+fn messages(
+    alloc: Global,
+    user: User,
+    mailbox: &Name,
+    keys: &Keys,
+    writes: bool,
+) -> Result<TouchSet, NoMemory>
+    ensures { IfOk result (λ set. set ≡ OnKeys user mailbox.now keys.now writes ∷ []) }
+{
+    let touch = on_keys(alloc, user, mailbox, keys, writes)?;
+    one(alloc, touch)
+}
+
+fn message(alloc: Global, user: User, mailbox: &Name, key: Key) -> Result<TouchSet, NoMemory>
+    ensures { IfOk result (λ set. set ≡ OnKeys user mailbox.now (key ∷ []) true ∷ []) }
+{
+    let mut keys = Sequence::new(alloc);
+    keys.push(key)?;
+    messages(alloc, user, mailbox, &keys, true)
+}
+
+fn copied(
+    alloc: Global,
+    user: User,
+    mailbox: &Name,
+    keys: &Keys,
+    what: &Resolved,
+) -> Result<TouchSet, NoMemory>
+    ensures { IfOk result (λ set. set ≡ OnKeys user mailbox.now keys.now false ∷ arrivals what.now) }
+{
+    let source = messages(alloc, user, mailbox, keys, false)?;
+    with_arrivals(alloc, source, what)
+}
+
+fn looked_at(alloc: Global, user: User, mailbox: &Name) -> Result<TouchSet, NoMemory>
+    ensures { IfOk result (λ set. set ≡ Whole user mailbox.now false ∷ []) }
+{
+    let touch = whole(alloc, user, mailbox, false)?;
+    one(alloc, touch)
+}
+
+fn listed(alloc: Global, user: User) -> Result<TouchSet, NoMemory>
+    ensures { IfOk result (λ set. set ≡ OnNames user false ∷ []) }
+{
+    one(
+        alloc,
+        Touch::Names {
+            user,
+            writes: false,
+        },
+    )
+}
+
+fn created(alloc: Global, user: User, mailbox: &Name) -> Result<TouchSet, NoMemory>
+    ensures { IfOk result (λ set. set ≡ Whole user mailbox.now true ∷ OnNames user true ∷ []) }
+{
+    let touch = whole(alloc, user, mailbox, true)?;
+    let set = one(alloc, touch)?;
+    with(set, Touch::Names { user, writes: true })
+}
+
+fn renamed(alloc: Global, user: User, mailbox: &Name, target: &Name) -> Result<TouchSet, NoMemory>
+    ensures { IfOk result (λ set. set ≡ Whole user mailbox.now true ∷ Whole user target.now true ∷ OnNames user true ∷ []) }
+{
+    let touch = whole(alloc, user, mailbox, true)?;
+    let set = one(alloc, touch)?;
+    let other = whole(alloc, user, target, true)?;
+    let set = with(set, other)?;
+    with(set, Touch::Names { user, writes: true })
+}
+
+fn deleted(alloc: Global, user: User, mailbox: &Name) -> Result<TouchSet, NoMemory>
+    ensures { IfOk result (λ set. set ≡ Whole user mailbox.now true ∷ Whole user lost_found true ∷ OnNames user true ∷ []) }
+{
+    let lost = lost_found_name(alloc)?;
+    renamed(alloc, user, mailbox, &lost)
+}
+
+// ---- the table
+
+fn act_touches(alloc: Global, act: &Act, what: &Resolved) -> Result<TouchSet, NoMemory>
+    ensures { IfOk result (λ set. set ≡ act_row (arrivals what.now) act.now) }
+{
+    match act {
+        Act::Remove { user, mailbox, key } => message(alloc, *user, mailbox, *key),
+        Act::Give { .. } => arriving(alloc, what),
+        Act::SetAlias { .. } => Ok(Sequence::new(alloc)),
+        Act::DropAlias { .. } => Ok(Sequence::new(alloc)),
+        Act::SetFilter(_) => Ok(Sequence::new(alloc)),
+        Act::DropFilter { .. } => Ok(Sequence::new(alloc)),
+    }
+}
+
+fn row_touches(
+    alloc: Global,
+    user: User,
+    deed: &Deed,
+    what: &Resolved,
+) -> Result<TouchSet, NoMemory>
+    ensures { IfOk result (λ set. set ≡ table_row user (arrivals what.now) deed.now) }
+{
+    match deed {
+        Deed::Deliver { .. } => arriving(alloc, what),
+        Deed::Append { .. } => arriving(alloc, what),
+        Deed::Notice { .. } => arriving(alloc, what),
+        Deed::Act(act) => act_touches(alloc, act, what),
+        Deed::Fetch {
+            mailbox,
+            keys,
+            sets_seen,
+            ..
+        } => messages(alloc, user, mailbox, keys, *sets_seen),
+        Deed::Store { mailbox, keys, .. } => messages(alloc, user, mailbox, keys, true),
+        Deed::Expunge { mailbox, keys } => messages(alloc, user, mailbox, keys, true),
+        Deed::Close { mailbox, keys } => messages(alloc, user, mailbox, keys, true),
+        Deed::Copy { mailbox, keys, .. } => copied(alloc, user, mailbox, keys, what),
+        Deed::Status { mailbox } => looked_at(alloc, user, mailbox),
+        Deed::Select { mailbox } => looked_at(alloc, user, mailbox),
+        Deed::List { .. } => listed(alloc, user),
+        Deed::Create { mailbox } => created(alloc, user, mailbox),
+        Deed::Rename { mailbox, target } => renamed(alloc, user, mailbox, target),
+        Deed::Delete { mailbox, .. } => deleted(alloc, user, mailbox),
+    }
+}
+
+/// What an item touches, its aims being those found on the store of its turn.
+pub fn touches(alloc: Global, what: &Resolved) -> Result<TouchSet, NoMemory>
+    requires { is_some what.now.item.by ≡ is_own what.now.item.deed }
+    ensures { IfOk result (λ set. set ≡ touches_of what.now) }
+{
+    row_touches(alloc, actor_of(&what.item), &what.item.deed, what)
+}
