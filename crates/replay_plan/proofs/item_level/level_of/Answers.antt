@@ -1,6 +1,6 @@
-use Rattle.std.proofs.Common.{◌≡◌, ◌∙◌, ◌+◌, ◌-◌, ℕ, ap, sym, arith, length, zip}
+use Rattle.std.proofs.Common.{◌≡◌, ◌∙◌, ◌+◌, ◌-◌, ap, sym, arith, length, zip}
 use Rattle.replay_plan.specs.Placing.{may_have, least_from}
-use Rattle.replay_plan.proofs.Least.{long_zip, tried, found}
+use Rattle.replay_plan.proofs.Least.{long_zip, tried}
 use Rattle.replay_plan.proofs.item_level.level_of.Goals as goal
 
 pub loop-level-init : goal.loop-level-init
