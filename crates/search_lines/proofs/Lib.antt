@@ -1,0 +1,5 @@
+mod Arguments
+mod Held
+mod Searches
+mod Turns
+mod Rows

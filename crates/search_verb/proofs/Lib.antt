@@ -1,0 +1,6 @@
+pub mod Cutting
+pub mod Grouping
+pub mod Behind
+pub mod Finding
+pub mod Rows
+pub mod Parts

@@ -1,0 +1,22 @@
+//! SEARCH: which messages a key matches (RFC 3501, section 6.4.4).
+//!
+//! `keys` has the keys and `candidate` what is known of a message; `lines` and `fields` cut the header of a text, `occurs` finds a
+//! string in bytes, and `matching` puts them together. What carries the crate: `matches` answers `does_match`, and `looks` answers
+//! `looked_at`, both with no memory and no refusal.
+#![tactic(auto)]
+
+mod building;
+mod candidate;
+mod copying;
+mod fields;
+mod keys;
+mod laws;
+mod lines;
+mod matching;
+mod occurs;
+
+pub use building::{Search, Searches};
+pub use candidate::{Candidate, Look};
+pub use keys::{Bytes, SearchKey, SearchKeys, SearchRange, SearchRanges};
+pub use laws::strings_occur_as_parts;
+pub use matching::{looks, matches};
