@@ -11,6 +11,7 @@ from xml.sax.saxutils import escape
 
 TOP = os.path.dirname(os.path.dirname(os.path.abspath(__file__)))
 PAGE, DRAWING, CRATES = (os.path.join(TOP, *path) for path in (('docs', 'MAP.md'), ('docs', 'map.svg'), ('crates.txt',)))
+PROGRAM = 'undomail'   # all others that no crate uses are tests: they are grey
 BEGINS, ENDS = '<!-- layers, by bench/map.py -->\n', '<!-- end of the layers -->'
 WIDE, HIGH, ACROSS, DOWN, LEFT = 118, 26, 128, 78, 40   # a box, and the distance from one to the next
 
@@ -65,7 +66,7 @@ def places(uses, layer, lines):
     return at, widest
 
 def drawing(uses):
-    layer, lines = layers(uses), straight(uses)
+    layer, lines, under = layers(uses), straight(uses), set().union(*uses.values())
     at, widest = places(uses, layer, lines)
     highest = max(layer.values())
     x, y = (lambda name: LEFT + 10 + at[name] * ACROSS), (lambda name: 10 + (highest - layer[name]) * DOWN)
@@ -73,7 +74,7 @@ def drawing(uses):
               for name in uses for it in lines[name]]
     for n in range(1, highest + 1): shapes.append(f'<text x="8" y="{10 + (highest - n) * DOWN + 17}">{n}</text>')
     for name in uses:
-        shapes.append(f'<rect x="{x(name):.0f}" y="{y(name)}" width="{WIDE}" height="{HIGH}" rx="4" class="{"tests" if name.endswith("_tests") else "crate"}"/>')
+        shapes.append(f'<rect x="{x(name):.0f}" y="{y(name)}" width="{WIDE}" height="{HIGH}" rx="4" class="{"crate" if name in under or name == PROGRAM else "tests"}"/>')
         shapes.append(f'<text x="{x(name) + WIDE / 2:.0f}" y="{y(name) + 17}" text-anchor="middle">{escape(name)}</text>')
     style = 'text{font:13px sans-serif;fill:#1c2430}path{fill:none;stroke:#8b94a3;stroke-width:1}.crate{fill:#e4f0ff;stroke:#0b57a4}.tests{fill:#f3f5f8;stroke:#8b94a3}'
     size = f'width="{LEFT + 20 + widest * ACROSS}" height="{highest * DOWN}"'

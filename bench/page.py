@@ -84,7 +84,7 @@ class Browser:
         return [it for it in self.events if it.get('method') in ('Runtime.exceptionThrown', 'Page.javascriptDialogOpening') or (it.get('method') == 'Log.entryAdded' and it['params']['entry']['level'] == 'error')]
 
 REPORT = 'document.getElementById("report").innerText'
-READ = 'store.counts && store.items.length === store.counts.items && document.querySelectorAll("#rows tr").length'
+READ = 'store.counts && store.items.length === store.counts.items && !document.getElementById("find").disabled && document.querySelectorAll("#rows tr").length'
 
 def opened(browser, page):
     browser.leave()

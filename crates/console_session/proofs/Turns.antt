@@ -36,7 +36,7 @@ use Rattle.console_http.specs.Routes.{Choice, route_of}
 use Rattle.console_replies.specs.Bodies.{number_data, numbers_data, point_data}
 use Rattle.console_replies.specs.Reports.{report_data}
 use Rattle.console_session.specs.declared.reply.After.{After}
-use Rattle.console_session.specs.declared.reply.After.TheVariants.{Closes, Rewinds}
+use Rattle.console_session.specs.declared.reply.After.TheVariants.{Closes, Rewinds, Waits}
 use Rattle.console_session.specs.declared.reply.Reply.{Reply}
 use Rattle.console_session.specs.Answers.{Answer, answer, answer_text, plan_answer, planned, refused, told_plainly}
 use Rattle.console_session.specs.Turn.{Turn, chosen, cycled, done, failed, numbered, numberless, rewound, tells, tried, turn}
@@ -170,6 +170,12 @@ module _ {D : Type 0} (told : D → DiskTold) where
       → Tells (refused why) Closes r → Serves told at asked old old r
   serves_refusal still at asked why old r e says =
       subst (λ (v : Result Asked HttpRefused). Serves told at v old old r) (sym e) (serves_told still at (Err why) (refused why) Closes old old r refl (λ h. refl) says)
+
+  -- bytes that are not yet a request
+  pub serves_waiting : Still → (at : ℕ) (asked : Result Asked HttpRefused) (yet : Asked) (old : Lasting D) (r : Reply) → asked ≡ Ok yet → yet ≡ NotYet → r ≡ reply [] Waits → Serves told at asked old old r
+  serves_waiting still at asked yet old r e f says =
+      subst (λ (v : Result Asked HttpRefused). Serves told at v old old r) (sym (e ∙ ap (λ (y : Asked). Ok y) f))
+      (record { hindrance = Clear; turn_is = same_turn still [] Waits old old r refl says; still = λ e. refl })
 
   -- ---- turns that seal a record
 

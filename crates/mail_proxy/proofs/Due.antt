@@ -26,6 +26,7 @@ use Rattle.command_words.specs.Usage.{command_of}
 use Rattle.mail_proxy.specs.Answers.{Answers, Does, Shows, first_fault, status_after}
 use Rattle.mail_proxy.specs.Causes.{IsBadText, IsBadFor, IsBadScript, uses_text}
 use Rattle.mail_proxy.specs.Due.{IsDue, IsDueFor, IsDueInit, IsDueStore, IsHindered}
+use Rattle.mail_proxy.specs.Growing.{GrowsBy, TellsGrown}
 use Rattle.mail_proxy.specs.Init.{Configures, Inits, made_status}
 use Rattle.mail_proxy.specs.Lines.{too_long, usage}
 use Rattle.mail_proxy.specs.Opening.{OpensNone}
@@ -33,22 +34,14 @@ use Rattle.mail_proxy.specs.Check.{Checks, TellsCounts}
 use Rattle.mail_proxy.specs.Script.{Played, Plays, PlaysScript, PlaysText, RunsScript, Scripts, Tells, status_of}
 use Rattle.mail_proxy.specs.Serve.{ServesStore}
 use Rattle.mail_proxy.specs.Texts.{End, ending, FromText, IsText}
-use Rattle.mail_proxy.proofs.Causes.{fault_stays, opened_as}
+use Rattle.mail_proxy.proofs.Causes.{fault_stays, opened_as, opened_some}
 
 -- a text that is told is that text
 the_text : (told : Option (List ℕ)) (known text : List ℕ) → told ≡ Some known → IsText told text → text ≡ known
 the_text None known text e is = cc
 the_text (Some x) known text e is = cc
 
--- a disk without a byte is not opened
-opened_some : (old new : DiskTold) (x : Kept × ℕ) → Starts old new (Ok x) → old.size ≡ 0 → ⊥
-opened_some old new x starts empty = by_fault (starts.empty empty)
-  where
-    by_fault : IsErrOf {T = Kept × ℕ} (Ok x) start.NotFormatted ⊎ IsErrOf {T = Kept × ℕ} (Ok x) start.Disk → ⊥
-    by_fault (inl e) = let wrong : ◌≡◌ {A = Result (Kept × ℕ) StartFault} (Ok x) (Err start.NotFormatted) = e in cc
-    by_fault (inr e) = let wrong : ◌≡◌ {A = Result (Kept × ℕ) StartFault} (Ok x) (Err start.Disk) = e in cc
-
--- nor is it damaged
+-- a disk without a byte is not damaged
 undamaged : (old new : DiskTold) (place : ℕ) → Starts old new (Err (start.Damaged place)) → old.size ≡ 0 → ⊥
 undamaged old new place starts empty = by_fault (starts.empty empty)
   where
@@ -179,6 +172,17 @@ module _ {D : Type 0} (told : D → DiskTold) (disk : D) (end : End D) (text tex
   served (Err serve.NoMemory) first events notes steps last played (inl (eight, is)) due = starved eight
   served (Err serve.NoMemory) first events notes steps last played (inr (eight, is)) due = starved eight
 
+  due_grow : (rounds : ℕ) → GrowsBy rounds disk end → k ≡ 0 → (s ≡ k) ⊎ IsHindered s
+  due_grow rounds ((outcome, notes, steps, last, played, no_fault, tells), disk_is) due = by_outcome outcome refl tells
+    where
+      by_outcome : (o : Result (Unit {0}) ServeFault) → outcome ≡ o → TellsGrown rounds o last end.status end.output → (s ≡ k) ⊎ IsHindered s
+      by_outcome (Ok x) e (inl (zero, is)) = well zero due
+      by_outcome (Ok x) e (inr (eight, is)) = starved eight
+      by_outcome (Err serve.Link) e tells = absurd (played.no_link_fault e)
+      by_outcome (Err serve.Disk) e tells = absurd (no_fault e)
+      by_outcome (Err serve.Turns) e (seven, is) = inr (by_events (stays 7 seven (λ z. omega arith)))
+      by_outcome (Err serve.NoMemory) e (eight, is) = starved eight
+
   due_play : (known : List ℕ) → text.left ≡ Some known → nat_lt 67108864 (length known) ≡ false → IsDueFor (Some Play) known (told disk) k → Plays text text' disk end
       → (s ≡ k) ⊎ IsHindered s
   due_play known is short (events, script, due) plays =
@@ -272,10 +276,10 @@ module _ {D : Type 0} (told : D → DiskTold) (disk : D) (end : End D) (text tex
     by_command (Some Play) (inr (inl (t, line, is, bad, two))) does = bad_play t line is bad two does
     by_command (Some Play) (inr (inr (inl (t, is, short, due)))) does = due_play t is short due does
     by_command (Some Play) (inr (inr (inr due))) does = absurd due
-    by_command (Some (Grow n)) (inl (not_built, one)) (same, e) = inl (stays 1 (status_of_end 1 usage disk e) (λ z. omega arith) ∙ sym one)
+    by_command (Some (Grow n)) (inl (not_built, one)) does = absurd (let wrong : true ≡ false = not_built in cc)
     by_command (Some (Grow n)) (inr (inl (t, line, is, bad, two))) does = absurd (bad_none (Some (Grow n)) t line refl (λ u e. e) bad)
     by_command (Some (Grow n)) (inr (inr (inl (t, is, short, due)))) does = absurd due
-    by_command (Some (Grow n)) (inr (inr (inr due))) does = absurd due
+    by_command (Some (Grow n)) (inr (inr (inr due))) (same, grows) = due_grow n grows due
     by_command (Some Check) (inl (not_built, one)) does = absurd (let wrong : true ≡ false = not_built in cc)
     by_command (Some Check) (inr (inl (t, line, is, bad, two))) does = absurd (bad_none (Some Check) t line refl (λ u e. e) bad)
     by_command (Some Check) (inr (inr (inl (t, is, short, due)))) does = absurd due

@@ -12,6 +12,7 @@ use Rattle.mail_proxy.specs.Reading.{WritesAll}
 use Rattle.mail_proxy.specs.Texts.{End, ending}
 use Rattle.mail_proxy.specs.Init.{Inits}
 use Rattle.mail_proxy.specs.Check.{Checks}
+use Rattle.mail_proxy.specs.Growing.{GrowsBy}
 use Rattle.mail_proxy.specs.Script.{Plays, Scripts}
 use Rattle.mail_proxy.specs.Serve.{ServesStore}
 
@@ -20,14 +21,14 @@ abbrev pub Unused : {D : Type 0} → ℕ → List ℕ → SourceTold → SourceT
 Unused status output old new disk end = (new ≡ old) × (end ≡ ending status output disk)
 
 module _ {D : Type 0} (told : D → DiskTold) where
-  -- What a command comes to. `grow` is not built yet, and is answered as words of no stated shape.
+  -- what a command comes to
   abbrev pub Does : Option Command → SourceTold → SourceTold → LinkTold → LinkTold → D → End D → Type 0
   Does None old new link link' disk end = Unused 1 usage old new disk end
   Does (Some Init) old new link link' disk end = Inits told old new disk end
   Does (Some (Serve smtp imap http)) old new link link' disk end = (new ≡ old) × ServesStore told link link' disk end
   Does (Some Script) old new link link' disk end = Scripts told old new disk end
   Does (Some Play) old new link link' disk end = Plays old new disk end
-  Does (Some (Grow rounds)) old new link link' disk end = Unused 1 usage old new disk end
+  Does (Some (Grow rounds)) old new link link' disk end = (new ≡ old) × GrowsBy rounds disk end
   Does (Some Check) old new link link' disk end = (new ≡ old) × Checks told disk end
 
   -- what the words come to, unless no memory is found for reading them

@@ -1,17 +1,22 @@
 -- When each status of `run` comes, and what is written then.
-use Rattle.std.specs.Prelude.{◌≡◌, ◌≢◌, ◌≤◌, ◌⊎◌, ℕ, ◌^◌, Bool, true, false, List, [], ◌++◌, length, MatchBool, nat_lt, Option, None, Some, Result, Ok, Err}
+use Rattle.std.specs.Prelude.{◌≡◌, ◌≢◌, ◌≤◌, ◌⊎◌, ℕ, ◌^◌, Bool, true, false, List, [], ◌++◌, length, MatchBool, nat_lt, Option, None, Some, is_some, Result, Ok, Err}
 use Rattle.undo_outside.specs.declared.event.Event.{Event}
 use Rattle.undo_outside.specs.declared.event.LinkNote.{LinkNote}
 use Rattle.undo_outside.specs.Calls.{LinkTold, SourceTold, SinkTold}
-use Rattle.undo_outside.specs.Disk.{DiskTold, ReadFailed, WriteFailed}
+use Rattle.undo_outside.specs.Disk.{DiskTold, WriteFailed}
 use Rattle.seal_log.specs.Loading.{IsNotFormatted}
 use Rattle.paradox.specs.Kept.{Kept}
+use Rattle.verb_core.specs.declared.conf.Conf.{Conf}
+use Rattle.verb_core.specs.declared.conf.House.{House}
 use Rattle.mail_loop.specs.declared.serve.ServeFault.{ServeFault}
 use Rattle.mail_loop.specs.declared.serve.ServeFault.TheVariants.{Link, Disk, Turns, NoMemory}
 use Rattle.mail_loop.specs.Serving.{Step, CountsFaults, ServedOver}
 use Rattle.script_link.specs.Script.{script_of}
 use Rattle.script_link.specs.Transcript.{transcript_of}
-use Rattle.time_desk.specs.Opening.{IsDamaged, OpensAs}
+use Rattle.time_desk.specs.declared.fault.MakeFault.TheVariants as make
+use Rattle.time_desk.specs.declared.fault.StartFault.TheVariants as start
+use Rattle.time_desk.specs.Making.{Makes}
+use Rattle.time_desk.specs.Opening.{IsDamaged, OpensAs, Starts}
 use Rattle.command_words.specs.declared.commands.Command.{Command}
 use Rattle.command_words.specs.declared.commands.Command.TheVariants.{Init, Serve, Script, Play, Grow, Check}
 use Rattle.mail_proxy.specs.Init.{IsNoConfig}
@@ -28,16 +33,6 @@ pub record Outside : Type 1 where
   pub out : SinkTold
 
 -- ---- the commands
-
--- the commands that are built
-abbrev pub is_built : Option Command → Bool
-is_built None = false
-is_built (Some Init) = true
-is_built (Some (Serve smtp imap http)) = true
-is_built (Some Script) = true
-is_built (Some Play) = true
-is_built (Some (Grow rounds)) = false
-is_built (Some Check) = true
 
 -- those that read a script
 abbrev pub takes_script : Option Command → Bool
@@ -69,6 +64,16 @@ uses_disk (Some Play) = false
 uses_disk (Some (Grow rounds)) = false
 uses_disk (Some Check) = true
 
+-- those that serve events over the disk, and so write to it
+abbrev pub serves : Option Command → Bool
+serves None = false
+serves (Some Init) = false
+serves (Some (Serve smtp imap http)) = true
+serves (Some Script) = true
+serves (Some Play) = false
+serves (Some (Grow rounds)) = false
+serves (Some Check) = false
+
 -- those that use the link
 abbrev pub uses_link : Option Command → Bool
 uses_link None = false
@@ -96,7 +101,7 @@ writes_more (Some Init) = false
 writes_more (Some (Serve smtp imap http)) = false
 writes_more (Some Script) = true
 writes_more (Some Play) = true
-writes_more (Some (Grow rounds)) = false
+writes_more (Some (Grow rounds)) = true
 writes_more (Some Check) = true
 
 -- ---- causes
@@ -136,15 +141,23 @@ pub record IsScript (told : Option (List ℕ)) (events : List Event) : Type 0 wh
   pub short : nat_lt 67108864 (length text) ≡ false
   pub events_are : script_of text ≡ Ok events
 
--- What the desk keeps when serving begins: for `play` what its own house begins with, else what an honest disk opens as.
+-- the disk is not empty, and an honest one opens as this
+abbrev pub IsOpened : DiskTold → Kept → Type 0
+IsOpened disk first = (disk.size ≢ 0) × (disk.honest → OpensAs disk.content (Ok first))
+
+-- What the desk keeps at first: for `play` and `grow` what their own house begins with, else what the disk opens as.
 abbrev pub IsFirst : Option Command → DiskTold → Kept → Type 0
 IsFirst None disk first = ⊥
 IsFirst (Some Init) disk first = ⊥
-IsFirst (Some (Serve smtp imap http)) disk first = disk.honest → OpensAs disk.content (Ok first)
-IsFirst (Some Script) disk first = disk.honest → OpensAs disk.content (Ok first)
+IsFirst (Some (Serve smtp imap http)) disk first = IsOpened disk first
+IsFirst (Some Script) disk first = IsOpened disk first
 IsFirst (Some Play) disk first = first ≡ opening
-IsFirst (Some (Grow rounds)) disk first = ⊥
-IsFirst (Some Check) disk first = ⊥
+IsFirst (Some (Grow rounds)) disk first = first ≡ opening
+IsFirst (Some Check) disk first = IsOpened disk first
+
+-- there was a desk
+abbrev pub HasDesk : Option Command → DiskTold → Type 0
+HasDesk command disk = (first : Kept) × IsFirst command disk first
 
 -- the events of the script were served over what the desk kept at first, until serving ended so, with this transcript
 pub record RanTo (command : Option Command) (told : Option (List ℕ)) (disk : DiskTold) (outcome : Result (Unit {0}) ServeFault) (transcript : List ℕ) : Type 0 where
@@ -163,6 +176,16 @@ pub record RanTo (command : Option Command) (told : Option (List ℕ)) (disk : D
 abbrev pub IsFront : Option Command → Option (List ℕ) → DiskTold → Result (Unit {0}) ServeFault → List ℕ → Type 0
 IsFront command told disk outcome front = (front ≡ []) ⊎ RanTo command told disk outcome front
 
+-- Formatting or opening failed, as these say, and no event of the link came.
+abbrev pub FailsAtFirst : Option Command → Outside → Outside → Type 0
+FailsAtFirst None old new = ⊥
+FailsAtFirst (Some Init) old new = (house : House) × (conf : Conf) × Makes house conf old.disk new.disk (Err make.Disk)
+FailsAtFirst (Some (Serve smtp imap http)) old new = Starts old.disk new.disk (Err start.Disk) × (new.link ≡ old.link)
+FailsAtFirst (Some Script) old new = Starts old.disk new.disk (Err start.Disk)
+FailsAtFirst (Some Play) old new = ⊥
+FailsAtFirst (Some (Grow rounds)) old new = ⊥
+FailsAtFirst (Some Check) old new = Starts old.disk new.disk (Err start.Disk)
+
 -- 2^40 events of the link were served without an end
 pub record RanOn (command : Option Command) (disk : DiskTold) (link link' : LinkTold) : Type 0 where
   pub first : Kept
@@ -175,13 +198,15 @@ pub record RanOn (command : Option Command) (disk : DiskTold) (link link' : Link
 -- ---- what each status says of a command and of the outside before it and after it
 
 module _ (command : Option Command) (old new : Outside) where
-  -- 0: the command is built, and no read and no write failed
+  -- 0: the words are a command, and no read and no write failed
   abbrev pub AllWell : Type 0
-  AllWell = (is_built command ≡ true) × (new.text.faults ≡ old.text.faults) × (new.disk.failed_writes ≡ old.disk.failed_writes) × (new.out.faults ≡ old.out.faults)
+  AllWell =
+      (is_some command ≡ true) × (new.text.faults ≡ old.text.faults) × (new.disk.failed_reads ≡ old.disk.failed_reads) × (new.disk.failed_writes ≡ old.disk.failed_writes)
+      × (new.out.faults ≡ old.out.faults)
 
   -- 1: the words are of no stated shape
   abbrev pub IsMisused : Type 0
-  IsMisused = (is_built command ≡ false) × Wrote old.out new.out usage
+  IsMisused = (is_some command ≡ false) × Wrote old.out new.out usage
 
   -- 2: the text is bad
   abbrev pub EndsBad : Type 0
@@ -191,15 +216,16 @@ module _ (command : Option Command) (old new : Outside) where
   abbrev pub EndsWrong : Type 0
   EndsWrong = (line : List ℕ) × IsWrongDisk command old.disk line × Wrote old.out new.out line
 
-  -- 4: `next` of the link failed
+  -- 4: a store was opened, and `next` of the link failed
   abbrev pub EndsUnlinked : Type 0
-  EndsUnlinked = (uses_link command ≡ true) × CountsFaults (Err Link) old.link new.link × Wrote old.out new.out link_fault
+  EndsUnlinked = (uses_link command ≡ true) × HasDesk command old.disk × CountsFaults (Err Link) old.link new.link × Wrote old.out new.out link_fault
 
-  -- 5: a call on the disk failed, and it alone; the last line may stand behind a transcript
+  -- 5: formatting or opening failed; or a store was opened, and then a write or a sync failed, and it alone, where the last line may stand behind a transcript
   abbrev pub EndsFailed : Type 0
   EndsFailed =
-      (uses_disk command ≡ true) × (ReadFailed old.disk new.disk ⊎ WriteFailed old.disk new.disk)
-      × ((front : List ℕ) × IsFront command old.text.left old.disk (Err Disk) front × Wrote old.out new.out (front ++ disk_fault))
+      (FailsAtFirst command old new × Wrote old.out new.out disk_fault)
+      ⊎ ((serves command ≡ true) × HasDesk command old.disk × WriteFailed old.disk new.disk × (new.disk.failed_reads ≡ old.disk.failed_reads)
+      × ((front : List ℕ) × IsFront command old.text.left old.disk (Err Disk) front × Wrote old.out new.out (front ++ disk_fault)))
 
   -- 6: a read of the text failed
   abbrev pub EndsUnread : Type 0
@@ -218,9 +244,9 @@ module _ (command : Option Command) (old new : Outside) where
       (front : List ℕ)
       × ((IsFront command old.text.left old.disk (Err NoMemory) front × Wrote old.out new.out (front ++ no_memory)) ⊎ WriteStarves old.out new.out front)
 
-  -- 9: a write of the transcript or of the counts failed
+  -- 9: there was a desk, and a write of the transcript or of the counts failed
   abbrev pub EndsUnwritten : Type 0
-  EndsUnwritten = (writes_more command ≡ true) × ((output : List ℕ) × WriteFails old.out new.out output)
+  EndsUnwritten = (writes_more command ≡ true) × HasDesk command old.disk × ((output : List ℕ) × WriteFails old.out new.out output)
 
   -- 10: an open gate stands at this place, and behind it no record that can stand there
   abbrev pub EndsDamaged : Type 0

@@ -1,5 +1,5 @@
 -- What the command `check` writes.
-use Rattle.std.specs.Prelude.{◌≡◌, ◌⊎◌, ℕ, List, ◌∷◌, ◌++◌, length, codes, decimal}
+use Rattle.std.specs.Prelude.{◌≡◌, ◌≢◌, ◌⊎◌, ℕ, List, ◌∷◌, ◌++◌, length, codes, decimal}
 use Rattle.undo_outside.specs.Disk.{DiskTold}
 use Rattle.undo_outside.specs.Moments.{LeavesOnly}
 use Rattle.mail_desk.specs.declared.counts.Counts.{Counts}
@@ -25,15 +25,21 @@ counts_text counts =
 abbrev pub check_text : Kept → List ℕ
 check_text kept = counts_text (counts_of kept) ++ codes "digest " ++ digest_of (store_of kept) (length kept.timeline) ++ lf
 
+-- this is told, or no memory is found for it
+abbrev pub TellsText : List ℕ → ℕ → List ℕ → Type 0
+TellsText text status output = ((status ≡ 0) × (output ≡ text)) ⊎ ((status ≡ 8) × (output ≡ no_memory))
+
 -- the counts are told, or no memory is found for them
 abbrev pub TellsCounts : Kept → ℕ → List ℕ → Type 0
-TellsCounts kept status output = ((status ≡ 0) × (output ≡ check_text kept)) ⊎ ((status ≡ 8) × (output ≡ no_memory))
+TellsCounts kept status output = TellsText (check_text kept) status output
 
--- Nothing was written: the length is as it was, a crash at any moment leaves what it could have left at first, and what reads give is one of that.
-pub record IsOnlyRead (old new : DiskTold) : Type 0 where
+-- Nothing was written: the length is as it was, a crash at any moment leaves what it could have left at first, and what reads give is as before, or
+-- after a fault of the disk one of that.
+pub record IsOnlyRead (status : ℕ) (old new : DiskTold) : Type 0 where
   pub size : new.size ≡ old.size
   pub any_moment : LeavesOnly old new old.images
   pub reads : old.images new.content
+  pub same : status ≢ 5 → new.content ≡ old.content
 
 module _ {D : Type 0} (told : D → DiskTold) where
   -- of a store that was opened the counts are told, and the disk gets no call more
@@ -42,4 +48,4 @@ module _ {D : Type 0} (told : D → DiskTold) where
 
   -- what `check` comes to
   abbrev pub Checks : D → End D → Type 0
-  Checks disk end = Opens told disk Counted end × ((told disk).honest → IsOnlyRead (told disk) (told end.disk))
+  Checks disk end = Opens told disk Counted end × ((told disk).honest → IsOnlyRead end.status (told disk) (told end.disk))

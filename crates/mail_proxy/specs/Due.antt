@@ -1,5 +1,5 @@
 -- Which status is due, where the text and the disk tell what they hold.
-use Rattle.std.specs.Prelude.{◌≡◌, ◌≢◌, ◌⊎◌, ℕ, false, List, length, nat_lt, Option, None, Some, Ok, Err}
+use Rattle.std.specs.Prelude.{◌≡◌, ◌≢◌, ◌⊎◌, ℕ, false, List, length, nat_lt, Option, None, Some, is_some, Ok, Err}
 use Rattle.undo_outside.specs.declared.event.Event.{Event}
 use Rattle.undo_outside.specs.Disk.{DiskTold}
 use Rattle.verb_core.specs.declared.conf.Conf.{Conf}
@@ -10,7 +10,7 @@ use Rattle.time_desk.specs.declared.fault.StartFault.TheVariants.{NotFormatted, 
 use Rattle.time_desk.specs.Opening.{OpensAs}
 use Rattle.command_words.specs.declared.commands.Command.{Command}
 use Rattle.command_words.specs.declared.commands.Command.TheVariants.{Init, Serve, Script, Play, Grow, Check}
-use Rattle.mail_proxy.specs.Causes.{IsBadText, Outside, is_built}
+use Rattle.mail_proxy.specs.Causes.{IsBadText, Outside}
 use Rattle.mail_proxy.specs.Init.{IsConfig}
 
 -- an empty disk is formatted, and no other
@@ -44,13 +44,13 @@ IsDueAlone (Some Init) disk k = ⊥
 IsDueAlone (Some (Serve smtp imap http)) disk k = IsDueStore disk k
 IsDueAlone (Some Script) disk k = ⊥
 IsDueAlone (Some Play) disk k = ⊥
-IsDueAlone (Some (Grow rounds)) disk k = ⊥
+IsDueAlone (Some (Grow rounds)) disk k = k ≡ 0
 IsDueAlone (Some Check) disk k = IsDueStore disk k
 
 -- The status that is due: 1 for words of no stated shape; 2 for a bad text; else that of the disk.
 abbrev pub IsDue : Option Command → Outside → ℕ → Type 0
 IsDue command old k =
-    ((is_built command ≡ false) × (k ≡ 1))
+    ((is_some command ≡ false) × (k ≡ 1))
     ⊎ ((text : List ℕ) × (line : List ℕ) × (old.text.left ≡ Some text) × IsBadText command text line × (k ≡ 2))
     ⊎ ((text : List ℕ) × (old.text.left ≡ Some text) × (nat_lt 67108864 (length text) ≡ false) × IsDueFor command text old.disk k)
     ⊎ IsDueAlone command old.disk k

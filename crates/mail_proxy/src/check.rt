@@ -50,7 +50,7 @@ fn check_text<D: Disk + Drop>(alloc: Global, desk: &Desk<D>) -> Result<Text, NoM
 }
 
 /// The six lines of the counts.
-fn counts_text(alloc: Global, counts: Counts) -> Result<Text, NoMemory>
+pub fn counts_text(alloc: Global, counts: Counts) -> Result<Text, NoMemory>
     ensures { IfOk result (λ text. text ≡ counts_text counts) }
 {
     let mut text = Text::new(alloc);
@@ -64,7 +64,7 @@ fn counts_text(alloc: Global, counts: Counts) -> Result<Text, NoMemory>
 }
 
 /// Adds a line of a name and a number.
-fn push_count(alloc: Global, text: &mut Text, name: &[u8], count: u64) -> Result<(), NoMemory>
+pub fn push_count(alloc: Global, text: &mut Text, name: &[u8], count: u64) -> Result<(), NoMemory>
     ensures { OnOk result (text.new ≡ text.old ++ count_line name.now count) }
 {
     text.extend(name)?;

@@ -11,12 +11,13 @@ ghost use Rattle.mail_proxy.specs.Runs.{Runs};
 ghost use Rattle.mail_proxy.specs.Texts.{End};
 
 use crate::check::plan_check;
+use crate::grow::plan_grow;
 use crate::init::plan_init;
 use crate::plan::{LastLine, Plan, only_line, show, without_memory};
 use crate::play::plan_play;
 use crate::script::plan_script;
 use crate::serve::plan_serve;
-use command_words::{Command, WordsRefused, read_words};
+use command_words::{Command, WordsRefused, one_reading, read_words};
 use std::alloc::Global;
 use std::thread::Threads;
 use time_desk::one_opening;
@@ -63,7 +64,7 @@ fn plan_command<R: Threads + Sync, S: Source, L: Link, D: Disk + Drop, G: Gate>(
         Command::Serve { .. } => plan_serve(rt, alloc, link, disk, gate),
         Command::Script => plan_script(rt, alloc, text, disk, gate),
         Command::Play => plan_play(rt, alloc, text, disk, gate),
-        Command::Grow { .. } => (only_line(alloc, 1, LastLine::Usage), disk),
+        Command::Grow { rounds } => (plan_grow(rt, alloc, rounds, gate), disk),
         Command::Check => plan_check(alloc, disk),
     }
 }
@@ -95,6 +96,7 @@ pub fn run<R: Threads + Sync, S: Source, L: Link, D: Disk + Drop, W: Sink, G: Ga
     ensures disk { uses_disk (command_of (map string_bytes words.now.items)) ≡ false → result.1 ≡ disk }
 {
     one_opening();
+    one_reading();
     let (plan, disk) = make_plan(rt, alloc, words, text, link, disk, gate);
     (show(alloc, &plan, out), disk)
 }

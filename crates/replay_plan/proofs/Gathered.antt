@@ -1,5 +1,5 @@
 -- A plan grows by one place at a time.
-use Rattle.std.proofs.Common.{◌≡◌, ℕ, zero, suc, ◌+◌, ◌-◌, ◌<◌, ◌≤◌, max, Bool, true, false, cond, List, [], ◌∷◌, ◌++◌, map, filter, length, take, get_or, set, refl, sym, ap, ap₂, ◌∙◌, subst, arith, ◌==◌, eqb-true, eq-eqb, true≢false}
+use Rattle.std.proofs.Common.{◌≡◌, ℕ, zero, suc, ◌+◌, ◌-◌, ◌<◌, ◌≤◌, max, true, false, cond, List, [], ◌∷◌, ◌++◌, map, filter, length, take, get_or, set, refl, sym, ap, ap₂, ◌∙◌, arith, ◌==◌, eqb-true, eq-eqb, true≢false}
 use Rattle.std.specs.List.{enumerate_from}
 use Rattle.std.specs.Cmp.{first_so, second_so}
 use Rattle.std.proofs.lemmas.Bool.{leb-true}

@@ -1,9 +1,8 @@
 -- The least level that an item may have, and the levels of items in order.
-use Rattle.std.proofs.Common.{◌≡◌, ℕ, zero, suc, ◌+◌, ◌-◌, ◌<◌, ◌≤◌, max, min, Bool, true, false, not, ◌&&◌, ◌||◌, cond, List, [], ◌∷◌, ◌++◌, map, length, zip, drop, get_or, IsTrue, refl, sym, ap, ap₂, ◌∙◌, subst, arith, ◌==◌, nat_lt, nat_le, eqb-true, eq-eqb, true≢false, length-append}
+use Rattle.std.proofs.Common.{◌≡◌, ℕ, zero, suc, ◌+◌, ◌-◌, ◌<◌, ◌≤◌, max, min, Bool, true, false, not, ◌&&◌, ◌||◌, cond, List, [], ◌∷◌, ◌++◌, map, length, zip, drop, get_or, IsTrue, refl, sym, ap, ap₂, ◌∙◌, arith, ◌==◌, nat_lt, nat_le, eqb-true, eq-eqb, true≢false, length-append}
 use Rattle.std.specs.List.{list_all}
-use Rattle.std.specs.Cmp.{first_so, second_so}
 use Rattle.std.proofs.Math.Seq.{drop-cons}
-use Rattle.std.proofs.lemmas.Bool.{lt-ltb, le-leb, leb-true}
+use Rattle.std.proofs.lemmas.Bool.{lt-ltb, ltb-true, le-leb}
 use Rattle.std.proofs.lemmas.List.{append_assoc, drop_all}
 use Rattle.std.proofs.lemmas.Slice.Zip.{length-zip, get_or-zip}
 use Rattle.touch_rules.specs.declared.touched.Touch.{Touch}
@@ -166,3 +165,73 @@ length_levels earlier (x ∷ all) = ap suc (length_levels (earlier ++ (x, level_
 
 pub as_many : (levels : List ℕ) (all : List (List Touch)) → levels ≡ levels_by_item all → length levels ≡ length all
 as_many levels all is = ap length is ∙ length_levels [] all
+
+-- ---- levels below those of earlier items that do not commute
+
+-- levels that do not pass are left out
+least_skip : (p : ℕ → Bool) (k count low : ℕ) → ((m : ℕ) → low ≤ m → m < low + k → p m ≡ false) → least_from p (k + count) low ≡ least_from p count (low + k)
+least_skip p zero count low h = let none : 0 + count ≡ count = omega arith in let here : low ≡ low + 0 = omega arith in ap₂ (λ n m. least_from p n m) none here
+least_skip p (suc k) count low h =
+    let one : suc k + count ≡ (k + count) + 1 = omega arith in
+    let next : (low + 1) + k ≡ low + suc k = omega arith in
+    least_next p (suc k + count) (k + count) low one (h low (omega arith) (omega arith))
+    ∙ least_skip p k count (low + 1) (λ m le lt. h m (omega (arith, le)) (omega (arith, lt)))
+    ∙ ap (least_from p count) next
+
+module _ (all : List (List Touch)) (levels : List ℕ) (touches : List Touch) (few : length levels ≤ length all) where
+  -- the search may begin at a level below which none passes
+  pub begins : (behind low : ℕ) → behind ≡ length levels + 1 → 1 ≤ low → low ≤ behind → ((m : ℕ) → 1 ≤ m → m < low → may_have (zip all levels) touches m ≡ false)
+      → least_from (may_have (zip all levels) touches) (behind - low) low ≡ level_behind (zip all levels) touches
+  begins behind low is one le none =
+      let first : low ≡ 1 + (low - 1) = omega (arith, one) in
+      let many : (low - 1) + (behind - low) ≡ length (zip all levels) = omega (arith, long_zip all levels few, is, one, le) in
+      ap (least_from (may_have (zip all levels) touches) (behind - low)) first
+      ∙ sym (least_skip (may_have (zip all levels) touches) (low - 1) (behind - low) 1 (λ m least lt. none m least (omega (arith, lt, one))))
+      ∙ ap (λ n. least_from (may_have (zip all levels) touches) n 1) many
+
+  -- where none below the one behind all passes, it is that
+  pub is_behind : (behind low : ℕ) → behind ≡ length levels + 1 → behind ≤ low → ((m : ℕ) → 1 ≤ m → m < low → may_have (zip all levels) touches m ≡ false) → behind ≡ level_behind (zip all levels) touches
+  is_behind behind low is le none =
+      let nothing : behind - behind ≡ 0 = omega arith in
+      ap (λ n. least_from (may_have (zip all levels) touches) n behind) (sym nothing)
+      ∙ begins behind behind is (omega (arith, is)) (omega arith) (λ m least lt. none m least (omega (arith, lt, le)))
+
+  fails_at : (test : Placed → Bool) (ps : List Placed) (i : ℕ) (d : Placed) → i < length ps → test (get_or ps i d) ≡ false → list_all test ps ≡ false
+  fails_at test [] i d lt h = absurd (omega (arith, lt))
+  fails_at test (p ∷ ps) zero d lt h = ap (λ b. b && list_all test ps) h
+  fails_at test (p ∷ ps) (suc i) d lt h = ap (λ b. test p && b) (fails_at test ps i d (omega (arith, lt)) h) ∙ nothing (test p)
+    where
+      nothing : (a : Bool) → (a && false) ≡ false
+      nothing true = refl
+      nothing false = refl
+
+  not_above : (a b : ℕ) → b ≤ a → nat_lt a b ≡ false
+  not_above a b le = by_case (nat_lt a b) refl
+    where
+      by_case : (t : Bool) → nat_lt a b ≡ t → t ≡ false
+      by_case true e = absurd (let lt : a < b = ltb-true a b e in omega (arith, lt, le))
+      by_case false e = refl
+
+  -- an earlier item that does not commute lets none pass up to its own level
+  pub none_up_to : (i : ℕ) (x : List Touch) (m : ℕ) → i < length levels → x ≡ get_or all i x → false ≡ commute x touches → m ≤ get_or levels i 0 → may_have (zip all levels) touches m ≡ false
+  none_up_to i x m lt is off le =
+      fails_at (λ e. (commute e.0 touches || nat_lt e.1 m) && (are_independent e.0 touches || not (e.1 == m))) (zip all levels) i (x, 0) (omega (arith, lt, long_zip all levels few))
+      (ap (λ (e : Placed). (commute e.0 touches || nat_lt e.1 m) && (are_independent e.0 touches || not (e.1 == m))) (get_or-zip all levels i (x, 0) (omega (arith, lt, few)) lt)
+      ∙ ap (λ (y : List Touch). (commute y touches || nat_lt (get_or levels i 0) m) && (are_independent y touches || not (get_or levels i 0 == m))) (sym is)
+      ∙ ap₂ (λ a b. (a || b) && (are_independent x touches || not (get_or levels i 0 == m))) (sym off) (not_above (get_or levels i 0) m le))
+
+  -- one earlier item more
+  step_by : (low placed new : ℕ) (x : List Touch) (i : ℕ) (t : Bool) → (nat_le low placed && not (commute x touches)) ≡ t → new ≡ cond t (placed + 1) low → placed ≡ get_or levels i 0 → i < length levels → x ≡ get_or all i x → 1 ≤ low
+      → ((m : ℕ) → 1 ≤ m → m < low → may_have (zip all levels) touches m ≡ false) → (1 ≤ new) × ((m : ℕ) → 1 ≤ m → m < new → may_have (zip all levels) touches m ≡ false)
+  step_by low placed new x i true test is at lt same one none =
+      (omega (arith, is), λ m least less. none_up_to i x m lt same (commuted (nat_le low placed) (commute x touches) test) (omega (arith, less, is, at)))
+    where
+      commuted : (a b : Bool) → (a && not b) ≡ true → false ≡ b
+      commuted true true h = h
+      commuted true false h = refl
+      commuted false b h = absurd (true≢false (sym h))
+  step_by low placed new x i false test is at lt same one none = (omega (arith, is, one), λ m least less. none m least (omega (arith, less, is)))
+
+  pub lowest_step : (low new : ℕ) (x : List Touch) (i : ℕ) → new ≡ cond (nat_le low (get_or levels i 0) && not (commute x touches)) (get_or levels i 0 + 1) low → i < length levels → x ≡ get_or all i x → 1 ≤ low
+      → ((m : ℕ) → 1 ≤ m → m < low → may_have (zip all levels) touches m ≡ false) → (1 ≤ new) × ((m : ℕ) → 1 ≤ m → m < new → may_have (zip all levels) touches m ≡ false)
+  lowest_step low new x i is lt same one none = step_by low (get_or levels i 0) new x i (nat_le low (get_or levels i 0) && not (commute x touches)) refl is refl lt same one none

@@ -1,3 +1,4 @@
+mod Rows
 pub mod Gathered
 pub mod Least
 pub mod Turns

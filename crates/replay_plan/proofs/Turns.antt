@@ -1,13 +1,13 @@
 -- Levels of joined lists, and what holds of an item and an earlier one of its level.
-use Rattle.std.proofs.Common.{◌≡◌, ℕ, zero, suc, ◌+◌, ◌<◌, ◌≤◌, max, Bool, true, false, not, ◌&&◌, ◌||◌, ◌==◌, cond, List, [], ◌∷◌, ◌++◌, map, filter, length, zip, get_or, refl, sym, ap, ap₂, ◌∙◌, arith, nat_lt, eq-eqb, length-append}
+use Rattle.std.proofs.Common.{◌≡◌, ℕ, zero, suc, ◌+◌, ◌<◌, ◌≤◌, max, Bool, true, false, not, ◌&&◌, ◌||◌, ◌==◌, cond, List, [], ◌∷◌, ◌++◌, map, filter, length, zip, get_or, refl, sym, ap, ◌∙◌, arith, nat_lt, eq-eqb}
 use Rattle.std.specs.List.{list_all, enumerate_from}
 use Rattle.std.specs.Cmp.{first_so, second_so}
 use Rattle.std.proofs.lemmas.Bool.{leb-true, lt-ltb}
 use Rattle.std.proofs.lemmas.List.{append_assoc}
-use Rattle.std.proofs.lemmas.Slice.Zip.{length-zip, get_or-zip, seconds-zip}
+use Rattle.std.proofs.lemmas.Slice.Zip.{get_or-zip, seconds-zip}
 use Rattle.touch_rules.specs.declared.touched.Touch.{Touch}
 use Rattle.touch_rules.specs.Commuting.{are_independent, commute}
-use Rattle.replay_plan.specs.Placing.{Placed, may_have, least_from, level_behind, levels_behind, levels_by_item, levels_of, places_of, run_from, highest}
+use Rattle.replay_plan.specs.Placing.{Placed, may_have, level_behind, levels_behind, levels_by_item, levels_of, places_of, run_from, highest}
 use Rattle.replay_plan.specs.Gathering.{rise_by_one}
 use Rattle.replay_plan.specs.Lines.{are_places}
 use Rattle.replay_plan.proofs.Gathered.{places_from}

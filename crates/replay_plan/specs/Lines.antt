@@ -1,5 +1,5 @@
 -- The text of a plan: a line for each level, with its number and the numbers of its items.
-use Rattle.std.specs.Prelude.{ℕ, ◌+◌, Bool, nat_lt, List, [], ◌∷◌, ◌++◌, length, codes, decimal, slice_index, flat_map}
+use Rattle.std.specs.Prelude.{ℕ, ◌+◌, Bool, nat_lt, List, [], ◌∷◌, ◌++◌, length, codes, decimal, slice_index}
 use Rattle.std.specs.List.{list_all}
 
 -- whether each is a place of the numbers

@@ -1,5 +1,5 @@
 //! The level of an item behind items that have theirs.
-ghost use Rattle.std.specs.Prelude.{◌≡◌, ◌≤◌, ◌<◌, ◌^◌, ◌&&◌, ◌||◌, ◌==◌, not, nat_lt, length, zip};
+ghost use Rattle.std.specs.Prelude.{◌≡◌, ℕ, false, ◌≤◌, ◌<◌, ◌^◌, ◌&&◌, ◌||◌, ◌==◌, not, nat_lt, nat_le, ◌+◌, if◌then◌else◌, length, zip};
 ghost use Rattle.touch_rules.specs.Commuting.{are_independent, commute};
 ghost use Rattle.replay_plan.specs.Placing.{may_have, level_behind};
 
@@ -26,14 +26,42 @@ fn may_stand(all: &[TouchSet], levels: &[u32], touches: &TouchSet, level: u32) -
     true
 }
 
-/// The level of an item behind all that have theirs.
+/// The level above an earlier item that does not commute with the item, if that is higher.
+fn at_least(earlier: &TouchSet, placed: u32, touches: &TouchSet, low: u64) -> u64
+    ensures { result ≡ (if nat_le low placed && not (commute earlier.now touches.now) then placed + 1 else low) }
+{
+    if low <= placed as u64 && !commutes(earlier, touches) {
+        placed as u64 + 1
+    } else {
+        low
+    }
+}
+
+/// The level above those of all earlier items that do not commute with the item, which may have none below it.
+fn lowest(all: &[TouchSet], levels: &[u32], touches: &TouchSet) -> u64
+    requires { length levels.now ≤ length all.now }
+    ensures first { 1 ≤ result }
+    ensures none { (level : ℕ) → 1 ≤ level → level < result → may_have (zip all.now levels.now) touches.now level ≡ false }
+{
+    let mut low: u64 = 1;
+    for place in 0..levels.len() {
+        low = at_least(&all[place], levels[place], touches, low);
+    }
+    low
+}
+
+/// The level of an item behind all that have theirs. It is looked for above those that do not commute with it.
 pub(crate) fn level_of(all: &[TouchSet], levels: &[u32], touches: &TouchSet) -> u32
     requires many { length levels.now < 4294967295 }
     requires enough { length levels.now ≤ length all.now }
     ensures { result ≡ level_behind (zip all.now levels.now) touches.now }
 {
     let behind = levels.len() as u32 + 1;
-    let mut level: u32 = 1;
+    let low = lowest(all, levels, touches);
+    if low >= behind as u64 {
+        return behind;
+    }
+    let mut level = low as u32;
     while level < behind {
         if may_stand(all, levels, touches, level) {
             return level;

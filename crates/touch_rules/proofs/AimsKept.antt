@@ -1,6 +1,6 @@
 -- An item finds the aims that it would find behind another with which it commutes.
-use Rattle.std.proofs.Common.{◌≡◌, ℕ, Bool, true, false, not, ◌&&◌, ◌||◌, cond, List, [], ◌∷◌, ◌++◌, map, filter, Option, Some, None, is_some, option_map, unwrap_or, refl, sym, ap, ap₂, ◌∙◌, subst, true≢false}
-use Rattle.std.specs.List.{list_all, AllByRecursion}
+use Rattle.std.proofs.Common.{◌≡◌, ℕ, Bool, true, false, not, ◌&&◌, cond, List, [], ◌∷◌, ◌++◌, map, filter, Option, Some, None, is_some, option_map, unwrap_or, refl, sym, ap, ap₂, ◌∙◌, true≢false}
+use Rattle.std.specs.List.{AllByRecursion}
 use Rattle.undo_base.specs.declared.keys.User.{User}
 use Rattle.verb_core.specs.declared.conf.Conf.{Conf}
 use Rattle.verb_core.specs.declared.conf.Filter.{Filter}
@@ -8,8 +8,8 @@ use Rattle.verb_core.specs.declared.conf.House.{House}
 use Rattle.verb_core.specs.declared.item.Item.{Item}
 use Rattle.verb_core.specs.declared.item.Aim.{Aim}
 use Rattle.verb_core.specs.declared.item.Deed.{Deed}
-use Rattle.verb_core.specs.declared.item.Deed.TheVariants.{Deliver, Append, Fetch, Store, Copy, List as Lists, Status, Select, Expunge, Close, Create, Rename, Delete, Act as Acts, Notice}
-use Rattle.verb_core.specs.declared.item.Act.TheVariants.{SetAlias, DropAlias, SetFilter, DropFilter, Remove, Give}
+use Rattle.verb_core.specs.declared.item.Deed.TheVariants.{Deliver, Append, Copy, Act as Acts, Notice}
+use Rattle.verb_core.specs.declared.item.Act.TheVariants.{Give}
 use Rattle.verb_core.specs.declared.mailbox.BoxId.{BoxId}
 use Rattle.verb_core.specs.Names.{inbox, lost_found}
 use Rattle.verb_core.specs.Boxes.{box_of, has_row}
@@ -17,7 +17,7 @@ use Rattle.verb_core.specs.Store.{MailStore, IsValid}
 use Rattle.verb_core.specs.Items.{IsWellFormed, actor, text_in}
 use Rattle.verb_core.specs.Recipients.{recipients, some_unknown, deciding}
 use Rattle.verb_core.specs.Aims.{Sought, aim_at, into_or, and_postmaster, delivered, sought, sought_by}
-use Rattle.verb_core.specs.Step.{Boxes, step, step_with, conf_after}
+use Rattle.verb_core.specs.Step.{Boxes, step, step_with}
 use Rattle.verb_core.specs.Touched.{named_boxes, touched, is_one}
 use Rattle.verb_core.proofs.AimNames.{sought_by-same}
 use Rattle.verb_core.proofs.Frame.{other_stays}
@@ -26,7 +26,7 @@ use Rattle.touch_rules.specs.declared.touched.Touch.TheVariants.{Keys, Tail, Who
 use Rattle.touch_rules.specs.Table.{tail_on, looked_for, touches_of}
 use Rattle.touch_rules.specs.Commuting.{commute}
 use Rattle.touch_rules.specs.Swapping.{brings_mail, sets_conf, resolved, CanHave, Swap, SwapAnew}
-use Rattle.touch_rules.proofs.Fitting.{fits, commute_flip}
+use Rattle.touch_rules.proofs.Fitting.{commute_flip}
 use Rattle.touch_rules.proofs.Changes.{has_kept}
 use Rattle.touch_rules.proofs.Plain.{moves_boxes, row_of, changes, works}
 use Rattle.touch_rules.proofs.Elsewhere.{Off, off_all, no_mail_of}

@@ -1,8 +1,8 @@
 -- Mailboxes changed one after the other: by touches of messages and by new mail. Changes whose touches fit come in either order.
-use Rattle.std.proofs.Common.{◌≡◌, ℕ, Bool, true, false, not, ◌&&◌, ◌||◌, ◌==◌, cond, List, [], ◌∷◌, ◌++◌, map, filter, filter_map, Option, Some, None, is_some, option_map, unwrap_or, bytes_eq, refl, sym, ap, ap₂, ◌∙◌, subst, true≢false}
+use Rattle.std.proofs.Common.{◌≡◌, ℕ, Bool, true, false, not, ◌&&◌, ◌||◌, ◌==◌, cond, List, [], ◌∷◌, map, filter_map, Option, Some, None, is_some, option_map, unwrap_or, bytes_eq, refl, sym, ap, ap₂, ◌∙◌, subst, true≢false}
 use Rattle.std.specs.List.{list_all, AllByRecursion}
 use Rattle.std.specs.Ordering.{eq_by_cmp}
-use Rattle.std.specs.Cmp.{first_so, second_so, eq_by_cmp_equiv}
+use Rattle.std.specs.Cmp.{first_so, second_so}
 use Rattle.undo_base.specs.declared.keys.User.{User}
 use Rattle.undo_base.specs.declared.keys.Key.{Key}
 use Rattle.verb_core.specs.declared.mailbox.BoxId.{BoxId}
@@ -11,10 +11,10 @@ use Rattle.verb_core.specs.declared.mailbox.Mailbox.{Mailbox}
 use Rattle.verb_core.specs.Mailboxes.{put_all, with_entries}
 use Rattle.verb_core.specs.Boxes.{box_cmp, box_of, row_at, has_row, change_row, mail_at, names_of, rows_of, same_user}
 use Rattle.verb_core.specs.Step.{Boxes}
-use Rattle.verb_core.proofs.BoxLaws.{boxes_total, tied, itself, same_box, row_at-change_row}
+use Rattle.verb_core.proofs.BoxLaws.{tied, itself, same_box, row_at-change_row}
 use Rattle.touch_rules.specs.declared.touched.Touch.{Touch}
 use Rattle.touch_rules.specs.declared.touched.Touch.TheVariants.{Keys, Tail, Whole, Names}
-use Rattle.touch_rules.specs.Commuting.{share_place, does_write, both_read, have_common, has_number, different}
+use Rattle.touch_rules.specs.Commuting.{have_common, has_number}
 use Rattle.touch_rules.proofs.Edits.{negated, common_flip, LeavesOthers, edits_swap, edit_and_mail, all_of, SeenAlike, alike_itself, alike_then, alike_edit, alike_mail}
 use Rattle.touch_rules.proofs.Fitting.{fits}
 

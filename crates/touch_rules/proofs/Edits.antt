@@ -1,5 +1,5 @@
 -- What a touch of messages does to a mailbox, what new mail does to it, and what is seen of other messages.
-use Rattle.std.proofs.Common.{◌≡◌, ◌≢◌, ℕ, ◌+◌, Bool, true, false, not, ◌&&◌, ◌||◌, ◌==◌, cond, List, [], ◌∷◌, ◌++◌, map, filter, filter_map, find, Option, Some, None, is_some, option_map, unwrap_or, refl, sym, ap, ap₂, ◌∙◌, subst, true≢false, eqb-true, eq-eqb}
+use Rattle.std.proofs.Common.{◌≡◌, ℕ, ◌+◌, Bool, true, false, not, ◌&&◌, ◌||◌, ◌==◌, cond, List, [], ◌∷◌, ◌++◌, filter, filter_map, find, Option, Some, None, is_some, option_map, unwrap_or, refl, sym, ap, ap₂, ◌∙◌, true≢false, eqb-true, eq-eqb}
 use Rattle.std.specs.List.{list_all, list_any, cons_option, enumerate_from, AllByRecursion}
 use Rattle.std.specs.Cmp.{first_so, second_so}
 use Rattle.std.proofs.lemmas.List.{append-nil}
@@ -10,7 +10,7 @@ use Rattle.undo_base.specs.declared.asks.How.{How}
 use Rattle.verb_core.specs.declared.mailbox.Entry.{Entry}
 use Rattle.verb_core.specs.declared.mailbox.Mailbox.{Mailbox}
 use Rattle.verb_core.specs.declared.item.Sight.{Sight}
-use Rattle.verb_core.specs.Mailboxes.{put, put_all, with_entries, same_key, is_among, entry_of, there, sights, copies, reflagged, changed, expunged, without}
+use Rattle.verb_core.specs.Mailboxes.{put, put_all, with_entries, same_key, is_among, entry_of, there, sights, copies, reflagged, changed, expunged}
 use Rattle.touch_rules.specs.Commuting.{have_common, has_number}
 
 -- ---- Bools

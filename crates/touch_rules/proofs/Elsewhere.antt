@@ -1,6 +1,6 @@
 -- Items that make, rename or delete a mailbox: what commutes with them touches other mailboxes, and other users' names.
-use Rattle.std.proofs.Common.{◌≡◌, ℕ, Bool, true, false, not, ◌&&◌, ◌||◌, ◌==◌, cond, List, [], ◌∷◌, ◌++◌, map, filter, Option, Some, None, is_some, bytes_eq, refl, sym, ap, ap₂, ◌∙◌, subst, true≢false}
-use Rattle.std.specs.List.{list_all, list_any, AllByRecursion}
+use Rattle.std.proofs.Common.{◌≡◌, ℕ, Bool, true, false, not, ◌&&◌, ◌||◌, ◌==◌, List, [], ◌∷◌, ◌++◌, map, filter, Option, bytes_eq, refl, sym, ap, ◌∙◌, true≢false}
+use Rattle.std.specs.List.{list_all, AllByRecursion}
 use Rattle.std.specs.Ordering.{eq_by_cmp}
 use Rattle.std.specs.Cmp.{first_so, second_so, eq_by_cmp_equiv}
 use Rattle.undo_base.specs.declared.keys.User.{User}
@@ -16,13 +16,13 @@ use Rattle.verb_core.specs.Boxes.{box_cmp, box_of, same_user, rows_of, names_of}
 use Rattle.verb_core.specs.Store.{MailStore}
 use Rattle.verb_core.specs.Items.{actor, is_own}
 use Rattle.verb_core.specs.Aims.{Sought, box_aimed, sought, sought_by}
-use Rattle.verb_core.specs.Step.{step, step_with}
+use Rattle.verb_core.specs.Step.{step_with}
 use Rattle.verb_core.specs.Touched.{named_boxes, touches_names, is_one}
 use Rattle.verb_core.proofs.Apart.{others_kept}
 use Rattle.verb_core.proofs.BoxLaws.{boxes_total, tied, same_box}
 use Rattle.touch_rules.specs.declared.touched.Touch.{Touch}
 use Rattle.touch_rules.specs.declared.touched.Touch.TheVariants.{Keys, Tail, Whole, Names}
-use Rattle.touch_rules.specs.Table.{tail_on, looked_for, arrivals, act_row, table_row}
+use Rattle.touch_rules.specs.Table.{tail_on, looked_for, arrivals, table_row}
 use Rattle.touch_rules.specs.Swapping.{brings_mail, resolved}
 use Rattle.touch_rules.proofs.Edits.{neither}
 use Rattle.touch_rules.proofs.Fitting.{fits}

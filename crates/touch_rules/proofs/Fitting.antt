@@ -1,12 +1,10 @@
 -- Pairs of touches, and tests of all pairs of two lists.
-use Rattle.std.proofs.Common.{◌≡◌, ℕ, Bool, true, false, not, ◌&&◌, ◌||◌, ◌==◌, List, [], ◌∷◌, ◌++◌, Option, Some, None, bytes_eq, refl, sym, ap, ap₂, ◌∙◌, true≢false}
-use Rattle.std.specs.List.{list_all, list_any}
+use Rattle.std.proofs.Common.{◌≡◌, ℕ, Bool, true, false, not, ◌&&◌, ◌||◌, List, [], ◌∷◌, Option, Some, None, bytes_eq, refl, sym, ap, ap₂, ◌∙◌, true≢false}
+use Rattle.std.specs.List.{list_all}
 use Rattle.std.specs.Cmp.{first_so, second_so}
-use Rattle.std.specs.Cmp.Lexicographic.{bytes_decides}
-use Rattle.verb_core.specs.Boxes.{same_user}
 use Rattle.touch_rules.specs.declared.touched.Touch.{Touch}
 use Rattle.touch_rules.specs.declared.touched.Touch.TheVariants.{Keys, Tail, Whole, Names}
-use Rattle.touch_rules.specs.Commuting.{user_of, mailbox_of, same_mailbox, share_place, does_write, both_read, have_common, different, are_independent, commute}
+use Rattle.touch_rules.specs.Commuting.{user_of, mailbox_of, same_mailbox, share_place, does_write, both_read, different, are_independent, commute}
 use Rattle.touch_rules.proofs.Edits.{flip_eqb, common_flip}
 
 -- whether two touches let their items come in either order

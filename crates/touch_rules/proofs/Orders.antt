@@ -1,36 +1,30 @@
 -- Items that commute may come in either order.
-use Rattle.std.proofs.Common.{◌≡◌, ℕ, Bool, true, false, not, ◌&&◌, ◌||◌, cond, List, [], ◌∷◌, ◌++◌, map, filter, Option, Some, None, is_some, option_map, unwrap_or, refl, sym, ap, ap₂, ◌∙◌, subst, true≢false}
-use Rattle.std.specs.List.{list_all, list_any, AllByRecursion}
-use Rattle.std.specs.Cmp.{first_so, second_so}
-use Rattle.undo_base.specs.declared.keys.User.{User}
+use Rattle.std.proofs.Common.{◌≡◌, true, false, not, ◌&&◌, List, refl, sym, ap, ap₂, ◌∙◌, true≢false}
+use Rattle.std.specs.List.{list_all}
 use Rattle.verb_core.specs.declared.conf.Conf.{Conf}
-use Rattle.verb_core.specs.declared.conf.Filter.{Filter}
 use Rattle.verb_core.specs.declared.conf.House.{House}
 use Rattle.verb_core.specs.declared.item.Item.{Item}
-use Rattle.verb_core.specs.declared.item.Aim.{Aim}
-use Rattle.verb_core.specs.declared.item.Shown.{Shown}
 use Rattle.verb_core.specs.declared.item.Deed.{Deed}
-use Rattle.verb_core.specs.declared.item.Deed.TheVariants.{Deliver, Append, Fetch, Store, Copy, List as Lists, Status, Select, Expunge, Close, Create, Rename, Delete, Act as Acts, Notice}
-use Rattle.verb_core.specs.declared.item.Act.TheVariants.{SetAlias, DropAlias, SetFilter, DropFilter, Remove, Give}
+use Rattle.verb_core.specs.declared.item.Deed.TheVariants.{Create, Rename, Delete, Act as Acts}
+use Rattle.verb_core.specs.declared.item.Act.TheVariants.{SetAlias, DropAlias, SetFilter, DropFilter}
 use Rattle.verb_core.specs.declared.mailbox.BoxId.{BoxId}
-use Rattle.verb_core.specs.declared.mailbox.Mailbox.{Mailbox}
 use Rattle.verb_core.specs.Names.{is_empty}
-use Rattle.verb_core.specs.Boxes.{box_of, row_at, has_row, names_of}
+use Rattle.verb_core.specs.Boxes.{names_of}
 use Rattle.verb_core.specs.Store.{MailStore, IsValid}
 use Rattle.verb_core.specs.Items.{IsWellFormed, actor}
-use Rattle.verb_core.specs.Aims.{Sought, sought_by}
-use Rattle.verb_core.specs.Step.{Boxes, step, step_with, conf_after, new_mail, put_at, rearranged, shown}
-use Rattle.verb_core.specs.Touched.{named_boxes, touched, touches_names, is_one, SameAt, Apart}
+use Rattle.verb_core.specs.Aims.{Sought}
+use Rattle.verb_core.specs.Step.{Boxes, step_with, conf_after, shown}
+use Rattle.verb_core.specs.Touched.{named_boxes, touched, touches_names, is_one, Apart}
 use Rattle.verb_core.proofs.Frame.{other_stays, shown_elsewhere, apart_commute}
 use Rattle.verb_core.proofs.Validity.{step_with-IsValid}
 use Rattle.touch_rules.specs.declared.touched.Touch.{Touch}
 use Rattle.touch_rules.specs.Table.{touches_of}
 use Rattle.touch_rules.specs.Commuting.{commute}
-use Rattle.touch_rules.specs.Swapping.{brings_mail, sets_conf, resolved, CanHave, Swap}
+use Rattle.touch_rules.specs.Swapping.{sets_conf, resolved, CanHave, Swap}
 use Rattle.touch_rules.proofs.Fitting.{fits, turned_round, all_weaker, commute_flip}
-use Rattle.touch_rules.proofs.Changes.{Change, Allowed, after_changes, all_fit, changes_turn, names_kept}
+use Rattle.touch_rules.proofs.Changes.{Change, after_changes, all_fit, changes_turn, names_kept}
 use Rattle.touch_rules.proofs.Plain.{moves_boxes, row_of, changes, works, allowed, covered, changes_alike, shown_alike}
-use Rattle.touch_rules.proofs.Elsewhere.{Off, off_all, touched_off, other_names, no_mail_of, names_stay}
+use Rattle.touch_rules.proofs.Elsewhere.{off_all, touched_off, other_names, no_mail_of, names_stay}
 
 -- ---- the configuration
 

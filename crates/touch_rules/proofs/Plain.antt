@@ -1,5 +1,5 @@
 -- What items do that make, rename and delete no mailbox: changes that their touches allow.
-use Rattle.std.proofs.Common.{◌≡◌, ℕ, Bool, true, false, not, ◌&&◌, ◌||◌, ◌==◌, cond, List, [], ◌∷◌, ◌++◌, map, filter, filter_map, length, Option, Some, None, option_map, refl, sym, ap, ap₂, ◌∙◌, subst, true≢false, eq-eqb}
+use Rattle.std.proofs.Common.{◌≡◌, ℕ, Bool, true, false, not, ◌&&◌, cond, List, [], ◌∷◌, ◌++◌, map, filter, length, Option, option_map, refl, ap, ◌∙◌, true≢false, eq-eqb}
 use Rattle.std.specs.List.{list_all, AllByRecursion}
 use Rattle.std.specs.Cmp.{first_so, second_so}
 use Rattle.undo_base.specs.declared.keys.User.{User}
@@ -14,17 +14,17 @@ use Rattle.verb_core.specs.declared.item.Shown.TheVariants.{Seen, Names as Named
 use Rattle.verb_core.specs.declared.mailbox.Entry.{Entry}
 use Rattle.verb_core.specs.declared.mailbox.Mailbox.{Mailbox}
 use Rattle.verb_core.specs.Names.{is_listed}
-use Rattle.verb_core.specs.Mailboxes.{put_all, with_entries, no_flags, reflagged, expunged, without, is_among, there, sights, copies}
-use Rattle.verb_core.specs.Boxes.{box_of, mail_at, names_of, row_at}
+use Rattle.verb_core.specs.Mailboxes.{put_all, with_entries, no_flags, reflagged, expunged, without, is_among}
+use Rattle.verb_core.specs.Boxes.{box_of, mail_at}
 use Rattle.verb_core.specs.Items.{actor}
 use Rattle.verb_core.specs.Aims.{Sought, box_aimed}
 use Rattle.verb_core.specs.Step.{Boxes, new_mail, put_at, rearranged, shown}
 use Rattle.touch_rules.specs.declared.touched.Touch.{Touch}
-use Rattle.touch_rules.specs.declared.touched.Touch.TheVariants.{Keys, Tail, Whole, Names}
-use Rattle.touch_rules.specs.Table.{tail_on, looked_for, arrivals, act_row, table_row}
+use Rattle.touch_rules.specs.declared.touched.Touch.TheVariants.{Keys}
+use Rattle.touch_rules.specs.Table.{tail_on, looked_for, arrivals, table_row}
 use Rattle.touch_rules.specs.Swapping.{brings_mail, resolved}
-use Rattle.touch_rules.proofs.Edits.{both, LeavesOthers, flags_by, kept_by, flags_form, kept_form, flags_leave, kept_leave, all_of, copies_are, sights_alike, there_alike, copies_alike, expunged_alike}
-use Rattle.touch_rules.proofs.Changes.{Change, Allowed, IsAllowed, after_changes, all_fit, seen_kept, whole_kept, names_kept}
+use Rattle.touch_rules.proofs.Edits.{both, flags_by, kept_by, flags_form, kept_form, flags_leave, kept_leave, all_of, copies_are, sights_alike, there_alike, copies_alike, expunged_alike}
+use Rattle.touch_rules.proofs.Changes.{Change, Allowed, after_changes, all_fit, seen_kept, whole_kept, names_kept}
 
 -- whether a deed makes, renames or deletes a mailbox
 abbrev pub moves_boxes : Deed → Bool

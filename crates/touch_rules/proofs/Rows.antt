@@ -6,7 +6,7 @@ use Rattle.undo_base.specs.declared.keys.Key.{Key}
 use Rattle.undo_base.specs.declared.asks.How.TheVariants.{Add}
 use Rattle.verb_core.specs.declared.item.Aim.{Aim}
 use Rattle.verb_core.specs.declared.item.Deed.{Deed}
-use Rattle.verb_core.specs.declared.item.Deed.TheVariants.{Deliver, Append, Fetch, Store, Copy, List as Lists, Select, Create, Rename, Delete}
+use Rattle.verb_core.specs.declared.item.Deed.TheVariants.{Deliver, Fetch, Store, Copy, List as Lists, Select, Create, Rename, Delete}
 use Rattle.verb_core.specs.declared.item.Shown.TheVariants.{Nothing}
 use Rattle.verb_core.specs.declared.item.Resolved.{Resolved}
 use Rattle.verb_core.specs.Names.{inbox, lost_found}

@@ -1,12 +1,12 @@
 -- What it means that two items may come in either order.
-use Rattle.std.specs.Prelude.{◌≡◌, Bool, true, false, List, []}
+use Rattle.std.specs.Prelude.{◌≡◌, Bool, true, false, []}
 use Rattle.verb_core.specs.declared.item.Item.{Item}
 use Rattle.verb_core.specs.declared.item.Resolved.{Resolved}
 use Rattle.verb_core.specs.declared.item.Deed.{Deed}
 use Rattle.verb_core.specs.declared.item.Deed.TheVariants.{Deliver, Append, Copy, Act as Acts, Notice}
 use Rattle.verb_core.specs.declared.item.Act.TheVariants.{SetAlias, DropAlias, SetFilter, DropFilter, Give}
 use Rattle.verb_core.specs.Store.{MailStore}
-use Rattle.verb_core.specs.Aims.{Sought, sought_by}
+use Rattle.verb_core.specs.Aims.{Sought}
 use Rattle.verb_core.specs.Step.{step, step_with}
 
 -- whether a deed brings new mail

@@ -1,5 +1,5 @@
 -- What each item touches: messages of a mailbox by their keys, its end, the whole mailbox, or a user's names.
-use Rattle.std.specs.Prelude.{ℕ, Bool, true, false, List, [], ◌∷◌, ◌++◌, map}
+use Rattle.std.specs.Prelude.{ℕ, true, false, List, [], ◌∷◌, ◌++◌, map}
 use Rattle.undo_base.specs.declared.keys.User.{User}
 use Rattle.verb_core.specs.declared.item.Aim.{Aim}
 use Rattle.verb_core.specs.declared.item.Resolved.{Resolved}

@@ -2,6 +2,7 @@ use Rattle.std.proofs.Common.{map, string_bytes, ap}
 use Rattle.mail_proxy.specs.Plans.{end_of}
 use Rattle.mail_proxy.proofs.Causes.{comes, unused_disk}
 use Rattle.mail_proxy.proofs.Due.{due}
+use Rattle.mail_proxy.proofs.Rounds.{few_rounds}
 use Rattle.mail_proxy.proofs.top.run.Goals as goal
 
 pub returns-clause-comes : goal.returns-clause-comes
@@ -10,9 +11,10 @@ returns-clause-comes g c =
     let link = g.L.Link.told in
     let out = g.W.Sink.told in
     let plan = c.make_plan-plan.result in
+    let words = map string_bytes c.args.words.now.items in
     comes g.D.Disk.told c.args.disk (end_of plan.0 plan.1) (text c.args.text.now) (text c.make_plan-plan.new.text) (link c.args.link.now) (link c.make_plan-plan.new.link)
     (out c.args.out.now) (out c.show.new.out) c.show.result c.show.ensures
-    (map string_bytes c.args.words.now.items) (λ e. ap link (c.make_plan-plan.ensures.unlinked e)) c.make_plan-plan.ensures.answers
+    words (few_rounds c.one_reading.ensures words) (λ e. ap link {x = c.make_plan-plan.new.link} (c.make_plan-plan.ensures.unlinked e)) c.make_plan-plan.ensures.answers
 
 pub returns-clause-disk : goal.returns-clause-disk
 returns-clause-disk g c =

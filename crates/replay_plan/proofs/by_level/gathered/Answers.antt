@@ -1,6 +1,4 @@
-use Rattle.std.proofs.Common.{◌≡◌, ◌∙◌, ◌-◌, ◌+◌, ◌≤◌, ℕ, List, ap, ap₂, sym, subst, arith, length, take, get_or, max}
-use Rattle.replay_plan.specs.Placing.{grouped, highest}
-use Rattle.replay_plan.specs.Gathering.{with_place}
+use Rattle.std.proofs.Common.{◌∙◌}
 use Rattle.replay_plan.proofs.Gathered.{grouped_next, rise_first, rise_next}
 use Rattle.replay_plan.proofs.by_level.gathered.Goals as goal
 

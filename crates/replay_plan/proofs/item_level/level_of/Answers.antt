@@ -1,16 +1,17 @@
-use Rattle.std.proofs.Common.{◌≡◌, ◌∙◌, ◌+◌, ◌-◌, ℕ, ap, sym, arith, length, zip}
+use Rattle.std.proofs.Common.{◌≡◌, ◌∙◌, ◌+◌, ◌-◌, ℕ, sym, arith, length, zip, refl}
 use Rattle.replay_plan.specs.Placing.{may_have, least_from}
-use Rattle.replay_plan.proofs.Least.{long_zip, tried, found}
+use Rattle.replay_plan.proofs.Least.{begins, is_behind, tried}
 use Rattle.replay_plan.proofs.item_level.level_of.Goals as goal
 
+pub returns-then-low-behind : goal.returns-then-low-behind
+returns-then-low-behind c = is_behind c.args.all.now c.args.levels.now c.args.touches.now c.requires.enough (length c.args.levels.now + 1) c.lowest-low.result refl c.if-low-behind.true c.lowest-low.ensures.none
+
 pub loop-level-init : goal.loop-level-init
-loop-level-init c =
-    let many : (length c.args.levels.now + 1) - 1 ≡ length (zip c.args.all.now c.args.levels.now) = omega (arith, long_zip c.args.all.now c.args.levels.now c.requires.enough) in
-    record {
-      first = omega arith;
-      last = omega arith;
-      least = ap (λ n. least_from (may_have (zip c.args.all.now c.args.levels.now) c.args.touches.now) n 1) many;
-    }
+loop-level-init c = record {
+  first = c.lowest-low.ensures.first;
+  last = omega (arith, c.if-low-behind.false);
+  least = begins c.args.all.now c.args.levels.now c.args.touches.now c.requires.enough (length c.args.levels.now + 1) c.lowest-low.result refl c.lowest-low.ensures.first (omega (arith, c.if-low-behind.false)) c.lowest-low.ensures.none;
+}
 
 pub loop-level-preserved : goal.loop-level-preserved
 loop-level-preserved c = record {

@@ -1,5 +1,4 @@
-use Rattle.std.proofs.Common.{◌≡◌, ◌∙◌, ◌++◌, ◌+◌, List, ℕ, ap, sym, arith, zip, length, length-append, ◌∷◌, []}
-use Rattle.touch_rules.specs.declared.touched.Touch.{Touch}
+use Rattle.std.proofs.Common.{◌∙◌, ◌++◌, ◌+◌, List, ℕ, ap, sym, zip, length, length-append, ◌∷◌, []}
 use Rattle.replay_plan.specs.Placing.{Placed, levels_behind, level_behind}
 use Rattle.replay_plan.proofs.Least.{zip_none, levels_step}
 use Rattle.replay_plan.proofs.planning.each_level.Goals as goal

@@ -1,4 +1,4 @@
-use Rattle.std.proofs.Common.{◌≡◌, ◌∙◌, arith, length, ap}
+use Rattle.std.proofs.Common.{◌∙◌, arith, length, ap}
 use Rattle.replay_plan.proofs.Least.{rises, as_many}
 use Rattle.replay_plan.proofs.planning.plan.Goals as goal
 
