@@ -90,10 +90,10 @@ fn is_closed_by(alloc: Global, desk: &mut Desk<MemDisk>, by_mail: bool) -> Resul
 /// Whether that closes the desk, and all is kept that was.
 fn stays(alloc: Global, desk: &mut Desk<MemDisk>, by_mail: bool) -> Result<bool, Fail> {
     let before = kept(alloc, desk)?;
-    let closed = is_closed_by(alloc, desk, by_mail);
-    let same = keeps(alloc, desk, &before);
+    let closed = is_closed_by(alloc, desk, by_mail)?;
+    let same = keeps(alloc, desk, &before)?;
     drop(before);
-    Ok(closed? && same? && desk.closed() && desk.next() == 3)
+    Ok(closed && same && desk.closed() && desk.next() == 3)
 }
 
 /// The same, where this call fails and so many writes are tried.
