@@ -1,7 +1,7 @@
 //! What the words ask for.
 use hex::decode;
 use std::alloc::{AllocFailed, Global};
-use undo_base::{NoMemory, Numbers, Text, read_number};
+use undo_base::{NoMemory, Numbers, Text, after, before, read_number};
 
 /// Why nothing is run.
 #[derive(Clone, Copy, Debug)]
@@ -73,7 +73,7 @@ impl Asked {
 /// The bytes that hexadecimal digits spell.
 fn bytes_of(alloc: Global, digits: &[u8]) -> Result<Text, Unasked> {
     match decode(alloc, digits) {
-        Ok(bytes) => Ok(Text::from_vec(bytes)),
+        Ok(bytes) => Ok(Text::of(alloc, &bytes)?),
         Err(_) => Err(Unasked::Word),
     }
 }
@@ -94,18 +94,16 @@ fn numbers_of(alloc: Global, list: &[u8]) -> Result<Numbers, Unasked> {
     Ok(numbers)
 }
 
-/// The place of a byte.
-fn place_of(bytes: &[u8], wanted: u8) -> Option<usize> {
-    bytes.iter().position(|byte| *byte == wanted)
+/// What stands before a byte and behind it.
+fn split(bytes: &[u8], mark: u8) -> Option<(&[u8], &[u8])> {
+    let at = bytes.iter().position(|byte| *byte == mark)?;
+    Some((before(bytes, at), after(bytes, at.saturating_add(1))))
 }
 
 /// So many writes, and so many bytes of the next.
 fn image_of(value: &[u8]) -> Result<(usize, usize), Unasked> {
-    match place_of(value, b'+') {
-        Some(at) => Ok((
-            number_of(&value[..at])? as usize,
-            number_of(&value[at + 1..])? as usize,
-        )),
+    match split(value, b'+') {
+        Some((writes, bytes)) => Ok((number_of(writes)? as usize, number_of(bytes)? as usize)),
         None => Err(Unasked::Word),
     }
 }
@@ -116,9 +114,8 @@ pub(crate) fn read_words(alloc: Global, words: Vec<String>) -> Result<Asked, Una
     let mut begun = false;
     for word in words {
         if !begun {
-            let bytes = word.as_bytes();
-            begun = match place_of(bytes, b'=') {
-                Some(at) => !asked.set(alloc, &bytes[..at], &bytes[at + 1..])?,
+            begun = match split(word.as_bytes(), b'=') {
+                Some((name, value)) => !asked.set(alloc, name, value)?,
                 None => true,
             };
         }

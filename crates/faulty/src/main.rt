@@ -53,7 +53,7 @@ fn ended<R: Threads + Sync>(
 ) -> Result<Ended, NoMemory> {
     let serves = asked.serves();
     let mut link = MemLink::new(alloc, events_of(alloc, serves, &bytes), asked.link);
-    let mut source = MemSource::new(Text::from_vec(bytes), asked.text);
+    let mut source = MemSource::new(Text::of(alloc, &bytes)?, asked.text);
     let mut out = MemSink::new(alloc, asked.out);
     let disk = MemDisk::new(alloc, asked.store, asked.disk);
     let (status, disk) = run(
