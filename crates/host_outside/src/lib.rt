@@ -1,6 +1,6 @@
 //! The real outside: standard streams, a file and the sockets of this machine, each as the trait that stands for it.
 //!
-//! `streams` has standard input and output, `file_disk` a file (`backing` opens, reads and
+//! `streams` has standard input and output, `file_disk` a file (`path_file` opens, reads and
 //! writes it, and `locks` keeps other programs out), `loop_link` the
 //! connections: `sockets` visits them in turn, over `listeners` and `connection`, and `waiting` is what a slow reader has
 //! not taken yet. They tell nothing of content: what a real file or a peer does is no part of any proof. What is proved is

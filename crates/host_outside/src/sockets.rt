@@ -1,5 +1,5 @@
 //! The listeners and the connections, visited in rounds: those that were active lately in each, the others by turns.
-ghost use Rattle.std.specs.Prelude.{◌≡◌, ◌≤◌, true, IfSome, IsNone};
+ghost use Rattle.std.specs.Prelude.{◌≡◌, ◌≤◌, true, false, IfSome, IsNone, None};
 ghost use Rattle.host_outside.specs.Seats.{IsAt, IsOf};
 ghost use Rattle.undo_outside.specs.declared.event.What.TheVariants.{Joined};
 
@@ -56,7 +56,9 @@ struct Seat<S> {
 impl<S: Drop> Seat<S> {
     /// Nobody has the seat any more where its connection is over.
     fn free(&mut self)
-        ensures freed { IsNone self.new.connection → IfSome self.old.connection (λ connection. connection.is_over ≡ true) }
+        ensures over { IfSome self.old.connection (λ connection. connection.is_over ≡ true → self.new.connection ≡ None) }
+        ensures kept { IfSome self.old.connection (λ connection. connection.is_over ≡ false → self.new.connection ≡ self.old.connection) }
+        ensures empty { IsNone self.old.connection → self.new.connection ≡ None }
         ensures lively { self.new.lively_until ≡ self.old.lively_until }
     {
         let is_over = match &self.connection {
