@@ -1,5 +1,5 @@
 -- The least level that an item may have, and the levels of items in order.
-use Rattle.std.proofs.Common.{◌≡◌, ℕ, zero, suc, ◌+◌, ◌-◌, ◌<◌, ◌≤◌, max, min, Bool, true, false, not, ◌&&◌, ◌||◌, cond, List, [], ◌∷◌, ◌++◌, map, length, zip, drop, get_or, IsTrue, refl, sym, ap, ap₂, ◌∙◌, arith, ◌==◌, nat_lt, nat_le, eqb-true, eq-eqb, true≢false, length-append}
+use Rattle.std.proofs.Common.{◌≡◌, ℕ, zero, suc, ◌+◌, ◌-◌, ◌<◌, ◌≤◌, max, min, Bool, true, false, not, ◌&&◌, ◌||◌, cond, List, [], ◌∷◌, ◌++◌, map, length, zip, drop, get_or, set, ◌⊎◌, inl, inr, IsTrue, refl, sym, ap, ap₂, ◌∙◌, arith, ◌==◌, nat_lt, nat_le, eqb-true, eq-eqb, true≢false, length-append}
 use Rattle.std.specs.List.{list_all}
 use Rattle.std.proofs.Math.Seq.{drop-cons}
 use Rattle.std.proofs.lemmas.Bool.{lt-ltb, ltb-true, le-leb}
@@ -166,6 +166,20 @@ length_levels earlier (x ∷ all) = ap suc (length_levels (earlier ++ (x, level_
 pub as_many : (levels : List ℕ) (all : List (List Touch)) → levels ≡ levels_by_item all → length levels ≡ length all
 as_many levels all is = ap length is ∙ length_levels [] all
 
+-- ---- marks
+
+-- a mark that is there was made last, or was there
+set_marks : (marks : List Bool) (i m : ℕ) → get_or (set marks i true) m false ≡ true → (m ≡ i) ⊎ (get_or marks m false ≡ true)
+set_marks [] i m on = inr on
+set_marks (b ∷ marks) zero zero on = inl refl
+set_marks (b ∷ marks) zero (suc m) on = inr on
+set_marks (b ∷ marks) (suc i) zero on = inr on
+set_marks (b ∷ marks) (suc i) (suc m) on = further (set_marks marks i m on)
+  where
+    further : (m ≡ i) ⊎ (get_or marks m false ≡ true) → (suc m ≡ suc i) ⊎ (get_or marks m false ≡ true)
+    further (inl same) = inl (ap suc same)
+    further (inr there) = inr there
+
 -- ---- levels below those of earlier items that do not commute
 
 -- levels that do not pass are left out
@@ -235,3 +249,33 @@ module _ (all : List (List Touch)) (levels : List ℕ) (touches : List Touch) (f
   pub lowest_step : (low new : ℕ) (x : List Touch) (i : ℕ) → new ≡ cond (nat_le low (get_or levels i 0) && not (commute x touches)) (get_or levels i 0 + 1) low → i < length levels → x ≡ get_or all i x → 1 ≤ low
       → ((m : ℕ) → 1 ≤ m → m < low → may_have (zip all levels) touches m ≡ false) → (1 ≤ new) × ((m : ℕ) → 1 ≤ m → m < new → may_have (zip all levels) touches m ≡ false)
   lowest_step low new x i is lt same one none = step_by low (get_or levels i 0) new x i (nat_le low (get_or levels i 0) && not (commute x touches)) refl is refl lt same one none
+
+  -- the level of an earlier item that is not independent may not be the item's
+  none_beside : (i : ℕ) (x : List Touch) → i < length levels → x ≡ get_or all i x → are_independent x touches ≡ false → may_have (zip all levels) touches (get_or levels i 0) ≡ false
+  none_beside i x lt is off =
+      let m : ℕ = get_or levels i 0 in
+      fails_at (λ e. (commute e.0 touches || nat_lt e.1 m) && (are_independent e.0 touches || not (e.1 == m))) (zip all levels) i (x, 0) (omega (arith, lt, long_zip all levels few))
+      (ap (λ (e : Placed). (commute e.0 touches || nat_lt e.1 m) && (are_independent e.0 touches || not (e.1 == m))) (get_or-zip all levels i (x, 0) (omega (arith, lt, few)) lt)
+      ∙ ap (λ (y : List Touch). (commute y touches || nat_lt m m) && (are_independent y touches || not (m == m))) (sym is)
+      ∙ ap₂ (λ a b. (commute x touches || nat_lt m m) && (a || not b)) off (eq-eqb m m refl)
+      ∙ and_false (commute x touches || nat_lt m m))
+    where
+      and_false : (a : Bool) → (a && false) ≡ false
+      and_false true = refl
+      and_false false = refl
+
+  -- one mark more, or none
+  pub marks_step : (marks new : List Bool) (i : ℕ) (x : List Touch) (t : Bool) → (nat_lt (get_or levels i 0) (length marks) && not (are_independent x touches)) ≡ t
+      → new ≡ cond t (set marks (get_or levels i 0) true) marks → i < length levels → x ≡ get_or all i x
+      → ((m : ℕ) → get_or marks m false ≡ true → may_have (zip all levels) touches m ≡ false) → (m : ℕ) → get_or new m false ≡ true → may_have (zip all levels) touches m ≡ false
+  marks_step marks new i x false test is lt same none m on = none m (sym (ap (λ bs. get_or bs m false) is) ∙ on)
+  marks_step marks new i x true test is lt same none m on = by_place (set_marks marks (get_or levels i 0) m (sym (ap (λ bs. get_or bs m false) is) ∙ on))
+    where
+      dependent : (a b : Bool) → (a && not b) ≡ true → b ≡ false
+      dependent true true h = sym h
+      dependent true false h = refl
+      dependent false b h = absurd (true≢false (sym h))
+
+      by_place : (m ≡ get_or levels i 0) ⊎ (get_or marks m false ≡ true) → may_have (zip all levels) touches m ≡ false
+      by_place (inl here) = ap (may_have (zip all levels) touches) here ∙ none_beside i x lt same (dependent (nat_lt (get_or levels i 0) (length marks)) (are_independent x touches) test)
+      by_place (inr there) = none m there

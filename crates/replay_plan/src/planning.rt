@@ -16,7 +16,7 @@ fn each_level(alloc: Global, all: &[TouchSet]) -> Result<Vec<u32>, NoMemory>
 {
     let mut levels = Vec::new(alloc);
     for place in 0..all.len() {
-        let level = level_of(all, levels.as_slice(), &all[place]);
+        let level = level_of(alloc, all, levels.as_slice(), &all[place])?;
         levels.push(level)?;
     }
     Ok(levels)

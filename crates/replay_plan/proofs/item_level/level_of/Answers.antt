@@ -18,6 +18,6 @@ loop-level-preserved c = record {
   first = omega arith;
   last = omega (arith, c.loop-level-test.true);
   least =
-      sym (tried (may_have (zip c.args.all.now c.args.levels.now) c.args.touches.now) (length c.args.levels.now + 1) c.loop-level.level c.loop-level-test.true c.if-may_stand.ensures)
+      sym (tried (may_have (zip c.args.all.now c.args.levels.now) c.args.touches.now) (length c.args.levels.now + 1) c.loop-level.level c.loop-level-test.true c.if-may_take.ensures)
       ∙ c.loop-level.invariant.least;
 }

@@ -13,11 +13,11 @@ loop-place-init c = record {
 
 pub loop-place-preserved : goal.loop-place-preserved
 loop-place-preserved c = record {
-  count = ap length c.in_ok-push.ensures.items ∙ length-append c.loop-place.levels.items (c.level_of-level.result ∷ []) ∙ ap (λ n. n + 1) c.loop-place.invariant.count;
+  count = ap length c.in_ok-push.ensures.items ∙ length-append c.loop-place.levels.items (c.in_ok-level.level ∷ []) ∙ ap (λ n. n + 1) c.loop-place.invariant.count;
   all =
-      levels_step c.args.all.now c.loop-place.levels.items c.push.new.self.items c.loop-place.place c.level_of-level.result c.index-all-place.result
+      levels_step c.args.all.now c.loop-place.levels.items c.push.new.self.items c.loop-place.place c.in_ok-level.level c.index-all-place.result
       (sym c.loop-place.invariant.count) c.loop-place-test.true
-      (c.level_of-level.ensures ∙ ap (λ (ns : List ℕ). level_behind (zip c.args.all.now ns) c.index-all-place.result) c.as_slice.ensures.value ∙ ap (level_behind (zip c.args.all.now c.loop-place.levels.items)) c.index-all-place.is)
+      (c.in_ok-level.ensures ∙ ap (λ (ns : List ℕ). level_behind (zip c.args.all.now ns) c.index-all-place.result) c.as_slice.ensures.value ∙ ap (level_behind (zip c.args.all.now c.loop-place.levels.items)) c.index-all-place.is)
       c.in_ok-push.ensures.items
       ∙ c.loop-place.invariant.all;
 }
