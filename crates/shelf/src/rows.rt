@@ -1,7 +1,7 @@
 //! The notes of bodies.
 ghost use Rattle.std.specs.Prelude.{◌≡◌, ◌≤◌, ◌<◌, ◌+◌, [], IfOk, IfErr, OnOk};
 ghost use Rattle.shelf.specs.Notes as spec;
-ghost use Rattle.shelf.specs.Notes.{NotesOnly, size_of};
+ghost use Rattle.shelf.specs.Notes.{NotesOnly, note_of, size_of};
 ghost use Rattle.shelf.specs.Rows.{made, IsAt, IsGapFor};
 
 use crate::Note;
@@ -73,13 +73,23 @@ impl Shelf {
         }
     }
 
+    /// The last note of a body, where it was noted. It takes no memory.
+    pub fn find(&self, body: Body) -> Option<Note>
+        ensures { result ≡ note_of self.now.notes body }
+    {
+        match self.search(body) {
+            Ok(at) => Some(self.rows[at].1),
+            Err(_) => None,
+        }
+    }
+
     /// How many bytes a body has, where it was noted.
     pub fn size(&self, body: Body) -> Option<u32>
         ensures { result ≡ size_of self.now.notes body }
     {
-        match self.search(body) {
-            Ok(at) => Some(self.rows[at].1.length),
-            Err(_) => None,
+        match self.find(body) {
+            Some(note) => Some(note.length),
+            None => None,
         }
     }
 
