@@ -86,6 +86,14 @@ impl StoredItem {
         self.item.deed.text().is_some()
     }
 
+    /// Whether it is a notice.
+    #[tactic(auto, using(crate::proofs::Whole::still_notice))]
+    pub fn is_notice(&self) -> bool
+        ensures { result ≡ is_notice self.now.deed }
+    {
+        self.item.deed.is_notice()
+    }
+
     /// The body that names its text.
     pub fn body(&self) -> Body
         ensures origin { result.origin ≡ self.now.number }
