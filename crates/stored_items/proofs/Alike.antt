@@ -145,7 +145,7 @@ does_as_heard s i h heard =
 -- ---- items as they were read
 
 -- what an item has without its text, it has as it was read
-as_heard : {A : Type 0} (f : Item → A) → ((i : Item) → f (stored i) ≡ f i) → (i h : Item) → IsHeard i h → f h ≡ f i
+pub as_heard : {A : Type 0} (f : Item → A) → ((i : Item) → f (stored i) ≡ f i) → (i h : Item) → IsHeard i h → f h ≡ f i
 as_heard f alike i h heard = sym (alike h) ∙ ap f heard.stored_is ∙ alike i
 
 pub formed_heard : (house : House) (i h : Item) → IsHeard i h → IsWellFormed house i → IsWellFormed house h
