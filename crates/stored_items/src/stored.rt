@@ -86,6 +86,14 @@ impl StoredItem {
         self.item.deed.text().is_some()
     }
 
+    /// Whether it is a notice.
+    #[tactic(auto, using(crate::proofs::Whole::still_notice))]
+    pub fn is_notice(&self) -> bool
+        ensures { result ≡ is_notice self.now.deed }
+    {
+        self.item.deed.is_notice()
+    }
+
     /// How many bytes the text has that the item brings.
     pub fn size(&self) -> Option<u32>
         ensures { result ≡ option_map length (text_in self.now.deed) }
