@@ -1,5 +1,5 @@
 -- The loops over the elements of a list, whose bytes lie one after another.
-use Rattle.std.proofs.Common.{◌≡◌, ℕ, ◌+◌, ◌<◌, ◌≤◌, List, [], ◌∷◌, ◌++◌, length, get_or, drop, Option, refl, sym, ap, subst, ◌∙◌, append_assoc, add-one, drop-cons, arith}
+use Rattle.std.proofs.Common.{◌≡◌, ℕ, ◌+◌, ◌<◌, ◌≤◌, List, ◌∷◌, ◌++◌, length, get_or, drop, Option, sym, ap, subst, ◌∙◌, append_assoc, add-one, drop-cons, arith}
 use Rattle.std.specs.Prelude.{min}
 use Rattle.std.specs.List.{flat_map}
 use Rattle.std.specs.Option.{option_to_list}
@@ -18,12 +18,12 @@ Walks F P xs start old at now rest = (at + size_of (flat_map F rest) ≡ start +
 
 step : {A : Type 0} (F : A → List Field) (P : ℕ → A → Option TextPlace) (xs : List A) (start : ℕ) (old : List TextPlace) (at next : ℕ) (now after : List TextPlace) (x : A) (rest : List A) → next ≡ at + size_of (F x) → after ≡ now ++ option_to_list (P at x) → Walks F P xs start old at now (x ∷ rest) → Walks F P xs start old next after rest
 step F P xs start old at next now after x rest e f w = (
-      omega (arith, e, w.0, size_both (F x) (flat_map F rest)),
-      ap (λ (y : List TextPlace). y ++ places_along F P next rest) f
+  omega (arith, e, w.0, size_both (F x) (flat_map F rest)),
+  ap (λ (y : List TextPlace). y ++ places_along F P next rest) f
       ∙ append_assoc now (option_to_list (P at x)) (places_along F P next rest)
       ∙ ap (λ (n : ℕ). now ++ (option_to_list (P at x) ++ places_along F P n rest)) e
       ∙ w.1,
-    )
+)
 
 pub walks_next : {A : Type 0} (F : A → List Field) (P : ℕ → A → Option TextPlace) (xs : List A) (i start : ℕ) (old : List TextPlace) (at next : ℕ) (now after : List TextPlace) (x : A) → i < length xs → x ≡ get_or xs i x → next ≡ at + size_of (F x) → after ≡ now ++ option_to_list (P at x) → Walks F P xs start old at now (drop i xs) → Walks F P xs start old next after (drop (i + 1) xs)
 walks_next {A} F P xs i start old at next now after x lt is e f w =

@@ -12,10 +12,10 @@ use Rattle.verb_core.specs.Items.{text_in}
 use Rattle.verb_bytes.specs.declared.journal.CycleAsk.{CycleAsk}
 use Rattle.verb_bytes.specs.declared.journal.JournalRecord.TheVariants.{Verb, Operator, Cycle}
 use Rattle.verb_bytes.specs.declared.places.TextPlace.{TextPlace}
-use Rattle.verb_bytes.specs.Fields.{Field, ◌&◌, number_field, name_field, u32_field, any_list_fields}
+use Rattle.verb_bytes.specs.Fields.{◌&◌, number_field, name_field, u32_field, any_list_fields}
 use Rattle.verb_bytes.specs.Places.{act_place, before_ask, first_from, given_places, given_texts, placed, places_along, replace_place, replaced_places, replaced_texts, size_of, text_places_of, IsTextAt, LiesThere}
 use Rattle.verb_bytes.specs.Spelling.{HasSpelling, act_fields, record_bytes, replace_fields}
-use Rattle.verb_bytes.proofs.Sizes.{before_ask_is, size_both, size_name, size_numbers, size_u32}
+use Rattle.verb_bytes.proofs.Sizes.{before_ask_is, size_both, size_numbers, size_u32}
 use Rattle.verb_bytes.proofs.TextsLie.{given_lie, operator_lies, replaced_lie, verb_lies}
 
 -- ---- the one text of an item or an act
@@ -24,7 +24,7 @@ first_lies : (bytes : List ℕ) (o : Option TextPlace) (t : Option (List ℕ)) (
 first_lies bytes None None text h e = absurd cc
 first_lies bytes None (Some x) text h e = absurd h
 first_lies bytes (Some p) None text h e = absurd h
-first_lies bytes (Some p) (Some x) text h e = subst (λ (t : List ℕ). IsTextAt bytes p.from t) cc h.0.lies
+first_lies bytes (Some p) (Some x) text h e = let same : x ≡ text = cc in subst (λ (t : List ℕ). IsTextAt bytes p.from t) same h.0.lies
 
 one_place_is : (bytes : List ℕ) (o : Option TextPlace) (t : Option (List ℕ)) → AllZip (LiesThere bytes) (option_to_list o) (option_to_list t) → option_to_list o ≡ option_to_list (option_map (placed (first_from (option_to_list o))) t)
 one_place_is bytes None None h = refl
@@ -60,6 +60,15 @@ pub record Counted (ask : CycleAsk) (first second : ℕ) (replaced all : List Te
   pub second_is : second ≡ first + size_of (flat_map replace_fields ask.replaces) + 4
   pub all_is : all ≡ replaced ++ places_along act_fields act_place second ask.inserts
 
+-- of what each call of the code answered
+pub counted : (ask : CycleAsk) (a b n first behind_replaces second : ℕ) (rs : List (ℕ × List ℕ)) (acts : List Act) (none replaced all : List TextPlace) → a ≡ 13 + size_of (name_field ask.key) → b ≡ a + 12 → n ≡ length ask.drops → first ≡ b + 4 * n → rs ≡ ask.replaces → none ≡ [] → behind_replaces ≡ first + size_of (flat_map replace_fields rs) → replaced ≡ none ++ places_along replace_fields replace_place first rs → second ≡ behind_replaces + 4 → acts ≡ ask.inserts → all ≡ replaced ++ places_along act_fields act_place second acts → Counted ask first second replaced all
+counted ask a b n first behind_replaces second rs acts none replaced all e1 e2 e3 e4 e5 e6 e7 e8 e9 e10 e11 = record {
+  first_is = omega (arith, e1, e2, e3, e4);
+  replaced_is = e8 ∙ ap (λ (xs : List TextPlace). xs ++ places_along replace_fields replace_place first rs) e6 ∙ ap (λ (ys : List (ℕ × List ℕ)). places_along replace_fields replace_place first ys) e5;
+  second_is = omega (arith, e9, e7, ap (λ (ys : List (ℕ × List ℕ)). size_of (flat_map replace_fields ys)) e5);
+  all_is = e11 ∙ ap (λ (ys : List Act). replaced ++ places_along act_fields act_place second ys) e10;
+}
+
 front_size : (key : List ℕ) (point : ℕ) (drops : List ℕ) (n : ℕ) → size_of (name_field key & u32_field point & any_list_fields u32_field drops & number_field w32 4294967295 n) ≡ size_of (name_field key) + 12 + 4 * length drops
 front_size key point drops n =
     omega (
@@ -68,7 +77,10 @@ front_size key point drops n =
       size_both (u32_field point) (any_list_fields u32_field drops & number_field w32 4294967295 n),
       size_both (any_list_fields u32_field drops) (number_field w32 4294967295 n),
       size_both (number_field w32 4294967295 (length drops)) (flat_map u32_field drops),
-      size_u32 4294967295 point, size_u32 4294967295 (length drops), size_u32 4294967295 n, size_numbers drops,
+      size_u32 4294967295 point,
+      size_u32 4294967295 (length drops),
+      size_u32 4294967295 n,
+      size_numbers drops,
     )
 
 fronts_size : (key : List ℕ) (point : ℕ) (drops : List ℕ) (rs : List (ℕ × List ℕ)) (n : ℕ) → size_of (name_field key & u32_field point & any_list_fields u32_field drops & any_list_fields replace_fields rs & number_field w32 4294967295 n) ≡ size_of (name_field key) + 12 + 4 * length drops + size_of (flat_map replace_fields rs) + 4
@@ -81,7 +93,11 @@ fronts_size key point drops rs n =
       size_both (number_field w32 4294967295 (length drops)) (flat_map u32_field drops),
       size_both (any_list_fields replace_fields rs) (number_field w32 4294967295 n),
       size_both (number_field w32 4294967295 (length rs)) (flat_map replace_fields rs),
-      size_u32 4294967295 point, size_u32 4294967295 (length drops), size_u32 4294967295 (length rs), size_u32 4294967295 n, size_numbers drops,
+      size_u32 4294967295 point,
+      size_u32 4294967295 (length drops),
+      size_u32 4294967295 (length rs),
+      size_u32 4294967295 n,
+      size_numbers drops,
     )
 
 replaced_found : (number at : ℕ) (ask : CycleAsk) (first second : ℕ) (replaced all : List TextPlace) → Counted ask first second replaced all → replaced ≡ replaced_places (before_ask number at) ask
@@ -101,10 +117,10 @@ ask_found number at ask first second replaced all c =
 -- as many places as items with a new text
 as_many : (n : ℕ) (rs : List (ℕ × List ℕ)) → length (places_along replace_fields replace_place n rs) ≡ length rs
 as_many n [] = refl
-as_many n (r ∷ rs) = ap (λ (k : ℕ). k + 1) (as_many (n + size_of (replace_fields r)) rs) ∙ omega arith
+as_many n (r ∷ rs) = omega (arith, as_many (n + size_of (replace_fields r)) rs)
 
-many : (number at : ℕ) (ask : CycleAsk) → length ask.replaces ≡ length (replaced_places (before_ask number at) ask)
-many number at ask = sym (as_many _ ask.replaces)
+many : (number at : ℕ) (ask : CycleAsk) → length (replaced_places (before_ask number at) ask) ≡ length ask.replaces
+many number at ask = as_many _ ask.replaces
 
 pub ask_replaced : (number at : ℕ) (ask : CycleAsk) (all : List TextPlace) → all ≡ text_places_of (Cycle number at ask) → AllZip (LiesThere (record_bytes (Cycle number at ask))) (take (length ask.replaces) all) (replaced_texts ask)
 ask_replaced number at ask all is =

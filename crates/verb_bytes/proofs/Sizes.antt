@@ -6,7 +6,7 @@ use Rattle.std.proofs.lemmas.List.{length-append, append-nil}
 use Rattle.std.proofs.lemmas.List.Concat.{flat_map-append}
 use Rattle.undo_base.specs.declared.keys.Key.{Key}
 use Rattle.undo_base.specs.declared.keys.User.{User}
-use Rattle.verb_bytes.specs.Fields.{Field, bytes_of, byte_field, number_field, name_field, text_field, key_field, user_field, u32_field, actor_field, option_fields}
+use Rattle.verb_bytes.specs.Fields.{Field, bytes_of, byte_field, number_field, name_field, text_field, key_field, user_field, u32_field}
 use Rattle.verb_bytes.specs.Places.{size_of, before_deed, before_act, before_ask}
 use Rattle.verb_bytes.specs.declared.places.TextPlace.{TextPlace}
 

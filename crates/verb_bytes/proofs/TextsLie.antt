@@ -1,5 +1,5 @@
 -- Each text of a record lies at its place.
-use Rattle.std.proofs.Common.{◌≡◌, ℕ, ◌+◌, ◌-◌, ◌<◌, ◌≤◌, List, [], ◌∷◌, ◌++◌, length, take, drop, map, Option, Some, None, refl, sym, ap, subst, ◌∙◌, append_assoc, arith}
+use Rattle.std.proofs.Common.{◌≡◌, ℕ, ◌+◌, ◌==◌, true, List, [], ◌∷◌, ◌++◌, length, take, drop, map, Option, Some, None, refl, sym, ap, subst, ◌∙◌, append_assoc, arith}
 use Rattle.std.specs.Prelude.{slice_range}
 use Rattle.std.specs.List.{AllZip, cons_option, filter_map, flat_map}
 use Rattle.std.specs.Int.{w32, to_be_bytes}
@@ -17,9 +17,9 @@ use Rattle.verb_bytes.specs.declared.journal.JournalRecord.{JournalRecord}
 use Rattle.verb_bytes.specs.declared.journal.JournalRecord.TheVariants.{Format, Verb, Operator, Cycle, Snapshot}
 use Rattle.verb_bytes.specs.declared.places.TextPlace.{TextPlace}
 use Rattle.verb_bytes.specs.Fields.{Field, bytes_of, are_in_range, ◌&◌, only_if, byte_field, number_field, name_field, text_field, list_fields, flags_field, u32_field, moment_field, any_text_field, body_field, user_field, actor_field, any_list_fields}
-use Rattle.verb_bytes.specs.Places.{act_place, before_act, before_ask, before_deed, behind, deed_place, first_from, given_places, given_texts, placed, places_along, replace_place, replaced_places, replaced_texts, size_of, text_places_of, texts_in, IsTextAt, LiesThere}
-use Rattle.verb_bytes.specs.Spelling.{HasSpelling, act_fields, deed_fields, item_fields, record_bytes, record_fields, replace_fields, shown_fields, shown_kind}
-use Rattle.verb_bytes.proofs.Exact.{in_range_parts, and_true}
+use Rattle.verb_bytes.specs.Places.{act_place, before_ask, behind, deed_place, given_places, given_texts, places_along, replace_place, replaced_places, replaced_texts, size_of, text_places_of, texts_in, IsTextAt, LiesThere}
+use Rattle.verb_bytes.specs.Spelling.{HasSpelling, act_fields, deed_fields, item_fields, record_bytes, replace_fields, shown_fields, shown_kind}
+use Rattle.verb_bytes.proofs.Exact.{in_range_parts}
 use Rattle.verb_bytes.proofs.Sizes.{size_both}
 
 -- ---- a text among bytes
@@ -42,9 +42,9 @@ unfolding bytes_of size_of text_field
 field_at pre post most text =
     let four = to_be_bytes w32 (length text) in
     let parts : bytes_of (pre ++ (text_field most text ++ post)) ≡ (bytes_of pre ++ four) ++ (text ++ bytes_of post) =
-          flat_map-append (λ (f : Field). f.bytes) pre (text_field most text ++ post)
-          ∙ ap (λ (x : List ℕ). bytes_of pre ++ x) (append_assoc four text (bytes_of post))
-          ∙ sym (append_assoc (bytes_of pre) four (text ++ bytes_of post)) in
+    flat_map-append (λ (f : Field). f.bytes) pre (text_field most text ++ post)
+    ∙ ap (λ (x : List ℕ). bytes_of pre ++ x) (append_assoc four text (bytes_of post))
+    ∙ sym (append_assoc (bytes_of pre) four (text ++ bytes_of post)) in
     let from : length (bytes_of pre ++ four) ≡ length (bytes_of pre) + 4 = length-append (bytes_of pre) four in
     record {
       length_is = refl;
@@ -113,12 +113,12 @@ each_lies F P T h [] pre post = tt
 each_lies {A} F P T h (x ∷ xs) pre post =
     let all = bytes_of (pre ++ ((F x ++ flat_map F xs) ++ post)) in
     let this : AllZip (LiesThere all) (option_to_list (P (size_of pre) x)) (option_to_list (T x)) =
-          subst (λ (fs : List Field). AllZip (LiesThere (bytes_of fs)) (option_to_list (P (size_of pre) x)) (option_to_list (T x))) (sym (first_part pre (F x) (flat_map F xs) post)) (h x pre (flat_map F xs ++ post)) in
+    subst (λ (fs : List Field). AllZip (LiesThere (bytes_of fs)) (option_to_list (P (size_of pre) x)) (option_to_list (T x))) (sym (first_part pre (F x) (flat_map F xs) post)) (h x pre (flat_map F xs ++ post)) in
     let others : AllZip (LiesThere all) (places_along F P (size_of pre + size_of (F x)) xs) (filter_map T xs) =
-          subst (λ (n : ℕ). AllZip (LiesThere all) (places_along F P n xs) (filter_map T xs)) (size_both pre (F x))
-            (subst (λ (fs : List Field). AllZip (LiesThere (bytes_of fs)) (places_along F P (size_of (pre ++ F x)) xs) (filter_map T xs)) (sym (other_parts pre (F x) (flat_map F xs) post)) (each_lies F P T h xs (pre ++ F x) post)) in
+    subst (λ (n : ℕ). AllZip (LiesThere all) (places_along F P n xs) (filter_map T xs)) (size_both pre (F x))
+    (subst (λ (fs : List Field). AllZip (LiesThere (bytes_of fs)) (places_along F P (size_of (pre ++ F x)) xs) (filter_map T xs)) (sym (other_parts pre (F x) (flat_map F xs) post)) (each_lies F P T h xs (pre ++ F x) post)) in
     subst (λ (texts : List (List ℕ)). AllZip (LiesThere all) (option_to_list (P (size_of pre) x) ++ places_along F P (size_of pre + size_of (F x)) xs) texts) (sym (cons_is (T x) (filter_map T xs)))
-      (both_zip (LiesThere all) (option_to_list (P (size_of pre) x)) (option_to_list (T x)) (places_along F P (size_of pre + size_of (F x)) xs) (filter_map T xs) this others)
+    (both_zip (LiesThere all) (option_to_list (P (size_of pre) x)) (option_to_list (T x)) (places_along F P (size_of pre + size_of (F x)) xs) (filter_map T xs) this others)
 
 each_new : (rs : List (ℕ × List ℕ)) → filter_map new_text rs ≡ map (λ (r : ℕ × List ℕ). r.1) rs
 each_new [] = refl
@@ -128,6 +128,7 @@ each_new (r ∷ rs) = ap (λ (texts : List (List ℕ)). r.1 ∷ texts) (each_new
 
 -- a user's own deed: an act and a notice have no spelling
 pub deed_lies : (d : Deed) → are_in_range (deed_fields d) ≡ true → Lies deed_fields deed_place text_in d
+unfolding are_in_range only_if
 deed_lies (Deliver from to text) fits pre post =
     let kind = byte_field 1 13 1 in
     (one_lies pre (kind & any_text_field from & list_fields 1000 name_field to) post _ 1052672 text (behind_three pre kind (any_text_field from) (list_fields 1000 name_field to) (body_field text) post), tt)
@@ -166,7 +167,7 @@ verb_lies i fits =
     let shown = shown_fields (shown_kind i.deed) i.shown in
     let post = shown & only_if (i.rev == 0) in
     subst (λ (fs : List Field). AllZip (LiesThere (bytes_of fs)) (text_places_of (Verb i)) (texts_in (Verb i))) (sym (deed_parts kind (u32_field i.number) (moment_field i.at) (actor_field i.by) (deed_fields i.deed) shown (only_if (i.rev == 0))))
-      (deed_lies i.deed (deed_fits i fits) pre post)
+    (deed_lies i.deed (deed_fits i fits) pre post)
 
 act_parts : (kind number at act : List Field) → kind ++ (number ++ (at ++ act)) ≡ (kind ++ (number ++ at)) ++ (act ++ [])
 act_parts kind number at act = simp (append_assoc, append-nil) refl
@@ -176,7 +177,7 @@ operator_lies number at a =
     let kind = byte_field 0 4 2 in
     let pre = kind & u32_field number & moment_field at in
     subst (λ (fs : List Field). AllZip (LiesThere (bytes_of fs)) (text_places_of (Operator number at a)) (texts_in (Operator number at a))) (sym (act_parts kind (u32_field number) (moment_field at) (act_fields a)))
-      (act_lies a pre [])
+    (act_lies a pre [])
 
 replace_parts : (before key point drops count replaces inserts : List Field) → before ++ (key ++ (point ++ (drops ++ ((count ++ replaces) ++ inserts)))) ≡ (before ++ (key ++ (point ++ (drops ++ count)))) ++ (replaces ++ inserts)
 replace_parts before key point drops count replaces inserts = simp append_assoc refl
@@ -199,8 +200,8 @@ replaced_lie number at ask =
     let parts = ask_parts (byte_field 0 4 3) (u32_field number) (moment_field at) (key & point & drops & any_list_fields replace_fields ask.replaces & post) ∙ replace_parts before key point drops count (flat_map replace_fields ask.replaces) post in
     let lie = each_lies replace_fields replace_place new_text replace_lies ask.replaces (before & front) post in
     subst (λ (fs : List Field). AllZip (LiesThere (bytes_of fs)) (replaced_places (before_ask number at) ask) (replaced_texts ask)) (sym parts)
-      (subst (λ (texts : List (List ℕ)). AllZip (LiesThere (bytes_of ((before & front) & flat_map replace_fields ask.replaces & post))) (replaced_places (before_ask number at) ask) texts) (each_new ask.replaces)
-        (subst (λ (n : ℕ). AllZip (LiesThere (bytes_of ((before & front) & flat_map replace_fields ask.replaces & post))) (places_along replace_fields replace_place n ask.replaces) (filter_map new_text ask.replaces)) (size_both before front) lie))
+    (subst (λ (texts : List (List ℕ)). AllZip (LiesThere (bytes_of ((before & front) & flat_map replace_fields ask.replaces & post))) (replaced_places (before_ask number at) ask) texts) (each_new ask.replaces)
+    (subst (λ (n : ℕ). AllZip (LiesThere (bytes_of ((before & front) & flat_map replace_fields ask.replaces & post))) (places_along replace_fields replace_place n ask.replaces) (filter_map new_text ask.replaces)) (size_both before front) lie))
 
 pub given_lie : (number at : ℕ) (ask : CycleAsk) → AllZip (LiesThere (record_bytes (Cycle number at ask))) (given_places (before_ask number at) ask) (given_texts ask)
 given_lie number at ask =
@@ -214,7 +215,7 @@ given_lie number at ask =
     let parts = ask_parts (byte_field 0 4 3) (u32_field number) (moment_field at) (key & point & drops & replaces & count & flat_map act_fields ask.inserts) ∙ insert_parts before key point drops replaces count (flat_map act_fields ask.inserts) in
     let lie = each_lies act_fields act_place text_of_act act_lies ask.inserts (before & front) [] in
     subst (λ (fs : List Field). AllZip (LiesThere (bytes_of fs)) (given_places (before_ask number at) ask) (given_texts ask)) (sym parts)
-      (subst (λ (n : ℕ). AllZip (LiesThere (bytes_of ((before & front) & flat_map act_fields ask.inserts & []))) (places_along act_fields act_place n ask.inserts) (given_texts ask)) (size_both before front) lie)
+    (subst (λ (n : ℕ). AllZip (LiesThere (bytes_of ((before & front) & flat_map act_fields ask.inserts & []))) (places_along act_fields act_place n ask.inserts) (given_texts ask)) (size_both before front) lie)
 
 pub cycle_lies : (number at : ℕ) (ask : CycleAsk) → AllZip (LiesThere (record_bytes (Cycle number at ask))) (text_places_of (Cycle number at ask)) (texts_in (Cycle number at ask))
 cycle_lies number at ask = both_zip _ (replaced_places (before_ask number at) ask) (replaced_texts ask) (given_places (before_ask number at) ask) (given_texts ask) (replaced_lie number at ask) (given_lie number at ask)

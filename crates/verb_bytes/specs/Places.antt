@@ -1,6 +1,6 @@
 -- Where the texts of a record lie in its bytes: behind the fields that stand before each, and the four bytes of its length.
 use Rattle.std.specs.Prelude.{◌≡◌, ℕ, ◌+◌, ◌≤◌, List, [], ◌∷◌, ◌++◌, length, map, slice_range, Option, Some, None}
-use Rattle.std.specs.List.{filter_map, flat_map}
+use Rattle.std.specs.List.{filter_map}
 use Rattle.std.specs.Int.{w32}
 use Rattle.std.specs.Option.{option_to_list}
 use Rattle.undo_base.specs.declared.keys.User.{User}

@@ -27,5 +27,7 @@ mod write;
 pub use decode::{BadBytes, decode_record};
 pub use encode::{encode_record, spell_act, spell_cycle, spell_item, spell_record, spell_snapshot};
 pub use journal::{Acts, CycleAsk, JournalRecord, Replaces};
-pub use places::{TextPlace, TextPlaces};
+pub use places::{
+    TextPlace, TextPlaces, act_text_from, ask_text_places, item_text_from, text_places,
+};
 pub use write::Unwritten;

@@ -130,7 +130,12 @@ impl Placed for (u32, Text) {
 }
 
 #[tactic(auto, using(crate::proofs::Sizes::sizes))]
-fn place_give(from: u32, mailbox: &Name, text: &Text, places: &mut TextPlaces) -> Result<u32, NoMemory>
+fn place_give(
+    from: u32,
+    mailbox: &Name,
+    text: &Text,
+    places: &mut TextPlaces,
+) -> Result<u32, NoMemory>
     ensures { (user : User) → IfOk result (λ at. (at ≡ from + size_of (act_fields (Give user mailbox.now text.now)))
         × (places.new ≡ places.old ++ option_to_list (act_place from (Give user mailbox.now text.now)))) }
 {
@@ -157,11 +162,7 @@ impl Placed for Act {
 }
 
 /// Adds the places of the texts of a list, whose elements begin here.
-fn place_each<T: Placed>(
-    from: u32,
-    items: &[T],
-    places: &mut TextPlaces,
-) -> Result<u32, NoMemory>
+fn place_each<T: Placed>(from: u32, items: &[T], places: &mut TextPlaces) -> Result<u32, NoMemory>
     ensures { IfOk result (λ at. (at ≡ from + size_of (flat_map T.Part.fields items.now))
         × (places.new ≡ places.old ++ places_along T.Part.fields T.place from items.now)) }
 {
@@ -218,12 +219,9 @@ fn give_text_from(mailbox: &Name) -> u32
     20 + mailbox.bytes().len() as u32
 }
 
-/// How many bytes lie before the text of a user's item in its record, the four bytes of the text's length among them: 0 for
-/// an item without one.
-pub fn item_text_from(item: &Item) -> u32
-    ensures from { result ≡ min (first_from (text_places_of (Verb item.now))) 4294967295 }
-    ensures lies { (text : List ℕ) → HasSpelling (Verb item.now) → length (record_bytes (Verb item.now)) ≤ 4294967295
-        → text_in item.now.deed ≡ Some text → IsTextAt (record_bytes (Verb item.now)) result text }
+#[tactic(auto, using(crate::proofs::Sizes::before_deed_is))]
+fn before_item_text(item: &Item) -> u32
+    ensures { result ≡ min (first_from (text_places_of (Verb item.now))) 4294967295 }
 {
     match &item.deed {
         Deed::Deliver { from, to, .. } => delivery_text_from(from, to),
@@ -244,11 +242,19 @@ pub fn item_text_from(item: &Item) -> u32
     }
 }
 
-/// The same of an operator's act.
-pub fn act_text_from(act: &Act) -> u32
-    ensures from { (number at : ℕ) → result ≡ first_from (text_places_of (Operator number at act.now)) }
-    ensures lies { (number at : ℕ) (text : List ℕ) → text_in (Acts act.now) ≡ Some text
-        → IsTextAt (record_bytes (Operator number at act.now)) result text }
+/// How many bytes lie before the text of a user's item in its record, the four bytes of the text's length among them: 0 for
+/// an item without one.
+pub fn item_text_from(item: &Item) -> u32
+    ensures from { result ≡ min (first_from (text_places_of (Verb item.now))) 4294967295 }
+    ensures lies { (text : List ℕ) → HasSpelling (Verb item.now) → length (record_bytes (Verb item.now)) ≤ 4294967295
+        → text_in item.now.deed ≡ Some text → IsTextAt (record_bytes (Verb item.now)) result text }
+{
+    before_item_text(item)
+}
+
+#[tactic(auto, using(crate::proofs::Sizes::before_act_is))]
+fn before_act_text(act: &Act) -> u32
+    ensures { (number at : ℕ) → result ≡ first_from (text_places_of (Operator number at act.now)) }
 {
     match act {
         Act::SetAlias { .. } => 0,
@@ -258,6 +264,15 @@ pub fn act_text_from(act: &Act) -> u32
         Act::Remove { .. } => 0,
         Act::Give { mailbox, .. } => give_text_from(mailbox),
     }
+}
+
+/// The same of an operator's act.
+pub fn act_text_from(act: &Act) -> u32
+    ensures from { (number at : ℕ) → result ≡ first_from (text_places_of (Operator number at act.now)) }
+    ensures lies { (number at : ℕ) (text : List ℕ) → text_in (Acts act.now) ≡ Some text
+        → IsTextAt (record_bytes (Operator number at act.now)) result text }
+{
+    before_act_text(act)
 }
 
 /// Where the texts of what a cycle is asked to do lie in its record: the new ones first, and then those that its acts
@@ -298,13 +313,15 @@ fn item_text_places(alloc: Global, item: &Item) -> Result<TextPlaces, NoMemory>
     requires { HasSpelling (Verb item.now) }
     ensures { IfOk result (λ places. places ≡ text_places_of (Verb item.now)) }
 {
-    one_place(alloc, item_text_from(item), item.deed.text())
+    let places = one_place(alloc, item_text_from(item), item.deed.text())?;
+    Ok(places)
 }
 
 fn act_text_places(alloc: Global, act: &Act) -> Result<TextPlaces, NoMemory>
     ensures { (number at : ℕ) → IfOk result (λ places. places ≡ text_places_of (Operator number at act.now)) }
 {
-    one_place(alloc, act_text_from(act), act.text())
+    let places = one_place(alloc, act_text_from(act), act.text())?;
+    Ok(places)
 }
 
 /// Where the texts of messages lie in the bytes of a record, in order: those of a delivery, of an APPEND and of a Give, and

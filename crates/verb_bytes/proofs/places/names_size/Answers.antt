@@ -1,4 +1,4 @@
-use Rattle.std.proofs.Common.{◌≡◌, ap, subst, length, ◌∙◌, ◌+◌}
+use Rattle.std.proofs.Common.{ap, length, ◌∙◌, ◌+◌}
 use Rattle.std.specs.Prelude.{min}
 use Rattle.verb_bytes.proofs.Along.{counts_all, counts_next}
 use Rattle.verb_bytes.proofs.places.names_size.Goals as goal
