@@ -1,5 +1,6 @@
 pub mod Fields
 pub mod Spelling
+pub mod Places
 pub mod Writing
 pub mod Decoding
 pub mod Limits

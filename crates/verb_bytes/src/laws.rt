@@ -1,5 +1,6 @@
 //! What holds of every record and its bytes. These functions do nothing: their contracts are laws of the definitions.
 ghost use Rattle.std.specs.Prelude.{◌≡◌, ℕ, ◌≤◌, ◌⊎◌, List, IsTrue, length};
+ghost use Rattle.std.specs.List.{AllZip};
 ghost use Rattle.verb_core.specs.declared.conf.Conf.{Conf};
 ghost use Rattle.verb_core.specs.declared.conf.House.{House};
 ghost use Rattle.verb_core.specs.declared.item.Act.{Act};
@@ -10,7 +11,8 @@ ghost use Rattle.verb_bytes.specs.declared.journal.JournalRecord.{JournalRecord}
 ghost use Rattle.verb_bytes.specs.declared.journal.JournalRecord.TheVariants.{Format, Verb, Operator, Cycle};
 ghost use Rattle.verb_bytes.specs.Decoding.{IsBytes, IsRefused, IsRefusedAt, IsSpelled};
 ghost use Rattle.verb_bytes.specs.Limits.{delivery, IsAct, IsAsked, IsMail, IsOpening};
-ghost use Rattle.verb_bytes.specs.Spelling.{HasSpelling, Spells};
+ghost use Rattle.verb_bytes.specs.Places.{text_places_of, texts_in, LiesThere};
+ghost use Rattle.verb_bytes.specs.Spelling.{record_bytes, HasSpelling, Spells};
 
 /// Bytes spell one record at most, and a record has one spelling. Bytes spell a record or are refused, at one place.
 pub fn one_spelling()
@@ -49,4 +51,9 @@ pub fn spelled_items_are_formed()
 /// The moment of a cycle whose record has a spelling is within the years that dates can say.
 pub fn spelled_cycles_have_moments()
     ensures { (number at : ℕ) (ask : CycleAsk) → HasSpelling (Cycle number at ask) → at ≤ 253402300799 }
+{}
+
+/// Each text of a record lies in its bytes at its place, in order.
+pub fn texts_lie_at_their_places()
+    ensures { (what : JournalRecord) → HasSpelling what → AllZip (LiesThere (record_bytes what)) (text_places_of what) (texts_in what) }
 {}

@@ -3,9 +3,12 @@
 //! `journal` is what is recorded; `encode` and `decode` write and read it. Below them `part` is what stands in lists,
 //! `simple`, `settings`, `mailboxes`, `acts`, `deeds`, `shown` and `items` are the parts, and `write` and `cursor` the
 //! fields. Of `specs/`, Fields, Spelling, Writing and Decoding say the fields of each record, what is written for it and
-//! what bytes are read as; Readers and Reading, how the parts read. `laws` says that this is one spelling.
+//! what bytes are read as; Readers and Reading, how the parts read. `places` tells where the texts of messages lie in a
+//! record's bytes, which Places says by the fields before each. `laws` says that this is one spelling, and that each text
+//! lies at its place.
 //! What carries the crate: `spell_record` gives the bytes of the record's fields, or answers that one of them is out of its
-//! range; and `decode_record` answers the record that the bytes spell, or the place where they are refused.
+//! range; and `decode_record` answers the record that the bytes spell, or the place where they are refused. `text_places`
+//! answers where its texts lie.
 #![tactic(auto)]
 
 mod acts;
@@ -18,6 +21,7 @@ mod journal;
 pub mod laws;
 mod mailboxes;
 mod part;
+mod places;
 mod settings;
 mod shown;
 mod simple;
@@ -26,4 +30,7 @@ mod write;
 pub use decode::{BadBytes, decode_record};
 pub use encode::{encode_record, spell_act, spell_cycle, spell_item, spell_record, spell_snapshot};
 pub use journal::{Acts, CycleAsk, JournalRecord, Replaces};
+pub use places::{
+    TextPlace, TextPlaces, act_text_from, ask_text_places, item_text_from, text_places,
+};
 pub use write::Unwritten;
