@@ -4,7 +4,7 @@
 //!
 //! `before` is what a cycle begins with. Two calls do the work, each with a contract of its own, so that each can be done in
 //! another way: `replay` (in `running`, with `rewind`, which gives the store through the point alone) performs the repaired
-//! items from the beginning with the texts that `hearing` reads, and gives the store and the answers of those from the point,
+//! items from the beginning with the texts that `reading` reads, and gives the store and the answers of those from the point,
 //! and `settle` (in `settling`) makes the rest of these: `judge` finds the broken and withdrawn items, `showing` lets the
 //! broken ones show what they show now, `telling` writes to the users, `notices` makes the notices items, and `report` what is
 //! told of them. `cycle` (in `cycling`) is the two, one after the other. `refused` says why there is no cycle, and `laws` what
@@ -17,10 +17,10 @@
 
 mod before;
 mod cycling;
-mod hearing;
 mod judge;
 pub mod laws;
 mod notices;
+mod reading;
 mod refused;
 mod report;
 mod running;

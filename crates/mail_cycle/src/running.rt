@@ -10,7 +10,7 @@ ghost use Rattle.stored_items.specs.Stored.{AllHeard, IsHeard};
 ghost use Rattle.verb_core.specs.declared.bodies.BodiesFault.TheVariants.{NoMemory as no_memory};
 ghost use Rattle.mail_cycle.specs.Hearing.{Counts, IsLedTo, TellsAll, TellsOf, heard_as};
 
-use crate::hearing::{hear, text_for};
+use crate::reading::{hear, text_for};
 use crate::{Before, Shows};
 use box_store::{Steps, Store};
 use std::alloc::Global;
