@@ -99,3 +99,27 @@ heard_anew i old new is fails = is ∙ ap (λ (d : Deed). record i { deed = d })
 -- and under another rev
 pub replaced_anew : (i : Item) (old new : List ℕ) (rev : ℕ) → i ≡ stored (whole i old) → is_notice (with_text old i.deed) ≡ false → record i { rev = rev } ≡ stored (whole (record i { rev = rev }) new)
 replaced_anew i old new rev is fails = ap (λ (j : Item). record j { rev = rev }) (heard_anew i old new is fails)
+
+-- a notice is one with any text
+pub still_notice : (text : List ℕ) (d : Deed) → is_notice d ≡ is_notice (with_text text d)
+unfolding is_notice
+still_notice text (Deliver from to old) = refl
+still_notice text (Append mailbox flags moment old) = refl
+still_notice text (Fetch mailbox keys sets_seen shows_body) = refl
+still_notice text (Store mailbox keys how flags) = refl
+still_notice text (Copy mailbox keys target) = refl
+still_notice text (Names pattern) = refl
+still_notice text (Status mailbox) = refl
+still_notice text (Select mailbox) = refl
+still_notice text (Expunge mailbox keys) = refl
+still_notice text (Close mailbox keys) = refl
+still_notice text (Create mailbox) = refl
+still_notice text (Rename mailbox target) = refl
+still_notice text (Delete mailbox keys) = refl
+still_notice text (Acts (SetAlias local users)) = refl
+still_notice text (Acts (DropAlias local)) = refl
+still_notice text (Acts (SetFilter filter)) = refl
+still_notice text (Acts (DropFilter id)) = refl
+still_notice text (Acts (Remove u mailbox key)) = refl
+still_notice text (Acts (Give u mailbox old)) = refl
+still_notice text (Notice user old) = refl

@@ -1,10 +1,10 @@
 //! An item whose text is not in memory.
-ghost use Rattle.std.specs.Prelude.{◌≡◌, false, [], IfOk, is_some, unwrap_or};
+ghost use Rattle.std.specs.Prelude.{◌≡◌, false, [], IfOk, is_some, length, option_map, unwrap_or};
 ghost use Rattle.verb_core.specs.Deeds.{is_notice, with_text};
 ghost use Rattle.verb_core.specs.Items.{text_in};
 ghost use Rattle.stored_items.specs.Stored.{stored as is_stored, stored_deed, whole};
 
-use crate::Recalled;
+use crate::past::PastText;
 use std::alloc::Global;
 use std::marker::Model;
 use undo_base::{Copies, NoMemory, Text};
@@ -14,7 +14,7 @@ use verb_core::{Act, Body, Deed, Item, Shown};
 #[derive(Drop)]
 pub struct StoredItem {
     item: Item,
-    text: Recalled<Text>,
+    text: PastText,
 }
 
 impl Model for StoredItem {
@@ -24,18 +24,18 @@ impl Model for StoredItem {
 
     ghost Value = { Item };
 
-    ghost view = { λ s. whole s.item s.text.value };
+    ghost view = { λ s. whole s.item s.text };
 
-    ghost invariant = { λ s. s.item ≡ stored (whole s.item s.text.value) };
+    ghost invariant = { λ s. s.item ≡ stored (whole s.item s.text) };
 }
 
 /// The text of a deed, as clauses see it.
-fn recalled(alloc: Global, deed: &Deed) -> Recalled<Text>
-    ensures { result.value ≡ unwrap_or (text_in deed.now) [] }
+fn recalled(alloc: Global, deed: &Deed) -> PastText
+    ensures { result ≡ unwrap_or (text_in deed.now) [] }
 {
     match deed.text() {
-        Some(text) => Recalled::of(text),
-        None => Recalled::of(&Text::new(alloc)),
+        Some(text) => PastText::of(text),
+        None => PastText::of(&Text::new(alloc)),
     }
 }
 
@@ -86,6 +86,24 @@ impl StoredItem {
         self.item.deed.text().is_some()
     }
 
+    /// Whether it is a notice.
+    #[tactic(auto, using(crate::proofs::Whole::still_notice))]
+    pub fn is_notice(&self) -> bool
+        ensures { result ≡ is_notice self.now.deed }
+    {
+        self.item.deed.is_notice()
+    }
+
+    /// How many bytes the text has that the item brings.
+    pub fn size(&self) -> Option<u32>
+        ensures { result ≡ option_map length (text_in self.now.deed) }
+    {
+        match self.item.deed.text() {
+            Some(_) => Some(self.text.len()),
+            None => None,
+        }
+    }
+
     /// The body that names its text.
     pub fn body(&self) -> Body
         ensures origin { result.origin ≡ self.now.number }
@@ -107,7 +125,7 @@ impl StoredItem {
         item.rev = rev;
         Ok(StoredItem {
             item,
-            text: Recalled::of(text),
+            text: PastText::of(text),
         })
     }
 
@@ -124,7 +142,7 @@ impl StoredItem {
         requires { is_notice self.old.deed ≡ false }
         ensures { self.new ≡ whole self.old text.now }
     {
-        self.text = Recalled::of(text);
+        self.text = PastText::of(text);
     }
 }
 
