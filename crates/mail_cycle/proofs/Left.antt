@@ -136,8 +136,8 @@ module _ (s : Kept) (at : ℕ) (ask : CycleAsk) (place : ℕ) (items : List Item
   abbrev kept : List Item
   kept = kept_with s ask place items
 
-  abbrev due : Cycled
-  due = cycled_with s at ask place items
+  abbrev cycled : Cycled
+  cycled = cycled_with s at ask place items
 
   formed_with : AllByRecursion (IsWellFormed s.house) items → AllByRecursion (IsWellFormed s.house) (timeline_with s at ask place items)
   formed_with formed = joined (IsWellFormed s.house) kept told (shown_formed s.house s.base (front_of ask place) items formed) (told_formed s.house last at s.next _)
@@ -145,10 +145,10 @@ module _ (s : Kept) (at : ℕ) (ask : CycleAsk) (place : ℕ) (items : List Item
   kept_low : AllByRecursion (λ (i : Item). i.number ≤ last) items → AllByRecursion (λ (i : Item). i.number ≤ last) kept
   kept_low low = shown_numbers (λ n. n ≤ last) (front_of ask place) items (compared_with s ask place items) low
 
-  below_with : AllByRecursion (λ (i : Item). i.number ≤ last) items → AllByRecursion (λ (i : Item). i.number < due.next) (timeline_with s at ask place items)
-  below_with low = joined (λ (i : Item). i.number < due.next) kept told
-      (weaker (λ (i : Item). i.number ≤ last) (λ (i : Item). i.number < due.next) (λ i le. omega arith) kept (kept_low low))
-      (notices_below due.next last at _ (omega arith))
+  below_with : AllByRecursion (λ (i : Item). i.number ≤ last) items → AllByRecursion (λ (i : Item). i.number < cycled.next) (timeline_with s at ask place items)
+  below_with low = joined (λ (i : Item). i.number < cycled.next) kept told
+      (weaker (λ (i : Item). i.number ≤ last) (λ (i : Item). i.number < cycled.next) (λ i le. omega arith) kept (kept_low low))
+      (notices_below cycled.next last at _ (omega arith))
 
   timeline_left : AllByRecursion (IsWellFormed s.house) items → NumbersApart items → AllByRecursion (λ (i : Item). i.number ≤ last) items → IsTimeline s.house (timeline_with s at ask place items)
   timeline_left formed apart low = record {
@@ -156,11 +156,11 @@ module _ (s : Kept) (at : ℕ) (ask : CycleAsk) (place : ℕ) (items : List Item
     apart = both_apart last kept told (shown_apart (front_of ask place) items (compared_with s ask place items) apart) (notices_apart last at _) (kept_low low) (above last last at _ (omega arith));
   }
 
-  revs_with : AllByRecursion (λ (i : Item). i.rev ≤ s.next) items → AllByRecursion (λ (i : Item). i.rev < due.next) (timeline_with s at ask place items)
-  revs_with low = joined (λ (i : Item). i.rev < due.next) kept told
-      (weaker (λ (i : Item). i.rev ≤ s.next) (λ (i : Item). i.rev < due.next) (λ i le. omega arith) kept
+  revs_with : AllByRecursion (λ (i : Item). i.rev ≤ s.next) items → AllByRecursion (λ (i : Item). i.rev < cycled.next) (timeline_with s at ask place items)
+  revs_with low = joined (λ (i : Item). i.rev < cycled.next) kept told
+      (weaker (λ (i : Item). i.rev ≤ s.next) (λ (i : Item). i.rev < cycled.next) (λ i le. omega arith) kept
       (shown_revs (λ n. n ≤ s.next) (front_of ask place) items (compared_with s ask place items) low))
-      (notice_revs due.next last at _ (omega arith))
+      (notice_revs cycled.next last at _ (omega arith))
 
   names : (rows : Boxes) (f : BoxId × Mailbox → ℕ) → map (λ (r : BoxId × ℕ). r.0) (map (λ (r : BoxId × Mailbox). (r.0, f r)) rows) ≡ map (λ (r : BoxId × Mailbox). r.0) rows
   names [] f = refl
@@ -169,20 +169,20 @@ module _ (s : Kept) (at : ℕ) (ask : CycleAsk) (place : ℕ) (items : List Item
   named_with : map (λ (r : BoxId × ℕ). r.0) (stamps_with s at ask place items) ≡ map (λ (r : BoxId × Mailbox). r.0) (run s.base (timeline_with s at ask place items)).boxes
   named_with = names (run s.base (timeline_with s at ask place items)).boxes _
 
-  rises_with : s.next < due.next
+  rises_with : s.next < cycled.next
   rises_with = omega arith
 
-  next_with : leaves_numbers s ask ≡ true → due.next ≤ 4194303
+  next_with : leaves_numbers s ask ≡ true → cycled.next ≤ 4194303
   next_with left =
       let room = leb-true (s.next + 1 + length ask.inserts + length s.house.accounts) 4194303 left in
       let few = few_told s.house last s.next at (broken_with s ask place items) in
       omega arith
 
   -- the stamps
-  fresh_with : AllByRecursion (λ (r : BoxId × ℕ). r.1 < s.next) s.stamps → AllByRecursion (λ (r : BoxId × ℕ). r.1 < due.next) (stamps_with s at ask place items)
+  fresh_with : AllByRecursion (λ (r : BoxId × ℕ). r.1 < s.next) s.stamps → AllByRecursion (λ (r : BoxId × ℕ). r.1 < cycled.next) (stamps_with s at ask place items)
   fresh_with fresh = lower (stamps_with s at ask place items) (stamps_below (store_of s).boxes (run s.base (timeline_with s at ask place items)).boxes s.stamps s.next fresh)
     where
-      lower : (rows : List (BoxId × ℕ)) → AllByRecursion (λ (r : BoxId × ℕ). r.1 ≤ s.next) rows → AllByRecursion (λ (r : BoxId × ℕ). r.1 < due.next) rows
+      lower : (rows : List (BoxId × ℕ)) → AllByRecursion (λ (r : BoxId × ℕ). r.1 ≤ s.next) rows → AllByRecursion (λ (r : BoxId × ℕ). r.1 < cycled.next) rows
       lower [] low = tt
       lower (r ∷ rows) low = (omega (arith, low.0), lower rows low.1)
 

@@ -1,5 +1,5 @@
 -- The end of a cycle, step by step: what each of them has is what the cycle is to have.
-use Rattle.std.proofs.Common.{◌≡◌, ◌∙◌, ℕ, ◌+◌, ◌≤◌, ◌++◌, Err, IfOk, List, Ok, Result, ap, ap₂, arith, drop, length, length-append, refl, subst, sym, take, true}
+use Rattle.std.proofs.Common.{◌≡◌, ◌∙◌, ℕ, Bool, cond, Some, ◌+◌, ◌≤◌, ◌++◌, Err, IfOk, List, Ok, Result, ap, ap₂, arith, drop, length, length-append, refl, subst, sym, take, true}
 use Rattle.std.specs.List.{AllByRecursion}
 use Rattle.undo_base.specs.declared.keys.User.{User}
 use Rattle.undo_base.specs.declared.memory.NoMemory.{NoMemory}
@@ -18,13 +18,14 @@ use Rattle.paradox.specs.declared.reports.BrokenItem.{BrokenItem}
 use Rattle.paradox.specs.declared.reports.Report.{Report}
 use Rattle.repair_desk.specs.declared.editing.Edited.{Edited}
 use Rattle.repair_desk.specs.Renewals.{renewed}
-use Rattle.repair_desk.specs.Repairs.{are_known, edited_at, is_among, numbers_of}
+use Rattle.repair_desk.specs.Repairs.{are_known, edited_at, is_among, numbers_of, position}
 use Rattle.repair_desk.proofs.Everywhere.{all_formed}
 use Rattle.stored_items.specs.Stored.{AllHeard}
 use Rattle.mail_cycle.specs.declared.settling.Rewound.{Rewound}
-use Rattle.mail_cycle.specs.Cycles.{broken_with, compared_with, cycled_with, front_of, kept_with, notice_items, renewed_by, report_with, stamps_with, timeline_with, told_with}
+use Rattle.mail_cycle.specs.Cycles.{Cycled, broken_with, compared_with, cycled_at, cycled_with, front_of, kept_with, leaves_numbers, notice_items, renewed_by, report_with, stamps_with, timeline_with, told_with}
 use Rattle.mail_cycle.specs.Judging.{judged, shown_after}
-use Rattle.mail_cycle.specs.Leaving.{Leaves}
+use Rattle.mail_cycle.specs.Asking.{IsRewinds, NoNumbers, Rewinds, due_anew, due_at}
+use Rattle.mail_cycle.specs.Leaving.{IsMade, Leaves}
 use Rattle.mail_cycle.proofs.Cycled.{drop_more, few_notices, few_told, judged_same, length_map, length_shown, run_shown, told_formed}
 use Rattle.stored_items.proofs.Heard.{length_alike}
 
@@ -116,10 +117,10 @@ judged_is drops asked count inserts later all shows now (Ok list) same laters co
     is ∙ judged_same drops asked same later now ∙ ap₂ (λ (t : List Item) (xs : List Shown). judged asked t xs) laters (nows ∙ ap (λ (n : ℕ). drop n shows) counts)
 
 module _ (s : Kept) (at : ℕ) (ask : CycleAsk) (place : ℕ) where
-  pub settled : (items : List Item) (count : ℕ) (unmatched : List ℕ) (first : MailStore) (shows : List Shown) (broken : List BrokenItem) (more : List Item) (numbers : List ℕ) (r : Result Rewound NoMemory)
-      → count ≡ (edited_at s.timeline ask s.next at place).kept → unmatched ≡ (edited_at s.timeline ask s.next at place).unmatched
+  pub settled : (items : List Item) (count : ℕ) (unmatched : List ℕ) (first : MailStore) (shows lent : List Shown) (broken : List BrokenItem) (more : List Item) (numbers : List ℕ) (r : Result Rewound NoMemory)
+      → lent ≡ shows → count ≡ (edited_at s.timeline ask s.next at place).kept → unmatched ≡ (edited_at s.timeline ask s.next at place).unmatched
       → first ≡ run s.base items → shows ≡ drop place (answers s.base items)
-      → broken ≡ judged ask.drops (drop place s.timeline) (drop (length ask.inserts) shows)
+      → broken ≡ judged ask.drops (drop place s.timeline) (drop (length ask.inserts) lent)
       → more ≡ notice_items (s.next + length ask.inserts) at (notices s.house s.next at broken) → numbers ≡ numbers_of more
       → IfOk r (λ made. made.store.store ≡ run first more) → IfOk r (λ made. IsValid made.store.store)
       → IfOk r (λ made. made.timeline ≡ shown_after (front_of ask place) items (drop (length ask.inserts) shows) ++ more)
@@ -127,9 +128,9 @@ module _ (s : Kept) (at : ℕ) (ask : CycleAsk) (place : ℕ) where
       → IfOk r (λ made. made.next ≡ s.next + 1 + length ask.inserts + length numbers)
       → IfOk r (λ made. made.report ≡ record { cycle = s.next; point = ask.point; kept = count; broken = broken; notices = numbers; renewed = renewed_by s.next made.stamps; unmatched = unmatched })
       → IfOk r (λ made. Leaves s (cycled_with s at ask place items) made)
-  settled items count unmatched first shows broken more numbers (Err x) counts misses firsts shown breaks tells nums a b c d f g = tt
-  settled items count unmatched first shows broken more numbers (Ok made) counts misses firsts shown breaks tells nums stored valid timed stamped numbered reported =
-      let broke : broken ≡ broken_with s ask place items = broken_is s at ask place items shows broken shown breaks in
+  settled items count unmatched first shows lent broken more numbers (Err x) lends counts misses firsts shown breaks tells nums a b c d f g = tt
+  settled items count unmatched first shows lent broken more numbers (Ok made) lends counts misses firsts shown breaks tells nums stored valid timed stamped numbered reported =
+      let broke : broken ≡ broken_with s ask place items = broken_is s at ask place items shows broken shown (breaks ∙ ap (λ (xs : List Shown). judged ask.drops (drop place s.timeline) (drop (length ask.inserts) xs)) lends) in
       let said : more ≡ told_with s at ask place items = told_is s at ask place items broken more broke tells in
       let now : drop (length ask.inserts) shows ≡ compared_with s ask place items = now_is s at ask place items shows shown in
       let leads : made.store.store ≡ run s.base (timeline_with s at ask place items) = store_is s at ask place items first made.store.store more said firsts stored in
@@ -144,10 +145,9 @@ module _ (s : Kept) (at : ℕ) (ask : CycleAsk) (place : ℕ) where
       }
 
   -- each item and each notice is one step at most
-  pub steps_are : (before items : List Item) (first second last : ℕ) (r : Result Rewound NoMemory) → AllHeard before items → second ≡ first + length before
-      → IfOk r (λ made. Leaves s (cycled_with s at ask place items) made) → IfOk r (λ made. last ≤ second + length made.report.notices) → IfOk r (λ made. last ≤ first + length made.timeline)
-  steps_are before items first second last (Err x) heard steps leaves then = tt
-  steps_are before items first second last (Ok made) heard steps leaves then =
+  pub steps_are : (before items : List Item) (first second last : ℕ) (made : Rewound) → AllHeard before items → second ≡ first + length before
+      → Leaves s (cycled_with s at ask place items) made → last ≤ second + length made.report.notices → last ≤ first + length made.timeline
+  steps_are before items first second last made heard steps leaves then =
       let all : length made.timeline ≡ length (timeline_with s at ask place items) = ap (λ (t : List Item). length t) leaves.timeline in
       let told : length made.report.notices ≡ length (numbers_of (told_with s at ask place items)) = ap (λ (x : Report). length x.notices) leaves.report in
       omega (
@@ -161,3 +161,19 @@ module _ (s : Kept) (at : ℕ) (ask : CycleAsk) (place : ℕ) where
         length_shown (front_of ask place) items (compared_with s ask place items),
         length_map (λ (i : Item). i.number) (told_with s at ask place items),
       )
+
+-- ---- what is due
+
+pub due_is : (s : Kept) (at : ℕ) (ask : CycleAsk) (place : ℕ) → position s.timeline ask.point ≡ Some place → leaves_numbers s ask ≡ true → due_anew s at ask ≡ Rewinds (cycled_at s at ask place)
+due_is s at ask place is left = ap (due_at s at ask) is ∙ ap (λ (b : Bool). cond b (Rewinds (cycled_at s at ask place)) NoNumbers) left
+
+pub rewinds : (s : Kept) (at : ℕ) (ask : CycleAsk) (place : ℕ) → position s.timeline ask.point ≡ Some place → leaves_numbers s ask ≡ true → IsRewinds (due_anew s at ask)
+rewinds s at ask place is left = subst IsRewinds (sym (due_is s at ask place is left)) tt
+
+-- where what is read is what was stored, the cycle is the one that is due
+pub made_due : (s : Kept) (at : ℕ) (ask : CycleAsk) (honest : Type 0) (made : Rewound) → honest → IsMade s at ask honest made → (due : Cycled) × (due_anew s at ask ≡ Rewinds due) × Leaves s due made
+made_due s at ask honest made is by = (
+  cycled_at s at ask by.place,
+  due_is s at ask by.place by.is_place by.numbers,
+  subst (λ (items : List Item). Leaves s (cycled_with s at ask by.place items) made) (by.made_at.same is) by.made_at.leaves,
+)

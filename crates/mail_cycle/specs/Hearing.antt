@@ -19,9 +19,17 @@ body_of i = record { origin = i.number; rev = i.rev }
 abbrev pub heard_as : Item → List ℕ → Item
 heard_as i text = if needs_text i.deed then whole i text else i
 
--- where performing an item looks at its text, the text is held, and it is the item's
+-- where performing an item looks at its text, the text is held
+abbrev pub HoldsOf : BodiesTold → Item → Type 0
+HoldsOf told i = needs_text i.deed ≡ true → told.holds (body_of i) ≡ true
+
+-- where performing an item looks at its text, the one that was stored is the item's
+abbrev pub StoresOf : BodiesTold → Item → Type 0
+StoresOf told i = needs_text i.deed ≡ true → told.texts (body_of i) ≡ text_in i.deed
+
+-- where performing an item looks at its text, the text is held, and where what is read is what was stored, that is the item's
 abbrev pub TellsOf : BodiesTold → Item → Type 0
-TellsOf told i = needs_text i.deed ≡ true → (told.holds (body_of i) ≡ true) × (told.texts (body_of i) ≡ text_in i.deed)
+TellsOf told i = needs_text i.deed ≡ true → (told.holds (body_of i) ≡ true) × (told.honest → told.texts (body_of i) ≡ text_in i.deed)
 
 -- the same of each of these items
 abbrev pub TellsAll : BodiesTold → List Item → Type 0

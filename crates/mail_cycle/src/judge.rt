@@ -11,6 +11,7 @@ use undo_base::NoMemory;
 use verb_core::Shown;
 
 /// Why what an item showed no longer holds: it shows the first of these answers now.
+#[tactic(auto, using(crate::proofs::Heard::broken_stored))]
 fn reason_by(item: &StoredItem, now: &[Shown]) -> Option<Reason>
     ensures { result ≡ reason_due item.now now.now }
 {
@@ -42,6 +43,7 @@ pub(crate) fn behind(now: &[Shown], count: usize) -> &[Shown]
 }
 
 /// Adds an item that is told of for a reason, if there is one.
+#[tactic(auto, using(crate::proofs::Heard::told_stored))]
 fn tell(
     alloc: Global,
     list: &mut BrokenList,

@@ -30,8 +30,9 @@ mod telling;
 
 pub use before::Before;
 pub use cycling::cycle;
+pub use reading::text_for;
 pub use refused::CycleRefused;
-pub use running::{Replayed, replay, rewind};
+pub use running::{Replayed, perform, replay, rewind};
 pub use settling::{Repairs, Rewound, settle};
 use undo_base::Sequence;
 use verb_core::Shown;

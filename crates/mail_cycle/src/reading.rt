@@ -2,7 +2,7 @@
 ghost use Rattle.std.specs.Prelude.{◌≡◌, IfOk};
 ghost use Rattle.verb_core.specs.Texts.{StaysTold};
 ghost use Rattle.stored_items.specs.Stored.{needs_text as needs};
-ghost use Rattle.mail_cycle.specs.Hearing.{Counts, TellsOf, heard_as};
+ghost use Rattle.mail_cycle.specs.Hearing.{Counts, HoldsOf, StoresOf, heard_as};
 
 use std::alloc::Global;
 use stored_items::StoredItem;
@@ -33,13 +33,13 @@ fn needs_text(item: &StoredItem) -> bool
 }
 
 /// The text that performing an item looks at: a delivery's is read, and for any other item none is asked for.
-pub(crate) fn text_for<B: Bodies>(
+pub fn text_for<B: Bodies>(
     alloc: Global,
     bodies: &mut B,
     item: &StoredItem,
 ) -> Result<Text, BodiesFault>
-    requires texts { TellsOf (B.told bodies.old) item.now }
-    ensures same { (B.told bodies.old).honest → IfOk result (λ text. heard_as item.now text ≡ item.now) }
+    requires held { HoldsOf (B.told bodies.old) item.now }
+    ensures same { (B.told bodies.old).honest → StoresOf (B.told bodies.old) item.now → IfOk result (λ text. heard_as item.now text ≡ item.now) }
     ensures reads { Counts (B.told bodies.old) (B.told bodies.new) result }
     ensures stays { StaysTold (B.told bodies.old) (B.told bodies.new) }
     ensures leads { B.leads bodies.old bodies.new }
@@ -52,6 +52,7 @@ pub(crate) fn text_for<B: Bodies>(
 }
 
 /// Lets an item have the text that was read for it, where performing it looks at one.
+#[tactic(auto, using(crate::proofs::Heard::no_notice))]
 pub(crate) fn hear(item: &mut StoredItem, text: &Text)
     ensures { item.new ≡ heard_as item.old text.now }
 {

@@ -8,7 +8,7 @@ ghost use Rattle.verb_core.specs.Store.{IsValid};
 ghost use Rattle.verb_core.specs.Texts.{StaysTold};
 ghost use Rattle.stored_items.specs.Stored.{AllHeard, IsHeard};
 ghost use Rattle.verb_core.specs.declared.bodies.BodiesFault.TheVariants.{NoMemory as no_memory};
-ghost use Rattle.mail_cycle.specs.Hearing.{Counts, IsLedTo, TellsAll, TellsOf, heard_as};
+ghost use Rattle.mail_cycle.specs.Hearing.{Counts, HoldsOf, IsLedTo, StoresOf, TellsAll, heard_as};
 
 use crate::reading::{hear, text_for};
 use crate::{Before, Shows};
@@ -28,8 +28,8 @@ pub struct Replayed {
     pub shows: Shows,
 }
 
-/// Performs an item, in one step, with the text that is given beside it.
-fn perform<L: Ledger>(
+/// Performs an item, in one step, with the text that is given beside it: what `text_for` gives.
+pub fn perform<L: Ledger>(
     alloc: Global,
     store: &mut Store,
     item: &StoredItem,
@@ -57,9 +57,9 @@ fn perform_heard<B: Bodies, L: Ledger>(
 ) -> Result<Shown, BodiesFault>
     requires valid { IsValid store.old.store }
     requires formed { IsWellFormed store.old.store.house item.old }
-    requires texts { TellsOf (B.told bodies.old) item.old }
+    requires held { HoldsOf (B.told bodies.old) item.old }
     ensures heard { OnOk result (IsHeard item.old item.new) }
-    ensures same { (B.told bodies.old).honest → OnOk result (item.new ≡ item.old) }
+    ensures same { (B.told bodies.old).honest → StoresOf (B.told bodies.old) item.old → OnOk result (item.new ≡ item.old) }
     ensures store { OnOk result (store.new.store ≡ (step store.old.store item.new).0) }
     ensures valid { OnOk result (IsValid store.new.store) }
     ensures shown { IfOk result (λ shown. shown ≡ (step store.old.store item.new).1) }

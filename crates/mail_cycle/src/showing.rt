@@ -10,6 +10,7 @@ use undo_base::{Copies, NoMemory};
 use verb_core::Shown;
 
 /// Lets an item show the first of these answers, where what it showed no longer holds.
+#[tactic(auto, using(crate::proofs::Heard::broken_stored))]
 fn show_one(alloc: Global, item: &mut StoredItem, now: &[Shown]) -> Result<(), NoMemory>
     ensures { OnOk result (item.new ≡ shown_by item.old now.now) }
 {
