@@ -8,9 +8,9 @@ use crate::numbers::NumberSet;
 use std::alloc::Global;
 use std::collections::BTreeMap;
 use std::marker::Model;
+use stored_items::StoredItem;
 use undo_base::{NoMemory, Text};
 use verb_bytes::CycleAsk;
-use verb_core::Item;
 
 /// An ask, with its numbers sorted.
 #[derive(Drop)]
@@ -52,27 +52,27 @@ impl<'a> Asked<'a> {
     }
 
     /// Whether an item is to go.
-    pub(crate) fn drops(&self, item: &Item) -> bool
+    pub(crate) fn drops(&self, item: &StoredItem) -> bool
         ensures { result ≡ is_dropped self.now item.now }
     {
-        self.drops.contains(item.number)
+        self.drops.contains(item.item().number)
     }
 
     /// The text that is asked for an item.
-    pub(crate) fn text(&self, item: &Item) -> Option<&Text>
+    pub(crate) fn text(&self, item: &StoredItem) -> Option<&Text>
         ensures { option_copied result ≡ text_asked self.now.replaces item.now.number }
     {
-        match self.places.get(&item.number) {
+        match self.places.get(&item.item().number) {
             Some(place) => text_at(self.ask.replaces.as_slice(), *place),
             None => None,
         }
     }
 
     /// Whether an item stays with another text.
-    pub(crate) fn replaces(&self, item: &Item) -> bool
+    pub(crate) fn replaces(&self, item: &StoredItem) -> bool
         ensures { result ≡ is_replaced self.now item.now }
     {
-        !self.drops(item) && takes_text(&item.deed) && self.text(item).is_some()
+        !self.drops(item) && takes_text(item) && self.text(item).is_some()
     }
 }
 

@@ -10,17 +10,17 @@ use crate::later::{push_kept, withdrawn};
 use crate::point::position_of;
 use crate::unmatched::unmatched;
 use std::alloc::Global;
+use stored_items::{StoredItem, StoredItems};
 use undo_base::{LAST_NUMBER, NoMemory, Numbers};
 use verb_bytes::CycleAsk;
-use verb_core::{Item, Items};
 
 /// A repaired timeline: its items, how many of the later ones stayed, those of them that users made and that went, and the
 /// asked numbers that did nothing.
 #[derive(Drop)]
 pub struct Edited {
-    pub items: Items,
+    pub items: StoredItems,
     pub kept: u32,
-    pub withdrawn: Items,
+    pub withdrawn: StoredItems,
     pub unmatched: Numbers,
 }
 
@@ -45,18 +45,18 @@ impl From<NoMemory> for EditRefused {
 /// The items of the new timeline: those through the place, the acts, and the later ones that stay.
 fn new_items(
     alloc: Global,
-    front: &[Item],
-    later: &[Item],
+    front: &[StoredItem],
+    later: &[StoredItem],
     ask: &CycleAsk,
     asked: &Asked<'_>,
     c: u32,
     at: u64,
-) -> Result<Items, NoMemory>
+) -> Result<StoredItems, NoMemory>
     requires asked { asked.now ≡ ask.now }
     requires numbers { c + length ask.now.inserts ≤ LAST_NUMBER }
     ensures { IfOk result (λ items. items ≡ front.now ++ inserted c at ask.now.inserts ++ map (repaired ask.now c) (kept_of ask.now later.now)) }
 {
-    let mut items = Items::new(alloc);
+    let mut items = StoredItems::new(alloc);
     push_copies(alloc, &mut items, front)?;
     push_inserts(alloc, &mut items, ask.inserts.as_slice(), c, at)?;
     push_kept(alloc, &mut items, asked, later, c)?;
@@ -64,7 +64,7 @@ fn new_items(
 }
 
 /// How many later items stay.
-fn count_kept(asked: &Asked<'_>, later: &[Item]) -> usize
+fn count_kept(asked: &Asked<'_>, later: &[StoredItem]) -> usize
     ensures { result ≡ length (kept_of asked.now later.now) }
 {
     let mut count = 0;
@@ -77,7 +77,7 @@ fn count_kept(asked: &Asked<'_>, later: &[Item]) -> usize
 }
 
 /// The same in 32 bits. More than these hold find no memory.
-fn kept_later(asked: &Asked<'_>, later: &[Item]) -> Result<u32, NoMemory>
+fn kept_later(asked: &Asked<'_>, later: &[StoredItem]) -> Result<u32, NoMemory>
     ensures { IfOk result (λ count. count ≡ length (kept_of asked.now later.now)) }
 {
     match u32::try_from(count_kept(asked, later)) {
@@ -89,7 +89,7 @@ fn kept_later(asked: &Asked<'_>, later: &[Item]) -> Result<u32, NoMemory>
 /// The timeline after the repairs of the cycle `c` at a moment, cut behind the place of its point, which `position_of` finds.
 pub fn edit_at(
     alloc: Global,
-    timeline: &[Item],
+    timeline: &[StoredItem],
     ask: &CycleAsk,
     c: u32,
     at: u64,
@@ -118,7 +118,7 @@ pub fn edit_at(
 /// the timeline and the ask times the logarithm of the ask, beside the copies of texts.
 pub fn edit(
     alloc: Global,
-    timeline: &Items,
+    timeline: &StoredItems,
     ask: &CycleAsk,
     c: u32,
     at: u64,

@@ -3,13 +3,14 @@ ghost use Rattle.std.specs.Prelude.{◌≡◌, ◌+◌, ◌≤◌, ◌++◌, len
 ghost use Rattle.repair_desk.specs.Repairs.{inserted};
 
 use std::alloc::Global;
+use stored_items::{StoredItem, StoredItems};
 use undo_base::{LAST_NUMBER, NoMemory};
-use verb_core::{Act, Item, Items};
+use verb_core::{Act, Item};
 
 /// Adds the items of acts at the end, with the numbers behind `c`.
 pub(crate) fn push_inserts(
     alloc: Global,
-    items: &mut Items,
+    items: &mut StoredItems,
     acts: &[Act],
     c: u32,
     at: u64,
@@ -20,7 +21,8 @@ pub(crate) fn push_inserts(
     let mut number = c;
     for act in acts {
         number += 1;
-        items.push(Item::of_act(alloc, number, at, act)?)?;
+        let item = Item::of_act(alloc, number, at, act)?;
+        items.push(StoredItem::of(alloc, item))?;
     }
     Ok(())
 }

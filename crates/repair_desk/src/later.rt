@@ -5,15 +5,15 @@ ghost use Rattle.repair_desk.specs.Repairs.{kept, repaired as is_repaired, withd
 use crate::asked::Asked;
 use crate::items::repaired;
 use std::alloc::Global;
+use stored_items::{StoredItem, StoredItems};
 use undo_base::{Copies, NoMemory};
-use verb_core::{Item, Items};
 
 /// Adds the later items that stay at the end, with the texts that are asked for them.
 pub(crate) fn push_kept(
     alloc: Global,
-    items: &mut Items,
+    items: &mut StoredItems,
     asked: &Asked<'_>,
-    later: &[Item],
+    later: &[StoredItem],
     c: u32,
 ) -> Result<(), NoMemory>
     ensures { OnOk result (items.new ≡ items.old ++ map (is_repaired asked.now c) (kept asked.now later.now)) }
@@ -27,12 +27,16 @@ pub(crate) fn push_kept(
 }
 
 /// Copies of the later items that go and that a user made.
-pub(crate) fn withdrawn(alloc: Global, asked: &Asked<'_>, later: &[Item]) -> Result<Items, NoMemory>
+pub(crate) fn withdrawn(
+    alloc: Global,
+    asked: &Asked<'_>,
+    later: &[StoredItem],
+) -> Result<StoredItems, NoMemory>
     ensures { IfOk result (λ items. items ≡ withdrawn_of asked.now later.now) }
 {
-    let mut items = Items::new(alloc);
+    let mut items = StoredItems::new(alloc);
     for item in later {
-        if asked.drops(item) && item.by.is_some() {
+        if asked.drops(item) && item.item().by.is_some() {
             items.push(item.copy(alloc)?)?;
         }
     }

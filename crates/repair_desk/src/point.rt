@@ -4,15 +4,15 @@ ghost use Rattle.std.specs.List.{position_from};
 ghost use Rattle.verb_core.specs.declared.item.Item.{Item as TheItem};
 ghost use Rattle.repair_desk.specs.Repairs.{position};
 
-use verb_core::Item;
+use stored_items::StoredItem;
 
 /// The place of the item of a number, from 1.
-fn place_of(timeline: &[Item], number: u32) -> Option<usize>
+fn place_of(timeline: &[StoredItem], number: u32) -> Option<usize>
     ensures place { result ≡ position_from (λ (i : TheItem). i.number == number) 1 timeline.now }
     ensures within { IfSome result (λ place. place ≤ length timeline.now) }
 {
     for (index, item) in timeline.iter().enumerate() {
-        if item.number == number {
+        if item.item().number == number {
             return Some(index + 1);
         }
     }
@@ -21,7 +21,7 @@ fn place_of(timeline: &[Item], number: u32) -> Option<usize>
 
 /// How many items stand through a point, where the timeline has it: what `edit` refuses can be told by it before a number is
 /// asked for.
-pub fn position_of(timeline: &[Item], point: u32) -> Option<usize>
+pub fn position_of(timeline: &[StoredItem], point: u32) -> Option<usize>
     ensures place { result ≡ position timeline.now point }
     ensures within { IfSome result (λ place. place ≤ length timeline.now) }
 {

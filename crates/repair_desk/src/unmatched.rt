@@ -5,31 +5,39 @@ ghost use Rattle.repair_desk.specs.Repairs.{dropped, is_among, missing, numbers_
 use crate::asked::Asked;
 use crate::numbers::NumberSet;
 use std::alloc::Global;
+use stored_items::StoredItem;
 use undo_base::{NoMemory, Numbers, Text};
 use verb_bytes::CycleAsk;
-use verb_core::Item;
 
 /// The numbers of the later items that go.
-fn dropped_numbers(alloc: Global, asked: &Asked<'_>, later: &[Item]) -> Result<NumberSet, NoMemory>
+fn dropped_numbers(
+    alloc: Global,
+    asked: &Asked<'_>,
+    later: &[StoredItem],
+) -> Result<NumberSet, NoMemory>
     ensures { IfOk result (λ set. (n : ℕ) → is_among set n ≡ is_among (numbers_of (dropped asked.now later.now)) n) }
 {
     let mut set = NumberSet::new(alloc);
     for item in later {
         if asked.drops(item) {
-            set.insert(item.number)?;
+            set.insert(item.item().number)?;
         }
     }
     Ok(set)
 }
 
 /// The numbers of the later items that stay with another text.
-fn replaced_numbers(alloc: Global, asked: &Asked<'_>, later: &[Item]) -> Result<NumberSet, NoMemory>
+fn replaced_numbers(
+    alloc: Global,
+    asked: &Asked<'_>,
+    later: &[StoredItem],
+) -> Result<NumberSet, NoMemory>
     ensures { IfOk result (λ set. (n : ℕ) → is_among set n ≡ is_among (numbers_of (replaced asked.now later.now)) n) }
 {
     let mut set = NumberSet::new(alloc);
     for item in later {
         if asked.replaces(item) {
-            set.insert(item.number)?;
+            set.insert(item.item().number)?;
         }
     }
     Ok(set)
@@ -68,7 +76,7 @@ pub(crate) fn unmatched(
     alloc: Global,
     ask: &CycleAsk,
     asked: &Asked<'_>,
-    later: &[Item],
+    later: &[StoredItem],
 ) -> Result<Numbers, NoMemory>
     requires { asked.now ≡ ask.now }
     ensures { IfOk result (λ numbers. numbers ≡ unmatched_of ask.now later.now) }

@@ -4,9 +4,10 @@ ghost use Rattle.std.specs.Prelude.{◌≤◌, length, IfOk};
 use repair_desk::{EditRefused, Edited, edit};
 use std::alloc::Global;
 use std::test::Fail;
+use stored_items::{StoredItem, StoredItems};
 use undo_base::{Name, Names, Numbers, Text, User};
 use verb_bytes::{Acts, CycleAsk, Replaces};
-use verb_core::{Act, Deed, Item, Items, Shown};
+use verb_core::{Act, Deed, Item, Shown};
 
 const AT: u64 = 1105092000;
 
@@ -25,24 +26,25 @@ fn list(alloc: Global) -> Deed {
     }
 }
 
-fn item(number: u32, by: Option<User>, deed: Deed) -> Item {
-    Item {
+fn item(alloc: Global, number: u32, by: Option<User>, deed: Deed) -> StoredItem {
+    let item = Item {
         number,
         at: AT,
         by,
         rev: 0,
         deed,
         shown: Shown::Nothing,
-    }
+    };
+    StoredItem::of(alloc, item)
 }
 
 /// Two mails, each with a LIST of ann's behind it.
-fn timeline(alloc: Global) -> Result<Items, Fail> {
-    let mut items = Items::new(alloc);
-    items.push(item(2, None, mail(alloc)?))?;
-    items.push(item(3, Some(User(0)), list(alloc)))?;
-    items.push(item(4, None, mail(alloc)?))?;
-    items.push(item(5, Some(User(0)), list(alloc)))?;
+fn timeline(alloc: Global) -> Result<StoredItems, Fail> {
+    let mut items = StoredItems::new(alloc);
+    items.push(item(alloc, 2, None, mail(alloc)?))?;
+    items.push(item(alloc, 3, Some(User(0)), list(alloc)))?;
+    items.push(item(alloc, 4, None, mail(alloc)?))?;
+    items.push(item(alloc, 5, Some(User(0)), list(alloc)))?;
     Ok(items)
 }
 
@@ -53,7 +55,7 @@ fn numbers(alloc: Global, list: &[u32]) -> Result<Numbers, Fail> {
 /// New texts for a mail and for a LIST, which has none.
 fn replaces(alloc: Global) -> Result<Replaces, Fail> {
     let mut replaces = Replaces::new(alloc);
-    replaces.push((4, Text::of(alloc, b"new")?))?;
+    replaces.push((4, Text::of(alloc, b"newer")?))?;
     replaces.push((3, Text::of(alloc, b"vain")?))?;
     Ok(replaces)
 }
@@ -82,33 +84,32 @@ fn ask(alloc: Global, point: u32) -> Result<CycleAsk, Fail>
 
 fn edited(
     alloc: Global,
-    timeline: &Items,
+    timeline: &StoredItems,
     point: u32,
 ) -> Result<Result<Edited, EditRefused>, Fail> {
     let ask = ask(alloc, point)?;
     Ok(edit(alloc, timeline, &ask, 8, AT))
 }
 
-fn are_items(items: &Items, wanted: &[(u32, u32)]) -> bool {
+fn are_items(items: &StoredItems, wanted: &[(u32, u32)]) -> bool {
     items.len() == wanted.len()
-        && items
-            .iter()
-            .zip(wanted)
-            .all(|(item, told)| item.number == told.0 && item.rev == told.1)
+        && items.iter().zip(wanted).all(|(item, told)| item.item().number == told.0
+            && item.item().rev == told.1)
 }
 
 fn are_numbers(numbers: &Numbers, wanted: &[u32]) -> bool {
     numbers.as_slice() == wanted
 }
 
-fn has_text(item: &Item, wanted: &[u8]) -> bool {
-    match &item.deed {
-        Deed::Deliver { text, .. } => text.bytes() == wanted,
+/// Whether it is a mail whose text has so many bytes, none of which is kept.
+fn has_text(item: &StoredItem, wanted: u32) -> bool {
+    match &item.item().deed {
+        Deed::Deliver { text, .. } => text.bytes().is_empty() && item.size() == Some(wanted),
         _ => false,
     }
 }
 
-fn has_text_at(items: &Items, place: usize, wanted: &[u8]) -> bool {
+fn has_text_at(items: &StoredItems, place: usize, wanted: u32) -> bool {
     match items.get(place) {
         Some(item) => has_text(item, wanted),
         None => false,
@@ -118,8 +119,8 @@ fn has_text_at(items: &Items, place: usize, wanted: &[u8]) -> bool {
 /// Item 2 stays, the act comes in as item 9, item 4 has its new text and 5 is withdrawn.
 fn is_repaired(edited: &Edited) -> bool {
     are_items(&edited.items, &[(2, 0), (9, 0), (3, 0), (4, 8)])
-        && has_text_at(&edited.items, 0, b"old")
-        && has_text_at(&edited.items, 3, b"new")
+        && has_text_at(&edited.items, 0, 3)
+        && has_text_at(&edited.items, 3, 5)
         && edited.kept == 2
         && are_items(&edited.withdrawn, &[(5, 0)])
         && are_numbers(&edited.unmatched, &[9, 3])

@@ -57,7 +57,7 @@ apart_heard [] (h ∷ heard) all apart = elim all [ ]
 apart_heard (i ∷ items) [] all apart = elim all [ ]
 apart_heard (i ∷ items) (h ∷ heard) all apart = (
   handed_on (λ (j : Item). h.number ≢ j.number) (λ j k one differs same. differs (same ∙ number_heard j k one)) items heard all.1
-  (subst (λ (n : ℕ). AllByRecursion (λ (j : Item). n ≢ j.number) items) (sym (number_heard i h all.0)) apart.0),
+      (subst (λ (n : ℕ). AllByRecursion (λ (j : Item). n ≢ j.number) items) (sym (number_heard i h all.0)) apart.0),
   apart_heard items heard all.1 apart.1,
 )
 

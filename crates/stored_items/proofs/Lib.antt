@@ -1,3 +1,4 @@
 pub mod Whole
 pub mod Alike
 pub mod Heard
+mod Rows
