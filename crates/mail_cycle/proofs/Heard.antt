@@ -1,5 +1,5 @@
 -- Items as they were read: what they do, and what they have as before.
-use Rattle.std.proofs.Common.{◌≡◌, ◌≢◌, ℕ, zero, suc, ◌+◌, ◌-◌, ◌<◌, ◌==◌, Ok, Err, OnOk, Result, eqb-true, get_or, slice_get, slice_set, take, Bool, cond, true, false, true≢false, Option, Some, option_and_then, option_map, arith, refl, sym, ◌∙◌, ap, ap₂, subst, List, [], ◌∷◌, ◌++◌, drop, length, length-append}
+use Rattle.std.proofs.Common.{◌≡◌, ℕ, zero, suc, ◌+◌, ◌-◌, ◌<◌, ◌==◌, Ok, Err, OnOk, Result, eqb-true, get_or, slice_get, slice_set, take, Bool, cond, true, false, true≢false, Option, Some, option_and_then, option_map, arith, refl, sym, ◌∙◌, ap, ap₂, subst, List, [], ◌∷◌, ◌++◌, drop, length}
 use Rattle.std.specs.List.{AllByRecursion}
 use Rattle.std.proofs.lemmas.List.{drop-drop, length-take-le}
 use Rattle.verb_core.specs.declared.conf.House.{House}
@@ -9,7 +9,7 @@ use Rattle.verb_core.specs.declared.item.Item.{Item}
 use Rattle.verb_core.specs.declared.item.Shown.{Shown}
 use Rattle.verb_core.specs.declared.mailbox.Body.{Body}
 use Rattle.verb_core.specs.Deeds.{is_notice, with_text}
-use Rattle.verb_core.specs.Items.{IsWellFormed, NumbersApart, text_in}
+use Rattle.verb_core.specs.Items.{IsWellFormed, text_in}
 use Rattle.verb_core.specs.Step.{answers, run, step}
 use Rattle.verb_core.specs.Store.{IsValid, MailStore}
 use Rattle.verb_core.specs.Texts.{BodiesTold, StaysTold}

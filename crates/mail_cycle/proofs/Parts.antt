@@ -1,5 +1,5 @@
 -- The end of a cycle, step by step: what each of them has is what the cycle is to have.
-use Rattle.std.proofs.Common.{◌≡◌, ◌∙◌, ℕ, Bool, cond, Some, ◌+◌, ◌≤◌, ◌++◌, Err, IfOk, List, Ok, Result, ap, ap₂, arith, drop, length, length-append, refl, subst, sym, take, true}
+use Rattle.std.proofs.Common.{◌≡◌, ◌∙◌, ℕ, Bool, cond, Some, ◌+◌, ◌≤◌, ◌++◌, Err, IfOk, List, Ok, Result, ap, ap₂, arith, drop, length, length-append, subst, sym, true}
 use Rattle.std.specs.List.{AllByRecursion}
 use Rattle.undo_base.specs.declared.keys.User.{User}
 use Rattle.undo_base.specs.declared.memory.NoMemory.{NoMemory}

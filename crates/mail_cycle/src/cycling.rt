@@ -1,5 +1,5 @@
 //! A cycle, put together.
-ghost use Rattle.std.specs.Prelude.{◌≡◌, ℕ, ◌+◌, ◌≤◌, drop, length, nat_le, take, IfOk, IfErr, IsTrue, OnOk};
+ghost use Rattle.std.specs.Prelude.{◌≡◌, ℕ, ◌+◌, ◌≤◌, drop, length, nat_le, IfOk, IfErr, IsTrue, OnOk};
 ghost use Rattle.std.specs.List.{AllByRecursion};
 ghost use Rattle.verb_core.specs.Items.{IsWellFormed};
 ghost use Rattle.verb_core.specs.Step.{answers, run};
@@ -8,7 +8,7 @@ ghost use Rattle.verb_core.specs.Texts.{StaysTold};
 ghost use Rattle.stored_items.specs.Stored.{AllHeard};
 ghost use Rattle.repair_desk.specs.Repairs.{are_known, edited_at};
 ghost use Rattle.mail_cycle.specs.Asking.{IsRewinds, Rewinds, due_anew};
-ghost use Rattle.mail_cycle.specs.Cycles.{Cycled, cycled_with, leaves_numbers, repaired_items};
+ghost use Rattle.mail_cycle.specs.Cycles.{Cycled, leaves_numbers, repaired_items};
 ghost use Rattle.mail_cycle.specs.Hearing.{Counts, TellsAll};
 ghost use Rattle.mail_cycle.specs.Leaving.{IsMade, IsMadeAt, Leaves};
 ghost use Rattle.mail_cycle.specs.Refusing.{CountsReads, IsRefusalOf};

@@ -18,7 +18,7 @@ use std::sync::ledger::Ledger;
 use stored_items::{StoredItem, StoredItems};
 use undo_base::NoMemory;
 use verb_core::laws::steps_keep_validity;
-use verb_core::{Bodies, BodiesFault, Item, Shown};
+use verb_core::{Bodies, BodiesFault, Shown};
 
 /// Items as they were performed, the store that they lead to, and what those behind the first ones show.
 #[derive(Drop)]
