@@ -1,5 +1,5 @@
 -- What a client knows of mail by UID lasts over items and cycles.
-use Rattle.std.proofs.Common.{◌≡◌, ◌≢◌, ℕ, ◌+◌, ◌<◌, ◌≤◌, ◌==◌, Bool, true, false, ◌&&◌, cond, arith, refl, sym, ◌∙◌, ap, subst, List, [], ◌∷◌, ◌++◌, find, map, Option, Some, None, is_some, option_and_then, unwrap_or, eqb-true}
+use Rattle.std.proofs.Common.{◌≡◌, ◌≢◌, ℕ, ◌<◌, ◌≤◌, ◌==◌, Bool, true, false, ◌&&◌, cond, arith, refl, sym, ◌∙◌, ap, subst, List, [], ◌∷◌, ◌++◌, find, map, Option, Some, None, is_some, option_and_then, unwrap_or, eqb-true}
 use Rattle.std.specs.Cmp.{first_so}
 use Rattle.verb_core.specs.declared.item.Item.{Item}
 use Rattle.verb_core.specs.declared.mailbox.Body.{Body}

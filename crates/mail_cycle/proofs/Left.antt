@@ -24,15 +24,18 @@ use Rattle.paradox.specs.declared.reports.BrokenItem.{BrokenItem}
 use Rattle.paradox.specs.declared.words.Reason.{Reason}
 use Rattle.paradox.proofs.Holding.{holds}
 use Rattle.paradox.specs.Answers.{looks_at_texts}
-use Rattle.repair_desk.specs.Repairs.{are_known, inserted, is_among, kept, position, repaired, replaced_by, text_asked}
+use Rattle.repair_desk.specs.Repairs.{are_known, inserted, is_among, kept as kept_later, position, repaired, replaced_by, text_asked}
 use Rattle.repair_desk.proofs.Everywhere.{all_apart, all_below, all_formed, joined, revs_below, weaker}
 use Rattle.repair_desk.proofs.Extended.{below as stamps_below}
 use Rattle.repair_desk.proofs.Texts.{IsOld, found_old, higher_old, new_old}
 use Rattle.mail_cycle.specs.Asking.{Due, NoNumbers, NoPoint, Repeats, Rewinds, due_anew, due_at}
-use Rattle.mail_cycle.specs.Cycles.{Cycled, broken_at, compared_at, cycled_at, front_of, kept_at, leaves_numbers, notice_items, repaired_items, report_at, stamps_at, timeline_at, told_at}
+use Rattle.mail_cycle.specs.Cycles.{Cycled, broken_at, broken_with, compared_at, compared_with, cycled_at, cycled_with, front_of, kept_at, kept_with, leaves_numbers, notice_items, repaired_items, report_at, stamps_at, stamps_with, timeline_at, timeline_with, told_at, told_with}
 use Rattle.mail_cycle.specs.Leaving.{GoesOn}
 use Rattle.mail_cycle.specs.Judging.{judged, shown_after, shown_by, told as tell}
 use Rattle.paradox.specs.Kept.{Kept, store_of}
+use Rattle.stored_items.specs.Stored.{AllHeard}
+use Rattle.stored_items.proofs.Heard.{apart_heard}
+use Rattle.mail_cycle.proofs.Heard.{formed_heard, numbers_heard, revs_heard}
 use Rattle.mail_cycle.proofs.Cycled.{few_told, length_acts, length_map, length_shown, told_formed}
 
 -- ---- answers
@@ -123,80 +126,146 @@ both_apart last (i ∷ a) b first second low high = (
 
 -- ---- the whole
 
-module _ (s : Kept) (at : ℕ) (ask : CycleAsk) (place : ℕ) where
+module _ (s : Kept) (at : ℕ) (ask : CycleAsk) (place : ℕ) (items : List Item) where
   abbrev last : ℕ
   last = s.next + length ask.inserts
 
   abbrev told : List Item
-  told = told_at s at ask place
+  told = told_with s at ask place items
 
-  pub left_formed : AllByRecursion (IsWellFormed s.house) s.timeline → are_known s.house ask.inserts ≡ true → AllByRecursion (IsWellFormed s.house) (timeline_at s at ask place)
-  left_formed formed known = joined (IsWellFormed s.house) (kept_at s at ask place) told
-      (shown_formed s.house s.base (front_of ask place) (repaired_items s at ask place) (all_formed s.house s.timeline ask s.next at place formed known))
-      (told_formed s.house last at s.next _)
+  abbrev kept : List Item
+  kept = kept_with s ask place items
 
-  kept_low : AllByRecursion (λ (i : Item). i.number < s.next) s.timeline → AllByRecursion (λ (i : Item). i.number ≤ last) (kept_at s at ask place)
-  kept_low below = shown_numbers (λ n. n ≤ last) (front_of ask place) (repaired_items s at ask place) (compared_at s at ask place) (all_below s.timeline ask s.next at place below)
+  abbrev cycled : Cycled
+  cycled = cycled_with s at ask place items
 
-  pub left_below : AllByRecursion (λ (i : Item). i.number < s.next) s.timeline → AllByRecursion (λ (i : Item). i.number < (cycled_at s at ask place).next) (timeline_at s at ask place)
-  left_below below = joined (λ (i : Item). i.number < (cycled_at s at ask place).next) (kept_at s at ask place) told
-      (weaker (λ (i : Item). i.number ≤ last) (λ (i : Item). i.number < (cycled_at s at ask place).next) (λ i le. omega arith) (kept_at s at ask place) (kept_low below))
-      (notices_below (cycled_at s at ask place).next last at _ (omega arith))
+  formed_with : AllByRecursion (IsWellFormed s.house) items → AllByRecursion (IsWellFormed s.house) (timeline_with s at ask place items)
+  formed_with formed = joined (IsWellFormed s.house) kept told (shown_formed s.house s.base (front_of ask place) items formed) (told_formed s.house last at s.next _)
 
-  pub left_timeline : IsTimeline s.house s.timeline → AllByRecursion (λ (i : Item). i.number < s.next) s.timeline → are_known s.house ask.inserts ≡ true → IsTimeline s.house (timeline_at s at ask place)
-  left_timeline is below known = record {
-    formed = left_formed is.formed known;
-    apart = both_apart last (kept_at s at ask place) told
-        (shown_apart (front_of ask place) (repaired_items s at ask place) (compared_at s at ask place) (all_apart s.timeline ask s.next at place is.apart below))
-        (notices_apart last at _) (kept_low below) (above last last at _ (omega arith));
+  kept_low : AllByRecursion (λ (i : Item). i.number ≤ last) items → AllByRecursion (λ (i : Item). i.number ≤ last) kept
+  kept_low low = shown_numbers (λ n. n ≤ last) (front_of ask place) items (compared_with s ask place items) low
+
+  below_with : AllByRecursion (λ (i : Item). i.number ≤ last) items → AllByRecursion (λ (i : Item). i.number < cycled.next) (timeline_with s at ask place items)
+  below_with low = joined (λ (i : Item). i.number < cycled.next) kept told
+      (weaker (λ (i : Item). i.number ≤ last) (λ (i : Item). i.number < cycled.next) (λ i le. omega arith) kept (kept_low low))
+      (notices_below cycled.next last at _ (omega arith))
+
+  timeline_left : AllByRecursion (IsWellFormed s.house) items → NumbersApart items → AllByRecursion (λ (i : Item). i.number ≤ last) items → IsTimeline s.house (timeline_with s at ask place items)
+  timeline_left formed apart low = record {
+    formed = formed_with formed;
+    apart = both_apart last kept told (shown_apart (front_of ask place) items (compared_with s ask place items) apart) (notices_apart last at _) (kept_low low) (above last last at _ (omega arith));
   }
 
-  pub left_revs : AllByRecursion (λ (i : Item). i.rev < s.next) s.timeline → AllByRecursion (λ (i : Item). i.rev < (cycled_at s at ask place).next) (timeline_at s at ask place)
-  left_revs below = joined (λ (i : Item). i.rev < (cycled_at s at ask place).next) (kept_at s at ask place) told
-      (weaker (λ (i : Item). i.rev ≤ s.next) (λ (i : Item). i.rev < (cycled_at s at ask place).next) (λ i le. omega arith) (kept_at s at ask place)
-      (shown_revs (λ n. n ≤ s.next) (front_of ask place) (repaired_items s at ask place) (compared_at s at ask place) (revs_below s.timeline ask s.next at place below)))
-      (notice_revs (cycled_at s at ask place).next last at _ (omega arith))
+  revs_with : AllByRecursion (λ (i : Item). i.rev ≤ s.next) items → AllByRecursion (λ (i : Item). i.rev < cycled.next) (timeline_with s at ask place items)
+  revs_with low = joined (λ (i : Item). i.rev < cycled.next) kept told
+      (weaker (λ (i : Item). i.rev ≤ s.next) (λ (i : Item). i.rev < cycled.next) (λ i le. omega arith) kept
+      (shown_revs (λ n. n ≤ s.next) (front_of ask place) items (compared_with s ask place items) low))
+      (notice_revs cycled.next last at _ (omega arith))
 
   names : (rows : Boxes) (f : BoxId × Mailbox → ℕ) → map (λ (r : BoxId × ℕ). r.0) (map (λ (r : BoxId × Mailbox). (r.0, f r)) rows) ≡ map (λ (r : BoxId × Mailbox). r.0) rows
   names [] f = refl
   names (r ∷ rows) f = ap (λ (ids : List BoxId). r.0 ∷ ids) (names rows f)
 
-  pub left_named : map (λ (r : BoxId × ℕ). r.0) (stamps_at s at ask place) ≡ map (λ (r : BoxId × Mailbox). r.0) (run s.base (timeline_at s at ask place)).boxes
-  left_named = names (run s.base (timeline_at s at ask place)).boxes _
+  named_with : map (λ (r : BoxId × ℕ). r.0) (stamps_with s at ask place items) ≡ map (λ (r : BoxId × Mailbox). r.0) (run s.base (timeline_with s at ask place items)).boxes
+  named_with = names (run s.base (timeline_with s at ask place items)).boxes _
 
-  pub left_rises : s.next < (cycled_at s at ask place).next
-  left_rises = omega arith
+  rises_with : s.next < cycled.next
+  rises_with = omega arith
 
-  pub left_next : leaves_numbers s ask ≡ true → (cycled_at s at ask place).next ≤ 4194303
-  left_next left =
+  next_with : leaves_numbers s ask ≡ true → cycled.next ≤ 4194303
+  next_with left =
       let room = leb-true (s.next + 1 + length ask.inserts + length s.house.accounts) 4194303 left in
-      let few = few_told s.house last s.next at (broken_at s at ask place) in
+      let few = few_told s.house last s.next at (broken_with s ask place items) in
       omega arith
 
   -- the stamps
-  pub left_fresh : AllByRecursion (λ (r : BoxId × ℕ). r.1 < s.next) s.stamps → AllByRecursion (λ (r : BoxId × ℕ). r.1 < (cycled_at s at ask place).next) (stamps_at s at ask place)
-  left_fresh fresh = lower (stamps_at s at ask place) (stamps_below (store_of s).boxes (run s.base (timeline_at s at ask place)).boxes s.stamps s.next fresh)
+  fresh_with : AllByRecursion (λ (r : BoxId × ℕ). r.1 < s.next) s.stamps → AllByRecursion (λ (r : BoxId × ℕ). r.1 < cycled.next) (stamps_with s at ask place items)
+  fresh_with fresh = lower (stamps_with s at ask place items) (stamps_below (store_of s).boxes (run s.base (timeline_with s at ask place items)).boxes s.stamps s.next fresh)
     where
-      lower : (rows : List (BoxId × ℕ)) → AllByRecursion (λ (r : BoxId × ℕ). r.1 ≤ s.next) rows → AllByRecursion (λ (r : BoxId × ℕ). r.1 < (cycled_at s at ask place).next) rows
+      lower : (rows : List (BoxId × ℕ)) → AllByRecursion (λ (r : BoxId × ℕ). r.1 ≤ s.next) rows → AllByRecursion (λ (r : BoxId × ℕ). r.1 < cycled.next) rows
       lower [] low = tt
       lower (r ∷ rows) low = (omega (arith, low.0), lower rows low.1)
+
+-- ---- items as they were read
+
+module _ (s : Kept) (at : ℕ) (ask : CycleAsk) (place : ℕ) (heard : List Item) (all : AllHeard (repaired_items s at ask place) heard) where
+  heard_formed : AllByRecursion (IsWellFormed s.house) s.timeline → are_known s.house ask.inserts ≡ true → AllByRecursion (IsWellFormed s.house) heard
+  heard_formed formed known = formed_heard s.house (repaired_items s at ask place) heard all (all_formed s.house s.timeline ask s.next at place formed known)
+
+  heard_low : AllByRecursion (λ (i : Item). i.number < s.next) s.timeline → AllByRecursion (λ (i : Item). i.number ≤ s.next + length ask.inserts) heard
+  heard_low below = numbers_heard (λ n. n ≤ s.next + length ask.inserts) (repaired_items s at ask place) heard all (all_below s.timeline ask s.next at place below)
+
+  heard_revs_low : AllByRecursion (λ (i : Item). i.rev < s.next) s.timeline → AllByRecursion (λ (i : Item). i.rev ≤ s.next) heard
+  heard_revs_low below = revs_heard (λ n. n ≤ s.next) (repaired_items s at ask place) heard all (revs_below s.timeline ask s.next at place below)
+
+  timeline_heard : IsTimeline s.house s.timeline → AllByRecursion (λ (i : Item). i.number < s.next) s.timeline → are_known s.house ask.inserts ≡ true → IsTimeline s.house (timeline_with s at ask place heard)
+  timeline_heard is below known = timeline_left s at ask place heard (heard_formed is.formed known)
+      (apart_heard (repaired_items s at ask place) heard all (all_apart s.timeline ask s.next at place is.apart below)) (heard_low below)
+
+-- what is left over items as they were read can be gone on with
+pub left_heard : (s : Kept) (at : ℕ) (ask : CycleAsk) (place : ℕ) (heard : List Item) → IsTimeline s.house s.timeline → AllByRecursion (λ (i : Item). i.number < s.next) s.timeline
+    → AllByRecursion (λ (r : BoxId × ℕ). r.1 < s.next) s.stamps → are_known s.house ask.inserts ≡ true → AllHeard (repaired_items s at ask place) heard → leaves_numbers s ask ≡ true
+    → GoesOn s (cycled_with s at ask place heard)
+left_heard s at ask place heard timeline below fresh known all left = record {
+  timeline = timeline_heard s at ask place heard all timeline below known;
+  below = below_with s at ask place heard (heard_low s at ask place heard all below);
+  named = named_with s at ask place heard;
+  fresh = fresh_with s at ask place heard fresh;
+  rises = rises_with s at ask place heard;
+  next = next_with s at ask place heard left;
+}
+
+pub left_heard_revs : (s : Kept) (at : ℕ) (ask : CycleAsk) (place : ℕ) (heard : List Item) → AllByRecursion (λ (i : Item). i.rev < s.next) s.timeline → AllHeard (repaired_items s at ask place) heard
+    → AllByRecursion (λ (i : Item). i.rev < (cycled_with s at ask place heard).next) (timeline_with s at ask place heard)
+left_heard_revs s at ask place heard below all = revs_with s at ask place heard (heard_revs_low s at ask place heard all below)
+
+-- ---- the repaired items themselves
+
+module _ (s : Kept) (at : ℕ) (ask : CycleAsk) (place : ℕ) where
+  abbrev items : List Item
+  items = repaired_items s at ask place
+
+  pub left_formed : AllByRecursion (IsWellFormed s.house) s.timeline → are_known s.house ask.inserts ≡ true → AllByRecursion (IsWellFormed s.house) (timeline_at s at ask place)
+  left_formed formed known = formed_with s at ask place items (all_formed s.house s.timeline ask s.next at place formed known)
+
+  pub left_below : AllByRecursion (λ (i : Item). i.number < s.next) s.timeline → AllByRecursion (λ (i : Item). i.number < (cycled_at s at ask place).next) (timeline_at s at ask place)
+  left_below below = below_with s at ask place items (all_below s.timeline ask s.next at place below)
+
+  pub left_timeline : IsTimeline s.house s.timeline → AllByRecursion (λ (i : Item). i.number < s.next) s.timeline → are_known s.house ask.inserts ≡ true → IsTimeline s.house (timeline_at s at ask place)
+  left_timeline is below known = timeline_left s at ask place items (all_formed s.house s.timeline ask s.next at place is.formed known) (all_apart s.timeline ask s.next at place is.apart below)
+      (all_below s.timeline ask s.next at place below)
+
+  pub left_revs : AllByRecursion (λ (i : Item). i.rev < s.next) s.timeline → AllByRecursion (λ (i : Item). i.rev < (cycled_at s at ask place).next) (timeline_at s at ask place)
+  left_revs below = revs_with s at ask place items (revs_below s.timeline ask s.next at place below)
+
+  pub left_named : map (λ (r : BoxId × ℕ). r.0) (stamps_at s at ask place) ≡ map (λ (r : BoxId × Mailbox). r.0) (run s.base (timeline_at s at ask place)).boxes
+  left_named = named_with s at ask place items
+
+  pub left_rises : s.next < (cycled_at s at ask place).next
+  left_rises = rises_with s at ask place items
+
+  pub left_next : leaves_numbers s ask ≡ true → (cycled_at s at ask place).next ≤ 4194303
+  left_next left = next_with s at ask place items left
+
+  pub left_fresh : AllByRecursion (λ (r : BoxId × ℕ). r.1 < s.next) s.stamps → AllByRecursion (λ (r : BoxId × ℕ). r.1 < (cycled_at s at ask place).next) (stamps_at s at ask place)
+  left_fresh fresh = fresh_with s at ask place items fresh
 
   -- how long the timeline is
   pub left_length : place ≤ length s.timeline → length (timeline_at s at ask place) ≡ place + length ask.inserts + (report_at s at ask place).kept + length (report_at s at ask place).notices
   left_length le =
-      length-append (kept_at s at ask place) told
+      length-append (kept_at s at ask place) (told_at s at ask place)
       ∙ ap₂ (λ (a b : ℕ). a + b)
       (length_shown (front_of ask place) (repaired_items s at ask place) (compared_at s at ask place)
-      ∙ length-append (take place s.timeline ++ inserted s.next at ask.inserts) (map (repaired ask s.next) (kept ask (drop place s.timeline)))
+      ∙ length-append (take place s.timeline ++ inserted s.next at ask.inserts) (map (repaired ask s.next) (kept_later ask (drop place s.timeline)))
       ∙ ap₂ (λ (a b : ℕ). a + b)
       (length-append (take place s.timeline) (inserted s.next at ask.inserts) ∙ ap₂ (λ (a b : ℕ). a + b) (length-take-le place s.timeline le) (length_acts s.next at ask.inserts))
-      (length_map (repaired ask s.next) (kept ask (drop place s.timeline))))
-      (sym (length_map (λ (i : Item). i.number) told))
+      (length_map (repaired ask s.next) (kept_later ask (drop place s.timeline))))
+      (sym (length_map (λ (i : Item). i.number) (told_at s at ask place)))
 
   pub left_few : length (report_at s at ask place).notices ≤ length s.house.accounts
   left_few =
-      let few = few_told s.house last s.next at (broken_at s at ask place) in
-      omega (arith, few, length_map (λ (i : Item). i.number) told)
+      let few = few_told s.house (s.next + length ask.inserts) s.next at (broken_at s at ask place) in
+      omega (arith, few, length_map (λ (i : Item). i.number) (told_at s at ask place))
 
 -- what is due can be gone on with
 module _ (s : Kept) (at : ℕ) (ask : CycleAsk) where
@@ -269,7 +338,7 @@ front_stays (suc front) (i ∷ t) now le = ap (λ (rest : List Item). i ∷ rest
 
 no_repairs : (s : Kept) (at : ℕ) (ask : CycleAsk) → ask.inserts ≡ [] → repaired_items s at ask (length s.timeline) ≡ s.timeline
 no_repairs s at ask none =
-    ap₂ (λ (front later : List Item). front ++ inserted s.next at ask.inserts ++ map (repaired ask s.next) (kept ask later)) (take_all (length s.timeline) s.timeline (omega arith)) (drop-length s.timeline)
+    ap₂ (λ (front later : List Item). front ++ inserted s.next at ask.inserts ++ map (repaired ask s.next) (kept_later ask later)) (take_all (length s.timeline) s.timeline (omega arith)) (drop-length s.timeline)
     ∙ ap (λ (acts : List Act). s.timeline ++ inserted s.next at acts ++ []) none ∙ append-nil (s.timeline ++ []) ∙ append-nil s.timeline
 
 pub nothing_new : (s : Kept) (at : ℕ) (ask : CycleAsk) → ask.inserts ≡ [] → timeline_at s at ask (length s.timeline) ≡ s.timeline

@@ -1,4 +1,5 @@
 pub mod Cycled
+pub mod Heard
 pub mod Left
 pub mod Placing
 pub mod Parts

@@ -1,4 +1,5 @@
 pub mod Begun
+pub mod Hearing
 pub mod Judging
 pub mod Cycles
 pub mod Places

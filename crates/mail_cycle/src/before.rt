@@ -15,9 +15,10 @@ use paradox::Report;
 use repair_desk::{Edited, edit_at, position_of, renew};
 use std::alloc::Global;
 use std::marker::Model;
+use stored_items::{StoredItem, StoredItems};
 use undo_base::{Copies, LAST_NUMBER, Name, NoMemory};
 use verb_bytes::CycleAsk;
-use verb_core::{Conf, House, Item, Stamps};
+use verb_core::{Conf, House, Stamps};
 
 /// A store in use: its house, the configuration at first, the items in force, which led to the store, the stamp of each
 /// mailbox, the next number, and the reports of earlier cycles.
@@ -26,7 +27,7 @@ pub struct Before<'a> {
     house: &'a House,
     opening: &'a Conf,
     store: &'a Store,
-    timeline: &'a [Item],
+    timeline: &'a [StoredItem],
     stamps: &'a Stamps,
     next: u32,
     reports: &'a [(Name, Report)],
@@ -43,6 +44,17 @@ impl<'a> Model for Before<'a> {
     ghost invariant = { λ b. IsBegun b.store.now.store (kept_from b.house.now b.opening.now b.timeline.now b.stamps.now b.next b.reports.now) };
 }
 
+/// Copies of items.
+fn copies(alloc: Global, items: &[StoredItem]) -> Result<StoredItems, NoMemory>
+    ensures { IfOk result (λ copies. copies ≡ items.now) }
+{
+    let mut copies = StoredItems::new(alloc);
+    for item in items {
+        copies.push(item.copy(alloc)?)?;
+    }
+    Ok(copies)
+}
+
 impl<'a> Before<'a> {
     ghost use Rattle.paradox.specs.Kept.{kept_from};
 
@@ -51,7 +63,7 @@ impl<'a> Before<'a> {
         house: &'a House,
         opening: &'a Conf,
         store: &'a Store,
-        timeline: &'a [Item],
+        timeline: &'a [StoredItem],
         stamps: &'a Stamps,
         next: u32,
         reports: &'a [(Name, Report)],
@@ -106,13 +118,13 @@ impl<'a> Before<'a> {
         position_of(self.timeline, point)
     }
 
-    /// The items through a place.
-    pub(crate) fn front(&self, place: usize) -> &[Item]
+    /// Copies of the items through a place.
+    pub(crate) fn front(&self, alloc: Global, place: usize) -> Result<StoredItems, NoMemory>
         requires { place ≤ length self.now.timeline }
-        ensures front { result.now ≡ take place self.now.timeline }
-        ensures formed { AllByRecursion (IsWellFormed self.now.house) result.now }
+        ensures front { IfOk result (λ items. items ≡ take place self.now.timeline) }
+        ensures formed { IfOk result (λ items. AllByRecursion (IsWellFormed self.now.house) items) }
     {
-        self.timeline.split_at(place).0
+        copies(alloc, self.timeline.split_at(place).0)
     }
 
     /// How many items stand through a place and the acts behind it.
@@ -125,7 +137,7 @@ impl<'a> Before<'a> {
     }
 
     /// The items behind a place.
-    pub(crate) fn later(&self, place: usize) -> &[Item]
+    pub(crate) fn later(&self, place: usize) -> &[StoredItem]
         requires { place ≤ length self.now.timeline }
         ensures { result.now ≡ drop place self.now.timeline }
     {
@@ -140,6 +152,26 @@ impl<'a> Before<'a> {
     {
         let conf = self.opening.copy(alloc)?;
         Store::opening(alloc, self.house, conf)
+    }
+
+    /// The store before the first item, and copies of the items through a place.
+    pub(crate) fn opened_with(
+        &self,
+        alloc: Global,
+        place: usize,
+    ) -> Result<(Store, StoredItems), NoMemory>
+        requires { place ≤ length self.now.timeline }
+        ensures store { IfOk result (λ made. made.0.store ≡ self.now.base) }
+        ensures valid { IfOk result (λ made. IsValid made.0.store) }
+        ensures house { IfOk result (λ made. made.0.store.house ≡ self.now.house) }
+        ensures items { IfOk result (λ made. made.1 ≡ take place self.now.timeline) }
+        ensures formed { IfOk result (λ made. AllByRecursion (IsWellFormed self.now.house) made.1) }
+    {
+        let items = self.front(alloc, place)?;
+        match self.opened(alloc) {
+            Ok(store) => Ok((store, items)),
+            Err(NoMemory) => Err(NoMemory),
+        }
     }
 
     /// The timeline after the repairs that are asked for.

@@ -6,15 +6,17 @@ use crate::Shows;
 use paradox::{BrokenItem, BrokenList, Reason, broken};
 use repair_desk::NumberSet;
 use std::alloc::Global;
+use stored_items::StoredItem;
 use undo_base::NoMemory;
-use verb_core::{Item, Shown};
+use verb_core::Shown;
 
 /// Why what an item showed no longer holds: it shows the first of these answers now.
-fn reason_by(item: &Item, now: &[Shown]) -> Option<Reason>
+#[tactic(auto, using(crate::proofs::Heard::broken_stored))]
+fn reason_by(item: &StoredItem, now: &[Shown]) -> Option<Reason>
     ensures { result ≡ reason_due item.now now.now }
 {
     match now.first() {
-        Some(shown) => broken(item, shown),
+        Some(shown) => broken(item.item(), shown),
         None => None,
     }
 }
@@ -41,10 +43,11 @@ pub(crate) fn behind(now: &[Shown], count: usize) -> &[Shown]
 }
 
 /// Adds an item that is told of for a reason, if there is one.
+#[tactic(auto, using(crate::proofs::Heard::told_stored))]
 fn tell(
     alloc: Global,
     list: &mut BrokenList,
-    item: &Item,
+    item: &StoredItem,
     reason: Option<Reason>,
 ) -> Result<(), NoMemory>
     ensures { OnOk result (list.new ≡ list.old ++ telling item.now reason []) }
@@ -52,7 +55,7 @@ fn tell(
     let Some(reason) = reason else {
         return Ok(());
     };
-    match BrokenItem::of(alloc, item, reason)? {
+    match BrokenItem::of(alloc, item.item(), reason)? {
         Some(told) => list.push(told),
         None => Ok(()),
     }
@@ -63,7 +66,7 @@ fn tell(
 pub(crate) fn judge(
     alloc: Global,
     drops: &NumberSet,
-    later: &[Item],
+    later: &[StoredItem],
     now: &[Shown],
 ) -> Result<BrokenList, NoMemory>
     ensures { IfOk result (λ list. list ≡ judged drops.now later.now now.now) }
@@ -71,7 +74,7 @@ pub(crate) fn judge(
     let mut list = BrokenList::new(alloc);
     let mut now = now;
     for item in later {
-        if drops.contains(item.number) {
+        if drops.contains(item.item().number) {
             tell(alloc, &mut list, item, Some(Reason::Withdrawn))?;
         } else {
             tell(alloc, &mut list, item, reason_by(item, now))?;

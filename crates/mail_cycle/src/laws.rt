@@ -10,16 +10,18 @@ ghost use Rattle.verb_core.specs.Step.{answers, run};
 ghost use Rattle.verb_bytes.specs.declared.journal.CycleAsk.{CycleAsk};
 ghost use Rattle.paradox.specs.Words.{told_of};
 ghost use Rattle.paradox.specs.declared.reports.BrokenItem.{BrokenItem};
+ghost use Rattle.stored_items.specs.Stored.{AllHeard};
 ghost use Rattle.repair_desk.specs.Repairs.{are_known, is_among, is_dropped, numbers_of};
 ghost use Rattle.mail_cycle.specs.Asking.{Rewinds, after_cycle, due_anew};
-ghost use Rattle.mail_cycle.specs.Cycles.{Cycled, broken_at, cycled_at, leaves_numbers, report_at, stamps_at, timeline_at};
+ghost use Rattle.mail_cycle.specs.Cycles.{Cycled, broken_at, cycled_at, cycled_with, leaves_numbers, repaired_items, report_at, stamps_at, timeline_at, timeline_with};
 ghost use Rattle.mail_cycle.specs.Leaving.{GoesOn};
 ghost use Rattle.mail_cycle.specs.Permanence.{UidsLast};
 ghost use Rattle.mail_cycle.specs.Places.{items_before, reason_at, shown_at};
 ghost use Rattle.paradox.specs.Kept.{Kept, performed, store_of};
 
 /// What a cycle leaves can be gone on with: the items are well formed, their numbers distinct and below the next one, the
-/// stamps name the mailboxes and are below the next number, and it has risen and is one that an item can have.
+/// stamps name the mailboxes and are below the next number, and it has risen and is one that an item can have. So it is with
+/// whatever texts of deliveries were read.
 pub fn cycles_leave_states()
     ensures formed { (s : Kept) (at : ℕ) (ask : CycleAsk) (place : ℕ) → AllByRecursion (IsWellFormed s.house) s.timeline →
         IsTrue (are_known s.house ask.inserts) → AllByRecursion (IsWellFormed s.house) (timeline_at s at ask place) }
@@ -37,6 +39,12 @@ pub fn cycles_leave_states()
     ensures due { (s : Kept) (at : ℕ) (ask : CycleAsk) (due : Cycled) → IsTimeline s.house s.timeline →
         AllByRecursion (λ (i : Item). i.number < s.next) s.timeline → AllByRecursion (λ (r : BoxId × ℕ). r.1 < s.next) s.stamps →
         IsTrue (are_known s.house ask.inserts) → due_anew s at ask ≡ Rewinds due → GoesOn s due }
+    ensures heard { (s : Kept) (at : ℕ) (ask : CycleAsk) (place : ℕ) (heard : List Item) → IsTimeline s.house s.timeline →
+        AllByRecursion (λ (i : Item). i.number < s.next) s.timeline → AllByRecursion (λ (r : BoxId × ℕ). r.1 < s.next) s.stamps →
+        IsTrue (are_known s.house ask.inserts) → AllHeard (repaired_items s at ask place) heard → leaves_numbers s ask ≡ true →
+        GoesOn s (cycled_with s at ask place heard) }
+    ensures heard_revs { (s : Kept) (at : ℕ) (ask : CycleAsk) (place : ℕ) (heard : List Item) → AllByRecursion (λ (i : Item). i.rev < s.next) s.timeline →
+        AllHeard (repaired_items s at ask place) heard → AllByRecursion (λ (i : Item). i.rev < (cycled_with s at ask place heard).next) (timeline_with s at ask place heard) }
 {}
 
 /// The new timeline has the items through the point, the acts that come in, the later items that stay, and the notices: one to

@@ -1,14 +1,17 @@
 //! A cycle in memory: the store is rewound to a point, the repaired items behind it are replayed, what users were shown is
-//! compared with what they would be shown now, and each user whose answers no longer hold gets a notice.
+//! compared with what they would be shown now, and each user whose answers no longer hold gets a notice. Items are in memory
+//! without their texts: those of deliveries, at which alone performing looks, are read as they are performed.
 //!
-//! `before` is what a cycle begins with. Three calls do the work, each with a contract of its own, so that each can be done in
-//! another way: `rewind` gives the store through the point, `replay` (both in `running`) the store and the answers of the
-//! items from there, and `settle` (in `settling`) makes the rest of these: `judge` finds the broken and withdrawn items,
-//! `showing` lets the broken ones show what they show now, `telling` writes to the users, `notices` makes the notices items,
-//! and `report` what is told of them. `cycle` (in `cycling`) is the three, one after the other. `refused` says why there is no
-//! cycle, and `laws` what holds of every one. In specs/, `Begun` and `Judging` lead up to `Cycles`; `Asking` says what is due to
-//! a request, `Refusing` and `Leaving` what the contract of `cycle` says of its answers, and `Permanence` what a mail client may
-//! rely on that keeps mail by UID.
+//! `before` is what a cycle begins with. Two calls do the work, each with a contract of its own, so that each can be done in
+//! another way: `replay` (in `running`, with `rewind`, which gives the store through the point alone) performs the repaired
+//! items from the beginning with the texts that `reading` reads, and gives the store and the answers of those from the point,
+//! and `settle` (in `settling`) makes the rest of these: `judge` finds the broken and withdrawn items, `showing` lets the
+//! broken ones show what they show now, `telling` writes to the users, `notices` makes the notices items, and `report` what is
+//! told of them. `cycle` (in `cycling`) is the two, one after the other. `refused` says why there is no cycle, and `laws` what
+//! holds of every one. In specs/, `Begun` and `Judging` lead up to `Cycles`, whose definitions are over the items as they were
+//! read, and over the repaired ones, which these are where what is read is what was stored; `Hearing` says which texts are
+//! asked for; `Asking` what is due to a request, `Refusing` and `Leaving` what the contract of `cycle` says of its answers,
+//! and `Permanence` what a mail client may rely on that keeps mail by UID.
 //! What carries the crate: `cycle` answers what `due_anew` says, exactly where the timeline has the point and numbers are left.
 #![tactic(auto)]
 
@@ -17,6 +20,7 @@ mod cycling;
 mod judge;
 pub mod laws;
 mod notices;
+mod reading;
 mod refused;
 mod report;
 mod running;
@@ -26,9 +30,10 @@ mod telling;
 
 pub use before::Before;
 pub use cycling::cycle;
+pub use reading::text_for;
 pub use refused::CycleRefused;
-pub use running::{Replayed, replay, rewind};
-pub use settling::{Rewound, settle};
+pub use running::{Replayed, perform, replay, rewind};
+pub use settling::{Repairs, Rewound, settle};
 use undo_base::Sequence;
 use verb_core::Shown;
 

@@ -1,121 +1,190 @@
-//! Items, performed one after the other: those through a point for the store that they lead to, those behind it for what they
-//! show too.
-ghost use Rattle.std.specs.Prelude.{◌≡◌, ◌+◌, ◌≤◌, [], ◌∷◌, ◌++◌, length, take, IfOk, OnOk};
+//! Items, performed one after the other, each delivery with its text, which is read: those through a point for the store that
+//! they lead to, those behind it for what they show too.
+ghost use Rattle.std.specs.Prelude.{◌≡◌, ◌+◌, ◌-◌, ◌≤◌, ◌==◌, if◌then◌else◌, [], ◌∷◌, ◌++◌, drop, length, take, IfErr, IfOk, OnOk};
 ghost use Rattle.std.specs.List.{AllByRecursion};
 ghost use Rattle.verb_core.specs.Items.{IsWellFormed};
 ghost use Rattle.verb_core.specs.Step.{answers, run, step};
 ghost use Rattle.verb_core.specs.Store.{IsValid};
+ghost use Rattle.verb_core.specs.Texts.{StaysTold};
+ghost use Rattle.stored_items.specs.Stored.{AllHeard, IsHeard};
+ghost use Rattle.verb_core.specs.declared.bodies.BodiesFault.TheVariants.{NoMemory as no_memory};
+ghost use Rattle.mail_cycle.specs.Hearing.{Counts, HoldsOf, IsLedTo, StoresOf, TellsAll, heard_as};
 
+use crate::reading::{hear, text_for};
 use crate::{Before, Shows};
 use box_store::{Steps, Store};
 use std::alloc::Global;
 use std::sync::ledger::Ledger;
+use stored_items::{StoredItem, StoredItems};
 use undo_base::NoMemory;
 use verb_core::laws::steps_keep_validity;
-use verb_core::{Item, Shown};
+use verb_core::{Bodies, BodiesFault, Shown};
 
-/// The store that replayed items lead to, and what each of them shows.
+/// Items as they were performed, the store that they lead to, and what those behind the first ones show.
 #[derive(Drop)]
 pub struct Replayed {
+    pub items: StoredItems,
     pub store: Store,
     pub shows: Shows,
 }
 
-/// Performs an item, in one step.
-fn perform<L: Ledger>(
+/// Performs an item, in one step, with the text that is given beside it: what `text_for` gives.
+pub fn perform<L: Ledger>(
     alloc: Global,
     store: &mut Store,
-    item: &Item,
+    item: &StoredItem,
+    text: &[u8],
     steps: &mut Steps<L>,
 ) -> Result<Shown, NoMemory>
     requires valid { IsValid store.old.store }
     requires formed { IsWellFormed store.old.store.house item.now }
-    ensures store { OnOk result (store.new.store ≡ (step store.old.store item.now).0) }
+    ensures store { OnOk result (store.new.store ≡ (step store.old.store (heard_as item.now text.now)).0) }
     ensures valid { OnOk result (IsValid store.new.store) }
-    ensures shown { IfOk result (λ shown. shown ≡ (step store.old.store item.now).1) }
+    ensures shown { IfOk result (λ shown. shown ≡ (step store.old.store (heard_as item.now text.now)).1) }
     ensures steps { OnOk result (steps.new ≡ steps.old + 1) }
 {
     steps_keep_validity();
-    store.perform(alloc, item, item.deed.text_bytes(), steps)
+    store.perform(alloc, item.item(), text, steps)
 }
 
-/// Performs items, one step each.
-pub(crate) fn perform_all<L: Ledger>(
+/// Performs an item, in one step, and lets it have the text that was read for it.
+fn perform_heard<B: Bodies, L: Ledger>(
     alloc: Global,
     store: &mut Store,
-    items: &[Item],
+    bodies: &mut B,
+    item: &mut StoredItem,
     steps: &mut Steps<L>,
-) -> Result<(), NoMemory>
+) -> Result<Shown, BodiesFault>
     requires valid { IsValid store.old.store }
-    requires formed { AllByRecursion (IsWellFormed store.old.store.house) items.now }
-    ensures store { OnOk result (store.new.store ≡ run store.old.store items.now) }
+    requires formed { IsWellFormed store.old.store.house item.old }
+    requires held { HoldsOf (B.told bodies.old) item.old }
+    ensures heard { OnOk result (IsHeard item.old item.new) }
+    ensures same { (B.told bodies.old).honest → StoresOf (B.told bodies.old) item.old → OnOk result (item.new ≡ item.old) }
+    ensures store { OnOk result (store.new.store ≡ (step store.old.store item.new).0) }
     ensures valid { OnOk result (IsValid store.new.store) }
-    ensures steps { OnOk result (steps.new ≡ steps.old + length items.now) }
+    ensures shown { IfOk result (λ shown. shown ≡ (step store.old.store item.new).1) }
+    ensures steps { OnOk result (steps.new ≡ steps.old + 1) }
+    ensures reads { Counts (B.told bodies.old) (B.told bodies.new) result }
+    ensures stays { StaysTold (B.told bodies.old) (B.told bodies.new) }
+    ensures leads { B.leads bodies.old bodies.new }
 {
-    for item in items {
-        perform(alloc, store, item, steps)?;
+    let text = text_for(alloc, bodies, item)?;
+    match perform(alloc, store, item, text.bytes(), steps) {
+        Ok(shown) => {
+            hear(item, &text);
+            Ok(shown)
+        }
+        Err(NoMemory) => Err(BodiesFault::NoMemory),
     }
-    Ok(())
 }
 
-/// Performs items, one step each, and gives what each of them shows.
-fn perform_shown<L: Ledger>(
+/// Keeps what an item shows, unless it is one of the first so many: how many of these are left then.
+fn keep(shows: &mut Shows, left: usize, shown: Shown) -> Result<usize, BodiesFault>
+    ensures shows { OnOk result (shows.new ≡ shows.old ++ (if left == 0 then shown ∷ [] else [])) }
+    ensures left { IfOk result (λ rest. rest ≡ left - 1) }
+    ensures memory { IfErr result (λ fault. fault ≡ no_memory) }
+{
+    if left > 0 {
+        drop(shown);
+        return Ok(left - 1);
+    }
+    match shows.push(shown) {
+        Ok(()) => Ok(0),
+        Err(NoMemory) => Err(BodiesFault::NoMemory),
+    }
+}
+
+/// Performs items, one step each, and gives what those behind the first so many show. Each delivery's text is read, once.
+fn perform_each<B: Bodies, L: Ledger>(
     alloc: Global,
     store: &mut Store,
-    items: &[Item],
+    bodies: &mut B,
+    items: &mut Vec<StoredItem>,
+    front: usize,
     steps: &mut Steps<L>,
-) -> Result<Shows, NoMemory>
+) -> Result<Shows, BodiesFault>
     requires valid { IsValid store.old.store }
-    requires formed { AllByRecursion (IsWellFormed store.old.store.house) items.now }
-    ensures store { OnOk result (store.new.store ≡ run store.old.store items.now) }
+    requires formed { AllByRecursion (IsWellFormed store.old.store.house) items.old.items }
+    requires texts { TellsAll (B.told bodies.old) items.old.items }
+    ensures heard { OnOk result (AllHeard items.old.items items.new.items) }
+    ensures same { (B.told bodies.old).honest → OnOk result (items.new.items ≡ items.old.items) }
+    ensures store { OnOk result (store.new.store ≡ run store.old.store items.new.items) }
     ensures valid { OnOk result (IsValid store.new.store) }
-    ensures shows { IfOk result (λ shows. shows ≡ answers store.old.store items.now) }
-    ensures steps { OnOk result (steps.new ≡ steps.old + length items.now) }
+    ensures shows { IfOk result (λ shows. shows ≡ drop front (answers store.old.store items.new.items)) }
+    ensures steps { OnOk result (steps.new ≡ steps.old + length items.old.items) }
+    ensures reads { Counts (B.told bodies.old) (B.told bodies.new) result }
+    ensures stays { StaysTold (B.told bodies.old) (B.told bodies.new) }
+    ensures leads { B.leads bodies.old bodies.new }
 {
     let mut shows = Shows::new(alloc);
-    for item in items {
-        shows.push(perform(alloc, store, item, steps)?)?;
+    let mut left = front;
+    for item in items.iter_mut() {
+        let shown = perform_heard(alloc, store, bodies, item, steps)?;
+        left = keep(&mut shows, left, shown)?;
     }
     Ok(shows)
 }
 
-/// The store that the items through a place of the timeline lead to. Each of them is performed once; what they show is not
-/// kept. In time that grows as these items.
-pub fn rewind<L: Ledger>(
+/// The store that items lead to from the given one, and what each of those behind the first so many shows there. Each of them
+/// is performed once, and each delivery's text is read, once. In time that grows as these items and texts.
+pub fn replay<B: Bodies, L: Ledger>(
+    alloc: Global,
+    store: Store,
+    bodies: &mut B,
+    items: StoredItems,
+    front: usize,
+    steps: &mut Steps<L>,
+) -> Result<Replayed, BodiesFault>
+    requires valid { IsValid store.store }
+    requires formed { AllByRecursion (IsWellFormed store.store.house) items }
+    requires texts { TellsAll (B.told bodies.old) items }
+    ensures heard { IfOk result (λ made. AllHeard items made.items) }
+    ensures same { (B.told bodies.old).honest → IfOk result (λ made. made.items ≡ items) }
+    ensures store { IfOk result (λ made. made.store.store ≡ run store.store made.items) }
+    ensures valid { IfOk result (λ made. IsValid made.store.store) }
+    ensures shows { IfOk result (λ made. made.shows ≡ drop front (answers store.store made.items)) }
+    ensures steps { OnOk result (steps.new ≡ steps.old + length items) }
+    ensures reads { Counts (B.told bodies.old) (B.told bodies.new) result }
+    ensures stays { StaysTold (B.told bodies.old) (B.told bodies.new) }
+    ensures leads { B.leads bodies.old bodies.new }
+{
+    let mut store = store;
+    let mut items = items.into_vec();
+    match perform_each(alloc, &mut store, bodies, &mut items, front, steps) {
+        Ok(shows) => Ok(Replayed {
+            items: StoredItems::from_vec(items),
+            store,
+            shows,
+        }),
+        Err(fault) => Err(fault),
+    }
+}
+
+/// The store that the items through a place of the timeline lead to. Each of them is performed once, and each delivery's text is
+/// read, once; what they show is not kept. In time that grows as these items and texts.
+pub fn rewind<B: Bodies, L: Ledger>(
     alloc: Global,
     before: &Before<'_>,
+    bodies: &mut B,
     place: usize,
     steps: &mut Steps<L>,
-) -> Result<Store, NoMemory>
+) -> Result<Store, BodiesFault>
     requires place { place ≤ length before.now.timeline }
-    ensures store { IfOk result (λ store. store.store ≡ run before.now.base (take place before.now.timeline)) }
+    requires texts { TellsAll (B.told bodies.old) (take place before.now.timeline) }
+    ensures led { IfOk result (λ store. IsLedTo before.now.base (take place before.now.timeline) (B.told bodies.old).honest store.store) }
+    ensures store { (B.told bodies.old).honest → IfOk result (λ store. store.store ≡ run before.now.base (take place before.now.timeline)) }
     ensures valid { IfOk result (λ store. IsValid store.store) }
     ensures house { IfOk result (λ store. store.store.house ≡ before.now.house) }
     ensures steps { OnOk result (steps.new ≤ steps.old + place) }
+    ensures reads { Counts (B.told bodies.old) (B.told bodies.new) result }
+    ensures stays { StaysTold (B.told bodies.old) (B.told bodies.new) }
+    ensures leads { B.leads bodies.old bodies.new }
 {
-    let mut store = before.opened(alloc)?;
-    perform_all(alloc, &mut store, before.front(place), steps)?;
-    Ok(store)
-}
-
-/// The store that items lead to from the given one, and what each of them shows there. Each of them is performed once. In
-/// time that grows as these items.
-pub fn replay<L: Ledger>(
-    alloc: Global,
-    store: Store,
-    items: &[Item],
-    steps: &mut Steps<L>,
-) -> Result<Replayed, NoMemory>
-    requires valid { IsValid store.store }
-    requires formed { AllByRecursion (IsWellFormed store.store.house) items.now }
-    ensures store { IfOk result (λ made. made.store.store ≡ run store.store items.now) }
-    ensures valid { IfOk result (λ made. IsValid made.store.store) }
-    ensures shows { IfOk result (λ made. made.shows ≡ answers store.store items.now) }
-    ensures steps { OnOk result (steps.new ≤ steps.old + length items.now) }
-{
-    let mut store = store;
-    match perform_shown(alloc, &mut store, items, steps) {
-        Ok(shows) => Ok(Replayed { store, shows }),
-        Err(NoMemory) => Err(NoMemory),
+    match before.opened_with(alloc, place) {
+        Ok((store, items)) => match replay(alloc, store, bodies, items, place, steps) {
+            Ok(made) => Ok(made.store),
+            Err(fault) => Err(fault),
+        },
+        Err(NoMemory) => Err(BodiesFault::NoMemory),
     }
 }

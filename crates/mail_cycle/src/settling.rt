@@ -1,29 +1,30 @@
 //! The end of a cycle: what replayed items show is compared with what users were shown, users are told, and all is put together.
-ghost use Rattle.std.specs.Prelude.{◌≡◌, ◌+◌, ◌≤◌, ◌++◌, drop, length, IfOk, IsTrue};
+ghost use Rattle.std.specs.Prelude.{◌≡◌, ◌+◌, ◌≤◌, ◌++◌, drop, length, IfOk, IsTrue, OnOk};
 ghost use Rattle.std.specs.List.{AllByRecursion};
 ghost use Rattle.verb_core.specs.Items.{IsWellFormed};
-ghost use Rattle.verb_core.specs.Step.{answers, run};
+ghost use Rattle.verb_core.specs.Step.{answers, run, step};
 ghost use Rattle.verb_core.specs.Store.{IsValid};
 ghost use Rattle.paradox.specs.Kept.{store_of};
 ghost use Rattle.repair_desk.specs.Renewals.{renewed as renewed_stamps};
 ghost use Rattle.repair_desk.specs.Repairs.{edited_at};
-ghost use Rattle.mail_cycle.specs.Cycles.{cycled_at, leaves_numbers, renewed_by as renewed_in};
+ghost use Rattle.mail_cycle.specs.Cycles.{cycled_with, leaves_numbers, renewed_by as renewed_in};
 ghost use Rattle.mail_cycle.specs.Judging.{shown_after};
 ghost use Rattle.mail_cycle.specs.Leaving.{Leaves};
 
 use crate::Before;
 use crate::judge::behind;
 use crate::report::renewed_by;
-use crate::running::{Replayed, perform_all};
+use crate::running::Replayed;
 use crate::showing::show;
 use crate::telling::{Told, tell_users};
 use box_store::{Steps, Store};
 use paradox::{BrokenList, Renewals, Report};
-use repair_desk::Edited;
 use std::alloc::Global;
 use std::sync::ledger::Ledger;
+use stored_items::{StoredItem, StoredItems};
 use undo_base::{LAST_MOMENT, LAST_NUMBER, NoMemory, Numbers};
 use verb_bytes::CycleAsk;
+use verb_core::laws::steps_keep_validity;
 use verb_core::{Item, Items, Shown, Stamps};
 
 /// What a cycle leaves: the store, the items in force that lead to it, the stamp of each mailbox, the next number, and the
@@ -31,20 +32,28 @@ use verb_core::{Item, Items, Shown, Stamps};
 #[derive(Drop)]
 pub struct Rewound {
     pub store: Store,
-    pub timeline: Items,
+    pub timeline: StoredItems,
     pub stamps: Stamps,
     pub next: u32,
     pub report: Report,
 }
 
-/// Items, and others behind them.
-fn joined(items: Items, more: Items) -> Result<Items, NoMemory>
+/// What is told of the repairs: how many of the later items stayed, and the asked numbers that did nothing.
+#[derive(Drop)]
+pub struct Repairs {
+    pub kept: u32,
+    pub unmatched: Numbers,
+}
+
+/// Items, and notices behind them.
+fn joined(alloc: Global, items: StoredItems, more: Items) -> Result<StoredItems, NoMemory>
     ensures { IfOk result (λ all. all ≡ items ++ more) }
 {
-    let mut items = items.into_vec();
-    let mut more = more.into_vec();
-    items.append(&mut more)?;
-    Ok(Items::from_vec(items))
+    let mut items = items;
+    for item in more.into_vec() {
+        items.push(StoredItem::of(alloc, item))?;
+    }
+    Ok(items)
 }
 
 /// The items in force: the repaired ones, of which those behind the front show their answers where what they showed no longer
@@ -52,16 +61,58 @@ fn joined(items: Items, more: Items) -> Result<Items, NoMemory>
 fn in_force(
     alloc: Global,
     front: usize,
-    items: Items,
+    items: StoredItems,
     now: &[Shown],
     notices: Items,
-) -> Result<Items, NoMemory>
+) -> Result<StoredItems, NoMemory>
     ensures { IfOk result (λ all. all ≡ shown_after front items now.now ++ notices) }
 {
     match show(alloc, front, items, now) {
-        Ok(items) => joined(items, notices),
+        Ok(items) => joined(alloc, items, notices),
         Err(NoMemory) => Err(NoMemory),
     }
+}
+
+/// Performs a notice, in one step.
+fn perform<L: Ledger>(
+    alloc: Global,
+    store: &mut Store,
+    notice: &Item,
+    steps: &mut Steps<L>,
+) -> Result<(), NoMemory>
+    requires valid { IsValid store.old.store }
+    requires formed { IsWellFormed store.old.store.house notice.now }
+    ensures store { OnOk result (store.new.store ≡ (step store.old.store notice.now).0) }
+    ensures valid { OnOk result (IsValid store.new.store) }
+    ensures steps { OnOk result (steps.new ≡ steps.old + 1) }
+{
+    steps_keep_validity();
+    match store.perform(alloc, notice, notice.deed.text_bytes(), steps) {
+        Ok(shown) => {
+            drop(shown);
+            Ok(())
+        }
+        Err(NoMemory) => Err(NoMemory),
+    }
+}
+
+/// Performs notices, one step each.
+fn perform_all<L: Ledger>(
+    alloc: Global,
+    store: &mut Store,
+    notices: &[Item],
+    steps: &mut Steps<L>,
+) -> Result<(), NoMemory>
+    requires valid { IsValid store.old.store }
+    requires formed { AllByRecursion (IsWellFormed store.old.store.house) notices.now }
+    ensures store { OnOk result (store.new.store ≡ run store.old.store notices.now) }
+    ensures valid { OnOk result (IsValid store.new.store) }
+    ensures steps { OnOk result (steps.new ≡ steps.old + length notices.now) }
+{
+    for notice in notices {
+        perform(alloc, store, notice, steps)?;
+    }
+    Ok(())
 }
 
 /// Performs the notices.
@@ -106,7 +157,7 @@ fn marks_of(alloc: Global, before: &Before<'_>, after: &Store) -> Result<Marks, 
 #[derive(Drop)]
 struct Led {
     store: Store,
-    timeline: Items,
+    timeline: StoredItems,
 }
 
 /// Performs the notices, and puts them behind the items, which show what they show now where what they showed no longer holds:
@@ -115,7 +166,6 @@ fn lead<L: Ledger>(
     alloc: Global,
     front: usize,
     inserts: usize,
-    items: Items,
     replayed: Replayed,
     notices: Items,
     steps: &mut Steps<L>,
@@ -124,10 +174,14 @@ fn lead<L: Ledger>(
     requires formed { AllByRecursion (IsWellFormed replayed.store.store.house) notices }
     ensures store { IfOk result (λ led. led.store.store ≡ run replayed.store.store notices) }
     ensures valid { IfOk result (λ led. IsValid led.store.store) }
-    ensures timeline { IfOk result (λ led. led.timeline ≡ shown_after front items (drop inserts replayed.shows) ++ notices) }
+    ensures timeline { IfOk result (λ led. led.timeline ≡ shown_after front replayed.items (drop inserts replayed.shows) ++ notices) }
     ensures steps { IfOk result (λ led. steps.new ≡ steps.old + length notices) }
 {
-    let Replayed { store, shows } = replayed;
+    let Replayed {
+        items,
+        store,
+        shows,
+    } = replayed;
     let store = performed(alloc, store, notices.as_slice(), steps)?;
     let now = behind(shows.as_slice(), inserts);
     match in_force(alloc, front, items, now, notices) {
@@ -194,7 +248,7 @@ fn close<L: Ledger>(
     before: &Before<'_>,
     ask: &CycleAsk,
     place: usize,
-    edited: Edited,
+    repairs: Repairs,
     replayed: Replayed,
     told: Told,
     steps: &mut Steps<L>,
@@ -206,17 +260,17 @@ fn close<L: Ledger>(
     requires formed { AllByRecursion (IsWellFormed replayed.store.store.house) told.notices }
     ensures store { IfOk result (λ made. made.store.store ≡ run replayed.store.store told.notices) }
     ensures valid { IfOk result (λ made. IsValid made.store.store) }
-    ensures timeline { IfOk result (λ made. made.timeline ≡ shown_after (place + length ask.now.inserts) edited.items (drop (length ask.now.inserts) replayed.shows) ++ told.notices) }
+    ensures timeline { IfOk result (λ made. made.timeline ≡ shown_after (place + length ask.now.inserts) replayed.items (drop (length ask.now.inserts) replayed.shows) ++ told.notices) }
     ensures stamps { IfOk result (λ made. made.stamps ≡ renewed_stamps (store_of before.now).boxes made.store.store.boxes before.now.stamps before.now.next) }
     ensures next { IfOk result (λ made. made.next ≡ before.now.next + 1 + length ask.now.inserts + length told.numbers) }
     ensures report { IfOk result (λ made. made.report ≡ record {
       cycle = before.now.next;
       point = ask.now.point;
-      kept = edited.kept;
+      kept = repairs.kept;
       broken = told.broken;
       notices = told.numbers;
       renewed = renewed_in before.now.next made.stamps;
-      unmatched = edited.unmatched;
+      unmatched = repairs.unmatched;
     }) }
     ensures steps { IfOk result (λ made. steps.new ≤ steps.old + length told.notices) }
 {
@@ -224,51 +278,44 @@ fn close<L: Ledger>(
     let front = before.front_with(place, inserts);
     let found = Found {
         next: before.next() + 1 + inserts as u32 + told.numbers.len() as u32,
-        kept: edited.kept,
+        kept: repairs.kept,
         broken: told.broken,
         notices: told.numbers,
-        unmatched: edited.unmatched,
+        unmatched: repairs.unmatched,
     };
-    match lead(
-        alloc,
-        front,
-        inserts,
-        edited.items,
-        replayed,
-        told.notices,
-        steps,
-    ) {
+    match lead(alloc, front, inserts, replayed, told.notices, steps) {
         Ok(led) => finish(alloc, before, ask.point, led, found),
         Err(NoMemory) => Err(NoMemory),
     }
 }
 
-/// What the cycle leaves behind a place, from the repaired timeline and the store and the answers that the items behind the
-/// place gave: the broken and the withdrawn items, what the broken ones show, the notices, which are performed, the stamps and
-/// the report. In time that grows as the timeline and the mailboxes.
+/// What the cycle leaves behind a place, from the repaired items as they were read, the store that they lead to and the answers
+/// that those behind the place gave: the broken and the withdrawn items, what the broken ones show, the notices, which are
+/// performed, the stamps and the report. In time that grows as the timeline and the mailboxes.
 pub fn settle<L: Ledger>(
     alloc: Global,
     before: &Before<'_>,
     at: u64,
     ask: &CycleAsk,
     place: usize,
-    edited: Edited,
+    repairs: Repairs,
     replayed: Replayed,
     steps: &mut Steps<L>,
 ) -> Result<Rewound, NoMemory>
     requires moment { at ≤ LAST_MOMENT }
     requires numbers { IsTrue (leaves_numbers before.now ask.now) }
     requires place { place ≤ length before.now.timeline }
-    requires edited { edited ≡ edited_at before.now.timeline ask.now before.now.next at place }
-    requires store { replayed.store.store ≡ run before.now.base edited.items }
+    requires kept { repairs.kept ≡ (edited_at before.now.timeline ask.now before.now.next at place).kept }
+    requires unmatched { repairs.unmatched ≡ (edited_at before.now.timeline ask.now before.now.next at place).unmatched }
+    requires store { replayed.store.store ≡ run before.now.base replayed.items }
     requires valid { IsValid replayed.store.store }
-    requires shows { replayed.shows ≡ drop place (answers before.now.base edited.items) }
-    ensures made { IfOk result (λ made. Leaves before.now (cycled_at before.now at ask.now place) made) }
+    requires shows { replayed.shows ≡ drop place (answers before.now.base replayed.items) }
+    ensures made { IfOk result (λ made. Leaves before.now (cycled_with before.now at ask.now place replayed.items) made) }
     ensures steps { IfOk result (λ made. steps.new ≤ steps.old + length made.report.notices) }
 {
     before.has_a_house();
     match tell_users(alloc, before, at, ask, place, replayed.shows.as_slice()) {
-        Ok(told) => close(alloc, before, ask, place, edited, replayed, told, steps),
+        Ok(told) => close(alloc, before, ask, place, repairs, replayed, told, steps),
         Err(NoMemory) => Err(NoMemory),
     }
 }

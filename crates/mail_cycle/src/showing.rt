@@ -5,16 +5,18 @@ ghost use Rattle.mail_cycle.specs.Judging.{shown_after, shown_by};
 use crate::judge::rest;
 use paradox::broken;
 use std::alloc::Global;
+use stored_items::{StoredItem, StoredItems};
 use undo_base::{Copies, NoMemory};
-use verb_core::{Item, Items, Shown};
+use verb_core::Shown;
 
 /// Lets an item show the first of these answers, where what it showed no longer holds.
-fn show_one(alloc: Global, item: &mut Item, now: &[Shown]) -> Result<(), NoMemory>
+#[tactic(auto, using(crate::proofs::Heard::broken_stored))]
+fn show_one(alloc: Global, item: &mut StoredItem, now: &[Shown]) -> Result<(), NoMemory>
     ensures { OnOk result (item.new ≡ shown_by item.old now.now) }
 {
     if let Some(shown) = now.first() {
-        if broken(item, shown).is_some() {
-            item.shown = shown.copy(alloc)?;
+        if broken(item.item(), shown).is_some() {
+            item.show(shown.copy(alloc)?);
         }
     }
     Ok(())
@@ -24,7 +26,7 @@ fn show_one(alloc: Global, item: &mut Item, now: &[Shown]) -> Result<(), NoMemor
 fn show_all(
     alloc: Global,
     front: usize,
-    items: &mut Vec<Item>,
+    items: &mut Vec<StoredItem>,
     now: &[Shown],
 ) -> Result<(), NoMemory>
     ensures { OnOk result (items.new.items ≡ shown_after front items.old.items now.now) }
@@ -46,14 +48,14 @@ fn show_all(
 pub(crate) fn show(
     alloc: Global,
     front: usize,
-    items: Items,
+    items: StoredItems,
     now: &[Shown],
-) -> Result<Items, NoMemory>
+) -> Result<StoredItems, NoMemory>
     ensures { IfOk result (λ all. all ≡ shown_after front items now.now) }
 {
     let mut items = items.into_vec();
     match show_all(alloc, front, &mut items, now) {
-        Ok(()) => Ok(Items::from_vec(items)),
+        Ok(()) => Ok(StoredItems::from_vec(items)),
         Err(NoMemory) => Err(NoMemory),
     }
 }

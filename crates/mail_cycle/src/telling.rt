@@ -1,10 +1,11 @@
 //! What users are told after a cycle.
-ghost use Rattle.std.specs.Prelude.{◌≡◌, ℕ, ◌+◌, ◌≤◌, drop, length, IfOk};
+ghost use Rattle.std.specs.Prelude.{◌≡◌, ◌+◌, ◌≤◌, drop, length, IfOk};
 ghost use Rattle.std.specs.List.{AllByRecursion};
 ghost use Rattle.verb_core.specs.Items.{IsWellFormed};
 ghost use Rattle.paradox.specs.Letters.{notices as notices_of};
 ghost use Rattle.repair_desk.specs.Repairs.{numbers_of as numbers_in};
-ghost use Rattle.mail_cycle.specs.Cycles.{broken_at, notice_items, shown_now, told_at};
+ghost use Rattle.mail_cycle.specs.Cycles.{notice_items};
+ghost use Rattle.mail_cycle.specs.Judging.{judged};
 
 use crate::Before;
 use crate::judge::{behind, judge};
@@ -34,7 +35,7 @@ fn judge_later(
     shows: &[Shown],
 ) -> Result<BrokenList, NoMemory>
     requires place { place ≤ length before.now.timeline }
-    ensures { IfOk result (λ list. (at : ℕ) → shows.now ≡ drop place (shown_now before.now at ask.now place) → list ≡ broken_at before.now at ask.now place) }
+    ensures { IfOk result (λ list. list ≡ judged ask.now.drops (drop place before.now.timeline) (drop (length ask.now.inserts) shows.now)) }
 {
     let drops = NumberSet::of(alloc, ask.drops.as_slice())?;
     let now = behind(shows, ask.inserts.len());
@@ -70,9 +71,8 @@ pub(crate) fn tell_users(
     requires moment { at ≤ LAST_MOMENT }
     requires place { place ≤ length before.now.timeline }
     requires numbers { before.now.next + 1 + length ask.now.inserts + length before.now.house.accounts ≤ LAST_NUMBER }
-    requires shows { shows.now ≡ drop place (shown_now before.now at ask.now place) }
-    ensures broken { IfOk result (λ told. told.broken ≡ broken_at before.now at ask.now place) }
-    ensures notices { IfOk result (λ told. told.notices ≡ told_at before.now at ask.now place) }
+    ensures broken { IfOk result (λ told. told.broken ≡ judged ask.now.drops (drop place before.now.timeline) (drop (length ask.now.inserts) shows.now)) }
+    ensures notices { IfOk result (λ told. told.notices ≡ notice_items (before.now.next + length ask.now.inserts) at (notices_of before.now.house before.now.next at told.broken)) }
     ensures numbers { IfOk result (λ told. told.numbers ≡ numbers_in told.notices) }
     ensures few { IfOk result (λ told. length told.numbers ≤ length before.now.house.accounts) }
     ensures formed { IfOk result (λ told. AllByRecursion (IsWellFormed before.now.house) told.notices) }

@@ -5,5 +5,5 @@ use Rattle.mail_cycle.proofs.telling.judge_later.Goals as goal
 
 pub returns : goal.returns
 returns c =
-    judged_is c.args.before.now c.args.ask.now c.args.place _ _ _ _ _ _ (λ n. c.in_ok-drops.ensures n ∙ ap (λ (ds : List ℕ). is_among ds n) c.as_slice.ensures) c.later.ensures c.len.ensures
+    judged_is _ c.args.ask.now.drops _ _ _ _ c.args.shows.now _ _ (λ n. c.in_ok-drops.ensures n ∙ ap (λ (ds : List ℕ). is_among ds n) c.as_slice.ensures) c.later.ensures c.len.ensures
     c.behind-now.ensures c.judge.ensures

@@ -1,0 +1,309 @@
+-- Items as they were read: what they do, and what they have as before.
+use Rattle.std.proofs.Common.{◌≡◌, ℕ, zero, suc, ◌+◌, ◌-◌, ◌<◌, ◌==◌, Ok, Err, OnOk, Result, eqb-true, get_or, slice_get, slice_set, take, Bool, cond, true, false, true≢false, Option, Some, option_and_then, option_map, arith, refl, sym, ◌∙◌, ap, ap₂, subst, List, [], ◌∷◌, ◌++◌, drop, length}
+use Rattle.std.specs.List.{AllByRecursion}
+use Rattle.std.proofs.lemmas.List.{drop-drop, length-take-le}
+use Rattle.verb_core.specs.declared.conf.House.{House}
+use Rattle.verb_core.specs.declared.item.Deed.{Deed}
+use Rattle.verb_core.specs.declared.item.Deed.TheVariants.{Deliver, Append, Fetch, Store, Copy, List as Names, Status, Select, Expunge, Close, Create, Rename, Delete, Act as Acts, Notice}
+use Rattle.verb_core.specs.declared.item.Item.{Item}
+use Rattle.verb_core.specs.declared.item.Shown.{Shown}
+use Rattle.verb_core.specs.declared.mailbox.Body.{Body}
+use Rattle.verb_core.specs.Deeds.{is_notice, with_text}
+use Rattle.verb_core.specs.Items.{IsWellFormed, text_in}
+use Rattle.verb_core.specs.Step.{answers, run, step}
+use Rattle.verb_core.specs.Store.{IsValid, MailStore}
+use Rattle.verb_core.specs.Texts.{BodiesTold, StaysTold}
+use Rattle.verb_core.proofs.Joins.{answers_joined, run_joined}
+use Rattle.stored_items.specs.Stored.{AllHeard, IsHeard, needs_text, step_text, stored, stored_deed, whole}
+use Rattle.stored_items.proofs.Alike.{does_with_any, does_with_text, formed_heard as one_formed, mailbox as mailbox_stored}
+use Rattle.stored_items.proofs.Heard.{handed_on, heard_longer}
+use Rattle.undo_base.specs.declared.keys.User.{User}
+use Rattle.undo_base.specs.declared.memory.NoMemory.{NoMemory}
+use Rattle.paradox.specs.Answers.{amiss, broken, looks_at_texts}
+use Rattle.paradox.specs.Words.{told_of, verb_of}
+use Rattle.paradox.specs.declared.words.Reason.{Reason}
+use Rattle.paradox.specs.declared.words.Verb.{Verb}
+use Rattle.verb_core.specs.declared.item.Act.TheVariants.{SetAlias, DropAlias, SetFilter, DropFilter, Remove, Give}
+use Rattle.mail_cycle.specs.Hearing.{HoldsOf, StoresOf, TellsOf, body_of, heard_as}
+
+-- ---- one item
+
+-- a delivery's text is not kept
+anew : (text : List ℕ) (d : Deed) → needs_text d ≡ true → stored_deed (with_text text d) ≡ stored_deed d
+anew text (Deliver from to old) needs = refl
+anew text (Append mailbox flags moment old) needs = absurd (true≢false (sym needs))
+anew text (Fetch mailbox keys sets_seen shows_body) needs = absurd (true≢false (sym needs))
+anew text (Store mailbox keys how flags) needs = absurd (true≢false (sym needs))
+anew text (Copy mailbox keys target) needs = absurd (true≢false (sym needs))
+anew text (Names pattern) needs = absurd (true≢false (sym needs))
+anew text (Status mailbox) needs = absurd (true≢false (sym needs))
+anew text (Select mailbox) needs = absurd (true≢false (sym needs))
+anew text (Expunge mailbox keys) needs = absurd (true≢false (sym needs))
+anew text (Close mailbox keys) needs = absurd (true≢false (sym needs))
+anew text (Create mailbox) needs = absurd (true≢false (sym needs))
+anew text (Rename mailbox target) needs = absurd (true≢false (sym needs))
+anew text (Delete mailbox keys) needs = absurd (true≢false (sym needs))
+anew text (Acts act) needs = absurd (true≢false (sym needs))
+anew text (Notice user old) needs = absurd (true≢false (sym needs))
+
+-- a delivery with another text goes where that text leads
+redone : (s : MailStore) (i : Item) (text : List ℕ) (d : Deed) → needs_text d ≡ true → step_text s (record i { deed = d }) text ≡ step s (record i { deed = with_text text d })
+redone s i text (Deliver from to old) needs = refl
+redone s i text (Append mailbox flags moment old) needs = absurd (true≢false (sym needs))
+redone s i text (Fetch mailbox keys sets_seen shows_body) needs = absurd (true≢false (sym needs))
+redone s i text (Store mailbox keys how flags) needs = absurd (true≢false (sym needs))
+redone s i text (Copy mailbox keys target) needs = absurd (true≢false (sym needs))
+redone s i text (Names pattern) needs = absurd (true≢false (sym needs))
+redone s i text (Status mailbox) needs = absurd (true≢false (sym needs))
+redone s i text (Select mailbox) needs = absurd (true≢false (sym needs))
+redone s i text (Expunge mailbox keys) needs = absurd (true≢false (sym needs))
+redone s i text (Close mailbox keys) needs = absurd (true≢false (sym needs))
+redone s i text (Create mailbox) needs = absurd (true≢false (sym needs))
+redone s i text (Rename mailbox target) needs = absurd (true≢false (sym needs))
+redone s i text (Delete mailbox keys) needs = absurd (true≢false (sym needs))
+redone s i text (Acts act) needs = absurd (true≢false (sym needs))
+redone s i text (Notice user old) needs = absurd (true≢false (sym needs))
+
+-- a deed with its own text is that deed
+with_own : (text : List ℕ) (d : Deed) → needs_text d ≡ true → text_in d ≡ Some text → with_text text d ≡ d
+with_own text (Deliver from to old) needs is = let same : text ≡ old = cc in ap (λ (t : List ℕ). Deliver from to t) same
+with_own text (Append mailbox flags moment old) needs is = absurd (true≢false (sym needs))
+with_own text (Fetch mailbox keys sets_seen shows_body) needs is = absurd (true≢false (sym needs))
+with_own text (Store mailbox keys how flags) needs is = absurd (true≢false (sym needs))
+with_own text (Copy mailbox keys target) needs is = absurd (true≢false (sym needs))
+with_own text (Names pattern) needs is = absurd (true≢false (sym needs))
+with_own text (Status mailbox) needs is = absurd (true≢false (sym needs))
+with_own text (Select mailbox) needs is = absurd (true≢false (sym needs))
+with_own text (Expunge mailbox keys) needs is = absurd (true≢false (sym needs))
+with_own text (Close mailbox keys) needs is = absurd (true≢false (sym needs))
+with_own text (Create mailbox) needs is = absurd (true≢false (sym needs))
+with_own text (Rename mailbox target) needs is = absurd (true≢false (sym needs))
+with_own text (Delete mailbox keys) needs is = absurd (true≢false (sym needs))
+with_own text (Acts act) needs is = absurd (true≢false (sym needs))
+with_own text (Notice user old) needs is = absurd (true≢false (sym needs))
+
+-- one whose text is looked at is no notice
+pub no_notice : (d : Deed) → needs_text d ≡ true → is_notice d ≡ false
+unfolding is_notice
+no_notice (Deliver from to text) needs = refl
+no_notice (Append mailbox flags moment old) needs = refl
+no_notice (Fetch mailbox keys sets_seen shows_body) needs = refl
+no_notice (Store mailbox keys how flags) needs = refl
+no_notice (Copy mailbox keys target) needs = refl
+no_notice (Names pattern) needs = refl
+no_notice (Status mailbox) needs = refl
+no_notice (Select mailbox) needs = refl
+no_notice (Expunge mailbox keys) needs = refl
+no_notice (Close mailbox keys) needs = refl
+no_notice (Create mailbox) needs = refl
+no_notice (Rename mailbox target) needs = refl
+no_notice (Delete mailbox keys) needs = refl
+no_notice (Acts act) needs = refl
+no_notice (Notice user old) needs = absurd (true≢false (sym needs))
+
+pub is_heard : (i : Item) (text : List ℕ) → IsHeard i (heard_as i text)
+is_heard i text = by (needs_text i.deed) refl
+  where
+    by : (b : Bool) → needs_text i.deed ≡ b → IsHeard i (cond b (whole i text) i)
+    by true needs = record { stored_is = ap (λ (d : Deed). record i { deed = d }) (anew text i.deed needs); same = λ none. absurd (true≢false (sym needs ∙ none)) }
+    by false none = record { stored_is = refl; same = λ _. refl }
+
+-- performing an item as it is kept, with a text beside it, does what the item does with that text
+pub step_heard : (s : MailStore) (i : Item) (text : List ℕ) → step_text s (stored i) text ≡ step s (heard_as i text)
+step_heard s i text = does_with_text s i text ∙ by (needs_text i.deed) refl
+  where
+    by : (b : Bool) → needs_text i.deed ≡ b → step_text s i text ≡ step s (cond b (whole i text) i)
+    by true needs = redone s i text i.deed needs
+    by false none = does_with_any s i text none
+
+-- what it leaves is valid
+pub valid_heard : ((s : MailStore) (i : Item) → IsValid s → IsWellFormed s.house i → IsValid (step s i).0) → (s after : MailStore) (i lent : Item) (text : List ℕ) (r : Result Shown NoMemory)
+    → IsValid s → IsWellFormed s.house i → lent ≡ stored i → OnOk r (after ≡ (step_text s lent text).0) → OnOk r (IsValid after)
+valid_heard law s after i lent text (Err e) valid formed lends is = tt
+valid_heard law s after i lent text (Ok shown) valid formed lends is =
+    subst IsValid (sym (is ∙ ap (λ (j : Item). (step_text s j text).0) lends ∙ ap (λ (r : MailStore × Shown). r.0) (step_heard s i text)))
+    (law s (heard_as i text) valid (one_formed s.house i (heard_as i text) (is_heard i text) formed))
+
+-- an item with its own text is that item
+pub heard_own : (i : Item) (text : List ℕ) → (needs_text i.deed ≡ true → text_in i.deed ≡ Some text) → heard_as i text ≡ i
+heard_own i text is = by (needs_text i.deed) refl
+  where
+    by : (b : Bool) → needs_text i.deed ≡ b → cond b (whole i text) i ≡ i
+    by true needs = ap (λ (d : Deed). record i { deed = d }) (with_own text i.deed needs (is needs))
+    by false none = refl
+
+-- ---- what is told of texts
+
+pub stays_on : (a b c : BodiesTold) → StaysTold a b → StaysTold b c → StaysTold a c
+stays_on a b c one two = record { holds = two.holds ∙ one.holds; texts = two.texts ∙ one.texts; honest = λ is. two.honest (one.honest is) }
+
+pub holds_on : (old new : BodiesTold) (i : Item) → StaysTold old new → TellsOf old i → HoldsOf new i
+holds_on old new i stays tells needs = ap (λ (holds : Body → Bool). holds (body_of i)) stays.holds ∙ (tells needs).0
+
+pub stores_on : (old new : BodiesTold) (i : Item) → StaysTold old new → TellsOf old i → old.honest → StoresOf new i
+stores_on old new i stays tells is needs = ap (λ (texts : Body → Option (List ℕ)). texts (body_of i)) stays.texts ∙ (tells needs).1 is
+
+-- ---- items in order
+
+pub numbers_heard : (P : ℕ → Type 0) (items heard : List Item) → AllHeard items heard → AllByRecursion (λ (i : Item). P i.number) items → AllByRecursion (λ (i : Item). P i.number) heard
+numbers_heard P = handed_on (λ (i : Item). P i.number) (λ i h is p. subst P (ap (λ (j : Item). j.number) (sym is.stored_is)) p)
+
+pub revs_heard : (P : ℕ → Type 0) (items heard : List Item) → AllHeard items heard → AllByRecursion (λ (i : Item). P i.rev) items → AllByRecursion (λ (i : Item). P i.rev) heard
+revs_heard P = handed_on (λ (i : Item). P i.rev) (λ i h is p. subst P (ap (λ (j : Item). j.rev) (sym is.stored_is)) p)
+
+pub formed_heard : (house : House) (items heard : List Item) → AllHeard items heard → AllByRecursion (IsWellFormed house) items → AllByRecursion (IsWellFormed house) heard
+formed_heard house = handed_on (IsWellFormed house) (one_formed house)
+
+-- ---- items performed one after the other
+
+pub run_more : (base s : MailStore) (t : List Item) (i : Item) → s ≡ run base t → (step s i).0 ≡ run base (t ++ i ∷ [])
+run_more base s t i is = ap (λ (m : MailStore). (step m i).0) is ∙ sym (run_joined base t (i ∷ []))
+
+none_left : {X : Type 0} (n : ℕ) (xs : List X) → xs ≡ [] → drop n xs ≡ []
+none_left zero xs none = none
+none_left (suc n) [] none = refl
+none_left (suc n) (x ∷ xs) none = cc
+
+-- behind the first so many, by how many of these are left
+pub drop_last : {X : Type 0} (front left : ℕ) (xs : List X) (x : X) → left ≡ front - length xs → drop front (xs ++ x ∷ []) ≡ drop front xs ++ cond (left == 0) (x ∷ []) []
+drop_last zero left xs x is = let none : left ≡ 0 = omega arith in ap (λ (n : ℕ). xs ++ cond (n == 0) (x ∷ []) []) (sym none)
+drop_last {X} (suc front) left [] x is = none_left front [] refl ∙ by (left == 0) refl
+  where
+    by : (b : Bool) → (left == 0) ≡ b → drop (suc front) [] ≡ cond b (x ∷ []) []
+    by true same = let e = eqb-true left 0 same in absurd (omega arith)
+    by false differs = refl
+drop_last (suc front) left (y ∷ xs) x is = drop_last front left xs x (omega arith)
+
+-- ---- one more of a list, whose last is put in the place of another
+
+take_set : {X : Type 0} (k n : ℕ) (xs : List X) (x : X) → n ≡ k + 1 → k < length xs → take n (slice_set xs k x) ≡ take k xs ++ x ∷ []
+take_set k n [] x is lt = absurd (omega arith)
+take_set k zero (y ∷ xs) x is lt = absurd (omega arith)
+take_set zero (suc n) (y ∷ xs) x is lt = let none : n ≡ 0 = omega arith in ap (λ (m : ℕ). x ∷ take m xs) none
+take_set (suc k) (suc n) (y ∷ xs) x is lt = ap (λ (rest : List _). y ∷ rest) (take_set k n xs x (omega arith) (omega arith))
+
+drop_set : {X : Type 0} (k n : ℕ) (xs : List X) (x : X) → n ≡ k + 1 → drop n (slice_set xs k x) ≡ drop n xs
+drop_set k n [] x is = refl
+drop_set k zero (y ∷ xs) x is = absurd (omega arith)
+drop_set zero (suc n) (y ∷ xs) x is = refl
+drop_set (suc k) (suc n) (y ∷ xs) x is = drop_set k n xs x (omega arith)
+
+take_next : {X : Type 0} (k n : ℕ) (xs : List X) (x : X) → n ≡ k + 1 → slice_get xs k ≡ Some x → take n xs ≡ take k xs ++ x ∷ []
+take_next k n [] x is got = cc
+take_next k zero (y ∷ xs) x is got = absurd (omega arith)
+take_next zero (suc n) (y ∷ xs) x is got = let none : n ≡ 0 = omega arith in let same : y ≡ x = cc in ap₂ (λ (z : _) (m : ℕ). z ∷ take m xs) same none
+take_next (suc k) (suc n) (y ∷ xs) x is got = ap (λ (rest : List _). y ∷ rest) (take_next k n xs x (omega arith) got)
+
+-- what stands at a place of a list that is the same from there
+get_behind : {X : Type 0} (k : ℕ) (xs : List X) → slice_get (drop k xs) 0 ≡ slice_get xs k
+get_behind zero xs = refl
+get_behind (suc k) [] = refl
+get_behind (suc k) (x ∷ xs) = get_behind k xs
+
+get_within : {X : Type 0} (k : ℕ) (xs : List X) (x : X) → k < length xs → slice_get xs k ≡ Some (get_or xs k x)
+get_within k [] x lt = absurd (omega arith)
+get_within zero (y ∷ xs) x lt = refl
+get_within (suc k) (y ∷ xs) x lt = get_within k xs x (omega arith)
+
+all_at : (P : Item → Type 0) (k : ℕ) (xs : List Item) (x : Item) → slice_get xs k ≡ Some x → AllByRecursion P xs → P x
+all_at P k [] x got all = cc
+all_at P zero (y ∷ xs) x got all = let same : y ≡ x = cc in subst P same all.0
+all_at P (suc k) (y ∷ xs) x got all = all_at P k xs x got all.1
+
+length_answers : (base : MailStore) (t : List Item) → length (answers base t) ≡ length t
+length_answers base [] = refl
+length_answers base (i ∷ t) = ap suc (length_answers (step base i).0 t)
+
+-- one item more was performed as it was read
+module _ (old items : List Item) (k : ℕ) (other new : Item) (lt : k < length items) (later : drop k items ≡ drop k old) where
+  -- the item, as it was
+  abbrev i : Item
+  i = get_or items k other
+
+  got_old : slice_get old k ≡ Some i
+  got_old = sym (get_behind k old) ∙ ap (λ (t : List Item). slice_get t 0) (sym later) ∙ get_behind k items ∙ get_within k items other lt
+
+  taken : take (k + 1) (slice_set items k new) ≡ take k items ++ new ∷ []
+  taken = take_set k (k + 1) items new refl lt
+
+  was : take (k + 1) old ≡ take k old ++ i ∷ []
+  was = take_next k (k + 1) old i refl got_old
+
+  pub next_later : drop (k + 1) (slice_set items k new) ≡ drop (k + 1) old
+  next_later = drop_set k (k + 1) items new refl ∙ sym (drop-drop 1 k items) ∙ ap (drop 1) later ∙ drop-drop 1 k old
+
+  pub next_heard : AllHeard (take k old) (take k items) → IsHeard i new → AllHeard (take (k + 1) old) (take (k + 1) (slice_set items k new))
+  next_heard are is = subst (λ (t : List Item). AllHeard t (take (k + 1) (slice_set items k new))) (sym was) (subst (AllHeard (take k old ++ i ∷ [])) (sym taken) (heard_longer (take k old) (take k items) i new are is))
+
+  pub next_same : take k items ≡ take k old → new ≡ i → take (k + 1) (slice_set items k new) ≡ take (k + 1) old
+  next_same are is = taken ∙ ap₂ (λ (t : List Item) (j : Item). t ++ j ∷ []) are is ∙ sym was
+
+  pub next_tells : (P : Item → Type 0) → AllByRecursion P old → P i
+  next_tells P all = all_at P k old i got_old all
+
+  pub next_store : (base s after : MailStore) → s ≡ run base (take k items) → after ≡ (step s new).0 → after ≡ run base (take (k + 1) (slice_set items k new))
+  next_store base s after is done = done ∙ run_more base s (take k items) new is ∙ ap (run base) (sym taken)
+
+  pub next_shows : (base s : MailStore) (front left : ℕ) (shows all : List Shown) (shown : Shown) → s ≡ run base (take k items) → left ≡ front - k → shows ≡ drop front (answers base (take k items))
+      → shown ≡ (step s new).1 → all ≡ shows ++ cond (left == 0) (shown ∷ []) [] → all ≡ drop front (answers base (take (k + 1) (slice_set items k new)))
+  next_shows base s front left shows all shown is lefts are shown_is alls =
+      let front_is : k ≡ length (answers base (take k items)) = sym (length_answers base (take k items) ∙ length-take-le k items (omega arith)) in
+      let now : shown ≡ (step (run base (take k items)) new).1 = shown_is ∙ ap (λ (m : MailStore). (step m new).1) is in
+      alls
+      ∙ ap₂ (λ (xs : List Shown) (x : Shown). xs ++ cond (left == 0) (x ∷ []) []) are now
+      ∙ sym (drop_last front left (answers base (take k items)) (step (run base (take k items)) new).1 (omega arith))
+      ∙ ap (drop front) (sym (answers_joined base (take k items) (new ∷ [])) ∙ ap (answers base) (sym taken))
+
+-- ---- items without their texts are judged as the whole ones
+
+looks_stored : (d : Deed) → looks_at_texts (stored_deed d) ≡ looks_at_texts d
+looks_stored (Deliver from to text) = refl
+looks_stored (Append mailbox flags moment text) = refl
+looks_stored (Fetch mailbox keys sets_seen shows_body) = refl
+looks_stored (Store mailbox keys how flags) = refl
+looks_stored (Copy mailbox keys target) = refl
+looks_stored (Names pattern) = refl
+looks_stored (Status mailbox) = refl
+looks_stored (Select mailbox) = refl
+looks_stored (Expunge mailbox keys) = refl
+looks_stored (Close mailbox keys) = refl
+looks_stored (Create mailbox) = refl
+looks_stored (Rename mailbox target) = refl
+looks_stored (Delete mailbox keys) = refl
+looks_stored (Acts (SetAlias local users)) = refl
+looks_stored (Acts (DropAlias local)) = refl
+looks_stored (Acts (SetFilter filter)) = refl
+looks_stored (Acts (DropFilter id)) = refl
+looks_stored (Acts (Remove u mailbox key)) = refl
+looks_stored (Acts (Give u mailbox text)) = refl
+looks_stored (Notice user text) = refl
+
+verb_stored : (d : Deed) → verb_of (stored_deed d) ≡ verb_of d
+verb_stored (Deliver from to text) = refl
+verb_stored (Append mailbox flags moment text) = refl
+verb_stored (Fetch mailbox keys sets_seen shows_body) = refl
+verb_stored (Store mailbox keys how flags) = refl
+verb_stored (Copy mailbox keys target) = refl
+verb_stored (Names pattern) = refl
+verb_stored (Status mailbox) = refl
+verb_stored (Select mailbox) = refl
+verb_stored (Expunge mailbox keys) = refl
+verb_stored (Close mailbox keys) = refl
+verb_stored (Create mailbox) = refl
+verb_stored (Rename mailbox target) = refl
+verb_stored (Delete mailbox keys) = refl
+verb_stored (Acts (SetAlias local users)) = refl
+verb_stored (Acts (DropAlias local)) = refl
+verb_stored (Acts (SetFilter filter)) = refl
+verb_stored (Acts (DropFilter id)) = refl
+verb_stored (Acts (Remove u mailbox key)) = refl
+verb_stored (Acts (Give u mailbox text)) = refl
+verb_stored (Notice user text) = refl
+
+pub broken_stored : (i : Item) (now : Shown) → broken (stored i) now ≡ broken i now
+broken_stored i now = ap (λ (b : Bool). amiss b i.shown now) (looks_stored i.deed)
+
+pub told_stored : (i : Item) (reason : Reason) → told_of (stored i) reason ≡ told_of i reason
+told_stored i reason =
+    ap₂ (λ (verb : Option Verb) (mailbox : Option (List ℕ)). option_and_then (λ (user : User). option_map (λ (v : Verb). record { number = i.number; user = user; verb = v; mailbox = mailbox; reason = reason }) verb) i.by)
+    (verb_stored i.deed) (mailbox_stored i.deed)
