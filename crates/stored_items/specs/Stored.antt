@@ -1,0 +1,42 @@
+-- An item without its text, as it is kept in memory, and with a text that was read.
+use Rattle.std.specs.Prelude.{◌≡◌, ℕ, Bool, true, false, List, [], ◌∷◌}
+use Rattle.verb_core.specs.declared.item.Deed.{Deed}
+use Rattle.verb_core.specs.declared.item.Deed.TheVariants.{Deliver, Notice}
+use Rattle.verb_core.specs.declared.item.Item.{Item}
+use Rattle.verb_core.specs.declared.item.Shown.{Shown}
+use Rattle.verb_core.specs.Aims.{sought}
+use Rattle.verb_core.specs.Deeds.{with_text}
+use Rattle.verb_core.specs.Step.{step_with}
+use Rattle.verb_core.specs.Store.{MailStore}
+
+-- a deed as it is kept in memory: without its text, but for a notice's, which no record holds
+abbrev pub stored_deed : Deed → Deed
+stored_deed (Notice user text) = Notice user text
+stored_deed d = with_text [] d
+
+abbrev pub stored : Item → Item
+stored i = record i { deed = stored_deed i.deed }
+
+-- an item with a text, where it has one
+abbrev pub whole : Item → List ℕ → Item
+whole i text = record i { deed = with_text text i.deed }
+
+-- one item with a text that is looked at in place of its own
+abbrev pub step_text : MailStore → Item → List ℕ → MailStore × Shown
+step_text s i text = step_with (sought s text i.by i.deed) s i
+
+-- whether performing the deed looks at its text: a delivery's filters do, and nothing else
+abbrev pub needs_text : Deed → Bool
+needs_text (Deliver from to text) = true
+needs_text _ = false
+
+-- an item as it was read: only the text of a delivery may be another
+pub record IsHeard (i h : Item) : Type 0 where
+  pub stored_is : stored h ≡ stored i
+  pub same : needs_text i.deed ≡ false → h ≡ i
+
+-- items as they were read, in order
+abbrev pub AllHeard : List Item → List Item → Type 0
+AllHeard [] [] = Unit {0}
+AllHeard (i ∷ items) (h ∷ heard) = IsHeard i h × AllHeard items heard
+AllHeard items heard = ⊥
