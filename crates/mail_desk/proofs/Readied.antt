@@ -6,8 +6,6 @@ use Rattle.undo_base.specs.declared.memory.NoMemory.{NoMemory as MemoryWant}
 use Rattle.verb_core.specs.declared.ask.Ask.{Ask}
 use Rattle.verb_core.specs.declared.ask.Refused.{Refused}
 use Rattle.verb_core.specs.declared.ask.Refused.TheVariants.{NameShape, Fixed, NoBox, TryCreate, Exists, Gone, TooMany, TooLarge, BoxesFull, UidWide, Numbers, NoMemory}
-use Rattle.verb_core.specs.declared.ask.SubmitFault.{SubmitFault}
-use Rattle.verb_core.specs.declared.ask.SubmitFault.TheVariants.{Refused as IsRefused}
 use Rattle.verb_core.specs.declared.item.Item.{Item}
 use Rattle.verb_core.specs.declared.item.Resolved.{Resolved}
 use Rattle.verb_core.specs.Aims.{Sought, sought, sought_by}
@@ -20,8 +18,7 @@ use Rattle.box_store.specs.declared.effect.Effect.{Effect}
 use Rattle.box_store.specs.Effects.{IsEffect, IsReady, applied}
 use Rattle.box_store.specs.Kept.{sought_in}
 use Rattle.mail_desk.specs.declared.ready.Ready.{Ready}
-use Rattle.mail_desk.specs.Desk.{IsFaultOf, submitted_as}
-use Rattle.paradox.specs.Kept.{Kept, performed, store_of}
+use Rattle.paradox.specs.Kept.{store_of}
 use Rattle.mail_desk.specs.Entering.{CanEnter}
 use Rattle.mail_desk.specs.Held.{Held}
 
@@ -81,13 +78,15 @@ part_is (Err why) f b is P holds = tt
 
 pub can_enter : (r : Result Ready MemoryWant) (held : Held) (item : Item) → IsWellFormed held.kept.house item → item.number ≡ held.kept.next → held.kept.next < 4194304
     → IfOk r (λ ready. ready.item ≡ item)
+    → IfOk r (λ ready. ready.stored ≡ item)
     → IfOk r (λ ready. applied ready.effect (store_of held.kept) ≡ (step (store_of held.kept) item).0)
     → IfOk r (λ ready. unwrap_or ready.stamps held.kept.stamps ≡ stamps_after item.number (step (store_of held.kept) item).0.boxes held.kept.stamps)
     → IfOk r (λ ready. IsReady ready.effect held.room.store)
     → OnOk r (0 < held.room.items) → OnOk r (0 < held.room.notes)
     → IfOk r (λ ready. CanEnter ready held)
-can_enter (Ok ready) held item formed number left is does stamps effect items notes = record {
+can_enter (Ok ready) held item formed number left is stored does stamps effect items notes = record {
   formed = subst (λ (i : Item). IsWellFormed held.kept.house i) (sym is) formed;
+  stored = stored ∙ sym is;
   number = ap (λ (i : Item). i.number) is ∙ number;
   left = left;
   does = does ∙ ap (λ (i : Item). (step (store_of held.kept) i).0) (sym is);
@@ -96,15 +95,4 @@ can_enter (Ok ready) held item formed number left is does stamps effect items no
   items = items;
   notes = notes;
 }
-can_enter (Err why) held item formed number left is does stamps effect items notes = tt
-
--- ---- what becomes of it
-
-pub submitted_ok : (r : Result Item SubmitFault) (kept new : Kept) (due : Result Item Refused) (item : Item) → due ≡ Ok item → IfOk r (λ i. i ≡ item) → OnOk r (new ≡ performed kept item)
-    → IfOk r (λ i. submitted_as kept due ≡ record { outcome = Ok i; kept = new })
-submitted_ok (Ok i) kept new due item is same does = ap (submitted_as kept) is ∙ (λ j. record { outcome = Ok (sym same j); kept = sym does j })
-submitted_ok (Err fault) kept new due item is same does = tt
-
-pub refused_memory : (r : Result Item SubmitFault) (due : Result Item Refused) → IfErr r (λ fault. fault ≡ IsRefused NoMemory) → IfErr r (λ fault. IsFaultOf fault due)
-refused_memory (Ok i) due is = tt
-refused_memory (Err fault) due is = subst (λ (f : SubmitFault). IsFaultOf f due) (sym is) tt
+can_enter (Err why) held item formed number left is stored does stamps effect items notes = tt

@@ -1,9 +1,9 @@
 //! Items that are asked for: found, made ready, and entered.
-ghost use Rattle.std.specs.Prelude.{◌≡◌, ℕ, ◌<◌, ◌↔◌, map, [], IsTrue, IsSome, IfOk, IfErr, OnOk, OnErr, Ok, unwrap_or};
+ghost use Rattle.std.specs.Prelude.{◌≡◌, ℕ, ◌<◌, ◌↔◌, map, IsTrue, IsSome, IfOk, IfErr, OnOk, Ok, unwrap_or, []};
 ghost use Rattle.std.specs.List.{list_all, cons_option};
 ghost use Rattle.verb_core.specs.declared.mailbox.BoxId.{BoxId as TheBoxId};
 ghost use Rattle.verb_core.specs.declared.mailbox.Mailbox.{Mailbox as TheMailbox};
-ghost use Rattle.verb_core.specs.Items.{IsWellFormed};
+ghost use Rattle.verb_core.specs.Items.{IsWellFormed, text_in};
 ghost use Rattle.verb_core.specs.Stamps.{stamps_after};
 ghost use Rattle.paradox.specs.Kept.{performed, store_of};
 ghost use Rattle.verb_core.specs.Live.{is_users, live};
@@ -11,32 +11,35 @@ ghost use Rattle.verb_core.specs.Step.{step};
 ghost use Rattle.verb_core.specs.Store.{IsValid, is_known};
 ghost use Rattle.box_store.specs.Effects.{IsReady, applied};
 ghost use Rattle.box_store.specs.Refusing.{IsRefusal};
-ghost use Rattle.mail_desk.specs.Desk.{IsFaultOf, submitted};
 ghost use Rattle.mail_desk.specs.Entering.{CanEnter};
+ghost use Rattle.mail_desk.specs.Timeline.{NotesText, body_of};
 
 use crate::Desk;
+use crate::noting::note_text;
 use crate::numbered::Numbered;
-use crate::sizes::note_text;
 use crate::stamps::changed_stamps;
 use box_store::{Effect, Steps, Store};
+use seal_log::Place;
 use shelf::Shelf;
 use std::alloc::Global;
 use std::marker::Brand;
 use std::sync::ledger::{Blank, Ledger};
-use undo_base::{Copies, NoMemory, User};
+use stored_items::StoredItem;
+use undo_base::{NoMemory, User};
 use verb_core::laws::{mail_is_kept, stamps_name_mailboxes, steps_keep_validity};
-use verb_core::{Ask, Item, Refused, Stamps, SubmitFault};
+use verb_core::{Ask, Item, Refused, Stamps};
 
-/// An item that a desk can enter with no memory taken: its effect, and the stamps after it where they change.
+/// An item that a desk can enter with no memory taken: as it is stored, its effect, and the stamps after it where they change.
 #[derive(Drop)]
 pub struct Ready {
     pub(crate) item: Item,
+    pub(crate) stored: StoredItem,
     pub(crate) effect: Effect,
     pub(crate) stamps: Option<Stamps>,
 }
 
 impl Ready {
-    /// The item that is to be entered.
+    /// The item that is to be entered, with its text.
     pub fn item(&self) -> &Item
         ensures { result.now ≡ self.now.item }
     {
@@ -166,19 +169,42 @@ fn make_parts(
     }
 }
 
-/// An item with what was made for it.
-fn with_parts(item: Item, parts: Result<Parts, NoMemory>) -> Result<Ready, NoMemory>
+/// An item as it is stored, with what was made for it.
+fn with_parts(
+    item: Item,
+    stored: StoredItem,
+    parts: Result<Parts, NoMemory>,
+) -> Result<Ready, NoMemory>
     ensures item { IfOk result (λ ready. ready.item ≡ item) }
+    ensures stored { IfOk result (λ ready. ready.stored ≡ stored) }
     ensures parts { IfOk result (λ ready. parts ≡ Ok (ready.effect, ready.stamps)) }
 {
     match parts {
         Ok((effect, stamps)) => Ok(Ready {
             item,
+            stored,
             effect,
             stamps,
         }),
         Err(NoMemory) => {
             drop(item);
+            drop(stored);
+            Err(NoMemory)
+        }
+    }
+}
+
+/// The same of an item, which is made ready to be stored: its text is not copied.
+fn with_stored(alloc: Global, item: Item, parts: Result<Parts, NoMemory>) -> Result<Ready, NoMemory>
+    ensures item { IfOk result (λ ready. ready.item ≡ item) }
+    ensures stored { IfOk result (λ ready. ready.stored ≡ item) }
+    ensures parts { IfOk result (λ ready. parts ≡ Ok (ready.effect, ready.stamps)) }
+{
+    match StoredItem::copy_of(alloc, &item) {
+        Ok(stored) => with_parts(item, stored, parts),
+        Err(NoMemory) => {
+            drop(item);
+            drop(parts);
             Err(NoMemory)
         }
     }
@@ -196,12 +222,13 @@ fn make_over(
     requires named { map (λ (r : TheBoxId × ℕ). r.0) stamps.now ≡ map (λ (r : TheBoxId × TheMailbox). r.0) store.old.store.boxes }
     ensures store { store.new.store ≡ store.old.store }
     ensures item { IfOk result (λ ready. ready.item ≡ item) }
+    ensures stored { IfOk result (λ ready. ready.stored ≡ item) }
     ensures does { IfOk result (λ ready. applied ready.effect store.old.store ≡ (step store.old.store item).0) }
     ensures stamps { IfOk result (λ ready. unwrap_or ready.stamps stamps.now ≡ stamps_after item.number (step store.old.store item).0.boxes stamps.now) }
     ensures effect { IfOk result (λ ready. IsReady ready.effect store.new) }
 {
     let parts = make_parts(alloc, store, stamps, &item);
-    with_parts(item, parts)
+    with_stored(alloc, item, parts)
 }
 
 /// Makes all ready for an item.
@@ -220,6 +247,7 @@ fn make_ready(
     ensures timeline { timeline.new.items ≡ timeline.old.items }
     ensures shelf { shelf.new.notes ≡ shelf.old.notes }
     ensures item { IfOk result (λ ready. ready.item ≡ item) }
+    ensures stored { IfOk result (λ ready. ready.stored ≡ item) }
     ensures does { IfOk result (λ ready. applied ready.effect store.old.store ≡ (step store.old.store item).0) }
     ensures stamps { IfOk result (λ ready. unwrap_or ready.stamps stamps.now ≡ stamps_after item.number (step store.old.store item).0.boxes stamps.now) }
     ensures effect { IfOk result (λ ready. IsReady ready.effect store.new) }
@@ -260,6 +288,7 @@ impl Desk {
         requires by { IsSome by ↔ IsTrue (is_users ask) }
         requires known { IsTrue (list_all (is_known self.old.kept.house) (cons_option by [])) }
         ensures kept { self.new.kept ≡ self.old.kept }
+        ensures notes { self.new.notes ≡ self.old.notes }
         ensures item { IfOk result (λ ready. live (store_of self.old.kept) self.old.kept.next at by ask ≡ Ok ready.item) }
         ensures ready { IfOk result (λ ready. CanEnter ready self.new) }
         ensures refused { IfErr result (λ refused. IsRefusal refused (live (store_of self.old.kept) self.old.kept.next at by ask)) }
@@ -277,6 +306,7 @@ impl Desk {
         requires number { item.number ≡ self.old.kept.next }
         requires left { self.old.kept.next < 4194304 }
         ensures kept { self.new.kept ≡ self.old.kept }
+        ensures notes { self.new.notes ≡ self.old.notes }
         ensures item { IfOk result (λ ready. ready.item ≡ item) }
         ensures ready { IfOk result (λ ready. CanEnter ready self.new) }
     {
@@ -290,13 +320,17 @@ impl Desk {
         )
     }
 
-    /// Enters an item for which all is ready. It takes no memory.
-    pub fn enter(&mut self, ready: Ready)
+    /// Enters an item for which all is ready, and gives it back with its text, which lies so far behind the front of the payload
+    /// at a place. It takes no memory.
+    pub fn enter(&mut self, ready: Ready, place: Place, from: u32) -> Item
         requires { CanEnter ready self.old }
-        ensures { self.new.kept ≡ performed self.old.kept ready.item }
+        ensures kept { self.new.kept ≡ performed self.old.kept ready.item }
+        ensures item { result ≡ ready.item }
+        ensures notes { NotesText (text_in ready.item.deed) (body_of ready.item) place from self.old.notes self.new.notes }
     {
         let Ready {
             item,
+            stored,
             effect,
             stamps,
         } = ready;
@@ -305,48 +339,9 @@ impl Desk {
         mail_is_kept();
         apply_alone(&mut self.store, effect);
         change_stamps(&mut self.stamps, stamps);
-        note_text(&mut self.shelf, &item);
-        self.timeline.push(item);
+        note_text(&mut self.shelf, &item, place, from);
+        self.timeline.push(stored);
         self.next += 1;
-    }
-
-    /// Enters an item, of which a copy is made before.
-    fn enter_copied(&mut self, alloc: Global, ready: Ready) -> Result<Item, SubmitFault>
-        requires { CanEnter ready self.old }
-        ensures item { IfOk result (λ item. item ≡ ready.item) }
-        ensures ok { OnOk result (self.new.kept ≡ performed self.old.kept ready.item) }
-        ensures err { OnErr result (self.new.kept ≡ self.old.kept) }
-        ensures why { IfErr result (λ fault. fault ≡ SubmitFault.Refused Refused.NoMemory) }
-    {
-        match ready.item.copy(alloc) {
-            Ok(item) => {
-                self.enter(ready);
-                Ok(item)
-            }
-            Err(NoMemory) => {
-                drop(ready);
-                Err(SubmitFault::Refused(Refused::NoMemory))
-            }
-        }
-    }
-
-    /// Asks for something at a moment. Where there is no item nothing has changed.
-    pub fn submit(
-        &mut self,
-        alloc: Global,
-        at: u64,
-        by: Option<User>,
-        ask: Ask,
-    ) -> Result<Item, SubmitFault>
-        requires by { IsSome by ↔ IsTrue (is_users ask) }
-        requires known { IsTrue (list_all (is_known self.old.kept.house) (cons_option by [])) }
-        ensures ok { IfOk result (λ item. submitted self.old.kept at by ask ≡ record { outcome = Ok item; kept = self.new.kept }) }
-        ensures err { OnErr result (self.new.kept ≡ self.old.kept) }
-        ensures refused { IfErr result (λ fault. IsFaultOf fault (live (store_of self.old.kept) self.old.kept.next at by ask)) }
-    {
-        match self.ready(alloc, at, by, ask) {
-            Ok(ready) => self.enter_copied(alloc, ready),
-            Err(refused) => Err(SubmitFault::Refused(refused)),
-        }
+        item
     }
 }
