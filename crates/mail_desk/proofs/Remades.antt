@@ -6,7 +6,6 @@ use Rattle.undo_base.specs.declared.memory.NoMemory.{NoMemory as MemoryWant}
 use Rattle.verb_core.specs.declared.conf.Conf.{Conf}
 use Rattle.verb_core.specs.declared.conf.House.{House}
 use Rattle.verb_core.specs.declared.item.Item.{Item}
-use Rattle.verb_core.specs.declared.mailbox.Body.{Body}
 use Rattle.verb_core.specs.declared.mailbox.BoxId.{BoxId}
 use Rattle.verb_core.specs.declared.mailbox.Mailbox.{Mailbox}
 use Rattle.verb_core.specs.Items.{IsTimeline, IsWellFormed, text_of}

@@ -1,5 +1,5 @@
 -- The outcome of a cycle, put in place.
-use Rattle.std.specs.Prelude.{◌≡◌, ◌<◌, [], ◌∷◌, ◌++◌}
+use Rattle.std.specs.Prelude.{◌<◌, [], ◌∷◌, ◌++◌}
 use Rattle.paradox.specs.Kept.{Kept}
 use Rattle.mail_desk.specs.declared.remake.Remade.{Remade}
 use Rattle.mail_desk.specs.Desk.{IsDesk}

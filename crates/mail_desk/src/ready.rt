@@ -9,6 +9,7 @@ ghost use Rattle.paradox.specs.Kept.{performed, store_of};
 ghost use Rattle.verb_core.specs.Live.{is_users, live};
 ghost use Rattle.verb_core.specs.Step.{step};
 ghost use Rattle.verb_core.specs.Store.{IsValid, is_known};
+ghost use Rattle.stored_items.specs.Stored.{step_text};
 ghost use Rattle.box_store.specs.Effects.{IsReady, applied};
 ghost use Rattle.box_store.specs.Refusing.{IsRefusal};
 ghost use Rattle.mail_desk.specs.Entering.{CanEnter};
@@ -25,6 +26,7 @@ use std::alloc::Global;
 use std::marker::Brand;
 use std::sync::ledger::{Blank, Ledger};
 use stored_items::StoredItem;
+use stored_items::laws::{stored_items_are_formed, stored_items_do_alike};
 use undo_base::{NoMemory, User};
 use verb_core::laws::{mail_is_kept, stamps_name_mailboxes, steps_keep_validity};
 use verb_core::{Ask, Item, Refused, Stamps};
@@ -47,13 +49,20 @@ impl Ready {
     }
 }
 
-/// Makes what an item does.
-fn new_effect(alloc: Global, store: &Store, item: &Item) -> Result<Effect, NoMemory>
+/// Makes what an item does with a text: no text is copied.
+fn new_effect(
+    alloc: Global,
+    store: &Store,
+    item: &StoredItem,
+    text: &[u8],
+) -> Result<Effect, NoMemory>
     requires valid { IsValid store.now.store }
     requires formed { IsWellFormed store.now.store.house item.now }
-    ensures { IfOk result (λ effect. applied effect store.now.store ≡ (step store.now.store item.now).0) }
+    ensures { IfOk result (λ effect. applied effect store.now.store ≡ (step_text store.now.store item.now text.now).0) }
 {
-    match store.aim(alloc, item, item.deed.text_bytes()) {
+    stored_items_are_formed();
+    stored_items_do_alike();
+    match store.aim(alloc, item.item(), text) {
         Ok(what) => {
             let effect = store.effect(alloc, &what);
             drop(what);
@@ -78,15 +87,20 @@ fn with_room(alloc: Global, store: &mut Store, effect: Effect) -> Result<Effect,
     }
 }
 
-/// Makes what an item does, and all room that the store needs for it.
-fn ready_effect(alloc: Global, store: &mut Store, item: &Item) -> Result<Effect, NoMemory>
+/// Makes what an item does with a text, and all room that the store needs for it.
+fn ready_effect(
+    alloc: Global,
+    store: &mut Store,
+    item: &StoredItem,
+    text: &[u8],
+) -> Result<Effect, NoMemory>
     requires valid { IsValid store.old.store }
     requires formed { IsWellFormed store.old.store.house item.now }
     ensures same { store.new.store ≡ store.old.store }
     ensures ready { IfOk result (λ effect. IsReady effect store.new) }
-    ensures does { IfOk result (λ effect. applied effect store.old.store ≡ (step store.old.store item.now).0) }
+    ensures does { IfOk result (λ effect. applied effect store.old.store ≡ (step_text store.old.store item.now text.now).0) }
 {
-    match new_effect(alloc, store, item) {
+    match new_effect(alloc, store, item, text) {
         Ok(effect) => with_room(alloc, store, effect),
         Err(NoMemory) => Err(NoMemory),
     }
@@ -154,7 +168,9 @@ fn make_parts(
     store: &mut Store,
     stamps: &Stamps,
     item: &Item,
+    stored: &StoredItem,
 ) -> Result<Parts, NoMemory>
+    requires same { stored.now ≡ item.now }
     requires valid { IsValid store.old.store }
     requires formed { IsWellFormed store.old.store.house item.now }
     requires named { map (λ (r : TheBoxId × ℕ). r.0) stamps.now ≡ map (λ (r : TheBoxId × TheMailbox). r.0) store.old.store.boxes }
@@ -163,8 +179,12 @@ fn make_parts(
     ensures stamps { IfOk result (λ parts. unwrap_or parts.1 stamps.now ≡ stamps_after item.now.number (step store.old.store item.now).0.boxes stamps.now) }
     ensures effect { IfOk result (λ parts. IsReady parts.0 store.new) }
 {
+    stored_items_do_alike();
     match changed_stamps(alloc, store, stamps, item) {
-        Ok(changed) => paired(ready_effect(alloc, store, item), changed),
+        Ok(changed) => paired(
+            ready_effect(alloc, store, stored, item.deed.text_bytes()),
+            changed,
+        ),
         Err(NoMemory) => Err(NoMemory),
     }
 }
@@ -194,23 +214,30 @@ fn with_parts(
     }
 }
 
-/// The same of an item, which is made ready to be stored: its text is not copied.
-fn with_stored(alloc: Global, item: Item, parts: Result<Parts, NoMemory>) -> Result<Ready, NoMemory>
+/// The same of an item beside what is stored of it.
+fn make_beside(
+    alloc: Global,
+    store: &mut Store,
+    stamps: &Stamps,
+    item: Item,
+    stored: StoredItem,
+) -> Result<Ready, NoMemory>
+    requires same { stored ≡ item }
+    requires valid { IsValid store.old.store }
+    requires formed { IsWellFormed store.old.store.house item }
+    requires named { map (λ (r : TheBoxId × ℕ). r.0) stamps.now ≡ map (λ (r : TheBoxId × TheMailbox). r.0) store.old.store.boxes }
+    ensures store { store.new.store ≡ store.old.store }
     ensures item { IfOk result (λ ready. ready.item ≡ item) }
     ensures stored { IfOk result (λ ready. ready.stored ≡ item) }
-    ensures parts { IfOk result (λ ready. parts ≡ Ok (ready.effect, ready.stamps)) }
+    ensures does { IfOk result (λ ready. applied ready.effect store.old.store ≡ (step store.old.store item).0) }
+    ensures stamps { IfOk result (λ ready. unwrap_or ready.stamps stamps.now ≡ stamps_after item.number (step store.old.store item).0.boxes stamps.now) }
+    ensures effect { IfOk result (λ ready. IsReady ready.effect store.new) }
 {
-    match StoredItem::copy_of(alloc, &item) {
-        Ok(stored) => with_parts(item, stored, parts),
-        Err(NoMemory) => {
-            drop(item);
-            drop(parts);
-            Err(NoMemory)
-        }
-    }
+    let parts = make_parts(alloc, store, stamps, &item, &stored);
+    with_parts(item, stored, parts)
 }
 
-/// Makes what an item does, with all room that the store needs for it.
+/// Makes what an item does, with all room that the store needs for it; what is stored of it is a copy without its text.
 fn make_over(
     alloc: Global,
     store: &mut Store,
@@ -227,8 +254,13 @@ fn make_over(
     ensures stamps { IfOk result (λ ready. unwrap_or ready.stamps stamps.now ≡ stamps_after item.number (step store.old.store item).0.boxes stamps.now) }
     ensures effect { IfOk result (λ ready. IsReady ready.effect store.new) }
 {
-    let parts = make_parts(alloc, store, stamps, &item);
-    with_stored(alloc, item, parts)
+    match StoredItem::copy_of(alloc, &item) {
+        Ok(stored) => make_beside(alloc, store, stamps, item, stored),
+        Err(NoMemory) => {
+            drop(item);
+            Err(NoMemory)
+        }
+    }
 }
 
 /// Makes all ready for an item.

@@ -1,4 +1,4 @@
-use Rattle.std.proofs.Common.{ℕ, List, length, IfOk, subst}
+use Rattle.std.proofs.Common.{List, length, IfOk, subst}
 use Rattle.verb_core.specs.declared.mailbox.Body.{Body}
 use Rattle.shelf.specs.declared.note.Note.{Note}
 use Rattle.mail_desk.specs.Noting.{Knows}

@@ -1,4 +1,4 @@
-use Rattle.std.proofs.Common.{◌≡◌, true, false, None, ap, sym, ◌∙◌, cond}
+use Rattle.std.proofs.Common.{None, ap, sym, ◌∙◌, cond}
 use Rattle.mail_desk.specs.Timeline.{told_by}
 use Rattle.mail_desk.proofs.BodyTexts.{told_as_kept}
 use Rattle.mail_desk.proofs.texts.told_in_memory.Goals as goal
