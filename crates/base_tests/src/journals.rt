@@ -125,7 +125,7 @@ fn load_fails(alloc: Global, ordinal: u32) -> Result<bool, Fail> {
     })
 }
 
-fn is_text(found: Result<Text, ReadFault>, bytes: &[u8]) -> bool {
+pub(crate) fn is_text(found: Result<Text, ReadFault>, bytes: &[u8]) -> bool {
     match found {
         Ok(text) => text.bytes() == bytes,
         Err(_) => false,

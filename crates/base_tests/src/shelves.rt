@@ -1,10 +1,15 @@
-//! The last note of each body.
+//! The last note of each body, and the text that is read there.
+ghost use Rattle.std.specs.Prelude.{◌≡◌, ◌<◌, ◌≤◌, ◌+◌};
+ghost use Rattle.seal_log.specs.Log.{last_gate};
 
-use seal_log::Place;
+use crate::disks::disk_of;
+use crate::journals::is_text;
+use seal_log::{Log, Place, ReadFault, format};
 use shelf::Shelf;
 use std::alloc::Global;
 use std::test::Fail;
-use undo_base::NoMemory;
+use undo_base::{NoMemory, Text};
+use undo_outside::Disk;
 use verb_core::Body;
 
 const SIZES: [(u32, u32, Option<u32>); 8] = [
@@ -41,5 +46,37 @@ fn the_last_note_of_each_body_is_told(rt: HostRuntime) -> Result<(), Fail> {
     for (origin, rev, want) in SIZES {
         assert_eq!(rt; shelf.size(body(origin, rev)), want);
     }
+    Ok(())
+}
+
+/// Reads the text of a body that is noted as four bytes of a payload, behind its first two.
+fn read_noted<D: Disk>(
+    alloc: Global,
+    log: &Log,
+    disk: &mut D,
+    place: Place,
+) -> Result<Result<Text, ReadFault>, NoMemory>
+    requires end { last_gate log.now < (D.told disk.old).size }
+    requires place { place.gate + 5 + place.length ≤ last_gate log.now }
+    requires range { 6 ≤ place.length }
+{
+    let body = body(3, 0);
+    let mut shelf = Shelf::new(alloc);
+    shelf.note_room(1)?;
+    shelf.note(body, place, 2, 4);
+    Ok(shelf.text(alloc, log, disk, body))
+}
+
+/// Reads a part of the second payload of a journal by its note.
+fn reads_where_it_is_noted(alloc: Global) -> Result<bool, Fail> {
+    let mut disk = disk_of(alloc, b"", &[])?;
+    let mut log = format(alloc, &mut disk, b"the first payload")?;
+    let place = log.seal(alloc, &mut disk, b"another")?;
+    Ok(is_text(read_noted(alloc, &log, &mut disk, place)?, b"othe"))
+}
+
+#[test]
+fn a_text_is_read_where_it_is_noted(rt: HostRuntime) -> Result<(), Fail> {
+    assert!(rt; reads_where_it_is_noted(rt.alloc())?);
     Ok(())
 }

@@ -5,10 +5,15 @@ use Rattle.std.specs.Cmp.{second_so}
 use Rattle.std.proofs.lemmas.Bool.Decides.{nat_tests}
 use Rattle.verb_core.specs.declared.item.Item.{Item}
 use Rattle.verb_core.specs.declared.mailbox.Body.{Body}
+use Rattle.verb_core.specs.declared.item.Deed.{Deed}
+use Rattle.verb_core.specs.Deeds.{is_notice}
 use Rattle.verb_core.specs.Items.{NumbersApart, text_in, text_of}
+use Rattle.seal_log.specs.declared.place.Place.{Place}
 use Rattle.shelf.specs.declared.note.Note.{Note}
-use Rattle.shelf.specs.Notes.{same_body, size_of}
-use Rattle.mail_desk.specs.Timeline.{item_of, body_of, has_text, told_by, NotesText}
+use Rattle.shelf.specs.Notes.{note_of, same_body, size_of}
+use Rattle.stored_items.specs.Stored.{stored}
+use Rattle.stored_items.proofs.Whole.{notice_kept}
+use Rattle.mail_desk.specs.Timeline.{item_of, body_of, has_text, notice_text_of, notice_told_by, told_by, NotesText, SizesOf}
 use Rattle.mail_desk.proofs.Timelines.{all_weaker, unequal}
 
 -- whether an item brought the text of a body
@@ -42,6 +47,22 @@ text_by_item (i ∷ t) apart body =
       | true ↦ λ e. by_item i body (text_of t body) (i.rev == body.rev) (text_in i.deed) refl (none_numbered t body i.number apart.0 (let same : i.number ≡ body.origin = grind (arith, nat_tests) in same))
       | false ↦ λ e. text_by_item t apart.1 body
     ] refl
+
+-- a notice's text is told
+told_so : (b : Bool) (o : Option (List ℕ)) (text : List ℕ) → cond b o None ≡ Some text → o ≡ Some text
+told_so true o text e = e
+told_so false o text e = absurd (let wrong : ◌≡◌ {A = Option (List ℕ)} None (Some text) = e in cc)
+
+pub notice_told : (t : List Item) → NumbersApart t → (body : Body) (text : List ℕ) → notice_text_of t body ≡ Some text → text_of t body ≡ Some text
+notice_told t apart body text e = text_by_item t apart body ∙ from (item_of t body.origin) e
+  where
+    from : (o : Option Item) → option_and_then (notice_told_by body) o ≡ Some text → option_and_then (told_by body) o ≡ Some text
+    from None e = e
+    from (Some i) e = told_so (is_notice i.deed) (told_by body i) text e
+
+-- it is what is kept of the item
+pub told_as_kept : (i : Item) (body : Body) → is_notice i.deed ≡ true → told_by body (stored i) ≡ told_by body i
+told_as_kept i body is = ap (λ (d : Deed). cond (i.rev == body.rev) (text_in d) None) (sym (notice_kept i.deed is))
 
 -- ---- an item more
 
@@ -119,8 +140,10 @@ own_texts (i ∷ t) = (
 
 -- ---- sizes
 
-abbrev pub SizesOf : List (Body × Note) → List Item → Type 0
-SizesOf notes t = (body : Body) → size_of notes body ≡ option_map length (text_of t body)
+-- the length of one of two notes
+mapped : {A B : Type 0} (f : A → B) (b : Bool) (x y : Option A) → option_map f (cond b x y) ≡ cond b (option_map f x) (option_map f y)
+mapped f true x y = refl
+mapped f false x y = refl
 
 or_none : (o : Option (List ℕ)) → cond (is_some o) o None ≡ o
 or_none None = refl
@@ -131,13 +154,14 @@ none_either true = refl
 none_either false = refl
 
 -- the sizes of the texts that were there, and of the one that an item of another number brings
-pub sizes_on : (t : List Item) (i : Item) (old new : List (Body × Note)) → AllByRecursion (λ (j : Item). i.number ≢ j.number) t
-    → (o : Option (List ℕ)) → text_in i.deed ≡ o → NotesText o (body_of i) old new → SizesOf old t → SizesOf new (t ++ i ∷ [])
-sizes_on t i old new others None brought noted sizes body =
+pub sizes_on : (t : List Item) (i : Item) (place : Place) (from : ℕ) (old new : List (Body × Note)) → AllByRecursion (λ (j : Item). i.number ≢ j.number) t
+    → (o : Option (List ℕ)) → text_in i.deed ≡ o → NotesText o (body_of i) place from old new → SizesOf old t → SizesOf new (t ++ i ∷ [])
+sizes_on t i place from old new others None brought noted sizes body =
     ap (λ (n : List (Body × Note)). size_of n body) noted ∙ sizes body
     ∙ ap (option_map length) (sym (text_more t i body ∙ ap (λ o. cond (is_some (text_of t body)) (text_of t body) o) (text_single i body ∙ ap (λ o. cond (same_body (body_of i) body) o None) brought ∙ none_either (same_body (body_of i) body)) ∙ or_none (text_of t body)))
-sizes_on t i old new others (Some text) brought noted sizes body =
-    noted body
+sizes_on t i place from old new others (Some text) brought noted sizes body =
+    ap (option_map (λ (note : Note). note.length)) (noted body)
+    ∙ mapped (λ (note : Note). note.length) (same_body (body_of i) body) (Some (record { place = place; from = from; length = length text })) (note_of old body)
     ∙ elim (same_body (body_of i) body) as (λ b. same_body (body_of i) body ≡ b → cond b (Some (length text)) (size_of old body) ≡ option_map length (cond (is_some (text_of t body)) (text_of t body) (cond b (Some text) None))) [
       | true ↦ λ e.
           let same : i.number ≡ body.origin = grind (arith, nat_tests) in

@@ -1,7 +1,7 @@
 pub mod Timelines
 pub mod Indexes
 pub mod BodyTexts
-pub mod Sizings
+pub mod Renoted
 pub mod Desks
 pub mod Stampings
 pub mod Searched

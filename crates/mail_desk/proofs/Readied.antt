@@ -1,27 +1,26 @@
 -- What is known of an item that is asked for, and of one for which all is ready.
-use Rattle.std.proofs.Common.{◌≡◌, ℕ, ◌<◌, ◌≤◌, ◌==◌, Bool, true, false, List, [], ◌∷◌, ◌++◌, Option, None, Some, Result, Ok, Err, IfOk, IfErr, OnOk, unwrap_or, nat_lt, option_map, refl, ap, sym, subst, ◌∙◌, arith}
+use Rattle.std.proofs.Common.{◌≡◌, ℕ, ◌<◌, ◌≤◌, ◌==◌, Bool, true, false, List, [], ◌∷◌, ◌++◌, Option, None, Some, Result, Ok, Err, IfOk, OnOk, unwrap_or, nat_lt, option_map, refl, ap, sym, subst, ◌∙◌, arith}
 use Rattle.std.proofs.lemmas.Bool.Decides.{nat_tests}
 use Rattle.undo_base.specs.declared.keys.User.{User}
 use Rattle.undo_base.specs.declared.memory.NoMemory.{NoMemory as MemoryWant}
 use Rattle.verb_core.specs.declared.ask.Ask.{Ask}
 use Rattle.verb_core.specs.declared.ask.Refused.{Refused}
-use Rattle.verb_core.specs.declared.ask.Refused.TheVariants.{NameShape, Fixed, NoBox, TryCreate, Exists, Gone, TooMany, TooLarge, BoxesFull, UidWide, Numbers, NoMemory}
-use Rattle.verb_core.specs.declared.ask.SubmitFault.{SubmitFault}
-use Rattle.verb_core.specs.declared.ask.SubmitFault.TheVariants.{Refused as IsRefused}
+use Rattle.verb_core.specs.declared.ask.Refused.TheVariants.{NameShape, Fixed, NoBox, TryCreate, Exists, Gone, TooMany, TooLarge, BoxesFull, UidWide, Numbers}
 use Rattle.verb_core.specs.declared.item.Item.{Item}
 use Rattle.verb_core.specs.declared.item.Resolved.{Resolved}
-use Rattle.verb_core.specs.Aims.{Sought, sought, sought_by}
-use Rattle.verb_core.specs.Items.{IsWellFormed, text_in}
+use Rattle.verb_core.specs.declared.item.Shown.{Shown}
+use Rattle.verb_core.specs.Aims.{Sought, sought}
+use Rattle.verb_core.specs.Items.{IsWellFormed}
 use Rattle.verb_core.specs.Live.{asked_item, answered, asks_fixed, first_of, if_so, is_gone, is_misshapen, is_missing, is_there, is_uid_wide, key_count, live, named, new_names, or_item, overfills, targets, too_large}
 use Rattle.verb_core.specs.Stamps.{stamps_after}
 use Rattle.verb_core.specs.Step.{step, step_with}
 use Rattle.verb_core.specs.Store.{MailStore, IsValid}
+use Rattle.stored_items.specs.Stored.{step_text, stored, stored_deed}
 use Rattle.box_store.specs.declared.effect.Effect.{Effect}
 use Rattle.box_store.specs.Effects.{IsEffect, IsReady, applied}
 use Rattle.box_store.specs.Kept.{sought_in}
 use Rattle.mail_desk.specs.declared.ready.Ready.{Ready}
-use Rattle.mail_desk.specs.Desk.{IsFaultOf, submitted_as}
-use Rattle.paradox.specs.Kept.{Kept, performed, store_of}
+use Rattle.paradox.specs.Kept.{store_of}
 use Rattle.mail_desk.specs.Entering.{CanEnter}
 use Rattle.mail_desk.specs.Held.{Held}
 
@@ -60,14 +59,15 @@ number_left (Err why) s number at by ask most is = tt
 
 -- ---- what is ready
 
--- what an effect does where it was made
-pub does_here : {W : Type 0} (r : Result Effect W) (what : Resolved) (s : MailStore) (i : Item) (text : List ℕ) → IsValid s → what.item ≡ i → sought_in what ≡ sought s text i.by i.deed
-    → text ≡ unwrap_or (text_in i.deed) [] → IfOk r (λ e. IsEffect e what s) → IfOk r (λ e. applied e s ≡ (step s i).0)
-does_here (Ok e) what s i text valid is to brought made =
+-- what an effect does where it was made, of an item that is kept without its text
+pub does_here : {W : Type 0} (r : Result Effect W) (what : Resolved) (s : MailStore) (i : Item) (text : List ℕ) → IsValid s → what.item ≡ stored i → sought_in what ≡ sought s text i.by (stored_deed i.deed)
+    → step_text s (stored i) text ≡ step_text s i text → IfOk r (λ e. IsEffect e what s) → IfOk r (λ e. applied e s ≡ (step_text s i text).0)
+does_here (Ok e) what s i text valid is to alike made =
     made.elsewhere s refl valid (λ q there. refl)
-    ∙ ap (λ (t : Sought). (step_with t s what.item).0) (to ∙ ap (λ (n : List ℕ). sought s n i.by i.deed) brought)
-    ∙ ap (λ (j : Item). (step_with (sought_by s i) s j).0) is
-does_here (Err why) what s i text valid is to brought made = tt
+    ∙ ap (λ (t : Sought). (step_with t s what.item).0) to
+    ∙ ap (λ (j : Item). (step_with (sought s text i.by (stored_deed i.deed)) s j).0) is
+    ∙ ap (λ (after : MailStore × Shown). after.0) alike
+does_here (Err why) what s i text valid is to alike made = tt
 
 -- what holds of what a value was made of
 pub through : {A B W : Type 0} (r : Result A W) (f : A → B) (e : Result B W) → IfOk r (λ x. e ≡ Ok (f x)) → (P : B → Type 0) → IfOk e P → IfOk r (λ x. P (f x))
@@ -81,13 +81,15 @@ part_is (Err why) f b is P holds = tt
 
 pub can_enter : (r : Result Ready MemoryWant) (held : Held) (item : Item) → IsWellFormed held.kept.house item → item.number ≡ held.kept.next → held.kept.next < 4194304
     → IfOk r (λ ready. ready.item ≡ item)
+    → IfOk r (λ ready. ready.stored ≡ item)
     → IfOk r (λ ready. applied ready.effect (store_of held.kept) ≡ (step (store_of held.kept) item).0)
     → IfOk r (λ ready. unwrap_or ready.stamps held.kept.stamps ≡ stamps_after item.number (step (store_of held.kept) item).0.boxes held.kept.stamps)
     → IfOk r (λ ready. IsReady ready.effect held.room.store)
     → OnOk r (0 < held.room.items) → OnOk r (0 < held.room.notes)
     → IfOk r (λ ready. CanEnter ready held)
-can_enter (Ok ready) held item formed number left is does stamps effect items notes = record {
+can_enter (Ok ready) held item formed number left is stored does stamps effect items notes = record {
   formed = subst (λ (i : Item). IsWellFormed held.kept.house i) (sym is) formed;
+  stored = stored ∙ sym is;
   number = ap (λ (i : Item). i.number) is ∙ number;
   left = left;
   does = does ∙ ap (λ (i : Item). (step (store_of held.kept) i).0) (sym is);
@@ -96,15 +98,4 @@ can_enter (Ok ready) held item formed number left is does stamps effect items no
   items = items;
   notes = notes;
 }
-can_enter (Err why) held item formed number left is does stamps effect items notes = tt
-
--- ---- what becomes of it
-
-pub submitted_ok : (r : Result Item SubmitFault) (kept new : Kept) (due : Result Item Refused) (item : Item) → due ≡ Ok item → IfOk r (λ i. i ≡ item) → OnOk r (new ≡ performed kept item)
-    → IfOk r (λ i. submitted_as kept due ≡ record { outcome = Ok i; kept = new })
-submitted_ok (Ok i) kept new due item is same does = ap (submitted_as kept) is ∙ (λ j. record { outcome = Ok (sym same j); kept = sym does j })
-submitted_ok (Err fault) kept new due item is same does = tt
-
-pub refused_memory : (r : Result Item SubmitFault) (due : Result Item Refused) → IfErr r (λ fault. fault ≡ IsRefused NoMemory) → IfErr r (λ fault. IsFaultOf fault due)
-refused_memory (Ok i) due is = tt
-refused_memory (Err fault) due is = subst (λ (f : SubmitFault). IsFaultOf f due) (sym is) tt
+can_enter (Err why) held item formed number left is stored does stamps effect items notes = tt

@@ -6,7 +6,6 @@ use Rattle.undo_base.specs.declared.memory.NoMemory.{NoMemory as MemoryWant}
 use Rattle.verb_core.specs.declared.conf.Conf.{Conf}
 use Rattle.verb_core.specs.declared.conf.House.{House}
 use Rattle.verb_core.specs.declared.item.Item.{Item}
-use Rattle.verb_core.specs.declared.mailbox.Body.{Body}
 use Rattle.verb_core.specs.declared.mailbox.BoxId.{BoxId}
 use Rattle.verb_core.specs.declared.mailbox.Mailbox.{Mailbox}
 use Rattle.verb_core.specs.Items.{IsTimeline, IsWellFormed, text_of}
@@ -15,12 +14,11 @@ use Rattle.verb_core.specs.Store.{MailStore, IsValid, is_house, is_known, openin
 use Rattle.box_store.specs.Kept.{Kept as StoreHeld}
 use Rattle.paradox.specs.Kept.{Kept}
 use Rattle.paradox.specs.declared.reports.Report.{Report}
-use Rattle.shelf.specs.Notes.{size_of}
 use Rattle.mail_desk.specs.declared.remake.Remade.{Remade}
 use Rattle.mail_desk.specs.Desk.{IsDesk}
 use Rattle.mail_desk.specs.Held.{Held}
 use Rattle.mail_desk.specs.Remaking.{CanReplace, remade_as}
-use Rattle.mail_desk.specs.Timeline.{all_bodies, has_text}
+use Rattle.mail_desk.specs.Timeline.{SizesOf, all_bodies, has_text}
 
 abbrev pub BodiesHaveTexts : Type 0
 BodiesHaveTexts = (house : House) (conf : Conf) (t : List Item) → IsTrue (is_house house) →
@@ -78,7 +76,7 @@ some_room (Err why) len capacity more = tt
 pub can_replace : (r : Result Remade MemoryWant) (held : Held) (store : MailStore) (timeline : List Item) (left : Kept)
     → IfOk r (λ made. remade_as held.kept made ≡ left) → IfOk r (λ made. made.store.store ≡ store) → IsDesk store left
     → IfOk r (λ made. made.timeline.items ≡ timeline)
-    → IfOk r (λ made. (body : Body) → size_of made.shelf.notes body ≡ option_map length (text_of timeline body))
+    → IfOk r (λ made. SizesOf made.shelf.notes timeline)
     → OnOk r (0 < held.room.reports) → IfOk r (λ made. CanReplace made held)
 can_replace (Ok made) held store timeline left is stored desk items sizes room = record {
   desk = subst (λ (k : Kept). IsDesk made.store.store k) (sym is) (subst (λ (s : MailStore). IsDesk s left) (sym stored) desk);

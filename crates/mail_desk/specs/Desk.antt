@@ -5,7 +5,7 @@ use Rattle.undo_base.specs.declared.keys.User.{User}
 use Rattle.verb_core.specs.declared.ask.Ask.{Ask}
 use Rattle.verb_core.specs.declared.ask.Refused.{Refused}
 use Rattle.verb_core.specs.declared.ask.SubmitFault.{SubmitFault}
-use Rattle.verb_core.specs.declared.ask.SubmitFault.TheVariants.{Refused as IsRefused, Disk, Closed}
+use Rattle.verb_core.specs.declared.ask.SubmitFault.TheVariants.{Refused as IsRefused}
 use Rattle.verb_core.specs.declared.item.Item.{Item}
 use Rattle.verb_core.specs.declared.mailbox.BoxId.{BoxId}
 use Rattle.verb_core.specs.declared.mailbox.Mailbox.{Mailbox}
@@ -13,7 +13,6 @@ use Rattle.verb_core.specs.Items.{IsWellFormed, NumbersApart}
 use Rattle.verb_core.specs.Store.{MailStore, IsValid, is_house, is_known, opening}
 use Rattle.paradox.specs.Kept.{Kept, performed, store_of}
 use Rattle.verb_core.specs.Live.{live}
-use Rattle.box_store.specs.Refusing.{IsRefusal}
 use Rattle.mail_desk.specs.Timeline.{has_text, all_bodies}
 
 -- a store that is kept beside what led to it
@@ -45,9 +44,3 @@ submitted_as kept (Err why) = record { outcome = Err (IsRefused why); kept = kep
 -- an ask at a moment
 abbrev pub submitted : Kept → ℕ → Option User → Ask → Submitted
 submitted kept at by ask = submitted_as kept (live (store_of kept) kept.next at by ask)
-
--- a fault that an ask may have: the refusal that is due, or want of memory
-abbrev pub IsFaultOf : SubmitFault → Result Item Refused → Type 0
-IsFaultOf (IsRefused why) due = IsRefusal why due
-IsFaultOf Disk due = ⊥
-IsFaultOf Closed due = ⊥

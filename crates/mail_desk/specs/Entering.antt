@@ -8,10 +8,11 @@ use Rattle.mail_desk.specs.declared.ready.Ready.{Ready}
 use Rattle.paradox.specs.Kept.{store_of}
 use Rattle.mail_desk.specs.Held.{Held}
 
--- The item has the next number, the effect is what it does, the stamps are those after it, where they change, and there
+-- The item has the next number and is made ready to be stored, the effect is what it does, the stamps are those after it, where they change, and there
 -- is room for all of it.
 pub record CanEnter (ready : Ready) (held : Held) : Type 0 where
   pub formed : IsWellFormed held.kept.house ready.item
+  pub stored : ready.stored ≡ ready.item
   pub number : ready.item.number ≡ held.kept.next
   pub left : held.kept.next < 4194304
   pub does : applied ready.effect (store_of held.kept) ≡ (step (store_of held.kept) ready.item).0

@@ -1,6 +1,6 @@
 pub mod Timeline
 pub mod Places
-pub mod Sizing
+pub mod Noting
 pub mod Desk
 pub mod Held
 pub mod Entering

@@ -1,12 +1,10 @@
 -- The outcome of a cycle, put in place.
-use Rattle.std.specs.Prelude.{◌≡◌, ◌<◌, [], ◌∷◌, ◌++◌, length, option_map}
-use Rattle.verb_core.specs.declared.mailbox.Body.{Body}
-use Rattle.verb_core.specs.Items.{text_of}
+use Rattle.std.specs.Prelude.{◌<◌, [], ◌∷◌, ◌++◌}
 use Rattle.paradox.specs.Kept.{Kept}
-use Rattle.shelf.specs.Notes.{size_of}
 use Rattle.mail_desk.specs.declared.remake.Remade.{Remade}
 use Rattle.mail_desk.specs.Desk.{IsDesk}
 use Rattle.mail_desk.specs.Held.{Held}
+use Rattle.mail_desk.specs.Timeline.{SizesOf}
 
 -- what is kept after it: its items, stamps and next number, and its report as the last, under the key of its request
 abbrev pub remade_as : Kept → Remade → Kept
@@ -20,5 +18,5 @@ remade_as kept made = record kept {
 -- It is a desk, with the size of each text, and there is room for the report.
 pub record CanReplace (made : Remade) (held : Held) : Type 0 where
   pub desk : IsDesk made.store.store (remade_as held.kept made)
-  pub sizes : (body : Body) → size_of made.shelf.notes body ≡ option_map length (text_of made.timeline.items body)
+  pub sizes : SizesOf made.shelf.notes made.timeline.items
   pub reports : 0 < held.room.reports

@@ -1,4 +1,4 @@
--- The numbers and the texts of a timeline.
+-- The numbers and the texts of a timeline, and where the texts lie.
 use Rattle.std.specs.Prelude.{◌≡◌, ℕ, Bool, ◌==◌, List, [], map, find, length, is_some, Option, Some, None, if◌then◌else◌, unwrap_or, option_map, option_and_then}
 use Rattle.std.specs.List.{list_all}
 use Rattle.verb_core.specs.declared.item.Item.{Item}
@@ -6,9 +6,11 @@ use Rattle.verb_core.specs.declared.mailbox.Body.{Body}
 use Rattle.verb_core.specs.declared.mailbox.BoxId.{BoxId}
 use Rattle.verb_core.specs.declared.mailbox.Entry.{Entry}
 use Rattle.verb_core.specs.declared.mailbox.Mailbox.{Mailbox}
+use Rattle.verb_core.specs.Deeds.{is_notice}
 use Rattle.verb_core.specs.Items.{text_in, text_of}
+use Rattle.seal_log.specs.declared.place.Place.{Place}
 use Rattle.shelf.specs.declared.note.Note.{Note}
-use Rattle.shelf.specs.Notes.{same_body, size_of}
+use Rattle.shelf.specs.Notes.{NotesOnly, note_of, size_of}
 
 -- the item of a number
 abbrev pub item_of : List Item → ℕ → Option Item
@@ -22,14 +24,30 @@ rev_of t number = option_and_then (λ (i : Item). option_map (λ (text : List �
 abbrev pub body_of : Item → Body
 body_of i = record { origin = i.number; rev = i.rev }
 
--- the size of a text is noted of its body, and each other body has the size that it had
-abbrev pub NotesText : Option (List ℕ) → Body → List (Body × Note) → List (Body × Note) → Type 0
-NotesText None body old new = new ≡ old
-NotesText (Some text) body old new = (other : Body) → size_of new other ≡ (if same_body body other then Some (length text) else size_of old other)
+-- a text is noted of its body, so far behind the front of the payload at a place, and each other body has the note that it had
+abbrev pub NotesText : Option (List ℕ) → Body → Place → ℕ → List (Body × Note) → List (Body × Note) → Type 0
+NotesText None body place from old new = new ≡ old
+NotesText (Some text) body place from old new = NotesOnly old new body (record { place = place; from = from; length = length text })
 
 -- the text that an item of a body's number tells of it
 abbrev pub told_by : Body → Item → Option (List ℕ)
 told_by body i = if i.rev == body.rev then text_in i.deed else None
+
+-- the same of an item that is a notice, whose text is in memory
+abbrev pub notice_told_by : Body → Item → Option (List ℕ)
+notice_told_by body i = if is_notice i.deed then told_by body i else None
+
+-- the text of a body that a notice brings
+abbrev pub notice_text_of : List Item → Body → Option (List ℕ)
+notice_text_of t body = option_and_then (notice_told_by body) (item_of t body.origin)
+
+-- the note of a body that an item brings which is no notice
+abbrev pub noted_of : List Item → List (Body × Note) → Body → Option Note
+noted_of t notes body = if is_some (notice_text_of t body) then None else note_of notes body
+
+-- the sizes of texts are noted, and no others
+abbrev pub SizesOf : List (Body × Note) → List Item → Type 0
+SizesOf notes t = (body : Body) → size_of notes body ≡ option_map length (text_of t body)
 
 -- whether a body has a text
 abbrev pub has_text : List Item → Body → Bool

@@ -9,6 +9,7 @@ ghost use Rattle.mail_desk.specs.Counting.{bare_item, counts_of, listed, most, p
 use crate::Desk;
 use box_store::Store;
 use std::alloc::Global;
+use stored_items::StoredItem;
 use undo_base::{Copies, NoMemory, Text};
 use verb_core::{BoxId, Item, Items};
 
@@ -46,14 +47,14 @@ fn messages_in(store: &Store, rows: &[(BoxId, u32)]) -> u64
 }
 
 /// 1 for a notice, else 0.
-fn notices_of(item: &Item) -> usize
+fn notices_of(item: &StoredItem) -> usize
     ensures value { result ≡ count_by (λ (i : TheItem). is_of_notice i.deed) (item.now ∷ []) }
     ensures small { result ≤ 1 }
 {
-    if item.deed.is_notice() { 1 } else { 0 }
+    if item.is_notice() { 1 } else { 0 }
 }
 
-fn notices_in(timeline: &[Item]) -> usize
+fn notices_in(timeline: &[StoredItem]) -> usize
     ensures { result ≡ count_by (λ (i : TheItem). is_of_notice i.deed) timeline.now }
 {
     let mut count = 0;
@@ -85,17 +86,17 @@ fn bare_copy(alloc: Global, item: &Item) -> Result<Item, NoMemory>
 }
 
 /// Adds a copy of an item, without its text.
-fn push_bare(alloc: Global, items: &mut Items, item: &Item) -> Result<(), NoMemory>
+fn push_bare(alloc: Global, items: &mut Items, item: &StoredItem) -> Result<(), NoMemory>
     ensures { OnOk result (items.new ≡ items.old ++ bare_item item.now ∷ []) }
 {
-    match bare_copy(alloc, item) {
+    match bare_copy(alloc, item.item()) {
         Ok(copy) => items.push(copy),
         Err(NoMemory) => Err(NoMemory),
     }
 }
 
 /// Copies of items, without their texts.
-fn bare_items(alloc: Global, items: &[Item]) -> Result<Items, NoMemory>
+fn bare_items(alloc: Global, items: &[StoredItem]) -> Result<Items, NoMemory>
     ensures { IfOk result (λ copies. copies ≡ map bare_item items.now) }
 {
     let mut copies = Items::new(alloc);
@@ -106,7 +107,7 @@ fn bare_items(alloc: Global, items: &[Item]) -> Result<Items, NoMemory>
 }
 
 /// The items from a place on, none behind the end.
-fn from_place(items: &[Item], from: usize) -> &[Item]
+fn from_place(items: &[StoredItem], from: usize) -> &[StoredItem]
     ensures { result.now ≡ drop from items.now }
 {
     if from <= items.len() {
@@ -117,7 +118,7 @@ fn from_place(items: &[Item], from: usize) -> &[Item]
 }
 
 /// The first so many items.
-fn first(items: &[Item], count: usize) -> &[Item]
+fn first(items: &[StoredItem], count: usize) -> &[StoredItem]
     ensures { result.now ≡ take count items.now }
 {
     if items.len() <= count {
@@ -143,14 +144,14 @@ impl Desk {
     }
 
     /// All items in force, in order. It takes no memory.
-    pub fn all_items(&self) -> &[Item]
+    pub fn all_items(&self) -> &[StoredItem]
         ensures { result.now ≡ self.now.kept.timeline }
     {
         self.timeline.as_slice()
     }
 
     /// At most a thousand items from a place on (0 is the first), as they are. It takes no memory.
-    pub fn items(&self, from: u32) -> &[Item]
+    pub fn items(&self, from: u32) -> &[StoredItem]
         ensures { result.now ≡ page self.now.kept.timeline from }
     {
         first(from_place(self.timeline.as_slice(), from as usize), 1000)

@@ -2,16 +2,14 @@
 ghost use Rattle.std.specs.Prelude.{◌≡◌, ℕ, ◌<◌, ◌≤◌, ◌-◌, [], ◌++◌, map, length, option_copied, option_map, IsTrue, IfOk, OnOk};
 ghost use Rattle.std.specs.List.{AllByRecursion, list_all};
 ghost use Rattle.verb_core.specs.declared.item.Item.{Item as TheItem};
-ghost use Rattle.verb_core.specs.declared.mailbox.Body.{Body as TheBody};
 ghost use Rattle.verb_core.specs.declared.mailbox.BoxId.{BoxId as TheBoxId};
 ghost use Rattle.verb_core.specs.declared.mailbox.Mailbox.{Mailbox as TheMailbox};
 ghost use Rattle.verb_core.specs.Boxes.{box_of, row_at};
-ghost use Rattle.verb_core.specs.Items.{IsTimeline, text_of};
+ghost use Rattle.verb_core.specs.Items.{IsTimeline};
 ghost use Rattle.paradox.specs.Kept.{new_desk, report_of as report_in, store_of};
 ghost use Rattle.verb_core.specs.Stamps.{opening_stamps};
 ghost use Rattle.verb_core.specs.Store.{IsValid, is_house, is_known, opening as store_at_first};
-ghost use Rattle.shelf.specs.Notes.{size_of};
-ghost use Rattle.mail_desk.specs.Timeline.{all_bodies, has_sizes, has_text};
+ghost use Rattle.mail_desk.specs.Timeline.{SizesOf, all_bodies, has_sizes, has_text};
 
 use crate::numbered::Numbered;
 use crate::stamps::{find_stamp, push_stamp};
@@ -25,7 +23,7 @@ use verb_core::laws::stamps_name_mailboxes;
 use verb_core::{BoxId, Conf, House, Mailbox, Stamps};
 
 /// The house, the configuration at first, the store, the items in force in order, the stamp of each mailbox, the next
-/// number, each cycle's report by the key of its request, and the sizes of texts.
+/// number, each cycle's report by the key of its request, and where each text lies.
 #[derive(Drop)]
 pub struct Desk {
     pub(crate) house: House,
@@ -39,18 +37,17 @@ pub struct Desk {
 }
 
 impl Model for Desk {
-    ghost use Rattle.std.specs.Prelude.{◌≡◌, ◌-◌, length, option_map, vec_len, vec_capacity};
-    ghost use Rattle.verb_core.specs.declared.mailbox.Body.{Body};
-    ghost use Rattle.verb_core.specs.Items.{text_of};
-    ghost use Rattle.shelf.specs.Notes.{size_of};
+    ghost use Rattle.std.specs.Prelude.{◌-◌, vec_len, vec_capacity};
     ghost use Rattle.mail_desk.specs.Desk.{IsDesk};
     ghost use Rattle.mail_desk.specs.Held.{Held};
+    ghost use Rattle.mail_desk.specs.Timeline.{SizesOf};
     ghost use Rattle.paradox.specs.Kept.{kept_from};
 
     ghost Value = { Held };
 
     ghost view = { λ d. record {
       kept = kept_from d.house d.opening d.timeline.items d.stamps d.next d.reports.items;
+      notes = d.shelf.notes;
       room = record {
         store = d.store;
         items = d.timeline.room;
@@ -61,7 +58,7 @@ impl Model for Desk {
 
     ghost invariant = { λ d. record {
       desk : IsDesk d.store.store (kept_from d.house d.opening d.timeline.items d.stamps d.next d.reports.items);
-      sizes : (body : Body) → size_of d.shelf.notes body ≡ option_map length (text_of d.timeline.items body);
+      sizes : SizesOf d.shelf.notes d.timeline.items;
     } };
 }
 
@@ -126,7 +123,8 @@ fn begun(alloc: Global, house: House, opening: Conf, store: Store, stamps: Stamp
     requires stamps { stamps ≡ opening_stamps store.store }
     requires aliases { IsTrue (list_all (λ a. list_all (is_known house) a.users) opening.aliases) }
     requires filters { opening.filters ≡ [] }
-    ensures { result.kept ≡ new_desk house opening }
+    ensures kept { result.kept ≡ new_desk house opening }
+    ensures notes { result.notes ≡ [] }
 {
     stamps_name_mailboxes();
     let next = house.first;
@@ -149,7 +147,8 @@ fn begun_over(alloc: Global, house: House, opening: Conf, store: Store) -> Resul
     requires valid { IsValid store.store }
     requires aliases { IsTrue (list_all (λ a. list_all (is_known house) a.users) opening.aliases) }
     requires filters { opening.filters ≡ [] }
-    ensures { IfOk result (λ desk. desk.kept ≡ new_desk house opening) }
+    ensures kept { IfOk result (λ desk. desk.kept ≡ new_desk house opening) }
+    ensures notes { IfOk result (λ desk. desk.notes ≡ []) }
 {
     match stamps_at_first(alloc, &store, house.first) {
         Ok(stamps) => Ok(begun(alloc, house, opening, store, stamps)),
@@ -168,7 +167,8 @@ impl Desk {
         requires house { IsTrue (is_house house) }
         requires aliases { IsTrue (list_all (λ a. list_all (is_known house) a.users) conf.aliases) }
         requires filters { conf.filters ≡ [] }
-        ensures { IfOk result (λ desk. desk.kept ≡ new_desk house conf) }
+        ensures kept { IfOk result (λ desk. desk.kept ≡ new_desk house conf) }
+        ensures notes { IfOk result (λ desk. desk.notes ≡ []) }
     {
         match first_store(alloc, &house, &conf) {
             Ok(store) => begun_over(alloc, house, conf, store),
@@ -226,9 +226,10 @@ impl Desk {
         find_stamp(self.stamps.as_slice(), user, name)
     }
 
-    /// The size of each body that has a text.
+    /// Where the text of each body lies that has one, and its size.
     pub fn shelf(&self) -> &Shelf
-        ensures sizes { (body : TheBody) → size_of result.now.notes body ≡ option_map length (text_of self.now.kept.timeline body) }
+        ensures notes { result.now.notes ≡ self.now.notes }
+        ensures sizes { SizesOf result.now.notes self.now.kept.timeline }
         ensures known { IsTrue (has_sizes result.now.notes (store_of self.now.kept).boxes) }
     {
         &self.shelf
@@ -270,6 +271,7 @@ impl Desk {
         ensures next { self.now.kept.next ≤ 4194304 }
         ensures reports { length self.now.kept.reports ≤ self.now.kept.next }
         ensures texts { IsTrue (all_bodies (has_text self.now.kept.timeline) (store_of self.now.kept).boxes) }
+        ensures sizes { SizesOf self.now.notes self.now.kept.timeline }
     {
         let _shelf = &self.shelf;
     }

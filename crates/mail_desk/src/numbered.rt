@@ -9,13 +9,13 @@ ghost use Rattle.mail_desk.specs.Timeline.{item_of};
 
 use std::alloc::Global;
 use std::marker::Model;
+use stored_items::{StoredItem, StoredItems};
 use undo_base::NoMemory;
-use verb_core::{Item, Items};
 
 /// Items in order, and beside them each number with its place, by rising number.
 #[derive(Drop)]
 pub(crate) struct Numbered {
-    items: Vec<Item>,
+    items: Vec<StoredItem>,
     places: Vec<(u32, usize)>,
 }
 
@@ -33,6 +33,13 @@ impl Model for Numbered {
     ghost invariant = { λ n. IsIndex n.places.items n.items.items };
 }
 
+/// The number of an item.
+fn number_of(item: &StoredItem) -> u32
+    ensures { result ≡ item.now.number }
+{
+    item.item().number
+}
+
 impl Numbered {
     /// No items, which takes no memory.
     pub(crate) fn new(alloc: Global) -> Numbered
@@ -45,7 +52,7 @@ impl Numbered {
     }
 
     /// Items, their numbers put in order.
-    pub(crate) fn of(alloc: Global, items: Items) -> Result<Numbered, NoMemory>
+    pub(crate) fn of(alloc: Global, items: StoredItems) -> Result<Numbered, NoMemory>
         ensures { IfOk result (λ numbered. numbered.items ≡ items) }
     {
         match index_of(alloc, items.as_slice()) {
@@ -61,7 +68,7 @@ impl Numbered {
     }
 
     /// The items, with no memory taken.
-    pub(crate) fn as_slice(&self) -> &[Item]
+    pub(crate) fn as_slice(&self) -> &[StoredItem]
         ensures { result.now ≡ self.now.items }
     {
         self.items.as_slice()
@@ -78,7 +85,7 @@ impl Numbered {
     }
 
     /// The item of a number, found in about as many steps as the number of items has digits.
-    pub(crate) fn find(&self, number: u32) -> Option<&Item>
+    pub(crate) fn find(&self, number: u32) -> Option<&StoredItem>
         requires { NumbersApart self.now.items }
         ensures { option_copied result ≡ item_of self.now.items number }
     {
@@ -99,24 +106,24 @@ impl Numbered {
     }
 
     /// Adds an item of a higher number than all before it, for which there is room.
-    pub(crate) fn push(&mut self, item: Item)
+    pub(crate) fn push(&mut self, item: StoredItem)
         requires room { 0 < self.old.room }
         requires higher { AllByRecursion (λ (i : TheItem). i.number < item.number) self.old.items }
         ensures { self.new.items ≡ self.old.items ++ item ∷ [] }
     {
-        let row = (item.number, self.items.len());
+        let row = (number_of(&item), self.items.len());
         push_within(&mut self.places, row);
         push_within(&mut self.items, item);
     }
 }
 
 /// The number of each item with its place, in the order of the items.
-fn places_of(alloc: Global, items: &[Item]) -> Result<Vec<(u32, usize)>, NoMemory>
+fn places_of(alloc: Global, items: &[StoredItem]) -> Result<Vec<(u32, usize)>, NoMemory>
     ensures { IfOk result (λ places. HasPlaces places.items items.now (length items.now)) }
 {
     let mut places = Vec::new(alloc);
     for (place, item) in items.iter().enumerate() {
-        places.push((item.number, place))?;
+        places.push((number_of(item), place))?;
     }
     Ok(places)
 }
@@ -130,7 +137,7 @@ fn sort(places: &mut Vec<(u32, usize)>)
 }
 
 /// The place of each number.
-fn index_of(alloc: Global, items: &[Item]) -> Result<Vec<(u32, usize)>, NoMemory>
+fn index_of(alloc: Global, items: &[StoredItem]) -> Result<Vec<(u32, usize)>, NoMemory>
     ensures { IfOk result (λ places. IsIndex places.items items.now) }
 {
     let mut places = places_of(alloc, items)?;

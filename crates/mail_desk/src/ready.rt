@@ -1,42 +1,47 @@
 //! Items that are asked for: found, made ready, and entered.
-ghost use Rattle.std.specs.Prelude.{◌≡◌, ℕ, ◌<◌, ◌↔◌, map, [], IsTrue, IsSome, IfOk, IfErr, OnOk, OnErr, Ok, unwrap_or};
+ghost use Rattle.std.specs.Prelude.{◌≡◌, ℕ, ◌<◌, ◌↔◌, map, IsTrue, IsSome, IfOk, IfErr, OnOk, Ok, unwrap_or, []};
 ghost use Rattle.std.specs.List.{list_all, cons_option};
 ghost use Rattle.verb_core.specs.declared.mailbox.BoxId.{BoxId as TheBoxId};
 ghost use Rattle.verb_core.specs.declared.mailbox.Mailbox.{Mailbox as TheMailbox};
-ghost use Rattle.verb_core.specs.Items.{IsWellFormed};
+ghost use Rattle.verb_core.specs.Items.{IsWellFormed, text_in};
 ghost use Rattle.verb_core.specs.Stamps.{stamps_after};
 ghost use Rattle.paradox.specs.Kept.{performed, store_of};
 ghost use Rattle.verb_core.specs.Live.{is_users, live};
 ghost use Rattle.verb_core.specs.Step.{step};
 ghost use Rattle.verb_core.specs.Store.{IsValid, is_known};
+ghost use Rattle.stored_items.specs.Stored.{step_text};
 ghost use Rattle.box_store.specs.Effects.{IsReady, applied};
 ghost use Rattle.box_store.specs.Refusing.{IsRefusal};
-ghost use Rattle.mail_desk.specs.Desk.{IsFaultOf, submitted};
 ghost use Rattle.mail_desk.specs.Entering.{CanEnter};
+ghost use Rattle.mail_desk.specs.Timeline.{NotesText, body_of};
 
 use crate::Desk;
+use crate::noting::note_text;
 use crate::numbered::Numbered;
-use crate::sizes::note_text;
 use crate::stamps::changed_stamps;
 use box_store::{Effect, Steps, Store};
+use seal_log::Place;
 use shelf::Shelf;
 use std::alloc::Global;
 use std::marker::Brand;
 use std::sync::ledger::{Blank, Ledger};
-use undo_base::{Copies, NoMemory, User};
+use stored_items::StoredItem;
+use stored_items::laws::{stored_items_are_formed, stored_items_do_alike};
+use undo_base::{NoMemory, User};
 use verb_core::laws::{mail_is_kept, stamps_name_mailboxes, steps_keep_validity};
-use verb_core::{Ask, Item, Refused, Stamps, SubmitFault};
+use verb_core::{Ask, Item, Refused, Stamps};
 
-/// An item that a desk can enter with no memory taken: its effect, and the stamps after it where they change.
+/// An item that a desk can enter with no memory taken: as it is stored, its effect, and the stamps after it where they change.
 #[derive(Drop)]
 pub struct Ready {
     pub(crate) item: Item,
+    pub(crate) stored: StoredItem,
     pub(crate) effect: Effect,
     pub(crate) stamps: Option<Stamps>,
 }
 
 impl Ready {
-    /// The item that is to be entered.
+    /// The item that is to be entered, with its text.
     pub fn item(&self) -> &Item
         ensures { result.now ≡ self.now.item }
     {
@@ -44,13 +49,20 @@ impl Ready {
     }
 }
 
-/// Makes what an item does.
-fn new_effect(alloc: Global, store: &Store, item: &Item) -> Result<Effect, NoMemory>
+/// Makes what an item does with a text: no text is copied.
+fn new_effect(
+    alloc: Global,
+    store: &Store,
+    item: &StoredItem,
+    text: &[u8],
+) -> Result<Effect, NoMemory>
     requires valid { IsValid store.now.store }
     requires formed { IsWellFormed store.now.store.house item.now }
-    ensures { IfOk result (λ effect. applied effect store.now.store ≡ (step store.now.store item.now).0) }
+    ensures { IfOk result (λ effect. applied effect store.now.store ≡ (step_text store.now.store item.now text.now).0) }
 {
-    match store.aim(alloc, item, item.deed.text_bytes()) {
+    stored_items_are_formed();
+    stored_items_do_alike();
+    match store.aim(alloc, item.item(), text) {
         Ok(what) => {
             let effect = store.effect(alloc, &what);
             drop(what);
@@ -75,15 +87,20 @@ fn with_room(alloc: Global, store: &mut Store, effect: Effect) -> Result<Effect,
     }
 }
 
-/// Makes what an item does, and all room that the store needs for it.
-fn ready_effect(alloc: Global, store: &mut Store, item: &Item) -> Result<Effect, NoMemory>
+/// Makes what an item does with a text, and all room that the store needs for it.
+fn ready_effect(
+    alloc: Global,
+    store: &mut Store,
+    item: &StoredItem,
+    text: &[u8],
+) -> Result<Effect, NoMemory>
     requires valid { IsValid store.old.store }
     requires formed { IsWellFormed store.old.store.house item.now }
     ensures same { store.new.store ≡ store.old.store }
     ensures ready { IfOk result (λ effect. IsReady effect store.new) }
-    ensures does { IfOk result (λ effect. applied effect store.old.store ≡ (step store.old.store item.now).0) }
+    ensures does { IfOk result (λ effect. applied effect store.old.store ≡ (step_text store.old.store item.now text.now).0) }
 {
-    match new_effect(alloc, store, item) {
+    match new_effect(alloc, store, item, text) {
         Ok(effect) => with_room(alloc, store, effect),
         Err(NoMemory) => Err(NoMemory),
     }
@@ -151,7 +168,9 @@ fn make_parts(
     store: &mut Store,
     stamps: &Stamps,
     item: &Item,
+    stored: &StoredItem,
 ) -> Result<Parts, NoMemory>
+    requires same { stored.now ≡ item.now }
     requires valid { IsValid store.old.store }
     requires formed { IsWellFormed store.old.store.house item.now }
     requires named { map (λ (r : TheBoxId × ℕ). r.0) stamps.now ≡ map (λ (r : TheBoxId × TheMailbox). r.0) store.old.store.boxes }
@@ -160,31 +179,65 @@ fn make_parts(
     ensures stamps { IfOk result (λ parts. unwrap_or parts.1 stamps.now ≡ stamps_after item.now.number (step store.old.store item.now).0.boxes stamps.now) }
     ensures effect { IfOk result (λ parts. IsReady parts.0 store.new) }
 {
+    stored_items_do_alike();
     match changed_stamps(alloc, store, stamps, item) {
-        Ok(changed) => paired(ready_effect(alloc, store, item), changed),
+        Ok(changed) => paired(
+            ready_effect(alloc, store, stored, item.deed.text_bytes()),
+            changed,
+        ),
         Err(NoMemory) => Err(NoMemory),
     }
 }
 
-/// An item with what was made for it.
-fn with_parts(item: Item, parts: Result<Parts, NoMemory>) -> Result<Ready, NoMemory>
+/// An item as it is stored, with what was made for it.
+fn with_parts(
+    item: Item,
+    stored: StoredItem,
+    parts: Result<Parts, NoMemory>,
+) -> Result<Ready, NoMemory>
     ensures item { IfOk result (λ ready. ready.item ≡ item) }
+    ensures stored { IfOk result (λ ready. ready.stored ≡ stored) }
     ensures parts { IfOk result (λ ready. parts ≡ Ok (ready.effect, ready.stamps)) }
 {
     match parts {
         Ok((effect, stamps)) => Ok(Ready {
             item,
+            stored,
             effect,
             stamps,
         }),
         Err(NoMemory) => {
             drop(item);
+            drop(stored);
             Err(NoMemory)
         }
     }
 }
 
-/// Makes what an item does, with all room that the store needs for it.
+/// The same of an item beside what is stored of it.
+fn make_beside(
+    alloc: Global,
+    store: &mut Store,
+    stamps: &Stamps,
+    item: Item,
+    stored: StoredItem,
+) -> Result<Ready, NoMemory>
+    requires same { stored ≡ item }
+    requires valid { IsValid store.old.store }
+    requires formed { IsWellFormed store.old.store.house item }
+    requires named { map (λ (r : TheBoxId × ℕ). r.0) stamps.now ≡ map (λ (r : TheBoxId × TheMailbox). r.0) store.old.store.boxes }
+    ensures store { store.new.store ≡ store.old.store }
+    ensures item { IfOk result (λ ready. ready.item ≡ item) }
+    ensures stored { IfOk result (λ ready. ready.stored ≡ item) }
+    ensures does { IfOk result (λ ready. applied ready.effect store.old.store ≡ (step store.old.store item).0) }
+    ensures stamps { IfOk result (λ ready. unwrap_or ready.stamps stamps.now ≡ stamps_after item.number (step store.old.store item).0.boxes stamps.now) }
+    ensures effect { IfOk result (λ ready. IsReady ready.effect store.new) }
+{
+    let parts = make_parts(alloc, store, stamps, &item, &stored);
+    with_parts(item, stored, parts)
+}
+
+/// Makes what an item does, with all room that the store needs for it; what is stored of it is a copy without its text.
 fn make_over(
     alloc: Global,
     store: &mut Store,
@@ -196,12 +249,18 @@ fn make_over(
     requires named { map (λ (r : TheBoxId × ℕ). r.0) stamps.now ≡ map (λ (r : TheBoxId × TheMailbox). r.0) store.old.store.boxes }
     ensures store { store.new.store ≡ store.old.store }
     ensures item { IfOk result (λ ready. ready.item ≡ item) }
+    ensures stored { IfOk result (λ ready. ready.stored ≡ item) }
     ensures does { IfOk result (λ ready. applied ready.effect store.old.store ≡ (step store.old.store item).0) }
     ensures stamps { IfOk result (λ ready. unwrap_or ready.stamps stamps.now ≡ stamps_after item.number (step store.old.store item).0.boxes stamps.now) }
     ensures effect { IfOk result (λ ready. IsReady ready.effect store.new) }
 {
-    let parts = make_parts(alloc, store, stamps, &item);
-    with_parts(item, parts)
+    match StoredItem::copy_of(alloc, &item) {
+        Ok(stored) => make_beside(alloc, store, stamps, item, stored),
+        Err(NoMemory) => {
+            drop(item);
+            Err(NoMemory)
+        }
+    }
 }
 
 /// Makes all ready for an item.
@@ -220,6 +279,7 @@ fn make_ready(
     ensures timeline { timeline.new.items ≡ timeline.old.items }
     ensures shelf { shelf.new.notes ≡ shelf.old.notes }
     ensures item { IfOk result (λ ready. ready.item ≡ item) }
+    ensures stored { IfOk result (λ ready. ready.stored ≡ item) }
     ensures does { IfOk result (λ ready. applied ready.effect store.old.store ≡ (step store.old.store item).0) }
     ensures stamps { IfOk result (λ ready. unwrap_or ready.stamps stamps.now ≡ stamps_after item.number (step store.old.store item).0.boxes stamps.now) }
     ensures effect { IfOk result (λ ready. IsReady ready.effect store.new) }
@@ -260,6 +320,7 @@ impl Desk {
         requires by { IsSome by ↔ IsTrue (is_users ask) }
         requires known { IsTrue (list_all (is_known self.old.kept.house) (cons_option by [])) }
         ensures kept { self.new.kept ≡ self.old.kept }
+        ensures notes { self.new.notes ≡ self.old.notes }
         ensures item { IfOk result (λ ready. live (store_of self.old.kept) self.old.kept.next at by ask ≡ Ok ready.item) }
         ensures ready { IfOk result (λ ready. CanEnter ready self.new) }
         ensures refused { IfErr result (λ refused. IsRefusal refused (live (store_of self.old.kept) self.old.kept.next at by ask)) }
@@ -277,6 +338,7 @@ impl Desk {
         requires number { item.number ≡ self.old.kept.next }
         requires left { self.old.kept.next < 4194304 }
         ensures kept { self.new.kept ≡ self.old.kept }
+        ensures notes { self.new.notes ≡ self.old.notes }
         ensures item { IfOk result (λ ready. ready.item ≡ item) }
         ensures ready { IfOk result (λ ready. CanEnter ready self.new) }
     {
@@ -290,13 +352,17 @@ impl Desk {
         )
     }
 
-    /// Enters an item for which all is ready. It takes no memory.
-    pub fn enter(&mut self, ready: Ready)
+    /// Enters an item for which all is ready, and gives it back with its text, which lies so far behind the front of the payload
+    /// at a place. It takes no memory.
+    pub fn enter(&mut self, ready: Ready, place: Place, from: u32) -> Item
         requires { CanEnter ready self.old }
-        ensures { self.new.kept ≡ performed self.old.kept ready.item }
+        ensures kept { self.new.kept ≡ performed self.old.kept ready.item }
+        ensures item { result ≡ ready.item }
+        ensures notes { NotesText (text_in ready.item.deed) (body_of ready.item) place from self.old.notes self.new.notes }
     {
         let Ready {
             item,
+            stored,
             effect,
             stamps,
         } = ready;
@@ -305,48 +371,9 @@ impl Desk {
         mail_is_kept();
         apply_alone(&mut self.store, effect);
         change_stamps(&mut self.stamps, stamps);
-        note_text(&mut self.shelf, &item);
-        self.timeline.push(item);
+        note_text(&mut self.shelf, &item, place, from);
+        self.timeline.push(stored);
         self.next += 1;
-    }
-
-    /// Enters an item, of which a copy is made before.
-    fn enter_copied(&mut self, alloc: Global, ready: Ready) -> Result<Item, SubmitFault>
-        requires { CanEnter ready self.old }
-        ensures item { IfOk result (λ item. item ≡ ready.item) }
-        ensures ok { OnOk result (self.new.kept ≡ performed self.old.kept ready.item) }
-        ensures err { OnErr result (self.new.kept ≡ self.old.kept) }
-        ensures why { IfErr result (λ fault. fault ≡ SubmitFault.Refused Refused.NoMemory) }
-    {
-        match ready.item.copy(alloc) {
-            Ok(item) => {
-                self.enter(ready);
-                Ok(item)
-            }
-            Err(NoMemory) => {
-                drop(ready);
-                Err(SubmitFault::Refused(Refused::NoMemory))
-            }
-        }
-    }
-
-    /// Asks for something at a moment. Where there is no item nothing has changed.
-    pub fn submit(
-        &mut self,
-        alloc: Global,
-        at: u64,
-        by: Option<User>,
-        ask: Ask,
-    ) -> Result<Item, SubmitFault>
-        requires by { IsSome by ↔ IsTrue (is_users ask) }
-        requires known { IsTrue (list_all (is_known self.old.kept.house) (cons_option by [])) }
-        ensures ok { IfOk result (λ item. submitted self.old.kept at by ask ≡ record { outcome = Ok item; kept = self.new.kept }) }
-        ensures err { OnErr result (self.new.kept ≡ self.old.kept) }
-        ensures refused { IfErr result (λ fault. IsFaultOf fault (live (store_of self.old.kept) self.old.kept.next at by ask)) }
-    {
-        match self.ready(alloc, at, by, ask) {
-            Ok(ready) => self.enter_copied(alloc, ready),
-            Err(refused) => Err(SubmitFault::Refused(refused)),
-        }
+        item
     }
 }

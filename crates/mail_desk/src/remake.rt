@@ -1,26 +1,29 @@
 //! The outcome of a cycle: made ready, and put in place.
-ghost use Rattle.std.specs.Prelude.{◌≡◌, ℕ, ◌<◌, ◌≤◌, [], ◌∷◌, ◌++◌, length, map, option_map, IfOk, OnOk, Ok, vec_len, vec_capacity};
+ghost use Rattle.std.specs.Prelude.{◌≡◌, ℕ, ◌<◌, ◌≤◌, [], ◌∷◌, ◌++◌, length, map, IfOk, OnOk, Ok, vec_len, vec_capacity};
 ghost use Rattle.std.specs.List.{AllByRecursion};
 ghost use Rattle.verb_core.specs.declared.item.Item.{Item as TheItem};
 ghost use Rattle.verb_core.specs.declared.mailbox.Body.{Body as TheBody};
 ghost use Rattle.verb_core.specs.declared.mailbox.BoxId.{BoxId as TheBoxId};
 ghost use Rattle.verb_core.specs.declared.mailbox.Mailbox.{Mailbox as TheMailbox};
-ghost use Rattle.verb_core.specs.Items.{IsTimeline, NumbersApart, text_of};
+ghost use Rattle.verb_core.specs.Items.{IsTimeline, NumbersApart};
 ghost use Rattle.verb_core.specs.Step.{run};
 ghost use Rattle.verb_core.specs.Store.{IsValid};
-ghost use Rattle.shelf.specs.Notes.{size_of};
+ghost use Rattle.shelf.specs.Notes.{note_of};
+ghost use Rattle.mail_desk.specs.Noting.{renoted};
 ghost use Rattle.mail_desk.specs.Remaking.{CanReplace, remade_as};
+ghost use Rattle.mail_desk.specs.Timeline.{SizesOf};
 
 use crate::Desk;
 use crate::laws::bodies_have_texts;
+use crate::noting::{Fresh, noted_anew};
 use crate::numbered::{Numbered, push_within};
-use crate::sizes::sizes_of;
 use box_store::Store;
 use paradox::Report;
 use shelf::Shelf;
 use std::alloc::Global;
+use stored_items::StoredItems;
 use undo_base::{Name, NoMemory};
-use verb_core::{Items, Stamps};
+use verb_core::Stamps;
 
 /// What a cycle leaves, with all that a desk keeps beside it: it can be put in place with no memory taken.
 #[derive(Drop)]
@@ -43,11 +46,11 @@ impl Remade {
     }
 }
 
-/// Items found by their numbers, and the sizes of their texts.
+/// Items found by their numbers, and where their texts lie.
 type Indexed = (Numbered, Shelf);
 
-/// Items with the sizes of their texts.
-fn with_sizes(timeline: Result<Numbered, NoMemory>, shelf: Shelf) -> Result<Indexed, NoMemory>
+/// Items, and where their texts lie.
+fn with_notes(timeline: Result<Numbered, NoMemory>, shelf: Shelf) -> Result<Indexed, NoMemory>
     ensures timeline { IfOk result (λ made. timeline ≡ Ok made.0) }
     ensures shelf { IfOk result (λ made. made.1 ≡ shelf) }
 {
@@ -60,14 +63,20 @@ fn with_sizes(timeline: Result<Numbered, NoMemory>, shelf: Shelf) -> Result<Inde
     }
 }
 
-/// Puts the numbers of items in order, and notes the sizes of their texts.
-fn indexed(alloc: Global, timeline: Items) -> Result<Indexed, NoMemory>
+/// Puts the numbers of items in order, and notes where their texts lie.
+fn indexed(
+    alloc: Global,
+    old: &Shelf,
+    fresh: &Fresh,
+    timeline: StoredItems,
+) -> Result<Indexed, NoMemory>
     requires { NumbersApart timeline }
     ensures items { IfOk result (λ made. made.0.items ≡ timeline) }
-    ensures sizes { IfOk result (λ made. (body : TheBody) → size_of made.1.notes body ≡ option_map length (text_of timeline body)) }
+    ensures notes { IfOk result (λ made. (body : TheBody) → note_of made.1.notes body ≡ renoted old.now.notes fresh.now timeline body) }
+    ensures sizes { IfOk result (λ made. SizesOf made.1.notes timeline) }
 {
-    match sizes_of(alloc, timeline.as_slice()) {
-        Ok(shelf) => with_sizes(Numbered::of(alloc, timeline), shelf),
+    match noted_anew(alloc, old, fresh, timeline.as_slice()) {
+        Ok(shelf) => with_notes(Numbered::of(alloc, timeline), shelf),
         Err(NoMemory) => {
             drop(timeline);
             Err(NoMemory)
@@ -79,16 +88,19 @@ fn indexed(alloc: Global, timeline: Items) -> Result<Indexed, NoMemory>
 fn indexed_with_room(
     alloc: Global,
     reports: &mut Vec<(Name, Report)>,
-    timeline: Items,
+    old: &Shelf,
+    fresh: &Fresh,
+    timeline: StoredItems,
 ) -> Result<Indexed, NoMemory>
     requires { NumbersApart timeline }
     ensures same { reports.new.items ≡ reports.old.items }
     ensures room { OnOk result (vec_len reports.new < vec_capacity reports.new) }
     ensures items { IfOk result (λ made. made.0.items ≡ timeline) }
-    ensures sizes { IfOk result (λ made. (body : TheBody) → size_of made.1.notes body ≡ option_map length (text_of timeline body)) }
+    ensures notes { IfOk result (λ made. (body : TheBody) → note_of made.1.notes body ≡ renoted old.now.notes fresh.now timeline body) }
+    ensures sizes { IfOk result (λ made. SizesOf made.1.notes timeline) }
 {
     match reports.reserve(1) {
-        Ok(()) => indexed(alloc, timeline),
+        Ok(()) => indexed(alloc, old, fresh, timeline),
         Err(_) => {
             drop(timeline);
             Err(NoMemory)
@@ -96,7 +108,7 @@ fn indexed_with_room(
     }
 }
 
-/// The outcome of a cycle with its items and sizes.
+/// The outcome of a cycle with its items and notes.
 fn completed(
     store: Store,
     stamps: Stamps,
@@ -140,17 +152,19 @@ fn put<T: Drop>(place: &mut T, value: T)
 }
 
 impl Desk {
-    /// Makes the outcome of a cycle ready, whose items have any order: their places by number, the sizes of their texts, and
-    /// room for its report under the key of its request. The desk stays as it was but for its room.
+    /// Makes the outcome of a cycle ready, whose items have any order: their places by number, where their texts lie, and room
+    /// for its report under the key of its request. A text keeps the note that its body had; another lies in the cycle's own
+    /// record, and a notice's, which no record holds, is noted there from 0. The desk stays as it was but for its room.
     pub fn remake(
         &mut self,
         alloc: Global,
         store: Store,
-        timeline: Items,
+        timeline: StoredItems,
         stamps: Stamps,
         next: u32,
         key: Name,
         report: Report,
+        fresh: &Fresh,
     ) -> Result<Remade, NoMemory>
         requires store { store.store ≡ run self.old.kept.base timeline }
         requires valid { IsValid store.store }
@@ -161,19 +175,22 @@ impl Desk {
         requires rises { self.old.kept.next < next }
         requires next { next ≤ 4194304 }
         ensures kept { self.new.kept ≡ self.old.kept }
+        ensures same { self.new.notes ≡ self.old.notes }
         ensures made { IfOk result (λ made. remade_as self.old.kept made ≡ record self.old.kept { timeline = timeline; stamps = stamps; next = next; reports = self.old.kept.reports ++ (key, report) ∷ [] }) }
         ensures report { IfOk result (λ made. made.report ≡ report) }
+        ensures notes { IfOk result (λ made. (body : TheBody) → note_of made.shelf.notes body ≡ renoted self.old.notes fresh.now timeline body) }
         ensures ready { IfOk result (λ made. CanReplace made self.new) }
     {
         bodies_have_texts();
-        let indexed = indexed_with_room(alloc, &mut self.reports, timeline);
+        let indexed = indexed_with_room(alloc, &mut self.reports, &self.shelf, fresh, timeline);
         completed(store, stamps, next, key, report, indexed)
     }
 
     /// Puts the outcome of a cycle in place. It takes no memory.
     pub fn replace(&mut self, remade: Remade)
         requires { CanReplace remade self.old }
-        ensures { self.new.kept ≡ remade_as self.old.kept remade }
+        ensures kept { self.new.kept ≡ remade_as self.old.kept remade }
+        ensures notes { self.new.notes ≡ remade.shelf.notes }
     {
         let Remade {
             store,

@@ -1,13 +1,13 @@
-//! The texts that items bring, and the texts of bodies.
-ghost use Rattle.std.specs.Prelude.{◌≡◌, [], ◌∷◌, ◌++◌, unwrap_or, Some, IsTrue, IfOk, OnOk, option_copied};
-ghost use Rattle.std.specs.List.{list_all};
+//! The texts that items bring: whether a body has one, where it lies, and a notice's, which is in memory.
+ghost use Rattle.std.specs.Prelude.{◌≡◌, Some, None, List, ℕ, is_some, length, option_copied, option_map, if◌then◌else◌};
 ghost use Rattle.verb_core.specs.Items.{NumbersApart, text_of};
-ghost use Rattle.mail_desk.specs.Timeline.{has_text, rev_of, texts_of, told_by};
+ghost use Rattle.mail_desk.specs.Timeline.{has_text, notice_text_of, notice_told_by, noted_of, rev_of, told_by};
 
 use crate::Desk;
 use crate::numbered::Numbered;
-use std::alloc::Global;
-use undo_base::{NoMemory, Text, Texts};
+use shelf::Note;
+use stored_items::StoredItem;
+use undo_base::Text;
 use verb_core::{Body, Item};
 
 /// The text that an item of the body's number tells of it.
@@ -21,66 +21,45 @@ fn told(item: &Item, body: Body) -> Option<&Text>
     }
 }
 
-fn find_text(timeline: &Numbered, body: Body) -> Option<&Text>
+/// The text that an item of the body's number tells of it, if it is a notice.
+fn told_in_memory(item: &StoredItem, body: Body) -> Option<&Text>
+    ensures { option_copied result ≡ notice_told_by body item.now }
+{
+    if item.is_notice() {
+        told(item.item(), body)
+    } else {
+        None
+    }
+}
+
+/// Whether an item of the body's number tells its text.
+fn tells(item: &StoredItem, body: Body) -> bool
+    ensures { result ≡ is_some (told_by body item.now) }
+{
+    if item.body().rev == body.rev {
+        item.has_text()
+    } else {
+        false
+    }
+}
+
+fn find_notice(timeline: &Numbered, body: Body) -> Option<&Text>
     requires { NumbersApart timeline.now.items }
-    ensures { option_copied result ≡ text_of timeline.now.items body }
+    ensures { option_copied result ≡ notice_text_of timeline.now.items body }
 {
     match timeline.find(body.origin) {
-        Some(item) => told(item, body),
+        Some(item) => told_in_memory(item, body),
         None => None,
     }
 }
 
-/// Adds a copy of a body's text.
-fn push_text(
-    alloc: Global,
-    texts: &mut Texts,
-    timeline: &Numbered,
-    body: Body,
-) -> Result<(), NoMemory>
-    requires apart { NumbersApart timeline.now.items }
-    requires there { IsTrue (has_text timeline.now.items body) }
-    ensures { OnOk result (texts.new ≡ texts.old ++ unwrap_or (text_of timeline.now.items body) [] ∷ []) }
-{
-    match find_text(timeline, body) {
-        Some(text) => texts.push(text.copy(alloc)?),
-        None => unreachable!(),
-    }
-}
-
-fn copied_texts(alloc: Global, timeline: &Numbered, bodies: &[Body]) -> Result<Texts, NoMemory>
-    requires apart { NumbersApart timeline.now.items }
-    requires there { IsTrue (list_all (has_text timeline.now.items) bodies.now) }
-    ensures { IfOk result (λ texts. texts ≡ texts_of timeline.now.items bodies.now) }
-{
-    let mut texts = Texts::new(alloc);
-    for body in bodies {
-        push_text(alloc, &mut texts, timeline, *body)?;
-    }
-    Ok(texts)
-}
-
-fn copied_text(alloc: Global, timeline: &Numbered, body: Body) -> Result<Text, NoMemory>
-    requires apart { NumbersApart timeline.now.items }
-    requires there { IsTrue (has_text timeline.now.items body) }
-    ensures { IfOk result (λ text. text_of timeline.now.items body ≡ Some text) }
-{
-    match find_text(timeline, body) {
-        Some(text) => text.copy(alloc),
-        None => unreachable!(),
-    }
-}
-
-fn copied_body(alloc: Global, timeline: &Numbered, body: Body) -> Result<Option<Text>, NoMemory>
+fn is_told(timeline: &Numbered, body: Body) -> bool
     requires { NumbersApart timeline.now.items }
-    ensures { IfOk result (λ found. found ≡ text_of timeline.now.items body) }
+    ensures { result ≡ has_text timeline.now.items body }
 {
-    match find_text(timeline, body) {
-        Some(text) => match text.copy(alloc) {
-            Ok(text) => Ok(Some(text)),
-            Err(NoMemory) => Err(NoMemory),
-        },
-        None => Ok(None),
+    match timeline.find(body.origin) {
+        Some(item) => tells(item, body),
+        None => false,
     }
 }
 
@@ -89,36 +68,42 @@ fn find_rev(timeline: &Numbered, number: u32) -> Option<u32>
     ensures { result ≡ rev_of timeline.now.items number }
 {
     match timeline.find(number) {
-        Some(item) => match item.deed.text() {
-            Some(_) => Some(item.rev),
-            None => None,
-        },
+        Some(item) => {
+            if item.has_text() {
+                return Some(item.body().rev);
+            }
+            None
+        }
         None => None,
     }
 }
 
 impl Desk {
-    /// The text of a body.
-    pub fn text(&self, alloc: Global, body: Body) -> Result<Text, NoMemory>
-        requires { IsTrue (has_text self.now.kept.timeline body) }
-        ensures { IfOk result (λ text. text_of self.now.kept.timeline body ≡ Some text) }
+    /// Whether an item in force brings the text of a body. It takes no memory.
+    pub fn has_text(&self, body: Body) -> bool
+        ensures { result ≡ has_text self.now.kept.timeline body }
     {
-        copied_text(alloc, &self.timeline, body)
+        is_told(&self.timeline, body)
     }
 
-    /// The text of a body. None exactly where no item in force has it.
-    pub fn body(&self, alloc: Global, body: Body) -> Result<Option<Text>, NoMemory>
-        ensures { IfOk result (λ found. found ≡ text_of self.now.kept.timeline body) }
+    /// The text of a body that a notice in force brings. It takes no memory.
+    pub fn notice(&self, body: Body) -> Option<&Text>
+        ensures value { option_copied result ≡ notice_text_of self.now.kept.timeline body }
+        ensures told { (text : List ℕ) → option_copied result ≡ Some text → text_of self.now.kept.timeline body ≡ Some text }
     {
-        copied_body(alloc, &self.timeline, body)
+        find_notice(&self.timeline, body)
     }
 
-    /// The texts of bodies, in order.
-    pub fn texts(&self, alloc: Global, bodies: &[Body]) -> Result<Texts, NoMemory>
-        requires { IsTrue (list_all (has_text self.now.kept.timeline) bodies.now) }
-        ensures { IfOk result (λ texts. texts ≡ texts_of self.now.kept.timeline bodies.now) }
+    /// Where the text of a body lies that an item in force brings, which is no notice. It takes no memory.
+    pub fn note(&self, body: Body) -> Option<Note>
+        ensures value { result ≡ noted_of self.now.kept.timeline self.now.notes body }
+        ensures size { option_map (λ note. note.length) result
+            ≡ (if is_some (notice_text_of self.now.kept.timeline body) then None else option_map length (text_of self.now.kept.timeline body)) }
     {
-        copied_texts(alloc, &self.timeline, bodies)
+        match self.notice(body) {
+            Some(_) => None,
+            None => self.shelf.find(body),
+        }
     }
 
     /// The rev of the item of a number, where it has a text.

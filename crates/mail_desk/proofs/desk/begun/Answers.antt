@@ -16,5 +16,5 @@ invariant_of-result c =
       sizes = nothing_known c.new-3.result.notes c.new.result.items c.new-3.ensures c.new.ensures;
     }
 
-pub returns : goal.returns
-returns c = new_desk_is c.args.house c.args.opening c.args.stamps c.new.result.items c.new-2.result.items (c.requires.stamps ∙ ap opening_stamps c.requires.store) c.new.ensures c.new-2.ensures.items
+pub returns-clause-kept : goal.returns-clause-kept
+returns-clause-kept c = new_desk_is c.args.house c.args.opening c.args.stamps c.new.result.items c.new-2.result.items (c.requires.stamps ∙ ap opening_stamps c.requires.store) c.new.ensures c.new-2.ensures.items

@@ -1,7 +1,11 @@
-use Rattle.std.proofs.Common.{◌≡◌, ℕ, List, Option, unwrap_or}
+use Rattle.std.proofs.Common.{◌≡◌, ℕ, List, Option, IfOk, ap, subst, unwrap_or, ◌∙◌}
 use Rattle.verb_core.specs.declared.mailbox.BoxId.{BoxId}
 use Rattle.verb_core.specs.Stamps.{stamps_after}
+use Rattle.verb_core.specs.declared.item.Item.{Item}
+use Rattle.verb_core.specs.declared.item.Shown.{Shown}
 use Rattle.verb_core.specs.Step.{step}
+use Rattle.verb_core.specs.Store.{MailStore}
+use Rattle.stored_items.specs.Stored.{step_text}
 use Rattle.box_store.specs.declared.effect.Effect.{Effect}
 use Rattle.box_store.specs.Effects.{IsReady, applied}
 use Rattle.mail_desk.proofs.Readied.{part_is, through}
@@ -12,8 +16,12 @@ Made = Effect × Option (List (BoxId × ℕ))
 
 pub returns-in-Ok-clause-does : goal.returns-in-Ok-clause-does
 returns-in-Ok-clause-does c =
+    let alike : (step_text c.args.store.now.store c.args.stored.now c.text_bytes.result.now).0 ≡ (step c.args.store.now.store c.args.item.now).0 =
+    ap (λ (i : Item). (step_text c.args.store.now.store i c.text_bytes.result.now).0) c.requires.same
+    ∙ ap (λ (after : MailStore × Shown). after.0) (c.stored_items_do_alike.ensures.with_own c.args.store.now.store c.args.item.now c.text_bytes.result.now c.text_bytes.ensures) in
     through c.paired.result (λ (p : Made). p.0) c.ready_effect.result c.paired.ensures.effect
-    (λ (e : Effect). applied e c.args.store.now.store ≡ (step c.args.store.now.store c.args.item.now).0) c.ready_effect.ensures.does
+    (λ (e : Effect). applied e c.args.store.now.store ≡ (step c.args.store.now.store c.args.item.now).0)
+    (subst (λ (after : MailStore). IfOk c.ready_effect.result (λ e. applied e c.args.store.now.store ≡ after)) alike c.ready_effect.ensures.does)
 
 pub returns-in-Ok-clause-stamps : goal.returns-in-Ok-clause-stamps
 returns-in-Ok-clause-stamps c =

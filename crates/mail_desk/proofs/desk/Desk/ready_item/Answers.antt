@@ -50,10 +50,12 @@ returns-clause-ready c =
     let store_is = c.self.invariant.desk.store_is in
     let held : Held = record {
       kept = kept_from d.house d.opening d.timeline.items d.stamps d.next d.reports.items;
+      notes = new.shelf.notes;
       room = record { store = new.store; items = new.timeline.room; notes = new.shelf.room; reports = vec_capacity d.reports - vec_len d.reports };
     } in
     subst (λ (t : List Item). IfOk c.make_ready.result (λ ready. CanEnter ready (record {
       kept = kept_from d.house d.opening t d.stamps d.next d.reports.items;
+      notes = new.shelf.notes;
       room = record { store = new.store; items = new.timeline.room; notes = new.shelf.room; reports = vec_capacity d.reports - vec_len d.reports };
     }))) (sym made.timeline)
     (can_enter c.make_ready.result held c.args.item
@@ -61,6 +63,7 @@ returns-clause-ready c =
     (subst (λ (h : Held). c.args.item.number ≡ h.kept.next) (sym c.self.view_is) c.requires.number)
     (subst (λ (h : Held). h.kept.next < 4194304) (sym c.self.view_is) c.requires.left)
     made.item
+    made.stored
     (subst (λ (s : MailStore). IfOk c.make_ready.result (λ ready. applied ready.effect s ≡ (step s c.args.item).0)) store_is made.does)
     (subst (λ (s : MailStore). IfOk c.make_ready.result (λ ready. unwrap_or ready.stamps d.stamps ≡ stamps_after c.args.item.number (step s c.args.item).0.boxes d.stamps)) store_is made.stamps)
     made.effect

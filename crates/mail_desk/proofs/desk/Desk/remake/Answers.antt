@@ -1,13 +1,15 @@
-use Rattle.std.proofs.Common.{◌≡◌, ◌<◌, ◌-◌, length, option_map, subst, sym, vec_len, vec_capacity}
+use Rattle.std.proofs.Common.{◌≡◌, ◌<◌, ◌-◌, IfOk, subst, sym, vec_len, vec_capacity}
 use Rattle.verb_core.specs.declared.mailbox.Body.{Body}
-use Rattle.verb_core.specs.Items.{IsTimeline, text_of}
+use Rattle.verb_core.specs.Items.{IsTimeline}
 use Rattle.verb_core.specs.Step.{run}
 use Rattle.paradox.specs.Kept.{Kept, Reports, kept_from}
-use Rattle.shelf.specs.Notes.{Noted, size_of}
+use Rattle.shelf.specs.Notes.{Noted, note_of}
 use Rattle.mail_desk.specs.declared.remake.Remade.{Remade}
 use Rattle.mail_desk.specs.Desk.{IsDesk}
 use Rattle.mail_desk.specs.Held.{Held}
+use Rattle.mail_desk.specs.Noting.{renoted}
 use Rattle.mail_desk.specs.Places.{Placed}
+use Rattle.mail_desk.specs.Timeline.{SizesOf}
 use Rattle.mail_desk.proofs.Readied.{through}
 use Rattle.mail_desk.proofs.Remades.{can_replace, desk_remade, made_is, some_room, stored_is, with_parts}
 use Rattle.mail_desk.proofs.desk.Desk.remake.Goals as goal
@@ -24,10 +26,11 @@ returns-clause-ready c =
     let kept : Kept = kept_from d.house d.opening d.timeline.items d.stamps d.next indexed.new.reports.items in
     let held : Held = record {
       kept = kept_from d.house d.opening d.timeline.items d.stamps d.next indexed.new.reports.items;
+      notes = d.shelf.notes;
       room = record { store = d.store; items = d.timeline.room; notes = d.shelf.room; reports = vec_capacity indexed.new.reports - vec_len indexed.new.reports };
     } in
     let items = through made.result parts_of indexed.result made.ensures.parts (λ (p : Placed × Noted). p.0.items ≡ a.timeline) indexed.ensures.items in
-    let sizes = through made.result parts_of indexed.result made.ensures.parts (λ (p : Placed × Noted). (body : Body) → size_of p.1.notes body ≡ option_map length (text_of a.timeline body)) indexed.ensures.sizes in
+    let sizes = through made.result parts_of indexed.result made.ensures.parts (λ (p : Placed × Noted). SizesOf p.1.notes a.timeline) indexed.ensures.sizes in
     let desk = subst (λ (rs : Reports). IsDesk d.store.store (kept_from d.house d.opening d.timeline.items d.stamps d.next rs)) (sym indexed.ensures.same) c.self.invariant.desk in
     can_replace made.result held a.store.store a.timeline (with_parts kept a.timeline a.stamps a.next (a.key, a.report))
     (made_is made.result kept a.timeline a.stamps a.next a.key a.report items made.ensures.stamps made.ensures.next made.ensures.key made.ensures.report)
@@ -38,3 +41,9 @@ returns-clause-ready c =
     (subst (λ (h : Held). h.kept.next < a.next) (sym c.self.view_is) c.requires.rises) c.requires.next)
     items sizes (through made.result parts_of indexed.result made.ensures.parts (λ (p : Placed × Noted). 0 < vec_capacity indexed.new.reports - vec_len indexed.new.reports)
     (some_room indexed.result (vec_len indexed.new.reports) (vec_capacity indexed.new.reports) indexed.ensures.room))
+
+pub returns-clause-notes : goal.returns-clause-notes
+returns-clause-notes c =
+    subst (λ (h : Held). IfOk c.completed.result (λ made. (body : Body) → note_of made.shelf.notes body ≡ renoted h.notes c.args.fresh.now c.args.timeline body)) c.self.view_is
+    (through c.completed.result parts_of c.indexed_with_room-indexed.result c.completed.ensures.parts
+    (λ (p : Placed × Noted). (body : Body) → note_of p.1.notes body ≡ renoted c.self.inside.shelf.notes c.args.fresh.now c.args.timeline body) c.indexed_with_room-indexed.ensures.notes)

@@ -23,8 +23,8 @@ invariant_of-self c =
       sizes = λ body. ap (λ (n : Noted). size_of n.notes body) c.put-4.ensures ∙ can.sizes body ∙ ap (λ (t : Placed). option_map length (text_of t.items body)) (sym c.put-2.ensures);
     }
 
-pub returns : goal.returns
-returns c =
+pub returns-clause-kept : goal.returns-clause-kept
+returns-clause-kept c =
     let d = c.self.inside in
     let made = c.args.remade in
     let is : kept_from d.house d.opening c.put-2.new.place.items c.put-3.new.place made.next c.push_within.new.list.items ≡ remade_as (kept_from d.house d.opening d.timeline.items d.stamps d.next d.reports.items) made =

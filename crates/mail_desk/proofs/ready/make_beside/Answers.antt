@@ -6,7 +6,7 @@ use Rattle.box_store.specs.declared.effect.Effect.{Effect}
 use Rattle.box_store.specs.Effects.{IsReady, applied}
 use Rattle.mail_desk.specs.declared.ready.Ready.{Ready as IsMade}
 use Rattle.mail_desk.proofs.Readied.{through}
-use Rattle.mail_desk.proofs.ready.make_over.Goals as goal
+use Rattle.mail_desk.proofs.ready.make_beside.Goals as goal
 
 abbrev Made : Type 0
 Made = Effect × Option (List (BoxId × ℕ))

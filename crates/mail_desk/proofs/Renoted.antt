@@ -1,0 +1,214 @@
+-- Where the texts of items in any order lie after a cycle.
+use Rattle.std.proofs.Common.{◌≡◌, ◌≢◌, inl, inr, ℕ, ◌+◌, ◌<◌, ◌==◌, Bool, true, false, ◌&&◌, cond, List, [], ◌∷◌, length, find, get_or, Option, None, Some, is_some, option_map, option_and_then, Result, Ok, Err, IfOk, refl, ap, sym, subst, ◌∙◌, arith}
+use Rattle.std.specs.List.{All, AllByRecursion, Contains, cons_option}
+use Rattle.std.specs.List.Sorted.{IsPermutation}
+use Rattle.std.specs.Option.{option_or}
+use Rattle.std.specs.Cmp.{first_so}
+use Rattle.std.proofs.lemmas.Bool.{cases_order}
+use Rattle.std.proofs.lemmas.Bool.Decides.{nat_tests}
+use Rattle.std.proofs.lemmas.List.{get_or_default}
+use Rattle.std.proofs.lemmas.List.Elements.{All-contains, All-from_recursion, Contains-append_right, Contains-get_or}
+use Rattle.std.proofs.lemmas.List.Sorted.{All-permutation, Contains-permutation}
+use Rattle.verb_core.specs.declared.item.Item.{Item}
+use Rattle.verb_core.specs.declared.mailbox.Body.{Body}
+use Rattle.verb_core.specs.Deeds.{is_notice}
+use Rattle.verb_core.specs.Items.{NumbersApart, text_in, text_of}
+use Rattle.shelf.specs.declared.note.Note.{Note}
+use Rattle.shelf.specs.Notes.{Noted, note_of, same_body}
+use Rattle.mail_desk.specs.declared.noting.Fresh.{Fresh}
+use Rattle.mail_desk.specs.Noting.{IsNotedBy, Knows, note_by, noted_by, notice_note, renoted, rows_by}
+use Rattle.mail_desk.specs.Timeline.{SizesOf, body_of, item_of, notice_text_of, notice_told_by}
+use Rattle.mail_desk.proofs.BodyTexts.{brings, itself, through}
+use Rattle.mail_desk.proofs.Timelines.{unequal}
+
+abbrev Row : Type 0
+Row = Body × Note
+
+same_is : (a b : Body) → same_body a b ≡ true → a ≡ b
+same_is a b e =
+    let origin : a.origin ≡ b.origin = grind (arith, nat_tests) in
+    let rev : a.rev ≡ b.rev = grind (arith, nat_tests) in
+    λ j. record { origin = origin j; rev = rev j }
+
+-- ---- what a shelf has of rows
+
+pub knows_none : (notes : List Row) (rows : List Row) → notes ≡ [] → Knows notes rows 0
+knows_none notes rows none = subst (λ (n : List Row). Knows n rows 0) (sym none) (record {
+  told = λ body note e. absurd (let wrong : ◌≡◌ {A = Option Note} None (Some note) = e in cc);
+  noted = λ place d less. absurd (omega arith);
+})
+
+still_some : (b : Bool) (note : Note) (o : Option Note) → is_some o ≡ true → is_some (cond b (Some note) o) ≡ true
+still_some true note o some = refl
+still_some false note o some = some
+
+pub knows_more : (rows : List Row) (k : ℕ) (r : Row) (old new : List Row) → k < length rows → r ≡ get_or rows k r → Knows old rows k
+    → ((other : Body) → note_of new other ≡ cond (same_body r.0 other) (Some r.1) (note_of old other)) → Knows new rows (k + 1)
+knows_more rows k r old new within is knows after = record {
+  told = λ body note e. elim (same_body r.0 body) as (λ b. same_body r.0 body ≡ b → cond b (Some r.1) (note_of old body) ≡ Some note → Contains rows (body, note)) [
+    | true ↦ λ same told.
+        let at : r.0 ≡ body = same_is r.0 body same in
+        let noted : r.1 ≡ note = let e' : ◌≡◌ {A = Option Note} (Some r.1) (Some note) = told in cc in
+        let row : r ≡ (body, note) = λ j. (at j, noted j) in
+        subst (λ (q : Row). Contains rows q) (sym is ∙ row) (Contains-get_or rows k r within)
+    | false ↦ λ same told. knows.told body note told
+  ] refl (sym (after body) ∙ e);
+  noted = λ place d less. elim (cases_order place k) [
+    | inl same ↦
+        let row : get_or rows place d ≡ r = ap (λ (n : ℕ). get_or rows n d) same ∙ get_or_default rows k d r within ∙ sym is in
+        ap (λ (q : Row). is_some (note_of new q.0)) row ∙ ap is_some (after r.0 ∙ ap (λ b. cond b (Some r.1) (note_of old r.0)) (itself r.0))
+    | inr (inl lt) ↦ ap is_some (after (get_or rows place d).0) ∙ still_some (same_body r.0 (get_or rows place d).0) r.1 (note_of old (get_or rows place d).0) (knows.noted place d lt)
+    | inr (inr gt) ↦ absurd (omega arith)
+  ];
+}
+
+-- ---- the rows of items
+
+module _ (old : List Row) (fresh : Fresh) where
+  -- an item of another number says nothing of a body
+  text_skips : (i : Item) (t : List Item) (body : Body) → i.number ≢ body.origin → text_of (i ∷ t) body ≡ text_of t body
+  text_skips i t body other = rw (unequal i.number body.origin other) refl
+
+  notice_skips : (i : Item) (t : List Item) (body : Body) → i.number ≢ body.origin → notice_text_of (i ∷ t) body ≡ notice_text_of t body
+  notice_skips i t body other = rw (unequal i.number body.origin other) refl
+
+  abbrev by_texts : Body → Option (List ℕ) → Option (List ℕ) → Option Note
+  by_texts body told in_memory =
+      option_and_then (λ (text : List ℕ). option_or (note_of old body) (option_or (note_of fresh.shelf.notes body) (option_map (notice_note fresh.place) in_memory))) told
+
+  renoted_skips : (i : Item) (t : List Item) (body : Body) → i.number ≢ body.origin → renoted old fresh (i ∷ t) body ≡ renoted old fresh t body
+  renoted_skips i t body other = λ j. by_texts body (text_skips i t body other j) (notice_skips i t body other j)
+
+  rows_elsewhere : (number : ℕ) (t : List Item) → AllByRecursion (λ (j : Item). number ≢ j.number) t → AllByRecursion (λ (r : Row). number ≢ r.0.origin) (rows_by old fresh t)
+  rows_elsewhere number [] others = tt
+  rows_elsewhere number (j ∷ t) others = there (text_in j.deed) (rows_elsewhere number t others.1)
+    where
+      noted : (p : Option Note) → AllByRecursion (λ (r : Row). number ≢ r.0.origin) (rows_by old fresh t)
+          → AllByRecursion (λ (r : Row). number ≢ r.0.origin) (cons_option (option_map (λ (note : Note). (body_of j, note)) p) (rows_by old fresh t))
+      noted None rest = rest
+      noted (Some note) rest = (others.0, rest)
+
+      there : (o : Option (List ℕ)) → AllByRecursion (λ (r : Row). number ≢ r.0.origin) (rows_by old fresh t)
+          → AllByRecursion (λ (r : Row). number ≢ r.0.origin) (cons_option (option_and_then (λ (text : List ℕ). option_map (λ (note : Note). (body_of j, note)) (note_by old fresh j text)) o) (rows_by old fresh t))
+      there None rest = rest
+      there (Some text) rest = noted (note_by old fresh j text) rest
+
+  -- whether a row tells the note that is due, of its text's length
+  abbrev IsRight : List Item → Row → Type 0
+  IsRight t r = (renoted old fresh t r.0 ≡ Some r.1) × (option_map length (text_of t r.0) ≡ Some r.1.length)
+
+  rows_stay : (i : Item) (t : List Item) (rs : List Row) → AllByRecursion (λ (r : Row). i.number ≢ r.0.origin) rs → AllByRecursion (IsRight t) rs → AllByRecursion (IsRight (i ∷ t)) rs
+  rows_stay i t [] others right = tt
+  rows_stay i t (r ∷ rs) others right =
+      ((renoted_skips i t r.0 others.0 ∙ right.0.0, ap (option_map length) (text_skips i t r.0 others.0) ∙ right.0.1), rows_stay i t rs others.1 right.1)
+
+  own_text : (same : Bool) (o rest : Option (List ℕ)) (text : List ℕ) → same ≡ true → o ≡ Some text → cond (same && is_some o) o rest ≡ Some text
+  own_text true o rest text e is = subst (λ (p : Option (List ℕ)). cond (true && is_some p) p rest ≡ Some text) (sym is) refl
+  own_text false o rest text e is = absurd (let wrong : false ≡ true = e in cc)
+
+  text_here : (i : Item) (t : List Item) (text : List ℕ) → text_in i.deed ≡ Some text → text_of (i ∷ t) (body_of i) ≡ Some text
+  text_here i t text brought =
+      through (λ (k : Item). text_in k.deed) (brings (body_of i) i) i (find (brings (body_of i)) t)
+      ∙ own_text (same_body (body_of i) (body_of i)) (text_in i.deed) (text_of t (body_of i)) text (itself (body_of i)) brought
+
+  -- of a notice it is in memory
+  notice_here : (i : Item) (t : List Item) (text : List ℕ) → text_in i.deed ≡ Some text
+      → option_map (notice_note fresh.place) (notice_text_of (i ∷ t) (body_of i)) ≡ cond (is_notice i.deed) (Some (notice_note fresh.place text)) None
+  notice_here i t text brought =
+      let number : (i.number == i.number) ≡ true = grind (arith, nat_tests) in
+      let rev : (i.rev == i.rev) ≡ true = grind (arith, nat_tests) in
+      ap (λ (b : Bool). option_map (notice_note fresh.place) (option_and_then (notice_told_by (body_of i)) (cond b (Some i) (item_of t i.number)))) number
+      ∙ ap (λ (b : Bool). option_map (notice_note fresh.place) (cond (is_notice i.deed) (cond b (text_in i.deed) None) None)) rev
+      ∙ ap (λ (o : Option (List ℕ)). option_map (notice_note fresh.place) (cond (is_notice i.deed) o None)) brought
+      ∙ one_of (is_notice i.deed)
+    where
+      one_of : (b : Bool) → option_map (notice_note fresh.place) (cond b (Some text) None) ≡ cond b (Some (notice_note fresh.place text)) None
+      one_of true = refl
+      one_of false = refl
+
+  renoted_here : (i : Item) (t : List Item) (text : List ℕ) → text_in i.deed ≡ Some text → renoted old fresh (i ∷ t) (body_of i) ≡ note_by old fresh i text
+  renoted_here i t text brought =
+      ap (λ (o : Option (List ℕ)). by_texts (body_of i) o (notice_text_of (i ∷ t) (body_of i))) (text_here i t text brought)
+      ∙ ap (λ (o : Option Note). option_or (note_of old (body_of i)) (option_or (note_of fresh.shelf.notes (body_of i)) o)) (notice_here i t text brought)
+
+  -- the note of an item's text that has one
+  noted_row : (i : Item) (text : List ℕ) → text_in i.deed ≡ Some text → IsNotedBy old fresh i → (note : Note) × (note_by old fresh i text ≡ Some note) × (noted_by old fresh i ≡ Some (body_of i, note)) × (note.length ≡ length text)
+  noted_row i text brought noted = by (note_by old fresh i text) refl
+    where
+      row_is : noted_by old fresh i ≡ option_map (λ (note : Note). (body_of i, note)) (note_by old fresh i text)
+      row_is = ap (option_and_then (λ (s : List ℕ). option_map (λ (note : Note). (body_of i, note)) (note_by old fresh i s))) brought
+
+      by : (p : Option Note) → note_by old fresh i text ≡ p → (note : Note) × (note_by old fresh i text ≡ Some note) × (noted_by old fresh i ≡ Some (body_of i, note)) × (note.length ≡ length text)
+      by None e =
+          absurd (let wrong : ◌≡◌ {A = Option ℕ} None (Some (length text)) = sym (ap (λ (p : Option Note). option_map (λ (row : Row). row.1.length) (option_map (λ (note : Note). (body_of i, note)) p)) e) ∙ sym (ap (option_map (λ (row : Row). row.1.length)) row_is) ∙ noted ∙ ap (option_map length) brought in cc)
+      by (Some note) e =
+          let is : noted_by old fresh i ≡ Some (body_of i, note) = row_is ∙ ap (option_map (λ (n : Note). (body_of i, n))) e in
+          let long : ◌≡◌ {A = Option ℕ} (Some note.length) (Some (length text)) = sym (ap (option_map (λ (row : Row). row.1.length)) is) ∙ noted ∙ ap (option_map length) brought in
+          (note, e, is, let size : note.length ≡ length text = cc in size)
+
+  own_row : (i : Item) (t : List Item) (o : Option (List ℕ)) → text_in i.deed ≡ o → IsNotedBy old fresh i → AllByRecursion (IsRight (i ∷ t)) (rows_by old fresh t)
+      → AllByRecursion (IsRight (i ∷ t)) (cons_option (noted_by old fresh i) (rows_by old fresh t))
+  own_row i t None brought noted rest =
+      subst (λ (q : Option Row). AllByRecursion (IsRight (i ∷ t)) (cons_option q (rows_by old fresh t)))
+      (sym (ap (option_and_then (λ (text : List ℕ). option_map (λ (note : Note). (body_of i, note)) (note_by old fresh i text))) brought)) rest
+  own_row i t (Some text) brought noted rest =
+      let row = noted_row i text brought noted in
+      let size : option_map length (text_of (i ∷ t) (body_of i)) ≡ Some row.0.length = ap (option_map length) (text_here i t text brought) ∙ ap Some (sym row.3) in
+      subst (λ (q : Option Row). AllByRecursion (IsRight (i ∷ t)) (cons_option q (rows_by old fresh t))) (sym row.2)
+      ((renoted_here i t text brought ∙ row.1, size), rest)
+
+  right_rows : (t : List Item) → NumbersApart t → AllByRecursion (IsNotedBy old fresh) t → AllByRecursion (IsRight t) (rows_by old fresh t)
+  right_rows [] apart noted = tt
+  right_rows (i ∷ t) apart noted =
+      own_row i t (text_in i.deed) refl noted.0 (rows_stay i t (rows_by old fresh t) (rows_elsewhere i.number t apart.0) (right_rows t apart.1 noted.1))
+
+  later : (o : Option Row) (rs : List Row) (r : Row) → Contains rs r → Contains (cons_option o rs) r
+  later None rs r there = there
+  later (Some q) rs r there = Contains-append_right (q ∷ []) rs r there
+
+  -- each body that has a text has a row
+  text_row : (t : List Item) (body : Body) (text : List ℕ) → AllByRecursion (IsNotedBy old fresh) t → text_of t body ≡ Some text → (note : Note) × Contains (rows_by old fresh t) (body, note)
+  text_row [] body text noted e = absurd (let wrong : ◌≡◌ {A = Option (List ℕ)} None (Some text) = e in cc)
+  text_row (i ∷ t) body text noted e =
+      elim (brings body i) as (λ b. brings body i ≡ b → cond b (text_in i.deed) (text_of t body) ≡ Some text → (note : Note) × Contains (cons_option (noted_by old fresh i) (rows_by old fresh t)) (body, note)) [
+        | true ↦ λ own told.
+            let is : body_of i ≡ body = same_is (body_of i) body (first_so (same_body (body_of i) body) (is_some (text_in i.deed)) own) in
+            let row = noted_row i text told noted.0 in (
+              row.0,
+              subst (λ (q : Option Row). Contains (cons_option q (rows_by old fresh t)) (body, row.0)) (sym row.2)
+                  (subst (λ (b : Body). Contains ((body_of i, row.0) ∷ rows_by old fresh t) (b, row.0)) is (Contains-get_or ((body_of i, row.0) ∷ rows_by old fresh t) 0 (body_of i, row.0) (omega arith))),
+            )
+        | false ↦ λ own told. let row = text_row t body text noted.1 told in (row.0, later (noted_by old fresh i) (rows_by old fresh t) (body, row.0) row.1)
+      ] refl (sym (through (λ (k : Item). text_in k.deed) (brings body i) i (find (brings body) t)) ∙ e)
+
+  -- in any order they tell the notes that are due
+  notes_in_any_order : (t : List Item) (rows : List Row) (notes : List Row) → NumbersApart t → AllByRecursion (IsNotedBy old fresh) t → IsPermutation (rows_by old fresh t) rows → Knows notes rows (length rows)
+      → (body : Body) → (note_of notes body ≡ renoted old fresh t body) × (option_map (λ (note : Note). note.length) (note_of notes body) ≡ option_map length (text_of t body))
+  notes_in_any_order t rows notes apart noted same knows body = by (note_of notes body) (text_of t body) refl refl
+    where
+      right : All (IsRight t) rows
+      right = All-permutation (IsRight t) (rows_by old fresh t) rows same (All-from_recursion (IsRight t) (rows_by old fresh t) (right_rows t apart noted))
+
+      by : (o : Option Note) (p : Option (List ℕ)) → note_of notes body ≡ o → text_of t body ≡ p
+          → (note_of notes body ≡ renoted old fresh t body) × (option_map (λ (note : Note). note.length) (note_of notes body) ≡ option_map length (text_of t body))
+      by (Some note) p e f =
+          let row = All-contains (IsRight t) rows (body, note) right (knows.told body note e) in
+          (e ∙ sym row.0, ap (option_map (λ (n : Note). n.length)) e ∙ sym row.1)
+      by None None e f = (e ∙ sym (ap (λ (o : Option (List ℕ)). by_texts body o (notice_text_of t body)) f), ap (option_map (λ (n : Note). n.length)) e ∙ sym (ap (option_map length) f))
+      by None (Some text) e f =
+          let there = text_row t body text noted f in
+          let row = Contains-permutation (rows_by old fresh t) rows (body, there.0) same there.1 in
+          let some : is_some (note_of notes body) ≡ true = ap (λ (r : Row). is_some (note_of notes r.0)) (sym row.2) ∙ knows.noted row.0 (body, there.0) row.1 in
+          absurd (let wrong : false ≡ true = ap is_some (sym e) ∙ some in cc)
+
+  -- a shelf that was made of them
+  pub notes_over : {W : Type 0} (r : Result Noted W) (t : List Item) (rows sorted : List Row) → NumbersApart t → AllByRecursion (IsNotedBy old fresh) t → rows ≡ rows_by old fresh t → IsPermutation rows sorted
+      → IfOk r (λ shelf. Knows shelf.notes sorted (length sorted)) → IfOk r (λ shelf. (body : Body) → note_of shelf.notes body ≡ renoted old fresh t body)
+  notes_over (Ok shelf) t rows sorted apart noted is same knows = λ body. (notes_in_any_order t sorted shelf.notes apart noted (subst (λ (rs : List Row). IsPermutation rs sorted) is same) knows body).0
+  notes_over (Err why) t rows sorted apart noted is same knows = tt
+
+  -- and the sizes of the texts
+  pub sizes_over : {W : Type 0} (r : Result Noted W) (t : List Item) (rows sorted : List Row) → NumbersApart t → AllByRecursion (IsNotedBy old fresh) t → rows ≡ rows_by old fresh t → IsPermutation rows sorted
+      → IfOk r (λ shelf. Knows shelf.notes sorted (length sorted)) → IfOk r (λ shelf. SizesOf shelf.notes t)
+  sizes_over (Ok shelf) t rows sorted apart noted is same knows = λ body. (notes_in_any_order t sorted shelf.notes apart noted (subst (λ (rs : List Row). IsPermutation rs sorted) is same) knows body).1
+  sizes_over (Err why) t rows sorted apart noted is same knows = tt
