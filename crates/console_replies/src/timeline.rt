@@ -8,6 +8,7 @@ ghost use Rattle.console_replies.specs.Timeline.{actor_name as name_of_actor, it
 use crate::text::{name_text, text_of};
 use serde_json::{Value, json};
 use std::alloc::{AllocError, Global};
+use stored_items::StoredItem;
 use undo_base::{Name, NoMemory, Text, User};
 use verb_core::{House, Item};
 
@@ -49,17 +50,24 @@ fn item_value(alloc: Global, house: &House, item: &Item) -> Result<Value, AllocE
     json!(in alloc; {"at": item.at, "box": mailbox, "by": by, "number": item.number, "verb": verb})
 }
 
-fn item_values(alloc: Global, house: &House, items: &[Item]) -> Result<Vec<Value>, AllocError>
+/// An item whose text is not in memory: none of it is told.
+fn stored_value(alloc: Global, house: &House, item: &StoredItem) -> Result<Value, AllocError>
+    ensures { IfOk result (λ v. view v ≡ item_data house.now item.now) }
+{
+    item_value(alloc, house, item.item())
+}
+
+fn item_values(alloc: Global, house: &House, items: &[StoredItem]) -> Result<Vec<Value>, AllocError>
     ensures { IfOk result (λ v. items_view v.items ≡ items_of (map (item_data house.now) items.now)) }
 {
     let mut values = Vec::new(alloc);
     for item in items {
-        values.push(item_value(alloc, house, item)?)?;
+        values.push(stored_value(alloc, house, item)?)?;
     }
     Ok(values)
 }
 
-fn timeline_value(alloc: Global, house: &House, items: &[Item]) -> Result<Value, AllocError>
+fn timeline_value(alloc: Global, house: &House, items: &[StoredItem]) -> Result<Value, AllocError>
     ensures { IfOk result (λ v. view v ≡ timeline_data house.now items.now) }
 {
     let values = item_values(alloc, house, items)?;
@@ -68,7 +76,7 @@ fn timeline_value(alloc: Global, house: &House, items: &[Item]) -> Result<Value,
 
 /// The answer to GET /timeline: items in order, of which the desk tells at most 1,000.
 #[tactic(auto, using(crate::proofs::Floats::timeline_has_none))]
-pub fn timeline_json(alloc: Global, house: &House, items: &[Item]) -> Result<Text, NoMemory>
+pub fn timeline_json(alloc: Global, house: &House, items: &[StoredItem]) -> Result<Text, NoMemory>
     ensures { IfOk result (λ text. text ≡ compact_text (timeline_data house.now items.now)) }
 {
     text_of(alloc, timeline_value(alloc, house, items)?)
