@@ -45,12 +45,15 @@ class Server:
         self.process = subprocess.Popen([program, "serve", store, str(self.smtp), str(self.imap), str(self.http)])
         while True:
             try:
-                socket.create_connection((LOOPBACK, self.smtp)).close()
+                client = socket.create_connection((LOOPBACK, self.smtp))
                 break
             except ConnectionRefusedError:
                 if self.process.poll() is not None or time.monotonic() > start + 600:
                     sys.exit("the server does not listen")
                 time.sleep(0.02)
+        # It listens before the store is open, and greets afterwards.
+        client.recv(1)
+        client.close()
         self.opening = time.monotonic() - start
 
     def __enter__(self):
