@@ -1,28 +1,36 @@
 -- Replies as turns.
-use Rattle.std.proofs.Common.{◌≡◌, ◌&&◌, ◌||◌, ℕ, ◌<◌, Bool, true, false, not, ◌==◌, List, [], ◌∷◌, ◌++◌, Option, Some, None, refl, sym, ap, ◌∙◌, subst, arith, inl, inr}
-use Rattle.std.specs.Prelude.{◌⊎◌, nat_lt, option_and_then, option_map, Result, Ok, Err, if◌then◌else◌}
+use Rattle.std.proofs.Common.{◌≡◌, ◌&&◌, ◌||◌, ℕ, ◌<◌, ◌≤◌, Bool, true, false, not, ◌==◌, List, [], ◌∷◌, ◌++◌, Option, Some, None, refl, sym, ap, ◌∙◌, subst, arith, inl, inr, true≢false}
+use Rattle.std.specs.Prelude.{◌⊎◌, IsSome, nat_lt, option_and_then, option_map, unwrap_or, Result, Ok, Err, if◌then◌else◌}
 use Rattle.std.proofs.lemmas.Bool.Decides.{nat_tests}
-use Rattle.undo_outside.specs.Disk.{DiskTold}
+use Rattle.undo_outside.specs.Disk.{DiskTold, IsHonest, ReadFailed}
+use Rattle.undo_outside.proofs.Moments.{reads_none}
 use Rattle.verb_core.specs.declared.item.Act.{Act}
+use Rattle.verb_core.specs.declared.conf.House.{House}
+use Rattle.verb_core.specs.declared.mailbox.Body.{Body}
+use Rattle.verb_core.specs.Items.{text_of}
 use Rattle.verb_core.specs.Names.{is_empty}
+use Rattle.seal_log.specs.declared.fault.ReadFault.{ReadFault}
+use Rattle.seal_log.specs.declared.fault.ReadFault.TheVariants as read_fault
 use Rattle.verb_bytes.specs.declared.journal.CycleAsk.{CycleAsk}
 use Rattle.verb_bytes.specs.declared.journal.JournalRecord.{JournalRecord}
 use Rattle.verb_bytes.specs.declared.journal.JournalRecord.TheVariants.{Operator, Cycle}
 use Rattle.paradox.specs.declared.reports.Report.{Report}
 use Rattle.paradox.specs.Kept.{performed, report_of, Kept}
 use Rattle.repair_desk.specs.Repairs.{position}
-use Rattle.mail_cycle.specs.Asking.{Due, Repeats, NoPoint, NoNumbers, Rewinds as IsDue, cycle_due, due_anew, due_at, due_by}
-use Rattle.mail_cycle.specs.Cycles.{cycled_at, leaves_numbers}
+use Rattle.mail_cycle.specs.Asking.{Due, IsRewinds, Repeats, NoPoint, NoNumbers, Rewinds as IsDue, after_cycle, cycle_due, due_anew, due_at, due_by}
+use Rattle.mail_cycle.specs.Cycles.{Cycled, cycled_at, leaves_numbers}
 use Rattle.time_desk.specs.declared.fault.ActFault.{ActFault}
 use Rattle.time_desk.specs.declared.fault.ActFault.TheVariants as fault
 use Rattle.time_desk.specs.declared.fault.CycleFault.{CycleFault}
 use Rattle.time_desk.specs.declared.fault.CycleFault.TheVariants as cycle_fault
-use Rattle.time_desk.specs.Cycling.{Cycles, CyclesBy, CyclesNone, StarvesBy, Tries, TriesNone}
-use Rattle.time_desk.specs.Lasting.{Lasting, IsUnwritten}
-use Rattle.time_desk.specs.Planning.{PlansNone, plan_at, plan_of}
+use Rattle.time_desk.specs.Cycling.{Cycles, CyclesBy, CyclesNone, FailsToCycle, FailsToRead, StarvesBy, Tries, TriesNone}
+use Rattle.time_desk.specs.Lasting.{Lasting}
+use Rattle.time_desk.specs.Planning.{Plans, PlansNone, plan_at}
+use Rattle.time_desk.specs.Reading.{HaveRead, IsStill, RoseBy, failed_once, none_read, wrong_once}
 use Rattle.verb_core.specs.Deeds.{act_item}
 use Rattle.time_desk.specs.Records.{after_record, after_records, is_formed, is_spelled}
 use Rattle.time_desk.specs.Sealing.{Seals}
+use Rattle.time_desk.specs.Stored.{HoldsTexts}
 use Rattle.time_desk.specs.Submitting.{ActsNone}
 use Rattle.console_head.specs.declared.request.HeadRefused.TheVariants.{Head as BadHead, Size as TooLarge}
 use Rattle.console_http.specs.declared.request.Asked.{Asked}
@@ -33,30 +41,17 @@ use Rattle.console_http.specs.declared.request.Route.{Route as Taken}
 use Rattle.console_http.specs.declared.request.Route.TheVariants as route
 use Rattle.console_http.specs.Requests.{Asks}
 use Rattle.console_http.specs.Routes.{Choice, route_of}
-use Rattle.console_replies.specs.Bodies.{number_data, numbers_data, point_data}
+use Rattle.console_replies.specs.declared.bodies.ErrorWord.TheVariants.{Disk}
+use Rattle.console_replies.specs.Bodies.{body_data, error_data, number_data, numbers_data, point_data}
 use Rattle.console_replies.specs.Reports.{report_data}
 use Rattle.console_session.specs.declared.reply.After.{After}
-use Rattle.console_session.specs.declared.reply.After.TheVariants.{Closes, Rewinds, Waits}
+use Rattle.console_session.specs.declared.reply.After.TheVariants.{Closes, Fails, Rewinds, Waits}
 use Rattle.console_session.specs.declared.reply.Reply.{Reply}
-use Rattle.console_session.specs.Answers.{Answer, answer, answer_text, plan_answer, planned, refused, told_plainly}
-use Rattle.console_session.specs.Turn.{Turn, chosen, cycled, done, failed, numbered, numberless, rewound, tells, tried, turn}
-use Rattle.console_session.specs.Hindrance.{Hindrance, Clear, Refused, Unheard, Unanswered, Unsealed, Untold, acted_under, cycled_under, hindered, lost, routed_under, sealed_under, starved, told_under}
-use Rattle.console_session.specs.Hearing.{Hears, AreServed, IsTurn, Serves, Starves, Tells, TellsCycleFault, TellsFault, TellsOnly, is_failure, reply}
-
--- ---- plans
-
--- a plan that is there is the answer
-pub plan_told : (kept : Kept) (point : ℕ) (text : List ℕ) → plan_of kept point ≡ Some text → plan_answer kept point ≡ told_plainly text
-plan_told kept point text e = ap (planned point) e
-
--- why there is none is the answer, but for want of memory
-pub plan_not_told : (kept : Kept) (point : ℕ) (f : CycleFault) (r : Reply) → PlansNone kept point f → TellsCycleFault f r → Tells (plan_answer kept point) Closes r
-plan_not_told kept point (cycle_fault.Point given) r none says =
-    subst (λ (a : Answer). Tells a Closes r) (ap (λ (n : ℕ). answer 422 (point_data n)) none.1 ∙ sym (ap (λ (o : Option ℕ). planned point (option_map (plan_at kept) o)) none.0)) says
-plan_not_told kept point (cycle_fault.Numbers next) r none says = absurd none
-plan_not_told kept point cycle_fault.Disk r none says = absurd none
-plan_not_told kept point cycle_fault.NoMemory r none says = inr says
-plan_not_told kept point cycle_fault.Closed r none says = absurd none
+use Rattle.console_session.specs.Answers.{Answer, answer, answer_text, body_found, plan_answer, planned, refused, told_plainly}
+use Rattle.console_session.specs.Turn.{Turn, chosen, cycled, done, failed, numbered, numberless, rewound, tells}
+use Rattle.console_session.specs.Hindrance.{Hindrance, Clear, Refused, Unheard, Unanswered, Unsealed, Untold, Unread, Misread, acted_under, cycled_under, found_under, hindered, lost, read_under, rewound_under, routed_under, sealed_under, starved, told_under, tried_under, unanswered, unread}
+use Rattle.console_session.specs.Hearing.{Hears, AreServed, IsTurn, Serves, Starves, Tells, TellsCycleFault, TellsDiskFault, TellsFault, TellsFound, TellsOnly, TellsRead, TellsReadFault, TellsUnread, is_failure, reply}
+use Rattle.console_session.proofs.Deciding.{IsSame, kept_decided, text_decided}
 
 -- ---- numbers
 
@@ -122,12 +117,35 @@ fresh_is_new kept at ask e =
     subst (λ (o : Option Report). IsNew (due_by o (due_anew kept at ask))) (sym e) (new_at kept at ask (position kept.timeline ask.point))
 
 module _ {D : Type 0} (told : D → DiskTold) where
-  -- a desk that nothing was done to sealed nothing
+  -- a desk of which the disk was only read sealed nothing
   abbrev pub Still : Type 0
-  Still = (a b : Lasting D) → IsUnwritten a b → Seals told [] [] a b
+  Still = (a b : Lasting D) → IsStill told a b → Seals told [] [] a b
 
-  unwritten : (old new : Lasting D) → new ≡ old → IsUnwritten old new
-  unwritten old new e = record { kept = ap (λ (l : Lasting D). l.kept) e; disk = ap (λ (l : Lasting D). l.disk) e; gate = ap (λ (l : Lasting D). l.gate) e; closed = ap (λ (l : Lasting D). l.closed) e }
+  -- what an honest disk tells fits together
+  abbrev pub Truth : Type 0
+  Truth = (disk : D) → (told disk).honest → IsHonest (told disk)
+
+  -- a desk that nothing was done to
+  pub as_it_was : Truth → (old new : Lasting D) → new ≡ old → IsStill told old new
+  as_it_was truth old new e =
+      subst (λ (n : Lasting D). IsStill told old n) (sym e)
+      (record { kept = refl; notes = refl; room = refl; gate = refl; closed = refl; reads = reads_none (told old.disk) (truth old.disk) })
+
+  -- ---- reads
+
+  rose_none : (a b : ℕ) → a ≤ b → RoseBy 0 a b
+  rose_none a b le = record { rises = le; by = omega (arith, le) }
+
+  reads_well : (old new : Lasting D) → (told old.disk).failed_reads ≤ (told new.disk).failed_reads → HaveRead told old new none_read
+  reads_well old new le = record { failed = rose_none _ _ le; reliable = λ e. refl; honest = λ h. refl }
+
+  reads_ill : (old new : Lasting D) → ReadFailed (told old.disk) (told new.disk) → HaveRead told old new failed_once
+  reads_ill old new f = record { failed = record { rises = f.0.0; by = f.0.1 }; reliable = λ e. absurd (true≢false (sym e ∙ f.3)); honest = λ h. refl }
+
+  reads_wrong : (old new : Lasting D) → (told old.disk).failed_reads ≤ (told new.disk).failed_reads → (HoldsTexts told old → ⊥) → HaveRead told old new wrong_once
+  reads_wrong old new le not = record { failed = rose_none _ _ le; reliable = λ e. refl; honest = λ h. absurd (not h) }
+
+  -- ---- turns
 
   abbrev Under : (Hindrance → Turn) → Lasting D → Lasting D → Reply → Type 0
   Under turn old new r = (h : Hindrance) × IsTurn told (turn h) old new r
@@ -135,70 +153,110 @@ module _ {D : Type 0} (told : D → DiskTold) where
   abbrev turn_at : (t s : Turn) (old new : Lasting D) (r : Reply) → t ≡ s → IsTurn told s old new r → IsTurn told t old new r
   turn_at t s old new r e turn = subst (λ (u : Turn). IsTurn told u old new r) (sym e) turn
 
-  same_turn : Still → (said : List ℕ) (after : After) (old new : Lasting D) (r : Reply) → new ≡ old → r ≡ reply said after
-      → IsTurn told (record { said = said; kept = old.kept; after = after; sealed = []; unsealed = [] }) old new r
-  same_turn still said after old new r same e = record { reply_is = e; kept = ap (λ (l : Lasting D). l.kept) same; seals = still old new (unwritten old new same) }
+  same_turn : Still → (said : List ℕ) (after : After) (old new : Lasting D) (r : Reply) → IsStill told old new → r ≡ reply said after
+      → IsTurn told (record { said = said; kept = old.kept; after = after; sealed = []; unsealed = []; reads = none_read }) old new r
+  same_turn still said after old new r same e = record { reply_is = e; kept = same.kept; seals = still old new same; read = reads_well old new same.reads.reads }
 
   -- an answer that changes nothing
-  pub told_turn : Still → (a : Answer) (after : After) (old new : Lasting D) (r : Reply) → new ≡ old → Tells a after r
+  pub told_turn : Still → (a : Answer) (after : After) (old new : Lasting D) (r : Reply) → IsStill told old new → Tells a after r
       → Under (λ h. told_under h old.kept (tells a after old.kept)) old new r
   told_turn still a after old new r same (inl e) = (Clear, same_turn still (answer_text a) after old new r same e)
   told_turn still a after old new r same (inr (inl e)) = (Refused, same_turn still (answer_text (refused NoMemory)) Closes old new r same e)
   told_turn still a after old new r same (inr (inr e)) = (Unheard, same_turn still [] Closes old new r same e)
 
+  -- an answer that is made of texts: the one that is due, or another over texts that are not those that were stored
+  answer_turn : Still → (due a : Answer) (old new : Lasting D) (r : Reply) → IsStill told old new → (HoldsTexts told old → a ≡ due) → r ≡ reply (answer_text a) Closes
+      → IsSame (answer_text a) (answer_text due) → Under (λ h. read_under h old.kept (tells due Closes old.kept)) old new r
+  answer_turn still due a old new r same holds e (inl is) = (Clear, same_turn still (answer_text due) Closes old new r same (e ∙ ap (λ (t : List ℕ). reply t Closes) is))
+  answer_turn still due a old new r same holds e (inr other) = (
+    Misread (answer_text a) old.kept,
+    record { reply_is = e; kept = same.kept; seals = still old new same; read = reads_wrong old new same.reads.reads (λ h. other (ap answer_text (holds h))) },
+  )
+
+  unread_turn : Still → (old new : Lasting D) (r : Reply) → IsStill told old new → ReadFailed (told old.disk) (told new.disk) → r ≡ reply (unread old.kept).said Closes
+      → IsTurn told (unread old.kept) old new r
+  unread_turn still old new r same failed e = record { reply_is = e; kept = same.kept; seals = still old new same; read = reads_ill old new failed }
+
+  -- an answer that is made of texts, or a text that could not be read
+  pub read_turn : Still → (due : Answer) (old new : Lasting D) (r : Reply) → IsStill told old new → TellsRead told due old new r
+      → Under (λ h. read_under h old.kept (tells due Closes old.kept)) old new r
+  read_turn still due old new r same (inl (a, holds, inl e)) = answer_turn still due a old new r same holds e (text_decided (answer_text a) (answer_text due))
+  read_turn still due old new r same (inl (a, holds, inr (inl e))) = (Refused, same_turn still (answer_text (refused NoMemory)) Closes old new r same e)
+  read_turn still due old new r same (inl (a, holds, inr (inr e))) = (Unheard, same_turn still [] Closes old new r same e)
+  read_turn still due old new r same (inr (failed, inl e)) = (Unread, unread_turn still old new r same failed e)
+  read_turn still due old new r same (inr (failed, inr (inl e))) = (Refused, same_turn still (answer_text (refused NoMemory)) Closes old new r same e)
+  read_turn still due old new r same (inr (failed, inr (inr e))) = (Unheard, same_turn still [] Closes old new r same e)
+
+  -- texts are read where there is what they are read for
+  pub found_turn : Still → {A : Type 0} → (o : Option A) (due : Answer) (old new : Lasting D) (r : Reply) → IsStill told old new → TellsFound told o due old new r
+      → Under (λ h. found_under h old.kept o (tells due Closes old.kept)) old new r
+  found_turn still None due old new r same says = told_turn still due Closes old new r same says
+  found_turn still (Some x) due old new r same says = read_turn still due old new r same says
+
   under_as : (f g : Hindrance → Turn) (old new : Lasting D) (r : Reply) → ((h : Hindrance) → f h ≡ g h) → Under g old new r → Under f old new r
   under_as f g old new r same u = (u.0, turn_at _ _ old new r (same u.0) u.1)
 
   -- what is asked for and is told over the desk as it is
-  pub serves_told : Still → (at : ℕ) (asked : Result Asked HttpRefused) (a : Answer) (after : After) (old new : Lasting D) (r : Reply) → new ≡ old
+  pub serves_told : Still → (at : ℕ) (asked : Result Asked HttpRefused) (a : Answer) (after : After) (old new : Lasting D) (r : Reply) → IsStill told old new
       → ((h : Hindrance) → hindered h at old.kept asked ≡ told_under h old.kept (tells a after old.kept)) → Tells a after r → Serves told at asked old new r
   serves_told still at asked a after old new r unchanged same says =
       let u = told_turn still a after old new r unchanged says in
       record { hindrance = u.0; turn_is = turn_at _ _ old new r (same u.0) u.1; still = λ e. unchanged }
 
   -- the same of a route
-  pub serves_still : Still → (at : ℕ) (t s : Taken) (a : Answer) (after : After) (old new : Lasting D) (r : Reply) → t ≡ s → new ≡ old
-      → ((h : Hindrance) → routed_under h at old.kept s ≡ told_under h old.kept (tells a after old.kept)) → Tells a after r → Serves told at (Ok (Whole t)) old new r
-  serves_still still at t s a after old new r e unchanged same says =
-      subst (λ (v : Taken). Serves told at (Ok (Whole v)) old new r) (sym e) (serves_told still at (Ok (Whole s)) a after old new r unchanged same says)
-
-  pub serves_route : Still → (at : ℕ) (t s : Taken) (a : Answer) (after : After) (old : Lasting D) (r : Reply) → t ≡ s
+  pub serves_route : Still → Truth → (at : ℕ) (t s : Taken) (a : Answer) (after : After) (old : Lasting D) (r : Reply) → t ≡ s
       → ((h : Hindrance) → routed_under h at old.kept s ≡ told_under h old.kept (tells a after old.kept)) → Tells a after r → Serves told at (Ok (Whole t)) old old r
-  serves_route still at t s a after old r e same says = serves_still still at t s a after old old r e refl same says
+  serves_route still truth at t s a after old r e same says =
+      subst (λ (v : Taken). Serves told at (Ok (Whole v)) old old r) (sym e) (serves_told still at (Ok (Whole s)) a after old old r (as_it_was truth old old refl) same says)
 
-  pub serves_refusal : Still → (at : ℕ) (asked : Result Asked HttpRefused) (why : HttpRefused) (old : Lasting D) (r : Reply) → asked ≡ Err why
+  -- the same of a route that reads texts
+  pub serves_found : Still → {A : Type 0} → (at : ℕ) (t s : Taken) (o : Option A) (due : Answer) (old new : Lasting D) (r : Reply) → t ≡ s → IsStill told old new
+      → ((h : Hindrance) → routed_under h at old.kept s ≡ found_under h old.kept o (tells due Closes old.kept)) → TellsFound told o due old new r
+      → Serves told at (Ok (Whole t)) old new r
+  serves_found still at t s o due old new r e unchanged same says =
+      let u = found_turn still o due old new r unchanged says in
+      subst (λ (v : Taken). Serves told at (Ok (Whole v)) old new r) (sym e)
+      (record { hindrance = u.0; turn_is = turn_at _ _ old new r (same u.0) u.1; still = λ e. unchanged })
+
+  pub serves_refusal : Still → Truth → (at : ℕ) (asked : Result Asked HttpRefused) (why : HttpRefused) (old : Lasting D) (r : Reply) → asked ≡ Err why
       → Tells (refused why) Closes r → Serves told at asked old old r
-  serves_refusal still at asked why old r e says =
-      subst (λ (v : Result Asked HttpRefused). Serves told at v old old r) (sym e) (serves_told still at (Err why) (refused why) Closes old old r refl (λ h. refl) says)
+  serves_refusal still truth at asked why old r e says =
+      subst (λ (v : Result Asked HttpRefused). Serves told at v old old r) (sym e)
+      (serves_told still at (Err why) (refused why) Closes old old r (as_it_was truth old old refl) (λ h. refl) says)
 
   -- bytes that are not yet a request
-  pub serves_waiting : Still → (at : ℕ) (asked : Result Asked HttpRefused) (yet : Asked) (old : Lasting D) (r : Reply) → asked ≡ Ok yet → yet ≡ NotYet → r ≡ reply [] Waits → Serves told at asked old old r
-  serves_waiting still at asked yet old r e f says =
+  pub serves_waiting : Still → Truth → (at : ℕ) (asked : Result Asked HttpRefused) (yet : Asked) (old : Lasting D) (r : Reply) → asked ≡ Ok yet → yet ≡ NotYet → r ≡ reply [] Waits
+      → Serves told at asked old old r
+  serves_waiting still truth at asked yet old r e f says =
+      let same : IsStill told old old = as_it_was truth old old refl in
       subst (λ (v : Result Asked HttpRefused). Serves told at v old old r) (sym (e ∙ ap (λ (y : Asked). Ok y) f))
-      (record { hindrance = Clear; turn_is = same_turn still [] Waits old old r refl says; still = λ e. refl })
+      (record { hindrance = Clear; turn_is = same_turn still [] Waits old old r same says; still = λ e. same })
 
   -- ---- turns that seal a record
 
-  abbrev SaysAs : Turn → Reply → Type 0
-  SaysAs t r = (r ≡ reply t.said t.after) ⊎ (r ≡ reply [] t.after)
+  -- a record could not be sealed, and that is told or nothing is said
+  unsealed_turn : (f : Hindrance → Turn) (what : JournalRecord) (old new : Lasting D) (r : Reply) → f Unsealed ≡ failed old.kept what → f Untold ≡ unanswered (failed old.kept what)
+      → TellsOnly (answer 500 (error_data Disk)) Fails r → new.kept ≡ old.kept → Seals told [] (what ∷ []) old new → Under f old new r
+  unsealed_turn f what old new r told_is untold_is (inl e) kept seals =
+      (Unsealed, turn_at _ _ old new r told_is (record { reply_is = e; kept = kept; seals = seals; read = reads_well old new seals.on_disk.reads }))
+  unsealed_turn f what old new r told_is untold_is (inr e) kept seals =
+      (Untold, turn_at _ _ old new r untold_is (record { reply_is = e; kept = kept; seals = seals; read = reads_well old new seals.on_disk.reads }))
 
-  -- it was sealed, and that is told or nothing is said
-  sealed_turn : (t u : Turn) (old new : Lasting D) (r : Reply) → SaysAs t r → new.kept ≡ t.kept → Seals told t.sealed t.unsealed old new
-      → Under (λ h. sealed_under h old.kept t u) old new r
-  sealed_turn t u old new r (inl e) kept seals = (Clear, record { reply_is = e; kept = kept; seals = seals })
-  sealed_turn t u old new r (inr e) kept seals = (Unanswered, record { reply_is = e; kept = kept; seals = seals })
+  -- no memory was found before anything was sealed
+  starved_turn : (f : Hindrance → Turn) (old new : Lasting D) (r : Reply) → f Refused ≡ starved old.kept → f Unheard ≡ lost old.kept → new.kept ≡ old.kept → Seals told [] [] old new
+      → Starves r → Under f old new r
+  starved_turn f old new r told_is lost_is kept seals (inl e) =
+      (Refused, turn_at _ _ old new r told_is (record { reply_is = e; kept = kept; seals = seals; read = reads_well old new seals.on_disk.reads }))
+  starved_turn f old new r told_is lost_is kept seals (inr e) =
+      (Unheard, turn_at _ _ old new r lost_is (record { reply_is = e; kept = kept; seals = seals; read = reads_well old new seals.on_disk.reads }))
 
-  -- it could not be sealed
-  unsealed_turn : (t u : Turn) (old new : Lasting D) (r : Reply) → SaysAs u r → new.kept ≡ u.kept → Seals told u.sealed u.unsealed old new
-      → Under (λ h. sealed_under h old.kept t u) old new r
-  unsealed_turn t u old new r (inl e) kept seals = (Unsealed, record { reply_is = e; kept = kept; seals = seals })
-  unsealed_turn t u old new r (inr e) kept seals = (Untold, record { reply_is = e; kept = kept; seals = seals })
-
-  -- no memory was found before it
-  starved_turn : (t u : Turn) (old new : Lasting D) (r : Reply) → new.kept ≡ old.kept → Seals told [] [] old new → Starves r
-      → Under (λ h. sealed_under h old.kept t u) old new r
-  starved_turn t u old new r kept seals (inl e) = (Refused, record { reply_is = e; kept = kept; seals = seals })
-  starved_turn t u old new r kept seals (inr e) = (Unheard, record { reply_is = e; kept = kept; seals = seals })
+  -- where nothing was sealed, what was kept is kept
+  kept_stays : (old new : Lasting D) → after_records old.kept [] ≡ Some new.kept → new.kept ≡ old.kept
+  kept_stays old new e = sym (ap (λ (o : Option Kept). or_old o) e)
+    where
+      or_old : Option Kept → Kept
+      or_old None = old.kept
+      or_old (Some k) = k
 
   -- ---- acts
 
@@ -208,33 +266,38 @@ module _ {D : Type 0} (told : D → DiskTold) where
       let u = under_as _ _ old new r (λ h. act_with h at old.kept act left) under in
       record { hindrance = u.0; turn_is = u.1; still = λ e. absurd (act_seals at old.kept act left e) }
 
+  -- it was sealed, and that is told or nothing is said
+  done_turn : (at : ℕ) (act : Act) (old new : Lasting D) (r : Reply) → TellsOnly (answer 200 (number_data old.kept.next)) Closes r
+      → new.kept ≡ performed old.kept (act_item old.kept.next at act) → Seals told (Operator old.kept.next at act ∷ []) [] old new
+      → Under (λ h. sealed_under h old.kept (done at old.kept act) (failed old.kept (Operator old.kept.next at act))) old new r
+  done_turn at act old new r (inl e) kept seals = (Clear, record { reply_is = e; kept = kept; seals = seals; read = reads_well old new seals.on_disk.reads })
+  done_turn at act old new r (inr e) kept seals = (Unanswered, record { reply_is = e; kept = kept; seals = seals; read = reads_well old new seals.on_disk.reads })
+
   pub act_done : (at : ℕ) (act : Act) (old new : Lasting D) (r : Reply) → TellsOnly (answer 200 (number_data old.kept.next)) Closes r
       → new.kept ≡ performed old.kept (act_item old.kept.next at act) → Seals told (Operator old.kept.next at act ∷ []) [] old new
       → Serves told at (Ok (Whole (route.Act act))) old new r
-  act_done at act old new r says kept seals =
-      acts at act old new r (number_left old.kept new.kept at act seals.kept)
-      (sealed_turn (done at old.kept act) (failed old.kept (Operator old.kept.next at act)) old new r says kept seals)
+  act_done at act old new r says kept seals = acts at act old new r (number_left old.kept new.kept at act (seals.kept (inr refl))) (done_turn at act old new r says kept seals)
 
-  none_left : Still → (at next : ℕ) (act : Act) (old new : Lasting D) (r : Reply) → next ≡ old.kept.next → old.kept.next ≡ 4194304 → new ≡ old
+  none_left : Still → Truth → (at next : ℕ) (act : Act) (old new : Lasting D) (r : Reply) → next ≡ old.kept.next → old.kept.next ≡ 4194304 → new ≡ old
       → Tells (answer 507 (numbers_data next)) Closes r → Serves told at (Ok (Whole (route.Act act))) old new r
-  none_left still at next act old new r is_next e same says =
-      serves_told still at (Ok (Whole (route.Act act))) (answer 507 (numbers_data old.kept.next)) Closes old new r same (λ h. act_without h at old.kept act e)
+  none_left still truth at next act old new r is_next e same says =
+      serves_told still at (Ok (Whole (route.Act act))) (answer 507 (numbers_data old.kept.next)) Closes old new r (as_it_was truth old new same) (λ h. act_without h at old.kept act e)
       (subst (λ (n : ℕ). Tells (answer 507 (numbers_data n)) Closes r) is_next says)
 
-  pub act_not_done : Still → (at : ℕ) (act : Act) (old new : Lasting D) (f : ActFault) (r : Reply) → ActsNone told at act old new f → new.kept ≡ old.kept → TellsFault f r
+  pub act_not_done : Still → Truth → (at : ℕ) (act : Act) (old new : Lasting D) (f : ActFault) (r : Reply) → ActsNone told at act old new f → new.kept ≡ old.kept → TellsFault f r
       → Serves told at (Ok (Whole (route.Act act))) old new r
-  act_not_done still at act old new (fault.Numbers next) r none kept says = none_left still at next act old new r none.1 none.2 none.3 says
-  act_not_done still at act old new fault.Disk r none kept says =
-      acts at act old new r (less_is old.kept.next none.1) (unsealed_turn (done at old.kept act) (failed old.kept (Operator old.kept.next at act)) old new r says kept none.2)
-  act_not_done still at act old new fault.NoMemory r none kept says =
-      acts at act old new r (less_is old.kept.next none.1) (starved_turn (done at old.kept act) (failed old.kept (Operator old.kept.next at act)) old new r kept none.2 says)
-  act_not_done still at act old new fault.Closed r none kept says = absurd says
+  act_not_done still truth at act old new (fault.Numbers next) r none kept says = none_left still truth at next act old new r none.1 none.2 none.3 says
+  act_not_done still truth at act old new fault.Disk r none kept says =
+      acts at act old new r (less_is old.kept.next none.1) (unsealed_turn _ (Operator old.kept.next at act) old new r refl refl says kept none.2)
+  act_not_done still truth at act old new fault.NoMemory r none kept says =
+      acts at act old new r (less_is old.kept.next none.1) (starved_turn _ old new r refl refl kept none.2 says)
+  act_not_done still truth at act old new fault.Closed r none kept says = absurd says
 
   -- ---- cycles
 
   -- a request for a cycle was served, by what was due to it
   abbrev ServesDue : ℕ → CycleAsk → Due → Lasting D → Lasting D → Reply → Type 0
-  ServesDue at ask due old new r = Under (λ h. cycled_under h at old.kept ask due) old new r × ((cycled at old.kept ask due).sealed ≡ [] → new ≡ old)
+  ServesDue at ask due old new r = Under (λ h. cycled_under h at old.kept ask due) old new r × ((cycled at old.kept ask due).sealed ≡ [] → IsStill told old new)
 
   serves_due : (at : ℕ) (ask : CycleAsk) (old new : Lasting D) (r : Reply) (due : Due) → cycle_due old.kept at ask ≡ due → ServesDue at ask due old new r
       → Serves told at (Ok (Whole (route.Cycle ask))) old new r
@@ -242,23 +305,53 @@ module _ {D : Type 0} (told : D → DiskTold) where
       let t : ServesDue at ask (cycle_due old.kept at ask) old new r = subst (λ (d : Due). ServesDue at ask d old new r) (sym e) s in
       record { hindrance = t.0.0; turn_is = t.0.1; still = t.1 }
 
-  due_told : Still → (at : ℕ) (ask : CycleAsk) (due : Due) (a : Answer) (old new : Lasting D) (r : Reply) → new ≡ old
+  due_told : Still → (at : ℕ) (ask : CycleAsk) (due : Due) (a : Answer) (old new : Lasting D) (r : Reply) → IsStill told old new
       → ((h : Hindrance) → cycled_under h at old.kept ask due ≡ told_under h old.kept (tells a Closes old.kept)) → Tells a Closes r → ServesDue at ask due old new r
   due_told still at ask due a old new r same as_told says = (under_as _ _ old new r as_told (told_turn still a Closes old new r same says), λ e. same)
 
-  kept_stays : (old new : Lasting D) → after_records old.kept [] ≡ Some new.kept → new.kept ≡ old.kept
-  kept_stays old new e = sym (ap (λ (o : Option Kept). or_old o) e)
-    where
-      or_old : Option Kept → Kept
-      or_old None = old.kept
-      or_old (Some k) = k
+  -- a cycle that is due is to be sealed
+  due_sealed : (at : ℕ) (ask : CycleAsk) (due : Cycled) (old new : Lasting D) (r : Reply)
+      → Under (λ h. rewound_under h old.kept (rewound at old.kept ask due) (failed old.kept (Cycle old.kept.next at ask))) old new r → ServesDue at ask (IsDue due) old new r
+  due_sealed at ask due old new r under = (under, λ e. absurd (record_is_not (Cycle old.kept.next at ask) [] e))
 
   -- a key that a cycle had
-  pub cycle_known : Still → (at : ℕ) (ask : CycleAsk) (report : Report) (old : Lasting D) (r : Reply) → report_of old.kept.reports ask.key ≡ Some report
+  pub cycle_known : Still → Truth → (at : ℕ) (ask : CycleAsk) (report : Report) (old : Lasting D) (r : Reply) → report_of old.kept.reports ask.key ≡ Some report
       → Tells (answer 200 (report_data old.kept.house report)) Closes r → Serves told at (Ok (Whole (route.Cycle ask))) old old r
-  cycle_known still at ask report old r e says =
+  cycle_known still truth at ask report old r e says =
       serves_due at ask old old r (Repeats report) (ap (λ (o : Option Report). due_by o (due_anew old.kept at ask)) e)
-      (due_told still at ask (Repeats report) (answer 200 (report_data old.kept.house report)) old old r refl (λ h. refl) says)
+      (due_told still at ask (Repeats report) (answer 200 (report_data old.kept.house report)) old old r (as_it_was truth old old refl) (λ h. refl) says)
+
+  -- where the texts were read as they were stored, this is told and kept of a cycle
+  abbrev IsMade : CycleAsk → Cycled → Report → Lasting D → Lasting D → Type 0
+  IsMade ask due report old new = HoldsTexts told old → (report ≡ due.report) × (new.kept ≡ after_cycle old.kept ask due)
+
+  abbrev report_text : Lasting D → Report → List ℕ
+  report_text old report = answer_text (answer 200 (report_data old.kept.house report))
+
+  -- a cycle was sealed, over texts that are not those that were stored
+  misread_turn : (at : ℕ) (ask : CycleAsk) (due : Cycled) (said : List ℕ) (old new : Lasting D) (r : Reply) → Seals told (Cycle old.kept.next at ask ∷ []) [] old new
+      → r ≡ reply said Rewinds → (HoldsTexts told old → ⊥) → Under (λ h. rewound_under h old.kept (rewound at old.kept ask due) (failed old.kept (Cycle old.kept.next at ask))) old new r
+  misread_turn at ask due said old new r seals e not =
+      (Misread said new.kept, record { reply_is = e; kept = refl; seals = seals; read = reads_wrong old new seals.on_disk.reads not })
+
+  -- a cycle was sealed, and what is kept is what it leaves: its report is told, or nothing is said
+  made_turn : (at : ℕ) (ask : CycleAsk) (due : Cycled) (report : Report) (old new : Lasting D) (r : Reply) → IsMade ask due report old new
+      → Seals told (Cycle old.kept.next at ask ∷ []) [] old new → new.kept ≡ after_cycle old.kept ask due → TellsOnly (answer 200 (report_data old.kept.house report)) Rewinds r
+      → IsSame (report_text old report) (report_text old due.report)
+      → Under (λ h. rewound_under h old.kept (rewound at old.kept ask due) (failed old.kept (Cycle old.kept.next at ask))) old new r
+  made_turn at ask due report old new r made seals kept (inl e) (inl same) =
+      (Clear, record { reply_is = e ∙ ap (λ (t : List ℕ). reply t Rewinds) same; kept = kept; seals = seals; read = reads_well old new seals.on_disk.reads })
+  made_turn at ask due report old new r made seals kept (inl e) (inr other) = misread_turn at ask due (report_text old report) old new r seals e (λ h. other (ap (report_text old) (made h).0))
+  made_turn at ask due report old new r made seals kept (inr e) same = (Unanswered, record { reply_is = e; kept = kept; seals = seals; read = reads_well old new seals.on_disk.reads })
+
+  -- a cycle was sealed
+  rewound_turn : (at : ℕ) (ask : CycleAsk) (due : Cycled) (report : Report) (old new : Lasting D) (r : Reply) → IsMade ask due report old new
+      → Seals told (Cycle old.kept.next at ask ∷ []) [] old new → TellsOnly (answer 200 (report_data old.kept.house report)) Rewinds r → IsSame new.kept (after_cycle old.kept ask due)
+      → Under (λ h. rewound_under h old.kept (rewound at old.kept ask due) (failed old.kept (Cycle old.kept.next at ask))) old new r
+  rewound_turn at ask due report old new r made seals says (inl kept) =
+      made_turn at ask due report old new r made seals kept says (text_decided (report_text old report) (report_text old due.report))
+  rewound_turn at ask due report old new r made seals (inl e) (inr other) = misread_turn at ask due (report_text old report) old new r seals e (λ h. other (made h).1)
+  rewound_turn at ask due report old new r made seals (inr e) (inr other) = misread_turn at ask due [] old new r seals e (λ h. other (made h).1)
 
   cycle_rewinds : (at : ℕ) (ask : CycleAsk) (due : Due) (report : Report) (old new : Lasting D) (r : Reply) → IsNew due → CyclesBy told at ask old new report due
       → TellsOnly (answer 200 (report_data new.kept.house report)) Rewinds r → ServesDue at ask due old new r
@@ -266,11 +359,8 @@ module _ {D : Type 0} (told : D → DiskTold) where
   cycle_rewinds at ask NoPoint report old new r is_new by says = absurd by
   cycle_rewinds at ask NoNumbers report old new r is_new by says = absurd by
   cycle_rewinds at ask (IsDue due) report old new r is_new by says =
-      let of_old = subst (λ (k : Kept). TellsOnly (answer 200 (report_data k.house report)) Rewinds r) by.2 says in
-      let of_due = subst (λ (p : Report). TellsOnly (answer 200 (report_data old.kept.house p)) Rewinds r) by.1 of_old in (
-        sealed_turn (rewound at old.kept ask due) (failed old.kept (Cycle old.kept.next at ask)) old new r of_due by.2 by.3,
-        λ e. absurd (record_is_not (Cycle old.kept.next at ask) [] e),
-      )
+      let of_old = subst (λ (h : House). TellsOnly (answer 200 (report_data h report)) Rewinds r) by.2.house says in
+      due_sealed at ask due old new r (rewound_turn at ask due report old new r by.1 by.2 of_old (kept_decided new.kept (after_cycle old.kept ask due)))
 
   -- a cycle under a new key is done
   pub cycle_done : (at : ℕ) (ask : CycleAsk) (report : Report) (old new : Lasting D) (r : Reply) → report_of old.kept.reports ask.key ≡ None
@@ -278,62 +368,136 @@ module _ {D : Type 0} (told : D → DiskTold) where
   cycle_done at ask report old new r fresh by says =
       serves_due at ask old new r (cycle_due old.kept at ask) refl (cycle_rewinds at ask (cycle_due old.kept at ask) report old new r (fresh_is_new old.kept at ask fresh) by says)
 
-  starved_due : Still → (at : ℕ) (ask : CycleAsk) (due : Due) (old new : Lasting D) (r : Reply) → StarvesBy told old new due → Starves r → ServesDue at ask due old new r
-  starved_due still at ask (Repeats report) old new r by says =
-      due_told still at ask (Repeats report) (answer 200 (report_data old.kept.house report)) old new r by (λ h. refl) (inr says)
-  starved_due still at ask NoPoint old new r by says = absurd by
-  starved_due still at ask NoNumbers old new r by says = absurd by
-  starved_due still at ask (IsDue due) old new r by says = (
-    starved_turn (rewound at old.kept ask due) (failed old.kept (Cycle old.kept.next at ask)) old new r (kept_stays old new by.1.kept) by.1 says,
-    λ e. absurd (record_is_not (Cycle old.kept.next at ask) [] e),
-  )
+  starved_due : Still → Truth → (at : ℕ) (ask : CycleAsk) (due : Due) (old new : Lasting D) (r : Reply) → StarvesBy told old new due → Starves r → ServesDue at ask due old new r
+  starved_due still truth at ask (Repeats report) old new r by says =
+      due_told still at ask (Repeats report) (answer 200 (report_data old.kept.house report)) old new r (as_it_was truth old new by) (λ h. refl) (inr says)
+  starved_due still truth at ask NoPoint old new r by says = absurd by
+  starved_due still truth at ask NoNumbers old new r by says = absurd by
+  starved_due still truth at ask (IsDue due) old new r by says =
+      due_sealed at ask due old new r (starved_turn _ old new r refl refl (kept_stays old new (by.1.kept (inr refl))) by.1 says)
+
+  -- a cycle that is due
+  rewinds_is : (due : Due) → IsRewinds due → (c : Cycled) × (due ≡ IsDue c)
+  rewinds_is (Repeats report) is = absurd is
+  rewinds_is NoPoint is = absurd is
+  rewinds_is NoNumbers is = absurd is
+  rewinds_is (IsDue due) is = (due, refl)
+
+  -- a text could not be read
+  unread_due : Still → (at : ℕ) (ask : CycleAsk) (due : Cycled) (old new : Lasting D) (r : Reply) → IsStill told old new → ReadFailed (told old.disk) (told new.disk) → TellsUnread r
+      → ServesDue at ask (IsDue due) old new r
+  unread_due still at ask due old new r same failed (inl e) = due_sealed at ask due old new r (Unread, unread_turn still old new r same failed e)
+  unread_due still at ask due old new r same failed (inr starves) = due_sealed at ask due old new r (starved_turn _ old new r refl refl same.kept (still old new same) starves)
+
+  -- the disk failed: the record of a cycle that is due could not be sealed, or a text could not be read for it
+  failed_due : Still → (at : ℕ) (ask : CycleAsk) (old new : Lasting D) (r : Reply) → old.closed ≡ false → FailsToCycle told at ask old new ⊎ FailsToRead told at ask old new
+      → TellsDiskFault new.closed r → Serves told at (Ok (Whole (route.Cycle ask))) old new r
+  failed_due still at ask old new r open_is (inl fails) says =
+      let closed_is : new.closed ≡ true = fails.2.closed ∙ ap (λ (b : Bool). b || true) open_is in
+      serves_due at ask old new r (IsDue fails.0) fails.1
+      (due_sealed at ask fails.0 old new r
+      (unsealed_turn _ (Cycle old.kept.next at ask) old new r refl refl (subst (λ (b : Bool). TellsDiskFault b r) closed_is says) (kept_stays old new (fails.2.kept (inr refl))) fails.2))
+  failed_due still at ask old new r open_is (inr fails) says =
+      let due = rewinds_is (cycle_due old.kept at ask) fails.0 in
+      serves_due at ask old new r (IsDue due.0) due.1
+      (unread_due still at ask due.0 old new r fails.1 fails.2 (subst (λ (b : Bool). TellsDiskFault b r) (fails.1.closed ∙ open_is) says))
 
   -- a cycle is not done
-  pub cycle_not_done : Still → (at : ℕ) (ask : CycleAsk) (old new : Lasting D) (f : CycleFault) (r : Reply) → CyclesNone told at ask old new f → TellsCycleFault f r
+  pub cycle_not_done : Still → Truth → (at : ℕ) (ask : CycleAsk) (old new : Lasting D) (f : CycleFault) (r : Reply) → CyclesNone told at ask old new f → TellsCycleFault new.closed f r
       → Serves told at (Ok (Whole (route.Cycle ask))) old new r
-  cycle_not_done still at ask old new (cycle_fault.Point given) r none says =
+  cycle_not_done still truth at ask old new (cycle_fault.Point given) r none says =
       serves_due at ask old new r NoPoint none.1
-      (due_told still at ask NoPoint (answer 422 (point_data ask.point)) old new r none.3 (λ h. refl) (subst (λ (n : ℕ). Tells (answer 422 (point_data n)) Closes r) none.2 says))
-  cycle_not_done still at ask old new (cycle_fault.Numbers next) r none says =
+      (due_told still at ask NoPoint (answer 422 (point_data ask.point)) old new r (as_it_was truth old new none.3) (λ h. refl)
+      (subst (λ (n : ℕ). Tells (answer 422 (point_data n)) Closes r) none.2 says))
+  cycle_not_done still truth at ask old new (cycle_fault.Numbers next) r none says =
       serves_due at ask old new r NoNumbers none.1
-      (due_told still at ask NoNumbers (answer 507 (numbers_data old.kept.next)) old new r none.3 (λ h. refl) (subst (λ (n : ℕ). Tells (answer 507 (numbers_data n)) Closes r) none.2 says))
-  cycle_not_done still at ask old new cycle_fault.Disk r none says =
-      let due = none.1.0 in
-      serves_due at ask old new r (IsDue due) none.1.1 (
-        unsealed_turn (rewound at old.kept ask due) (failed old.kept (Cycle old.kept.next at ask)) old new r says (kept_stays old new none.1.2.kept) none.1.2,
-        λ e. absurd (record_is_not (Cycle old.kept.next at ask) [] e),
-      )
-  cycle_not_done still at ask old new cycle_fault.NoMemory r none says =
-      serves_due at ask old new r (cycle_due old.kept at ask) refl (starved_due still at ask (cycle_due old.kept at ask) old new r none says)
-  cycle_not_done still at ask old new cycle_fault.Closed r none says = absurd says
+      (due_told still at ask NoNumbers (answer 507 (numbers_data old.kept.next)) old new r (as_it_was truth old new none.3) (λ h. refl)
+      (subst (λ (n : ℕ). Tells (answer 507 (numbers_data n)) Closes r) none.2 says))
+  cycle_not_done still truth at ask old new cycle_fault.Disk r none says = failed_due still at ask old new r none.0 none.1 says
+  cycle_not_done still truth at ask old new cycle_fault.NoMemory r none says =
+      serves_due at ask old new r (cycle_due old.kept at ask) refl (starved_due still truth at ask (cycle_due old.kept at ask) old new r none says)
+  cycle_not_done still truth at ask old new cycle_fault.Closed r none says = absurd says
 
   -- ---- trials
 
   -- what is tried, by what is due to it
-  abbrev tried_by : Still → (at : ℕ) (ask : CycleAsk) (due : Due) (a : Answer) (old new : Lasting D) (r : Reply) → new ≡ old → due_anew old.kept at ask ≡ due
-      → tried old.kept ask due ≡ tells a Closes old.kept → Tells a Closes r → Serves told at (Ok (Whole (route.Try ask))) old new r
-  tried_by still at ask due a old new r same e as_told says =
-      serves_told still at (Ok (Whole (route.Try ask))) a Closes old new r same (λ h. ap (λ (d : Due). told_under h old.kept (tried old.kept ask d)) e ∙ ap (λ (t : Turn). told_under h old.kept t) as_told) says
+  tried_told : Still → (at : ℕ) (ask : CycleAsk) (due : Due) (a : Answer) (old new : Lasting D) (r : Reply) → IsStill told old new → due_anew old.kept at ask ≡ due
+      → ((h : Hindrance) → tried_under h old.kept ask due ≡ told_under h old.kept (tells a Closes old.kept)) → Tells a Closes r → Serves told at (Ok (Whole (route.Try ask))) old new r
+  tried_told still at ask due a old new r same e as_told says =
+      serves_told still at (Ok (Whole (route.Try ask))) a Closes old new r same (λ h. ap (λ (d : Due). tried_under h old.kept ask d) e ∙ as_told h) says
 
-  pub try_told : Still → (at : ℕ) (ask : CycleAsk) (report : Report) (old new : Lasting D) (r : Reply) → new ≡ old → Tries old.kept at ask report
+  -- the same of a cycle that is due, whose texts are read
+  tried_read : Still → (at : ℕ) (ask : CycleAsk) (due : Cycled) (old new : Lasting D) (r : Reply) → IsStill told old new → due_anew old.kept at ask ≡ IsDue due
+      → TellsRead told (answer 200 (report_data old.kept.house due.report)) old new r → Serves told at (Ok (Whole (route.Try ask))) old new r
+  tried_read still at ask due old new r same e says =
+      let u = read_turn still (answer 200 (report_data old.kept.house due.report)) old new r same says in
+      record { hindrance = u.0; turn_is = turn_at _ _ old new r (ap (λ (d : Due). tried_under u.0 old.kept ask d) e) u.1; still = λ x. same }
+
+  pub try_told : Still → (at : ℕ) (ask : CycleAsk) (report : Report) (old new : Lasting D) (r : Reply) → IsStill told old new → Tries old.kept at ask (HoldsTexts told old) report
       → Tells (answer 200 (report_data new.kept.house report)) Closes r → Serves told at (Ok (Whole (route.Try ask))) old new r
   try_told still at ask report old new r same tries says =
-      let due = tries.0 in
-      let of_old = subst (λ (l : Lasting D). Tells (answer 200 (report_data l.kept.house report)) Closes r) same says in
-      let of_due = subst (λ (p : Report). Tells (answer 200 (report_data old.kept.house p)) Closes r) tries.2 of_old in
-      tried_by still at ask (IsDue due) (answer 200 (report_data old.kept.house due.report)) old new r same tries.1 refl of_due
+      let of_old = subst (λ (k : Kept). Tells (answer 200 (report_data k.house report)) Closes r) same.kept says in
+      tried_read still at ask tries.0 old new r same tries.1
+      (inl (answer 200 (report_data old.kept.house report), λ h. ap (λ (p : Report). answer 200 (report_data old.kept.house p)) (tries.2 h), of_old))
 
-  pub try_not_told : Still → (at : ℕ) (ask : CycleAsk) (old new : Lasting D) (f : CycleFault) (r : Reply) → new ≡ old → TriesNone old.kept at ask f → TellsCycleFault f r
-      → Serves told at (Ok (Whole (route.Try ask))) old new r
+  pub try_not_told : Still → (at : ℕ) (ask : CycleAsk) (old new : Lasting D) (f : CycleFault) (r : Reply) → IsStill told old new
+      → TriesNone old.kept at ask (told old.disk) (told new.disk) f → TellsCycleFault false f r → Serves told at (Ok (Whole (route.Try ask))) old new r
   try_not_told still at ask old new (cycle_fault.Point given) r same none says =
-      tried_by still at ask NoPoint (answer 422 (point_data ask.point)) old new r same none.0 refl (subst (λ (n : ℕ). Tells (answer 422 (point_data n)) Closes r) none.1 says)
+      tried_told still at ask NoPoint (answer 422 (point_data ask.point)) old new r same none.0 (λ h. refl) (subst (λ (n : ℕ). Tells (answer 422 (point_data n)) Closes r) none.1 says)
   try_not_told still at ask old new (cycle_fault.Numbers next) r same none says =
-      tried_by still at ask NoNumbers (answer 507 (numbers_data old.kept.next)) old new r same none.0 refl (subst (λ (n : ℕ). Tells (answer 507 (numbers_data n)) Closes r) none.1 says)
-  try_not_told still at ask old new cycle_fault.Disk r same none says = absurd none
-  try_not_told still at ask old new cycle_fault.NoMemory r same none (inl e) =
-      record { hindrance = Refused; turn_is = same_turn still (answer_text (refused NoMemory)) Closes old new r same e; still = λ x. same }
-  try_not_told still at ask old new cycle_fault.NoMemory r same none (inr e) = record { hindrance = Unheard; turn_is = same_turn still [] Closes old new r same e; still = λ x. same }
+      tried_told still at ask NoNumbers (answer 507 (numbers_data old.kept.next)) old new r same none.0 (λ h. refl)
+      (subst (λ (n : ℕ). Tells (answer 507 (numbers_data n)) Closes r) none.1 says)
+  try_not_told still at ask old new cycle_fault.Disk r same none says =
+      let due = rewinds_is (due_anew old.kept at ask) none.0 in
+      tried_read still at ask due.0 old new r same due.1 (inr (none.1, says))
+  try_not_told still at ask old new cycle_fault.NoMemory r same none says =
+      let due = rewinds_is (due_anew old.kept at ask) none in
+      tried_read still at ask due.0 old new r same due.1 (inl (answer 200 (report_data old.kept.house due.0.report), λ h. refl, inr says))
   try_not_told still at ask old new cycle_fault.Closed r same none says = absurd none
+
+  -- ---- plans
+
+  abbrev PlanFound : Kept → ℕ → Lasting D → Lasting D → Reply → Option ℕ → Type 0
+  PlanFound kept point old new r place = TellsFound told place (planned point (option_map (plan_at kept) place)) old new r
+
+  -- a plan that is made is told
+  pub plan_told : (point : ℕ) (text : List ℕ) (old new : Lasting D) (r : Reply) → Plans old.kept point (HoldsTexts told old) text → Tells (told_plainly text) Closes r
+      → TellsFound told (position old.kept.timeline point) (plan_answer old.kept point) old new r
+  plan_told point text old new r plans says =
+      subst (λ (o : Option ℕ). PlanFound old.kept point old new r o) (sym plans.1) (inl (told_plainly text, λ h. ap told_plainly (plans.2 h), says))
+
+  there_is : {A : Type 0} → (o : Option A) → IsSome o → (x : A) × (o ≡ Some x)
+  there_is None is = absurd (true≢false (sym is))
+  there_is (Some x) is = (x, refl)
+
+  -- why none is made is told
+  pub plan_not_told : (point : ℕ) (f : CycleFault) (old new : Lasting D) (r : Reply) → PlansNone old.kept point (told old.disk) (told new.disk) f → TellsCycleFault false f r
+      → TellsFound told (position old.kept.timeline point) (plan_answer old.kept point) old new r
+  plan_not_told point (cycle_fault.Point given) old new r none says =
+      subst (λ (o : Option ℕ). PlanFound old.kept point old new r o) (sym none.0) (subst (λ (n : ℕ). Tells (answer 422 (point_data n)) Closes r) none.1 says)
+  plan_not_told point (cycle_fault.Numbers next) old new r none says = absurd none
+  plan_not_told point cycle_fault.Disk old new r none says =
+      let there = there_is (position old.kept.timeline point) none.0 in
+      subst (λ (o : Option ℕ). PlanFound old.kept point old new r o) (sym there.1) (inr (none.1, says))
+  plan_not_told point cycle_fault.NoMemory old new r none says =
+      let there = there_is (position old.kept.timeline point) none in
+      subst (λ (o : Option ℕ). PlanFound old.kept point old new r o) (sym there.1) (inl (told_plainly (plan_at old.kept there.0), λ h. refl, inr says))
+  plan_not_told point cycle_fault.Closed old new r none says = absurd none
+
+  -- ---- texts
+
+  -- a text that was read is told
+  pub text_told : (body : Body) (read : Option (List ℕ)) (old new : Lasting D) (r : Reply) → (HoldsTexts told old → read ≡ text_of old.kept.timeline body)
+      → Tells (answer 200 (body_data (unwrap_or read []) body.rev)) Closes r → (text : List ℕ) → text_of old.kept.timeline body ≡ Some text
+      → TellsRead told (answer 200 (body_data text body.rev)) old new r
+  text_told body read old new r holds says text is =
+      inl (answer 200 (body_data (unwrap_or read []) body.rev), λ h. ap (λ (o : Option (List ℕ)). answer 200 (body_data (unwrap_or o []) body.rev)) (holds h ∙ is), says)
+
+  -- why it was not read is told
+  pub text_not_told : (f : ReadFault) (due : Answer) (old new : Lasting D) (r : Reply) → (f ≡ read_fault.Disk → ReadFailed (told old.disk) (told new.disk)) → TellsReadFault f r
+      → TellsRead told due old new r
+  text_not_told read_fault.Disk due old new r failed says = inr (failed refl, says)
+  text_not_told read_fault.NoMemory due old new r failed says = inl (due, λ h. refl, inr says)
 
   -- ---- what is asked
 
@@ -347,34 +511,54 @@ module _ {D : Type 0} (told : D → DiskTold) where
   starved_cycle at kept ask NoNumbers = refl
   starved_cycle at kept ask (IsDue due) = refl
 
+  starved_try : (kept : Kept) (ask : CycleAsk) (due : Due) → tried_under Refused kept ask due ≡ starved kept
+  starved_try kept ask (Repeats report) = refl
+  starved_try kept ask NoPoint = refl
+  starved_try kept ask NoNumbers = refl
+  starved_try kept ask (IsDue due) = refl
+
+  starved_found : {A : Type 0} → (kept : Kept) (o : Option A) (t : Turn) → found_under Refused kept o t ≡ starved kept
+  starved_found kept None t = refl
+  starved_found kept (Some x) t = refl
+
   lost_cycle : (at : ℕ) (kept : Kept) (ask : CycleAsk) (due : Due) → cycled_under Unheard at kept ask due ≡ lost kept
   lost_cycle at kept ask (Repeats report) = refl
   lost_cycle at kept ask NoPoint = refl
   lost_cycle at kept ask NoNumbers = refl
   lost_cycle at kept ask (IsDue due) = refl
 
+  lost_try : (kept : Kept) (ask : CycleAsk) (due : Due) → tried_under Unheard kept ask due ≡ lost kept
+  lost_try kept ask (Repeats report) = refl
+  lost_try kept ask NoPoint = refl
+  lost_try kept ask NoNumbers = refl
+  lost_try kept ask (IsDue due) = refl
+
+  lost_found : {A : Type 0} → (kept : Kept) (o : Option A) (t : Turn) → found_under Unheard kept o t ≡ lost kept
+  lost_found kept None t = refl
+  lost_found kept (Some x) t = refl
+
   starved_route : (at : ℕ) (kept : Kept) (t : Taken) → routed_under Refused at kept t ≡ starved kept
   starved_route at kept route.Status = refl
   starved_route at kept (route.Timeline start) = refl
   starved_route at kept (route.Box user name) = refl
-  starved_route at kept (route.Body number) = refl
+  starved_route at kept (route.Body number) = starved_found kept (body_found kept.timeline number) _
   starved_route at kept route.Conf = refl
-  starved_route at kept (route.Plan point) = refl
+  starved_route at kept (route.Plan point) = starved_found kept (position kept.timeline point) _
   starved_route at kept (route.Act act) = elim (nat_lt kept.next 4194304) as (λ b. (if b then starved kept else starved kept) ≡ starved kept) [ true ↦ refl | false ↦ refl ]
   starved_route at kept (route.Cycle ask) = starved_cycle at kept ask (cycle_due kept at ask)
-  starved_route at kept (route.Try ask) = refl
+  starved_route at kept (route.Try ask) = starved_try kept ask (due_anew kept at ask)
   starved_route at kept route.Stop = refl
 
   lost_route : (at : ℕ) (kept : Kept) (t : Taken) → routed_under Unheard at kept t ≡ lost kept
   lost_route at kept route.Status = refl
   lost_route at kept (route.Timeline start) = refl
   lost_route at kept (route.Box user name) = refl
-  lost_route at kept (route.Body number) = refl
+  lost_route at kept (route.Body number) = lost_found kept (body_found kept.timeline number) _
   lost_route at kept route.Conf = refl
-  lost_route at kept (route.Plan point) = refl
+  lost_route at kept (route.Plan point) = lost_found kept (position kept.timeline point) _
   lost_route at kept (route.Act act) = elim (nat_lt kept.next 4194304) as (λ b. (if b then lost kept else lost kept) ≡ lost kept) [ true ↦ refl | false ↦ refl ]
   lost_route at kept (route.Cycle ask) = lost_cycle at kept ask (cycle_due kept at ask)
-  lost_route at kept (route.Try ask) = refl
+  lost_route at kept (route.Try ask) = lost_try kept ask (due_anew kept at ask)
   lost_route at kept route.Stop = refl
 
   starved_choice : (at : ℕ) (kept : Kept) (c : Choice) → hindered Refused at kept (chosen c) ≡ starved kept
@@ -385,19 +569,21 @@ module _ {D : Type 0} (told : D → DiskTold) where
   lost_choice at kept (Ok t) = lost_route at kept t
   lost_choice at kept (Err e) = refl
 
-  as_starved : (at : ℕ) (old new : Lasting D) (r : Reply) (c : Choice) → IsTurn told (starved old.kept) old new r → new ≡ old → Serves told at (chosen c) old new r
+  as_starved : (at : ℕ) (old new : Lasting D) (r : Reply) (c : Choice) → IsTurn told (starved old.kept) old new r → IsStill told old new → Serves told at (chosen c) old new r
   as_starved at old new r c turn same = record { hindrance = Refused; turn_is = turn_at _ _ old new r (starved_choice at old.kept c) turn; still = λ e. same }
 
-  as_lost : (at : ℕ) (old new : Lasting D) (r : Reply) (c : Choice) → IsTurn told (lost old.kept) old new r → new ≡ old → Serves told at (chosen c) old new r
+  as_lost : (at : ℕ) (old new : Lasting D) (r : Reply) (c : Choice) → IsTurn told (lost old.kept) old new r → IsStill told old new → Serves told at (chosen c) old new r
   as_lost at old new r c turn same = record { hindrance = Unheard; turn_is = turn_at _ _ old new r (lost_choice at old.kept c) turn; still = λ e. same }
 
-  wanting : (at : ℕ) (old new : Lasting D) (r : Reply) (c : Choice) (h : Hindrance) → IsTurn told (told_under h old.kept (starved old.kept)) old new r → new ≡ old → Serves told at (chosen c) old new r
+  wanting : (at : ℕ) (old new : Lasting D) (r : Reply) (c : Choice) (h : Hindrance) → IsTurn told (told_under h old.kept (starved old.kept)) old new r → IsStill told old new → Serves told at (chosen c) old new r
   wanting at old new r c Clear turn same = as_starved at old new r c turn same
   wanting at old new r c Refused turn same = as_starved at old new r c turn same
   wanting at old new r c Unheard turn same = as_lost at old new r c turn same
   wanting at old new r c Unanswered turn same = as_starved at old new r c turn same
   wanting at old new r c Unsealed turn same = as_starved at old new r c turn same
   wanting at old new r c Untold turn same = as_starved at old new r c turn same
+  wanting at old new r c Unread turn same = as_starved at old new r c turn same
+  wanting at old new r c (Misread said left) turn same = as_starved at old new r c turn same
 
   -- what was asked is served, and so are the bytes that ask it
   pub heard : (at : ℕ) (unserved bytes : List ℕ) (old new : Lasting D) (r : Reply) (asked : Result Asked HttpRefused)
@@ -423,6 +609,22 @@ module _ {D : Type 0} (told : D → DiskTold) where
   ends_told Unanswered kept t e = e
   ends_told Unsealed kept t e = e
   ends_told Untold kept t e = e
+  ends_told Unread kept t e = e
+  ends_told (Misread said left) kept t e = e
+
+  ends_read : (h : Hindrance) (kept : Kept) (t : Turn) → EndsSo t → EndsSo (read_under h kept t)
+  ends_read Clear kept t e = e
+  ends_read Refused kept t e = refl
+  ends_read Unheard kept t e = refl
+  ends_read Unanswered kept t e = e
+  ends_read Unsealed kept t e = e
+  ends_read Untold kept t e = e
+  ends_read Unread kept t e = refl
+  ends_read (Misread said left) kept t e = e
+
+  ends_found : {A : Type 0} → (h : Hindrance) (kept : Kept) (o : Option A) (t : Turn) → EndsSo t → EndsSo (found_under h kept o t)
+  ends_found h kept None t e = ends_told h kept t e
+  ends_found h kept (Some x) t e = ends_read h kept t e
 
   ends_sealed : (h : Hindrance) (kept : Kept) (t u : Turn) → EndsSo t → EndsSo u → EndsSo (sealed_under h kept t u)
   ends_sealed Clear kept t u e f = e
@@ -431,6 +633,18 @@ module _ {D : Type 0} (told : D → DiskTold) where
   ends_sealed Unanswered kept t u e f = e
   ends_sealed Unsealed kept t u e f = f
   ends_sealed Untold kept t u e f = f
+  ends_sealed Unread kept t u e f = e
+  ends_sealed (Misread said left) kept t u e f = e
+
+  ends_rewound : (h : Hindrance) (kept : Kept) (t u : Turn) → EndsSo t → EndsSo u → EndsSo (rewound_under h kept t u)
+  ends_rewound Clear kept t u e f = e
+  ends_rewound Refused kept t u e f = refl
+  ends_rewound Unheard kept t u e f = refl
+  ends_rewound Unanswered kept t u e f = e
+  ends_rewound Unsealed kept t u e f = f
+  ends_rewound Untold kept t u e f = f
+  ends_rewound Unread kept t u e f = refl
+  ends_rewound (Misread said left) kept t u e f = e
 
   ends_acted : (h : Hindrance) (at : ℕ) (kept : Kept) (act : Act) → EndsSo (acted_under h at kept act)
   ends_acted h at kept act =
@@ -443,24 +657,24 @@ module _ {D : Type 0} (told : D → DiskTold) where
   ends_cycled h at kept ask (Repeats report) = ends_told h kept _ refl
   ends_cycled h at kept ask NoPoint = ends_told h kept _ refl
   ends_cycled h at kept ask NoNumbers = ends_told h kept _ refl
-  ends_cycled h at kept ask (IsDue due) = ends_sealed h kept _ _ refl refl
+  ends_cycled h at kept ask (IsDue due) = ends_rewound h kept _ _ refl refl
 
-  ends_tried : (kept : Kept) (ask : CycleAsk) (due : Due) → EndsSo (tried kept ask due)
-  ends_tried kept ask (Repeats report) = refl
-  ends_tried kept ask NoPoint = refl
-  ends_tried kept ask NoNumbers = refl
-  ends_tried kept ask (IsDue due) = refl
+  ends_tried : (h : Hindrance) (kept : Kept) (ask : CycleAsk) (due : Due) → EndsSo (tried_under h kept ask due)
+  ends_tried h kept ask (Repeats report) = ends_told h kept _ refl
+  ends_tried h kept ask NoPoint = ends_told h kept _ refl
+  ends_tried h kept ask NoNumbers = ends_told h kept _ refl
+  ends_tried h kept ask (IsDue due) = ends_read h kept _ refl
 
   ends_routed : (h : Hindrance) (at : ℕ) (kept : Kept) (t : Taken) → EndsSo (routed_under h at kept t)
   ends_routed h at kept route.Status = ends_told h kept _ refl
   ends_routed h at kept (route.Timeline start) = ends_told h kept _ refl
   ends_routed h at kept (route.Box user name) = ends_told h kept _ refl
-  ends_routed h at kept (route.Body number) = ends_told h kept _ refl
+  ends_routed h at kept (route.Body number) = ends_found h kept (body_found kept.timeline number) _ refl
   ends_routed h at kept route.Conf = ends_told h kept _ refl
-  ends_routed h at kept (route.Plan point) = ends_told h kept _ refl
+  ends_routed h at kept (route.Plan point) = ends_found h kept (position kept.timeline point) _ refl
   ends_routed h at kept (route.Act act) = ends_acted h at kept act
   ends_routed h at kept (route.Cycle ask) = ends_cycled h at kept ask (cycle_due kept at ask)
-  ends_routed h at kept (route.Try ask) = ends_told h kept (tried kept ask (due_anew kept at ask)) (ends_tried kept ask (due_anew kept at ask))
+  ends_routed h at kept (route.Try ask) = ends_tried h kept ask (due_anew kept at ask)
   ends_routed h at kept route.Stop = ends_told h kept _ refl
 
   ends_so : (h : Hindrance) (at : ℕ) (kept : Kept) (asked : Result Asked HttpRefused) → EndsSo (hindered h at kept asked)

@@ -1,12 +1,16 @@
 -- What contracts say of a console connection's session.
-use Rattle.std.specs.Prelude.{◌≡◌, ◌⊎◌, ℕ, Bool, true, false, List, [], ◌++◌, Result}
-use Rattle.undo_outside.specs.Disk.{DiskTold}
+use Rattle.std.specs.Prelude.{◌≡◌, ◌⊎◌, ℕ, Bool, true, false, List, [], ◌++◌, Option, None, Some, Result}
+use Rattle.undo_outside.specs.Disk.{DiskTold, ReadFailed}
+use Rattle.seal_log.specs.declared.fault.ReadFault.{ReadFault}
+use Rattle.seal_log.specs.declared.fault.ReadFault.TheVariants as read_fault
 use Rattle.time_desk.specs.declared.fault.ActFault.{ActFault}
 use Rattle.time_desk.specs.declared.fault.ActFault.TheVariants as fault
 use Rattle.time_desk.specs.declared.fault.CycleFault.{CycleFault}
 use Rattle.time_desk.specs.declared.fault.CycleFault.TheVariants as cycle_fault
 use Rattle.time_desk.specs.Lasting.{Lasting}
+use Rattle.time_desk.specs.Reading.{HaveRead, IsStill}
 use Rattle.time_desk.specs.Sealing.{Seals}
+use Rattle.time_desk.specs.Stored.{HoldsTexts}
 use Rattle.console_head.specs.declared.request.Coming.{Coming}
 use Rattle.console_head.specs.Coming.{IsKnown}
 use Rattle.console_head.specs.Request.{Stage, Says}
@@ -50,13 +54,27 @@ TellsFault fault.Disk r = TellsOnly (answer 500 (error_data Disk)) Fails r
 TellsFault fault.NoMemory r = Starves r
 TellsFault fault.Closed r = ⊥
 
--- why a cycle was not done is told
-abbrev pub TellsCycleFault : CycleFault → Reply → Type 0
-TellsCycleFault (cycle_fault.Point given) r = Tells (answer 422 (point_data given)) Closes r
-TellsCycleFault (cycle_fault.Numbers next) r = Tells (answer 507 (numbers_data next)) Closes r
-TellsCycleFault cycle_fault.Disk r = TellsOnly (answer 500 (error_data Disk)) Fails r
-TellsCycleFault cycle_fault.NoMemory r = Starves r
-TellsCycleFault cycle_fault.Closed r = ⊥
+-- that a text could not be read is told, or want of memory
+abbrev pub TellsUnread : Reply → Type 0
+TellsUnread r = Tells (answer 500 (error_data Disk)) Closes r
+
+-- why a text was not read is told
+abbrev pub TellsReadFault : ReadFault → Reply → Type 0
+TellsReadFault read_fault.Disk r = TellsUnread r
+TellsReadFault read_fault.NoMemory r = Starves r
+
+-- a fault of the disk is told: serving ends where a record could not be sealed, so that the desk is closed, and goes on where a text could not be read
+abbrev pub TellsDiskFault : Bool → Reply → Type 0
+TellsDiskFault true r = TellsOnly (answer 500 (error_data Disk)) Fails r
+TellsDiskFault false r = TellsUnread r
+
+-- why a cycle was not done, or not tried, or a plan not made is told, over a desk that is closed then or is not
+abbrev pub TellsCycleFault : Bool → CycleFault → Reply → Type 0
+TellsCycleFault closed (cycle_fault.Point given) r = Tells (answer 422 (point_data given)) Closes r
+TellsCycleFault closed (cycle_fault.Numbers next) r = Tells (answer 507 (numbers_data next)) Closes r
+TellsCycleFault closed cycle_fault.Disk r = TellsDiskFault closed r
+TellsCycleFault closed cycle_fault.NoMemory r = Starves r
+TellsCycleFault closed cycle_fault.Closed r = ⊥
 
 -- ---- turns
 
@@ -69,17 +87,28 @@ is_failure Fails = true
 is_failure Rewinds = false
 
 module _ {D : Type 0} (told : D → DiskTold) where
-  -- a turn was said and sealed
+  -- What is told of texts that were read: the answer that is due where the disk holds them; or that one could not be read; or want of memory.
+  abbrev pub TellsRead : Answer → Lasting D → Lasting D → Reply → Type 0
+  TellsRead due old new r =
+      ((a : Answer) × (HoldsTexts told old → a ≡ due) × Tells a Closes r) ⊎ (ReadFailed (told old.disk) (told new.disk) × TellsUnread r)
+
+  -- the same where there is what texts are read for; else the answer is told
+  abbrev pub TellsFound : {A : Type 0} → Option A → Answer → Lasting D → Lasting D → Reply → Type 0
+  TellsFound None due old new r = Tells due Closes r
+  TellsFound (Some x) due old new r = TellsRead due old new r
+
+  -- a turn was said and sealed, and its texts were read
   pub record IsTurn (t : Turn) (old new : Lasting D) (r : Reply) : Type 0 where
     pub reply_is : r ≡ reply t.said t.after
     pub kept : new.kept ≡ t.kept
     pub seals : Seals told t.sealed t.unsealed old new
+    pub read : HaveRead told old new t.reads
 
-  -- a turn, hindered or not; where nothing is to be sealed the desk is as it was, and nothing was written
+  -- a turn, hindered or not; where nothing is to be sealed the desk is as it was, and the disk was only read
   pub record Serves (at : ℕ) (asked : Result Asked HttpRefused) (old new : Lasting D) (r : Reply) : Type 0 where
     pub hindrance : Hindrance
     pub turn_is : IsTurn (hindered hindrance at old.kept asked) old new r
-    pub still : (turn at old.kept asked).sealed ≡ [] → new ≡ old
+    pub still : (turn at old.kept asked).sealed ≡ [] → IsStill told old new
 
   -- no memory was found for the bytes that came; or they and those before are served as what they are
   pub data Hears (at : ℕ) (unserved bytes : List ℕ) (old new : Lasting D) (r : Reply) : Type 0 where

@@ -1,18 +1,22 @@
 -- How a turn may go otherwise.
-use Rattle.std.specs.Prelude.{ℕ, [], nat_lt, Result, Ok, Err, if◌then◌else◌}
+use Rattle.std.specs.Prelude.{ℕ, List, [], nat_lt, Option, None, Some, Result, Ok, Err, if◌then◌else◌}
 use Rattle.verb_core.specs.declared.item.Act.{Act}
 use Rattle.verb_bytes.specs.declared.journal.CycleAsk.{CycleAsk}
 use Rattle.verb_bytes.specs.declared.journal.JournalRecord.TheVariants.{Operator, Cycle}
 use Rattle.paradox.specs.Kept.{Kept}
-use Rattle.mail_cycle.specs.Asking.{Due, Repeats, NoPoint, NoNumbers, Rewinds, cycle_due}
+use Rattle.mail_cycle.specs.Asking.{Due, Repeats, NoPoint, NoNumbers, Rewinds, cycle_due, due_anew}
+use Rattle.repair_desk.specs.Repairs.{position}
+use Rattle.time_desk.specs.Reading.{failed_once, none_read, wrong_once}
 use Rattle.console_http.specs.declared.request.Asked.{Asked}
 use Rattle.console_http.specs.declared.request.Asked.TheVariants.{NotYet, Whole}
 use Rattle.console_http.specs.declared.request.HttpRefused.{HttpRefused}
 use Rattle.console_http.specs.declared.request.HttpRefused.TheVariants.{NoMemory}
 use Rattle.console_http.specs.declared.request.Route.{Route}
 use Rattle.console_http.specs.declared.request.Route.TheVariants as route
+use Rattle.console_replies.specs.declared.bodies.ErrorWord.TheVariants as word
+use Rattle.console_replies.specs.Bodies.{error_data}
 use Rattle.console_session.specs.declared.reply.After.TheVariants.{Closes}
-use Rattle.console_session.specs.Answers.{refused}
+use Rattle.console_session.specs.Answers.{answer, body_found, refused}
 use Rattle.console_session.specs.Turn.{Turn, waits, tells, done, failed, numberless, pointless, reported, rewound, routed}
 
 -- How a turn may go otherwise.
@@ -29,20 +33,32 @@ pub data Hindrance : Type 0 where
   Unsealed : Hindrance
   -- the same, and no memory was found for telling the operator
   Untold : Hindrance
+  -- a text could not be read, and the operator is told; nothing was sealed
+  Unread : Hindrance
+  -- A text was read that is not the one that was stored: so this is said, and where a cycle is done this is kept.
+  Misread : List ℕ → Kept → Hindrance
 
 -- the connection closes with no answer
 abbrev pub lost : Kept → Turn
-lost kept = record { said = []; kept = kept; after = Closes; sealed = []; unsealed = [] }
+lost kept = record { said = []; kept = kept; after = Closes; sealed = []; unsealed = []; reads = none_read }
 
 -- the operator is told of want of memory
 abbrev pub starved : Kept → Turn
 starved kept = tells (refused NoMemory) Closes kept
 
+-- the operator is told that a text could not be read
+abbrev pub unread : Kept → Turn
+unread kept = record (tells (answer 500 (error_data word.Disk)) Closes kept) { reads = failed_once }
+
 -- the same turn without its answer
 abbrev pub unanswered : Turn → Turn
 unanswered t = record t { said = [] }
 
--- a turn that seals nothing is hindered by want of memory alone
+-- the same turn over texts that are not those that were stored
+abbrev pub misread : List ℕ → Kept → Turn → Turn
+misread said left t = record t { said = said; kept = left; reads = wrong_once }
+
+-- a turn that seals nothing and reads no text is hindered by want of memory alone
 abbrev pub told_under : Hindrance → Kept → Turn → Turn
 told_under Clear kept t = t
 told_under Refused kept t = starved kept
@@ -50,6 +66,19 @@ told_under Unheard kept t = lost kept
 told_under Unanswered kept t = t
 told_under Unsealed kept t = t
 told_under Untold kept t = t
+told_under Unread kept t = t
+told_under (Misread said left) kept t = t
+
+-- one that reads texts, by them too
+abbrev pub read_under : Hindrance → Kept → Turn → Turn
+read_under Clear kept t = t
+read_under Refused kept t = starved kept
+read_under Unheard kept t = lost kept
+read_under Unanswered kept t = t
+read_under Unsealed kept t = t
+read_under Untold kept t = t
+read_under Unread kept t = unread kept
+read_under (Misread said left) kept t = misread said kept t
 
 -- a turn that seals a record: by how it goes where that is done, and where it can't be sealed
 abbrev pub sealed_under : Hindrance → Kept → Turn → Turn → Turn
@@ -59,6 +88,24 @@ sealed_under Unheard kept done unsealed = lost kept
 sealed_under Unanswered kept done unsealed = unanswered done
 sealed_under Unsealed kept done unsealed = unsealed
 sealed_under Untold kept done unsealed = unanswered unsealed
+sealed_under Unread kept done unsealed = done
+sealed_under (Misread said left) kept done unsealed = done
+
+-- one that reads texts first
+abbrev pub rewound_under : Hindrance → Kept → Turn → Turn → Turn
+rewound_under Clear kept done unsealed = done
+rewound_under Refused kept done unsealed = starved kept
+rewound_under Unheard kept done unsealed = lost kept
+rewound_under Unanswered kept done unsealed = unanswered done
+rewound_under Unsealed kept done unsealed = unsealed
+rewound_under Untold kept done unsealed = unanswered unsealed
+rewound_under Unread kept done unsealed = unread kept
+rewound_under (Misread said left) kept done unsealed = misread said left done
+
+-- a turn that reads texts where there is what it asks for
+abbrev pub found_under : {A : Type 0} → Hindrance → Kept → Option A → Turn → Turn
+found_under h kept None t = told_under h kept t
+found_under h kept (Some x) t = read_under h kept t
 
 -- what becomes of an act; where no number is left nothing is to be sealed
 abbrev pub acted_under : Hindrance → ℕ → Kept → Act → Turn
@@ -70,18 +117,25 @@ abbrev pub cycled_under : Hindrance → ℕ → Kept → CycleAsk → Due → Tu
 cycled_under h at kept ask (Repeats report) = told_under h kept (reported kept report)
 cycled_under h at kept ask NoPoint = told_under h kept (pointless kept ask.point)
 cycled_under h at kept ask NoNumbers = told_under h kept (numberless kept)
-cycled_under h at kept ask (Rewinds due) = sealed_under h kept (rewound at kept ask due) (failed kept (Cycle kept.next at ask))
+cycled_under h at kept ask (Rewinds due) = rewound_under h kept (rewound at kept ask due) (failed kept (Cycle kept.next at ask))
+
+-- what becomes of a cycle that is only tried
+abbrev pub tried_under : Hindrance → Kept → CycleAsk → Due → Turn
+tried_under h kept ask (Repeats report) = told_under h kept (reported kept report)
+tried_under h kept ask NoPoint = told_under h kept (pointless kept ask.point)
+tried_under h kept ask NoNumbers = told_under h kept (numberless kept)
+tried_under h kept ask (Rewinds due) = read_under h kept (reported kept due.report)
 
 abbrev pub routed_under : Hindrance → ℕ → Kept → Route → Turn
 routed_under h at kept route.Status = told_under h kept (routed at kept route.Status)
 routed_under h at kept (route.Timeline start) = told_under h kept (routed at kept (route.Timeline start))
 routed_under h at kept (route.Box user name) = told_under h kept (routed at kept (route.Box user name))
-routed_under h at kept (route.Body number) = told_under h kept (routed at kept (route.Body number))
+routed_under h at kept (route.Body number) = found_under h kept (body_found kept.timeline number) (routed at kept (route.Body number))
 routed_under h at kept route.Conf = told_under h kept (routed at kept route.Conf)
-routed_under h at kept (route.Plan point) = told_under h kept (routed at kept (route.Plan point))
+routed_under h at kept (route.Plan point) = found_under h kept (position kept.timeline point) (routed at kept (route.Plan point))
 routed_under h at kept (route.Act act) = acted_under h at kept act
 routed_under h at kept (route.Cycle ask) = cycled_under h at kept ask (cycle_due kept at ask)
-routed_under h at kept (route.Try ask) = told_under h kept (routed at kept (route.Try ask))
+routed_under h at kept (route.Try ask) = tried_under h kept ask (due_anew kept at ask)
 routed_under h at kept route.Stop = told_under h kept (routed at kept route.Stop)
 
 -- a turn, hindered or not; bytes that are not yet a request want no memory

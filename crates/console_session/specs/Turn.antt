@@ -10,6 +10,7 @@ use Rattle.paradox.specs.Kept.{performed, Kept}
 use Rattle.mail_cycle.specs.Asking.{Due, Repeats, NoPoint, NoNumbers, Rewinds as IsDue, after_cycle, cycle_due, due_anew}
 use Rattle.mail_cycle.specs.Cycles.{Cycled}
 use Rattle.verb_core.specs.Deeds.{act_item}
+use Rattle.time_desk.specs.Reading.{Reads, none_read}
 use Rattle.console_head.specs.Request.{Stage}
 use Rattle.console_http.specs.declared.request.Asked.{Asked}
 use Rattle.console_http.specs.declared.request.Asked.TheVariants.{NotYet, Whole}
@@ -25,21 +26,23 @@ use Rattle.console_session.specs.declared.reply.After.{After}
 use Rattle.console_session.specs.declared.reply.After.TheVariants.{Waits, Closes, Stops, Fails, Rewinds}
 use Rattle.console_session.specs.Answers.{Answer, answer, answer_text, body_answer, box_answer, conf_answer, plan_answer, refused, status_answer, timeline_answer}
 
--- what a turn says, what is kept after it, what follows, and the record that was sealed in it, or that could not be
+-- what a turn says, what is kept after it, what follows, the record that was sealed in it, or that could not be, and whether a text could not be
+-- read, or another was read than was stored
 pub record Turn : Type 0 where
   pub said : List ℕ
   pub kept : Kept
   pub after : After
   pub sealed : List JournalRecord
   pub unsealed : List JournalRecord
+  pub reads : Reads
 
 -- nothing is said yet, and the connection stays open
 abbrev pub waits : Kept → Turn
-waits kept = record { said = []; kept = kept; after = Waits; sealed = []; unsealed = [] }
+waits kept = record { said = []; kept = kept; after = Waits; sealed = []; unsealed = []; reads = none_read }
 
 -- an answer that changes nothing
 abbrev pub tells : Answer → After → Kept → Turn
-tells a after kept = record { said = answer_text a; kept = kept; after = after; sealed = []; unsealed = [] }
+tells a after kept = record { said = answer_text a; kept = kept; after = after; sealed = []; unsealed = []; reads = none_read }
 
 -- too few numbers are left
 abbrev pub numberless : Kept → Turn
@@ -55,6 +58,7 @@ done at kept act = record {
   after = Closes;
   sealed = Operator kept.next at act ∷ [];
   unsealed = [];
+  reads = none_read;
 }
 
 -- a record could not be sealed, and nothing is kept of it
@@ -65,6 +69,7 @@ failed kept what = record {
   after = Fails;
   sealed = [];
   unsealed = what ∷ [];
+  reads = none_read;
 }
 
 -- what becomes of an act for which a number is left, or that none is left
@@ -89,6 +94,7 @@ rewound at kept ask due = record {
   after = Rewinds;
   sealed = Cycle kept.next at ask ∷ [];
   unsealed = [];
+  reads = none_read;
 }
 
 -- what becomes of a request for a cycle, by what is due to it

@@ -8,8 +8,8 @@ ghost use Rattle.console_http.specs.declared.request.Asked.TheVariants.{Whole};
 ghost use Rattle.console_http.specs.declared.request.Route.TheVariants as route;
 ghost use Rattle.console_session.specs.Hearing.{Serves, TellsFault};
 
-use crate::reply::{After, Reply, starve, tell, tell_only};
-use console_replies::{ErrorWord, error_json, number_json, numbers_json};
+use crate::reply::{After, Reply, starve, tell, tell_only, tell_unsealed};
+use console_replies::{number_json, numbers_json};
 use std::alloc::Global;
 use time_desk::laws::seals_join;
 use time_desk::{ActFault, Desk};
@@ -23,9 +23,7 @@ fn tell_fault(alloc: Global, fault: ActFault) -> Reply
 {
     match fault {
         ActFault::Numbers { next } => { tell(alloc, 507, numbers_json(alloc, next), After::Closes) }
-        ActFault::Disk => {
-            tell_only(alloc, 500, error_json(alloc, ErrorWord::Disk), After::Fails)
-        }
+        ActFault::Disk => tell_unsealed(alloc),
         ActFault::NoMemory => starve(alloc),
         ActFault::Closed => unreachable!(),
     }

@@ -9,12 +9,12 @@ ghost use Rattle.console_replies.specs.Reports.{report_data};
 ghost use Rattle.console_http.specs.declared.request.Asked.TheVariants.{Whole};
 ghost use Rattle.console_http.specs.declared.request.Route.TheVariants as route;
 ghost use Rattle.console_session.specs.Answers.{answer};
-ghost use Rattle.console_session.specs.Hearing.{Serves, Tells, TellsCycleFault};
+ghost use Rattle.console_session.specs.Hearing.{Serves, Tells, TellsCycleFault, TellsDiskFault};
 ghost use Rattle.console_session.specs.declared.reply.After.TheVariants as after;
 
-use crate::reply::{After, Reply, starve, tell, tell_only};
+use crate::reply::{After, Reply, starve, tell, tell_only, tell_unread, tell_unsealed};
 use box_store::Steps;
-use console_replies::{ErrorWord, error_json, numbers_json, point_json, report_json};
+use console_replies::{numbers_json, point_json, report_json};
 use paradox::Report;
 use std::alloc::Global;
 use std::marker::Brand;
@@ -26,17 +26,27 @@ use undo_base::LAST_MOMENT;
 use undo_outside::{Disk, Gate};
 use verb_bytes::CycleAsk;
 
-/// Tells why a cycle was not done, or what was asked of the past not told.
-pub(crate) fn tell_fault(alloc: Global, fault: CycleFault) -> Reply
+/// Tells of a fault of the disk: of a record that could not be sealed where the desk is closed, else of a text that could not
+/// be read.
+fn tell_disk_fault(alloc: Global, closed: bool) -> Reply
+    ensures { TellsDiskFault closed result }
+{
+    if closed {
+        tell_unsealed(alloc)
+    } else {
+        tell_unread(alloc)
+    }
+}
+
+/// Tells why a cycle was not done, or what was asked of the past not told, over a desk that is closed or is not.
+pub(crate) fn tell_fault(alloc: Global, fault: CycleFault, closed: bool) -> Reply
     requires { fault ≡ CycleFault.Closed → ⊥ }
-    ensures { TellsCycleFault fault result }
+    ensures { TellsCycleFault closed fault result }
 {
     match fault {
         CycleFault::Point { given } => { tell(alloc, 422, point_json(alloc, given), After::Closes) }
         CycleFault::Numbers { next } => tell(alloc, 507, numbers_json(alloc, next), After::Closes),
-        CycleFault::Disk => {
-            tell_only(alloc, 500, error_json(alloc, ErrorWord::Disk), After::Fails)
-        }
+        CycleFault::Disk => tell_disk_fault(alloc, closed),
         CycleFault::NoMemory => starve(alloc),
         CycleFault::Closed => unreachable!(),
     }
@@ -116,7 +126,7 @@ fn rewind<D: Disk, R: Threads + Sync, G: Gate>(
             report_json(alloc, &report, desk.house()),
             After::Rewinds,
         ),
-        Err(fault) => tell_fault(alloc, fault),
+        Err(fault) => tell_fault(alloc, fault, desk.closed()),
     }
 }
 
@@ -141,7 +151,7 @@ pub fn cycle<D: Disk, R: Threads + Sync, G: Gate>(
     }
 }
 
-/// POST /try.
+/// POST /try. Where a text could not be read nothing is sealed and the desk stays as it was.
 pub fn try_cycle<D: Disk, R: Threads + Sync, G: Gate>(
     rt: &R,
     alloc: Global,
@@ -157,6 +167,6 @@ pub fn try_cycle<D: Disk, R: Threads + Sync, G: Gate>(
     seals_join::<D>();
     match desk.try_cycle(rt, alloc, at, ask, gate) {
         Ok(report) => tell_report(alloc, desk, &report),
-        Err(fault) => tell_fault(alloc, fault),
+        Err(fault) => tell_fault(alloc, fault, false),
     }
 }

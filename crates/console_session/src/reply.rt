@@ -1,11 +1,11 @@
 //! What a console connection is told, and what follows.
-ghost use Rattle.std.specs.Prelude.{◌≡◌, [], IfOk, IsTrue};
+ghost use Rattle.std.specs.Prelude.{◌≡◌, [], true, IfOk, IsTrue};
 ghost use Rattle.serde_json.specs.Data.{Data};
 ghost use Rattle.serde_json.specs.Written.{compact_text};
 ghost use Rattle.console_http.specs.declared.request.HttpRefused.TheVariants.{NoMemory as WantOfMemory};
 ghost use Rattle.console_replies.specs.Reply.{is_status};
 ghost use Rattle.console_session.specs.Answers.{answer, answer_text, refused, told_plainly};
-ghost use Rattle.console_session.specs.Hearing.{Starves, Tells, TellsOnly};
+ghost use Rattle.console_session.specs.Hearing.{Starves, Tells, TellsDiskFault, TellsOnly, TellsUnread};
 ghost use Rattle.console_session.specs.declared.reply.After.TheVariants.{Closes};
 
 use console_replies::{ErrorWord, error_json, render};
@@ -21,7 +21,7 @@ pub enum After {
     Closes,
     /// The connection is closed, and serving ends as it was asked to.
     Stops,
-    /// The connection is closed. An act or a cycle could not be sealed, and serving ends with that.
+    /// The connection is closed. An act or a cycle could not be sealed, and serving ends with that. A text that could not be read ends nothing more than the connection.
     Fails,
     /// The connection is closed. A cycle was done: each mail reader's connection is told that the store was rewound, and closed.
     Rewinds,
@@ -117,4 +117,23 @@ pub fn tell_only(alloc: Global, status: u16, body: Result<Text, NoMemory>, after
         Ok(said) => Reply { said, after },
         Err(NoMemory) => silent(alloc, after),
     }
+}
+
+/// Tells that a text could not be read, or of want of memory.
+pub fn tell_unread(alloc: Global) -> Reply
+    ensures { TellsUnread result }
+{
+    tell(
+        alloc,
+        500,
+        error_json(alloc, ErrorWord::Disk),
+        After::Closes,
+    )
+}
+
+/// Tells that a record could not be sealed, or nothing.
+pub fn tell_unsealed(alloc: Global) -> Reply
+    ensures { TellsDiskFault true result }
+{
+    tell_only(alloc, 500, error_json(alloc, ErrorWord::Disk), After::Fails)
 }

@@ -1,5 +1,5 @@
 //! The routes that look at the desk, and the refusals of requests.
-ghost use Rattle.std.specs.Prelude.{◌≡◌, List, ℕ, IfOk, IsTrue, Some, unwrap_or};
+ghost use Rattle.std.specs.Prelude.{◌≡◌, List, [], ℕ, IfOk, IsSome, IsTrue, Some, unwrap_or};
 ghost use Rattle.serde_json.specs.Written.{compact_text};
 ghost use Rattle.console_replies.specs.Bodies.{body_data, error_data};
 ghost use Rattle.console_replies.specs.Reply.{is_status};
@@ -8,16 +8,19 @@ ghost use Rattle.verb_core.specs.Boxes.{box_of, row_at};
 ghost use Rattle.mail_desk.specs.Counting.{page};
 ghost use Rattle.mail_desk.specs.Timeline.{has_text};
 ghost use Rattle.verb_core.specs.Items.{text_of};
-ghost use Rattle.console_session.specs.Answers.{answer, body_answer, body_at, box_answer, conf_answer, counted_as, not_found, plan_answer, refused, status_answer, timeline_answer};
-ghost use Rattle.console_session.specs.Hearing.{Tells};
+ghost use Rattle.repair_desk.specs.Repairs.{position};
+ghost use Rattle.time_desk.specs.Reading.{IsStill};
+ghost use Rattle.console_session.specs.Answers.{answer, body_answer, body_at, body_found, box_answer, conf_answer, counted_as, not_found, plan_answer, refused, status_answer, timeline_answer};
+ghost use Rattle.console_session.specs.Hearing.{Tells, TellsFound, TellsRead, TellsReadFault};
 ghost use Rattle.console_session.specs.declared.reply.After.TheVariants as after;
 
 use crate::cycle::tell_fault;
-use crate::reply::{After, Reply, tell, tell_plainly};
+use crate::reply::{After, Reply, starve, tell, tell_plainly, tell_unread};
 use console_http::HttpRefused;
 use console_replies::{
     Counts, ErrorWord, body_json, box_json, conf_json, error_json, status_json, timeline_json,
 };
+use seal_log::ReadFault;
 use std::alloc::Global;
 use time_desk::Desk;
 use undo_base::{Name, NoMemory, Text, User};
@@ -92,14 +95,39 @@ pub fn tell_box<D: Disk>(alloc: Global, desk: &Desk<D>, user: User, name: &Name)
     }
 }
 
-/// What is told of the text of a body.
-fn body_text<D: Disk>(alloc: Global, desk: &Desk<D>, body: Body) -> Result<Text, NoMemory>
-    requires { IsTrue (has_text desk.now.kept.timeline body) }
-    ensures { (told : List ℕ) → text_of desk.now.kept.timeline body ≡ Some told → IfOk result (λ text. text ≡ compact_text (body_data told body.rev)) }
+/// A text that was found.
+fn tell_found(alloc: Global, found: Option<Text>, rev: u32) -> Reply
+    requires { IsSome found }
+    ensures { Tells (answer 200 (body_data (unwrap_or found []) rev)) after.Closes result }
 {
-    match desk.text(alloc, body) {
-        Ok(text) => body_json(alloc, text.bytes(), body.rev),
-        Err(NoMemory) => Err(NoMemory),
+    match found {
+        Some(text) => {
+            let body = body_json(alloc, text.bytes(), rev);
+            tell(alloc, 200, body, After::Closes)
+        }
+        None => unreachable!(),
+    }
+}
+
+/// Why a text was not read.
+fn tell_unfound(alloc: Global, fault: ReadFault) -> Reply
+    ensures { TellsReadFault fault result }
+{
+    match fault {
+        ReadFault::Disk => tell_unread(alloc),
+        ReadFault::NoMemory => starve(alloc),
+    }
+}
+
+/// The text of a body.
+fn tell_text<D: Disk>(alloc: Global, desk: &mut Desk<D>, body: Body) -> Reply
+    requires { IsTrue (has_text desk.old.kept.timeline body) }
+    ensures told { (text : List ℕ) → text_of desk.old.kept.timeline body ≡ Some text → TellsRead D.told (answer 200 (body_data text body.rev)) desk.old desk.new result }
+    ensures still { IsStill D.told desk.old desk.new }
+{
+    match desk.body(alloc, body) {
+        Ok(found) => tell_found(alloc, found, body.rev),
+        Err(fault) => tell_unfound(alloc, fault),
     }
 }
 
@@ -113,15 +141,13 @@ fn body_of(number: u32, rev: u32) -> Body
     }
 }
 
-/// GET /body.
-pub fn tell_body<D: Disk>(alloc: Global, desk: &Desk<D>, number: u32) -> Reply
-    ensures { Tells (body_answer desk.now.kept number) after.Closes result }
+/// GET /body. The text is read; the desk stays as it was.
+pub fn tell_body<D: Disk>(alloc: Global, desk: &mut Desk<D>, number: u32) -> Reply
+    ensures told { TellsFound D.told (body_found desk.old.kept.timeline number) (body_answer desk.old.kept number) desk.old desk.new result }
+    ensures still { IsStill D.told desk.old desk.new }
 {
     match desk.rev(number) {
-        Some(rev) => {
-            let body = body_text(alloc, desk, body_of(number, rev));
-            tell(alloc, 200, body, After::Closes)
-        }
+        Some(rev) => tell_text(alloc, desk, body_of(number, rev)),
         None => tell_none(alloc),
     }
 }
@@ -134,14 +160,14 @@ pub fn tell_conf<D: Disk>(alloc: Global, desk: &Desk<D>) -> Reply
     tell(alloc, 200, body, After::Closes)
 }
 
-/// GET /plan. The desk stays as it is.
+/// GET /plan. Texts are read; the desk stays as it was.
 pub fn tell_plan<D: Disk>(alloc: Global, desk: &mut Desk<D>, point: u32) -> Reply
-    ensures told { Tells (plan_answer desk.old.kept point) after.Closes result }
-    ensures still { desk.new ≡ desk.old }
+    ensures told { TellsFound D.told (position desk.old.kept.timeline point) (plan_answer desk.old.kept point) desk.old desk.new result }
+    ensures still { IsStill D.told desk.old desk.new }
 {
     match desk.plan_text(alloc, point) {
         Ok(text) => tell_plainly(alloc, text),
-        Err(fault) => tell_fault(alloc, fault),
+        Err(fault) => tell_fault(alloc, fault, false),
     }
 }
 

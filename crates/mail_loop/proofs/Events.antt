@@ -8,9 +8,10 @@ use Rattle.undo_outside.specs.declared.event.Event.{Event}
 use Rattle.undo_outside.specs.Calls.{LinkTold}
 use Rattle.console_head.specs.Request.{Stage}
 use Rattle.mail_loop.specs.declared.console_turn.Turned.{Turned}
-use Rattle.mail_loop.specs.ConsoleTurn.{AreSaid, Reading}
+use Rattle.mail_loop.specs.ConsoleTurn.{AreSaid}
 use Rattle.paradox.specs.Kept.{Kept}
 use Rattle.verb_bytes.specs.declared.journal.JournalRecord.{JournalRecord}
+use Rattle.time_desk.specs.Reading.{Reads, none_read}
 use Rattle.mail_loop.specs.State.{Seat, State}
 use Rattle.mail_loop.specs.Hindrance.{Hindrance}
 use Rattle.mail_loop.specs.Machine.{Seats, Delivery, told_others, ignored, unfed, with_reply, Hindrances, Reply, Answered, answered, hears_at, seat_at, seated, after_reply, delivered, happens}
@@ -22,8 +23,8 @@ use Rattle.mail_loop.proofs.Seats.{remove_set}
 use Rattle.mail_loop.proofs.Stretch.{HeardAlone}
 
 -- bytes for a connection that is not open
-pub bytes_ignored : {T : Type 0} → (S : List JournalRecord → Type 0) (conn at : ℕ) (kept : Kept) (es es' : Seats) (bytes : List ℕ) (view : T → List Reply) (stops : T → Bool) (answer : T)
-    → None ≡ lookup (is_at (nat_cmp conn)) es → es' ≡ es → view answer ≡ [] → stops answer ≡ false → S []
+pub bytes_ignored : {T : Type 0} → (S : List JournalRecord → Reads → Type 0) (conn at : ℕ) (kept : Kept) (es es' : Seats) (bytes : List ℕ) (view : T → List Reply) (stops : T → Bool) (answer : T)
+    → None ≡ lookup (is_at (nat_cmp conn)) es → es' ≡ es → view answer ≡ [] → stops answer ≡ false → S [] none_read
     → (b : Bool) × (hs : List Hindrance) × (stage : Stage)
     × Answers S (hears_at (seat_at conn es) b hs stage at (record { kept = kept; seats = es }) conn bytes) kept es' view stops (Ok answer)
 bytes_ignored S conn at kept es es' bytes view stops answer absent same none goes seals = (
@@ -43,8 +44,8 @@ seats_after conn es lent es' seat true wrote kept =
     kept ∙ ap (remove_entry test) wrote ∙ remove_set test es seat
 
 -- memory was wanted before bytes were served
-pub bytes_unserved : {T : Type 0} → (S : List JournalRecord → Type 0) (conn at : ℕ) (kept : Kept) (es : Seats) (bytes : List ℕ) (view : T → List Reply) (stops : T → Bool)
-    (w : WantOfMemory) (result : Result T WantOfMemory) → result ≡ Err w → S []
+pub bytes_unserved : {T : Type 0} → (S : List JournalRecord → Reads → Type 0) (conn at : ℕ) (kept : Kept) (es : Seats) (bytes : List ℕ) (view : T → List Reply) (stops : T → Bool)
+    (w : WantOfMemory) (result : Result T WantOfMemory) → result ≡ Err w → S [] none_read
     → (b : Bool) × (hs : List Hindrance) × (stage : Stage)
     × Answers S (hears_at (seat_at conn es) b hs stage at (record { kept = kept; seats = es }) conn bytes) kept es view stops result
 bytes_unserved {T} S conn at kept es bytes view stops w result starved seals = (true, [], Ok None, by_seat (seat_at conn es))
@@ -54,7 +55,7 @@ bytes_unserved {T} S conn at kept es bytes view stops w result starved seals = (
     by_seat (Some seat) = subst (λ (r : Result T WantOfMemory). Answers S (unfed conn (record { kept = kept; seats = es })) kept es view stops r) (sym starved) ((refl, refl), seals, tt)
 
 -- bytes for an open connection
-pub bytes_heard : {T : Type 0} → (S : List JournalRecord → Type 0) (conn at : ℕ) (kept kept' : Kept) (es lent es' : Seats) (s s' : Seat) (bytes : List ℕ) (turned : Turned)
+pub bytes_heard : {T : Type 0} → (S : List JournalRecord → Reads → Type 0) (conn at : ℕ) (kept kept' : Kept) (es lent es' : Seats) (s s' : Seat) (bytes : List ℕ) (turned : Turned)
     (view : T → List Reply) (stops : T → Bool) (answer : T)
     → Some s ≡ lookup (is_at (nat_cmp conn)) es
     → lent ≡ set_value (is_at (nat_cmp conn)) es s'
@@ -65,7 +66,7 @@ pub bytes_heard : {T : Type 0} → (S : List JournalRecord → Type 0) (conn at 
     → (b : Bool) × (hs : List Hindrance) × (stage : Stage)
     × Answers S (hears_at (seat_at conn es) b hs stage at (record { kept = kept; seats = es }) conn bytes) kept' es' view stops (Ok answer)
 bytes_heard S conn at kept kept' es lent es' s s' bytes turned view stops answer present wrote stays heard those stop =
-    let (b, hs, stage, failed, seals, readings, said, e) = heard es in
+    let (b, hs, stage, failed, reads, seals, readings, said, e) = heard es in
     let whole = ap (λ (o : Option Seat). hears_at o b hs stage at (record { kept = kept; seats = es }) conn bytes) (sym present) ∙ e in
     let left_is = seats_after conn es lent es' s' turned.reply.closes wrote stays in (
       b,
@@ -79,7 +80,7 @@ bytes_heard S conn at kept kept' es lent es' s s' bytes turned view stops answer
     )
 
 -- strings after which serving goes on
-pub going_answers : {T U : Type 0} → (S : List JournalRecord → Type 0) (a : Answered) (kept : Kept) (seats : Seats) (view : T → List Reply) (of : U → T) (stops : U → Bool)
+pub going_answers : {T U : Type 0} → (S : List JournalRecord → Reads → Type 0) (a : Answered) (kept : Kept) (seats : Seats) (view : T → List Reply) (of : U → T) (stops : U → Bool)
     (letters : Result T WantOfMemory) (result : Result U WantOfMemory)
     → IfOk result (λ u. (letters ≡ Ok (of u)) × (stops u ≡ false)) → IfErr result (λ e. letters ≡ Err e)
     → Answers S a kept seats view (λ _. false) letters → Answers S a kept seats (λ u. view (of u)) stops result
@@ -89,9 +90,9 @@ going_answers {T} S a kept seats view of stops letters (Err e) ok err answers =
     let x = subst (λ (l : Result T WantOfMemory). Answers S a kept seats view (λ _. false) l) err answers in (x.0, x.1, x.2)
 
 -- memory was wanted before a string was sent
-pub leads_starved : (S : List JournalRecord → Type 0) (told : LinkTold) (s : State) (event : Event) (b : Bool) (hs : List Hindrance) (stage : Stage) (kept : Kept) (seats : Seats) (w : WantOfMemory) (result : Result Bool WantOfMemory)
+pub leads_starved : (S : List JournalRecord → Reads → Type 0) (told : LinkTold) (s : State) (event : Event) (b : Bool) (hs : List Hindrance) (stage : Stage) (kept : Kept) (seats : Seats) (w : WantOfMemory) (result : Result Bool WantOfMemory)
     → result ≡ Err w → kept ≡ (answered b hs stage s event).state.kept → (answered b hs stage s event).unsealed ≡ [] → kept ≡ s.kept
-    → S (answered b hs stage s event).unsealed → AreSaid (answered b hs stage s event).consoles.readings
+    → S (answered b hs stage s event).unsealed (answered b hs stage s event).reads → AreSaid (answered b hs stage s event).consoles.readings
     → (h : Hindrances) × (unclosed : ℕ) × AreLicensed h.deliveries unclosed told told × Leads S unclosed s.kept (happens h s event) told told kept seats result
 leads_starved S told s event b hs stage kept seats w result starved same none undone seals said =
     let h : Hindrances = record { unfed = b; turns = hs; stage = stage; deliveries = [] } in (
@@ -109,12 +110,12 @@ leads_starved S told s event b hs stage kept seats w result starved same none un
     )
 
 -- an event was answered, and its strings were sent
-pub leads_by : (S : List JournalRecord → Type 0) (old new : LinkTold) (s : State) (event : Event) (b : Bool) (hs : List Hindrance) (stage : Stage) (kept : Kept) (seats seats' : Seats) (rs : List Reply)
+pub leads_by : (S : List JournalRecord → Reads → Type 0) (old new : LinkTold) (s : State) (event : Event) (b : Bool) (hs : List Hindrance) (stage : Stage) (kept : Kept) (seats seats' : Seats) (rs : List Reply)
     (stops : Bool) (sent : Result (Unit {0}) WantOfMemory) (x : Unit {0})
     → kept ≡ (answered b hs stage s event).state.kept → seats ≡ (answered b hs stage s event).state.seats → rs ≡ (answered b hs stage s event).replies
     → stops ≡ (answered b hs stage s event).consoles.stops
     → (ds : List Delivery) × AreLicensed ds (unclosed_by sent) old new × Sends (delivered ds seats rs) old new seats' sent → sent ≡ Ok x
-    → S (answered b hs stage s event).unsealed → AreSaid (answered b hs stage s event).consoles.readings
+    → S (answered b hs stage s event).unsealed (answered b hs stage s event).reads → AreSaid (answered b hs stage s event).consoles.readings
     → (h : Hindrances) × (unclosed : ℕ) × AreLicensed h.deliveries unclosed old new × Leads S unclosed s.kept (happens h s event) old new kept seats' (Ok stops)
 leads_by S old new s event b hs stage kept seats seats' rs stops sent x same open' replies stop (ds, licensed, sends) ok seals said =
     let h : Hindrances = record { unfed = b; turns = hs; stage = stage; deliveries = ds } in
@@ -136,11 +137,11 @@ leads_by S old new s event b hs stage kept seats seats' rs stops sent x same ope
     )
 
 -- an event was answered, and memory was wanted for its strings
-pub leads_cut : (S : List JournalRecord → Type 0) (old new : LinkTold) (s : State) (event : Event) (b : Bool) (hs : List Hindrance) (stage : Stage) (kept : Kept) (seats seats' : Seats) (rs : List Reply)
+pub leads_cut : (S : List JournalRecord → Reads → Type 0) (old new : LinkTold) (s : State) (event : Event) (b : Bool) (hs : List Hindrance) (stage : Stage) (kept : Kept) (seats seats' : Seats) (rs : List Reply)
     (sent : Result (Unit {0}) WantOfMemory) (w v : WantOfMemory)
     → kept ≡ (answered b hs stage s event).state.kept → seats ≡ (answered b hs stage s event).state.seats → rs ≡ (answered b hs stage s event).replies
     → (ds : List Delivery) × AreLicensed ds (unclosed_by sent) old new × Sends (delivered ds seats rs) old new seats' sent → sent ≡ Err w
-    → S (answered b hs stage s event).unsealed → AreSaid (answered b hs stage s event).consoles.readings
+    → S (answered b hs stage s event).unsealed (answered b hs stage s event).reads → AreSaid (answered b hs stage s event).consoles.readings
     → (h : Hindrances) × (unclosed : ℕ) × AreLicensed h.deliveries unclosed old new × Leads S unclosed s.kept (happens h s event) old new kept seats' (Err v)
 leads_cut S old new s event b hs stage kept seats seats' rs sent w v same open' replies (ds, licensed, sends) bad seals said =
     let h : Hindrances = record { unfed = b; turns = hs; stage = stage; deliveries = ds } in

@@ -3,7 +3,8 @@ use Rattle.std.proofs.lemmas.List.{append-nil}
 use Rattle.std.proofs.Common.{◌≡◌, ◌⊎◌, ℕ, Bool, [], true, false, List, ◌∷◌, ◌++◌, Option, Result, Ok, Err, IfOk, refl, ap, subst, sym, ◌∙◌, inl, inr}
 use Rattle.undo_base.specs.declared.memory.NoMemory.{NoMemory as WantOfMemory}
 use Rattle.undo_base.specs.declared.keys.User.{User}
-use Rattle.seal_log.specs.declared.fault.ReadFault.TheVariants.{NoMemory as NoneForTexts}
+use Rattle.seal_log.specs.declared.fault.ReadFault.{ReadFault}
+use Rattle.seal_log.specs.declared.fault.ReadFault.TheVariants.{Disk as NotRead, NoMemory as NoneForTexts}
 use Rattle.verb_core.specs.declared.ask.Ask.{Ask}
 use Rattle.verb_core.specs.declared.ask.Refused.{Refused}
 use Rattle.verb_core.specs.declared.ask.Refused.TheVariants.{NoMemory}
@@ -32,16 +33,17 @@ use Rattle.imap_session.specs.Words.{fault_text, unread_text}
 use Rattle.paradox.specs.Kept.{Kept, store_of}
 use Rattle.mail_desk.specs.Desk.{Submitted, submitted_as}
 use Rattle.verb_bytes.specs.declared.journal.JournalRecord.{JournalRecord}
+use Rattle.time_desk.specs.Reading.{Reads, failed_once, none_read, wrong_once}
 use Rattle.verb_bytes.specs.declared.journal.JournalRecord.TheVariants.{Verb}
 use Rattle.mail_loop.specs.Asked.{Asked, fails, unsealed_as}
 use Rattle.mail_desk.specs.Timeline.{texts_of}
 use Rattle.mail_loop.specs.declared.reply.Reply.{Reply}
 use Rattle.mail_loop.specs.SmtpTurn.{Turn, says, ends}
-use Rattle.mail_loop.specs.Hindrance.{Hindrance, Clear, Refused as IsToldWant, Unread, Unstored, Unheard, Unanswered, Unsealed, Untold, unanswered}
-use Rattle.mail_loop.specs.ImapTurn.{Service, done, service, followed, settled, settled_as, size_in, submits, taken_by}
-use Rattle.mail_loop.specs.ImapHindrance.{imap_hindered, without_items, without_seals, without_texts}
+use Rattle.mail_loop.specs.Hindrance.{Hindrance, Clear, Refused as IsToldWant, Textless, Unread, Misread, Misled, Unstored, Unheard, Unanswered, Unsealed, Untold, lost, unanswered}
+use Rattle.mail_loop.specs.ImapTurn.{Service, changing, done, service, followed, settled, settled_as, size_in, submits, taken_by}
+use Rattle.mail_loop.specs.ImapHindrance.{imap_hindered, misread, refused_command, under, under_or, unread, without_items, without_seals, without_texts}
 use Rattle.mail_loop.specs.Took.{Adds, IsNone, Submits, Takes, asked_as}
-use Rattle.mail_loop.specs.ImapTook.{IsAnswered, IsReaderTold, ReadsNone, Settles, SettlesAgain, obeyed_under, under, where_done}
+use Rattle.mail_loop.specs.ImapTook.{IsAnswered, IsReaderTold, ReadsNone, Settles, SettlesAgain, TakesTexts, given, obeyed, obeyed_under, reads_of, where_done}
 use Rattle.mail_loop.proofs.Commands.{IsOnlySaid, heard_not}
 use Rattle.mail_loop.proofs.Refusals.{due_or_starved}
 use Rattle.mail_loop.proofs.Turns.{closed, lifted, told_last, told_nothing, told_whole, unsealed_too}
@@ -135,7 +137,7 @@ house_as kept (Ok item) = refl
 house_as kept (Err why) = refl
 
 -- what is asked leaves the house as it is
-pub house_stays : (S : List JournalRecord → Type 0) (kept kept' : Kept) (at : ℕ) (by : Option User) (ask : Ask) (outcome : Result Item SubmitFault)
+pub house_stays : (S : List JournalRecord → Reads → Type 0) (kept kept' : Kept) (at : ℕ) (by : Option User) (ask : Ask) (outcome : Result Item SubmitFault)
     → Submits S at kept by ask kept' outcome → kept'.house ≡ kept.house
 house_stays S kept kept' at by ask (Ok item) (is, seals) =
     sym (ap (λ (s : Submitted). s.kept.house) is) ∙ house_as kept (live (store_of kept) kept.next at by ask)
@@ -154,8 +156,20 @@ none_changed d a =
     let t = session.settle (store_of a.kept) a.kept.stamps d a.outcome in
     none_told t.out a.kept t.dialog
 
+none_wanted : (out : ImapOut) (kept : Kept) (d : Dialog) → (settled_as out kept d).reads ≡ none_read
+none_wanted (Say said) kept d = refl
+none_wanted (Bye said) kept d = refl
+none_wanted (Read bodies) kept d = refl
+none_wanted (Submit ask) kept d = refl
+
+-- what is said of an outcome wants no text
+quiet_settled : (d : Dialog) (a : Asked) → (settled d a).reads ≡ none_read
+quiet_settled d a =
+    let t = session.settle (store_of a.kept) a.kept.stamps d a.outcome in
+    none_wanted t.out a.kept t.dialog
+
 -- the mailboxes were noted before
-noted : (S : List JournalRecord → Type 0) (t : Turn Dialog) (ids : List BoxId) (old old' : Reply) (kept : Kept) (e : Dialog) (new : Reply) → old' ≡ record old { changed = old.changed ++ ids }
+noted : (S : List JournalRecord → Reads → Type 0) (t : Turn Dialog) (ids : List BoxId) (old old' : Reply) (kept : Kept) (e : Dialog) (new : Reply) → old' ≡ record old { changed = old.changed ++ ids }
     → t.changed ≡ [] → Takes S t old' kept e new → Takes S (record t { changed = ids }) old kept e new
 noted S t ids old old' kept e new is none takes = record {
   conn = takes.conn ∙ ap (λ (r : Reply). r.conn) is;
@@ -167,8 +181,8 @@ noted S t ids old old' kept e new is none takes = record {
 }
 
 -- the connection closes with no answer to what is kept, of which the mailboxes were noted before
-closed_on : (S : List JournalRecord → Type 0) (d : Dialog) (ask : Ask) (item : Item) (k : Kept) (old old' : Reply) (kept : Kept) (e : Dialog) (new : Reply)
-    → old' ≡ record old { changed = old.changed ++ taken_by d.user ask } → Takes IsNone (ends [] k) old' kept e new → S []
+closed_on : (S : List JournalRecord → Reads → Type 0) (d : Dialog) (ask : Ask) (item : Item) (k : Kept) (old old' : Reply) (kept : Kept) (e : Dialog) (new : Reply)
+    → old' ≡ record old { changed = old.changed ++ taken_by d.user ask } → Takes IsNone (ends [] k) old' kept e new → S [] none_read
     → Takes S (unanswered (done d ask (asked_as (Ok item) k))) old kept e new
 closed_on S d ask item k old old' kept e new is takes none =
     let t = noted IsNone (ends [] k) (taken_by d.user ask) old old' kept e new is refl takes in
@@ -178,7 +192,7 @@ closed_on S d ask item k old old' kept e new is takes none =
       kept_is = t.kept_is ∙ sym (kept_settled d (asked_as (Ok item) k));
       dialog_is = t.dialog_is;
       changed = t.changed;
-      seals = none;
+      seals = subst (λ (r : Reads). S [] r) (sym (quiet_settled d (asked_as (Ok item) k))) none;
     }
 
 -- where an ask could not be sealed the client is told, and its connection closes
@@ -196,7 +210,7 @@ none_more : (old old' : Reply) → old' ≡ record old { changed = old.changed +
 none_more old old' is = is ∙ ap (λ (ids : List BoxId). record old { changed = ids }) (append-nil old.changed)
 
 -- what is asked of the desk is a turn, hindered or not
-pub asked_turn : (S : List JournalRecord → Type 0) (at : ℕ) (kept kept' : Kept) (ask : Ask) (d e : Dialog) (outcome : Result Item SubmitFault) (old old' new : Reply) → session.is_due d ≡ true
+pub asked_turn : (S : List JournalRecord → Reads → Type 0) (at : ℕ) (kept kept' : Kept) (ask : Ask) (d e : Dialog) (outcome : Result Item SubmitFault) (old old' new : Reply) → session.is_due d ≡ true
     → old' ≡ record old { changed = old.changed ++ where_done outcome (taken_by d.user ask) }
     → Submits S at kept d.user ask kept' outcome
     → Settles outcome kept' d old' e new
@@ -276,55 +290,149 @@ bye_turn said text kept d old new f same clear lost (inr e) =
     (Unheard, subst (λ (t : Turn Dialog). Takes IsNone t old kept d new) (sym lost) (closed kept kept d old new refl e))
 
 -- an ask of a command that has its texts
-pub submits_turn : (S : List JournalRecord → Type 0) (at : ℕ) (kept kept' : Kept) (out : ImapOut) (ask : Ask) (d e : Dialog) (old new : Reply) → out ≡ Submit ask
+pub submits_turn : (S : List JournalRecord → Reads → Type 0) (at : ℕ) (kept kept' : Kept) (out : ImapOut) (ask : Ask) (d e : Dialog) (old new : Reply) → out ≡ Submit ask
     → (h : Hindrance) × Takes S (under h at kept (λ desk. done d ask (desk.asked d.user ask))) old kept' e new
     → (h : Hindrance) × Takes S (under h at kept (λ desk. submits desk kept out d)) old kept' e new
 submits_turn S at kept kept' out ask d e old new is t =
     subst (λ (o : ImapOut). (h : Hindrance) × Takes S (under h at kept (λ desk. submits desk kept o d)) old kept' e new) (sym is) t
 
--- what comes of a command that wants no texts
-pub followed_turn : (S : List JournalRecord → Type 0) (at : ℕ) (kept kept' : Kept) (out : ImapOut) (ask : Ask) (d e : Dialog) (old new : Reply) → out ≡ Submit ask
-    → (h : Hindrance) × Takes S (under h at kept (λ desk. done d ask (desk.asked d.user ask))) old kept' e new
+-- what comes of what the session gives
+pub out_turn : (S : List JournalRecord → Reads → Type 0) (at : ℕ) (kept kept' : Kept) (out gives : ImapOut) (d e : Dialog) (old new : Reply) → out ≡ gives
+    → (h : Hindrance) × Takes S (under h at kept (λ desk. followed desk kept gives d)) old kept' e new
     → (h : Hindrance) × Takes S (under h at kept (λ desk. followed desk kept out d)) old kept' e new
-followed_turn S at kept kept' out ask d e old new is t =
+out_turn S at kept kept' out gives d e old new is t =
     subst (λ (o : ImapOut). (h : Hindrance) × Takes S (under h at kept (λ desk. followed desk kept o d)) old kept' e new) (sym is) t
 
--- texts are of no use any more
-submits_same : (at : ℕ) (kept : Kept) (out : ImapOut) (d : Dialog) → submits (without_texts (service at kept)) kept out d ≡ submits (service at kept) kept out d
-submits_same at kept (Say said) d = refl
-submits_same at kept (Bye said) d = refl
-submits_same at kept (Read bodies) d = refl
-submits_same at kept (Submit ask) d = refl
+-- ---- texts
 
--- the texts were handed to the session
-pub texts_turn : (S : List JournalRecord → Type 0) (at : ℕ) (kept kept' : Kept) (bodies : List Body) (out : ImapOut) (d e e' : Dialog) (old new : Reply)
-    → session.heard d (Ok (texts_of kept.timeline bodies)) ≡ session.took out e
+-- what is asked has nothing to do with texts
+submits_same : (desk : Service) (texts : List Body → Result (List (List ℕ)) ReadFault) (r : Reads) (kept : Kept) (out : ImapOut) (d : Dialog)
+    → submits (record desk { texts = texts; reads = r }) kept out d ≡ submits desk kept out d
+submits_same desk texts r kept (Say said) d = refl
+submits_same desk texts r kept (Bye said) d = refl
+submits_same desk texts r kept (Read bodies) d = refl
+submits_same desk texts r kept (Submit ask) d = refl
+
+quiet_changing : (outcome : Result Item SubmitFault) (boxes : List BoxId) (t : Turn Dialog) → (changing outcome boxes t).reads ≡ t.reads
+quiet_changing (Ok item) boxes t = refl
+quiet_changing (Err fault) boxes t = refl
+
+quiet_submits : (desk : Service) (kept : Kept) (out : ImapOut) (d : Dialog) → (submits desk kept out d).reads ≡ none_read
+quiet_submits desk kept (Say said) d = refl
+quiet_submits desk kept (Bye said) d = refl
+quiet_submits desk kept (Read bodies) d = refl
+quiet_submits desk kept (Submit ask) d =
+    let a = desk.asked d.user ask in quiet_changing a.outcome (taken_by d.user ask) (settled d a) ∙ quiet_settled d a
+
+-- the same turn, for which texts were read so
+abbrev reading : Reads → Turn Dialog → Turn Dialog
+reading r t = record t { reads = r }
+
+reread : (S S' : List JournalRecord → Reads → Type 0) (r : Reads) (t : Turn Dialog) (old : Reply) (kept : Kept) (d : Dialog) (new : Reply) → t.reads ≡ none_read
+    → ((failed : List JournalRecord) → S failed none_read → S' failed r) → Takes S t old kept d new → Takes S' (reading r t) old kept d new
+reread S S' r t old kept d new quiet then takes = record {
+  conn = takes.conn;
+  said = takes.said;
+  kept_is = takes.kept_is;
+  dialog_is = takes.dialog_is;
+  changed = takes.changed;
+  seals = then t.unsealed (subst (λ (q : Reads). S t.unsealed q) quiet takes.seals);
+}
+
+-- turns before which texts were read, of which S is known behind that, and S' with it
+module _ (S S' : List JournalRecord → Reads → Type 0) (at : ℕ) (kept kept' : Kept) (e : Dialog) (old new : Reply) where
+  abbrev Before : Turn Dialog → Type 0
+  Before t = Takes S t old kept' e new
+
+  abbrev With : Turn Dialog → Type 0
+  With t = Takes S' t old kept' e new
+
+  -- the texts were others
+  wrong_turn : ((failed : List JournalRecord) → S failed none_read → S' failed none_read) → ((failed : List JournalRecord) → S failed none_read → S' failed wrong_once)
+      → (h : Hindrance) (f : Service → Turn Dialog) → ((desk : Service) → (f desk).reads ≡ none_read)
+      → Before (under h at kept f) → With (under h at kept (λ desk. reading wrong_once (f desk)))
+  wrong_turn none wrong Clear f quiet t = reread S S' wrong_once (f (service at kept)) old kept' e new (quiet (service at kept)) wrong t
+  wrong_turn none wrong IsToldWant f quiet t = reread S S' none_read (lost kept) old kept' e new refl none t
+  wrong_turn none wrong Textless f quiet t =
+      let desk = without_texts (service at kept) in reread S S' wrong_once (f desk) old kept' e new (quiet desk) wrong t
+  wrong_turn none wrong Unread f quiet t =
+      let desk = unread (service at kept) in reread S S' wrong_once (f desk) old kept' e new (quiet desk) wrong t
+  wrong_turn none wrong (Misread texts h) f quiet t = wrong_turn none wrong h (λ desk. f (misread texts desk)) (λ desk. quiet (misread texts desk)) t
+  wrong_turn none wrong (Misled said left) f quiet t = reread S S' wrong_once (f (service at kept)) old kept' e new (quiet (service at kept)) wrong t
+  wrong_turn none wrong Unstored f quiet t =
+      let desk = without_items kept (service at kept) in reread S S' wrong_once (f desk) old kept' e new (quiet desk) wrong t
+  wrong_turn none wrong Unheard f quiet t = reread S S' none_read (lost kept) old kept' e new refl none t
+  wrong_turn none wrong Unanswered f quiet t = reread S S' wrong_once (unanswered (f (service at kept))) old kept' e new (quiet (service at kept)) wrong t
+  wrong_turn none wrong Unsealed f quiet t =
+      let desk = without_seals at kept (service at kept) in reread S S' wrong_once (f desk) old kept' e new (quiet desk) wrong t
+  wrong_turn none wrong Untold f quiet t =
+      let desk = without_seals at kept (service at kept) in reread S S' wrong_once (unanswered (f desk)) old kept' e new (quiet desk) wrong t
+
+  -- the texts were those of the items in force
+  right_with : (bodies : List Body) (d : Dialog) (desk : Service) → ((failed : List JournalRecord) → S failed none_read → S' failed none_read)
+      → Before (given kept (texts_of kept.timeline bodies) d desk) → With (reading none_read (given kept (texts_of kept.timeline bodies) d desk))
+  right_with bodies d desk none t =
+      let u = session.heard d (Ok (texts_of kept.timeline bodies)) in
+      reread S S' none_read (submits desk kept u.out u.dialog) old kept' e new (quiet_submits desk kept u.out u.dialog) none t
+
+  right_without : (bodies : List Body) (d : Dialog) (desk : Service) → ((failed : List JournalRecord) → S failed none_read → S' failed none_read)
+      → Before (unanswered (given kept (texts_of kept.timeline bodies) d desk)) → With (unanswered (reading none_read (given kept (texts_of kept.timeline bodies) d desk)))
+  right_without bodies d desk none t =
+      let u = session.heard d (Ok (texts_of kept.timeline bodies)) in
+      reread S S' none_read (unanswered (submits desk kept u.out u.dialog)) old kept' e new (quiet_submits desk kept u.out u.dialog) none t
+
+  -- whatever texts a service has
+  given_same : (bodies : List Body) (d : Dialog) (texts : List Body → Result (List (List ℕ)) ReadFault) (r : Reads) (desk : Service)
+      → given kept (texts_of kept.timeline bodies) d (record desk { texts = texts; reads = r }) ≡ given kept (texts_of kept.timeline bodies) d desk
+  given_same bodies d texts r desk =
+      let u = session.heard d (Ok (texts_of kept.timeline bodies)) in submits_same desk texts r kept u.out u.dialog
+
+  right_turn : (bodies : List Body) (d : Dialog) → ((failed : List JournalRecord) → S failed none_read → S' failed none_read)
+      → (h : Hindrance) → Before (under h at kept (given kept (texts_of kept.timeline bodies) d))
+      → (h' : Hindrance) × With (under h' at kept (λ desk. followed desk kept (Read bodies) d))
+  right_turn bodies d none Clear t = (Clear, right_with bodies d (service at kept) none t)
+  right_turn bodies d none IsToldWant t = (Unheard, reread S S' none_read (lost kept) old kept' e new refl none t)
+  right_turn bodies d none Textless t =
+      (Clear, right_with bodies d (service at kept) none (subst Before (given_same bodies d (λ _. Err NoneForTexts) none_read (service at kept)) t))
+  right_turn bodies d none Unread t =
+      (Clear, right_with bodies d (service at kept) none (subst Before (given_same bodies d (λ _. Err NotRead) failed_once (service at kept)) t))
+  right_turn bodies d none (Misread texts h) t =
+      right_turn bodies d none h (subst (λ (f : Service → Turn Dialog). Before (under h at kept f)) (λ j desk. given_same bodies d (λ _. Ok texts) wrong_once desk j) t)
+  right_turn bodies d none (Misled said left) t = (Clear, right_with bodies d (service at kept) none t)
+  right_turn bodies d none Unstored t = (Unstored, right_with bodies d (without_items kept (service at kept)) none t)
+  right_turn bodies d none Unheard t = (Unheard, reread S S' none_read (lost kept) old kept' e new refl none t)
+  right_turn bodies d none Unanswered t = (Unanswered, right_without bodies d (service at kept) none t)
+  right_turn bodies d none Unsealed t = (Unsealed, right_with bodies d (without_seals at kept (service at kept)) none t)
+  right_turn bodies d none Untold t = (Untold, right_without bodies d (without_seals at kept (service at kept)) none t)
+
+  -- one or the other
+  by_texts : (bodies : List Body) (texts : List (List ℕ)) (d : Dialog) → ((failed : List JournalRecord) → S failed none_read → S' failed none_read)
+      → (texts ≡ texts_of kept.timeline bodies) ⊎ ((failed : List JournalRecord) → S failed none_read → S' failed wrong_once)
+      → (h : Hindrance) → Before (under h at kept (given kept texts d))
+      → (h' : Hindrance) × With (under h' at kept (λ desk. followed desk kept (Read bodies) d))
+  by_texts bodies texts d none (inl right) h t =
+      right_turn bodies d none h (subst (λ (x : List (List ℕ)). Before (under h at kept (given kept x d))) right t)
+  by_texts bodies texts d none (inr wrong) h t =
+      let u = session.heard d (Ok texts) in (
+        Misread texts h,
+        subst (λ (f : Service → Turn Dialog). With (under h at kept f)) (λ j desk. reading wrong_once (sym (submits_same desk (λ _. Ok texts) wrong_once kept u.out u.dialog) j))
+            (wrong_turn none wrong h (given kept texts d) (λ desk. quiet_submits desk kept u.out u.dialog) t),
+      )
+
+-- an ask of a command that has its texts
+pub given_turn : (S : List JournalRecord → Reads → Type 0) (at : ℕ) (kept kept' : Kept) (texts : List (List ℕ)) (out : ImapOut) (d e e' : Dialog) (old new : Reply)
+    → session.heard d (Ok texts) ≡ session.took out e
     → (h : Hindrance) × Takes S (under h at kept (λ desk. submits desk kept out e)) old kept' e' new
-    → (h : Hindrance) × Takes S (under h at kept (λ desk. followed desk kept (Read bodies) d)) old kept' e' new
-texts_turn S at kept kept' bodies out d e e' old new is (Clear, t) =
-    (Clear, subst (λ (u : Took). Takes S (submits (service at kept) kept u.out u.dialog) old kept' e' new) (sym is) t)
-texts_turn S at kept kept' bodies out d e e' old new is (IsToldWant, t) = (Unheard, t)
-texts_turn S at kept kept' bodies out d e e' old new is (Unread, t) = (
-  Clear,
-  subst (λ (u : Took). Takes S (submits (service at kept) kept u.out u.dialog) old kept' e' new) (sym is)
-      (subst (λ (u : Turn Dialog). Takes S u old kept' e' new) (submits_same at kept out e) t),
-)
-texts_turn S at kept kept' bodies out d e e' old new is (Unstored, t) =
-    (Unstored, subst (λ (u : Took). Takes S (submits (without_items kept (service at kept)) kept u.out u.dialog) old kept' e' new) (sym is) t)
-texts_turn S at kept kept' bodies out d e e' old new is (Unheard, t) = (Unheard, t)
-texts_turn S at kept kept' bodies out d e e' old new is (Unanswered, t) =
-    (Unanswered, subst (λ (u : Took). Takes S (unanswered (submits (service at kept) kept u.out u.dialog)) old kept' e' new) (sym is) t)
-texts_turn S at kept kept' bodies out d e e' old new is (Unsealed, t) =
-    (Unsealed, subst (λ (u : Took). Takes S (submits (without_seals at kept (service at kept)) kept u.out u.dialog) old kept' e' new) (sym is) t)
-texts_turn S at kept kept' bodies out d e e' old new is (Untold, t) =
-    (Untold, subst (λ (u : Took). Takes S (unanswered (submits (without_seals at kept (service at kept)) kept u.out u.dialog)) old kept' e' new) (sym is) t)
+    → TakesTexts S at kept texts d old kept' e' new
+given_turn S at kept kept' texts out d e e' old new is (h, t) =
+    inl (h, subst (λ (u : Took). Takes S (under h at kept (λ desk. submits desk kept u.out u.dialog)) old kept' e' new) (sym is) t)
 
--- the session was told that there is no memory for its texts
-pub read_not : (kept : Kept) (d e : Dialog) (out : ImapOut) (old new : Reply) → old.closes ≡ false
-    → session.heard d (Err NoneForTexts) ≡ session.took out e → IsReaderTold out old new → ReadsNone kept d old e new
-read_not kept d e out old new stays is told = by_told (out_told out kept e old new stays told)
+-- the session was told why its texts were not read
+pub read_not : (why : ReadFault) (kept : Kept) (d e : Dialog) (out : ImapOut) (old new : Reply) → old.closes ≡ false
+    → session.heard d (Err why) ≡ session.took out e → IsReaderTold out old new → ReadsNone why kept d old e new
+read_not why kept d e out old new stays is told = by_told (out_told out kept e old new stays told)
   where
-    by_told : Takes IsNone (settled_as out kept e) old kept e new ⊎ Takes IsNone (ends [] kept) old kept e new → ReadsNone kept d old e new
+    by_told : Takes IsNone (settled_as out kept e) old kept e new ⊎ Takes IsNone (ends [] kept) old kept e new → ReadsNone why kept d old e new
     by_told (inl t) = inr (subst (λ (u : Took). Takes IsNone (settled_as u.out kept u.dialog) old kept e new) (sym is) t)
     by_told (inr t) = inl t
 
@@ -334,37 +442,62 @@ only_said desk kept (Bye said) d wrong = absurd wrong
 only_said desk kept (Read bodies) d wrong = absurd wrong
 only_said desk kept (Submit ask) d wrong = absurd wrong
 
--- no memory was found for the texts of a command
-pub none_turn : (at : ℕ) (kept : Kept) (bodies : List Body) (d e : Dialog) (old new : Reply) → is_reading d ≡ true → ReadsNone kept d old e new
-    → (h : Hindrance) × Takes IsNone (under h at kept (λ desk. followed desk kept (Read bodies) d)) old kept e new
-none_turn at kept bodies d e old new reading (inl t) = (Unheard, t)
-none_turn at kept bodies d e old new reading (inr t) =
-    let u = session.heard d (Err NoneForTexts) in (
-      Unread,
-      subst (λ (v : Turn Dialog). Takes IsNone v old kept e new)
-          (only_said (without_texts (service at kept)) kept u.out u.dialog (heard_not d u.dialog NoneForTexts u.out reading refl)) t,
-    )
+-- what is told of it is what comes of a service that has no texts
+told_why : (S : List JournalRecord → Reads → Type 0) (why : ReadFault) (r : Reads) (desk : Service) (kept : Kept) (d e : Dialog) (old new : Reply) → is_reading d ≡ true → S [] r
+    → Takes IsNone (let u = session.heard d (Err why) in settled_as u.out kept u.dialog) old kept e new
+    → Takes S (let u = session.heard d (Err why) in reading r (submits desk kept u.out u.dialog)) old kept e new
+told_why S why r desk kept d e old new awaits none t =
+    let u = session.heard d (Err why) in
+    subst (λ (v : Turn Dialog). Takes S (reading r v) old kept e new)
+    (only_said desk kept u.out u.dialog (heard_not d u.dialog why u.out awaits refl))
+    (reread IsNone S r (settled_as u.out kept u.dialog) old kept e new (none_wanted u.out kept u.dialog)
+    (λ failed is. subst (λ (f : List JournalRecord). S f r) (sym is.0) none) t)
+
+-- the texts of a command were not read
+pub unread_turn : (S : List JournalRecord → Reads → Type 0) (at : ℕ) (kept : Kept) (bodies : List Body) (why : ReadFault) (d e : Dialog) (old new : Reply) → is_reading d ≡ true
+    → S [] none_read → S [] (reads_of why) → ReadsNone why kept d old e new
+    → (h : Hindrance) × Takes S (under h at kept (λ desk. followed desk kept (Read bodies) d)) old kept e new
+unread_turn S at kept bodies why d e old new awaits none seals (inl t) = (Unheard, lifted S (lost kept) old kept e new t none)
+unread_turn S at kept bodies NoneForTexts d e old new awaits none seals (inr t) =
+    (Textless, told_why S NoneForTexts none_read (without_texts (service at kept)) kept d e old new awaits seals t)
+unread_turn S at kept bodies NotRead d e old new awaits none seals (inr t) =
+    (Unread, told_why S NotRead failed_once (unread (service at kept)) kept d e old new awaits seals t)
+
+-- the texts of a command were read, and handed to the session
+pub texts_turn : (S S' : List JournalRecord → Reads → Type 0) (at : ℕ) (kept kept' : Kept) (bodies : List Body) (texts : List (List ℕ)) (d e : Dialog) (old new : Reply) → is_reading d ≡ true
+    → ((failed : List JournalRecord) → S failed none_read → S' failed none_read)
+    → (texts ≡ texts_of kept.timeline bodies) ⊎ ((failed : List JournalRecord) → S failed none_read → S' failed wrong_once)
+    → TakesTexts S at kept texts d old kept' e new
+    → (h : Hindrance) × Takes S' (under h at kept (λ desk. followed desk kept (Read bodies) d)) old kept' e new
+texts_turn S S' at kept kept' bodies texts d e old new awaits none which (inl (h, t)) = by_texts S S' at kept kept' e old new bodies texts d none which h t
+texts_turn S S' at kept kept' bodies texts d e old new awaits none which (inr (t, same, seals)) =
+    subst (λ (k : Kept). (h : Hindrance) × Takes S' (under h at kept (λ desk. followed desk kept (Read bodies) d)) old k e new) (sym same)
+    (unread_turn S' at kept bodies NoneForTexts d e old new awaits (none [] seals) (none [] seals) t)
 
 -- ---- a command
 
-pub command_turn : (S : List JournalRecord → Type 0) (at : ℕ) (kept kept' : Kept) (command : ImapCommand) (out : ImapOut) (d e e' : Dialog) (old new : Reply)
+-- what the desk serves, hindered or not, where want of memory of the session may be told
+or_under : (P : Turn Dialog → Type 0) (told : Turn Dialog) (at : ℕ) (kept : Kept) (f : Service → Turn Dialog) (h : Hindrance) → P (under h at kept f)
+    → (h' : Hindrance) × P (under_or h' told at kept f)
+or_under P told at kept f Clear t = (Clear, t)
+or_under P told at kept f IsToldWant t = (Unheard, t)
+or_under P told at kept f Textless t = (Textless, t)
+or_under P told at kept f Unread t = (Unread, t)
+or_under P told at kept f (Misread texts h) t = (Misread texts h, t)
+or_under P told at kept f (Misled said left) t = (Misled said left, t)
+or_under P told at kept f Unstored t = (Unstored, t)
+or_under P told at kept f Unheard t = (Unheard, t)
+or_under P told at kept f Unanswered t = (Unanswered, t)
+or_under P told at kept f Unsealed t = (Unsealed, t)
+or_under P told at kept f Untold t = (Untold, t)
+
+pub command_turn : (S : List JournalRecord → Reads → Type 0) (at : ℕ) (kept kept' : Kept) (command : ImapCommand) (out : ImapOut) (d e e' : Dialog) (old new : Reply)
     → session.turn kept.house (store_of kept) (size_in kept) d command ≡ session.took out e
     → (h : Hindrance) × Takes S (under h at kept (λ desk. followed desk kept out e)) old kept' e' new
     → (h : Hindrance) × Takes S (obeyed_under h at kept d (Ok command)) old kept' e' new
-command_turn S at kept kept' command out d e e' old new is (Clear, t) =
-    (Clear, subst (λ (u : Took). Takes S (followed (service at kept) kept u.out u.dialog) old kept' e' new) (sym is) t)
-command_turn S at kept kept' command out d e e' old new is (IsToldWant, t) = (Unheard, t)
-command_turn S at kept kept' command out d e e' old new is (Unread, t) =
-    (Unread, subst (λ (u : Took). Takes S (followed (without_texts (service at kept)) kept u.out u.dialog) old kept' e' new) (sym is) t)
-command_turn S at kept kept' command out d e e' old new is (Unstored, t) =
-    (Unstored, subst (λ (u : Took). Takes S (followed (without_items kept (service at kept)) kept u.out u.dialog) old kept' e' new) (sym is) t)
-command_turn S at kept kept' command out d e e' old new is (Unheard, t) = (Unheard, t)
-command_turn S at kept kept' command out d e e' old new is (Unanswered, t) =
-    (Unanswered, subst (λ (u : Took). Takes S (unanswered (followed (service at kept) kept u.out u.dialog)) old kept' e' new) (sym is) t)
-command_turn S at kept kept' command out d e e' old new is (Unsealed, t) =
-    (Unsealed, subst (λ (u : Took). Takes S (followed (without_seals at kept (service at kept)) kept u.out u.dialog) old kept' e' new) (sym is) t)
-command_turn S at kept kept' command out d e e' old new is (Untold, t) =
-    (Untold, subst (λ (u : Took). Takes S (unanswered (followed (without_seals at kept (service at kept)) kept u.out u.dialog)) old kept' e' new) (sym is) t)
+command_turn S at kept kept' command out d e e' old new is (h, t) =
+    or_under (λ u. Takes S u old kept' e' new) (refused_command kept d (Ok command)) at kept (λ desk. obeyed desk kept d (Ok command)) h
+    (subst (λ (u : Took). Takes S (under h at kept (λ desk. followed desk kept u.out u.dialog)) old kept' e' new) (sym is) t)
 
 -- the refusal of lines, where it is no want of memory
 pub refusal_turn : (at : ℕ) (kept : Kept) (d d' : Dialog) (reading : Reading) (why : ImapRefused) (text : Result (List ℕ) WantOfMemory) (old new : Reply)
@@ -375,20 +508,13 @@ refusal_turn at kept d d' reading why text old new is same answered =
     (answered_turn (unread_text why) text kept d d' old new (λ h. obeyed_under h at kept d (Err why)) Clear same refl refl answered)
 
 -- a command as it stands in the stream
-pub raw_turn : (S : List JournalRecord → Type 0) (at : ℕ) (kept kept' : Kept) (raw : RawCommand) (d d' : Dialog) (old new : Reply)
+pub raw_turn : (S : List JournalRecord → Reads → Type 0) (at : ℕ) (kept kept' : Kept) (next : Next) (raw : RawCommand) (d d' : Dialog) (old new : Reply) → next ≡ Command raw
     → (h : Hindrance) × Takes S (obeyed_under h at kept d (command_of raw)) old kept' d' new
-    → (h : Hindrance) × Takes S (imap_hindered h at kept d (Command raw)) old kept' d' new
-raw_turn S at kept kept' raw d d' old new (Clear, t) = (Clear, t)
-raw_turn S at kept kept' raw d d' old new (IsToldWant, t) = (IsToldWant, t)
-raw_turn S at kept kept' raw d d' old new (Unread, t) = (Unread, t)
-raw_turn S at kept kept' raw d d' old new (Unstored, t) = (Unstored, t)
-raw_turn S at kept kept' raw d d' old new (Unheard, t) = (Unheard, t)
-raw_turn S at kept kept' raw d d' old new (Unanswered, t) = (Unanswered, t)
-raw_turn S at kept kept' raw d d' old new (Unsealed, t) = (Unsealed, t)
-raw_turn S at kept kept' raw d d' old new (Untold, t) = (Untold, t)
+    → (h : Hindrance) × Takes S (imap_hindered h at kept d next) old kept' d' new
+raw_turn S at kept kept' next raw d d' old new is t = subst (λ (n : Next). (h : Hindrance) × Takes S (imap_hindered h at kept d n) old kept' d' new) (sym is) t
 
 -- what a user asks of the desk is a turn, hindered or not
-pub asked_turn_by : (S : List JournalRecord → Type 0) (at : ℕ) (kept kept' : Kept) (by : Option User) (ask : Ask) (d e : Dialog) (outcome : Result Item SubmitFault) (old old' new : Reply) → by ≡ d.user
+pub asked_turn_by : (S : List JournalRecord → Reads → Type 0) (at : ℕ) (kept kept' : Kept) (by : Option User) (ask : Ask) (d e : Dialog) (outcome : Result Item SubmitFault) (old old' new : Reply) → by ≡ d.user
     → session.is_due d ≡ true
     → old' ≡ record old { changed = old.changed ++ where_done outcome (taken_by by ask) }
     → Submits S at kept by ask kept' outcome

@@ -5,6 +5,7 @@ use Rattle.std.specs.Ordering.{nat_cmp}
 use Rattle.undo_base.specs.declared.memory.NoMemory.{NoMemory as WantOfMemory}
 use Rattle.verb_core.specs.declared.conf.House.{House}
 use Rattle.paradox.specs.Kept.{Kept}
+use Rattle.time_desk.specs.Reading.{none_read}
 use Rattle.mail_loop.specs.State.{Seat}
 use Rattle.mail_loop.specs.ConsoleTurn.{no_consoles}
 use Rattle.mail_loop.specs.Machine.{Answered, Reply, Seats, with_new_seat}
@@ -15,16 +16,16 @@ use Rattle.mail_loop.specs.Took.{IsNone}
 -- a seat more, and these replies
 abbrev pub with_replies : Kept → Seats → ℕ → Seat → List Reply → Answered
 with_replies kept es conn seat replies =
-    record { state = record { kept = kept; seats = with_new_seat conn seat es }; replies = replies; unsealed = []; consoles = no_consoles }
+    record { state = record { kept = kept; seats = with_new_seat conn seat es }; replies = replies; unsealed = []; reads = none_read; consoles = no_consoles }
 
 -- a client was admitted, and this is said; or memory was wanted
 pub admitted : {T : Type 0} (a : Answered) (kept : Kept) (es es' : Seats) (conn : ℕ) (seat : Seat) (replies : List Reply) (view : T → List Reply) (result : Result T WantOfMemory)
     → a ≡ with_replies kept es conn seat replies → Opens conn seat replies es es' view result
     → Answers IsNone a kept es' view (λ _. false) result
 admitted a kept es es' conn seat replies view (Ok letters) is opens =
-    subst (λ (x : Answered). Answers IsNone x kept es' view (λ _. false) (Ok letters)) (sym is) ((refl, opens.0, opens.1, refl), refl, tt)
+    subst (λ (x : Answered). Answers IsNone x kept es' view (λ _. false) (Ok letters)) (sym is) ((refl, opens.0, opens.1, refl), (refl, refl), tt)
 admitted {T} a kept es es' conn seat replies view (Err e) is opens =
-    subst (λ (x : Answered). Answers IsNone x kept es' view (λ _. false) (Err e)) (sym is) ((refl, refl), refl, tt)
+    subst (λ (x : Answered). Answers IsNone x kept es' view (λ _. false) (Err e)) (sym is) ((refl, refl), (refl, refl), tt)
 
 -- the seat and the replies, as they are
 pub opened_as : {T : Type 0} (conn : ℕ) (made seat : Seat) (said replies : List Reply) (es es' : Seats) (view : T → List Reply) (result : Result T WantOfMemory)

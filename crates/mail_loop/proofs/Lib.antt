@@ -3,6 +3,7 @@ pub mod Refusals
 pub mod Turns
 pub mod Commands
 pub mod ImapTurns
+pub mod TextsRead
 pub mod Nexts
 pub mod Stretch
 pub mod ConsoleTurns

@@ -14,6 +14,7 @@ use Rattle.box_store.specs.Refusing.{IsRefusal}
 use Rattle.smtp_session.specs.Dialog.{is_outcome_of_delivery, is_refusal_of_delivery}
 use Rattle.paradox.specs.Kept.{Kept, store_of}
 use Rattle.verb_bytes.specs.declared.journal.JournalRecord.{JournalRecord}
+use Rattle.time_desk.specs.Reading.{Reads}
 use Rattle.mail_loop.specs.Took.{Submits}
 
 not_users : {A : Type 0} → true ≡ false → A
@@ -64,7 +65,7 @@ delivery_refused seldom s number at (Rename mailbox target) why by is = not_user
 delivery_refused seldom s number at (Delete mailbox) why by is = not_users by
 
 -- the outcome of an ask that is no user's is one that a delivery can have
-pub delivery_outcome : SeldomRefused → (S : List JournalRecord → Type 0) (kept kept' : Kept) (at : ℕ) (ask : Ask) (outcome : Result Item SubmitFault) → is_users ask ≡ false
+pub delivery_outcome : SeldomRefused → (S : List JournalRecord → Reads → Type 0) (kept kept' : Kept) (at : ℕ) (ask : Ask) (outcome : Result Item SubmitFault) → is_users ask ≡ false
     → Submits S at kept None ask kept' outcome → is_outcome_of_delivery outcome ≡ true
 delivery_outcome seldom S kept kept' at ask (Ok item) by did = refl
 delivery_outcome seldom S kept kept' at ask (Err (IsRefused why)) by did = delivery_refused seldom (store_of kept) kept.next at ask why by did.0

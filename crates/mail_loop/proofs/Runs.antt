@@ -13,12 +13,14 @@ use Rattle.undo_outside.specs.Calls.{LinkTold, Rose, then_told, IsNext, Comes}
 use Rattle.mail_loop.specs.declared.serve.ServeFault.{ServeFault}
 use Rattle.mail_loop.specs.declared.serve.ServeFault.TheVariants.{Link, Disk, Turns, NoMemory}
 use Rattle.verb_bytes.specs.declared.journal.JournalRecord.{JournalRecord}
+use Rattle.time_desk.specs.Reading.{Reads, both_read, none_read}
 use Rattle.paradox.specs.Kept.{Kept}
 use Rattle.mail_loop.specs.State.{State}
 use Rattle.mail_loop.specs.ConsoleTurn.{AreSaid, Reading, both, no_consoles}
 use Rattle.mail_loop.specs.Machine.{Seats, Hindrances, Outcome, outcome, delivered, happens, answers, ignored}
 use Rattle.mail_loop.specs.Did.{Counted, RoseBy, AreLicensed, Goes, Leads, StopsAtClose, WantsIn, left_out_of, missed_of}
-use Rattle.mail_loop.specs.Serving.{Step, is_end, after_notes, run, at_first, NoEnd, missed_in, ComeInOrder, events_of, readings_in, stopped_in, unsealed_in, left_out_in, CountsFaults, IsCutAtClose, IsLeftStarved, IsLeftUnsealed, Serves, Served, ServedOver}
+use Rattle.mail_loop.specs.Serving.{Step, is_end, after_notes, run, at_first, NoEnd, missed_in, ComeInOrder, events_of, readings_in, reads_in, stopped_in, unsealed_in, left_out_in, CountsFaults, IsCutAtClose, IsLeftStarved, IsLeftUnsealed, Serves, Served, ServedOver}
+use Rattle.mail_loop.proofs.Sealed.{no_more, none_before, reads_regroup}
 use Rattle.mail_loop.proofs.Links.{counted_add, counted_one, goes_none, none_licensed, then_told-nil, then_told-append, rose_add}
 
 -- one element more has it too
@@ -30,7 +32,7 @@ all_more P (y ∷ xs) x all here = (all.0, all_more P xs x all.1 here)
 abbrev pub then_step : Outcome → Step → Outcome
 then_step o step =
     let p = happens step.hindrances o.state step.event in
-    record { state = p.state; notes = o.notes ++ Came step.event ∷ p.notes; unsealed = o.unsealed ++ p.unsealed; consoles = both o.consoles p.consoles }
+    record { state = p.state; notes = o.notes ++ Came step.event ∷ p.notes; unsealed = o.unsealed ++ p.unsealed; reads = both_read o.reads p.reads; consoles = both o.consoles p.consoles }
 
 or_none : (b : Bool) → (b || false) ≡ b
 or_none true = refl
@@ -40,6 +42,9 @@ or_more : (a b c : Bool) → (a || (b || c)) ≡ ((a || b) || c)
 or_more true b c = refl
 or_more false b c = refl
 
+before_and_after : (r : Reads) → both_read r none_read ≡ both_read none_read r
+before_and_after r = none_before r ∙ sym (no_more r)
+
 run_more : (steps : List Step) (s : State) (step : Step) → run (steps ++ step ∷ []) s ≡ then_step (run steps s) step
 run_more [] s step =
     let p = happens step.hindrances s step.event in
@@ -47,17 +52,19 @@ run_more [] s step =
       state = p.state;
       notes = append-nil (Came step.event ∷ p.notes) j;
       unsealed = append-nil p.unsealed j;
+      reads = before_and_after p.reads j;
       consoles = record { readings = append-nil p.consoles.readings j; stops = or_none p.consoles.stops j };
     }
 run_more (first ∷ steps) s step =
     let o = happens first.hindrances s first.event in
     let q = run steps o.state in
     let p = happens step.hindrances q.state step.event in
-    ap (after_notes (Came first.event ∷ o.notes) o.unsealed o.consoles) (run_more steps o.state step)
+    ap (after_notes (Came first.event ∷ o.notes) o.unsealed o.reads o.consoles) (run_more steps o.state step)
     ∙ (λ j. record {
       state = p.state;
       notes = sym (append_assoc (Came first.event ∷ o.notes) q.notes (Came step.event ∷ p.notes)) j;
       unsealed = sym (append_assoc o.unsealed q.unsealed p.unsealed) j;
+      reads = sym (reads_regroup o.reads q.reads p.reads) j;
       consoles = record {
         readings = sym (append_assoc o.consoles.readings q.consoles.readings p.consoles.readings) j;
         stops = or_more o.consoles.stops q.consoles.stops p.consoles.stops j;
@@ -85,10 +92,10 @@ left_out_more : (steps : List Step) (step : Step) → left_out_in (steps ++ step
 left_out_more [] step = omega arith
 left_out_more (s ∷ steps) step = let more = left_out_more steps step in omega arith
 
--- serving ended so; T holds of the record whose sealing failed
-abbrev pub Ran : (List JournalRecord → Type 0) → ℕ → LinkTold → LinkTold → Kept → Kept → Result (Unit {0}) ServeFault → Type 0
+-- serving ended so; T holds of the record whose sealing failed, and of what was not read
+abbrev pub Ran : (List JournalRecord → Reads → Type 0) → ℕ → LinkTold → LinkTold → Kept → Kept → Result (Unit {0}) ServeFault → Type 0
 Ran T limit old new kept kept' result =
-    (steps : List Step) × (notes : List LinkNote) × ServedOver limit steps notes old new kept kept' result × T (unsealed_in steps kept)
+    (steps : List Step) × (notes : List LinkNote) × ServedOver limit steps notes old new kept kept' result × T (unsealed_in steps kept) (reads_in steps kept)
 
 -- What the link did and counted over these steps. So many calls more found no memory than there are strings left out.
 pub record Done (wants : ℕ) (old new : LinkTold) (steps : List Step) (notes : List LinkNote) : Type 0 where
@@ -118,20 +125,43 @@ pub record SoServed (turns : ℕ) (old new : LinkTold) (kept : Kept) (state : St
   pub count : length steps ≡ turns
   pub no_end : NoEnd steps
   pub readings : List Reading
-  pub leaves : run steps (at_first kept) ≡ record { state = state; notes = notes; unsealed = []; consoles = record { readings = readings; stops = false } }
+  pub reads : Reads
+  pub leaves : run steps (at_first kept) ≡ record { state = state; notes = notes; unsealed = []; reads = reads; consoles = record { readings = readings; stops = false } }
   pub said : AreSaid readings
   pub done : Done 0 old new steps notes
 
-pub so_served_none : (told : LinkTold) (kept : Kept) (seats : Seats) → seats ≡ [] → SoServed 0 told told kept (record { kept = kept; seats = seats })
-so_served_none told kept seats none = record {
-  steps = [];
-  notes = [];
-  count = refl;
-  no_end = tt;
-  readings = [];
-  leaves = ap (λ (c : Seats). record { state = record { kept = kept; seats = c }; notes = []; unsealed = []; consoles = no_consoles }) (sym none);
-  said = tt;
-  done = done_none told;
+-- the same, and S holds of what was not read
+pub record SoSealed (S : List JournalRecord → Reads → Type 0) (turns : ℕ) (old new : LinkTold) (kept : Kept) (state : State) : Type 0 where
+  pub served : SoServed turns old new kept state
+  pub seals : S [] served.reads
+
+-- none failed
+abbrev pub Only : (List JournalRecord → Reads → Type 0) → Type 0
+Only S = (failed : List JournalRecord) (reads : Reads) → S failed reads → failed ≡ []
+
+-- some failed
+abbrev pub Fails : (List JournalRecord → Reads → Type 0) → Type 0
+Fails S = (failed : List JournalRecord) (reads : Reads) → S failed reads → failed ≢ []
+
+-- S before and then T is U of both
+abbrev pub Chains : (List JournalRecord → Reads → Type 0) → (List JournalRecord → Reads → Type 0) → (List JournalRecord → Reads → Type 0) → Type 0
+Chains S T U = (failed : List JournalRecord) (r q : Reads) → S [] r → T failed q → U failed (both_read r q)
+
+pub so_served_none : (S : List JournalRecord → Reads → Type 0) (told : LinkTold) (kept : Kept) (seats : Seats) → seats ≡ [] → S [] none_read
+    → SoSealed S 0 told told kept (record { kept = kept; seats = seats })
+so_served_none S told kept seats none seals = record {
+  served = record {
+    steps = [];
+    notes = [];
+    count = refl;
+    no_end = tt;
+    readings = [];
+    reads = none_read;
+    leaves = ap (λ (c : Seats). record { state = record { kept = kept; seats = c }; notes = []; unsealed = []; reads = none_read; consoles = no_consoles }) (sym none);
+    said = tt;
+    done = done_none told;
+  };
+  seals = seals;
 }
 
 -- the log after an event and what the link did for it
@@ -196,11 +226,6 @@ said_more : (a b : List Reading) → AreSaid a → AreSaid b → AreSaid (a ++ b
 said_more [] b first second = second
 said_more (r ∷ a) b first second = (first.0, said_more a b first.1 second)
 
--- no sealing failed in an event after which the desk is open
-pub sealed_all : (S : List JournalRecord → Type 0) (old new : LinkTold) (s : State) (event : Event) (after : Kept) (seats : Seats) (r : Result Bool WantOfMemory)
-    → (h : Hindrances) × (n : ℕ) × AreLicensed h.deliveries n old new × Leads S n s.kept (happens h s event) old new after seats r → ((failed : List JournalRecord) → S failed → failed ≡ []) → S []
-sealed_all S old new s event after seats r (h, n, licensed, leads) only = subst S (only (happens h s event).unsealed leads.seals) leads.seals
-
 -- no console asked serving to stop so far
 so_goes : (turns : ℕ) (old new : LinkTold) (kept : Kept) (s : State) → (so : SoServed turns old new kept s) → stopped_in so.steps kept ≡ false
 so_goes turns old new kept s so = ap (λ (o : Outcome). o.consoles.stops) so.leaves
@@ -228,7 +253,7 @@ done_more turns n old mid got new kept s event h more so came licensed goes =
 
 -- what the steps leave with one more
 leaves_more : (turns : ℕ) (old mid : LinkTold) (kept : Kept) (s : State) (step : Step) → (so : SoServed turns old mid kept s)
-    → run (so.steps ++ step ∷ []) (at_first kept) ≡ then_step (record { state = s; notes = so.notes; unsealed = []; consoles = record { readings = so.readings; stops = false } }) step
+    → run (so.steps ++ step ∷ []) (at_first kept) ≡ then_step (record { state = s; notes = so.notes; unsealed = []; reads = so.reads; consoles = record { readings = so.readings; stops = false } }) step
 leaves_more turns old mid kept s step so = run_more so.steps (at_first kept) step ∙ ap (λ q. then_step q step) so.leaves
 
 -- the last step's event, after those before
@@ -237,9 +262,9 @@ here_is : (turns : ℕ) (old mid : LinkTold) (kept : Kept) (s : State) (step : S
 here_is turns old mid kept s step so = ap (λ (q : Outcome). happens step.hindrances q.state step.event) so.leaves
 
 -- serving ended after these steps
-ended_over : (T : List JournalRecord → Type 0) (limit wants : ℕ) (old new : LinkTold) (kept kept' : Kept) (steps : List Step) (notes : List LinkNote) (result : Result (Unit {0}) ServeFault)
+ended_over : (T : List JournalRecord → Reads → Type 0) (limit wants : ℕ) (old new : LinkTold) (kept kept' : Kept) (steps : List Step) (notes : List LinkNote) (result : Result (Unit {0}) ServeFault)
     → Done wants old new steps notes → Served limit wants steps kept notes kept' result → (wants ≡ 1 → new.starved_last ≡ true) → CountsFaults result old new
-    → AreSaid (readings_in steps kept) → T (unsealed_in steps kept) → Ran T limit old new kept kept' result
+    → AreSaid (readings_in steps kept) → T (unsealed_in steps kept) (reads_in steps kept) → Ran T limit old new kept kept' result
 ended_over T limit wants old new kept kept' steps notes result done served last faults read seals = (
   steps,
   notes,
@@ -263,35 +288,42 @@ none_wanted : (b : Bool) → ◌≡◌ {A = ℕ} 0 1 → b ≡ true
 none_wanted b e = absurd (let wrong : ◌≡◌ {A = ℕ} 0 1 = e in cc)
 
 -- one step more
-pub so_more : (S : List JournalRecord → Type 0) (turns : ℕ) (old mid got new : LinkTold) (kept after : Kept) (s : State) (seats : Seats) (event : Event) (r : Result Bool WantOfMemory) (b : Bool)
-    → SoServed turns old mid kept s → Comes mid got (Ok event) → is_end event.what ≡ false
-    → (h : Hindrances) × (n : ℕ) × AreLicensed h.deliveries n got new × Leads S n s.kept (happens h s event) got new after seats r
-    → r ≡ Ok b → b ≡ false → ((failed : List JournalRecord) → S failed → failed ≡ [])
-    → SoServed (turns + 1) old new kept (record { kept = after; seats = seats })
-so_more S turns old mid got new kept after s seats event r b so came goes (h, n, licensed, leads) ok on only =
+pub so_more : (S T U : List JournalRecord → Reads → Type 0) (turns : ℕ) (old mid got new : LinkTold) (kept after : Kept) (s : State) (seats : Seats) (event : Event) (r : Result Bool WantOfMemory) (b : Bool)
+    → SoSealed S turns old mid kept s → Comes mid got (Ok event) → is_end event.what ≡ false
+    → (h : Hindrances) × (n : ℕ) × AreLicensed h.deliveries n got new × Leads T n s.kept (happens h s event) got new after seats r
+    → r ≡ Ok b → b ≡ false → Only T → Chains S T U
+    → SoSealed U (turns + 1) old new kept (record { kept = after; seats = seats })
+so_more S T U turns old mid got new kept after s seats event r b sealed came goes (h, n, licensed, leads) ok on only chain =
+    let so = sealed.served in
     let step : Step = record { event = event; hindrances = h } in
     let o = happens h s event in
     let did = leads.did in
     let whole = all_done (WantsIn o s.kept n new) r b o.notes did.notes ok did.whole in
     let left = seats_left r b seats o.state.seats o.consoles.stops ok leads.seats_are in
     let readings = so.readings ++ o.consoles.readings in
+    let reads = both_read so.reads o.reads in
     let steps = so.steps ++ step ∷ [] in
     let notes = so.notes ++ Came event ∷ did.notes in
+    let none = only o.unsealed o.reads leads.seals in
     record {
-      steps = steps;
-      notes = notes;
-      count = length-append so.steps (step ∷ []) ∙ (omega (arith, so.count));
-      no_end = all_more (λ t. is_end t.event.what ≡ false) so.steps step so.no_end goes;
-      readings = readings;
-      leaves =
-          leaves_more turns old mid kept s step so
-          ∙ ap (λ (k : Kept). record { state = record { kept = k; seats = o.state.seats }; notes = so.notes ++ Came event ∷ o.notes; unsealed = o.unsealed; consoles = record { readings = readings; stops = o.consoles.stops } }) (sym leads.kept_is)
-          ∙ ap (λ (c : Seats). record { state = record { kept = after; seats = c }; notes = so.notes ++ Came event ∷ o.notes; unsealed = o.unsealed; consoles = record { readings = readings; stops = o.consoles.stops } }) (sym left.0)
-          ∙ ap (λ (l : List LinkNote). record { state = record { kept = after; seats = seats }; notes = so.notes ++ Came event ∷ l; unsealed = o.unsealed; consoles = record { readings = readings; stops = o.consoles.stops } }) whole
-          ∙ ap (λ (u : List JournalRecord). record { state = record { kept = after; seats = seats }; notes = notes; unsealed = u; consoles = record { readings = readings; stops = o.consoles.stops } }) (only o.unsealed leads.seals)
-          ∙ ap (λ (c : Bool). record { state = record { kept = after; seats = seats }; notes = notes; unsealed = []; consoles = record { readings = readings; stops = c } }) (sym left.1 ∙ on);
-      said = said_more so.readings o.consoles.readings so.said leads.read;
-      done = subst (λ k. Done k old new steps notes) (all_closed r b n ok leads.closed) (done_more turns n old mid got new kept s event h did.notes so came licensed did.goes);
+      served = record {
+        steps = steps;
+        notes = notes;
+        count = length-append so.steps (step ∷ []) ∙ (omega (arith, so.count));
+        no_end = all_more (λ t. is_end t.event.what ≡ false) so.steps step so.no_end goes;
+        readings = readings;
+        reads = reads;
+        leaves =
+            leaves_more turns old mid kept s step so
+            ∙ ap (λ (k : Kept). record { state = record { kept = k; seats = o.state.seats }; notes = so.notes ++ Came event ∷ o.notes; unsealed = o.unsealed; reads = reads; consoles = record { readings = readings; stops = o.consoles.stops } }) (sym leads.kept_is)
+            ∙ ap (λ (c : Seats). record { state = record { kept = after; seats = c }; notes = so.notes ++ Came event ∷ o.notes; unsealed = o.unsealed; reads = reads; consoles = record { readings = readings; stops = o.consoles.stops } }) (sym left.0)
+            ∙ ap (λ (l : List LinkNote). record { state = record { kept = after; seats = seats }; notes = so.notes ++ Came event ∷ l; unsealed = o.unsealed; reads = reads; consoles = record { readings = readings; stops = o.consoles.stops } }) whole
+            ∙ ap (λ (u : List JournalRecord). record { state = record { kept = after; seats = seats }; notes = notes; unsealed = u; reads = reads; consoles = record { readings = readings; stops = o.consoles.stops } }) none
+            ∙ ap (λ (c : Bool). record { state = record { kept = after; seats = seats }; notes = notes; unsealed = []; reads = reads; consoles = record { readings = readings; stops = c } }) (sym left.1 ∙ on);
+        said = said_more so.readings o.consoles.readings so.said leads.read;
+        done = subst (λ k. Done k old new steps notes) (all_closed r b n ok leads.closed) (done_more turns n old mid got new kept s event h did.notes so came licensed did.goes);
+      };
+      seals = chain [] so.reads o.reads sealed.seals (subst (λ (u : List JournalRecord). T u o.reads) none leads.seals);
     }
 
 -- what consoles' bytes were read as, with one step more
@@ -313,12 +345,13 @@ serves_more turns old mid kept after s step notes more so kept_is all =
     }
 
 -- a console asked serving to stop
-pub so_stopped : (S T : List JournalRecord → Type 0) (turns limit : ℕ) (old mid got new : LinkTold) (kept after : Kept) (s : State) (seats : Seats) (event : Event) (r : Result Bool WantOfMemory) (b : Bool)
-    → SoServed turns old mid kept s → turns < limit → Comes mid got (Ok event) → is_end event.what ≡ false
-    → (h : Hindrances) × (n : ℕ) × AreLicensed h.deliveries n got new × Leads S n s.kept (happens h s event) got new after seats r
-    → r ≡ Ok b → b ≡ true → ((failed : List JournalRecord) → S failed → failed ≡ []) → ((failed : List JournalRecord) → S failed → T failed)
-    → Ran T limit old new kept after (Ok tt)
-so_stopped S T turns limit old mid got new kept after s seats event r b so few came goes (h, n, licensed, leads) ok stop only then =
+pub so_stopped : (S T U : List JournalRecord → Reads → Type 0) (turns limit : ℕ) (old mid got new : LinkTold) (kept after : Kept) (s : State) (seats : Seats) (event : Event) (r : Result Bool WantOfMemory) (b : Bool)
+    → SoSealed S turns old mid kept s → turns < limit → Comes mid got (Ok event) → is_end event.what ≡ false
+    → (h : Hindrances) × (n : ℕ) × AreLicensed h.deliveries n got new × Leads T n s.kept (happens h s event) got new after seats r
+    → r ≡ Ok b → b ≡ true → Only T → Chains S T U
+    → Ran U limit old new kept after (Ok tt)
+so_stopped S T U turns limit old mid got new kept after s seats event r b sealed few came goes (h, n, licensed, leads) ok stop only chain =
+    let so = sealed.served in
     let step : Step = record { event = event; hindrances = h } in
     let o = happens h s event in
     let did = leads.did in
@@ -329,18 +362,18 @@ so_stopped S T turns limit old mid got new kept after s seats event r b so few c
     let done = done_more turns n old mid got new kept s event h did.notes so came licensed did.goes in
     let steps = so.steps ++ step ∷ [] in
     let notes = so.notes ++ Came event ∷ did.notes in
-    ended_over T limit 0 old new kept after steps notes (Ok tt) (subst (λ k. Done k old new steps notes) zero done) (
+    ended_over U limit 0 old new kept after steps notes (Ok tt) (subst (λ k. Done k old new steps notes) zero done) (
       record {
         notes_are = ap (λ l. so.notes ++ Came event ∷ l) (sym whole) ∙ sym (ap (λ (q : Outcome). q.notes) leaves);
         kept_is = leads.kept_is ∙ sym (ap (λ (q : Outcome). q.state.kept) leaves);
       },
       (so.steps, step, refl, so.no_end, so_goes turns old mid kept s so, inr (goes, ap (λ (q : Outcome). q.consoles.stops) (here_is turns old mid kept s step so) ∙ sym left.1 ∙ stop)),
-      ap (λ (q : Outcome). q.unsealed) leaves ∙ only o.unsealed leads.seals,
+      ap (λ (q : Outcome). q.unsealed) leaves ∙ only o.unsealed o.reads leads.seals,
       few_more so.steps step turns limit so.count few,
       refl,
     )
     (none_wanted new.starved_last) done.faults (read_more turns old mid kept s step so leads.read)
-    (subst T (sym (ap (λ (q : Outcome). q.unsealed) leaves)) (then o.unsealed leads.seals))
+    (subst (λ (q : Outcome). U q.unsealed q.reads) (sym leaves) (chain o.unsealed so.reads o.reads sealed.seals leads.seals))
 
 -- the end changes nothing
 end_ignored : (h : Hindrances) (s : State) (conn at : ℕ) (what : What) → is_end what ≡ true → answers what h.unfed h.turns h.stage at s conn ≡ ignored s
@@ -354,16 +387,18 @@ abbrev pub unhindered : Hindrances
 unhindered = record { unfed = false; turns = []; stage = Ok None; deliveries = [] }
 
 -- the end came
-pub so_ended : (S : List JournalRecord → Type 0) (turns limit : ℕ) (old mid got : LinkTold) (kept : Kept) (s : State) (event : Event)
-    → SoServed turns old mid kept s → turns < limit → Comes mid got (Ok event) → is_end event.what ≡ true → S []
+pub so_ended : (S : List JournalRecord → Reads → Type 0) (turns limit : ℕ) (old mid got : LinkTold) (kept : Kept) (s : State) (event : Event)
+    → SoSealed S turns old mid kept s → turns < limit → Comes mid got (Ok event) → is_end event.what ≡ true
     → Ran S limit old got kept s.kept (Ok tt)
-so_ended S turns limit old mid got kept s event so some came ends seals =
+so_ended S turns limit old mid got kept s event sealed some came ends =
+    let so = sealed.served in
     let step : Step = record { event = event; hindrances = unhindered } in
-    let nothing : happens unhindered s event ≡ record { state = s; notes = []; unsealed = []; consoles = no_consoles } =
+    let nothing : happens unhindered s event ≡ record { state = s; notes = []; unsealed = []; reads = none_read; consoles = no_consoles } =
     ap (λ a. outcome a (delivered [] a.state.seats a.replies)) (end_ignored unhindered s event.conn (min event.at 253402300799) event.what ends) in
-    let leaves : run (so.steps ++ step ∷ []) (at_first kept) ≡ record { state = s; notes = so.notes ++ Came event ∷ []; unsealed = []; consoles = record { readings = so.readings ++ []; stops = false } } =
+    let leaves : run (so.steps ++ step ∷ []) (at_first kept) ≡ record { state = s; notes = so.notes ++ Came event ∷ []; unsealed = []; reads = so.reads; consoles = record { readings = so.readings ++ []; stops = false } } =
     leaves_more turns old mid kept s step so
-    ∙ ap (λ (p : Outcome). record { state = p.state; notes = so.notes ++ Came event ∷ p.notes; unsealed = p.unsealed; consoles = record { readings = so.readings ++ p.consoles.readings; stops = p.consoles.stops } }) nothing in
+    ∙ ap (λ (p : Outcome). record { state = p.state; notes = so.notes ++ Came event ∷ p.notes; unsealed = p.unsealed; reads = both_read so.reads p.reads; consoles = record { readings = so.readings ++ p.consoles.readings; stops = p.consoles.stops } }) nothing
+    ∙ ap (λ (q : Reads). record { state = s; notes = so.notes ++ Came event ∷ []; unsealed = []; reads = q; consoles = record { readings = so.readings ++ []; stops = false } }) (none_before so.reads) in
     let done = done_more turns 0 old mid got got kept s event unhindered [] so came (none_licensed got got refl refl) (goes_none got) in
     ended_over S limit 0 old got kept s.kept (so.steps ++ step ∷ []) (so.notes ++ Came event ∷ []) (Ok tt) done (
       record { notes_are = sym (ap (λ (o : Outcome). o.notes) leaves); kept_is = sym (ap (λ (o : Outcome). o.state.kept) leaves) },
@@ -374,7 +409,7 @@ so_ended S turns limit old mid got kept s event so some came ends seals =
     )
     (none_wanted got.starved_last) done.faults
     (subst AreSaid (sym (ap (λ (o : Outcome). o.consoles.readings) leaves)) (said_more so.readings [] so.said tt))
-    (subst S (sym (ap (λ (o : Outcome). o.unsealed) leaves)) seals)
+    (subst (λ (o : Outcome). S o.unsealed o.reads) (sym leaves) sealed.seals)
 
 -- ---- serving ended between two events
 
@@ -406,35 +441,37 @@ done_still turns n old mid got kept s so log coming missed starved reliable faul
     }
 
 -- `next` failed
-pub so_unlinked : (S : List JournalRecord → Type 0) (turns limit : ℕ) (old mid got : LinkTold) (kept : Kept) (s : State)
-    → SoServed turns old mid kept s → turns < limit → Comes mid got (Err Failed) → S [] → Ran S limit old got kept s.kept (Err Link)
-so_unlinked S turns limit old mid got kept s so few came seals = (
-  so.steps,
-  so.notes,
-  record {
-    wants = 0;
-    served = (so_serves turns old mid kept s so, so.no_end, subst (λ n. n < limit) (sym so.count) few, so_sealed turns old mid kept s so, so_goes turns old mid kept s so, refl);
-    log = ap (λ (t : LinkTold). t.log) came.0 ∙ so.done.log;
-    order = subst (λ c. ComeInOrder old.coming (events_of so.steps) c) (sym (ap (λ (t : LinkTold). t.coming) came.0)) so.done.order;
-    missed = subst (λ n. RoseBy (missed_in so.steps) old.missed n) (sym (ap (λ (t : LinkTold). t.missed) came.0)) so.done.missed;
-    none_missed = so.done.none_missed;
-    starved = subst (λ n. Counted (left_out_in so.steps + 0) old.starved n) (sym (ap (λ (t : LinkTold). t.starved) came.0)) so.done.starved;
-    starved_last = none_wanted got.starved_last;
-    faults = (
-      subst (λ n. Rose n got.faults) so.done.faults came.1,
-      sym so.done.reliable ∙ came.2,
-      ap (λ (t : LinkTold). t.failed_last) came.0,
-      subst (λ n. got.faults ≤ n + 1) so.done.faults came.3,
-    );
-    read = so_read turns old mid kept s so;
-  },
-  subst S (sym (so_sealed turns old mid kept s so)) seals,
-)
+pub so_unlinked : (S : List JournalRecord → Reads → Type 0) (turns limit : ℕ) (old mid got : LinkTold) (kept : Kept) (s : State)
+    → SoSealed S turns old mid kept s → turns < limit → Comes mid got (Err Failed) → Ran S limit old got kept s.kept (Err Link)
+so_unlinked S turns limit old mid got kept s sealed few came =
+    let so = sealed.served in (
+      so.steps,
+      so.notes,
+      record {
+        wants = 0;
+        served = (so_serves turns old mid kept s so, so.no_end, subst (λ n. n < limit) (sym so.count) few, so_sealed turns old mid kept s so, so_goes turns old mid kept s so, refl);
+        log = ap (λ (t : LinkTold). t.log) came.0 ∙ so.done.log;
+        order = subst (λ c. ComeInOrder old.coming (events_of so.steps) c) (sym (ap (λ (t : LinkTold). t.coming) came.0)) so.done.order;
+        missed = subst (λ n. RoseBy (missed_in so.steps) old.missed n) (sym (ap (λ (t : LinkTold). t.missed) came.0)) so.done.missed;
+        none_missed = so.done.none_missed;
+        starved = subst (λ n. Counted (left_out_in so.steps + 0) old.starved n) (sym (ap (λ (t : LinkTold). t.starved) came.0)) so.done.starved;
+        starved_last = none_wanted got.starved_last;
+        faults = (
+          subst (λ n. Rose n got.faults) so.done.faults came.1,
+          sym so.done.reliable ∙ came.2,
+          ap (λ (t : LinkTold). t.failed_last) came.0,
+          subst (λ n. got.faults ≤ n + 1) so.done.faults came.3,
+        );
+        read = so_read turns old mid kept s so;
+      },
+      subst (λ (o : Outcome). S o.unsealed o.reads) (sym so.leaves) sealed.seals,
+    )
 
 -- `next` found no memory
-pub so_unfed : (S : List JournalRecord → Type 0) (turns limit : ℕ) (old mid got : LinkTold) (kept : Kept) (s : State)
-    → SoServed turns old mid kept s → turns < limit → Comes mid got (Err NoneForNext) → S [] → Ran S limit old got kept s.kept (Err NoMemory)
-so_unfed S turns limit old mid got kept s so few (same, once) seals =
+pub so_unfed : (S : List JournalRecord → Reads → Type 0) (turns limit : ℕ) (old mid got : LinkTold) (kept : Kept) (s : State)
+    → SoSealed S turns old mid kept s → turns < limit → Comes mid got (Err NoneForNext) → Ran S limit old got kept s.kept (Err NoMemory)
+so_unfed S turns limit old mid got kept s sealed few (same, once) =
+    let so = sealed.served in
     let done = done_still turns 1 old mid got kept s so (ap (λ (t : LinkTold). t.log) same) (ap (λ (t : LinkTold). t.coming) same) (ap (λ (t : LinkTold). t.missed) same)
     (counted_one mid.starved got.starved once) (ap (λ (t : LinkTold). t.is_reliable) same) (ap (λ (t : LinkTold). t.faults) same) in
     ended_over S limit 1 old got kept s.kept so.steps so.notes (Err NoMemory) done (
@@ -446,15 +483,16 @@ so_unfed S turns limit old mid got kept s so few (same, once) seals =
       omega (arith, so.count, few),
       inl (so_goes turns old mid kept s so),
     )
-    (λ _. ap (λ (t : LinkTold). t.starved_last) same) done.faults (so_read turns old mid kept s so) (subst S (sym (so_sealed turns old mid kept s so)) seals)
+    (λ _. ap (λ (t : LinkTold). t.starved_last) same) done.faults (so_read turns old mid kept s so) (subst (λ (o : Outcome). S o.unsealed o.reads) (sym so.leaves) sealed.seals)
 
 -- so many events were taken
-pub so_spent : (S : List JournalRecord → Type 0) (turns limit : ℕ) (old new : LinkTold) (kept : Kept) (s : State)
-    → SoServed turns old new kept s → turns ≡ limit → S [] → Ran S limit old new kept s.kept (Err Turns)
-so_spent S turns limit old new kept s so all seals =
+pub so_spent : (S : List JournalRecord → Reads → Type 0) (turns limit : ℕ) (old new : LinkTold) (kept : Kept) (s : State)
+    → SoSealed S turns old new kept s → turns ≡ limit → Ran S limit old new kept s.kept (Err Turns)
+so_spent S turns limit old new kept s sealed all =
+    let so = sealed.served in
     ended_over S limit 0 old new kept s.kept so.steps so.notes (Err Turns) so.done
     (so_serves turns old new kept s so, so.no_end, so.count ∙ all, so_sealed turns old new kept s so, so_goes turns old new kept s so, refl)
-    (none_wanted new.starved_last) so.done.faults (so_read turns old new kept s so) (subst S (sym (so_sealed turns old new kept s so)) seals)
+    (none_wanted new.starved_last) so.done.faults (so_read turns old new kept s so) (subst (λ (o : Outcome). S o.unsealed o.reads) (sym so.leaves) sealed.seals)
 
 -- ---- and within one
 
@@ -501,12 +539,13 @@ left_unsealed turns n old mid new kept s step notes more so all (inr (one, stops
     (inr (cut_at_close turns n old mid new kept s step notes more so all one stops), λ _. stops.starved_last)
 
 -- memory was wanted in an event
-pub so_starved : (S T : List JournalRecord → Type 0) (turns limit : ℕ) (old mid got new : LinkTold) (kept after : Kept) (s : State) (seats : Seats) (event : Event) (r : Result Bool WantOfMemory) (w : WantOfMemory)
-    → SoServed turns old mid kept s → turns < limit → Comes mid got (Ok event) → is_end event.what ≡ false
-    → (h : Hindrances) × (n : ℕ) × AreLicensed h.deliveries n got new × Leads S n s.kept (happens h s event) got new after seats r
-    → r ≡ Err w → ((failed : List JournalRecord) → S failed → failed ≡ []) → ((failed : List JournalRecord) → S failed → T failed)
-    → Ran T limit old new kept after (Err NoMemory)
-so_starved S T turns limit old mid got new kept after s seats event r w so few came goes (h, n, licensed, leads) bad only then =
+pub so_starved : (S T U : List JournalRecord → Reads → Type 0) (turns limit : ℕ) (old mid got new : LinkTold) (kept after : Kept) (s : State) (seats : Seats) (event : Event) (r : Result Bool WantOfMemory) (w : WantOfMemory)
+    → SoSealed S turns old mid kept s → turns < limit → Comes mid got (Ok event) → is_end event.what ≡ false
+    → (h : Hindrances) × (n : ℕ) × AreLicensed h.deliveries n got new × Leads T n s.kept (happens h s event) got new after seats r
+    → r ≡ Err w → Only T → Chains S T U
+    → Ran U limit old new kept after (Err NoMemory)
+so_starved S T U turns limit old mid got new kept after s seats event r w sealed few came goes (h, n, licensed, leads) bad only chain =
+    let so = sealed.served in
     let step : Step = record { event = event; hindrances = h } in
     let o = happens h s event in
     let did = leads.did in
@@ -514,33 +553,34 @@ so_starved S T turns limit old mid got new kept after s seats event r w so few c
     let leaves = leaves_more turns old mid kept s step so in
     let done = done_more turns n old mid got new kept s event h did.notes so came licensed did.goes in
     let left = left_starved turns n old mid new kept s step did.notes more so all wants in
-    ended_over T limit n old new kept after (so.steps ++ step ∷ []) (so.notes ++ Came event ∷ did.notes) (Err NoMemory) done (
+    ended_over U limit n old new kept after (so.steps ++ step ∷ []) (so.notes ++ Came event ∷ did.notes) (Err NoMemory) done (
       more,
       serves_more turns old mid kept after s step did.notes more so leads.kept_is all,
       all_more (λ t. is_end t.event.what ≡ false) so.steps step so.no_end goes,
       left.0,
-      ap (λ (q : Outcome). q.unsealed) leaves ∙ only o.unsealed leads.seals,
+      ap (λ (q : Outcome). q.unsealed) leaves ∙ only o.unsealed o.reads leads.seals,
       few_more so.steps step turns limit so.count few,
       inr (so.steps, step, refl, so_goes turns old mid kept s so),
     )
     left.1 done.faults (read_more turns old mid kept s step so leads.read)
-    (subst T (sym (ap (λ (q : Outcome). q.unsealed) leaves)) (then o.unsealed leads.seals))
+    (subst (λ (q : Outcome). U q.unsealed q.reads) (sym leaves) (chain o.unsealed so.reads o.reads sealed.seals leads.seals))
 
 -- sealing failed in an event
-pub so_failed : (S T : List JournalRecord → Type 0) (turns limit : ℕ) (old mid got new : LinkTold) (kept after : Kept) (s : State) (seats : Seats) (event : Event) (r : Result Bool WantOfMemory)
-    → SoServed turns old mid kept s → turns < limit → Comes mid got (Ok event) → is_end event.what ≡ false
-    → (h : Hindrances) × (n : ℕ) × AreLicensed h.deliveries n got new × Leads S n s.kept (happens h s event) got new after seats r
-    → ((failed : List JournalRecord) → S failed → failed ≢ []) → ((failed : List JournalRecord) → S failed → T failed)
-    → Ran T limit old new kept after (Err Disk)
-so_failed S T turns limit old mid got new kept after s seats event r so few came goes (h, n, licensed, leads) some then =
+pub so_failed : (S T U : List JournalRecord → Reads → Type 0) (turns limit : ℕ) (old mid got new : LinkTold) (kept after : Kept) (s : State) (seats : Seats) (event : Event) (r : Result Bool WantOfMemory)
+    → SoSealed S turns old mid kept s → turns < limit → Comes mid got (Ok event) → is_end event.what ≡ false
+    → (h : Hindrances) × (n : ℕ) × AreLicensed h.deliveries n got new × Leads T n s.kept (happens h s event) got new after seats r
+    → Fails T → Chains S T U
+    → Ran U limit old new kept after (Err Disk)
+so_failed S T U turns limit old mid got new kept after s seats event r sealed few came goes (h, n, licensed, leads) some chain =
+    let so = sealed.served in
     let step : Step = record { event = event; hindrances = h } in
     let o = happens h s event in
     let did = leads.did in
-    let (more, all, cut) = cut_in o s.kept n new r o.notes did.notes (some o.unsealed leads.seals) did.whole leads.closed in
+    let (more, all, cut) = cut_in o s.kept n new r o.notes did.notes (some o.unsealed o.reads leads.seals) did.whole leads.closed in
     let leaves = leaves_more turns old mid kept s step so in
     let done = done_more turns n old mid got new kept s event h did.notes so came licensed did.goes in
     let left = left_unsealed turns n old mid new kept s step did.notes more so all cut in
-    ended_over T limit n old new kept after (so.steps ++ step ∷ []) (so.notes ++ Came event ∷ did.notes) (Err Disk) done (
+    ended_over U limit n old new kept after (so.steps ++ step ∷ []) (so.notes ++ Came event ∷ did.notes) (Err Disk) done (
       more,
       serves_more turns old mid kept after s step did.notes more so leads.kept_is all,
       all_more (λ t. is_end t.event.what ≡ false) so.steps step so.no_end goes,
@@ -550,10 +590,10 @@ so_failed S T turns limit old mid got new kept after s seats event r so few came
         step,
         refl,
         ap (λ (q : Outcome). q.unsealed) so.leaves,
-        λ none. some o.unsealed leads.seals (sym (ap (λ (q : Outcome). q.unsealed) (here_is turns old mid kept s step so)) ∙ none),
+        λ none. some o.unsealed o.reads leads.seals (sym (ap (λ (q : Outcome). q.unsealed) (here_is turns old mid kept s step so)) ∙ none),
       ),
       few_more so.steps step turns limit so.count few,
       inr (so.steps, step, refl, so_goes turns old mid kept s so),
     )
     left.1 done.faults (read_more turns old mid kept s step so leads.read)
-    (subst T (sym (ap (λ (q : Outcome). q.unsealed) leaves)) (then o.unsealed leads.seals))
+    (subst (λ (q : Outcome). U q.unsealed q.reads) (sym leaves) (chain o.unsealed so.reads o.reads sealed.seals leads.seals))

@@ -1,7 +1,7 @@
 -- What the desk sealed, call after call.
-use Rattle.std.proofs.Common.{◌≡◌, ◌≢◌, ℕ, Bool, true, false, not, ◌||◌, List, [], ◌∷◌, ◌++◌, None, Some, Option, MatchOption, Result, Ok, Err, IfOk, IfErr, OnErr, refl, ap, sym, subst, ◌∙◌}
+use Rattle.std.proofs.Common.{◌≡◌, ◌≢◌, ℕ, ◌+◌, ◌≤◌, arith, add-zero, zero-add, Bool, true, false, not, ◌||◌, List, [], ◌∷◌, ◌++◌, None, Some, Option, MatchOption, Result, Ok, Err, IfOk, IfErr, OnErr, refl, ap, sym, subst, ◌∙◌}
 use Rattle.undo_base.specs.declared.keys.User.{User}
-use Rattle.undo_outside.specs.Disk.{DiskTold}
+use Rattle.undo_outside.specs.Disk.{DiskTold, ReadFailed}
 use Rattle.verb_core.specs.declared.ask.Ask.{Ask}
 use Rattle.verb_core.specs.declared.ask.SubmitFault.{SubmitFault}
 use Rattle.verb_core.specs.declared.ask.SubmitFault.TheVariants.{Refused as IsRefused, Disk, Closed}
@@ -13,50 +13,131 @@ use Rattle.verb_bytes.specs.declared.journal.JournalRecord.TheVariants.{Verb}
 use Rattle.paradox.specs.Kept.{Kept, store_of}
 use Rattle.mail_desk.specs.Desk.{submitted}
 use Rattle.time_desk.specs.Lasting.{Lasting, IsUnwritten}
+use Rattle.time_desk.specs.Reading.{HaveRead, IsStill, Reads, RoseBy, both_read, failed_once, none_read, wrong_once}
 use Rattle.time_desk.specs.Sealing.{Seals}
+use Rattle.time_desk.specs.Stored.{HoldsTexts}
 use Rattle.time_desk.specs.Submitting.{SubmitsNone}
 use Rattle.mail_loop.specs.declared.reply.Reply.{Reply}
 use Rattle.mail_loop.specs.Asked.{HaveSealed}
 use Rattle.mail_loop.specs.SmtpTurn.{Turn}
-use Rattle.mail_loop.specs.Took.{Submits, Takes}
+use Rattle.mail_loop.specs.Took.{IsNone, Submits, Takes}
+
+-- ---- what was read, turn after turn
+
+pub no_more : (r : Reads) → both_read none_read r ≡ r
+no_more r = λ j. record { failed = zero-add r.failed j; wrong = zero-add r.wrong j }
+
+pub none_before : (r : Reads) → both_read r none_read ≡ r
+none_before r = λ j. record { failed = add-zero r.failed j; wrong = add-zero r.wrong j }
+
+pub reads_regroup : (a b c : Reads) → both_read (both_read a b) c ≡ both_read a (both_read b c)
+reads_regroup a b c =
+    let failed : (a.failed + b.failed) + c.failed ≡ a.failed + (b.failed + c.failed) = omega arith in
+    let wrong : (a.wrong + b.wrong) + c.wrong ≡ a.wrong + (b.wrong + c.wrong) = omega arith in
+    λ j. record { failed = failed j; wrong = wrong j }
+
+-- a count that rose by some and then by more
+rose_both : (m n a b c : ℕ) → RoseBy m a b → RoseBy n b c → RoseBy (m + n) a c
+rose_both m n a b c first second = record {
+  rises = omega (arith, first.rises, second.rises);
+  by = omega (arith, first.rises, first.by, second.rises, second.by);
+}
 
 module _ {D : Type 0} (told : D → DiskTold) where
   -- a desk that was not written to sealed nothing
   abbrev pub Nothing : Type 0
   Nothing = (a b : Lasting D) → IsUnwritten a b → Seals told [] [] a b
 
+  -- nor did one that was read alone
+  abbrev pub Still : Type 0
+  Still = (a b : Lasting D) → IsStill told a b → Seals told [] [] a b
+
   -- what was sealed at first and then was sealed from first to last
   abbrev pub Then : Type 0
   Then = (added more failed : List JournalRecord) (a b c : Lasting D) → Seals told added [] a b → Seals told more failed b c → Seals told (added ++ more) failed a c
 
-  -- the desk is as it was
-  pub unsealed : Nothing → (a : Lasting D) → HaveSealed told a a []
-  unsealed nothing a = ([], nothing a a (record { kept = refl; disk = refl; gate = refl; closed = refl }))
+  -- ---- reads
 
-  pub chained : Then → (a b c : Lasting D) (failed : List JournalRecord) → HaveSealed told a b [] → HaveSealed told b c failed → HaveSealed told a c failed
-  chained then a b c failed (added, first) (more, second) = (added ++ more, then added more failed a b c first second)
+  -- where no turn wanted a text
+  none_wanted : (a b : Lasting D) → (told a.disk).failed_reads ≤ (told b.disk).failed_reads → HaveRead told a b none_read
+  none_wanted a b rises = record { failed = record { rises = rises; by = omega (arith, rises) }; reliable = λ _. refl; honest = λ _. refl }
+
+  -- a call that seals wants none
+  pub nothing_read : (added failed : List JournalRecord) (a b : Lasting D) → Seals told added failed a b → HaveRead told a b none_read
+  nothing_read added failed a b seals = none_wanted a b seals.on_disk.reads
+
+  -- turns that read, one after the other
+  pub reads_join : (added : List JournalRecord) (a b c : Lasting D) (r s : Reads) → Seals told added [] a b → HaveRead told a b r → HaveRead told b c s → HaveRead told a c (both_read r s)
+  reads_join added a b c r s seals first second = record {
+    failed = rose_both r.failed s.failed (told a.disk).failed_reads (told b.disk).failed_reads (told c.disk).failed_reads first.failed second.failed;
+    reliable = λ e. let one = first.reliable e in let more = second.reliable (seals.on_disk.reliable ∙ e) in omega (arith, one, more);
+    honest = λ e. let one = first.honest e in let more = second.honest (seals.texts e) in omega (arith, one, more);
+  }
+
+  -- ---- reads and seals
+
+  -- the desk is as it was
+  pub unsealed : Nothing → (a : Lasting D) → HaveSealed told a a [] none_read
+  unsealed nothing a =
+      let seals = nothing a a (record { kept = refl; notes = refl; disk = refl; gate = refl; closed = refl }) in
+      ([], seals, nothing_read [] [] a a seals)
+
+  -- the desk was read alone
+  pub still_sealed : Still → (a b : Lasting D) → IsStill told a b → HaveSealed told a b [] none_read
+  still_sealed still a b is = ([], still a b is, nothing_read [] [] a b (still a b is))
+
+  -- and a read failed
+  pub failed_sealed : Still → (a b : Lasting D) → IsStill told a b → ReadFailed (told a.disk) (told b.disk) → HaveSealed told a b [] failed_once
+  failed_sealed still a b is (rose, once, last, unreliable) = (
+    [],
+    still a b is,
+    record {
+      failed = record { rises = rose.0; by = rose.1 };
+      reliable = λ e. absurd (let wrong : true ≡ false = sym e ∙ unreliable in cc);
+      honest = λ _. refl;
+    },
+  )
+
+  -- another text was given, of a disk that did not hold it
+  pub wrong_sealed : (a b : Lasting D) (failed : List JournalRecord) → (HoldsTexts told a → ⊥) → HaveSealed told a b failed none_read → HaveSealed told a b failed wrong_once
+  wrong_sealed a b failed other (added, seals, read) =
+      (added, seals, record { failed = read.failed; reliable = read.reliable; honest = λ e. absurd (other e) })
+
+  pub chained : Then → (a b c : Lasting D) (failed : List JournalRecord) (r s : Reads) → HaveSealed told a b [] r → HaveSealed told b c failed s → HaveSealed told a c failed (both_read r s)
+  chained then a b c failed r s (added, first, read) (more, second, reads) = (added ++ more, then added more failed a b c first second, reads_join added a b c r s first read reads)
+
+  -- nothing was read before
+  pub chained_after : Then → (a b c : Lasting D) (failed : List JournalRecord) (s : Reads) → HaveSealed told a b [] none_read → HaveSealed told b c failed s → HaveSealed told a c failed s
+  chained_after then a b c failed s first second = subst (λ (r : Reads). HaveSealed told a c failed r) (no_more s) (chained then a b c failed none_read s first second)
 
   -- a desk that seals all stays open
-  pub still_open : (a b : Lasting D) → a.closed ≡ false → HaveSealed told a b [] → b.closed ≡ false
-  still_open a b open' (added, seals) = seals.closed ∙ ap (λ (c : Bool). c || false) open'
+  pub still_open : (a b : Lasting D) (r : Reads) → a.closed ≡ false → HaveSealed told a b [] r → b.closed ≡ false
+  still_open a b r open' (added, seals, read) = seals.closed ∙ ap (λ (c : Bool). c || false) open'
 
   -- a desk that is open after it sealed all
-  pub all_sealed : (a b : Lasting D) (failed : List JournalRecord) → a.closed ≡ false → b.closed ≡ false → HaveSealed told a b failed → failed ≡ []
-  all_sealed a b [] before after seals = refl
-  all_sealed a b (r ∷ rs) before after (added, seals) = absurd (let wrong : true ≡ false = sym (seals.closed ∙ ap (λ (c : Bool). c || true) before) ∙ after in cc)
+  pub all_sealed : (a b : Lasting D) (failed : List JournalRecord) (r : Reads) → a.closed ≡ false → b.closed ≡ false → HaveSealed told a b failed r → failed ≡ []
+  all_sealed a b [] r before after seals = refl
+  all_sealed a b (x ∷ xs) r before after (added, seals, read) = absurd (let wrong : true ≡ false = sym (seals.closed ∙ ap (λ (c : Bool). c || true) before) ∙ after in cc)
 
   -- a desk that is closed after it failed to seal something
-  pub some_unsealed : (a b : Lasting D) (failed : List JournalRecord) → a.closed ≡ false → b.closed ≡ true → HaveSealed told a b failed → failed ≢ []
-  some_unsealed a b failed before after (added, seals) none =
+  pub some_unsealed : (a b : Lasting D) (failed : List JournalRecord) (r : Reads) → a.closed ≡ false → b.closed ≡ true → HaveSealed told a b failed r → failed ≢ []
+  some_unsealed a b failed r before after (added, seals, read) none =
       let wrong : true ≡ false = sym after ∙ seals.closed ∙ ap (λ (c : Bool). c || not (is_empty failed)) before ∙ ap (λ (f : List JournalRecord). false || not (is_empty f)) none in cc
 
+-- where no sealing failed and nothing was read
+pub none_sealed : (S : List JournalRecord → Reads → Type 0) (failed : List JournalRecord) (r : Reads) → IsNone failed r → S [] none_read → S failed r
+none_sealed S failed r (none, quiet) holds = subst (λ (f : List JournalRecord). S f r) (sym none) (subst (λ (q : Reads). S [] q) (sym quiet) holds)
+
 -- where a connection stays open after a turn no sealing failed in it
-pub none_unsealed : {D : Type 0} → (S : List JournalRecord → Type 0) (t : Turn D) (old : Reply) (kept : Kept) (d : D) (new : Reply) → Takes S t old kept d new → new.closes ≡ false → S []
-none_unsealed {D} S t old kept d new takes stays = subst S (by_dialog t.dialog takes.dialog_is) takes.seals
+pub none_unsealed : {D : Type 0} → (S : List JournalRecord → Reads → Type 0) (t : Turn D) (old : Reply) (kept : Kept) (d : D) (new : Reply) → Takes S t old kept d new → new.closes ≡ false → S [] t.reads
+none_unsealed {D} S t old kept d new takes stays = subst (λ (failed : List JournalRecord). S failed t.reads) (by_dialog t.dialog takes.dialog_is) takes.seals
   where
     by_dialog : (o : Option D) → MatchOption o (new.closes ≡ true) (λ e. (d ≡ e) × (new.closes ≡ false) × (t.unsealed ≡ [])) → t.unsealed ≡ []
     by_dialog None shut = absurd (let wrong : true ≡ false = sym shut ∙ stays in cc)
     by_dialog (Some e) goes = goes.2
+
+sealed_of : {D : Type 0} → (told : D → DiskTold) (added failed : List JournalRecord) (a b : Lasting D) → Seals told added failed a b → HaveSealed told a b failed none_read
+sealed_of told added failed a b seals = (added, seals, nothing_read told added failed a b seals)
 
 -- what the desk did of an ask
 pub did_submit : {D : Type 0} → (told : D → DiskTold) (at : ℕ) (by : Option User) (ask : Ask) (old new : Lasting D) (result : Result Item SubmitFault) → old.closed ≡ false
@@ -65,7 +146,7 @@ pub did_submit : {D : Type 0} → (told : D → DiskTold) (at : ℕ) (by : Optio
     → OnErr result (new.kept ≡ old.kept)
     → IfErr result (λ fault. SubmitsNone told (live (store_of old.kept) old.kept.next at by ask) old new fault)
     → Submits (HaveSealed told old new) at old.kept by ask new.kept result
-did_submit told at by ask old new (Ok item) open' ok seals err why = (ok, (Verb item ∷ [], seals))
-did_submit told at by ask old new (Err (IsRefused r)) open' ok seals err why = (why.1, err, ([], why.2))
-did_submit told at by ask old new (Err Disk) open' ok seals err why = (why.1.0, why.1.1, err, ([], why.1.2))
+did_submit told at by ask old new (Ok item) open' ok seals err why = (ok, sealed_of told (Verb item ∷ []) [] old new seals)
+did_submit told at by ask old new (Err (IsRefused r)) open' ok seals err why = (why.1, err, sealed_of told [] [] old new why.2)
+did_submit told at by ask old new (Err Disk) open' ok seals err why = (why.1.0, why.1.1, err, sealed_of told [] (Verb why.1.0 ∷ []) old new why.1.2)
 did_submit told at by ask old new (Err Closed) open' ok seals err why = absurd (let wrong : true ≡ false = sym why.0 ∙ open' in cc)

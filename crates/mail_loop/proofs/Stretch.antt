@@ -6,6 +6,7 @@ use Rattle.verb_core.specs.declared.mailbox.BoxId.{BoxId}
 use Rattle.mail_loop.specs.declared.reply.Reply.{Reply}
 use Rattle.paradox.specs.Kept.{Kept}
 use Rattle.verb_bytes.specs.declared.journal.JournalRecord.{JournalRecord}
+use Rattle.time_desk.specs.Reading.{Reads, both_read, none_read}
 use Rattle.mail_loop.specs.State.{Seat, State}
 use Rattle.mail_loop.specs.SmtpTurn.{Turn}
 use Rattle.mail_loop.specs.Hindrance.{Hindrance, Clear, Unheard}
@@ -14,6 +15,7 @@ use Rattle.console_head.specs.Request.{Stage}
 use Rattle.mail_loop.specs.declared.console_turn.Turned.{Turned}
 use Rattle.mail_loop.specs.ConsoleTurn.{AreSaid, Reading, no_consoles}
 use Rattle.mail_loop.specs.Machine.{Seats, closed_others, heard, hears, seated, with_reply}
+use Rattle.mail_loop.proofs.Sealed.{no_more, none_before, reads_regroup}
 use Rattle.mail_loop.specs.Took.{Takes, Tells, seat_left, answered_alone, going_on_with}
 
 -- what is kept, beside seats that no turn touches
@@ -29,67 +31,73 @@ abbrev all_turns : {D U : Type 0} → (Hindrance → Kept → D → U → Turn D
 all_turns one seats hs kept d us = turns (alone one) hs (beside seats kept) d us
 
 -- an outcome of such turns
-abbrev leaving : {D : Type 0} → Seats → List ℕ → List BoxId → List JournalRecord → Kept → Option D → Outcome D
-leaving seats said boxes failed kept o = record { said = said; state = record { kept = kept; seats = seats }; dialog = o; changed = boxes; unsealed = failed }
+abbrev leaving : {D : Type 0} → Seats → List ℕ → List BoxId → List JournalRecord → Reads → Kept → Option D → Outcome D
+leaving seats said boxes failed reads kept o =
+    record { said = said; state = record { kept = kept; seats = seats }; dialog = o; changed = boxes; unsealed = failed; reads = reads }
 
 -- an outcome of such turns, whose answers are a reply's
-abbrev pub left : {D : Type 0} → Seats → Reply → Kept → List JournalRecord → Option D → Outcome D
-left seats reply kept failed o = leaving seats reply.said reply.changed failed kept o
+abbrev pub left : {D : Type 0} → Seats → Reply → Kept → List JournalRecord → Reads → Option D → Outcome D
+left seats reply kept failed reads o = leaving seats reply.said reply.changed failed reads kept o
 
-nothing_more : {D : Type 0} → (seats : Seats) (reply : Reply) (kept : Kept) (o : Option D) → leaving seats (reply.said ++ []) (reply.changed ++ []) [] kept o ≡ left seats reply kept [] o
-nothing_more seats reply kept o = λ j. leaving seats (append-nil reply.said j) (append-nil reply.changed j) [] kept o
+nothing_more : {D : Type 0} → (seats : Seats) (reply : Reply) (reads : Reads) (kept : Kept) (o : Option D)
+    → leaving seats (reply.said ++ []) (reply.changed ++ []) [] (both_read reads none_read) kept o ≡ left seats reply kept [] reads o
+nothing_more seats reply reads kept o = λ j. leaving seats (append-nil reply.said j) (append-nil reply.changed j) [] (none_before reads j) kept o
 
--- what is to come after a reply's answers
-abbrev behind : {D : Type 0} → Reply → Outcome D → Outcome D
-behind reply o = after reply.said reply.changed [] o
+-- what is to come after a reply's answers, and after what was read for them
+abbrev pub behind : {D : Type 0} → Reply → Reads → Outcome D → Outcome D
+behind reply reads o = after reply.said reply.changed [] reads o
 
--- the turns of all leave what is in the reply, and then what the turns of those to come leave
-pub record SoFar {D U : Type 0} (one : Hindrance → Kept → D → U → Turn D) (seats : Seats) (kept : Kept) (d : D) (all : List U) (reply : Reply) (kept' : Kept) (d' : D) (us : List U) : Type 0 where
+-- the turns of all leave what is in the reply, of which so many could not read, and then what the turns of those to come leave
+pub record SoFar {D U : Type 0} (one : Hindrance → Kept → D → U → Turn D) (seats : Seats) (kept : Kept) (d : D) (all : List U) (reply : Reply) (reads : Reads) (kept' : Kept) (d' : D) (us : List U) : Type 0 where
   pub before : List Hindrance
   pub split : (more : List Hindrance) → turns (alone one) (before ++ more) (record { kept = kept; seats = seats }) d all
-      ≡ behind reply (turns (alone one) more (record { kept = kept'; seats = seats }) d' us)
+      ≡ behind reply reads (turns (alone one) more (record { kept = kept'; seats = seats }) d' us)
 
 pub so_far_none : {D U : Type 0} → (one : Hindrance → Kept → D → U → Turn D) (seats : Seats) (kept : Kept) (d : D) (us : List U) (conn : ℕ) (reply : Reply)
-    → reply ≡ record { conn = conn; said = []; closes = false; changed = [] } → SoFar one seats kept d us reply kept d us
+    → reply ≡ record { conn = conn; said = []; closes = false; changed = [] } → SoFar one seats kept d us reply none_read kept d us
 so_far_none one seats kept d us conn reply empty =
-    subst (λ (r : Reply). SoFar one seats kept d us r kept d us) (sym empty) (record { before = []; split = λ more. refl })
+    subst (λ (r : Reply). SoFar one seats kept d us r none_read kept d us) (sym empty) (record {
+      before = [];
+      split = λ more. let o = all_turns one seats more kept d us in λ j. record o { reads = sym (no_more o.reads) j };
+    })
 
 -- all turns, up to the next, which leaves the dialog o
-up_to : {D U : Type 0} → (one : Hindrance → Kept → D → U → Turn D) (seats : Seats) (kept : Kept) (d : D) (all : List U) (reply : Reply) (kept' : Kept) (d' : D) (u : U) (us : List U)
-    → (s : SoFar one seats kept d all reply kept' d' (u ∷ us)) → (h : Hindrance) (more : List Hindrance) (o : Option D)
+up_to : {D U : Type 0} → (one : Hindrance → Kept → D → U → Turn D) (seats : Seats) (kept : Kept) (d : D) (all : List U) (reply : Reply) (reads : Reads) (kept' : Kept) (d' : D) (u : U) (us : List U)
+    → (s : SoFar one seats kept d all reply reads kept' d' (u ∷ us)) → (h : Hindrance) (more : List Hindrance) (o : Option D)
     → (one h kept' d' u).dialog ≡ o
     → all_turns one seats ((s.before ++ h ∷ []) ++ more) kept d all
-    ≡ behind reply (goes_on (alone one h (beside seats kept') d' u) o (λ s e. turns (alone one) more s e us))
-up_to one seats kept d all reply kept' d' u us s h more o e =
+    ≡ behind reply reads (goes_on (alone one h (beside seats kept') d' u) o (λ s e. turns (alone one) more s e us))
+up_to one seats kept d all reply reads kept' d' u us s h more o e =
     ap (λ hs. all_turns one seats hs kept d all) (append_assoc s.before (h ∷ []) more) ∙ s.split (h ∷ more)
-    ∙ ap (λ p. behind reply (goes_on (alone one h (beside seats kept') d' u) p (λ s e. turns (alone one) more s e us))) e
+    ∙ ap (λ p. behind reply reads (goes_on (alone one h (beside seats kept') d' u) p (λ s e. turns (alone one) more s e us))) e
 
 -- one turn more, after which the connection is open
-pub so_far_more : {D U : Type 0} → (S : List JournalRecord → Type 0) (one : Hindrance → Kept → D → U → Turn D) (seats : Seats) (kept : Kept) (d : D) (all : List U) (kept' : Kept) (d' : D) (u : U) (us : List U)
-    (new : Kept) (e : D) (old reply : Reply)
-    → SoFar one seats kept d all old kept' d' (u ∷ us) → (h : Hindrance) → Takes S (one h kept' d' u) old new e reply → reply.closes ≡ false
-    → SoFar one seats kept d all reply new e us
-so_far_more {D} {U} S one seats kept d all kept' d' u us new e old reply s h took stays = by_dialog (one h kept' d' u).dialog refl took.dialog_is
+pub so_far_more : {D U : Type 0} → (S : List JournalRecord → Reads → Type 0) (one : Hindrance → Kept → D → U → Turn D) (seats : Seats) (kept : Kept) (d : D) (all : List U) (kept' : Kept) (d' : D) (u : U) (us : List U)
+    (new : Kept) (e : D) (old reply : Reply) (reads : Reads)
+    → SoFar one seats kept d all old reads kept' d' (u ∷ us) → (h : Hindrance) → Takes S (one h kept' d' u) old new e reply → reply.closes ≡ false
+    → SoFar one seats kept d all reply (both_read reads (one h kept' d' u).reads) new e us
+so_far_more {D} {U} S one seats kept d all kept' d' u us new e old reply reads s h took stays = by_dialog (one h kept' d' u).dialog refl took.dialog_is
   where
     by_dialog : (o : Option D) → (one h kept' d' u).dialog ≡ o → MatchOption o (reply.closes ≡ true) (λ f. (e ≡ f) × (reply.closes ≡ false) × ((one h kept' d' u).unsealed ≡ []))
-        → SoFar one seats kept d all reply new e us
+        → SoFar one seats kept d all reply (both_read reads (one h kept' d' u).reads) new e us
     by_dialog None is shut = absurd (let wrong : true ≡ false = sym shut ∙ stays in cc)
     by_dialog (Some f) is goes = record {
       before = s.before ++ h ∷ [];
       split = λ more.
           let turn = one h kept' d' u in
-          up_to one seats kept d all old kept' d' u us s h more (Some f) is
-          ∙ ap (λ (failed : List JournalRecord). behind old (after turn.said turn.changed failed (all_turns one seats more turn.kept f us))) goes.2
+          up_to one seats kept d all old reads kept' d' u us s h more (Some f) is
+          ∙ ap (λ (failed : List JournalRecord). behind old reads (after turn.said turn.changed failed turn.reads (all_turns one seats more turn.kept f us))) goes.2
           ∙ regroup more f
-          ∙ ap (λ said. after said (old.changed ++ turn.changed) [] (all_turns one seats more turn.kept f us)) (sym took.said)
-          ∙ ap (λ boxes. after reply.said boxes [] (all_turns one seats more turn.kept f us)) (sym took.changed)
-          ∙ ap (λ k. behind reply (all_turns one seats more k f us)) (sym took.kept_is)
-          ∙ ap (λ g. behind reply (all_turns one seats more new g us)) (sym goes.0);
+          ∙ ap (λ said. after said (old.changed ++ turn.changed) [] (both_read reads turn.reads) (all_turns one seats more turn.kept f us)) (sym took.said)
+          ∙ ap (λ boxes. after reply.said boxes [] (both_read reads turn.reads) (all_turns one seats more turn.kept f us)) (sym took.changed)
+          ∙ ap (λ k. behind reply (both_read reads turn.reads) (all_turns one seats more k f us)) (sym took.kept_is)
+          ∙ ap (λ g. behind reply (both_read reads turn.reads) (all_turns one seats more new g us)) (sym goes.0);
     }
       where
         regroup : (more : List Hindrance) (f : D)
-            → behind old (after (one h kept' d' u).said (one h kept' d' u).changed [] (all_turns one seats more (one h kept' d' u).kept f us))
-            ≡ after (old.said ++ (one h kept' d' u).said) (old.changed ++ (one h kept' d' u).changed) [] (all_turns one seats more (one h kept' d' u).kept f us)
+            → behind old reads (after (one h kept' d' u).said (one h kept' d' u).changed [] (one h kept' d' u).reads (all_turns one seats more (one h kept' d' u).kept f us))
+            ≡ after (old.said ++ (one h kept' d' u).said) (old.changed ++ (one h kept' d' u).changed) [] (both_read reads (one h kept' d' u).reads)
+            (all_turns one seats more (one h kept' d' u).kept f us)
         regroup more f =
             let t = all_turns one seats more (one h kept' d' u).kept f us in
             λ j. record {
@@ -98,75 +106,78 @@ so_far_more {D} {U} S one seats kept d all kept' d' u us new e old reply s h too
               dialog = t.dialog;
               changed = sym (append_assoc old.changed (one h kept' d' u).changed t.changed) j;
               unsealed = t.unsealed;
+              reads = sym (reads_regroup reads (one h kept' d' u).reads t.reads) j;
             }
 
 -- the last turn, after which the connection is closed
-pub closed_after : {D U : Type 0} → (S : List JournalRecord → Type 0) (one : Hindrance → Kept → D → U → Turn D) (seats : Seats) (kept : Kept) (d : D) (all : List U) (kept' : Kept) (d' : D) (u : U) (us : List U)
-    (new : Kept) (e : D) (old reply : Reply)
-    → SoFar one seats kept d all old kept' d' (u ∷ us) → (h : Hindrance) → Takes S (one h kept' d' u) old new e reply → reply.closes ≡ true
-    → (hs : List Hindrance) × (turns (alone one) hs (record { kept = kept; seats = seats }) d all ≡ left seats reply new (one h kept' d' u).unsealed None)
-closed_after {D} {U} S one seats kept d all kept' d' u us new e old reply s h took shut = by_dialog (one h kept' d' u).dialog refl took.dialog_is
+pub closed_after : {D U : Type 0} → (S : List JournalRecord → Reads → Type 0) (one : Hindrance → Kept → D → U → Turn D) (seats : Seats) (kept : Kept) (d : D) (all : List U) (kept' : Kept) (d' : D) (u : U) (us : List U)
+    (new : Kept) (e : D) (old reply : Reply) (reads : Reads)
+    → SoFar one seats kept d all old reads kept' d' (u ∷ us) → (h : Hindrance) → Takes S (one h kept' d' u) old new e reply → reply.closes ≡ true
+    → (hs : List Hindrance) × (turns (alone one) hs (record { kept = kept; seats = seats }) d all ≡ left seats reply new (one h kept' d' u).unsealed (both_read reads (one h kept' d' u).reads) None)
+closed_after {D} {U} S one seats kept d all kept' d' u us new e old reply reads s h took shut = by_dialog (one h kept' d' u).dialog refl took.dialog_is
   where
     by_dialog : (o : Option D) → (one h kept' d' u).dialog ≡ o → MatchOption o (reply.closes ≡ true) (λ f. (e ≡ f) × (reply.closes ≡ false) × ((one h kept' d' u).unsealed ≡ []))
-        → (hs : List Hindrance) × (turns (alone one) hs (record { kept = kept; seats = seats }) d all ≡ left seats reply new (one h kept' d' u).unsealed None)
+        → (hs : List Hindrance) × (turns (alone one) hs (record { kept = kept; seats = seats }) d all ≡ left seats reply new (one h kept' d' u).unsealed (both_read reads (one h kept' d' u).reads) None)
     by_dialog None is shuts = (
       (s.before ++ h ∷ []) ++ [],
-      up_to one seats kept d all old kept' d' u us s h [] None is
-          ∙ ap (λ (said : List ℕ). leaving seats said (old.changed ++ (one h kept' d' u).changed) (one h kept' d' u).unsealed (one h kept' d' u).kept None) (sym took.said)
-          ∙ ap (λ (boxes : List BoxId). leaving seats reply.said boxes (one h kept' d' u).unsealed (one h kept' d' u).kept None) (sym took.changed)
-          ∙ ap (λ (k : Kept). left seats reply k (one h kept' d' u).unsealed None) (sym took.kept_is),
+      up_to one seats kept d all old reads kept' d' u us s h [] None is
+          ∙ ap (λ (said : List ℕ). leaving seats said (old.changed ++ (one h kept' d' u).changed) (one h kept' d' u).unsealed (both_read reads (one h kept' d' u).reads) (one h kept' d' u).kept None) (sym took.said)
+          ∙ ap (λ (boxes : List BoxId). leaving seats reply.said boxes (one h kept' d' u).unsealed (both_read reads (one h kept' d' u).reads) (one h kept' d' u).kept None) (sym took.changed)
+          ∙ ap (λ (k : Kept). left seats reply k (one h kept' d' u).unsealed (both_read reads (one h kept' d' u).reads) None) (sym took.kept_is),
     )
     by_dialog (Some f) is goes = absurd (let wrong : true ≡ false = sym shut ∙ goes.1 in cc)
 
 -- a turn for which no memory is found, and which is lost
-pub unheard : {D U : Type 0} → (one : Hindrance → Kept → D → U → Turn D) (seats : Seats) (kept : Kept) (d : D) (all : List U) (reply : Reply) (kept' : Kept) (d' : D) (us : List U)
-    → SoFar one seats kept d all reply kept' d' us → (us ≡ [] → ⊥)
-    → ((u : U) → one Unheard kept' d' u ≡ record { said = []; kept = kept'; dialog = None; changed = []; unsealed = [] })
-    → (hs : List Hindrance) × (turns (alone one) hs (record { kept = kept; seats = seats }) d all ≡ left seats reply kept' [] None)
-unheard one seats kept d all reply kept' d' [] s some lost = absurd (some refl)
-unheard {D} one seats kept d all reply kept' d' (u ∷ us) s some lost = (
+pub unheard : {D U : Type 0} → (one : Hindrance → Kept → D → U → Turn D) (seats : Seats) (kept : Kept) (d : D) (all : List U) (reply : Reply) (reads : Reads) (kept' : Kept) (d' : D) (us : List U)
+    → SoFar one seats kept d all reply reads kept' d' us → (us ≡ [] → ⊥)
+    → ((u : U) → one Unheard kept' d' u ≡ record { said = []; kept = kept'; dialog = None; changed = []; unsealed = []; reads = none_read })
+    → (hs : List Hindrance) × (turns (alone one) hs (record { kept = kept; seats = seats }) d all ≡ left seats reply kept' [] reads None)
+unheard one seats kept d all reply reads kept' d' [] s some lost = absurd (some refl)
+unheard {D} one seats kept d all reply reads kept' d' (u ∷ us) s some lost = (
   s.before ++ Unheard ∷ [],
   s.split (Unheard ∷ [])
-      ∙ ap (λ (t : Turn D). behind reply (goes_on (outcome_of (beside seats kept') t) t.dialog (λ s e. turns (alone one) [] s e us))) (lost u)
-      ∙ nothing_more seats reply kept' None,
+      ∙ ap (λ (t : Turn D). behind reply reads (goes_on (outcome_of (beside seats kept') t) t.dialog (λ s e. turns (alone one) [] s e us))) (lost u)
+      ∙ nothing_more seats reply reads kept' None,
 )
 
 -- no turn is to come
-pub all_heard : {D U : Type 0} → (one : Hindrance → Kept → D → U → Turn D) (seats : Seats) (kept : Kept) (d : D) (all : List U) (reply : Reply) (kept' : Kept) (d' : D) (us : List U)
-    → SoFar one seats kept d all reply kept' d' us → us ≡ []
-    → (hs : List Hindrance) × (turns (alone one) hs (record { kept = kept; seats = seats }) d all ≡ left seats reply kept' [] (Some d'))
-all_heard one seats kept d all reply kept' d' us s none = (
+pub all_heard : {D U : Type 0} → (one : Hindrance → Kept → D → U → Turn D) (seats : Seats) (kept : Kept) (d : D) (all : List U) (reply : Reply) (reads : Reads) (kept' : Kept) (d' : D) (us : List U)
+    → SoFar one seats kept d all reply reads kept' d' us → us ≡ []
+    → (hs : List Hindrance) × (turns (alone one) hs (record { kept = kept; seats = seats }) d all ≡ left seats reply kept' [] reads (Some d'))
+all_heard one seats kept d all reply reads kept' d' us s none = (
   s.before ++ [],
-  s.split [] ∙ ap (λ ls. behind reply (all_turns one seats [] kept' d' ls)) none
-      ∙ nothing_more seats reply kept' (Some d'),
+  s.split [] ∙ ap (λ ls. behind reply reads (all_turns one seats [] kept' d' ls)) none
+      ∙ nothing_more seats reply reads kept' (Some d'),
 )
 
 -- the last turn is to come, which says nothing
-pub last_heard : {D U : Type 0} → (one : Hindrance → Kept → D → U → Turn D) (seats : Seats) (kept : Kept) (d : D) (all : List U) (reply : Reply) (kept' : Kept) (d' : D) (us : List U) (u : U)
-    → SoFar one seats kept d all reply kept' d' us → us ≡ u ∷ [] → one Clear kept' d' u ≡ record { said = []; kept = kept'; dialog = Some d'; changed = []; unsealed = [] }
-    → (hs : List Hindrance) × (turns (alone one) hs (record { kept = kept; seats = seats }) d all ≡ left seats reply kept' [] (Some d'))
-last_heard {D} one seats kept d all reply kept' d' us u s last quiet = (
+pub last_heard : {D U : Type 0} → (one : Hindrance → Kept → D → U → Turn D) (seats : Seats) (kept : Kept) (d : D) (all : List U) (reply : Reply) (reads : Reads) (kept' : Kept) (d' : D) (us : List U) (u : U)
+    → SoFar one seats kept d all reply reads kept' d' us → us ≡ u ∷ [] → one Clear kept' d' u ≡ record { said = []; kept = kept'; dialog = Some d'; changed = []; unsealed = []; reads = none_read }
+    → (hs : List Hindrance) × (turns (alone one) hs (record { kept = kept; seats = seats }) d all ≡ left seats reply kept' [] reads (Some d'))
+last_heard {D} one seats kept d all reply reads kept' d' us u s last quiet = (
   s.before ++ [],
-  s.split [] ∙ ap (λ ls. behind reply (all_turns one seats [] kept' d' ls)) last
-      ∙ ap (λ (t : Turn D). behind reply (goes_on (outcome_of (beside seats kept') t) t.dialog (λ s e. turns (alone one) [] s e []))) quiet
-      ∙ nothing_more seats reply kept' (Some d'),
+  s.split [] ∙ ap (λ ls. behind reply reads (all_turns one seats [] kept' d' ls)) last
+      ∙ ap (λ (t : Turn D). behind reply reads (goes_on (outcome_of (beside seats kept') t) t.dialog (λ s e. turns (alone one) [] s e []))) quiet
+      ∙ nothing_more seats reply reads kept' (Some d'),
 )
 
 -- what the turns say is what the connection is told
 pub told_by : {D U : Type 0} → (one : Hindrance → Kept → D → U → Turn D) (seat_of : D → Seat) (seats : Seats) (kept : Kept) (d : D) (all : List U) (conn : ℕ) (reply : Reply)
-    (kept' : Kept) (failed : List JournalRecord) (seat : Seat) (o : Option D) (S : List JournalRecord → Type 0)
+    (kept' : Kept) (failed : List JournalRecord) (reads : Reads) (seat : Seat) (o : Option D) (S : List JournalRecord → Reads → Type 0)
     → reply.conn ≡ conn
-    → (hs : List Hindrance) × (turns (alone one) hs (record { kept = kept; seats = seats }) d all ≡ left seats reply kept' failed o)
-    → option_map seat_of o ≡ seat_left reply.closes seat → S failed
-    → (hs : List Hindrance) × (failed : List JournalRecord) × S failed × Tells (heard_by seat_of (turns (alone one) hs (record { kept = kept; seats = seats }) d all)) seats conn reply kept' failed seat
-told_by one seat_of seats kept d all conn reply kept' failed seat o S same (hs, is) left_is seals = (
+    → (hs : List Hindrance) × (turns (alone one) hs (record { kept = kept; seats = seats }) d all ≡ left seats reply kept' failed reads o)
+    → option_map seat_of o ≡ seat_left reply.closes seat → S failed reads
+    → (hs : List Hindrance) × (failed : List JournalRecord) × (reads : Reads) × S failed reads
+    × Tells (heard_by seat_of (turns (alone one) hs (record { kept = kept; seats = seats }) d all)) seats conn reply kept' failed reads seat
+told_by one seat_of seats kept d all conn reply kept' failed reads seat o S same (hs, is) left_is seals = (
   hs,
   failed,
+  reads,
   seals,
   record {
     conn_is = same;
     heard_is = ap (heard_by seat_of) is
-        ∙ ap (λ (s : Option Seat). record { said = reply.said; state = record { kept = kept'; seats = seats }; seat = s; changed = reply.changed; rewound = false; unsealed = failed; consoles = no_consoles }) left_is;
+        ∙ ap (λ (s : Option Seat). record { said = reply.said; state = record { kept = kept'; seats = seats }; seat = s; changed = reply.changed; rewound = false; unsealed = failed; reads = reads; consoles = no_consoles }) left_is;
   },
 )
 
@@ -175,30 +186,32 @@ none_left true seat = refl
 none_left false seat = refl
 
 -- the answers of the turns are the one reply
-pub heard_alone : (h : Heard) (seats : Seats) (conn : ℕ) (reply : Reply) (kept : Kept) (failed : List JournalRecord) (seat : Seat)
-    → Tells h seats conn reply kept failed seat
-    → heard conn h ≡ answered_alone conn (going_on_with reply) kept failed [] seat seats
-heard_alone h seats conn reply kept failed seat t =
+pub heard_alone : (h : Heard) (seats : Seats) (conn : ℕ) (reply : Reply) (kept : Kept) (failed : List JournalRecord) (reads : Reads) (seat : Seat)
+    → Tells h seats conn reply kept failed reads seat
+    → heard conn h ≡ answered_alone conn (going_on_with reply) kept failed reads [] seat seats
+heard_alone h seats conn reply kept failed reads seat t =
     ap (heard conn) t.heard_is
     ∙ ap (λ (b : Bool). record {
       state = record { kept = kept; seats = seated conn (seat_left reply.closes seat) seats };
       replies = with_reply (record { conn = conn; said = reply.said; closes = b }) (closed_others conn reply.changed (seated conn (seat_left reply.closes seat) seats));
       unsealed = failed;
+      reads = reads;
       consoles = no_consoles;
     }) (none_left reply.closes seat)
     ∙ ap (λ (n : ℕ). record {
       state = record { kept = kept; seats = seated conn (seat_left reply.closes seat) seats };
       replies = with_reply (record { conn = n; said = reply.said; closes = reply.closes }) (closed_others conn reply.changed (seated conn (seat_left reply.closes seat) seats));
       unsealed = failed;
+      reads = reads;
       consoles = no_consoles;
     }) (sym t.conn_is)
 
 -- no memory was found for the bytes
 pub unfed_alone : (hs : List Hindrance) (stage : Stage) (at : ℕ) (kept : Kept) (seats : Seats) (conn : ℕ) (seat seat' : Seat) (bytes : List ℕ) (reply : Reply)
     → reply ≡ record { conn = conn; said = []; closes = true; changed = [] }
-    → hears true hs stage at (record { kept = kept; seats = seats }) conn seat bytes ≡ answered_alone conn (going_on_with reply) kept [] [] seat' seats
+    → hears true hs stage at (record { kept = kept; seats = seats }) conn seat bytes ≡ answered_alone conn (going_on_with reply) kept [] none_read [] seat' seats
 unfed_alone hs stage at kept seats conn seat seat' bytes reply e =
-    sym (ap (λ (r : Reply). answered_alone conn (going_on_with r) kept [] [] seat' seats) e)
+    sym (ap (λ (r : Reply). answered_alone conn (going_on_with r) kept [] none_read [] seat' seats) e)
 
 -- the seat of a connection that stays open
 pub seat_stays : (closes : Bool) (seat seat' : Seat) → closes ≡ false → seat ≡ seat' → Some seat ≡ seat_left closes seat'
@@ -210,36 +223,37 @@ pub seat_goes : (closes : Bool) (seat : Seat) → closes ≡ true → ◌≡◌ 
 seat_goes true seat shut = refl
 seat_goes false seat shut = absurd (let w : false ≡ true = shut in cc)
 
--- the bytes of a connection are heard, and this is its reply, whether serving is asked to stop, what is kept, the record whose sealing failed, and its
--- seat then
-abbrev pub HeardAlone : (List JournalRecord → Type 0) → ℕ → Kept → Seats → ℕ → Seat → List ℕ → Turned → Kept → Seat → Type 0
+-- the bytes of a connection are heard, and this is its reply, whether serving is asked to stop, what is kept, the record whose sealing failed, what could
+-- not be read, and its seat then
+abbrev pub HeardAlone : (List JournalRecord → Reads → Type 0) → ℕ → Kept → Seats → ℕ → Seat → List ℕ → Turned → Kept → Seat → Type 0
 HeardAlone S at kept seats conn seat bytes turned kept' seat' =
-    (no_memory : Bool) × (hs : List Hindrance) × (stage : Stage) × (failed : List JournalRecord) × S failed × (readings : List Reading) × AreSaid readings
+    (no_memory : Bool) × (hs : List Hindrance) × (stage : Stage) × (failed : List JournalRecord) × (reads : Reads) × S failed reads × (readings : List Reading) × AreSaid readings
     × (hears no_memory hs stage at (record { kept = kept; seats = seats }) conn seat bytes
-    ≡ answered_alone conn turned kept' failed readings seat' seats)
+    ≡ answered_alone conn turned kept' failed reads readings seat' seats)
 
 -- the turns of a mail client or a mail reader
-pub going : (S : List JournalRecord → Type 0) (at : ℕ) (kept : Kept) (seats : Seats) (conn : ℕ) (seat : Seat) (bytes : List ℕ) (reply : Reply) (turned : Turned) (kept' : Kept) (seat' : Seat)
+pub going : (S : List JournalRecord → Reads → Type 0) (at : ℕ) (kept : Kept) (seats : Seats) (conn : ℕ) (seat : Seat) (bytes : List ℕ) (reply : Reply) (turned : Turned) (kept' : Kept) (seat' : Seat)
     → turned ≡ going_on_with reply
-    → (b : Bool) (hs : List Hindrance) (stage : Stage) (failed : List JournalRecord) → S failed
-    → hears b hs stage at (record { kept = kept; seats = seats }) conn seat bytes ≡ answered_alone conn (going_on_with reply) kept' failed [] seat' seats
+    → (b : Bool) (hs : List Hindrance) (stage : Stage) (failed : List JournalRecord) (reads : Reads) → S failed reads
+    → hears b hs stage at (record { kept = kept; seats = seats }) conn seat bytes ≡ answered_alone conn (going_on_with reply) kept' failed reads [] seat' seats
     → HeardAlone S at kept seats conn seat bytes turned kept' seat'
-going S at kept seats conn seat bytes reply turned kept' seat' is b hs stage failed seals e =
-    subst (λ (t : Turned). HeardAlone S at kept seats conn seat bytes t kept' seat') (sym is) (b, hs, stage, failed, seals, [], tt, e)
+going S at kept seats conn seat bytes reply turned kept' seat' is b hs stage failed reads seals e =
+    subst (λ (t : Turned). HeardAlone S at kept seats conn seat bytes t kept' seat') (sym is) (b, hs, stage, failed, reads, seals, [], tt, e)
 
-pub heard_same : (S T : List JournalRecord → Type 0) (at : ℕ) (kept : Kept) (seats : Seats) (conn : ℕ) (seat seat0 : Seat) (bytes : List ℕ) (turned turned0 : Turned) (kept' kept0 : Kept) (seat' seat'' : Seat)
-    → seat ≡ seat0 → turned0 ≡ turned → kept0 ≡ kept' → seat'' ≡ seat' → ((failed : List JournalRecord) → S failed → T failed)
+pub heard_same : (S T : List JournalRecord → Reads → Type 0) (at : ℕ) (kept : Kept) (seats : Seats) (conn : ℕ) (seat seat0 : Seat) (bytes : List ℕ) (turned turned0 : Turned) (kept' kept0 : Kept) (seat' seat'' : Seat)
+    → seat ≡ seat0 → turned0 ≡ turned → kept0 ≡ kept' → seat'' ≡ seat' → ((failed : List JournalRecord) (reads : Reads) → S failed reads → T failed reads)
     → HeardAlone S at kept seats conn seat bytes turned kept' seat' → HeardAlone T at kept seats conn seat0 bytes turned0 kept0 seat''
-heard_same S T at kept seats conn seat seat0 bytes turned turned0 kept' kept0 seat' seat'' s r k t then (b, hs, stage, failed, seals, readings, said, is) = (
+heard_same S T at kept seats conn seat seat0 bytes turned turned0 kept' kept0 seat' seat'' s r k t then (b, hs, stage, failed, reads, seals, readings, said, is) = (
   b,
   hs,
   stage,
   failed,
-  then failed seals,
+  reads,
+  then failed reads seals,
   readings,
   said,
   ap (λ (x : Seat). hears b hs stage at (record { kept = kept; seats = seats }) conn x bytes) (sym s) ∙ is
-      ∙ ap (λ (x : Turned). answered_alone conn x kept' failed readings seat' seats) (sym r)
-      ∙ ap (λ (x : Kept). answered_alone conn turned0 x failed readings seat' seats) (sym k)
-      ∙ ap (λ (x : Seat). answered_alone conn turned0 kept0 failed readings x seats) (sym t),
+      ∙ ap (λ (x : Turned). answered_alone conn x kept' failed reads readings seat' seats) (sym r)
+      ∙ ap (λ (x : Kept). answered_alone conn turned0 x failed reads readings seat' seats) (sym k)
+      ∙ ap (λ (x : Seat). answered_alone conn turned0 kept0 failed reads readings x seats) (sym t),
 )

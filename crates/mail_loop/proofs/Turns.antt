@@ -30,12 +30,14 @@ use Rattle.mail_loop.specs.declared.reply.Reply.{Reply}
 use Rattle.paradox.specs.Kept.{Kept, store_of}
 use Rattle.mail_desk.specs.Desk.{Submitted, submitted_as}
 use Rattle.verb_bytes.specs.declared.journal.JournalRecord.{JournalRecord}
+use Rattle.time_desk.specs.Reading.{Reads, none_read}
 use Rattle.verb_bytes.specs.declared.journal.JournalRecord.TheVariants.{Verb}
 use Rattle.mail_loop.specs.Asked.{Asked, does, fails, unsealed_as}
 use Rattle.mail_loop.specs.SmtpTurn.{Turn, says, ends, settled_as, settled, followed}
-use Rattle.mail_loop.specs.Hindrance.{Hindrance, Clear, Refused as IsTold452, Unread, Unstored, Unheard, Unanswered, Unsealed, Untold, hindered, memory_told, refused_in_text, unanswered}
+use Rattle.mail_loop.specs.Hindrance.{Hindrance, Clear, Refused as IsTold452, Textless, Unread, Misread, Misled, Unstored, Unheard, Unanswered, Unsealed, Untold, hindered, memory_told, refused_in_text, unanswered}
 use Rattle.mail_loop.specs.Took.{Adds, IsTold, IsAsked, IsNone, Takes, SettlesAgain, Settles, Submits, asked_as, hindered_after}
 use Rattle.mail_loop.proofs.Refusals.{due_or_starved}
+use Rattle.mail_loop.proofs.Sealed.{none_sealed}
 
 -- a turn of a mail client at a moment
 abbrev pub line_at : ℕ → Hindrance → Kept → Dialog → SmtpLine → Turn Dialog
@@ -45,41 +47,41 @@ line_at at h kept d line = hindered h at kept d line
 
 pub told_whole : {D : Type 0} → (said : List ℕ) (kept : Kept) (d : D) (old new : Reply) → new ≡ record old { said = old.said ++ said; closes = false } → Takes IsNone (says said kept d) old kept d new
 told_whole said kept d old new e =
-    subst (λ (r : Reply). Takes IsNone (says said kept d) old kept d r) (sym e) (record { conn = refl; said = refl; kept_is = refl; dialog_is = (refl, refl, refl); changed = sym (append-nil old.changed); seals = refl })
+    subst (λ (r : Reply). Takes IsNone (says said kept d) old kept d r) (sym e) (record { conn = refl; said = refl; kept_is = refl; dialog_is = (refl, refl, refl); changed = sym (append-nil old.changed); seals = (refl, refl) })
 
 pub told_last : {D : Type 0} → (said : List ℕ) (kept : Kept) (d : D) (old new : Reply) → new ≡ record old { said = old.said ++ said; closes = true } → Takes IsNone (ends said kept) old kept d new
 told_last said kept d old new e =
-    subst (λ (r : Reply). Takes IsNone (ends said kept) old kept d r) (sym e) (record { conn = refl; said = refl; kept_is = refl; dialog_is = refl; changed = sym (append-nil old.changed); seals = refl })
+    subst (λ (r : Reply). Takes IsNone (ends said kept) old kept d r) (sym e) (record { conn = refl; said = refl; kept_is = refl; dialog_is = refl; changed = sym (append-nil old.changed); seals = (refl, refl) })
 
 pub told_nothing : {D : Type 0} → (kept : Kept) (d : D) (old new : Reply) → old.closes ≡ false → new ≡ old → Takes IsNone (says [] kept d) old kept d new
 told_nothing kept d old new stays e =
     subst (λ (r : Reply). Takes IsNone (says [] kept d) old kept d r) (sym e)
-    (record { conn = refl; said = sym (append-nil old.said); kept_is = refl; dialog_is = (refl, stays, refl); changed = sym (append-nil old.changed); seals = refl })
+    (record { conn = refl; said = sym (append-nil old.said); kept_is = refl; dialog_is = (refl, stays, refl); changed = sym (append-nil old.changed); seals = (refl, refl) })
 
 -- a connection that closes with no answer
 pub closed : {D : Type 0} → (kept kept' : Kept) (d : D) (old new : Reply) → kept' ≡ kept → new ≡ record old { closes = true } → Takes IsNone (ends [] kept) old kept' d new
 closed kept kept' d old new same e =
     subst (λ (r : Reply). Takes IsNone (ends [] kept) old kept' d r) (sym e)
-    (record { conn = refl; said = sym (append-nil old.said); kept_is = same; dialog_is = refl; changed = sym (append-nil old.changed); seals = refl })
+    (record { conn = refl; said = sym (append-nil old.said); kept_is = same; dialog_is = refl; changed = sym (append-nil old.changed); seals = (refl, refl) })
 
 -- no sealing failed in this turn, and what was sealed is known
-pub lifted : {D : Type 0} → (S : List JournalRecord → Type 0) (t : Turn D) (old : Reply) (kept : Kept) (d : D) (new : Reply) → Takes IsNone t old kept d new → S [] → Takes S t old kept d new
+pub lifted : {D : Type 0} → (S : List JournalRecord → Reads → Type 0) (t : Turn D) (old : Reply) (kept : Kept) (d : D) (new : Reply) → Takes IsNone t old kept d new → S [] none_read → Takes S t old kept d new
 lifted S t old kept d new takes none = record {
   conn = takes.conn;
   said = takes.said;
   kept_is = takes.kept_is;
   dialog_is = takes.dialog_is;
   changed = takes.changed;
-  seals = subst S (sym takes.seals) none;
+  seals = none_sealed S t.unsealed t.reads takes.seals none;
 }
 
-pub lifted_turn : {D : Type 0} → (S : List JournalRecord → Type 0) (f : Hindrance → Turn D) (old : Reply) (kept : Kept) (d : D) (new : Reply) → S []
+pub lifted_turn : {D : Type 0} → (S : List JournalRecord → Reads → Type 0) (f : Hindrance → Turn D) (old : Reply) (kept : Kept) (d : D) (new : Reply) → S [] none_read
     → (h : Hindrance) × Takes IsNone (f h) old kept d new → (h : Hindrance) × Takes S (f h) old kept d new
 lifted_turn S f old kept d new none (h, takes) = (h, lifted S (f h) old kept d new takes none)
 
 -- a record was not sealed in the last turn of a connection
-pub unsealed_too : {D : Type 0} → (S : List JournalRecord → Type 0) (said : List ℕ) (k : Kept) (failed : List JournalRecord) (old : Reply) (kept : Kept) (d : D) (new : Reply)
-    → Takes IsNone (ends {D = D} said k) old kept d new → S failed → Takes S (record (ends {D = D} said k) { unsealed = failed }) old kept d new
+pub unsealed_too : {D : Type 0} → (S : List JournalRecord → Reads → Type 0) (said : List ℕ) (k : Kept) (failed : List JournalRecord) (old : Reply) (kept : Kept) (d : D) (new : Reply)
+    → Takes IsNone (ends {D = D} said k) old kept d new → S failed none_read → Takes S (record (ends {D = D} said k) { unsealed = failed }) old kept d new
 unsealed_too S said k failed old kept d new takes seals = record {
   conn = takes.conn;
   said = takes.said;
@@ -155,20 +157,30 @@ none_told (Asks ask) kept d = refl
 none_changed : (d : Dialog) (a : Asked) → (settled d a).changed ≡ []
 none_changed d a = none_told (session.settle d a.outcome).out a.kept (session.settle d a.outcome).dialog
 
+none_wanted : (out : SmtpOut) (kept : Kept) (d : Dialog) → (settled_as out kept d).reads ≡ none_read
+none_wanted Nothing kept d = refl
+none_wanted (Say said) kept d = refl
+none_wanted (Bye said) kept d = refl
+none_wanted (Asks ask) kept d = refl
+
+-- what is said of an outcome wants no text
+quiet_settled : (d : Dialog) (a : Asked) → (settled d a).reads ≡ none_read
+quiet_settled d a = none_wanted (session.settle d a.outcome).out a.kept (session.settle d a.outcome).dialog
+
 -- the connection closes with no answer to what is kept
-closed_on : (S : List JournalRecord → Type 0) (d : Dialog) (a : Asked) (old : Reply) (kept : Kept) (e : Dialog) (new : Reply)
-    → Takes IsNone (ends [] a.kept) old kept e new → S a.unsealed → Takes S (unanswered (settled d a)) old kept e new
+closed_on : (S : List JournalRecord → Reads → Type 0) (d : Dialog) (a : Asked) (old : Reply) (kept : Kept) (e : Dialog) (new : Reply)
+    → Takes IsNone (ends [] a.kept) old kept e new → S a.unsealed none_read → Takes S (unanswered (settled d a)) old kept e new
 closed_on S d a old kept e new takes seals = record {
   conn = takes.conn;
   said = takes.said;
   kept_is = takes.kept_is ∙ sym (kept_settled d a);
   dialog_is = takes.dialog_is;
   changed = takes.changed ∙ ap (λ (l : List BoxId). old.changed ++ l) (sym (none_changed d a));
-  seals = seals;
+  seals = subst (λ (r : Reads). S a.unsealed r) (sym (quiet_settled d a)) seals;
 }
 
 -- what is asked of the desk is a turn, hindered or not
-pub asked_turn : (S : List JournalRecord → Type 0) (at : ℕ) (kept kept' : Kept) (ask : Ask) (d e : Dialog) (outcome : Result Item SubmitFault) (old new : Reply)
+pub asked_turn : (S : List JournalRecord → Reads → Type 0) (at : ℕ) (kept kept' : Kept) (ask : Ask) (d e : Dialog) (outcome : Result Item SubmitFault) (old new : Reply)
     → Submits S at kept None ask kept' outcome
     → Settles outcome kept' d old e new
     → (h : Hindrance) × Takes S (hindered_after h at kept (Asks ask) d) old kept' e new
@@ -350,14 +362,20 @@ asked_of d (Asks ask) e is = (is.1, is.2)
 -- ---- a line
 
 -- what follows from what a line gives is its turn
-pub line_turn : (S : List JournalRecord → Type 0) (at : ℕ) (kept kept' : Kept) (d e e' : Dialog) (line : SmtpLine) (out : SmtpOut) (old new : Reply)
+pub line_turn : (S : List JournalRecord → Reads → Type 0) (at : ℕ) (kept kept' : Kept) (d e e' : Dialog) (line : SmtpLine) (out : SmtpOut) (old new : Reply)
     → session.turn kept.house (store_of kept).conf at d line ≡ session.turns out e
     → AsksAtEnd d out e
     → (h : Hindrance) × Takes S (hindered_after h at kept out e) old kept' e' new
     → (h : Hindrance) × Takes S (hindered h at kept d line) old kept' e' new
 line_turn S at kept kept' d e e' line out old new is asks (Clear, t) =
     (Clear, subst (λ (u : session.Turn). Takes S (followed (does at kept) kept u.out u.dialog) old kept' e' new) (sym is) t)
+line_turn S at kept kept' d e e' line out old new is asks (Textless, t) =
+    (Clear, subst (λ (u : session.Turn). Takes S (followed (does at kept) kept u.out u.dialog) old kept' e' new) (sym is) t)
 line_turn S at kept kept' d e e' line out old new is asks (Unread, t) =
+    (Clear, subst (λ (u : session.Turn). Takes S (followed (does at kept) kept u.out u.dialog) old kept' e' new) (sym is) t)
+line_turn S at kept kept' d e e' line out old new is asks (Misread texts h, t) =
+    (Clear, subst (λ (u : session.Turn). Takes S (followed (does at kept) kept u.out u.dialog) old kept' e' new) (sym is) t)
+line_turn S at kept kept' d e e' line out old new is asks (Misled said left, t) =
     (Clear, subst (λ (u : session.Turn). Takes S (followed (does at kept) kept u.out u.dialog) old kept' e' new) (sym is) t)
 line_turn S at kept kept' d e e' line out old new is asks (Unstored, t) =
     (Clear, subst (λ (u : session.Turn). Takes S (followed (does at kept) kept u.out u.dialog) old kept' e' new) (sym is) t)

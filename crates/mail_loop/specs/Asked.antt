@@ -12,6 +12,7 @@ use Rattle.verb_bytes.specs.declared.journal.JournalRecord.{JournalRecord}
 use Rattle.verb_bytes.specs.declared.journal.JournalRecord.TheVariants.{Verb}
 use Rattle.undo_outside.specs.Disk.{DiskTold}
 use Rattle.time_desk.specs.Lasting.{Lasting}
+use Rattle.time_desk.specs.Reading.{HaveRead, Reads}
 use Rattle.time_desk.specs.Sealing.{Seals}
 use Rattle.paradox.specs.Kept.{Kept, store_of}
 use Rattle.mail_desk.specs.Desk.{submitted}
@@ -43,6 +44,6 @@ unsealed_as kept (Err why) = record { outcome = Err (IsRefused why); kept = kept
 abbrev pub fails : ℕ → Kept → Asking
 fails at kept by ask = unsealed_as kept (live (store_of kept) kept.next at by ask)
 
--- from old to new the desk sealed some records, and the sealing of these failed
-abbrev pub HaveSealed : {D : Type 0} → (D → DiskTold) → Lasting D → Lasting D → List JournalRecord → Type 0
-HaveSealed told old new failed = (added : List JournalRecord) × Seals told added failed old new
+-- from old to new the desk sealed some records, the sealing of these failed, and so many turns could not read or were given other texts
+abbrev pub HaveSealed : {D : Type 0} → (D → DiskTold) → Lasting D → Lasting D → List JournalRecord → Reads → Type 0
+HaveSealed told old new failed reads = (added : List JournalRecord) × Seals told added failed old new × HaveRead told old new reads

@@ -7,7 +7,7 @@ use Rattle.console_session.specs.declared.reply.After.TheVariants.{Waits, Closes
 use Rattle.console_session.specs.Hindrance as console
 use Rattle.console_session.specs.Turn.{Turn as ConsoleTurn, asked_of}
 use Rattle.paradox.specs.Kept.{Kept}
-use Rattle.mail_loop.specs.Hindrance.{Hindrance, Clear, Refused, Unread, Unstored, Unheard, Unanswered, Unsealed, Untold}
+use Rattle.mail_loop.specs.Hindrance.{Hindrance, Clear, Refused, Textless, Unread, Misread, Misled, Unstored, Unheard, Unanswered, Unsealed, Untold}
 
 -- the bytes of a console, and what they were read as
 pub record Reading : Type 0 where
@@ -34,7 +34,10 @@ AreSaid readings = AllByRecursion (λ r. Says r.bytes r.stage) readings
 abbrev pub of_console : Hindrance → console.Hindrance
 of_console Clear = console.Clear
 of_console Refused = console.Refused
-of_console Unread = console.Clear
+of_console Textless = console.Clear
+of_console Unread = console.Unread
+of_console (Misread texts h) = console.Clear
+of_console (Misled said left) = console.Misread said left
 of_console Unstored = console.Clear
 of_console Unheard = console.Unheard
 of_console Unanswered = console.Unanswered

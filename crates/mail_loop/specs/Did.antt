@@ -5,6 +5,7 @@ use Rattle.undo_outside.specs.declared.event.LinkNote.{LinkNote}
 use Rattle.undo_outside.specs.declared.event.LinkNote.TheVariants.{Closed}
 use Rattle.undo_outside.specs.Calls.{LinkTold, then_told}
 use Rattle.verb_bytes.specs.declared.journal.JournalRecord.{JournalRecord}
+use Rattle.time_desk.specs.Reading.{Reads}
 use Rattle.paradox.specs.Kept.{Kept}
 use Rattle.mail_loop.specs.ConsoleTurn.{AreSaid}
 use Rattle.mail_loop.specs.State.{Seat}
@@ -98,13 +99,13 @@ WantsIn o before unclosed new notes more =
     ((notes ≡ []) × (unclosed ≡ 0) × (o.unsealed ≡ []) × (o.state.kept ≡ before)) ⊎ ((unclosed ≡ 1) × StopsAtClose more new)
 
 -- an event, before which this was kept, led to this outcome, and serving is asked to stop or not, or memory was wanted before the link had done all of it; S holds of the record
--- whose sealing failed, and what consoles' bytes were read as is so
-pub record Leads (S : List JournalRecord → Type 0) (unclosed : ℕ) (before : Kept) (o : Outcome) (old new : LinkTold) (kept : Kept) (seats : Seats) (result : Result Bool WantOfMemory) : Type 0 where
+-- whose sealing failed and of what was not read, and what consoles' bytes were read as is so
+pub record Leads (S : List JournalRecord → Reads → Type 0) (unclosed : ℕ) (before : Kept) (o : Outcome) (old new : LinkTold) (kept : Kept) (seats : Seats) (result : Result Bool WantOfMemory) : Type 0 where
   pub did : Did (WantsIn o before unclosed new) o.notes old new result
   pub kept_is : kept ≡ o.state.kept
   pub seats_are : MatchResult result (λ stops. (seats ≡ o.state.seats) × (stops ≡ o.consoles.stops)) (λ _. Unit {0})
   pub closed : MatchResult result (λ _. unclosed ≡ 0) (λ _. Unit {0})
-  pub seals : S o.unsealed
+  pub seals : S o.unsealed o.reads
   pub read : AreSaid o.consoles.readings
 
 -- what an event leaves before its strings are sent, or memory was wanted for it or for the replies, and nothing was sealed
@@ -113,9 +114,9 @@ AnswersWith a kept seats view stops (Ok replies) =
     (kept ≡ a.state.kept) × (seats ≡ a.state.seats) × (view replies ≡ a.replies) × (stops replies ≡ a.consoles.stops)
 AnswersWith a kept seats view stops (Err e) = (kept ≡ a.state.kept) × (a.unsealed ≡ [])
 
--- S holds of the record whose sealing failed, and what consoles' bytes were read as is so
-abbrev pub Answers : {T : Type 0} → (List JournalRecord → Type 0) → Answered → Kept → Seats → (T → List Reply) → (T → Bool) → Result T WantOfMemory → Type 0
-Answers S a kept seats view stops result = AnswersWith a kept seats view stops result × S a.unsealed × AreSaid a.consoles.readings
+-- S holds of the record whose sealing failed and of what was not read, and what consoles' bytes were read as is so
+abbrev pub Answers : {T : Type 0} → (List JournalRecord → Reads → Type 0) → Answered → Kept → Seats → (T → List Reply) → (T → Bool) → Result T WantOfMemory → Type 0
+Answers S a kept seats view stops result = AnswersWith a kept seats view stops result × S a.unsealed a.reads × AreSaid a.consoles.readings
 
 -- a connection is opened with this seat, and these are its replies; or memory was wanted
 abbrev pub Opens : {T : Type 0} → ℕ → Seat → List Reply → Seats → Seats → (T → List Reply) → Result T WantOfMemory → Type 0

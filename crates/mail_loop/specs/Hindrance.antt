@@ -18,7 +18,13 @@ pub data Hindrance : Type 0 where
   -- no memory was found before anything was stored, and the client is told
   Refused : Hindrance
   -- no memory was found for the texts that a mail reader's command wants, and the client is told
+  Textless : Hindrance
+  -- the disk did not read a text that a command or a request wants, and the client is told: nothing is done
   Unread : Hindrance
+  -- the disk gave a mail reader's command these texts, which are not those that were stored; beside that it goes so
+  Misread : List (List ℕ) → Hindrance → Hindrance
+  -- the disk gave a console's request another text than was stored: so this is said, and where a cycle is done this is kept
+  Misled : List ℕ → Kept → Hindrance
   -- no memory was found for what a mail reader's command asks of the desk, or for telling why that is refused, and the client is told
   Unstored : Hindrance
   -- no memory was found for the line, for a line of a text, or for telling the client of want of memory
@@ -56,10 +62,14 @@ refused at kept d line =
     then (let t = session.turn kept.house (store_of kept).conf at d line in refused_in_text kept t.out t.dialog)
     else says memory_told kept d
 
+-- a turn, hindered or not; a mail client's reads no text
 abbrev pub hindered : Hindrance → ℕ → Kept → Dialog → SmtpLine → Turn Dialog
 hindered Clear at kept d line = turn at kept d line
 hindered Refused at kept d line = refused at kept d line
+hindered Textless at kept d line = turn at kept d line
 hindered Unread at kept d line = turn at kept d line
+hindered (Misread texts h) at kept d line = turn at kept d line
+hindered (Misled said left) at kept d line = turn at kept d line
 hindered Unstored at kept d line = turn at kept d line
 hindered Unheard at kept d line = lost kept
 hindered Unanswered at kept d line = unanswered (turn at kept d line)

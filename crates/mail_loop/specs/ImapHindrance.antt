@@ -1,6 +1,6 @@
 -- How a turn of a mail reader may go otherwise.
 use Rattle.std.specs.Prelude.{ℕ, List, Ok, Err}
-use Rattle.seal_log.specs.declared.fault.ReadFault.TheVariants.{NoMemory as NoneForTexts}
+use Rattle.seal_log.specs.declared.fault.ReadFault.TheVariants.{Disk, NoMemory as NoneForTexts}
 use Rattle.verb_core.specs.declared.ask.Refused.TheVariants.{NoMemory}
 use Rattle.imap_lines.specs.Command.{Reading, command_of}
 use Rattle.imap_stream.specs.declared.next.Next.{Next}
@@ -9,11 +9,12 @@ use Rattle.imap_session.specs.declared.dialog.Dialog.{Dialog}
 use Rattle.imap_session.specs.declared.words.Answer.TheVariants.{Refused as IsToldRefused}
 use Rattle.imap_session.specs.Dialog.{without_memory}
 use Rattle.imap_session.specs.Words.{tagged}
+use Rattle.time_desk.specs.Reading.{failed_once, wrong_once}
 use Rattle.paradox.specs.Kept.{Kept}
 use Rattle.mail_loop.specs.Asked.{fails, starves}
 use Rattle.mail_loop.specs.SmtpTurn.{Turn, says}
-use Rattle.mail_loop.specs.Hindrance.{Hindrance, Clear, Refused, Unread, Unstored, Unheard, Unanswered, Unsealed, Untold, lost, unanswered}
-use Rattle.mail_loop.specs.ImapTurn.{Service, service, served, turn}
+use Rattle.mail_loop.specs.Hindrance.{Hindrance, Clear, Refused, Textless, Unread, Misread, Misled, Unstored, Unheard, Unanswered, Unsealed, Untold, lost, unanswered}
+use Rattle.mail_loop.specs.ImapTurn.{Service, service, served}
 
 -- what a command's tag is told of want of memory
 abbrev pub memory_told : List ℕ → List ℕ
@@ -36,6 +37,14 @@ refused kept d NotYet = lost kept
 abbrev pub without_texts : Service → Service
 without_texts desk = record desk { texts = λ bodies. Err NoneForTexts }
 
+-- the disk does not read the texts
+abbrev pub unread : Service → Service
+unread desk = record desk { texts = λ bodies. Err Disk; reads = failed_once }
+
+-- the disk gives these texts, which are not those that were stored
+abbrev pub misread : List (List ℕ) → Service → Service
+misread texts desk = record desk { texts = λ bodies. Ok texts; reads = wrong_once }
+
 -- the desk finds no memory for what is asked, and nothing changes
 abbrev pub without_items : Kept → Service → Service
 without_items kept desk = record desk { asked = starves kept }
@@ -44,12 +53,24 @@ without_items kept desk = record desk { asked = starves kept }
 abbrev pub without_seals : ℕ → Kept → Service → Service
 without_seals at kept desk = record desk { asked = fails at kept }
 
+-- a turn over what the desk serves, hindered or not
+abbrev pub under : Hindrance → ℕ → Kept → (Service → Turn Dialog) → Turn Dialog
+under Clear at kept turn = turn (service at kept)
+under Refused at kept turn = lost kept
+under Textless at kept turn = turn (without_texts (service at kept))
+under Unread at kept turn = turn (unread (service at kept))
+under (Misread texts h) at kept turn = under h at kept (λ desk. turn (misread texts desk))
+under (Misled said left) at kept turn = turn (service at kept)
+under Unstored at kept turn = turn (without_items kept (service at kept))
+under Unheard at kept turn = lost kept
+under Unanswered at kept turn = unanswered (turn (service at kept))
+under Unsealed at kept turn = turn (without_seals at kept (service at kept))
+under Untold at kept turn = unanswered (turn (without_seals at kept (service at kept)))
+
+-- the same, where want of memory that the session finds is told so
+abbrev pub under_or : Hindrance → Turn Dialog → ℕ → Kept → (Service → Turn Dialog) → Turn Dialog
+under_or Refused told at kept turn = told
+under_or h told at kept turn = under h at kept turn
+
 abbrev pub imap_hindered : Hindrance → ℕ → Kept → Dialog → Next → Turn Dialog
-imap_hindered Clear at kept d next = turn at kept d next
-imap_hindered Refused at kept d next = refused kept d next
-imap_hindered Unread at kept d next = served (without_texts (service at kept)) kept d next
-imap_hindered Unstored at kept d next = served (without_items kept (service at kept)) kept d next
-imap_hindered Unheard at kept d next = lost kept
-imap_hindered Unanswered at kept d next = unanswered (turn at kept d next)
-imap_hindered Unsealed at kept d next = served (without_seals at kept (service at kept)) kept d next
-imap_hindered Untold at kept d next = unanswered (served (without_seals at kept (service at kept)) kept d next)
+imap_hindered h at kept d next = under_or h (refused kept d next) at kept (λ desk. served desk kept d next)

@@ -2,7 +2,8 @@
 use Rattle.std.specs.Prelude.{◌≡◌, ◌⊎◌, ℕ, Bool, true, false, List, [], Result, Ok, Err, IsTrue}
 use Rattle.std.specs.List.{list_all}
 use Rattle.undo_base.specs.declared.memory.NoMemory.{NoMemory as WantOfMemory}
-use Rattle.seal_log.specs.declared.fault.ReadFault.TheVariants.{NoMemory as NoneForTexts}
+use Rattle.seal_log.specs.declared.fault.ReadFault.{ReadFault}
+use Rattle.seal_log.specs.declared.fault.ReadFault.TheVariants.{Disk, NoMemory as NoneForTexts}
 use Rattle.verb_core.specs.declared.ask.Refused.TheVariants.{NoMemory}
 use Rattle.verb_core.specs.declared.ask.SubmitFault.{SubmitFault}
 use Rattle.verb_core.specs.declared.ask.SubmitFault.TheVariants.{Refused as IsRefused}
@@ -16,13 +17,15 @@ use Rattle.imap_session.specs.declared.out.ImapOut.{ImapOut}
 use Rattle.imap_session.specs.declared.out.ImapOut.TheVariants.{Say, Read, Submit, Bye}
 use Rattle.imap_session.specs.Dialog as session
 use Rattle.imap_session.specs.Dialog.{is_due, is_free}
+use Rattle.verb_bytes.specs.declared.journal.JournalRecord.{JournalRecord}
+use Rattle.time_desk.specs.Reading.{Reads, failed_once, none_read}
 use Rattle.paradox.specs.Kept.{Kept, store_of}
 use Rattle.mail_desk.specs.Timeline.{has_text}
 use Rattle.mail_loop.specs.declared.reply.Reply.{Reply}
 use Rattle.mail_loop.specs.SmtpTurn.{Turn, ends}
-use Rattle.mail_loop.specs.Hindrance.{Hindrance, Clear, Refused, Unread, Unstored, Unheard, Unanswered, Unsealed, Untold, lost, unanswered}
-use Rattle.mail_loop.specs.ImapTurn.{Service, service, followed, settled, settled_as, size_in}
-use Rattle.mail_loop.specs.ImapHindrance.{refused_command, without_items, without_seals, without_texts}
+use Rattle.mail_loop.specs.Hindrance.{Hindrance}
+use Rattle.mail_loop.specs.ImapTurn.{Service, followed, settled, settled_as, size_in, submits}
+use Rattle.mail_loop.specs.ImapHindrance.{refused_command, under, under_or}
 use Rattle.mail_loop.specs.Took.{Adds, IsNone, Takes, asked_as, is_refused}
 
 -- nothing whole is there
@@ -58,42 +61,39 @@ AreThere kept (Bye said) = Unit {0}
 AreThere kept (Read bodies) = IsTrue (list_all (has_text kept.timeline) bodies)
 AreThere kept (Submit ask) = Unit {0}
 
--- what the desk serves, hindered or not
-abbrev pub under : Hindrance → ℕ → Kept → (Service → Turn Dialog) → Turn Dialog
-under Clear at kept turn = turn (service at kept)
-under Refused at kept turn = lost kept
-under Unread at kept turn = turn (without_texts (service at kept))
-under Unstored at kept turn = turn (without_items kept (service at kept))
-under Unheard at kept turn = lost kept
-under Unanswered at kept turn = unanswered (turn (service at kept))
-under Unsealed at kept turn = turn (without_seals at kept (service at kept))
-under Untold at kept turn = unanswered (turn (without_seals at kept (service at kept)))
-
 -- a command, or what is none
 abbrev pub obeyed : Service → Kept → Dialog → Reading → Turn Dialog
 obeyed desk kept d reading = let t = session.hears_reading kept.house (store_of kept) (size_in kept) d reading in followed desk kept t.out t.dialog
 
 -- a command, or what is none, hindered or not
 abbrev pub obeyed_under : Hindrance → ℕ → Kept → Dialog → Reading → Turn Dialog
-obeyed_under Clear at kept d reading = obeyed (service at kept) kept d reading
-obeyed_under Refused at kept d reading = refused_command kept d reading
-obeyed_under Unread at kept d reading = obeyed (without_texts (service at kept)) kept d reading
-obeyed_under Unstored at kept d reading = obeyed (without_items kept (service at kept)) kept d reading
-obeyed_under Unheard at kept d reading = lost kept
-obeyed_under Unanswered at kept d reading = unanswered (obeyed (service at kept) kept d reading)
-obeyed_under Unsealed at kept d reading = obeyed (without_seals at kept (service at kept)) kept d reading
-obeyed_under Untold at kept d reading = unanswered (obeyed (without_seals at kept (service at kept)) kept d reading)
+obeyed_under h at kept d reading = under_or h (refused_command kept d reading) at kept (λ desk. obeyed desk kept d reading)
 
 -- the mailboxes that an ask takes away, where it was done
 abbrev pub where_done : Result Item SubmitFault → List BoxId → List BoxId
 where_done (Ok item) boxes = boxes
 where_done (Err fault) boxes = []
 
--- the connection closes with no answer, or the dialog is told that no memory was found for the texts
-abbrev pub ReadsNone : Kept → Dialog → Reply → Dialog → Reply → Type 0
-ReadsNone kept d old d' new =
+-- the connection closes with no answer, or the dialog is told why its texts were not read
+abbrev pub ReadsNone : ReadFault → Kept → Dialog → Reply → Dialog → Reply → Type 0
+ReadsNone why kept d old d' new =
     Takes IsNone (ends [] kept) old kept d' new
-    ⊎ Takes IsNone (let t = session.heard d (Err NoneForTexts) in settled_as t.out kept t.dialog) old kept d' new
+    ⊎ Takes IsNone (let t = session.heard d (Err why) in settled_as t.out kept t.dialog) old kept d' new
+
+-- what is counted where texts were not read
+abbrev pub reads_of : ReadFault → Reads
+reads_of Disk = failed_once
+reads_of NoneForTexts = none_read
+
+-- what comes of a command whose dialog is given these texts
+abbrev pub given : Kept → List (List ℕ) → Dialog → Service → Turn Dialog
+given kept texts d desk = let t = session.heard d (Ok texts) in submits desk kept t.out t.dialog
+
+-- the dialog was given these texts; or no memory was found for that, and nothing was done
+abbrev pub TakesTexts : (List JournalRecord → Reads → Type 0) → ℕ → Kept → List (List ℕ) → Dialog → Reply → Kept → Dialog → Reply → Type 0
+TakesTexts S at kept texts d old kept' d' new =
+    ((h : Hindrance) × Takes S (under h at kept (given kept texts d)) old kept' d' new)
+    ⊎ (ReadsNone NoneForTexts kept d old d' new × (kept' ≡ kept) × S [] none_read)
 
 -- the connection closes with no answer, or an ask that was refused is settled as one for which no memory was found
 abbrev pub SettlesAgain : Bool → Kept → Dialog → Reply → Dialog → Reply → Type 0

@@ -19,6 +19,7 @@ use Rattle.imap_session.specs.declared.out.ImapOut.{ImapOut}
 use Rattle.imap_session.specs.declared.out.ImapOut.TheVariants.{Say, Read, Submit, Bye}
 use Rattle.imap_session.specs.Dialog as session
 use Rattle.imap_session.specs.Words.{bad_line_text, ready_text}
+use Rattle.time_desk.specs.Reading.{Reads, none_read}
 use Rattle.paradox.specs.Kept.{Kept, store_of}
 use Rattle.mail_desk.specs.Timeline.{texts_of}
 use Rattle.mail_loop.specs.Asked.{Asked, Asking, does}
@@ -28,14 +29,15 @@ use Rattle.mail_loop.specs.SmtpTurn.{Turn, says, ends}
 abbrev pub size_in : Kept → Body → Option ℕ
 size_in kept body = option_map length (text_of kept.timeline body)
 
--- How the desk serves a command: the texts that it gives, and what becomes of an ask.
+-- How the desk serves a command: the texts that it gives, whether it could not read them or gave others, and what becomes of an ask.
 pub record Service : Type 0 where
   pub texts : List Body → Result (List (List ℕ)) ReadFault
+  pub reads : Reads
   pub asked : Asking
 
 -- it gives the texts of the items in force, and does what is asked
 abbrev pub service : ℕ → Kept → Service
-service at kept = record { texts = λ bodies. Ok (texts_of kept.timeline bodies); asked = does at kept }
+service at kept = record { texts = λ bodies. Ok (texts_of kept.timeline bodies); reads = none_read; asked = does at kept }
 
 -- what an outcome is answered; it leads to no ask
 abbrev pub settled_as : ImapOut → Kept → Dialog → Turn Dialog
@@ -76,11 +78,11 @@ submits desk kept (Bye said) d = ends said kept
 submits desk kept (Read bodies) d = says [] kept d
 submits desk kept (Submit asked) d = done d asked (desk.asked d.user asked)
 
--- what the dialog gives, and what is asked by it of the desk
+-- what the dialog gives, and what is read for it and asked by it of the desk
 abbrev pub followed : Service → Kept → ImapOut → Dialog → Turn Dialog
 followed desk kept (Say said) d = says said kept d
 followed desk kept (Bye said) d = ends said kept
-followed desk kept (Read bodies) d = let t = session.heard d (desk.texts bodies) in submits desk kept t.out t.dialog
+followed desk kept (Read bodies) d = let t = session.heard d (desk.texts bodies) in record (submits desk kept t.out t.dialog) { reads = desk.reads }
 followed desk kept (Submit asked) d = done d asked (desk.asked d.user asked)
 
 -- a command, or what is none; a literal is invited, and a bad line is refused

@@ -20,6 +20,7 @@ use Rattle.imap_stream.specs.declared.begun.Awaits.TheVariants.{Line}
 use Rattle.imap_session.specs.Dialog as imap
 use Rattle.imap_session.specs.Words.{changed_text, greeting_text, rewound_text}
 use Rattle.verb_bytes.specs.declared.journal.JournalRecord.{JournalRecord}
+use Rattle.time_desk.specs.Reading.{Reads, none_read}
 use Rattle.console_head.specs.Request.{Stage}
 use Rattle.mail_loop.specs.State.{Seat, Smtp, Imap, Http, State}
 use Rattle.mail_loop.specs.Hindrance.{Hindrance}
@@ -68,15 +69,16 @@ pub record Reply : Type 0 where
   pub closes : Bool
 
 -- what an event leaves before its strings are sent: the state, the replies by rising connection, the record whose sealing failed, where one did,
--- and what came of consoles
+-- how many turns could not read a text or were given another, and what came of consoles
 pub record Answered : Type 0 where
   pub state : State
   pub replies : List Reply
   pub unsealed : List JournalRecord
+  pub reads : Reads
   pub consoles : Consoles
 
 abbrev pub ignored : State → Answered
-ignored s = record { state = s; replies = []; unsealed = []; consoles = no_consoles }
+ignored s = record { state = s; replies = []; unsealed = []; reads = none_read; consoles = no_consoles }
 
 -- a reply in its place among others, by connection
 abbrev pub with_reply : Reply → List Reply → List Reply
@@ -135,12 +137,13 @@ heard conn h =
       state = record { kept = h.state.kept; seats = seats };
       replies = with_reply (record { conn = conn; said = h.said; closes = is_none h.seat }) (told_others conn h.rewound h.changed seats);
       unsealed = h.unsealed;
+      reads = h.reads;
       consoles = h.consoles;
     }
 
 -- no memory was found for the bytes that came: the connection is closed without an answer
 abbrev pub unfed : ℕ → State → Answered
-unfed conn s = heard conn (record { said = []; state = s; seat = None; changed = []; rewound = false; unsealed = []; consoles = no_consoles })
+unfed conn s = heard conn (record { said = []; state = s; seat = None; changed = []; rewound = false; unsealed = []; reads = none_read; consoles = no_consoles })
 
 -- bytes come over an open connection, and find memory or none
 abbrev pub hears : Bool → List Hindrance → Stage → ℕ → State → ℕ → Seat → List ℕ → Answered
@@ -170,12 +173,13 @@ greeted s conn seat greeting = record {
   state = record { kept = s.kept; seats = with_new_seat conn seat s.seats };
   replies = record { conn = conn; said = greeting; closes = false } ∷ [];
   unsealed = [];
+  reads = none_read;
   consoles = no_consoles;
 }
 
 -- a connection is opened, and nothing is said
 abbrev pub opened : State → ℕ → Seat → Answered
-opened s conn seat = record { state = record { kept = s.kept; seats = with_new_seat conn seat s.seats }; replies = []; unsealed = []; consoles = no_consoles }
+opened s conn seat = record { state = record { kept = s.kept; seats = with_new_seat conn seat s.seats }; replies = []; unsealed = []; reads = none_read; consoles = no_consoles }
 
 -- a mail client or a mail reader is greeted, and a console is not
 abbrev pub admits : Role → State → ℕ → Answered
@@ -246,15 +250,17 @@ delivered ds seats (r ∷ rs) =
     let more = delivered (other_deliveries ds) (after_reply (remains d r.said r.closes) r.conn seats) rs in
     record { seats = more.seats; notes = reply_notes d r ++ more.notes }
 
--- what an event leaves: the state, what the link did for it, the record whose sealing failed, where one did, and what came of consoles
+-- what an event leaves: the state, what the link did for it, the record whose sealing failed, where one did, how many turns could not read a
+-- text or were given another, and what came of consoles
 pub record Outcome : Type 0 where
   pub state : State
   pub notes : List LinkNote
   pub unsealed : List JournalRecord
+  pub reads : Reads
   pub consoles : Consoles
 
 abbrev pub outcome : Answered → Delivered → Outcome
-outcome a d = record { state = record { kept = a.state.kept; seats = d.seats }; notes = d.notes; unsealed = a.unsealed; consoles = a.consoles }
+outcome a d = record { state = record { kept = a.state.kept; seats = d.seats }; notes = d.notes; unsealed = a.unsealed; reads = a.reads; consoles = a.consoles }
 
 -- an event
 abbrev pub happens : Hindrances → State → Event → Outcome

@@ -11,6 +11,7 @@ use Rattle.mail_loop.specs.declared.serve.ServeFault.{ServeFault}
 use Rattle.mail_loop.specs.declared.serve.ServeFault.TheVariants.{Link, Disk, Turns, NoMemory}
 use Rattle.paradox.specs.Kept.{Kept}
 use Rattle.verb_bytes.specs.declared.journal.JournalRecord.{JournalRecord}
+use Rattle.time_desk.specs.Reading.{Reads, both_read, none_read}
 use Rattle.mail_loop.specs.State.{State}
 use Rattle.mail_loop.specs.ConsoleTurn.{AreSaid, Consoles, Reading, both, no_consoles}
 use Rattle.mail_loop.specs.Machine.{Hindrances, Outcome, happens}
@@ -28,17 +29,22 @@ is_end (Bytes bytes) = false
 is_end Left = false
 is_end Idle = false
 
--- an outcome after what the link did before, the record that was not sealed then, and what came of consoles
-abbrev pub after_notes : List LinkNote → List JournalRecord → Consoles → Outcome → Outcome
-after_notes notes unsealed consoles o =
-    record { state = o.state; notes = notes ++ o.notes; unsealed = unsealed ++ o.unsealed; consoles = both consoles o.consoles }
+-- an outcome after what the link did before, the record that was not sealed then, what was not read, and what came of consoles
+abbrev pub after_notes : List LinkNote → List JournalRecord → Reads → Consoles → Outcome → Outcome
+after_notes notes unsealed reads consoles o = record {
+  state = o.state;
+  notes = notes ++ o.notes;
+  unsealed = unsealed ++ o.unsealed;
+  reads = both_read reads o.reads;
+  consoles = both consoles o.consoles;
+}
 
 -- what steps leave, one after the other
 abbrev pub run : List Step → State → Outcome
-run [] s = record { state = s; notes = []; unsealed = []; consoles = no_consoles }
+run [] s = record { state = s; notes = []; unsealed = []; reads = none_read; consoles = no_consoles }
 run (step ∷ steps) s =
     let o = happens step.hindrances s step.event in
-    after_notes (Came step.event ∷ o.notes) o.unsealed o.consoles (run steps o.state)
+    after_notes (Came step.event ∷ o.notes) o.unsealed o.reads o.consoles (run steps o.state)
 
 -- nothing served yet: no connection is open
 abbrev pub at_first : Kept → State
@@ -56,6 +62,10 @@ pub record Serves (steps : List Step) (old : Kept) (notes : List LinkNote) (new 
 -- the records whose sealing failed in these steps
 abbrev pub unsealed_in : List Step → Kept → List JournalRecord
 unsealed_in steps old = (run steps (at_first old)).unsealed
+
+-- how many turns of these steps could not read a text, and how many were given another than was stored
+abbrev pub reads_in : List Step → Kept → Reads
+reads_in steps old = (run steps (at_first old)).reads
 
 -- what consoles' bytes were read as in these steps
 abbrev pub readings_in : List Step → Kept → List Reading

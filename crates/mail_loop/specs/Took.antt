@@ -22,9 +22,10 @@ use Rattle.mail_desk.specs.Desk.{submitted}
 use Rattle.mail_loop.specs.State.{Seat}
 use Rattle.verb_bytes.specs.declared.journal.JournalRecord.{JournalRecord}
 use Rattle.verb_bytes.specs.declared.journal.JournalRecord.TheVariants.{Verb}
+use Rattle.time_desk.specs.Reading.{Reads, none_read}
 use Rattle.mail_loop.specs.Asked.{Asked, does, fails}
 use Rattle.mail_loop.specs.SmtpTurn.{Turn, ends, followed, settled}
-use Rattle.mail_loop.specs.Hindrance.{Hindrance, Clear, Refused, Unread, Unstored, Unheard, Unanswered, Unsealed, Untold, lost, unanswered, refused_in_text}
+use Rattle.mail_loop.specs.Hindrance.{Hindrance, Clear, Refused, Textless, Unread, Misread, Misled, Unstored, Unheard, Unanswered, Unsealed, Untold, lost, unanswered, refused_in_text}
 use Rattle.mail_loop.specs.ConsoleTurn.{Reading, no_consoles, rewinds_by, stops_by}
 use Rattle.mail_loop.specs.Turns.{Heard}
 use Rattle.mail_loop.specs.Machine.{Seats, Answered as AnsweredEvent, seated, told_others, with_reply}
@@ -53,25 +54,29 @@ IsAsked (Mail ask) d = (is_due d ≡ true) × (is_users ask ≡ false)
 abbrev pub hindered_after : Hindrance → ℕ → Kept → SmtpOut → Dialog → Turn Dialog
 hindered_after Clear at kept out d = followed (does at kept) kept out d
 hindered_after Refused at kept out d = refused_in_text kept out d
+hindered_after Textless at kept out d = followed (does at kept) kept out d
 hindered_after Unread at kept out d = followed (does at kept) kept out d
+hindered_after (Misread texts h) at kept out d = followed (does at kept) kept out d
+hindered_after (Misled said left) at kept out d = followed (does at kept) kept out d
 hindered_after Unstored at kept out d = followed (does at kept) kept out d
 hindered_after Unheard at kept out d = lost kept
 hindered_after Unanswered at kept out d = unanswered (followed (does at kept) kept out d)
 hindered_after Unsealed at kept out d = followed (fails at kept) kept out d
 hindered_after Untold at kept out d = unanswered (followed (fails at kept) kept out d)
 
--- no sealing failed
-abbrev pub IsNone : List JournalRecord → Type 0
-IsNone failed = failed ≡ []
+-- no sealing failed, and nothing was read
+abbrev pub IsNone : List JournalRecord → Reads → Type 0
+IsNone failed reads = (failed ≡ []) × (reads ≡ none_read)
 
--- A turn is in the reply, and S holds of the record whose sealing failed in it. Where the connection stays open none failed.
-pub record Takes {D : Type 0} (S : List JournalRecord → Type 0) (t : Turn D) (old : Reply) (kept : Kept) (d : D) (new : Reply) : Type 0 where
+-- A turn is in the reply, and S holds of the record whose sealing failed in it, and of what it could not read. Where the connection stays open no
+-- sealing failed.
+pub record Takes {D : Type 0} (S : List JournalRecord → Reads → Type 0) (t : Turn D) (old : Reply) (kept : Kept) (d : D) (new : Reply) : Type 0 where
   pub conn : new.conn ≡ old.conn
   pub said : new.said ≡ old.said ++ t.said
   pub kept_is : kept ≡ t.kept
   pub dialog_is : MatchOption t.dialog (new.closes ≡ true) (λ e. (d ≡ e) × (new.closes ≡ false) × (t.unsealed ≡ []))
   pub changed : new.changed ≡ old.changed ++ t.changed
-  pub seals : S t.unsealed
+  pub seals : S t.unsealed t.reads
 
 -- whether an ask was refused
 abbrev pub is_refused : Result Item SubmitFault → Bool
@@ -80,11 +85,11 @@ is_refused (Err (IsRefused why)) = true
 is_refused (Err Disk) = false
 is_refused (Err Closed) = false
 
--- What the desk did of an ask: S holds of the record whose sealing failed. A desk that is open doesn't answer that it is closed.
-abbrev pub Submits : (List JournalRecord → Type 0) → ℕ → Kept → Option User → Ask → Kept → Result Item SubmitFault → Type 0
-Submits S at kept by ask kept' (Ok item) = (submitted kept at by ask ≡ record { outcome = Ok item; kept = kept' }) × S []
-Submits S at kept by ask kept' (Err (IsRefused why)) = IsRefusal why (live (store_of kept) kept.next at by ask) × (kept' ≡ kept) × S []
-Submits S at kept by ask kept' (Err Disk) = (item : Item) × (live (store_of kept) kept.next at by ask ≡ Ok item) × (kept' ≡ kept) × S (Verb item ∷ [])
+-- What the desk did of an ask: S holds of the record whose sealing failed, and nothing was read. A desk that is open doesn't answer that it is closed.
+abbrev pub Submits : (List JournalRecord → Reads → Type 0) → ℕ → Kept → Option User → Ask → Kept → Result Item SubmitFault → Type 0
+Submits S at kept by ask kept' (Ok item) = (submitted kept at by ask ≡ record { outcome = Ok item; kept = kept' }) × S [] none_read
+Submits S at kept by ask kept' (Err (IsRefused why)) = IsRefusal why (live (store_of kept) kept.next at by ask) × (kept' ≡ kept) × S [] none_read
+Submits S at kept by ask kept' (Err Disk) = (item : Item) × (live (store_of kept) kept.next at by ask ≡ Ok item) × (kept' ≡ kept) × S (Verb item ∷ []) none_read
 Submits S at kept by ask kept' (Err Closed) = ⊥
 
 -- what became of an ask, but for what was sealed
@@ -127,22 +132,23 @@ abbrev pub seat_left : Bool → Seat → Option Seat
 seat_left true seat = None
 seat_left false seat = Some seat
 
--- The turns of a connection's stream are in the reply, with the mailboxes that they took away, and this is the record whose sealing failed, and
--- its seat then.
-pub record Tells (h : Heard) (seats : Seats) (conn : ℕ) (reply : Reply) (kept : Kept) (failed : List JournalRecord) (seat : Seat) : Type 0 where
+-- The turns of a connection's stream are in the reply, with the mailboxes that they took away, and this is the record whose sealing failed, what
+-- they could not read, and its seat then.
+pub record Tells (h : Heard) (seats : Seats) (conn : ℕ) (reply : Reply) (kept : Kept) (failed : List JournalRecord) (reads : Reads) (seat : Seat) : Type 0 where
   pub conn_is : reply.conn ≡ conn
-  pub heard_is : h ≡ record { said = reply.said; state = record { kept = kept; seats = seats }; seat = seat_left reply.closes seat; changed = reply.changed; rewound = false; unsealed = failed; consoles = no_consoles }
+  pub heard_is : h ≡ record { said = reply.said; state = record { kept = kept; seats = seats }; seat = seat_left reply.closes seat; changed = reply.changed; rewound = false; unsealed = failed; reads = reads; consoles = no_consoles }
 
 -- a connection has the reply of its turns; others whose mailbox they took away, or whose store they rewound, are told
-abbrev pub answered_with : ℕ → Turned → Kept → List JournalRecord → List Reading → Seats → AnsweredEvent
-answered_with conn turned kept failed readings seats = record {
+abbrev pub answered_with : ℕ → Turned → Kept → List JournalRecord → Reads → List Reading → Seats → AnsweredEvent
+answered_with conn turned kept failed reads readings seats = record {
   state = record { kept = kept; seats = seats };
   replies = with_reply (reply_of turned.reply) (told_others conn turned.rewound turned.reply.changed seats);
   unsealed = failed;
+  reads = reads;
   consoles = record { readings = readings; stops = turned.stops };
 }
 
 -- the same, and its seat is now this one, or none where it is closed
-abbrev pub answered_alone : ℕ → Turned → Kept → List JournalRecord → List Reading → Seat → Seats → AnsweredEvent
-answered_alone conn turned kept failed readings seat seats =
-    answered_with conn turned kept failed readings (seated conn (seat_left turned.reply.closes seat) seats)
+abbrev pub answered_alone : ℕ → Turned → Kept → List JournalRecord → Reads → List Reading → Seat → Seats → AnsweredEvent
+answered_alone conn turned kept failed reads readings seat seats =
+    answered_with conn turned kept failed reads readings (seated conn (seat_left turned.reply.closes seat) seats)

@@ -5,13 +5,13 @@ ghost use Rattle.verb_core.specs.declared.conf.House.{House as TheHouse};
 ghost use Rattle.imap_lines.specs.Command.{ReadsCommand, Reading, command_of};
 ghost use Rattle.imap_session.specs.Dialog.{AsksAsUser, IsNext, is_at_home, is_due, is_free, is_reading, settle, took};
 ghost use Rattle.paradox.specs.Kept.{store_of, Kept};
-ghost use Rattle.mail_desk.specs.Timeline.{has_text, texts_of};
+ghost use Rattle.mail_desk.specs.Timeline.{has_text};
 ghost use Rattle.mail_loop.specs.Asked.{HaveSealed};
 ghost use Rattle.mail_loop.specs.Hindrance.{Hindrance};
 ghost use Rattle.mail_loop.specs.ImapTurn.{done, followed, submits};
-ghost use Rattle.mail_loop.specs.ImapHindrance.{imap_hindered};
+ghost use Rattle.mail_loop.specs.ImapHindrance.{imap_hindered, under};
 ghost use Rattle.mail_loop.specs.Took.{IsNone, Takes};
-ghost use Rattle.mail_loop.specs.ImapTook.{AreThere, IsAnswered, IsAwaitedLast, IsReaderTold, ReadsNone, Settles, SettlesAgain, obeyed_under, under};
+ghost use Rattle.mail_loop.specs.ImapTook.{AreThere, IsAnswered, IsAwaitedLast, IsReaderTold, ReadsNone, Settles, SettlesAgain, TakesTexts, obeyed_under};
 
 use crate::asking::{ask_desk, is_refused};
 use crate::reply::{Reply, say};
@@ -197,31 +197,29 @@ fn go_on<D: Disk + Drop>(
     }
 }
 
-/// Tells the session that no memory was found for its texts.
-fn read_none(alloc: Global, session: &mut ImapSession, reply: &mut Reply)
+/// Tells the session why its texts were not read.
+fn read_none(alloc: Global, session: &mut ImapSession, why: ReadFault, reply: &mut Reply)
     requires reading { is_reading session.old ≡ true }
     requires stays { reply.old.closes ≡ false }
     ensures free { is_free session.new ≡ true }
     ensures home { (house : TheHouse) → is_at_home house session.old ≡ true → is_at_home house session.new ≡ true }
-    ensures read { (kept : Kept) → ReadsNone kept session.old reply.old session.new reply.new }
+    ensures read { (kept : Kept) → ReadsNone why kept session.old reply.old session.new reply.new }
 {
-    match session.read(alloc, &Err(ReadFault::NoMemory)) {
+    match session.read(alloc, &Err(why)) {
         Ok(out) => tell_all(reply, out),
         Err(NoMemory) => close(session, reply),
     }
 }
 
-/// Hands the session the texts that it wants.
+/// Hands the session texts.
 fn take_texts<D: Disk + Drop>(
     alloc: Global,
     desk: &mut Desk<D>,
     session: &mut ImapSession,
     at: u64,
-    bodies: &Bodies0,
     texts: Texts,
     reply: &mut Reply,
 )
-    requires texts { texts ≡ texts_of desk.old.kept.timeline bodies.now }
     requires reading { is_reading session.old ≡ true }
     requires stays { reply.old.closes ≡ false }
     requires home { is_at_home desk.old.kept.house session.old ≡ true }
@@ -229,17 +227,16 @@ fn take_texts<D: Disk + Drop>(
     ensures free { is_free session.new ≡ true }
     ensures home { is_at_home desk.new.kept.house session.new ≡ true }
     ensures house { desk.new.kept.house ≡ desk.old.kept.house }
-    ensures turn { (h : Hindrance) ×
-        Takes (HaveSealed D.told desk.old desk.new) (under h at desk.old.kept (λ service. followed service desk.old.kept (ImapOut.Read bodies.now) session.old)) reply.old desk.new.kept session.new reply.new }
+    ensures turn { TakesTexts (HaveSealed D.told desk.old desk.new) at desk.old.kept texts session.old reply.old desk.new.kept session.new reply.new }
 {
     seals_join::<D>();
     match session.read(alloc, &Ok(texts)) {
         Ok(out) => go_on(alloc, desk, session, at, out, reply),
-        Err(NoMemory) => read_none(alloc, session, reply),
+        Err(NoMemory) => read_none(alloc, session, ReadFault::NoMemory, reply),
     }
 }
 
-/// Reads the texts that the session wants, and hands them to it.
+/// Reads the texts that the session wants, and hands them to it. Where one is not read the session is told, and goes on.
 fn read<D: Disk + Drop>(
     alloc: Global,
     desk: &mut Desk<D>,
@@ -261,8 +258,8 @@ fn read<D: Disk + Drop>(
 {
     seals_join::<D>();
     match desk.texts(alloc, bodies.as_slice()) {
-        Ok(texts) => take_texts(alloc, desk, session, at, bodies, texts, reply),
-        Err(NoMemory) => read_none(alloc, session, reply),
+        Ok(texts) => take_texts(alloc, desk, session, at, texts, reply),
+        Err(why) => read_none(alloc, session, why, reply),
     }
 }
 

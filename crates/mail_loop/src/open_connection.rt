@@ -5,6 +5,7 @@ ghost use Rattle.verb_core.specs.declared.mailbox.BoxId.{BoxId as TheBoxId};
 ghost use Rattle.smtp_session.specs.Dialog.{is_due};
 ghost use Rattle.imap_session.specs.Dialog.{holds, is_at_home, is_free};
 ghost use Rattle.verb_bytes.specs.declared.journal.JournalRecord.{JournalRecord};
+ghost use Rattle.time_desk.specs.Reading.{Reads};
 ghost use Rattle.mail_loop.specs.State.{State, Smtp as SmtpSeat, Imap as ImapSeat};
 ghost use Rattle.mail_loop.specs.Asked.{HaveSealed};
 ghost use Rattle.mail_loop.specs.Hindrance.{Hindrance};
@@ -156,8 +157,8 @@ fn serve_lines<D: Disk + Drop>(
     requires free { is_due dialog.old ≡ false }
     ensures free { is_due dialog.new ≡ false }
     ensures house { desk.new.kept.house ≡ desk.old.kept.house }
-    ensures turns { (seats : Seats) → (hs : List Hindrance) × (failed : List JournalRecord) × HaveSealed D.told desk.old desk.new failed ×
-        Tells (hears_lines hs at (record { kept = desk.old.kept; seats = seats }) dialog.old unserved.old) seats conn result desk.new.kept failed (SmtpSeat unserved.new dialog.new) }
+    ensures turns { (seats : Seats) → (hs : List Hindrance) × (failed : List JournalRecord) × (reads : Reads) × HaveSealed D.told desk.old desk.new failed reads ×
+        Tells (hears_lines hs at (record { kept = desk.old.kept; seats = seats }) dialog.old unserved.old) seats conn result desk.new.kept failed reads (SmtpSeat unserved.new dialog.new) }
 {
     seals_join::<D>();
     let mut reply = empty_reply(alloc, conn, false);
@@ -192,10 +193,10 @@ fn hear_smtp<D: Disk + Drop>(
     requires free { is_due dialog.old ≡ false }
     ensures free { is_due dialog.new ≡ false }
     ensures house { desk.new.kept.house ≡ desk.old.kept.house }
-    ensures heard { (seats : Seats) → (no_memory : Bool) × (hs : List Hindrance) × (stage : Stage) × (failed : List JournalRecord) ×
-        HaveSealed D.told desk.old desk.new failed × (readings : List Reading) × AreSaid readings ×
+    ensures heard { (seats : Seats) → (no_memory : Bool) × (hs : List Hindrance) × (stage : Stage) × (failed : List JournalRecord) × (reads : Reads) ×
+        HaveSealed D.told desk.old desk.new failed reads × (readings : List Reading) × AreSaid readings ×
         (hears no_memory hs stage at (record { kept = desk.old.kept; seats = seats }) conn (SmtpSeat unserved.old dialog.old) bytes.now
-        ≡ answered_alone conn result desk.new.kept failed readings (SmtpSeat unserved.new dialog.new) seats) }
+        ≡ answered_alone conn result desk.new.kept failed reads readings (SmtpSeat unserved.new dialog.new) seats) }
 {
     seals_join::<D>();
     match unserved.feed(bytes) {
@@ -226,8 +227,8 @@ fn serve_commands<D: Disk + Drop>(
     ensures free { is_free dialog.new ≡ true }
     ensures home { is_at_home desk.new.kept.house dialog.new ≡ true }
     ensures house { desk.new.kept.house ≡ desk.old.kept.house }
-    ensures turns { (seats : Seats) → (hs : List Hindrance) × (failed : List JournalRecord) × HaveSealed D.told desk.old desk.new failed ×
-        Tells (hears_commands hs at (record { kept = desk.old.kept; seats = seats }) dialog.old stream.old) seats conn result desk.new.kept failed (ImapSeat stream.new dialog.new) }
+    ensures turns { (seats : Seats) → (hs : List Hindrance) × (failed : List JournalRecord) × (reads : Reads) × HaveSealed D.told desk.old desk.new failed reads ×
+        Tells (hears_commands hs at (record { kept = desk.old.kept; seats = seats }) dialog.old stream.old) seats conn result desk.new.kept failed reads (ImapSeat stream.new dialog.new) }
 {
     seals_join::<D>();
     let mut reply = empty_reply(alloc, conn, false);
@@ -266,10 +267,10 @@ fn hear_imap<D: Disk + Drop>(
     ensures free { is_free dialog.new ≡ true }
     ensures home { is_at_home desk.new.kept.house dialog.new ≡ true }
     ensures house { desk.new.kept.house ≡ desk.old.kept.house }
-    ensures heard { (seats : Seats) → (no_memory : Bool) × (hs : List Hindrance) × (stage : Stage) × (failed : List JournalRecord) ×
-        HaveSealed D.told desk.old desk.new failed × (readings : List Reading) × AreSaid readings ×
+    ensures heard { (seats : Seats) → (no_memory : Bool) × (hs : List Hindrance) × (stage : Stage) × (failed : List JournalRecord) × (reads : Reads) ×
+        HaveSealed D.told desk.old desk.new failed reads × (readings : List Reading) × AreSaid readings ×
         (hears no_memory hs stage at (record { kept = desk.old.kept; seats = seats }) conn (ImapSeat stream.old dialog.old) bytes.now
-        ≡ answered_alone conn result desk.new.kept failed readings (ImapSeat stream.new dialog.new) seats) }
+        ≡ answered_alone conn result desk.new.kept failed reads readings (ImapSeat stream.new dialog.new) seats) }
 {
     seals_join::<D>();
     match stream.feed(bytes) {
@@ -294,10 +295,10 @@ pub fn hear<R: Threads + Sync, D: Disk + Drop, G: Gate>(
     requires home { IsHome desk.old.kept.house connection.old }
     ensures home { IsHome desk.new.kept.house connection.new }
     ensures house { desk.new.kept.house ≡ desk.old.kept.house }
-    ensures heard { (seats : Seats) → (no_memory : Bool) × (hs : List Hindrance) × (stage : Stage) × (failed : List JournalRecord) ×
-        HaveSealed D.told desk.old desk.new failed × (readings : List Reading) × AreSaid readings ×
+    ensures heard { (seats : Seats) → (no_memory : Bool) × (hs : List Hindrance) × (stage : Stage) × (failed : List JournalRecord) × (reads : Reads) ×
+        HaveSealed D.told desk.old desk.new failed reads × (readings : List Reading) × AreSaid readings ×
         (hears no_memory hs stage at (record { kept = desk.old.kept; seats = seats }) conn connection.old bytes.now
-        ≡ answered_alone conn result desk.new.kept failed readings connection.new seats) }
+        ≡ answered_alone conn result desk.new.kept failed reads readings connection.new seats) }
 {
     match &mut connection.kind {
         Kind::Smtp { unserved, dialog } => {

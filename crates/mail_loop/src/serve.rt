@@ -3,6 +3,7 @@ ghost use Rattle.std.specs.Prelude.{◌≡◌, ◌≤◌, ◌∷◌, ℕ, Bool, 
 ghost use Rattle.console_head.specs.Request.{Stage};
 ghost use Rattle.undo_outside.specs.declared.event.LinkNote.{LinkNote};
 ghost use Rattle.mail_cycle.specs.Permanence.{UidsLast};
+ghost use Rattle.time_desk.specs.Stored.{HoldsTexts};
 ghost use Rattle.mail_loop.specs.Asked.{HaveSealed};
 ghost use Rattle.mail_loop.specs.Hindrance.{Hindrance};
 ghost use Rattle.mail_loop.specs.Took.{IsNone};
@@ -13,7 +14,7 @@ ghost use Rattle.mail_loop.specs.Machine.{Hindrances, Delivery, admits, after_re
 ghost use Rattle.verb_core.specs.declared.conf.House.{House as TheHouse};
 ghost use Rattle.mail_loop.specs.Stands.{AreHome, IsHome, letter_of, replies_of};
 ghost use Rattle.mail_loop.specs.Did.{AreLicensed, Told, Replied, Sends, Leads, Answers, Opens, unclosed_by};
-ghost use Rattle.mail_loop.specs.Serving.{Step, ServedOver, is_disk, is_end, unsealed_in};
+ghost use Rattle.mail_loop.specs.Serving.{Step, ServedOver, is_disk, is_end, reads_in, unsealed_in};
 
 use crate::letters::{Letter, alone, letters_of, room_for_letters};
 use crate::open_connection::{
@@ -335,7 +336,7 @@ fn serve_each<R: Threads + Sync, L: Link, D: Disk + Drop, G: Gate>(
     requires sealed { desk.old.closed ≡ false }
     ensures serves { (steps : List Step) × (notes : List LinkNote) ×
         ServedOver turns steps notes (L.told link.old) (L.told link.new) desk.old.kept desk.new.kept result ×
-        HaveSealed D.told desk.old desk.new (unsealed_in steps desk.old.kept) }
+        HaveSealed D.told desk.old desk.new (unsealed_in steps desk.old.kept) (reads_in steps desk.old.kept) }
     ensures closed { desk.new.closed ≡ is_disk result }
 {
     seals_join::<D>();
@@ -364,8 +365,9 @@ fn serve_each<R: Threads + Sync, L: Link, D: Disk + Drop, G: Gate>(
     Err(ServeFault::Turns)
 }
 
-/// Serves the events of a link until the end comes or a console asks it to stop, at most so many. Whatever came, no UID names
-/// another message or another text than before (RFC 3501, section 2.3.1.1).
+/// Serves the events of a link until the end comes or a console asks it to stop, at most so many. A text that can't be read is
+/// told to who asked for it, and serving goes on. Whatever came, over a disk that holds the texts as they were stored no UID
+/// names another message or another text than before (RFC 3501, section 2.3.1.1).
 pub fn serve_events<R: Threads + Sync, L: Link, D: Disk + Drop, G: Gate>(
     rt: &R,
     alloc: Global,
@@ -377,9 +379,9 @@ pub fn serve_events<R: Threads + Sync, L: Link, D: Disk + Drop, G: Gate>(
     requires sealed { desk.old.closed ≡ false }
     ensures serves { (steps : List Step) × (notes : List LinkNote) ×
         ServedOver turns steps notes (L.told link.old) (L.told link.new) desk.old.kept desk.new.kept result ×
-        HaveSealed D.told desk.old desk.new (unsealed_in steps desk.old.kept) }
+        HaveSealed D.told desk.old desk.new (unsealed_in steps desk.old.kept) (reads_in steps desk.old.kept) }
     ensures closed { desk.new.closed ≡ is_disk result }
-    ensures uids { UidsLast desk.old.kept desk.new.kept }
+    ensures uids { HoldsTexts D.told desk.old → UidsLast desk.old.kept desk.new.kept }
 {
     desk.stands();
     records_let_uids_last();

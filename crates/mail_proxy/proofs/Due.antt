@@ -173,7 +173,7 @@ module _ {D : Type 0} (told : D → DiskTold) (disk : D) (end : End D) (text tex
   served (Err serve.NoMemory) first events notes steps last played (inr (eight, is)) due = starved eight
 
   due_grow : (rounds : ℕ) → GrowsBy rounds disk end → k ≡ 0 → (s ≡ k) ⊎ IsHindered s
-  due_grow rounds ((outcome, notes, steps, last, played, no_fault, tells), disk_is) due = by_outcome outcome refl tells
+  due_grow rounds ((outcome, notes, steps, last, played, no_fault, none_read, tells), disk_is) due = by_outcome outcome refl tells
     where
       by_outcome : (o : Result (Unit {0}) ServeFault) → outcome ≡ o → TellsGrown rounds o last end.status end.output → (s ≡ k) ⊎ IsHindered s
       by_outcome (Ok x) e (inl (zero, is)) = well zero due
@@ -190,7 +190,7 @@ module _ {D : Type 0} (told : D → DiskTold) (disk : D) (end : End D) (text tex
     where
       by_script : (r : Result (List Event) ℕ) → r ≡ Ok events → PlaysScript r end.status end.output → (s ≡ k) ⊎ IsHindered s
       by_script (Err n) e plays = absurd (let wrong : ◌≡◌ {A = Result (List Event) ℕ} (Err n) (Ok events) = e in cc)
-      by_script (Ok all) e (outcome, notes, steps, last, played, no_fault, tells) = served outcome _ all notes steps last played tells due
+      by_script (Ok all) e (outcome, notes, steps, last, played, no_fault, none_read, tells) = served outcome _ all notes steps last played tells due
 
   module _ (one_opening : (image : List ℕ) (one two : Result Kept StartFault) → OpensAs image one → OpensAs image two → one ≡ two) where
     -- a store that opened was to open

@@ -197,11 +197,15 @@ pub record RanOn (command : Option Command) (disk : DiskTold) (link link' : Link
 
 -- ---- what each status says of a command and of the outside before it and after it
 
+-- The count of failed reads is as it was. Where events were served it may have risen: a turn that could not read a text tells so, and serving goes on.
+abbrev pub CountsReads : Option Command → DiskTold → DiskTold → Type 0
+CountsReads command old new = MatchBool (serves command) (old.failed_reads ≤ new.failed_reads) (new.failed_reads ≡ old.failed_reads)
+
 module _ (command : Option Command) (old new : Outside) where
-  -- 0: the words are a command, and no read and no write failed
+  -- 0: the words are a command, and no read and no write failed, but for reads of texts while events were served
   abbrev pub AllWell : Type 0
   AllWell =
-      (is_some command ≡ true) × (new.text.faults ≡ old.text.faults) × (new.disk.failed_reads ≡ old.disk.failed_reads) × (new.disk.failed_writes ≡ old.disk.failed_writes)
+      (is_some command ≡ true) × (new.text.faults ≡ old.text.faults) × CountsReads command old.disk new.disk × (new.disk.failed_writes ≡ old.disk.failed_writes)
       × (new.out.faults ≡ old.out.faults)
 
   -- 1: the words are of no stated shape
@@ -220,11 +224,11 @@ module _ (command : Option Command) (old new : Outside) where
   abbrev pub EndsUnlinked : Type 0
   EndsUnlinked = (uses_link command ≡ true) × HasDesk command old.disk × CountsFaults (Err Link) old.link new.link × Wrote old.out new.out link_fault
 
-  -- 5: formatting or opening failed; or a store was opened, and then a write or a sync failed, and it alone, where the last line may stand behind a transcript
+  -- 5: formatting or opening failed; or a store was opened, and then a write or a sync failed, and no other, where the last line may stand behind a transcript
   abbrev pub EndsFailed : Type 0
   EndsFailed =
       (FailsAtFirst command old new × Wrote old.out new.out disk_fault)
-      ⊎ ((serves command ≡ true) × HasDesk command old.disk × WriteFailed old.disk new.disk × (new.disk.failed_reads ≡ old.disk.failed_reads)
+      ⊎ ((serves command ≡ true) × HasDesk command old.disk × WriteFailed old.disk new.disk × (old.disk.failed_reads ≤ new.disk.failed_reads)
       × ((front : List ℕ) × IsFront command old.text.left old.disk (Err Disk) front × Wrote old.out new.out (front ++ disk_fault)))
 
   -- 6: a read of the text failed

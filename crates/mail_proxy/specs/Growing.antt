@@ -7,9 +7,10 @@ use Rattle.mail_desk.specs.declared.counts.Counts.{Counts}
 use Rattle.mail_desk.specs.Counting.{counts_of}
 use Rattle.paradox.specs.Kept.{Kept}
 use Rattle.time_desk.specs.Lasting.{Lasting}
+use Rattle.time_desk.specs.Reading.{HaveRead, none_read}
 use Rattle.mail_loop.specs.declared.serve.ServeFault.{ServeFault}
 use Rattle.mail_loop.specs.declared.serve.ServeFault.TheVariants.{Disk}
-use Rattle.mail_loop.specs.Serving.{Step}
+use Rattle.mail_loop.specs.Serving.{Step, reads_in}
 use Rattle.mail_proxy.specs.Check.{TellsText, count_line, counts_text}
 use Rattle.mail_proxy.specs.Generated.{generated}
 use Rattle.mail_proxy.specs.Script.{Played, last_line, opening, status_of}
@@ -31,13 +32,14 @@ pub record ServesGenerated {D : Type 0} (told : D → DiskTold) (rounds : ℕ) (
   pub steps : List Step
   pub played : Played first.kept events outcome notes steps last.kept
   pub tells : TellsGrown rounds outcome last.kept status output
+  pub read : HaveRead told first last (reads_in steps first.kept)
   pub disk_fault : outcome ≡ Err Disk → WriteFailed (told first.disk) (told last.disk)
 
--- The events of so many rounds are served over a store in memory, no call on which fails.
+-- The events of so many rounds are served over a store in memory, no call on which fails and of which each text is read as it was stored.
 abbrev pub Grows : ℕ → ℕ → List ℕ → Type 0
 Grows rounds status output =
     (outcome : Result (Unit {0}) ServeFault) × (notes : List LinkNote) × (steps : List Step) × (last : Kept)
-    × Played opening (generated rounds) outcome notes steps last × (outcome ≢ Err Disk) × TellsGrown rounds outcome last status output
+    × Played opening (generated rounds) outcome notes steps last × (outcome ≢ Err Disk) × (reads_in steps opening ≡ none_read) × TellsGrown rounds outcome last status output
 
 -- what `grow` comes to; the disk gets no call
 abbrev pub GrowsBy : {D : Type 0} → ℕ → D → End D → Type 0

@@ -1,8 +1,8 @@
 -- What one call seals, and how what calls seal joins.
-use Rattle.std.proofs.Common.{◌≡◌, ◌≤◌, ◌+◌, ℕ, List, [], ◌∷◌, ◌++◌, subst, sym, ap, refl, ◌∙◌, append_assoc, append-nil}
+use Rattle.std.proofs.Common.{◌≡◌, ◌≤◌, ◌+◌, ℕ, arith, List, [], ◌∷◌, ◌++◌, subst, sym, ap, refl, ◌∙◌, append_assoc, append-nil}
 use Rattle.undo_outside.specs.Calls.{Rose}
 use Rattle.undo_outside.specs.Disk.{DiskTold, IsHonest, WriteFailed}
-use Rattle.undo_outside.specs.Moments.{LeavesOnly}
+use Rattle.undo_outside.specs.Moments.{LeavesOnly, OnlyReads}
 use Rattle.undo_outside.proofs.Moments.{images_now, joined, started, weaker}
 use Rattle.seal_log.specs.Journal.{StandsFor, StandsForFront}
 use Rattle.seal_log.specs.Settled.{IsSettled}
@@ -15,7 +15,7 @@ use Rattle.time_desk.specs.Sealing.{FailsFor, SealsPayloads}
 pub one_sealed : (payload : List ℕ) (old new : DiskTold) (gate next : ℕ)
     → ((payloads : List (List ℕ)) → IsSettled old gate payloads → IsSettled new next (payloads ++ payload ∷ []))
     → ((payloads : List (List ℕ)) → IsSettled old gate payloads → LeavesOnly old new (StandsForFront payloads (payload ∷ [])))
-    → new.failed_writes ≡ old.failed_writes → new.failed_reads ≡ old.failed_reads → new.is_reliable ≡ old.is_reliable → (old.honest → new.honest)
+    → new.failed_writes ≡ old.failed_writes → old.failed_reads ≤ new.failed_reads → new.is_reliable ≡ old.is_reliable → (old.honest → new.honest)
     → SealsPayloads (payload ∷ []) [] old new gate next
 one_sealed payload old new gate next settled moments writes reads reliable honest = record {
   settled = λ payloads s none. settled payloads s;
@@ -31,7 +31,7 @@ one_sealed payload old new gate next settled moments writes reads reliable hones
 pub one_failed : (payload : List ℕ) (old new : DiskTold) (gate next : ℕ)
     → (new.honest → IsHonest new)
     → ((payloads : List (List ℕ)) → IsSettled old gate payloads → LeavesOnly old new (StandsForFront payloads (payload ∷ [])))
-    → WriteFailed old new → new.failed_reads ≡ old.failed_reads → new.is_reliable ≡ old.is_reliable → (old.honest → new.honest)
+    → WriteFailed old new → old.failed_reads ≤ new.failed_reads → new.is_reliable ≡ old.is_reliable → (old.honest → new.honest)
     → SealsPayloads [] (payload ∷ []) old new gate next
 one_failed payload old new gate next truth moments writes reads reliable honest = record {
   settled = λ payloads s none. cc;
@@ -49,7 +49,7 @@ one_failed payload old new gate next truth moments writes reads reliable honest 
 pub none_sealed : (old new : DiskTold) (gate next : ℕ)
     → ((payloads : List (List ℕ)) → IsSettled old gate payloads → IsSettled new next payloads)
     → ((payloads : List (List ℕ)) → IsSettled old gate payloads → LeavesOnly old new (λ image. StandsFor image payloads))
-    → new.failed_writes ≡ old.failed_writes → new.failed_reads ≡ old.failed_reads → new.is_reliable ≡ old.is_reliable → (old.honest → new.honest)
+    → new.failed_writes ≡ old.failed_writes → old.failed_reads ≤ new.failed_reads → new.is_reliable ≡ old.is_reliable → (old.honest → new.honest)
     → SealsPayloads [] [] old new gate next
 none_sealed old new gate next settled moments writes reads reliable honest = record {
   settled = λ payloads s none. subst (IsSettled new next) (sym (append-nil payloads)) (settled payloads s);
@@ -60,6 +60,14 @@ none_sealed old new gate next settled moments writes reads reliable honest = rec
   reliable = reliable;
   honest = honest;
 }
+
+-- a disk was read
+pub none_read : (old new : DiskTold) (gate : ℕ) → OnlyReads old new → SealsPayloads [] [] old new gate gate
+none_read old new gate reads =
+    none_sealed old new gate gate
+    (λ payloads s. record { honest = reads.honest s.honest; gate_is = s.gate_is; images = λ c now. s.images c (reads.images s.honest c now) })
+    (λ payloads s. weaker old new old.images (λ image. StandsFor image payloads) (reads.any_moment s.honest) s.images)
+    reads.writes reads.reads reads.reliable reads.honest
 
 -- ---- one after the other
 
@@ -93,7 +101,7 @@ payloads_then added more failed old mid new gate middle next first second = reco
       (first.any_moment payloads s) (second.any_moment (payloads ++ added) (first.settled payloads s refl))
       (first_moments payloads added more failed) (then_moments payloads added more failed);
   writes = fails_later failed old mid new first.writes first.reliable second.writes;
-  reads = second.reads ∙ first.reads;
+  reads = omega (arith, first.reads, second.reads);
   reliable = second.reliable ∙ first.reliable;
   honest = λ h. second.honest (first.honest h);
 }
@@ -103,4 +111,4 @@ pub payloads_none : (disk : DiskTold) → (disk.honest → IsHonest disk) → (g
 payloads_none disk truth gate =
     none_sealed disk disk gate gate (λ payloads s. s)
     (λ payloads s. started disk (λ image. StandsFor image payloads) (λ c left. s.images c ((truth s.honest).only_now c left)))
-    refl refl refl (λ h. h)
+    refl (omega arith) refl (λ h. h)

@@ -19,7 +19,7 @@ use Rattle.time_desk.specs.declared.fault.StartFault.{StartFault}
 use Rattle.time_desk.specs.declared.fault.StartFault.TheVariants.{NotFormatted, Damaged, Disk, NoMemory}
 use Rattle.time_desk.specs.Opening.{CanStand}
 use Rattle.time_desk.specs.Records.{after_item, after_record, after_records, can_follow, first_state, payloads_of, state}
-use Rattle.time_desk.specs.Standing.{BreaksFor, Enters, Fails, FailsPayload, LeadsTo, Performed, Performs, SpellsAll, SpellsNothing, StopsFor}
+use Rattle.time_desk.specs.Standing.{BreaksFor, Enters, Fails, FailsPayload, FailsReading, LeadsTo, Performed, Performs, SpellsAll, SpellsNothing, StopsFor}
 
 -- ---- what stays while a disk is read
 
@@ -174,6 +174,14 @@ fails_spelled due what payload gate NotFormatted only fails = fails
 fails_spelled due what payload gate (Damaged place) only fails = (λ other spells. ap due (only other spells) ∙ fails.0, fails.1)
 fails_spelled due what payload gate Disk only fails = absurd fails
 fails_spelled due what payload gate NoMemory only fails = tt
+
+-- the same where texts are read
+pub fails_reading : (due : JournalRecord → Option Kept) (what : JournalRecord) (payload : List ℕ) (gate : ℕ) (fault : StartFault) → ((other : JournalRecord) → Spells other payload → other ≡ what) → FailsReading (due what ≡ None) gate fault
+    → FailsPayload due payload gate fault
+fails_reading due what payload gate NotFormatted only fails = fails
+fails_reading due what payload gate (Damaged place) only fails = (λ other spells. ap due (only other spells) ∙ fails.0, fails.1)
+fails_reading due what payload gate Disk only fails = tt
+fails_reading due what payload gate NoMemory only fails = tt
 
 -- the payload spells no record
 pub fails_unspelled : (due : JournalRecord → Option Kept) (payload : List ℕ) (gate : ℕ) (fault : StartFault) → SpellsNothing payload gate fault → FailsPayload due payload gate fault

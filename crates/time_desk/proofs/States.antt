@@ -27,7 +27,9 @@ use Rattle.mail_cycle.specs.Permanence.{UidsLast}
 use Rattle.mail_desk.specs.Timeline.{all_bodies, has_text}
 use Rattle.time_desk.specs.Cycling.{Cycles, CyclesBy}
 use Rattle.time_desk.specs.Lasting.{Lasting}
-use Rattle.time_desk.specs.Sealing.{Seals}
+use Rattle.time_desk.specs.Sealing.{HasNoCycle, Seals}
+use Rattle.time_desk.specs.Stored.{HoldsTexts}
+use Rattle.std.proofs.Common.{inl, inr}
 use Rattle.time_desk.specs.Permanence.{Arrives, IsSound, Message, RevsBelow, message_at}
 use Rattle.time_desk.specs.Records.{after_records, state}
 use Rattle.time_desk.proofs.Accounts.{once_some, one_fate, sound_valid, stray_given}
@@ -111,25 +113,25 @@ module _ (law : LetsUidsLast) where
 
   module _ {D : Type 0} (told : D → DiskTold) where
     -- over a call that sealed records, or left what is kept as it was
-    pub lasts_sealed : {T E : Type 0} (result : Result T E) (added : T → List JournalRecord) (old new : Lasting D) → IsSound old.kept → IfOk result (λ x. Seals told (added x) [] old new)
+    pub lasts_sealed : {T E : Type 0} (result : Result T E) (added : T → List JournalRecord) (old new : Lasting D) → ((x : T) → HasNoCycle (added x)) → IsSound old.kept → IfOk result (λ x. Seals told (added x) [] old new)
         → OnErr result (new.kept ≡ old.kept) → UidsLast old.kept new.kept
-    lasts_sealed (Ok x) added old new sound seals same = law old.kept new.kept (added x) sound seals.kept
-    lasts_sealed (Err e) added old new sound seals same = lasts_same old.kept new.kept sound same
+    lasts_sealed (Ok x) added old new plain sound seals same = law old.kept new.kept (added x) sound (seals.kept (inr (plain x)))
+    lasts_sealed (Err e) added old new plain sound seals same = lasts_same old.kept new.kept sound same
 
     -- the same of one record
-    pub lasts_operated : {T E : Type 0} (result : Result T E) (added : List JournalRecord) (old new : Lasting D) → IsSound old.kept → OnOk result (Seals told added [] old new)
+    pub lasts_operated : {T E : Type 0} (result : Result T E) (added : List JournalRecord) (old new : Lasting D) → HasNoCycle added → IsSound old.kept → OnOk result (Seals told added [] old new)
         → OnErr result (new.kept ≡ old.kept) → UidsLast old.kept new.kept
-    lasts_operated (Ok x) added old new sound seals same = law old.kept new.kept added sound seals.kept
-    lasts_operated (Err e) added old new sound seals same = lasts_same old.kept new.kept sound same
+    lasts_operated (Ok x) added old new plain sound seals same = law old.kept new.kept added sound (seals.kept (inr plain))
+    lasts_operated (Err e) added old new plain sound seals same = lasts_same old.kept new.kept sound same
 
-    lasts_by : (at : ℕ) (ask : CycleAsk) (old new : Lasting D) (report : Report) (due : Due) → IsSound old.kept → CyclesBy told at ask old new report due → UidsLast old.kept new.kept
-    lasts_by at ask old new report (Repeats earlier) sound done = lasts_same old.kept new.kept sound (ap (λ (l : Lasting D). l.kept) done.1)
-    lasts_by at ask old new report NoPoint sound done = absurd done
-    lasts_by at ask old new report NoNumbers sound done = absurd done
-    lasts_by at ask old new report (Rewinds due) sound done = law old.kept new.kept (Cycle old.kept.next at ask ∷ []) sound done.3.kept
+    lasts_by : (at : ℕ) (ask : CycleAsk) (old new : Lasting D) (report : Report) (due : Due) → HoldsTexts told old → IsSound old.kept → CyclesBy told at ask old new report due → UidsLast old.kept new.kept
+    lasts_by at ask old new report (Repeats earlier) holds sound done = lasts_same old.kept new.kept sound (ap (λ (l : Lasting D). l.kept) done.1)
+    lasts_by at ask old new report NoPoint holds sound done = absurd done
+    lasts_by at ask old new report NoNumbers holds sound done = absurd done
+    lasts_by at ask old new report (Rewinds due) holds sound done = law old.kept new.kept (Cycle old.kept.next at ask ∷ []) sound (done.2.kept (inl holds))
 
     -- over a cycle
-    pub lasts_rewound : {E : Type 0} (at : ℕ) (ask : CycleAsk) (result : Result Report E) (old new : Lasting D) → IsSound old.kept → IfOk result (λ report. Cycles told at ask old new report)
+    pub lasts_rewound : {E : Type 0} (at : ℕ) (ask : CycleAsk) (result : Result Report E) (old new : Lasting D) → HoldsTexts told old → IsSound old.kept → IfOk result (λ report. Cycles told at ask old new report)
         → OnErr result (new.kept ≡ old.kept) → UidsLast old.kept new.kept
-    lasts_rewound at ask (Ok report) old new sound done same = lasts_by at ask old new report (cycle_due old.kept at ask) sound done
-    lasts_rewound at ask (Err e) old new sound done same = lasts_same old.kept new.kept sound same
+    lasts_rewound at ask (Ok report) old new holds sound done same = lasts_by at ask old new report (cycle_due old.kept at ask) holds sound done
+    lasts_rewound at ask (Err e) old new holds sound done same = lasts_same old.kept new.kept sound same

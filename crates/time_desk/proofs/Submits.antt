@@ -1,5 +1,6 @@
 -- What becomes of asks and acts, from what became of sealing them.
 use Rattle.std.proofs.Common.{◌≡◌, ◌<◌, ℕ, false, List, [], ◌∷◌, Some, Result, Ok, Err, IfOk, OnOk, IfErr, subst, sym, ap, refl, ◌∙◌}
+use Rattle.std.specs.Prelude.{IsSome}
 use Rattle.undo_outside.specs.Disk.{DiskTold}
 use Rattle.seal_log.specs.declared.fault.SealFault.{SealFault}
 use Rattle.seal_log.specs.declared.fault.SealFault.TheVariants as log_faults
@@ -16,9 +17,10 @@ use Rattle.mail_desk.specs.Desk.{submitted_as}
 use Rattle.mail_desk.specs.Held.{Held}
 use Rattle.time_desk.specs.declared.fault.ActFault.{ActFault}
 use Rattle.time_desk.specs.Lasting.{JournalTold, Lasting, lasting}
-use Rattle.time_desk.specs.Records.{after_records}
-use Rattle.time_desk.specs.Sealing.{IsRecordOf, Seals}
-use Rattle.time_desk.specs.Submitting.{ActsNone, IsActOutcomeOf, IsOutcomeOf, RefusesNone, SealsNone, SubmitsNone, WritesNone}
+use Rattle.time_desk.specs.Records.{after_record}
+use Rattle.time_desk.specs.Sealing.{IsRecordOf, IsRecordTo}
+use Rattle.time_desk.specs.Submitting.{ActsNone, IsActOutcomeOf, IsOutcomeOf, RefusesNone, SealsBytes, SealsNone, SubmitsNone, WritesNone}
+use Rattle.time_desk.proofs.Sealed.{seals_failed, seals_from, seals_none}
 
 -- the record of an item that is kept elsewhere as the same
 pub record_as : (what : JournalRecord) (bytes : List ℕ) (kept held : Kept) (item entered : Item) → held ≡ kept → entered ≡ item → IsRecordOf what bytes kept item → IsRecordOf what bytes held entered
@@ -45,21 +47,27 @@ none_written (Err (ask_faults.Refused why)) old new none = λ more. absurd (more
 none_written (Err ask_faults.Disk) old new none = tt
 none_written (Err ask_faults.Closed) old new none = tt
 
+-- what was found has these bytes, and the text so far behind their front
+pub found_as : {T W : Type 0} (result : Result T W) (bytes_in : T → List ℕ) (from_in : T → ℕ) (bytes : List ℕ) (from : ℕ) (Q : List ℕ → ℕ → Type 0) → Q bytes from
+    → IfOk result (λ found. bytes_in found ≡ bytes) → IfOk result (λ found. from_in found ≡ from) → IfOk result (λ found. Q (bytes_in found) (from_in found))
+found_as (Ok found) bytes_in from_in bytes from Q holds bytes_are from_is = subst (Q (bytes_in found)) (sym from_is) (subst (λ (b : List ℕ). Q b from) (sym bytes_are) holds)
+found_as (Err why) bytes_in from_in bytes from Q holds bytes_are from_is = tt
+
+-- a record that can stand comes to something
+some_after : (what : JournalRecord) (bytes : List ℕ) (kept next : Kept) → IsRecordTo what bytes kept next → IsSome (after_record kept what)
+some_after what bytes kept next made = subst IsSome (sym made.can_stand) refl
+
+module _ {D X : Type 0} (told : D → DiskTold) where
+  -- a record was not sealed
+  pub not_sealed : (what : JournalRecord) (bytes : List ℕ) (next : Kept) (before after : Held) (old new : JournalTold D) (fault : SealFault) → IsRecordTo what bytes before.kept next → after.kept ≡ before.kept → after.notes ≡ before.notes
+      → old.closed ≡ false → SealsBytes {X = X} told bytes old new (Err fault) → SealsNone told what (lasting before old) (lasting after new) fault
+  not_sealed what bytes next before after old new log_faults.Disk made kept notes open_ sealed =
+      seals_failed told what bytes before after old new made.bytes_are (sealed.failed refl) open_ (sealed.closes refl) kept notes (some_after what bytes before.kept next made) sealed.held
+  not_sealed what bytes next before after old new log_faults.NoMemory made kept notes open_ sealed =
+      seals_none told before after old new (sealed.no_memory refl) open_ (sealed.open_again refl) kept notes
+  not_sealed what bytes next before after old new log_faults.Closed made kept notes open_ sealed = sealed.never refl
+
 module _ {D : Type 0} (told : D → DiskTold) where
-  -- room that was made is nothing that was sealed
-  pub seals_from : (added failed : List JournalRecord) (before after : Held) (journal : JournalTold D) (new : Lasting D) → after.kept ≡ before.kept
-      → Seals told added failed (lasting after journal) new → Seals told added failed (lasting before journal) new
-  seals_from added failed before after journal new same seals = record {
-    kept = subst (λ (k : Kept). after_records k added ≡ Some new.kept) same seals.kept;
-    could = seals.could;
-    closed = seals.closed;
-    on_disk = seals.on_disk;
-  }
-
-  -- a log that is not closed never answers that it is
-  pub never_closed : (what : JournalRecord) (old new : Lasting D) (fault : SealFault) → SealsNone told what old new fault → fault ≡ log_faults.Closed → ⊥
-  never_closed what old new fault none is = subst (SealsNone told what old new) is none
-
   -- ---- asks
 
   pub submits_none : (item : Item) (old new : Lasting D) (fault : SealFault) (out : SubmitFault) → old.closed ≡ false → IsOutcomeOf fault out
@@ -70,22 +78,22 @@ module _ {D : Type 0} (told : D → DiskTold) where
 
   -- of the desk before room was made, by what is due
   pub submits_none_from : (due : Result Item Refused) (item : Item) (before after : Held) (journal : JournalTold D) (new : Lasting D) (result : Result Item SubmitFault)
-      → due ≡ Ok item → after.kept ≡ before.kept → journal.closed ≡ false → IfErr result (λ fault. SubmitsNone told (Ok item) (lasting after journal) new fault)
+      → due ≡ Ok item → after.kept ≡ before.kept → after.notes ≡ before.notes → journal.closed ≡ false → IfErr result (λ fault. SubmitsNone told (Ok item) (lasting after journal) new fault)
       → IfErr result (λ fault. SubmitsNone told due (lasting before journal) new fault)
-  submits_none_from due item before after journal new (Ok x) is same still none = tt
-  submits_none_from due item before after journal new (Err (ask_faults.Refused why)) is same still (open_, refusal, nothing) =
-      (open_, subst (λ (d : Result Item Refused). IsRefusal why d) (sym is) refusal, seals_from [] [] before after journal new same nothing)
-  submits_none_from due item before after journal new (Err ask_faults.Disk) is same still (open_, (other, due_is, failed)) =
-      (open_, (other, is ∙ due_is, seals_from [] (Verb other ∷ []) before after journal new same failed))
-  submits_none_from due item before after journal new (Err ask_faults.Closed) is same still (shut, unchanged) = absurd (cc (still, shut))
+  submits_none_from due item before after journal new (Ok x) is same notes still none = tt
+  submits_none_from due item before after journal new (Err (ask_faults.Refused why)) is same notes still (open_, refusal, nothing) =
+      (open_, subst (λ (d : Result Item Refused). IsRefusal why d) (sym is) refusal, seals_from told [] [] before after journal new same notes nothing)
+  submits_none_from due item before after journal new (Err ask_faults.Disk) is same notes still (open_, (other, due_is, failed)) =
+      (open_, (other, is ∙ due_is, seals_from told [] (Verb other ∷ []) before after journal new same notes failed))
+  submits_none_from due item before after journal new (Err ask_faults.Closed) is same notes still (shut, unchanged) = absurd (cc (still, shut))
 
   -- ---- acts
 
   pub acts_none : (at : ℕ) (act : Act) (before after : Held) (journal : JournalTold D) (new : Lasting D) (fault : SealFault) (out : ActFault)
-      → after.kept ≡ before.kept → journal.closed ≡ false → before.kept.next < 4194304 → IsActOutcomeOf fault out
+      → after.kept ≡ before.kept → after.notes ≡ before.notes → journal.closed ≡ false → before.kept.next < 4194304 → IsActOutcomeOf fault out
       → SealsNone told (Operator before.kept.next at act) (lasting after journal) new fault → ActsNone told at act (lasting before journal) new out
-  acts_none at act before after journal new log_faults.Disk out same open_ left is none =
-      subst (ActsNone told at act (lasting before journal) new) (sym is) (open_, left, seals_from [] (Operator before.kept.next at act ∷ []) before after journal new same none)
-  acts_none at act before after journal new log_faults.NoMemory out same open_ left is none =
-      subst (ActsNone told at act (lasting before journal) new) (sym is) (open_, left, seals_from [] [] before after journal new same none)
-  acts_none at act before after journal new log_faults.Closed out same open_ left is none = absurd none
+  acts_none at act before after journal new log_faults.Disk out same notes open_ left is none =
+      subst (ActsNone told at act (lasting before journal) new) (sym is) (open_, left, seals_from told [] (Operator before.kept.next at act ∷ []) before after journal new same notes none)
+  acts_none at act before after journal new log_faults.NoMemory out same notes open_ left is none =
+      subst (ActsNone told at act (lasting before journal) new) (sym is) (open_, left, seals_from told [] [] before after journal new same notes none)
+  acts_none at act before after journal new log_faults.Closed out same notes open_ left is none = absurd none

@@ -1,9 +1,12 @@
 -- What a survey of a disk and the records that are read say of the image.
-use Rattle.std.proofs.Common.{◌≡◌, inl, inr, ℕ, ◌<◌, ◌∷◌, ◌++◌, ◌∙◌, [], List, Bool, true, false, length, refl, sym, ap, subst, arith, append_assoc, length-append}
+use Rattle.std.proofs.Common.{◌≡◌, inl, inr, Result, Ok, Err, ℕ, ◌<◌, ◌∷◌, ◌++◌, ◌∙◌, [], List, Bool, true, false, length, refl, sym, ap, subst, arith, append_assoc, length-append}
 use Rattle.std.proofs.lemmas.List.Concat.{flat_map-append}
 use Rattle.std.specs.List.{AllByRecursion}
-use Rattle.undo_outside.specs.Disk.{DiskTold}
-use Rattle.undo_outside.specs.Moments.{OnlyReads}
+use Rattle.std.specs.Prelude.{IfOk, OnOk}
+use Rattle.undo_outside.specs.Disk.{DiskTold, IsHonest}
+use Rattle.undo_outside.specs.Moments.{LeavesOnly, OnlyReads}
+use Rattle.undo_outside.proofs.Moments.{images_now, joined}
+use Rattle.seal_log.specs.Causes.{SameCounts}
 use Rattle.seal_log.specs.declared.place.Place.{Place}
 use Rattle.seal_log.specs.Journal.{frame, sealed, IsPayload, StandsFor}
 use Rattle.seal_log.specs.Loading.{places_from}
@@ -12,9 +15,12 @@ use Rattle.seal_log.specs.Settled.{IsSettled}
 use Rattle.paradox.specs.Kept.{Kept}
 use Rattle.time_desk.specs.declared.fault.StartFault.{StartFault}
 use Rattle.time_desk.specs.declared.fault.StartFault.TheVariants.{NotFormatted, Damaged, Disk, NoMemory}
-use Rattle.time_desk.specs.Opening.{IsDamaged, IsStarted, Refuses}
+use Rattle.time_desk.specs.Opening.{IsDamaged, IsStarted, Refuses, Starts}
 use Rattle.time_desk.specs.Records.{payloads_of}
 use Rattle.time_desk.specs.Standing.{BreaksAt, BreaksFor, Fails, SpellsAll}
+use Rattle.verb_core.specs.declared.mailbox.Body.{Body}
+use Rattle.shelf.specs.declared.note.Note.{Note}
+use Rattle.time_desk.specs.Stored.{SettledTexts, TextsHeld}
 use Rattle.time_desk.proofs.OneWay.{leaves_stand, payload_at, sealed_opens, some_closed}
 use Rattle.time_desk.proofs.Standings.{settled_on}
 
@@ -101,3 +107,27 @@ module _ (image : List ℕ) (disk : DiskTold) (gate : ℕ) (places : List Place)
     state_is = all.state_is;
     settled = settled_on disk new gate (payloads_of all.records) reads (subst (IsSettled disk gate) all.spelled seen.ends.2);
   }
+
+  -- the texts that were noted lie in them
+  pub whole_texts : (new : DiskTold) (is_cut : Bool) (seen : IsSurveyed image disk gate places is_cut) (kept : Kept) (notes : List (Body × Note)) → OnlyReads disk new → is_cut ≡ false → TextsHeld new seen.payloads kept notes → SettledTexts new gate kept notes
+  whole_texts new true seen kept notes reads shut all = absurd (cc shut)
+  whole_texts new false seen kept notes reads shut all = record { payloads = seen.payloads; texts = all; settled = settled_on disk new gate seen.payloads reads seen.ends.2 }
+
+-- ---- a disk that was surveyed, and then read
+
+pub starts_when : {T : Type 0} (kept : T → Kept) (gate : T → ℕ) (old mid new : DiskTold) (r : Result T StartFault) → (mid.honest → IsHonest mid)
+    → (old.honest → IfOk r (λ t. IsStarted old.content new (kept t) (gate t))) → OnOk r (new.failed_reads ≡ mid.failed_reads)
+    → SameCounts old mid → OnlyReads mid new → mid.is_reliable ≡ old.is_reliable → (old.honest → LeavesOnly old mid old.images)
+    → mid.size ≡ old.size → (old.honest → mid.honest) → (old.honest → mid.content ≡ old.content) → (old.size ≡ 0 → ⊥)
+    → IfOk r (λ t. Starts old new (Ok (kept t, gate t)))
+starts_when kept gate old mid new (Err e) truth found ok counts reads reliable moment size honest content some = tt
+starts_when kept gate old mid new (Ok t) truth found ok counts reads reliable moment size honest content some = record {
+  found = found;
+  counts = record { reads = ok ∙ counts.reads; writes = reads.writes ∙ counts.writes };
+  reliable = reads.reliable ∙ reliable;
+  any_moment = λ is. joined old mid new old.images mid.images old.images (moment is) (reads.any_moment (honest is)) (λ c now. now) (images_now old mid old.images (moment is) (truth (honest is)));
+  size = reads.size ∙ size;
+  honest = λ is. reads.honest (honest is);
+  content = λ is _. reads.content (honest is) ∙ content is;
+  empty = λ none. absurd (some none);
+}

@@ -1,8 +1,9 @@
 -- What becomes of a request for a cycle.
-use Rattle.std.specs.Prelude.{◌≡◌, ◌<◌, ◌≤◌, ℕ, false, [], ◌∷◌, ◌++◌, List, map, None, IsTrue}
+use Rattle.std.specs.Prelude.{◌≡◌, ◌⊎◌, ◌<◌, ◌≤◌, ℕ, false, [], ◌∷◌, ◌++◌, List, map, None, Result, Ok, Err, IsTrue}
 use Rattle.std.specs.List.{AllByRecursion}
-use Rattle.undo_outside.specs.Disk.{DiskTold}
+use Rattle.undo_outside.specs.Disk.{DiskTold, ReadFailed}
 use Rattle.verb_core.specs.declared.item.Item.{Item}
+use Rattle.verb_core.specs.declared.mailbox.Body.{Body}
 use Rattle.verb_core.specs.declared.mailbox.BoxId.{BoxId}
 use Rattle.verb_core.specs.declared.mailbox.Mailbox.{Mailbox}
 use Rattle.verb_core.specs.Items.{IsTimeline}
@@ -10,27 +11,42 @@ use Rattle.verb_core.specs.Step.{run}
 use Rattle.verb_core.specs.Store.{IsValid}
 use Rattle.verb_bytes.specs.declared.journal.CycleAsk.{CycleAsk}
 use Rattle.verb_bytes.specs.declared.journal.JournalRecord.TheVariants.{Cycle}
+use Rattle.verb_bytes.specs.Spelling.{record_bytes}
 use Rattle.paradox.specs.declared.reports.Report.{Report}
 use Rattle.paradox.specs.Kept.{Kept, report_of}
 use Rattle.mail_cycle.specs.Asking.{Due, IsRewinds, Repeats, NoPoint, NoNumbers, Rewinds, after_cycle, cycle_due, due_anew}
 use Rattle.mail_cycle.specs.Cycles.{Cycled}
-use Rattle.mail_cycle.specs.Leaving.{Leaves}
+use Rattle.mail_cycle.specs.Leaving.{IsMade, Leaves}
 use Rattle.mail_cycle.specs.declared.settling.Rewound.{Rewound}
 use Rattle.mail_cycle.specs.declared.refused.CycleRefused.{CycleRefused}
 use Rattle.mail_cycle.specs.declared.refused.CycleRefused.TheVariants as refusals
+use Rattle.seal_log.specs.declared.place.Place.{Place}
+use Rattle.shelf.specs.declared.note.Note.{Note}
+use Rattle.mail_desk.specs.declared.noting.Fresh.{Fresh}
+use Rattle.mail_desk.specs.Held.{Held}
 use Rattle.seal_log.specs.declared.fault.SealFault.{SealFault}
 use Rattle.seal_log.specs.declared.fault.SealFault.TheVariants as log_faults
 use Rattle.time_desk.specs.declared.fault.CycleFault.{CycleFault}
 use Rattle.time_desk.specs.declared.fault.CycleFault.TheVariants.{Point, Numbers, Disk, NoMemory, Closed}
 use Rattle.time_desk.specs.Lasting.{Lasting}
+use Rattle.time_desk.specs.Reading.{IsStill}
 use Rattle.time_desk.specs.Sealing.{Seals}
+use Rattle.time_desk.specs.Stored.{HoldsTexts, IsFresh, Renotes}
 use Rattle.time_desk.specs.Submitting.{SealsNothing}
 
 -- ---- a cycle in memory
 
--- what is left in memory is what the cycle leaves that is due under a new key
-abbrev pub Redoes : Kept → ℕ → CycleAsk → Rewound → Type 0
-Redoes kept at ask made = (due : Cycled) × (due_anew kept at ask ≡ Rewinds due) × Leaves kept due made
+-- a cycle is due under a new key; and where the texts are told as they were stored, what is left in memory is what it leaves
+abbrev pub Redoes : Kept → ℕ → CycleAsk → Type 0 → Rewound → Type 0
+Redoes kept at ask told made = (due : Cycled) × (due_anew kept at ask ≡ Rewinds due) × (told → Leaves kept due made)
+
+-- a read failed exactly where that is why there is no cycle
+abbrev pub RedoesCause : {T : Type 0} → DiskTold → DiskTold → Result T CycleRefused → Type 0
+RedoesCause old new (Ok made) = new.failed_reads ≡ old.failed_reads
+RedoesCause old new (Err (refusals.Point given)) = new.failed_reads ≡ old.failed_reads
+RedoesCause old new (Err (refusals.Numbers next)) = new.failed_reads ≡ old.failed_reads
+RedoesCause old new (Err refusals.Disk) = ReadFailed old new
+RedoesCause old new (Err refusals.NoMemory) = new.failed_reads ≡ old.failed_reads
 
 -- what is left in memory can be put in the place of what is kept
 pub record IsFit (kept : Kept) (made : Rewound) : Type 0 where
@@ -52,11 +68,18 @@ after_rewound kept key made = record kept {
   reports = kept.reports ++ (key, made.report) ∷ [];
 }
 
+-- where the texts lie after a cycle whose record is to lie at a place
+pub record RenotesAs (old : Held) (ask : CycleAsk) (at : ℕ) (place : Place) (made : Rewound) (notes : List (Body × Note)) : Type 0 where
+  pub fresh : Fresh
+  pub is_fresh : IsFresh old.kept.next at ask place (record_bytes (Cycle old.kept.next at ask)) fresh
+  pub renotes : Renotes old.notes fresh made.timeline notes
+
 -- a refusal of a cycle in memory, as it is told
 abbrev pub IsTold : CycleRefused → CycleFault → Type 0
 IsTold (refusals.Point given) fault = fault ≡ Point given
 IsTold (refusals.Numbers next) fault = fault ≡ Numbers next
 IsTold refusals.NoMemory fault = fault ≡ NoMemory
+IsTold refusals.Disk fault = fault ≡ Disk
 
 -- a fault of sealing, as a fault of a cycle
 abbrev pub IsCycleOutcomeOf : SealFault → CycleFault → Type 0
@@ -66,31 +89,36 @@ IsCycleOutcomeOf log_faults.Closed fault = ⊥
 
 -- ---- a trial
 
--- the report is that of the cycle that is due under a new key
-abbrev pub Tries : Kept → ℕ → CycleAsk → Report → Type 0
-Tries kept at ask report = (due : Cycled) × (due_anew kept at ask ≡ Rewinds due) × (report ≡ due.report)
+-- a cycle is due under a new key; and where the texts are told as they were stored, the report is that of it
+abbrev pub Tries : Kept → ℕ → CycleAsk → Type 0 → Report → Type 0
+Tries kept at ask told report = (due : Cycled) × (due_anew kept at ask ≡ Rewinds due) × (told → report ≡ due.report)
 
--- why a trial has no report: the timeline does not have the point, or else too few numbers are left; memory is wanted where a
--- cycle is due alone
-abbrev pub TriesNone : Kept → ℕ → CycleAsk → CycleFault → Type 0
-TriesNone kept at ask (Point given) = (due_anew kept at ask ≡ NoPoint) × (given ≡ ask.point)
-TriesNone kept at ask (Numbers next) = (due_anew kept at ask ≡ NoNumbers) × (next ≡ kept.next)
-TriesNone kept at ask Disk = ⊥
-TriesNone kept at ask NoMemory = IsRewinds (due_anew kept at ask)
-TriesNone kept at ask Closed = ⊥
+-- why a trial has no report: the timeline does not have the point, or else too few numbers are left; memory is wanted, and
+-- texts are read, where a cycle is due alone
+abbrev pub TriesNone : Kept → ℕ → CycleAsk → DiskTold → DiskTold → CycleFault → Type 0
+TriesNone kept at ask old new (Point given) = (due_anew kept at ask ≡ NoPoint) × (given ≡ ask.point)
+TriesNone kept at ask old new (Numbers next) = (due_anew kept at ask ≡ NoNumbers) × (next ≡ kept.next)
+TriesNone kept at ask old new Disk = IsRewinds (due_anew kept at ask) × ReadFailed old new
+TriesNone kept at ask old new NoMemory = IsRewinds (due_anew kept at ask)
+TriesNone kept at ask old new Closed = ⊥
 
 -- ---- a cycle
 
 module _ {D : Type 0} (told : D → DiskTold) where
   -- By what is due: a key that a cycle had is answered with that cycle's report, and nothing changes; else the one record of
-  -- the cycle is sealed, and what is kept is what the cycle leaves.
+  -- the cycle is sealed, and where the texts lie on the disk as they are noted, what is kept is what the cycle leaves.
   abbrev pub CyclesBy : ℕ → CycleAsk → Lasting D → Lasting D → Report → Due → Type 0
   CyclesBy at ask old new report (Repeats earlier) = (report ≡ earlier) × (new ≡ old)
   CyclesBy at ask old new report NoPoint = ⊥
   CyclesBy at ask old new report NoNumbers = ⊥
   CyclesBy at ask old new report (Rewinds due) =
-      (old.closed ≡ false) × (report ≡ due.report) × (new.kept ≡ after_cycle old.kept ask due)
+      (old.closed ≡ false) × (HoldsTexts told old → (report ≡ due.report) × (new.kept ≡ after_cycle old.kept ask due))
       × Seals told (Cycle old.kept.next at ask ∷ []) [] old new
+
+  -- what is left in memory was made of the items as they were read from a first desk on
+  pub record CyclesAs (first : Lasting D) (at : ℕ) (ask : CycleAsk) (made : Rewound) : Type 0 where
+    pub redoes : Redoes first.kept at ask (HoldsTexts told first) made
+    pub is_made : IsMade first.kept at ask (HoldsTexts told first) made
 
   -- a request at a moment that is answered with a report
   abbrev pub Cycles : ℕ → CycleAsk → Lasting D → Lasting D → Report → Type 0
@@ -108,11 +136,16 @@ module _ {D : Type 0} (told : D → DiskTold) where
   abbrev pub FailsToCycle : ℕ → CycleAsk → Lasting D → Lasting D → Type 0
   FailsToCycle at ask old new = (due : Cycled) × (cycle_due old.kept at ask ≡ Rewinds due) × Seals told [] (Cycle old.kept.next at ask ∷ []) old new
 
+  -- a cycle is due, and a read of a text failed: nothing was sealed, and nothing changed
+  abbrev pub FailsToRead : ℕ → CycleAsk → Lasting D → Lasting D → Type 0
+  FailsToRead at ask old new = IsRewinds (cycle_due old.kept at ask) × IsStill told old new × ReadFailed (told old.disk) (told new.disk)
+
   -- Why a request has no report: the point or the numbers are missing, exactly where that is due; or the record was not
-  -- sealed; or no memory was found; or the desk was closed, and no cycle had the key.
+  -- sealed, and the desk is closed, or a text was not read, and it stays open; or no memory was found; or the desk was closed,
+  -- and no cycle had the key.
   abbrev pub CyclesNone : ℕ → CycleAsk → Lasting D → Lasting D → CycleFault → Type 0
   CyclesNone at ask old new (Point given) = (old.closed ≡ false) × (cycle_due old.kept at ask ≡ NoPoint) × (given ≡ ask.point) × (new ≡ old)
   CyclesNone at ask old new (Numbers next) = (old.closed ≡ false) × (cycle_due old.kept at ask ≡ NoNumbers) × (next ≡ old.kept.next) × (new ≡ old)
-  CyclesNone at ask old new Disk = (old.closed ≡ false) × FailsToCycle at ask old new
+  CyclesNone at ask old new Disk = (old.closed ≡ false) × (FailsToCycle at ask old new ⊎ FailsToRead at ask old new)
   CyclesNone at ask old new NoMemory = StarvesBy old new (cycle_due old.kept at ask)
   CyclesNone at ask old new Closed = IsTrue old.closed × (report_of old.kept.reports ask.key ≡ None) × (new ≡ old)

@@ -1,5 +1,8 @@
 -- What could be done side by side, of the items later than a point.
-use Rattle.std.specs.Prelude.{◌≡◌, ℕ, List, [], ◌∷◌, map, take, drop, Option, None, option_map, IsSome}
+use Rattle.std.specs.Prelude.{◌≡◌, ℕ, List, [], ◌∷◌, map, take, drop, Option, Some, None, option_map, Result, Ok, Err, IsSome}
+use Rattle.undo_outside.specs.Disk.{DiskTold, ReadFailed}
+use Rattle.verb_core.specs.declared.bodies.BodiesFault.{BodiesFault}
+use Rattle.verb_core.specs.declared.bodies.BodiesFault.TheVariants as bodies_faults
 use Rattle.verb_core.specs.declared.item.Item.{Item}
 use Rattle.verb_core.specs.declared.item.Resolved.{Resolved}
 use Rattle.verb_core.specs.Aims.{sought_by}
@@ -34,10 +37,21 @@ plan_at kept place = plan_from (run kept.base (take place kept.timeline)) (drop 
 abbrev pub plan_of : Kept → ℕ → Option (List ℕ)
 plan_of kept point = option_map (plan_at kept) (position kept.timeline point)
 
--- why no plan is told: the timeline does not have the point, exactly where it says so; want of memory is free where it has it
-abbrev pub PlansNone : Kept → ℕ → CycleFault → Type 0
-PlansNone kept point (Point given) = (position kept.timeline point ≡ None) × (given ≡ point)
-PlansNone kept point (Numbers next) = ⊥
-PlansNone kept point Disk = ⊥
-PlansNone kept point NoMemory = IsSome (position kept.timeline point)
-PlansNone kept point Closed = ⊥
+-- the timeline has the point; and where the texts are told as they were stored, this is the plan of the items later than it
+abbrev pub Plans : Kept → ℕ → Type 0 → List ℕ → Type 0
+Plans kept point told text = (place : ℕ) × (position kept.timeline point ≡ Some place) × (told → text ≡ plan_at kept place)
+
+-- a read failed exactly where that is why there is no answer
+abbrev pub BodiesCause : {T : Type 0} → DiskTold → DiskTold → Result T BodiesFault → Type 0
+BodiesCause old new (Ok x) = new.failed_reads ≡ old.failed_reads
+BodiesCause old new (Err bodies_faults.Failed) = ReadFailed old new
+BodiesCause old new (Err bodies_faults.NoMemory) = new.failed_reads ≡ old.failed_reads
+
+-- why no plan is told: the timeline does not have the point, exactly where it says so; where it has it a read may have failed,
+-- and want of memory is free
+abbrev pub PlansNone : Kept → ℕ → DiskTold → DiskTold → CycleFault → Type 0
+PlansNone kept point old new (Point given) = (position kept.timeline point ≡ None) × (given ≡ point)
+PlansNone kept point old new (Numbers next) = ⊥
+PlansNone kept point old new Disk = IsSome (position kept.timeline point) × ReadFailed old new
+PlansNone kept point old new NoMemory = IsSome (position kept.timeline point)
+PlansNone kept point old new Closed = ⊥

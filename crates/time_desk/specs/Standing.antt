@@ -74,6 +74,13 @@ Fails none gate (Damaged place) = none × (place ≡ gate)
 Fails none gate Disk = ⊥
 Fails none gate NoMemory = Unit {0}
 
+-- the same where texts are read
+abbrev pub FailsReading : Type 0 → ℕ → StartFault → Type 0
+FailsReading none gate NotFormatted = ⊥
+FailsReading none gate (Damaged place) = none × (place ≡ gate)
+FailsReading none gate Disk = Unit {0}
+FailsReading none gate NoMemory = Unit {0}
+
 -- the payload spells no record that comes to something, and that is told of its gate
 abbrev pub FailsPayload : (JournalRecord → Option Kept) → List ℕ → ℕ → StartFault → Type 0
 FailsPayload due payload gate NotFormatted = ⊥

@@ -1,5 +1,5 @@
 -- What becomes of an ask and of an act.
-use Rattle.std.specs.Prelude.{◌≡◌, ◌≢◌, ℕ, ◌<◌, false, [], ◌∷◌, Result, Ok, Err, IsTrue}
+use Rattle.std.specs.Prelude.{◌≡◌, ◌≢◌, ℕ, ◌+◌, ◌<◌, true, false, List, [], ◌∷◌, length, Result, Ok, Err, OnOk, OnErr, IsErrOf, IsTrue}
 use Rattle.undo_outside.specs.Disk.{DiskTold}
 use Rattle.verb_core.specs.declared.ask.Refused.{Refused}
 use Rattle.verb_core.specs.declared.ask.SubmitFault.{SubmitFault}
@@ -14,8 +14,9 @@ use Rattle.seal_log.specs.declared.fault.SealFault.{SealFault}
 use Rattle.seal_log.specs.declared.fault.SealFault.TheVariants as log_faults
 use Rattle.time_desk.specs.declared.fault.ActFault.{ActFault}
 use Rattle.time_desk.specs.declared.fault.ActFault.TheVariants as act_faults
-use Rattle.time_desk.specs.Lasting.{IsUnwritten, Lasting}
-use Rattle.time_desk.specs.Sealing.{Seals}
+use Rattle.seal_log.specs.Settled.{Holds, IsSettled}
+use Rattle.time_desk.specs.Lasting.{IsUnwritten, JournalTold, Lasting}
+use Rattle.time_desk.specs.Sealing.{Seals, SealsPayloads}
 
 -- a fault of sealing, as a fault of an ask
 abbrev pub IsOutcomeOf : SealFault → SubmitFault → Type 0
@@ -42,6 +43,20 @@ WritesNone (Ok item) old new = Unit {0}
 WritesNone (Err (IsRefused why)) old new = why ≢ NoMemory → IsUnwritten old new
 WritesNone (Err Disk) old new = Unit {0}
 WritesNone (Err Closed) old new = Unit {0}
+
+-- what a call made of a payload that it was to seal behind a journal: it was sealed; or a write or a sync failed, and the journal
+-- is closed; or no memory was found
+pub record SealsBytes {D X : Type 0} (told : D → DiskTold) (bytes : List ℕ) (old new : JournalTold D) (result : Result X SealFault) : Type 0 where
+  pub ok : OnOk result (SealsPayloads (bytes ∷ []) [] (told old.disk) (told new.disk) old.gate new.gate)
+  pub failed : IsErrOf result log_faults.Disk → SealsPayloads [] (bytes ∷ []) (told old.disk) (told new.disk) old.gate new.gate
+  pub no_memory : IsErrOf result log_faults.NoMemory → SealsPayloads [] [] (told old.disk) (told new.disk) old.gate new.gate
+  pub never : IsErrOf result log_faults.Closed → ⊥
+  pub still_open : OnOk result (new.closed ≡ false)
+  pub open_again : IsErrOf result log_faults.NoMemory → new.closed ≡ false
+  pub closes : IsErrOf result log_faults.Disk → new.closed ≡ true
+  pub next : OnOk result (new.gate ≡ old.gate + 5 + length bytes)
+  pub err : OnErr result (new.gate ≡ old.gate)
+  pub held : (payloads : List (List ℕ)) → IsSettled (told old.disk) old.gate payloads → Holds (told new.disk) payloads
 
 module _ {D : Type 0} (told : D → DiskTold) where
   -- nothing was sealed, and nothing is lost

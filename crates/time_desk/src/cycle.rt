@@ -1,30 +1,36 @@
 //! What the operator asks of the past: a cycle, and a trial of one.
-ghost use Rattle.std.specs.Prelude.{◌≡◌, ◌<◌, ◌+◌, ◌≤◌, [], ◌∷◌, false, Some, None, length, option_copied, IsTrue, IsSome, IfOk, OnOk, IfErr, OnErr, IsErrOf};
-ghost use Rattle.verb_bytes.specs.declared.journal.JournalRecord.{JournalRecord as TheRecord};
+ghost use Rattle.std.specs.Prelude.{◌≡◌, ◌<◌, ◌+◌, ◌≤◌, ℕ, false, Some, None, length, option_copied, IsTrue, IsSome, IfOk, OnOk, IfErr, OnErr};
+ghost use Rattle.undo_outside.specs.Moments.{OnlyReads};
 ghost use Rattle.verb_bytes.specs.declared.journal.JournalRecord.TheVariants.{Cycle};
 ghost use Rattle.verb_bytes.specs.Spelling.{record_bytes};
 ghost use Rattle.paradox.specs.declared.reports.Report.{Report as TheReport};
 ghost use Rattle.paradox.specs.Kept.{report_of};
 ghost use Rattle.repair_desk.specs.Repairs.{are_known};
-ghost use Rattle.mail_cycle.specs.Asking.{cycle_due, Repeats};
+ghost use Rattle.mail_cycle.specs.Asking.{IsRewinds, cycle_due, due_anew, Repeats};
+ghost use Rattle.mail_cycle.specs.Leaving.{IsMade};
 ghost use Rattle.mail_cycle.specs.Permanence.{UidsLast};
+ghost use Rattle.mail_cycle.specs.Refusing.{IsRefusalOf};
 ghost use Rattle.mail_desk.specs.Remaking.{CanReplace, remade_as};
-ghost use Rattle.time_desk.specs.Cycling.{Cycles, CyclesNone, IsCycleOutcomeOf, IsFit, IsTold, Redoes, Tries, TriesNone, after_rewound};
+ghost use Rattle.time_desk.specs.Cycling.{Cycles, CyclesAs, CyclesNone, IsCycleOutcomeOf, IsFit, IsTold, Redoes, RedoesCause, RenotesAs, Tries, TriesNone, after_rewound};
 ghost use Rattle.time_desk.specs.Lasting.{lasting};
+ghost use Rattle.time_desk.specs.Reading.{IsStill};
 ghost use Rattle.time_desk.specs.Records.{is_spelled};
-ghost use Rattle.time_desk.specs.Sealing.{IsRecordTo, Seals};
-ghost use Rattle.time_desk.specs.Submitting.{SealsNone};
+ghost use Rattle.time_desk.specs.Stored.{HoldsTexts, NotedBefore, Renotes};
+ghost use Rattle.time_desk.specs.Submitting.{SealsBytes};
+ghost use Rattle.time_desk.specs.Telling.{HoldsHeld, IsOnlyRead};
 
+use crate::fresh::fresh_of;
 use crate::on_disk::Journal;
 use crate::permanence::records_let_uids_last;
 use crate::redo::{key_in, remade, rewound, rewound_alone};
+use crate::seal::seal_bytes;
 use crate::spelling::cycle_bytes;
 use crate::{CycleFault, Desk};
 use box_store::Steps;
 use mail_cycle::{CycleRefused, Rewound};
-use mail_desk::Remade;
+use mail_desk::{Fresh, Remade};
 use paradox::Report;
-use seal_log::SealFault;
+use seal_log::{Place, SealFault};
 use std::alloc::Global;
 use std::sync::ledger::Ledger;
 use std::thread::Threads;
@@ -101,16 +107,19 @@ fn ready_with(
     desk: &mut mail_desk::Desk,
     key: Name,
     made: Rewound,
+    fresh: &Fresh,
     bytes: Text,
 ) -> Result<Found, NoMemory>
     requires { IsFit desk.old.kept made }
     ensures kept { desk.new.kept ≡ desk.old.kept }
+    ensures same { desk.new.notes ≡ desk.old.notes }
     ensures made { IfOk result (λ found. remade_as desk.old.kept found.remade ≡ after_rewound desk.old.kept key made) }
     ensures report { IfOk result (λ found. found.report ≡ made.report) }
+    ensures notes { IfOk result (λ found. Renotes desk.old.notes fresh.now made.timeline found.remade.shelf.notes) }
     ensures ready { IfOk result (λ found. CanReplace found.remade desk.new) }
     ensures bytes { IfOk result (λ found. found.bytes ≡ bytes) }
 {
-    match remade(alloc, desk, key, made) {
+    match remade(alloc, desk, key, made, fresh) {
         Ok(remade) => with_report(alloc, remade, bytes),
         Err(NoMemory) => {
             drop(bytes);
@@ -119,9 +128,39 @@ fn ready_with(
     }
 }
 
-/// Makes what a cycle leaves ready, and the bytes of its record.
-fn ready_cycle(
+/// The same, with the notes of the texts that the record of that place brings.
+fn ready_at(
     alloc: Global,
+    desk: &mut mail_desk::Desk,
+    ask: CycleAsk,
+    made: Rewound,
+    place: Place,
+    bytes: Text,
+) -> Result<Found, NoMemory>
+    requires { IsFit desk.old.kept made }
+    ensures kept { desk.new.kept ≡ desk.old.kept }
+    ensures same { desk.new.notes ≡ desk.old.notes }
+    ensures made { IfOk result (λ found. remade_as desk.old.kept found.remade ≡ after_rewound desk.old.kept ask.key made) }
+    ensures report { IfOk result (λ found. found.report ≡ made.report) }
+    ensures notes { (at : ℕ) → IfOk result (λ found. RenotesAs desk.old ask at place made found.remade.shelf.notes) }
+    ensures ready { IfOk result (λ found. CanReplace found.remade desk.new) }
+    ensures bytes { IfOk result (λ found. found.bytes ≡ bytes) }
+{
+    match fresh_of(alloc, desk.next(), &ask, place) {
+        Ok(fresh) => ready_with(alloc, desk, key_in(ask), made, &fresh, bytes),
+        Err(NoMemory) => {
+            drop(ask);
+            drop(made);
+            drop(bytes);
+            Err(NoMemory)
+        }
+    }
+}
+
+/// Makes what a cycle leaves ready, and the bytes of its record, which is to lie behind the last gate of a journal.
+fn ready_cycle<D: Disk>(
+    alloc: Global,
+    journal: &Journal<D>,
     desk: &mut mail_desk::Desk,
     at: u64,
     ask: CycleAsk,
@@ -129,14 +168,19 @@ fn ready_cycle(
 ) -> Result<Found, NoMemory>
     requires { IsFit desk.old.kept made }
     ensures kept { desk.new.kept ≡ desk.old.kept }
+    ensures same { desk.new.notes ≡ desk.old.notes }
     ensures made { IfOk result (λ found. remade_as desk.old.kept found.remade ≡ after_rewound desk.old.kept ask.key made) }
     ensures report { IfOk result (λ found. found.report ≡ made.report) }
+    ensures notes { IfOk result (λ found. RenotesAs desk.old ask at (record { gate = journal.now.gate; length = length found.bytes }) made found.remade.shelf.notes) }
     ensures ready { IfOk result (λ found. CanReplace found.remade desk.new) }
     ensures bytes { IfOk result (λ found. found.bytes ≡ record_bytes (Cycle desk.old.kept.next at ask)) }
     ensures spelled { OnOk result (IsTrue (is_spelled (Cycle desk.old.kept.next at ask))) }
 {
     match cycle_bytes(alloc, desk.next(), at, &ask) {
-        Ok(bytes) => ready_with(alloc, desk, key_in(ask), made, bytes),
+        Ok(bytes) => {
+            let place = journal.next_place(&bytes);
+            ready_at(alloc, desk, ask, made, place, bytes)
+        }
         Err(NoMemory) => {
             drop(ask);
             drop(made);
@@ -155,15 +199,12 @@ fn seal_remade<D: Disk>(
 ) -> Result<(), SealFault>
     requires open { journal.old.closed ≡ false }
     requires ready { CanReplace remade desk.old }
-    ensures ok { (what : TheRecord) → IsRecordTo what bytes.now desk.old.kept (remade_as desk.old.kept remade)
-        → OnOk result (Seals D.told (what ∷ []) [] (lasting desk.old journal.old) (lasting desk.new journal.new)) }
+    ensures sealed { SealsBytes D.told bytes.now journal.old journal.new result }
     ensures kept { OnOk result (desk.new.kept ≡ remade_as desk.old.kept remade) }
-    ensures err { (what : TheRecord) → IsRecordTo what bytes.now desk.old.kept (remade_as desk.old.kept remade)
-        → IfErr result (λ fault. SealsNone D.told what (lasting desk.old journal.old) (lasting desk.new journal.new) fault) }
+    ensures notes { OnOk result (desk.new.notes ≡ remade.shelf.notes) }
     ensures same { OnErr result (desk.new ≡ desk.old) }
-    ensures not_closed { IsErrOf result SealFault.Closed → ⊥ }
 {
-    match journal.seal(alloc, bytes) {
+    match seal_bytes(alloc, journal, bytes) {
         Ok(()) => {
             desk.replace(remade);
             Ok(())
@@ -185,13 +226,10 @@ fn seal_found<D: Disk>(
     requires open { journal.old.closed ≡ false }
     requires ready { CanReplace found.remade desk.old }
     ensures report { IfOk result (λ report. report ≡ found.report) }
-    ensures ok { (what : TheRecord) → IsRecordTo what found.bytes desk.old.kept (remade_as desk.old.kept found.remade)
-        → OnOk result (Seals D.told (what ∷ []) [] (lasting desk.old journal.old) (lasting desk.new journal.new)) }
+    ensures sealed { SealsBytes D.told found.bytes journal.old journal.new result }
     ensures kept { OnOk result (desk.new.kept ≡ remade_as desk.old.kept found.remade) }
-    ensures err { (what : TheRecord) → IsRecordTo what found.bytes desk.old.kept (remade_as desk.old.kept found.remade)
-        → IfErr result (λ fault. SealsNone D.told what (lasting desk.old journal.old) (lasting desk.new journal.new) fault) }
+    ensures notes { OnOk result (desk.new.notes ≡ found.remade.shelf.notes) }
     ensures same { OnErr result (desk.new ≡ desk.old) }
-    ensures not_closed { IsErrOf result SealFault.Closed → ⊥ }
 {
     let Found {
         remade,
@@ -226,6 +264,7 @@ fn refused_as(refused: CycleRefused) -> CycleFault
     match refused {
         CycleRefused::Point { given } => CycleFault::Point { given },
         CycleRefused::Numbers { next } => CycleFault::Numbers { next },
+        CycleRefused::Disk => CycleFault::Disk,
         CycleRefused::NoMemory => CycleFault::NoMemory,
     }
 }
@@ -242,19 +281,76 @@ fn cycle_made<D: Disk>(
     requires open { journal.old.closed ≡ false }
     requires known { IsTrue (are_known desk.old.kept.house ask.inserts) }
     requires anew { report_of desk.old.kept.reports ask.key ≡ None }
-    requires due { Redoes desk.old.kept at ask made }
     requires fit { IsFit desk.old.kept made }
-    ensures done { IfOk result (λ report. Cycles D.told at ask (lasting desk.old journal.old) (lasting desk.new journal.new) report) }
+    requires noted { NotedBefore journal.old.gate desk.old.notes desk.old.kept.timeline }
+    ensures done { (disk : D) → OnlyReads (D.told disk) (D.told journal.old.disk) → CyclesAs D.told (lasting desk.old (record journal.old { disk = disk })) at ask made
+        → IfOk result (λ report. Cycles D.told at ask (lasting desk.old (record journal.old { disk = disk })) (lasting desk.new journal.new) report) }
+    ensures noted { IsMade desk.old.kept at ask ⊥ made → NotedBefore journal.new.gate desk.new.notes desk.new.kept.timeline }
     ensures timeline { OnOk result (desk.new.kept.timeline ≡ made.timeline) }
     ensures err { OnErr result (desk.new.kept ≡ desk.old.kept) }
-    ensures why { IfErr result (λ fault. CyclesNone D.told at ask (lasting desk.old journal.old) (lasting desk.new journal.new) fault) }
+    ensures why { (disk : D) → OnlyReads (D.told disk) (D.told journal.old.disk) → CyclesAs D.told (lasting desk.old (record journal.old { disk = disk })) at ask made
+        → IfErr result (λ fault. CyclesNone D.told at ask (lasting desk.old (record journal.old { disk = disk })) (lasting desk.new journal.new) fault) }
 {
-    match ready_cycle(alloc, desk, at, ask, made) {
+    desk.stands();
+    match ready_cycle(alloc, journal, desk, at, ask, made) {
         Ok(found) => match seal_found(alloc, journal, desk, found) {
             Ok(report) => Ok(report),
             Err(fault) => Err(fault_of(fault)),
         },
         Err(NoMemory) => Err(CycleFault::NoMemory),
+    }
+}
+
+impl<D: Disk> Journal<D> {
+    /// What the cycle leaves that is due under a new key: nothing was written.
+    fn rewound<L: Ledger>(
+        &mut self,
+        alloc: Global,
+        desk: &mail_desk::Desk,
+        at: u64,
+        ask: &CycleAsk,
+        steps: &mut Steps<L>,
+    ) -> Result<Rewound, CycleRefused>
+        requires noted { NotedBefore self.old.gate desk.now.notes desk.now.kept.timeline }
+        requires moment { at ≤ LAST_MOMENT }
+        requires known { IsTrue (are_known desk.now.kept.house ask.now.inserts) }
+        ensures due { IfOk result (Redoes desk.now.kept at ask.now (HoldsHeld (D.told self.old.disk) desk.now)) }
+        ensures made { IfOk result (IsMade desk.now.kept at ask.now (HoldsHeld (D.told self.old.disk) desk.now)) }
+        ensures fit { IfOk result (IsFit desk.now.kept) }
+        ensures refused { IfErr result (IsRefusalOf desk.now.kept ask.now (due_anew desk.now.kept at ask.now)) }
+        ensures untouched { IfErr result (λ refused. (IsRewinds (due_anew desk.now.kept at ask.now) → ⊥) → self.new ≡ self.old) }
+        ensures cause { RedoesCause (D.told self.old.disk) (D.told self.new.disk) result }
+        ensures still { IsOnlyRead D.told self.old self.new }
+        ensures steps { IfOk result (λ made. steps.new ≤ steps.old + length made.timeline) }
+    {
+        rewound(
+            alloc,
+            &mut self.disk,
+            self.log.last_gate(),
+            desk,
+            at,
+            ask,
+            steps,
+        )
+    }
+
+    /// The same, with nothing counted.
+    fn rewound_alone(
+        &mut self,
+        alloc: Global,
+        desk: &mail_desk::Desk,
+        at: u64,
+        ask: &CycleAsk,
+    ) -> Result<Rewound, CycleRefused>
+        requires noted { NotedBefore self.old.gate desk.now.notes desk.now.kept.timeline }
+        requires moment { at ≤ LAST_MOMENT }
+        requires known { IsTrue (are_known desk.now.kept.house ask.now.inserts) }
+        ensures due { IfOk result (Redoes desk.now.kept at ask.now (HoldsHeld (D.told self.old.disk) desk.now)) }
+        ensures refused { IfErr result (IsRefusalOf desk.now.kept ask.now (due_anew desk.now.kept at ask.now)) }
+        ensures cause { RedoesCause (D.told self.old.disk) (D.told self.new.disk) result }
+        ensures still { IsOnlyRead D.told self.old self.new }
+    {
+        rewound_alone(alloc, &mut self.disk, self.log.last_gate(), desk, at, ask)
     }
 }
 
@@ -271,12 +367,14 @@ fn cycle_open<D: Disk, L: Ledger>(
     requires open { journal.old.closed ≡ false }
     requires known { IsTrue (are_known desk.old.kept.house ask.inserts) }
     requires anew { report_of desk.old.kept.reports ask.key ≡ None }
+    requires noted { NotedBefore journal.old.gate desk.old.notes desk.old.kept.timeline }
     ensures done { IfOk result (λ report. Cycles D.told at ask (lasting desk.old journal.old) (lasting desk.new journal.new) report) }
+    ensures noted { NotedBefore journal.new.gate desk.new.notes desk.new.kept.timeline }
     ensures err { OnErr result (desk.new.kept ≡ desk.old.kept) }
     ensures why { IfErr result (λ fault. CyclesNone D.told at ask (lasting desk.old journal.old) (lasting desk.new journal.new) fault) }
     ensures steps { OnOk result (steps.new ≤ steps.old + length desk.new.kept.timeline) }
 {
-    match rewound(alloc, desk, at, &ask, steps) {
+    match journal.rewound(alloc, desk, at, &ask, steps) {
         Ok(made) => cycle_made(alloc, journal, desk, at, ask, made),
         Err(refused) => {
             drop(ask);
@@ -297,7 +395,9 @@ fn cycle_anew<D: Disk, L: Ledger>(
     requires moment { at ≤ LAST_MOMENT }
     requires known { IsTrue (are_known desk.old.kept.house ask.inserts) }
     requires anew { report_of desk.old.kept.reports ask.key ≡ None }
+    requires noted { NotedBefore journal.old.gate desk.old.notes desk.old.kept.timeline }
     ensures done { IfOk result (λ report. Cycles D.told at ask (lasting desk.old journal.old) (lasting desk.new journal.new) report) }
+    ensures noted { NotedBefore journal.new.gate desk.new.notes desk.new.kept.timeline }
     ensures err { OnErr result (desk.new.kept ≡ desk.old.kept) }
     ensures why { IfErr result (λ fault. CyclesNone D.told at ask (lasting desk.old journal.old) (lasting desk.new journal.new) fault) }
     ensures steps { OnOk result (steps.new ≤ steps.old + length desk.new.kept.timeline) }
@@ -319,8 +419,9 @@ impl<D: Disk> Desk<D> {
 
     /// Does the cycle that is asked for, at a moment. A key that a cycle had is answered with that cycle's report, also on a
     /// closed desk, and nothing changes. Else the cycle is performed beside the desk, its one record is sealed, and what it
-    /// leaves takes the place of what was kept. At `Disk` the desk is closed from then on, the record may be in the journal
-    /// or not, and what is kept is as before. In time that grows as the timeline and the mailboxes.
+    /// leaves takes the place of what was kept. Each delivery's text is read, once. At `Disk` what is kept is as before: either
+    /// a read failed, nothing changed, and a later call may succeed; or the desk is closed from then on, and the record may be
+    /// in the journal or not. In time that grows as the timeline, the mailboxes and these texts.
     pub fn cycle<R: Threads + Sync, G: Gate, L: Ledger>(
         &mut self,
         _rt: &R,
@@ -337,7 +438,7 @@ impl<D: Disk> Desk<D> {
         ensures why { IfErr result (λ fault. CyclesNone D.told at ask self.old self.new fault) }
         ensures steps { OnOk result (steps.new ≤ steps.old + length self.new.kept.timeline) }
         ensures once { (earlier : TheReport) → cycle_due self.old.kept at ask ≡ Repeats earlier → steps.new ≡ steps.old }
-        ensures uids { UidsLast self.old.kept self.new.kept }
+        ensures uids { HoldsTexts D.told self.old → UidsLast self.old.kept self.new.kept }
     {
         self.stands();
         records_let_uids_last();
@@ -354,7 +455,7 @@ impl<D: Disk> Desk<D> {
         }
     }
 
-    /// The report that `cycle` would give under a new key. Nothing changes, and nothing is written.
+    /// The report that `cycle` would give under a new key. Nothing changes, and nothing is written. At `Disk` a read failed.
     pub fn try_cycle<R: Threads + Sync, G: Gate>(
         &mut self,
         _rt: &R,
@@ -365,11 +466,12 @@ impl<D: Disk> Desk<D> {
     ) -> Result<Report, CycleFault>
         requires moment { at ≤ LAST_MOMENT }
         requires known { IsTrue (are_known self.old.kept.house ask.now.inserts) }
-        ensures ok { IfOk result (λ report. Tries self.old.kept at ask.now report) }
-        ensures why { IfErr result (λ fault. TriesNone self.old.kept at ask.now fault) }
-        ensures still { self.new ≡ self.old }
+        ensures ok { IfOk result (λ report. Tries self.old.kept at ask.now (HoldsTexts D.told self.old) report) }
+        ensures why { IfErr result (λ fault. TriesNone self.old.kept at ask.now (D.told self.old.disk) (D.told self.new.disk) fault) }
+        ensures same { OnOk result ((D.told self.new.disk).failed_reads ≡ (D.told self.old.disk).failed_reads) }
+        ensures still { IsStill D.told self.old self.new }
     {
-        match rewound_alone(alloc, &self.desk, at, ask) {
+        match self.journal.rewound_alone(alloc, &self.desk, at, ask) {
             Ok(made) => Ok(report_in(made)),
             Err(refused) => Err(refused_as(refused)),
         }

@@ -8,25 +8,25 @@ ghost use Rattle.verb_core.specs.declared.mailbox.Mailbox.{Mailbox as TheMailbox
 ghost use Rattle.verb_core.specs.Boxes.{box_of, row_at};
 ghost use Rattle.verb_core.specs.Items.{IsTimeline, text_of};
 ghost use Rattle.verb_core.specs.Store.{IsValid, is_house, is_known, opening as store_at_first};
-ghost use Rattle.seal_log.specs.declared.fault.ReadFault.TheVariants as read_faults;
 ghost use Rattle.shelf.specs.Notes.{size_of};
 ghost use Rattle.store_digest.specs.Snapshots.{digest_of};
 ghost use Rattle.mail_desk.specs.Counting.{counts_of, listed, page};
 ghost use Rattle.paradox.specs.Kept.{store_of};
-ghost use Rattle.mail_desk.specs.Timeline.{all_bodies, has_sizes, has_text, rev_of, texts_of};
+ghost use Rattle.mail_desk.specs.Timeline.{all_bodies, has_sizes, has_text, rev_of};
 ghost use Rattle.time_desk.specs.Permanence.{IsSound};
+ghost use Rattle.time_desk.specs.Stored.{NotedBefore};
 
 use crate::on_disk::Journal;
 use box_store::Store;
 use mail_desk::Counts;
-use seal_log::ReadFault;
 use shelf::Shelf;
 use std::alloc::Global;
 use std::marker::Model;
 use store_digest::digest;
-use undo_base::{Name, NoMemory, Text, Texts, User};
+use stored_items::StoredItem;
+use undo_base::{Name, NoMemory, Text, User};
 use undo_outside::Disk;
-use verb_core::{Body, Conf, House, Item, Items, Stamps};
+use verb_core::{Body, Conf, House, Items, Stamps};
 
 /// A desk in memory, and its journal on a disk.
 #[derive(Drop)]
@@ -37,10 +37,13 @@ pub struct Desk<D: Disk> {
 
 impl<D: Disk> Model for Desk<D> {
     ghost use Rattle.time_desk.specs.Lasting.{Lasting, lasting};
+    ghost use Rattle.time_desk.specs.Stored.{NotedBefore};
 
     ghost Value = { Lasting D };
 
     ghost view = { λ d. lasting d.desk d.journal };
+
+    ghost invariant = { λ d. NotedBefore d.journal.gate d.desk.notes d.desk.kept.timeline };
 }
 
 impl<D: Disk> Desk<D> {
@@ -97,8 +100,9 @@ impl<D: Disk> Desk<D> {
         self.desk.stamp(user, name)
     }
 
-    /// The size of each body that has a text.
+    /// Where the text of each body lies, and its size.
     pub fn shelf(&self) -> &Shelf
+        ensures value { result.now.notes ≡ self.now.notes }
         ensures sizes { (body : TheBody) → size_of result.now.notes body ≡ option_map length (text_of self.now.kept.timeline body) }
         ensures known { IsTrue (has_sizes result.now.notes (store_of self.now.kept).boxes) }
     {
@@ -126,8 +130,8 @@ impl<D: Disk> Desk<D> {
         self.desk.timeline(alloc, from)
     }
 
-    /// The same items as they are, with no memory taken.
-    pub fn items(&self, from: u32) -> &[Item]
+    /// The same items as they are in memory, with no memory taken.
+    pub fn items(&self, from: u32) -> &[StoredItem]
         ensures { result.now ≡ page self.now.kept.timeline from }
     {
         self.desk.items(from)
@@ -141,32 +145,11 @@ impl<D: Disk> Desk<D> {
         digest(alloc, self.desk.store(), items)
     }
 
-    /// The text of a body.
-    pub fn text(&self, alloc: Global, body: Body) -> Result<Text, NoMemory>
-        requires { IsTrue (has_text self.now.kept.timeline body) }
-        ensures { IfOk result (λ text. text_of self.now.kept.timeline body ≡ Some text) }
+    /// Whether a body has a text.
+    pub fn has_text(&self, body: Body) -> bool
+        ensures { result ≡ has_text self.now.kept.timeline body }
     {
-        self.desk.text(alloc, body)
-    }
-
-    /// The text of a body. None exactly where no item in force has it. Texts lie in memory, so no read of the disk can fail.
-    pub fn body(&mut self, alloc: Global, body: Body) -> Result<Option<Text>, ReadFault>
-        ensures found { IfOk result (λ found. found ≡ text_of self.old.kept.timeline body) }
-        ensures cause { IfErr result (λ fault. fault ≡ read_faults.NoMemory) }
-        ensures still { self.new ≡ self.old }
-    {
-        match self.desk.body(alloc, body) {
-            Ok(found) => Ok(found),
-            Err(NoMemory) => Err(ReadFault::NoMemory),
-        }
-    }
-
-    /// The texts of bodies, in order.
-    pub fn texts(&self, alloc: Global, bodies: &[Body]) -> Result<Texts, NoMemory>
-        requires { IsTrue (list_all (has_text self.now.kept.timeline) bodies.now) }
-        ensures { IfOk result (λ texts. texts ≡ texts_of self.now.kept.timeline bodies.now) }
-    {
-        self.desk.texts(alloc, bodies)
+        self.desk.has_text(body)
     }
 
     /// The rev of the item of a number, where it has a text.
@@ -193,6 +176,7 @@ impl<D: Disk> Desk<D> {
         ensures texts { IsTrue (all_bodies (has_text self.now.kept.timeline) (store_of self.now.kept).boxes) }
         ensures sound { IsSound self.now.kept }
         ensures within { self.now.gate < (D.told self.now.disk).size }
+        ensures noted { NotedBefore self.now.gate self.now.notes self.now.kept.timeline }
     {
         self.desk.stands();
         self.journal.stands();

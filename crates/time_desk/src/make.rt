@@ -7,6 +7,7 @@ ghost use Rattle.paradox.specs.Kept.{new_desk};
 ghost use Rattle.house_text.specs.Beginning.{can_begin};
 ghost use Rattle.time_desk.specs.Making.{Begins, LooksEmpty, Makes};
 ghost use Rattle.time_desk.specs.Records.{state};
+ghost use Rattle.time_desk.specs.Stored.{HoldsTexts};
 
 use crate::on_disk::Journal;
 use crate::spelling::house_bytes;
@@ -129,6 +130,7 @@ impl<D: Disk> Desk<D> {
         ensures kept { IfOk result (λ desk. desk.kept ≡ new_desk house conf) }
         ensures open { IfOk result (λ desk. desk.closed ≡ false) }
         ensures made { IfOk result (λ desk. Makes house conf (D.told disk) (D.told desk.disk) (Ok (desk.kept, desk.gate))) }
+        ensures texts { (D.told disk).honest → IfOk result (HoldsTexts D.told) }
         ensures why { IfErr result (λ refused. Makes house conf (D.told disk) (D.told refused.0) (Err refused.1)) }
     {
         let mut disk = disk;

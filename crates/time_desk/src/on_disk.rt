@@ -1,9 +1,10 @@
 //! The journal on a disk.
-ghost use Rattle.std.specs.Prelude.{◌≡◌, ◌<◌, [], ◌∷◌, true, false, OnOk, IsErrOf};
+ghost use Rattle.std.specs.Prelude.{◌≡◌, ◌<◌, ◌+◌, ℕ, List, [], ◌∷◌, true, false, length, OnOk, OnErr, IsErrOf};
 ghost use Rattle.seal_log.specs.Log.{last_gate};
+ghost use Rattle.seal_log.specs.Settled.{Holds, IsSettled};
 ghost use Rattle.time_desk.specs.Sealing.{SealsPayloads};
 
-use seal_log::{Log, SealFault};
+use seal_log::{Log, Place, SealFault};
 use std::alloc::Global;
 use std::marker::Model;
 use undo_base::Text;
@@ -12,8 +13,8 @@ use undo_outside::Disk;
 /// A disk, and the end of the journal that lies on it.
 #[derive(Drop)]
 pub(crate) struct Journal<D: Disk> {
-    disk: D,
-    log: Log,
+    pub(crate) disk: D,
+    pub(crate) log: Log,
 }
 
 impl<D: Disk> Model for Journal<D> {
@@ -46,6 +47,9 @@ fn seal_payload<D: Disk>(
     ensures still_open { OnOk result (log.new.closed ≡ false) }
     ensures open_again { IsErrOf result SealFault.NoMemory → log.new.closed ≡ false }
     ensures closes { IsErrOf result SealFault.Disk → log.new.closed ≡ true }
+    ensures next { OnOk result (last_gate log.new ≡ last_gate log.old + 5 + length payload.now) }
+    ensures err { OnErr result (last_gate log.new ≡ last_gate log.old) }
+    ensures held { (payloads : List (List ℕ)) → IsSettled (D.told disk.old) (last_gate log.old) payloads → Holds (D.told disk.new) payloads }
     ensures within { last_gate log.new < (D.told disk.new).size }
 {
     match log.seal(alloc, disk, payload.bytes()) {
@@ -79,6 +83,16 @@ impl<D: Disk> Journal<D> {
         let _ = &self.disk;
     }
 
+    /// Where the next payload will lie.
+    pub(crate) fn next_place(&self, payload: &Text) -> Place
+        ensures { result ≡ record { gate = self.now.gate; length = length payload.now } }
+    {
+        Place {
+            gate: self.log.last_gate(),
+            length: payload.bytes().len() as u32,
+        }
+    }
+
     /// Seals a payload.
     pub(crate) fn seal(&mut self, alloc: Global, payload: &Text) -> Result<(), SealFault>
         requires { self.old.closed ≡ false }
@@ -91,6 +105,9 @@ impl<D: Disk> Journal<D> {
         ensures still_open { OnOk result (self.new.closed ≡ false) }
         ensures open_again { IsErrOf result SealFault.NoMemory → self.new.closed ≡ false }
         ensures closes { IsErrOf result SealFault.Disk → self.new.closed ≡ true }
+        ensures next { OnOk result (self.new.gate ≡ self.old.gate + 5 + length payload.now) }
+        ensures err { OnErr result (self.new.gate ≡ self.old.gate) }
+        ensures held { (payloads : List (List ℕ)) → IsSettled (D.told self.old.disk) self.old.gate payloads → Holds (D.told self.new.disk) payloads }
     {
         seal_payload(alloc, &mut self.log, &mut self.disk, payload)
     }

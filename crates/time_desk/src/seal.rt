@@ -1,11 +1,11 @@
 //! One record, sealed, and its item then entered.
-ghost use Rattle.std.specs.Prelude.{◌≡◌, [], ◌∷◌, Some, true, false, OnOk, OnErr, IfErr};
-ghost use Rattle.verb_bytes.specs.declared.journal.JournalRecord.{JournalRecord};
+ghost use Rattle.std.specs.Prelude.{◌≡◌, ◌+◌, ℕ, List, length, Some, false, IfOk, OnOk, OnErr};
+ghost use Rattle.verb_core.specs.Items.{text_in};
+ghost use Rattle.verb_bytes.specs.Places.{IsTextAt};
 ghost use Rattle.paradox.specs.Kept.{performed};
 ghost use Rattle.mail_desk.specs.Entering.{CanEnter};
-ghost use Rattle.time_desk.specs.Lasting.{lasting};
-ghost use Rattle.time_desk.specs.Sealing.{IsRecordOf, Seals};
-ghost use Rattle.time_desk.specs.Submitting.{SealsNone};
+ghost use Rattle.time_desk.specs.Stored.{NotesTexts};
+ghost use Rattle.time_desk.specs.Submitting.{SealsBytes};
 
 use crate::on_disk::Journal;
 use mail_desk::{Desk, Ready};
@@ -13,29 +13,43 @@ use seal_log::SealFault;
 use std::alloc::Global;
 use undo_base::Text;
 use undo_outside::Disk;
+use verb_core::Item;
 
-/// Seals the record of an item for which all is ready, and then enters the item.
+/// Seals a payload.
+pub(crate) fn seal_bytes<D: Disk>(
+    alloc: Global,
+    journal: &mut Journal<D>,
+    bytes: &Text,
+) -> Result<(), SealFault>
+    requires { journal.old.closed ≡ false }
+    ensures { SealsBytes D.told bytes.now journal.old journal.new result }
+{
+    journal.seal(alloc, bytes)
+}
+
+/// Seals the record of an item for which all is ready, and then enters the item, and gives it back. Its text lies so far behind
+/// the front of the record.
 pub(crate) fn seal_ready<D: Disk>(
     alloc: Global,
     journal: &mut Journal<D>,
     desk: &mut Desk,
     bytes: &Text,
+    from: u32,
     ready: Ready,
-) -> Result<(), SealFault>
+) -> Result<Item, SealFault>
     requires open { journal.old.closed ≡ false }
     requires ready { CanEnter ready desk.old }
-    ensures ok { (what : JournalRecord) → IsRecordOf what bytes.now desk.old.kept ready.item
-        → OnOk result (Seals D.told (what ∷ []) [] (lasting desk.old journal.old) (lasting desk.new journal.new)) }
+    requires lies { (text : List ℕ) → text_in ready.item.deed ≡ Some text → IsTextAt bytes.now from text }
+    ensures sealed { SealsBytes D.told bytes.now journal.old journal.new result }
+    ensures item { IfOk result (λ item. item ≡ ready.item) }
     ensures performed { OnOk result (desk.new.kept ≡ performed desk.old.kept ready.item) }
-    ensures err { (what : JournalRecord) → IsRecordOf what bytes.now desk.old.kept ready.item
-        → IfErr result (λ fault. SealsNone D.told what (lasting desk.old journal.old) (lasting desk.new journal.new) fault) }
+    ensures noted { OnOk result (NotesTexts (journal.old.gate + 5 + length bytes.now) (record { gate = journal.old.gate; length = length bytes.now }) bytes.now desk.old desk.new) }
     ensures same { OnErr result (desk.new ≡ desk.old) }
 {
-    match journal.seal(alloc, bytes) {
-        Ok(()) => {
-            desk.enter(ready);
-            Ok(())
-        }
+    desk.stands();
+    let place = journal.next_place(bytes);
+    match seal_bytes(alloc, journal, bytes) {
+        Ok(()) => Ok(desk.enter(ready, place, from)),
         Err(fault) => {
             drop(ready);
             Err(fault)

@@ -1,26 +1,34 @@
-//! Records that can stand: the first of a journal, and each behind it, performed.
-ghost use Rattle.std.specs.Prelude.{◌≡◌, ◌≤◌, true, false, is_none, IsTrue, IfOk, OnOk, option_map};
+//! Records that can stand: the first of a journal, and each behind it, performed. Where the texts of a record lie is noted.
+ghost use Rattle.std.specs.Prelude.{◌≡◌, ◌≤◌, ◌<◌, ◌+◌, List, ℕ, true, false, is_none, length, IsTrue, IfOk, OnOk, IsErrOf, option_map};
 ghost use Rattle.std.specs.List.{list_all};
-ghost use Rattle.verb_core.specs.Items.{users_in};
+ghost use Rattle.undo_outside.specs.Moments.{OnlyReads};
+ghost use Rattle.verb_core.specs.Items.{text_in, users_in};
 ghost use Rattle.verb_core.specs.Store.{is_known as knows};
-ghost use Rattle.verb_bytes.specs.declared.journal.JournalRecord.TheVariants.{Cycle};
-ghost use Rattle.verb_bytes.specs.Spelling.{HasSpelling};
+ghost use Rattle.verb_bytes.specs.declared.journal.JournalRecord.TheVariants.{Cycle, Operator, Verb};
+ghost use Rattle.verb_bytes.specs.Spelling.{HasSpelling, record_bytes};
+ghost use Rattle.seal_log.specs.Causes.{ReadAtCause};
+ghost use Rattle.seal_log.specs.Journal.{LiesAt};
 ghost use Rattle.paradox.specs.Kept.{report_of};
 ghost use Rattle.repair_desk.specs.Repairs.{are_known as acts_name_known};
 ghost use Rattle.mail_cycle.specs.Asking.{due_anew};
+ghost use Rattle.mail_desk.specs.Timeline.{NotesText, SizesOf, body_of};
 ghost use Rattle.time_desk.specs.Cycling.{IsFit, after_rewound};
 ghost use Rattle.time_desk.specs.Records.{after_cycle_record, after_due, after_record, can_follow as follows, can_rewind as rewinds, first_state};
 ghost use Rattle.time_desk.specs.Standing.{Enters, IsFormed, Performs, begun, has_users as uses, is_actor, opening_of};
+ghost use Rattle.time_desk.specs.Stored.{NotedBefore, NotesCycle, NotesTexts, Renotes, TextsHeld, TextsLie};
 
 use crate::act::item_of;
+use crate::fresh::fresh_of;
 use crate::redo::{key_in, remade, rewound_alone};
 use house_text::can_begin;
 use mail_cycle::{CycleRefused, Rewound};
-use mail_desk::Desk;
+use mail_desk::{Desk, Fresh};
+use seal_log::{Place, ReadFault};
 use std::alloc::Global;
 use undo_base::{LAST_MOMENT, LAST_NUMBER, Name, NoMemory, User};
+use undo_outside::Disk;
 use verb_bytes::laws::{spelled_cycles_have_moments, spelled_items_are_formed};
-use verb_bytes::{CycleAsk, JournalRecord};
+use verb_bytes::{CycleAsk, JournalRecord, act_text_from, item_text_from};
 use verb_core::{Act, Conf, Deed, House, Item};
 
 // ---- the first record
@@ -151,10 +159,17 @@ fn can_follow(desk: &Desk, item: &Item) -> bool
     item.number == desk.next() && desk.next() <= LAST_NUMBER && has_users(desk.house(), item)
 }
 
-/// Performs an item, where it can follow.
-fn enter(alloc: Global, desk: &mut Desk, item: Item) -> Result<bool, NoMemory>
+/// Performs an item, where it can follow, and notes where its text lies: so far behind the front of its record.
+fn enter(
+    alloc: Global,
+    desk: &mut Desk,
+    item: Item,
+    place: Place,
+    from: u32,
+) -> Result<bool, NoMemory>
     requires { IsFormed item }
-    ensures { IfOk result (λ stood. Enters desk.old.kept item stood desk.new.kept) }
+    ensures entered { IfOk result (λ stood. Enters desk.old.kept item stood desk.new.kept) }
+    ensures noted { IfOk result (λ stood. stood ≡ true → NotesText (text_in item.deed) (body_of item) place from desk.old.notes desk.new.notes) }
 {
     if !can_follow(desk, &item) {
         drop(item);
@@ -162,11 +177,61 @@ fn enter(alloc: Global, desk: &mut Desk, item: Item) -> Result<bool, NoMemory>
     }
     match desk.ready_item(alloc, item) {
         Ok(ready) => {
-            desk.enter(ready);
+            drop(desk.enter(ready, place, from));
             Ok(true)
         }
         Err(NoMemory) => Err(NoMemory),
     }
+}
+
+/// How many bytes the payload at a place has: four bytes say it.
+fn length_at(place: Place) -> u32
+    ensures { result ≡ place.length }
+{
+    place.length
+}
+
+/// The same of the item of a user's record.
+fn enter_verb(
+    alloc: Global,
+    desk: &mut Desk,
+    end: u64,
+    item: Item,
+    place: Place,
+) -> Result<bool, NoMemory>
+    requires spelled { HasSpelling (Verb item) }
+    requires place { place.gate + 5 + place.length ≤ end }
+    requires long { place.length ≡ length (record_bytes (Verb item)) }
+    ensures entered { IfOk result (λ stood. Performs (after_record desk.old.kept (Verb item)) stood desk.new.kept) }
+    ensures noted { IfOk result (λ stood. stood ≡ true → NotesTexts end place (record_bytes (Verb item)) desk.old desk.new) }
+{
+    spelled_items_are_formed();
+    desk.stands();
+    let _length = length_at(place);
+    let from = item_text_from(&item);
+    enter(alloc, desk, item, place, from)
+}
+
+/// The same of an operator's act.
+fn enter_act(
+    alloc: Global,
+    desk: &mut Desk,
+    end: u64,
+    number: u32,
+    at: u64,
+    act: Act,
+    place: Place,
+) -> Result<bool, NoMemory>
+    requires spelled { HasSpelling (Operator number at act) }
+    requires place { place.gate + 5 + place.length ≤ end }
+    requires long { place.length ≡ length (record_bytes (Operator number at act)) }
+    ensures entered { IfOk result (λ stood. Performs (after_record desk.old.kept (Operator number at act)) stood desk.new.kept) }
+    ensures noted { IfOk result (λ stood. stood ≡ true → NotesTexts end place (record_bytes (Operator number at act)) desk.old desk.new) }
+{
+    spelled_items_are_formed();
+    desk.stands();
+    let from = act_text_from(&act);
+    enter(alloc, desk, item_of(number, at, act), place, from)
 }
 
 // ---- a cycle
@@ -192,40 +257,99 @@ fn is_new(desk: &Desk, key: &Name) -> bool
     desk.report(key).is_none()
 }
 
-/// Puts what a cycle leaves in place, under a key.
-fn put_in_place(alloc: Global, desk: &mut Desk, key: Name, made: Rewound) -> Result<bool, NoMemory>
+/// Puts what a cycle leaves in place, with the notes of its texts.
+fn replace_with(
+    alloc: Global,
+    desk: &mut Desk,
+    key: Name,
+    made: Rewound,
+    fresh: Fresh,
+) -> Result<bool, ReadFault>
     requires { IsFit desk.old.kept made }
-    ensures { IfOk result (λ stood. (stood ≡ true) × (desk.new.kept ≡ after_rewound desk.old.kept key made)) }
+    ensures kept { IfOk result (λ stood. (stood ≡ true) × (desk.new.kept ≡ after_rewound desk.old.kept key made)) }
+    ensures notes { OnOk result (Renotes desk.old.notes fresh made.timeline desk.new.notes) }
+    ensures sizes { OnOk result (SizesOf desk.new.notes desk.new.kept.timeline) }
+    ensures never { IsErrOf result ReadFault.Disk → ⊥ }
 {
-    match remade(alloc, desk, key, made) {
+    let remade = remade(alloc, desk, key, made, &fresh);
+    drop(fresh);
+    match remade {
         Ok(remade) => {
             desk.replace(remade);
+            desk.stands();
             Ok(true)
         }
-        Err(NoMemory) => Err(NoMemory),
+        Err(NoMemory) => Err(ReadFault::NoMemory),
     }
 }
 
-/// A cycle can't stand that is refused for more than want of memory.
-fn none_due(refused: CycleRefused) -> Result<bool, NoMemory>
+/// Puts what a cycle leaves in place.
+fn put_in_place(
+    alloc: Global,
+    desk: &mut Desk,
+    ask: CycleAsk,
+    made: Rewound,
+    place: Place,
+) -> Result<bool, ReadFault>
+    requires { IsFit desk.old.kept made }
+    ensures kept { IfOk result (λ stood. (stood ≡ true) × (desk.new.kept ≡ after_rewound desk.old.kept ask.key made)) }
+    ensures notes { (at : ℕ) → OnOk result (NotesCycle desk.old.kept.next at ask place desk.old.notes made.timeline desk.new.notes) }
+    ensures sizes { OnOk result (SizesOf desk.new.notes desk.new.kept.timeline) }
+    ensures never { IsErrOf result ReadFault.Disk → ⊥ }
+{
+    match fresh_of(alloc, desk.next(), &ask, place) {
+        Ok(fresh) => replace_with(alloc, desk, key_in(ask), made, fresh),
+        Err(NoMemory) => {
+            drop(ask);
+            drop(made);
+            Err(ReadFault::NoMemory)
+        }
+    }
+}
+
+/// A cycle can't stand that is refused for more than a read that failed, and want of memory.
+fn none_due(refused: CycleRefused) -> Result<bool, ReadFault>
     ensures none { IfOk result (λ stood. stood ≡ false) }
-    ensures why { OnOk result (refused ≡ CycleRefused.NoMemory → ⊥) }
+    ensures disk { IsErrOf result ReadFault.Disk → refused ≡ CycleRefused.Disk }
+    ensures no_memory { IsErrOf result ReadFault.NoMemory → refused ≡ CycleRefused.NoMemory }
+    ensures why { OnOk result ((refused ≡ CycleRefused.NoMemory → ⊥) × (refused ≡ CycleRefused.Disk → ⊥)) }
 {
     match refused {
         CycleRefused::Point { .. } => Ok(false),
         CycleRefused::Numbers { .. } => Ok(false),
-        CycleRefused::NoMemory => Err(NoMemory),
+        CycleRefused::Disk => Err(ReadFault::Disk),
+        CycleRefused::NoMemory => Err(ReadFault::NoMemory),
     }
 }
 
 /// Performs a cycle under a new key, where its point is known and numbers are left.
-fn rewind_anew(alloc: Global, desk: &mut Desk, at: u64, ask: CycleAsk) -> Result<bool, NoMemory>
+fn rewind_anew<D: Disk>(
+    alloc: Global,
+    disk: &mut D,
+    end: u64,
+    desk: &mut Desk,
+    at: u64,
+    ask: CycleAsk,
+    place: Place,
+) -> Result<bool, ReadFault>
     requires moment { at ≤ LAST_MOMENT }
     requires known { IsTrue (acts_name_known desk.old.kept.house ask.inserts) }
-    ensures { IfOk result (λ stood. Performs (after_due desk.old.kept ask (due_anew desk.old.kept at ask)) stood desk.new.kept) }
+    requires end { end < (D.told disk.old).size }
+    requires noted { NotedBefore end desk.old.notes desk.old.kept.timeline }
+    requires place { place.gate + 5 + place.length ≤ end }
+    requires long { place.length ≡ length (record_bytes (Cycle desk.old.kept.next at ask)) }
+    ensures performed { (payloads : List (List ℕ)) → TextsHeld (D.told disk.old) payloads desk.old.kept desk.old.notes
+        → IfOk result (λ stood. Performs (after_due desk.old.kept ask (due_anew desk.old.kept at ask)) stood desk.new.kept) }
+    ensures texts { (payloads : List (List ℕ)) → TextsHeld (D.told disk.old) payloads desk.old.kept desk.old.notes
+        → LiesAt payloads place.gate place.length (record_bytes (Cycle desk.old.kept.next at ask))
+        → IfOk result (λ stood. stood ≡ true → TextsLie payloads desk.new.notes desk.new.kept.timeline) }
+    ensures noted { IfOk result (λ stood. stood ≡ true → NotedBefore end desk.new.notes desk.new.kept.timeline) }
+    ensures reads { OnlyReads (D.told disk.old) (D.told disk.new) }
+    ensures cause { ReadAtCause (D.told disk.old) (D.told disk.new) result }
 {
-    match rewound_alone(alloc, desk, at, &ask) {
-        Ok(made) => put_in_place(alloc, desk, key_in(ask), made),
+    desk.stands();
+    match rewound_alone(alloc, disk, end, desk, at, &ask) {
+        Ok(made) => put_in_place(alloc, desk, ask, made, place),
         Err(refused) => {
             drop(ask);
             none_due(refused)
@@ -234,39 +358,84 @@ fn rewind_anew(alloc: Global, desk: &mut Desk, at: u64, ask: CycleAsk) -> Result
 }
 
 /// Performs a cycle, where it can stand: its number is the next, its users are known, its key is new, its point known, and
-/// numbers are left.
-fn rewind(
+/// numbers are left. Texts of deliveries are read where they lie.
+fn rewind<D: Disk>(
     alloc: Global,
+    disk: &mut D,
+    end: u64,
     desk: &mut Desk,
     number: u32,
     at: u64,
     ask: CycleAsk,
-) -> Result<bool, NoMemory>
-    requires { HasSpelling (Cycle number at ask) }
-    ensures { IfOk result (λ stood. Performs (after_cycle_record desk.old.kept number at ask) stood desk.new.kept) }
+    place: Place,
+) -> Result<bool, ReadFault>
+    requires spelled { HasSpelling (Cycle number at ask) }
+    requires end { end < (D.told disk.old).size }
+    requires noted { NotedBefore end desk.old.notes desk.old.kept.timeline }
+    requires place { place.gate + 5 + place.length ≤ end }
+    requires long { place.length ≡ length (record_bytes (Cycle number at ask)) }
+    ensures performed { (payloads : List (List ℕ)) → TextsHeld (D.told disk.old) payloads desk.old.kept desk.old.notes
+        → IfOk result (λ stood. Performs (after_cycle_record desk.old.kept number at ask) stood desk.new.kept) }
+    ensures texts { (payloads : List (List ℕ)) → TextsHeld (D.told disk.old) payloads desk.old.kept desk.old.notes
+        → LiesAt payloads place.gate place.length (record_bytes (Cycle number at ask))
+        → IfOk result (λ stood. stood ≡ true → TextsLie payloads desk.new.notes desk.new.kept.timeline) }
+    ensures noted { IfOk result (λ stood. stood ≡ true → NotedBefore end desk.new.notes desk.new.kept.timeline) }
+    ensures reads { OnlyReads (D.told disk.old) (D.told disk.new) }
+    ensures cause { ReadAtCause (D.told disk.old) (D.told disk.new) result }
 {
     spelled_cycles_have_moments();
     if !can_rewind(desk, number, &ask) || !is_new(desk, &ask.key) {
         drop(ask);
         return Ok(false);
     }
-    rewind_anew(alloc, desk, at, ask)
+    rewind_anew(alloc, disk, end, desk, at, ask, place)
 }
 
 // ---- the next record
 
-/// Performs a record behind others, where it can stand, and answers whether it can.
-pub(crate) fn follow(alloc: Global, desk: &mut Desk, what: JournalRecord) -> Result<bool, NoMemory>
-    requires { HasSpelling what }
-    ensures { IfOk result (λ stood. Performs (after_record desk.old.kept what) stood desk.new.kept) }
+/// What is told of one record that finds no memory.
+fn without_reads(stood: Result<bool, NoMemory>) -> Result<bool, ReadFault>
+    ensures same { IfOk result (λ b. stood ≡ Ok b) }
+    ensures never { IsErrOf result ReadFault.Disk → ⊥ }
 {
-    spelled_items_are_formed();
+    match stood {
+        Ok(stood) => Ok(stood),
+        Err(NoMemory) => Err(ReadFault::NoMemory),
+    }
+}
+
+/// Performs a record that lies at a place behind others, where it can stand, and answers whether it can. The texts that it
+/// has are noted.
+pub(crate) fn follow<D: Disk>(
+    alloc: Global,
+    disk: &mut D,
+    end: u64,
+    desk: &mut Desk,
+    what: JournalRecord,
+    place: Place,
+) -> Result<bool, ReadFault>
+    requires spelled { HasSpelling what }
+    requires end { end < (D.told disk.old).size }
+    requires noted { NotedBefore end desk.old.notes desk.old.kept.timeline }
+    requires place { place.gate + 5 + place.length ≤ end }
+    requires long { place.length ≡ length (record_bytes what) }
+    ensures performed { (payloads : List (List ℕ)) → TextsHeld (D.told disk.old) payloads desk.old.kept desk.old.notes
+        → IfOk result (λ stood. Performs (after_record desk.old.kept what) stood desk.new.kept) }
+    ensures texts { (payloads : List (List ℕ)) → TextsHeld (D.told disk.old) payloads desk.old.kept desk.old.notes
+        → LiesAt payloads place.gate place.length (record_bytes what)
+        → IfOk result (λ stood. stood ≡ true → TextsLie payloads desk.new.notes desk.new.kept.timeline) }
+    ensures noted { IfOk result (λ stood. stood ≡ true → NotedBefore end desk.new.notes desk.new.kept.timeline) }
+    ensures reads { OnlyReads (D.told disk.old) (D.told disk.new) }
+    ensures cause { ReadAtCause (D.told disk.old) (D.told disk.new) result }
+{
     match what {
-        JournalRecord::Verb(item) => enter(alloc, desk, item),
+        JournalRecord::Verb(item) => without_reads(enter_verb(alloc, desk, end, item, place)),
         JournalRecord::Operator { number, at, act } => {
-            enter(alloc, desk, item_of(number, at, act))
+            without_reads(enter_act(alloc, desk, end, number, at, act, place))
         }
-        JournalRecord::Cycle { number, at, ask } => rewind(alloc, desk, number, at, ask),
+        JournalRecord::Cycle { number, at, ask } => {
+            rewind(alloc, disk, end, desk, number, at, ask, place)
+        }
         JournalRecord::Format(house, conf) => {
             drop(house);
             drop(conf);

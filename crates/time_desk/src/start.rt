@@ -1,19 +1,23 @@
 //! A desk from the journal on a disk.
-ghost use Rattle.std.specs.Prelude.{◌≡◌, ◌<◌, ◌≤◌, ◌+◌, ◌++◌, ℕ, List, true, false, Some, None, Ok, Err, OnOk, IfOk, IfErr, length, drop, slice_get};
+ghost use Rattle.std.specs.Prelude.{◌≡◌, ◌<◌, ◌≤◌, ◌+◌, ◌++◌, ℕ, List, [], true, false, Some, None, Ok, Err, OnOk, IfOk, IfErr, length, drop, slice_get};
 ghost use Rattle.std.specs.List.{All};
 ghost use Rattle.undo_outside.specs.Moments.{OnlyReads};
 ghost use Rattle.verb_bytes.specs.declared.journal.JournalRecord.{JournalRecord as TheRecord};
-ghost use Rattle.verb_bytes.specs.Spelling.{HasSpelling, Spells};
+ghost use Rattle.verb_bytes.specs.Spelling.{HasSpelling, Spells, record_bytes};
 ghost use Rattle.seal_log.specs.Journal.{sealed, LiesAt};
 ghost use Rattle.seal_log.specs.Loading.{places_from};
 ghost use Rattle.seal_log.specs.Loads.{IsSurveyed};
 ghost use Rattle.seal_log.specs.Log.{end_gate, is_cut, last_gate, leaves_open};
 ghost use Rattle.seal_log.specs.Settled.{Holds};
+ghost use Rattle.paradox.specs.Kept.{Kept};
+ghost use Rattle.time_desk.specs.Permanence.{RevsBelow};
 ghost use Rattle.time_desk.specs.Opening.{IsStarted, Refuses, Starts};
 ghost use Rattle.time_desk.specs.Records.{after_record, first_state};
-ghost use Rattle.time_desk.specs.Standing.{BreaksFor, Fails, FailsPayload, LeadsTo, Performed, ReadCounts, SpellsAll, SpellsNothing, StopsFor};
+ghost use Rattle.time_desk.specs.Standing.{BreaksFor, Fails, FailsPayload, FailsReading, LeadsTo, Performed, ReadCounts, SpellsAll, SpellsNothing, StopsFor};
+ghost use Rattle.time_desk.specs.Stored.{HoldsTexts, NotedBefore, SettledTexts, TextsHeld};
 
 use crate::on_disk::Journal;
+use crate::permanence::records_let_uids_last;
 use crate::standing::{begin, follow};
 use crate::{Desk, StartFault};
 use seal_log::{End, LoadFault, Log, Place, ReadFault, Survey, read_before, survey};
@@ -38,6 +42,19 @@ fn decoded(alloc: Global, payload: &Text, gate: u64) -> Result<JournalRecord, St
     }
 }
 
+/// The record that the payload of a place spells, of the place's length. On no disk has it another, so none is told of.
+fn decoded_at(alloc: Global, payload: &Text, place: Place) -> Result<JournalRecord, StartFault>
+    ensures spelled { IfOk result HasSpelling }
+    ensures long { IfOk result (λ what. place.length ≡ length (record_bytes what)) }
+    ensures read { IfOk result (λ what. Spells what payload.now) }
+    ensures bad { IfErr result (Fails ((what : TheRecord) → Spells what payload.now → ⊥) place.gate) }
+{
+    if payload.bytes().len() as u32 != place.length {
+        return Err(StartFault::NoMemory);
+    }
+    decoded(alloc, payload, place.gate)
+}
+
 /// The record at a place.
 fn record_at<D: Disk>(
     alloc: Global,
@@ -48,6 +65,7 @@ fn record_at<D: Disk>(
     requires end { end < (D.told disk.old).size }
     requires place { place.gate + 5 + place.length ≤ end }
     ensures spelled { IfOk result HasSpelling }
+    ensures long { IfOk result (λ what. place.length ≡ length (record_bytes what)) }
     ensures read { (payloads : List (List ℕ)) (payload : List ℕ) → Holds (D.told disk.old) payloads
         → LiesAt payloads place.gate place.length payload → IfOk result (λ what. Spells what payload) }
     ensures bad { (payloads : List (List ℕ)) (payload : List ℕ) → Holds (D.told disk.old) payloads
@@ -57,7 +75,7 @@ fn record_at<D: Disk>(
     ensures fault { IfErr result (ReadCounts (D.told disk.old) (D.told disk.new)) }
 {
     match read_before(alloc, disk, end, place, 0, place.length) {
-        Ok(payload) => decoded(alloc, &payload, place.gate),
+        Ok(payload) => decoded_at(alloc, &payload, place),
         Err(ReadFault::Disk) => Err(StartFault::Disk),
         Err(ReadFault::NoMemory) => Err(StartFault::NoMemory),
     }
@@ -67,6 +85,7 @@ fn record_at<D: Disk>(
 fn begun(alloc: Global, what: JournalRecord, gate: u64) -> Result<mail_desk::Desk, StartFault>
     requires { HasSpelling what }
     ensures first { IfOk result (λ desk. first_state what ≡ Some desk.kept) }
+    ensures none { IfOk result (λ desk. desk.kept.timeline ≡ []) }
     ensures bad { IfErr result (Fails (first_state what ≡ None) gate) }
 {
     match begin(alloc, what) {
@@ -87,6 +106,7 @@ fn begin_at<D: Disk>(
     requires place { place.gate + 5 + place.length ≤ end }
     ensures performed { (payloads : List (List ℕ)) (payload : List ℕ) → Holds (D.told disk.old) payloads
         → LiesAt payloads place.gate place.length payload → IfOk result (λ desk. Performed first_state payload desk.kept) }
+    ensures none { IfOk result (λ desk. desk.kept.timeline ≡ []) }
     ensures bad { (payloads : List (List ℕ)) (payload : List ℕ) → Holds (D.told disk.old) payloads
         → LiesAt payloads place.gate place.length payload → IfErr result (FailsPayload first_state payload place.gate) }
     ensures reads { OnlyReads (D.told disk.old) (D.told disk.new) }
@@ -100,25 +120,50 @@ fn begin_at<D: Disk>(
     }
 }
 
+/// Revs stay below the next number when records are performed.
+fn revs_stay(desk: &mail_desk::Desk)
+    ensures { (what : TheRecord) (next : Kept) → RevsBelow desk.now.kept → after_record desk.now.kept what ≡ Some next → RevsBelow next }
+{
+    desk.stands();
+    records_let_uids_last();
+}
+
 /// Performs a record; where it can't stand its gate is told.
-fn performed(
+fn performed<D: Disk>(
     alloc: Global,
+    disk: &mut D,
+    end: u64,
     desk: &mut mail_desk::Desk,
     what: JournalRecord,
-    gate: u64,
+    place: Place,
 ) -> Result<(), StartFault>
-    requires { HasSpelling what }
-    ensures next { OnOk result (after_record desk.old.kept what ≡ Some desk.new.kept) }
-    ensures bad { IfErr result (Fails (after_record desk.old.kept what ≡ None) gate) }
+    requires spelled { HasSpelling what }
+    requires end { end < (D.told disk.old).size }
+    requires noted { NotedBefore end desk.old.notes desk.old.kept.timeline }
+    requires place { place.gate + 5 + place.length ≤ end }
+    requires long { place.length ≡ length (record_bytes what) }
+    ensures next { (payloads : List (List ℕ)) → TextsHeld (D.told disk.old) payloads desk.old.kept desk.old.notes
+        → OnOk result (after_record desk.old.kept what ≡ Some desk.new.kept) }
+    ensures bad { (payloads : List (List ℕ)) → TextsHeld (D.told disk.old) payloads desk.old.kept desk.old.notes
+        → IfErr result (FailsReading (after_record desk.old.kept what ≡ None) place.gate) }
+    ensures texts { (payloads : List (List ℕ)) → TextsHeld (D.told disk.old) payloads desk.old.kept desk.old.notes
+        → LiesAt payloads place.gate place.length (record_bytes what)
+        → OnOk result (TextsHeld (D.told disk.new) payloads desk.new.kept desk.new.notes) }
+    ensures noted { OnOk result (NotedBefore end desk.new.notes desk.new.kept.timeline) }
+    ensures reads { OnlyReads (D.told disk.old) (D.told disk.new) }
+    ensures ok { OnOk result ((D.told disk.new).failed_reads ≡ (D.told disk.old).failed_reads) }
+    ensures fault { IfErr result (ReadCounts (D.told disk.old) (D.told disk.new)) }
 {
-    match follow(alloc, desk, what) {
+    revs_stay(desk);
+    match follow(alloc, disk, end, desk, what, place) {
         Ok(stood) => {
             if stood {
                 return Ok(());
             }
-            Err(StartFault::Damaged { place: gate })
+            Err(StartFault::Damaged { place: place.gate })
         }
-        Err(NoMemory) => Err(StartFault::NoMemory),
+        Err(ReadFault::Disk) => Err(StartFault::Disk),
+        Err(ReadFault::NoMemory) => Err(StartFault::NoMemory),
     }
 }
 
@@ -131,20 +176,25 @@ fn perform_at<D: Disk>(
     desk: &mut mail_desk::Desk,
 ) -> Result<(), StartFault>
     requires end { end < (D.told disk.old).size }
+    requires noted { NotedBefore end desk.old.notes desk.old.kept.timeline }
     requires place { place.gate + 5 + place.length ≤ end }
-    ensures performed { (payloads : List (List ℕ)) (payload : List ℕ) → Holds (D.told disk.old) payloads
+    ensures performed { (payloads : List (List ℕ)) (payload : List ℕ) → TextsHeld (D.told disk.old) payloads desk.old.kept desk.old.notes
         → LiesAt payloads place.gate place.length payload
         → OnOk result (Performed (after_record desk.old.kept) payload desk.new.kept) }
-    ensures bad { (payloads : List (List ℕ)) (payload : List ℕ) → Holds (D.told disk.old) payloads
+    ensures bad { (payloads : List (List ℕ)) (payload : List ℕ) → TextsHeld (D.told disk.old) payloads desk.old.kept desk.old.notes
         → LiesAt payloads place.gate place.length payload
         → IfErr result (FailsPayload (after_record desk.old.kept) payload place.gate) }
+    ensures texts { (payloads : List (List ℕ)) (payload : List ℕ) → TextsHeld (D.told disk.old) payloads desk.old.kept desk.old.notes
+        → LiesAt payloads place.gate place.length payload
+        → OnOk result (TextsHeld (D.told disk.new) payloads desk.new.kept desk.new.notes) }
+    ensures noted { OnOk result (NotedBefore end desk.new.notes desk.new.kept.timeline) }
     ensures reads { OnlyReads (D.told disk.old) (D.told disk.new) }
     ensures ok { OnOk result ((D.told disk.new).failed_reads ≡ (D.told disk.old).failed_reads) }
     ensures fault { IfErr result (ReadCounts (D.told disk.old) (D.told disk.new)) }
 {
     one_spelling();
     match record_at(alloc, disk, end, place) {
-        Ok(what) => performed(alloc, desk, what, place.gate),
+        Ok(what) => performed(alloc, disk, end, desk, what, place),
         Err(fault) => Err(fault),
     }
 }
@@ -161,9 +211,14 @@ fn perform_all<D: Disk>(
 ) -> Result<(), StartFault>
     requires end { end < (D.told disk.old).size }
     requires places { All (λ place. place.gate + 5 + place.length ≤ end) places.now }
-    ensures performed { (before payloads : List (List ℕ)) → Holds (D.told disk.old) (before ++ payloads)
+    requires noted { NotedBefore end desk.old.notes desk.old.kept.timeline }
+    ensures performed { (before payloads : List (List ℕ)) → TextsHeld (D.told disk.old) (before ++ payloads) desk.old.kept desk.old.notes
         → places.now ≡ places_from (length (sealed before)) payloads → OnOk result (LeadsTo desk.old.kept payloads desk.new.kept) }
-    ensures bad { (before payloads : List (List ℕ)) → Holds (D.told disk.old) (before ++ payloads)
+    ensures texts { (before payloads : List (List ℕ)) → TextsHeld (D.told disk.old) (before ++ payloads) desk.old.kept desk.old.notes
+        → places.now ≡ places_from (length (sealed before)) payloads
+        → OnOk result (TextsHeld (D.told disk.new) (before ++ payloads) desk.new.kept desk.new.notes) }
+    ensures noted { OnOk result (NotedBefore end desk.new.notes desk.new.kept.timeline) }
+    ensures bad { (before payloads : List (List ℕ)) → TextsHeld (D.told disk.old) (before ++ payloads) desk.old.kept desk.old.notes
         → places.now ≡ places_from (length (sealed before)) payloads
         → IfErr result (StopsFor desk.old.kept (length (sealed before)) payloads) }
     ensures reads { OnlyReads (D.told disk.old) (D.told disk.new) }
@@ -189,9 +244,14 @@ fn followed_by<D: Disk>(
 ) -> Result<mail_desk::Desk, StartFault>
     requires end { end < (D.told disk.old).size }
     requires places { All (λ place. place.gate + 5 + place.length ≤ end) places.now }
-    ensures performed { (before payloads : List (List ℕ)) → Holds (D.told disk.old) (before ++ payloads)
+    requires noted { NotedBefore end desk.notes desk.kept.timeline }
+    ensures performed { (before payloads : List (List ℕ)) → TextsHeld (D.told disk.old) (before ++ payloads) desk.kept desk.notes
         → places.now ≡ places_from (length (sealed before)) payloads → IfOk result (λ led. LeadsTo desk.kept payloads led.kept) }
-    ensures bad { (before payloads : List (List ℕ)) → Holds (D.told disk.old) (before ++ payloads)
+    ensures texts { (before payloads : List (List ℕ)) → TextsHeld (D.told disk.old) (before ++ payloads) desk.kept desk.notes
+        → places.now ≡ places_from (length (sealed before)) payloads
+        → IfOk result (λ led. TextsHeld (D.told disk.new) (before ++ payloads) led.kept led.notes) }
+    ensures noted { IfOk result (λ led. NotedBefore end led.notes led.kept.timeline) }
+    ensures bad { (before payloads : List (List ℕ)) → TextsHeld (D.told disk.old) (before ++ payloads) desk.kept desk.notes
         → places.now ≡ places_from (length (sealed before)) payloads
         → IfErr result (StopsFor desk.kept (length (sealed before)) payloads) }
     ensures reads { OnlyReads (D.told disk.old) (D.told disk.new) }
@@ -234,6 +294,9 @@ fn read_all<D: Disk>(
     requires places { All (λ place. place.gate + 5 + place.length ≤ end) places.now }
     ensures read { (payloads : List (List ℕ)) → Holds (D.told disk.old) payloads → places.now ≡ places_from 0 payloads
         → IfOk result (λ desk. SpellsAll payloads desk.kept) }
+    ensures texts { (payloads : List (List ℕ)) → Holds (D.told disk.old) payloads → places.now ≡ places_from 0 payloads
+        → IfOk result (λ desk. TextsHeld (D.told disk.new) payloads desk.kept desk.notes) }
+    ensures noted { IfOk result (λ desk. NotedBefore end desk.notes desk.kept.timeline) }
     ensures bad { (payloads : List (List ℕ)) → Holds (D.told disk.old) payloads → places.now ≡ places_from 0 payloads
         → IfErr result (BreaksFor payloads) }
     ensures reads { OnlyReads (D.told disk.old) (D.told disk.new) }
@@ -286,6 +349,9 @@ fn opened_from<D: Disk>(
     requires open { leaves_open seen.end ≡ true }
     ensures found { (image : List ℕ) → IsSurveyed image (D.told disk.old) (end_gate seen.end) seen.places (is_cut seen.end)
         → IfOk result (λ parts. IsStarted image (D.told disk.new) parts.1.kept (last_gate parts.0)) }
+    ensures texts { (image : List ℕ) → IsSurveyed image (D.told disk.old) (end_gate seen.end) seen.places (is_cut seen.end)
+        → IfOk result (λ parts. SettledTexts (D.told disk.new) (last_gate parts.0) parts.1.kept parts.1.notes) }
+    ensures noted { IfOk result (λ parts. NotedBefore (last_gate parts.0) parts.1.notes parts.1.kept.timeline) }
     ensures bad { (image : List ℕ) → IsSurveyed image (D.told disk.old) (end_gate seen.end) seen.places (is_cut seen.end)
         → IfErr result (Refuses image) }
     ensures reads { OnlyReads (D.told disk.old) (D.told disk.new) }
@@ -310,6 +376,9 @@ fn opened_from<D: Disk>(
 /// The end of the journal on a disk, and the desk that its records leave.
 fn opened<D: Disk>(alloc: Global, disk: &mut D) -> Result<(Log, mail_desk::Desk), StartFault>
     ensures started { IfOk result (λ parts. Starts (D.told disk.old) (D.told disk.new) (Ok (parts.1.kept, last_gate parts.0))) }
+    ensures texts { (D.told disk.old).honest
+        → IfOk result (λ parts. SettledTexts (D.told disk.new) (last_gate parts.0) parts.1.kept parts.1.notes) }
+    ensures noted { IfOk result (λ parts. NotedBefore (last_gate parts.0) parts.1.notes parts.1.kept.timeline) }
     ensures refused { IfErr result (λ fault. Starts (D.told disk.old) (D.told disk.new) (Err fault)) }
     ensures open { IfOk result (λ parts. parts.0.closed ≡ false) }
     ensures within { IfOk result (λ parts. last_gate parts.0 < (D.told disk.new).size) }
@@ -327,6 +396,7 @@ impl<D: Disk> Desk<D> {
     /// The desk that the journal on a disk leaves. It writes nothing, and a refusal hands the disk back.
     pub fn start(alloc: Global, disk: D) -> Result<Desk<D>, (D, StartFault)>
         ensures started { IfOk result (λ desk. Starts (D.told disk) (D.told desk.disk) (Ok (desk.kept, desk.gate))) }
+        ensures texts { (D.told disk).honest → IfOk result (HoldsTexts D.told) }
         ensures refused { IfErr result (λ refused. Starts (D.told disk) (D.told refused.0) (Err refused.1)) }
         ensures open { IfOk result (λ desk. desk.closed ≡ false) }
     {

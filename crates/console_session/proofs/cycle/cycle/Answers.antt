@@ -4,4 +4,4 @@ use Rattle.console_session.proofs.cycle.cycle.Goals as goal
 
 pub returns-in-Some : goal.returns-in-Some
 returns-in-Some g c =
-    cycle_known g.D.Disk.told c.seals_join.ensures.nothing c.args.at c.args.ask c.in-Some.report.now c.args.desk.now c.tell_report.result (sym c.in-Some.ensures) c.tell_report.ensures
+    cycle_known g.D.Disk.told c.seals_join.ensures.still g.met.D.Disk.tells_truth c.args.at c.args.ask c.in-Some.report.now c.args.desk.now c.tell_report.result (sym c.in-Some.ensures) c.tell_report.ensures

@@ -1,9 +1,9 @@
-use Rattle.std.proofs.Common.{subst}
+use Rattle.std.proofs.Common.{Bool, subst}
 use Rattle.verb_core.specs.declared.conf.House.{House}
 use Rattle.console_replies.specs.Reports.{report_data}
 use Rattle.console_session.specs.declared.reply.After.TheVariants.{Rewinds}
 use Rattle.console_session.specs.Answers.{answer}
-use Rattle.console_session.specs.Hearing.{TellsOnly}
+use Rattle.console_session.specs.Hearing.{TellsCycleFault, TellsOnly}
 use Rattle.console_session.proofs.Turns.{cycle_done, cycle_not_done}
 use Rattle.console_session.proofs.cycle.rewind.Goals as goal
 
@@ -15,4 +15,5 @@ returns-in-Ok g c =
 
 pub returns-in-Err : goal.returns-in-Err
 returns-in-Err g c =
-    cycle_not_done g.D.Disk.told c.seals_join.ensures.nothing c.args.at c.args.ask c.args.desk.now c.rewind_desk.new.desk c.in-Err.fault c.tell_fault.result c.in-Err.ensures.why c.tell_fault.ensures
+    cycle_not_done g.D.Disk.told c.seals_join.ensures.still g.met.D.Disk.tells_truth c.args.at c.args.ask c.args.desk.now c.rewind_desk.new.desk c.in-Err.fault c.tell_fault.result c.in-Err.ensures.why
+    (subst (λ (b : Bool). TellsCycleFault b c.in-Err.fault c.tell_fault.result) c.closed.ensures c.tell_fault.ensures)

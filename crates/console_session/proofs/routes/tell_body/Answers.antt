@@ -1,26 +1,31 @@
 use Rattle.std.proofs.Common.{◌≡◌, Option, Some, sym, subst}
-use Rattle.std.specs.Prelude.{IfOk, IsTrue}
+use Rattle.std.specs.Prelude.{IsTrue}
 use Rattle.serde_json.specs.Data.{Data}
-use Rattle.serde_json.specs.Written.{compact_text}
 use Rattle.console_replies.specs.Bodies.{body_data}
 use Rattle.verb_core.specs.declared.mailbox.Body.{Body}
 use Rattle.verb_core.specs.Items.{text_of}
 use Rattle.mail_desk.specs.Timeline.{has_text}
-use Rattle.console_session.specs.Answers.{found}
-use Rattle.console_session.specs.Hearing.{Tells}
-use Rattle.console_session.specs.declared.reply.After.TheVariants as after
-use Rattle.console_session.proofs.Texts.{has_one, there}
+use Rattle.console_session.specs.Answers.{answer, found}
+use Rattle.console_session.specs.Hearing.{TellsFound, TellsRead}
+use Rattle.console_session.proofs.Texts.{has_one, none_there, there}
 use Rattle.console_session.proofs.routes.tell_body.Goals as goal
 
-pub body_text-body-requires : goal.body_text-body-requires
-body_text-body-requires g c =
+pub tell_text-requires : goal.tell_text-requires
+tell_text-requires g c =
     let t = c.args.desk.now.kept.timeline in
     subst (λ (b : Body). IsTrue (has_text t b)) (sym c.body_of.ensures) (has_one t c.args.number c.in-Some.rev (sym c.in-Some.ensures))
 
-pub returns-in-Some : goal.returns-in-Some
-returns-in-Some g c =
-    let t = c.args.desk.now.kept.timeline in
-    let it = there t c.args.number c.in-Some.rev (sym c.in-Some.ensures) in
-    let text_is = subst (λ (b : Body). text_of t b ≡ Some it.text) (sym c.body_of.ensures) it.text_is in
-    let told = subst (λ (b : Body). IfOk c.body_text-body.result (λ text. text ≡ compact_text (body_data it.text b.rev))) c.body_of.ensures (c.body_text-body.ensures it.text text_is) in
-    subst (λ (o : Option Data). Tells (found o) after.Closes c.tell.result) (sym it.found) (c.tell.ensures (body_data it.text c.in-Some.rev) told)
+pub returns-in-Some-clause-told : goal.returns-in-Some-clause-told
+returns-in-Some-clause-told g c =
+    let old = c.args.desk.now in
+    let new = c.tell_text.new.desk in
+    let r = c.tell_text.result in
+    let it = there old.kept.timeline c.args.number c.in-Some.rev (sym c.in-Some.ensures) in
+    let text_is = subst (λ (b : Body). text_of old.kept.timeline b ≡ Some it.text) (sym c.body_of.ensures) it.text_is in
+    let told = subst (λ (b : Body). TellsRead g.D.Disk.told (answer 200 (body_data it.text b.rev)) old new r) c.body_of.ensures (c.tell_text.ensures.told it.text text_is) in
+    subst (λ (o : Option Data). TellsFound g.D.Disk.told o (found o) old new r) (sym it.found) told
+
+pub returns-in-None-clause-told : goal.returns-in-None-clause-told
+returns-in-None-clause-told g c =
+    let old = c.args.desk.now in
+    subst (λ (o : Option Data). TellsFound g.D.Disk.told o (found o) old old c.tell_none.result) (sym (none_there old.kept.timeline c.args.number (sym c.in-None.ensures))) c.tell_none.ensures

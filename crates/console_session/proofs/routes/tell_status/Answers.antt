@@ -1,4 +1,4 @@
-use Rattle.std.proofs.Common.{◌≡◌, ◌∙◌, List, ℕ, IfOk, ap, subst}
+use Rattle.std.proofs.Common.{◌≡◌, ◌∙◌, IfOk, ap, subst}
 use Rattle.serde_json.specs.Written.{compact_text}
 use Rattle.mail_desk.specs.Counting.{counts_of}
 use Rattle.console_replies.specs.declared.bodies.Counts.{Counts}

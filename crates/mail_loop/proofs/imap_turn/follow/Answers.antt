@@ -1,12 +1,13 @@
 use Rattle.std.proofs.Common.{refl, ap}
 use Rattle.imap_session.specs.declared.dialog.Dialog.{Dialog}
 use Rattle.imap_session.specs.declared.out.ImapOut.{ImapOut}
+use Rattle.imap_session.specs.declared.out.ImapOut.TheVariants.{Read, Submit}
 use Rattle.mail_loop.specs.Asked.{HaveSealed}
 use Rattle.mail_loop.specs.SmtpTurn.{Turn}
 use Rattle.mail_loop.specs.Hindrance.{Hindrance}
 use Rattle.mail_loop.specs.ImapTurn.{service, followed}
-use Rattle.mail_loop.specs.ImapTook.{under}
-use Rattle.mail_loop.proofs.ImapTurns.{bye_turn, said_turn}
+use Rattle.mail_loop.specs.ImapHindrance.{under}
+use Rattle.mail_loop.proofs.ImapTurns.{bye_turn, out_turn, said_turn}
 use Rattle.mail_loop.proofs.Sealed.{unsealed}
 use Rattle.mail_loop.proofs.Turns.{lifted_turn}
 use Rattle.mail_loop.proofs.imap_turn.follow.Goals as goal
@@ -32,3 +33,15 @@ returns-in-Bye-clause-turn g c =
     lifted_turn (HaveSealed g.D.Disk.told desk desk) f old desk.kept d new (unsealed g.D.Disk.told c.seals_join.ensures.nothing desk)
     (bye_turn c.in-Bye.text c.bytes-in-Bye.result.now desk.kept d old new f c.bytes-in-Bye.ensures.value
     (ap (λ (o : ImapOut). followed (service c.args.at desk.kept) desk.kept o d) c.in-Bye.is) refl c.say-in-Bye.ensures)
+
+pub returns-in-Read-clause-turn : goal.returns-in-Read-clause-turn
+returns-in-Read-clause-turn g c =
+    let desk = c.args.desk.now in
+    let new = c.read.new in
+    out_turn (HaveSealed g.D.Disk.told desk new.desk) c.args.at desk.kept new.desk.kept c.args.out (Read c.in-Read.bodies) c.args.session.now new.session c.args.reply.now new.reply c.in-Read.is c.read.ensures.turn
+
+pub returns-in-Submit-clause-turn : goal.returns-in-Submit-clause-turn
+returns-in-Submit-clause-turn g c =
+    let desk = c.args.desk.now in
+    let new = c.submit.new in
+    out_turn (HaveSealed g.D.Disk.told desk new.desk) c.args.at desk.kept new.desk.kept c.args.out (Submit c.in-Submit.ask) c.args.session.now new.session c.args.reply.now new.reply c.in-Submit.is c.submit.ensures.turn

@@ -1,18 +1,20 @@
-use Rattle.imap_session.specs.declared.out.ImapOut.TheVariants.{Read}
-use Rattle.mail_loop.specs.Asked.{HaveSealed}
-use Rattle.mail_loop.specs.Hindrance.{Hindrance}
-use Rattle.mail_loop.specs.ImapTurn.{followed}
-use Rattle.mail_loop.specs.ImapTook.{under}
-use Rattle.mail_loop.proofs.ImapTurns.{none_turn}
-use Rattle.mail_loop.proofs.Sealed.{unsealed}
-use Rattle.mail_loop.proofs.Turns.{lifted_turn}
+use Rattle.std.proofs.Common.{◌≡◌, List, Err, ap, subst}
+use Rattle.verb_core.specs.declared.mailbox.Body.{Body}
+use Rattle.mail_desk.specs.Timeline.{texts_of}
+use Rattle.time_desk.specs.Stored.{HoldsTexts}
+use Rattle.mail_loop.proofs.TextsRead.{texts_given, texts_unread}
 use Rattle.mail_loop.proofs.imap_turn.read.Goals as goal
+
+pub returns-in-Ok-clause-turn : goal.returns-in-Ok-clause-turn
+returns-in-Ok-clause-turn g c =
+    let join = c.seals_join.ensures in
+    texts_given g.D.Disk.told join.still join.then c.args.at c.args.desk.now c.texts.new.self c.take_texts.new.desk c.args.bodies.now c.in-Ok.texts c.args.session.now c.take_texts.new.session
+    c.args.reply.now c.take_texts.new.reply c.requires.reading c.texts.ensures.still
+    (subst (λ (bodies : List Body). HoldsTexts g.D.Disk.told c.args.desk.now → c.in-Ok.texts ≡ texts_of c.args.desk.now.kept.timeline bodies) c.as_slice.ensures c.in-Ok.ensures.texts)
+    c.take_texts.ensures.turn
 
 pub returns-in-Err-clause-turn : goal.returns-in-Err-clause-turn
 returns-in-Err-clause-turn g c =
-    let desk = c.args.desk.now in
-    let d = c.args.session.now in
     let new = c.read_none.new in
-    lifted_turn (HaveSealed g.D.Disk.told desk desk) (λ (h : Hindrance). under h c.args.at desk.kept (λ service. followed service desk.kept (Read c.args.bodies.now) d)) c.args.reply.now desk.kept
-    new.session new.reply (unsealed g.D.Disk.told c.seals_join.ensures.nothing desk)
-    (none_turn c.args.at desk.kept c.args.bodies.now d new.session c.args.reply.now new.reply c.requires.reading (c.read_none.ensures.read desk.kept))
+    texts_unread g.D.Disk.told c.seals_join.ensures.still c.args.at c.args.desk.now c.texts.new.self c.args.bodies.now c.in-Err.why c.args.session.now new.session
+    c.args.reply.now new.reply c.requires.reading c.texts.ensures.still (λ e. c.in-Err.ensures.cause.disk (ap Err e)) (c.read_none.ensures.read c.texts.new.self.kept)

@@ -3,4 +3,4 @@ use Rattle.mail_loop.proofs.imap_turn.read_none.Goals as goal
 
 pub returns-in-Ok-clause-read : goal.returns-in-Ok-clause-read
 returns-in-Ok-clause-read c kept =
-    read_not kept c.args.session.now c.read.new.self c.in-Ok.out c.args.reply.now c.tell_all.new.reply c.requires.stays c.in-Ok.ensures.ok c.tell_all.ensures
+    read_not c.args.why kept c.args.session.now c.read.new.self c.in-Ok.out c.args.reply.now c.tell_all.new.reply c.requires.stays c.in-Ok.ensures.ok c.tell_all.ensures

@@ -8,7 +8,7 @@ use Rattle.mail_loop.specs.Hindrance.{Hindrance, Clear}
 use Rattle.mail_loop.specs.ImapTurn.{turn}
 use Rattle.mail_loop.specs.ImapHindrance.{imap_hindered}
 use Rattle.mail_loop.specs.Took.{IsNone, Takes}
-use Rattle.mail_loop.proofs.ImapTurns.{answered_turn, said_turn}
+use Rattle.mail_loop.proofs.ImapTurns.{answered_turn, raw_turn, said_turn}
 use Rattle.mail_loop.proofs.Sealed.{unsealed}
 use Rattle.mail_loop.proofs.Turns.{lifted_turn, told_nothing}
 use Rattle.mail_loop.proofs.imap_turn.take_next.Goals as goal
@@ -44,3 +44,9 @@ returns-in-NotYet-clause-turn g c =
       Clear,
       subst (λ (n : Next). Takes IsNone (turn c.args.at desk.kept d n) reply desk.kept d reply) (sym c.in-NotYet.is) (told_nothing desk.kept d reply reply c.requires.stays refl),
     )
+
+pub returns-in-Command-clause-turn : goal.returns-in-Command-clause-turn
+returns-in-Command-clause-turn g c =
+    let desk = c.args.desk.now in
+    let new = c.take_raw.new in
+    raw_turn (HaveSealed g.D.Disk.told desk new.desk) c.args.at desk.kept new.desk.kept c.args.next c.in-Command.raw c.args.session.now new.session c.args.reply.now new.reply c.in-Command.is c.take_raw.ensures.turn

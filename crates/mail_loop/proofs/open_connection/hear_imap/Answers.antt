@@ -3,6 +3,7 @@ use Rattle.imap_stream.specs.Commands.{Heard}
 use Rattle.mail_loop.specs.State.{Imap, State}
 use Rattle.mail_loop.specs.Turns.{hears_commands, hears_seat}
 use Rattle.mail_loop.specs.Took.{Tells}
+use Rattle.time_desk.specs.Reading.{none_read}
 use Rattle.mail_loop.specs.Asked.{HaveSealed}
 use Rattle.mail_loop.proofs.Sealed.{unsealed}
 use Rattle.mail_loop.proofs.Stretch.{going, heard_alone, unfed_alone}
@@ -16,9 +17,9 @@ returns-in-Ok-clause-heard g c seats =
     let kept = c.args.desk.now.kept in
     let s : State = record { kept = kept; seats = seats } in
     going (HaveSealed g.D.Disk.told c.args.desk.now new.desk) c.args.at kept seats c.args.conn (Imap c.args.stream.now d) c.args.bytes.now c.serve_commands.result c.going_on.result new.desk.kept
-    (Imap new.stream new.dialog) c.going_on.ensures false t.0 (Ok None) t.1 t.2
-    (heard_alone (hears_seat t.0 (Ok None) c.args.at s (Imap c.args.stream.now d) c.args.bytes.now) seats c.args.conn c.serve_commands.result new.desk.kept t.1 (Imap new.stream new.dialog)
-    (subst (λ (stream : Heard). Tells (hears_commands t.0 c.args.at s d stream) seats c.args.conn c.serve_commands.result new.desk.kept t.1 (Imap new.stream new.dialog)) c.in-Ok.ensures.ok t.3))
+    (Imap new.stream new.dialog) c.going_on.ensures false t.0 (Ok None) t.1 t.2 t.3
+    (heard_alone (hears_seat t.0 (Ok None) c.args.at s (Imap c.args.stream.now d) c.args.bytes.now) seats c.args.conn c.serve_commands.result new.desk.kept t.1 t.2 (Imap new.stream new.dialog)
+    (subst (λ (stream : Heard). Tells (hears_commands t.0 c.args.at s d stream) seats c.args.conn c.serve_commands.result new.desk.kept t.1 t.2 (Imap new.stream new.dialog)) c.in-Ok.ensures.ok t.4))
 
 pub returns-in-Err-clause-heard : goal.returns-in-Err-clause-heard
 returns-in-Err-clause-heard g c seats =
@@ -26,5 +27,5 @@ returns-in-Err-clause-heard g c seats =
     let seat = Imap c.args.stream.now c.args.dialog.now in
     let seat' = Imap c.feed.new.self c.args.dialog.now in
     going (HaveSealed g.D.Disk.told c.args.desk.now c.args.desk.now) c.args.at kept seats c.args.conn seat c.args.bytes.now c.empty_reply.result c.going_on-in-Err.result kept seat'
-    c.going_on-in-Err.ensures true [] (Ok None) [] (unsealed g.D.Disk.told c.seals_join.ensures.nothing c.args.desk.now)
+    c.going_on-in-Err.ensures true [] (Ok None) [] none_read (unsealed g.D.Disk.told c.seals_join.ensures.nothing c.args.desk.now)
     (unfed_alone [] (Ok None) c.args.at kept seats c.args.conn seat seat' c.args.bytes.now c.empty_reply.result c.empty_reply.ensures)

@@ -2,6 +2,7 @@ use Rattle.std.proofs.Common.{List, None, Ok, [], false, subst, true, ℕ}
 use Rattle.mail_loop.specs.State.{Smtp, State}
 use Rattle.mail_loop.specs.Turns.{hears_lines, hears_seat}
 use Rattle.mail_loop.specs.Took.{Tells}
+use Rattle.time_desk.specs.Reading.{none_read}
 use Rattle.mail_loop.specs.Asked.{HaveSealed}
 use Rattle.mail_loop.proofs.Sealed.{unsealed}
 use Rattle.mail_loop.proofs.Stretch.{going, heard_alone, unfed_alone}
@@ -15,9 +16,9 @@ returns-in-Ok-clause-heard g c seats =
     let kept = c.args.desk.now.kept in
     let s : State = record { kept = kept; seats = seats } in
     going (HaveSealed g.D.Disk.told c.args.desk.now new.desk) c.args.at kept seats c.args.conn (Smtp c.args.unserved.now d) c.args.bytes.now c.serve_lines.result c.going_on.result new.desk.kept
-    (Smtp new.unserved new.dialog) c.going_on.ensures false t.0 (Ok None) t.1 t.2
-    (heard_alone (hears_seat t.0 (Ok None) c.args.at s (Smtp c.args.unserved.now d) c.args.bytes.now) seats c.args.conn c.serve_lines.result new.desk.kept t.1 (Smtp new.unserved new.dialog)
-    (subst (λ (stream : List ℕ). Tells (hears_lines t.0 c.args.at s d stream) seats c.args.conn c.serve_lines.result new.desk.kept t.1 (Smtp new.unserved new.dialog)) c.in-Ok.ensures.ok t.3))
+    (Smtp new.unserved new.dialog) c.going_on.ensures false t.0 (Ok None) t.1 t.2 t.3
+    (heard_alone (hears_seat t.0 (Ok None) c.args.at s (Smtp c.args.unserved.now d) c.args.bytes.now) seats c.args.conn c.serve_lines.result new.desk.kept t.1 t.2 (Smtp new.unserved new.dialog)
+    (subst (λ (stream : List ℕ). Tells (hears_lines t.0 c.args.at s d stream) seats c.args.conn c.serve_lines.result new.desk.kept t.1 t.2 (Smtp new.unserved new.dialog)) c.in-Ok.ensures.ok t.4))
 
 pub returns-in-Err-clause-heard : goal.returns-in-Err-clause-heard
 returns-in-Err-clause-heard g c seats =
@@ -25,5 +26,5 @@ returns-in-Err-clause-heard g c seats =
     let seat = Smtp c.args.unserved.now c.args.dialog.now in
     let seat' = Smtp c.feed.new.self c.args.dialog.now in
     going (HaveSealed g.D.Disk.told c.args.desk.now c.args.desk.now) c.args.at kept seats c.args.conn seat c.args.bytes.now c.empty_reply.result c.going_on-in-Err.result kept seat'
-    c.going_on-in-Err.ensures true [] (Ok None) [] (unsealed g.D.Disk.told c.seals_join.ensures.nothing c.args.desk.now)
+    c.going_on-in-Err.ensures true [] (Ok None) [] none_read (unsealed g.D.Disk.told c.seals_join.ensures.nothing c.args.desk.now)
     (unfed_alone [] (Ok None) c.args.at kept seats c.args.conn seat seat' c.args.bytes.now c.empty_reply.result c.empty_reply.ensures)

@@ -3,6 +3,7 @@ use Rattle.imap_stream.specs.Commands.{Heard, emptied}
 use Rattle.imap_stream.specs.declared.next.Next.{Next}
 use Rattle.imap_stream.specs.declared.next.Next.TheVariants.{NotYet}
 use Rattle.mail_loop.specs.declared.reply.Reply.{Reply}
+use Rattle.time_desk.specs.Reading.{both_read, none_read}
 use Rattle.mail_loop.specs.Asked.{HaveSealed}
 use Rattle.mail_loop.specs.State.{Imap}
 use Rattle.mail_loop.proofs.Nexts.{is_emptied, none_taken, some_last, taken}
@@ -23,8 +24,7 @@ loop-next-init g c =
       house = refl;
       rest = refl;
       open' = c.requires.sealed;
-      seals = unsealed g.D.Disk.told c.seals_join.ensures.nothing c.args.desk.now;
-      turns = λ seats. so_far_none (next_at c.args.at) seats c.args.desk.now.kept c.args.dialog.now all c.args.conn reply.result reply.ensures;
+      far = (none_read, unsealed g.D.Disk.told c.seals_join.ensures.nothing c.args.desk.now, λ seats. so_far_none (next_at c.args.at) seats c.args.desk.now.kept c.args.dialog.now all c.args.conn reply.result reply.ensures);
     }
 
 pub returns-then-is_not_yet-clause-turns : goal.returns-then-is_not_yet-clause-turns
@@ -35,12 +35,12 @@ returns-then-is_not_yet-clause-turns g c seats =
     let d = c.args.dialog.now in
     let all = stream.said ++ NotYet ∷ [] in
     let none = none_taken l.stream c.next.new.self c.in-Ok.next c.in-Ok.ensures.ok (sym c.is_not_yet.ensures ∙ c.if-is_not_yet.true) in
-    told_by (next_at c.args.at) (Imap (emptied stream)) seats kept d all c.args.conn l.reply l.desk.kept [] (Imap c.next.new.self l.dialog) (Some l.dialog) (HaveSealed g.D.Disk.told c.args.desk.now l.desk) l.invariant.conn
-    (last_heard (next_at c.args.at) seats kept d all l.reply l.desk.kept l.dialog (l.stream.said ++ NotYet ∷ []) NotYet
-    (l.invariant.turns seats) (ap (λ (nexts : List Next). nexts ++ NotYet ∷ []) none.0) refl)
+    told_by (next_at c.args.at) (Imap (emptied stream)) seats kept d all c.args.conn l.reply l.desk.kept [] l.invariant.far.0 (Imap c.next.new.self l.dialog) (Some l.dialog) (HaveSealed g.D.Disk.told c.args.desk.now l.desk) l.invariant.conn
+    (last_heard (next_at c.args.at) seats kept d all l.reply l.invariant.far.0 l.desk.kept l.dialog (l.stream.said ++ NotYet ∷ []) NotYet
+    (l.invariant.far.2 seats) (ap (λ (nexts : List Next). nexts ++ NotYet ∷ []) none.0) refl)
     (seat_stays l.reply.closes (Imap (emptied stream) l.dialog) (Imap c.next.new.self l.dialog) l.invariant.stays
     (ap (λ (h : Heard). Imap h l.dialog) (sym l.invariant.rest ∙ is_emptied l.stream none.0 ∙ sym none.1)))
-    l.invariant.seals
+    l.invariant.far.1
 
 pub returns-in-Err-clause-turns : goal.returns-in-Err-clause-turns
 returns-in-Err-clause-turns g c seats =
@@ -49,12 +49,12 @@ returns-in-Err-clause-turns g c seats =
     let kept = c.args.desk.now.kept in
     let d = c.args.dialog.now in
     let all = stream.said ++ NotYet ∷ [] in
-    told_by (next_at c.args.at) (Imap (emptied stream)) seats kept d all c.args.conn (record { conn = l.reply.conn; said = l.reply.said; closes = true; changed = l.reply.changed }) l.desk.kept []
+    told_by (next_at c.args.at) (Imap (emptied stream)) seats kept d all c.args.conn (record { conn = l.reply.conn; said = l.reply.said; closes = true; changed = l.reply.changed }) l.desk.kept [] l.invariant.far.0
     (Imap c.next.new.self l.dialog) None (HaveSealed g.D.Disk.told c.args.desk.now l.desk) l.invariant.conn
-    (unheard (next_at c.args.at) seats kept d all l.reply l.desk.kept l.dialog (l.stream.said ++ NotYet ∷ [])
-    (l.invariant.turns seats) (some_last l.stream.said) (λ u. refl))
+    (unheard (next_at c.args.at) seats kept d all l.reply l.invariant.far.0 l.desk.kept l.dialog (l.stream.said ++ NotYet ∷ [])
+    (l.invariant.far.2 seats) (some_last l.stream.said) (λ u. refl))
     refl
-    l.invariant.seals
+    l.invariant.far.1
 
 pub returns-then-reply-clause-turns : goal.returns-then-reply-clause-turns
 returns-then-reply-clause-turns g c seats =
@@ -69,13 +69,13 @@ returns-then-reply-clause-turns g c seats =
     let told = g.D.Disk.told in
     let S = HaveSealed told l.desk new.desk in
     let last = next_at c.args.at turn.0 l.desk.kept l.dialog c.in-Ok.next in
-    told_by (next_at c.args.at) (Imap (emptied stream)) seats kept d all c.args.conn new.reply new.desk.kept last.unsealed (Imap c.next.new.self new.session) None (HaveSealed told c.args.desk.now new.desk) (turn.1.conn ∙ l.invariant.conn)
+    told_by (next_at c.args.at) (Imap (emptied stream)) seats kept d all c.args.conn new.reply new.desk.kept last.unsealed (both_read l.invariant.far.0 last.reads) (Imap c.next.new.self new.session) None (HaveSealed told c.args.desk.now new.desk) (turn.1.conn ∙ l.invariant.conn)
     (closed_after S (next_at c.args.at) seats kept d all l.desk.kept l.dialog c.in-Ok.next (c.next.new.self.said ++ NotYet ∷ [])
-    new.desk.kept new.session l.reply new.reply
-    (subst (λ (nexts : List Next). SoFar (next_at c.args.at) seats kept d all l.reply l.desk.kept l.dialog (nexts ++ NotYet ∷ [])) some.0 (l.invariant.turns seats))
+    new.desk.kept new.session l.reply new.reply l.invariant.far.0
+    (subst (λ (nexts : List Next). SoFar (next_at c.args.at) seats kept d all l.reply l.invariant.far.0 l.desk.kept l.dialog (nexts ++ NotYet ∷ [])) some.0 (l.invariant.far.2 seats))
     turn.0 turn.1 c.if-reply.true)
     (seat_goes new.reply.closes (Imap c.next.new.self new.session) c.if-reply.true)
-    (chained told c.seals_join.ensures.then c.args.desk.now l.desk new.desk last.unsealed l.invariant.seals turn.1.seals)
+    (chained told c.seals_join.ensures.then c.args.desk.now l.desk new.desk last.unsealed l.invariant.far.0 last.reads l.invariant.far.1 turn.1.seals)
 
 pub loop-next-preserved : goal.loop-next-preserved
 loop-next-preserved g c =
@@ -89,6 +89,8 @@ loop-next-preserved g c =
     let new = c.take_next.new in
     let told = g.D.Disk.told in
     let S = HaveSealed told l.desk new.desk in
+    let last = next_at c.args.at turn.0 l.desk.kept l.dialog c.in-Ok.next in
+    let reads = both_read l.invariant.far.0 last.reads in
     let sealed = none_unsealed S (next_at c.args.at turn.0 l.desk.kept l.dialog c.in-Ok.next) l.reply new.desk.kept new.session new.reply turn.1 c.if-reply.false in
     record {
       stays = c.if-reply.false;
@@ -97,11 +99,14 @@ loop-next-preserved g c =
       home = c.take_next.ensures.home;
       house = c.take_next.ensures.house ∙ l.invariant.house;
       rest = sym some.1 ∙ l.invariant.rest;
-      open' = still_open told l.desk new.desk l.invariant.open' sealed;
-      seals = chained told c.seals_join.ensures.then c.args.desk.now l.desk new.desk [] l.invariant.seals sealed;
-      turns = λ seats.
-          so_far_more S (next_at c.args.at) seats kept d all l.desk.kept l.dialog c.in-Ok.next (c.next.new.self.said ++ NotYet ∷ [])
-          new.desk.kept new.session l.reply new.reply
-          (subst (λ (nexts : List Next). SoFar (next_at c.args.at) seats kept d all l.reply l.desk.kept l.dialog (nexts ++ NotYet ∷ [])) some.0 (l.invariant.turns seats))
-          turn.0 turn.1 c.if-reply.false;
+      open' = still_open told l.desk new.desk last.reads l.invariant.open' sealed;
+      far = (
+        reads,
+        chained told c.seals_join.ensures.then c.args.desk.now l.desk new.desk [] l.invariant.far.0 last.reads l.invariant.far.1 sealed,
+        λ seats.
+            so_far_more S (next_at c.args.at) seats kept d all l.desk.kept l.dialog c.in-Ok.next (c.next.new.self.said ++ NotYet ∷ [])
+            new.desk.kept new.session l.reply new.reply l.invariant.far.0
+            (subst (λ (nexts : List Next). SoFar (next_at c.args.at) seats kept d all l.reply l.invariant.far.0 l.desk.kept l.dialog (nexts ++ NotYet ∷ [])) some.0 (l.invariant.far.2 seats))
+            turn.0 turn.1 c.if-reply.false,
+      );
     }

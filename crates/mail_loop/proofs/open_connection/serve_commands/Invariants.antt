@@ -2,6 +2,7 @@ use Rattle.std.proofs.Common.{◌≡◌, ◌++◌, ◌∷◌, [], false, true, l
 use Rattle.imap_stream.specs.Commands.{emptied}
 use Rattle.imap_stream.specs.declared.next.Next.TheVariants.{NotYet}
 use Rattle.imap_session.specs.Dialog.{is_at_home, is_free}
+use Rattle.time_desk.specs.Reading.{Reads}
 use Rattle.mail_loop.specs.Asked.{HaveSealed}
 use Rattle.mail_loop.specs.Machine.{Seats}
 use Rattle.mail_loop.proofs.Stretch.{SoFar}
@@ -18,8 +19,7 @@ invariant-loop-next g l = record {
   house : l.desk.kept.house ≡ l.fn.desk.kept.house;
   rest : emptied l.stream ≡ emptied l.fn.stream;
   open' : l.desk.closed ≡ false;
-  seals : HaveSealed g.D.Disk.told l.fn.desk l.desk [];
-  turns : (seats : Seats) → SoFar (next_at l.at) seats l.fn.desk.kept l.fn.dialog (l.fn.stream.said ++ NotYet ∷ []) l.reply l.desk.kept l.dialog (l.stream.said ++ NotYet ∷ []);
+  far : (reads : Reads) × HaveSealed g.D.Disk.told l.fn.desk l.desk [] reads × ((seats : Seats) → SoFar (next_at l.at) seats l.fn.desk.kept l.fn.dialog (l.fn.stream.said ++ NotYet ∷ []) l.reply reads l.desk.kept l.dialog (l.stream.said ++ NotYet ∷ []));
 }
 
 abbrev pub decreases-loop-next : goal.decreases-loop-next

@@ -2,6 +2,7 @@ use Rattle.std.proofs.Common.{◌≡◌, [], false, length}
 use Rattle.smtp_lines.specs.Lines.{rest_of}
 use Rattle.smtp_lines.specs.Line.{smtp_lines_of}
 use Rattle.smtp_session.specs.Dialog.{is_due}
+use Rattle.time_desk.specs.Reading.{Reads}
 use Rattle.mail_loop.specs.Asked.{HaveSealed}
 use Rattle.mail_loop.specs.Machine.{Seats}
 use Rattle.mail_loop.proofs.Stretch.{SoFar}
@@ -17,8 +18,7 @@ invariant-loop-line g l = record {
   house : l.desk.kept.house ≡ l.fn.desk.kept.house;
   rest : rest_of l.unserved ≡ rest_of l.fn.unserved;
   open' : l.desk.closed ≡ false;
-  seals : HaveSealed g.D.Disk.told l.fn.desk l.desk [];
-  turns : (seats : Seats) → SoFar (line_at l.at) seats l.fn.desk.kept l.fn.dialog (smtp_lines_of l.fn.unserved) l.reply l.desk.kept l.dialog (smtp_lines_of l.unserved);
+  far : (reads : Reads) × HaveSealed g.D.Disk.told l.fn.desk l.desk [] reads × ((seats : Seats) → SoFar (line_at l.at) seats l.fn.desk.kept l.fn.dialog (smtp_lines_of l.fn.unserved) l.reply reads l.desk.kept l.dialog (smtp_lines_of l.unserved));
 }
 
 abbrev pub decreases-loop-line : goal.decreases-loop-line

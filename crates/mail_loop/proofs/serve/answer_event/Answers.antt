@@ -7,7 +7,7 @@ use Rattle.mail_loop.specs.Machine.{answered, answers}
 use Rattle.mail_loop.specs.Did.{Answers}
 use Rattle.mail_loop.specs.Stands.{replies_of}
 use Rattle.mail_loop.proofs.Events.{going_answers}
-use Rattle.mail_loop.proofs.Sealed.{unsealed}
+use Rattle.mail_loop.proofs.Sealed.{none_sealed, unsealed}
 use Rattle.mail_loop.proofs.serve.answer_event.Goals as goal
 
 pub returns-in-Joined-clause-answers : goal.returns-in-Joined-clause-answers
@@ -24,7 +24,7 @@ returns-in-Joined-clause-answers g c =
       going_answers S (answered false [] (Ok None) s event) desk.kept c.join.new.connections.entries (λ replies. replies_of replies.items) (λ (answer : Answer). answer.letters) (λ (answer : Answer). answer.stops)
           c.join.result c.going_on_with.result c.going_on_with.ensures.ok c.going_on_with.ensures.err
           (subst (λ (what : What). Answers S (answers what false [] (Ok None) (min event.at 253402300799) s event.conn) desk.kept c.join.new.connections.entries (λ replies. replies_of replies.items) (λ _. false) c.join.result)
-          (sym c.in-Joined.is) (joined.0, subst S (sym joined.1) (unsealed g.D.Disk.told c.seals_join.ensures.nothing desk), joined.2)),
+          (sym c.in-Joined.is) (joined.0, none_sealed S _ _ joined.1 (unsealed g.D.Disk.told c.seals_join.ensures.nothing desk), joined.2)),
     )
 
 pub returns-in-Joined-clause-home : goal.returns-in-Joined-clause-home

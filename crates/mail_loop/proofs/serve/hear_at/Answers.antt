@@ -1,4 +1,4 @@
-use Rattle.std.proofs.Common.{Ok, ◌<◌, ◌∙◌, length, vec_capacity, ap, refl, subst, sym, arith}
+use Rattle.std.proofs.Common.{◌∙◌, length, ap, refl, subst, sym, arith}
 use Rattle.std.proofs.lemmas.Map.{length-set_value}
 use Rattle.std.proofs.lemmas.Result.{err_from_is_err_and}
 use Rattle.std.proofs.lemmas.Map.Views.{All-values-set_value}

@@ -17,7 +17,7 @@ returns-then-contains_key-clause-answers g c =
     let s : State = record { kept = kept; seats = es } in
     let is = joins_open (lookup (is_at (nat_cmp c.args.conn)) es) c.args.role s c.args.conn (sym c.contains_key.ensures ∙ c.if-contains_key.true) in
     subst (λ (a : Answered). Answers IsNone a kept es (λ replies. replies_of replies.items) (λ _. false) (Ok c.new.result)) (sym is)
-    ((refl, refl, ap replies_of c.new.ensures.items, refl), refl, tt)
+    ((refl, refl, ap replies_of c.new.ensures.items, refl), (refl, refl), tt)
 
 pub returns-else-contains_key-clause-answers : goal.returns-else-contains_key-clause-answers
 returns-else-contains_key-clause-answers g c =

@@ -1,7 +1,8 @@
+use Rattle.std.proofs.Common.{inl}
 use Rattle.mail_loop.proofs.serve.serve_events.Goals as goal
 
 -- what the desk sealed lets UIDs last
 pub returns-clause-uids : goal.returns-clause-uids
-returns-clause-uids g c =
-    let (steps, notes, over, (added, seals)) = c.serve_each.ensures.serves in
-    c.records_let_uids_last.ensures.lasts c.args.desk.now.kept c.serve_each.new.desk.kept added c.stands.ensures.sound seals.kept
+returns-clause-uids g c holds =
+    let (steps, notes, over, (added, seals, read)) = c.serve_each.ensures.serves in
+    c.records_let_uids_last.ensures.lasts c.args.desk.now.kept c.serve_each.new.desk.kept added c.stands.ensures.sound (seals.kept (inl holds))

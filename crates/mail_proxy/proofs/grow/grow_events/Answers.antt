@@ -9,6 +9,7 @@ returns-in-Ok g c =
     let desk = c.in-Ok.desk in
     let plan = c.serve_generated.result in
     grows_over _ c.args.rounds c.args.events desk c.serve_generated.new.desk plan.status (output_of plan) c.requires c.in-Ok.ensures.kept c.in-Ok.ensures.reliable
+    c.in-Ok.ensures.holds
     c.serve_generated.ensures
 
 pub returns-in-Err : goal.returns-in-Err

@@ -6,7 +6,7 @@ use Rattle.mail_proxy.proofs.serving.serve_script.Goals as goal
 
 pub returns-in-Ok : goal.returns-in-Ok
 returns-in-Ok g c =
-    let (steps, notes, over, (added, seals)) = c.serve_events-served.ensures.serves in
+    let (steps, notes, over, (added, seals, read)) = c.serve_events-served.ensures.serves in
     let outcome = c.serve_events-served.result in
     let told = g.D.Disk.told in
     record {
@@ -18,12 +18,13 @@ returns-in-Ok g c =
       tells = tells_by outcome notes c.log.result.now c.plan_of.result.status c.plan_of.result.body (line_text c.plan_of.result.last)
           c.plan_of.ensures.status (c.plan_of.ensures.body ∙ c.in-Ok.ensures) (log_notes c.log.result.now over c.new-link.ensures.log c.log.ensures) c.plan_of.ensures.last;
       seals = seals;
+      read = read;
       disk_fault = disk_fails told added (unsealed_in steps c.args.desk.now.kept) c.args.desk.now c.serve_events-served.new.desk outcome seals c.requires c.serve_events-served.ensures.closed;
     }
 
 pub returns : goal.returns
 returns g c =
-    let (steps, notes, over, (added, seals)) = c.serve_events-served.ensures.serves in
+    let (steps, notes, over, (added, seals, read)) = c.serve_events-served.ensures.serves in
     let outcome = c.serve_events-served.result in
     let told = g.D.Disk.told in
     record {
@@ -35,5 +36,6 @@ returns g c =
       tells = tells_last outcome c.or_starved.result notes c.plan_of-in-Err.result.status c.plan_of-in-Err.result.body (line_text c.plan_of-in-Err.result.last)
           c.or_starved.ensures c.plan_of-in-Err.ensures.status (c.plan_of-in-Err.ensures.body ∙ c.new-in-Err.ensures) c.plan_of-in-Err.ensures.last;
       seals = seals;
+      read = read;
       disk_fault = disk_fails told added (unsealed_in steps c.args.desk.now.kept) c.args.desk.now c.serve_events-served.new.desk outcome seals c.requires c.serve_events-served.ensures.closed;
     }

@@ -1,36 +1,64 @@
-use Rattle.std.proofs.Common.{◌∙◌, ap, refl}
-use Rattle.verb_bytes.specs.declared.journal.JournalRecord.TheVariants.{Cycle}
+use Rattle.std.proofs.Common.{◌≡◌, ◌∙◌, Err, [], length, ap, refl, sym, subst}
 use Rattle.paradox.specs.Kept.{Kept}
+use Rattle.mail_desk.specs.Held.{Held}
 use Rattle.mail_desk.specs.Remaking.{remade_as}
+use Rattle.mail_desk.specs.Timeline.{SizesOf}
+use Rattle.time_desk.specs.Cycling.{RenotesAs}
 use Rattle.time_desk.specs.Lasting.{lasting}
-use Rattle.time_desk.proofs.Rewinding.{cycled, cycles_none, ready_record, starved}
-use Rattle.time_desk.proofs.Runs.{seals_nothing}
+use Rattle.time_desk.specs.Stored.{NotedBefore}
+use Rattle.time_desk.proofs.Rewinding.{cycle_notes, cycle_sealed, cycle_starved, cycle_unsealed, cycled}
+use Rattle.time_desk.proofs.Sealed.{noted_same}
 use Rattle.time_desk.proofs.cycle.cycle_made.Goals as goal
 
+pub fault_of-requires : goal.fault_of-requires
+fault_of-requires g c = λ is. c.in-Err-seal_found.ensures.sealed.never (ap Err is)
+
 pub returns-in-Ok-seal_found-clause-done : goal.returns-in-Ok-seal_found-clause-done
-returns-in-Ok-seal_found-clause-done g c =
+returns-in-Ok-seal_found-clause-done g c = λ disk reads red.
     let kept = c.args.desk.now.kept in
-    let held = c.ready_cycle.new.desk in
     let found = c.in-Ok.found in
-    cycled g.D.Disk.told c.args.at c.args.ask c.args.desk.now held c.args.journal.now (lasting c.seal_found.new.desk c.seal_found.new.journal) c.args.made c.in-Ok-seal_found.report
-    c.requires.anew c.requires.due c.in-Ok.ensures.kept c.requires.open (c.in-Ok-seal_found.ensures.report ∙ c.in-Ok.ensures.report)
-    (c.in-Ok-seal_found.ensures.kept ∙ ap (λ (k : Kept). remade_as k found.remade) c.in-Ok.ensures.kept ∙ c.in-Ok.ensures.made)
-    (c.in-Ok-seal_found.ensures.ok (Cycle kept.next c.args.at c.args.ask)
-    (ready_record c.args.at c.args.ask kept held.kept c.args.made found.remade found.bytes c.requires.anew c.requires.due c.in-Ok.ensures.kept c.in-Ok.ensures.made c.in-Ok.ensures.bytes c.in-Ok.ensures.spelled c.requires.known))
+    let done = c.in-Ok-seal_found.ensures in
+    let new = c.seal_found.new in
+    let told = c.stands.ensures in
+    let kept_is = done.kept ∙ ap (λ (k : Kept). remade_as k found.remade) c.in-Ok.ensures.kept ∙ c.in-Ok.ensures.made in
+    cycled g.D.Disk.told c.args.at c.args.ask (lasting c.args.desk.now (record c.args.journal.now { disk = disk })) (lasting new.desk new.journal) c.args.made c.in-Ok-seal_found.report
+    c.requires.anew red c.requires.open (done.report ∙ c.in-Ok.ensures.report) kept_is
+    (cycle_sealed g.D.Disk.told disk c.args.desk.now new.desk c.args.journal.now new.journal c.args.at c.args.ask c.args.made found.bytes reads red c.requires.anew c.in-Ok.ensures.bytes c.in-Ok.ensures.spelled c.requires.known c.requires.open
+    done.sealed.ok done.sealed.still_open
+    (record { house = told.house; aliases = told.aliases; base = told.base; timeline = told.timeline; below = told.below; named = told.named; fresh = told.fresh }) told.sizes c.requires.fit kept_is
+    (subst (λ notes. RenotesAs c.args.desk.now c.args.ask c.args.at (record { gate = c.args.journal.now.gate; length = length found.bytes }) c.args.made notes) (sym done.notes) c.in-Ok.ensures.notes))
+
+pub returns-in-Ok-seal_found-clause-noted : goal.returns-in-Ok-seal_found-clause-noted
+returns-in-Ok-seal_found-clause-noted g c = λ is.
+    let found = c.in-Ok.found in
+    let done = c.in-Ok-seal_found.ensures in
+    let new = c.seal_found.new in
+    let told = c.stands.ensures in
+    let kept_is = done.kept ∙ ap (λ (k : Kept). remade_as k found.remade) c.in-Ok.ensures.kept ∙ c.in-Ok.ensures.made in
+    subst (λ (k : Kept). NotedBefore new.journal.gate new.desk.notes k.timeline) (sym kept_is)
+    (subst (λ notes. NotedBefore new.journal.gate notes c.args.made.timeline) (sym done.notes)
+    (cycle_notes c.args.journal.now.gate new.journal.gate c.args.desk.now c.args.at c.args.ask ⊥ c.args.made found.bytes found.remade.shelf.notes done.sealed.next c.in-Ok.ensures.bytes told.sizes
+    (record { house = told.house; aliases = told.aliases; base = told.base; timeline = told.timeline; below = told.below; named = told.named; fresh = told.fresh }) c.requires.fit is c.in-Ok.ensures.notes
+    (subst (SizesOf found.remade.shelf.notes) (ap (λ (k : Kept). k.timeline) c.in-Ok.ensures.made) c.in-Ok.ensures.ready.sizes) c.requires.noted))
+
+pub returns-in-Err-seal_found-clause-noted : goal.returns-in-Err-seal_found-clause-noted
+returns-in-Err-seal_found-clause-noted g c = λ is.
+    let done = c.in-Err-seal_found.ensures in
+    noted_same c.args.journal.now.gate c.seal_found.new.journal.gate c.args.desk.now c.seal_found.new.desk done.sealed.err
+    (ap (λ (h : Held). h.kept) done.same ∙ c.in-Ok.ensures.kept) (ap (λ (h : Held). h.notes) done.same ∙ c.in-Ok.ensures.same) c.requires.noted
+
+pub returns-in-Err-clause-noted : goal.returns-in-Err-clause-noted
+returns-in-Err-clause-noted g c = λ is.
+    noted_same c.args.journal.now.gate c.args.journal.now.gate c.args.desk.now c.ready_cycle.new.desk refl c.in-Err.ensures.kept c.in-Err.ensures.same c.requires.noted
 
 pub returns-in-Err-seal_found-clause-why : goal.returns-in-Err-seal_found-clause-why
-returns-in-Err-seal_found-clause-why g c =
-    let kept = c.args.desk.now.kept in
-    let held = c.ready_cycle.new.desk in
+returns-in-Err-seal_found-clause-why g c = λ disk reads red.
     let found = c.in-Ok.found in
-    cycles_none g.D.Disk.told c.args.at c.args.ask c.args.desk.now held c.args.journal.now (lasting c.seal_found.new.desk c.seal_found.new.journal) c.args.made
-    c.in-Err-seal_found.fault c.fault_of.result c.requires.anew c.requires.due c.in-Ok.ensures.kept c.requires.open c.fault_of.ensures
-    (c.in-Err-seal_found.ensures.err (Cycle kept.next c.args.at c.args.ask)
-    (ready_record c.args.at c.args.ask kept held.kept c.args.made found.remade found.bytes c.requires.anew c.requires.due c.in-Ok.ensures.kept c.in-Ok.ensures.made c.in-Ok.ensures.bytes c.in-Ok.ensures.spelled c.requires.known))
+    let done = c.in-Err-seal_found.ensures in
+    cycle_unsealed g.D.Disk.told disk c.args.desk.now c.seal_found.new.desk c.args.journal.now c.seal_found.new.journal c.args.at c.args.ask c.args.made found.bytes reads red c.requires.anew c.in-Ok.ensures.bytes c.in-Ok.ensures.spelled
+    c.requires.known c.requires.open c.in-Err-seal_found.fault c.fault_of.result done.sealed (ap (λ (h : Held). h.kept) done.same ∙ c.in-Ok.ensures.kept) (ap (λ (h : Held). h.notes) done.same ∙ c.in-Ok.ensures.same) c.fault_of.ensures
 
 pub returns-in-Err-clause-why : goal.returns-in-Err-clause-why
-returns-in-Err-clause-why g c =
-    starved g.D.Disk.told c.args.at c.args.ask (lasting c.args.desk.now c.args.journal.now) (lasting c.ready_cycle.new.desk c.args.journal.now) c.args.made
-    c.requires.anew c.requires.due c.requires.open
-    (seals_nothing g.D.Disk.told g.met.D.Disk.tells_truth (lasting c.args.desk.now c.args.journal.now) (lasting c.ready_cycle.new.desk c.args.journal.now)
-    (record { kept = c.in-Err.ensures.kept; disk = refl; gate = refl; closed = refl }))
+returns-in-Err-clause-why g c = λ disk reads red.
+    cycle_starved g.D.Disk.told disk c.args.desk.now c.ready_cycle.new.desk c.args.journal.now c.args.journal.now c.args.at c.args.ask c.args.made [] reads red c.requires.anew
+    c.requires.open g.met.D.Disk.tells_truth c.in-Err.ensures.kept c.in-Err.ensures.same

@@ -1,12 +1,46 @@
-use Rattle.std.proofs.Common.{refl}
-use Rattle.time_desk.specs.Lasting.{lasting}
-use Rattle.time_desk.proofs.Rewinding.{refused}
-use Rattle.time_desk.proofs.Runs.{seals_nothing}
+use Rattle.std.proofs.Common.{IfErr, IfOk, ap, refl, subst, sym, ℕ}
+use Rattle.time_desk.specs.Cycling.{Cycles, CyclesNone}
+use Rattle.time_desk.specs.Lasting.{Lasting, lasting}
+use Rattle.time_desk.specs.Stored.{NotedBefore}
+use Rattle.time_desk.specs.Telling.{HoldsHeld}
+use Rattle.time_desk.proofs.Rewinding.{cycles_as, made_unread, read_from, refused}
+use Rattle.time_desk.proofs.Runs.{seals_still}
+use Rattle.time_desk.proofs.Sealed.{still_read}
 use Rattle.time_desk.proofs.cycle.cycle_open.Goals as goal
+
+pub cycle_made-requires-clause-noted : goal.cycle_made-requires-clause-noted
+cycle_made-requires-clause-noted g c = subst (λ (n : ℕ). NotedBefore n c.args.desk.now.notes c.args.desk.now.kept.timeline) (sym c.in-Ok.ensures.still.gate) c.requires.noted
+
+pub returns-in-Ok-clause-done : goal.returns-in-Ok-clause-done
+returns-in-Ok-clause-done g c =
+    let made = c.in-Ok.ensures in
+    let old = c.args.journal.now in
+    let read = c.rewound.new.self in
+    let tried = c.cycle_made in
+    subst (λ (l : Lasting g.row.D.Denot). IfOk tried.result (λ report. Cycles g.D.Disk.told c.args.at c.args.ask l (lasting tried.new.desk tried.new.journal) report)) (read_from g.D.Disk.told c.args.desk.now old read made.still)
+    (tried.ensures.done old.disk made.still.reads (cycles_as g.D.Disk.told c.args.desk.now old read c.args.at c.args.ask c.in-Ok.made made.due made.made))
+
+pub returns-in-Ok-clause-noted : goal.returns-in-Ok-clause-noted
+returns-in-Ok-clause-noted g c =
+    c.cycle_made.ensures.noted (made_unread g.D.Disk.told c.args.desk.now.kept c.args.at c.args.ask (HoldsHeld (g.D.Disk.told c.args.journal.now.disk) c.args.desk.now) c.in-Ok.made c.in-Ok.ensures.made)
+
+pub returns-in-Ok-clause-why : goal.returns-in-Ok-clause-why
+returns-in-Ok-clause-why g c =
+    let made = c.in-Ok.ensures in
+    let old = c.args.journal.now in
+    let read = c.rewound.new.self in
+    let tried = c.cycle_made in
+    subst (λ (l : Lasting g.row.D.Denot). IfErr tried.result (λ fault. CyclesNone g.D.Disk.told c.args.at c.args.ask l (lasting tried.new.desk tried.new.journal) fault)) (read_from g.D.Disk.told c.args.desk.now old read made.still)
+    (tried.ensures.why old.disk made.still.reads (cycles_as g.D.Disk.told c.args.desk.now old read c.args.at c.args.ask c.in-Ok.made made.due made.made))
+
+pub returns-in-Err-clause-noted : goal.returns-in-Err-clause-noted
+returns-in-Err-clause-noted g c = subst (λ (n : ℕ). NotedBefore n c.args.desk.now.notes c.args.desk.now.kept.timeline) (sym c.in-Err.ensures.still.gate) c.requires.noted
 
 pub returns-in-Err-clause-why : goal.returns-in-Err-clause-why
 returns-in-Err-clause-why g c =
+    let told = c.in-Err.ensures in
     let old = lasting c.args.desk.now c.args.journal.now in
-    refused g.D.Disk.told c.args.at c.args.ask old c.in-Err.refused c.refused_as.result
-    (seals_nothing g.D.Disk.told g.met.D.Disk.tells_truth old old (record { kept = refl; disk = refl; gate = refl; closed = refl }))
-    c.requires.anew c.requires.open c.in-Err.ensures.refused c.refused_as.ensures
+    let read = lasting c.args.desk.now c.rewound.new.self in
+    let still = still_read g.D.Disk.told c.args.desk.now c.args.journal.now c.rewound.new.self told.still in
+    refused g.D.Disk.told c.args.at c.args.ask old read c.in-Err.refused c.refused_as.result still (seals_still g.D.Disk.told old read still)
+    (λ none. ap (lasting c.args.desk.now) (told.untouched none)) c.requires.anew c.requires.open told.refused told.cause c.refused_as.ensures

@@ -16,5 +16,5 @@ returns-clause-uids g c =
     let inside = c.self.inside in
     let sound = subst (λ (l : Lasting g.row.D.Denot). IsSound l.kept) (sym c.self.view_is) c.stands.ensures.sound in
     subst (λ (l : Lasting g.row.D.Denot). UidsLast l.kept tried.new.desk.kept) c.self.view_is
-    (lasts_operated c.records_let_uids_last.ensures.lasts g.D.Disk.told tried.result (Operator inside.desk.kept.next c.args.at c.args.act ∷ []) (lasting inside.desk inside.journal) (lasting tried.new.desk tried.new.journal)
+    (lasts_operated c.records_let_uids_last.ensures.lasts g.D.Disk.told tried.result (Operator inside.desk.kept.next c.args.at c.args.act ∷ []) (lasting inside.desk inside.journal) (lasting tried.new.desk tried.new.journal) refl
     sound tried.ensures.ok tried.ensures.same)

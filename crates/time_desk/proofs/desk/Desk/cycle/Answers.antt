@@ -1,10 +1,16 @@
-use Rattle.std.proofs.Common.{IfErr, refl, subst, sym}
+use Rattle.std.proofs.Common.{IfErr, IfOk, refl, subst, sym}
 use Rattle.mail_cycle.specs.Permanence.{UidsLast}
-use Rattle.time_desk.specs.Cycling.{CyclesNone}
+use Rattle.time_desk.specs.Cycling.{Cycles, CyclesNone}
 use Rattle.time_desk.specs.Lasting.{Lasting, lasting}
 use Rattle.time_desk.specs.Permanence.{IsSound}
+use Rattle.time_desk.specs.Stored.{HoldsTexts}
 use Rattle.time_desk.proofs.States.{lasts_rewound, lasts_same}
 use Rattle.time_desk.proofs.desk.Desk.cycle.Goals as goal
+
+pub returns-in-Ok-None-clause-done : goal.returns-in-Ok-None-clause-done
+returns-in-Ok-None-clause-done g c =
+    let tried = c.cycle_anew in
+    subst (λ (l : Lasting g.row.D.Denot). IfOk tried.result (λ report. Cycles g.D.Disk.told c.args.at c.args.ask l (lasting tried.new.desk tried.new.journal) report)) c.self.view_is tried.ensures.done
 
 pub returns-in-Ok-None-clause-why : goal.returns-in-Ok-None-clause-why
 returns-in-Ok-None-clause-why g c =
@@ -12,16 +18,17 @@ returns-in-Ok-None-clause-why g c =
     subst (λ (l : Lasting g.row.D.Denot). IfErr tried.result (λ fault. CyclesNone g.D.Disk.told c.args.at c.args.ask l (lasting tried.new.desk tried.new.journal) fault)) c.self.view_is tried.ensures.why
 
 pub returns-in-Ok-Some-clause-uids : goal.returns-in-Ok-Some-clause-uids
-returns-in-Ok-Some-clause-uids g c = lasts_same c.records_let_uids_last.ensures.lasts _ _ c.stands.ensures.sound refl
+returns-in-Ok-Some-clause-uids g c = λ holds. lasts_same c.records_let_uids_last.ensures.lasts _ _ c.stands.ensures.sound refl
 
 -- what was sealed lets UIDs last
 pub returns-in-Ok-None-clause-uids : goal.returns-in-Ok-None-clause-uids
-returns-in-Ok-None-clause-uids g c =
+returns-in-Ok-None-clause-uids g c = λ holds.
     let tried = c.cycle_anew in
+    let inside = c.self.inside in
     let sound = subst (λ (l : Lasting g.row.D.Denot). IsSound l.kept) (sym c.self.view_is) c.stands.ensures.sound in
     subst (λ (l : Lasting g.row.D.Denot). UidsLast l.kept tried.new.desk.kept) c.self.view_is
-    (lasts_rewound c.records_let_uids_last.ensures.lasts g.D.Disk.told c.args.at c.args.ask tried.result (lasting c.self.inside.desk c.self.inside.journal) (lasting tried.new.desk tried.new.journal)
-    sound tried.ensures.done tried.ensures.err)
+    (lasts_rewound c.records_let_uids_last.ensures.lasts g.D.Disk.told c.args.at c.args.ask tried.result (lasting inside.desk inside.journal) (lasting tried.new.desk tried.new.journal)
+    (subst (HoldsTexts g.D.Disk.told) (sym c.self.view_is) holds) sound tried.ensures.done tried.ensures.err)
 
 pub returns-in-Err-clause-uids : goal.returns-in-Err-clause-uids
-returns-in-Err-clause-uids g c = lasts_same c.records_let_uids_last.ensures.lasts _ _ c.stands.ensures.sound refl
+returns-in-Err-clause-uids g c = λ holds. lasts_same c.records_let_uids_last.ensures.lasts _ _ c.stands.ensures.sound refl

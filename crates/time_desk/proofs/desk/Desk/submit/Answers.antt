@@ -29,5 +29,5 @@ returns-clause-uids g c =
     let tried = c.submit_open in
     let sound = subst (λ (l : Lasting g.row.D.Denot). IsSound l.kept) (sym c.self.view_is) c.stands.ensures.sound in
     subst (λ (l : Lasting g.row.D.Denot). UidsLast l.kept tried.new.desk.kept) c.self.view_is
-    (lasts_sealed c.records_let_uids_last.ensures.lasts g.D.Disk.told tried.result (λ item. Verb item ∷ []) (lasting c.self.inside.desk c.self.inside.journal) (lasting tried.new.desk tried.new.journal)
+    (lasts_sealed c.records_let_uids_last.ensures.lasts g.D.Disk.told tried.result (λ item. Verb item ∷ []) (lasting c.self.inside.desk c.self.inside.journal) (lasting tried.new.desk tried.new.journal) (λ item. refl)
     sound tried.ensures.sealed tried.ensures.err)

@@ -1,0 +1,16 @@
+use Rattle.std.proofs.Common.{◌≡◌, ℕ, ◌∷◌, [], List, ap, sym, subst}
+use Rattle.verb_bytes.specs.declared.journal.JournalRecord.TheVariants.{Format}
+use Rattle.paradox.specs.Kept.{Kept}
+use Rattle.seal_log.specs.Log.{last_gate}
+use Rattle.seal_log.specs.Settled.{IsSettled}
+use Rattle.time_desk.specs.Records.{payloads_of}
+use Rattle.time_desk.proofs.Holding.{holds_first}
+use Rattle.time_desk.proofs.desk.Desk.make.Goals as goal
+
+pub returns-in-Ok-clause-texts : goal.returns-in-Ok-clause-texts
+returns-in-Ok-clause-texts g c truth =
+    let ps : List (List ℕ) = payloads_of (Format c.args.house c.args.conf ∷ []) in
+    holds_first g.D.Disk.told _ ps
+    (subst (λ (n : ℕ). IsSettled (g.D.Disk.told c.at.result.disk) n ps) (sym c.at.ensures.gate)
+    (subst (λ (d : g.row.D.Denot). IsSettled (g.D.Disk.told d) (last_gate c.in-Ok.log) ps) (sym c.at.ensures.disk) (c.in-Ok.ensures.made.settled truth)))
+    (ap (λ (k : Kept). k.timeline) c.in-Ok.ensures.kept)

@@ -1,0 +1,37 @@
+use Rattle.std.proofs.Common.{◌≡◌, List, ℕ, Bool, Result, Ok, Err, sym, subst}
+use Rattle.std.specs.Prelude.{IfOk}
+use Rattle.undo_base.specs.declared.memory.NoMemory.{NoMemory}
+use Rattle.verb_bytes.specs.declared.journal.JournalRecord.{JournalRecord}
+use Rattle.verb_bytes.specs.Spelling.{record_bytes}
+use Rattle.seal_log.specs.Journal.{LiesAt}
+use Rattle.seal_log.specs.declared.fault.ReadFault.{ReadFault}
+use Rattle.time_desk.specs.Records.{after_record}
+use Rattle.time_desk.specs.Standing.{Performs}
+use Rattle.time_desk.proofs.Standings.{if_ok}
+use Rattle.time_desk.proofs.standing.follow.Goals as goal
+
+-- what is told of one answer is told of the other, which hands it on
+passed : (A : Bool → Type 0) (r : Result Bool NoMemory) (s : Result Bool ReadFault) → IfOk s (λ b. r ≡ Ok b) → IfOk r A → IfOk s A
+passed A r (Ok b) same told = subst (λ (x : Result Bool NoMemory). IfOk x A) same told
+passed A r (Err why) same told = tt
+
+pub returns-in-Verb-clause-texts : goal.returns-in-Verb-clause-texts
+returns-in-Verb-clause-texts g c payloads texts lies =
+    if_ok c.without_reads.result _ _
+    (λ stood notes e. (notes e).lie payloads (subst (λ (w : JournalRecord). LiesAt payloads c.args.place.gate c.args.place.length (record_bytes w)) c.in-Verb.is lies) texts.lie)
+    (passed _ c.enter_verb.result c.without_reads.result c.without_reads.ensures.same c.enter_verb.ensures.noted)
+
+pub returns-in-Operator-clause-texts : goal.returns-in-Operator-clause-texts
+returns-in-Operator-clause-texts g c payloads texts lies =
+    if_ok c.without_reads-in-Operator.result _ _
+    (λ stood notes e. (notes e).lie payloads (subst (λ (w : JournalRecord). LiesAt payloads c.args.place.gate c.args.place.length (record_bytes w)) c.in-Operator.is lies) texts.lie)
+    (passed _ c.enter_act.result c.without_reads-in-Operator.result c.without_reads-in-Operator.ensures.same c.enter_act.ensures.noted)
+
+pub returns-in-Cycle-clause-performed : goal.returns-in-Cycle-clause-performed
+returns-in-Cycle-clause-performed g c payloads texts =
+    subst (λ (w : JournalRecord). IfOk c.rewind.result (λ stood. Performs (after_record c.args.desk.now.kept w) stood c.rewind.new.desk.kept)) (sym c.in-Cycle.is)
+    (c.rewind.ensures.performed payloads texts)
+
+pub returns-in-Cycle-clause-texts : goal.returns-in-Cycle-clause-texts
+returns-in-Cycle-clause-texts g c payloads texts lies =
+    c.rewind.ensures.texts payloads texts (subst (λ (w : JournalRecord). LiesAt payloads c.args.place.gate c.args.place.length (record_bytes w)) c.in-Cycle.is lies)

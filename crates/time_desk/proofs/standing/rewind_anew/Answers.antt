@@ -1,0 +1,29 @@
+use Rattle.std.proofs.Common.{◌≡◌, true, Bool, Result, Ok, Err, ap}
+use Rattle.std.specs.Prelude.{IfOk, OnOk}
+use Rattle.paradox.specs.Kept.{Kept}
+use Rattle.seal_log.specs.declared.fault.ReadFault.{ReadFault}
+use Rattle.time_desk.specs.Cycling.{after_rewound}
+use Rattle.time_desk.specs.Telling.{HoldsHeld}
+use Rattle.time_desk.proofs.Renoting.{put_lies, put_noted}
+use Rattle.time_desk.proofs.standing.rewind_anew.Goals as goal
+
+-- of a result whose parts are told
+told : {P : Type 0} (X Y Z : Type 0) (r : Result Bool ReadFault) → (X → Y → Z → P) → IfOk r (λ stood. (stood ≡ true) × X) → OnOk r Y → OnOk r Z → IfOk r (λ stood. stood ≡ true → P)
+told X Y Z (Ok stood) f x y z = λ e. f x.1 y z
+told X Y Z (Err why) f x y z = tt
+
+pub returns-in-Ok-clause-texts : goal.returns-in-Ok-clause-texts
+returns-in-Ok-clause-texts g c payloads texts lies =
+    told _ _ _ c.put_in_place.result
+    (λ kept notes sizes. put_lies payloads c.args.desk.now c.put_in_place.new.desk c.args.at c.args.ask (HoldsHeld (g.D.Disk.told c.args.disk.now) c.args.desk.now) c.in-Ok.made c.args.place
+    lies (payloads, texts) c.in-Ok.ensures.made c.in-Ok.ensures.fit.timeline.apart (ap (λ (k : Kept). k.timeline) kept)
+    c.stands.ensures.sizes c.stands.ensures.timeline.apart c.stands.ensures.below texts.revs notes texts.lie)
+    c.put_in_place.ensures.kept (c.put_in_place.ensures.notes c.args.at) c.put_in_place.ensures.sizes
+
+pub returns-in-Ok-clause-noted : goal.returns-in-Ok-clause-noted
+returns-in-Ok-clause-noted g c =
+    told _ _ _ c.put_in_place.result
+    (λ kept notes sizes. put_noted c.args.end c.args.desk.now c.put_in_place.new.desk c.args.at c.args.ask (HoldsHeld (g.D.Disk.told c.args.disk.now) c.args.desk.now) c.in-Ok.made c.args.place
+    c.requires.place c.requires.long c.in-Ok.ensures.made c.in-Ok.ensures.fit.timeline.apart (ap (λ (k : Kept). k.timeline) kept)
+    c.stands.ensures.sizes c.stands.ensures.timeline.apart c.stands.ensures.below notes sizes c.requires.noted)
+    c.put_in_place.ensures.kept (c.put_in_place.ensures.notes c.args.at) c.put_in_place.ensures.sizes

@@ -1,0 +1,23 @@
+use Rattle.std.proofs.Common.{◌≡◌, Bool, Some, refl, subst}
+use Rattle.time_desk.specs.Records.{after_record}
+use Rattle.time_desk.specs.Standing.{Performs}
+use Rattle.time_desk.proofs.Standings.{holds_on}
+use Rattle.time_desk.proofs.start.performed.Goals as goal
+
+pub returns-then-stood-clause-next : goal.returns-then-stood-clause-next
+returns-then-stood-clause-next g c payloads texts =
+    subst (λ (b : Bool). Performs (after_record c.args.desk.now.kept c.args.what) b c.follow.new.desk.kept) c.if-stood.true (c.in-Ok.ensures.performed payloads texts)
+
+pub returns-then-stood-clause-texts : goal.returns-then-stood-clause-texts
+returns-then-stood-clause-texts g c payloads texts lies =
+    let next : after_record c.args.desk.now.kept c.args.what ≡ Some c.follow.new.desk.kept =
+    subst (λ (b : Bool). Performs (after_record c.args.desk.now.kept c.args.what) b c.follow.new.desk.kept) c.if-stood.true (c.in-Ok.ensures.performed payloads texts) in
+    record {
+      held = holds_on (g.D.Disk.told c.args.disk.now) (g.D.Disk.told c.follow.new.disk) payloads c.follow.ensures.reads texts.held;
+      lie = c.in-Ok.ensures.texts payloads texts lies c.if-stood.true;
+      revs = c.revs_stay.ensures c.args.what c.follow.new.desk.kept texts.revs next;
+    }
+
+pub returns-else-stood-clause-bad : goal.returns-else-stood-clause-bad
+returns-else-stood-clause-bad g c payloads texts =
+    (subst (λ (b : Bool). Performs (after_record c.args.desk.now.kept c.args.what) b c.follow.new.desk.kept) c.if-stood.false (c.in-Ok.ensures.performed payloads texts), refl)

@@ -1,0 +1,17 @@
+use Rattle.std.proofs.Common.{◌≡◌, [], ◌∷◌, ap}
+use Rattle.std.specs.Prelude.{option_and_then}
+use Rattle.paradox.specs.Kept.{Kept}
+use Rattle.time_desk.specs.Records.{after_records}
+use Rattle.time_desk.proofs.start.revs_stay.Goals as goal
+
+pub returns : goal.returns
+returns g what next revs is =
+    g.records_let_uids_last.ensures.revs g.args.desk.now.kept next (what ∷ []) (record {
+      house = g.stands.ensures.house;
+      aliases = g.stands.ensures.aliases;
+      base = g.stands.ensures.base;
+      timeline = g.stands.ensures.timeline;
+      below = g.stands.ensures.below;
+      named = g.stands.ensures.named;
+      fresh = g.stands.ensures.fresh;
+    }) revs (ap (option_and_then (λ (k : Kept). after_records k [])) is)
