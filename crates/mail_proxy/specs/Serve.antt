@@ -6,6 +6,7 @@ use Rattle.undo_outside.specs.Disk.{DiskTold, WriteFailed}
 use Rattle.verb_bytes.specs.declared.journal.JournalRecord.{JournalRecord}
 use Rattle.time_desk.specs.Lasting.{Lasting}
 use Rattle.time_desk.specs.Opening.{Starts}
+use Rattle.time_desk.specs.Stored.{HoldsTexts}
 use Rattle.time_desk.specs.Reading.{HaveRead}
 use Rattle.time_desk.specs.Sealing.{Seals}
 use Rattle.mail_loop.specs.declared.serve.ServeFault.{ServeFault}
@@ -30,13 +31,14 @@ pub record ServesLink {D : Type 0} (told : D → DiskTold) (link link' : LinkTol
   pub disk_fault : outcome ≡ Err Disk → WriteFailed (told first.disk) (told last.disk)
 
 module _ {D : Type 0} (told : D → DiskTold) where
-  -- The events are served over the desk of a store that was opened, and then the disk gets no call more. On an honest disk no turn was given another text
-  -- than was stored.
+  -- The events are served over the desk of a store that was opened, and then the disk gets no call more. On an honest disk the desk
+  -- that was opened holds its texts, so that what is kept at last is what the records leave, and no turn was given another text than was stored.
   abbrev pub ServesOn : D → LinkTold → LinkTold → Lasting D → End D → Type 0
   ServesOn disk link link' first end =
       (last : Lasting D) × (run : ServesLink told link link' first last end.status end.output) × (end.disk ≡ last.disk)
       × ((told disk).honest
-      → Journals (told disk) first.kept run.added (unsealed_in run.steps first.kept) (told end.disk) × ((reads_in run.steps first.kept).wrong ≡ 0))
+      → Journals (told disk) first.kept run.added (unsealed_in run.steps first.kept) (told end.disk)
+      × HoldsTexts told first × ((reads_in run.steps first.kept).wrong ≡ 0))
 
   -- what `serve` comes to: no store was opened, and the link got no call; or one was, and its events were served over it
   abbrev pub ServesStore : LinkTold → LinkTold → D → End D → Type 0

@@ -21,6 +21,7 @@ returns-in-Ok g c =
         λ honest. (
           subst (λ (d : g.row.D.Denot). Journals (told c.args.disk) first.kept run.added unsealed (told d)) (sym c.into_disk.ensures)
               (journals told g.met.D.Disk.tells_truth c.args.disk first last run.added unsealed c.in-Ok.ensures.started run.seals honest),
+          c.in-Ok.ensures.texts honest,
           run.read.honest (c.in-Ok.ensures.texts honest),
         ),
       ),
