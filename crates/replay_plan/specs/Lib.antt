@@ -1,3 +1,4 @@
 pub mod Placing
 pub mod Gathering
 pub mod Lines
+pub mod Slots

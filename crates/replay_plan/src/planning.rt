@@ -1,22 +1,50 @@
 //! The plan of items.
-ghost use Rattle.std.specs.Prelude.{◌≡◌, ◌≤◌, ◌<◌, length, IfOk};
+ghost use Rattle.std.specs.Prelude.{◌≡◌, ◌≤◌, ◌<◌, ◌+◌, length, IfOk, OnOk};
 ghost use Rattle.replay_plan.specs.Placing.{levels_by_item, levels_of};
+ghost use Rattle.replay_plan.specs.Slots.{bound, Leads, SameTaken, IsUntaken};
 
 use crate::Levels;
 use crate::by_level::gathered;
-use crate::item_level::level_of;
+use crate::last::{item_bound, raise_item};
+use crate::skips::{free_level, take_item};
+use crate::slots::Table;
 use std::alloc::Global;
-use touch_rules::{TouchList, TouchSet};
+use touch_rules::{Touch, TouchList, TouchSet};
 use undo_base::NoMemory;
+
+/// The level of an item: the first above those of the earlier items with which it does not commute that none has of which
+/// it is not independent.
+fn level_of(
+    alloc: Global,
+    last: &Table,
+    next: &mut Table,
+    touches: &[Touch],
+    end: u32,
+) -> Result<u32, NoMemory>
+    requires few { bound last.now touches.now < end }
+    requires leads { Leads end next.old }
+    ensures same { OnOk result (SameTaken next.old next.new) }
+    ensures leads { OnOk result (Leads end next.new) }
+    ensures level { IfOk result (IsUntaken next.old touches.now (bound last.now touches.now + 1)) }
+{
+    let low = item_bound(alloc, last, touches)? + 1;
+    free_level(alloc, next, touches, low, end)
+}
 
 /// The level of each item.
 fn each_level(alloc: Global, all: &[TouchSet]) -> Result<Vec<u32>, NoMemory>
     requires { length all.now < 4294967295 }
     ensures { IfOk result (λ levels. levels.items ≡ levels_by_item all.now) }
 {
+    let end = all.len() as u32 + 1;
+    let mut last = Table::new(alloc);
+    let mut next = Table::new(alloc);
     let mut levels = Vec::new(alloc);
     for place in 0..all.len() {
-        let level = level_of(alloc, all, levels.as_slice(), &all[place])?;
+        let touches = all[place].as_slice();
+        let level = level_of(alloc, &last, &mut next, touches, end)?;
+        raise_item(alloc, &mut last, touches, level)?;
+        take_item(alloc, &mut next, touches, level, end)?;
         levels.push(level)?;
     }
     Ok(levels)

@@ -1,0 +1,6 @@
+use Rattle.std.proofs.Common.{◌≡◌, ◌++◌, drop}
+use Rattle.replay_plan.specs.Slots.{key_asked}
+use Rattle.replay_plan.proofs.parts.with_asked_keys.Given as goal
+
+abbrev pub invariant-loop-key : goal.invariant-loop-key
+invariant-loop-key l = l.parts.items ++ key_asked (drop l.key-index l.keys) ≡ l.fn.parts.items ++ key_asked l.keys

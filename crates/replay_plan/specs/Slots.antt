@@ -1,0 +1,141 @@
+-- What is kept of the earlier items in their stead: for each part of each place the last level.
+use Rattle.std.specs.Prelude.{◌≡◌, ◌≤◌, ◌<◌, ℕ, max, nat_lt, Bool, true, false, not, ◌&&◌, ◌||◌, ◌==◌, if◌then◌else◌, List, [], ◌∷◌, map, Option, option_map, unwrap_or}
+use Rattle.std.specs.List.{list_any}
+use Rattle.std.specs.Map.{lookup}
+use Rattle.undo_base.specs.declared.keys.User.{User}
+use Rattle.undo_base.specs.declared.keys.Key.{Key}
+use Rattle.verb_core.specs.Mailboxes.{same_key}
+use Rattle.verb_core.specs.Boxes.{same_user}
+use Rattle.touch_rules.specs.declared.touched.Touch.{Touch}
+use Rattle.touch_rules.specs.declared.touched.Touch.TheVariants.{Keys, Tail, Whole as All, Names}
+use Rattle.touch_rules.specs.Commuting.{user_of, mailbox_of, same_mailbox, does_write}
+use Rattle.replay_plan.specs.Placing.{Placed, highest}
+use Rattle.replay_plan.specs.declared.slots.Part.{Part}
+use Rattle.replay_plan.specs.declared.slots.Part.TheVariants.{Anything, Whole, Tails, TailOf, KeysOf, At, Level}
+use Rattle.replay_plan.specs.declared.slots.Slot.{Slot}
+
+-- a part of a place, and whether only those that write it count
+pub record Spot : Type 0 where
+  pub user : User
+  pub mailbox : Option (List ℕ)
+  pub written : Bool
+  pub part : Part
+
+abbrev pub spot_of : Slot → Spot
+spot_of s = record { user = s.user; mailbox = option_map (λ name. name.items) s.mailbox; written = s.written; part = s.part }
+
+-- a spot at the place of a touch
+abbrev pub spot_on : Touch → Bool → Part → Spot
+spot_on touch written part = record { user = user_of touch; mailbox = mailbox_of touch; written = written; part = part }
+
+abbrev pub same_part : Part → Part → Bool
+same_part Anything Anything = true
+same_part Whole Whole = true
+same_part Tails Tails = true
+same_part (TailOf a) (TailOf b) = a == b
+same_part (KeysOf a) (KeysOf b) = a == b
+same_part (At a) (At b) = same_key a b
+same_part (Level a) (Level b) = a == b
+same_part _ _ = false
+
+abbrev pub same_way : Bool → Bool → Bool
+same_way true b = b
+same_way false b = not b
+
+abbrev pub same_spot : Spot → Spot → Bool
+same_spot a b = same_user a.user b.user && (same_mailbox a.mailbox b.mailbox && (same_way a.written b.written && same_part a.part b.part))
+
+-- the level at a spot
+abbrev pub level_at : List (Slot × ℕ) → Spot → ℕ
+level_at levels spot = unwrap_or (lookup (λ s. same_spot spot (spot_of s)) levels) 0
+
+-- ---- what a touch marks, and what it asks for
+
+abbrev pub key_parts : List Key → List Part
+key_parts [] = []
+key_parts (key ∷ keys) = KeysOf key.item ∷ At key ∷ key_parts keys
+
+-- the parts of its place that a touch is of
+abbrev pub parts_of : Touch → List Part
+parts_of (Keys u mailbox keys writes) = Anything ∷ key_parts keys
+parts_of (Tail u mailbox number) = Anything ∷ Tails ∷ TailOf number ∷ []
+parts_of (All u mailbox writes) = Anything ∷ Whole ∷ []
+parts_of (Names u writes) = Anything ∷ Whole ∷ []
+
+abbrev pub key_asked : List Key → List Part
+key_asked [] = []
+key_asked (key ∷ keys) = TailOf key.item ∷ At key ∷ key_asked keys
+
+-- the parts that a later touch of its place must come behind: a touch of one of them speaks of the same messages
+abbrev pub asked_by : Touch → List Part
+asked_by (Keys u mailbox keys writes) = Whole ∷ key_asked keys
+asked_by (Tail u mailbox number) = Whole ∷ Tails ∷ KeysOf number ∷ []
+asked_by (All u mailbox writes) = Anything ∷ []
+asked_by (Names u writes) = Anything ∷ []
+
+-- whether a touch of these parts is at a spot
+abbrev pub is_at : List Part → Touch → Spot → Bool
+is_at parts touch spot = (not spot.written || does_write touch) && list_any (λ part. same_spot spot (spot_on touch spot.written part)) parts
+
+-- the spot at which a touch looks: where it reads, those that write count
+abbrev pub asked_on : Touch → Part → Spot
+asked_on touch part = spot_on touch (not (does_write touch)) part
+
+-- the last level of items that have touched a spot
+abbrev pub last_at : List Placed → Spot → ℕ
+last_at [] spot = 0
+last_at (e ∷ earlier) spot = max (if list_any (λ a. is_at (parts_of a) a spot) e.0 then e.1 else 0) (last_at earlier spot)
+
+-- whether an item that has the level of a spot has touched its place
+abbrev pub taken_at : List Placed → Spot → Bool
+taken_at earlier spot = list_any (λ e. list_any (λ a. is_at (Level e.1 ∷ []) a spot) e.0) earlier
+
+-- ---- what two tables know of the earlier items
+
+abbrev pub Tells : List Placed → List (Slot × ℕ) → Type 0
+Tells earlier last = (spot : Spot) → level_at last spot ≡ last_at earlier spot
+
+abbrev pub Knows : List Placed → List (Slot × ℕ) → Type 0
+Knows earlier next = (spot : Spot) → nat_lt 0 (level_at next spot) ≡ taken_at earlier spot
+
+-- a spot at another level
+abbrev pub at_level : Spot → ℕ → Spot
+at_level spot level = record spot { part = Level level }
+
+-- a level that is taken leads to a higher one, past levels that are taken; none is past the end
+abbrev pub Leads : ℕ → List (Slot × ℕ) → Type 0
+Leads end next = (spot : Spot) (level : ℕ) → 1 ≤ level_at next (at_level spot level)
+    → (level < level_at next (at_level spot level)) × (level_at next (at_level spot level) ≤ end)
+    × ((between : ℕ) → level ≤ between → between < level_at next (at_level spot level) → 1 ≤ level_at next (at_level spot between))
+
+-- the same levels are taken
+abbrev pub SameTaken : List (Slot × ℕ) → List (Slot × ℕ) → Type 0
+SameTaken old new = (spot : Spot) → nat_lt 0 (level_at new spot) ≡ nat_lt 0 (level_at old spot)
+
+-- the last level behind which an item must come
+abbrev pub bound : List (Slot × ℕ) → List Touch → ℕ
+bound last touches = highest (map (λ b. highest (map (λ part. level_at last (asked_on b part)) (asked_by b))) touches)
+
+-- whether a level is taken for an item
+abbrev pub is_avoided : List (Slot × ℕ) → List Touch → ℕ → Bool
+is_avoided next touches level = list_any (λ b. nat_lt 0 (level_at next (asked_on b (Level level)))) touches
+
+-- the first level from one on that is not taken at a spot
+pub record IsNextFree (end : ℕ) (next : List (Slot × ℕ)) (spot : Spot) (level found : ℕ) : Type 0 where
+  pub from : level ≤ found
+  pub within : found ≤ max level end
+  pub free : nat_lt 0 (level_at next (at_level spot found)) ≡ false
+  pub first : (lower : ℕ) → level ≤ lower → lower < found → nat_lt 0 (level_at next (at_level spot lower)) ≡ true
+
+-- a level from one on, past levels that are taken for an item; it is the same level only where that one is not taken
+pub record IsPast (end : ℕ) (next : List (Slot × ℕ)) (touches : List Touch) (level found : ℕ) : Type 0 where
+  pub from : level ≤ found
+  pub within : found ≤ max level end
+  pub passed : (lower : ℕ) → level ≤ lower → lower < found → is_avoided next touches lower ≡ true
+  pub same : found ≡ level → is_avoided next touches level ≡ false
+
+-- the first level from one on that is not taken for an item
+pub record IsUntaken (next : List (Slot × ℕ)) (touches : List Touch) (level found : ℕ) : Type 0 where
+  pub from : level ≤ found
+  pub free : is_avoided next touches found ≡ false
+  pub first : (lower : ℕ) → level ≤ lower → lower < found → is_avoided next touches lower ≡ true

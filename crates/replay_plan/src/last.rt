@@ -1,0 +1,105 @@
+//! The last levels of the parts of places.
+ghost use Rattle.std.specs.Prelude.{◌≡◌, ◌<◌, ◌&&◌, max, map, not, IfOk, OnOk, if◌then◌else◌};
+ghost use Rattle.std.specs.List.{list_any};
+ghost use Rattle.touch_rules.specs.Commuting.{does_write};
+ghost use Rattle.replay_plan.specs.Placing.{highest};
+ghost use Rattle.replay_plan.specs.Slots.{spot_of, spot_on, same_spot, level_at, parts_of, asked_by, asked_on, is_at, bound};
+
+use crate::parts::{asked, parts, slot_on, writes};
+use crate::slots::{Part, Slot, Table};
+use std::alloc::Global;
+use touch_rules::Touch;
+use undo_base::NoMemory;
+
+/// With a level at a slot, unless a higher one is there.
+fn raise(last: &mut Table, slot: Slot, level: u32) -> Result<(), NoMemory>
+    ensures { OnOk result ((spot : _) → level_at last.new spot ≡ max (if same_spot spot (spot_of slot) then level else 0) (level_at last.old spot)) }
+{
+    if last.get(&slot) < level {
+        last.set(slot, level)?;
+    }
+    Ok(())
+}
+
+/// With the level of a touch at these parts of its place.
+fn raise_parts(
+    alloc: Global,
+    last: &mut Table,
+    touch: &Touch,
+    written: bool,
+    parts: &[Part],
+    level: u32,
+) -> Result<(), NoMemory>
+    ensures { OnOk result ((spot : _) → level_at last.new spot ≡ max (if list_any (λ part. same_spot spot (spot_on touch.now written part)) parts.now then level else 0) (level_at last.old spot)) }
+{
+    for part in parts {
+        let slot = slot_on(alloc, touch, written, *part)?;
+        raise(last, slot, level)?;
+    }
+    Ok(())
+}
+
+/// With the level of a touch.
+fn raise_touch(alloc: Global, last: &mut Table, touch: &Touch, level: u32) -> Result<(), NoMemory>
+    ensures { OnOk result ((spot : _) → level_at last.new spot ≡ max (if is_at (parts_of touch.now) touch.now spot then level else 0) (level_at last.old spot)) }
+{
+    let parts = parts(alloc, touch)?;
+    raise_parts(alloc, last, touch, false, parts.as_slice(), level)?;
+    if writes(touch) {
+        raise_parts(alloc, last, touch, true, parts.as_slice(), level)?;
+    }
+    Ok(())
+}
+
+/// With the level of an item.
+pub(crate) fn raise_item(
+    alloc: Global,
+    last: &mut Table,
+    touches: &[Touch],
+    level: u32,
+) -> Result<(), NoMemory>
+    ensures { OnOk result ((spot : _) → level_at last.new spot ≡ max (if list_any (λ a. is_at (parts_of a) a spot) touches.now then level else 0) (level_at last.old spot)) }
+{
+    for touch in touches {
+        raise_touch(alloc, last, touch, level)?;
+    }
+    Ok(())
+}
+
+fn higher(a: u32, b: u32) -> u32
+    ensures { result ≡ max a b }
+{
+    if a < b { b } else { a }
+}
+
+/// The highest level at these parts of a touch's place.
+fn highest_at(alloc: Global, last: &Table, touch: &Touch, parts: &[Part]) -> Result<u32, NoMemory>
+    ensures { IfOk result (λ level. level ≡ highest (map (λ part. level_at last.now (asked_on touch.now part)) parts.now)) }
+{
+    let mut high = 0;
+    for part in parts {
+        let slot = slot_on(alloc, touch, !writes(touch), *part)?;
+        high = higher(high, last.get(&slot));
+    }
+    Ok(high)
+}
+
+/// The last level behind which a touch must come.
+fn touch_bound(alloc: Global, last: &Table, touch: &Touch) -> Result<u32, NoMemory>
+    ensures { IfOk result (λ level. level ≡ highest (map (λ part. level_at last.now (asked_on touch.now part)) (asked_by touch.now))) }
+{
+    let parts = asked(alloc, touch)?;
+    highest_at(alloc, last, touch, parts.as_slice())
+}
+
+/// The last level behind which an item must come.
+pub(crate) fn item_bound(alloc: Global, last: &Table, touches: &[Touch]) -> Result<u32, NoMemory>
+    ensures { IfOk result (λ level. level ≡ bound last.now touches.now) }
+{
+    let mut high = 0;
+    for touch in touches {
+        let level = touch_bound(alloc, last, touch)?;
+        high = higher(high, level);
+    }
+    Ok(high)
+}

@@ -1,0 +1,135 @@
+//! Which parts of its place a touch is of, and which a later touch must come behind.
+ghost use Rattle.std.specs.Prelude.{◌≡◌, ◌∷◌, ◌++◌, IfOk, OnOk, option_map, Some};
+ghost use Rattle.touch_rules.specs.Commuting.{does_write, mailbox_of, user_of};
+ghost use Rattle.replay_plan.specs.declared.slots.Part.TheVariants.{Anything, Whole};
+ghost use Rattle.replay_plan.specs.Slots.{spot_of, spot_on, parts_of, asked_by, key_parts, key_asked};
+
+use crate::slots::{Part, Slot};
+use std::alloc::Global;
+use touch_rules::Touch;
+use undo_base::{Key, Name, NoMemory, User};
+
+pub(crate) fn writes(touch: &Touch) -> bool
+    ensures { result ≡ does_write touch.now }
+{
+    match touch {
+        Touch::Keys { writes, .. } => *writes,
+        Touch::Tail { .. } => true,
+        Touch::Whole { writes, .. } => *writes,
+        Touch::Names { writes, .. } => *writes,
+    }
+}
+
+/// The parts of messages that a touch is of.
+fn with_keys(parts: &mut Vec<Part>, keys: &[Key]) -> Result<(), NoMemory>
+    ensures { OnOk result (parts.new.items ≡ parts.old.items ++ key_parts keys.now) }
+{
+    for key in keys {
+        parts.push(Part::KeysOf(key.item))?;
+        parts.push(Part::At(*key))?;
+    }
+    Ok(())
+}
+
+/// The parts of messages that a touch asks for.
+fn with_asked_keys(parts: &mut Vec<Part>, keys: &[Key]) -> Result<(), NoMemory>
+    ensures { OnOk result (parts.new.items ≡ parts.old.items ++ key_asked keys.now) }
+{
+    for key in keys {
+        parts.push(Part::TailOf(key.item))?;
+        parts.push(Part::At(*key))?;
+    }
+    Ok(())
+}
+
+fn of_keys(alloc: Global, keys: &[Key]) -> Result<Vec<Part>, NoMemory>
+    ensures { IfOk result (λ parts. parts.items ≡ Anything ∷ key_parts keys.now) }
+{
+    let mut parts = vec![in alloc; Part::Anything]?;
+    with_keys(&mut parts, keys)?;
+    Ok(parts)
+}
+
+fn asked_by_keys(alloc: Global, keys: &[Key]) -> Result<Vec<Part>, NoMemory>
+    ensures { IfOk result (λ parts. parts.items ≡ Whole ∷ key_asked keys.now) }
+{
+    let mut parts = vec![in alloc; Part::Whole]?;
+    with_asked_keys(&mut parts, keys)?;
+    Ok(parts)
+}
+
+/// The parts that a touch is of.
+pub(crate) fn parts(alloc: Global, touch: &Touch) -> Result<Vec<Part>, NoMemory>
+    ensures { IfOk result (λ parts. parts.items ≡ parts_of touch.now) }
+{
+    match touch {
+        Touch::Keys { keys, .. } => of_keys(alloc, keys.as_slice()),
+        Touch::Tail { number, .. } => {
+            Ok(vec![in alloc; Part::Anything, Part::Tails, Part::TailOf(*number)]?)
+        }
+        Touch::Whole { .. } => Ok(vec![in alloc; Part::Anything, Part::Whole]?),
+        Touch::Names { .. } => Ok(vec![in alloc; Part::Anything, Part::Whole]?),
+    }
+}
+
+/// The parts that a touch asks for.
+pub(crate) fn asked(alloc: Global, touch: &Touch) -> Result<Vec<Part>, NoMemory>
+    ensures { IfOk result (λ parts. parts.items ≡ asked_by touch.now) }
+{
+    match touch {
+        Touch::Keys { keys, .. } => asked_by_keys(alloc, keys.as_slice()),
+        Touch::Tail { number, .. } => {
+            Ok(vec![in alloc; Part::Whole, Part::Tails, Part::KeysOf(*number)]?)
+        }
+        Touch::Whole { .. } => Ok(vec![in alloc; Part::Anything]?),
+        Touch::Names { .. } => Ok(vec![in alloc; Part::Anything]?),
+    }
+}
+
+fn user(touch: &Touch) -> User
+    ensures { result ≡ user_of touch.now }
+{
+    match touch {
+        Touch::Keys { user, .. } => *user,
+        Touch::Tail { user, .. } => *user,
+        Touch::Whole { user, .. } => *user,
+        Touch::Names { user, .. } => *user,
+    }
+}
+
+fn name_bytes(alloc: Global, name: &Name) -> Result<Option<Vec<u8>>, NoMemory>
+    ensures { IfOk result (λ bytes. option_map (λ b. b.items) bytes ≡ Some name.now) }
+{
+    let mut bytes = Vec::new(alloc);
+    bytes.extend_from_slice(name.bytes())?;
+    Ok(Some(bytes))
+}
+
+fn mailbox(alloc: Global, touch: &Touch) -> Result<Option<Vec<u8>>, NoMemory>
+    ensures { IfOk result (λ bytes. option_map (λ b. b.items) bytes ≡ mailbox_of touch.now) }
+{
+    match touch {
+        Touch::Keys { mailbox, .. } => name_bytes(alloc, mailbox),
+        Touch::Tail { mailbox, .. } => name_bytes(alloc, mailbox),
+        Touch::Whole { mailbox, .. } => name_bytes(alloc, mailbox),
+        Touch::Names { .. } => Ok(None),
+    }
+}
+
+/// A slot at the place of a touch.
+pub(crate) fn slot_on(
+    alloc: Global,
+    touch: &Touch,
+    written: bool,
+    part: Part,
+) -> Result<Slot, NoMemory>
+    ensures { IfOk result (λ slot. spot_of slot ≡ spot_on touch.now written part) }
+{
+    let mailbox = mailbox(alloc, touch)?;
+    Ok(Slot {
+        user: user(touch),
+        mailbox,
+        written,
+        part,
+    })
+}

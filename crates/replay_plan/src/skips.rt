@@ -1,0 +1,175 @@
+//! The levels that are taken at a place, and the next that is not.
+ghost use Rattle.std.specs.Prelude.{◌≡◌, ◌≤◌, ◌<◌, ◌||◌, max, nat_lt, IfOk, OnOk, [], ◌∷◌};
+ghost use Rattle.std.specs.List.{list_any};
+ghost use Rattle.replay_plan.specs.declared.slots.Part.TheVariants.{Level};
+ghost use Rattle.replay_plan.specs.Slots.{spot_on, same_spot, level_at, is_at, Leads, SameTaken, IsNextFree, IsPast, IsUntaken};
+
+use crate::parts::{slot_on, writes};
+use crate::slots::{Part, Table};
+use std::alloc::Global;
+use touch_rules::Touch;
+use undo_base::NoMemory;
+
+/// Where a level leads; 0 where it is not taken.
+fn look(
+    alloc: Global,
+    next: &Table,
+    touch: &Touch,
+    written: bool,
+    level: u32,
+) -> Result<u32, NoMemory>
+    ensures { IfOk result (λ further. further ≡ level_at next.now (spot_on touch.now written (Level level))) }
+{
+    let slot = slot_on(alloc, touch, written, Part::Level(level))?;
+    Ok(next.get(&slot))
+}
+
+/// With a level that is taken leading as far as the one that it leads to.
+fn shorten(
+    alloc: Global,
+    next: &mut Table,
+    touch: &Touch,
+    written: bool,
+    level: u32,
+    further: u32,
+    end: u32,
+) -> Result<(), NoMemory>
+    requires leads { Leads end next.old }
+    requires taken { 1 ≤ further }
+    requires further { further ≡ level_at next.old (spot_on touch.now written (Level level)) }
+    ensures same { OnOk result (SameTaken next.old next.new) }
+    ensures leads { OnOk result (Leads end next.new) }
+{
+    let beyond = look(alloc, next, touch, written, further)?;
+    if beyond > 0 {
+        let slot = slot_on(alloc, touch, written, Part::Level(level))?;
+        next.set(slot, beyond)?;
+    }
+    Ok(())
+}
+
+/// The first level from one on that is not taken. What is passed over is shortened, so that it is not passed again.
+fn first_free(
+    alloc: Global,
+    next: &mut Table,
+    touch: &Touch,
+    written: bool,
+    level: u32,
+    end: u32,
+) -> Result<u32, NoMemory>
+    requires leads { Leads end next.old }
+    ensures same { OnOk result (SameTaken next.old next.new) }
+    ensures leads { OnOk result (Leads end next.new) }
+    ensures free { IfOk result (IsNextFree end next.old (spot_on touch.now written (Level level)) level) }
+{
+    let mut free = level;
+    let mut further = look(alloc, next, touch, written, free)?;
+    while further > 0 {
+        shorten(alloc, next, touch, written, free, further, end)?;
+        free = further;
+        further = look(alloc, next, touch, written, free)?;
+    }
+    Ok(free)
+}
+
+/// A level from one on, past levels that are taken for an item; it is the same level where that one is free.
+fn past_item(
+    alloc: Global,
+    next: &mut Table,
+    touches: &[Touch],
+    level: u32,
+    end: u32,
+) -> Result<u32, NoMemory>
+    requires leads { Leads end next.old }
+    ensures same { OnOk result (SameTaken next.old next.new) }
+    ensures leads { OnOk result (Leads end next.new) }
+    ensures past { IfOk result (IsPast end next.old touches.now level) }
+{
+    let mut free = level;
+    for touch in touches {
+        free = first_free(alloc, next, touch, !writes(touch), free, end)?;
+    }
+    Ok(free)
+}
+
+/// The first level from one on that is not taken for an item.
+pub(crate) fn free_level(
+    alloc: Global,
+    next: &mut Table,
+    touches: &[Touch],
+    low: u32,
+    end: u32,
+) -> Result<u32, NoMemory>
+    requires leads { Leads end next.old }
+    ensures same { OnOk result (SameTaken next.old next.new) }
+    ensures leads { OnOk result (Leads end next.new) }
+    ensures free { IfOk result (IsUntaken next.old touches.now low) }
+{
+    let mut level = low;
+    let mut free = past_item(alloc, next, touches, level, end)?;
+    while free > level {
+        level = free;
+        free = past_item(alloc, next, touches, level, end)?;
+    }
+    Ok(level)
+}
+
+/// With a level that is taken at a touch's place.
+fn take(
+    alloc: Global,
+    next: &mut Table,
+    touch: &Touch,
+    written: bool,
+    level: u32,
+    end: u32,
+) -> Result<(), NoMemory>
+    requires leads { Leads end next.old }
+    requires below { level < end }
+    ensures taken { OnOk result ((spot : _) → nat_lt 0 (level_at next.new spot) ≡ (same_spot spot (spot_on touch.now written (Level level)) || nat_lt 0 (level_at next.old spot))) }
+    ensures leads { OnOk result (Leads end next.new) }
+{
+    if look(alloc, next, touch, written, level)? == 0 {
+        let slot = slot_on(alloc, touch, written, Part::Level(level))?;
+        next.set(slot, level + 1)?;
+    }
+    Ok(())
+}
+
+/// With a level that is taken by a touch.
+fn take_touch(
+    alloc: Global,
+    next: &mut Table,
+    touch: &Touch,
+    level: u32,
+    end: u32,
+) -> Result<(), NoMemory>
+    requires leads { Leads end next.old }
+    requires below { level < end }
+    ensures taken { OnOk result ((spot : _) → nat_lt 0 (level_at next.new spot) ≡ (is_at (Level level ∷ []) touch.now spot || nat_lt 0 (level_at next.old spot))) }
+    ensures leads { OnOk result (Leads end next.new) }
+{
+    take(alloc, next, touch, false, level, end)?;
+    if writes(touch) {
+        take(alloc, next, touch, true, level, end)?;
+    }
+    Ok(())
+}
+
+/// With a level that is taken by an item.
+pub(crate) fn take_item(
+    alloc: Global,
+    next: &mut Table,
+    touches: &[Touch],
+    level: u32,
+    end: u32,
+) -> Result<(), NoMemory>
+    requires leads { Leads end next.old }
+    requires below { level < end }
+    ensures taken { OnOk result ((spot : _) → nat_lt 0 (level_at next.new spot) ≡ (list_any (λ a. is_at (Level level ∷ []) a spot) touches.now || nat_lt 0 (level_at next.old spot))) }
+    ensures leads { OnOk result (Leads end next.new) }
+{
+    for touch in touches {
+        take_touch(alloc, next, touch, level, end)?;
+    }
+    Ok(())
+}
