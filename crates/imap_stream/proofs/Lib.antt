@@ -6,7 +6,9 @@ pub mod Lines
 pub mod OneWay
 pub mod Wanting
 pub mod Whole
+pub mod Within
 pub mod Readings
+pub mod Settled
 pub mod Splitting
 pub mod Tags
 pub mod Telling

@@ -1,8 +1,8 @@
 -- What a reader has seen, before and after it waits, takes a literal or ends a line.
 use Rattle.std.proofs.Common.{◌≡◌, ℕ, ◌+◌, ◌-◌, ◌<◌, ◌≤◌, Bool, true, false, cond, List, [], ◌∷◌, ◌++◌, length, take, drop, nat_lt, nat_le, Option, None, Some, refl, ap, sym, ◌∙◌, arith, zero, suc, subst}
 use Rattle.std.proofs.lemmas.List.{append_assoc, length-append, length-take, length-drop, take_at, drop-drop}
-use Rattle.imap_stream.specs.Commands.{Heard, end_of, last_byte, heard, saying, before, nothing, closed, told, bad, asked, ended, marked_or_finished, with_literal, tag_of_command, awaited, awaits_after, TakesNext}
-use Rattle.imap_stream.specs.Reading.{IsBegun, IsClear, IsSound, IsOpen, EndsAt, Waits, GivesUp, Settles, seen}
+use Rattle.imap_stream.specs.Commands.{Heard, end_of, last_byte, heard, saying, before, nothing, closed, told, bad, asked, ended, marked_or_finished, with_literal, tag_of_command, first_line, awaited, awaits_after, TakesNext}
+use Rattle.imap_stream.specs.Reading.{IsBegun, IsClear, IsSound, IsWithin, IsOpen, EndsAt, Waits, GivesUp, Settles, seen}
 use Rattle.imap_stream.specs.declared.begun.Begun.{Begun}
 use Rattle.imap_stream.specs.declared.begun.Awaits.{Awaits}
 use Rattle.imap_stream.specs.declared.begun.Awaits.TheVariants.{Line, Literal, End}
@@ -13,6 +13,7 @@ use Rattle.imap_stream.specs.declared.next.BadLine.{BadLine}
 use Rattle.imap_stream.specs.declared.next.LineFault.TheVariants.{Long, Literal as TooLarge, Many}
 use Rattle.imap_stream.specs.declared.marks.Mark.{Mark}
 use Rattle.imap_stream.specs.Marks.{mark_of}
+use Rattle.imap_stream.proofs.Within.{ended_within, tag_short, within_end, within_literal}
 use Rattle.imap_stream.proofs.Lines.{EndsHere, ends, end_of-one, end_of-last, last_byte-twice}
 use Rattle.imap_stream.proofs.Hearing.{partly, given_up, heard-append, heard_told, literal_run, literal_taken, line_run, long_run, skip_all, skip_end, line_closes}
 
@@ -101,6 +102,7 @@ pub gives_up_sound : (old new : Reader) (bytes : List ℕ) (start : ℕ) → Giv
 gives_up_sound old new bytes start g = record {
   given = g.within;
   begun = subst IsBegun (sym g.begun) nothing_is;
+  limits = rw (g.begun, g.awaits) (within_end (tag_of_command old.begun (drop start bytes)) (tag_short (first_line old.begun.lines (drop start bytes))));
   within = subst (λ n. n ≤ length (drop (awaited new.awaits) (drop new.given bytes))) (sym g.scanned) (omega arith);
   clear = subst (IsClear (drop new.given bytes) (awaited new.awaits)) (sym g.scanned) (clear_none (drop new.given bytes) (awaited new.awaits));
 }
@@ -163,16 +165,18 @@ scanned_sound old bytes start n w e =
     record {
       given = w.sound.given;
       begun = w.sound.begun;
+      limits = w.sound.limits;
       within = omega arith;
       clear = subst (IsClear (drop old.given bytes) (awaited old.awaits)) (sym same) (clear_open (drop old.given bytes) (awaited old.awaits) o.within o.none);
     }
 
 -- a line that is too long
-pub skipped_sound : (old : Reader) (bytes : List ℕ) (given : ℕ) (tag : Option (List ℕ)) → IsSound old bytes → given ≤ length bytes
+pub skipped_sound : (old : Reader) (bytes : List ℕ) (given : ℕ) (tag : Option (List ℕ)) → IsSound old bytes → old.awaits ≡ End tag → given ≤ length bytes
     → IsSound (record { begun = old.begun; awaits = End tag; given = given; scanned = 0 }) bytes
-skipped_sound old bytes given tag sound within = record {
+skipped_sound old bytes given tag sound is within = record {
   given = within;
   begun = sound.begun;
+  limits = subst (λ a. IsWithin a old.begun) is sound.limits;
   within = omega arith;
   clear = clear_none (drop given bytes) 0;
 }
@@ -231,6 +235,18 @@ end_takes begun now awaits bytes given place next is end e after =
     (heard_line begun Line u place (told next now) here (line_closes begun line is here.parts.open_line ∙ e) ∙ heard_told next now (drop (place + 2) u)
     ∙ ap (λ a. saying (next ∷ []) (heard (before now a) (drop (place + 2) u))) (sym after) ∙ ap (λ l. saying (next ∷ []) (heard (before now awaits) l)) far)
 
+pub end_sound : (begun now : Begun) (awaits : Awaits) (bytes line : List ℕ) (given place : ℕ) (next : Next) → IsWithin Line begun → EndsAt given bytes place
+    → ended begun line ≡ told next now → awaits ≡ awaits_after next → IsSound (record { begun = now; awaits = awaits; given = given + place + 2; scanned = 0 }) bytes
+end_sound begun now awaits bytes line given place next within end e after =
+    let new = ended_within begun line next now within e in
+    record {
+      given = end.within;
+      begun = new.1;
+      limits = subst (λ a. IsWithin a now) (sym after) new.0;
+      within = omega arith;
+      clear = clear_none (drop (given + place + 2) bytes) (awaited awaits);
+    }
+
 -- a line that is too long ends
 pub end_long_takes : (begun : Begun) (tag : Option (List ℕ)) (bytes : List ℕ) (given place : ℕ) → EndsAt given bytes place
     → heard (before begun (End tag)) (drop given bytes) ≡ saying (Bad (record { tag = tag; why = Long }) ∷ []) (heard (before nothing Line) (drop (given + place + 2) bytes))
@@ -278,12 +294,16 @@ pub settles_sound : (old new : Reader) (bytes : List ℕ) (start place n : ℕ) 
 settles_sound old new bytes start place n sound literal e end s = record {
   given = (let inside = end.within in let g = s.given in omega arith);
   begun = subst IsBegun (sym s.begun) (record { most = sound.begun.most; first = sound.begun.first });
+  limits = rw (s.begun, s.awaits) (within_literal old.begun n (take (start - old.given) (drop old.given bytes)) (subst (λ a. IsWithin a old.begun) literal sound.limits) literal_fits);
   within = rw (s.scanned, s.awaits, s.given) (let w : old.scanned ≤ length (drop (awaited old.awaits) (drop old.given bytes)) = sound.within in
       let w2 : old.scanned ≤ length (drop n (drop old.given bytes)) = subst (λ a. old.scanned ≤ length (drop (awaited a) (drop old.given bytes))) literal w in
       subst (λ l. old.scanned ≤ length l) line w2);
   clear = λ more. rw (s.scanned, s.awaits, s.given) (front more ∙ subst (λ a. end_of (take (old.scanned + 1) (drop (awaited a) (drop old.given bytes ++ more))) ≡ None) literal (sound.clear more));
 }
   where
+    literal_fits : length (take (start - old.given) (drop old.given bytes)) ≤ n
+    literal_fits = simp length-take (omega arith)
+
     line : drop n (drop old.given bytes) ≡ drop start bytes
     line = drop-drop n old.given bytes ∙ ap (λ k. drop k bytes) (sym e)
 
@@ -300,6 +320,7 @@ pub fed_sound : (r : Reader) (bytes more : List ℕ) → IsSound r bytes → IsS
 fed_sound r bytes more sound = record {
   given = (let g = sound.given in simp length-append (omega arith));
   begun = sound.begun;
+  limits = sound.limits;
   within = (let w = sound.within in let g = sound.given in let n = awaited r.awaits in
       let fits : length (drop n (drop r.given bytes)) ≤ length (drop n (drop r.given (bytes ++ more))) = simp (length-drop, length-append) (omega arith) in omega arith);
   clear = λ after. ap (λ l. end_of (take (r.scanned + 1) (drop (awaited r.awaits) l)))

@@ -1,4 +1,5 @@
 pub mod Commands
+pub mod Holding
 pub mod Marks
 pub mod Reading
 pub mod Sets

@@ -1,6 +1,7 @@
 -- How the code keeps what it has heard of a stream.
-use Rattle.std.specs.Prelude.{◌≡◌, ℕ, ◌+◌, ◌-◌, ◌≤◌, List, [], ◌++◌, length, take, drop, Option, None, Some}
+use Rattle.std.specs.Prelude.{◌≡◌, ℕ, ◌+◌, ◌-◌, ◌*◌, ◌≤◌, List, [], ◌++◌, length, take, drop, None, Some}
 use Rattle.imap_stream.specs.Commands.{Heard, heard, before, awaited, end_of, last_byte, nothing, with_literal, tag_of_command}
+use Rattle.imap_stream.specs.Holding.{octets_in, tag_kept, tag_octets, invited, held_in}
 use Rattle.imap_stream.specs.declared.begun.Awaits.{Awaits}
 use Rattle.imap_stream.specs.declared.begun.Awaits.TheVariants.{Line, Literal, End}
 use Rattle.imap_stream.specs.declared.begun.Begun.{Begun}
@@ -15,9 +16,18 @@ pub record IsBegun (begun : Begun) : Type 0 where
 abbrev pub IsClear : List ℕ → ℕ → ℕ → Type 0
 IsClear held n scanned = (more : List ℕ) → end_of (take (scanned + 1) (drop n (held ++ more))) ≡ None
 
+-- what is kept of a command is within the limits, with the literal that comes next
+pub record IsWithin (awaits : Awaits) (begun : Begun) : Type 0 where
+  pub lines : octets_in begun.lines ≤ begun.octets
+  pub few : length begun.literals + invited awaits ≤ 8
+  pub small : octets_in begun.literals ≤ length begun.literals * 1048576
+  pub next : awaited awaits ≤ 1048576
+  pub tag : tag_octets (tag_kept awaits) ≤ 64
+
 pub record IsSound (reader : Reader) (bytes : List ℕ) : Type 0 where
   pub given : reader.given ≤ length bytes
   pub begun : IsBegun reader.begun
+  pub limits : IsWithin reader.awaits reader.begun
   pub within : reader.scanned ≤ length (drop (awaited reader.awaits) (drop reader.given bytes))
   pub clear : IsClear (drop reader.given bytes) (awaited reader.awaits) reader.scanned
 
@@ -40,11 +50,14 @@ IsOpen Line = Unit {0}
 IsOpen (Literal n) = Unit {0}
 IsOpen (End tag) = ⊥
 
--- the tag of a command whose line is too long
-abbrev pub tag_kept : Awaits → Option (List ℕ)
-tag_kept Line = None
-tag_kept (Literal n) = None
-tag_kept (End tag) = tag
+-- how many bytes the code keeps: of a command, and of the stream behind it
+abbrev pub kept : Reader → List ℕ → ℕ
+kept reader bytes = octets_in reader.begun.lines + octets_in reader.begun.literals + tag_octets (tag_kept reader.awaits) + length (drop reader.given bytes)
+
+-- no more is kept than what comes next needs
+pub record IsSettled (reader : Reader) (bytes : List ℕ) : Type 0 where
+  pub same : kept reader bytes ≡ held_in (seen reader bytes)
+  pub most : kept reader bytes ≤ 8500000
 
 -- the line that begins at a place has so many bytes before its CRLF
 pub record EndsAt (start : ℕ) (bytes : List ℕ) (place : ℕ) : Type 0 where

@@ -68,7 +68,7 @@ pub fn none_begun(alloc: Global) -> Begun
 }
 
 /// The first line of the command, of which this line is the next.
-fn opening<'a>(begun: &'a Begun, line: &'a [u8]) -> &'a [u8]
+pub fn opening<'a>(begun: &'a Begun, line: &'a [u8]) -> &'a [u8]
     ensures { result.now ≡ first_line begun.entry.now.lines line.entry.now }
 {
     match begun.lines.as_slice() {

@@ -8,6 +8,7 @@
 
 mod begun;
 mod cut;
+mod held;
 mod laws;
 mod marks;
 mod next;

@@ -1,10 +1,12 @@
 //! A stream that comes in pieces.
-ghost use Rattle.std.specs.Prelude.{◌≡◌, ◌≤◌, ◌++◌, length, drop, IfOk, OnOk, OnErr};
+ghost use Rattle.std.specs.Prelude.{◌≡◌, ◌≤◌, ◌++◌, [], true, Ok, length, drop, IfOk, OnOk, OnErr};
 ghost use Rattle.imap_stream.specs.Commands.{heard, before, nothing, TakesNext, WantsMemory};
+ghost use Rattle.imap_stream.specs.Holding.{held_in};
 ghost use Rattle.imap_stream.specs.Reading.{IsSound, IsLean, seen};
 ghost use Rattle.imap_stream.specs.declared.begun.Awaits.TheVariants.{Line};
 
 use crate::Next;
+use crate::held::held;
 use crate::reader::{Reader, first_reader, take_next};
 use std::alloc::Global;
 use std::marker::Model;
@@ -51,13 +53,32 @@ impl Pieces {
     /// Memory is wanted only where a line has ended, or where one is too long whose command has a tag.
     pub fn next(&mut self, alloc: Global) -> Result<Next, NoMemory>
         ensures ok { IfOk result (λ next. TakesNext self.old next self.new) }
+        ensures held { IfOk result (λ next. next ≡ Next.NotYet → held_in self.new ≤ 8500000) }
         ensures err { OnErr result (self.new ≡ self.old) }
         ensures wants { OnErr result (WantsMemory self.old) }
     {
         let next = take_next(alloc, &mut self.reader, &self.bytes);
-        compact(&mut self.reader, &mut self.bytes);
+        if is_not_yet(&next) {
+            drop_given(&mut self.reader, &mut self.bytes);
+        } else {
+            compact(&mut self.reader, &mut self.bytes);
+        }
         next
     }
+
+    /// How many bytes of the stream are kept where nothing whole is there, as after `next` answered `NotYet`. Takes no memory.
+    pub fn held(&self) -> usize
+        ensures { self.now.said ≡ [] → result ≡ held_in self.now }
+    {
+        held(&self.reader, &self.bytes)
+    }
+}
+
+/// Whether nothing whole is there.
+fn is_not_yet(next: &Result<Next, NoMemory>) -> bool
+    ensures { result ≡ true → next.now ≡ Ok Next.NotYet }
+{
+    matches!(next, Ok(Next::NotYet))
 }
 
 /// Takes the first bytes away.
@@ -74,6 +95,17 @@ fn push_bytes(bytes: &mut Vec<u8>, more: &[u8]) -> Result<(), NoMemory>
 {
     bytes.extend_from_slice(more)?;
     Ok(())
+}
+
+/// Takes the bytes away that are read. Where nothing whole is there, the others came behind the last that was, and so each is moved once at most for it.
+fn drop_given(reader: &mut Reader, bytes: &mut Vec<u8>)
+    requires { IsSound reader.old bytes.old.items }
+    ensures lean { IsLean reader.new bytes.new.items }
+    ensures same { seen reader.new bytes.new.items ≡ seen reader.old bytes.old.items }
+    ensures all { length bytes.new.items ≡ length (drop reader.old.given bytes.old.items) }
+{
+    drop_front(bytes, reader.given);
+    reader.given = 0;
 }
 
 /// Takes the bytes away that are read, where they are more than the others, so that each byte is moved once at most for one that was read.

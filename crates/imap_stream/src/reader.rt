@@ -1,7 +1,8 @@
 //! Reads a stream, as far as it has come.
 ghost use Rattle.std.specs.Prelude.{◌≡◌, ◌≢◌, ◌+◌, ◌≤◌, [], length, take, drop, None, IfOk, IfSome, OnOk, OnErr};
 ghost use Rattle.imap_stream.specs.Commands.{is_end, end_of, last_byte, awaited, nothing, tag_of_command, TakesNext, WantsMemory};
-ghost use Rattle.imap_stream.specs.Reading.{IsSound, IsOpen, IsSearched, EndsAt, Waits, GivesUp, Settles, tag_kept, seen};
+ghost use Rattle.imap_stream.specs.Holding.{tag_kept};
+ghost use Rattle.imap_stream.specs.Reading.{IsSound, IsOpen, IsSearched, IsSettled, EndsAt, Waits, GivesUp, Settles, seen};
 
 use crate::begun::{
     Awaits, Begun, MOST_OCTETS, awaits_after, command_tag, end_line, none_begun, octets_awaited,
@@ -104,6 +105,7 @@ fn wait_in_line(
     ensures none { (seen reader.old bytes.now).said ≡ [] }
     ensures same { seen reader.new bytes.now ≡ seen reader.old bytes.now }
     ensures searched { OnOk result (IsSearched reader.new bytes.now) }
+    ensures settled { OnOk result (IsSettled reader.new bytes.now) }
     ensures wants { OnErr result (WantsMemory (seen reader.old bytes.now)) }
 {
     let length = bytes.len() - start;
@@ -122,6 +124,7 @@ fn wait(alloc: Global, reader: &mut Reader, bytes: &[u8], start: usize) -> Resul
     ensures none { (seen reader.old bytes.now).said ≡ [] }
     ensures same { seen reader.new bytes.now ≡ seen reader.old bytes.now }
     ensures searched { OnOk result (IsSearched reader.new bytes.now) }
+    ensures settled { OnOk result (IsSettled reader.new bytes.now) }
     ensures wants { OnErr result (WantsMemory (seen reader.old bytes.now)) }
 {
     match &reader.awaits {
@@ -229,6 +232,7 @@ pub fn take_next(alloc: Global, reader: &mut Reader, bytes: &[u8]) -> Result<Nex
     ensures err { OnErr result (seen reader.new bytes.now ≡ seen reader.old bytes.now) }
     ensures wants { OnErr result (WantsMemory (seen reader.old bytes.now)) }
     ensures searched { IfOk result (λ next. next ≡ Next.NotYet → IsSearched reader.new bytes.now) }
+    ensures settled { IfOk result (λ next. next ≡ Next.NotYet → IsSettled reader.new bytes.now) }
 {
     let before = octets_awaited(&reader.awaits);
     if bytes.len() - reader.given < before {

@@ -1,10 +1,11 @@
-use Rattle.std.proofs.Common.{◌≡◌, ℕ, ◌+◌, arith, sym, ap, ◌∙◌, drop, Option, None, List, []}
+use Rattle.std.proofs.Common.{◌≡◌, ℕ, ◌+◌, ◌≤◌, arith, sym, ap, subst, ◌∙◌, drop, length, Option, None, List, []}
 use Rattle.imap_stream.specs.Commands.{heard, before, end_of, last_byte, awaited}
 use Rattle.imap_stream.specs.declared.begun.Awaits.TheVariants.{End}
 use Rattle.imap_stream.specs.declared.reader.Reader.{Reader}
 use Rattle.imap_stream.specs.Reading.{Waits, seen}
 use Rattle.imap_stream.proofs.Hearing.{skip_all}
 use Rattle.imap_stream.proofs.Readings.{skip_same}
+use Rattle.imap_stream.proofs.Settled.{last_few, settled_end}
 use Rattle.imap_stream.proofs.Wanting.{last_searched}
 use Rattle.imap_stream.proofs.reader.wait.Goals as goal
 
@@ -33,3 +34,8 @@ returns-in-End-clause-same c = same_in_end c.args.reader.now c.args.bytes.now c.
 pub returns-in-End-clause-searched : goal.returns-in-End-clause-searched
 returns-in-End-clause-searched c =
     rw c.in-End.is (last_searched (drop c.skipped-reader.result c.args.bytes.now) (drop c.args.start c.args.bytes.now) c.skipped-reader.ensures.rest)
+
+pub returns-in-End-clause-settled : goal.returns-in-End-clause-settled
+returns-in-End-clause-settled c =
+    let few : length (drop c.skipped-reader.result c.args.bytes.now) ≤ 1 = subst (λ l. length l ≤ 1) (sym c.skipped-reader.ensures.rest) (last_few (drop c.args.start c.args.bytes.now)) in
+    settled_end _ c.args.bytes.now c.in-End.tag c.requires.sound.begun c.requires.sound.limits c.in-End.is few

@@ -1,5 +1,6 @@
 use Rattle.std.proofs.Common.{◌<◌, ◌+◌, ◌-◌, ◌≤◌, length, arith}
 use Rattle.imap_stream.proofs.Readings.{gives_up_same, none_long, none_short}
+use Rattle.imap_stream.proofs.Settled.{settled_given_up, settled_open}
 use Rattle.imap_stream.proofs.Wanting.{given_up_searched, long_wants, on_err}
 use Rattle.imap_stream.proofs.reader.wait_in_line.Goals as goal
 
@@ -30,3 +31,14 @@ pub returns-in_err-give_up-clause-wants : goal.returns-in_err-give_up-clause-wan
 returns-in_err-give_up-clause-wants c =
     let long : 65537 < c.args.reader.now.begun.octets + (length c.args.bytes.now - c.args.start) = omega arith in
     on_err c.from_residual.result (long_wants c.args.reader.now c.args.bytes.now c.args.start c.requires.waits c.requires.open long c.in_err-give_up.ensures.tag)
+
+pub returns-then-length-reader-clause-settled : goal.returns-then-length-reader-clause-settled
+returns-then-length-reader-clause-settled c = settled_given_up c.args.reader.now c.give_up.new.reader c.args.bytes.now c.args.start c.in_ok-give_up.ensures.ok
+
+pub returns-clause-settled : goal.returns-clause-settled
+returns-clause-settled c =
+    let r = c.args.reader.now in
+    let bytes = c.args.bytes.now in
+    let short : r.begun.octets + (length bytes - c.args.start) ≤ 65537 = (let m = c.requires.waits.sound.begun.most in omega arith) in
+    let is = settled_open r bytes c.args.start c.requires.waits c.requires.open short in
+    record { same = is.same; most = is.most }
