@@ -1,5 +1,5 @@
 -- What holds of the parts of a cycle.
-use Rattle.std.proofs.Common.{◌≡◌, ℕ, zero, suc, ◌+◌, ◌≤◌, Bool, cond, true, false, ◌&&◌, arith, nat_lt, refl, ◌∙◌, ap, ap₂, List, [], ◌∷◌, ◌++◌, drop, length, filter, map, Some, is_some, take}
+use Rattle.std.proofs.Common.{◌≡◌, ℕ, zero, suc, ◌+◌, ◌≤◌, Bool, cond, true, false, ◌&&◌, arith, nat_lt, refl, ◌∙◌, ap, ap₂, List, [], ◌∷◌, drop, length, filter, map, Some, is_some, take}
 use Rattle.std.specs.List.{AllByRecursion, enumerate_from, list_all}
 use Rattle.std.specs.Cmp.{first_so, second_so}
 use Rattle.std.proofs.lemmas.Bool.{lt-ltb}

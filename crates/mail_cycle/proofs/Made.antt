@@ -1,5 +1,5 @@
 -- What is left from a beginning: as from the first item on, where its store is the one to which the first items led.
-use Rattle.std.proofs.Common.{◌≡◌, ◌∙◌, ℕ, zero, suc, ◌+◌, ◌-◌, ◌≤◌, arith, refl, sym, ap, ap₂, subst, List, [], ◌∷◌, take, drop, length, Result, Ok, Err, IfOk}
+use Rattle.std.proofs.Common.{◌≡◌, ◌∙◌, ℕ, zero, suc, ◌+◌, ◌-◌, ◌≤◌, arith, sym, ap, ap₂, subst, List, [], ◌∷◌, take, drop, length, Result, Ok, Err, IfOk}
 use Rattle.std.proofs.lemmas.List.{take-append-le, take-take}
 use Rattle.verb_core.specs.declared.item.Item.{Item}
 use Rattle.verb_core.specs.declared.item.Shown.{Shown}

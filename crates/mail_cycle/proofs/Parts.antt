@@ -16,13 +16,12 @@ use Rattle.verb_core.proofs.Joins.{run_joined}
 use Rattle.paradox.specs.Kept.{Kept, store_of}
 use Rattle.paradox.specs.Letters.{notices}
 use Rattle.paradox.specs.declared.reports.BrokenItem.{BrokenItem}
-use Rattle.paradox.specs.declared.reports.Report.{Report}
 use Rattle.repair_desk.specs.declared.editing.Edited.{Edited}
 use Rattle.repair_desk.specs.Renewals.{renewed}
 use Rattle.repair_desk.specs.Repairs.{are_known, edited_at, is_among, numbers_of, position}
 use Rattle.repair_desk.proofs.Everywhere.{all_formed}
 use Rattle.mail_cycle.specs.declared.settling.Rewound.{Rewound}
-use Rattle.mail_cycle.specs.Cycles.{broken_by, compared_from, cycled_at, cycled_from, front_of, leaves_numbers, notice_items, reached_from, renewed_by, repaired_items, report_by, stamps_by, timeline_by, told_by}
+use Rattle.mail_cycle.specs.Cycles.{broken_by, compared_from, cycled_at, cycled_from, front_of, leaves_numbers, notice_items, reached_from, renewed_by, report_by, stamps_by, timeline_by, told_by}
 use Rattle.mail_cycle.specs.Judging.{judged, shown_after}
 use Rattle.mail_cycle.specs.Asking.{IsRewinds, NoNumbers, Rewinds, due_anew, due_at}
 use Rattle.mail_cycle.specs.Leaving.{LeavesAt}
