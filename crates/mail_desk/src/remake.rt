@@ -196,9 +196,7 @@ impl Desk {
         ensures ready { IfOk result (λ made. CanReplace made self.new) }
     {
         let indexed = indexed_with_room(alloc, &mut self.reports, &self.shelf, fresh, timeline);
-        completed(
-            store, stamps, next, key, report, place, entered, indexed,
-        )
+        completed(store, stamps, next, key, report, place, entered, indexed)
     }
 
     /// Puts the outcome of a cycle in place, and forgets the snapshots behind its place. It takes no memory.
