@@ -1,3 +1,4 @@
 pub mod OrderLemmas
 pub mod NoteLemmas
 pub mod PlaceLemmas
+pub mod MarkLemmas

@@ -1,12 +1,16 @@
 -- What a shelf knows of bodies.
 use Rattle.std.specs.Prelude.{◌≡◌, ℕ, ◌+◌, ◌≤◌, ◌==◌, ◌&&◌, Bool, List, [], ◌∷◌, Option, Some, None, option_map, slice_range, if◌then◌else◌}
+use Rattle.seal_log.specs.declared.place.Place.{Place}
 use Rattle.verb_core.specs.declared.mailbox.Body.{Body}
 use Rattle.shelf.specs.declared.note.Note.{Note}
 
--- a shelf: each body that was noted with its last note, and room for so many notes more
+-- a shelf: each body that was noted with its last note, and room for so many notes more; the snapshots that are kept, each
+-- by its position with where it lies, and room for so many more of them
 pub record Noted : Type 0 where
   pub notes : List (Body × Note)
   pub room : ℕ
+  pub marks : List (ℕ × Place)
+  pub keeps : ℕ
 
 abbrev pub same_body : Body → Body → Bool
 same_body a b = (a.origin == b.origin) && (a.rev == b.rev)

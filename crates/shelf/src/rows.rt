@@ -1,4 +1,4 @@
-//! The notes of bodies.
+//! The shelf, and the notes of bodies.
 ghost use Rattle.std.specs.Prelude.{◌≡◌, ◌≤◌, ◌<◌, ◌+◌, [], IfOk, IfErr, OnOk};
 ghost use Rattle.shelf.specs.Notes as spec;
 ghost use Rattle.shelf.specs.Notes.{NotesOnly, note_of, size_of};
@@ -11,22 +11,29 @@ use std::marker::Model;
 use undo_base::NoMemory;
 use verb_core::Body;
 
-/// The bodies that are known, each with its last note.
+/// The bodies that are known, each with its last note; and the positions of snapshots, each with where it lies.
 #[derive(Debug, Drop)]
 pub struct Shelf {
-    rows: Vec<(Body, Note)>,
+    pub(crate) rows: Vec<(Body, Note)>,
+    pub(crate) marks: Vec<(u32, Place)>,
 }
 
 impl Model for Shelf {
     ghost use Rattle.std.specs.Prelude.{◌-◌, vec_len, vec_capacity};
     ghost use Rattle.shelf.specs.Notes.{Noted};
+    ghost use Rattle.shelf.specs.Marks.{MarksRise};
     ghost use Rattle.shelf.specs.Rows.{IsRising};
 
     ghost Value = { Noted };
 
-    ghost view = { λ s. record { notes = s.rows.items; room = vec_capacity s.rows - vec_len s.rows } };
+    ghost view = { λ s. record {
+      notes = s.rows.items;
+      room = vec_capacity s.rows - vec_len s.rows;
+      marks = s.marks.items;
+      keeps = vec_capacity s.marks - vec_len s.marks;
+    } };
 
-    ghost invariant = { λ s. IsRising s.rows.items };
+    ghost invariant = { λ s. IsRising s.rows.items × MarksRise s.marks.items };
 }
 
 fn made_at(body: Body) -> (u32, u32, u32)
@@ -36,12 +43,14 @@ fn made_at(body: Body) -> (u32, u32, u32)
 }
 
 impl Shelf {
-    /// A shelf on which nothing is noted, which takes no memory.
+    /// A shelf on which nothing is noted or kept, which takes no memory.
     pub fn new(alloc: Global) -> Shelf
-        ensures { result.notes ≡ [] }
+        ensures notes { result.notes ≡ [] }
+        ensures marks { result.marks ≡ [] }
     {
         Shelf {
             rows: Vec::new(alloc),
+            marks: Vec::new(alloc),
         }
     }
 
@@ -50,6 +59,8 @@ impl Shelf {
         ensures ok { OnOk result (count ≤ self.new.room) }
         ensures room { self.old.room ≤ self.new.room }
         ensures notes { self.new.notes ≡ self.old.notes }
+        ensures marks { self.new.marks ≡ self.old.marks }
+        ensures keeps { self.new.keeps ≡ self.old.keeps }
     {
         self.rows.reserve(count as usize)?;
         Ok(())
@@ -61,6 +72,8 @@ impl Shelf {
         requires { 0 < self.old.room }
         ensures notes { NotesOnly self.old.notes self.new.notes body (record { place = place; from = from; length = length }) }
         ensures room { self.old.room ≤ self.new.room + 1 }
+        ensures marks { self.new.marks ≡ self.old.marks }
+        ensures keeps { self.new.keeps ≡ self.old.keeps }
     {
         let note = Note {
             place,
@@ -98,6 +111,8 @@ impl Shelf {
         requires gap { IsGapFor self.old.notes body at }
         ensures notes { NotesOnly self.old.notes self.new.notes body note }
         ensures room { self.old.room ≤ self.new.room + 1 }
+        ensures marks { self.new.marks ≡ self.old.marks }
+        ensures keeps { self.new.keeps ≡ self.old.keeps }
     {
         match self.rows.insert(at, (body, note)) {
             Ok(()) => {}

@@ -1,12 +1,15 @@
 //! The digest of a mail store, by which two stores are compared.
 //!
-//! What carries the crate: `digest` answers `digest_of` the store, the SHA-256 of its snapshot's one spelling.
+//! What carries the crate: `digest` answers `digest_of` the store, the SHA-256 of its snapshot's one spelling, which
+//! `snapshot_text` gives.
 #![tactic(auto)]
 
-ghost use Rattle.std.specs.Prelude.{◌≡◌, IfOk};
+ghost use Rattle.std.specs.Prelude.{◌≡◌, IfOk, OnOk};
 ghost use Rattle.hex.specs.Hex.{encode_lower};
 ghost use Rattle.sha2.specs.Sha256.{sha256};
-ghost use Rattle.store_digest.specs.Snapshots.{digest_of};
+ghost use Rattle.verb_bytes.specs.declared.journal.JournalRecord.TheVariants.{Snapshot};
+ghost use Rattle.verb_bytes.specs.Spelling.{HasSpelling};
+ghost use Rattle.store_digest.specs.Snapshots.{digest_of, snapshot_bytes};
 
 use box_store::Store;
 use sha2::{Digest, Sha256};
@@ -23,15 +26,23 @@ fn digits(alloc: Global, bytes: &[u8]) -> Result<Text, NoMemory>
     Text::of(alloc, digits.as_bytes())
 }
 
-/// The digest of a store that so many items have made: 64 lower-case hexadecimal digits. It copies the mailboxes and
-/// writes them. No store in use has a snapshot without a spelling; one that had would find no memory.
-pub fn digest(alloc: Global, store: &Store, items: u32) -> Result<Text, NoMemory>
-    ensures { IfOk result (λ text. text ≡ digest_of store.now.store items) }
+/// The record of a store's snapshot, that so many items have made. No store in use has a snapshot without a spelling; one
+/// that had would find no memory.
+pub fn snapshot_text(alloc: Global, store: &Store, items: u32) -> Result<Text, NoMemory>
+    ensures text { IfOk result (λ text. text ≡ snapshot_bytes store.now.store items) }
+    ensures spelled { OnOk result (HasSpelling (Snapshot items store.now.store.conf store.now.store.boxes)) }
 {
-    let rows = store.rows(alloc)?;
-    match spell_snapshot(alloc, items, store.conf(), &rows) {
-        Ok(payload) => digits(alloc, payload.bytes()),
+    match spell_snapshot(alloc, items, store.conf(), store.boxes()) {
+        Ok(text) => Ok(text),
         Err(Unwritten::Unspelled) => Err(NoMemory),
         Err(Unwritten::NoMemory) => Err(NoMemory),
     }
+}
+
+/// The digest of a store that so many items have made: 64 lower-case hexadecimal digits.
+pub fn digest(alloc: Global, store: &Store, items: u32) -> Result<Text, NoMemory>
+    ensures { IfOk result (λ text. text ≡ digest_of store.now.store items) }
+{
+    let payload = snapshot_text(alloc, store, items)?;
+    digits(alloc, payload.bytes())
 }

@@ -4,13 +4,13 @@ ghost use Rattle.verb_bytes.specs.declared.journal.JournalRecord.TheVariants.{Ve
 ghost use Rattle.verb_bytes.specs.Spelling.{ask_fields, record_fields, record_bytes, HasSpelling};
 ghost use Rattle.verb_bytes.specs.Writing.{Encodes, Puts};
 
-use crate::part::{Part, put_list};
+use crate::part::{Part, put_list, put_slice};
 use crate::settings::put_house;
 use crate::write::{Unwritten, put_byte, put_name, put_u32, put_u64};
 use crate::{CycleAsk, JournalRecord};
 use std::alloc::Global;
 use undo_base::{LAST_MOMENT, NoMemory, Text};
-use verb_core::{Act, Conf, Item, Rows};
+use verb_core::{Act, BoxId, Conf, Item, Mailbox};
 
 #[tactic(auto, using(crate::proofs::Puts::list_steps))]
 fn put_ask(ask: &CycleAsk, out: &mut Text) -> Result<(), Unwritten>
@@ -52,14 +52,19 @@ fn put_cycle(number: u32, at: u64, ask: &CycleAsk, out: &mut Text) -> Result<(),
 }
 
 #[tactic(auto, using(crate::proofs::Puts::list_steps))]
-fn put_snapshot(items: u32, conf: &Conf, rows: &Rows, out: &mut Text) -> Result<(), Unwritten>
+fn put_snapshot(
+    items: u32,
+    conf: &Conf,
+    rows: &[(BoxId, Mailbox)],
+    out: &mut Text,
+) -> Result<(), Unwritten>
     ensures { Puts (record_fields (Snapshot items conf.now rows.now)) out.old out.new result }
 {
     put_byte(out, 0, 4, 4)?;
     put_u32(out, u32::MAX, items)?;
     put_list(u32::MAX, &conf.aliases, out)?;
     put_list(u32::MAX, &conf.filters, out)?;
-    put_list(u32::MAX, rows, out)
+    put_slice(u32::MAX, rows, out)
 }
 
 #[tactic(auto, using(crate::proofs::Puts::list_steps))]
@@ -74,7 +79,12 @@ fn put_record(what: &JournalRecord, out: &mut Text) -> Result<(), Unwritten>
         JournalRecord::Verb(item) => put_verb(item, out),
         JournalRecord::Operator { number, at, act } => put_operator(*number, *at, act, out),
         JournalRecord::Cycle { number, at, ask } => put_cycle(*number, *at, ask, out),
-        JournalRecord::Snapshot { items, conf, rows } => put_snapshot(*items, conf, rows, out),
+        JournalRecord::Snapshot { items, conf, rows } => put_snapshot(
+            *items,
+            conf,
+            rows.as_slice(),
+            out,
+        ),
     }
 }
 
@@ -119,7 +129,7 @@ pub fn spell_snapshot(
     alloc: Global,
     items: u32,
     conf: &Conf,
-    rows: &Rows,
+    rows: &[(BoxId, Mailbox)],
 ) -> Result<Text, Unwritten>
     ensures { Encodes (Snapshot items conf.now rows.now) result }
 {

@@ -63,8 +63,16 @@ fn put_each<T: Part>(items: &[T], out: &mut Text) -> Result<(), Unwritten>
     Ok(())
 }
 
-/// Writes a list of at most so many elements.
+/// Writes at most so many elements.
 #[tactic(auto, using(crate::proofs::Puts::list_steps))]
+pub(crate) fn put_slice<T: Part>(most: u32, items: &[T], out: &mut Text) -> Result<(), Unwritten>
+    ensures { Puts (list_fields most T.fields items.now) out.old out.new result }
+{
+    put_count(out, most, items.len())?;
+    put_each(items, out)
+}
+
+/// Writes a list of at most so many elements.
 pub(crate) fn put_list<T: Part>(
     most: u32,
     items: &Sequence<T>,
@@ -72,8 +80,7 @@ pub(crate) fn put_list<T: Part>(
 ) -> Result<(), Unwritten>
     ensures { Puts (list_fields most T.fields items.now) out.old out.new result }
 {
-    put_count(out, most, items.len())?;
-    put_each(items.as_slice(), out)
+    put_slice(most, items.as_slice(), out)
 }
 
 /// Reads 0, or 1 and a value.

@@ -8,7 +8,7 @@ use Rattle.shelf.proofs.rows.Shelf.insert.Goals as goal
 pub invariant_of-self : goal.invariant_of-self
 invariant_of-self c =
     let gap = subst (λ (v : Noted). IsGapFor v.notes c.args.body c.args.at) (sym c.self.view_is) c.requires.gap in
-    subst IsRising (sym c.in-Ok.ensures.items) (rising_insert c.self.inside.rows.items c.args.body c.args.at gap c.args.note c.self.invariant)
+    (subst IsRising (sym c.in-Ok.ensures.items) (rising_insert c.self.inside.rows.items c.args.body c.args.at gap c.args.note c.self.invariant.0), c.self.invariant.1)
 
 -- and changes that body alone
 pub returns-clause-notes : goal.returns-clause-notes
