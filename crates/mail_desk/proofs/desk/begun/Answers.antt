@@ -1,7 +1,7 @@
-use Rattle.std.proofs.Common.{◌≡◌, ◌∙◌, ap, subst, sym}
+use Rattle.std.proofs.Common.{◌∙◌, ap, subst, sym}
 use Rattle.verb_core.specs.Stamps.{opening_stamps}
 use Rattle.verb_core.specs.Store.{IsValid, opening}
-use Rattle.paradox.specs.Kept.{Kept, new_desk}
+use Rattle.paradox.specs.Kept.{Kept}
 use Rattle.mail_desk.specs.Desk.{IsDesk}
 use Rattle.mail_desk.proofs.Desks.{new_desk_holds, new_desk_is, nothing_known}
 use Rattle.mail_desk.proofs.desk.begun.Goals as goal

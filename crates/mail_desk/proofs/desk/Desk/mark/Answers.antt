@@ -1,4 +1,4 @@
-use Rattle.std.proofs.Common.{◌≡◌, ℕ, List, ap, length, ◌∙◌}
+use Rattle.std.proofs.Common.{ℕ, List, ap, length, ◌∙◌}
 use Rattle.paradox.specs.Kept.{Kept, kept_from, passed, placed}
 use Rattle.mail_desk.specs.Held.{Held, marks_kept}
 use Rattle.mail_desk.proofs.desk.Desk.mark.Goals as goal

@@ -2,7 +2,7 @@ use Rattle.std.proofs.Common.{◌≡◌, ℕ, ◌+◌, List, ap, length, map, op
 use Rattle.verb_core.specs.declared.mailbox.Body.{Body}
 use Rattle.verb_core.specs.Items.{text_of}
 use Rattle.seal_log.specs.declared.place.Place.{Place}
-use Rattle.paradox.specs.Kept.{Kept, Marks, kept_from, not_behind}
+use Rattle.paradox.specs.Kept.{Kept, kept_from, not_behind}
 use Rattle.shelf.specs.declared.note.Note.{Note}
 use Rattle.shelf.specs.Notes.{size_of}
 use Rattle.mail_desk.specs.Desk.{IsDesk}

@@ -1,4 +1,4 @@
-use Rattle.std.proofs.Common.{◌≡◌, subst}
+use Rattle.std.proofs.Common.{subst}
 use Rattle.verb_core.specs.Items.{IsTimeline}
 use Rattle.mail_desk.specs.Held.{Held}
 use Rattle.mail_desk.proofs.Timelines.{is_timeline}
