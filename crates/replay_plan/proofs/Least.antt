@@ -70,7 +70,7 @@ above (e ∷ earlier) touches m h =
     (ap (λ b. are_independent e.0 touches || not b) (unequal e.1 m (λ is. absurd (omega (arith, is, h)))) ∙ or_true (are_independent e.0 touches)))
     (above earlier touches m (omega (arith, h)))
 
-levels_more : (earlier : List Placed) (e : Placed) → map (λ (p : Placed). p.1) (earlier ++ e ∷ []) ≡ map (λ (p : Placed). p.1) earlier ++ e.1 ∷ []
+pub levels_more : (earlier : List Placed) (e : Placed) → map (λ (p : Placed). p.1) (earlier ++ e ∷ []) ≡ map (λ (p : Placed). p.1) earlier ++ e.1 ∷ []
 levels_more [] e = refl
 levels_more (x ∷ earlier) e = ap (λ xs. x.1 ∷ xs) (levels_more earlier e)
 

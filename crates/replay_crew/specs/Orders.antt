@@ -1,0 +1,65 @@
+-- Orders of items that were resolved, and which of them may be performed in place of the timeline's.
+use Rattle.std.specs.Prelude.{◌≡◌, ℕ, Bool, not, ◌&&◌, List, [], ◌∷◌, ◌++◌, ◌==◌, map, find, filter_map, IsTrue}
+use Rattle.std.specs.List.{list_all}
+use Rattle.verb_core.specs.declared.conf.House.{House}
+use Rattle.verb_core.specs.declared.item.Item.{Item}
+use Rattle.verb_core.specs.declared.item.Shown.{Shown}
+use Rattle.verb_core.specs.Items.{IsWellFormed}
+use Rattle.verb_core.specs.Aims.{Sought, sought_by}
+use Rattle.verb_core.specs.Store.{MailStore}
+use Rattle.verb_core.specs.Step.{step, step_with}
+use Rattle.touch_rules.specs.declared.touched.Touch.{Touch}
+use Rattle.touch_rules.specs.Table.{touches_of}
+use Rattle.touch_rules.specs.Commuting.{commute}
+use Rattle.touch_rules.specs.Swapping.{sets_conf, resolved}
+
+-- an item with its aims
+abbrev pub Turn : Type 0
+Turn = Sought × Item
+
+-- the items of a timeline, each with the aims that it finds when its turn comes
+abbrev pub turns : MailStore → List Item → List Turn
+turns s [] = []
+turns s (i ∷ is) = (sought_by s i, i) ∷ turns (step s i).0 is
+
+-- a turn beside its place in the timeline
+abbrev pub Placed : Type 0
+Placed = ℕ × Turn
+
+-- the store after turns, performed one after the other
+abbrev pub run_turns : MailStore → List Placed → MailStore
+run_turns s [] = s
+run_turns s (p ∷ ps) = run_turns (step_with p.1.0 s p.1.1).0 ps
+
+-- what each turn is answered, beside its place
+abbrev pub told : MailStore → List Placed → List (ℕ × Shown)
+told s [] = []
+told s (p ∷ ps) = (p.0, (step_with p.1.0 s p.1.1).1) ∷ told (step_with p.1.0 s p.1.1).0 ps
+
+-- whether two may be turned: they commute, and not both are acts on aliases or filters
+abbrev pub may_turn : Placed → Placed → Bool
+may_turn p q = commute (touches_of (resolved p.1.0 p.1.1)) (touches_of (resolved q.1.0 q.1.1)) && not (sets_conf p.1.1.deed && sets_conf q.1.1.deed)
+
+-- an order of these: its first is one of them, which may be turned with each that stands before it here; then an order of
+-- the others
+abbrev pub IsOrder : List Placed → List Placed → Type 0
+IsOrder [] all = all ≡ []
+IsOrder (p ∷ ps) all = (front : List Placed) × ((back : List Placed) × ((all ≡ front ++ p ∷ back) × (IsTrue (list_all (λ q. may_turn q p) front) × IsOrder ps (front ++ back))))
+
+-- the items are well formed in the house
+abbrev pub AreWellFormed : House → List Item → Type 0
+AreWellFormed house [] = Unit {0}
+AreWellFormed house (i ∷ is) = IsWellFormed house i × AreWellFormed house is
+
+-- the turns at these places
+abbrev pub at_places : List Placed → List ℕ → List Placed
+at_places all places = filter_map (λ n. find (λ (p : Placed). p.0 == n) all) places
+
+-- the turns of a plan, level by level
+abbrev pub by_levels : List (List ℕ) → List Placed → List Placed
+by_levels [] all = []
+by_levels (places ∷ more) all = at_places all places ++ by_levels more all
+
+-- what each turn touches
+abbrev pub touches_by_turn : List Turn → List (List Touch)
+touches_by_turn ts = map (λ (t : Turn). touches_of (resolved t.0 t.1)) ts

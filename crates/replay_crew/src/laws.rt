@@ -1,0 +1,25 @@
+//! What holds of each order. These functions do nothing: their contracts are laws of the definitions.
+ghost use Rattle.std.specs.Prelude.{◌≡◌, List};
+ghost use Rattle.std.specs.List.{enumerate_from};
+ghost use Rattle.std.specs.List.Sorted.{IsPermutation};
+ghost use Rattle.verb_core.specs.declared.item.Item.{Item};
+ghost use Rattle.verb_core.specs.Items.{IsWellFormed};
+ghost use Rattle.verb_core.specs.Step.{run, answers};
+ghost use Rattle.verb_core.specs.Store.{MailStore, IsValid};
+ghost use Rattle.replay_plan.specs.Placing.{levels_of};
+ghost use Rattle.replay_crew.specs.Orders.{Placed, AreWellFormed, turns, run_turns, told, IsOrder, by_levels, touches_by_turn};
+
+/// Items with the aims that each finds when its turn comes, performed in any order in which the items of each pair that is
+/// turned commute and are not both acts on aliases or filters, leave the store that the items leave in order, and each gets
+/// the answer that it gets there.
+pub fn orders_give_the_fold()
+    ensures store { (s : MailStore) (items : List Item) (order : List Placed) → IsValid s → AreWellFormed s.house items →
+        IsOrder order (enumerate_from 0 (turns s items)) → run_turns s order ≡ run s items }
+    ensures answers { (s : MailStore) (items : List Item) (order : List Placed) → IsValid s → AreWellFormed s.house items →
+        IsOrder order (enumerate_from 0 (turns s items)) → IsPermutation (told s order) (enumerate_from 0 (answers s items)) }
+{}
+
+/// The plan of a timeline's items is such an order: level by level, and in each level by rising places.
+pub fn plans_are_orders()
+    ensures { (s : MailStore) (items : List Item) → IsOrder (by_levels (levels_of (touches_by_turn (turns s items))) (enumerate_from 0 (turns s items))) (enumerate_from 0 (turns s items)) }
+{}
