@@ -1,7 +1,7 @@
 -- Bytes at whose first places it was seen that no CRLF begins.
 use Rattle.std.proofs.Common.{◌≡◌, ◌⊎◌, ℕ, zero, suc, ◌+◌, ◌-◌, ◌<◌, ◌≤◌, get_or, Bool, true, false, cond, not, ◌&&◌, List, [], ◌∷◌, ◌++◌, length, take, drop, refl, ap, subst, sym, ◌∙◌, inl, inr, arith, add-one}
 use Rattle.std.proofs.lemmas.List.{drop-append-le, length-append}
-use Rattle.smtp_lines.specs.Lines.{is_end, onto_first, onto_rest, lines_of, rest_of}
+use Rattle.smtp_lines.specs.Lines.{is_end, onto_first, onto_rest, lines_of, tail_of}
 use Rattle.smtp_lines.specs.Passed.{passes}
 use Rattle.smtp_lines.proofs.Cut.{Passed, onto_line, onto_last, passed_none}
 
@@ -52,7 +52,7 @@ passed_first : (b c : ℕ) (s front rest : List ℕ) → is_end b c ≡ false �
 passed_first b c s front rest apart p = record {
   whole = ap (λ l. b ∷ l) p.whole;
   lines = rw apart (ap (onto_first b) p.lines ∙ onto_line_first b front (lines_of rest));
-  last = rw apart (rw (p.lines, p.last) (onto_last_first b front (lines_of rest) (rest_of rest)));
+  last = rw apart (rw (p.lines, p.last) (onto_last_first b front (lines_of rest) (tail_of rest)));
 }
 
 -- they are passed
