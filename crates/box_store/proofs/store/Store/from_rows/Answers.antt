@@ -1,4 +1,4 @@
-use Rattle.std.proofs.Common.{◌≡◌, List, Err, Result, subst}
+use Rattle.std.proofs.Common.{◌≡◌, List, subst}
 use Rattle.verb_core.specs.declared.mailbox.BoxId.{BoxId}
 use Rattle.verb_core.specs.declared.mailbox.Mailbox.{Mailbox}
 use Rattle.box_store.specs.Making.{IsRefusedAt}
