@@ -1,4 +1,4 @@
-//! The last note of each body, and the text that is read there.
+//! The last note of each body, and the text that is read there; the snapshots that are kept.
 ghost use Rattle.std.specs.Prelude.{◌≡◌, ◌<◌, ◌≤◌, ◌+◌};
 ghost use Rattle.seal_log.specs.Log.{last_gate};
 
@@ -78,5 +78,49 @@ fn reads_where_it_is_noted(alloc: Global) -> Result<bool, Fail> {
 #[test]
 fn a_text_is_read_where_it_is_noted(rt: HostRuntime) -> Result<(), Fail> {
     assert!(rt; reads_where_it_is_noted(rt.alloc())?);
+    Ok(())
+}
+
+fn place(gate: u64) -> Place {
+    Place { gate, length: 9 }
+}
+
+/// Snapshots after 10, 20 and 30 items, of which the one after 20 was kept again.
+fn kept(alloc: Global) -> Result<Shelf, NoMemory> {
+    let mut shelf = Shelf::new(alloc);
+    for (position, gate) in KEPT {
+        shelf.keep_room()?;
+        shelf.keep(position, place(gate));
+    }
+    Ok(shelf)
+}
+
+const KEPT: [(u32, u64); 4] = [(10, 100), (30, 300), (20, 200), (20, 250)];
+
+/// What is kept last of what is not behind a position.
+fn newest(shelf: &Shelf, position: u32) -> Option<(u32, u64)> {
+    match shelf.newest_at_or_before(position) {
+        Some((at, place)) => Some((at, place.gate)),
+        None => None,
+    }
+}
+
+const NEWEST: [(u32, Option<(u32, u64)>); 5] = [
+    (9, None),
+    (10, Some((10, 100))),
+    (20, Some((20, 250))),
+    (29, Some((20, 250))),
+    (99, Some((30, 300))),
+];
+
+#[test]
+fn the_newest_snapshot_is_told_and_later_ones_are_forgotten(rt: HostRuntime) -> Result<(), Fail> {
+    let mut shelf = kept(rt.alloc())?;
+    for (position, want) in NEWEST {
+        assert_eq!(rt; newest(&shelf, position), want);
+    }
+    shelf.forget_after(20);
+    assert_eq!(rt; newest(&shelf, 99), Some((20, 250)));
+    assert_eq!(rt; shelf.marks_at_or_before(99).len(), 2);
     Ok(())
 }

@@ -8,3 +8,4 @@ mod WorkLaws
 mod Aimed
 mod GrowLaws
 pub mod SpareLaws
+mod Making

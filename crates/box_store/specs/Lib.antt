@@ -2,3 +2,4 @@ pub mod Kept
 pub mod Effects
 pub mod Plans
 pub mod Refusing
+pub mod Making

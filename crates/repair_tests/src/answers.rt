@@ -35,7 +35,7 @@ fn domains(alloc: Global) -> Result<Names, Fail> {
     Ok(domains)
 }
 
-fn house(alloc: Global, count: u32) -> Result<House, Fail> {
+pub(crate) fn house(alloc: Global, count: u32) -> Result<House, Fail> {
     let accounts = accounts(alloc, count)?;
     let domains = domains(alloc)?;
     Ok(House {

@@ -1,8 +1,10 @@
-//! Tests of paradox and repair_desk, which nothing of the program calls: each public call that can want memory is called
-//! with ample memory, and its answer compared.
+//! Tests of box_store, paradox and repair_desk: calls that no conversation shows are called with ample memory, and their
+//! answers compared.
 #![tactic(auto)]
 
 #[cfg(test)]
 mod answers;
 #[cfg(test)]
 mod edits;
+#[cfg(test)]
+mod stores;

@@ -1,0 +1,111 @@
+//! Stores made of rows, and rows that are refused.
+ghost use Rattle.std.specs.Prelude.{IsTrue};
+ghost use Rattle.verb_core.specs.Store.{is_house};
+
+use crate::answers::house;
+use box_store::{RowsRefused, Store};
+use std::alloc::Global;
+use std::test::Fail;
+use undo_base::{Flags, Key, Name, User};
+use verb_core::{Aliases, Body, BoxId, Conf, Entries, Entry, Filters, House, Mailbox, Rows};
+
+fn entry(uid: u64) -> Entry {
+    let flags = Flags {
+        answered: false,
+        flagged: false,
+        deleted: false,
+        seen: false,
+        draft: false,
+    };
+    Entry {
+        uid,
+        key: Key { item: 2, index: 0 },
+        body: Body { origin: 2, rev: 0 },
+        flags,
+        at: 1105092000,
+    }
+}
+
+fn entries(alloc: Global, uids: &[u64]) -> Result<Entries, Fail> {
+    let mut entries = Entries::new(alloc);
+    for uid in uids {
+        entries.push(entry(*uid))?;
+    }
+    Ok(entries)
+}
+
+/// A mailbox of a user, with its next UID and the UIDs of its entries.
+fn row(
+    alloc: Global,
+    user: u8,
+    mailbox: &str,
+    next: u64,
+    uids: &[u64],
+) -> Result<(BoxId, Mailbox), Fail> {
+    let name = Name::read(alloc, mailbox.as_bytes())?;
+    let entries = entries(alloc, uids)?;
+    let user = User(user);
+    Ok((BoxId { user, name }, Mailbox { next, entries }))
+}
+
+fn rows(alloc: Global, given: &[(u8, &str, u64, &[u64])]) -> Result<Rows, Fail> {
+    let mut rows = Rows::new(alloc);
+    for (user, mailbox, next, uids) in given {
+        rows.push(row(alloc, *user, mailbox, *next, uids)?)?;
+    }
+    Ok(rows)
+}
+
+/// How many rows the store of these has, or the place at which they are refused.
+fn made(alloc: Global, house: &House, rows: Rows) -> Result<usize, usize>
+    requires { IsTrue (is_house house.now) }
+{
+    let conf = Conf {
+        aliases: Aliases::new(alloc),
+        filters: Filters::new(alloc),
+    };
+    match Store::from_rows(alloc, house, conf, rows) {
+        Ok(store) => Ok(store.boxes().len()),
+        Err(RowsRefused::Row { place }) => Err(place),
+        Err(RowsRefused::NoMemory) => Err(9999),
+    }
+}
+
+/// The same over a house of one user.
+fn answer(alloc: Global, given: &[(u8, &str, u64, &[u64])]) -> Result<Result<usize, usize>, Fail> {
+    let rows = rows(alloc, given)?;
+    let house = house(alloc, 1)?;
+    if !house.is_sound() {
+        return Ok(Err(9998));
+    }
+    Ok(made(alloc, &house, rows))
+}
+
+#[test]
+fn rows_make_a_store_or_are_refused(rt: HostRuntime) -> Result<(), Fail> {
+    let table: [(&[(u8, &str, u64, &[u64])], Result<usize, usize>); 9] = [
+        (
+            &[(0, "INBOX", 4, &[1, 3]), (0, "Lost+Found", 1, &[])],
+            Ok(2),
+        ),
+        (&[(0, "Lost+Found", 1, &[]), (0, "INBOX", 1, &[])], Err(1)),
+        (&[(0, "INBOX", 1, &[]), (0, "INBOX", 1, &[])], Err(1)),
+        (
+            &[
+                (0, "INBOX", 1, &[]),
+                (0, "Lost+Found", 1, &[]),
+                (1, "INBOX", 1, &[]),
+            ],
+            Err(2),
+        ),
+        (&[(0, "INBOX", 0, &[])], Err(0)),
+        (&[(0, "INBOX", 4, &[3, 3])], Err(0)),
+        (&[(0, "INBOX", 4, &[0])], Err(0)),
+        (&[(0, "INBOX", 4, &[1, 4])], Err(0)),
+        (&[(0, "INBOX", 4, &[1, 3])], Err(1)),
+    ];
+    for (given, want) in table {
+        assert!(rt; answer(rt.alloc(), given)? == want);
+    }
+    Ok(())
+}
