@@ -1,5 +1,5 @@
 -- The texts of bodies, by the items that brought them.
-use Rattle.std.proofs.Common.{◌≡◌, ◌≢◌, ℕ, ◌==◌, Bool, true, false, ◌&&◌, cond, List, [], ◌∷◌, ◌++◌, length, find, Option, None, Some, is_some, option_map, option_and_then, refl, ap, sym, ◌∙◌, arith}
+use Rattle.std.proofs.Common.{◌≡◌, ◌≢◌, ℕ, ◌==◌, Bool, true, false, ◌&&◌, cond, List, [], ◌∷◌, ◌++◌, length, map, find, Option, None, Some, is_some, option_map, option_and_then, refl, ap, sym, ◌∙◌, arith}
 use Rattle.std.specs.List.{AllByRecursion}
 use Rattle.std.specs.Cmp.{second_so}
 use Rattle.std.proofs.lemmas.Bool.Decides.{nat_tests}
@@ -13,7 +13,7 @@ use Rattle.shelf.specs.declared.note.Note.{Note}
 use Rattle.shelf.specs.Notes.{note_of, same_body, size_of}
 use Rattle.stored_items.specs.Stored.{stored}
 use Rattle.stored_items.proofs.Whole.{notice_kept}
-use Rattle.mail_desk.specs.Timeline.{item_of, body_of, has_text, notice_text_of, notice_told_by, told_by, NotesText, SizesOf}
+use Rattle.mail_desk.specs.Timeline.{item_of, body_of, has_text, notice_text_of, notice_told_by, told_by, unshown, NotesText, SizesOf}
 use Rattle.mail_desk.proofs.Timelines.{all_weaker, unequal}
 
 -- whether an item brought the text of a body
@@ -117,6 +117,36 @@ pub text_later : (j : Item) (t : List Item) (body : Body) → has_text t body �
 text_later j t body has =
     ap is_some (through (λ (k : Item). text_in k.deed) (brings body j) j (find (brings body) t))
     ∙ first_some (brings body j) (text_in j.deed) (text_of t body) (λ e. second_so ((j.number == body.origin) && (j.rev == body.rev)) (is_some (text_in j.deed)) e) has
+
+-- items before leave it there
+pub text_behind : (front t : List Item) (body : Body) → has_text t body ≡ true → has_text (front ++ t) body ≡ true
+text_behind [] t body has = has
+text_behind (j ∷ front) t body has = text_later j (front ++ t) body (text_behind front t body has)
+
+-- one that is brought first, or later
+some_either : (b : Bool) (o rest more : Option (List ℕ)) → is_some (cond b o rest) ≡ true → (is_some rest ≡ true → is_some more ≡ true) → is_some (cond b o more) ≡ true
+some_either true o rest more has later = has
+some_either false o rest more has later = later has
+
+-- items behind leave it there
+pub text_before : (front t : List Item) (body : Body) → has_text front body ≡ true → has_text (front ++ t) body ≡ true
+text_before [] t body has = absurd (let wrong : false ≡ true = has in cc)
+text_before (j ∷ front) t body has =
+    ap is_some (through (λ (k : Item). text_in k.deed) (brings body j) j (find (brings body) (front ++ t)))
+    ∙ some_either (brings body j) (text_in j.deed) (text_of front body) (text_of (front ++ t) body)
+    (sym (ap is_some (through (λ (k : Item). text_in k.deed) (brings body j) j (find (brings body) front))) ∙ has) (text_before front t body)
+
+-- what items showed does not matter
+pub has_unshown : (t : List Item) (body : Body) → has_text t body ≡ has_text (map unshown t) body
+has_unshown [] body = refl
+has_unshown (j ∷ t) body =
+    ap is_some (through (λ (k : Item). text_in k.deed) (brings body j) j (find (brings body) t))
+    ∙ some_alike (brings body j) (text_in j.deed) (text_of t body) (text_of (map unshown t) body) (has_unshown t body)
+    ∙ sym (ap is_some (through (λ (k : Item). text_in k.deed) (brings body j) (unshown j) (find (brings body) (map unshown t))))
+  where
+    some_alike : (b : Bool) (o rest more : Option (List ℕ)) → is_some rest ≡ is_some more → is_some (cond b o rest) ≡ is_some (cond b o more)
+    some_alike true o rest more same = refl
+    some_alike false o rest more same = same
 
 own_first : (same : Bool) (o rest : Option (List ℕ)) → same ≡ true → is_some o ≡ true → is_some (cond (same && is_some o) o rest) ≡ true
 own_first true (Some text) rest e some = refl

@@ -1,5 +1,5 @@
 -- The desk at first, and what every desk has.
-use Rattle.std.proofs.Common.{◌≡◌, ℕ, ◌-◌, ◌<◌, ◌≤◌, Bool, true, ◌&&◌, List, [], ◌∷◌, map, flat_map, option_map, refl, ap, sym, subst, ◌∙◌, arith, length, nat_le}
+use Rattle.std.proofs.Common.{◌≡◌, ℕ, ◌-◌, ◌<◌, ◌≤◌, Bool, true, ◌&&◌, List, [], ◌∷◌, map, flat_map, option_map, refl, ap, sym, ◌∙◌, arith, length, nat_le}
 use Rattle.std.specs.List.{AllByRecursion, list_all}
 use Rattle.std.specs.Cmp.{first_so, second_so}
 use Rattle.std.proofs.lemmas.Bool.{leb-true}
@@ -14,22 +14,16 @@ use Rattle.verb_core.specs.Mailboxes.{no_mail}
 use Rattle.verb_core.specs.Names.{inbox, lost_found}
 use Rattle.verb_core.specs.Boxes.{box_of}
 use Rattle.verb_core.specs.Store.{MailStore, IsValid, is_house, is_known, opening, users_of}
-use Rattle.verb_core.specs.Step.{Boxes, step, run}
+use Rattle.verb_core.specs.Step.{Boxes}
 use Rattle.verb_core.specs.Stamps.{opening_stamps}
 use Rattle.verb_core.specs.Items.{text_of}
+use Rattle.seal_log.specs.declared.place.Place.{Place}
 use Rattle.shelf.specs.declared.note.Note.{Note}
 use Rattle.shelf.specs.Notes.{size_of}
-use Rattle.paradox.specs.Kept.{Kept, Reports, kept_from, new_desk, store_of}
+use Rattle.paradox.specs.Kept.{Reports, kept_from, new_desk}
 use Rattle.mail_desk.specs.Desk.{IsDesk}
+use Rattle.mail_desk.specs.Held.{marks_kept}
 use Rattle.mail_desk.specs.Timeline.{has_text, all_bodies}
-
--- a run keeps the house
-run-house : (base : MailStore) (t : List Item) → (run base t).house ≡ base.house
-run-house base [] = refl
-run-house base (i ∷ t) = run-house (step base i).0 t
-
-pub house_stays : (kept : Kept) → kept.base ≡ opening kept.house kept.opening → (store_of kept).house ≡ kept.house
-house_stays kept began = run-house kept.base kept.timeline ∙ ap (λ (s : MailStore). s.house) began
 
 -- empty mailboxes name no body
 pub empty_boxes : (test : Body → Bool) (users : List User) →
@@ -46,9 +40,11 @@ first_bounds house sound =
     }
 
 -- the parts of a new desk, as they were made
-pub new_desk_is : (house : House) (conf : Conf) (stamps : List (BoxId × ℕ)) (timeline : List Item) (reports : Reports) → stamps ≡ opening_stamps (opening house conf) → timeline ≡ [] → reports ≡ []
-    → kept_from house conf timeline stamps house.first reports ≡ new_desk house conf
-new_desk_is house conf stamps timeline reports stamped empty none = λ j. kept_from house conf (empty j) (stamped j) house.first (none j)
+pub new_desk_is : (house : House) (conf : Conf) (store : MailStore) (stamps : List (BoxId × ℕ)) (timeline : List Item) (reports : Reports) (marks : List (ℕ × Place)) → store ≡ opening house conf
+    → stamps ≡ opening_stamps (opening house conf) → timeline ≡ [] → reports ≡ [] → marks ≡ []
+    → kept_from house conf store timeline stamps house.first reports (marks_kept 0 0 marks) ≡ new_desk house conf
+new_desk_is house conf store stamps timeline reports marks made stamped empty none unmarked =
+    λ j. kept_from house conf (made j) (empty j) (stamped j) house.first (none j) (marks_kept 0 0 (unmarked j))
 
 -- one stamp is below the next number
 first_fresh : (n next : ℕ) → n < next → (rs : Boxes) → AllByRecursion (λ (r : BoxId × ℕ). r.1 < next) (map (λ (r : BoxId × Mailbox). (r.0, n)) rs)
@@ -56,21 +52,20 @@ first_fresh n next less [] = tt
 first_fresh n next less (r ∷ rs) = (less, first_fresh n next less rs)
 
 -- they are a desk
-pub new_desk_holds : (house : House) (conf : Conf) (store : MailStore) (kept : Kept) → is_house house ≡ true
-    → list_all (λ a. list_all (is_known house) a.users) conf.aliases ≡ true → conf.filters ≡ [] → IsValid store → store ≡ opening house conf
-    → kept ≡ new_desk house conf
-    → map (λ (r : BoxId × ℕ). r.0) (opening_stamps (opening house conf)) ≡ map (λ (r : BoxId × Mailbox). r.0) (opening house conf).boxes
-    → IsDesk store kept
-new_desk_holds house conf store kept sound aliases filters valid made is named =
+pub new_desk_holds : (house : House) (conf : Conf) → is_house house ≡ true → list_all (λ a. list_all (is_known house) a.users) conf.aliases ≡ true → conf.filters ≡ []
+    → IsValid (opening house conf) → map (λ (r : BoxId × ℕ). r.0) (opening_stamps (opening house conf)) ≡ map (λ (r : BoxId × Mailbox). r.0) (opening house conf).boxes
+    → IsDesk (new_desk house conf)
+new_desk_holds house conf sound aliases filters valid named =
     let bounds = first_bounds house sound in
-    subst (λ (k : Kept). IsDesk store k) (sym is) (subst (λ (s : MailStore). IsDesk s (new_desk house conf)) (sym made) (record {
+    record {
       house = sound;
       aliases = aliases;
       filters = filters;
       base = refl;
-      store_is = refl;
-      valid = subst IsValid made valid;
+      house_is = refl;
+      valid = valid;
       next = omega arith;
+      since = omega arith;
       stamps = named;
       fresh = first_fresh (house.first - 1) house.first (omega arith) (opening house conf).boxes;
       formed = tt;
@@ -78,7 +73,7 @@ new_desk_holds house conf store kept sound aliases filters valid made is named =
       below = tt;
       few = omega arith;
       texts = empty_boxes (has_text []) (users_of house);
-    }))
+    }
 
 -- nothing is noted, and no item brought a text
 pub nothing_known : (notes : List (Body × Note)) (t : List Item) → notes ≡ [] → t ≡ [] → (body : Body) → size_of notes body ≡ option_map length (text_of t body)

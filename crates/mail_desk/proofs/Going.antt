@@ -28,10 +28,10 @@ use Rattle.verb_core.proofs.BoxLaws.{same_user-refl}
 use Rattle.verb_core.proofs.FateLaws.{count_in-cons}
 use Rattle.verb_core.proofs.Validity.{all_kept}
 use Rattle.mail_desk.specs.Desk.{IsDesk}
-use Rattle.paradox.specs.Kept.{Kept}
-use Rattle.mail_desk.specs.Timeline.{all_bodies, body_of, has_text}
-use Rattle.mail_desk.proofs.BodyTexts.{text_added, text_stays}
-use Rattle.mail_desk.proofs.Timelines.{all_on, apart_on, below_on, others_below}
+use Rattle.paradox.specs.Kept.{Kept, performed}
+use Rattle.mail_desk.specs.Timeline.{all_bodies, body_of, has_text, unshown}
+use Rattle.mail_desk.proofs.BodyTexts.{has_unshown, own_texts, text_added, text_before, text_behind, text_stays}
+use Rattle.mail_desk.proofs.Timelines.{all_on, all_weaker, apart_on, below_on, others_below}
 
 -- ---- entries whose bodies pass a test, by how many fail
 
@@ -187,16 +187,16 @@ run_known law stays test s [] valid formed own all = all
 run_known law stays test s (i ∷ t) valid formed own all =
     run_known law stays test (step s i).0 t (stays s i valid formed.0) formed.1 own.1 (step_known law test s i valid formed.0 all own.0)
 
+-- entries whose bodies pass a weaker test
+bodies_weaker : (test other : Body → Bool) (boxes : Boxes) → ((body : Body) → test body ≡ true → other body ≡ true) → all_bodies test boxes ≡ true → all_bodies other boxes ≡ true
+bodies_weaker test other boxes weaker all =
+    all_kept (λ (r : BoxId × Mailbox). list_all (λ (e : Entry). test e.body) r.1.entries) (λ (r : BoxId × Mailbox). list_all (λ (e : Entry). other e.body) r.1.entries) boxes
+    (λ r here. all_kept (λ (e : Entry). test e.body) (λ (e : Entry). other e.body) r.1.entries (λ e has. weaker e.body has) here) all
+
 more_known : (t : List Item) (i : Item) (boxes : Boxes) → all_bodies (has_text t) boxes ≡ true → all_bodies (has_text (t ++ i ∷ [])) boxes ≡ true
-more_known t i boxes all =
-    all_kept (λ (r : BoxId × Mailbox). list_all (λ (e : Entry). has_text t e.body) r.1.entries) (λ (r : BoxId × Mailbox). list_all (λ (e : Entry). has_text (t ++ i ∷ []) e.body) r.1.entries) boxes
-    (λ r here. all_kept (λ (e : Entry). has_text t e.body) (λ (e : Entry). has_text (t ++ i ∷ []) e.body) r.1.entries (λ e has. text_stays t i e.body has) here) all
+more_known t i boxes all = bodies_weaker (has_text t) (has_text (t ++ i ∷ [])) boxes (text_stays t i) all
 
 -- ---- the desk
-
-run_then : (base : MailStore) (t : List Item) (i : Item) → run base (t ++ i ∷ []) ≡ (step (run base t) i).0
-run_then base [] i = refl
-run_then base (j ∷ t) i = run_then (step base j).0 t i
 
 -- the stamp of a mailbox after an item of the next number
 fresh_at : (number next : ℕ) (id : BoxId) (stamps : List (BoxId × ℕ)) → number ≡ next → AllByRecursion (λ (r : BoxId × ℕ). r.1 < next) stamps → unwrap_or (row_at id stamps) number < next + 1
@@ -214,29 +214,42 @@ fresh_on : (number next : ℕ) (boxes : Boxes) (stamps : List (BoxId × ℕ)) �
 fresh_on number next [] stamps is below = tt
 fresh_on number next (b ∷ boxes) stamps is below = (fresh_at number next b.0 stamps is below, fresh_on number next boxes stamps is below)
 
--- what is kept with these stamps, and an item more
-abbrev pub with_item : Kept → Item → List (BoxId × ℕ) → Kept
-with_item kept item stamps = record kept { timeline = kept.timeline ++ item ∷ []; stamps = stamps; next = kept.next + 1 }
-
-pub desk_goes_on : MailIsKept → StepsKeep → StampsAreNamed → (store store' : MailStore) (kept : Kept) (item : Item) (stamps : List (BoxId × ℕ)) → IsDesk store kept
-    → IsWellFormed store.house item → kept.house ≡ store.house → item.number ≡ kept.next → kept.next < 4194304 → store' ≡ (step store item).0
-    → stamps ≡ stamps_after item.number (step store item).0.boxes kept.stamps
-    → IsDesk store' (with_item kept item stamps)
-desk_goes_on keeps stays named store store' kept item stamps is formed house number left performs after =
-    let known = step_known keeps (has_text (kept.timeline ++ item ∷ [])) store item is.valid formed (more_known kept.timeline item store.boxes is.texts) (text_added kept.timeline item) in
+-- what is kept with an item more
+pub desk_goes_on : MailIsKept → StepsKeep → StampsAreNamed → (kept : Kept) (item : Item) → IsDesk kept → IsWellFormed kept.house item → item.number ≡ kept.next → kept.next < 4194304
+    → IsDesk (performed kept item)
+desk_goes_on keeps stays named kept item is in_house number left =
+    let formed : IsWellFormed kept.store.house item = subst (λ (h : House). IsWellFormed h item) (sym is.house_is) in_house in
+    let since : kept.marks.since ≤ kept.next = is.since in
+    let few : length kept.reports ≤ kept.next = is.few in
     record {
       house = is.house;
       aliases = is.aliases;
       filters = is.filters;
       base = is.base;
-      store_is = performs ∙ ap (λ s. (step s item).0) is.store_is ∙ sym (run_then kept.base kept.timeline item);
-      valid = subst IsValid (sym performs) (stays store item is.valid formed);
+      house_is = is.house_is;
+      valid = stays kept.store item is.valid formed;
       next = omega arith;
-      stamps = ap (λ (t : List (BoxId × ℕ)). map (λ (r : BoxId × ℕ). r.0) t) after ∙ named item.number (step store item).0.boxes kept.stamps ∙ ap (λ (s : MailStore). map (λ (r : BoxId × Mailbox). r.0) s.boxes) (sym performs);
-      fresh = subst (λ (t : List (BoxId × ℕ)). AllByRecursion (λ (r : BoxId × ℕ). r.1 < kept.next + 1) t) (sym after) (fresh_on item.number kept.next (step store item).0.boxes kept.stamps number is.fresh);
-      formed = all_on (IsWellFormed kept.house) kept.timeline item is.formed (subst (λ (h : House). IsWellFormed h item) (sym house) formed);
+      since = omega arith;
+      stamps = named item.number (step kept.store item).0.boxes kept.stamps;
+      fresh = fresh_on item.number kept.next (step kept.store item).0.boxes kept.stamps number is.fresh;
+      formed = all_on (IsWellFormed kept.house) kept.timeline item is.formed in_house;
       apart = apart_on kept.timeline item is.apart (others_below kept.next kept.timeline item is.below number);
       below = below_on kept.next kept.timeline item is.below number;
-      few = let few : length kept.reports ≤ kept.next = is.few in omega arith;
-      texts = subst (λ (s : MailStore). all_bodies (has_text (kept.timeline ++ item ∷ [])) s.boxes ≡ true) (sym performs) known;
+      few = omega arith;
+      texts = step_known keeps (has_text (kept.timeline ++ item ∷ [])) kept.store item is.valid formed (more_known kept.timeline item kept.store.boxes is.texts) (text_added kept.timeline item);
     }
+
+-- ---- items behind others
+
+-- items that bring their own texts, over a store of which each body has a text among others
+pub known_behind : MailIsKept → StepsKeep → (base : MailStore) (front t : List Item) → IsValid base → AllByRecursion (IsWellFormed base.house) t → all_bodies (has_text front) base.boxes ≡ true
+    → all_bodies (has_text (front ++ t)) (run base t).boxes ≡ true
+known_behind keeps stays base front t valid formed all =
+    run_known keeps stays (has_text (front ++ t)) base t valid formed
+    (all_weaker (λ (i : Item). is_some (text_in i.deed) ≡ true → has_text t (body_of i) ≡ true) (λ (i : Item). is_some (text_in i.deed) ≡ true → has_text (front ++ t) (body_of i) ≡ true)
+    (λ i own some. text_behind front t (body_of i) (own some)) t (own_texts t))
+    (bodies_weaker (has_text front) (has_text (front ++ t)) base.boxes (text_before front t) all)
+
+-- what items showed does not matter
+pub known_unshown : (t now : List Item) (boxes : Boxes) → map unshown now ≡ map unshown t → all_bodies (has_text t) boxes ≡ true → all_bodies (has_text now) boxes ≡ true
+known_unshown t now boxes same all = bodies_weaker (has_text t) (has_text now) boxes (λ body has. has_unshown now body ∙ ap (λ (s : List Item). has_text s body) same ∙ sym (has_unshown t body) ∙ has) all

@@ -1,5 +1,5 @@
 -- The places of items, by their numbers.
-use Rattle.std.proofs.Common.{◌≡◌, ◌≢◌, inl, inr, ℕ, ◌+◌, ◌-◌, ◌<◌, ◌≤◌, List, [], ◌∷◌, ◌++◌, length, get_or, None, Some, Result, Err, refl, ap, sym, subst, ◌∙◌, arith, rules}
+use Rattle.std.proofs.Common.{◌≡◌, ◌≢◌, inl, inr, ℕ, ◌+◌, ◌-◌, ◌<◌, ◌≤◌, List, [], ◌∷◌, ◌++◌, length, get_or, take, None, Some, Result, Err, refl, ap, sym, subst, ◌∙◌, arith, rules}
 use Rattle.std.specs.List.{AllByRecursion, Contains}
 use Rattle.std.specs.List.Sorted.{IsBinarySearchResult, IsNonDecreasingBy, IsPermutation}
 use Rattle.std.specs.Ordering.{nat_cmp, ordering_index}
@@ -16,7 +16,7 @@ use Rattle.verb_core.specs.Items.{NumbersApart}
 use Rattle.verb_core.proofs.Searched.{index_at_most, lower_is}
 use Rattle.mail_desk.specs.Places.{HasPlaces, IsIndex, IsPlaceIn}
 use Rattle.mail_desk.specs.Timeline.{item_of}
-use Rattle.mail_desk.proofs.Timelines.{item_at, none_at}
+use Rattle.mail_desk.proofs.Timelines.{front_at, front_none, item_at, none_at}
 
 -- ---- comparing numbers
 
@@ -55,6 +55,20 @@ module _ (rows : List (ℕ × ℕ)) (t : List Item) (index : IsIndex rows t) (nu
   item_found apart at d e within equal =
       let placed = index.right at d within in
       item_at t apart (get_or rows at d).1 e number placed.within (placed.number e ∙ ranked _ _ Equal (sym (equal d)))
+
+  -- one of the first so many items, where it stands before them
+  pub item_before : NumbersApart t → (at : ℕ) (d : ℕ × ℕ) (e : Item) (count : ℕ) → at < length rows → ((r : ℕ × ℕ) → nat_cmp (get_or rows at r).0 number ≡ Equal) → (get_or rows at d).1 < count
+      → item_of (take count t) number ≡ Some (get_or t (get_or rows at d).1 e)
+  item_before apart at d e count within equal less =
+      let placed = index.right at d within in
+      front_at t apart (get_or rows at d).1 e number count placed.within (placed.number e ∙ ranked _ _ Equal (sym (equal d))) less
+
+  -- and none of them, where it stands behind them
+  pub item_behind : NumbersApart t → (at : ℕ) (d : ℕ × ℕ) (count : ℕ) → at < length rows → ((r : ℕ × ℕ) → nat_cmp (get_or rows at r).0 number ≡ Equal) → count ≤ (get_or rows at d).1
+      → item_of (take count t) number ≡ None
+  item_behind apart at d count within equal more =
+      let placed = index.right at d within in
+      front_none t apart (get_or rows at d).1 number count placed.within (λ e. placed.number e ∙ ranked _ _ Equal (sym (equal d))) more
 
   -- or there is none
   pub item_missing : (at : ℕ) → IsBinarySearchResult (λ (r : ℕ × ℕ). nat_cmp r.0 number) rows (let r : Result ℕ ℕ = Err at in r) → item_of t number ≡ None

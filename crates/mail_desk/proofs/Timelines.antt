@@ -1,5 +1,5 @@
 -- The numbers of timelines.
-use Rattle.std.proofs.Common.{◌≡◌, ◌≢◌, ℕ, zero, suc, ◌+◌, ◌<◌, ◌≤◌, ◌==◌, Bool, true, false, not, cond, List, [], ◌∷◌, ◌++◌, length, get_or, filter, None, Some, refl, ap, sym, subst, ◌∙◌, arith}
+use Rattle.std.proofs.Common.{◌≡◌, ◌≢◌, ℕ, zero, suc, ◌+◌, ◌<◌, ◌≤◌, ◌==◌, Bool, true, false, not, cond, List, [], ◌∷◌, ◌++◌, length, get_or, take, filter, Option, None, Some, refl, ap, sym, subst, ◌∙◌, arith}
 use Rattle.std.specs.List.{AllByRecursion}
 use Rattle.std.proofs.lemmas.Bool.Decides.{nat_tests}
 use Rattle.std.proofs.lemmas.List.Elements.{All-from_recursion}
@@ -112,6 +112,51 @@ item_at (i ∷ t) apart (suc place) d number within is =
 pub none_at : (t : List Item) (number : ℕ) → ((place : ℕ) (d : Item) → place < length t → (get_or t place d).number ≢ number) → item_of t number ≡ None
 none_at [] number none = refl
 none_at (i ∷ t) number none = rw (unequal i.number number (none 0 i (omega arith))) (none_at t number (λ place d within. none (suc place) d (omega arith)))
+
+-- ---- among the first so many items
+
+all_front : {X : Type 0} (P : X → Type 0) (xs : List X) (count : ℕ) → AllByRecursion P xs → AllByRecursion P (take count xs)
+all_front P [] zero all = tt
+all_front P [] (suc count) all = tt
+all_front P (x ∷ xs) zero all = tt
+all_front P (x ∷ xs) (suc count) all = (all.0, all_front P xs count all.1)
+
+pub apart_front : (t : List Item) (count : ℕ) → NumbersApart t → NumbersApart (take count t)
+apart_front [] zero apart = tt
+apart_front [] (suc count) apart = tt
+apart_front (i ∷ t) zero apart = tt
+apart_front (i ∷ t) (suc count) apart = (all_front (λ (j : Item). i.number ≢ j.number) t count apart.0, apart_front t count apart.1)
+
+-- an item of a number is the same there
+pub front_at : (t : List Item) → NumbersApart t → (place : ℕ) (d : Item) (number count : ℕ) → place < length t → (get_or t place d).number ≡ number → place < count → item_of (take count t) number ≡ Some (get_or t place d)
+front_at [] apart place d number count within is less = absurd (omega arith)
+front_at (i ∷ t) apart place d number zero within is less = absurd (omega arith)
+front_at (i ∷ t) apart zero d number (suc count) within is less = let here : (i.number == number) ≡ true = grind (arith, nat_tests) in rw here refl
+front_at (i ∷ t) apart (suc place) d number (suc count) within is less =
+    let inside : place < length t = omega arith in
+    let other : (i.number == number) ≡ false = unequal i.number number (λ e. All-from_recursion (λ (j : Item). i.number ≢ j.number) t apart.0 place d inside (e ∙ sym is)) in
+    rw other (front_at t apart.1 place d number count inside is (omega arith))
+
+-- and none, where it stands behind them
+pub front_none : (t : List Item) → NumbersApart t → (place number count : ℕ) → place < length t → ((d : Item) → (get_or t place d).number ≡ number) → count ≤ place → item_of (take count t) number ≡ None
+front_none [] apart place number count within is more = absurd (omega arith)
+front_none (i ∷ t) apart place number zero within is more = refl
+front_none (i ∷ t) apart zero number (suc count) within is more = absurd (omega arith)
+front_none (i ∷ t) apart (suc place) number (suc count) within is more =
+    let inside : place < length t = omega arith in
+    let other : (i.number == number) ≡ false = unequal i.number number (λ e. All-from_recursion (λ (j : Item). i.number ≢ j.number) t apart.0 place i inside (e ∙ sym (is i))) in
+    rw other (front_none t apart.1 place number count inside is (omega arith))
+
+-- and none, where there is none at all
+pub none_front : (t : List Item) (number count : ℕ) → item_of t number ≡ None → item_of (take count t) number ≡ None
+none_front [] number zero none = refl
+none_front [] number (suc count) none = refl
+none_front (i ∷ t) number zero none = refl
+none_front (i ∷ t) number (suc count) none =
+    elim (i.number == number) as (λ b. cond b (Some i) (item_of t number) ≡ None → cond b (Some i) (item_of (take count t) number) ≡ None) [
+      | true ↦ λ e. absurd (let wrong : ◌≡◌ {A = Option Item} (Some i) None = e in cc)
+      | false ↦ λ e. none_front t number count e
+    ] none
 
 -- ---- timelines
 

@@ -1,4 +1,4 @@
--- The desk: the store is what the items in force leave, and each item that is performed is one of them from then on.
+-- The desk: a store and the items in force, and each item that is performed is one of them from then on.
 use Rattle.std.specs.Prelude.{◌≡◌, ℕ, ◌<◌, ◌≤◌, [], length, map, Option, Result, Ok, Err, IsTrue}
 use Rattle.std.specs.List.{AllByRecursion, list_all}
 use Rattle.undo_base.specs.declared.keys.User.{User}
@@ -10,27 +10,28 @@ use Rattle.verb_core.specs.declared.item.Item.{Item}
 use Rattle.verb_core.specs.declared.mailbox.BoxId.{BoxId}
 use Rattle.verb_core.specs.declared.mailbox.Mailbox.{Mailbox}
 use Rattle.verb_core.specs.Items.{IsWellFormed, NumbersApart}
-use Rattle.verb_core.specs.Store.{MailStore, IsValid, is_house, is_known, opening}
+use Rattle.verb_core.specs.Store.{IsValid, is_house, is_known, opening}
 use Rattle.paradox.specs.Kept.{Kept, performed, store_of}
 use Rattle.verb_core.specs.Live.{live}
 use Rattle.mail_desk.specs.Timeline.{has_text, all_bodies}
 
--- a store that is kept beside what led to it
-pub record IsDesk (store : MailStore) (kept : Kept) : Type 0 where
+-- a store that is kept beside the items in force
+pub record IsDesk (kept : Kept) : Type 0 where
   pub house : IsTrue (is_house kept.house)
   pub aliases : IsTrue (list_all (λ a. list_all (is_known kept.house) a.users) kept.opening.aliases)
   pub filters : kept.opening.filters ≡ []
   pub base : kept.base ≡ opening kept.house kept.opening
-  pub store_is : store ≡ store_of kept
-  pub valid : IsValid store
+  pub house_is : kept.store.house ≡ kept.house
+  pub valid : IsValid kept.store
   pub next : kept.next ≤ 4194304
-  pub stamps : map (λ (r : BoxId × ℕ). r.0) kept.stamps ≡ map (λ (r : BoxId × Mailbox). r.0) store.boxes
+  pub since : kept.marks.since ≤ kept.next
+  pub stamps : map (λ (r : BoxId × ℕ). r.0) kept.stamps ≡ map (λ (r : BoxId × Mailbox). r.0) kept.store.boxes
   pub fresh : AllByRecursion (λ (r : BoxId × ℕ). r.1 < kept.next) kept.stamps
   pub formed : AllByRecursion (IsWellFormed kept.house) kept.timeline
   pub apart : NumbersApart kept.timeline
   pub below : AllByRecursion (λ (i : Item). i.number < kept.next) kept.timeline
   pub few : length kept.reports ≤ kept.next
-  pub texts : IsTrue (all_bodies (has_text kept.timeline) store.boxes)
+  pub texts : IsTrue (all_bodies (has_text kept.timeline) kept.store.boxes)
 
 -- what became of an ask: the item or why there is none, and what is kept
 pub record Submitted : Type 0 where

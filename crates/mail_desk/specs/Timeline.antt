@@ -2,6 +2,7 @@
 use Rattle.std.specs.Prelude.{◌≡◌, ℕ, Bool, ◌==◌, List, [], map, find, length, is_some, Option, Some, None, if◌then◌else◌, unwrap_or, option_map, option_and_then}
 use Rattle.std.specs.List.{list_all}
 use Rattle.verb_core.specs.declared.item.Item.{Item}
+use Rattle.verb_core.specs.declared.item.Shown.TheVariants.{Nothing}
 use Rattle.verb_core.specs.declared.mailbox.Body.{Body}
 use Rattle.verb_core.specs.declared.mailbox.BoxId.{BoxId}
 use Rattle.verb_core.specs.declared.mailbox.Entry.{Entry}
@@ -52,6 +53,10 @@ SizesOf notes t = (body : Body) → size_of notes body ≡ option_map length (te
 -- whether a body has a text
 abbrev pub has_text : List Item → Body → Bool
 has_text t body = is_some (text_of t body)
+
+-- an item without what it showed
+abbrev pub unshown : Item → Item
+unshown i = record i { shown = Nothing }
 
 -- the texts of bodies, in order
 abbrev pub texts_of : List Item → List Body → List (List ℕ)

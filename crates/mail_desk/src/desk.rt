@@ -5,6 +5,7 @@ ghost use Rattle.verb_core.specs.declared.item.Item.{Item as TheItem};
 ghost use Rattle.verb_core.specs.declared.mailbox.BoxId.{BoxId as TheBoxId};
 ghost use Rattle.verb_core.specs.declared.mailbox.Mailbox.{Mailbox as TheMailbox};
 ghost use Rattle.verb_core.specs.Boxes.{box_of, row_at};
+ghost use Rattle.seal_log.specs.declared.place.Place.{Place as ThePlace};
 ghost use Rattle.verb_core.specs.Items.{IsTimeline};
 ghost use Rattle.paradox.specs.Kept.{new_desk, report_of as report_in, store_of};
 ghost use Rattle.verb_core.specs.Stamps.{opening_stamps};
@@ -23,7 +24,8 @@ use verb_core::laws::stamps_name_mailboxes;
 use verb_core::{BoxId, Conf, House, Mailbox, Stamps};
 
 /// The house, the configuration at first, the store, the items in force in order, the stamp of each mailbox, the next
-/// number, each cycle's report by the key of its request, and where each text lies.
+/// number, each cycle's report by the key of its request, where each text and each snapshot lies, and how many items entered
+/// since the last snapshot, and how many snapshots there are.
 #[derive(Drop)]
 pub struct Desk {
     pub(crate) house: House,
@@ -34,30 +36,34 @@ pub struct Desk {
     pub(crate) next: u32,
     pub(crate) reports: Vec<(Name, Report)>,
     pub(crate) shelf: Shelf,
+    pub(crate) since: u32,
+    pub(crate) taken: u64,
 }
 
 impl Model for Desk {
     ghost use Rattle.std.specs.Prelude.{◌-◌, vec_len, vec_capacity};
     ghost use Rattle.mail_desk.specs.Desk.{IsDesk};
-    ghost use Rattle.mail_desk.specs.Held.{Held};
+    ghost use Rattle.mail_desk.specs.Held.{Held, marks_kept};
     ghost use Rattle.mail_desk.specs.Timeline.{SizesOf};
     ghost use Rattle.paradox.specs.Kept.{kept_from};
 
     ghost Value = { Held };
 
     ghost view = { λ d. record {
-      kept = kept_from d.house d.opening d.timeline.items d.stamps d.next d.reports.items;
+      kept = kept_from d.house d.opening d.store.store d.timeline.items d.stamps d.next d.reports.items (marks_kept d.since d.taken d.shelf.marks);
       notes = d.shelf.notes;
+      marks = d.shelf.marks;
       room = record {
         store = d.store;
         items = d.timeline.room;
         notes = d.shelf.room;
         reports = vec_capacity d.reports - vec_len d.reports;
+        marks = d.shelf.keeps;
       };
     } };
 
     ghost invariant = { λ d. record {
-      desk : IsDesk d.store.store (kept_from d.house d.opening d.timeline.items d.stamps d.next d.reports.items);
+      desk : IsDesk (kept_from d.house d.opening d.store.store d.timeline.items d.stamps d.next d.reports.items (marks_kept d.since d.taken d.shelf.marks));
       sizes : SizesOf d.shelf.notes d.timeline.items;
     } };
 }
@@ -125,6 +131,7 @@ fn begun(alloc: Global, house: House, opening: Conf, store: Store, stamps: Stamp
     requires filters { opening.filters ≡ [] }
     ensures kept { result.kept ≡ new_desk house opening }
     ensures notes { result.notes ≡ [] }
+    ensures marks { result.marks ≡ [] }
 {
     stamps_name_mailboxes();
     let next = house.first;
@@ -137,6 +144,8 @@ fn begun(alloc: Global, house: House, opening: Conf, store: Store, stamps: Stamp
         next,
         reports: Vec::new(alloc),
         shelf: Shelf::new(alloc),
+        since: 0,
+        taken: 0,
     }
 }
 
@@ -149,6 +158,7 @@ fn begun_over(alloc: Global, house: House, opening: Conf, store: Store) -> Resul
     requires filters { opening.filters ≡ [] }
     ensures kept { IfOk result (λ desk. desk.kept ≡ new_desk house opening) }
     ensures notes { IfOk result (λ desk. desk.notes ≡ []) }
+    ensures marks { IfOk result (λ desk. desk.marks ≡ []) }
 {
     match stamps_at_first(alloc, &store, house.first) {
         Ok(stamps) => Ok(begun(alloc, house, opening, store, stamps)),
@@ -169,6 +179,7 @@ impl Desk {
         requires filters { conf.filters ≡ [] }
         ensures kept { IfOk result (λ desk. desk.kept ≡ new_desk house conf) }
         ensures notes { IfOk result (λ desk. desk.notes ≡ []) }
+        ensures marks { IfOk result (λ desk. desk.marks ≡ []) }
     {
         match first_store(alloc, &house, &conf) {
             Ok(store) => begun_over(alloc, house, conf, store),
@@ -202,7 +213,7 @@ impl Desk {
         self.store.conf()
     }
 
-    /// The store that the items in force leave.
+    /// The store that is there.
     pub fn store(&self) -> &Store
         ensures value { result.now.store ≡ store_of self.now.kept }
         ensures valid { IsValid result.now.store }
@@ -272,6 +283,8 @@ impl Desk {
         ensures reports { length self.now.kept.reports ≤ self.now.kept.next }
         ensures texts { IsTrue (all_bodies (has_text self.now.kept.timeline) (store_of self.now.kept).boxes) }
         ensures sizes { SizesOf self.now.notes self.now.kept.timeline }
+        ensures since { self.now.kept.marks.since ≤ self.now.kept.next }
+        ensures places { self.now.kept.marks.places ≡ map (λ (m : ℕ × ThePlace). m.0) self.now.marks }
     {
         let _shelf = &self.shelf;
     }

@@ -1,19 +1,25 @@
 //! What holds of every timeline. These functions do nothing: their contracts are laws of the definitions.
-ghost use Rattle.std.specs.Prelude.{List, IsTrue};
+ghost use Rattle.std.specs.Prelude.{◌≡◌, List, ◌++◌, map, IsTrue};
 ghost use Rattle.std.specs.List.{AllByRecursion, list_all};
 ghost use Rattle.verb_core.specs.declared.conf.Conf.{Conf};
 ghost use Rattle.verb_core.specs.declared.conf.House.{House};
 ghost use Rattle.verb_core.specs.declared.item.Item.{Item};
+ghost use Rattle.verb_core.specs.declared.mailbox.BoxId.{BoxId};
+ghost use Rattle.verb_core.specs.declared.mailbox.Mailbox.{Mailbox};
 ghost use Rattle.verb_core.specs.Items.{IsWellFormed};
 ghost use Rattle.verb_core.specs.Step.{run};
 ghost use Rattle.verb_core.specs.Store.{MailStore, IsValid, is_house, is_known, opening as opening_store};
-ghost use Rattle.mail_desk.specs.Timeline.{all_bodies, has_text};
+ghost use Rattle.mail_desk.specs.Timeline.{all_bodies, has_text, unshown};
 
 use verb_core::laws::{mail_is_kept, steps_keep_validity};
 
-/// In the store that items lead to each body has a text among them, whatever their order, if that holds of the store
-/// before them; so it does of the opening store, which has no mail.
+/// In the store that items lead to each body has a text among them and those before, whatever their order, if in the store before
+/// them each has one among those before; so it does of the opening store, which has no mail. What items showed does not matter.
 pub fn bodies_have_texts()
+    ensures behind { (base : MailStore) (front t : List Item) → IsValid base → AllByRecursion (IsWellFormed base.house) t →
+        IsTrue (all_bodies (has_text front) base.boxes) → IsTrue (all_bodies (has_text (front ++ t)) (run base t).boxes) }
+    ensures shown { (t now : List Item) (boxes : List (BoxId × Mailbox)) → map unshown now ≡ map unshown t →
+        IsTrue (all_bodies (has_text t) boxes) → IsTrue (all_bodies (has_text now) boxes) }
     ensures base { (base : MailStore) (t : List Item) → IsValid base → AllByRecursion (IsWellFormed base.house) t →
         IsTrue (all_bodies (has_text t) base.boxes) → IsTrue (all_bodies (has_text t) (run base t).boxes) }
     ensures opening { (house : House) (conf : Conf) (t : List Item) → IsTrue (is_house house) →

@@ -4,18 +4,19 @@
 //! `desk` has it and tells its parts, and `numbered` has its items, found by their numbers; `ready` finds what is asked for,
 //! makes room for it and enters it, with the stamps that `stamps` makes and finds; `remake` makes the outcome of a cycle ready
 //! and puts it in place; `texts` tells whether a body has a text, where it lies, and a notice's, the one text in memory;
-//! `noting` notes texts, and `counts` has what is counted and listed. What is kept is paradox's `Kept`, of whole items; in
-//! specs/, `Desk` says what holds of it, `Timeline` its items, texts and notes, `Places` where the items stand by their
-//! numbers, `Noting` where texts lie after a cycle, `Stamping` the stamps after a deed, `Held` and `Entering` the room for
-//! the next item, `Remaking` a cycle's outcome.
+//! `noting` notes texts, `marking` where snapshots lie, and `counts` has what is counted and listed. What is kept is paradox's
+//! `Kept`, of whole items; in specs/, `Desk` says what holds of it, `Timeline` its items, texts and notes, `Places` where the
+//! items stand by their numbers, `Noting` where texts lie after a cycle, `Stamping` the stamps after a deed, `Held` and
+//! `Entering` the room for the next item and snapshot, `Remaking` a cycle's outcome.
 //! What carries the crate: `Desk::ready` finds the item that is due, or why there is none; `Desk::enter` (`performed`) keeps
 //! it last in the timeline and notes its text, and `Desk::replace` (`remade_as`, `renoted`) puts a cycle in place, each with
-//! no memory taken.
+//! no memory taken; `Desk::mark` (`snapshotted`) marks where a snapshot lies.
 #![tactic(auto)]
 
 mod counts;
 mod desk;
 pub mod laws;
+mod marking;
 mod noting;
 mod numbered;
 mod ready;

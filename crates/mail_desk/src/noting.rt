@@ -37,7 +37,8 @@ fn body_by(item: &Item) -> Body
 /// Notes the text that an item brings, so far behind the front of the payload at a place. There is room for a note.
 pub(crate) fn note_text(shelf: &mut Shelf, item: &Item, place: Place, from: u32)
     requires { 0 < shelf.old.room }
-    ensures { NotesText (text_in item.now.deed) (body_of item.now) place from shelf.old.notes shelf.new.notes }
+    ensures notes { NotesText (text_in item.now.deed) (body_of item.now) place from shelf.old.notes shelf.new.notes }
+    ensures marks { shelf.new.marks ≡ shelf.old.marks }
 {
     if let Some(text) = item.deed.text() {
         shelf.note(body_by(item), place, from, text.bytes().len() as u32);

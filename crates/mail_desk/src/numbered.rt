@@ -1,5 +1,5 @@
 //! Items in order, found by their numbers.
-ghost use Rattle.std.specs.Prelude.{◌≡◌, ◌<◌, ◌≤◌, ℕ, [], ◌∷◌, ◌++◌, length, IfOk, OnOk, option_copied, vec_len, vec_capacity};
+ghost use Rattle.std.specs.Prelude.{◌≡◌, ◌<◌, ◌≤◌, ℕ, [], ◌∷◌, ◌++◌, length, take, IfOk, OnOk, option_copied, vec_len, vec_capacity};
 ghost use Rattle.std.specs.List.{AllByRecursion};
 ghost use Rattle.std.specs.List.Sorted.{IsNonDecreasingBy, IsPermutation};
 ghost use Rattle.verb_core.specs.declared.item.Item.{Item as TheItem};
@@ -91,6 +91,23 @@ impl Numbered {
     {
         match self.places.binary_search_by_key(&number, |row| row.0) {
             Ok(at) => Some(&self.items[self.places[at].1]),
+            Err(_) => None,
+        }
+    }
+
+    /// The item of a number, if it is one of the first so many.
+    pub(crate) fn find_before(&self, number: u32, count: usize) -> Option<&StoredItem>
+        requires { NumbersApart self.now.items }
+        ensures { option_copied result ≡ item_of (take count self.now.items) number }
+    {
+        match self.places.binary_search_by_key(&number, |row| row.0) {
+            Ok(at) => {
+                let place = self.places[at].1;
+                if place < count {
+                    return Some(&self.items[place]);
+                }
+                None
+            }
             Err(_) => None,
         }
     }

@@ -138,6 +138,7 @@ fn change_stamps(stamps: &mut Stamps, changed: Option<Stamps>)
 fn make_rooms(timeline: &mut Numbered, shelf: &mut Shelf) -> Result<(), NoMemory>
     ensures timeline { timeline.new.items ≡ timeline.old.items }
     ensures shelf { shelf.new.notes ≡ shelf.old.notes }
+    ensures marks { shelf.new.marks ≡ shelf.old.marks }
     ensures items { OnOk result (0 < timeline.new.room) }
     ensures notes { OnOk result (0 < shelf.new.room) }
 {
@@ -278,6 +279,7 @@ fn make_ready(
     ensures store { store.new.store ≡ store.old.store }
     ensures timeline { timeline.new.items ≡ timeline.old.items }
     ensures shelf { shelf.new.notes ≡ shelf.old.notes }
+    ensures marks { shelf.new.marks ≡ shelf.old.marks }
     ensures item { IfOk result (λ ready. ready.item ≡ item) }
     ensures stored { IfOk result (λ ready. ready.stored ≡ item) }
     ensures does { IfOk result (λ ready. applied ready.effect store.old.store ≡ (step store.old.store item).0) }
@@ -321,6 +323,7 @@ impl Desk {
         requires known { IsTrue (list_all (is_known self.old.kept.house) (cons_option by [])) }
         ensures kept { self.new.kept ≡ self.old.kept }
         ensures notes { self.new.notes ≡ self.old.notes }
+        ensures marks { self.new.marks ≡ self.old.marks }
         ensures item { IfOk result (λ ready. live (store_of self.old.kept) self.old.kept.next at by ask ≡ Ok ready.item) }
         ensures ready { IfOk result (λ ready. CanEnter ready self.new) }
         ensures refused { IfErr result (λ refused. IsRefusal refused (live (store_of self.old.kept) self.old.kept.next at by ask)) }
@@ -339,6 +342,7 @@ impl Desk {
         requires left { self.old.kept.next < 4194304 }
         ensures kept { self.new.kept ≡ self.old.kept }
         ensures notes { self.new.notes ≡ self.old.notes }
+        ensures marks { self.new.marks ≡ self.old.marks }
         ensures item { IfOk result (λ ready. ready.item ≡ item) }
         ensures ready { IfOk result (λ ready. CanEnter ready self.new) }
     {
@@ -359,6 +363,7 @@ impl Desk {
         ensures kept { self.new.kept ≡ performed self.old.kept ready.item }
         ensures item { result ≡ ready.item }
         ensures notes { NotesText (text_in ready.item.deed) (body_of ready.item) place from self.old.notes self.new.notes }
+        ensures marks { self.new.marks ≡ self.old.marks }
     {
         let Ready {
             item,
@@ -374,6 +379,7 @@ impl Desk {
         note_text(&mut self.shelf, &item, place, from);
         self.timeline.push(stored);
         self.next += 1;
+        self.since += 1;
         item
     }
 }

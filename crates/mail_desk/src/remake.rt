@@ -1,20 +1,20 @@
 //! The outcome of a cycle: made ready, and put in place.
-ghost use Rattle.std.specs.Prelude.{◌≡◌, ℕ, ◌<◌, ◌≤◌, [], ◌∷◌, ◌++◌, length, map, IfOk, OnOk, Ok, vec_len, vec_capacity};
+ghost use Rattle.std.specs.Prelude.{◌≡◌, ℕ, ◌+◌, ◌<◌, ◌≤◌, [], ◌∷◌, ◌++◌, length, map, IfOk, OnOk, IsTrue, Ok, vec_len, vec_capacity};
 ghost use Rattle.std.specs.List.{AllByRecursion};
 ghost use Rattle.verb_core.specs.declared.item.Item.{Item as TheItem};
 ghost use Rattle.verb_core.specs.declared.mailbox.Body.{Body as TheBody};
 ghost use Rattle.verb_core.specs.declared.mailbox.BoxId.{BoxId as TheBoxId};
 ghost use Rattle.verb_core.specs.declared.mailbox.Mailbox.{Mailbox as TheMailbox};
 ghost use Rattle.verb_core.specs.Items.{IsTimeline, NumbersApart};
-ghost use Rattle.verb_core.specs.Step.{run};
 ghost use Rattle.verb_core.specs.Store.{IsValid};
+ghost use Rattle.shelf.specs.Marks.{marks_at_or_before};
 ghost use Rattle.shelf.specs.Notes.{note_of};
+ghost use Rattle.paradox.specs.Kept.{rewound};
 ghost use Rattle.mail_desk.specs.Noting.{renoted};
 ghost use Rattle.mail_desk.specs.Remaking.{CanReplace, remade_as};
-ghost use Rattle.mail_desk.specs.Timeline.{SizesOf};
+ghost use Rattle.mail_desk.specs.Timeline.{SizesOf, all_bodies, has_text};
 
 use crate::Desk;
-use crate::laws::bodies_have_texts;
 use crate::noting::{Fresh, noted_anew};
 use crate::numbered::{Numbered, push_within};
 use box_store::Store;
@@ -35,6 +35,8 @@ pub struct Remade {
     pub(crate) key: Name,
     pub(crate) report: Report,
     pub(crate) shelf: Shelf,
+    pub(crate) place: u32,
+    pub(crate) entered: u32,
 }
 
 impl Remade {
@@ -115,6 +117,8 @@ fn completed(
     next: u32,
     key: Name,
     report: Report,
+    place: u32,
+    entered: u32,
     indexed: Result<Indexed, NoMemory>,
 ) -> Result<Remade, NoMemory>
     ensures parts { IfOk result (λ made. indexed ≡ Ok (made.timeline, made.shelf)) }
@@ -123,6 +127,8 @@ fn completed(
     ensures next { IfOk result (λ made. made.next ≡ next) }
     ensures key { IfOk result (λ made. made.key ≡ key) }
     ensures report { IfOk result (λ made. made.report ≡ report) }
+    ensures place { IfOk result (λ made. made.place ≡ place) }
+    ensures entered { IfOk result (λ made. made.entered ≡ entered) }
 {
     match indexed {
         Ok((timeline, shelf)) => Ok(Remade {
@@ -133,6 +139,8 @@ fn completed(
             key,
             report,
             shelf,
+            place,
+            entered,
         }),
         Err(NoMemory) => {
             drop(store);
@@ -154,7 +162,8 @@ fn put<T: Drop>(place: &mut T, value: T)
 impl Desk {
     /// Makes the outcome of a cycle ready, whose items have any order: their places by number, where their texts lie, and room
     /// for its report under the key of its request. A text keeps the note that its body had; another lies in the cycle's own
-    /// record, and a notice's, which no record holds, is noted there from 0. The desk stays as it was but for its room.
+    /// record, and a notice's, which no record holds, is noted there from 0. The cycle is behind that place, and let so many items
+    /// enter. The desk stays as it was but for its room.
     pub fn remake(
         &mut self,
         alloc: Global,
@@ -165,32 +174,37 @@ impl Desk {
         key: Name,
         report: Report,
         fresh: &Fresh,
+        place: u32,
+        entered: u32,
     ) -> Result<Remade, NoMemory>
-        requires store { store.store ≡ run self.old.kept.base timeline }
+        requires house { store.store.house ≡ self.old.kept.house }
         requires valid { IsValid store.store }
+        requires texts { IsTrue (all_bodies (has_text timeline) store.store.boxes) }
         requires timeline { IsTimeline self.old.kept.house timeline }
         requires below { AllByRecursion (λ (i : TheItem). i.number < next) timeline }
         requires named { map (λ (r : TheBoxId × ℕ). r.0) stamps ≡ map (λ (r : TheBoxId × TheMailbox). r.0) store.store.boxes }
         requires fresh { AllByRecursion (λ (r : TheBoxId × ℕ). r.1 < next) stamps }
-        requires rises { self.old.kept.next < next }
+        requires rises { self.old.kept.next + entered < next }
         requires next { next ≤ 4194304 }
         ensures kept { self.new.kept ≡ self.old.kept }
         ensures same { self.new.notes ≡ self.old.notes }
-        ensures made { IfOk result (λ made. remade_as self.old.kept made ≡ record self.old.kept { timeline = timeline; stamps = stamps; next = next; reports = self.old.kept.reports ++ (key, report) ∷ [] }) }
+        ensures marks { self.new.marks ≡ self.old.marks }
+        ensures made { IfOk result (λ made. remade_as self.old.kept made ≡ record self.old.kept { store = store.store; timeline = timeline; stamps = stamps; next = next; reports = self.old.kept.reports ++ (key, report) ∷ []; marks = rewound place entered self.old.kept.marks }) }
+        ensures place { IfOk result (λ made. made.place ≡ place) }
         ensures report { IfOk result (λ made. made.report ≡ report) }
         ensures notes { IfOk result (λ made. (body : TheBody) → note_of made.shelf.notes body ≡ renoted self.old.notes fresh.now timeline body) }
         ensures ready { IfOk result (λ made. CanReplace made self.new) }
     {
-        bodies_have_texts();
         let indexed = indexed_with_room(alloc, &mut self.reports, &self.shelf, fresh, timeline);
-        completed(store, stamps, next, key, report, indexed)
+        completed(store, stamps, next, key, report, place, entered, indexed)
     }
 
-    /// Puts the outcome of a cycle in place. It takes no memory.
+    /// Puts the outcome of a cycle in place, and forgets the snapshots behind its place. It takes no memory.
     pub fn replace(&mut self, remade: Remade)
         requires { CanReplace remade self.old }
         ensures kept { self.new.kept ≡ remade_as self.old.kept remade }
         ensures notes { self.new.notes ≡ remade.shelf.notes }
+        ensures marks { self.new.marks ≡ marks_at_or_before remade.place self.old.marks }
     {
         let Remade {
             store,
@@ -200,12 +214,16 @@ impl Desk {
             key,
             report,
             shelf,
+            place,
+            entered,
         } = remade;
         put(&mut self.store, store);
         put(&mut self.timeline, timeline);
         put(&mut self.stamps, stamps);
-        put(&mut self.shelf, shelf);
+        self.shelf.take_notes(shelf);
+        self.shelf.forget_after(place);
         self.next = next;
+        self.since += entered;
         push_within(&mut self.reports, (key, report));
     }
 }

@@ -1,5 +1,5 @@
 //! The texts that items bring: whether a body has one, where it lies, and a notice's, which is in memory.
-ghost use Rattle.std.specs.Prelude.{◌≡◌, Some, None, List, ℕ, is_some, length, option_copied, option_map, if◌then◌else◌};
+ghost use Rattle.std.specs.Prelude.{◌≡◌, Some, None, List, ℕ, is_some, length, take, option_copied, option_map, if◌then◌else◌};
 ghost use Rattle.verb_core.specs.Items.{NumbersApart, text_of};
 ghost use Rattle.mail_desk.specs.Timeline.{has_text, notice_text_of, notice_told_by, noted_of, rev_of, told_by};
 
@@ -63,6 +63,16 @@ fn is_told(timeline: &Numbered, body: Body) -> bool
     }
 }
 
+fn is_told_before(timeline: &Numbered, body: Body, place: usize) -> bool
+    requires { NumbersApart timeline.now.items }
+    ensures { result ≡ has_text (take place timeline.now.items) body }
+{
+    match timeline.find_before(body.origin, place) {
+        Some(item) => tells(item, body),
+        None => false,
+    }
+}
+
 fn find_rev(timeline: &Numbered, number: u32) -> Option<u32>
     requires { NumbersApart timeline.now.items }
     ensures { result ≡ rev_of timeline.now.items number }
@@ -84,6 +94,13 @@ impl Desk {
         ensures { result ≡ has_text self.now.kept.timeline body }
     {
         is_told(&self.timeline, body)
+    }
+
+    /// Whether one of the first so many items in force brings the text of a body. It takes no memory.
+    pub fn has_text_before(&self, body: Body, place: usize) -> bool
+        ensures { result ≡ has_text (take place self.now.kept.timeline) body }
+    {
+        is_told_before(&self.timeline, body, place)
     }
 
     /// The text of a body that a notice in force brings. It takes no memory.

@@ -1,5 +1,5 @@
 -- What is kept of a store in use: all that is needed to have it again, and to go on.
-use Rattle.std.specs.Prelude.{ℕ, ◌+◌, List, [], ◌∷◌, ◌++◌, bytes_eq, find, Option, option_map}
+use Rattle.std.specs.Prelude.{◌≡◌, ℕ, ◌+◌, ◌-◌, nat_le, nat_lt, List, [], ◌∷◌, ◌++◌, length, get_or, filter, bytes_eq, find, Option, option_map}
 use Rattle.verb_core.specs.declared.conf.Conf.{Conf}
 use Rattle.verb_core.specs.declared.conf.House.{House}
 use Rattle.verb_core.specs.declared.item.Item.{Item}
@@ -21,34 +21,82 @@ Reports = List (List ℕ × Report)
 abbrev pub report_of : Reports → List ℕ → Option Report
 report_of reports key = option_map (λ (r : List ℕ × Report). r.1) (find (λ (r : List ℕ × Report). bytes_eq r.0 key) reports)
 
+-- ---- the snapshots
+
+-- what is known of the snapshots in the journal: how many items entered since the last (inserted acts and notices counted), how
+-- many snapshots there are, and after how many items each of those was taken from which a cycle can begin, rising
+pub record Marks : Type 0 where
+  pub since : ℕ
+  pub taken : ℕ
+  pub places : List ℕ
+
+abbrev pub no_marks : Marks
+no_marks = record { since = 0; taken = 0; places = [] }
+
+-- more items entered
+abbrev pub entered : ℕ → Marks → Marks
+entered n m = record m { since = m.since + n }
+
+-- a number in its place among rising ones
+abbrev pub placed : ℕ → List ℕ → List ℕ
+placed n places = filter (λ (p : ℕ). nat_lt p n) places ++ n ∷ filter (λ (p : ℕ). nat_lt n p) places
+
+-- a snapshot was taken after so many items
+abbrev pub marked : ℕ → Marks → Marks
+marked n m = record { since = 0; taken = m.taken + 1; places = placed n m.places }
+
+-- a snapshot is there that holds another store: no cycle begins from it
+abbrev pub passed : Marks → Marks
+passed m = record m { since = 0; taken = m.taken + 1 }
+
+-- those that are not behind a place
+abbrev pub not_behind : ℕ → List ℕ → List ℕ
+not_behind place places = filter (λ (p : ℕ). nat_le p place) places
+
+-- a cycle at a place let so many items enter: no snapshot behind the place can serve
+abbrev pub rewound : ℕ → ℕ → Marks → Marks
+rewound place n m = record m { since = m.since + n; places = not_behind place m.places }
+
+-- the last of those that are not behind a place, or 0
+abbrev pub newest_at : ℕ → List ℕ → ℕ
+newest_at place places = get_or (not_behind place places) (length (not_behind place places) - 1) 0
+
 -- ---- what is kept
 
--- the house, the configuration at first, the store before the first item, the items in force in order, the stamp of each
--- mailbox, the next number, and the reports of cycles
+-- the house, the configuration at first, the store before the first item, the store that is there, the items in force in order,
+-- the stamp of each mailbox, the next number, the reports of cycles, and the snapshots
 pub record Kept : Type 0 where
   pub house : House
   pub opening : Conf
   pub base : MailStore
+  pub store : MailStore
   pub timeline : List Item
   pub stamps : List (BoxId × ℕ)
   pub next : ℕ
   pub reports : Reports
+  pub marks : Marks
 
 -- what is kept where the items began with the opening store of a house and a configuration
-abbrev pub kept_from : House → Conf → List Item → List (BoxId × ℕ) → ℕ → Reports → Kept
-kept_from house conf timeline stamps next reports = record {
+abbrev pub kept_from : House → Conf → MailStore → List Item → List (BoxId × ℕ) → ℕ → Reports → Marks → Kept
+kept_from house conf store timeline stamps next reports marks = record {
   house = house;
   opening = conf;
   base = opening house conf;
+  store = store;
   timeline = timeline;
   stamps = stamps;
   next = next;
   reports = reports;
+  marks = marks;
 }
 
--- the store that the items in force leave, one after the other
+-- the store
 abbrev pub store_of : Kept → MailStore
-store_of kept = run kept.base kept.timeline
+store_of kept = kept.store
+
+-- it is what the items in force leave, performed one after the other
+abbrev pub IsRun : Kept → Type 0
+IsRun kept = kept.store ≡ run kept.base kept.timeline
 
 -- the mailbox of a user and name, if there is one
 abbrev pub mailbox_at : Kept → BoxId → Option Mailbox
@@ -64,16 +112,24 @@ new_desk house conf = record {
   house = house;
   opening = conf;
   base = opening house conf;
+  store = opening house conf;
   timeline = [];
   stamps = opening_stamps (opening house conf);
   next = house.first;
   reports = [];
+  marks = no_marks;
 }
 
 -- the item is performed, and is the last of those in force
 abbrev pub performed : Kept → Item → Kept
 performed kept item = record kept {
+  store = (step (store_of kept) item).0;
   timeline = kept.timeline ++ item ∷ [];
   stamps = stamps_after item.number (step (store_of kept) item).0.boxes kept.stamps;
   next = kept.next + 1;
+  marks = entered 1 kept.marks;
 }
+
+-- a snapshot of what is kept was taken
+abbrev pub snapshotted : Kept → Kept
+snapshotted kept = record kept { marks = marked (length kept.timeline) kept.marks }

@@ -3,31 +3,25 @@ use Rattle.std.specs.List.{list_all, cons_option}
 use Rattle.verb_core.specs.declared.conf.House.{House}
 use Rattle.verb_core.specs.Items.{IsWellFormed}
 use Rattle.verb_core.specs.Live.{live}
-use Rattle.verb_core.specs.Store.{MailStore, is_known}
+use Rattle.verb_core.specs.Store.{is_known}
 use Rattle.box_store.specs.Refusing.{IsRefusal}
 use Rattle.mail_desk.specs.Held.{Held}
-use Rattle.paradox.specs.Kept.{Kept, kept_from, store_of}
-use Rattle.mail_desk.proofs.Desks.{house_stays}
+use Rattle.paradox.specs.Kept.{store_of}
 use Rattle.mail_desk.proofs.Readied.{number_asked, number_left}
 use Rattle.mail_desk.proofs.desk.Desk.asked.Goals as goal
 
 pub live-requires-clause-known : goal.live-requires-clause-known
 live-requires-clause-known c =
-    let d = c.self.inside in
-    let kept : Kept = kept_from d.house d.opening d.timeline.items d.stamps d.next d.reports.items in
-    let house = ap (λ (s : MailStore). s.house) c.self.invariant.desk.store_is ∙ house_stays kept c.self.invariant.desk.base ∙ ap (λ (h : Held). h.kept.house) c.self.view_is in
+    let house = c.self.invariant.desk.house_is ∙ ap (λ (h : Held). h.kept.house) c.self.view_is in
     subst (λ (h : House). IsTrue (list_all (is_known h) (cons_option c.args.by []))) (sym house) c.requires.known
 
 pub returns-clause-item : goal.returns-clause-item
 returns-clause-item c =
-    subst (λ (h : Held). IfOk c.live.result (λ item. live (store_of h.kept) h.kept.next c.args.at c.args.by c.args.ask ≡ Ok item)) c.self.view_is
-    (subst (λ (s : MailStore). IfOk c.live.result (λ item. live s c.self.inside.next c.args.at c.args.by c.args.ask ≡ Ok item)) c.self.invariant.desk.store_is c.live.ensures.item)
+    subst (λ (h : Held). IfOk c.live.result (λ item. live (store_of h.kept) h.kept.next c.args.at c.args.by c.args.ask ≡ Ok item)) c.self.view_is c.live.ensures.item
 
 pub returns-clause-formed : goal.returns-clause-formed
 returns-clause-formed c =
-    let d = c.self.inside in
-    let kept : Kept = kept_from d.house d.opening d.timeline.items d.stamps d.next d.reports.items in
-    let house = ap (λ (s : MailStore). s.house) c.self.invariant.desk.store_is ∙ house_stays kept c.self.invariant.desk.base ∙ ap (λ (h : Held). h.kept.house) c.self.view_is in
+    let house = c.self.invariant.desk.house_is ∙ ap (λ (h : Held). h.kept.house) c.self.view_is in
     subst (λ (h : House). IfOk c.live.result (λ item. IsWellFormed h item)) house c.live.ensures.formed
 
 pub returns-clause-number : goal.returns-clause-number
@@ -42,5 +36,4 @@ returns-clause-left c =
 
 pub returns-clause-refused : goal.returns-clause-refused
 returns-clause-refused c =
-    subst (λ (h : Held). IfErr c.live.result (λ refused. IsRefusal refused (live (store_of h.kept) h.kept.next c.args.at c.args.by c.args.ask))) c.self.view_is
-    (subst (λ (s : MailStore). IfErr c.live.result (λ refused. IsRefusal refused (live s c.self.inside.next c.args.at c.args.by c.args.ask))) c.self.invariant.desk.store_is c.live.ensures.refused)
+    subst (λ (h : Held). IfErr c.live.result (λ refused. IsRefusal refused (live (store_of h.kept) h.kept.next c.args.at c.args.by c.args.ask))) c.self.view_is c.live.ensures.refused
