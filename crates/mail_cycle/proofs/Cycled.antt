@@ -50,6 +50,19 @@ length_shown front [] now = refl
 length_shown zero (i ∷ t) now = ap suc (length_shown zero t (drop 1 now))
 length_shown (suc front) (i ∷ t) now = ap suc (length_shown front t now)
 
+-- behind the first so many, of which none is compared
+pub shown_behind : (count front n : ℕ) (t : List Item) (now : List Shown) → n + count ≡ front → drop count (shown_after front t now) ≡ shown_after n (drop count t) now
+shown_behind zero front n t now e = let same : front ≡ n = omega arith in ap (λ (f : ℕ). shown_after f t now) same
+shown_behind (suc count) zero n t now e = absurd (omega arith)
+shown_behind (suc count) (suc front) n [] now e = refl
+shown_behind (suc count) (suc front) n (i ∷ t) now e = shown_behind count front n t now (omega arith)
+
+pub shown_front : (count front : ℕ) (t : List Item) (now : List Shown) → count ≤ front → take count (shown_after front t now) ≡ take count t
+shown_front zero front t now le = refl
+shown_front (suc count) zero t now le = absurd (omega arith)
+shown_front (suc count) (suc front) [] now le = refl
+shown_front (suc count) (suc front) (i ∷ t) now le = ap (λ (rest : List Item). i ∷ rest) (shown_front count front t now (omega arith))
+
 -- ---- the answers that are compared
 
 pub drop_more : {X : Type 0} (n place : ℕ) (xs : List X) → drop n (drop place xs) ≡ drop (place + n) xs

@@ -8,10 +8,9 @@ use Rattle.verb_core.specs.declared.mailbox.Mailbox.{Mailbox}
 use Rattle.verb_core.specs.Boxes.{has_row, row_at}
 use Rattle.verb_core.specs.Items.{NumbersApart, text_in, text_of}
 use Rattle.verb_core.specs.Step.{Boxes, run, step}
-use Rattle.verb_core.proofs.Joins.{run_joined}
 use Rattle.verb_core.proofs.StampLaws.{stamp-each}
 use Rattle.verb_bytes.specs.declared.journal.CycleAsk.{CycleAsk}
-use Rattle.paradox.specs.Kept.{Kept, mailbox_at, performed, stamp_at, store_of}
+use Rattle.paradox.specs.Kept.{Kept, Marks, mailbox_at, performed, stamp_at, store_of}
 use Rattle.repair_desk.specs.Renewals.{extends_one, stamp_after}
 use Rattle.repair_desk.specs.Repairs.{position}
 use Rattle.repair_desk.proofs.Extended.{each, itself, transitive}
@@ -26,6 +25,14 @@ use Rattle.mail_cycle.proofs.Left.{left_texts}
 own_mailbox : (o : Option Mailbox) (m : Mailbox) → o ≡ Some m → extends_one o m ≡ true
 own_mailbox None m e = cc
 own_mailbox (Some old) m e = let same : m ≡ old = cc in ap (λ (new : Mailbox). extends_one (Some old) new) same ∙ itself old
+
+-- what is known of snapshots makes no difference
+pub lasts_marked : (s : Kept) (marks : Marks) → UidsLast s (record s { marks = marks })
+lasts_marked s marks = record {
+  next = omega arith;
+  stamps = λ id stamp m below stamped mail. (stamped, own_mailbox (mailbox_at s id) m mail);
+  texts = λ body text number rev is. is;
+}
 
 pub lasts_itself : (s : Kept) → UidsLast s s
 lasts_itself s = record {
@@ -77,9 +84,8 @@ text_before body text i (j ∷ t) apart e = by ((j.number == body.origin) && (j.
 module _ (s : Kept) (i : Item) (named : map (λ (r : BoxId × ℕ). r.0) s.stamps ≡ map (λ (r : BoxId × Mailbox). r.0) (store_of s).boxes) (number : i.number ≡ s.next) where
   item_stamps : StampsLast s (performed s i)
   item_stamps id stamp m below stamped mail =
-      let after : row_at id (step (store_of s) i).0.boxes ≡ Some m = ap (λ t. row_at id t.boxes) (sym (run_joined s.base s.timeline (i ∷ []))) ∙ mail in
-      by (has_row id (store_of s).boxes) refl after
-      (ap (λ (o : Option Mailbox). cond (is_some o) (cond (has_row id (store_of s).boxes) (row_at id s.stamps) (Some i.number)) None) (sym after)
+      by (has_row id (store_of s).boxes) refl mail
+      (ap (λ (o : Option Mailbox). cond (is_some o) (cond (has_row id (store_of s).boxes) (row_at id s.stamps) (Some i.number)) None) (sym mail)
       ∙ sym (stamp-each i.number (store_of s).boxes (step (store_of s) i).0.boxes s.stamps id named) ∙ stamped)
     where
       by : (b : Bool) → has_row id (store_of s).boxes ≡ b → row_at id (step (store_of s) i).0.boxes ≡ Some m → cond b (row_at id s.stamps) (Some i.number) ≡ Some stamp

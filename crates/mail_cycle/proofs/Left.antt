@@ -1,5 +1,5 @@
 -- What a cycle leaves.
-use Rattle.std.proofs.Common.{◌≡◌, ◌≢◌, ℕ, zero, suc, ◌+◌, ◌<◌, ◌≤◌, Bool, cond, true, false, arith, refl, sym, ◌∙◌, ap, ap₂, subst, List, [], ◌∷◌, ◌++◌, take, drop, length, filter, length-append, map, not, None, Option, Some, is_some}
+use Rattle.std.proofs.Common.{◌≡◌, ◌≢◌, ℕ, zero, suc, ◌+◌, ◌-◌, ◌<◌, ◌≤◌, Bool, cond, true, false, arith, refl, sym, ◌∙◌, ap, ap₂, subst, List, [], ◌∷◌, ◌++◌, take, drop, length, filter, length-append, map, not, None, Option, Some, is_some}
 use Rattle.std.specs.List.{AllByRecursion}
 use Rattle.std.proofs.lemmas.Bool.{leb-true}
 use Rattle.std.proofs.lemmas.List.{append-nil, length-take-le, take-append-drop, take_all}
@@ -24,13 +24,13 @@ use Rattle.paradox.specs.declared.reports.BrokenItem.{BrokenItem}
 use Rattle.paradox.specs.declared.words.Reason.{Reason}
 use Rattle.paradox.proofs.Holding.{holds}
 use Rattle.paradox.specs.Answers.{looks_at_texts}
-use Rattle.repair_desk.specs.Repairs.{are_known, inserted, is_among, kept as kept_later, position, repaired, replaced_by, text_asked}
+use Rattle.repair_desk.specs.Repairs.{are_known, edited_at, inserted, is_among, kept as kept_later, position, repaired, replaced_by, text_asked}
 use Rattle.repair_desk.proofs.Everywhere.{all_apart, all_below, all_formed, joined, revs_below, weaker}
 use Rattle.repair_desk.proofs.Extended.{below as stamps_below}
 use Rattle.repair_desk.proofs.Texts.{IsOld, found_old, higher_old, new_old}
 use Rattle.mail_cycle.specs.Asking.{Due, NoNumbers, NoPoint, Repeats, Rewinds, due_anew, due_at}
-use Rattle.mail_cycle.specs.Cycles.{Cycled, broken_at, broken_with, compared_at, compared_with, cycled_at, cycled_with, front_of, kept_at, kept_with, leaves_numbers, notice_items, repaired_items, report_at, stamps_at, stamps_with, timeline_at, timeline_with, told_at, told_with}
-use Rattle.mail_cycle.specs.Leaving.{GoesOn}
+use Rattle.mail_cycle.specs.Cycles.{Cycled, broken_at, broken_by, compared_at, compared_from, cycled_at, cycled_by, cycled_from, front_of, kept_at, leaves_numbers, notice_items, reached_from, repaired_items, report_at, stamps_at, stamps_by, timeline_at, timeline_by, timeline_from, told_at, told_by}
+use Rattle.mail_cycle.specs.Leaving.{GoesOn, GoesOnAt}
 use Rattle.mail_cycle.specs.Judging.{judged, shown_after, shown_by, told as tell}
 use Rattle.paradox.specs.Kept.{Kept, store_of}
 use Rattle.stored_items.specs.Stored.{AllHeard}
@@ -64,10 +64,20 @@ one_formed house i now rest formed form = elim (is_some (broken i now)) as (λ b
   | false ↦ formed
 ]
 
-pub shown_formed : (house : House) (base : MailStore) (front : ℕ) (t : List Item) → AllByRecursion (IsWellFormed house) t → AllByRecursion (IsWellFormed house) (shown_after front t (drop front (answers base t)))
+shown_formed : (house : House) (base : MailStore) (front : ℕ) (t : List Item) → AllByRecursion (IsWellFormed house) t → AllByRecursion (IsWellFormed house) (shown_after front t (drop front (answers base t)))
 shown_formed house base front [] formed = tt
 shown_formed house base zero (i ∷ t) formed = (one_formed house i (step base i).1 (answers (step base i).0 t) formed.0 (form_of _ _ i.deed base.boxes), shown_formed house (step base i).0 zero t formed.1)
 shown_formed house base (suc front) (i ∷ t) formed = (formed.0, shown_formed house (step base i).0 front t formed.1)
+
+-- the same where those behind the first so many are performed on a store
+formed_from : (house : House) (first : MailStore) (count front n : ℕ) (t : List Item) → n + count ≡ front → AllByRecursion (IsWellFormed house) t
+    → AllByRecursion (IsWellFormed house) (shown_after front t (drop n (answers first (drop count t))))
+formed_from house first zero front n t e formed =
+    let same : n ≡ front = omega arith in
+    subst (λ (f : ℕ). AllByRecursion (IsWellFormed house) (shown_after f t (drop n (answers first t)))) same (shown_formed house first n t formed)
+formed_from house first (suc count) zero n t e formed = absurd (omega arith)
+formed_from house first (suc count) (suc front) n [] e formed = tt
+formed_from house first (suc count) (suc front) n (i ∷ t) e formed = (formed.0, formed_from house first count front n t (omega arith) formed.1)
 
 -- ---- numbers and revs, which answers do not change
 
@@ -126,61 +136,61 @@ both_apart last (i ∷ a) b first second low high = (
 
 -- ---- the whole
 
-module _ (s : Kept) (at : ℕ) (ask : CycleAsk) (place : ℕ) (items : List Item) where
+module _ (s : Kept) (at : ℕ) (ask : CycleAsk) (place : ℕ) (items : List Item) (now : List Shown) (after : MailStore) where
   abbrev last : ℕ
   last = s.next + length ask.inserts
 
   abbrev told : List Item
-  told = told_with s at ask place items
+  told = told_by s at ask place now
 
   abbrev kept : List Item
-  kept = kept_with s ask place items
+  kept = shown_after (front_of ask place) items now
 
   abbrev cycled : Cycled
-  cycled = cycled_with s at ask place items
+  cycled = cycled_by s at ask place items now after
 
-  formed_with : AllByRecursion (IsWellFormed s.house) items → AllByRecursion (IsWellFormed s.house) (timeline_with s at ask place items)
-  formed_with formed = joined (IsWellFormed s.house) kept told (shown_formed s.house s.base (front_of ask place) items formed) (told_formed s.house last at s.next _)
+  formed_by : AllByRecursion (IsWellFormed s.house) kept → AllByRecursion (IsWellFormed s.house) (timeline_by s at ask place items now)
+  formed_by formed = joined (IsWellFormed s.house) kept told formed (told_formed s.house last at s.next _)
 
   kept_low : AllByRecursion (λ (i : Item). i.number ≤ last) items → AllByRecursion (λ (i : Item). i.number ≤ last) kept
-  kept_low low = shown_numbers (λ n. n ≤ last) (front_of ask place) items (compared_with s ask place items) low
+  kept_low low = shown_numbers (λ n. n ≤ last) (front_of ask place) items now low
 
-  below_with : AllByRecursion (λ (i : Item). i.number ≤ last) items → AllByRecursion (λ (i : Item). i.number < cycled.next) (timeline_with s at ask place items)
-  below_with low = joined (λ (i : Item). i.number < cycled.next) kept told
+  below_by : AllByRecursion (λ (i : Item). i.number ≤ last) items → AllByRecursion (λ (i : Item). i.number < cycled.next) (timeline_by s at ask place items now)
+  below_by low = joined (λ (i : Item). i.number < cycled.next) kept told
       (weaker (λ (i : Item). i.number ≤ last) (λ (i : Item). i.number < cycled.next) (λ i le. omega arith) kept (kept_low low))
       (notices_below cycled.next last at _ (omega arith))
 
-  timeline_left : AllByRecursion (IsWellFormed s.house) items → NumbersApart items → AllByRecursion (λ (i : Item). i.number ≤ last) items → IsTimeline s.house (timeline_with s at ask place items)
+  timeline_left : AllByRecursion (IsWellFormed s.house) kept → NumbersApart items → AllByRecursion (λ (i : Item). i.number ≤ last) items → IsTimeline s.house (timeline_by s at ask place items now)
   timeline_left formed apart low = record {
-    formed = formed_with formed;
-    apart = both_apart last kept told (shown_apart (front_of ask place) items (compared_with s ask place items) apart) (notices_apart last at _) (kept_low low) (above last last at _ (omega arith));
+    formed = formed_by formed;
+    apart = both_apart last kept told (shown_apart (front_of ask place) items now apart) (notices_apart last at _) (kept_low low) (above last last at _ (omega arith));
   }
 
-  revs_with : AllByRecursion (λ (i : Item). i.rev ≤ s.next) items → AllByRecursion (λ (i : Item). i.rev < cycled.next) (timeline_with s at ask place items)
-  revs_with low = joined (λ (i : Item). i.rev < cycled.next) kept told
+  revs_by : AllByRecursion (λ (i : Item). i.rev ≤ s.next) items → AllByRecursion (λ (i : Item). i.rev < cycled.next) (timeline_by s at ask place items now)
+  revs_by low = joined (λ (i : Item). i.rev < cycled.next) kept told
       (weaker (λ (i : Item). i.rev ≤ s.next) (λ (i : Item). i.rev < cycled.next) (λ i le. omega arith) kept
-      (shown_revs (λ n. n ≤ s.next) (front_of ask place) items (compared_with s ask place items) low))
+      (shown_revs (λ n. n ≤ s.next) (front_of ask place) items now low))
       (notice_revs cycled.next last at _ (omega arith))
 
   names : (rows : Boxes) (f : BoxId × Mailbox → ℕ) → map (λ (r : BoxId × ℕ). r.0) (map (λ (r : BoxId × Mailbox). (r.0, f r)) rows) ≡ map (λ (r : BoxId × Mailbox). r.0) rows
   names [] f = refl
   names (r ∷ rows) f = ap (λ (ids : List BoxId). r.0 ∷ ids) (names rows f)
 
-  named_with : map (λ (r : BoxId × ℕ). r.0) (stamps_with s at ask place items) ≡ map (λ (r : BoxId × Mailbox). r.0) (run s.base (timeline_with s at ask place items)).boxes
-  named_with = names (run s.base (timeline_with s at ask place items)).boxes _
+  named_by : map (λ (r : BoxId × ℕ). r.0) (stamps_by s after) ≡ map (λ (r : BoxId × Mailbox). r.0) after.boxes
+  named_by = names after.boxes _
 
-  rises_with : s.next < cycled.next
-  rises_with = omega arith
+  rises_by : s.next < cycled.next
+  rises_by = omega arith
 
-  next_with : leaves_numbers s ask ≡ true → cycled.next ≤ 4194303
-  next_with left =
+  next_by : leaves_numbers s ask ≡ true → cycled.next ≤ 4194303
+  next_by left =
       let room = leb-true (s.next + 1 + length ask.inserts + length s.house.accounts) 4194303 left in
-      let few = few_told s.house last s.next at (broken_with s ask place items) in
+      let few = few_told s.house last s.next at (broken_by s ask place now) in
       omega arith
 
   -- the stamps
-  fresh_with : AllByRecursion (λ (r : BoxId × ℕ). r.1 < s.next) s.stamps → AllByRecursion (λ (r : BoxId × ℕ). r.1 < cycled.next) (stamps_with s at ask place items)
-  fresh_with fresh = lower (stamps_with s at ask place items) (stamps_below (store_of s).boxes (run s.base (timeline_with s at ask place items)).boxes s.stamps s.next fresh)
+  fresh_by : AllByRecursion (λ (r : BoxId × ℕ). r.1 < s.next) s.stamps → AllByRecursion (λ (r : BoxId × ℕ). r.1 < cycled.next) (stamps_by s after)
+  fresh_by fresh = lower (stamps_by s after) (stamps_below (store_of s).boxes after.boxes s.stamps s.next fresh)
     where
       lower : (rows : List (BoxId × ℕ)) → AllByRecursion (λ (r : BoxId × ℕ). r.1 ≤ s.next) rows → AllByRecursion (λ (r : BoxId × ℕ). r.1 < cycled.next) rows
       lower [] low = tt
@@ -198,26 +208,31 @@ module _ (s : Kept) (at : ℕ) (ask : CycleAsk) (place : ℕ) (heard : List Item
   heard_revs_low : AllByRecursion (λ (i : Item). i.rev < s.next) s.timeline → AllByRecursion (λ (i : Item). i.rev ≤ s.next) heard
   heard_revs_low below = revs_heard (λ n. n ≤ s.next) (repaired_items s at ask place) heard all (revs_below s.timeline ask s.next at place below)
 
-  timeline_heard : IsTimeline s.house s.timeline → AllByRecursion (λ (i : Item). i.number < s.next) s.timeline → are_known s.house ask.inserts ≡ true → IsTimeline s.house (timeline_with s at ask place heard)
-  timeline_heard is below known = timeline_left s at ask place heard (heard_formed is.formed known)
-      (apart_heard (repaired_items s at ask place) heard all (all_apart s.timeline ask s.next at place is.apart below)) (heard_low below)
+-- what is left from a beginning can be gone on with
+module _ (s : Kept) (at : ℕ) (ask : CycleAsk) (place : ℕ) (first : MailStore) (count : ℕ) (heard : List Item) where
+  abbrev now_from : List Shown
+  now_from = compared_from ask place first count heard
 
--- what is left over items as they were read can be gone on with
-pub left_heard : (s : Kept) (at : ℕ) (ask : CycleAsk) (place : ℕ) (heard : List Item) → IsTimeline s.house s.timeline → AllByRecursion (λ (i : Item). i.number < s.next) s.timeline
-    → AllByRecursion (λ (r : BoxId × ℕ). r.1 < s.next) s.stamps → are_known s.house ask.inserts ≡ true → AllHeard (repaired_items s at ask place) heard → leaves_numbers s ask ≡ true
-    → GoesOn s (cycled_with s at ask place heard)
-left_heard s at ask place heard timeline below fresh known all left = record {
-  timeline = timeline_heard s at ask place heard all timeline below known;
-  below = below_with s at ask place heard (heard_low s at ask place heard all below);
-  named = named_with s at ask place heard;
-  fresh = fresh_with s at ask place heard fresh;
-  rises = rises_with s at ask place heard;
-  next = next_with s at ask place heard left;
-}
+  abbrev after_from : MailStore
+  after_from = reached_from s at ask place first count heard
 
-pub left_heard_revs : (s : Kept) (at : ℕ) (ask : CycleAsk) (place : ℕ) (heard : List Item) → AllByRecursion (λ (i : Item). i.rev < s.next) s.timeline → AllHeard (repaired_items s at ask place) heard
-    → AllByRecursion (λ (i : Item). i.rev < (cycled_with s at ask place heard).next) (timeline_with s at ask place heard)
-left_heard_revs s at ask place heard below all = revs_with s at ask place heard (heard_revs_low s at ask place heard all below)
+  pub left_from : IsTimeline s.house s.timeline → AllByRecursion (λ (i : Item). i.number < s.next) s.timeline → AllByRecursion (λ (r : BoxId × ℕ). r.1 < s.next) s.stamps
+      → are_known s.house ask.inserts ≡ true → count ≤ place → AllHeard (repaired_items s at ask place) heard → leaves_numbers s ask ≡ true
+      → GoesOnAt s after_from (cycled_from s at ask place first count heard)
+  left_from timeline below fresh known few all left = record {
+    timeline = timeline_left s at ask place heard now_from after_from
+        (formed_from s.house first count (front_of ask place) (front_of ask place - count) heard (omega arith) (heard_formed s at ask place heard all timeline.formed known))
+        (apart_heard (repaired_items s at ask place) heard all (all_apart s.timeline ask s.next at place timeline.apart below)) (heard_low s at ask place heard all below);
+    below = below_by s at ask place heard now_from after_from (heard_low s at ask place heard all below);
+    named = named_by s at ask place heard now_from after_from;
+    fresh = fresh_by s at ask place heard now_from after_from fresh;
+    rises = rises_by s at ask place heard now_from after_from;
+    next = next_by s at ask place heard now_from after_from left;
+  }
+
+  pub left_from_revs : AllByRecursion (λ (i : Item). i.rev < s.next) s.timeline → AllHeard (repaired_items s at ask place) heard
+      → AllByRecursion (λ (i : Item). i.rev < (cycled_from s at ask place first count heard).next) (timeline_from s at ask place first count heard)
+  left_from_revs below all = revs_by s at ask place heard now_from after_from (heard_revs_low s at ask place heard all below)
 
 -- ---- the repaired items themselves
 
@@ -225,42 +240,52 @@ module _ (s : Kept) (at : ℕ) (ask : CycleAsk) (place : ℕ) where
   abbrev items : List Item
   items = repaired_items s at ask place
 
+  abbrev shown_then : List Shown
+  shown_then = compared_at s at ask place
+
+  abbrev after : MailStore
+  after = run s.base (timeline_at s at ask place)
+
+  at_formed : AllByRecursion (IsWellFormed s.house) s.timeline → are_known s.house ask.inserts ≡ true → AllByRecursion (IsWellFormed s.house) (kept_at s at ask place)
+  at_formed formed known = shown_formed s.house s.base (front_of ask place) items (all_formed s.house s.timeline ask s.next at place formed known)
+
   pub left_formed : AllByRecursion (IsWellFormed s.house) s.timeline → are_known s.house ask.inserts ≡ true → AllByRecursion (IsWellFormed s.house) (timeline_at s at ask place)
-  left_formed formed known = formed_with s at ask place items (all_formed s.house s.timeline ask s.next at place formed known)
+  left_formed formed known = formed_by s at ask place items shown_then after (at_formed formed known)
 
   pub left_below : AllByRecursion (λ (i : Item). i.number < s.next) s.timeline → AllByRecursion (λ (i : Item). i.number < (cycled_at s at ask place).next) (timeline_at s at ask place)
-  left_below below = below_with s at ask place items (all_below s.timeline ask s.next at place below)
+  left_below below = below_by s at ask place items shown_then after (all_below s.timeline ask s.next at place below)
 
   pub left_timeline : IsTimeline s.house s.timeline → AllByRecursion (λ (i : Item). i.number < s.next) s.timeline → are_known s.house ask.inserts ≡ true → IsTimeline s.house (timeline_at s at ask place)
-  left_timeline is below known = timeline_left s at ask place items (all_formed s.house s.timeline ask s.next at place is.formed known) (all_apart s.timeline ask s.next at place is.apart below)
+  left_timeline is below known = timeline_left s at ask place items shown_then after (at_formed is.formed known) (all_apart s.timeline ask s.next at place is.apart below)
       (all_below s.timeline ask s.next at place below)
 
   pub left_revs : AllByRecursion (λ (i : Item). i.rev < s.next) s.timeline → AllByRecursion (λ (i : Item). i.rev < (cycled_at s at ask place).next) (timeline_at s at ask place)
-  left_revs below = revs_with s at ask place items (revs_below s.timeline ask s.next at place below)
+  left_revs below = revs_by s at ask place items shown_then after (revs_below s.timeline ask s.next at place below)
 
   pub left_named : map (λ (r : BoxId × ℕ). r.0) (stamps_at s at ask place) ≡ map (λ (r : BoxId × Mailbox). r.0) (run s.base (timeline_at s at ask place)).boxes
-  left_named = named_with s at ask place items
+  left_named = named_by s at ask place items shown_then after
 
   pub left_rises : s.next < (cycled_at s at ask place).next
-  left_rises = rises_with s at ask place items
+  left_rises = rises_by s at ask place items shown_then after
 
   pub left_next : leaves_numbers s ask ≡ true → (cycled_at s at ask place).next ≤ 4194303
-  left_next left = next_with s at ask place items left
+  left_next left = next_by s at ask place items shown_then after left
 
   pub left_fresh : AllByRecursion (λ (r : BoxId × ℕ). r.1 < s.next) s.stamps → AllByRecursion (λ (r : BoxId × ℕ). r.1 < (cycled_at s at ask place).next) (stamps_at s at ask place)
-  left_fresh fresh = fresh_with s at ask place items fresh
+  left_fresh fresh = fresh_by s at ask place items shown_then after fresh
 
-  -- how long the timeline is
+  -- how many items there are
+  pub length_repaired : place ≤ length s.timeline → length items ≡ place + length ask.inserts + (edited_at s.timeline ask s.next at place).kept
+  length_repaired le =
+      length-append (take place s.timeline ++ inserted s.next at ask.inserts) (map (repaired ask s.next) (kept_later ask (drop place s.timeline)))
+      ∙ ap₂ (λ (a b : ℕ). a + b)
+      (length-append (take place s.timeline) (inserted s.next at ask.inserts) ∙ ap₂ (λ (a b : ℕ). a + b) (length-take-le place s.timeline le) (length_acts s.next at ask.inserts))
+      (length_map (repaired ask s.next) (kept_later ask (drop place s.timeline)))
+
   pub left_length : place ≤ length s.timeline → length (timeline_at s at ask place) ≡ place + length ask.inserts + (report_at s at ask place).kept + length (report_at s at ask place).notices
   left_length le =
       length-append (kept_at s at ask place) (told_at s at ask place)
-      ∙ ap₂ (λ (a b : ℕ). a + b)
-      (length_shown (front_of ask place) (repaired_items s at ask place) (compared_at s at ask place)
-      ∙ length-append (take place s.timeline ++ inserted s.next at ask.inserts) (map (repaired ask s.next) (kept_later ask (drop place s.timeline)))
-      ∙ ap₂ (λ (a b : ℕ). a + b)
-      (length-append (take place s.timeline) (inserted s.next at ask.inserts) ∙ ap₂ (λ (a b : ℕ). a + b) (length-take-le place s.timeline le) (length_acts s.next at ask.inserts))
-      (length_map (repaired ask s.next) (kept_later ask (drop place s.timeline))))
-      (sym (length_map (λ (i : Item). i.number) (told_at s at ask place)))
+      ∙ ap₂ (λ (a b : ℕ). a + b) (length_shown (front_of ask place) items shown_then ∙ length_repaired le) (sym (length_map (λ (i : Item). i.number) (told_at s at ask place)))
 
   pub left_few : length (report_at s at ask place).notices ≤ length s.house.accounts
   left_few =

@@ -4,3 +4,4 @@ pub mod Left
 pub mod Placing
 pub mod Parts
 pub mod Lasting
+pub mod Made

@@ -1,6 +1,7 @@
 -- The end of a cycle, step by step: what each of them has is what the cycle is to have.
-use Rattle.std.proofs.Common.{◌≡◌, ◌∙◌, ℕ, Bool, cond, Some, ◌+◌, ◌≤◌, ◌++◌, Err, IfOk, List, Ok, Result, ap, ap₂, arith, drop, length, length-append, subst, sym, true}
+use Rattle.std.proofs.Common.{◌≡◌, ◌∙◌, ℕ, Bool, cond, Some, ◌+◌, ◌≤◌, ◌++◌, Err, IfOk, ◌-◌, List, Ok, Result, ap, ap₂, arith, drop, length, subst, sym, true}
 use Rattle.std.specs.List.{AllByRecursion}
+use Rattle.std.proofs.lemmas.List.{drop-append-le}
 use Rattle.undo_base.specs.declared.keys.User.{User}
 use Rattle.undo_base.specs.declared.memory.NoMemory.{NoMemory}
 use Rattle.verb_bytes.specs.declared.journal.CycleAsk.{CycleAsk}
@@ -15,19 +16,16 @@ use Rattle.verb_core.proofs.Joins.{run_joined}
 use Rattle.paradox.specs.Kept.{Kept, store_of}
 use Rattle.paradox.specs.Letters.{notices}
 use Rattle.paradox.specs.declared.reports.BrokenItem.{BrokenItem}
-use Rattle.paradox.specs.declared.reports.Report.{Report}
 use Rattle.repair_desk.specs.declared.editing.Edited.{Edited}
 use Rattle.repair_desk.specs.Renewals.{renewed}
 use Rattle.repair_desk.specs.Repairs.{are_known, edited_at, is_among, numbers_of, position}
 use Rattle.repair_desk.proofs.Everywhere.{all_formed}
-use Rattle.stored_items.specs.Stored.{AllHeard}
 use Rattle.mail_cycle.specs.declared.settling.Rewound.{Rewound}
-use Rattle.mail_cycle.specs.Cycles.{Cycled, broken_with, compared_with, cycled_at, cycled_with, front_of, kept_with, leaves_numbers, notice_items, renewed_by, report_with, stamps_with, timeline_with, told_with}
+use Rattle.mail_cycle.specs.Cycles.{broken_by, compared_from, cycled_at, cycled_from, front_of, leaves_numbers, notice_items, reached_from, renewed_by, report_by, stamps_by, timeline_by, told_by}
 use Rattle.mail_cycle.specs.Judging.{judged, shown_after}
 use Rattle.mail_cycle.specs.Asking.{IsRewinds, NoNumbers, Rewinds, due_anew, due_at}
-use Rattle.mail_cycle.specs.Leaving.{IsMade, Leaves}
-use Rattle.mail_cycle.proofs.Cycled.{drop_more, few_notices, few_told, judged_same, length_map, length_shown, run_shown, told_formed}
-use Rattle.stored_items.proofs.Heard.{length_alike}
+use Rattle.mail_cycle.specs.Leaving.{LeavesAt}
+use Rattle.mail_cycle.proofs.Cycled.{drop_more, few_notices, few_told, judged_same, length_map, length_shown, run_shown, shown_behind, told_formed}
 
 -- ---- the repaired items
 
@@ -60,52 +58,58 @@ few_items house number c at list more lent numbers tells lends are =
 pub items_told : (house : House) (number c at : ℕ) (list : List BrokenItem) (more : List Item) → more ≡ notice_items number at (notices house c at list) → AllByRecursion (IsWellFormed house) more
 items_told house number c at list more tells = subst (AllByRecursion (IsWellFormed house)) (sym tells) (told_formed house number at c list)
 
-module _ (s : Kept) (at : ℕ) (ask : CycleAsk) (place : ℕ) (items : List Item) where
+-- from a beginning
+module _ (s : Kept) (at : ℕ) (ask : CycleAsk) (place : ℕ) (items : List Item) (first : MailStore) (count : ℕ) where
   -- behind the acts that come in stand the answers of the later items
-  now_is : (shows : List Shown) → shows ≡ drop place (answers s.base items) → drop (length ask.inserts) shows ≡ compared_with s ask place items
-  now_is shows are = ap (drop (length ask.inserts)) are ∙ drop_more (length ask.inserts) place (answers s.base items)
+  now_is : (shows : List Shown) → count ≤ place → shows ≡ drop (place - count) (answers first (drop count items)) → drop (length ask.inserts) shows ≡ compared_from ask place first count items
+  now_is shows few are =
+      let same : place - count + length ask.inserts ≡ front_of ask place - count = omega arith in
+      ap (drop (length ask.inserts)) are ∙ drop_more (length ask.inserts) (place - count) (answers first (drop count items))
+      ∙ ap (λ (n : ℕ). drop n (answers first (drop count items))) same
 
-  -- the broken and the withdrawn
-  broken_is : (shows : List Shown) (list : List BrokenItem) → shows ≡ drop place (answers s.base items)
-      → list ≡ judged ask.drops (drop place s.timeline) (drop (length ask.inserts) shows) → list ≡ broken_with s ask place items
-  broken_is shows list are is = is ∙ ap (judged ask.drops (drop place s.timeline)) (now_is shows are)
+  -- the store that they lead to
+  store_is : (now : List Shown) (before last : MailStore) (more : List Item) → count ≤ place → count ≤ length items → more ≡ told_by s at ask place now
+      → before ≡ run first (drop count items) → last ≡ run before more → last ≡ run first (drop count (timeline_by s at ask place items now))
+  store_is now before last more few long tells was after =
+      let front = front_of ask place in
+      let rest = front - count in
+      let kept : drop count (shown_after front items now) ≡ shown_after rest (drop count items) now = shown_behind count front rest items now (omega arith) in
+      let long_kept : count ≤ length (shown_after front items now) = omega (arith, length_shown front items now) in
+      after
+      ∙ ap₂ (λ (m : MailStore) (t : List Item). run m t) (was ∙ sym (run_shown first rest (drop count items) now)) tells
+      ∙ sym (run_joined first (shown_after rest (drop count items) now) (told_by s at ask place now))
+      ∙ ap (λ (t : List Item). run first (t ++ told_by s at ask place now)) (sym kept)
+      ∙ ap (run first) (sym (drop-append-le count (shown_after front items now) (told_by s at ask place now) long_kept))
 
+-- by what the later items show now
+module _ (s : Kept) (at : ℕ) (ask : CycleAsk) (place : ℕ) (now : List Shown) where
   -- notices
-  told_is : (list : List BrokenItem) (more : List Item) → list ≡ broken_with s ask place items
-      → more ≡ notice_items (s.next + length ask.inserts) at (notices s.house s.next at list) → more ≡ told_with s at ask place items
+  told_is : (list : List BrokenItem) (more : List Item) → list ≡ broken_by s ask place now
+      → more ≡ notice_items (s.next + length ask.inserts) at (notices s.house s.next at list) → more ≡ told_by s at ask place now
   told_is list more lists tells = tells ∙ ap (λ (l : List BrokenItem). notice_items (s.next + length ask.inserts) at (notices s.house s.next at l)) lists
 
-  -- the items in force, and the store that they lead to
-  timeline_is : (more all : List Item) (now : List Shown) → now ≡ compared_with s ask place items → more ≡ told_with s at ask place items
-      → all ≡ shown_after (front_of ask place) items now ++ more → all ≡ timeline_with s at ask place items
-  timeline_is more all now nows tells are = are ∙ ap₂ (λ (a b : List Item). a ++ b) (ap (shown_after (front_of ask place) items) nows) tells
-
-  store_is : (first last : MailStore) (more : List Item) → more ≡ told_with s at ask place items
-      → first ≡ run s.base items → last ≡ run first more → last ≡ run s.base (timeline_with s at ask place items)
-  store_is first last more tells before after =
-      after
-      ∙ ap₂ (λ (m : MailStore) (t : List Item). run m t) (before ∙ sym (run_shown s.base (front_of ask place) items (compared_with s ask place items))) tells
-      ∙ sym (run_joined s.base (shown_after (front_of ask place) items (compared_with s ask place items)) (told_with s at ask place items))
+  -- the items in force
+  timeline_is : (items more all : List Item) (shows : List Shown) → shows ≡ now → more ≡ told_by s at ask place now
+      → all ≡ shown_after (front_of ask place) items shows ++ more → all ≡ timeline_by s at ask place items now
+  timeline_is items more all shows nows tells are = are ∙ ap₂ (λ (a b : List Item). a ++ b) (ap (shown_after (front_of ask place) items) nows) tells
 
   -- the stamps
-  stamps_are : (after : MailStore) (stamps : List (BoxId × ℕ)) → after ≡ run s.base (timeline_with s at ask place items)
-      → stamps ≡ renewed (store_of s).boxes after.boxes s.stamps s.next → stamps ≡ stamps_with s at ask place items
-  stamps_are after stamps last is = is ∙ ap (λ (m : MailStore). renewed (store_of s).boxes m.boxes s.stamps s.next) last
+  stamps_are : (after last : MailStore) (stamps : List (BoxId × ℕ)) → last ≡ after → stamps ≡ renewed (store_of s).boxes last.boxes s.stamps s.next → stamps ≡ stamps_by s after
+  stamps_are after last stamps same is = is ∙ ap (λ (m : MailStore). renewed (store_of s).boxes m.boxes s.stamps s.next) same
 
   -- the report
-  report_is : (count : ℕ) (unmatched : List ℕ) (broken : List BrokenItem) (numbers : List ℕ) (more : List Item) (stamps : List (BoxId × ℕ))
-      → count ≡ (edited_at s.timeline ask s.next at place).kept → unmatched ≡ (edited_at s.timeline ask s.next at place).unmatched → broken ≡ broken_with s ask place items
-      → more ≡ told_with s at ask place items → numbers ≡ numbers_of more → stamps ≡ stamps_with s at ask place items
-      → record { cycle = s.next; point = ask.point; kept = count; broken = broken; notices = numbers; renewed = renewed_by s.next stamps; unmatched = unmatched } ≡ report_with s at ask place items
-  report_is count unmatched broken numbers more stamps counts misses breaks tells are stamped =
-      let all : numbers ≡ numbers_of (told_with s at ask place items) = are ∙ ap numbers_of tells in
+  report_is : (after : MailStore) (count : ℕ) (unmatched : List ℕ) (broken : List BrokenItem) (numbers : List ℕ) (more : List Item) (stamps : List (BoxId × ℕ))
+      → count ≡ (edited_at s.timeline ask s.next at place).kept → unmatched ≡ (edited_at s.timeline ask s.next at place).unmatched → broken ≡ broken_by s ask place now
+      → more ≡ told_by s at ask place now → numbers ≡ numbers_of more → stamps ≡ stamps_by s after
+      → record { cycle = s.next; point = ask.point; kept = count; broken = broken; notices = numbers; renewed = renewed_by s.next stamps; unmatched = unmatched } ≡ report_by s at ask place now after
+  report_is after count unmatched broken numbers more stamps counts misses breaks tells are stamped =
+      let all : numbers ≡ numbers_of (told_by s at ask place now) = are ∙ ap numbers_of tells in
       λ j. record { cycle = s.next; point = ask.point; kept = counts j; broken = breaks j; notices = all j; renewed = renewed_by s.next (stamped j); unmatched = misses j }
 
-  -- the next number
-  next_is : (numbers : List ℕ) (more : List Item) → more ≡ told_with s at ask place items → numbers ≡ numbers_of more
-      → s.next + 1 + length ask.inserts + length numbers ≡ s.next + 1 + length ask.inserts + length (told_with s at ask place items)
-  next_is numbers more tells are =
-      ap (λ (n : ℕ). s.next + 1 + length ask.inserts + n) (ap (λ (ns : List ℕ). length ns) (are ∙ ap numbers_of tells) ∙ length_map (λ (i : Item). i.number) (told_with s at ask place items))
+  -- how many notices there are
+  many_told : (numbers : List ℕ) (more : List Item) → more ≡ told_by s at ask place now → numbers ≡ numbers_of more → length numbers ≡ length (told_by s at ask place now)
+  many_told numbers more tells are =
+      ap (λ (ns : List ℕ). length ns) (are ∙ ap numbers_of tells) ∙ length_map (λ (i : Item). i.number) (told_by s at ask place now)
 
 -- ---- the whole
 
@@ -117,50 +121,41 @@ judged_is drops asked count inserts later all shows now (Ok list) same laters co
     is ∙ judged_same drops asked same later now ∙ ap₂ (λ (t : List Item) (xs : List Shown). judged asked t xs) laters (nows ∙ ap (λ (n : ℕ). drop n shows) counts)
 
 module _ (s : Kept) (at : ℕ) (ask : CycleAsk) (place : ℕ) where
-  pub settled : (items : List Item) (count : ℕ) (unmatched : List ℕ) (first : MailStore) (shows lent : List Shown) (broken : List BrokenItem) (more : List Item) (numbers : List ℕ) (r : Result Rewound NoMemory)
-      → lent ≡ shows → count ≡ (edited_at s.timeline ask s.next at place).kept → unmatched ≡ (edited_at s.timeline ask s.next at place).unmatched
-      → first ≡ run s.base items → shows ≡ drop place (answers s.base items)
+  pub settled : (items : List Item) (kept : ℕ) (unmatched : List ℕ) (before : MailStore) (shows lent : List Shown) (broken : List BrokenItem) (more : List Item) (numbers : List ℕ) (r : Result Rewound NoMemory)
+      (first : MailStore) (count : ℕ) → count ≤ place → count ≤ length items
+      → before ≡ run first (drop count items) → shows ≡ drop (place - count) (answers first (drop count items))
+      → lent ≡ shows → kept ≡ (edited_at s.timeline ask s.next at place).kept → unmatched ≡ (edited_at s.timeline ask s.next at place).unmatched
       → broken ≡ judged ask.drops (drop place s.timeline) (drop (length ask.inserts) lent)
       → more ≡ notice_items (s.next + length ask.inserts) at (notices s.house s.next at broken) → numbers ≡ numbers_of more
-      → IfOk r (λ made. made.store.store ≡ run first more) → IfOk r (λ made. IsValid made.store.store)
+      → IfOk r (λ made. made.store.store ≡ run before more) → IfOk r (λ made. IsValid made.store.store)
       → IfOk r (λ made. made.timeline ≡ shown_after (front_of ask place) items (drop (length ask.inserts) shows) ++ more)
       → IfOk r (λ made. made.stamps ≡ renewed (store_of s).boxes made.store.store.boxes s.stamps s.next)
+      → IfOk r (λ made. made.place ≡ place)
       → IfOk r (λ made. made.next ≡ s.next + 1 + length ask.inserts + length numbers)
-      → IfOk r (λ made. made.report ≡ record { cycle = s.next; point = ask.point; kept = count; broken = broken; notices = numbers; renewed = renewed_by s.next made.stamps; unmatched = unmatched })
-      → IfOk r (λ made. Leaves s (cycled_with s at ask place items) made)
-  settled items count unmatched first shows lent broken more numbers (Err x) lends counts misses firsts shown breaks tells nums a b c d f g = tt
-  settled items count unmatched first shows lent broken more numbers (Ok made) lends counts misses firsts shown breaks tells nums stored valid timed stamped numbered reported =
-      let broke : broken ≡ broken_with s ask place items = broken_is s at ask place items shows broken shown (breaks ∙ ap (λ (xs : List Shown). judged ask.drops (drop place s.timeline) (drop (length ask.inserts) xs)) lends) in
-      let said : more ≡ told_with s at ask place items = told_is s at ask place items broken more broke tells in
-      let now : drop (length ask.inserts) shows ≡ compared_with s ask place items = now_is s at ask place items shows shown in
-      let leads : made.store.store ≡ run s.base (timeline_with s at ask place items) = store_is s at ask place items first made.store.store more said firsts stored in
-      let stamps : made.stamps ≡ stamps_with s at ask place items = stamps_are s at ask place items made.store.store made.stamps leads stamped in
+      → IfOk r (λ made. made.entered ≡ length ask.inserts + length numbers)
+      → IfOk r (λ made. made.report ≡ record { cycle = s.next; point = ask.point; kept = kept; broken = broken; notices = numbers; renewed = renewed_by s.next made.stamps; unmatched = unmatched })
+      → IfOk r (LeavesAt (reached_from s at ask place first count items) (cycled_from s at ask place first count items))
+  settled items kept unmatched before shows lent broken more numbers (Err x) first count few long firsts shown lends counts misses breaks tells nums a b c d e f g h = tt
+  settled items kept unmatched before shows lent broken more numbers (Ok made) first count few long firsts shown lends counts misses breaks tells nums stored valid timed stamped placed numbered entered reported =
+      let compared : List Shown = compared_from ask place first count items in
+      let after : MailStore = reached_from s at ask place first count items in
+      let now : drop (length ask.inserts) shows ≡ compared = now_is s at ask place items first count shows few shown in
+      let broke : broken ≡ broken_by s ask place compared =
+      breaks ∙ ap (λ (xs : List Shown). judged ask.drops (drop place s.timeline) (drop (length ask.inserts) xs)) lends ∙ ap (judged ask.drops (drop place s.timeline)) now in
+      let said : more ≡ told_by s at ask place compared = told_is s at ask place compared broken more broke tells in
+      let leads : made.store.store ≡ after = store_is s at ask place items first count compared before made.store.store more few long said firsts stored in
+      let stamps : made.stamps ≡ stamps_by s after = stamps_are s at ask place compared after made.store.store made.stamps leads stamped in
+      let many : length numbers ≡ length (told_by s at ask place compared) = many_told s at ask place compared numbers more said nums in
       record {
-        timeline = timeline_is s at ask place items more made.timeline (drop (length ask.inserts) shows) now said timed;
+        place = placed;
+        timeline = timeline_is s at ask place compared items more made.timeline (drop (length ask.inserts) shows) now said timed;
         stamps = stamps;
-        next = numbered ∙ next_is s at ask place items numbers more said nums;
-        report = reported ∙ report_is s at ask place items count unmatched broken numbers more made.stamps counts misses broke said nums stamps;
+        next = numbered ∙ ap (λ (n : ℕ). s.next + 1 + length ask.inserts + n) many;
+        entered = entered ∙ ap (λ (n : ℕ). length ask.inserts + n) many;
+        report = reported ∙ report_is s at ask place compared after kept unmatched broken numbers more made.stamps counts misses broke said nums stamps;
         store = leads;
         valid = valid;
       }
-
-  -- each item and each notice is one step at most
-  pub steps_are : (before items : List Item) (first second last : ℕ) (made : Rewound) → AllHeard before items → second ≡ first + length before
-      → Leaves s (cycled_with s at ask place items) made → last ≤ second + length made.report.notices → last ≤ first + length made.timeline
-  steps_are before items first second last made heard steps leaves then =
-      let all : length made.timeline ≡ length (timeline_with s at ask place items) = ap (λ (t : List Item). length t) leaves.timeline in
-      let told : length made.report.notices ≡ length (numbers_of (told_with s at ask place items)) = ap (λ (x : Report). length x.notices) leaves.report in
-      omega (
-        arith,
-        steps,
-        then,
-        length_alike before items heard,
-        all,
-        told,
-        length-append (kept_with s ask place items) (told_with s at ask place items),
-        length_shown (front_of ask place) items (compared_with s ask place items),
-        length_map (λ (i : Item). i.number) (told_with s at ask place items),
-      )
 
 -- ---- what is due
 
@@ -169,11 +164,3 @@ due_is s at ask place is left = ap (due_at s at ask) is ∙ ap (λ (b : Bool). c
 
 pub rewinds : (s : Kept) (at : ℕ) (ask : CycleAsk) (place : ℕ) → position s.timeline ask.point ≡ Some place → leaves_numbers s ask ≡ true → IsRewinds (due_anew s at ask)
 rewinds s at ask place is left = subst IsRewinds (sym (due_is s at ask place is left)) tt
-
--- where what is read is what was stored, the cycle is the one that is due
-pub made_due : (s : Kept) (at : ℕ) (ask : CycleAsk) (honest : Type 0) (made : Rewound) → honest → IsMade s at ask honest made → (due : Cycled) × (due_anew s at ask ≡ Rewinds due) × Leaves s due made
-made_due s at ask honest made is by = (
-  cycled_at s at ask by.place,
-  due_is s at ask by.place by.is_place by.numbers,
-  subst (λ (items : List Item). Leaves s (cycled_with s at ask by.place items) made) (by.made_at.same is) by.made_at.leaves,
-)

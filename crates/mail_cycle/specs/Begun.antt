@@ -4,16 +4,15 @@ use Rattle.std.specs.List.{AllByRecursion, list_all}
 use Rattle.verb_core.specs.declared.mailbox.BoxId.{BoxId}
 use Rattle.verb_core.specs.declared.mailbox.Mailbox.{Mailbox}
 use Rattle.verb_core.specs.Items.{IsWellFormed}
-use Rattle.verb_core.specs.Store.{MailStore, IsValid, is_house, is_known}
-use Rattle.paradox.specs.Kept.{Kept, store_of}
+use Rattle.verb_core.specs.Store.{IsValid, is_house, is_known}
+use Rattle.paradox.specs.Kept.{Kept}
 
--- what holds of every store in use, and of what is kept of it
-pub record IsBegun (store : MailStore) (s : Kept) : Type 0 where
-  pub store_is : store ≡ store_of s
-  pub valid : IsValid store
+-- what holds of every store in use
+pub record IsBegun (s : Kept) : Type 0 where
+  pub valid : IsValid s.store
   pub house : IsTrue (is_house s.house)
   pub aliases : IsTrue (list_all (λ a. list_all (is_known s.house) a.users) s.opening.aliases)
   pub filters : s.opening.filters ≡ []
   pub formed : AllByRecursion (IsWellFormed s.house) s.timeline
-  pub stamps : map (λ (r : BoxId × ℕ). r.0) s.stamps ≡ map (λ (r : BoxId × Mailbox). r.0) store.boxes
+  pub stamps : map (λ (r : BoxId × ℕ). r.0) s.stamps ≡ map (λ (r : BoxId × Mailbox). r.0) s.store.boxes
   pub next : s.next ≤ 4194304

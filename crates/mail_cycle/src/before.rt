@@ -4,8 +4,7 @@ ghost use Rattle.std.specs.List.{AllByRecursion, list_all};
 ghost use Rattle.verb_core.specs.declared.mailbox.BoxId.{BoxId as TheBoxId};
 ghost use Rattle.verb_core.specs.declared.mailbox.Mailbox.{Mailbox as TheMailbox};
 ghost use Rattle.verb_core.specs.Items.{IsWellFormed};
-ghost use Rattle.verb_core.specs.Step.{run};
-ghost use Rattle.verb_core.specs.Store.{IsValid, is_house, is_known, opening as opening_store};
+ghost use Rattle.verb_core.specs.Store.{IsValid, is_house, is_known};
 ghost use Rattle.paradox.specs.Kept.{store_of};
 ghost use Rattle.repair_desk.specs.Renewals.{renewed};
 ghost use Rattle.repair_desk.specs.Repairs.{are_known, edited_at, position};
@@ -20,8 +19,8 @@ use undo_base::{Copies, LAST_NUMBER, Name, NoMemory};
 use verb_bytes::CycleAsk;
 use verb_core::{Conf, House, Stamps};
 
-/// A store in use: its house, the configuration at first, the items in force, which led to the store, the stamp of each
-/// mailbox, the next number, and the reports of earlier cycles.
+/// A store in use: its house, the configuration at first, the store, the items in force, the stamp of each mailbox, the next
+/// number, and the reports of earlier cycles. What is known of snapshots is none of its concerns: its value has none.
 #[derive(Drop)]
 pub struct Before<'a> {
     house: &'a House,
@@ -35,13 +34,13 @@ pub struct Before<'a> {
 
 impl<'a> Model for Before<'a> {
     ghost use Rattle.mail_cycle.specs.Begun.{IsBegun};
-    ghost use Rattle.paradox.specs.Kept.{Kept, kept_from};
+    ghost use Rattle.paradox.specs.Kept.{Kept, kept_from, no_marks};
 
     ghost Value = { Kept };
 
-    ghost view = { λ b. kept_from b.house.now b.opening.now b.timeline.now b.stamps.now b.next b.reports.now };
+    ghost view = { λ b. kept_from b.house.now b.opening.now b.store.now.store b.timeline.now b.stamps.now b.next b.reports.now no_marks };
 
-    ghost invariant = { λ b. IsBegun b.store.now.store (kept_from b.house.now b.opening.now b.timeline.now b.stamps.now b.next b.reports.now) };
+    ghost invariant = { λ b. IsBegun (kept_from b.house.now b.opening.now b.store.now.store b.timeline.now b.stamps.now b.next b.reports.now no_marks) };
 }
 
 /// Copies of items.
@@ -56,7 +55,7 @@ fn copies(alloc: Global, items: &[StoredItem]) -> Result<StoredItems, NoMemory>
 }
 
 impl<'a> Before<'a> {
-    ghost use Rattle.paradox.specs.Kept.{kept_from};
+    ghost use Rattle.paradox.specs.Kept.{kept_from, no_marks};
 
     /// A store in use.
     pub fn of(
@@ -71,12 +70,11 @@ impl<'a> Before<'a> {
         requires house { IsTrue (is_house house.now) }
         requires aliases { IsTrue (list_all (λ a. list_all (is_known house.now) a.users) opening.now.aliases) }
         requires filters { opening.now.filters ≡ [] }
-        requires store { store.now.store ≡ run (opening_store house.now opening.now) timeline.now }
         requires valid { IsValid store.now.store }
         requires formed { AllByRecursion (IsWellFormed house.now) timeline.now }
         requires named { map (λ (r : TheBoxId × ℕ). r.0) stamps.now ≡ map (λ (r : TheBoxId × TheMailbox). r.0) store.now.store.boxes }
         requires next { next ≤ 4194304 }
-        ensures { result ≡ kept_from house.now opening.now timeline.now stamps.now next reports.now }
+        ensures { result ≡ kept_from house.now opening.now store.now.store timeline.now stamps.now next reports.now no_marks }
     {
         Before {
             house,
@@ -94,13 +92,6 @@ impl<'a> Before<'a> {
         ensures is { IsTrue (is_house result.now) }
     {
         self.house
-    }
-
-    /// It does nothing: the store before the first item has the same house.
-    pub(crate) fn has_a_house(&self)
-        ensures { self.now.base.house ≡ self.now.house }
-    {
-        let _ = &self.house;
     }
 
     pub(crate) fn next(&self) -> u32

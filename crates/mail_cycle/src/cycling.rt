@@ -1,5 +1,5 @@
 //! A cycle, put together.
-ghost use Rattle.std.specs.Prelude.{◌≡◌, ℕ, ◌+◌, ◌≤◌, drop, length, nat_le, IfOk, IfErr, IsTrue, OnOk};
+ghost use Rattle.std.specs.Prelude.{◌≡◌, ◌+◌, ◌-◌, ◌≤◌, ◌++◌, drop, length, take, IfOk, IsTrue, OnOk};
 ghost use Rattle.std.specs.List.{AllByRecursion};
 ghost use Rattle.verb_core.specs.Items.{IsWellFormed};
 ghost use Rattle.verb_core.specs.Step.{answers, run};
@@ -7,55 +7,111 @@ ghost use Rattle.verb_core.specs.Store.{IsValid};
 ghost use Rattle.verb_core.specs.Texts.{StaysTold};
 ghost use Rattle.stored_items.specs.Stored.{AllHeard};
 ghost use Rattle.repair_desk.specs.Repairs.{are_known, edited_at};
-ghost use Rattle.mail_cycle.specs.Asking.{IsRewinds, Rewinds, due_anew};
-ghost use Rattle.mail_cycle.specs.Cycles.{Cycled, leaves_numbers, repaired_items};
+ghost use Rattle.mail_cycle.specs.Cycles.{cycled_at, leaves_numbers, repaired_items};
 ghost use Rattle.mail_cycle.specs.Hearing.{Counts, TellsAll};
-ghost use Rattle.mail_cycle.specs.Leaving.{IsMade, IsMadeAt, Leaves};
-ghost use Rattle.mail_cycle.specs.Refusing.{CountsReads, IsRefusalOf};
+ghost use Rattle.mail_cycle.specs.Leaving.{IsMadeFrom, Leaves};
 
 use crate::running::{Replayed, replay};
 use crate::settling::{Repairs, Rewound, settle};
-use crate::{Before, CycleRefused};
+use crate::{Before, Beginning};
 use box_store::Steps;
 use repair_desk::Edited;
 use std::alloc::Global;
 use std::sync::ledger::Ledger;
 use stored_items::StoredItems;
-use undo_base::{LAST_MOMENT, LAST_NUMBER, NoMemory};
+use undo_base::{LAST_MOMENT, NoMemory};
 use verb_bytes::CycleAsk;
-use verb_core::{Bodies, BodiesFault, House};
+use verb_core::{Bodies, BodiesFault};
 
-/// Performs the repaired items from the beginning.
-fn run_again<B: Bodies, L: Ledger>(
+/// Items, cut behind the first so many: none is copied.
+fn cut(items: StoredItems, count: usize) -> Result<(StoredItems, StoredItems), NoMemory>
+    requires { count ≤ length items }
+    ensures front { IfOk result (λ parts. parts.0 ≡ take count items) }
+    ensures later { IfOk result (λ parts. parts.1 ≡ drop count items) }
+{
+    let mut front = items.into_vec();
+    match front.split_off(count) {
+        Ok(later) => Ok((StoredItems::from_vec(front), StoredItems::from_vec(later))),
+        Err(_) => Err(NoMemory),
+    }
+}
+
+/// Items, and others behind them: none is copied.
+fn put_behind(front: StoredItems, later: StoredItems) -> Result<StoredItems, NoMemory>
+    ensures { IfOk result (λ all. all ≡ front ++ later) }
+{
+    let mut items = front.into_vec();
+    let mut later = later.into_vec();
+    match items.append(&mut later) {
+        Ok(()) => Ok(StoredItems::from_vec(items)),
+        Err(_) => Err(NoMemory),
+    }
+}
+
+/// Replayed items, with others before them.
+fn with_front(front: StoredItems, later: Replayed) -> Result<Replayed, NoMemory>
+    ensures items { IfOk result (λ made. made.items ≡ front ++ later.items) }
+    ensures store { IfOk result (λ made. made.store.store ≡ later.store.store) }
+    ensures shows { IfOk result (λ made. made.shows ≡ later.shows) }
+{
+    let Replayed {
+        items,
+        store,
+        shows,
+    } = later;
+    match put_behind(front, items) {
+        Ok(items) => Ok(Replayed {
+            items,
+            store,
+            shows,
+        }),
+        Err(NoMemory) => Err(NoMemory),
+    }
+}
+
+/// Performs the items behind a beginning, and puts them behind the first ones again.
+fn replay_behind<B: Bodies, L: Ledger>(
     alloc: Global,
-    before: &Before<'_>,
+    first: Beginning,
     bodies: &mut B,
     place: usize,
     items: StoredItems,
     steps: &mut Steps<L>,
 ) -> Result<Replayed, BodiesFault>
-    requires formed { AllByRecursion (IsWellFormed before.now.house) items }
-    requires texts { TellsAll (B.told bodies.old) items }
+    requires valid { IsValid first.store.store }
+    requires few { first.count ≤ place }
+    requires long { place ≤ length items }
+    requires formed { AllByRecursion (IsWellFormed first.store.store.house) items }
+    requires texts { TellsAll (B.told bodies.old) (drop first.count items) }
     ensures heard { IfOk result (λ made. AllHeard items made.items) }
     ensures same { (B.told bodies.old).honest → IfOk result (λ made. made.items ≡ items) }
-    ensures store { IfOk result (λ made. made.store.store ≡ run before.now.base made.items) }
+    ensures front { IfOk result (λ made. take first.count made.items ≡ take first.count items) }
+    ensures store { IfOk result (λ made. made.store.store ≡ run first.store.store (drop first.count made.items)) }
     ensures valid { IfOk result (λ made. IsValid made.store.store) }
-    ensures shows { IfOk result (λ made. made.shows ≡ drop place (answers before.now.base made.items)) }
-    ensures steps { OnOk result (steps.new ≡ steps.old + length items) }
+    ensures shows { IfOk result (λ made. made.shows ≡ drop (place - first.count) (answers first.store.store (drop first.count made.items))) }
+    ensures steps { OnOk result (steps.new + first.count ≡ steps.old + length items) }
     ensures reads { Counts (B.told bodies.old) (B.told bodies.new) result }
     ensures stays { StaysTold (B.told bodies.old) (B.told bodies.new) }
     ensures leads { B.leads bodies.old bodies.new }
 {
-    match before.opened(alloc) {
-        Ok(store) => replay(alloc, store, bodies, items, place, steps),
+    let Beginning { store, count } = first;
+    match cut(items, count) {
+        Ok((front, later)) => match replay(alloc, store, bodies, later, place - count, steps) {
+            Ok(made) => match with_front(front, made) {
+                Ok(made) => Ok(made),
+                Err(NoMemory) => Err(BodiesFault::NoMemory),
+            },
+            Err(fault) => Err(fault),
+        },
         Err(NoMemory) => Err(BodiesFault::NoMemory),
     }
 }
 
-/// Performs the repaired items from the beginning, and makes the rest of what they show.
+/// Performs the repaired items behind a beginning, and makes the rest of what they show.
 fn run_edited<B: Bodies, L: Ledger>(
     alloc: Global,
     before: &Before<'_>,
+    first: Beginning,
     bodies: &mut B,
     at: u64,
     ask: &CycleAsk,
@@ -65,12 +121,15 @@ fn run_edited<B: Bodies, L: Ledger>(
 ) -> Result<Rewound, BodiesFault>
     requires moment { at ≤ LAST_MOMENT }
     requires numbers { IsTrue (leaves_numbers before.now ask.now) }
+    requires valid { IsValid first.store.store }
+    requires house { first.store.store.house ≡ before.now.house }
+    requires few { first.count ≤ place }
     requires place { place ≤ length before.now.timeline }
     requires edited { edited ≡ edited_at before.now.timeline ask.now before.now.next at place }
     requires formed { AllByRecursion (IsWellFormed before.now.house) edited.items }
-    requires texts { TellsAll (B.told bodies.old) edited.items }
-    ensures made { IfOk result (IsMadeAt before.now at ask.now place (B.told bodies.old).honest) }
-    ensures steps { IfOk result (λ made. steps.new ≤ steps.old + length made.timeline) }
+    requires texts { TellsAll (B.told bodies.old) (drop first.count edited.items) }
+    ensures made { IfOk result (IsMadeFrom before.now at ask.now place first.store.store first.count (B.told bodies.old).honest) }
+    ensures steps { IfOk result (λ made. steps.new ≤ steps.old + (place - first.count) + length ask.now.inserts + made.report.kept + length made.report.notices) }
     ensures reads { Counts (B.told bodies.old) (B.told bodies.new) result }
     ensures stays { StaysTold (B.told bodies.old) (B.told bodies.new) }
     ensures leads { B.leads bodies.old bodies.new }
@@ -82,7 +141,7 @@ fn run_edited<B: Bodies, L: Ledger>(
         unmatched,
     } = edited;
     drop(withdrawn);
-    let replayed = run_again(alloc, before, bodies, place, items, steps)?;
+    let replayed = replay_behind(alloc, first, bodies, place, items, steps)?;
     let repairs = Repairs { kept, unmatched };
     match settle(alloc, before, at, ask, place, repairs, replayed, steps) {
         Ok(made) => Ok(made),
@@ -90,10 +149,13 @@ fn run_edited<B: Bodies, L: Ledger>(
     }
 }
 
-/// The cycle behind a place of the timeline.
-fn cycle_at<B: Bodies, L: Ledger>(
+/// The cycle that is asked for at a moment, behind a place of the timeline, from a beginning at or before it: the repaired items
+/// behind the beginning are performed on its store, once each, the notices last. Each of their deliveries' texts is read, once,
+/// and no other text. In time that grows as these items, the mailboxes and these texts, beside copies of all items.
+pub fn cycle_from<B: Bodies, L: Ledger>(
     alloc: Global,
     before: &Before<'_>,
+    first: Beginning,
     bodies: &mut B,
     at: u64,
     ask: &CycleAsk,
@@ -103,63 +165,20 @@ fn cycle_at<B: Bodies, L: Ledger>(
     requires moment { at ≤ LAST_MOMENT }
     requires numbers { IsTrue (leaves_numbers before.now ask.now) }
     requires acts { IsTrue (are_known before.now.house ask.now.inserts) }
+    requires valid { IsValid first.store.store }
+    requires house { first.store.store.house ≡ before.now.house }
+    requires few { first.count ≤ place }
     requires place { place ≤ length before.now.timeline }
-    requires texts { TellsAll (B.told bodies.old) (repaired_items before.now at ask.now place) }
-    ensures made { IfOk result (IsMadeAt before.now at ask.now place (B.told bodies.old).honest) }
-    ensures steps { IfOk result (λ made. steps.new ≤ steps.old + length made.timeline) }
+    requires texts { TellsAll (B.told bodies.old) (drop first.count (repaired_items before.now at ask.now place)) }
+    ensures made { IfOk result (IsMadeFrom before.now at ask.now place first.store.store first.count (B.told bodies.old).honest) }
+    ensures ok { (B.told bodies.old).honest → first.store.store ≡ run before.now.base (take first.count before.now.timeline) → IfOk result (Leaves before.now (cycled_at before.now at ask.now place)) }
+    ensures steps { IfOk result (λ made. steps.new ≤ steps.old + (place - first.count) + length ask.now.inserts + made.report.kept + length made.report.notices) }
     ensures reads { Counts (B.told bodies.old) (B.told bodies.new) result }
     ensures stays { StaysTold (B.told bodies.old) (B.told bodies.new) }
     ensures leads { B.leads bodies.old bodies.new }
 {
     match before.repaired(alloc, ask, at, place) {
-        Ok(edited) => run_edited(alloc, before, bodies, at, ask, place, edited, steps),
+        Ok(edited) => run_edited(alloc, before, first, bodies, at, ask, place, edited, steps),
         Err(NoMemory) => Err(BodiesFault::NoMemory),
-    }
-}
-
-/// Whether numbers are left for the cycle, its acts and a notice to each user.
-fn has_numbers(house: &House, next: u32, inserts: usize) -> bool
-    ensures { result ≡ nat_le (next + 1 + inserts + length house.now.accounts) LAST_NUMBER }
-{
-    let wanted = inserts.saturating_add(house.accounts.len());
-    wanted < LAST_NUMBER as usize && next as usize + 1 + wanted <= LAST_NUMBER as usize
-}
-
-/// The cycle that is asked for at a moment: what it leaves is the store that the new timeline leads to. Each item is performed
-/// once, the notices last. Each delivery's text is read, once, and no other text. In time that grows as the timeline, the
-/// mailboxes and these texts.
-pub fn cycle<B: Bodies, L: Ledger>(
-    alloc: Global,
-    before: &Before<'_>,
-    bodies: &mut B,
-    at: u64,
-    ask: &CycleAsk,
-    steps: &mut Steps<L>,
-) -> Result<Rewound, CycleRefused>
-    requires moment { at ≤ LAST_MOMENT }
-    requires acts { IsTrue (are_known before.now.house ask.now.inserts) }
-    requires texts { (place : ℕ) → place ≤ length before.now.timeline → TellsAll (B.told bodies.old) (repaired_items before.now at ask.now place) }
-    ensures ok { (B.told bodies.old).honest → IfOk result (λ made. (due : Cycled) × (due_anew before.now at ask.now ≡ Rewinds due) × Leaves before.now due made) }
-    ensures made { IfOk result (IsMade before.now at ask.now (B.told bodies.old).honest) }
-    ensures due { OnOk result (IsRewinds (due_anew before.now at ask.now)) }
-    ensures refused { IfErr result (IsRefusalOf before.now ask.now (due_anew before.now at ask.now)) }
-    ensures untouched { IfErr result (λ refused. (IsRewinds (due_anew before.now at ask.now) → ⊥) → bodies.new ≡ bodies.old) }
-    ensures steps { IfOk result (λ made. steps.new ≤ steps.old + length made.timeline) }
-    ensures reads { CountsReads (B.told bodies.old) (B.told bodies.new) result }
-    ensures stays { StaysTold (B.told bodies.old) (B.told bodies.new) }
-    ensures leads { B.leads bodies.old bodies.new }
-{
-    let Some(place) = before.place_of(ask.point) else {
-        return Err(CycleRefused::Point { given: ask.point });
-    };
-    if !has_numbers(before.house(), before.next(), ask.inserts.len()) {
-        return Err(CycleRefused::Numbers {
-            next: before.next(),
-        });
-    }
-    match cycle_at(alloc, before, bodies, at, ask, place, steps) {
-        Ok(made) => Ok(made),
-        Err(BodiesFault::Failed) => Err(CycleRefused::Disk),
-        Err(BodiesFault::NoMemory) => Err(CycleRefused::NoMemory),
     }
 }

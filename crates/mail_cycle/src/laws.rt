@@ -1,5 +1,5 @@
 //! What holds of every cycle. These functions do nothing: their contracts are laws of the definitions.
-ghost use Rattle.std.specs.Prelude.{◌≡◌, ◌≢◌, ℕ, ◌+◌, ◌<◌, ◌≤◌, ◌==◌, List, [], ◌∷◌, ◌++◌, false, true, find, map, drop, length, option_and_then, slice_get, IsTrue, Some};
+ghost use Rattle.std.specs.Prelude.{◌≡◌, ◌≢◌, ℕ, ◌+◌, ◌<◌, ◌≤◌, ◌==◌, List, [], ◌∷◌, ◌++◌, false, true, find, map, drop, take, length, option_and_then, slice_get, IsTrue, Some};
 ghost use Rattle.std.specs.List.{AllByRecursion};
 ghost use Rattle.verb_core.specs.declared.item.Item.{Item};
 ghost use Rattle.verb_core.specs.declared.mailbox.Body.{Body};
@@ -7,21 +7,22 @@ ghost use Rattle.verb_core.specs.declared.mailbox.BoxId.{BoxId};
 ghost use Rattle.verb_core.specs.declared.mailbox.Mailbox.{Mailbox};
 ghost use Rattle.verb_core.specs.Items.{IsTimeline, IsWellFormed, NumbersApart, text_of};
 ghost use Rattle.verb_core.specs.Step.{answers, run};
+ghost use Rattle.verb_core.specs.Store.{MailStore};
 ghost use Rattle.verb_bytes.specs.declared.journal.CycleAsk.{CycleAsk};
 ghost use Rattle.paradox.specs.Words.{told_of};
 ghost use Rattle.paradox.specs.declared.reports.BrokenItem.{BrokenItem};
 ghost use Rattle.stored_items.specs.Stored.{AllHeard};
 ghost use Rattle.repair_desk.specs.Repairs.{are_known, is_among, is_dropped, numbers_of};
 ghost use Rattle.mail_cycle.specs.Asking.{Rewinds, after_cycle, due_anew};
-ghost use Rattle.mail_cycle.specs.Cycles.{Cycled, broken_at, cycled_at, cycled_with, leaves_numbers, repaired_items, report_at, stamps_at, timeline_at, timeline_with};
-ghost use Rattle.mail_cycle.specs.Leaving.{GoesOn};
+ghost use Rattle.mail_cycle.specs.Cycles.{Cycled, broken_at, cycled_at, cycled_from, cycled_with, leaves_numbers, reached_from, repaired_items, report_at, stamps_at, timeline_at, timeline_from, timeline_with};
+ghost use Rattle.mail_cycle.specs.Leaving.{GoesOn, GoesOnAt};
 ghost use Rattle.mail_cycle.specs.Permanence.{UidsLast};
 ghost use Rattle.mail_cycle.specs.Places.{items_before, reason_at, shown_at};
-ghost use Rattle.paradox.specs.Kept.{Kept, performed, store_of};
+ghost use Rattle.paradox.specs.Kept.{Kept, Marks, performed, store_of};
 
 /// What a cycle leaves can be gone on with: the items are well formed, their numbers distinct and below the next one, the
 /// stamps name the mailboxes and are below the next number, and it has risen and is one that an item can have. So it is with
-/// whatever texts of deliveries were read.
+/// whatever texts of deliveries were read, and from whatever store it began at or before the point.
 pub fn cycles_leave_states()
     ensures formed { (s : Kept) (at : ℕ) (ask : CycleAsk) (place : ℕ) → AllByRecursion (IsWellFormed s.house) s.timeline →
         IsTrue (are_known s.house ask.inserts) → AllByRecursion (IsWellFormed s.house) (timeline_at s at ask place) }
@@ -39,12 +40,26 @@ pub fn cycles_leave_states()
     ensures due { (s : Kept) (at : ℕ) (ask : CycleAsk) (due : Cycled) → IsTimeline s.house s.timeline →
         AllByRecursion (λ (i : Item). i.number < s.next) s.timeline → AllByRecursion (λ (r : BoxId × ℕ). r.1 < s.next) s.stamps →
         IsTrue (are_known s.house ask.inserts) → due_anew s at ask ≡ Rewinds due → GoesOn s due }
-    ensures heard { (s : Kept) (at : ℕ) (ask : CycleAsk) (place : ℕ) (heard : List Item) → IsTimeline s.house s.timeline →
+    ensures from { (s : Kept) (at : ℕ) (ask : CycleAsk) (place : ℕ) (first : MailStore) (count : ℕ) (heard : List Item) → IsTimeline s.house s.timeline →
         AllByRecursion (λ (i : Item). i.number < s.next) s.timeline → AllByRecursion (λ (r : BoxId × ℕ). r.1 < s.next) s.stamps →
-        IsTrue (are_known s.house ask.inserts) → AllHeard (repaired_items s at ask place) heard → leaves_numbers s ask ≡ true →
-        GoesOn s (cycled_with s at ask place heard) }
-    ensures heard_revs { (s : Kept) (at : ℕ) (ask : CycleAsk) (place : ℕ) (heard : List Item) → AllByRecursion (λ (i : Item). i.rev < s.next) s.timeline →
-        AllHeard (repaired_items s at ask place) heard → AllByRecursion (λ (i : Item). i.rev < (cycled_with s at ask place heard).next) (timeline_with s at ask place heard) }
+        IsTrue (are_known s.house ask.inserts) → count ≤ place → AllHeard (repaired_items s at ask place) heard → leaves_numbers s ask ≡ true →
+        GoesOnAt s (reached_from s at ask place first count heard) (cycled_from s at ask place first count heard) }
+    ensures from_revs { (s : Kept) (at : ℕ) (ask : CycleAsk) (place : ℕ) (first : MailStore) (count : ℕ) (heard : List Item) → AllByRecursion (λ (i : Item). i.rev < s.next) s.timeline →
+        AllHeard (repaired_items s at ask place) heard →
+        AllByRecursion (λ (i : Item). i.rev < (cycled_from s at ask place first count heard).next) (timeline_from s at ask place first count heard) }
+{}
+
+/// From a beginning at or before the point: the items through it are as they were, and where its store is the one to which they
+/// led, all is as from the first item on.
+pub fn cycles_begin_anywhere()
+    ensures front { (s : Kept) (at : ℕ) (ask : CycleAsk) (place : ℕ) (first : MailStore) (count : ℕ) (heard : List Item) → count ≤ place → place ≤ length s.timeline →
+        take count heard ≡ take count s.timeline → take count (timeline_from s at ask place first count heard) ≡ take count s.timeline }
+    ensures alike { (s : Kept) (at : ℕ) (ask : CycleAsk) (place : ℕ) (first : MailStore) (count : ℕ) (heard : List Item) → count ≤ place → place ≤ length s.timeline →
+        take count heard ≡ take count s.timeline → first ≡ run s.base (take count s.timeline) →
+        cycled_from s at ask place first count heard ≡ cycled_with s at ask place heard }
+    ensures store { (s : Kept) (at : ℕ) (ask : CycleAsk) (place : ℕ) (first : MailStore) (count : ℕ) (heard : List Item) → count ≤ place → place ≤ length s.timeline →
+        take count heard ≡ take count s.timeline → first ≡ run s.base (take count s.timeline) →
+        reached_from s at ask place first count heard ≡ run s.base (timeline_with s at ask place heard) }
 {}
 
 /// The new timeline has the items through the point, the acts that come in, the later items that stay, and the notices: one to
@@ -89,7 +104,7 @@ pub fn answers_that_are_shown_hold()
 {}
 
 /// What a client that keeps mail by UID knows lasts: over no step at all, over two that follow one another, over each item
-/// with the next number, and over each cycle (RFC 3501, section 2.3.1.1).
+/// with the next number, over each cycle, and whatever is known of snapshots (RFC 3501, section 2.3.1.1).
 pub fn uids_last()
     ensures itself { (s : Kept) → UidsLast s s }
     ensures followed { (a b c : Kept) → UidsLast a b → UidsLast b c → UidsLast a c }
@@ -97,4 +112,5 @@ pub fn uids_last()
         UidsLast s (performed s i) }
     ensures cycle { (s : Kept) (at : ℕ) (ask : CycleAsk) (due : Cycled) → NumbersApart s.timeline → due_anew s at ask ≡ Rewinds due →
         UidsLast s (after_cycle s ask due) }
+    ensures marks { (s : Kept) (marks : Marks) → UidsLast s (record s { marks = marks }) }
 {}

@@ -2,21 +2,25 @@
 //! compared with what they would be shown now, and each user whose answers no longer hold gets a notice. Items are in memory
 //! without their texts: those of deliveries, at which alone performing looks, are read as they are performed.
 //!
-//! `before` is what a cycle begins with. Two calls do the work, each with a contract of its own, so that each can be done in
-//! another way: `replay` (in `running`, with `rewind`, which gives the store through the point alone) performs the repaired
-//! items from the beginning with the texts that `reading` reads, and gives the store and the answers of those from the point,
-//! and `settle` (in `settling`) makes the rest of these: `judge` finds the broken and withdrawn items, `showing` lets the
-//! broken ones show what they show now, `telling` writes to the users, `notices` makes the notices items, and `report` what is
-//! told of them. `cycle` (in `cycling`) is the two, one after the other. `refused` says why there is no cycle, and `laws` what
-//! holds of every one. In specs/, `Begun` and `Judging` lead up to `Cycles`, whose definitions are over the items as they were
-//! read, and over the repaired ones, which these are where what is read is what was stored; `Hearing` says which texts are
-//! asked for; `Asking` what is due to a request, `Refusing` and `Leaving` what the contract of `cycle` says of its answers,
-//! and `Permanence` what a mail client may rely on that keeps mail by UID.
-//! What carries the crate: `cycle` answers what `due_anew` says, exactly where the timeline has the point and numbers are left.
+//! `before` is what a cycle begins with, `due` says behind which place it is due, and `beginning` is a store to which the first
+//! items led. Two calls do the work, each with a contract of its own, so that each can be done in another way: `replay` (in
+//! `running`, with `rewind`, which gives the store through the point alone) performs the repaired items behind the beginning with
+//! the texts that `reading` reads, and gives the store and the answers of those from the point, and `settle` (in `settling`) makes
+//! the rest of these: `judge` finds the broken and withdrawn items, `showing` lets the broken ones show what they show now,
+//! `telling` writes to the users, `notices` makes the notices items, and `report` what is told of them. `cycle_from` (in
+//! `cycling`) is the two, one after the other. `refused` says why there is no cycle, and `laws` what holds of every one. In
+//! specs/, `Begun` and `Judging` lead up to `Cycles`, whose definitions are by what came of performing the items, from a beginning
+//! and from the first item on, over the items as they were read, and over the repaired ones, which these are where what is read is
+//! what was stored; `Hearing` says which texts are asked for; `Asking` what is due to a request, `Refusing` and `Leaving` what
+//! contracts say of its answers, and `Permanence` what a mail client may rely on that keeps mail by UID.
+//! What carries the crate: `due_place` finds the place exactly where `due_anew` says so, and `cycle_from` leaves what it says,
+//! in steps that are counted from the beginning alone.
 #![tactic(auto)]
 
 mod before;
+mod beginning;
 mod cycling;
+mod due;
 mod judge;
 pub mod laws;
 mod notices;
@@ -29,7 +33,9 @@ mod showing;
 mod telling;
 
 pub use before::Before;
-pub use cycling::cycle;
+pub use beginning::{Beginning, opened};
+pub use cycling::cycle_from;
+pub use due::due_place;
 pub use reading::text_for;
 pub use refused::CycleRefused;
 pub use running::{Replayed, perform, replay, rewind};

@@ -1,15 +1,15 @@
 //! The end of a cycle: what replayed items show is compared with what users were shown, users are told, and all is put together.
-ghost use Rattle.std.specs.Prelude.{◌≡◌, ◌+◌, ◌≤◌, ◌++◌, drop, length, IfOk, IsTrue, OnOk};
+ghost use Rattle.std.specs.Prelude.{◌≡◌, ℕ, ◌+◌, ◌-◌, ◌≤◌, ◌++◌, drop, length, IfOk, IsTrue, OnOk};
 ghost use Rattle.std.specs.List.{AllByRecursion};
 ghost use Rattle.verb_core.specs.Items.{IsWellFormed};
 ghost use Rattle.verb_core.specs.Step.{answers, run, step};
-ghost use Rattle.verb_core.specs.Store.{IsValid};
+ghost use Rattle.verb_core.specs.Store.{IsValid, MailStore};
 ghost use Rattle.paradox.specs.Kept.{store_of};
 ghost use Rattle.repair_desk.specs.Renewals.{renewed as renewed_stamps};
 ghost use Rattle.repair_desk.specs.Repairs.{edited_at};
-ghost use Rattle.mail_cycle.specs.Cycles.{cycled_with, leaves_numbers, renewed_by as renewed_in};
+ghost use Rattle.mail_cycle.specs.Cycles.{cycled_from, leaves_numbers, reached_from, renewed_by as renewed_in};
 ghost use Rattle.mail_cycle.specs.Judging.{shown_after};
-ghost use Rattle.mail_cycle.specs.Leaving.{Leaves};
+ghost use Rattle.mail_cycle.specs.Leaving.{LeavesAt};
 
 use crate::Before;
 use crate::judge::behind;
@@ -27,14 +27,16 @@ use verb_bytes::CycleAsk;
 use verb_core::laws::steps_keep_validity;
 use verb_core::{Item, Items, Shown, Stamps};
 
-/// What a cycle leaves: the store, the items in force that lead to it, the stamp of each mailbox, the next number, and the
-/// report.
+/// What a cycle leaves: the store, the place of its point, the items in force, the stamp of each mailbox, the next number, how
+/// many items entered, acts and notices, and the report.
 #[derive(Drop)]
 pub struct Rewound {
     pub store: Store,
+    pub place: u32,
     pub timeline: StoredItems,
     pub stamps: Stamps,
     pub next: u32,
+    pub entered: u32,
     pub report: Report,
 }
 
@@ -190,10 +192,12 @@ fn lead<L: Ledger>(
     }
 }
 
-/// What is told of a cycle, but for the stamps, and the next number.
+/// What is told of a cycle, but for the stamps, with the place of its point, the next number, and how many items entered.
 #[derive(Drop)]
 struct Found {
+    place: u32,
     next: u32,
+    entered: u32,
     kept: u32,
     broken: BrokenList,
     notices: Numbers,
@@ -211,7 +215,9 @@ fn finish(
     ensures store { IfOk result (λ made. made.store.store ≡ led.store.store) }
     ensures timeline { IfOk result (λ made. made.timeline ≡ led.timeline) }
     ensures stamps { IfOk result (λ made. made.stamps ≡ renewed_stamps (store_of before.now).boxes made.store.store.boxes before.now.stamps before.now.next) }
+    ensures place { IfOk result (λ made. made.place ≡ found.place) }
     ensures next { IfOk result (λ made. made.next ≡ found.next) }
+    ensures entered { IfOk result (λ made. made.entered ≡ found.entered) }
     ensures report { IfOk result (λ made. made.report ≡ record {
       cycle = before.now.next;
       point = point;
@@ -225,9 +231,11 @@ fn finish(
     match marks_of(alloc, before, &led.store) {
         Ok(marks) => Ok(Rewound {
             store: led.store,
+            place: found.place,
             timeline: led.timeline,
             stamps: marks.stamps,
             next: found.next,
+            entered: found.entered,
             report: Report {
                 cycle: before.next(),
                 point,
@@ -239,6 +247,16 @@ fn finish(
             },
         }),
         Err(NoMemory) => Err(NoMemory),
+    }
+}
+
+/// A place in 32 bits. More than these hold find no memory.
+fn short(place: usize) -> Result<u32, NoMemory>
+    ensures { IfOk result (λ short. short ≡ place) }
+{
+    match u32::try_from(place) {
+        Ok(place) => Ok(place),
+        Err(_) => Err(NoMemory),
     }
 }
 
@@ -262,7 +280,9 @@ fn close<L: Ledger>(
     ensures valid { IfOk result (λ made. IsValid made.store.store) }
     ensures timeline { IfOk result (λ made. made.timeline ≡ shown_after (place + length ask.now.inserts) replayed.items (drop (length ask.now.inserts) replayed.shows) ++ told.notices) }
     ensures stamps { IfOk result (λ made. made.stamps ≡ renewed_stamps (store_of before.now).boxes made.store.store.boxes before.now.stamps before.now.next) }
+    ensures place { IfOk result (λ made. made.place ≡ place) }
     ensures next { IfOk result (λ made. made.next ≡ before.now.next + 1 + length ask.now.inserts + length told.numbers) }
+    ensures entered { IfOk result (λ made. made.entered ≡ length ask.now.inserts + length told.numbers) }
     ensures report { IfOk result (λ made. made.report ≡ record {
       cycle = before.now.next;
       point = ask.now.point;
@@ -276,8 +296,11 @@ fn close<L: Ledger>(
 {
     let inserts = ask.inserts.len();
     let front = before.front_with(place, inserts);
+    let entered = inserts as u32 + told.numbers.len() as u32;
     let found = Found {
-        next: before.next() + 1 + inserts as u32 + told.numbers.len() as u32,
+        place: short(place)?,
+        next: before.next() + 1 + entered,
+        entered,
         kept: repairs.kept,
         broken: told.broken,
         notices: told.numbers,
@@ -289,8 +312,8 @@ fn close<L: Ledger>(
     }
 }
 
-/// What the cycle leaves behind a place, from the repaired items as they were read, the store that they lead to and the answers
-/// that those behind the place gave: the broken and the withdrawn items, what the broken ones show, the notices, which are
+/// What the cycle leaves behind a place, from the repaired items as they were read, the store that those behind a beginning lead to
+/// and the answers that those behind the place gave: the broken and the withdrawn items, what the broken ones show, the notices, which are
 /// performed, the stamps and the report. In time that grows as the timeline and the mailboxes.
 pub fn settle<L: Ledger>(
     alloc: Global,
@@ -307,13 +330,13 @@ pub fn settle<L: Ledger>(
     requires place { place ≤ length before.now.timeline }
     requires kept { repairs.kept ≡ (edited_at before.now.timeline ask.now before.now.next at place).kept }
     requires unmatched { repairs.unmatched ≡ (edited_at before.now.timeline ask.now before.now.next at place).unmatched }
-    requires store { replayed.store.store ≡ run before.now.base replayed.items }
     requires valid { IsValid replayed.store.store }
-    requires shows { replayed.shows ≡ drop place (answers before.now.base replayed.items) }
-    ensures made { IfOk result (λ made. Leaves before.now (cycled_with before.now at ask.now place replayed.items) made) }
+    requires house { replayed.store.store.house ≡ before.now.house }
+    ensures made { (first : MailStore) (count : ℕ) → count ≤ place → count ≤ length replayed.items →
+        replayed.store.store ≡ run first (drop count replayed.items) → replayed.shows ≡ drop (place - count) (answers first (drop count replayed.items)) →
+        IfOk result (LeavesAt (reached_from before.now at ask.now place first count replayed.items) (cycled_from before.now at ask.now place first count replayed.items)) }
     ensures steps { IfOk result (λ made. steps.new ≤ steps.old + length made.report.notices) }
 {
-    before.has_a_house();
     match tell_users(alloc, before, at, ask, place, replayed.shows.as_slice()) {
         Ok(told) => close(alloc, before, ask, place, repairs, replayed, told, steps),
         Err(NoMemory) => Err(NoMemory),
