@@ -1,5 +1,5 @@
 -- What a client knows by UID lasts over one call that seals a record, of whatever desk: its stamps name its mailboxes.
-use Rattle.std.proofs.Common.{◌≡◌, ℕ, Bool, true, false, ◌&&◌, ◌==◌, cond, nat_lt, List, [], ◌∷◌, map, Option, Some, None, Result, Ok, Err, IfOk, OnOk, OnErr, eqb-true, inr, refl, sym, subst}
+use Rattle.std.proofs.Common.{◌≡◌, ℕ, Bool, true, false, ◌&&◌, ◌||◌, ◌==◌, cond, nat_lt, List, [], ◌∷◌, map, Option, Some, None, Result, Ok, Err, IfOk, OnOk, OnErr, eqb-true, inr, ap, refl, sym, subst}
 use Rattle.std.specs.Prelude.{option_and_then}
 use Rattle.std.proofs.lemmas.Bool.{and_parts}
 use Rattle.undo_outside.specs.Disk.{DiskTold}
@@ -68,12 +68,12 @@ module _ {D : Type 0} (told : D → DiskTold) where
   sealed_lasts what old new plain named seals =
       record_lasts old.kept new.kept what plain named (after_one (after_record old.kept what) new.kept (seals.kept (inr (none what plain))))
     where
-      none : (w : JournalRecord) → is_cycle w ≡ false → cond (is_cycle w) true false ≡ false
-      none w e = subst (λ (b : Bool). cond b true false ≡ false) (sym e) refl
+      none : (w : JournalRecord) → is_cycle w ≡ false → (is_cycle w || false) ≡ false
+      none w e = ap (λ (b : Bool). b || false) e
 
   -- over a call that took a snapshot
   pub snapshots_last : {T E : Type 0} (result : Result T E) (old new : Lasting D) (n : ℕ) → OnOk result (Snapshots told old new n) → OnErr result (new.kept ≡ old.kept) → UidsLast old.kept new.kept
-  snapshots_last (Ok x) old new n done same = subst (UidsLast old.kept) (sym done.2.0) (lasts_marked old.kept (snapshotted old.kept).marks)
+  snapshots_last (Ok x) old new n done same = subst (UidsLast old.kept) (sym done.2) (lasts_marked old.kept (snapshotted old.kept).marks)
   snapshots_last (Err e) old new n done same = lasts_kept old.kept new.kept same
 
   -- over a call that sealed one that is known before, or left what is kept as it was

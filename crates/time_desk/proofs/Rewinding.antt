@@ -184,6 +184,20 @@ made_weaker kept at ask told more made so is = record {
 pub redoes_weaker : (kept : Kept) (at : ℕ) (ask : CycleAsk) (told more : Type 0) (made : Rewound) → (more → told) → Redoes kept at ask told made → Redoes kept at ask more made
 redoes_weaker kept at ask told more made so (due, due_is, leaves) = (due, due_is, λ m. leaves (so m))
 
+-- why there is none, told of what is kept but for the snapshots
+pub refused_as : (kept : Kept) (ask : CycleAsk) (due : Due) (refused : CycleRefused) → IsRefusalOf (unmarked kept) ask due refused → IsRefusalOf kept ask due refused
+refused_as kept ask due (refusals.Point given) is = is
+refused_as kept ask due (refusals.Numbers next) is = is
+refused_as kept ask due refusals.Disk is = is
+refused_as kept ask due refusals.NoMemory is = is
+
+-- where no cycle is due no read failed
+pub none_read_for : (disk : DiskTold) (kept : Kept) (ask : CycleAsk) (due : Due) (refused : CycleRefused) → IsRefusalOf kept ask due refused → (IsRewinds due → ⊥) → RedoesCause {T = Rewound} disk disk (Err refused)
+none_read_for disk kept ask due (refusals.Point given) is undue = refl
+none_read_for disk kept ask due (refusals.Numbers next) is undue = refl
+none_read_for disk kept ask due refusals.Disk is undue = absurd (undue is)
+none_read_for disk kept ask due refusals.NoMemory is undue = refl
+
 -- from a beginning that can serve
 module _ (kept : Kept) (at : ℕ) (ask : CycleAsk) (place : ℕ) (first : Beginning) where
   pub all_made : {E : Type 0} (told was : Type 0) (result : Result Rewound E) → position kept.timeline ask.point ≡ Some place → leaves_numbers kept ask ≡ true → Serves kept place first

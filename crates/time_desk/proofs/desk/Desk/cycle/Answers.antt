@@ -41,5 +41,5 @@ returns-in-Ok-None-clause-rewinds g c = λ due is holds.
     let tried = c.cycle_anew in
     let inside = c.self.inside in
     subst (λ (l : Lasting g.row.D.Denot). OnOk tried.result (tried.new.steps ≤ c.args.steps.now + most_performed l.kept c.args.ask due)) c.self.view_is
-    (tried.ensures.rewinds due (sym (due_new inside.desk.kept c.args.at c.args.ask c.in-Ok-None.ensures) ∙ subst (λ (l : Lasting g.row.D.Denot). cycle_due l.kept c.args.at c.args.ask ≡ Rewinds due) (sym c.self.view_is) is)
+    (tried.ensures.rewinds due (sym (due_new inside.desk.kept c.args.at c.args.ask (sym c.in-Ok-None.ensures.found ∙ c.in-Ok-None.field-0-is)) ∙ subst (λ (l : Lasting g.row.D.Denot). cycle_due l.kept c.args.at c.args.ask ≡ Rewinds due) (sym c.self.view_is) is)
     (subst (HoldsTexts g.D.Disk.told) (sym c.self.view_is) holds))
