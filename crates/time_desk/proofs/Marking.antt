@@ -14,7 +14,7 @@ use Rattle.seal_log.specs.Journal.{LiesAt}
 use Rattle.shelf.specs.Marks.{marks_at_or_before, with_mark}
 use Rattle.verb_bytes.specs.declared.journal.CycleAsk.{CycleAsk}
 use Rattle.verb_core.specs.declared.item.Shown.{Shown}
-use Rattle.paradox.specs.Kept.{IsRun, Kept, store_of}
+use Rattle.paradox.specs.Kept.{IsRun, Kept}
 use Rattle.repair_desk.specs.Repairs.{inserted, kept as kept_of, repaired}
 use Rattle.repair_desk.proofs.Points.{front, within}
 use Rattle.mail_cycle.specs.Cycles.{front_of, repaired_items, timeline_by, told_by}
@@ -22,7 +22,7 @@ use Rattle.mail_cycle.specs.Judging.{shown_after}
 use Rattle.mail_cycle.specs.Leaving.{IsMade}
 use Rattle.mail_cycle.specs.declared.settling.Rewound.{Rewound}
 use Rattle.time_desk.specs.Records.{snapshot_record}
-use Rattle.time_desk.specs.Stored.{MarkLies, MarkedBefore, MarksLie, snapshot_at, store_at}
+use Rattle.time_desk.specs.Stored.{MarkLies, MarkedBefore, MarksLie, snapshot_at}
 use Rattle.time_desk.proofs.Renoting.{made_timeline_of, shown_made}
 
 -- ---- of all marks
@@ -99,8 +99,8 @@ pub marks_rewound : (payloads : List (List ℕ)) (a b : Kept) (place : ℕ) (mar
     → MarksLie payloads a marks → MarksLie payloads b (marks_at_or_before place marks)
 marks_rewound payloads a b place marks base front within = marks_passed (MarkLies payloads a) (MarkLies payloads b) (λ (m : Mark). nat_le m.0 place)
     (λ m test lies.
-      let less : m.0 ≤ place = leb-true m.0 place test in
-      mark_kept payloads a b m base (fewer m.0 less) (omega arith) lies) marks
+    let less : m.0 ≤ place = leb-true m.0 place test in
+    mark_kept payloads a b m base (fewer m.0 less) (omega arith) lies) marks
   where
     fewer : (n : ℕ) → n ≤ place → take n b.timeline ≡ take n a.timeline
     fewer n less = sym (take-take n place b.timeline less) ∙ ap (take n) front ∙ take-take n place a.timeline less

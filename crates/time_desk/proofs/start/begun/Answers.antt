@@ -1,8 +1,7 @@
-use Rattle.std.proofs.Common.{◌≡◌, ℕ, List, [], map, sym, ap, ◌∙◌, subst}
+use Rattle.std.proofs.Common.{◌≡◌, sym, ap, ◌∙◌}
 use Rattle.std.specs.Prelude.{Some, option_map}
 use Rattle.mail_desk.specs.Held.{Held}
 use Rattle.paradox.specs.Kept.{Kept}
-use Rattle.seal_log.specs.declared.place.Place.{Place}
 use Rattle.time_desk.specs.Records.{first_state}
 use Rattle.time_desk.proofs.Holding.{first_none, first_unmarked, none_marked}
 use Rattle.time_desk.proofs.start.begun.Goals as goal
