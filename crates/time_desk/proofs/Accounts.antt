@@ -33,7 +33,7 @@ pub sound_base : (kept : Kept) → IsSound kept → IsBase kept.timeline kept.ba
 sound_base kept sound = subst (IsBase kept.timeline) (sym sound.base) (opening-IsBase kept.house kept.opening kept.timeline sound.house sound.aliases sound.timeline)
 
 pub sound_valid : (kept : Kept) → IsSound kept → IsValid (store_of kept)
-sound_valid kept sound = valid-run kept.base kept.timeline (sound_base kept sound)
+sound_valid kept sound = subst IsValid (sym sound.runs) (valid-run kept.base kept.timeline (sound_base kept sound))
 
 pub one_fate : (kept : Kept) (before later : List Item) (i : Item) (u : User) (key : Key) → IsSound kept → kept.timeline ≡ before ++ i ∷ later → times_given u key (run kept.base before) i ≢ 0
     → HasOneFate u key kept.base before i later

@@ -1,8 +1,9 @@
 -- What a disk holds of the texts of a desk after a call.
-use Rattle.std.proofs.Common.{◌≡◌, ℕ, ◌+◌, ◌<◌, ◌≤◌, Bool, true, false, cond, List, [], ◌∷◌, ◌++◌, length, Option, None, Some, Result, Ok, Err, IfOk, nat_lt, ◌==◌, ◌&&◌, refl, ap, sym, subst, ◌∙◌, arith}
+use Rattle.std.proofs.Common.{◌≡◌, ℕ, ◌+◌, ◌<◌, ◌≤◌, Bool, true, false, cond, List, [], ◌∷◌, ◌++◌, length, map, Option, None, Some, Result, Ok, Err, IfOk, OnOk, nat_lt, ◌==◌, ◌&&◌, refl, ap, sym, subst, ◌∙◌, arith}
 use Rattle.std.specs.List.{AllByRecursion, slice_range}
 use Rattle.std.specs.Cmp.{first_so}
 use Rattle.std.proofs.lemmas.Bool.Decides.{nat_tests}
+use Rattle.std.proofs.lemmas.Slice.Eq.{bytes_eq-Decides}
 use Rattle.undo_base.specs.declared.memory.NoMemory.{NoMemory}
 use Rattle.undo_outside.specs.Disk.{DiskTold}
 use Rattle.undo_outside.specs.Moments.{OnlyReads}
@@ -13,19 +14,22 @@ use Rattle.seal_log.specs.declared.place.Place.{Place}
 use Rattle.seal_log.specs.Journal.{LiesAt, StandsFor, sealed}
 use Rattle.seal_log.specs.Settled.{Holds, IsSettled}
 use Rattle.shelf.specs.declared.note.Note.{Note}
+use Rattle.shelf.specs.Marks.{with_mark}
 use Rattle.shelf.specs.Notes.{LiesBefore, note_of, noted_text}
 use Rattle.mail_desk.specs.Held.{Held}
 use Rattle.mail_desk.specs.Timeline.{NotesText, body_of}
-use Rattle.paradox.specs.Kept.{Kept, new_desk}
+use Rattle.paradox.specs.Kept.{IsRun, Kept, new_desk}
 use Rattle.house_text.specs.Beginning.{can_begin}
 use Rattle.verb_bytes.specs.declared.journal.JournalRecord.{JournalRecord}
 use Rattle.verb_bytes.specs.declared.journal.JournalRecord.TheVariants.{Format, Verb, Operator, Cycle, Snapshot}
 use Rattle.verb_bytes.specs.Places.{IsTextAt}
+use Rattle.verb_bytes.specs.Spelling.{HasSpelling, record_bytes}
 use Rattle.time_desk.specs.Lasting.{Lasting}
-use Rattle.time_desk.specs.Records.{first_state, is_formed, is_spelled}
-use Rattle.time_desk.specs.Standing.{Enters}
+use Rattle.time_desk.specs.Records.{first_state, is_formed, is_spelled, is_true, snapshot_record}
+use Rattle.time_desk.specs.Standing.{Enters, kept_as, marked_as}
 use Rattle.time_desk.specs.Permanence.{RevsBelow}
-use Rattle.time_desk.specs.Stored.{HoldsTexts, IsBefore, IsStored, NotedBefore, NotesTexts, TextsHeld, TextsLie, recorded_in}
+use Rattle.time_desk.specs.Stored.{HoldsTexts, IsBefore, IsStored, KeepsMarks, MarkedBefore, MarksLie, NotedBefore, NotesTexts, TextsHeld, TextsLie, recorded_in}
+use Rattle.time_desk.proofs.Marking.{marks_entered, marks_kept, marks_snapshotted, marks_stay, marks_with}
 use Rattle.time_desk.proofs.Noting.{Moves, entered, has_note_moves, recorded_is}
 
 -- ---- more payloads, and a later gate
@@ -90,43 +94,79 @@ entered_record gate place bytes from old new i (Ok true) within long stands belo
 entered_record gate place bytes from old new i (Ok false) within long stands below enters noted = λ e. absurd (let wrong : ◌≡◌ {A = Bool} false true = e in cc)
 entered_record gate place bytes from old new i (Err why) within long stands below enters noted = tt
 
+-- the snapshots stay marked when the item of a record is entered
+pub entered_marks : (gate : ℕ) (place : Place) (bytes : List ℕ) (old new : Held) (i : Item) (r : Result Bool NoMemory)
+    → IfOk r (λ stood. Enters old.kept i stood new.kept) → OnOk r (new.marks ≡ old.marks) → IfOk r (λ stood. stood ≡ true → KeepsMarks gate place bytes old new)
+entered_marks gate place bytes old new i (Ok true) enters same = λ e. record {
+  before = λ all. subst (MarkedBefore gate) (sym same) all;
+  lie = λ payloads lies runs all. subst (MarksLie payloads new.kept) (sym same)
+      (marks_entered payloads old.kept new.kept i old.marks (ap (λ (k : Kept). k.base) enters.1) (ap (λ (k : Kept). k.timeline) enters.1) all);
+}
+entered_marks gate place bytes old new i (Ok false) enters same = λ e. absurd (let wrong : ◌≡◌ {A = Bool} false true = e in cc)
+entered_marks gate place bytes old new i (Err why) enters same = tt
+
+-- a snapshot that is true is marked, and another is passed
+pub kept_marks : (gate : ℕ) (place : Place) (what : JournalRecord) (old new : Held) (truth : Bool) → place.gate + 5 + place.length ≤ gate → HasSpelling (snapshot_record old.kept) → truth ≡ is_true old.kept what
+    → new.kept ≡ kept_as old.kept truth → new.marks ≡ marked_as old truth place → KeepsMarks gate place (record_bytes what) old new
+kept_marks gate place what old new true within spelled is kept marks =
+    let all_marks = with_mark (length old.kept.timeline) place old.marks in
+    let bytes : record_bytes what ≡ record_bytes (snapshot_record old.kept) = (bytes_eq-Decides (record_bytes what) (record_bytes (snapshot_record old.kept))).0 (sym is) in
+    record {
+      before = λ all. subst (MarkedBefore gate) (sym marks) (marks_with (λ m. m.1.gate + 5 + m.1.length ≤ gate) (length old.kept.timeline) place old.marks within all);
+      lie = λ payloads lies runs all. subst (MarksLie payloads new.kept) (sym marks)
+          (marks_kept payloads old.kept new.kept all_marks (ap (λ (k : Kept). k.base) kept) (ap (λ (k : Kept). k.timeline) kept)
+          (marks_snapshotted payloads old.kept place old.marks runs spelled (subst (LiesAt payloads place.gate place.length) bytes lies) all));
+    }
+kept_marks gate place what old new false within spelled is kept marks = record {
+  before = λ all. subst (MarkedBefore gate) (sym marks) all;
+  lie = λ payloads lies runs all. subst (MarksLie payloads new.kept) (sym marks)
+      (marks_kept payloads old.kept new.kept old.marks (ap (λ (k : Kept). k.base) kept) (ap (λ (k : Kept). k.timeline) kept) all);
+}
+
 -- ---- a disk that was read
 
-pub texts_read : (old new : DiskTold) (payloads : List (List ℕ)) (kept : Kept) (notes : List (Body × Note)) → OnlyReads old new → TextsHeld old payloads kept notes → TextsHeld new payloads kept notes
-texts_read old new payloads kept notes reads texts = record {
+pub texts_read : (old new : DiskTold) (payloads : List (List ℕ)) (kept : Kept) (notes : List (Body × Note)) (marks : List (ℕ × Place)) → OnlyReads old new → TextsHeld old payloads kept notes marks
+    → TextsHeld new payloads kept notes marks
+texts_read old new payloads kept notes marks reads texts = record {
   held = record { honest = reads.honest texts.held.honest; front = λ c now. texts.held.front c (reads.images texts.held.honest c now) };
   lie = texts.lie;
   revs = texts.revs;
+  runs = texts.runs;
+  marks = texts.marks;
 }
 
 -- ---- desks
 
 module _ {D : Type 0} (told : D → DiskTold) where
   -- what was kept and noted is as it was, and the disk holds what it held
-  pub holds_same : (a b : Lasting D) → b.kept ≡ a.kept → b.notes ≡ a.notes → b.closed ≡ a.closed
+  pub holds_same : (a b : Lasting D) → b.kept ≡ a.kept → b.notes ≡ a.notes → b.marks ≡ a.marks → b.closed ≡ a.closed
       → ((payloads : List (List ℕ)) → Holds (told a.disk) payloads → Holds (told b.disk) payloads)
       → ((payloads : List (List ℕ)) → IsSettled (told a.disk) a.gate payloads → IsSettled (told b.disk) b.gate payloads)
       → HoldsTexts told a → HoldsTexts told b
-  holds_same a b kept notes closed held settled holds = record {
+  holds_same a b kept notes marks closed held settled holds = record {
     payloads = holds.payloads;
     texts = record {
       held = held holds.payloads holds.texts.held;
       lie = subst (λ (k : Kept). TextsLie holds.payloads b.notes k.timeline) (sym kept) (subst (λ (n : List (Body × Note)). TextsLie holds.payloads n a.kept.timeline) (sym notes) holds.texts.lie);
       revs = subst RevsBelow (sym kept) holds.texts.revs;
+      runs = subst IsRun (sym kept) holds.texts.runs;
+      marks = subst (λ (k : Kept). MarksLie holds.payloads k b.marks) (sym kept) (subst (λ (m : List (ℕ × Place)). MarksLie holds.payloads a.kept m) (sym marks) holds.texts.marks);
     };
     settled = λ is. settled holds.payloads (holds.settled (sym closed ∙ is));
   }
 
   -- the same of an open desk that may have been closed
-  pub holds_closed : (a b : Lasting D) → b.kept ≡ a.kept → b.notes ≡ a.notes → a.closed ≡ false → (b.closed ≡ true)
+  pub holds_closed : (a b : Lasting D) → b.kept ≡ a.kept → b.notes ≡ a.notes → b.marks ≡ a.marks → a.closed ≡ false → (b.closed ≡ true)
       → ((payloads : List (List ℕ)) → IsSettled (told a.disk) a.gate payloads → Holds (told b.disk) payloads)
       → HoldsTexts told a → HoldsTexts told b
-  holds_closed a b kept notes was shut held holds = record {
+  holds_closed a b kept notes marks was shut held holds = record {
     payloads = holds.payloads;
     texts = record {
       held = held holds.payloads (holds.settled was);
       lie = subst (λ (k : Kept). TextsLie holds.payloads b.notes k.timeline) (sym kept) (subst (λ (n : List (Body × Note)). TextsLie holds.payloads n a.kept.timeline) (sym notes) holds.texts.lie);
       revs = subst RevsBelow (sym kept) holds.texts.revs;
+      runs = subst IsRun (sym kept) holds.texts.runs;
+      marks = subst (λ (k : Kept). MarksLie holds.payloads k b.marks) (sym kept) (subst (λ (m : List (ℕ × Place)). MarksLie holds.payloads a.kept m) (sym marks) holds.texts.marks);
     };
     settled = λ is. absurd (let wrong : ◌≡◌ {A = Bool} true false = sym shut ∙ is in cc);
   }
@@ -137,9 +177,10 @@ module _ {D : Type 0} (told : D → DiskTold) where
       → a.closed ≡ false
       → ((payloads : List (List ℕ)) → IsSettled (told a.disk) a.gate payloads → IsSettled (told b.disk) b.gate (payloads ++ bytes ∷ []))
       → ((payloads : List (List ℕ)) → LiesAt payloads a.gate (length bytes) bytes → TextsLie payloads a.notes a.kept.timeline → TextsLie payloads b.notes b.kept.timeline)
-      → (RevsBelow a.kept → RevsBelow b.kept)
+      → (RevsBelow a.kept → RevsBelow b.kept) → (IsRun a.kept → IsRun b.kept)
+      → ((payloads : List (List ℕ)) → LiesAt payloads a.gate (length bytes) bytes → IsRun a.kept → MarksLie payloads a.kept a.marks → MarksLie payloads b.kept b.marks)
       → HoldsTexts told a → HoldsTexts told b
-  holds_sealed a b bytes stays was settled lie revs holds =
+  holds_sealed a b bytes stays was settled lie revs runs marks holds =
       let before : IsSettled (told a.disk) a.gate holds.payloads = holds.settled was in
       let after : IsSettled (told b.disk) b.gate (holds.payloads ++ bytes ∷ []) = settled holds.payloads before in
       record {
@@ -149,6 +190,9 @@ module _ {D : Type 0} (told : D → DiskTold) where
           lie = lie (holds.payloads ++ bytes ∷ []) (record { before = holds.payloads; after = []; split = refl; gate_is = before.gate_is; count_is = refl })
               (texts_stay stays holds.payloads (bytes ∷ []) a.notes a.kept.timeline holds.texts.lie);
           revs = revs holds.texts.revs;
+          runs = runs holds.texts.runs;
+          marks = marks (holds.payloads ++ bytes ∷ []) (record { before = holds.payloads; after = []; split = refl; gate_is = before.gate_is; count_is = refl }) holds.texts.runs
+              (marks_stay stays holds.payloads (bytes ∷ []) a.kept a.marks holds.texts.marks);
         };
         settled = λ is. after;
       }
@@ -156,28 +200,23 @@ module _ {D : Type 0} (told : D → DiskTold) where
 -- ---- at first
 
 -- nothing is noted where nothing was done
-pub held_none : (disk : DiskTold) (payloads : List (List ℕ)) (kept : Kept) (notes : List (Body × Note)) → Holds disk payloads → kept.timeline ≡ [] → TextsHeld disk payloads kept notes
-held_none disk payloads kept notes held none = record {
+pub held_none : (disk : DiskTold) (payloads : List (List ℕ)) (kept : Kept) (notes : List (Body × Note)) (marks : List (ℕ × Place)) → Holds disk payloads → kept.timeline ≡ [] → marks ≡ [] → IsRun kept
+    → TextsHeld disk payloads kept notes marks
+held_none disk payloads kept notes marks held none unmarked runs = record {
   held = held;
   lie = subst (λ (t : List Item). TextsLie payloads notes t) (sym none) tt;
   revs = subst (λ (t : List Item). AllByRecursion (λ (i : Item). i.rev < kept.next) t) (sym none) tt;
+  runs = runs;
+  marks = subst (MarksLie payloads kept) (sym unmarked) tt;
 }
 
 pub noted_none : (gate : ℕ) (kept : Kept) (notes : List (Body × Note)) → kept.timeline ≡ [] → NotedBefore gate notes kept.timeline
 noted_none gate kept notes none = subst (λ (t : List Item). NotedBefore gate notes t) (sym none) tt
 
--- nothing is noted where nothing was done
-texts_none : (disk : DiskTold) (gate : ℕ) (payloads : List (List ℕ)) (kept : Kept) (notes : List (Body × Note)) → IsSettled disk gate payloads → kept.timeline ≡ [] → TextsHeld disk payloads kept notes
-texts_none disk gate payloads kept notes settled none = record {
-  held = record { honest = settled.honest; front = λ c now. ((settled.images c now).rest, (settled.images c now).split) };
-  lie = subst (λ (t : List Item). TextsLie payloads notes t) (sym none) tt;
-  revs = subst (λ (t : List Item). AllByRecursion (λ (i : Item). i.rev < kept.next) t) (sym none) tt;
-}
-
-pub holds_first : {D : Type 0} (told : D → DiskTold) (desk : Lasting D) (payloads : List (List ℕ)) → IsSettled (told desk.disk) desk.gate payloads → desk.kept.timeline ≡ [] → HoldsTexts told desk
-holds_first told desk payloads settled none = record {
+pub holds_first : {D : Type 0} (told : D → DiskTold) (desk : Lasting D) (payloads : List (List ℕ)) → IsSettled (told desk.disk) desk.gate payloads → desk.kept.timeline ≡ [] → desk.marks ≡ [] → IsRun desk.kept → HoldsTexts told desk
+holds_first told desk payloads settled none unmarked runs = record {
   payloads = payloads;
-  texts = texts_none (told desk.disk) desk.gate payloads desk.kept desk.notes settled none;
+  texts = held_none (told desk.disk) payloads desk.kept desk.notes desk.marks (record { honest = settled.honest; front = λ c now. ((settled.images c now).rest, (settled.images c now).split) }) none unmarked runs;
   settled = λ is. settled;
 }
 
@@ -191,3 +230,19 @@ first_none (Verb item) kept is = absurd (cc is)
 first_none (Operator number at act) kept is = absurd (cc is)
 first_none (Cycle number at ask) kept is = absurd (cc is)
 first_none (Snapshot items conf rows) kept is = absurd (cc is)
+
+-- and no snapshot was taken
+pub first_unmarked : (what : JournalRecord) (kept : Kept) → first_state what ≡ Some kept → (kept.marks.places ≡ []) × IsRun kept
+first_unmarked (Format house conf) kept is = elim (is_spelled (Format house conf) && can_begin house conf) as (λ b. cond b (Some (new_desk house conf)) None ≡ Some kept → (kept.marks.places ≡ []) × IsRun kept) [
+  | true ↦ λ e. let same : new_desk house conf ≡ kept = cc in subst (λ (k : Kept). (k.marks.places ≡ []) × IsRun k) same (refl, refl)
+  | false ↦ λ e. absurd (cc e)
+] is
+first_unmarked (Verb item) kept is = absurd (cc is)
+first_unmarked (Operator number at act) kept is = absurd (cc is)
+first_unmarked (Cycle number at ask) kept is = absurd (cc is)
+first_unmarked (Snapshot items conf rows) kept is = absurd (cc is)
+
+-- where no number is marked no snapshot is
+pub none_marked : (marks : List (ℕ × Place)) → map (λ (m : ℕ × Place). m.0) marks ≡ [] → marks ≡ []
+none_marked [] none = refl
+none_marked (m ∷ marks) none = absurd (cc none)

@@ -11,8 +11,12 @@ pub mod Surveys
 pub mod Soundness
 pub mod Sealed
 pub mod Submits
+pub mod Lasts
+pub mod Snapshots
+pub mod Servings
 pub mod Resolving
 pub mod Rewinding
+pub mod Marking
 pub mod Messages
 pub mod Accounts
 pub mod States

@@ -4,7 +4,10 @@ use Rattle.std.proofs.lemmas.List.{append-nil}
 use Rattle.std.specs.Prelude.{option_and_then, if◌then◌else◌}
 use Rattle.std.specs.List.{AllByRecursion}
 use Rattle.verb_core.specs.Deeds.{act_item}
+use Rattle.verb_core.specs.declared.conf.Conf.{Conf}
 use Rattle.verb_core.specs.declared.item.Item.{Item}
+use Rattle.verb_core.specs.declared.mailbox.BoxId.{BoxId}
+use Rattle.verb_core.specs.declared.mailbox.Mailbox.{Mailbox}
 use Rattle.verb_bytes.specs.declared.journal.CycleAsk.{CycleAsk}
 use Rattle.verb_bytes.specs.declared.journal.JournalRecord.{JournalRecord}
 use Rattle.verb_bytes.specs.declared.journal.JournalRecord.TheVariants.{Format, Verb, Operator, Cycle, Snapshot}
@@ -17,7 +20,7 @@ use Rattle.house_text.specs.Beginning.{can_begin}
 use Rattle.time_desk.specs.declared.fault.StartFault.{StartFault}
 use Rattle.time_desk.specs.declared.fault.StartFault.TheVariants.{NotFormatted, Damaged, Disk, NoMemory}
 use Rattle.time_desk.specs.Opening.{BeginsBad, CanStand, IsDamaged, OpensAs}
-use Rattle.time_desk.specs.Records.{Leaves, after_cycle_record, after_due, after_item, after_record, after_records, can_follow, can_rewind, first_state, is_spelled, payloads_of, state}
+use Rattle.time_desk.specs.Records.{Leaves, after_cycle_record, after_due, after_item, after_kept, after_record, after_records, after_snapshot, can_follow, can_keep, can_rewind, first_state, is_spelled, payloads_of, state}
 
 -- ---- records that can stand have their spelling
 
@@ -34,12 +37,19 @@ cycle_spelled kept number at ask = by_test (is_spelled (Cycle number at ask))
     by_test true h = refl
     by_test false h = h
 
+snapshot_spelled : (kept : Kept) (items : ℕ) (conf : Conf) (rows : List (BoxId × Mailbox)) → IsTrue (is_some (after_snapshot kept items conf rows)) → HasSpelling (Snapshot items conf rows)
+snapshot_spelled kept items conf rows = by_test (is_spelled (Snapshot items conf rows))
+  where
+    by_test : (b : Bool) → is_some (if b && can_keep kept items conf rows then Some (after_kept kept (Snapshot items conf rows)) else None) ≡ true → b ≡ true
+    by_test true h = refl
+    by_test false h = h
+
 record_spelled : (kept : Kept) (r : JournalRecord) → IsTrue (is_some (after_record kept r)) → HasSpelling r
 record_spelled kept (Verb item) h = item_spelled kept (Verb item) item h
 record_spelled kept (Operator number at act) h = item_spelled kept (Operator number at act) (act_item number at act) h
 record_spelled kept (Format house conf) h = absurd (cc h)
 record_spelled kept (Cycle number at ask) h = cycle_spelled kept number at ask h
-record_spelled kept (Snapshot items conf rows) h = absurd (cc h)
+record_spelled kept (Snapshot items conf rows) h = snapshot_spelled kept items conf rows h
 
 first_spelled : (r : JournalRecord) → IsTrue (is_some (first_state r)) → HasSpelling r
 first_spelled (Format house conf) h = by_test (is_spelled (Format house conf)) h

@@ -22,7 +22,7 @@ use Rattle.shelf.specs.declared.note.Note.{Note}
 use Rattle.shelf.specs.Notes.{LiesBefore, note_of, size_of}
 use Rattle.paradox.specs.Answers.{broken}
 use Rattle.stored_items.specs.Stored.{AllHeard, IsHeard, stored, stored_deed}
-use Rattle.mail_cycle.specs.Cycles.{notice_item, notice_items, repaired_items, timeline_with}
+use Rattle.mail_cycle.specs.Cycles.{compared_from, notice_item, notice_items, repaired_items, timeline_by}
 use Rattle.mail_cycle.specs.Judging.{shown_after, shown_by}
 use Rattle.repair_desk.specs.Repairs.{are_known, inserted, is_dropped, kept, new_timeline, repaired, replaced_by, takes_text, text_asked}
 use Rattle.repair_desk.proofs.Everywhere.{everywhere, inserted_above, joined, mapped, passing, rest_of, taken, weaker}
@@ -316,9 +316,9 @@ zipped : (P Q : Item → Type 0) (t : List Item) → AllByRecursion P t → AllB
 zipped P Q [] a b = tt
 zipped P Q (i ∷ t) a b = ((a.0, b.0), zipped P Q t a.1 b.1)
 
-after_heard : (P : Note → List ℕ → Type 0) (old : List (Body × Note)) (fresh : Fresh) (s : Kept) (at : ℕ) (ask : CycleAsk) (place : ℕ) (heard : List Item)
-    → AllByRecursion (IsFound P old fresh) heard → AllByRecursion (IsFound P old fresh) (timeline_with s at ask place heard)
-after_heard P old fresh s at ask place heard all =
+after_heard : (P : Note → List ℕ → Type 0) (old : List (Body × Note)) (fresh : Fresh) (s : Kept) (at : ℕ) (ask : CycleAsk) (place : ℕ) (heard : List Item) (now : List Shown)
+    → AllByRecursion (IsFound P old fresh) heard → AllByRecursion (IsFound P old fresh) (timeline_by s at ask place heard now)
+after_heard P old fresh s at ask place heard now all =
     joined (IsFound P old fresh) _ _ (shown_holds (IsFound P old fresh) (λ i now found. found) _ heard _ all) (notices_found P old fresh _ at _)
 
 given_found : (P : Note → List ℕ → Type 0) (old : List (Body × Note)) (fresh : Fresh) (s : Kept) (at : ℕ) (ask : CycleAsk) (where_ : Place) (bytes : List ℕ)
@@ -336,13 +336,13 @@ replaced_lies P fresh c at ask where_ bytes moves is number text asked =
 
 -- Where each text was noted before a gate, and the cycle's record lies before it, each text is noted so after the cycle,
 -- whatever was read.
-pub cycle_noted : (gate : ℕ) (old new : List (Body × Note)) (fresh : Fresh) (s : Kept) (at : ℕ) (ask : CycleAsk) (place : ℕ) (heard : List Item) (where_ : Place) (bytes : List ℕ)
+pub cycle_noted : (gate : ℕ) (old new : List (Body × Note)) (fresh : Fresh) (s : Kept) (at : ℕ) (ask : CycleAsk) (place : ℕ) (heard : List Item) (now : List Shown) (where_ : Place) (bytes : List ℕ)
     → where_.gate + 5 + where_.length ≤ gate → where_.length ≡ length bytes → IsFresh s.next at ask where_ bytes fresh
     → ((body : Body) → size_of old body ≡ option_map length (text_of s.timeline body)) → NumbersApart s.timeline → AllByRecursion (λ (j : Item). j.number < s.next) s.timeline
-    → AllHeard (repaired_items s at ask place) heard → NumbersApart (timeline_with s at ask place heard)
-    → Renotes old fresh (timeline_with s at ask place heard) new → ((body : Body) → size_of new body ≡ option_map length (text_of (timeline_with s at ask place heard) body))
-    → NotedBefore gate old s.timeline → NotedBefore gate new (timeline_with s at ask place heard)
-cycle_noted gate old new fresh s at ask place heard where_ bytes within long is sizes apart below hears apart' renotes sizes' noted =
+    → AllHeard (repaired_items s at ask place) heard → NumbersApart (timeline_by s at ask place heard now)
+    → Renotes old fresh (timeline_by s at ask place heard now) new → ((body : Body) → size_of new body ≡ option_map length (text_of (timeline_by s at ask place heard now) body))
+    → NotedBefore gate old s.timeline → NotedBefore gate new (timeline_by s at ask place heard now)
+cycle_noted gate old new fresh s at ask place heard now where_ bytes within long is sizes apart below hears apart' renotes sizes' noted =
     let P : Note → List ℕ → Type 0 = λ note text. LiesBefore gate note in
     let free : (n : Note) (a b : List ℕ) → P n a → P n b = λ n a b h. h in
     let moves : Moves (LiesIn where_ bytes) P = λ note text lies. record {
@@ -356,18 +356,18 @@ cycle_noted gate old new fresh s at ask place heard where_ bytes within long is 
     let found : AllByRecursion (IsFound P old fresh) (repaired_items s at ask place) =
     found_all P old fresh s.timeline ask s.next at place (replaced_lies P fresh s.next at ask where_ bytes moves is)
     (zipped (HasNote P old) (IsStale P old s.next) s.timeline has stale) (given_found P old fresh s at ask where_ bytes moves is sizes below) in
-    let own : AllByRecursion (OwnText (timeline_with s at ask place heard)) (timeline_with s at ask place heard) = own_texts (timeline_with s at ask place heard) apart' in
-    sized gate new (timeline_with s at ask place heard) (timeline_with s at ask place heard) sizes' own
-    (all_noted P old new fresh (timeline_with s at ask place heard) (timeline_with s at ask place heard) renotes own
-    (after_heard P old fresh s at ask place heard (all_heard P old fresh (repaired_items s at ask place) heard free hears found)))
+    let own : AllByRecursion (OwnText (timeline_by s at ask place heard now)) (timeline_by s at ask place heard now) = own_texts (timeline_by s at ask place heard now) apart' in
+    sized gate new (timeline_by s at ask place heard now) (timeline_by s at ask place heard now) sizes' own
+    (all_noted P old new fresh (timeline_by s at ask place heard now) (timeline_by s at ask place heard now) renotes own
+    (after_heard P old fresh s at ask place heard now (all_heard P old fresh (repaired_items s at ask place) heard free hears found)))
 
 -- Where each text lay where it was noted, so does each after the cycle, where the texts were read as they were stored.
-pub cycle_lies : (payloads : List (List ℕ)) (old new : List (Body × Note)) (fresh : Fresh) (s : Kept) (at : ℕ) (ask : CycleAsk) (place : ℕ) (where_ : Place) (bytes : List ℕ)
+pub cycle_lies : (payloads : List (List ℕ)) (old new : List (Body × Note)) (fresh : Fresh) (s : Kept) (at : ℕ) (ask : CycleAsk) (place : ℕ) (now : List Shown) (where_ : Place) (bytes : List ℕ)
     → LiesAt payloads where_.gate where_.length bytes → IsFresh s.next at ask where_ bytes fresh
     → ((body : Body) → size_of old body ≡ option_map length (text_of s.timeline body)) → NumbersApart s.timeline → AllByRecursion (λ (j : Item). j.number < s.next) s.timeline → RevsBelow s
-    → NumbersApart (timeline_with s at ask place (repaired_items s at ask place)) → Renotes old fresh (timeline_with s at ask place (repaired_items s at ask place)) new
-    → TextsLie payloads old s.timeline → TextsLie payloads new (timeline_with s at ask place (repaired_items s at ask place))
-cycle_lies payloads old new fresh s at ask place where_ bytes lies is sizes apart below revs apart' renotes all =
+    → NumbersApart (timeline_by s at ask place (repaired_items s at ask place) now) → Renotes old fresh (timeline_by s at ask place (repaired_items s at ask place) now) new
+    → TextsLie payloads old s.timeline → TextsLie payloads new (timeline_by s at ask place (repaired_items s at ask place) now)
+cycle_lies payloads old new fresh s at ask place now where_ bytes lies is sizes apart below revs apart' renotes all =
     let P : Note → List ℕ → Type 0 = IsStored payloads in
     let moves : Moves (LiesIn where_ bytes) P = λ note text own. record {
       payload = bytes;
@@ -380,15 +380,25 @@ cycle_lies payloads old new fresh s at ask place where_ bytes lies is sizes apar
     let found : AllByRecursion (IsFound P old fresh) (repaired_items s at ask place) =
     found_all P old fresh s.timeline ask s.next at place (replaced_lies P fresh s.next at ask where_ bytes moves is)
     (zipped (HasNote P old) (IsStale P old s.next) s.timeline all stale) (given_found P old fresh s at ask where_ bytes moves is sizes below) in
-    all_noted P old new fresh (timeline_with s at ask place (repaired_items s at ask place)) (timeline_with s at ask place (repaired_items s at ask place)) renotes
-    (own_texts (timeline_with s at ask place (repaired_items s at ask place)) apart')
-    (after_heard P old fresh s at ask place (repaired_items s at ask place) found)
+    all_noted P old new fresh (timeline_by s at ask place (repaired_items s at ask place) now) (timeline_by s at ask place (repaired_items s at ask place) now) renotes
+    (own_texts (timeline_by s at ask place (repaired_items s at ask place) now) apart')
+    (after_heard P old fresh s at ask place (repaired_items s at ask place) now found)
 
 -- ---- a cycle in memory, put in place
 
+-- what the later items show then, as they were read
+abbrev pub shown_made : (s : Kept) (at : ℕ) (ask : CycleAsk) (honest : Type 0) (made : Rewound) → IsMade s at ask honest made → List Shown
+shown_made s at ask honest made is = compared_from ask is.place is.first is.count is.made_from.heard
+
 -- the timeline that it leaves is that of the items as they were read
-made_timeline : (s : Kept) (at : ℕ) (ask : CycleAsk) (honest : Type 0) (made : Rewound) (is : IsMade s at ask honest made) → made.timeline ≡ timeline_with s at ask is.place is.made_at.heard
-made_timeline s at ask honest made is = is.made_at.leaves.timeline
+pub made_timeline : (s : Kept) (at : ℕ) (ask : CycleAsk) (honest : Type 0) (made : Rewound) (is : IsMade s at ask honest made) → made.timeline ≡ timeline_by s at ask is.place is.made_from.heard (shown_made s at ask honest made is)
+made_timeline s at ask honest made is = is.made_from.leaves.timeline
+
+-- and where what was read is what was stored, that of the repaired items
+pub made_timeline_of : (s : Kept) (at : ℕ) (ask : CycleAsk) (honest : Type 0) (made : Rewound) (is : IsMade s at ask honest made) → honest
+    → made.timeline ≡ timeline_by s at ask is.place (repaired_items s at ask is.place) (shown_made s at ask honest made is)
+made_timeline_of s at ask honest made is truth =
+    made_timeline s at ask honest made is ∙ ap (λ (t : List Item). timeline_by s at ask is.place t (shown_made s at ask honest made is)) (is.made_from.same truth)
 
 pub put_noted : (gate : ℕ) (old new : Held) (at : ℕ) (ask : CycleAsk) (honest : Type 0) (made : Rewound) (where_ : Place)
     → where_.gate + 5 + where_.length ≤ gate → where_.length ≡ length (record_bytes (Cycle old.kept.next at ask))
@@ -397,9 +407,9 @@ pub put_noted : (gate : ℕ) (old new : Held) (at : ℕ) (ask : CycleAsk) (hones
     → NotesCycle old.kept.next at ask where_ old.notes made.timeline new.notes → SizesOf new.notes new.kept.timeline
     → NotedBefore gate old.notes old.kept.timeline → NotedBefore gate new.notes new.kept.timeline
 put_noted gate old new at ask honest made where_ within long is apart' put sizes apart below notes sizes' noted =
-    let now : made.timeline ≡ timeline_with old.kept at ask is.place is.made_at.heard = made_timeline old.kept at ask honest made is in
+    let now : made.timeline ≡ timeline_by old.kept at ask is.place is.made_from.heard (shown_made old.kept at ask honest made is) = made_timeline old.kept at ask honest made is in
     subst (λ (t : List Item). NotedBefore gate new.notes t) (sym (put ∙ now))
-    (cycle_noted gate old.notes new.notes notes.0 old.kept at ask is.place is.made_at.heard where_ (record_bytes (Cycle old.kept.next at ask)) within long notes.1 sizes apart below is.made_at.all
+    (cycle_noted gate old.notes new.notes notes.0 old.kept at ask is.place is.made_from.heard (shown_made old.kept at ask honest made is) where_ (record_bytes (Cycle old.kept.next at ask)) within long notes.1 sizes apart below is.made_from.all
     (subst NumbersApart now apart') (subst (λ (t : List Item). Renotes old.notes notes.0 t new.notes) now notes.2) (subst (λ (t : List Item). SizesOf new.notes t) (put ∙ now) sizes') noted)
 
 pub put_lies : (payloads : List (List ℕ)) (old new : Held) (at : ℕ) (ask : CycleAsk) (honest : Type 0) (made : Rewound) (where_ : Place)
@@ -409,10 +419,10 @@ pub put_lies : (payloads : List (List ℕ)) (old new : Held) (at : ℕ) (ask : C
     → NotesCycle old.kept.next at ask where_ old.notes made.timeline new.notes
     → TextsLie payloads old.notes old.kept.timeline → TextsLie payloads new.notes new.kept.timeline
 put_lies payloads old new at ask honest made where_ lies truth is apart' put sizes apart below revs notes all =
-    let now : made.timeline ≡ timeline_with old.kept at ask is.place (repaired_items old.kept at ask is.place) =
-    made_timeline old.kept at ask honest made is ∙ ap (λ (t : List Item). timeline_with old.kept at ask is.place t) (is.made_at.same truth) in
+    let now : made.timeline ≡ timeline_by old.kept at ask is.place (repaired_items old.kept at ask is.place) (shown_made old.kept at ask honest made is) =
+    made_timeline_of old.kept at ask honest made is truth in
     subst (λ (t : List Item). TextsLie payloads new.notes t) (sym (put ∙ now))
-    (cycle_lies payloads old.notes new.notes notes.0 old.kept at ask is.place where_ (record_bytes (Cycle old.kept.next at ask)) lies notes.1 sizes apart below revs
+    (cycle_lies payloads old.notes new.notes notes.0 old.kept at ask is.place (shown_made old.kept at ask honest made is) where_ (record_bytes (Cycle old.kept.next at ask)) lies notes.1 sizes apart below revs
     (subst NumbersApart now apart') (subst (λ (t : List Item). Renotes old.notes notes.0 t new.notes) now notes.2) all)
 
 -- ---- the record of a cycle

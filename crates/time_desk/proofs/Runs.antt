@@ -69,7 +69,7 @@ module _ {D : Type 0} (told : D → DiskTold) where
   -- a desk that was read alone holds its texts on
   pub still_holds : (a b : Lasting D) → IsStill told a b → HoldsTexts told a → HoldsTexts told b
   still_holds a b still =
-      holds_same told a b still.kept still.notes still.closed (λ payloads. holds_on (told a.disk) (told b.disk) payloads still.reads)
+      holds_same told a b still.kept still.notes still.marks still.closed (λ payloads. holds_on (told a.disk) (told b.disk) payloads still.reads)
       (λ payloads s. subst (λ (n : ℕ). IsSettled (told b.disk) n payloads) (sym still.gate) (settled_on (told a.disk) (told b.disk) a.gate payloads still.reads s))
 
   -- and sealed nothing
@@ -93,7 +93,7 @@ module _ {D : Type 0} (told : D → DiskTold) where
         could = refl;
         closed = same.closed ∙ sym (or-false a.closed);
         on_disk = subst (λ (n : ℕ). SealsPayloads [] [] (told a.disk) (told b.disk) a.gate n) (sym same.gate) (none_read (told a.disk) (told b.disk) a.gate reads);
-        texts = holds_same told a b same.kept same.notes same.closed (λ payloads. holds_on (told a.disk) (told b.disk) payloads reads)
+        texts = holds_same told a b same.kept same.notes same.marks same.closed (λ payloads. holds_on (told a.disk) (told b.disk) payloads reads)
             (λ payloads s. subst (λ (n : ℕ). IsSettled (told b.disk) n payloads) (sym same.gate) (settled_on (told a.disk) (told b.disk) a.gate payloads reads s));
       }
 

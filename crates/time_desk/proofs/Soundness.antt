@@ -23,7 +23,7 @@ use Rattle.verb_bytes.specs.Fields.{◌&◌, actor_field, are_in_range, byte_fie
 use Rattle.verb_bytes.specs.Spelling.{HasSpelling, deed_fields, item_fields, shown_fields, shown_kind}
 use Rattle.verb_bytes.proofs.Puts.{others_in_range}
 use Rattle.paradox.specs.declared.reports.Report.{Report}
-use Rattle.paradox.specs.Kept.{Kept, new_desk, performed, report_of, store_of}
+use Rattle.paradox.specs.Kept.{IsRun, Kept, Marks, marked, new_desk, passed, performed, report_of, snapshotted, store_of}
 use Rattle.repair_desk.specs.Repairs.{are_known, position}
 use Rattle.mail_cycle.specs.Asking.{Due, NoNumbers, NoPoint, Repeats, Rewinds, after_cycle, cycle_due, due_anew, due_at, due_by}
 use Rattle.mail_cycle.specs.Cycles.{Cycled, cycled_at, leaves_numbers}
@@ -32,7 +32,7 @@ use Rattle.mail_cycle.proofs.Lasting.{lasts_cycled, lasts_itself, lasts_on, last
 use Rattle.mail_cycle.proofs.Left.{left_due, left_revs}
 use Rattle.mail_desk.proofs.Timelines.{all_on, all_weaker, apart_on, below_on, others_below}
 use Rattle.house_text.specs.Beginning.{can_begin}
-use Rattle.time_desk.specs.Records.{after_cycle_record, after_due, after_item, after_record, after_records, agree, can_follow, can_rewind, first_state, is_formed, is_spelled, state}
+use Rattle.time_desk.specs.Records.{after_cycle_record, after_due, after_item, after_record, after_records, after_snapshot, agree, can_follow, can_keep, can_rewind, first_state, is_formed, is_spelled, is_true, state}
 use Rattle.time_desk.specs.Permanence.{IsSound, RevsBelow}
 use Rattle.time_desk.proofs.Beginnings.{begins_known}
 
@@ -57,6 +57,7 @@ begun_sound house conf can =
       house = good;
       aliases = begins_known house conf can;
       base = refl;
+      runs = refl;
       timeline = record { formed = tt; apart = tt };
       below = tt;
       named = opening-ids (opening house conf);
@@ -92,17 +93,22 @@ fresh_on : (stamps : List (BoxId × ℕ)) (number next : ℕ) → number ≡ nex
 fresh_on stamps number next is all [] = tt
 fresh_on stamps number next is all (r ∷ boxes) = (row_low stamps r.0 number next is all, fresh_on stamps number next is all boxes)
 
+-- the store stays what the items leave
+pub item_runs : (kept : Kept) (i : Item) → IsRun kept → IsRun (performed kept i)
+item_runs kept i runs = ap (λ (s : MailStore). (step s i).0) runs ∙ sym (run_joined kept.base kept.timeline (i ∷ []))
+
 pub item_sound : (kept : Kept) (i : Item) → IsSound kept → IsWellFormed kept.house i → i.number ≡ kept.next → IsSound (performed kept i)
 item_sound kept i sound formed number = record {
   house = sound.house;
   aliases = sound.aliases;
   base = sound.base;
+  runs = item_runs kept i sound.runs;
   timeline = record {
     formed = all_on (IsWellFormed kept.house) kept.timeline i sound.timeline.formed formed;
     apart = apart_on kept.timeline i sound.timeline.apart (others_below kept.next kept.timeline i sound.below number);
   };
   below = below_on kept.next kept.timeline i sound.below number;
-  named = after-ids i.number (step (store_of kept) i).0.boxes kept.stamps ∙ ap (λ (s : MailStore). map (λ (r : BoxId × Mailbox). r.0) s.boxes) (sym (run_joined kept.base kept.timeline (i ∷ [])));
+  named = after-ids i.number (step (store_of kept) i).0.boxes kept.stamps;
   fresh = fresh_on kept.stamps i.number kept.next number sound.fresh (step (store_of kept) i).0.boxes;
 }
 
@@ -189,6 +195,7 @@ module _ (kept : Kept) (at : ℕ) (ask : CycleAsk) (sound : IsSound kept) (known
           house = sound.house;
           aliases = sound.aliases;
           base = sound.base;
+          runs = refl;
           timeline = goes.timeline;
           below = goes.below;
           named = goes.named;
@@ -216,6 +223,35 @@ cycle_record kept new number at ask sound is = by (is_spelled (Cycle number at a
     by true false e is = absurd (cc is)
     by false can e is = absurd (cc is)
 
+-- ---- a snapshot
+
+-- what is known of the snapshots says nothing of the rest
+marks_follow : (kept : Kept) (marks : Marks) → IsSound kept → Follows kept (record kept { marks = marks })
+marks_follow kept marks sound =
+    let same = lasts_itself kept in
+    record {
+      sound = record {
+        house = sound.house;
+        aliases = sound.aliases;
+        base = sound.base;
+        runs = sound.runs;
+        timeline = sound.timeline;
+        below = sound.below;
+        named = sound.named;
+        fresh = sound.fresh;
+      };
+      revs = λ revs. revs;
+      lasts = record { next = same.next; stamps = same.stamps; texts = same.texts };
+    }
+
+snapshot_record_follows : (kept new : Kept) (items : ℕ) (conf : Conf) (rows : Boxes) → IsSound kept → after_snapshot kept items conf rows ≡ Some new → Follows kept new
+snapshot_record_follows kept new items conf rows sound is = by (is_spelled (Snapshot items conf rows) && can_keep kept items conf rows) (is_true kept (Snapshot items conf rows)) is
+  where
+    by : (can truth : Bool) → cond can (Some (cond truth (snapshotted kept) (record kept { marks = passed kept.marks }))) None ≡ Some new → Follows kept new
+    by true true e = let same : snapshotted kept ≡ new = cc e in subst (Follows kept) same (marks_follow kept (marked (length kept.timeline) kept.marks) sound)
+    by true false e = let same : record kept { marks = passed kept.marks } ≡ new = cc e in subst (Follows kept) same (marks_follow kept (passed kept.marks) sound)
+    by false truth e = absurd (cc e)
+
 -- ---- records
 
 pub record_follows : (kept new : Kept) (r : JournalRecord) → IsSound kept → after_record kept r ≡ Some new → Follows kept new
@@ -223,7 +259,7 @@ record_follows kept new (Verb item) sound is = item_record kept new (Verb item) 
 record_follows kept new (Operator number at act) sound is = item_record kept new (Operator number at act) (act_item number at act) (λ fits. refl) sound is
 record_follows kept new (Cycle number at ask) sound is = cycle_record kept new number at ask sound is
 record_follows kept new (Format house conf) sound is = absurd (cc is)
-record_follows kept new (Snapshot items conf rows) sound is = absurd (cc is)
+record_follows kept new (Snapshot items conf rows) sound is = snapshot_record_follows kept new items conf rows sound is
 
 follows_itself : (kept : Kept) → IsSound kept → Follows kept kept
 follows_itself kept sound = record { sound = sound; revs = λ revs. revs; lasts = lasts_itself kept }

@@ -4,22 +4,26 @@ use Rattle.std.proofs.lemmas.List.{map-append, take_all}
 use Rattle.std.proofs.lemmas.List.Concat.{flat_map-append}
 use Rattle.std.specs.Prelude.{option_and_then, if◌then◌else◌, IfOk, IfErr, slice_get}
 use Rattle.std.specs.List.{slice_range}
+use Rattle.verb_core.specs.declared.conf.Conf.{Conf}
 use Rattle.verb_core.specs.declared.item.Item.{Item}
+use Rattle.verb_core.specs.declared.mailbox.BoxId.{BoxId}
+use Rattle.verb_core.specs.declared.mailbox.Mailbox.{Mailbox}
 use Rattle.std.specs.Int.{w32, to_be_bytes}
 use Rattle.undo_outside.specs.Disk.{DiskTold}
 use Rattle.undo_outside.specs.Moments.{OnlyReads}
 use Rattle.verb_bytes.specs.declared.journal.JournalRecord.{JournalRecord}
+use Rattle.verb_bytes.specs.declared.journal.JournalRecord.TheVariants.{Snapshot}
 use Rattle.verb_bytes.specs.Spelling.{HasSpelling, Spells, record_bytes}
 use Rattle.seal_log.specs.declared.place.Place.{Place}
 use Rattle.seal_log.specs.Journal.{frame, sealed, LiesAt}
 use Rattle.seal_log.specs.Loading.{places_from}
 use Rattle.seal_log.specs.Settled.{Holds, IsSettled}
-use Rattle.paradox.specs.Kept.{Kept, performed}
+use Rattle.paradox.specs.Kept.{Kept, passed, performed, snapshotted}
 use Rattle.time_desk.specs.declared.fault.StartFault.{StartFault}
 use Rattle.time_desk.specs.declared.fault.StartFault.TheVariants.{NotFormatted, Damaged, Disk, NoMemory}
 use Rattle.time_desk.specs.Opening.{CanStand}
-use Rattle.time_desk.specs.Records.{after_item, after_record, after_records, can_follow, first_state, payloads_of, state}
-use Rattle.time_desk.specs.Standing.{BreaksFor, Enters, Fails, FailsPayload, FailsReading, LeadsTo, Performed, Performs, SpellsAll, SpellsNothing, StopsFor}
+use Rattle.time_desk.specs.Records.{after_item, after_kept, after_record, after_records, can_follow, can_keep, first_state, is_true, payloads_of, state}
+use Rattle.time_desk.specs.Standing.{BreaksFor, Enters, Fails, FailsPayload, FailsReading, LeadsTo, Performed, Performs, SpellsAll, SpellsNothing, StopsFor, kept_as}
 
 -- ---- what stays while a disk is read
 
@@ -118,6 +122,25 @@ after_entering kept item false new entered = ap (λ (b : Bool). if b then Some (
 pub item_after : (kept : Kept) (what : JournalRecord) (item : Item) (stood : Bool) (new : Kept) → HasSpelling what → Enters kept item stood new → Performs (after_item kept what item) stood new
 item_after kept what item stood new fits entered =
     subst (λ (b : Bool). Performs (if b && can_follow kept item then Some (performed kept item) else None) stood new) (sym fits) (after_entering kept item stood new entered)
+
+-- ---- a snapshot
+
+-- one that can follow stands, and is marked or passed
+pub snapshot_after : (kept new : Kept) (items : ℕ) (conf : Conf) (rows : List (BoxId × Mailbox)) (truth : Bool) → HasSpelling (Snapshot items conf rows) → can_keep kept items conf rows ≡ true
+    → truth ≡ is_true kept (Snapshot items conf rows) → new ≡ kept_as kept truth → after_record kept (Snapshot items conf rows) ≡ Some new
+snapshot_after kept new items conf rows truth spelled can is made =
+    ap (λ (b : Bool). if b && can_keep kept items conf rows then Some (after_kept kept (Snapshot items conf rows)) else None) spelled
+    ∙ ap (λ (b : Bool). if b then Some (after_kept kept (Snapshot items conf rows)) else None) can ∙ ap Some (chosen truth is ∙ sym made)
+  where
+    chosen : (b : Bool) → b ≡ is_true kept (Snapshot items conf rows) → after_kept kept (Snapshot items conf rows) ≡ kept_as kept b
+    chosen true e = ap (λ (b : Bool). if b then snapshotted kept else record kept { marks = passed kept.marks }) (sym e)
+    chosen false e = ap (λ (b : Bool). if b then snapshotted kept else record kept { marks = passed kept.marks }) (sym e)
+
+-- one that can't does not
+pub snapshot_none : (kept : Kept) (items : ℕ) (conf : Conf) (rows : List (BoxId × Mailbox)) → HasSpelling (Snapshot items conf rows) → can_keep kept items conf rows ≡ false → after_record kept (Snapshot items conf rows) ≡ None
+snapshot_none kept items conf rows spelled cant =
+    ap (λ (b : Bool). if b && can_keep kept items conf rows then Some (after_kept kept (Snapshot items conf rows)) else None) spelled
+    ∙ ap (λ (b : Bool). if b then Some (after_kept kept (Snapshot items conf rows)) else None) cant
 
 -- ---- the first record
 

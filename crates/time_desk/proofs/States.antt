@@ -46,7 +46,7 @@ BodiesHaveTexts = (house : House) (conf : Conf) (t : List Item) → IsTrue (is_h
 
 sound_texts : BodiesHaveTexts → (kept : Kept) → IsSound kept → all_bodies (has_text kept.timeline) (store_of kept).boxes ≡ true
 sound_texts texts kept sound =
-    subst (λ (s : MailStore). all_bodies (has_text kept.timeline) (run s kept.timeline).boxes ≡ true) (sym sound.base) (texts kept.house kept.opening kept.timeline sound.house sound.aliases sound.timeline.formed)
+    subst (λ (s : MailStore). all_bodies (has_text kept.timeline) s.boxes ≡ true) (ap (λ (s : MailStore). run s kept.timeline) (sym sound.base) ∙ sym sound.runs) (texts kept.house kept.opening kept.timeline sound.house sound.aliases sound.timeline.formed)
 
 pub one_message_kept : BodiesHaveTexts → (a b : Kept) (id : BoxId) (stamp uid : ℕ) (m n : Message) → IsSound a → RevsBelow a → IsSound b → UidsLast a b → message_at a id stamp uid ≡ Some m → message_at b id stamp uid ≡ Some n → m ≡ n
 one_message_kept texts a b id stamp uid m n old revs new lasts =

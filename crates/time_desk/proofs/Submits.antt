@@ -59,13 +59,13 @@ some_after what bytes kept next made = subst IsSome (sym made.can_stand) refl
 
 module _ {D X : Type 0} (told : D → DiskTold) where
   -- a record was not sealed
-  pub not_sealed : (what : JournalRecord) (bytes : List ℕ) (next : Kept) (before after : Held) (old new : JournalTold D) (fault : SealFault) → IsRecordTo what bytes before.kept next → after.kept ≡ before.kept → after.notes ≡ before.notes
+  pub not_sealed : (what : JournalRecord) (bytes : List ℕ) (next : Kept) (before after : Held) (old new : JournalTold D) (fault : SealFault) → IsRecordTo what bytes before.kept next → after.kept ≡ before.kept → after.notes ≡ before.notes → after.marks ≡ before.marks
       → old.closed ≡ false → SealsBytes {X = X} told bytes old new (Err fault) → SealsNone told what (lasting before old) (lasting after new) fault
-  not_sealed what bytes next before after old new log_faults.Disk made kept notes open_ sealed =
-      seals_failed told what bytes before after old new made.bytes_are (sealed.failed refl) open_ (sealed.closes refl) kept notes (some_after what bytes before.kept next made) sealed.held
-  not_sealed what bytes next before after old new log_faults.NoMemory made kept notes open_ sealed =
-      seals_none told before after old new (sealed.no_memory refl) open_ (sealed.open_again refl) kept notes
-  not_sealed what bytes next before after old new log_faults.Closed made kept notes open_ sealed = sealed.never refl
+  not_sealed what bytes next before after old new log_faults.Disk made kept notes marks open_ sealed =
+      seals_failed told what bytes before after old new made.bytes_are (sealed.failed refl) open_ (sealed.closes refl) kept notes marks (some_after what bytes before.kept next made) sealed.held
+  not_sealed what bytes next before after old new log_faults.NoMemory made kept notes marks open_ sealed =
+      seals_none told before after old new (sealed.no_memory refl) open_ (sealed.open_again refl) kept notes marks
+  not_sealed what bytes next before after old new log_faults.Closed made kept notes marks open_ sealed = sealed.never refl
 
 module _ {D : Type 0} (told : D → DiskTold) where
   -- ---- asks
@@ -78,22 +78,22 @@ module _ {D : Type 0} (told : D → DiskTold) where
 
   -- of the desk before room was made, by what is due
   pub submits_none_from : (due : Result Item Refused) (item : Item) (before after : Held) (journal : JournalTold D) (new : Lasting D) (result : Result Item SubmitFault)
-      → due ≡ Ok item → after.kept ≡ before.kept → after.notes ≡ before.notes → journal.closed ≡ false → IfErr result (λ fault. SubmitsNone told (Ok item) (lasting after journal) new fault)
+      → due ≡ Ok item → after.kept ≡ before.kept → after.notes ≡ before.notes → after.marks ≡ before.marks → journal.closed ≡ false → IfErr result (λ fault. SubmitsNone told (Ok item) (lasting after journal) new fault)
       → IfErr result (λ fault. SubmitsNone told due (lasting before journal) new fault)
-  submits_none_from due item before after journal new (Ok x) is same notes still none = tt
-  submits_none_from due item before after journal new (Err (ask_faults.Refused why)) is same notes still (open_, refusal, nothing) =
-      (open_, subst (λ (d : Result Item Refused). IsRefusal why d) (sym is) refusal, seals_from told [] [] before after journal new same notes nothing)
-  submits_none_from due item before after journal new (Err ask_faults.Disk) is same notes still (open_, (other, due_is, failed)) =
-      (open_, (other, is ∙ due_is, seals_from told [] (Verb other ∷ []) before after journal new same notes failed))
-  submits_none_from due item before after journal new (Err ask_faults.Closed) is same notes still (shut, unchanged) = absurd (cc (still, shut))
+  submits_none_from due item before after journal new (Ok x) is same notes marks still none = tt
+  submits_none_from due item before after journal new (Err (ask_faults.Refused why)) is same notes marks still (open_, refusal, nothing) =
+      (open_, subst (λ (d : Result Item Refused). IsRefusal why d) (sym is) refusal, seals_from told [] [] before after journal new same notes marks nothing)
+  submits_none_from due item before after journal new (Err ask_faults.Disk) is same notes marks still (open_, (other, due_is, failed)) =
+      (open_, (other, is ∙ due_is, seals_from told [] (Verb other ∷ []) before after journal new same notes marks failed))
+  submits_none_from due item before after journal new (Err ask_faults.Closed) is same notes marks still (shut, unchanged) = absurd (cc (still, shut))
 
   -- ---- acts
 
   pub acts_none : (at : ℕ) (act : Act) (before after : Held) (journal : JournalTold D) (new : Lasting D) (fault : SealFault) (out : ActFault)
-      → after.kept ≡ before.kept → after.notes ≡ before.notes → journal.closed ≡ false → before.kept.next < 4194304 → IsActOutcomeOf fault out
+      → after.kept ≡ before.kept → after.notes ≡ before.notes → after.marks ≡ before.marks → journal.closed ≡ false → before.kept.next < 4194304 → IsActOutcomeOf fault out
       → SealsNone told (Operator before.kept.next at act) (lasting after journal) new fault → ActsNone told at act (lasting before journal) new out
-  acts_none at act before after journal new log_faults.Disk out same notes open_ left is none =
-      subst (ActsNone told at act (lasting before journal) new) (sym is) (open_, left, seals_from told [] (Operator before.kept.next at act ∷ []) before after journal new same notes none)
-  acts_none at act before after journal new log_faults.NoMemory out same notes open_ left is none =
-      subst (ActsNone told at act (lasting before journal) new) (sym is) (open_, left, seals_from told [] [] before after journal new same notes none)
-  acts_none at act before after journal new log_faults.Closed out same notes open_ left is none = absurd none
+  acts_none at act before after journal new log_faults.Disk out same notes marks open_ left is none =
+      subst (ActsNone told at act (lasting before journal) new) (sym is) (open_, left, seals_from told [] (Operator before.kept.next at act ∷ []) before after journal new same notes marks none)
+  acts_none at act before after journal new log_faults.NoMemory out same notes marks open_ left is none =
+      subst (ActsNone told at act (lasting before journal) new) (sym is) (open_, left, seals_from told [] [] before after journal new same notes marks none)
+  acts_none at act before after journal new log_faults.Closed out same notes marks open_ left is none = absurd none

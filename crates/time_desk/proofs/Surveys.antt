@@ -109,9 +109,10 @@ module _ (image : List ℕ) (disk : DiskTold) (gate : ℕ) (places : List Place)
   }
 
   -- the texts that were noted lie in them
-  pub whole_texts : (new : DiskTold) (is_cut : Bool) (seen : IsSurveyed image disk gate places is_cut) (kept : Kept) (notes : List (Body × Note)) → OnlyReads disk new → is_cut ≡ false → TextsHeld new seen.payloads kept notes → SettledTexts new gate kept notes
-  whole_texts new true seen kept notes reads shut all = absurd (cc shut)
-  whole_texts new false seen kept notes reads shut all = record { payloads = seen.payloads; texts = all; settled = settled_on disk new gate seen.payloads reads seen.ends.2 }
+  pub whole_texts : (new : DiskTold) (is_cut : Bool) (seen : IsSurveyed image disk gate places is_cut) (kept : Kept) (notes : List (Body × Note)) (marks : List (ℕ × Place)) → OnlyReads disk new → is_cut ≡ false → TextsHeld new seen.payloads kept notes marks
+      → SettledTexts new gate kept notes marks
+  whole_texts new true seen kept notes marks reads shut all = absurd (cc shut)
+  whole_texts new false seen kept notes marks reads shut all = record { payloads = seen.payloads; texts = all; settled = settled_on disk new gate seen.payloads reads seen.ends.2 }
 
 -- ---- a disk that was surveyed, and then read
 

@@ -20,22 +20,17 @@ use Rattle.verb_bytes.specs.declared.journal.CycleAsk.{CycleAsk}
 use Rattle.shelf.specs.declared.note.Note.{Note}
 use Rattle.shelf.specs.Notes.{LiesBefore, note_of}
 use Rattle.repair_desk.specs.Repairs.{inserted, is_dropped, kept, new_timeline, repaired, replaced_by, takes_text, text_asked}
-use Rattle.mail_cycle.specs.declared.refused.CycleRefused.{CycleRefused}
-use Rattle.mail_cycle.specs.declared.refused.CycleRefused.TheVariants as refusals
-use Rattle.mail_cycle.specs.declared.settling.Rewound.{Rewound}
-use Rattle.mail_cycle.specs.Asking.{IsRewinds, due_anew}
 use Rattle.mail_cycle.specs.Cycles.{repaired_items}
 use Rattle.mail_cycle.specs.Hearing.{Counts, HoldsOf, StoresOf, TellsAll, TellsOf}
-use Rattle.mail_cycle.specs.Refusing.{CountsReads}
 use Rattle.paradox.specs.Kept.{Kept}
 use Rattle.verb_core.specs.declared.bodies.BodiesFault.{BodiesFault}
 use Rattle.verb_core.specs.declared.bodies.BodiesFault.TheVariants as bodies_faults
-use Rattle.time_desk.specs.Cycling.{RedoesCause}
 use Rattle.time_desk.specs.Planning.{BodiesCause}
 use Rattle.mail_desk.specs.Held.{Held}
 use Rattle.mail_desk.specs.Timeline.{SizesOf, body_of, has_text, item_of, noted_of, notice_text_of, notice_told_by, told_by}
 use Rattle.mail_desk.proofs.BodyTexts.{text_by_item}
 use Rattle.time_desk.specs.Stored.{HasNote, IsBefore, IsStored, NotedBefore, TextsHeld, recorded_in}
+use Rattle.time_desk.specs.Serving.{unmarked}
 use Rattle.time_desk.specs.declared.reading.Reading.{Reading}
 use Rattle.time_desk.specs.Telling.{HoldsHeld, LeadsOn, reading_told, asked_of, is_readable, is_told, text_told}
 
@@ -310,6 +305,8 @@ held_on old new held reads holds = (
     held = record { honest = reads.honest holds.1.held.honest; front = λ c image. holds.1.held.front c (reads.images holds.1.held.honest c image) };
     lie = holds.1.lie;
     revs = holds.1.revs;
+    runs = holds.1.runs;
+    marks = holds.1.marks;
   },
 )
 
@@ -363,11 +360,13 @@ module _ {D : Type 0} (told : D → DiskTold) where
 
   -- all that a cycle performs is told, and all that leads to a place of the timeline
   pub tells_repaired_items : (r : Reading D) (disk : D) (held : Held) (gate at : ℕ) (ask : CycleAsk) (before : Kept) → r.disk.now ≡ disk → r.end ≡ gate → r.desk.now ≡ held → r.replaces.now ≡ ask.replaces → r.cycle ≡ held.kept.next → r.failed ≡ 0
-      → before ≡ held.kept → NumbersApart held.kept.timeline → gate < (told disk).size → NotedBefore gate held.notes held.kept.timeline → (place : ℕ) → TellsAll (reading_told told r) (repaired_items before at ask place)
-  tells_repaired_items r disk held gate at ask before disk_is end_is held_is replaces_are cycle_is none same apart within noted place =
-      subst (λ (k : Kept). TellsAll (reading_told told r) (repaired_items k at ask place)) (sym same)
+      → before ≡ unmarked held.kept → NumbersApart held.kept.timeline → gate < (told disk).size → NotedBefore gate held.notes held.kept.timeline → (place count : ℕ)
+      → TellsAll (reading_told told r) (drop count (repaired_items before at ask place))
+  tells_repaired_items r disk held gate at ask before disk_is end_is held_is replaces_are cycle_is none same apart within noted place count =
+      subst (λ (k : Kept). TellsAll (reading_told told r) (drop count (repaired_items k at ask place))) (sym same)
+      (all_dropped (TellsOf (reading_told told r)) count (repaired_items held.kept at ask place)
       (subst (λ (t : BodiesTold). TellsAll t (repaired_items held.kept at ask place)) (sym (told_as r disk held gate held.kept.next ask.replaces disk_is end_is held_is replaces_are cycle_is none))
-      (tells_cycle held gate (told disk).size at ask (HoldsHeld (told disk) held) 0 apart within noted (λ holds. holds.1.revs) place))
+      (tells_cycle held gate (told disk).size at ask (HoldsHeld (told disk) held) 0 apart within noted (λ holds. holds.1.revs) place)))
 
   pub tells_timeline : (r : Reading D) (disk : D) (held : Held) (gate : ℕ) (replaces : List (ℕ × List ℕ)) → r.disk.now ≡ disk → r.end ≡ gate → r.desk.now ≡ held → r.replaces.now ≡ replaces → r.cycle ≡ held.kept.next → r.failed ≡ 0
       → NumbersApart held.kept.timeline → gate < (told disk).size → NotedBefore gate held.notes held.kept.timeline → TellsAll (reading_told told r) held.kept.timeline
@@ -376,15 +375,7 @@ module _ {D : Type 0} (told : D → DiskTold) where
       (subst (TellsAll (told_over (told disk) held gate held.kept.next replaces)) (take_all held.kept.timeline)
       (tells_front held gate (told disk).size held.kept.next replaces (HoldsHeld (told disk) held) 0 apart within noted (λ holds. holds.1.revs) (length held.kept.timeline)))
 
-  -- a read failed exactly where a cycle, or another use of a reading, says so
-  pub redoes_cause : (old new : Reading D) (result : Result Rewound CycleRefused) → LeadsOn told old new → old.failed ≡ 0 → CountsReads (reading_told told old) (reading_told told new) result
-      → RedoesCause (told old.disk.now) (told new.disk.now) result
-  redoes_cause old new (Ok made) leads none same = none_failed old new leads none same
-  redoes_cause old new (Err (refusals.Point given)) leads none same = none_failed old new leads none same
-  redoes_cause old new (Err (refusals.Numbers next)) leads none same = none_failed old new leads none same
-  redoes_cause old new (Err refusals.Disk) leads none rose = one_failed old new leads none rose
-  redoes_cause old new (Err refusals.NoMemory) leads none same = none_failed old new leads none same
-
+  -- a read failed exactly where a use of a reading says so
   pub bodies_cause : {X : Type 0} (old new : Reading D) (result : Result X BodiesFault) → LeadsOn told old new → old.failed ≡ 0 → Counts (reading_told told old) (reading_told told new) result
       → BodiesCause (told old.disk.now) (told new.disk.now) result
   bodies_cause old new (Ok x) leads none same = none_failed old new leads none same
@@ -393,11 +384,3 @@ module _ {D : Type 0} (told : D → DiskTold) where
 
   pub honest_as : (r : Reading D) (disk : D) (held : Held) → r.disk.now ≡ disk → r.desk.now ≡ held → HoldsHeld (told disk) held → HoldsHeld (told r.disk.now) r.desk.now
   honest_as r disk held disk_is held_is holds = subst (λ (h : Held). HoldsHeld (told r.disk.now) h) (sym held_is) (subst (λ (d : D). HoldsHeld (told d) held) (sym disk_is) holds)
-
-  -- a reading that was not read leaves the disk as it was
-  pub still_disk : {T : Type 0} (result : Result T CycleRefused) (at : ℕ) (ask : CycleAsk) (before kept : Kept) → before ≡ kept → (old new : Reading D) (disk last : D)
-      → IfErr result (λ refused. (IsRewinds (due_anew before at ask) → ⊥) → new ≡ old) → old.disk.now ≡ disk → last ≡ new.disk.now
-      → IfErr result (λ refused. (IsRewinds (due_anew kept at ask) → ⊥) → last ≡ disk)
-  still_disk (Ok made) at ask before kept same old new disk last untouched disk_is last_is = tt
-  still_disk (Err why) at ask before kept same old new disk last untouched disk_is last_is = λ none.
-      last_is ∙ ap (λ (r : Reading D). r.disk.now) (untouched (λ due. none (subst (λ (k : Kept). IsRewinds (due_anew k at ask)) same due))) ∙ disk_is

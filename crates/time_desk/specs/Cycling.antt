@@ -1,5 +1,5 @@
 -- What becomes of a request for a cycle.
-use Rattle.std.specs.Prelude.{◌≡◌, ◌⊎◌, ◌<◌, ◌≤◌, ℕ, false, [], ◌∷◌, ◌++◌, List, map, None, Result, Ok, Err, IsTrue}
+use Rattle.std.specs.Prelude.{◌≡◌, ◌⊎◌, ◌<◌, ◌≤◌, ◌+◌, ◌-◌, ℕ, false, [], ◌∷◌, ◌++◌, List, length, map, None, Result, Ok, Err, IsTrue}
 use Rattle.std.specs.List.{AllByRecursion}
 use Rattle.undo_outside.specs.Disk.{DiskTold, ReadFailed}
 use Rattle.verb_core.specs.declared.item.Item.{Item}
@@ -7,13 +7,12 @@ use Rattle.verb_core.specs.declared.mailbox.Body.{Body}
 use Rattle.verb_core.specs.declared.mailbox.BoxId.{BoxId}
 use Rattle.verb_core.specs.declared.mailbox.Mailbox.{Mailbox}
 use Rattle.verb_core.specs.Items.{IsTimeline}
-use Rattle.verb_core.specs.Step.{run}
 use Rattle.verb_core.specs.Store.{IsValid}
 use Rattle.verb_bytes.specs.declared.journal.CycleAsk.{CycleAsk}
 use Rattle.verb_bytes.specs.declared.journal.JournalRecord.TheVariants.{Cycle}
 use Rattle.verb_bytes.specs.Spelling.{record_bytes}
 use Rattle.paradox.specs.declared.reports.Report.{Report}
-use Rattle.paradox.specs.Kept.{Kept, report_of}
+use Rattle.paradox.specs.Kept.{Kept, newest_at, report_of, rewound}
 use Rattle.mail_cycle.specs.Asking.{Due, IsRewinds, Repeats, NoPoint, NoNumbers, Rewinds, after_cycle, cycle_due, due_anew}
 use Rattle.mail_cycle.specs.Cycles.{Cycled}
 use Rattle.mail_cycle.specs.Leaving.{IsMade, Leaves}
@@ -24,6 +23,7 @@ use Rattle.seal_log.specs.declared.place.Place.{Place}
 use Rattle.shelf.specs.declared.note.Note.{Note}
 use Rattle.mail_desk.specs.declared.noting.Fresh.{Fresh}
 use Rattle.mail_desk.specs.Held.{Held}
+use Rattle.mail_desk.specs.Timeline.{all_bodies, has_text}
 use Rattle.seal_log.specs.declared.fault.SealFault.{SealFault}
 use Rattle.seal_log.specs.declared.fault.SealFault.TheVariants as log_faults
 use Rattle.time_desk.specs.declared.fault.CycleFault.{CycleFault}
@@ -48,9 +48,10 @@ RedoesCause old new (Err (refusals.Numbers next)) = new.failed_reads ≡ old.fai
 RedoesCause old new (Err refusals.Disk) = ReadFailed old new
 RedoesCause old new (Err refusals.NoMemory) = new.failed_reads ≡ old.failed_reads
 
--- what is left in memory can be put in the place of what is kept
+-- what is left in memory can be put in the place of what is kept: each mailbox's texts are in force
 pub record IsFit (kept : Kept) (made : Rewound) : Type 0 where
-  pub store : made.store.store ≡ run kept.base made.timeline
+  pub house : made.store.store.house ≡ kept.house
+  pub texts : IsTrue (all_bodies (has_text made.timeline) made.store.store.boxes)
   pub valid : IsValid made.store.store
   pub timeline : IsTimeline kept.house made.timeline
   pub below : AllByRecursion (λ (i : Item). i.number < made.next) made.timeline
@@ -58,14 +59,18 @@ pub record IsFit (kept : Kept) (made : Rewound) : Type 0 where
   pub fresh : AllByRecursion (λ (r : BoxId × ℕ). r.1 < made.next) made.stamps
   pub rises : kept.next < made.next
   pub next : made.next ≤ 4194304
+  pub place : made.place ≤ length kept.timeline
+  pub entered : kept.next + made.entered < made.next
 
 -- what is kept where it is put in place, under a key
 abbrev pub after_rewound : Kept → List ℕ → Rewound → Kept
 after_rewound kept key made = record kept {
+  store = made.store.store;
   timeline = made.timeline;
   stamps = made.stamps;
   next = made.next;
   reports = kept.reports ++ (key, made.report) ∷ [];
+  marks = rewound made.place made.entered kept.marks;
 }
 
 -- where the texts lie after a cycle whose record is to lie at a place
@@ -103,6 +108,12 @@ TriesNone kept at ask old new NoMemory = IsRewinds (due_anew kept at ask)
 TriesNone kept at ask old new Closed = ⊥
 
 -- ---- a cycle
+
+-- how many items a cycle performs at most: those through the point behind the newest snapshot there, the acts that come in, the
+-- later items that stay, and the notices
+abbrev pub most_performed : Kept → CycleAsk → Cycled → ℕ
+most_performed kept ask due =
+    (due.place - newest_at due.place kept.marks.places) + length ask.inserts + due.report.kept + length due.report.notices
 
 module _ {D : Type 0} (told : D → DiskTold) where
   -- By what is due: a key that a cycle had is answered with that cycle's report, and nothing changes; else the one record of

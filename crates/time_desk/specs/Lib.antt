@@ -9,6 +9,7 @@ pub mod Telling
 pub mod Going
 pub mod Submitting
 pub mod Cycling
+pub mod Serving
 pub mod Planning
 pub mod Opening
 pub mod Standing

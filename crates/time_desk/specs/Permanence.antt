@@ -13,7 +13,7 @@ use Rattle.verb_core.specs.Fates.{HasOneFate, times_given}
 use Rattle.verb_core.specs.Items.{IsTimeline, text_of}
 use Rattle.verb_core.specs.Step.{run}
 use Rattle.verb_core.specs.Store.{is_house, is_known, opening}
-use Rattle.paradox.specs.Kept.{Kept, stamp_at, store_of}
+use Rattle.paradox.specs.Kept.{IsRun, Kept, stamp_at, store_of}
 
 -- ---- messages by UID
 
@@ -40,12 +40,13 @@ message_at kept id stamp uid = if has_stamp kept id stamp then option_map (messa
 
 -- ---- what holds of all that is kept
 
--- It began with the opening store of a house; its items are well formed, with distinct numbers below the next one; its stamps
--- name the mailboxes, and are below the next number too.
+-- It began with the opening store of a house, and the store is what its items leave; they are well formed, with distinct numbers
+-- below the next one; its stamps name the mailboxes, and are below the next number too.
 pub record IsSound (kept : Kept) : Type 0 where
   pub house : IsTrue (is_house kept.house)
   pub aliases : IsTrue (list_all (λ a. list_all (is_known kept.house) a.users) kept.opening.aliases)
   pub base : kept.base ≡ opening kept.house kept.opening
+  pub runs : IsRun kept
   pub timeline : IsTimeline kept.house kept.timeline
   pub below : AllByRecursion (λ (i : Item). i.number < kept.next) kept.timeline
   pub named : map (λ (r : BoxId × ℕ). r.0) kept.stamps ≡ map (λ (r : BoxId × Mailbox). r.0) (store_of kept).boxes

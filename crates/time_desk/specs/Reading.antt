@@ -38,6 +38,7 @@ pub record HaveRead {D : Type 0} (told : D → DiskTold) (old new : Lasting D) (
 pub record IsStill {D : Type 0} (told : D → DiskTold) (old new : Lasting D) : Type 0 where
   pub kept : new.kept ≡ old.kept
   pub notes : new.notes ≡ old.notes
+  pub marks : new.marks ≡ old.marks
   pub room : new.room ≡ old.room
   pub gate : new.gate ≡ old.gate
   pub closed : new.closed ≡ old.closed

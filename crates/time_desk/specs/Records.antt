@@ -1,9 +1,12 @@
 -- Records, what they leave one after the other, and when one can stand.
-use Rattle.std.specs.Prelude.{◌≡◌, ℕ, ◌==◌, nat_lt, Bool, true, false, ◌&&◌, not, List, [], ◌∷◌, map, length, nat_le, is_some, Option, Some, None, option_and_then, if◌then◌else◌}
+use Rattle.std.specs.Prelude.{◌≡◌, ℕ, ◌==◌, nat_lt, bytes_eq, Bool, true, false, ◌&&◌, not, List, [], ◌∷◌, map, length, nat_le, is_some, Option, Some, None, option_and_then, if◌then◌else◌}
 use Rattle.std.specs.List.{list_all, cons_option}
 use Rattle.verb_core.specs.Deeds.{act_item}
+use Rattle.verb_core.specs.declared.conf.Conf.{Conf}
 use Rattle.verb_core.specs.declared.conf.House.{House}
 use Rattle.verb_core.specs.declared.item.Item.{Item}
+use Rattle.verb_core.specs.declared.mailbox.BoxId.{BoxId}
+use Rattle.verb_core.specs.declared.mailbox.Mailbox.{Mailbox}
 use Rattle.verb_core.specs.Items.{is_own, users_in, keys_in, has_form}
 use Rattle.verb_core.specs.Store.{is_known}
 use Rattle.verb_bytes.specs.declared.journal.CycleAsk.{CycleAsk}
@@ -12,7 +15,8 @@ use Rattle.verb_bytes.specs.declared.journal.JournalRecord.TheVariants.{Format, 
 use Rattle.verb_bytes.specs.Fields.{are_in_range}
 use Rattle.verb_bytes.specs.Spelling.{record_bytes, record_fields}
 use Rattle.seal_log.specs.Journal.{StandsFor}
-use Rattle.paradox.specs.Kept.{Kept, new_desk, performed}
+use Rattle.box_store.specs.Making.{makes_store}
+use Rattle.paradox.specs.Kept.{Kept, new_desk, passed, performed, snapshotted, store_of}
 use Rattle.repair_desk.specs.Repairs.{are_known}
 use Rattle.mail_cycle.specs.Asking.{Due, Repeats, NoPoint, NoNumbers, Rewinds, after_cycle, cycle_due}
 use Rattle.house_text.specs.Beginning.{can_begin}
@@ -59,13 +63,34 @@ abbrev pub after_cycle_record : Kept → ℕ → ℕ → CycleAsk → Option Kep
 after_cycle_record kept number at ask =
     if is_spelled (Cycle number at ask) && can_rewind kept number ask then after_due kept ask (cycle_due kept at ask) else None
 
+-- the snapshot of what is kept: how many items are in force, and the store that they leave
+abbrev pub snapshot_record : Kept → JournalRecord
+snapshot_record kept = Snapshot (length kept.timeline) (store_of kept).conf (store_of kept).boxes
+
+-- whether a snapshot can follow: it is of as many items as are in force, and makes a store of the house
+abbrev pub can_keep : Kept → ℕ → Conf → List (BoxId × Mailbox) → Bool
+can_keep kept items conf rows = (items == length kept.timeline) && makes_store kept.house conf rows
+
+-- whether a snapshot is true: its bytes are those of the snapshot of what is kept
+abbrev pub is_true : Kept → JournalRecord → Bool
+is_true kept what = bytes_eq (record_bytes what) (record_bytes (snapshot_record kept))
+
+-- what is kept after a snapshot that can stand: a cycle can begin from it where it is true, and else it is passed
+abbrev pub after_kept : Kept → JournalRecord → Kept
+after_kept kept what = if is_true kept what then snapshotted kept else record kept { marks = passed kept.marks }
+
+-- what is kept after a snapshot, where it can stand
+abbrev pub after_snapshot : Kept → ℕ → Conf → List (BoxId × Mailbox) → Option Kept
+after_snapshot kept items conf rows =
+    if is_spelled (Snapshot items conf rows) && can_keep kept items conf rows then Some (after_kept kept (Snapshot items conf rows)) else None
+
 -- what is kept after one more record; none where it can't stand
 abbrev pub after_record : Kept → JournalRecord → Option Kept
 after_record kept (Verb item) = after_item kept (Verb item) item
 after_record kept (Operator number at act) = after_item kept (Operator number at act) (act_item number at act)
 after_record kept (Format house conf) = None
 after_record kept (Cycle number at ask) = after_cycle_record kept number at ask
-after_record kept (Snapshot items conf rows) = None
+after_record kept (Snapshot items conf rows) = after_snapshot kept items conf rows
 
 -- ---- many
 

@@ -13,7 +13,10 @@ use Rattle.verb_bytes.specs.declared.journal.JournalRecord.TheVariants.{Format, 
 use Rattle.verb_bytes.specs.Spelling.{Spells}
 use Rattle.undo_outside.specs.Disk.{DiskTold, ReadFailed}
 use Rattle.seal_log.specs.Journal.{sealed}
-use Rattle.paradox.specs.Kept.{new_desk, performed, Kept}
+use Rattle.seal_log.specs.declared.place.Place.{Place}
+use Rattle.shelf.specs.Marks.{with_mark}
+use Rattle.mail_desk.specs.Held.{Held}
+use Rattle.paradox.specs.Kept.{new_desk, passed, performed, snapshotted, Kept}
 use Rattle.house_text.specs.Beginning.{can_begin}
 use Rattle.time_desk.specs.declared.fault.StartFault.{StartFault}
 use Rattle.time_desk.specs.declared.fault.StartFault.TheVariants.{NotFormatted, Damaged, Disk, NoMemory}
@@ -52,6 +55,16 @@ has_users house i = is_actor house i.by i.deed && list_all (is_known house) (use
 abbrev pub Enters : Kept → Item → Bool → Kept → Type 0
 Enters kept item true new = (can_follow kept item ≡ true) × (new ≡ performed kept item)
 Enters kept item false new = can_follow kept item ≡ false
+
+-- what is kept after a snapshot that can stand, by whether it is true
+abbrev pub kept_as : Kept → Bool → Kept
+kept_as kept true = snapshotted kept
+kept_as kept false = record kept { marks = passed kept.marks }
+
+-- where the snapshots lie after one at a place
+abbrev pub marked_as : Held → Bool → Place → List (ℕ × Place)
+marked_as old true place = with_mark (length old.kept.timeline) place old.marks
+marked_as old false place = old.marks
 
 -- a record was performed where it can stand, and nothing was done where it can't
 abbrev pub Performs : Option Kept → Bool → Kept → Type 0

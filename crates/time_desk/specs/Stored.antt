@@ -1,5 +1,5 @@
 -- Where the texts of what is kept lie in the journal.
-use Rattle.std.specs.Prelude.{◌≡◌, ◌≤◌, ◌+◌, ℕ, false, List, length, Option, Some, None, if◌then◌else◌}
+use Rattle.std.specs.Prelude.{◌≡◌, ◌≤◌, ◌+◌, ℕ, false, List, length, take, Option, Some, None, if◌then◌else◌}
 use Rattle.std.specs.List.{AllByRecursion}
 use Rattle.undo_outside.specs.Disk.{DiskTold}
 use Rattle.verb_core.specs.Deeds.{is_notice}
@@ -7,8 +7,11 @@ use Rattle.verb_core.specs.Items.{text_in}
 use Rattle.verb_core.specs.declared.item.Item.{Item}
 use Rattle.verb_core.specs.declared.mailbox.Body.{Body}
 use Rattle.verb_bytes.specs.declared.journal.CycleAsk.{CycleAsk}
-use Rattle.verb_bytes.specs.declared.journal.JournalRecord.TheVariants.{Cycle}
-use Rattle.verb_bytes.specs.Spelling.{record_bytes}
+use Rattle.verb_core.specs.Step.{run}
+use Rattle.verb_core.specs.Store.{MailStore}
+use Rattle.verb_bytes.specs.declared.journal.JournalRecord.{JournalRecord}
+use Rattle.verb_bytes.specs.declared.journal.JournalRecord.TheVariants.{Cycle, Snapshot}
+use Rattle.verb_bytes.specs.Spelling.{HasSpelling, record_bytes}
 use Rattle.repair_desk.specs.Repairs.{inserted, text_asked}
 use Rattle.seal_log.specs.Journal.{LiesAt}
 use Rattle.seal_log.specs.Settled.{Holds, IsSettled}
@@ -19,7 +22,7 @@ use Rattle.mail_desk.specs.Held.{Held}
 use Rattle.mail_desk.specs.Noting.{renoted}
 use Rattle.mail_desk.specs.declared.noting.Fresh.{Fresh}
 use Rattle.mail_desk.specs.Timeline.{body_of}
-use Rattle.paradox.specs.Kept.{Kept}
+use Rattle.paradox.specs.Kept.{IsRun, Kept}
 use Rattle.time_desk.specs.Lasting.{Lasting}
 use Rattle.time_desk.specs.Permanence.{RevsBelow}
 
@@ -54,12 +57,45 @@ NotedBefore gate notes timeline = AllByRecursion (HasNote (IsBefore gate) notes)
 abbrev pub TextsLie : List (List ℕ) → List (Body × Note) → List Item → Type 0
 TextsLie payloads notes timeline = AllByRecursion (HasNote (IsStored payloads) notes) timeline
 
+-- ---- the snapshots
+
+-- the store that so many of the first items in force left
+abbrev pub store_at : Kept → ℕ → MailStore
+store_at kept count = run kept.base (take count kept.timeline)
+
+-- its snapshot
+abbrev pub snapshot_at : Kept → ℕ → JournalRecord
+snapshot_at kept count = Snapshot count (store_at kept count).conf (store_at kept count).boxes
+
+-- a snapshot is marked: so many items are in force, and the store that they left lies there, in a journal of these payloads
+pub record MarkLies (payloads : List (List ℕ)) (kept : Kept) (mark : ℕ × Place) : Type 0 where
+  pub within : mark.0 ≤ length kept.timeline
+  pub spelled : HasSpelling (snapshot_at kept mark.0)
+  pub lies : LiesAt payloads mark.1.gate mark.1.length (record_bytes (snapshot_at kept mark.0))
+
+-- each that is marked lies so
+abbrev pub MarksLie : List (List ℕ) → Kept → List (ℕ × Place) → Type 0
+MarksLie payloads kept marks = AllByRecursion (MarkLies payloads kept) marks
+
+-- each is marked in a payload that lies before a gate
+abbrev pub MarkedBefore : ℕ → List (ℕ × Place) → Type 0
+MarkedBefore gate marks = AllByRecursion (λ (m : ℕ × Place). m.1.gate + 5 + m.1.length ≤ gate) marks
+
+-- ---- an item
+
 -- What becomes of the notes when a record is performed whose bytes lie at a place before a gate: if each text was noted so,
 -- each is.
 pub record NotesTexts (gate : ℕ) (place : Place) (bytes : List ℕ) (old new : Held) : Type 0 where
   pub before : NotedBefore gate old.notes old.kept.timeline → NotedBefore gate new.notes new.kept.timeline
   pub lie : (payloads : List (List ℕ)) → LiesAt payloads place.gate place.length bytes → TextsLie payloads old.notes old.kept.timeline
       → TextsLie payloads new.notes new.kept.timeline
+
+-- What becomes of the marks when a record is performed whose bytes lie at a place before a gate: if each snapshot lay where it was
+-- marked, each does.
+pub record KeepsMarks (gate : ℕ) (place : Place) (bytes : List ℕ) (old new : Held) : Type 0 where
+  pub before : MarkedBefore gate old.marks → MarkedBefore gate new.marks
+  pub lie : (payloads : List (List ℕ)) → LiesAt payloads place.gate place.length bytes → IsRun old.kept → MarksLie payloads old.kept old.marks
+      → MarksLie payloads new.kept new.marks
 
 -- ---- a cycle
 
@@ -87,21 +123,24 @@ NotesCycle c at ask place old timeline new = (fresh : Fresh) × IsFresh c at ask
 
 -- ---- the disk
 
--- Each image of the disk begins with these payloads, and in them each text of what is kept lies where it is noted: what is
--- read is what was stored. So the disk is honest.
-pub record TextsHeld (disk : DiskTold) (payloads : List (List ℕ)) (kept : Kept) (notes : List (Body × Note)) : Type 0 where
+-- Each image of the disk begins with these payloads, and in them each text of what is kept lies where it is noted, and each
+-- snapshot where it is marked: what is read is what was stored, and the store is what the items in force leave. So the disk is
+-- honest.
+pub record TextsHeld (disk : DiskTold) (payloads : List (List ℕ)) (kept : Kept) (notes : List (Body × Note)) (snapshots : List (ℕ × Place)) : Type 0 where
   pub held : Holds disk payloads
   pub lie : TextsLie payloads notes kept.timeline
   pub revs : RevsBelow kept
+  pub runs : IsRun kept
+  pub marks : MarksLie payloads kept snapshots
 
 -- the disk holds the texts, and it is settled behind their payloads
-pub record SettledTexts (disk : DiskTold) (gate : ℕ) (kept : Kept) (notes : List (Body × Note)) : Type 0 where
+pub record SettledTexts (disk : DiskTold) (gate : ℕ) (kept : Kept) (notes : List (Body × Note)) (marks : List (ℕ × Place)) : Type 0 where
   pub payloads : List (List ℕ)
-  pub texts : TextsHeld disk payloads kept notes
+  pub texts : TextsHeld disk payloads kept notes marks
   pub settled : IsSettled disk gate payloads
 
 -- the disk holds the texts of a desk, and while the desk is open it is settled behind their payloads
 pub record HoldsTexts {D : Type 0} (told : D → DiskTold) (desk : Lasting D) : Type 0 where
   pub payloads : List (List ℕ)
-  pub texts : TextsHeld (told desk.disk) payloads desk.kept desk.notes
+  pub texts : TextsHeld (told desk.disk) payloads desk.kept desk.notes desk.marks
   pub settled : desk.closed ≡ false → IsSettled (told desk.disk) desk.gate payloads

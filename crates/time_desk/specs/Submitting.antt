@@ -1,4 +1,4 @@
--- What becomes of an ask and of an act.
+-- What becomes of an ask, of an act and of a snapshot.
 use Rattle.std.specs.Prelude.{◌≡◌, ◌≢◌, ℕ, ◌+◌, ◌<◌, true, false, List, [], ◌∷◌, length, Result, Ok, Err, OnOk, OnErr, IsErrOf, IsTrue}
 use Rattle.undo_outside.specs.Disk.{DiskTold}
 use Rattle.verb_core.specs.declared.ask.Refused.{Refused}
@@ -15,7 +15,9 @@ use Rattle.seal_log.specs.declared.fault.SealFault.TheVariants as log_faults
 use Rattle.time_desk.specs.declared.fault.ActFault.{ActFault}
 use Rattle.time_desk.specs.declared.fault.ActFault.TheVariants as act_faults
 use Rattle.seal_log.specs.Settled.{Holds, IsSettled}
+use Rattle.paradox.specs.Kept.{snapshotted}
 use Rattle.time_desk.specs.Lasting.{IsUnwritten, JournalTold, Lasting}
+use Rattle.time_desk.specs.Records.{snapshot_record}
 use Rattle.time_desk.specs.Sealing.{Seals, SealsPayloads}
 
 -- a fault of sealing, as a fault of an ask
@@ -86,3 +88,14 @@ module _ {D : Type 0} (told : D → DiskTold) where
   ActsNone at act old new act_faults.Disk = (old.closed ≡ false) × (old.kept.next < 4194304) × Seals told [] (Operator old.kept.next at act ∷ []) old new
   ActsNone at act old new act_faults.NoMemory = (old.closed ≡ false) × (old.kept.next < 4194304) × SealsNothing old new
   ActsNone at act old new act_faults.Closed = IsTrue old.closed × (new ≡ old)
+
+  -- A snapshot of what is kept was sealed, and marked; it is told how many items are in force.
+  abbrev pub Snapshots : Lasting D → Lasting D → ℕ → Type 0
+  Snapshots old new count =
+      (old.closed ≡ false) × (count ≡ length old.kept.timeline) × (new.kept ≡ snapshotted old.kept) × Seals told (snapshot_record old.kept ∷ []) [] old new
+
+  -- Why there is none: its sealing failed; or no memory was found; or the desk was closed, and stays as it was.
+  abbrev pub SnapshotsNone : Lasting D → Lasting D → SealFault → Type 0
+  SnapshotsNone old new log_faults.Disk = (old.closed ≡ false) × Seals told [] (snapshot_record old.kept ∷ []) old new
+  SnapshotsNone old new log_faults.NoMemory = (old.closed ≡ false) × SealsNothing old new
+  SnapshotsNone old new log_faults.Closed = IsTrue old.closed × (new ≡ old)

@@ -33,7 +33,7 @@ text_told held c replaces body = option_or (asked_of c replaces body) (text_of h
 
 -- the disk holds the texts of what is kept in memory
 abbrev pub HoldsHeld : DiskTold → Held → Type 0
-HoldsHeld disk held = (payloads : List (List ℕ)) × TextsHeld disk payloads held.kept held.notes
+HoldsHeld disk held = (payloads : List (List ℕ)) × TextsHeld disk payloads held.kept held.notes held.marks
 
 -- The disk was only read, and no more once a read failed: so many failed before, and so many after.
 pub record ReadsOn {D : Type 0} (told : D → DiskTold) (old new : D) (before after : ℕ) : Type 0 where

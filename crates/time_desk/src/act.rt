@@ -12,12 +12,11 @@ ghost use Rattle.mail_cycle.specs.Permanence.{UidsLast};
 ghost use Rattle.mail_desk.specs.Entering.{CanEnter};
 ghost use Rattle.time_desk.specs.Lasting.{lasting};
 ghost use Rattle.time_desk.specs.Sealing.{IsRecordOf, Seals};
-ghost use Rattle.time_desk.specs.Stored.{NotedBefore, NotesTexts};
+ghost use Rattle.time_desk.specs.Stored.{MarkedBefore, NotedBefore, NotesTexts};
 ghost use Rattle.time_desk.specs.Submitting.{ActsNone, IsActOutcomeOf, SealsBytes};
 ghost use Rattle.time_desk.specs.declared.fault.ActFault.TheVariants as act_faults;
 
 use crate::on_disk::Journal;
-use crate::permanence::records_let_uids_last;
 use crate::seal::seal_ready;
 use crate::spelling::act_bytes;
 use crate::{ActFault, Desk};
@@ -78,6 +77,7 @@ fn with_room(
     requires left { desk.old.kept.next < 4194304 }
     ensures kept { desk.new.kept ≡ desk.old.kept }
     ensures notes { desk.new.notes ≡ desk.old.notes }
+    ensures marks { desk.new.marks ≡ desk.old.marks }
     ensures item { IfOk result (λ found. found.ready.item ≡ item) }
     ensures bytes { IfOk result (λ found. found.bytes ≡ bytes) }
     ensures from { IfOk result (λ found. found.from ≡ from) }
@@ -103,6 +103,7 @@ fn ready_act(
     requires left { desk.old.kept.next < 4194304 }
     ensures kept { desk.new.kept ≡ desk.old.kept }
     ensures notes { desk.new.notes ≡ desk.old.notes }
+    ensures marks { desk.new.marks ≡ desk.old.marks }
     ensures item { IfOk result (λ found. found.ready.item ≡ act_item desk.old.kept.next at act) }
     ensures ready { IfOk result (λ found. CanEnter found.ready desk.new) }
     ensures lies { IfOk result (λ found. (text : List ℕ) → text_in (Acts act) ≡ Some text → IsTextAt found.bytes found.from text) }
@@ -144,6 +145,7 @@ fn seal_found<D: Disk>(
     ensures sealed { SealsBytes D.told found.bytes journal.old journal.new result }
     ensures performed { OnOk result (desk.new.kept ≡ performed desk.old.kept found.ready.item) }
     ensures noted { OnOk result (NotesTexts (journal.old.gate + 5 + length found.bytes) (record { gate = journal.old.gate; length = length found.bytes }) found.bytes desk.old desk.new) }
+    ensures marks { OnOk result (desk.new.marks ≡ desk.old.marks) }
     ensures same { OnErr result (desk.new ≡ desk.old) }
 {
     let FoundAct { ready, bytes, from } = found;
@@ -170,6 +172,7 @@ fn act_numbered<D: Disk>(
     ensures ok { OnOk result (Seals D.told (Operator desk.old.kept.next at act ∷ []) [] (lasting desk.old journal.old) (lasting desk.new journal.new)) }
     ensures performed { OnOk result (desk.new.kept ≡ performed desk.old.kept (act_item desk.old.kept.next at act)) }
     ensures noted { NotedBefore journal.old.gate desk.old.notes desk.old.kept.timeline → NotedBefore journal.new.gate desk.new.notes desk.new.kept.timeline }
+    ensures marked { MarkedBefore journal.old.gate desk.old.marks → MarkedBefore journal.new.gate desk.new.marks }
     ensures err { IfErr result (λ fault. ActsNone D.told at act (lasting desk.old journal.old) (lasting desk.new journal.new) fault) }
     ensures same { OnErr result (desk.new.kept ≡ desk.old.kept) }
     ensures not_closed { IsErrOf result ActFault.Closed → ⊥ }
@@ -198,6 +201,7 @@ fn act_open<D: Disk>(
     ensures ok { OnOk result (Seals D.told (Operator desk.old.kept.next at act ∷ []) [] (lasting desk.old journal.old) (lasting desk.new journal.new)) }
     ensures performed { OnOk result (desk.new.kept ≡ performed desk.old.kept (act_item desk.old.kept.next at act)) }
     ensures noted { NotedBefore journal.old.gate desk.old.notes desk.old.kept.timeline → NotedBefore journal.new.gate desk.new.notes desk.new.kept.timeline }
+    ensures marked { MarkedBefore journal.old.gate desk.old.marks → MarkedBefore journal.new.gate desk.new.marks }
     ensures err { IfErr result (λ fault. ActsNone D.told at act (lasting desk.old journal.old) (lasting desk.new journal.new) fault) }
     ensures same { OnErr result (desk.new.kept ≡ desk.old.kept) }
     ensures not_closed { IsErrOf result ActFault.Closed → ⊥ }
@@ -227,7 +231,6 @@ impl<D: Disk> Desk<D> {
         ensures uids { UidsLast self.old.kept self.new.kept }
     {
         self.stands();
-        records_let_uids_last();
         if self.journal.is_closed() {
             drop(act);
             return Err(ActFault::Closed);

@@ -3,19 +3,21 @@ ghost use Rattle.std.specs.Prelude.{◌≡◌, ◌<◌, ◌+◌, ◌≤◌, ℕ,
 ghost use Rattle.undo_outside.specs.Moments.{OnlyReads};
 ghost use Rattle.verb_bytes.specs.declared.journal.JournalRecord.TheVariants.{Cycle};
 ghost use Rattle.verb_bytes.specs.Spelling.{record_bytes};
+ghost use Rattle.shelf.specs.Marks.{marks_at_or_before};
 ghost use Rattle.paradox.specs.declared.reports.Report.{Report as TheReport};
 ghost use Rattle.paradox.specs.Kept.{report_of};
 ghost use Rattle.repair_desk.specs.Repairs.{are_known};
-ghost use Rattle.mail_cycle.specs.Asking.{IsRewinds, cycle_due, due_anew, Repeats};
+ghost use Rattle.mail_cycle.specs.Asking.{IsRewinds, Rewinds, cycle_due, due_anew, Repeats};
+ghost use Rattle.mail_cycle.specs.Cycles.{Cycled};
 ghost use Rattle.mail_cycle.specs.Leaving.{IsMade};
 ghost use Rattle.mail_cycle.specs.Permanence.{UidsLast};
 ghost use Rattle.mail_cycle.specs.Refusing.{IsRefusalOf};
 ghost use Rattle.mail_desk.specs.Remaking.{CanReplace, remade_as};
-ghost use Rattle.time_desk.specs.Cycling.{Cycles, CyclesAs, CyclesNone, IsCycleOutcomeOf, IsFit, IsTold, Redoes, RedoesCause, RenotesAs, Tries, TriesNone, after_rewound};
+ghost use Rattle.time_desk.specs.Cycling.{Cycles, CyclesAs, CyclesNone, IsCycleOutcomeOf, IsFit, IsTold, Redoes, RedoesCause, RenotesAs, Tries, TriesNone, after_rewound, most_performed};
 ghost use Rattle.time_desk.specs.Lasting.{lasting};
 ghost use Rattle.time_desk.specs.Reading.{IsStill};
 ghost use Rattle.time_desk.specs.Records.{is_spelled};
-ghost use Rattle.time_desk.specs.Stored.{HoldsTexts, NotedBefore, Renotes};
+ghost use Rattle.time_desk.specs.Stored.{HoldsTexts, MarkedBefore, NotedBefore, Renotes};
 ghost use Rattle.time_desk.specs.Submitting.{SealsBytes};
 ghost use Rattle.time_desk.specs.Telling.{HoldsHeld, IsOnlyRead};
 
@@ -113,9 +115,11 @@ fn ready_with(
     requires { IsFit desk.old.kept made }
     ensures kept { desk.new.kept ≡ desk.old.kept }
     ensures same { desk.new.notes ≡ desk.old.notes }
+    ensures same_marks { desk.new.marks ≡ desk.old.marks }
     ensures made { IfOk result (λ found. remade_as desk.old.kept found.remade ≡ after_rewound desk.old.kept key made) }
     ensures report { IfOk result (λ found. found.report ≡ made.report) }
     ensures notes { IfOk result (λ found. Renotes desk.old.notes fresh.now made.timeline found.remade.shelf.notes) }
+    ensures place { IfOk result (λ found. found.remade.place ≡ made.place) }
     ensures ready { IfOk result (λ found. CanReplace found.remade desk.new) }
     ensures bytes { IfOk result (λ found. found.bytes ≡ bytes) }
 {
@@ -140,9 +144,11 @@ fn ready_at(
     requires { IsFit desk.old.kept made }
     ensures kept { desk.new.kept ≡ desk.old.kept }
     ensures same { desk.new.notes ≡ desk.old.notes }
+    ensures same_marks { desk.new.marks ≡ desk.old.marks }
     ensures made { IfOk result (λ found. remade_as desk.old.kept found.remade ≡ after_rewound desk.old.kept ask.key made) }
     ensures report { IfOk result (λ found. found.report ≡ made.report) }
     ensures notes { (at : ℕ) → IfOk result (λ found. RenotesAs desk.old ask at place made found.remade.shelf.notes) }
+    ensures place { IfOk result (λ found. found.remade.place ≡ made.place) }
     ensures ready { IfOk result (λ found. CanReplace found.remade desk.new) }
     ensures bytes { IfOk result (λ found. found.bytes ≡ bytes) }
 {
@@ -169,9 +175,11 @@ fn ready_cycle<D: Disk>(
     requires { IsFit desk.old.kept made }
     ensures kept { desk.new.kept ≡ desk.old.kept }
     ensures same { desk.new.notes ≡ desk.old.notes }
+    ensures same_marks { desk.new.marks ≡ desk.old.marks }
     ensures made { IfOk result (λ found. remade_as desk.old.kept found.remade ≡ after_rewound desk.old.kept ask.key made) }
     ensures report { IfOk result (λ found. found.report ≡ made.report) }
     ensures notes { IfOk result (λ found. RenotesAs desk.old ask at (record { gate = journal.now.gate; length = length found.bytes }) made found.remade.shelf.notes) }
+    ensures place { IfOk result (λ found. found.remade.place ≡ made.place) }
     ensures ready { IfOk result (λ found. CanReplace found.remade desk.new) }
     ensures bytes { IfOk result (λ found. found.bytes ≡ record_bytes (Cycle desk.old.kept.next at ask)) }
     ensures spelled { OnOk result (IsTrue (is_spelled (Cycle desk.old.kept.next at ask))) }
@@ -202,6 +210,7 @@ fn seal_remade<D: Disk>(
     ensures sealed { SealsBytes D.told bytes.now journal.old journal.new result }
     ensures kept { OnOk result (desk.new.kept ≡ remade_as desk.old.kept remade) }
     ensures notes { OnOk result (desk.new.notes ≡ remade.shelf.notes) }
+    ensures marks { OnOk result (desk.new.marks ≡ marks_at_or_before remade.place desk.old.marks) }
     ensures same { OnErr result (desk.new ≡ desk.old) }
 {
     match seal_bytes(alloc, journal, bytes) {
@@ -229,6 +238,7 @@ fn seal_found<D: Disk>(
     ensures sealed { SealsBytes D.told found.bytes journal.old journal.new result }
     ensures kept { OnOk result (desk.new.kept ≡ remade_as desk.old.kept found.remade) }
     ensures notes { OnOk result (desk.new.notes ≡ found.remade.shelf.notes) }
+    ensures marks { OnOk result (desk.new.marks ≡ marks_at_or_before found.remade.place desk.old.marks) }
     ensures same { OnErr result (desk.new ≡ desk.old) }
 {
     let Found {
@@ -283,9 +293,11 @@ fn cycle_made<D: Disk>(
     requires anew { report_of desk.old.kept.reports ask.key ≡ None }
     requires fit { IsFit desk.old.kept made }
     requires noted { NotedBefore journal.old.gate desk.old.notes desk.old.kept.timeline }
+    requires marked { MarkedBefore journal.old.gate desk.old.marks }
     ensures done { (disk : D) → OnlyReads (D.told disk) (D.told journal.old.disk) → CyclesAs D.told (lasting desk.old (record journal.old { disk = disk })) at ask made
         → IfOk result (λ report. Cycles D.told at ask (lasting desk.old (record journal.old { disk = disk })) (lasting desk.new journal.new) report) }
     ensures noted { IsMade desk.old.kept at ask ⊥ made → NotedBefore journal.new.gate desk.new.notes desk.new.kept.timeline }
+    ensures marked { MarkedBefore journal.new.gate desk.new.marks }
     ensures timeline { OnOk result (desk.new.kept.timeline ≡ made.timeline) }
     ensures err { OnErr result (desk.new.kept ≡ desk.old.kept) }
     ensures why { (disk : D) → OnlyReads (D.told disk) (D.told journal.old.disk) → CyclesAs D.told (lasting desk.old (record journal.old { disk = disk })) at ask made
@@ -312,6 +324,7 @@ impl<D: Disk> Journal<D> {
         steps: &mut Steps<L>,
     ) -> Result<Rewound, CycleRefused>
         requires noted { NotedBefore self.old.gate desk.now.notes desk.now.kept.timeline }
+        requires marked { MarkedBefore self.old.gate desk.now.marks }
         requires moment { at ≤ LAST_MOMENT }
         requires known { IsTrue (are_known desk.now.kept.house ask.now.inserts) }
         ensures due { IfOk result (Redoes desk.now.kept at ask.now (HoldsHeld (D.told self.old.disk) desk.now)) }
@@ -321,6 +334,8 @@ impl<D: Disk> Journal<D> {
         ensures untouched { IfErr result (λ refused. (IsRewinds (due_anew desk.now.kept at ask.now) → ⊥) → self.new ≡ self.old) }
         ensures cause { RedoesCause (D.told self.old.disk) (D.told self.new.disk) result }
         ensures still { IsOnlyRead D.told self.old self.new }
+        ensures rewinds { (due : Cycled) → due_anew desk.now.kept at ask.now ≡ Rewinds due → HoldsHeld (D.told self.old.disk) desk.now
+            → OnOk result (steps.new ≤ steps.old + most_performed desk.now.kept ask.now due) }
         ensures steps { IfOk result (λ made. steps.new ≤ steps.old + length made.timeline) }
     {
         rewound(
@@ -343,6 +358,7 @@ impl<D: Disk> Journal<D> {
         ask: &CycleAsk,
     ) -> Result<Rewound, CycleRefused>
         requires noted { NotedBefore self.old.gate desk.now.notes desk.now.kept.timeline }
+        requires marked { MarkedBefore self.old.gate desk.now.marks }
         requires moment { at ≤ LAST_MOMENT }
         requires known { IsTrue (are_known desk.now.kept.house ask.now.inserts) }
         ensures due { IfOk result (Redoes desk.now.kept at ask.now (HoldsHeld (D.told self.old.disk) desk.now)) }
@@ -368,10 +384,14 @@ fn cycle_open<D: Disk, L: Ledger>(
     requires known { IsTrue (are_known desk.old.kept.house ask.inserts) }
     requires anew { report_of desk.old.kept.reports ask.key ≡ None }
     requires noted { NotedBefore journal.old.gate desk.old.notes desk.old.kept.timeline }
+    requires marked { MarkedBefore journal.old.gate desk.old.marks }
     ensures done { IfOk result (λ report. Cycles D.told at ask (lasting desk.old journal.old) (lasting desk.new journal.new) report) }
     ensures noted { NotedBefore journal.new.gate desk.new.notes desk.new.kept.timeline }
+    ensures marked { MarkedBefore journal.new.gate desk.new.marks }
     ensures err { OnErr result (desk.new.kept ≡ desk.old.kept) }
     ensures why { IfErr result (λ fault. CyclesNone D.told at ask (lasting desk.old journal.old) (lasting desk.new journal.new) fault) }
+    ensures rewinds { (due : Cycled) → due_anew desk.old.kept at ask ≡ Rewinds due → HoldsTexts D.told (lasting desk.old journal.old)
+        → OnOk result (steps.new ≤ steps.old + most_performed desk.old.kept ask due) }
     ensures steps { OnOk result (steps.new ≤ steps.old + length desk.new.kept.timeline) }
 {
     match journal.rewound(alloc, desk, at, &ask, steps) {
@@ -396,10 +416,14 @@ fn cycle_anew<D: Disk, L: Ledger>(
     requires known { IsTrue (are_known desk.old.kept.house ask.inserts) }
     requires anew { report_of desk.old.kept.reports ask.key ≡ None }
     requires noted { NotedBefore journal.old.gate desk.old.notes desk.old.kept.timeline }
+    requires marked { MarkedBefore journal.old.gate desk.old.marks }
     ensures done { IfOk result (λ report. Cycles D.told at ask (lasting desk.old journal.old) (lasting desk.new journal.new) report) }
     ensures noted { NotedBefore journal.new.gate desk.new.notes desk.new.kept.timeline }
+    ensures marked { MarkedBefore journal.new.gate desk.new.marks }
     ensures err { OnErr result (desk.new.kept ≡ desk.old.kept) }
     ensures why { IfErr result (λ fault. CyclesNone D.told at ask (lasting desk.old journal.old) (lasting desk.new journal.new) fault) }
+    ensures rewinds { (due : Cycled) → due_anew desk.old.kept at ask ≡ Rewinds due → HoldsTexts D.told (lasting desk.old journal.old)
+        → OnOk result (steps.new ≤ steps.old + most_performed desk.old.kept ask due) }
     ensures steps { OnOk result (steps.new ≤ steps.old + length desk.new.kept.timeline) }
 {
     if journal.is_closed() {
@@ -419,7 +443,8 @@ impl<D: Disk> Desk<D> {
 
     /// Does the cycle that is asked for, at a moment. A key that a cycle had is answered with that cycle's report, also on a
     /// closed desk, and nothing changes. Else the cycle is performed beside the desk, its one record is sealed, and what it
-    /// leaves takes the place of what was kept. Each delivery's text is read, once. At `Disk` what is kept is as before: either
+    /// leaves takes the place of what was kept. It begins with the newest snapshot at or before its point, and each delivery's text
+    /// behind that is read, once. At `Disk` what is kept is as before: either
     /// a read failed, nothing changed, and a later call may succeed; or the desk is closed from then on, and the record may be
     /// in the journal or not. In time that grows as the timeline, the mailboxes and these texts.
     pub fn cycle<R: Threads + Sync, G: Gate, L: Ledger>(
@@ -436,6 +461,8 @@ impl<D: Disk> Desk<D> {
         ensures done { IfOk result (λ report. Cycles D.told at ask self.old self.new report) }
         ensures err { OnErr result (self.new.kept ≡ self.old.kept) }
         ensures why { IfErr result (λ fault. CyclesNone D.told at ask self.old self.new fault) }
+        ensures rewinds { (due : Cycled) → cycle_due self.old.kept at ask ≡ Rewinds due → HoldsTexts D.told self.old
+            → OnOk result (steps.new ≤ steps.old + most_performed self.old.kept ask due) }
         ensures steps { OnOk result (steps.new ≤ steps.old + length self.new.kept.timeline) }
         ensures once { (earlier : TheReport) → cycle_due self.old.kept at ask ≡ Repeats earlier → steps.new ≡ steps.old }
         ensures uids { HoldsTexts D.told self.old → UidsLast self.old.kept self.new.kept }

@@ -8,13 +8,14 @@ ghost use Rattle.verb_core.specs.declared.mailbox.Mailbox.{Mailbox as TheMailbox
 ghost use Rattle.verb_core.specs.Boxes.{box_of, row_at};
 ghost use Rattle.verb_core.specs.Items.{IsTimeline, text_of};
 ghost use Rattle.verb_core.specs.Store.{IsValid, is_house, is_known, opening as store_at_first};
+ghost use Rattle.seal_log.specs.declared.place.Place.{Place as ThePlace};
 ghost use Rattle.shelf.specs.Notes.{size_of};
 ghost use Rattle.store_digest.specs.Snapshots.{digest_of};
 ghost use Rattle.mail_desk.specs.Counting.{counts_of, listed, page};
-ghost use Rattle.paradox.specs.Kept.{store_of};
+ghost use Rattle.paradox.specs.Kept.{IsRun, store_of};
 ghost use Rattle.mail_desk.specs.Timeline.{all_bodies, has_sizes, has_text, rev_of};
 ghost use Rattle.time_desk.specs.Permanence.{IsSound};
-ghost use Rattle.time_desk.specs.Stored.{NotedBefore};
+ghost use Rattle.time_desk.specs.Stored.{MarkedBefore, NotedBefore};
 
 use crate::on_disk::Journal;
 use box_store::Store;
@@ -37,13 +38,16 @@ pub struct Desk<D: Disk> {
 
 impl<D: Disk> Model for Desk<D> {
     ghost use Rattle.time_desk.specs.Lasting.{Lasting, lasting};
-    ghost use Rattle.time_desk.specs.Stored.{NotedBefore};
+    ghost use Rattle.time_desk.specs.Stored.{MarkedBefore, NotedBefore};
 
     ghost Value = { Lasting D };
 
     ghost view = { λ d. lasting d.desk d.journal };
 
-    ghost invariant = { λ d. NotedBefore d.journal.gate d.desk.notes d.desk.kept.timeline };
+    ghost invariant = { λ d. record {
+      noted : NotedBefore d.journal.gate d.desk.notes d.desk.kept.timeline;
+      marked : MarkedBefore d.journal.gate d.desk.marks;
+    } };
 }
 
 impl<D: Disk> Desk<D> {
@@ -76,7 +80,7 @@ impl<D: Disk> Desk<D> {
         self.desk.conf()
     }
 
-    /// The store that the items in force leave.
+    /// The store that is there.
     pub fn store(&self) -> &Store
         ensures value { result.now.store ≡ store_of self.now.kept }
         ensures valid { IsValid result.now.store }
@@ -174,9 +178,12 @@ impl<D: Disk> Desk<D> {
         ensures next { self.now.kept.next ≤ 4194304 }
         ensures reports { length self.now.kept.reports ≤ self.now.kept.next }
         ensures texts { IsTrue (all_bodies (has_text self.now.kept.timeline) (store_of self.now.kept).boxes) }
-        ensures sound { IsSound self.now.kept }
+        ensures sound { IsRun self.now.kept → IsSound self.now.kept }
         ensures within { self.now.gate < (D.told self.now.disk).size }
         ensures noted { NotedBefore self.now.gate self.now.notes self.now.kept.timeline }
+        ensures marked { MarkedBefore self.now.gate self.now.marks }
+        ensures since { self.now.kept.marks.since ≤ self.now.kept.next }
+        ensures places { self.now.kept.marks.places ≡ map (λ (m : ℕ × ThePlace). m.0) self.now.marks }
     {
         self.desk.stands();
         self.journal.stands();

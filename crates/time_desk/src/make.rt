@@ -135,10 +135,13 @@ impl<D: Disk> Desk<D> {
     {
         let mut disk = disk;
         match make_parts(alloc, &mut disk, house, conf) {
-            Ok((log, desk)) => Ok(Desk {
-                journal: Journal::at(disk, log),
-                desk,
-            }),
+            Ok((log, desk)) => {
+                desk.stands();
+                Ok(Desk {
+                    journal: Journal::at(disk, log),
+                    desk,
+                })
+            }
             Err(fault) => Err((disk, fault)),
         }
     }

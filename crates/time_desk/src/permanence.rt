@@ -14,16 +14,18 @@ ghost use Rattle.verb_core.specs.Recipients.{recipients, some_unknown};
 ghost use Rattle.verb_core.specs.Step.{run};
 ghost use Rattle.verb_bytes.specs.declared.journal.JournalRecord.{JournalRecord};
 ghost use Rattle.mail_cycle.specs.Permanence.{UidsLast};
-ghost use Rattle.paradox.specs.Kept.{Kept, stamp_at};
+ghost use Rattle.paradox.specs.Kept.{IsRun, Kept, stamp_at};
 ghost use Rattle.time_desk.specs.Permanence.{Arrives, IsSound, Message, RevsBelow, message_at};
 ghost use Rattle.time_desk.specs.Records.{after_records, state};
 
 use mail_desk::laws::bodies_have_texts;
 
-/// What a journal's records leave is sound, and each text has a rev below the next number.
+/// What a journal's records leave is sound, each text has a rev below the next number, and the store is what the items in force
+/// leave, performed one after the other.
 pub fn states_are_sound()
     ensures sound { (records : List JournalRecord) (kept : Kept) → state records ≡ Some kept → IsSound kept }
     ensures revs { (records : List JournalRecord) (kept : Kept) → state records ≡ Some kept → RevsBelow kept }
+    ensures runs { (records : List JournalRecord) (kept : Kept) → state records ≡ Some kept → IsRun kept }
 {}
 
 /// Whatever records come next, what is kept stays sound, and what a client knows by UID lasts.

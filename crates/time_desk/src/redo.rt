@@ -1,33 +1,37 @@
 //! A cycle in memory, beside the desk.
-ghost use Rattle.std.specs.Prelude.{◌≡◌, ◌<◌, ◌+◌, ◌≤◌, ℕ, List, length, IsTrue, IfOk, IfErr};
+ghost use Rattle.std.specs.Prelude.{◌≡◌, ◌<◌, ◌+◌, ◌-◌, ◌≤◌, ℕ, List, Some, length, take, IsTrue, IfOk, IfErr, OnOk};
 ghost use Rattle.undo_outside.specs.Moments.{OnlyReads};
-ghost use Rattle.verb_bytes.specs.declared.journal.JournalRecord.TheVariants.{Cycle};
-ghost use Rattle.verb_bytes.specs.Spelling.{record_bytes};
-ghost use Rattle.repair_desk.specs.Repairs.{are_known};
-ghost use Rattle.mail_cycle.specs.Asking.{IsRewinds, due_anew};
-ghost use Rattle.mail_cycle.specs.Leaving.{IsMade};
+ghost use Rattle.repair_desk.specs.Repairs.{are_known, position};
+ghost use Rattle.mail_cycle.specs.Asking.{IsRewinds, Rewinds, due_anew};
+ghost use Rattle.mail_cycle.specs.Cycles.{Cycled, cycled_at, leaves_numbers};
+ghost use Rattle.mail_cycle.specs.Leaving.{IsMade, IsMadeFrom, Leaves};
 ghost use Rattle.mail_cycle.specs.Refusing.{IsRefusalOf};
 ghost use Rattle.mail_desk.specs.Remaking.{CanReplace, remade_as};
-ghost use Rattle.time_desk.specs.Cycling.{IsFit, Redoes, RedoesCause, after_rewound};
-ghost use Rattle.time_desk.specs.Stored.{IsFresh, NotedBefore, Renotes, TextsHeld};
+ghost use Rattle.time_desk.specs.Cycling.{IsFit, Redoes, RedoesCause, after_rewound, most_performed};
+ghost use Rattle.time_desk.specs.Planning.{BodiesCause};
+ghost use Rattle.time_desk.specs.Serving.{Serves, unmarked};
+ghost use Rattle.time_desk.specs.Stored.{MarkedBefore, NotedBefore, Renotes, store_at};
 ghost use Rattle.time_desk.specs.Telling.{HoldsHeld};
 
+use crate::beginning::beginning;
 use crate::reading::Reading;
 use box_store::Steps;
-use mail_cycle::laws::cycles_leave_states;
-use mail_cycle::{Before, CycleRefused, Rewound};
+use mail_cycle::laws::{cycles_begin_anywhere, cycles_leave_states};
+use mail_cycle::{Before, Beginning, CycleRefused, Rewound, cycle_from, due_place};
+use mail_desk::laws::bodies_have_texts;
 use mail_desk::{Desk, Fresh, Remade};
-use seal_log::Place;
+use seal_log::ReadFault;
 use std::alloc::Global;
 use std::marker::Brand;
 use std::sync::ledger::{Blank, Ledger};
 use undo_base::{LAST_MOMENT, Name, NoMemory};
 use undo_outside::Disk;
 use verb_bytes::CycleAsk;
+use verb_core::BodiesFault;
 
 /// What a cycle begins with.
 pub(crate) fn begun(desk: &Desk) -> Before<'_>
-    ensures { result ≡ desk.now.kept }
+    ensures { result ≡ unmarked desk.now.kept }
 {
     desk.stands();
     Before::of(
@@ -41,8 +45,87 @@ pub(crate) fn begun(desk: &Desk) -> Before<'_>
     )
 }
 
-/// What the cycle leaves that is due under a new key: the desk stays as it is. Texts are read in the journal that ends at a
-/// gate of a disk.
+/// What the cycle leaves behind a place, from a beginning on: the desk stays as it is. Texts are read in the journal that ends
+/// at a gate of a disk.
+fn rewound_from<D: Disk, L: Ledger>(
+    alloc: Global,
+    disk: &mut D,
+    end: u64,
+    desk: &Desk,
+    first: Beginning,
+    at: u64,
+    ask: &CycleAsk,
+    place: usize,
+    steps: &mut Steps<L>,
+) -> Result<Rewound, BodiesFault>
+    requires end { end < (D.told disk.old).size }
+    requires noted { NotedBefore end desk.now.notes desk.now.kept.timeline }
+    requires serves { Serves desk.now.kept place first }
+    requires place { place ≤ length desk.now.kept.timeline }
+    requires numbers { IsTrue (leaves_numbers desk.now.kept ask.now) }
+    requires moment { at ≤ LAST_MOMENT }
+    requires known { IsTrue (are_known desk.now.kept.house ask.now.inserts) }
+    ensures made { IfOk result (IsMadeFrom desk.now.kept at ask.now place first.store.store first.count (HoldsHeld (D.told disk.old) desk.now)) }
+    ensures done { HoldsHeld (D.told disk.old) desk.now → first.store.store ≡ store_at desk.now.kept first.count → IfOk result (Leaves desk.now.kept (cycled_at desk.now.kept at ask.now place)) }
+    ensures fit { IfOk result (IsFit desk.now.kept) }
+    ensures cause { BodiesCause (D.told disk.old) (D.told disk.new) result }
+    ensures reads { OnlyReads (D.told disk.old) (D.told disk.new) }
+    ensures steps { IfOk result (λ made. steps.new ≤ steps.old + (place - first.count) + length ask.now.inserts + made.report.kept + length made.report.notices) }
+{
+    desk.stands();
+    cycles_leave_states();
+    cycles_begin_anywhere();
+    bodies_have_texts();
+    let mut bodies = Reading::of(disk, end, desk, &ask.replaces, desk.next());
+    cycle_from(
+        alloc,
+        &begun(desk),
+        first,
+        &mut bodies,
+        at,
+        ask,
+        place,
+        steps,
+    )
+}
+
+/// The same from the newest snapshot that can serve.
+fn rewound_at<D: Disk, L: Ledger>(
+    alloc: Global,
+    disk: &mut D,
+    end: u64,
+    desk: &Desk,
+    at: u64,
+    ask: &CycleAsk,
+    place: usize,
+    steps: &mut Steps<L>,
+) -> Result<Rewound, BodiesFault>
+    requires end { end < (D.told disk.old).size }
+    requires noted { NotedBefore end desk.now.notes desk.now.kept.timeline }
+    requires marked { MarkedBefore end desk.now.marks }
+    requires is_place { position desk.now.kept.timeline ask.now.point ≡ Some place }
+    requires place { place ≤ length desk.now.kept.timeline }
+    requires numbers { IsTrue (leaves_numbers desk.now.kept ask.now) }
+    requires moment { at ≤ LAST_MOMENT }
+    requires known { IsTrue (are_known desk.now.kept.house ask.now.inserts) }
+    ensures done { HoldsHeld (D.told disk.old) desk.now → IfOk result (Leaves desk.now.kept (cycled_at desk.now.kept at ask.now place)) }
+    ensures made { IfOk result (IsMade desk.now.kept at ask.now (HoldsHeld (D.told disk.old) desk.now)) }
+    ensures fit { IfOk result (IsFit desk.now.kept) }
+    ensures cause { BodiesCause (D.told disk.old) (D.told disk.new) result }
+    ensures reads { OnlyReads (D.told disk.old) (D.told disk.new) }
+    ensures rewinds { HoldsHeld (D.told disk.old) desk.now
+        → OnOk result (steps.new ≤ steps.old + most_performed desk.now.kept ask.now (cycled_at desk.now.kept at ask.now place)) }
+    ensures steps { IfOk result (λ made. steps.new ≤ steps.old + length made.timeline) }
+{
+    desk.stands();
+    match beginning(alloc, disk, end, desk, place) {
+        Ok(first) => rewound_from(alloc, disk, end, desk, first, at, ask, place, steps),
+        Err(ReadFault::Disk) => Err(BodiesFault::Failed),
+        Err(ReadFault::NoMemory) => Err(BodiesFault::NoMemory),
+    }
+}
+
+/// What the cycle leaves that is due under a new key.
 pub(crate) fn rewound<D: Disk, L: Ledger>(
     alloc: Global,
     disk: &mut D,
@@ -54,6 +137,7 @@ pub(crate) fn rewound<D: Disk, L: Ledger>(
 ) -> Result<Rewound, CycleRefused>
     requires end { end < (D.told disk.old).size }
     requires noted { NotedBefore end desk.now.notes desk.now.kept.timeline }
+    requires marked { MarkedBefore end desk.now.marks }
     requires moment { at ≤ LAST_MOMENT }
     requires known { IsTrue (are_known desk.now.kept.house ask.now.inserts) }
     ensures due { IfOk result (Redoes desk.now.kept at ask.now (HoldsHeld (D.told disk.old) desk.now)) }
@@ -63,12 +147,18 @@ pub(crate) fn rewound<D: Disk, L: Ledger>(
     ensures untouched { IfErr result (λ refused. (IsRewinds (due_anew desk.now.kept at ask.now) → ⊥) → disk.new ≡ disk.old) }
     ensures cause { RedoesCause (D.told disk.old) (D.told disk.new) result }
     ensures reads { OnlyReads (D.told disk.old) (D.told disk.new) }
+    ensures rewinds { (due : Cycled) → due_anew desk.now.kept at ask.now ≡ Rewinds due → HoldsHeld (D.told disk.old) desk.now
+        → OnOk result (steps.new ≤ steps.old + most_performed desk.now.kept ask.now due) }
     ensures steps { IfOk result (λ made. steps.new ≤ steps.old + length made.timeline) }
 {
-    desk.stands();
-    cycles_leave_states();
-    let mut bodies = Reading::of(disk, end, desk, &ask.replaces, desk.next());
-    mail_cycle::cycle(alloc, &begun(desk), &mut bodies, at, ask, steps)
+    match due_place(&begun(desk), ask) {
+        Ok(place) => match rewound_at(alloc, disk, end, desk, at, ask, place, steps) {
+            Ok(made) => Ok(made),
+            Err(BodiesFault::Failed) => Err(CycleRefused::Disk),
+            Err(BodiesFault::NoMemory) => Err(CycleRefused::NoMemory),
+        },
+        Err(refused) => Err(refused),
+    }
 }
 
 /// The same over a counter that is made of the blank ledger.
@@ -86,6 +176,7 @@ fn rewound_over<D: Disk, L: Ledger>(
     requires some { 0 < blank.parts }
     requires end { end < (D.told disk.old).size }
     requires noted { NotedBefore end desk.now.notes desk.now.kept.timeline }
+    requires marked { MarkedBefore end desk.now.marks }
     requires moment { at ≤ LAST_MOMENT }
     requires known { IsTrue (are_known desk.now.kept.house ask.now.inserts) }
     ensures due { IfOk result (Redoes desk.now.kept at ask.now (HoldsHeld (D.told disk.old) desk.now)) }
@@ -110,6 +201,7 @@ pub(crate) fn rewound_alone<D: Disk>(
 ) -> Result<Rewound, CycleRefused>
     requires end { end < (D.told disk.old).size }
     requires noted { NotedBefore end desk.now.notes desk.now.kept.timeline }
+    requires marked { MarkedBefore end desk.now.marks }
     requires moment { at ≤ LAST_MOMENT }
     requires known { IsTrue (are_known desk.now.kept.house ask.now.inserts) }
     ensures due { IfOk result (Redoes desk.now.kept at ask.now (HoldsHeld (D.told disk.old) desk.now)) }
@@ -133,9 +225,11 @@ pub(crate) fn remade(
     requires { IsFit desk.old.kept made }
     ensures kept { desk.new.kept ≡ desk.old.kept }
     ensures same { desk.new.notes ≡ desk.old.notes }
+    ensures same_marks { desk.new.marks ≡ desk.old.marks }
     ensures made { IfOk result (λ remade. remade_as desk.old.kept remade ≡ after_rewound desk.old.kept key made) }
     ensures report { IfOk result (λ remade. remade.report ≡ made.report) }
     ensures notes { IfOk result (λ remade. Renotes desk.old.notes fresh.now made.timeline remade.shelf.notes) }
+    ensures place { IfOk result (λ remade. remade.place ≡ made.place) }
     ensures ready { IfOk result (λ remade. CanReplace remade desk.new) }
 {
     let Rewound {
@@ -144,8 +238,12 @@ pub(crate) fn remade(
         stamps,
         next,
         report,
+        place,
+        entered,
     } = made;
-    desk.remake(alloc, store, timeline, stamps, next, key, report, fresh)
+    desk.remake(
+        alloc, store, timeline, stamps, next, key, report, fresh, place, entered,
+    )
 }
 
 /// The key of a request.

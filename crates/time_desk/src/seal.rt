@@ -44,6 +44,7 @@ pub(crate) fn seal_ready<D: Disk>(
     ensures item { IfOk result (λ item. item ≡ ready.item) }
     ensures performed { OnOk result (desk.new.kept ≡ performed desk.old.kept ready.item) }
     ensures noted { OnOk result (NotesTexts (journal.old.gate + 5 + length bytes.now) (record { gate = journal.old.gate; length = length bytes.now }) bytes.now desk.old desk.new) }
+    ensures marks { OnOk result (desk.new.marks ≡ desk.old.marks) }
     ensures same { OnErr result (desk.new ≡ desk.old) }
 {
     desk.stands();

@@ -1,35 +1,40 @@
 //! Records that can stand: the first of a journal, and each behind it, performed. Where the texts of a record lie is noted.
-ghost use Rattle.std.specs.Prelude.{◌≡◌, ◌≤◌, ◌<◌, ◌+◌, List, ℕ, true, false, is_none, length, IsTrue, IfOk, OnOk, IsErrOf, option_map};
+ghost use Rattle.std.specs.Prelude.{◌≡◌, ◌≤◌, ◌<◌, ◌+◌, List, ℕ, true, false, bytes_eq, is_none, length, IsTrue, IfOk, OnOk, IsErrOf, option_map};
 ghost use Rattle.std.specs.List.{list_all};
 ghost use Rattle.undo_outside.specs.Moments.{OnlyReads};
 ghost use Rattle.verb_core.specs.Items.{text_in, users_in};
 ghost use Rattle.verb_core.specs.Store.{is_known as knows};
-ghost use Rattle.verb_bytes.specs.declared.journal.JournalRecord.TheVariants.{Cycle, Operator, Verb};
+ghost use Rattle.verb_bytes.specs.declared.journal.JournalRecord.TheVariants.{Cycle, Operator, Snapshot, Verb};
 ghost use Rattle.verb_bytes.specs.Spelling.{HasSpelling, record_bytes};
 ghost use Rattle.seal_log.specs.Causes.{ReadAtCause};
 ghost use Rattle.seal_log.specs.Journal.{LiesAt};
 ghost use Rattle.paradox.specs.Kept.{report_of};
+ghost use Rattle.shelf.specs.Marks.{marks_at_or_before};
 ghost use Rattle.repair_desk.specs.Repairs.{are_known as acts_name_known};
 ghost use Rattle.mail_cycle.specs.Asking.{due_anew};
 ghost use Rattle.mail_desk.specs.Timeline.{NotesText, SizesOf, body_of};
 ghost use Rattle.time_desk.specs.Cycling.{IsFit, after_rewound};
-ghost use Rattle.time_desk.specs.Records.{after_cycle_record, after_due, after_record, can_follow as follows, can_rewind as rewinds, first_state};
-ghost use Rattle.time_desk.specs.Standing.{Enters, IsFormed, Performs, begun, has_users as uses, is_actor, opening_of};
-ghost use Rattle.time_desk.specs.Stored.{NotedBefore, NotesCycle, NotesTexts, Renotes, TextsHeld, TextsLie};
+ghost use Rattle.time_desk.specs.Records.{after_cycle_record, after_due, after_record, can_follow as follows, can_keep as keeps, can_rewind as rewinds, first_state, is_true as tells_all, snapshot_record};
+ghost use Rattle.time_desk.specs.Standing.{Enters, IsFormed, Performs, begun, has_users as uses, is_actor, kept_as, marked_as, opening_of};
+ghost use Rattle.time_desk.specs.Stored.{KeepsMarks, MarkedBefore, MarksLie, NotedBefore, NotesCycle, NotesTexts, Renotes, TextsHeld, TextsLie};
 
 use crate::act::item_of;
 use crate::fresh::fresh_of;
 use crate::redo::{key_in, remade, rewound_alone};
+use box_store::makes_store;
 use house_text::can_begin;
 use mail_cycle::{CycleRefused, Rewound};
 use mail_desk::{Desk, Fresh};
 use seal_log::{Place, ReadFault};
 use std::alloc::Global;
-use undo_base::{LAST_MOMENT, LAST_NUMBER, Name, NoMemory, User};
+use store_digest::snapshot_text;
+use undo_base::{LAST_MOMENT, LAST_NUMBER, Name, NoMemory, Text, User};
 use undo_outside::Disk;
 use verb_bytes::laws::{spelled_cycles_have_moments, spelled_items_are_formed};
-use verb_bytes::{CycleAsk, JournalRecord, act_text_from, item_text_from};
-use verb_core::{Act, Conf, Deed, House, Item};
+use verb_bytes::{
+    CycleAsk, JournalRecord, Unwritten, act_text_from, item_text_from, spell_snapshot,
+};
+use verb_core::{Act, BoxId, Conf, Deed, House, Item, Mailbox, Rows};
 
 // ---- the first record
 
@@ -170,6 +175,7 @@ fn enter(
     requires { IsFormed item }
     ensures entered { IfOk result (λ stood. Enters desk.old.kept item stood desk.new.kept) }
     ensures noted { IfOk result (λ stood. stood ≡ true → NotesText (text_in item.deed) (body_of item) place from desk.old.notes desk.new.notes) }
+    ensures marks { OnOk result (desk.new.marks ≡ desk.old.marks) }
 {
     if !can_follow(desk, &item) {
         drop(item);
@@ -204,6 +210,7 @@ fn enter_verb(
     requires long { place.length ≡ length (record_bytes (Verb item)) }
     ensures entered { IfOk result (λ stood. Performs (after_record desk.old.kept (Verb item)) stood desk.new.kept) }
     ensures noted { IfOk result (λ stood. stood ≡ true → NotesTexts end place (record_bytes (Verb item)) desk.old desk.new) }
+    ensures marked { IfOk result (λ stood. stood ≡ true → KeepsMarks end place (record_bytes (Verb item)) desk.old desk.new) }
 {
     spelled_items_are_formed();
     desk.stands();
@@ -227,6 +234,7 @@ fn enter_act(
     requires long { place.length ≡ length (record_bytes (Operator number at act)) }
     ensures entered { IfOk result (λ stood. Performs (after_record desk.old.kept (Operator number at act)) stood desk.new.kept) }
     ensures noted { IfOk result (λ stood. stood ≡ true → NotesTexts end place (record_bytes (Operator number at act)) desk.old desk.new) }
+    ensures marked { IfOk result (λ stood. stood ≡ true → KeepsMarks end place (record_bytes (Operator number at act)) desk.old desk.new) }
 {
     spelled_items_are_formed();
     desk.stands();
@@ -269,6 +277,7 @@ fn replace_with(
     ensures kept { IfOk result (λ stood. (stood ≡ true) × (desk.new.kept ≡ after_rewound desk.old.kept key made)) }
     ensures notes { OnOk result (Renotes desk.old.notes fresh made.timeline desk.new.notes) }
     ensures sizes { OnOk result (SizesOf desk.new.notes desk.new.kept.timeline) }
+    ensures marks { OnOk result (desk.new.marks ≡ marks_at_or_before made.place desk.old.marks) }
     ensures never { IsErrOf result ReadFault.Disk → ⊥ }
 {
     let remade = remade(alloc, desk, key, made, &fresh);
@@ -295,6 +304,7 @@ fn put_in_place(
     ensures kept { IfOk result (λ stood. (stood ≡ true) × (desk.new.kept ≡ after_rewound desk.old.kept ask.key made)) }
     ensures notes { (at : ℕ) → OnOk result (NotesCycle desk.old.kept.next at ask place desk.old.notes made.timeline desk.new.notes) }
     ensures sizes { OnOk result (SizesOf desk.new.notes desk.new.kept.timeline) }
+    ensures marks { OnOk result (desk.new.marks ≡ marks_at_or_before made.place desk.old.marks) }
     ensures never { IsErrOf result ReadFault.Disk → ⊥ }
 {
     match fresh_of(alloc, desk.next(), &ask, place) {
@@ -336,14 +346,19 @@ fn rewind_anew<D: Disk>(
     requires known { IsTrue (acts_name_known desk.old.kept.house ask.inserts) }
     requires end { end < (D.told disk.old).size }
     requires noted { NotedBefore end desk.old.notes desk.old.kept.timeline }
+    requires marked { MarkedBefore end desk.old.marks }
     requires place { place.gate + 5 + place.length ≤ end }
     requires long { place.length ≡ length (record_bytes (Cycle desk.old.kept.next at ask)) }
-    ensures performed { (payloads : List (List ℕ)) → TextsHeld (D.told disk.old) payloads desk.old.kept desk.old.notes
+    ensures performed { (payloads : List (List ℕ)) → TextsHeld (D.told disk.old) payloads desk.old.kept desk.old.notes desk.old.marks
         → IfOk result (λ stood. Performs (after_due desk.old.kept ask (due_anew desk.old.kept at ask)) stood desk.new.kept) }
-    ensures texts { (payloads : List (List ℕ)) → TextsHeld (D.told disk.old) payloads desk.old.kept desk.old.notes
+    ensures texts { (payloads : List (List ℕ)) → TextsHeld (D.told disk.old) payloads desk.old.kept desk.old.notes desk.old.marks
         → LiesAt payloads place.gate place.length (record_bytes (Cycle desk.old.kept.next at ask))
         → IfOk result (λ stood. stood ≡ true → TextsLie payloads desk.new.notes desk.new.kept.timeline) }
+    ensures marks { (payloads : List (List ℕ)) → TextsHeld (D.told disk.old) payloads desk.old.kept desk.old.notes desk.old.marks
+        → LiesAt payloads place.gate place.length (record_bytes (Cycle desk.old.kept.next at ask))
+        → IfOk result (λ stood. stood ≡ true → MarksLie payloads desk.new.kept desk.new.marks) }
     ensures noted { IfOk result (λ stood. stood ≡ true → NotedBefore end desk.new.notes desk.new.kept.timeline) }
+    ensures marked { IfOk result (λ stood. stood ≡ true → MarkedBefore end desk.new.marks) }
     ensures reads { OnlyReads (D.told disk.old) (D.told disk.new) }
     ensures cause { ReadAtCause (D.told disk.old) (D.told disk.new) result }
 {
@@ -372,14 +387,19 @@ fn rewind<D: Disk>(
     requires spelled { HasSpelling (Cycle number at ask) }
     requires end { end < (D.told disk.old).size }
     requires noted { NotedBefore end desk.old.notes desk.old.kept.timeline }
+    requires marked { MarkedBefore end desk.old.marks }
     requires place { place.gate + 5 + place.length ≤ end }
     requires long { place.length ≡ length (record_bytes (Cycle number at ask)) }
-    ensures performed { (payloads : List (List ℕ)) → TextsHeld (D.told disk.old) payloads desk.old.kept desk.old.notes
+    ensures performed { (payloads : List (List ℕ)) → TextsHeld (D.told disk.old) payloads desk.old.kept desk.old.notes desk.old.marks
         → IfOk result (λ stood. Performs (after_cycle_record desk.old.kept number at ask) stood desk.new.kept) }
-    ensures texts { (payloads : List (List ℕ)) → TextsHeld (D.told disk.old) payloads desk.old.kept desk.old.notes
+    ensures texts { (payloads : List (List ℕ)) → TextsHeld (D.told disk.old) payloads desk.old.kept desk.old.notes desk.old.marks
         → LiesAt payloads place.gate place.length (record_bytes (Cycle number at ask))
         → IfOk result (λ stood. stood ≡ true → TextsLie payloads desk.new.notes desk.new.kept.timeline) }
+    ensures marks { (payloads : List (List ℕ)) → TextsHeld (D.told disk.old) payloads desk.old.kept desk.old.notes desk.old.marks
+        → LiesAt payloads place.gate place.length (record_bytes (Cycle number at ask))
+        → IfOk result (λ stood. stood ≡ true → MarksLie payloads desk.new.kept desk.new.marks) }
     ensures noted { IfOk result (λ stood. stood ≡ true → NotedBefore end desk.new.notes desk.new.kept.timeline) }
+    ensures marked { IfOk result (λ stood. stood ≡ true → MarkedBefore end desk.new.marks) }
     ensures reads { OnlyReads (D.told disk.old) (D.told disk.new) }
     ensures cause { ReadAtCause (D.told disk.old) (D.told disk.new) result }
 {
@@ -389,6 +409,116 @@ fn rewind<D: Disk>(
         return Ok(false);
     }
     rewind_anew(alloc, disk, end, desk, at, ask, place)
+}
+
+// ---- a snapshot
+
+/// Whether a snapshot can follow: it is of as many items as are in force, and makes a store of the house.
+fn can_keep(desk: &Desk, items: u32, conf: &Conf, rows: &[(BoxId, Mailbox)]) -> bool
+    ensures { result ≡ keeps desk.now.kept items conf.now rows.now }
+{
+    items as usize == desk.all_items().len() && makes_store(desk.house(), conf, rows)
+}
+
+/// Whether the bytes of a snapshot are the same as these.
+fn has_bytes(
+    alloc: Global,
+    items: u32,
+    conf: &Conf,
+    rows: &[(BoxId, Mailbox)],
+    bytes: &Text,
+) -> Result<bool, NoMemory>
+    ensures { IfOk result (λ same. same ≡ bytes_eq (record_bytes (Snapshot items conf.now rows.now)) bytes.now) }
+{
+    match spell_snapshot(alloc, items, conf, rows) {
+        Ok(text) => Ok(text.bytes() == bytes.bytes()),
+        Err(Unwritten::Unspelled) => Err(NoMemory),
+        Err(Unwritten::NoMemory) => Err(NoMemory),
+    }
+}
+
+/// Whether a snapshot of as many items as are in force is true: its bytes are those of the snapshot of what is kept.
+fn is_true(
+    alloc: Global,
+    desk: &Desk,
+    items: u32,
+    conf: &Conf,
+    rows: &[(BoxId, Mailbox)],
+) -> Result<bool, NoMemory>
+    requires { items ≡ length desk.now.kept.timeline }
+    ensures truth { IfOk result (λ truth. truth ≡ tells_all desk.now.kept (Snapshot items conf.now rows.now)) }
+    ensures spelled { OnOk result (HasSpelling (snapshot_record desk.now.kept)) }
+{
+    match snapshot_text(alloc, desk.store(), items) {
+        Ok(bytes) => has_bytes(alloc, items, conf, rows, &bytes),
+        Err(NoMemory) => Err(NoMemory),
+    }
+}
+
+/// Marks the snapshot at a place where it is true, and passes it where it is not: no cycle begins from it.
+fn mark_at(desk: &mut Desk, truth: bool, place: Place) -> Result<bool, NoMemory>
+    ensures kept { IfOk result (λ stood. (stood ≡ true) × (desk.new.kept ≡ kept_as desk.old.kept truth)) }
+    ensures notes { OnOk result (desk.new.notes ≡ desk.old.notes) }
+    ensures marks { OnOk result (desk.new.marks ≡ marked_as desk.old truth place) }
+{
+    match desk.ready_mark() {
+        Ok(()) => {
+            if truth {
+                desk.mark(place);
+            } else {
+                desk.pass_mark();
+            }
+            Ok(true)
+        }
+        Err(NoMemory) => Err(NoMemory),
+    }
+}
+
+/// Marks or passes a snapshot, where it can follow.
+fn keep(
+    alloc: Global,
+    desk: &mut Desk,
+    end: u64,
+    items: u32,
+    conf: &Conf,
+    rows: &[(BoxId, Mailbox)],
+    place: Place,
+) -> Result<bool, NoMemory>
+    requires spelled { HasSpelling (Snapshot items conf.now rows.now) }
+    requires place { place.gate + 5 + place.length ≤ end }
+    ensures entered { IfOk result (λ stood. Performs (after_record desk.old.kept (Snapshot items conf.now rows.now)) stood desk.new.kept) }
+    ensures still { IfOk result (λ stood. stood ≡ true → (desk.new.notes ≡ desk.old.notes) × (desk.new.kept.timeline ≡ desk.old.kept.timeline)) }
+    ensures marked { IfOk result (λ stood. stood ≡ true → KeepsMarks end place (record_bytes (Snapshot items conf.now rows.now)) desk.old desk.new) }
+{
+    if !can_keep(desk, items, conf, rows) {
+        return Ok(false);
+    }
+    match is_true(alloc, desk, items, conf, rows) {
+        Ok(truth) => mark_at(desk, truth, place),
+        Err(NoMemory) => Err(NoMemory),
+    }
+}
+
+/// The same of a record.
+fn enter_snapshot(
+    alloc: Global,
+    desk: &mut Desk,
+    end: u64,
+    items: u32,
+    conf: Conf,
+    rows: Rows,
+    place: Place,
+) -> Result<bool, NoMemory>
+    requires spelled { HasSpelling (Snapshot items conf rows) }
+    requires place { place.gate + 5 + place.length ≤ end }
+    ensures entered { IfOk result (λ stood. Performs (after_record desk.old.kept (Snapshot items conf rows)) stood desk.new.kept) }
+    ensures still { IfOk result (λ stood. stood ≡ true → (desk.new.notes ≡ desk.old.notes) × (desk.new.kept.timeline ≡ desk.old.kept.timeline)) }
+    ensures marked { IfOk result (λ stood. stood ≡ true → KeepsMarks end place (record_bytes (Snapshot items conf rows)) desk.old desk.new) }
+{
+    let kept = keep(alloc, desk, end, items, &conf, rows.as_slice(), place);
+    drop(conf);
+    drop(rows);
+    kept
 }
 
 // ---- the next record
@@ -417,14 +547,19 @@ pub(crate) fn follow<D: Disk>(
     requires spelled { HasSpelling what }
     requires end { end < (D.told disk.old).size }
     requires noted { NotedBefore end desk.old.notes desk.old.kept.timeline }
+    requires marked { MarkedBefore end desk.old.marks }
     requires place { place.gate + 5 + place.length ≤ end }
     requires long { place.length ≡ length (record_bytes what) }
-    ensures performed { (payloads : List (List ℕ)) → TextsHeld (D.told disk.old) payloads desk.old.kept desk.old.notes
+    ensures performed { (payloads : List (List ℕ)) → TextsHeld (D.told disk.old) payloads desk.old.kept desk.old.notes desk.old.marks
         → IfOk result (λ stood. Performs (after_record desk.old.kept what) stood desk.new.kept) }
-    ensures texts { (payloads : List (List ℕ)) → TextsHeld (D.told disk.old) payloads desk.old.kept desk.old.notes
+    ensures texts { (payloads : List (List ℕ)) → TextsHeld (D.told disk.old) payloads desk.old.kept desk.old.notes desk.old.marks
         → LiesAt payloads place.gate place.length (record_bytes what)
         → IfOk result (λ stood. stood ≡ true → TextsLie payloads desk.new.notes desk.new.kept.timeline) }
+    ensures marks { (payloads : List (List ℕ)) → TextsHeld (D.told disk.old) payloads desk.old.kept desk.old.notes desk.old.marks
+        → LiesAt payloads place.gate place.length (record_bytes what)
+        → IfOk result (λ stood. stood ≡ true → MarksLie payloads desk.new.kept desk.new.marks) }
     ensures noted { IfOk result (λ stood. stood ≡ true → NotedBefore end desk.new.notes desk.new.kept.timeline) }
+    ensures marked { IfOk result (λ stood. stood ≡ true → MarkedBefore end desk.new.marks) }
     ensures reads { OnlyReads (D.told disk.old) (D.told disk.new) }
     ensures cause { ReadAtCause (D.told disk.old) (D.told disk.new) result }
 {
@@ -441,10 +576,8 @@ pub(crate) fn follow<D: Disk>(
             drop(conf);
             Ok(false)
         }
-        JournalRecord::Snapshot { conf, rows, .. } => {
-            drop(conf);
-            drop(rows);
-            Ok(false)
+        JournalRecord::Snapshot { items, conf, rows } => {
+            without_reads(enter_snapshot(alloc, desk, end, items, conf, rows, place))
         }
     }
 }

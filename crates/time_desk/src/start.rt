@@ -9,12 +9,12 @@ ghost use Rattle.seal_log.specs.Loading.{places_from};
 ghost use Rattle.seal_log.specs.Loads.{IsSurveyed};
 ghost use Rattle.seal_log.specs.Log.{end_gate, is_cut, last_gate, leaves_open};
 ghost use Rattle.seal_log.specs.Settled.{Holds};
-ghost use Rattle.paradox.specs.Kept.{Kept};
+ghost use Rattle.paradox.specs.Kept.{IsRun, Kept};
 ghost use Rattle.time_desk.specs.Permanence.{RevsBelow};
 ghost use Rattle.time_desk.specs.Opening.{IsStarted, Refuses, Starts};
 ghost use Rattle.time_desk.specs.Records.{after_record, first_state};
 ghost use Rattle.time_desk.specs.Standing.{BreaksFor, Fails, FailsPayload, FailsReading, LeadsTo, Performed, ReadCounts, SpellsAll, SpellsNothing, StopsFor};
-ghost use Rattle.time_desk.specs.Stored.{HoldsTexts, NotedBefore, SettledTexts, TextsHeld};
+ghost use Rattle.time_desk.specs.Stored.{HoldsTexts, MarkedBefore, NotedBefore, SettledTexts, TextsHeld};
 
 use crate::on_disk::Journal;
 use crate::permanence::records_let_uids_last;
@@ -85,11 +85,15 @@ fn record_at<D: Disk>(
 fn begun(alloc: Global, what: JournalRecord, gate: u64) -> Result<mail_desk::Desk, StartFault>
     requires { HasSpelling what }
     ensures first { IfOk result (λ desk. first_state what ≡ Some desk.kept) }
-    ensures none { IfOk result (λ desk. desk.kept.timeline ≡ []) }
+    ensures none { IfOk result (λ desk. (desk.kept.timeline ≡ []) × (desk.marks ≡ [])) }
+    ensures runs { IfOk result (λ desk. IsRun desk.kept) }
     ensures bad { IfErr result (Fails (first_state what ≡ None) gate) }
 {
     match begin(alloc, what) {
-        Ok(Some(desk)) => Ok(desk),
+        Ok(Some(desk)) => {
+            desk.stands();
+            Ok(desk)
+        }
         Ok(None) => Err(StartFault::Damaged { place: gate }),
         Err(NoMemory) => Err(StartFault::NoMemory),
     }
@@ -106,7 +110,8 @@ fn begin_at<D: Disk>(
     requires place { place.gate + 5 + place.length ≤ end }
     ensures performed { (payloads : List (List ℕ)) (payload : List ℕ) → Holds (D.told disk.old) payloads
         → LiesAt payloads place.gate place.length payload → IfOk result (λ desk. Performed first_state payload desk.kept) }
-    ensures none { IfOk result (λ desk. desk.kept.timeline ≡ []) }
+    ensures none { IfOk result (λ desk. (desk.kept.timeline ≡ []) × (desk.marks ≡ [])) }
+    ensures runs { IfOk result (λ desk. IsRun desk.kept) }
     ensures bad { (payloads : List (List ℕ)) (payload : List ℕ) → Holds (D.told disk.old) payloads
         → LiesAt payloads place.gate place.length payload → IfErr result (FailsPayload first_state payload place.gate) }
     ensures reads { OnlyReads (D.told disk.old) (D.told disk.new) }
@@ -120,9 +125,10 @@ fn begin_at<D: Disk>(
     }
 }
 
-/// Revs stay below the next number when records are performed.
+/// Revs stay below the next number when records are performed, and the store stays what the items leave.
 fn revs_stay(desk: &mail_desk::Desk)
-    ensures { (what : TheRecord) (next : Kept) → RevsBelow desk.now.kept → after_record desk.now.kept what ≡ Some next → RevsBelow next }
+    ensures revs { (what : TheRecord) (next : Kept) → IsRun desk.now.kept → RevsBelow desk.now.kept → after_record desk.now.kept what ≡ Some next → RevsBelow next }
+    ensures runs { (what : TheRecord) (next : Kept) → IsRun desk.now.kept → after_record desk.now.kept what ≡ Some next → IsRun next }
 {
     desk.stands();
     records_let_uids_last();
@@ -140,16 +146,18 @@ fn performed<D: Disk>(
     requires spelled { HasSpelling what }
     requires end { end < (D.told disk.old).size }
     requires noted { NotedBefore end desk.old.notes desk.old.kept.timeline }
+    requires marked { MarkedBefore end desk.old.marks }
     requires place { place.gate + 5 + place.length ≤ end }
     requires long { place.length ≡ length (record_bytes what) }
-    ensures next { (payloads : List (List ℕ)) → TextsHeld (D.told disk.old) payloads desk.old.kept desk.old.notes
+    ensures next { (payloads : List (List ℕ)) → TextsHeld (D.told disk.old) payloads desk.old.kept desk.old.notes desk.old.marks
         → OnOk result (after_record desk.old.kept what ≡ Some desk.new.kept) }
-    ensures bad { (payloads : List (List ℕ)) → TextsHeld (D.told disk.old) payloads desk.old.kept desk.old.notes
+    ensures bad { (payloads : List (List ℕ)) → TextsHeld (D.told disk.old) payloads desk.old.kept desk.old.notes desk.old.marks
         → IfErr result (FailsReading (after_record desk.old.kept what ≡ None) place.gate) }
-    ensures texts { (payloads : List (List ℕ)) → TextsHeld (D.told disk.old) payloads desk.old.kept desk.old.notes
+    ensures texts { (payloads : List (List ℕ)) → TextsHeld (D.told disk.old) payloads desk.old.kept desk.old.notes desk.old.marks
         → LiesAt payloads place.gate place.length (record_bytes what)
-        → OnOk result (TextsHeld (D.told disk.new) payloads desk.new.kept desk.new.notes) }
+        → OnOk result (TextsHeld (D.told disk.new) payloads desk.new.kept desk.new.notes desk.new.marks) }
     ensures noted { OnOk result (NotedBefore end desk.new.notes desk.new.kept.timeline) }
+    ensures marked { OnOk result (MarkedBefore end desk.new.marks) }
     ensures reads { OnlyReads (D.told disk.old) (D.told disk.new) }
     ensures ok { OnOk result ((D.told disk.new).failed_reads ≡ (D.told disk.old).failed_reads) }
     ensures fault { IfErr result (ReadCounts (D.told disk.old) (D.told disk.new)) }
@@ -177,17 +185,19 @@ fn perform_at<D: Disk>(
 ) -> Result<(), StartFault>
     requires end { end < (D.told disk.old).size }
     requires noted { NotedBefore end desk.old.notes desk.old.kept.timeline }
+    requires marked { MarkedBefore end desk.old.marks }
     requires place { place.gate + 5 + place.length ≤ end }
-    ensures performed { (payloads : List (List ℕ)) (payload : List ℕ) → TextsHeld (D.told disk.old) payloads desk.old.kept desk.old.notes
+    ensures performed { (payloads : List (List ℕ)) (payload : List ℕ) → TextsHeld (D.told disk.old) payloads desk.old.kept desk.old.notes desk.old.marks
         → LiesAt payloads place.gate place.length payload
         → OnOk result (Performed (after_record desk.old.kept) payload desk.new.kept) }
-    ensures bad { (payloads : List (List ℕ)) (payload : List ℕ) → TextsHeld (D.told disk.old) payloads desk.old.kept desk.old.notes
+    ensures bad { (payloads : List (List ℕ)) (payload : List ℕ) → TextsHeld (D.told disk.old) payloads desk.old.kept desk.old.notes desk.old.marks
         → LiesAt payloads place.gate place.length payload
         → IfErr result (FailsPayload (after_record desk.old.kept) payload place.gate) }
-    ensures texts { (payloads : List (List ℕ)) (payload : List ℕ) → TextsHeld (D.told disk.old) payloads desk.old.kept desk.old.notes
+    ensures texts { (payloads : List (List ℕ)) (payload : List ℕ) → TextsHeld (D.told disk.old) payloads desk.old.kept desk.old.notes desk.old.marks
         → LiesAt payloads place.gate place.length payload
-        → OnOk result (TextsHeld (D.told disk.new) payloads desk.new.kept desk.new.notes) }
+        → OnOk result (TextsHeld (D.told disk.new) payloads desk.new.kept desk.new.notes desk.new.marks) }
     ensures noted { OnOk result (NotedBefore end desk.new.notes desk.new.kept.timeline) }
+    ensures marked { OnOk result (MarkedBefore end desk.new.marks) }
     ensures reads { OnlyReads (D.told disk.old) (D.told disk.new) }
     ensures ok { OnOk result ((D.told disk.new).failed_reads ≡ (D.told disk.old).failed_reads) }
     ensures fault { IfErr result (ReadCounts (D.told disk.old) (D.told disk.new)) }
@@ -212,13 +222,15 @@ fn perform_all<D: Disk>(
     requires end { end < (D.told disk.old).size }
     requires places { All (λ place. place.gate + 5 + place.length ≤ end) places.now }
     requires noted { NotedBefore end desk.old.notes desk.old.kept.timeline }
-    ensures performed { (before payloads : List (List ℕ)) → TextsHeld (D.told disk.old) (before ++ payloads) desk.old.kept desk.old.notes
+    requires marked { MarkedBefore end desk.old.marks }
+    ensures performed { (before payloads : List (List ℕ)) → TextsHeld (D.told disk.old) (before ++ payloads) desk.old.kept desk.old.notes desk.old.marks
         → places.now ≡ places_from (length (sealed before)) payloads → OnOk result (LeadsTo desk.old.kept payloads desk.new.kept) }
-    ensures texts { (before payloads : List (List ℕ)) → TextsHeld (D.told disk.old) (before ++ payloads) desk.old.kept desk.old.notes
+    ensures texts { (before payloads : List (List ℕ)) → TextsHeld (D.told disk.old) (before ++ payloads) desk.old.kept desk.old.notes desk.old.marks
         → places.now ≡ places_from (length (sealed before)) payloads
-        → OnOk result (TextsHeld (D.told disk.new) (before ++ payloads) desk.new.kept desk.new.notes) }
+        → OnOk result (TextsHeld (D.told disk.new) (before ++ payloads) desk.new.kept desk.new.notes desk.new.marks) }
     ensures noted { OnOk result (NotedBefore end desk.new.notes desk.new.kept.timeline) }
-    ensures bad { (before payloads : List (List ℕ)) → TextsHeld (D.told disk.old) (before ++ payloads) desk.old.kept desk.old.notes
+    ensures marked { OnOk result (MarkedBefore end desk.new.marks) }
+    ensures bad { (before payloads : List (List ℕ)) → TextsHeld (D.told disk.old) (before ++ payloads) desk.old.kept desk.old.notes desk.old.marks
         → places.now ≡ places_from (length (sealed before)) payloads
         → IfErr result (StopsFor desk.old.kept (length (sealed before)) payloads) }
     ensures reads { OnlyReads (D.told disk.old) (D.told disk.new) }
@@ -245,13 +257,15 @@ fn followed_by<D: Disk>(
     requires end { end < (D.told disk.old).size }
     requires places { All (λ place. place.gate + 5 + place.length ≤ end) places.now }
     requires noted { NotedBefore end desk.notes desk.kept.timeline }
-    ensures performed { (before payloads : List (List ℕ)) → TextsHeld (D.told disk.old) (before ++ payloads) desk.kept desk.notes
+    requires marked { MarkedBefore end desk.marks }
+    ensures performed { (before payloads : List (List ℕ)) → TextsHeld (D.told disk.old) (before ++ payloads) desk.kept desk.notes desk.marks
         → places.now ≡ places_from (length (sealed before)) payloads → IfOk result (λ led. LeadsTo desk.kept payloads led.kept) }
-    ensures texts { (before payloads : List (List ℕ)) → TextsHeld (D.told disk.old) (before ++ payloads) desk.kept desk.notes
+    ensures texts { (before payloads : List (List ℕ)) → TextsHeld (D.told disk.old) (before ++ payloads) desk.kept desk.notes desk.marks
         → places.now ≡ places_from (length (sealed before)) payloads
-        → IfOk result (λ led. TextsHeld (D.told disk.new) (before ++ payloads) led.kept led.notes) }
+        → IfOk result (λ led. TextsHeld (D.told disk.new) (before ++ payloads) led.kept led.notes led.marks) }
     ensures noted { IfOk result (λ led. NotedBefore end led.notes led.kept.timeline) }
-    ensures bad { (before payloads : List (List ℕ)) → TextsHeld (D.told disk.old) (before ++ payloads) desk.kept desk.notes
+    ensures marked { IfOk result (λ led. MarkedBefore end led.marks) }
+    ensures bad { (before payloads : List (List ℕ)) → TextsHeld (D.told disk.old) (before ++ payloads) desk.kept desk.notes desk.marks
         → places.now ≡ places_from (length (sealed before)) payloads
         → IfErr result (StopsFor desk.kept (length (sealed before)) payloads) }
     ensures reads { OnlyReads (D.told disk.old) (D.told disk.new) }
@@ -295,8 +309,9 @@ fn read_all<D: Disk>(
     ensures read { (payloads : List (List ℕ)) → Holds (D.told disk.old) payloads → places.now ≡ places_from 0 payloads
         → IfOk result (λ desk. SpellsAll payloads desk.kept) }
     ensures texts { (payloads : List (List ℕ)) → Holds (D.told disk.old) payloads → places.now ≡ places_from 0 payloads
-        → IfOk result (λ desk. TextsHeld (D.told disk.new) payloads desk.kept desk.notes) }
+        → IfOk result (λ desk. TextsHeld (D.told disk.new) payloads desk.kept desk.notes desk.marks) }
     ensures noted { IfOk result (λ desk. NotedBefore end desk.notes desk.kept.timeline) }
+    ensures marked { IfOk result (λ desk. MarkedBefore end desk.marks) }
     ensures bad { (payloads : List (List ℕ)) → Holds (D.told disk.old) payloads → places.now ≡ places_from 0 payloads
         → IfErr result (BreaksFor payloads) }
     ensures reads { OnlyReads (D.told disk.old) (D.told disk.new) }
@@ -350,8 +365,9 @@ fn opened_from<D: Disk>(
     ensures found { (image : List ℕ) → IsSurveyed image (D.told disk.old) (end_gate seen.end) seen.places (is_cut seen.end)
         → IfOk result (λ parts. IsStarted image (D.told disk.new) parts.1.kept (last_gate parts.0)) }
     ensures texts { (image : List ℕ) → IsSurveyed image (D.told disk.old) (end_gate seen.end) seen.places (is_cut seen.end)
-        → IfOk result (λ parts. SettledTexts (D.told disk.new) (last_gate parts.0) parts.1.kept parts.1.notes) }
+        → IfOk result (λ parts. SettledTexts (D.told disk.new) (last_gate parts.0) parts.1.kept parts.1.notes parts.1.marks) }
     ensures noted { IfOk result (λ parts. NotedBefore (last_gate parts.0) parts.1.notes parts.1.kept.timeline) }
+    ensures marked { IfOk result (λ parts. MarkedBefore (last_gate parts.0) parts.1.marks) }
     ensures bad { (image : List ℕ) → IsSurveyed image (D.told disk.old) (end_gate seen.end) seen.places (is_cut seen.end)
         → IfErr result (Refuses image) }
     ensures reads { OnlyReads (D.told disk.old) (D.told disk.new) }
@@ -377,8 +393,9 @@ fn opened_from<D: Disk>(
 fn opened<D: Disk>(alloc: Global, disk: &mut D) -> Result<(Log, mail_desk::Desk), StartFault>
     ensures started { IfOk result (λ parts. Starts (D.told disk.old) (D.told disk.new) (Ok (parts.1.kept, last_gate parts.0))) }
     ensures texts { (D.told disk.old).honest
-        → IfOk result (λ parts. SettledTexts (D.told disk.new) (last_gate parts.0) parts.1.kept parts.1.notes) }
+        → IfOk result (λ parts. SettledTexts (D.told disk.new) (last_gate parts.0) parts.1.kept parts.1.notes parts.1.marks) }
     ensures noted { IfOk result (λ parts. NotedBefore (last_gate parts.0) parts.1.notes parts.1.kept.timeline) }
+    ensures marked { IfOk result (λ parts. MarkedBefore (last_gate parts.0) parts.1.marks) }
     ensures refused { IfErr result (λ fault. Starts (D.told disk.old) (D.told disk.new) (Err fault)) }
     ensures open { IfOk result (λ parts. parts.0.closed ≡ false) }
     ensures within { IfOk result (λ parts. last_gate parts.0 < (D.told disk.new).size) }

@@ -15,12 +15,11 @@ ghost use Rattle.mail_desk.specs.Entering.{CanEnter};
 ghost use Rattle.time_desk.specs.Lasting.{lasting};
 ghost use Rattle.time_desk.specs.Records.{is_spelled};
 ghost use Rattle.time_desk.specs.Sealing.{IsRecordOf, Seals};
-ghost use Rattle.time_desk.specs.Stored.{NotedBefore};
+ghost use Rattle.time_desk.specs.Stored.{MarkedBefore, NotedBefore};
 ghost use Rattle.time_desk.specs.Submitting.{IsOutcomeOf, RefusesNone, SubmitsNone, WritesNone};
 
 use crate::Desk;
 use crate::on_disk::Journal;
-use crate::permanence::records_let_uids_last;
 use crate::seal::seal_ready;
 use crate::spelling::item_bytes;
 use mail_desk::Ready;
@@ -79,6 +78,7 @@ fn find(
     requires known { IsTrue (list_all (is_known desk.old.kept.house) (cons_option by [])) }
     ensures kept { desk.new.kept ≡ desk.old.kept }
     ensures notes { desk.new.notes ≡ desk.old.notes }
+    ensures marks { desk.new.marks ≡ desk.old.marks }
     ensures item { IfOk result (λ found. live (store_of desk.old.kept) desk.old.kept.next at by ask ≡ Ok found.ready.item) }
     ensures ready { IfOk result (λ found. CanEnter found.ready desk.new) }
     ensures lies { IfOk result (λ found. (text : List ℕ) → text_in found.ready.item.deed ≡ Some text → IsTextAt found.bytes found.from text) }
@@ -119,6 +119,7 @@ fn seal_found<D: Disk>(
     ensures ok { OnOk result (Seals D.told (Verb found.ready.item ∷ []) [] (lasting desk.old journal.old) (lasting desk.new journal.new)) }
     ensures performed { OnOk result (desk.new.kept ≡ performed desk.old.kept found.ready.item) }
     ensures noted { NotedBefore journal.old.gate desk.old.notes desk.old.kept.timeline → NotedBefore journal.new.gate desk.new.notes desk.new.kept.timeline }
+    ensures marked { MarkedBefore journal.old.gate desk.old.marks → MarkedBefore journal.new.gate desk.new.marks }
     ensures same { OnErr result (desk.new ≡ desk.old) }
     ensures err { IfErr result (λ fault. SubmitsNone D.told (Ok found.ready.item) (lasting desk.old journal.old) (lasting desk.new journal.new) fault) }
     ensures refuses_none { RefusesNone result }
@@ -147,6 +148,7 @@ fn submit_open<D: Disk>(
     ensures ok { IfOk result (λ item. submitted desk.old.kept at by ask ≡ record { outcome = Ok item; kept = desk.new.kept }) }
     ensures sealed { IfOk result (λ item. Seals D.told (Verb item ∷ []) [] (lasting desk.old journal.old) (lasting desk.new journal.new)) }
     ensures noted { NotedBefore journal.old.gate desk.old.notes desk.old.kept.timeline → NotedBefore journal.new.gate desk.new.notes desk.new.kept.timeline }
+    ensures marked { MarkedBefore journal.old.gate desk.old.marks → MarkedBefore journal.new.gate desk.new.marks }
     ensures err { OnErr result (desk.new.kept ≡ desk.old.kept) }
     ensures why { IfErr result (λ fault. SubmitsNone D.told (live (store_of desk.old.kept) desk.old.kept.next at by ask)
         (lasting desk.old journal.old) (lasting desk.new journal.new) fault) }
@@ -181,7 +183,6 @@ impl<D: Disk> Desk<D> {
         ensures uids { UidsLast self.old.kept self.new.kept }
     {
         self.stands();
-        records_let_uids_last();
         if self.journal.is_closed() {
             drop(ask);
             return Err(SubmitFault::Closed);

@@ -1,13 +1,15 @@
-use Rattle.std.proofs.Common.{◌≡◌, ◌∙◌, Err, [], length, ap, refl, sym, subst}
+use Rattle.std.proofs.Common.{◌≡◌, ◌∙◌, ◌+◌, Err, [], length, ap, arith, refl, sym, subst}
 use Rattle.paradox.specs.Kept.{Kept}
+use Rattle.shelf.specs.Marks.{marks_at_or_before}
 use Rattle.mail_desk.specs.Held.{Held}
 use Rattle.mail_desk.specs.Remaking.{remade_as}
 use Rattle.mail_desk.specs.Timeline.{SizesOf}
 use Rattle.time_desk.specs.Cycling.{RenotesAs}
 use Rattle.time_desk.specs.Lasting.{lasting}
-use Rattle.time_desk.specs.Stored.{NotedBefore}
+use Rattle.time_desk.specs.Stored.{MarkedBefore, NotedBefore}
 use Rattle.time_desk.proofs.Rewinding.{cycle_notes, cycle_sealed, cycle_starved, cycle_unsealed, cycled}
-use Rattle.time_desk.proofs.Sealed.{noted_same}
+use Rattle.time_desk.proofs.Sealed.{marked_same, noted_same}
+use Rattle.time_desk.proofs.Marking.{marked_front, marked_later}
 use Rattle.time_desk.proofs.cycle.cycle_made.Goals as goal
 
 pub fault_of-requires : goal.fault_of-requires
@@ -25,7 +27,8 @@ returns-in-Ok-seal_found-clause-done g c = λ disk reads red.
     c.requires.anew red c.requires.open (done.report ∙ c.in-Ok.ensures.report) kept_is
     (cycle_sealed g.D.Disk.told disk c.args.desk.now new.desk c.args.journal.now new.journal c.args.at c.args.ask c.args.made found.bytes reads red c.requires.anew c.in-Ok.ensures.bytes c.in-Ok.ensures.spelled c.requires.known c.requires.open
     done.sealed.ok done.sealed.still_open
-    (record { house = told.house; aliases = told.aliases; base = told.base; timeline = told.timeline; below = told.below; named = told.named; fresh = told.fresh }) told.sizes c.requires.fit kept_is
+    (λ runs. record { house = told.house; aliases = told.aliases; base = told.base; runs = runs; timeline = told.timeline; below = told.below; named = told.named; fresh = told.fresh }) told.sizes c.requires.fit kept_is
+    (done.marks ∙ (λ j. marks_at_or_before (c.in-Ok.ensures.place j) (c.in-Ok.ensures.same_marks j)))
     (subst (λ notes. RenotesAs c.args.desk.now c.args.ask c.args.at (record { gate = c.args.journal.now.gate; length = length found.bytes }) c.args.made notes) (sym done.notes) c.in-Ok.ensures.notes))
 
 pub returns-in-Ok-seal_found-clause-noted : goal.returns-in-Ok-seal_found-clause-noted
@@ -38,7 +41,7 @@ returns-in-Ok-seal_found-clause-noted g c = λ is.
     subst (λ (k : Kept). NotedBefore new.journal.gate new.desk.notes k.timeline) (sym kept_is)
     (subst (λ notes. NotedBefore new.journal.gate notes c.args.made.timeline) (sym done.notes)
     (cycle_notes c.args.journal.now.gate new.journal.gate c.args.desk.now c.args.at c.args.ask ⊥ c.args.made found.bytes found.remade.shelf.notes done.sealed.next c.in-Ok.ensures.bytes told.sizes
-    (record { house = told.house; aliases = told.aliases; base = told.base; timeline = told.timeline; below = told.below; named = told.named; fresh = told.fresh }) c.requires.fit is c.in-Ok.ensures.notes
+    told.timeline.apart told.below c.requires.fit is c.in-Ok.ensures.notes
     (subst (SizesOf found.remade.shelf.notes) (ap (λ (k : Kept). k.timeline) c.in-Ok.ensures.made) c.in-Ok.ensures.ready.sizes) c.requires.noted))
 
 pub returns-in-Err-seal_found-clause-noted : goal.returns-in-Err-seal_found-clause-noted
@@ -51,14 +54,32 @@ pub returns-in-Err-clause-noted : goal.returns-in-Err-clause-noted
 returns-in-Err-clause-noted g c = λ is.
     noted_same c.args.journal.now.gate c.args.journal.now.gate c.args.desk.now c.ready_cycle.new.desk refl c.in-Err.ensures.kept c.in-Err.ensures.same c.requires.noted
 
+pub returns-in-Ok-seal_found-clause-marked : goal.returns-in-Ok-seal_found-clause-marked
+returns-in-Ok-seal_found-clause-marked g c =
+    let old = c.args.desk.now in
+    let new = c.seal_found.new in
+    let gate = c.args.journal.now.gate in
+    subst (MarkedBefore new.journal.gate) (sym (c.in-Ok-seal_found.ensures.marks ∙ (λ j. marks_at_or_before (c.in-Ok.ensures.place j) (c.in-Ok.ensures.same_marks j))))
+    (marked_front new.journal.gate c.args.made.place old.marks (marked_later gate new.journal.gate old.marks (omega (arith, c.in-Ok-seal_found.ensures.sealed.next)) c.requires.marked))
+
+pub returns-in-Err-seal_found-clause-marked : goal.returns-in-Err-seal_found-clause-marked
+returns-in-Err-seal_found-clause-marked g c =
+    let done = c.in-Err-seal_found.ensures in
+    marked_same c.args.journal.now.gate c.seal_found.new.journal.gate c.args.desk.now c.seal_found.new.desk done.sealed.err (ap (λ (h : Held). h.marks) done.same ∙ c.in-Ok.ensures.same_marks) c.requires.marked
+
+pub returns-in-Err-clause-marked : goal.returns-in-Err-clause-marked
+returns-in-Err-clause-marked g c =
+    marked_same c.args.journal.now.gate c.args.journal.now.gate c.args.desk.now c.ready_cycle.new.desk refl c.in-Err.ensures.same_marks c.requires.marked
+
 pub returns-in-Err-seal_found-clause-why : goal.returns-in-Err-seal_found-clause-why
 returns-in-Err-seal_found-clause-why g c = λ disk reads red.
     let found = c.in-Ok.found in
     let done = c.in-Err-seal_found.ensures in
     cycle_unsealed g.D.Disk.told disk c.args.desk.now c.seal_found.new.desk c.args.journal.now c.seal_found.new.journal c.args.at c.args.ask c.args.made found.bytes reads red c.requires.anew c.in-Ok.ensures.bytes c.in-Ok.ensures.spelled
-    c.requires.known c.requires.open c.in-Err-seal_found.fault c.fault_of.result done.sealed (ap (λ (h : Held). h.kept) done.same ∙ c.in-Ok.ensures.kept) (ap (λ (h : Held). h.notes) done.same ∙ c.in-Ok.ensures.same) c.fault_of.ensures
+    c.requires.known c.requires.open c.in-Err-seal_found.fault c.fault_of.result done.sealed (ap (λ (h : Held). h.kept) done.same ∙ c.in-Ok.ensures.kept) (ap (λ (h : Held). h.notes) done.same ∙ c.in-Ok.ensures.same)
+    (ap (λ (h : Held). h.marks) done.same ∙ c.in-Ok.ensures.same_marks) c.fault_of.ensures
 
 pub returns-in-Err-clause-why : goal.returns-in-Err-clause-why
 returns-in-Err-clause-why g c = λ disk reads red.
     cycle_starved g.D.Disk.told disk c.args.desk.now c.ready_cycle.new.desk c.args.journal.now c.args.journal.now c.args.at c.args.ask c.args.made [] reads red c.requires.anew
-    c.requires.open g.met.D.Disk.tells_truth c.in-Err.ensures.kept c.in-Err.ensures.same
+    c.requires.open g.met.D.Disk.tells_truth c.in-Err.ensures.kept c.in-Err.ensures.same c.in-Err.ensures.same_marks

@@ -1,15 +1,21 @@
 use Rattle.std.proofs.Common.{IfErr, IfOk, ap, refl, subst, sym, ℕ}
 use Rattle.time_desk.specs.Cycling.{Cycles, CyclesNone}
 use Rattle.time_desk.specs.Lasting.{Lasting, lasting}
-use Rattle.time_desk.specs.Stored.{NotedBefore}
+use Rattle.time_desk.specs.Stored.{MarkedBefore, NotedBefore}
 use Rattle.time_desk.specs.Telling.{HoldsHeld}
-use Rattle.time_desk.proofs.Rewinding.{cycles_as, made_unread, read_from, refused}
+use Rattle.time_desk.proofs.Rewinding.{any_ok, cycles_as, made_unread, read_from, refused}
 use Rattle.time_desk.proofs.Runs.{seals_still}
 use Rattle.time_desk.proofs.Sealed.{still_read}
 use Rattle.time_desk.proofs.cycle.cycle_open.Goals as goal
 
 pub cycle_made-requires-clause-noted : goal.cycle_made-requires-clause-noted
 cycle_made-requires-clause-noted g c = subst (λ (n : ℕ). NotedBefore n c.args.desk.now.notes c.args.desk.now.kept.timeline) (sym c.in-Ok.ensures.still.gate) c.requires.noted
+
+pub cycle_made-requires-clause-marked : goal.cycle_made-requires-clause-marked
+cycle_made-requires-clause-marked g c = subst (λ (n : ℕ). MarkedBefore n c.args.desk.now.marks) (sym c.in-Ok.ensures.still.gate) c.requires.marked
+
+pub returns-in-Err-clause-marked : goal.returns-in-Err-clause-marked
+returns-in-Err-clause-marked g c = subst (λ (n : ℕ). MarkedBefore n c.args.desk.now.marks) (sym c.in-Err.ensures.still.gate) c.requires.marked
 
 pub returns-in-Ok-clause-done : goal.returns-in-Ok-clause-done
 returns-in-Ok-clause-done g c =
@@ -44,3 +50,6 @@ returns-in-Err-clause-why g c =
     let still = still_read g.D.Disk.told c.args.desk.now c.args.journal.now c.rewound.new.self told.still in
     refused g.D.Disk.told c.args.at c.args.ask old read c.in-Err.refused c.refused_as.result still (seals_still g.D.Disk.told old read still)
     (λ none. ap (lasting c.args.desk.now) (told.untouched none)) c.requires.anew c.requires.open told.refused told.cause c.refused_as.ensures
+
+pub returns-in-Ok-clause-rewinds : goal.returns-in-Ok-clause-rewinds
+returns-in-Ok-clause-rewinds g c = λ due is holds. any_ok c.cycle_made.result (c.in-Ok.ensures.rewinds due is (holds.payloads, holds.texts))

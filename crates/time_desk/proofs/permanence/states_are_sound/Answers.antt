@@ -6,3 +6,6 @@ returns-clause-sound c = λ records kept is. (state_holds records kept is).0
 
 pub returns-clause-revs : goal.returns-clause-revs
 returns-clause-revs c = λ records kept is. (state_holds records kept is).1
+
+pub returns-clause-runs : goal.returns-clause-runs
+returns-clause-runs c = λ records kept is. (state_holds records kept is).0.runs

@@ -5,7 +5,11 @@ use Rattle.verb_bytes.specs.declared.journal.JournalRecord.{JournalRecord}
 use Rattle.verb_bytes.specs.Spelling.{record_bytes}
 use Rattle.seal_log.specs.Journal.{LiesAt}
 use Rattle.seal_log.specs.declared.fault.ReadFault.{ReadFault}
+use Rattle.verb_core.specs.declared.item.Item.{Item}
+use Rattle.verb_core.specs.declared.mailbox.Body.{Body}
+use Rattle.shelf.specs.declared.note.Note.{Note}
 use Rattle.time_desk.specs.Records.{after_record}
+use Rattle.time_desk.specs.Stored.{NotedBefore, TextsLie}
 use Rattle.time_desk.specs.Standing.{Performs}
 use Rattle.time_desk.proofs.Standings.{if_ok}
 use Rattle.time_desk.proofs.standing.follow.Goals as goal
@@ -27,6 +31,18 @@ returns-in-Operator-clause-texts g c payloads texts lies =
     (λ stood notes e. (notes e).lie payloads (subst (λ (w : JournalRecord). LiesAt payloads c.args.place.gate c.args.place.length (record_bytes w)) c.in-Operator.is lies) texts.lie)
     (passed _ c.enter_act.result c.without_reads-in-Operator.result c.without_reads-in-Operator.ensures.same c.enter_act.ensures.noted)
 
+pub returns-in-Verb-clause-marks : goal.returns-in-Verb-clause-marks
+returns-in-Verb-clause-marks g c payloads texts lies =
+    if_ok c.without_reads.result _ _
+    (λ stood marks e. (marks e).lie payloads (subst (λ (w : JournalRecord). LiesAt payloads c.args.place.gate c.args.place.length (record_bytes w)) c.in-Verb.is lies) texts.runs texts.marks)
+    (passed _ c.enter_verb.result c.without_reads.result c.without_reads.ensures.same c.enter_verb.ensures.marked)
+
+pub returns-in-Operator-clause-marks : goal.returns-in-Operator-clause-marks
+returns-in-Operator-clause-marks g c payloads texts lies =
+    if_ok c.without_reads-in-Operator.result _ _
+    (λ stood marks e. (marks e).lie payloads (subst (λ (w : JournalRecord). LiesAt payloads c.args.place.gate c.args.place.length (record_bytes w)) c.in-Operator.is lies) texts.runs texts.marks)
+    (passed _ c.enter_act.result c.without_reads-in-Operator.result c.without_reads-in-Operator.ensures.same c.enter_act.ensures.marked)
+
 pub returns-in-Cycle-clause-performed : goal.returns-in-Cycle-clause-performed
 returns-in-Cycle-clause-performed g c payloads texts =
     subst (λ (w : JournalRecord). IfOk c.rewind.result (λ stood. Performs (after_record c.args.desk.now.kept w) stood c.rewind.new.desk.kept)) (sym c.in-Cycle.is)
@@ -35,3 +51,27 @@ returns-in-Cycle-clause-performed g c payloads texts =
 pub returns-in-Cycle-clause-texts : goal.returns-in-Cycle-clause-texts
 returns-in-Cycle-clause-texts g c payloads texts lies =
     c.rewind.ensures.texts payloads texts (subst (λ (w : JournalRecord). LiesAt payloads c.args.place.gate c.args.place.length (record_bytes w)) c.in-Cycle.is lies)
+
+pub returns-in-Cycle-clause-marks : goal.returns-in-Cycle-clause-marks
+returns-in-Cycle-clause-marks g c payloads texts lies =
+    c.rewind.ensures.marks payloads texts (subst (λ (w : JournalRecord). LiesAt payloads c.args.place.gate c.args.place.length (record_bytes w)) c.in-Cycle.is lies)
+
+pub returns-in-Snapshot-clause-texts : goal.returns-in-Snapshot-clause-texts
+returns-in-Snapshot-clause-texts g c payloads texts lies =
+    if_ok c.without_reads-in-Snapshot.result _ _
+    (λ stood still e. subst (λ (t : List Item). TextsLie payloads c.enter_snapshot.new.desk.notes t) (sym (still e).1)
+    (subst (λ (notes : List (Body × Note)). TextsLie payloads notes c.args.desk.now.kept.timeline) (sym (still e).0) texts.lie))
+    (passed _ c.enter_snapshot.result c.without_reads-in-Snapshot.result c.without_reads-in-Snapshot.ensures.same c.enter_snapshot.ensures.still)
+
+pub returns-in-Snapshot-clause-marks : goal.returns-in-Snapshot-clause-marks
+returns-in-Snapshot-clause-marks g c payloads texts lies =
+    if_ok c.without_reads-in-Snapshot.result _ _
+    (λ stood marks e. (marks e).lie payloads (subst (λ (w : JournalRecord). LiesAt payloads c.args.place.gate c.args.place.length (record_bytes w)) c.in-Snapshot.is lies) texts.runs texts.marks)
+    (passed _ c.enter_snapshot.result c.without_reads-in-Snapshot.result c.without_reads-in-Snapshot.ensures.same c.enter_snapshot.ensures.marked)
+
+pub returns-in-Snapshot-clause-noted : goal.returns-in-Snapshot-clause-noted
+returns-in-Snapshot-clause-noted g c =
+    if_ok c.without_reads-in-Snapshot.result _ _
+    (λ stood still e. subst (λ (t : List Item). NotedBefore c.args.end c.enter_snapshot.new.desk.notes t) (sym (still e).1)
+    (subst (λ (notes : List (Body × Note)). NotedBefore c.args.end notes c.args.desk.now.kept.timeline) (sym (still e).0) c.requires.noted))
+    (passed _ c.enter_snapshot.result c.without_reads-in-Snapshot.result c.without_reads-in-Snapshot.ensures.same c.enter_snapshot.ensures.still)

@@ -18,3 +18,8 @@ pub returns-clause-texts : goal.returns-clause-texts
 returns-clause-texts g c payloads texts lies =
     c.rewind_anew.ensures.texts payloads texts
     (subst (λ (n : ℕ). LiesAt payloads c.args.place.gate c.args.place.length (record_bytes (Cycle n c.args.at c.args.ask))) (cycle_number c.args.desk.now.kept c.args.number c.args.ask (sym c.if-not-can_rewind.ensures)) lies)
+
+pub returns-clause-marks : goal.returns-clause-marks
+returns-clause-marks g c payloads texts lies =
+    c.rewind_anew.ensures.marks payloads texts
+    (subst (λ (n : ℕ). LiesAt payloads c.args.place.gate c.args.place.length (record_bytes (Cycle n c.args.at c.args.ask))) (cycle_number c.args.desk.now.kept c.args.number c.args.ask (sym c.if-not-can_rewind.ensures)) lies)

@@ -3,7 +3,7 @@ use Rattle.seal_log.specs.Log.{end_gate, is_cut, last_gate}
 use Rattle.mail_desk.specs.Held.{Held}
 use Rattle.time_desk.specs.Opening.{IsDamaged, IsStarted, Refuses}
 use Rattle.time_desk.specs.Standing.{Fails}
-use Rattle.time_desk.specs.Stored.{NotedBefore, SettledTexts}
+use Rattle.time_desk.specs.Stored.{MarkedBefore, NotedBefore, SettledTexts}
 use Rattle.time_desk.proofs.Standings.{if_err, if_ok}
 use Rattle.time_desk.proofs.Surveys.{breaks, cut_first, cut_told, whole, whole_texts}
 use Rattle.time_desk.proofs.start.opened_from.Goals as goal
@@ -28,16 +28,22 @@ returns-in-Ok-clause-texts g c image seen =
     let disk = g.D.Disk.told c.args.disk.now in
     let new = g.D.Disk.told c.read_all.new.disk in
     let all = c.in-Ok.ensures.texts seen.payloads seen.held (c.as_slice.ensures ∙ seen.places_are) in
-    let is = whole_texts image disk (end_gate c.args.seen.end) c.args.seen.places new (is_cut c.args.seen.end) seen c.in-Ok.desk.kept c.in-Ok.desk.notes c.read_all.ensures.reads in
+    let is = whole_texts image disk (end_gate c.args.seen.end) c.args.seen.places new (is_cut c.args.seen.end) seen c.in-Ok.desk.kept c.in-Ok.desk.notes c.in-Ok.desk.marks c.read_all.ensures.reads in
     if_ok c.ended.result _ _
-    (λ parts ended. subst (λ (desk : Held). SettledTexts new (last_gate parts.0) desk.kept desk.notes) (sym ended.2)
-    (subst (λ (gate : ℕ). SettledTexts new gate c.in-Ok.desk.kept c.in-Ok.desk.notes) (sym ended.1) (is ended.0 all))) c.ended.ensures.whole
+    (λ parts ended. subst (λ (desk : Held). SettledTexts new (last_gate parts.0) desk.kept desk.notes desk.marks) (sym ended.2)
+    (subst (λ (gate : ℕ). SettledTexts new gate c.in-Ok.desk.kept c.in-Ok.desk.notes c.in-Ok.desk.marks) (sym ended.1) (is ended.0 all))) c.ended.ensures.whole
 
 pub returns-in-Ok-clause-noted : goal.returns-in-Ok-clause-noted
 returns-in-Ok-clause-noted g c =
     if_ok c.ended.result _ _
     (λ parts ended. subst (λ (desk : Held). NotedBefore (last_gate parts.0) desk.notes desk.kept.timeline) (sym ended.2)
     (subst (λ (gate : ℕ). NotedBefore gate c.in-Ok.desk.notes c.in-Ok.desk.kept.timeline) (c.gate-2.ensures ∙ sym ended.1) c.in-Ok.ensures.noted)) c.ended.ensures.whole
+
+pub returns-in-Ok-clause-marked : goal.returns-in-Ok-clause-marked
+returns-in-Ok-clause-marked g c =
+    if_ok c.ended.result _ _
+    (λ parts ended. subst (λ (desk : Held). MarkedBefore (last_gate parts.0) desk.marks) (sym ended.2)
+    (subst (λ (gate : ℕ). MarkedBefore gate c.in-Ok.desk.marks) (c.gate-2.ensures ∙ sym ended.1) c.in-Ok.ensures.marked)) c.ended.ensures.whole
 
 pub returns-in-Ok-clause-bad : goal.returns-in-Ok-clause-bad
 returns-in-Ok-clause-bad g c image seen =

@@ -32,6 +32,7 @@ loop-place-preserved g c = record {
       let nth = nth_of (length (sealed before)) payloads c.args.places.now i (record { gate = 0; length = 0 }) are c.loop-place-test.true in
       c.in-Ok.ensures.texts (before ++ payloads) nth.payload (c.loop-place.invariant.texts before payloads texts are) (lies_behind before payloads i place nth);
   noted = c.in-Ok.ensures.noted;
+  marked = c.in-Ok.ensures.marked;
 }
 
 pub returns-clause-performed : goal.returns-clause-performed

@@ -15,7 +15,9 @@ returns-then-stood-clause-texts g c payloads texts lies =
     record {
       held = holds_on (g.D.Disk.told c.args.disk.now) (g.D.Disk.told c.follow.new.disk) payloads c.follow.ensures.reads texts.held;
       lie = c.in-Ok.ensures.texts payloads texts lies c.if-stood.true;
-      revs = c.revs_stay.ensures c.args.what c.follow.new.desk.kept texts.revs next;
+      revs = c.revs_stay.ensures.revs c.args.what c.follow.new.desk.kept texts.runs texts.revs next;
+      runs = c.revs_stay.ensures.runs c.args.what c.follow.new.desk.kept texts.runs next;
+      marks = c.in-Ok.ensures.marks payloads texts lies c.if-stood.true;
     }
 
 pub returns-else-stood-clause-bad : goal.returns-else-stood-clause-bad

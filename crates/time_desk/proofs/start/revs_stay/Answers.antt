@@ -4,14 +4,28 @@ use Rattle.paradox.specs.Kept.{Kept}
 use Rattle.time_desk.specs.Records.{after_records}
 use Rattle.time_desk.proofs.start.revs_stay.Goals as goal
 
-pub returns : goal.returns
-returns g what next revs is =
+pub returns-clause-revs : goal.returns-clause-revs
+returns-clause-revs g what next runs revs is =
     g.records_let_uids_last.ensures.revs g.args.desk.now.kept next (what ∷ []) (record {
       house = g.stands.ensures.house;
       aliases = g.stands.ensures.aliases;
       base = g.stands.ensures.base;
+      runs = runs;
       timeline = g.stands.ensures.timeline;
       below = g.stands.ensures.below;
       named = g.stands.ensures.named;
       fresh = g.stands.ensures.fresh;
     }) revs (ap (option_and_then (λ (k : Kept). after_records k [])) is)
+
+pub returns-clause-runs : goal.returns-clause-runs
+returns-clause-runs g what next runs is =
+    (g.records_let_uids_last.ensures.sound g.args.desk.now.kept next (what ∷ []) (record {
+      house = g.stands.ensures.house;
+      aliases = g.stands.ensures.aliases;
+      base = g.stands.ensures.base;
+      runs = runs;
+      timeline = g.stands.ensures.timeline;
+      below = g.stands.ensures.below;
+      named = g.stands.ensures.named;
+      fresh = g.stands.ensures.fresh;
+    }) (ap (option_and_then (λ (k : Kept). after_records k [])) is)).runs

@@ -24,7 +24,7 @@ returns-in-Err-clause-why g c = (
   c.requires.open,
   c.in-Err.ensures.refused,
   seals_nothing g.D.Disk.told g.met.D.Disk.tells_truth (lasting c.args.desk.now c.args.journal.now) (lasting c.find.new.desk c.args.journal.now)
-      (record { kept = c.in-Err.ensures.kept; notes = c.in-Err.ensures.notes; disk = refl; gate = refl; closed = refl }),
+      (record { kept = c.in-Err.ensures.kept; notes = c.in-Err.ensures.notes; marks = c.in-Err.ensures.marks; disk = refl; gate = refl; closed = refl }),
 )
 
 pub returns-in-Ok-clause-writes_none : goal.returns-in-Ok-clause-writes_none
@@ -32,10 +32,10 @@ returns-in-Ok-clause-writes_none g c =
     none_written c.seal_found.result (lasting c.args.desk.now c.args.journal.now) (lasting c.seal_found.new.desk c.seal_found.new.journal) c.seal_found.ensures.refuses_none
 
 pub returns-in-Err-clause-writes_none : goal.returns-in-Err-clause-writes_none
-returns-in-Err-clause-writes_none g c = λ other. record { kept = c.in-Err.ensures.kept; notes = c.in-Err.ensures.notes; disk = refl; gate = refl; closed = refl }
+returns-in-Err-clause-writes_none g c = λ other. record { kept = c.in-Err.ensures.kept; notes = c.in-Err.ensures.notes; marks = c.in-Err.ensures.marks; disk = refl; gate = refl; closed = refl }
 
 pub returns-in-Ok-clause-why : goal.returns-in-Ok-clause-why
 returns-in-Ok-clause-why g c =
     let kept = c.args.desk.now.kept in
     submits_none_from g.D.Disk.told (live (store_of kept) kept.next c.args.at c.args.by c.args.ask) c.in-Ok.found.ready.item c.args.desk.now c.find.new.desk c.args.journal.now (lasting c.seal_found.new.desk c.seal_found.new.journal)
-    c.seal_found.result c.in-Ok.ensures.item c.in-Ok.ensures.kept c.in-Ok.ensures.notes c.requires.open c.seal_found.ensures.err
+    c.seal_found.result c.in-Ok.ensures.item c.in-Ok.ensures.kept c.in-Ok.ensures.notes c.in-Ok.ensures.marks c.requires.open c.seal_found.ensures.err

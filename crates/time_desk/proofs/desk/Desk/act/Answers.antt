@@ -1,20 +1,19 @@
-use Rattle.std.proofs.Common.{[], ◌∷◌, refl, subst, sym}
+use Rattle.std.proofs.Common.{refl, subst, sym}
 use Rattle.verb_bytes.specs.declared.journal.JournalRecord.TheVariants.{Operator}
 use Rattle.mail_cycle.specs.Permanence.{UidsLast}
 use Rattle.time_desk.specs.Lasting.{Lasting, lasting}
-use Rattle.time_desk.specs.Permanence.{IsSound}
-use Rattle.time_desk.proofs.States.{lasts_operated, lasts_same}
+use Rattle.time_desk.proofs.Lasts.{IsNamed, calls_last, lasts_kept}
 use Rattle.time_desk.proofs.desk.Desk.act.Goals as goal
 
 pub returns-then-is_closed-clause-uids : goal.returns-then-is_closed-clause-uids
-returns-then-is_closed-clause-uids g c = lasts_same c.records_let_uids_last.ensures.lasts _ _ c.stands.ensures.sound refl
+returns-then-is_closed-clause-uids g c = lasts_kept _ _ refl
 
 -- what was sealed lets UIDs last
 pub returns-clause-uids : goal.returns-clause-uids
 returns-clause-uids g c =
     let tried = c.act_open in
     let inside = c.self.inside in
-    let sound = subst (λ (l : Lasting g.row.D.Denot). IsSound l.kept) (sym c.self.view_is) c.stands.ensures.sound in
+    let named = subst (λ (l : Lasting g.row.D.Denot). IsNamed l.kept) (sym c.self.view_is) c.stands.ensures.named in
     subst (λ (l : Lasting g.row.D.Denot). UidsLast l.kept tried.new.desk.kept) c.self.view_is
-    (lasts_operated c.records_let_uids_last.ensures.lasts g.D.Disk.told tried.result (Operator inside.desk.kept.next c.args.at c.args.act ∷ []) (lasting inside.desk inside.journal) (lasting tried.new.desk tried.new.journal) refl
-    sound tried.ensures.ok tried.ensures.same)
+    (calls_last g.D.Disk.told tried.result (Operator inside.desk.kept.next c.args.at c.args.act) (lasting inside.desk inside.journal) (lasting tried.new.desk tried.new.journal) refl
+    named tried.ensures.ok tried.ensures.same)

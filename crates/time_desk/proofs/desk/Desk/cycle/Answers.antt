@@ -1,10 +1,13 @@
-use Rattle.std.proofs.Common.{IfErr, IfOk, refl, subst, sym}
+use Rattle.std.proofs.Common.{◌≡◌, ◌∙◌, ◌+◌, ◌≤◌, IfErr, IfOk, OnOk, refl, subst, sym}
+use Rattle.mail_cycle.specs.Asking.{Rewinds, cycle_due}
 use Rattle.mail_cycle.specs.Permanence.{UidsLast}
-use Rattle.time_desk.specs.Cycling.{Cycles, CyclesNone}
+use Rattle.time_desk.specs.Cycling.{Cycles, CyclesNone, most_performed}
 use Rattle.time_desk.specs.Lasting.{Lasting, lasting}
 use Rattle.time_desk.specs.Permanence.{IsSound}
 use Rattle.time_desk.specs.Stored.{HoldsTexts}
-use Rattle.time_desk.proofs.States.{lasts_rewound, lasts_same}
+use Rattle.time_desk.proofs.Lasts.{lasts_kept}
+use Rattle.time_desk.proofs.Rewinding.{due_new}
+use Rattle.time_desk.proofs.States.{lasts_rewound}
 use Rattle.time_desk.proofs.desk.Desk.cycle.Goals as goal
 
 pub returns-in-Ok-None-clause-done : goal.returns-in-Ok-None-clause-done
@@ -18,17 +21,25 @@ returns-in-Ok-None-clause-why g c =
     subst (λ (l : Lasting g.row.D.Denot). IfErr tried.result (λ fault. CyclesNone g.D.Disk.told c.args.at c.args.ask l (lasting tried.new.desk tried.new.journal) fault)) c.self.view_is tried.ensures.why
 
 pub returns-in-Ok-Some-clause-uids : goal.returns-in-Ok-Some-clause-uids
-returns-in-Ok-Some-clause-uids g c = λ holds. lasts_same c.records_let_uids_last.ensures.lasts _ _ c.stands.ensures.sound refl
+returns-in-Ok-Some-clause-uids g c = λ holds. lasts_kept _ _ refl
 
 -- what was sealed lets UIDs last
 pub returns-in-Ok-None-clause-uids : goal.returns-in-Ok-None-clause-uids
 returns-in-Ok-None-clause-uids g c = λ holds.
     let tried = c.cycle_anew in
     let inside = c.self.inside in
-    let sound = subst (λ (l : Lasting g.row.D.Denot). IsSound l.kept) (sym c.self.view_is) c.stands.ensures.sound in
+    let sound = subst (λ (l : Lasting g.row.D.Denot). IsSound l.kept) (sym c.self.view_is) (c.stands.ensures.sound holds.texts.runs) in
     subst (λ (l : Lasting g.row.D.Denot). UidsLast l.kept tried.new.desk.kept) c.self.view_is
     (lasts_rewound c.records_let_uids_last.ensures.lasts g.D.Disk.told c.args.at c.args.ask tried.result (lasting inside.desk inside.journal) (lasting tried.new.desk tried.new.journal)
     (subst (HoldsTexts g.D.Disk.told) (sym c.self.view_is) holds) sound tried.ensures.done tried.ensures.err)
 
 pub returns-in-Err-clause-uids : goal.returns-in-Err-clause-uids
-returns-in-Err-clause-uids g c = λ holds. lasts_same c.records_let_uids_last.ensures.lasts _ _ c.stands.ensures.sound refl
+returns-in-Err-clause-uids g c = λ holds. lasts_kept _ _ refl
+
+pub returns-in-Ok-None-clause-rewinds : goal.returns-in-Ok-None-clause-rewinds
+returns-in-Ok-None-clause-rewinds g c = λ due is holds.
+    let tried = c.cycle_anew in
+    let inside = c.self.inside in
+    subst (λ (l : Lasting g.row.D.Denot). OnOk tried.result (tried.new.steps ≤ c.args.steps.now + most_performed l.kept c.args.ask due)) c.self.view_is
+    (tried.ensures.rewinds due (sym (due_new inside.desk.kept c.args.at c.args.ask (sym c.in-Ok-None.ensures.found ∙ c.in-Ok-None.field-0-is)) ∙ subst (λ (l : Lasting g.row.D.Denot). cycle_due l.kept c.args.at c.args.ask ≡ Rewinds due) (sym c.self.view_is) is)
+    (subst (HoldsTexts g.D.Disk.told) (sym c.self.view_is) holds))

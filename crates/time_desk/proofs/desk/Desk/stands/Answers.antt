@@ -1,4 +1,5 @@
 use Rattle.std.proofs.Common.{subst}
+use Rattle.paradox.specs.Kept.{IsRun}
 use Rattle.time_desk.specs.Lasting.{Lasting}
 use Rattle.time_desk.specs.Permanence.{IsSound}
 use Rattle.time_desk.proofs.desk.Desk.stands.Goals as goal
@@ -6,10 +7,11 @@ use Rattle.time_desk.proofs.desk.Desk.stands.Goals as goal
 pub returns-clause-sound : goal.returns-clause-sound
 returns-clause-sound g c =
     let told = c.stands.ensures in
-    subst (λ (l : Lasting g.row.D.Denot). IsSound l.kept) c.self.view_is (record {
+    subst (λ (l : Lasting g.row.D.Denot). IsRun l.kept → IsSound l.kept) c.self.view_is (λ runs. record {
       house = told.house;
       aliases = told.aliases;
       base = told.base;
+      runs = runs;
       timeline = told.timeline;
       below = told.below;
       named = told.named;

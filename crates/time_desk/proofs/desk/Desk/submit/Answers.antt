@@ -1,12 +1,11 @@
-use Rattle.std.proofs.Common.{[], ◌∷◌, IfErr, refl, subst, sym}
+use Rattle.std.proofs.Common.{IfErr, refl, subst, sym}
 use Rattle.verb_core.specs.Live.{live}
 use Rattle.verb_bytes.specs.declared.journal.JournalRecord.TheVariants.{Verb}
 use Rattle.paradox.specs.Kept.{store_of}
 use Rattle.mail_cycle.specs.Permanence.{UidsLast}
 use Rattle.time_desk.specs.Lasting.{Lasting, lasting}
-use Rattle.time_desk.specs.Permanence.{IsSound}
 use Rattle.time_desk.specs.Submitting.{SubmitsNone, WritesNone}
-use Rattle.time_desk.proofs.States.{lasts_same, lasts_sealed}
+use Rattle.time_desk.proofs.Lasts.{IsNamed, call_lasts, lasts_kept}
 use Rattle.time_desk.proofs.desk.Desk.submit.Goals as goal
 
 pub returns-clause-why : goal.returns-clause-why
@@ -21,13 +20,13 @@ returns-clause-writes_none g c =
     subst (λ (l : Lasting g.row.D.Denot). WritesNone tried.result l (lasting tried.new.desk tried.new.journal)) c.self.view_is tried.ensures.writes_none
 
 pub returns-then-is_closed-clause-uids : goal.returns-then-is_closed-clause-uids
-returns-then-is_closed-clause-uids g c = lasts_same c.records_let_uids_last.ensures.lasts _ _ c.stands.ensures.sound refl
+returns-then-is_closed-clause-uids g c = lasts_kept _ _ refl
 
 -- what was sealed lets UIDs last
 pub returns-clause-uids : goal.returns-clause-uids
 returns-clause-uids g c =
     let tried = c.submit_open in
-    let sound = subst (λ (l : Lasting g.row.D.Denot). IsSound l.kept) (sym c.self.view_is) c.stands.ensures.sound in
+    let named = subst (λ (l : Lasting g.row.D.Denot). IsNamed l.kept) (sym c.self.view_is) c.stands.ensures.named in
     subst (λ (l : Lasting g.row.D.Denot). UidsLast l.kept tried.new.desk.kept) c.self.view_is
-    (lasts_sealed c.records_let_uids_last.ensures.lasts g.D.Disk.told tried.result (λ item. Verb item ∷ []) (lasting c.self.inside.desk c.self.inside.journal) (lasting tried.new.desk tried.new.journal) (λ item. refl)
-    sound tried.ensures.sealed tried.ensures.err)
+    (call_lasts g.D.Disk.told tried.result (λ item. Verb item) (lasting c.self.inside.desk c.self.inside.journal) (lasting tried.new.desk tried.new.journal) (λ item. refl)
+    named tried.ensures.sealed tried.ensures.err)

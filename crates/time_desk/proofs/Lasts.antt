@@ -1,0 +1,89 @@
+-- What a client knows by UID lasts over one call that seals a record, of whatever desk: its stamps name its mailboxes.
+use Rattle.std.proofs.Common.{◌≡◌, ℕ, Bool, true, false, ◌&&◌, ◌||◌, ◌==◌, cond, nat_lt, List, [], ◌∷◌, map, Option, Some, None, Result, Ok, Err, IfOk, OnOk, OnErr, eqb-true, inr, ap, refl, sym, subst}
+use Rattle.std.specs.Prelude.{option_and_then}
+use Rattle.std.proofs.lemmas.Bool.{and_parts}
+use Rattle.undo_outside.specs.Disk.{DiskTold}
+use Rattle.verb_core.specs.Deeds.{act_item}
+use Rattle.verb_core.specs.declared.item.Item.{Item}
+use Rattle.verb_core.specs.declared.mailbox.BoxId.{BoxId}
+use Rattle.verb_core.specs.declared.mailbox.Mailbox.{Mailbox}
+use Rattle.verb_bytes.specs.declared.journal.JournalRecord.{JournalRecord}
+use Rattle.verb_bytes.specs.declared.journal.JournalRecord.TheVariants.{Format, Verb, Operator, Cycle, Snapshot}
+use Rattle.paradox.specs.Kept.{Kept, Marks, passed, performed, snapshotted, store_of}
+use Rattle.mail_cycle.specs.Permanence.{UidsLast}
+use Rattle.mail_cycle.proofs.Lasting.{lasts_itself, lasts_performed}
+use Rattle.time_desk.specs.Lasting.{Lasting}
+use Rattle.time_desk.specs.Records.{after_item, after_kept, after_record, can_follow, can_keep, is_formed, is_spelled, is_true}
+use Rattle.time_desk.specs.Sealing.{Seals, is_cycle}
+use Rattle.time_desk.specs.Submitting.{Snapshots}
+
+-- the stamps name the mailboxes
+abbrev pub IsNamed : Kept → Type 0
+IsNamed kept = map (λ (r : BoxId × ℕ). r.0) kept.stamps ≡ map (λ (r : BoxId × Mailbox). r.0) (store_of kept).boxes
+
+-- over no record
+pub lasts_kept : (old new : Kept) → new ≡ old → UidsLast old new
+lasts_kept old new same = subst (UidsLast old) (sym same) (lasts_itself old)
+
+-- whatever is known of snapshots
+pub lasts_marked : (kept : Kept) (marks : Marks) → UidsLast kept (record kept { marks = marks })
+lasts_marked kept marks = let same = lasts_itself kept in record { next = same.next; stamps = same.stamps; texts = same.texts }
+
+item_lasts : (kept new : Kept) (what : JournalRecord) (item : Item) → IsNamed kept → after_item kept what item ≡ Some new → UidsLast kept new
+item_lasts kept new what item named is = by (is_spelled what) (can_follow kept item) refl is
+  where
+    by : (spelled can : Bool) → can_follow kept item ≡ can → cond (spelled && can) (Some (performed kept item)) None ≡ Some new → UidsLast kept new
+    by true true e is =
+        let number : item.number ≡ kept.next = eqb-true item.number kept.next (and_parts (item.number == kept.next) (nat_lt kept.next 4194304) (and_parts ((item.number == kept.next) && nat_lt kept.next 4194304) (is_formed kept.house item) e).0).0 in
+        let same : performed kept item ≡ new = cc is in
+        subst (UidsLast kept) same (lasts_performed kept item named number)
+    by true false e is = absurd (cc is)
+    by false can e is = absurd (cc is)
+
+-- over a record that is no cycle's
+pub record_lasts : (kept new : Kept) (what : JournalRecord) → is_cycle what ≡ false → IsNamed kept → after_record kept what ≡ Some new → UidsLast kept new
+record_lasts kept new (Verb item) plain named is = item_lasts kept new (Verb item) item named is
+record_lasts kept new (Operator number at act) plain named is = item_lasts kept new (Operator number at act) (act_item number at act) named is
+record_lasts kept new (Format house conf) plain named is = absurd (cc is)
+record_lasts kept new (Cycle number at ask) plain named is = absurd (cc plain)
+record_lasts kept new (Snapshot items conf rows) plain named is = by (is_spelled (Snapshot items conf rows)) (can_keep kept items conf rows) is
+  where
+    as_marked : UidsLast kept (after_kept kept (Snapshot items conf rows))
+    as_marked = elim (is_true kept (Snapshot items conf rows)) as (λ b. UidsLast kept (cond b (snapshotted kept) (record kept { marks = passed kept.marks }))) [
+      | true ↦ lasts_marked kept (snapshotted kept).marks
+      | false ↦ lasts_marked kept (passed kept.marks)
+    ]
+
+    by : (spelled can : Bool) → cond (spelled && can) (Some (after_kept kept (Snapshot items conf rows))) None ≡ Some new → UidsLast kept new
+    by true true is = let same : after_kept kept (Snapshot items conf rows) ≡ new = cc is in subst (UidsLast kept) same as_marked
+    by true false is = absurd (cc is)
+    by false can is = absurd (cc is)
+
+after_one : (o : Option Kept) (new : Kept) → option_and_then Some o ≡ Some new → o ≡ Some new
+after_one None new is = is
+after_one (Some k) new is = is
+
+module _ {D : Type 0} (told : D → DiskTold) where
+  sealed_lasts : (what : JournalRecord) (old new : Lasting D) → is_cycle what ≡ false → IsNamed old.kept → Seals told (what ∷ []) [] old new → UidsLast old.kept new.kept
+  sealed_lasts what old new plain named seals =
+      record_lasts old.kept new.kept what plain named (after_one (after_record old.kept what) new.kept (seals.kept (inr (none what plain))))
+    where
+      none : (w : JournalRecord) → is_cycle w ≡ false → (is_cycle w || false) ≡ false
+      none w e = ap (λ (b : Bool). b || false) e
+
+  -- over a call that took a snapshot
+  pub snapshots_last : {T E : Type 0} (result : Result T E) (old new : Lasting D) (n : ℕ) → OnOk result (Snapshots told old new n) → OnErr result (new.kept ≡ old.kept) → UidsLast old.kept new.kept
+  snapshots_last (Ok x) old new n done same = subst (UidsLast old.kept) (sym done.2) (lasts_marked old.kept (snapshotted old.kept).marks)
+  snapshots_last (Err e) old new n done same = lasts_kept old.kept new.kept same
+
+  -- over a call that sealed one that is known before, or left what is kept as it was
+  pub calls_last : {T E : Type 0} (result : Result T E) (what : JournalRecord) (old new : Lasting D) → is_cycle what ≡ false → IsNamed old.kept → OnOk result (Seals told (what ∷ []) [] old new)
+      → OnErr result (new.kept ≡ old.kept) → UidsLast old.kept new.kept
+  calls_last (Ok x) what old new plain named seals same = sealed_lasts what old new plain named seals
+  calls_last (Err e) what old new plain named seals same = lasts_kept old.kept new.kept same
+
+  -- over a call that sealed one, or left what is kept as it was
+  pub call_lasts : {T E : Type 0} (result : Result T E) (what : T → JournalRecord) (old new : Lasting D) → ((x : T) → is_cycle (what x) ≡ false) → IsNamed old.kept → IfOk result (λ x. Seals told (what x ∷ []) [] old new)
+      → OnErr result (new.kept ≡ old.kept) → UidsLast old.kept new.kept
+  call_lasts (Ok x) what old new plain named seals same = sealed_lasts (what x) old new (plain x) named seals
+  call_lasts (Err e) what old new plain named seals same = lasts_kept old.kept new.kept same

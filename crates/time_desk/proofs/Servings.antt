@@ -1,0 +1,155 @@
+-- What a cycle begins with.
+use Rattle.std.proofs.Common.{◌≡◌, ℕ, zero, suc, ◌+◌, ◌-◌, ◌<◌, ◌≤◌, ◌&&◌, Bool, true, false, cond, nat_le, List, [], ◌∷◌, ◌++◌, length, map, filter, take, drop, get_or, Option, Some, None, Result, Ok, Err, IfOk, arith, refl, sym, ap, subst, ◌∙◌, slice_get}
+use Rattle.std.specs.Prelude.{IfSome, IsTrue, option_map, slice_index_or}
+use Rattle.std.specs.List.{AllByRecursion, list_all}
+use Rattle.std.proofs.lemmas.Bool.{and_from, and_parts}
+use Rattle.std.proofs.lemmas.Bool.Decides.{nat_tests}
+use Rattle.verb_core.specs.declared.conf.Conf.{Conf}
+use Rattle.verb_core.specs.declared.conf.House.{House}
+use Rattle.verb_core.specs.declared.item.Item.{Item}
+use Rattle.verb_core.specs.declared.mailbox.BoxId.{BoxId}
+use Rattle.verb_core.specs.declared.mailbox.Mailbox.{Mailbox}
+use Rattle.verb_core.specs.Items.{IsWellFormed}
+use Rattle.verb_core.specs.Step.{run, step}
+use Rattle.verb_core.specs.Store.{IsValid, MailStore, is_house, is_known, opening}
+use Rattle.verb_core.proofs.Joins.{run_house}
+use Rattle.seal_log.specs.declared.place.Place.{Place}
+use Rattle.shelf.specs.Marks.{marks_at_or_before, newest}
+use Rattle.box_store.specs.Making.{makes_store, store_of_rows}
+use Rattle.mail_cycle.specs.declared.beginning.Beginning.{Beginning}
+use Rattle.mail_desk.specs.Timeline.{all_bodies, has_text}
+use Rattle.paradox.specs.Kept.{Kept, newest_at, not_behind}
+use Rattle.repair_desk.proofs.Everywhere.{taken}
+use Rattle.time_desk.specs.Serving.{CanServe, FindsLast, IsNewest, Serves}
+use Rattle.time_desk.specs.Stored.{MarksLie, store_at}
+
+abbrev pub Mark : Type 0
+Mark = ℕ × Place
+
+-- ---- stores that serve
+
+run_valid : ((s : MailStore) (i : Item) → IsValid s → IsWellFormed s.house i → IsValid (step s i).0) → (base : MailStore) (t : List Item) → IsValid base → AllByRecursion (IsWellFormed base.house) t → IsValid (run base t)
+run_valid law base [] valid formed = valid
+run_valid law base (i ∷ t) valid formed = run_valid law (step base i).0 t (law base i valid formed.0) formed.1
+
+-- the store that the first items left
+pub front_serves : ((s : MailStore) (i : Item) → IsValid s → IsWellFormed s.house i → IsValid (step s i).0)
+    → (kept : Kept) (count : ℕ) → kept.base ≡ opening kept.house kept.opening → IsValid (opening kept.house kept.opening)
+    → AllByRecursion (IsWellFormed kept.house) kept.timeline
+    → ((t : List Item) → AllByRecursion (IsWellFormed kept.house) t → IsTrue (all_bodies (has_text t) (run (opening kept.house kept.opening) t).boxes))
+    → CanServe kept count (store_at kept count)
+front_serves law kept count base valid formed texts =
+    let front : AllByRecursion (IsWellFormed kept.house) (take count kept.timeline) = taken (IsWellFormed kept.house) count kept.timeline formed in
+    subst (λ (s : MailStore). CanServe kept count (run s (take count kept.timeline))) (sym base) (record {
+      valid = run_valid law (opening kept.house kept.opening) (take count kept.timeline) valid front;
+      house = run_house (opening kept.house kept.opening) (take count kept.timeline);
+      texts = texts (take count kept.timeline) front;
+    })
+
+-- a store is made of its own rows
+pub made_again : (s : MailStore) (house : House) → s.house ≡ house → store_of_rows house s.conf s.boxes ≡ s
+made_again s house same = ap (λ (h : House). store_of_rows h s.conf s.boxes) (sym same)
+
+-- ---- the newest
+
+last_mapped : (xs : List Mark) → get_or (map (λ (m : Mark). m.0) xs) (length (map (λ (m : Mark). m.0) xs) - 1) 0 ≡ get_or (map (λ (m : Mark). m.0) xs) (length xs - 1) 0
+last_mapped xs = ap (λ n. get_or (map (λ (m : Mark). m.0) xs) (n - 1) 0) (counted xs)
+  where
+    counted : (ys : List Mark) → length (map (λ (m : Mark). m.0) ys) ≡ length ys
+    counted [] = refl
+    counted (m ∷ ys) = ap suc (counted ys)
+
+-- the places of those at or before
+pub mapped_filter : (place : ℕ) (marks : List Mark) → map (λ (m : Mark). m.0) (marks_at_or_before place marks) ≡ not_behind place (map (λ (m : Mark). m.0) marks)
+mapped_filter place [] = refl
+mapped_filter place (m ∷ marks) = elim (nat_le m.0 place) as (λ b. map (λ (m : Mark). m.0) (cond b (m ∷ marks_at_or_before place marks) (marks_at_or_before place marks)) ≡ cond b (m.0 ∷ not_behind place (map (λ (m : Mark). m.0) marks)) (not_behind place (map (λ (m : Mark). m.0) marks))) [
+  | true ↦ ap (λ (l : List ℕ). m.0 ∷ l) (mapped_filter place marks)
+  | false ↦ mapped_filter place marks
+]
+
+-- each of them is at or before
+pub all_before : (place : ℕ) (marks : List Mark) → AllByRecursion (λ (m : Mark). m.0 ≤ place) (marks_at_or_before place marks)
+all_before place [] = tt
+all_before place (m ∷ marks) = elim (nat_le m.0 place) as (λ b. nat_le m.0 place ≡ b → AllByRecursion (λ (m : Mark). m.0 ≤ place) (cond b (m ∷ marks_at_or_before place marks) (marks_at_or_before place marks))) [
+  | true ↦ λ e. (let less : m.0 ≤ place = grind (arith, nat_tests) in less, all_before place marks)
+  | false ↦ λ e. all_before place marks
+] refl
+
+-- the last of a list, at its place
+pub newest_is : (xs : List Mark) (m : Mark) → newest xs ≡ Some m → get_or (map (λ (m : Mark). m.0) xs) (length (map (λ (m : Mark). m.0) xs) - 1) 0 ≡ m.0
+newest_is xs m is = last_mapped xs ∙ at (length xs - 1) xs is
+  where
+    at : (k : ℕ) (ys : List Mark) → slice_get ys k ≡ Some m → get_or (map (λ (m : Mark). m.0) ys) k 0 ≡ m.0
+    at k [] is = absurd (cc is)
+    at zero (y ∷ ys) is = let same : y ≡ m = cc is in ap (λ (m : Mark). m.0) same
+    at (suc k) (y ∷ ys) is = at k ys is
+
+pub newest_none : (xs : List Mark) → newest xs ≡ None → xs ≡ []
+newest_none [] is = refl
+newest_none (y ∷ ys) is = absurd (none (length (y ∷ ys) - 1) (y ∷ ys) (omega arith) is)
+  where
+    none : (k : ℕ) (zs : List Mark) → k < length zs → slice_get zs k ≡ None → ⊥
+    none k [] less is = omega arith
+    none zero (z ∷ zs) less is = absurd (cc is)
+    none (suc k) (z ∷ zs) less is = none k zs (omega arith) is
+
+-- ---- a list of marks
+
+pub mark_at : (P : Mark → Type 0) (xs : List Mark) (k : ℕ) (d : Mark) → k < length xs → AllByRecursion P xs → P (slice_index_or xs k d)
+mark_at P [] k d less all = absurd (omega arith)
+mark_at P (x ∷ xs) zero d less all = all.0
+mark_at P (x ∷ xs) (suc k) d less all = mark_at P xs k d (omega arith) all.1
+
+get_at : (xs : List Mark) (k : ℕ) (d : Mark) → k < length xs → slice_get xs k ≡ Some (slice_index_or xs k d)
+get_at [] k d less = absurd (omega arith)
+get_at (x ∷ xs) zero d less = refl
+get_at (x ∷ xs) (suc k) d less = get_at xs k d (omega arith)
+
+-- the last one
+pub last_mark : (xs : List Mark) (i : ℕ) (d : Mark) → i ≡ length xs → 0 < i → newest xs ≡ Some (slice_index_or xs (i - 1) d)
+last_mark xs i d is some = ap (λ (n : ℕ). slice_get xs (n - 1)) (sym is) ∙ get_at xs (i - 1) d (omega (arith, is, some))
+
+pub none_left : (xs : List Mark) (i : ℕ) → i ≡ length xs → i ≤ 0 → newest xs ≡ None
+none_left [] i is none = refl
+none_left (x ∷ xs) i is none = absurd (omega (arith, is, none))
+
+pub some_has : {X : Type 0} (P : X → Type 0) (o : Option X) (x : X) → o ≡ Some x → IfSome o P → P x
+some_has P None x is has = absurd (cc is)
+some_has P (Some y) x is has = let same : y ≡ x = cc is in subst P same has
+
+pub some_store : {X Y : Type 0} (f : X → Y) (o : Option X) (x : X) (y : Y) → o ≡ Some x → option_map f o ≡ Some y → f x ≡ y
+some_store {Y = Y} f o x y is found = let both : ◌≡◌ {A = Option Y} (Some (f x)) (Some y) = sym (ap (option_map f) is) ∙ found in cc
+
+pub none_stored : {X Y : Type 0} (f : X → Y) (o : Option X) (y : Y) → o ≡ None → option_map f o ≡ Some y → ⊥
+none_stored {Y = Y} f o y is found = let wrong : ◌≡◌ {A = Option Y} None (Some y) = sym (ap (option_map f) is) ∙ found in cc
+
+-- ---- what is found
+
+module _ (kept : Kept) (place : ℕ) (marks ms : List Mark) (places : kept.marks.places ≡ map (λ (m : Mark). m.0) marks) (ms_are : ms ≡ marks_at_or_before place marks) where
+  counts_are : not_behind place kept.marks.places ≡ map (λ (m : Mark). m.0) ms
+  counts_are = ap (not_behind place) places ∙ sym (mapped_filter place marks) ∙ ap (map (λ (m : Mark). m.0)) (sym ms_are)
+
+  -- the newest snapshot at or before the place
+  pub found_newest : (o : Option Beginning) (first : Beginning) → o ≡ Some first → FindsLast kept ms o → IsNewest kept place first
+  found_newest o first is found =
+      let last = subst (FindsLast kept ms) is found in
+      record {
+        count = sym (newest_is ms (first.count, last.0) last.1) ∙ sym (ap (λ (ps : List ℕ). get_or ps (length ps - 1) 0) counts_are);
+        store = last.2;
+      }
+
+  -- or there is none
+  pub found_none : {E : Type 0} (o : Option Beginning) → o ≡ None → FindsLast kept ms o → (result : Result Beginning E) → IfOk result (λ first. first.count ≡ 0) → IfOk result (λ first. first.store.store ≡ kept.base)
+      → IfOk result (IsNewest kept place)
+  found_none o is found (Err e) count store = tt
+  found_none o is found (Ok first) count store =
+      let none : ms ≡ [] = newest_none ms (subst (FindsLast kept ms) is found) in
+      record {
+        count = count ∙ sym (ap (λ (ps : List ℕ). get_or ps (length ps - 1) 0) (counts_are ∙ ap (map (λ (m : Mark). m.0)) none));
+        store = store ∙ ap (λ (n : ℕ). store_at kept n) (sym count);
+      }
+
+-- the store before the first item serves
+pub serves_first : {E : Type 0} (kept : Kept) (place : ℕ) (result : Result Beginning E) → IfOk result (λ first. first.count ≡ 0) → IfOk result (λ first. CanServe kept 0 first.store.store) → IfOk result (Serves kept place)
+serves_first kept place (Ok first) count serves = record { few = subst (λ (n : ℕ). n ≤ place) (sym count) (omega arith); serves = subst (λ (n : ℕ). CanServe kept n first.store.store) (sym count) serves }
+serves_first kept place (Err e) count serves = tt

@@ -1,0 +1,43 @@
+use Rattle.std.proofs.Common.{◌≡◌, ◌∙◌, ◌≤◌, List, ap, nat_le, subst, sym}
+use Rattle.std.specs.List.{AllByRecursion}
+use Rattle.mail_cycle.specs.declared.beginning.Beginning.{Beginning}
+use Rattle.shelf.specs.Marks.{marks_at_or_before}
+use Rattle.time_desk.specs.Serving.{CanServe}
+use Rattle.time_desk.specs.Stored.{MarkLies, MarkedBefore, MarksLie}
+use Rattle.time_desk.proofs.Marking.{marked_front, marks_passed}
+use Rattle.time_desk.proofs.Servings.{Mark, all_before, found_newest, found_none, serves_first, some_has}
+use Rattle.time_desk.proofs.beginning.beginning.Goals as goal
+
+pub newest-requires-clause-marked : goal.newest-requires-clause-marked
+newest-requires-clause-marked g c =
+    subst (MarkedBefore c.args.end) (sym c.marks_at_or_before-marks.ensures.marks) (marked_front c.args.end c.position_of.result c.args.desk.now.marks c.requires.marked)
+
+pub returns-in-Ok-Some-clause-serves : goal.returns-in-Ok-Some-clause-serves
+returns-in-Ok-Some-clause-serves g c =
+    let desk = c.args.desk.now in
+    let ms_are : c.marks_at_or_before-marks.result.now ≡ marks_at_or_before c.args.place desk.marks = c.marks_at_or_before-marks.ensures.marks ∙ ap (λ n. marks_at_or_before n desk.marks) c.position_of.ensures in
+    record {
+      few = some_has (λ (b : Beginning). b.count ≤ c.args.place) c.in-Ok-Some.field-0 c.in-Ok-Some.first c.in-Ok-Some.field-0-is
+          (c.in-Ok-Some.ensures.few c.args.place (subst (AllByRecursion (λ (m : Mark). m.0 ≤ c.args.place)) (sym ms_are) (all_before c.args.place desk.marks)));
+      serves = some_has (λ (b : Beginning). CanServe desk.kept b.count b.store.store) c.in-Ok-Some.field-0 c.in-Ok-Some.first c.in-Ok-Some.field-0-is c.in-Ok-Some.ensures.serves;
+    }
+
+pub returns-in-Ok-Some-clause-newest : goal.returns-in-Ok-Some-clause-newest
+returns-in-Ok-Some-clause-newest g c = λ holds.
+    let desk = c.args.desk.now in
+    let ms_are : c.marks_at_or_before-marks.result.now ≡ marks_at_or_before c.args.place desk.marks = c.marks_at_or_before-marks.ensures.marks ∙ ap (λ n. marks_at_or_before n desk.marks) c.position_of.ensures in
+    found_newest desk.kept c.args.place desk.marks c.marks_at_or_before-marks.result.now c.stands.ensures.places ms_are c.in-Ok-Some.field-0 c.in-Ok-Some.first c.in-Ok-Some.field-0-is
+    (c.in-Ok-Some.ensures.newest holds.0 holds.1.held
+    (subst (MarksLie holds.0 desk.kept) (sym ms_are) (marks_passed (MarkLies holds.0 desk.kept) (MarkLies holds.0 desk.kept) (λ (m : Mark). nat_le m.0 c.args.place) (λ m e h. h) desk.marks holds.1.marks)))
+
+pub returns-in-Ok-None-clause-serves : goal.returns-in-Ok-None-clause-serves
+returns-in-Ok-None-clause-serves g c = serves_first c.args.desk.now.kept c.args.place c.at_first.result c.at_first.ensures.count c.at_first.ensures.serves
+
+pub returns-in-Ok-None-clause-newest : goal.returns-in-Ok-None-clause-newest
+returns-in-Ok-None-clause-newest g c = λ holds.
+    let desk = c.args.desk.now in
+    let ms_are : c.marks_at_or_before-marks.result.now ≡ marks_at_or_before c.args.place desk.marks = c.marks_at_or_before-marks.ensures.marks ∙ ap (λ n. marks_at_or_before n desk.marks) c.position_of.ensures in
+    found_none desk.kept c.args.place desk.marks c.marks_at_or_before-marks.result.now c.stands.ensures.places ms_are c.in-Ok-None.field-0 c.in-Ok-None.field-0-is
+    (c.in-Ok-None.ensures.newest holds.0 holds.1.held
+    (subst (MarksLie holds.0 desk.kept) (sym ms_are) (marks_passed (MarkLies holds.0 desk.kept) (MarkLies holds.0 desk.kept) (λ (m : Mark). nat_le m.0 c.args.place) (λ m e h. h) desk.marks holds.1.marks)))
+    c.at_first.result c.at_first.ensures.count c.at_first.ensures.store

@@ -1,0 +1,282 @@
+//! What a cycle begins with: the newest snapshot in the journal that can serve, or else the store before the first item.
+ghost use Rattle.std.specs.Prelude.{◌≡◌, ◌<◌, ◌≤◌, ◌+◌, ◌&&◌, ℕ, List, true, Some, take, length, option_map, IfOk, IfSome, IsErrOf};
+ghost use Rattle.std.specs.List.{AllByRecursion, list_all};
+ghost use Rattle.undo_outside.specs.Moments.{OnlyReads};
+ghost use Rattle.verb_core.specs.declared.conf.Conf.{Conf as TheConf};
+ghost use Rattle.verb_core.specs.declared.mailbox.BoxId.{BoxId as TheBoxId};
+ghost use Rattle.verb_core.specs.declared.mailbox.Entry.{Entry as TheEntry};
+ghost use Rattle.verb_core.specs.declared.mailbox.Mailbox.{Mailbox as TheMailbox};
+ghost use Rattle.verb_bytes.specs.declared.journal.JournalRecord.{JournalRecord as TheRecord};
+ghost use Rattle.verb_bytes.specs.declared.journal.JournalRecord.TheVariants.{Snapshot};
+ghost use Rattle.verb_bytes.specs.Spelling.{HasSpelling, Spells, record_bytes};
+ghost use Rattle.seal_log.specs.Causes.{ReadAtCause};
+ghost use Rattle.seal_log.specs.Journal.{LiesAt};
+ghost use Rattle.seal_log.specs.Settled.{Holds};
+ghost use Rattle.box_store.specs.Making.{makes_store as rows_make_store, store_of_rows as made_of};
+ghost use Rattle.mail_desk.specs.Timeline.{all_bodies, has_text};
+ghost use Rattle.time_desk.specs.Serving.{CanServe, FindsLast, IsNewest, Serves};
+ghost use Rattle.time_desk.specs.Stored.{MarkLies, MarkedBefore, MarksLie, TextsHeld, store_at};
+ghost use Rattle.time_desk.specs.Telling.{HoldsHeld};
+
+use crate::redo::begun;
+use box_store::{RowsRefused, Store, makes_store, rows_make_valid_stores};
+use mail_cycle::{Beginning, opened};
+use mail_desk::Desk;
+use mail_desk::laws::bodies_have_texts;
+use seal_log::{Place, ReadFault, read_before};
+use std::alloc::Global;
+use undo_base::{NoMemory, Text};
+use undo_outside::Disk;
+use verb_bytes::{BadBytes, JournalRecord, decode_record};
+use verb_core::laws::steps_keep_validity;
+use verb_core::{BoxId, Conf, Entry, Mailbox, Rows};
+
+/// The record that a payload spells, where it spells one.
+fn record_of(alloc: Global, payload: &Text) -> Result<Option<JournalRecord>, ReadFault>
+    ensures found { (what : TheRecord) → Spells what payload.now → IfOk result (λ found. found ≡ Some what) }
+    ensures never { IsErrOf result ReadFault.Disk → ⊥ }
+{
+    match decode_record(alloc, payload.bytes()) {
+        Ok(what) => Ok(Some(what)),
+        Err(BadBytes::Place { .. }) => Ok(None),
+        Err(BadBytes::NoMemory) => Err(ReadFault::NoMemory),
+    }
+}
+
+/// The record at a place, where its payload spells one.
+fn record_at<D: Disk>(
+    alloc: Global,
+    disk: &mut D,
+    end: u64,
+    place: Place,
+) -> Result<Option<JournalRecord>, ReadFault>
+    requires end { end < (D.told disk.old).size }
+    requires place { place.gate + 5 + place.length ≤ end }
+    ensures found { (payloads : List (List ℕ)) (what : TheRecord) → Holds (D.told disk.old) payloads → HasSpelling what
+        → LiesAt payloads place.gate place.length (record_bytes what) → IfOk result (λ found. found ≡ Some what) }
+    ensures cause { ReadAtCause (D.told disk.old) (D.told disk.new) result }
+    ensures reads { OnlyReads (D.told disk.old) (D.told disk.new) }
+{
+    match read_before(alloc, disk, end, place, 0, place.length) {
+        Ok(payload) => record_of(alloc, &payload),
+        Err(fault) => Err(fault),
+    }
+}
+
+/// The configuration and the rows of a snapshot of so many items.
+fn rows_of(what: JournalRecord, count: u32) -> Option<(Conf, Rows)>
+    ensures { (conf : TheConf) (rows : List (TheBoxId × TheMailbox)) → what ≡ Snapshot count conf rows → result ≡ Some (conf, rows) }
+{
+    match what {
+        JournalRecord::Snapshot { items, conf, rows } => {
+            if items == count {
+                return Some((conf, rows));
+            }
+            drop(conf);
+            drop(rows);
+            None
+        }
+        JournalRecord::Format(house, conf) => {
+            drop(house);
+            drop(conf);
+            None
+        }
+        JournalRecord::Verb(item) => {
+            drop(item);
+            None
+        }
+        JournalRecord::Operator { act, .. } => {
+            drop(act);
+            None
+        }
+        JournalRecord::Cycle { ask, .. } => {
+            drop(ask);
+            None
+        }
+    }
+}
+
+/// Whether the body of each entry has a text among the first so many items.
+fn have_texts(desk: &Desk, count: u32, entries: &[Entry]) -> bool
+    ensures { result ≡ list_all (λ (e : TheEntry). has_text (take count desk.now.kept.timeline) e.body) entries.now }
+{
+    entries
+        .iter()
+        .all(|entry| desk.has_text_before(entry.body, count as usize))
+}
+
+/// The same of all rows.
+fn rows_have_texts(desk: &Desk, count: u32, rows: &[(BoxId, Mailbox)]) -> bool
+    ensures { result ≡ all_bodies (has_text (take count desk.now.kept.timeline)) rows.now }
+{
+    rows.iter()
+        .all(|row| have_texts(desk, count, row.1.entries.as_slice()))
+}
+
+/// Whether rows make a store of the house, each body of which has a text among the first so many items.
+fn can_serve(desk: &Desk, count: u32, conf: &Conf, rows: &[(BoxId, Mailbox)]) -> bool
+    ensures { result ≡ (rows_make_store desk.now.kept.house conf.now rows.now && all_bodies (has_text (take count desk.now.kept.timeline)) rows.now) }
+{
+    makes_store(desk.house(), conf, rows) && rows_have_texts(desk, count, rows)
+}
+
+/// The store that the first items left can serve: this does nothing.
+fn fronts_serve(desk: &Desk)
+    ensures { (count : ℕ) → CanServe desk.now.kept count (store_at desk.now.kept count) }
+{
+    desk.stands();
+    steps_keep_validity();
+    bodies_have_texts();
+}
+
+/// The store of rows, where it can serve.
+fn store_of_rows(
+    alloc: Global,
+    desk: &Desk,
+    count: u32,
+    conf: Conf,
+    rows: Rows,
+) -> Result<Option<Store>, ReadFault>
+    ensures serves { IfOk result (λ found. IfSome found (λ store. CanServe desk.now.kept count store.store)) }
+    ensures found { CanServe desk.now.kept count (made_of desk.now.kept.house conf rows)
+        → IfOk result (λ found. option_map (λ store. store.store) found ≡ Some (made_of desk.now.kept.house conf rows)) }
+    ensures never { IsErrOf result ReadFault.Disk → ⊥ }
+{
+    rows_make_valid_stores();
+    if !can_serve(desk, count, &conf, rows.as_slice()) {
+        drop(conf);
+        drop(rows);
+        return Ok(None);
+    }
+    match Store::from_rows(alloc, desk.house(), conf, rows) {
+        Ok(store) => Ok(Some(store)),
+        Err(RowsRefused::Row { .. }) => Ok(None),
+        Err(RowsRefused::NoMemory) => Err(ReadFault::NoMemory),
+    }
+}
+
+/// The store of a record that is a snapshot of so many items, where it can serve.
+fn store_of_record(
+    alloc: Global,
+    desk: &Desk,
+    count: u32,
+    what: JournalRecord,
+) -> Result<Option<Store>, ReadFault>
+    ensures serves { IfOk result (λ found. IfSome found (λ store. CanServe desk.now.kept count store.store)) }
+    ensures found { (conf : TheConf) (rows : List (TheBoxId × TheMailbox)) → what ≡ Snapshot count conf rows
+        → CanServe desk.now.kept count (made_of desk.now.kept.house conf rows)
+        → IfOk result (λ found. option_map (λ store. store.store) found ≡ Some (made_of desk.now.kept.house conf rows)) }
+    ensures never { IsErrOf result ReadFault.Disk → ⊥ }
+{
+    match rows_of(what, count) {
+        Some((conf, rows)) => store_of_rows(alloc, desk, count, conf, rows),
+        None => Ok(None),
+    }
+}
+
+/// The store of the snapshot that is marked, where it can serve.
+fn marked_store<D: Disk>(
+    alloc: Global,
+    disk: &mut D,
+    end: u64,
+    desk: &Desk,
+    count: u32,
+    place: Place,
+) -> Result<Option<Store>, ReadFault>
+    requires end { end < (D.told disk.old).size }
+    requires place { place.gate + 5 + place.length ≤ end }
+    ensures serves { IfOk result (λ found. IfSome found (λ store. CanServe desk.now.kept count store.store)) }
+    ensures found { (payloads : List (List ℕ)) → Holds (D.told disk.old) payloads → MarkLies payloads desk.now.kept (count, place)
+        → IfOk result (λ found. option_map (λ store. store.store) found ≡ Some (store_at desk.now.kept count)) }
+    ensures cause { ReadAtCause (D.told disk.old) (D.told disk.new) result }
+    ensures reads { OnlyReads (D.told disk.old) (D.told disk.new) }
+{
+    fronts_serve(desk);
+    match record_at(alloc, disk, end, place) {
+        Ok(Some(what)) => store_of_record(alloc, desk, count, what),
+        Ok(None) => Ok(None),
+        Err(fault) => Err(fault),
+    }
+}
+
+/// The newest of the snapshots that are marked, the last that can serve.
+fn newest<D: Disk>(
+    alloc: Global,
+    disk: &mut D,
+    end: u64,
+    desk: &Desk,
+    marks: &[(u32, Place)],
+) -> Result<Option<Beginning>, ReadFault>
+    requires end { end < (D.told disk.old).size }
+    requires marked { MarkedBefore end marks.now }
+    ensures serves { IfOk result (λ found. IfSome found (λ first. CanServe desk.now.kept first.count first.store.store)) }
+    ensures few { (place : ℕ) → AllByRecursion (λ (m : ℕ × Place). m.0 ≤ place) marks.now → IfOk result (λ found. IfSome found (λ first. first.count ≤ place)) }
+    ensures newest { (payloads : List (List ℕ)) → Holds (D.told disk.old) payloads → MarksLie payloads desk.now.kept marks.now
+        → IfOk result (FindsLast desk.now.kept marks.now) }
+    ensures cause { ReadAtCause (D.told disk.old) (D.told disk.new) result }
+    ensures reads { OnlyReads (D.told disk.old) (D.told disk.new) }
+{
+    for i in (0..marks.len()).rev() {
+        let (count, place) = marks[i];
+        match marked_store(alloc, disk, end, desk, count, place) {
+            Ok(Some(store)) => {
+                return Ok(Some(Beginning {
+                    store,
+                    count: count as usize,
+                }));
+            }
+            Ok(None) => {}
+            Err(fault) => return Err(fault),
+        }
+    }
+    Ok(None)
+}
+
+/// The store before the first item.
+fn at_first(alloc: Global, desk: &Desk) -> Result<Beginning, ReadFault>
+    ensures count { IfOk result (λ first. first.count ≡ 0) }
+    ensures store { IfOk result (λ first. first.store.store ≡ desk.now.kept.base) }
+    ensures serves { IfOk result (λ first. CanServe desk.now.kept 0 first.store.store) }
+    ensures never { IsErrOf result ReadFault.Disk → ⊥ }
+{
+    fronts_serve(desk);
+    match opened(&begun(desk), alloc) {
+        Ok(first) => Ok(first),
+        Err(NoMemory) => Err(ReadFault::NoMemory),
+    }
+}
+
+/// How many items a place of the timeline has before it: 32 bits hold it.
+fn position_of(desk: &Desk, place: usize) -> u32
+    requires { place ≤ length desk.now.kept.timeline }
+    ensures { result ≡ place }
+{
+    desk.stands();
+    place as u32
+}
+
+/// What a cycle behind a place begins with: the newest snapshot at or before it, or the store before the first item. One whose
+/// bytes, read back, are no snapshot that makes a store of the house is passed over for the next older one.
+pub(crate) fn beginning<D: Disk>(
+    alloc: Global,
+    disk: &mut D,
+    end: u64,
+    desk: &Desk,
+    place: usize,
+) -> Result<Beginning, ReadFault>
+    requires end { end < (D.told disk.old).size }
+    requires marked { MarkedBefore end desk.now.marks }
+    requires place { place ≤ length desk.now.kept.timeline }
+    ensures serves { IfOk result (Serves desk.now.kept place) }
+    ensures newest { HoldsHeld (D.told disk.old) desk.now → IfOk result (IsNewest desk.now.kept place) }
+    ensures cause { ReadAtCause (D.told disk.old) (D.told disk.new) result }
+    ensures reads { OnlyReads (D.told disk.old) (D.told disk.new) }
+{
+    desk.stands();
+    let marks = desk.marks_at_or_before(position_of(desk, place));
+    match newest(alloc, disk, end, desk, marks) {
+        Ok(Some(first)) => Ok(first),
+        Ok(None) => at_first(alloc, desk),
+        Err(fault) => Err(fault),
+    }
+}
