@@ -17,9 +17,9 @@ use Rattle.time_desk.specs.Reading.{Reads, both_read, none_read}
 use Rattle.paradox.specs.Kept.{Kept}
 use Rattle.mail_loop.specs.State.{State}
 use Rattle.mail_loop.specs.ConsoleTurn.{AreSaid, Reading, both, no_consoles}
-use Rattle.mail_loop.specs.Machine.{Seats, Hindrances, Outcome, outcome, delivered, happens, answers, ignored}
+use Rattle.mail_loop.specs.Machine.{Seats, Hindrances, IsPassed, Outcome, outcome, delivered, happens, answers, ignored, is_end}
 use Rattle.mail_loop.specs.Did.{Counted, RoseBy, AreLicensed, Goes, Leads, StopsAtClose, WantsIn, left_out_of, missed_of}
-use Rattle.mail_loop.specs.Serving.{Step, is_end, after_notes, run, at_first, NoEnd, missed_in, ComeInOrder, events_of, readings_in, reads_in, stopped_in, unsealed_in, left_out_in, CountsFaults, IsCutAtClose, IsLeftStarved, IsLeftUnsealed, Serves, Served, ServedOver}
+use Rattle.mail_loop.specs.Serving.{Step, after_notes, run, at_first, NoEnd, missed_in, ComeInOrder, events_of, readings_in, reads_in, stopped_in, unsealed_in, left_out_in, CountsFaults, IsCutAtClose, IsLeftStarved, IsLeftUnsealed, Serves, Served, ServedOver}
 use Rattle.mail_loop.proofs.Sealed.{no_more, none_before, reads_regroup}
 use Rattle.mail_loop.proofs.Links.{counted_add, counted_one, goes_none, none_licensed, then_told-nil, then_told-append, rose_add}
 
@@ -384,7 +384,7 @@ end_ignored h s conn at Left e = absurd (let wrong : false ≡ true = e in cc)
 end_ignored h s conn at Idle e = absurd (let wrong : false ≡ true = e in cc)
 
 abbrev pub unhindered : Hindrances
-unhindered = record { unfed = false; turns = []; stage = Ok None; deliveries = [] }
+unhindered = record { unfed = false; turns = []; stage = Ok None; deliveries = []; keeping = IsPassed }
 
 -- the end came
 pub so_ended : (S : List JournalRecord → Reads → Type 0) (turns limit : ℕ) (old mid got : LinkTold) (kept : Kept) (s : State) (event : Event)

@@ -10,11 +10,11 @@ ghost use Rattle.mail_loop.specs.Took.{IsNone};
 ghost use Rattle.smtp_session.specs.declared.answer.Answer.TheVariants.{Ready};
 ghost use Rattle.smtp_session.specs.Answer.{answer_text};
 ghost use Rattle.imap_session.specs.Words.{greeting_text};
-ghost use Rattle.mail_loop.specs.Machine.{Hindrances, Delivery, admits, after_reply, answered, delivered, fresh, fresh_console, fresh_reader, happens, hears_at, joins, seat_at};
+ghost use Rattle.mail_loop.specs.Machine.{Hindrances, Delivery, Keeping, admits, after_reply, answered, delivered, fresh, fresh_console, fresh_reader, happens, hears_at, is_end, joins, seat_at};
 ghost use Rattle.verb_core.specs.declared.conf.House.{House as TheHouse};
 ghost use Rattle.mail_loop.specs.Stands.{AreHome, IsHome, letter_of, replies_of};
-ghost use Rattle.mail_loop.specs.Did.{AreLicensed, Told, Replied, Sends, Leads, Answers, Opens, unclosed_by};
-ghost use Rattle.mail_loop.specs.Serving.{Step, ServedOver, is_disk, is_end, reads_in, unsealed_in};
+ghost use Rattle.mail_loop.specs.Did.{AreLicensed, Told, Replied, Sends, Leads, Answers, Opens, Keeps, is_due_on, unclosed_by};
+ghost use Rattle.mail_loop.specs.Serving.{Step, ServedOver, is_disk, reads_in, unsealed_in};
 
 use crate::letters::{Letter, alone, letters_of, room_for_letters};
 use crate::open_connection::{
@@ -46,6 +46,9 @@ pub enum ServeFault {
     #[error("no memory")]
     NoMemory,
 }
+
+/// So many items enter between two snapshots, unless a snapshot is asked for earlier.
+const SNAPSHOT_AFTER: u32 = 1024;
 
 /// The strings of an event, and whether serving is to stop after it.
 #[derive(Drop)]
@@ -299,7 +302,30 @@ fn answer_event<R: Threads + Sync, D: Disk + Drop, G: Gate>(
     }
 }
 
-/// Serves one event. Answers whether serving is to stop after it.
+/// Whether a snapshot is due: the desk is open, and at least so many items entered since the last.
+fn is_due<D: Disk>(desk: &Desk<D>) -> bool
+    ensures { result ≡ is_due_on desk.now }
+{
+    !desk.closed() && desk.since_snapshot() >= SNAPSHOT_AFTER
+}
+
+/// Takes the snapshot that is due. Where no memory is found for it it is left out; where it can't be sealed the desk is closed from
+/// then on.
+fn keep_up<D: Disk>(alloc: Global, desk: &mut Desk<D>)
+    ensures home { desk.new.kept.house ≡ desk.old.kept.house }
+    ensures keeps { (k : Keeping) × Keeps D.told k desk.old desk.new }
+{
+    seals_join::<D>();
+    if !is_due(desk) {
+        return;
+    }
+    match desk.snapshot(alloc) {
+        Ok(_) => {}
+        Err(_) => {}
+    }
+}
+
+/// Serves one event, and takes the snapshot that is due after its strings. Answers whether serving is to stop after it.
 fn serve_event<R: Threads + Sync, L: Link, D: Disk + Drop, G: Gate>(
     rt: &R,
     alloc: Global,
@@ -311,6 +337,7 @@ fn serve_event<R: Threads + Sync, L: Link, D: Disk + Drop, G: Gate>(
 ) -> Result<bool, NoMemory>
     requires sealed { desk.old.closed ≡ false }
     requires home { AreHome desk.old.kept.house connections.old.entries }
+    requires goes_on { is_end event.now.what ≡ false }
     ensures home { AreHome desk.new.kept.house connections.new.entries }
     ensures leads { (h : Hindrances) × (unclosed : ℕ) × AreLicensed h.deliveries unclosed (L.told link.old) (L.told link.new) ×
         Leads (HaveSealed D.told desk.old desk.new) unclosed desk.old.kept (happens h (record { kept = desk.old.kept; seats = connections.old.entries }) event.now) (L.told link.old) (L.told link.new)
@@ -319,7 +346,10 @@ fn serve_event<R: Threads + Sync, L: Link, D: Disk + Drop, G: Gate>(
     seals_join::<D>();
     let answer = answer_event(rt, alloc, desk, connections, gate, event)?;
     match deliver_all(connections, link, answer.letters.as_slice()) {
-        Ok(()) => Ok(answer.stops),
+        Ok(()) => {
+            keep_up(alloc, desk);
+            Ok(answer.stops)
+        }
         Err(NoMemory) => Err(NoMemory),
     }
 }
