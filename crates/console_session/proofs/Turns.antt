@@ -131,7 +131,7 @@ module _ {D : Type 0} (told : D → DiskTold) where
   pub as_it_was : Truth → (old new : Lasting D) → new ≡ old → IsStill told old new
   as_it_was truth old new e =
       subst (λ (n : Lasting D). IsStill told old n) (sym e)
-      (record { kept = refl; notes = refl; room = refl; gate = refl; closed = refl; reads = reads_none (told old.disk) (truth old.disk) })
+      (record { kept = refl; notes = refl; marks = refl; room = refl; gate = refl; closed = refl; reads = reads_none (told old.disk) (truth old.disk) })
 
   -- ---- reads
 

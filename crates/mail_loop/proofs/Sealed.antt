@@ -85,7 +85,7 @@ module _ {D : Type 0} (told : D → DiskTold) where
   -- the desk is as it was
   pub unsealed : Nothing → (a : Lasting D) → HaveSealed told a a [] none_read
   unsealed nothing a =
-      let seals = nothing a a (record { kept = refl; notes = refl; disk = refl; gate = refl; closed = refl }) in
+      let seals = nothing a a (record { kept = refl; notes = refl; marks = refl; disk = refl; gate = refl; closed = refl }) in
       ([], seals, nothing_read [] [] a a seals)
 
   -- the desk was read alone

@@ -2,6 +2,7 @@
 ghost use Rattle.std.specs.Prelude.{◌≡◌, ◌≤◌, ◌∷◌, ℕ, Bool, List, Ok, Err, IfOk, IfErr, OnErr, false, [], length};
 ghost use Rattle.console_head.specs.Request.{Stage};
 ghost use Rattle.undo_outside.specs.declared.event.LinkNote.{LinkNote};
+ghost use Rattle.paradox.specs.Kept.{IsRun};
 ghost use Rattle.mail_cycle.specs.Permanence.{UidsLast};
 ghost use Rattle.time_desk.specs.Stored.{HoldsTexts};
 ghost use Rattle.mail_loop.specs.Asked.{HaveSealed};
@@ -395,9 +396,10 @@ fn serve_each<R: Threads + Sync, L: Link, D: Disk + Drop, G: Gate>(
     Err(ServeFault::Turns)
 }
 
-/// Serves the events of a link until the end comes or a console asks it to stop, at most so many. A text that can't be read is
-/// told to who asked for it, and serving goes on. Whatever came, over a disk that holds the texts as they were stored no UID
-/// names another message or another text than before (RFC 3501, section 2.3.1.1).
+/// Serves the events of a link until the end comes or a console asks it to stop, at most so many, and takes a snapshot after an
+/// event where one is due. A text that can't be read is told to who asked for it, and serving goes on. Whatever came, over a disk
+/// that holds the texts as they were stored the store is at last what the items in force leave, and no UID names another message
+/// or another text than before (RFC 3501, section 2.3.1.1).
 pub fn serve_events<R: Threads + Sync, L: Link, D: Disk + Drop, G: Gate>(
     rt: &R,
     alloc: Global,
@@ -411,6 +413,7 @@ pub fn serve_events<R: Threads + Sync, L: Link, D: Disk + Drop, G: Gate>(
         ServedOver turns steps notes (L.told link.old) (L.told link.new) desk.old.kept desk.new.kept result ×
         HaveSealed D.told desk.old desk.new (unsealed_in steps desk.old.kept) (reads_in steps desk.old.kept) }
     ensures closed { desk.new.closed ≡ is_disk result }
+    ensures runs { HoldsTexts D.told desk.old → IsRun desk.new.kept }
     ensures uids { HoldsTexts D.told desk.old → UidsLast desk.old.kept desk.new.kept }
 {
     desk.stands();
