@@ -97,17 +97,18 @@ going_answers {T} S a kept seats view of stops letters (Err e) ok err answers =
 pub leads_starved : (S : List JournalRecord → Reads → Type 0) (told : LinkTold) (s : State) (event : Event) (b : Bool) (hs : List Hindrance) (stage : Stage) (kept : Kept) (seats : Seats) (w : WantOfMemory) (result : Result Bool WantOfMemory)
     → result ≡ Err w → kept ≡ (answered b hs stage s event).state.kept → (answered b hs stage s event).unsealed ≡ [] → kept ≡ s.kept
     → S (answered b hs stage s event).unsealed (answered b hs stage s event).reads → AreSaid (answered b hs stage s event).consoles.readings
-    → (h : Hindrances) × (unclosed : ℕ) × AreLicensed h.deliveries unclosed told told × Leads S unclosed s.kept (happens h s event) told told kept seats result
+    → (h : Hindrances) × (unclosed : ℕ) × AreLicensed h.deliveries unclosed told told × Leads S unclosed h.keeping s.kept (happens h s event) told told kept seats result
 leads_starved S told s event b hs stage kept seats w result starved same none undone seals said =
     let h : Hindrances = record { unfed = b; turns = hs; stage = stage; deliveries = []; keeping = IsPassed } in (
       h,
       0,
       none_licensed told told refl refl,
-      subst (λ (r : Result Bool WantOfMemory). Leads S 0 s.kept (happens h s event) told told kept seats r) (sym starved) (record {
+      subst (λ (r : Result Bool WantOfMemory). Leads S 0 IsPassed s.kept (happens h s event) told told kept seats r) (sym starved) (record {
         did = record { notes = []; goes = goes_none told; whole = ((happens h s event).notes, refl, inl (refl, refl, none, sym same ∙ undone)) };
         kept_is = same;
         seats_are = tt;
         closed = tt;
+        passed = refl;
         seals = seals;
         read = said;
       }),
@@ -132,13 +133,14 @@ snapped_is IsUnkept what o false e = rw e refl
 
 -- an event led to this before its snapshot, and to this with it
 leads_snapped : (S T : List JournalRecord → Reads → Type 0) (n : ℕ) (before : Kept) (o : Outcome) (old new : LinkTold) (mid after : Kept) (seats : Seats) (stops : Bool) (k : Keeping) (due : Bool)
-    → Leads T n before o old new mid seats (Ok stops) → after ≡ (if due then kept_by k mid else mid) → S (if due then unkept_by k mid else o.unsealed) o.reads
-    → (due ≡ true → o.unsealed ≡ []) → Leads S n before (snapped k due o) old new after seats (Ok stops)
+    → Leads T n IsPassed before o old new mid seats (Ok stops) → after ≡ (if due then kept_by k mid else mid) → S (if due then unkept_by k mid else o.unsealed) o.reads
+    → (due ≡ true → o.unsealed ≡ []) → Leads S n k before (snapped k due o) old new after seats (Ok stops)
 leads_snapped S T n before o old new mid after seats stops IsKept true l kept seals none = record {
   did = record { notes = l.did.notes; goes = l.did.goes; whole = l.did.whole };
   kept_is = kept ∙ ap snapshotted l.kept_is;
   seats_are = l.seats_are;
   closed = l.closed;
+  passed = tt;
   seals = subst (λ (u : List JournalRecord). S u o.reads) (sym (none refl)) seals;
   read = l.read;
 }
@@ -147,6 +149,7 @@ leads_snapped S T n before o old new mid after seats stops IsPassed true l kept 
   kept_is = kept ∙ l.kept_is;
   seats_are = l.seats_are;
   closed = l.closed;
+  passed = tt;
   seals = subst (λ (u : List JournalRecord). S u o.reads) (sym (none refl)) seals;
   read = l.read;
 }
@@ -155,6 +158,7 @@ leads_snapped S T n before o old new mid after seats stops IsUnkept true l kept 
   kept_is = kept ∙ l.kept_is;
   seats_are = l.seats_are;
   closed = l.closed;
+  passed = tt;
   seals = subst (λ (q : Kept). S (snapshot_record q ∷ []) o.reads) l.kept_is seals;
   read = l.read;
 }
@@ -163,6 +167,7 @@ leads_snapped S T n before o old new mid after seats stops k false l kept seals 
   kept_is = kept ∙ l.kept_is;
   seats_are = l.seats_are;
   closed = l.closed;
+  passed = tt;
   seals = seals;
   read = l.read;
 }
@@ -179,10 +184,10 @@ pub leads_on : (S T : List JournalRecord → Reads → Type 0) (old new : LinkTo
     (k : Keeping) (due : Bool)
     → is_end event.what ≡ false
     → (ds : List Delivery) × AreLicensed ds 0 old new
-    × Leads T 0 s.kept (outcome (answered b hs stage s event) (delivered ds (answered b hs stage s event).state.seats (answered b hs stage s event).replies)) old new mid seats' (Ok stops)
+    × Leads T 0 IsPassed s.kept (outcome (answered b hs stage s event) (delivered ds (answered b hs stage s event).state.seats (answered b hs stage s event).replies)) old new mid seats' (Ok stops)
     → (is_empty (answered b hs stage s event).unsealed && nat_le 1024 (answered b hs stage s event).state.kept.marks.since) ≡ due
     → after ≡ (if due then kept_by k mid else mid) → S (if due then unkept_by k mid else (answered b hs stage s event).unsealed) (answered b hs stage s event).reads
-    → (h : Hindrances) × (unclosed : ℕ) × AreLicensed h.deliveries unclosed old new × Leads S unclosed s.kept (happens h s event) old new after seats' (Ok stops)
+    → (h : Hindrances) × (unclosed : ℕ) × AreLicensed h.deliveries unclosed old new × Leads S unclosed h.keeping s.kept (happens h s event) old new after seats' (Ok stops)
 leads_on S T old new s event b hs stage mid after seats' stops k due goes (ds, licensed, leads) is_due kept seals =
     let h : Hindrances = record { unfed = b; turns = hs; stage = stage; deliveries = ds; keeping = k } in
     let a = answered b hs stage s event in
@@ -191,7 +196,7 @@ leads_on S T old new s event b hs stage mid after seats' stops k due goes (ds, l
       h,
       0,
       licensed,
-      subst (λ (q : Outcome). Leads S 0 s.kept q old new after seats' (Ok stops)) (sym here)
+      subst (λ (q : Outcome). Leads S 0 k s.kept q old new after seats' (Ok stops)) (sym here)
           (leads_snapped S T 0 s.kept o old new mid after seats' stops k due leads kept seals
           (λ e. empty_none a.unsealed (nat_le 1024 a.state.kept.marks.since) (is_due ∙ e))),
     )
@@ -204,7 +209,7 @@ pub leads_by : (S : List JournalRecord → Reads → Type 0) (old new : LinkTold
     → (ds : List Delivery) × AreLicensed ds (unclosed_by sent) old new × Sends (delivered ds seats rs) old new seats' sent → sent ≡ Ok x
     → S (answered b hs stage s event).unsealed (answered b hs stage s event).reads → AreSaid (answered b hs stage s event).consoles.readings
     → (ds : List Delivery) × AreLicensed ds 0 old new
-    × Leads S 0 s.kept (outcome (answered b hs stage s event) (delivered ds (answered b hs stage s event).state.seats (answered b hs stage s event).replies)) old new kept seats' (Ok stops)
+    × Leads S 0 IsPassed s.kept (outcome (answered b hs stage s event) (delivered ds (answered b hs stage s event).state.seats (answered b hs stage s event).replies)) old new kept seats' (Ok stops)
 leads_by S old new s event b hs stage kept seats seats' rs stops sent x same open' replies stop (ds, licensed, sends) ok seals said =
     let a = answered b hs stage s event in
     let out : Sends (delivered ds a.state.seats a.replies) old new seats' (Ok x) =
@@ -217,6 +222,7 @@ leads_by S old new s event b hs stage kept seats seats' rs stops sent x same ope
         kept_is = same;
         seats_are = (out.seats_are, stop);
         closed = refl;
+        passed = tt;
         seals = seals;
         read = said;
       },
@@ -228,7 +234,7 @@ pub leads_cut : (S : List JournalRecord → Reads → Type 0) (old new : LinkTol
     → kept ≡ (answered b hs stage s event).state.kept → seats ≡ (answered b hs stage s event).state.seats → rs ≡ (answered b hs stage s event).replies
     → (ds : List Delivery) × AreLicensed ds (unclosed_by sent) old new × Sends (delivered ds seats rs) old new seats' sent → sent ≡ Err w
     → S (answered b hs stage s event).unsealed (answered b hs stage s event).reads → AreSaid (answered b hs stage s event).consoles.readings
-    → (h : Hindrances) × (unclosed : ℕ) × AreLicensed h.deliveries unclosed old new × Leads S unclosed s.kept (happens h s event) old new kept seats' (Err v)
+    → (h : Hindrances) × (unclosed : ℕ) × AreLicensed h.deliveries unclosed old new × Leads S unclosed h.keeping s.kept (happens h s event) old new kept seats' (Err v)
 leads_cut S old new s event b hs stage kept seats seats' rs sent w v same open' replies (ds, licensed, sends) bad seals said =
     let h : Hindrances = record { unfed = b; turns = hs; stage = stage; deliveries = ds; keeping = IsPassed } in
     let a = answered b hs stage s event in
@@ -243,6 +249,7 @@ leads_cut S old new s event b hs stage kept seats seats' rs sent w v same open' 
         kept_is = same;
         seats_are = tt;
         closed = tt;
+        passed = refl;
         seals = seals;
         read = said;
       },

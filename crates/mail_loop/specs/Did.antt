@@ -103,12 +103,13 @@ WantsIn o before unclosed new notes more =
     ((notes ≡ []) × (unclosed ≡ 0) × (o.unsealed ≡ []) × (o.state.kept ≡ before)) ⊎ ((unclosed ≡ 1) × StopsAtClose more new)
 
 -- an event, before which this was kept, led to this outcome, and serving is asked to stop or not, or memory was wanted before the link had done all of it; S holds of the record
--- whose sealing failed and of what was not read, and what consoles' bytes were read as is so
-pub record Leads (S : List JournalRecord → Reads → Type 0) (unclosed : ℕ) (before : Kept) (o : Outcome) (old new : LinkTold) (kept : Kept) (seats : Seats) (result : Result Bool WantOfMemory) : Type 0 where
+-- whose sealing failed and of what was not read, and what consoles' bytes were read as is so. Where memory was wanted no snapshot was taken.
+pub record Leads (S : List JournalRecord → Reads → Type 0) (unclosed : ℕ) (keeping : Keeping) (before : Kept) (o : Outcome) (old new : LinkTold) (kept : Kept) (seats : Seats) (result : Result Bool WantOfMemory) : Type 0 where
   pub did : Did (WantsIn o before unclosed new) o.notes old new result
   pub kept_is : kept ≡ o.state.kept
   pub seats_are : MatchResult result (λ stops. (seats ≡ o.state.seats) × (stops ≡ o.consoles.stops)) (λ _. Unit {0})
   pub closed : MatchResult result (λ _. unclosed ≡ 0) (λ _. Unit {0})
+  pub passed : MatchResult result (λ _. Unit {0}) (λ _. keeping ≡ IsPassed)
   pub seals : S o.unsealed o.reads
   pub read : AreSaid o.consoles.readings
 

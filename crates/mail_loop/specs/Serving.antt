@@ -12,7 +12,7 @@ use Rattle.verb_bytes.specs.declared.journal.JournalRecord.{JournalRecord}
 use Rattle.time_desk.specs.Reading.{Reads, both_read, none_read}
 use Rattle.mail_loop.specs.State.{State}
 use Rattle.mail_loop.specs.ConsoleTurn.{AreSaid, Consoles, Reading, both, no_consoles}
-use Rattle.mail_loop.specs.Machine.{Hindrances, Outcome, happens, is_end}
+use Rattle.mail_loop.specs.Machine.{Hindrances, IsPassed, Outcome, happens, is_end}
 use Rattle.mail_loop.specs.Did.{Counted, RoseBy, left_out_of, missed_of}
 
 -- an event that came, and what hindered it
@@ -89,13 +89,14 @@ pub record IsUndone (steps : List Step) (old : Kept) (more : List LinkNote) : Ty
   pub of_last : IsOfLast steps old [] more
   pub kept_is : (happens of_last.last.hindrances (run of_last.before (at_first old)).state of_last.last.event).state.kept ≡ (run of_last.before (at_first old)).state.kept
 
--- no memory was found for a close in the last step: the link did all before it
+-- no memory was found for a close in the last step: the link did all before it, and no snapshot was taken
 pub record IsCutAtClose (wants : ℕ) (steps : List Step) (old : Kept) (more : List LinkNote) : Type 0 where
   pub front : List LinkNote
   pub conn : ℕ
   pub rest : List LinkNote
   pub more_is : more ≡ Closed conn ∷ rest
   pub of_last : IsOfLast steps old front more
+  pub passed : of_last.last.hindrances.keeping ≡ IsPassed
   pub wanted : wants ≡ 1
 
 -- what the link did not do where sealing failed: nothing, or what follows from a close on for which no memory was found

@@ -341,7 +341,7 @@ fn serve_event<R: Threads + Sync, L: Link, D: Disk + Drop, G: Gate>(
     requires goes_on { is_end event.now.what ≡ false }
     ensures home { AreHome desk.new.kept.house connections.new.entries }
     ensures leads { (h : Hindrances) × (unclosed : ℕ) × AreLicensed h.deliveries unclosed (L.told link.old) (L.told link.new) ×
-        Leads (HaveSealed D.told desk.old desk.new) unclosed desk.old.kept (happens h (record { kept = desk.old.kept; seats = connections.old.entries }) event.now) (L.told link.old) (L.told link.new)
+        Leads (HaveSealed D.told desk.old desk.new) unclosed h.keeping desk.old.kept (happens h (record { kept = desk.old.kept; seats = connections.old.entries }) event.now) (L.told link.old) (L.told link.new)
         desk.new.kept connections.new.entries result }
 {
     seals_join::<D>();
