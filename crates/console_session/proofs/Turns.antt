@@ -33,7 +33,7 @@ use Rattle.verb_core.specs.Deeds.{act_item}
 use Rattle.time_desk.specs.Records.{after_record, after_records, is_formed, is_spelled, snapshot_record}
 use Rattle.time_desk.specs.Sealing.{Seals}
 use Rattle.time_desk.specs.Stored.{HoldsTexts}
-use Rattle.time_desk.specs.Submitting.{ActsNone, Snapshots, SnapshotsNone}
+use Rattle.time_desk.specs.Submitting.{ActsNone, SnapshotsNone}
 use Rattle.console_head.specs.declared.request.HeadRefused.TheVariants.{Head as BadHead, Size as TooLarge}
 use Rattle.console_http.specs.declared.request.Asked.{Asked}
 use Rattle.console_http.specs.declared.request.Asked.TheVariants.{NotYet, Whole}
@@ -310,9 +310,9 @@ module _ {D : Type 0} (told : D → DiskTold) where
   kept_turn old new r (inl e) kept seals = (Clear, record { reply_is = e; kept = kept; seals = seals; read = reads_well old new seals.on_disk.reads })
   kept_turn old new r (inr e) kept seals = (Unanswered, record { reply_is = e; kept = kept; seals = seals; read = reads_well old new seals.on_disk.reads })
 
-  pub snapshot_done : (at items : ℕ) (old new : Lasting D) (r : Reply) → TellsOnly (answer 200 (items_data items)) Closes r → Snapshots told old new items
-      → Serves told at (Ok (Whole route.Snapshot)) old new r
-  snapshot_done at items old new r says (open_is, count, kept, seals) =
+  pub snapshot_done : (at items : ℕ) (old new : Lasting D) (r : Reply) → TellsOnly (answer 200 (items_data items)) Closes r → items ≡ length old.kept.timeline
+      → new.kept ≡ snapshotted old.kept → Seals told (snapshot_record old.kept ∷ []) [] old new → Serves told at (Ok (Whole route.Snapshot)) old new r
+  snapshot_done at items old new r says count kept seals =
       snaps at old new r (kept_turn old new r (subst (λ (n : ℕ). TellsOnly (answer 200 (items_data n)) Closes r) count says) kept seals)
 
   pub snapshot_not_done : (at : ℕ) (old new : Lasting D) (f : SealFault) (r : Reply) → SnapshotsNone told old new f → TellsSealFault f r

@@ -1,6 +1,6 @@
 -- What the desk sealed, call after call.
 use Rattle.std.specs.Prelude.{if◌then◌else◌}
-use Rattle.std.proofs.Common.{◌≡◌, ◌≢◌, ℕ, ◌+◌, ◌≤◌, arith, add-zero, zero-add, Bool, true, false, not, ◌||◌, ◌&&◌, List, [], ◌∷◌, ◌++◌, None, Some, Option, MatchOption, Result, Ok, Err, IfOk, IfErr, OnErr, refl, ap, sym, subst, ◌∙◌}
+use Rattle.std.proofs.Common.{◌≡◌, ◌≢◌, ℕ, ◌+◌, ◌≤◌, arith, add-zero, zero-add, Bool, true, false, not, nat_le, ◌||◌, ◌&&◌, List, [], ◌∷◌, ◌++◌, None, Some, Option, MatchOption, Result, Ok, Err, IfOk, IfErr, OnErr, refl, ap, sym, subst, ◌∙◌}
 use Rattle.undo_base.specs.declared.keys.User.{User}
 use Rattle.undo_outside.specs.Disk.{DiskTold, ReadFailed}
 use Rattle.verb_core.specs.declared.ask.Ask.{Ask}
@@ -13,14 +13,14 @@ use Rattle.seal_log.specs.declared.fault.SealFault.{SealFault}
 use Rattle.seal_log.specs.declared.fault.SealFault.TheVariants as seal_fault
 use Rattle.verb_bytes.specs.declared.journal.JournalRecord.{JournalRecord}
 use Rattle.verb_bytes.specs.declared.journal.JournalRecord.TheVariants.{Verb}
-use Rattle.paradox.specs.Kept.{Kept, store_of}
+use Rattle.paradox.specs.Kept.{Kept, snapshotted, store_of}
 use Rattle.mail_desk.specs.Desk.{submitted}
 use Rattle.time_desk.specs.Lasting.{Lasting, IsUnwritten}
 use Rattle.time_desk.specs.Reading.{HaveRead, IsStill, Reads, RoseBy, both_read, failed_once, none_read, wrong_once}
 use Rattle.time_desk.specs.Sealing.{Seals}
 use Rattle.time_desk.specs.Stored.{HoldsTexts}
 use Rattle.time_desk.specs.Records.{snapshot_record}
-use Rattle.time_desk.specs.Submitting.{Snapshots, SnapshotsNone, SubmitsNone}
+use Rattle.time_desk.specs.Submitting.{SnapshotsNone, SubmitsNone}
 use Rattle.mail_loop.specs.declared.reply.Reply.{Reply}
 use Rattle.mail_loop.specs.Asked.{HaveSealed}
 use Rattle.mail_loop.specs.SmtpTurn.{Turn}
@@ -163,6 +163,14 @@ module _ {D : Type 0} (told : D → DiskTold) where
     seals = subst (λ (b : Bool). HaveSealed told a a (if b then unkept_by k a.kept else []) none_read) (sym e) (unsealed nothing a);
   }
 
+  -- it is due of an open desk alone
+  open_due : (a : Lasting D) → is_due_on a ≡ true → a.closed ≡ false
+  open_due a e =
+      elim a.closed as (λ x. (not x && nat_le 1024 a.kept.marks.since) ≡ true → x ≡ false) [
+        | true ↦ λ wrong. absurd (let no : false ≡ true = wrong in cc)
+        | false ↦ λ due. refl
+      ] e
+
   -- it is due, and this came of it
   due_keeps : (k : Keeping) (a b : Lasting D) → is_due_on a ≡ true → a.closed ≡ false → b.kept ≡ kept_by k a.kept → HaveSealed told a b (unkept_by k a.kept) none_read → Keeps told k a b
   due_keeps k a b e open' kept sealed = record {
@@ -172,19 +180,15 @@ module _ {D : Type 0} (told : D → DiskTold) where
   }
 
   -- it was taken
-  pub snapshot_keeps : (a b : Lasting D) (count : ℕ) → is_due_on a ≡ true → Snapshots told a b count → Keeps told IsKept a b
-  snapshot_keeps a b count e (open', counted, kept, seals) =
-      due_keeps IsKept a b e open' kept (snapshot_record a.kept ∷ [], seals, nothing_read (snapshot_record a.kept ∷ []) [] a b seals)
+  pub snapshot_keeps : (a b : Lasting D) → is_due_on a ≡ true → b.kept ≡ snapshotted a.kept → Seals told (snapshot_record a.kept ∷ []) [] a b → Keeps told IsKept a b
+  snapshot_keeps a b e kept seals = due_keeps IsKept a b e (open_due a e) kept (snapshot_record a.kept ∷ [], seals, nothing_read (snapshot_record a.kept ∷ []) [] a b seals)
 
   -- it was not
   pub snapshot_passed : (a b : Lasting D) (f : SealFault) → is_due_on a ≡ true → b.kept ≡ a.kept → SnapshotsNone told a b f → (k : Keeping) × Keeps told k a b
   snapshot_passed a b seal_fault.Disk e kept (open', seals) =
       (IsUnkept, due_keeps IsUnkept a b e open' kept ([], seals, nothing_read [] (snapshot_record a.kept ∷ []) a b seals))
   snapshot_passed a b seal_fault.NoMemory e kept (open', seals) = (IsPassed, due_keeps IsPassed a b e open' kept ([], seals, nothing_read [] [] a b seals))
-  snapshot_passed a b seal_fault.Closed e kept (shut, same) = absurd (let wrong : false ≡ true = sym (shut_due a shut) ∙ e in cc)
-    where
-      shut_due : (d : Lasting D) → d.closed ≡ true → is_due_on d ≡ false
-      shut_due d s = rw s refl
+  snapshot_passed a b seal_fault.Closed e kept (shut, same) = absurd (let wrong : true ≡ false = sym shut ∙ open_due a e in cc)
 
 -- where no sealing failed and nothing was read
 pub none_sealed : (S : List JournalRecord → Reads → Type 0) (failed : List JournalRecord) (r : Reads) → IsNone failed r → S [] none_read → S failed r

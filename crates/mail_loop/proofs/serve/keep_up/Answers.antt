@@ -8,7 +8,7 @@ returns-then-clause-keeps g c = (IsPassed, none_due g.D.Disk.told c.seals_join.e
 
 pub returns-in-Ok-clause-keeps : goal.returns-in-Ok-clause-keeps
 returns-in-Ok-clause-keeps g c =
-    (IsKept, snapshot_keeps g.D.Disk.told c.args.desk.now c.snapshot.new.self c.in-Ok.field-0 (sym c.is_due.ensures ∙ c.if-is_due.true) c.in-Ok.ensures.ok)
+    (IsKept, snapshot_keeps g.D.Disk.told c.args.desk.now c.snapshot.new.self (sym c.is_due.ensures ∙ c.if-is_due.true) c.in-Ok.ensures.ok c.in-Ok.ensures.sealed)
 
 pub returns-in-Err-clause-keeps : goal.returns-in-Err-clause-keeps
 returns-in-Err-clause-keeps g c =
