@@ -110,11 +110,11 @@ module _ {D : Type 0} (told : D → DiskTold) where
       (added, seals, record { failed = read.failed; reliable = read.reliable; honest = λ e. absurd (other e) })
 
   pub chained : Then → (a b c : Lasting D) (failed : List JournalRecord) (r s : Reads) → HaveSealed told a b [] r → HaveSealed told b c failed s → HaveSealed told a c failed (both_read r s)
-  chained then a b c failed r s (added, first, read) (more, second, reads) = (added ++ more, then added more failed a b c first second, reads_join added a b c r s first read reads)
+  chained join a b c failed r s (added, first, read) (more, second, reads) = (added ++ more, join added more failed a b c first second, reads_join added a b c r s first read reads)
 
   -- nothing was read before
   pub chained_after : Then → (a b c : Lasting D) (failed : List JournalRecord) (s : Reads) → HaveSealed told a b [] none_read → HaveSealed told b c failed s → HaveSealed told a c failed s
-  chained_after then a b c failed s first second = subst (λ (r : Reads). HaveSealed told a c failed r) (no_more s) (chained then a b c failed none_read s first second)
+  chained_after join a b c failed s first second = subst (λ (r : Reads). HaveSealed told a c failed r) (no_more s) (chained join a b c failed none_read s first second)
 
   -- a desk that seals all stays open
   pub still_open : (a b : Lasting D) (r : Reads) → a.closed ≡ false → HaveSealed told a b [] r → b.closed ≡ false
@@ -134,13 +134,13 @@ module _ {D : Type 0} (told : D → DiskTold) where
   pub kept_sealed : Then → (a b c : Lasting D) (failed unkept : List JournalRecord) (r : Reads) (due : Bool) → a.closed ≡ false → HaveSealed told a b failed r
       → HaveSealed told b c (if not b.closed && due then unkept else []) none_read → (b.closed ≡ true → c ≡ b)
       → HaveSealed told a c (if not b.closed && due then unkept else failed) r
-  kept_sealed then a b c failed unkept r due open' first second stays =
+  kept_sealed join a b c failed unkept r due open' first second stays =
       elim b.closed as (λ x. b.closed ≡ x → HaveSealed told b c (if not x && due then unkept else []) none_read → HaveSealed told a c (if not x && due then unkept else failed) r) [
         | true ↦ λ e more. subst (λ (d : Lasting D). HaveSealed told a d failed r) (sym (stays e)) first
         | false ↦ λ e more.
           let none = all_sealed a b failed r open' e first in
           let whole = subst (λ (q : Reads). HaveSealed told a c (if due then unkept else []) q) (none_before r)
-          (chained then a b c (if due then unkept else []) r none_read (subst (λ (f : List JournalRecord). HaveSealed told a b f r) none first) more) in
+          (chained join a b c (if due then unkept else []) r none_read (subst (λ (f : List JournalRecord). HaveSealed told a b f r) none first) more) in
           subst (λ (f : List JournalRecord). HaveSealed told a c (if due then unkept else f) r) (sym none) whole
       ] refl second
 
