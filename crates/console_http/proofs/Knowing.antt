@@ -44,6 +44,7 @@ MadeOf house (route.Plan point) = Unit {0}
 MadeOf house (route.Act act) = IsMade house act
 MadeOf house (route.Cycle ask) = IsAsk house ask
 MadeOf house (route.Try ask) = IsAsk house ask
+MadeOf house route.Snapshot = Unit {0}
 MadeOf house route.Stop = Unit {0}
 
 abbrev ChoiceMade : House → Choice → Type 0
@@ -89,6 +90,7 @@ on_page house page.Cycle parts body few =
 on_page house page.Try parts body few =
     let asks = option_map (λ (ask : CycleAsk). route.Try ask) (try_in house body) in
     alone_made house (said asks) parts (said_made house asks (each_map (IsAsk house) (MadeOf house) (λ (ask : CycleAsk). route.Try ask) (λ ask h. h) (try_in house body) (try_in_made house body few)))
+on_page house page.Snapshot parts body few = alone_made house (Ok route.Snapshot) parts tt
 on_page house page.Stop parts body few = alone_made house (Ok route.Stop) parts tt
 
 at_page : (house : House) (r : Request) (o : Option Page) → length r.body ≤ 4194304 → ChoiceMade house (route_at house r o)
@@ -124,6 +126,7 @@ route_knows house (route.Plan point) made = tt
 route_knows house (route.Act act) made = act_knows house act made
 route_knows house (route.Cycle ask) made = acts_know house ask.inserts made.inserts.each
 route_knows house (route.Try ask) made = acts_know house ask.inserts made.inserts.each
+route_knows house route.Snapshot made = tt
 route_knows house route.Stop made = tt
 
 pub ask_knows : (house : House) (bytes : List ℕ) (asked : Result Asked HttpRefused) → Asks house bytes asked → AskKnows house asked
@@ -144,6 +147,7 @@ route_recorded house number at (route.Plan point) is n t made = tt
 route_recorded house number at (route.Act act) is n t made = act_recorded house number at act is n t made
 route_recorded house number at (route.Cycle ask) is n t made = ask_recorded house number at ask is n t made
 route_recorded house number at (route.Try ask) is n t made = ask_recorded house number at ask is n t made
+route_recorded house number at route.Snapshot is n t made = tt
 route_recorded house number at route.Stop is n t made = tt
 
 pub ask_records : (house : House) (bytes : List ℕ) (asked : Result Asked HttpRefused) (number at : ℕ) → IsTrue (is_house house) → number ≤ 4294967295 → at ≤ 253402300799

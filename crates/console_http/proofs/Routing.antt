@@ -79,6 +79,7 @@ finds_alone page.Plan e = absurd (cc)
 finds_alone page.Act e = refl
 finds_alone page.Cycle e = refl
 finds_alone page.Try e = refl
+finds_alone page.Snapshot e = refl
 finds_alone page.Stop e = refl
 
 -- a path that has no parts, and a page whose row has none
@@ -111,6 +112,7 @@ on_row house page.Plan parts body h = by_number (λ point. route.Plan point) (λ
 on_row house page.Act parts body h = by_none page.Act (said (option_map (λ act. route.Act act) (act_in house body))) refl parts
 on_row house page.Cycle parts body h = by_none page.Cycle (said (option_map (λ ask. route.Cycle ask) (cycle_in house body))) refl parts
 on_row house page.Try parts body h = by_none page.Try (said (option_map (λ ask. route.Try ask) (try_in house body))) refl parts
+on_row house page.Snapshot parts body h = by_none page.Snapshot (Ok route.Snapshot) refl parts
 on_row house page.Stop parts body h = by_none page.Stop (Ok route.Stop) refl parts
 
 -- ---- a request
@@ -156,6 +158,7 @@ page_front page.Plan rest = refl
 page_front page.Act rest = refl
 page_front page.Cycle rest = refl
 page_front page.Try rest = refl
+page_front page.Snapshot rest = refl
 page_front page.Stop rest = refl
 
 by_routed : (house : House) (r : Request) (o : Option Page) → IsRouted house r o → None ≡ page_at r.target → route_at house r o ≡ Err Route

@@ -22,6 +22,7 @@ text_of page.Plan = codes "/plan/{point}"
 text_of page.Act = codes "/act"
 text_of page.Cycle = codes "/cycle"
 text_of page.Try = codes "/try"
+text_of page.Snapshot = codes "/snapshot"
 text_of page.Stop = codes "/stop"
 
 -- its tokens: bytes, and what takes the rest of a path or a part of it
@@ -35,6 +36,7 @@ pattern_of page.Plan = codes "/plan/" ++ param_token ∷ []
 pattern_of page.Act = codes "/act"
 pattern_of page.Cycle = codes "/cycle"
 pattern_of page.Try = codes "/try"
+pattern_of page.Snapshot = codes "/snapshot"
 pattern_of page.Stop = codes "/stop"
 
 -- a page whose path has no parts
@@ -56,6 +58,7 @@ names_of page.Plan = (7, 12) ∷ []
 names_of page.Act = []
 names_of page.Cycle = []
 names_of page.Try = []
+names_of page.Snapshot = []
 names_of page.Stop = []
 
 abbrev pub entry_of : Page → RouteOf Page
@@ -67,15 +70,15 @@ row_of page = (pattern_of page, entry_of page)
 -- ---- the rows as they come in
 
 abbrev pub acting_rows : RowsOf (RouteOf Page)
-acting_rows = row_of page.Act ∷ row_of page.Cycle ∷ row_of page.Stop ∷ row_of page.Try ∷ []
+acting_rows = row_of page.Act ∷ row_of page.Cycle ∷ row_of page.Snapshot ∷ row_of page.Stop ∷ row_of page.Try ∷ []
 
 abbrev pub whole_rows : RowsOf (RouteOf Page)
-whole_rows = row_of page.Act ∷ row_of page.Conf ∷ row_of page.Cycle ∷ row_of page.Status ∷ row_of page.Stop ∷ row_of page.Try ∷ []
+whole_rows = row_of page.Act ∷ row_of page.Conf ∷ row_of page.Cycle ∷ row_of page.Snapshot ∷ row_of page.Status ∷ row_of page.Stop ∷ row_of page.Try ∷ []
 
 abbrev pub page_rows : RowsOf (RouteOf Page)
 page_rows =
-    row_of page.Act ∷ row_of page.Body ∷ row_of page.Box ∷ row_of page.Conf ∷ row_of page.Cycle ∷ row_of page.Plan ∷ row_of page.Status ∷ row_of page.Stop
-    ∷ row_of page.Timeline ∷ row_of page.Try ∷ []
+    row_of page.Act ∷ row_of page.Body ∷ row_of page.Box ∷ row_of page.Conf ∷ row_of page.Cycle ∷ row_of page.Plan ∷ row_of page.Snapshot ∷ row_of page.Status
+    ∷ row_of page.Stop ∷ row_of page.Timeline ∷ row_of page.Try ∷ []
 
 -- each is below 256
 abbrev pub AreBytes : List ℕ → Type 0

@@ -85,6 +85,7 @@ KnowsUsers house (route.Plan point) = Unit {0}
 KnowsUsers house (route.Act act) = IsTrue (list_all (is_known house) (users_in (Acts act)))
 KnowsUsers house (route.Cycle ask) = IsTrue (are_known house ask.inserts)
 KnowsUsers house (route.Try ask) = IsTrue (are_known house ask.inserts)
+KnowsUsers house route.Snapshot = Unit {0}
 KnowsUsers house route.Stop = Unit {0}
 
 abbrev pub AskKnows : House → Result Asked HttpRefused → Type 0
@@ -103,6 +104,7 @@ IsRecordable number at (route.Plan point) = Unit {0}
 IsRecordable number at (route.Act act) = HasSpelling (Operator number at act)
 IsRecordable number at (route.Cycle ask) = HasSpelling (Cycle number at ask)
 IsRecordable number at (route.Try ask) = HasSpelling (Cycle number at ask)
+IsRecordable number at route.Snapshot = Unit {0}
 IsRecordable number at route.Stop = Unit {0}
 
 abbrev pub AskRecords : ℕ → ℕ → Result Asked HttpRefused → Type 0

@@ -8,7 +8,7 @@ use Rattle.console_head.specs.Request.{Request}
 use Rattle.console_http.specs.declared.pages.Page.{Page}
 use Rattle.console_http.specs.declared.pages.Page.TheVariants as page
 use Rattle.console_http.specs.declared.request.Route.{Route as Taken}
-use Rattle.console_http.specs.declared.request.Route.TheVariants.{Status, Timeline, Box, Body, Conf, Plan, Act, Cycle, Try, Stop}
+use Rattle.console_http.specs.declared.request.Route.TheVariants.{Status, Timeline, Box, Body, Conf, Plan, Act, Cycle, Try, Snapshot, Stop}
 use Rattle.console_http.specs.declared.request.HttpRefused.{HttpRefused}
 use Rattle.console_http.specs.declared.request.HttpRefused.TheVariants.{Route, Json}
 use Rattle.console_http.specs.Parts.{part_of, number32, box_name, is_slash}
@@ -26,10 +26,11 @@ front_of page.Plan = codes "/plan/"
 front_of page.Act = codes "/act"
 front_of page.Cycle = codes "/cycle"
 front_of page.Try = codes "/try"
+front_of page.Snapshot = codes "/snapshot"
 front_of page.Stop = codes "/stop"
 
 abbrev pub all_pages : List Page
-all_pages = page.Status ∷ page.Timeline ∷ page.Box ∷ page.Body ∷ page.Conf ∷ page.Plan ∷ page.Act ∷ page.Cycle ∷ page.Try ∷ page.Stop ∷ []
+all_pages = page.Status ∷ page.Timeline ∷ page.Box ∷ page.Body ∷ page.Conf ∷ page.Plan ∷ page.Act ∷ page.Cycle ∷ page.Try ∷ page.Snapshot ∷ page.Stop ∷ []
 
 -- the page whose front the path has
 abbrev pub page_of : List ℕ → Option Page
@@ -45,6 +46,7 @@ method_of page.Plan = codes "GET"
 method_of page.Act = codes "POST"
 method_of page.Cycle = codes "POST"
 method_of page.Try = codes "POST"
+method_of page.Snapshot = codes "POST"
 method_of page.Stop = codes "POST"
 
 abbrev pub Choice : Type 0
@@ -85,6 +87,7 @@ route_on house page.Plan parts body = taken (option_map (λ point. Plan point) (
 route_on house page.Act parts body = alone (said (option_map (λ act. Act act) (act_in house body))) parts
 route_on house page.Cycle parts body = alone (said (option_map (λ ask. Cycle ask) (cycle_in house body))) parts
 route_on house page.Try parts body = alone (said (option_map (λ ask. Try ask) (try_in house body))) parts
+route_on house page.Snapshot parts body = alone (Ok Snapshot) parts
 route_on house page.Stop parts body = alone (Ok Stop) parts
 
 abbrev pub route_at : House → Request → Option Page → Choice

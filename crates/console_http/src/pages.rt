@@ -19,6 +19,7 @@ pub enum Page {
     Act,
     Cycle,
     Try,
+    Snapshot,
     Stop,
 }
 
@@ -37,6 +38,7 @@ impl Page {
             Page::Act => b"/act",
             Page::Cycle => b"/cycle",
             Page::Try => b"/try",
+            Page::Snapshot => b"/snapshot",
             Page::Stop => b"/stop",
         }
     }
@@ -48,7 +50,7 @@ impl Page {
         match self {
             Page::Status | Page::Timeline | Page::Box | Page::Body | Page::Conf | Page::Plan =>
                 b"GET",
-            Page::Act | Page::Cycle | Page::Try | Page::Stop => b"POST",
+            Page::Act | Page::Cycle | Page::Try | Page::Snapshot | Page::Stop => b"POST",
         }
     }
 }
@@ -59,6 +61,7 @@ fn add_acting(router: &mut Router<Page>) -> Result<(), InsertError>
     router.insert("/act", Page::Act)?;
     router.insert("/cycle", Page::Cycle)?;
     router.insert("/try", Page::Try)?;
+    router.insert("/snapshot", Page::Snapshot)?;
     router.insert("/stop", Page::Stop)?;
     Ok(())
 }

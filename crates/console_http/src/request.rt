@@ -31,6 +31,7 @@ pub enum Route {
     Act(Act),
     Cycle(CycleAsk),
     Try(CycleAsk),
+    Snapshot,
     Stop,
 }
 
@@ -206,6 +207,7 @@ fn read_parts(
         Page::Act => read_acted(alloc, house, parts, body),
         Page::Cycle => read_cycled(alloc, house, parts, body),
         Page::Try => read_tried(alloc, house, parts, body),
+        Page::Snapshot => alone(Route::Snapshot, parts),
         Page::Stop => alone(Route::Stop, parts),
     }
 }

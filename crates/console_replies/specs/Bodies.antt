@@ -24,6 +24,10 @@ body_data text rev = object (member (codes "body") (string (encode_of standard t
 abbrev pub number_data : ℕ → Data
 number_data n = object (member (codes "number") (counted n) no_members)
 
+-- how many items a snapshot holds
+abbrev pub items_data : ℕ → Data
+items_data n = object (member (codes "items") (counted n) no_members)
+
 abbrev pub stopped_data : Data
 stopped_data = object (member (codes "stopped") (boolean true) no_members)
 

@@ -2,7 +2,7 @@
 ghost use Rattle.std.specs.Prelude.{◌≡◌, IfOk, string_bytes};
 ghost use Rattle.serde_json.specs.View.{view};
 ghost use Rattle.serde_json.specs.Written.{compact_text};
-ghost use Rattle.console_replies.specs.Bodies.{status_data, body_data, number_data, stopped_data, word_text, error_data, point_data, numbers_data};
+ghost use Rattle.console_replies.specs.Bodies.{status_data, body_data, number_data, items_data, stopped_data, word_text, error_data, point_data, numbers_data};
 
 use crate::text::text_of;
 use base64::engine::general_purpose::STANDARD;
@@ -75,6 +75,19 @@ pub fn number_json(alloc: Global, number: u32) -> Result<Text, NoMemory>
     ensures { IfOk result (λ text. text ≡ compact_text (number_data number)) }
 {
     text_of(alloc, number_value(alloc, number)?)
+}
+
+fn items_value(alloc: Global, items: u32) -> Result<Value, AllocError>
+    ensures { IfOk result (λ v. view v ≡ items_data items) }
+{
+    json!(in alloc; {"items": items})
+}
+
+/// The answer to POST /snapshot: how many items the snapshot holds.
+pub fn items_json(alloc: Global, items: u32) -> Result<Text, NoMemory>
+    ensures { IfOk result (λ text. text ≡ compact_text (items_data items)) }
+{
+    text_of(alloc, items_value(alloc, items)?)
 }
 
 fn stopped_value(alloc: Global) -> Result<Value, AllocError>

@@ -15,8 +15,8 @@ mod text;
 mod timeline;
 
 pub use bodies::{
-    Counts, ErrorWord, body_json, error_json, number_json, numbers_json, point_json, status_json,
-    stopped_json,
+    Counts, ErrorWord, body_json, error_json, items_json, number_json, numbers_json, point_json,
+    status_json, stopped_json,
 };
 pub use confs::conf_json;
 pub use mailboxes::box_json;

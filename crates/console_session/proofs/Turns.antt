@@ -1,6 +1,6 @@
 -- Replies as turns.
 use Rattle.std.proofs.Common.{◌≡◌, ◌&&◌, ◌||◌, ℕ, ◌<◌, ◌≤◌, Bool, true, false, not, ◌==◌, List, [], ◌∷◌, ◌++◌, Option, Some, None, refl, sym, ap, ◌∙◌, subst, arith, inl, inr, true≢false}
-use Rattle.std.specs.Prelude.{◌⊎◌, IsSome, nat_lt, option_and_then, option_map, unwrap_or, Result, Ok, Err, if◌then◌else◌}
+use Rattle.std.specs.Prelude.{◌⊎◌, IsSome, length, nat_lt, option_and_then, option_map, unwrap_or, Result, Ok, Err, if◌then◌else◌}
 use Rattle.std.proofs.lemmas.Bool.Decides.{nat_tests}
 use Rattle.undo_outside.specs.Disk.{DiskTold, IsHonest, ReadFailed}
 use Rattle.undo_outside.proofs.Moments.{reads_none}
@@ -11,11 +11,13 @@ use Rattle.verb_core.specs.Items.{text_of}
 use Rattle.verb_core.specs.Names.{is_empty}
 use Rattle.seal_log.specs.declared.fault.ReadFault.{ReadFault}
 use Rattle.seal_log.specs.declared.fault.ReadFault.TheVariants as read_fault
+use Rattle.seal_log.specs.declared.fault.SealFault.{SealFault}
+use Rattle.seal_log.specs.declared.fault.SealFault.TheVariants as seal_fault
 use Rattle.verb_bytes.specs.declared.journal.CycleAsk.{CycleAsk}
 use Rattle.verb_bytes.specs.declared.journal.JournalRecord.{JournalRecord}
 use Rattle.verb_bytes.specs.declared.journal.JournalRecord.TheVariants.{Operator, Cycle}
 use Rattle.paradox.specs.declared.reports.Report.{Report}
-use Rattle.paradox.specs.Kept.{performed, report_of, Kept}
+use Rattle.paradox.specs.Kept.{performed, report_of, snapshotted, Kept}
 use Rattle.repair_desk.specs.Repairs.{position}
 use Rattle.mail_cycle.specs.Asking.{Due, IsRewinds, Repeats, NoPoint, NoNumbers, Rewinds as IsDue, after_cycle, cycle_due, due_anew, due_at, due_by}
 use Rattle.mail_cycle.specs.Cycles.{Cycled, cycled_at, leaves_numbers}
@@ -28,10 +30,10 @@ use Rattle.time_desk.specs.Lasting.{Lasting}
 use Rattle.time_desk.specs.Planning.{Plans, PlansNone, plan_at}
 use Rattle.time_desk.specs.Reading.{HaveRead, IsStill, RoseBy, failed_once, none_read, wrong_once}
 use Rattle.verb_core.specs.Deeds.{act_item}
-use Rattle.time_desk.specs.Records.{after_record, after_records, is_formed, is_spelled}
+use Rattle.time_desk.specs.Records.{after_record, after_records, is_formed, is_spelled, snapshot_record}
 use Rattle.time_desk.specs.Sealing.{Seals}
 use Rattle.time_desk.specs.Stored.{HoldsTexts}
-use Rattle.time_desk.specs.Submitting.{ActsNone}
+use Rattle.time_desk.specs.Submitting.{ActsNone, SnapshotsNone}
 use Rattle.console_head.specs.declared.request.HeadRefused.TheVariants.{Head as BadHead, Size as TooLarge}
 use Rattle.console_http.specs.declared.request.Asked.{Asked}
 use Rattle.console_http.specs.declared.request.Asked.TheVariants.{NotYet, Whole}
@@ -42,15 +44,15 @@ use Rattle.console_http.specs.declared.request.Route.TheVariants as route
 use Rattle.console_http.specs.Requests.{Asks}
 use Rattle.console_http.specs.Routes.{Choice, route_of}
 use Rattle.console_replies.specs.declared.bodies.ErrorWord.TheVariants.{Disk}
-use Rattle.console_replies.specs.Bodies.{body_data, error_data, number_data, numbers_data, point_data}
+use Rattle.console_replies.specs.Bodies.{body_data, error_data, items_data, number_data, numbers_data, point_data}
 use Rattle.console_replies.specs.Reports.{report_data}
 use Rattle.console_session.specs.declared.reply.After.{After}
 use Rattle.console_session.specs.declared.reply.After.TheVariants.{Closes, Fails, Rewinds, Waits}
 use Rattle.console_session.specs.declared.reply.Reply.{Reply}
 use Rattle.console_session.specs.Answers.{Answer, answer, answer_text, body_found, plan_answer, planned, refused, told_plainly}
-use Rattle.console_session.specs.Turn.{Turn, chosen, cycled, done, failed, numbered, numberless, rewound, tells}
+use Rattle.console_session.specs.Turn.{Turn, chosen, cycled, done, failed, kept_as_it_is, numbered, numberless, rewound, tells}
 use Rattle.console_session.specs.Hindrance.{Hindrance, Clear, Refused, Unheard, Unanswered, Unsealed, Untold, Unread, Misread, acted_under, cycled_under, found_under, hindered, lost, read_under, rewound_under, routed_under, sealed_under, starved, told_under, tried_under, unanswered, unread}
-use Rattle.console_session.specs.Hearing.{Hears, AreServed, IsTurn, Serves, Starves, Tells, TellsCycleFault, TellsDiskFault, TellsFault, TellsFound, TellsOnly, TellsRead, TellsReadFault, TellsUnread, is_failure, reply}
+use Rattle.console_session.specs.Hearing.{Hears, AreServed, IsTurn, Serves, Starves, Tells, TellsCycleFault, TellsDiskFault, TellsFault, TellsFound, TellsOnly, TellsRead, TellsReadFault, TellsSealFault, TellsUnread, is_failure, reply}
 use Rattle.console_session.proofs.Deciding.{IsSame, kept_decided, text_decided}
 
 -- ---- numbers
@@ -129,7 +131,7 @@ module _ {D : Type 0} (told : D → DiskTold) where
   pub as_it_was : Truth → (old new : Lasting D) → new ≡ old → IsStill told old new
   as_it_was truth old new e =
       subst (λ (n : Lasting D). IsStill told old n) (sym e)
-      (record { kept = refl; notes = refl; room = refl; gate = refl; closed = refl; reads = reads_none (told old.disk) (truth old.disk) })
+      (record { kept = refl; notes = refl; marks = refl; room = refl; gate = refl; closed = refl; reads = reads_none (told old.disk) (truth old.disk) })
 
   -- ---- reads
 
@@ -292,6 +294,34 @@ module _ {D : Type 0} (told : D → DiskTold) where
   act_not_done still truth at act old new fault.NoMemory r none kept says =
       acts at act old new r (less_is old.kept.next none.1) (starved_turn _ old new r refl refl kept none.2 says)
   act_not_done still truth at act old new fault.Closed r none kept says = absurd says
+
+  -- ---- snapshots
+
+  abbrev Snapping : Lasting D → Lasting D → Reply → Type 0
+  Snapping old new r = Under (λ h. sealed_under h old.kept (kept_as_it_is old.kept) (failed old.kept (snapshot_record old.kept))) old new r
+
+  -- a snapshot is to be sealed
+  snaps : (at : ℕ) (old new : Lasting D) (r : Reply) → Snapping old new r → Serves told at (Ok (Whole route.Snapshot)) old new r
+  snaps at old new r under = record { hindrance = under.0; turn_is = under.1; still = λ e. absurd (record_is_not (snapshot_record old.kept) [] e) }
+
+  -- it was sealed, and that is told or nothing is said
+  kept_turn : (old new : Lasting D) (r : Reply) → TellsOnly (answer 200 (items_data (length old.kept.timeline))) Closes r
+      → new.kept ≡ snapshotted old.kept → Seals told (snapshot_record old.kept ∷ []) [] old new → Snapping old new r
+  kept_turn old new r (inl e) kept seals = (Clear, record { reply_is = e; kept = kept; seals = seals; read = reads_well old new seals.on_disk.reads })
+  kept_turn old new r (inr e) kept seals = (Unanswered, record { reply_is = e; kept = kept; seals = seals; read = reads_well old new seals.on_disk.reads })
+
+  pub snapshot_done : (at items : ℕ) (old new : Lasting D) (r : Reply) → TellsOnly (answer 200 (items_data items)) Closes r → items ≡ length old.kept.timeline
+      → new.kept ≡ snapshotted old.kept → Seals told (snapshot_record old.kept ∷ []) [] old new → Serves told at (Ok (Whole route.Snapshot)) old new r
+  snapshot_done at items old new r says count kept seals =
+      snaps at old new r (kept_turn old new r (subst (λ (n : ℕ). TellsOnly (answer 200 (items_data n)) Closes r) count says) kept seals)
+
+  pub snapshot_not_done : (at : ℕ) (old new : Lasting D) (f : SealFault) (r : Reply) → SnapshotsNone told old new f → TellsSealFault f r
+      → Serves told at (Ok (Whole route.Snapshot)) old new r
+  snapshot_not_done at old new seal_fault.Disk r none says =
+      snaps at old new r (unsealed_turn _ (snapshot_record old.kept) old new r refl refl says (kept_stays old new (none.1.kept (inr refl))) none.1)
+  snapshot_not_done at old new seal_fault.NoMemory r none says =
+      snaps at old new r (starved_turn _ old new r refl refl (kept_stays old new (none.1.kept (inr refl))) none.1 says)
+  snapshot_not_done at old new seal_fault.Closed r none says = absurd says
 
   -- ---- cycles
 
@@ -547,6 +577,7 @@ module _ {D : Type 0} (told : D → DiskTold) where
   starved_route at kept (route.Act act) = elim (nat_lt kept.next 4194304) as (λ b. (if b then starved kept else starved kept) ≡ starved kept) [ true ↦ refl | false ↦ refl ]
   starved_route at kept (route.Cycle ask) = starved_cycle at kept ask (cycle_due kept at ask)
   starved_route at kept (route.Try ask) = starved_try kept ask (due_anew kept at ask)
+  starved_route at kept route.Snapshot = refl
   starved_route at kept route.Stop = refl
 
   lost_route : (at : ℕ) (kept : Kept) (t : Taken) → routed_under Unheard at kept t ≡ lost kept
@@ -559,6 +590,7 @@ module _ {D : Type 0} (told : D → DiskTold) where
   lost_route at kept (route.Act act) = elim (nat_lt kept.next 4194304) as (λ b. (if b then lost kept else lost kept) ≡ lost kept) [ true ↦ refl | false ↦ refl ]
   lost_route at kept (route.Cycle ask) = lost_cycle at kept ask (cycle_due kept at ask)
   lost_route at kept (route.Try ask) = lost_try kept ask (due_anew kept at ask)
+  lost_route at kept route.Snapshot = refl
   lost_route at kept route.Stop = refl
 
   starved_choice : (at : ℕ) (kept : Kept) (c : Choice) → hindered Refused at kept (chosen c) ≡ starved kept
@@ -675,6 +707,7 @@ module _ {D : Type 0} (told : D → DiskTold) where
   ends_routed h at kept (route.Act act) = ends_acted h at kept act
   ends_routed h at kept (route.Cycle ask) = ends_cycled h at kept ask (cycle_due kept at ask)
   ends_routed h at kept (route.Try ask) = ends_tried h kept ask (due_anew kept at ask)
+  ends_routed h at kept route.Snapshot = ends_sealed h kept _ _ refl refl
   ends_routed h at kept route.Stop = ends_told h kept _ refl
 
   ends_so : (h : Hindrance) (at : ℕ) (kept : Kept) (asked : Result Asked HttpRefused) → EndsSo (hindered h at kept asked)

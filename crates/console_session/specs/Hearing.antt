@@ -3,6 +3,8 @@ use Rattle.std.specs.Prelude.{◌≡◌, ◌⊎◌, ℕ, Bool, true, false, List
 use Rattle.undo_outside.specs.Disk.{DiskTold, ReadFailed}
 use Rattle.seal_log.specs.declared.fault.ReadFault.{ReadFault}
 use Rattle.seal_log.specs.declared.fault.ReadFault.TheVariants as read_fault
+use Rattle.seal_log.specs.declared.fault.SealFault.{SealFault}
+use Rattle.seal_log.specs.declared.fault.SealFault.TheVariants as seal_fault
 use Rattle.time_desk.specs.declared.fault.ActFault.{ActFault}
 use Rattle.time_desk.specs.declared.fault.ActFault.TheVariants as fault
 use Rattle.time_desk.specs.declared.fault.CycleFault.{CycleFault}
@@ -53,6 +55,12 @@ TellsFault (fault.Numbers next) r = Tells (answer 507 (numbers_data next)) Close
 TellsFault fault.Disk r = TellsOnly (answer 500 (error_data Disk)) Fails r
 TellsFault fault.NoMemory r = Starves r
 TellsFault fault.Closed r = ⊥
+
+-- why a snapshot was not taken is told
+abbrev pub TellsSealFault : SealFault → Reply → Type 0
+TellsSealFault seal_fault.Disk r = TellsOnly (answer 500 (error_data Disk)) Fails r
+TellsSealFault seal_fault.NoMemory r = Starves r
+TellsSealFault seal_fault.Closed r = ⊥
 
 -- that a text could not be read is told, or want of memory
 abbrev pub TellsUnread : Reply → Type 0

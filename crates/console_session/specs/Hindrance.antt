@@ -7,6 +7,7 @@ use Rattle.paradox.specs.Kept.{Kept}
 use Rattle.mail_cycle.specs.Asking.{Due, Repeats, NoPoint, NoNumbers, Rewinds, cycle_due, due_anew}
 use Rattle.repair_desk.specs.Repairs.{position}
 use Rattle.time_desk.specs.Reading.{failed_once, none_read, wrong_once}
+use Rattle.time_desk.specs.Records.{snapshot_record}
 use Rattle.console_http.specs.declared.request.Asked.{Asked}
 use Rattle.console_http.specs.declared.request.Asked.TheVariants.{NotYet, Whole}
 use Rattle.console_http.specs.declared.request.HttpRefused.{HttpRefused}
@@ -17,7 +18,7 @@ use Rattle.console_replies.specs.declared.bodies.ErrorWord.TheVariants as word
 use Rattle.console_replies.specs.Bodies.{error_data}
 use Rattle.console_session.specs.declared.reply.After.TheVariants.{Closes}
 use Rattle.console_session.specs.Answers.{answer, body_found, refused}
-use Rattle.console_session.specs.Turn.{Turn, waits, tells, done, failed, numberless, pointless, reported, rewound, routed}
+use Rattle.console_session.specs.Turn.{Turn, waits, tells, done, failed, kept_as_it_is, numberless, pointless, reported, rewound, routed}
 
 -- How a turn may go otherwise.
 pub data Hindrance : Type 0 where
@@ -27,9 +28,9 @@ pub data Hindrance : Type 0 where
   Refused : Hindrance
   -- the same, and no memory was found for telling the operator
   Unheard : Hindrance
-  -- no memory was found for the answer to an act or a cycle that is done
+  -- no memory was found for the answer to an act, a cycle or a snapshot that is done
   Unanswered : Hindrance
-  -- an act or a cycle could not be sealed: the operator is told, and serving ends
+  -- an act, a cycle or a snapshot could not be sealed: the operator is told, and serving ends
   Unsealed : Hindrance
   -- the same, and no memory was found for telling the operator
   Untold : Hindrance
@@ -136,6 +137,7 @@ routed_under h at kept (route.Plan point) = found_under h kept (position kept.ti
 routed_under h at kept (route.Act act) = acted_under h at kept act
 routed_under h at kept (route.Cycle ask) = cycled_under h at kept ask (cycle_due kept at ask)
 routed_under h at kept (route.Try ask) = tried_under h kept ask (due_anew kept at ask)
+routed_under h at kept route.Snapshot = sealed_under h kept (kept_as_it_is kept) (failed kept (snapshot_record kept))
 routed_under h at kept route.Stop = told_under h kept (routed at kept route.Stop)
 
 -- a turn, hindered or not; bytes that are not yet a request want no memory

@@ -1,16 +1,17 @@
 -- One turn of a console connection: the answer to its request.
-use Rattle.std.specs.Prelude.{ℕ, List, [], ◌∷◌, nat_lt, None, Some, Result, Ok, Err, if◌then◌else◌}
+use Rattle.std.specs.Prelude.{ℕ, List, [], ◌∷◌, length, nat_lt, None, Some, Result, Ok, Err, if◌then◌else◌}
 use Rattle.verb_core.specs.declared.conf.House.{House}
 use Rattle.verb_core.specs.declared.item.Act.{Act}
 use Rattle.verb_bytes.specs.declared.journal.CycleAsk.{CycleAsk}
 use Rattle.verb_bytes.specs.declared.journal.JournalRecord.{JournalRecord}
 use Rattle.verb_bytes.specs.declared.journal.JournalRecord.TheVariants.{Operator, Cycle}
 use Rattle.paradox.specs.declared.reports.Report.{Report}
-use Rattle.paradox.specs.Kept.{performed, Kept}
+use Rattle.paradox.specs.Kept.{performed, snapshotted, Kept}
 use Rattle.mail_cycle.specs.Asking.{Due, Repeats, NoPoint, NoNumbers, Rewinds as IsDue, after_cycle, cycle_due, due_anew}
 use Rattle.mail_cycle.specs.Cycles.{Cycled}
 use Rattle.verb_core.specs.Deeds.{act_item}
 use Rattle.time_desk.specs.Reading.{Reads, none_read}
+use Rattle.time_desk.specs.Records.{snapshot_record}
 use Rattle.console_head.specs.Request.{Stage}
 use Rattle.console_http.specs.declared.request.Asked.{Asked}
 use Rattle.console_http.specs.declared.request.Asked.TheVariants.{NotYet, Whole}
@@ -20,7 +21,7 @@ use Rattle.console_http.specs.declared.request.Route.TheVariants as route
 use Rattle.console_http.specs.Requests.{told_of}
 use Rattle.console_http.specs.Routes.{Choice, route_of}
 use Rattle.console_replies.specs.declared.bodies.ErrorWord.TheVariants as word
-use Rattle.console_replies.specs.Bodies.{error_data, number_data, numbers_data, point_data, stopped_data}
+use Rattle.console_replies.specs.Bodies.{error_data, items_data, number_data, numbers_data, point_data, stopped_data}
 use Rattle.console_replies.specs.Reports.{report_data}
 use Rattle.console_session.specs.declared.reply.After.{After}
 use Rattle.console_session.specs.declared.reply.After.TheVariants.{Waits, Closes, Stops, Fails, Rewinds}
@@ -111,6 +112,19 @@ tried kept ask NoPoint = pointless kept ask.point
 tried kept ask NoNumbers = numberless kept
 tried kept ask (IsDue due) = reported kept due.report
 
+-- ---- snapshots
+
+-- a snapshot is taken, and answered with how many items it holds
+abbrev pub kept_as_it_is : Kept → Turn
+kept_as_it_is kept = record {
+  said = answer_text (answer 200 (items_data (length kept.timeline)));
+  kept = snapshotted kept;
+  after = Closes;
+  sealed = snapshot_record kept ∷ [];
+  unsealed = [];
+  reads = none_read;
+}
+
 -- ---- turns
 
 -- the answer to a route at a moment
@@ -124,6 +138,7 @@ routed at kept (route.Plan point) = tells (plan_answer kept point) Closes kept
 routed at kept (route.Act act) = numbered kept (done at kept act)
 routed at kept (route.Cycle ask) = cycled at kept ask (cycle_due kept at ask)
 routed at kept (route.Try ask) = tried kept ask (due_anew kept at ask)
+routed at kept route.Snapshot = kept_as_it_is kept
 routed at kept route.Stop = tells (answer 200 stopped_data) Stops kept
 
 -- the turn of what is asked at a moment

@@ -11,6 +11,7 @@ use crate::reply::{After, Reply, silent, tell};
 use crate::routes::{
     tell_body, tell_box, tell_conf, tell_plan, tell_refused, tell_status, tell_timeline,
 };
+use crate::snapshot::snapshot;
 use console_http::laws::acts_name_known_users;
 use console_http::{Asked, Coming, HttpRefused, Route, read_coming};
 use console_replies::stopped_json;
@@ -65,6 +66,7 @@ fn follow<D: Disk, R: Threads + Sync, G: Gate>(
         Route::Act(asked) => act(alloc, desk, at, asked),
         Route::Cycle(ask) => cycle(rt, alloc, desk, at, ask, gate),
         Route::Try(ask) => try_cycle(rt, alloc, desk, at, &ask, gate),
+        Route::Snapshot => snapshot(alloc, desk),
         Route::Stop => tell(alloc, 200, stopped_json(alloc), After::Stops),
     }
 }

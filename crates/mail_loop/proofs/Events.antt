@@ -1,23 +1,27 @@
 -- What the code does for an event is what the machine does.
-use Rattle.std.proofs.Common.{◌≡◌, ℕ, Bool, true, false, not, List, [], None, Some, Option, Result, Ok, Err, IfOk, IfErr, inl, inr, refl, ap, subst, sym, ◌∙◌}
+use Rattle.std.specs.Prelude.{if◌then◌else◌}
+use Rattle.std.proofs.Common.{◌≡◌, ◌&&◌, ℕ, Bool, true, false, nat_le, not, List, [], ◌∷◌, None, Some, Option, Result, Ok, Err, IfOk, IfErr, inl, inr, refl, ap, subst, sym, ◌∙◌}
 use Rattle.std.specs.Ordering.{nat_cmp}
 use Rattle.std.specs.Map.{lookup, remove_entry, set_value}
 use Rattle.std.specs.BTreeMap.{is_at}
 use Rattle.undo_base.specs.declared.memory.NoMemory.{NoMemory as WantOfMemory}
 use Rattle.undo_outside.specs.declared.event.Event.{Event}
+use Rattle.undo_outside.specs.declared.event.What.{What}
+use Rattle.verb_core.specs.Names.{is_empty}
 use Rattle.undo_outside.specs.Calls.{LinkTold}
 use Rattle.console_head.specs.Request.{Stage}
 use Rattle.mail_loop.specs.declared.console_turn.Turned.{Turned}
 use Rattle.mail_loop.specs.ConsoleTurn.{AreSaid}
-use Rattle.paradox.specs.Kept.{Kept}
+use Rattle.paradox.specs.Kept.{Kept, snapshotted}
 use Rattle.verb_bytes.specs.declared.journal.JournalRecord.{JournalRecord}
 use Rattle.time_desk.specs.Reading.{Reads, none_read}
+use Rattle.time_desk.specs.Records.{snapshot_record}
 use Rattle.mail_loop.specs.State.{Seat, State}
 use Rattle.mail_loop.specs.Hindrance.{Hindrance}
-use Rattle.mail_loop.specs.Machine.{Seats, Delivery, told_others, ignored, unfed, with_reply, Hindrances, Reply, Answered, answered, hears_at, seat_at, seated, after_reply, delivered, happens}
+use Rattle.mail_loop.specs.Machine.{Seats, Delivery, Keeping, IsKept, IsPassed, IsUnkept, Outcome, told_others, ignored, unfed, with_reply, Hindrances, Reply, Answered, answered, hears_at, seat_at, seated, after_reply, delivered, happens, is_end, is_snapshot_due, outcome, with_snapshot}
 use Rattle.mail_loop.specs.Stands.{reply_of}
 use Rattle.mail_loop.specs.Took.{seat_left}
-use Rattle.mail_loop.specs.Did.{AreLicensed, Sends, Leads, Answers, unclosed_by}
+use Rattle.mail_loop.specs.Did.{AreLicensed, Sends, Leads, Answers, kept_by, unclosed_by, unkept_by}
 use Rattle.mail_loop.proofs.Links.{goes_none, none_licensed}
 use Rattle.mail_loop.proofs.Seats.{remove_set}
 use Rattle.mail_loop.proofs.Stretch.{HeardAlone}
@@ -93,20 +97,108 @@ going_answers {T} S a kept seats view of stops letters (Err e) ok err answers =
 pub leads_starved : (S : List JournalRecord → Reads → Type 0) (told : LinkTold) (s : State) (event : Event) (b : Bool) (hs : List Hindrance) (stage : Stage) (kept : Kept) (seats : Seats) (w : WantOfMemory) (result : Result Bool WantOfMemory)
     → result ≡ Err w → kept ≡ (answered b hs stage s event).state.kept → (answered b hs stage s event).unsealed ≡ [] → kept ≡ s.kept
     → S (answered b hs stage s event).unsealed (answered b hs stage s event).reads → AreSaid (answered b hs stage s event).consoles.readings
-    → (h : Hindrances) × (unclosed : ℕ) × AreLicensed h.deliveries unclosed told told × Leads S unclosed s.kept (happens h s event) told told kept seats result
+    → (h : Hindrances) × (unclosed : ℕ) × AreLicensed h.deliveries unclosed told told × Leads S unclosed h.keeping s.kept (happens h s event) told told kept seats result
 leads_starved S told s event b hs stage kept seats w result starved same none undone seals said =
-    let h : Hindrances = record { unfed = b; turns = hs; stage = stage; deliveries = [] } in (
+    let h : Hindrances = record { unfed = b; turns = hs; stage = stage; deliveries = []; keeping = IsPassed } in (
       h,
       0,
       none_licensed told told refl refl,
-      subst (λ (r : Result Bool WantOfMemory). Leads S 0 s.kept (happens h s event) told told kept seats r) (sym starved) (record {
+      subst (λ (r : Result Bool WantOfMemory). Leads S 0 IsPassed s.kept (happens h s event) told told kept seats r) (sym starved) (record {
         did = record { notes = []; goes = goes_none told; whole = ((happens h s event).notes, refl, inl (refl, refl, none, sym same ∙ undone)) };
         kept_is = same;
         seats_are = tt;
         closed = tt;
+        passed = refl;
         seals = seals;
         read = said;
       }),
+    )
+
+-- ---- the snapshot after the strings
+
+-- what a snapshot leaves, where one is due and where none is
+abbrev snapped : Keeping → Bool → Outcome → Outcome
+snapped IsKept true o = record o { state = record { kept = snapshotted o.state.kept; seats = o.state.seats } }
+snapped IsPassed true o = o
+snapped IsUnkept true o = record o { unsealed = snapshot_record o.state.kept ∷ [] }
+snapped k false o = o
+
+snapped_is : (k : Keeping) (what : What) (o : Outcome) (due : Bool) → is_snapshot_due what o ≡ due → with_snapshot k what o ≡ snapped k due o
+snapped_is IsKept what o true e = rw e refl
+snapped_is IsPassed what o true e = refl
+snapped_is IsUnkept what o true e = rw e refl
+snapped_is IsKept what o false e = rw e refl
+snapped_is IsPassed what o false e = refl
+snapped_is IsUnkept what o false e = rw e refl
+
+-- an event led to this before its snapshot, and to this with it
+leads_snapped : (S T : List JournalRecord → Reads → Type 0) (n : ℕ) (before : Kept) (o : Outcome) (old new : LinkTold) (mid after : Kept) (seats : Seats) (stops : Bool) (k : Keeping) (due : Bool)
+    → Leads T n IsPassed before o old new mid seats (Ok stops) → after ≡ (if due then kept_by k mid else mid) → S (if due then unkept_by k mid else o.unsealed) o.reads
+    → (due ≡ true → o.unsealed ≡ []) → Leads S n k before (snapped k due o) old new after seats (Ok stops)
+leads_snapped S T n before o old new mid after seats stops IsKept true l kept seals none = record {
+  did = record { notes = l.did.notes; goes = l.did.goes; whole = l.did.whole };
+  kept_is = kept ∙ ap snapshotted l.kept_is;
+  seats_are = l.seats_are;
+  closed = l.closed;
+  passed = tt;
+  seals = subst (λ (u : List JournalRecord). S u o.reads) (sym (none refl)) seals;
+  read = l.read;
+}
+leads_snapped S T n before o old new mid after seats stops IsPassed true l kept seals none = record {
+  did = record { notes = l.did.notes; goes = l.did.goes; whole = l.did.whole };
+  kept_is = kept ∙ l.kept_is;
+  seats_are = l.seats_are;
+  closed = l.closed;
+  passed = tt;
+  seals = subst (λ (u : List JournalRecord). S u o.reads) (sym (none refl)) seals;
+  read = l.read;
+}
+leads_snapped S T n before o old new mid after seats stops IsUnkept true l kept seals none = record {
+  did = record { notes = l.did.notes; goes = l.did.goes; whole = l.did.whole };
+  kept_is = kept ∙ l.kept_is;
+  seats_are = l.seats_are;
+  closed = l.closed;
+  passed = tt;
+  seals = subst (λ (q : Kept). S (snapshot_record q ∷ []) o.reads) l.kept_is seals;
+  read = l.read;
+}
+leads_snapped S T n before o old new mid after seats stops k false l kept seals none = record {
+  did = record { notes = l.did.notes; goes = l.did.goes; whole = l.did.whole };
+  kept_is = kept ∙ l.kept_is;
+  seats_are = l.seats_are;
+  closed = l.closed;
+  passed = tt;
+  seals = seals;
+  read = l.read;
+}
+
+empty_none : (xs : List JournalRecord) (t : Bool) → (is_empty xs && t) ≡ true → xs ≡ []
+empty_none [] t e = refl
+empty_none (x ∷ xs) t e = absurd (let wrong : false ≡ true = e in cc)
+
+due_as : (what : What) (o : Outcome) → is_end what ≡ false → is_snapshot_due what o ≡ (is_empty o.unsealed && nat_le 1024 o.state.kept.marks.since)
+due_as what o e = rw e refl
+
+-- an event was answered, its strings were sent, and the snapshot that is due was taken or not
+pub leads_on : (S T : List JournalRecord → Reads → Type 0) (old new : LinkTold) (s : State) (event : Event) (b : Bool) (hs : List Hindrance) (stage : Stage) (mid after : Kept) (seats' : Seats) (stops : Bool)
+    (k : Keeping) (due : Bool)
+    → is_end event.what ≡ false
+    → (ds : List Delivery) × AreLicensed ds 0 old new
+    × Leads T 0 IsPassed s.kept (outcome (answered b hs stage s event) (delivered ds (answered b hs stage s event).state.seats (answered b hs stage s event).replies)) old new mid seats' (Ok stops)
+    → (is_empty (answered b hs stage s event).unsealed && nat_le 1024 (answered b hs stage s event).state.kept.marks.since) ≡ due
+    → after ≡ (if due then kept_by k mid else mid) → S (if due then unkept_by k mid else (answered b hs stage s event).unsealed) (answered b hs stage s event).reads
+    → (h : Hindrances) × (unclosed : ℕ) × AreLicensed h.deliveries unclosed old new × Leads S unclosed h.keeping s.kept (happens h s event) old new after seats' (Ok stops)
+leads_on S T old new s event b hs stage mid after seats' stops k due goes (ds, licensed, leads) is_due kept seals =
+    let h : Hindrances = record { unfed = b; turns = hs; stage = stage; deliveries = ds; keeping = k } in
+    let a = answered b hs stage s event in
+    let o = outcome a (delivered ds a.state.seats a.replies) in
+    let here = snapped_is k event.what o due (due_as event.what o goes ∙ is_due) in (
+      h,
+      0,
+      licensed,
+      subst (λ (q : Outcome). Leads S 0 k s.kept q old new after seats' (Ok stops)) (sym here)
+          (leads_snapped S T 0 s.kept o old new mid after seats' stops k due leads kept seals
+          (λ e. empty_none a.unsealed (nat_le 1024 a.state.kept.marks.since) (is_due ∙ e))),
     )
 
 -- an event was answered, and its strings were sent
@@ -116,21 +208,21 @@ pub leads_by : (S : List JournalRecord → Reads → Type 0) (old new : LinkTold
     → stops ≡ (answered b hs stage s event).consoles.stops
     → (ds : List Delivery) × AreLicensed ds (unclosed_by sent) old new × Sends (delivered ds seats rs) old new seats' sent → sent ≡ Ok x
     → S (answered b hs stage s event).unsealed (answered b hs stage s event).reads → AreSaid (answered b hs stage s event).consoles.readings
-    → (h : Hindrances) × (unclosed : ℕ) × AreLicensed h.deliveries unclosed old new × Leads S unclosed s.kept (happens h s event) old new kept seats' (Ok stops)
+    → (ds : List Delivery) × AreLicensed ds 0 old new
+    × Leads S 0 IsPassed s.kept (outcome (answered b hs stage s event) (delivered ds (answered b hs stage s event).state.seats (answered b hs stage s event).replies)) old new kept seats' (Ok stops)
 leads_by S old new s event b hs stage kept seats seats' rs stops sent x same open' replies stop (ds, licensed, sends) ok seals said =
-    let h : Hindrances = record { unfed = b; turns = hs; stage = stage; deliveries = ds } in
     let a = answered b hs stage s event in
     let out : Sends (delivered ds a.state.seats a.replies) old new seats' (Ok x) =
     subst (λ (r : Result (Unit {0}) WantOfMemory). Sends (delivered ds a.state.seats a.replies) old new seats' r) ok
     (subst (λ l. Sends (delivered ds l a.replies) old new seats' sent) open' (subst (λ q. Sends (delivered ds seats q) old new seats' sent) replies sends)) in (
-      h,
-      0,
+      ds,
       subst (λ (r : Result (Unit {0}) WantOfMemory). AreLicensed ds (unclosed_by r) old new) ok licensed,
       record {
         did = record { notes = out.did.notes; goes = out.did.goes; whole = out.did.whole };
         kept_is = same;
         seats_are = (out.seats_are, stop);
         closed = refl;
+        passed = tt;
         seals = seals;
         read = said;
       },
@@ -142,9 +234,9 @@ pub leads_cut : (S : List JournalRecord → Reads → Type 0) (old new : LinkTol
     → kept ≡ (answered b hs stage s event).state.kept → seats ≡ (answered b hs stage s event).state.seats → rs ≡ (answered b hs stage s event).replies
     → (ds : List Delivery) × AreLicensed ds (unclosed_by sent) old new × Sends (delivered ds seats rs) old new seats' sent → sent ≡ Err w
     → S (answered b hs stage s event).unsealed (answered b hs stage s event).reads → AreSaid (answered b hs stage s event).consoles.readings
-    → (h : Hindrances) × (unclosed : ℕ) × AreLicensed h.deliveries unclosed old new × Leads S unclosed s.kept (happens h s event) old new kept seats' (Err v)
+    → (h : Hindrances) × (unclosed : ℕ) × AreLicensed h.deliveries unclosed old new × Leads S unclosed h.keeping s.kept (happens h s event) old new kept seats' (Err v)
 leads_cut S old new s event b hs stage kept seats seats' rs sent w v same open' replies (ds, licensed, sends) bad seals said =
-    let h : Hindrances = record { unfed = b; turns = hs; stage = stage; deliveries = ds } in
+    let h : Hindrances = record { unfed = b; turns = hs; stage = stage; deliveries = ds; keeping = IsPassed } in
     let a = answered b hs stage s event in
     let out : Sends (delivered ds a.state.seats a.replies) old new seats' (Err w) =
     subst (λ (r : Result (Unit {0}) WantOfMemory). Sends (delivered ds a.state.seats a.replies) old new seats' r) bad
@@ -157,6 +249,7 @@ leads_cut S old new s event b hs stage kept seats seats' rs sent w v same open' 
         kept_is = same;
         seats_are = tt;
         closed = tt;
+        passed = refl;
         seals = seals;
         read = said;
       },

@@ -17,9 +17,9 @@ use Rattle.time_desk.specs.Reading.{Reads, both_read, none_read}
 use Rattle.paradox.specs.Kept.{Kept}
 use Rattle.mail_loop.specs.State.{State}
 use Rattle.mail_loop.specs.ConsoleTurn.{AreSaid, Reading, both, no_consoles}
-use Rattle.mail_loop.specs.Machine.{Seats, Hindrances, Outcome, outcome, delivered, happens, answers, ignored}
+use Rattle.mail_loop.specs.Machine.{Seats, Hindrances, Keeping, IsPassed, Outcome, outcome, delivered, happens, answers, ignored, is_end}
 use Rattle.mail_loop.specs.Did.{Counted, RoseBy, AreLicensed, Goes, Leads, StopsAtClose, WantsIn, left_out_of, missed_of}
-use Rattle.mail_loop.specs.Serving.{Step, is_end, after_notes, run, at_first, NoEnd, missed_in, ComeInOrder, events_of, readings_in, reads_in, stopped_in, unsealed_in, left_out_in, CountsFaults, IsCutAtClose, IsLeftStarved, IsLeftUnsealed, Serves, Served, ServedOver}
+use Rattle.mail_loop.specs.Serving.{Step, after_notes, run, at_first, NoEnd, missed_in, ComeInOrder, events_of, readings_in, reads_in, stopped_in, unsealed_in, left_out_in, CountsFaults, IsCutAtClose, IsLeftStarved, IsLeftUnsealed, Serves, Served, ServedOver}
 use Rattle.mail_loop.proofs.Sealed.{no_more, none_before, reads_regroup}
 use Rattle.mail_loop.proofs.Links.{counted_add, counted_one, goes_none, none_licensed, then_told-nil, then_told-append, rose_add}
 
@@ -217,10 +217,15 @@ starved_in o before n new r w all notes bad e =
 -- what an event left undone in which sealing failed: nothing, or what follows from a close on
 cut_in : (o : Outcome) (before : Kept) (n : ℕ) (new : LinkTold) (r : Result Bool WantOfMemory) (all notes : List LinkNote) → (o.unsealed ≡ [] → ⊥)
     → MatchResult r (λ _. all ≡ notes) (λ _. (more : List LinkNote) × (all ≡ notes ++ more) × WantsIn o before n new notes more) → MatchResult r (λ _. n ≡ 0) (λ _. Unit {0})
-    → (more : List LinkNote) × (all ≡ notes ++ more) × (((more ≡ []) × (n ≡ 0)) ⊎ ((n ≡ 1) × StopsAtClose more new))
-cut_in o before n new (Ok b) all notes some e closed = ([], e ∙ sym (append-nil notes), inl (refl, closed))
-cut_in o before n new (Err w) all notes some (more, e, inl wanted) closed = absurd (some wanted.2)
-cut_in o before n new (Err w) all notes some (more, e, inr stops) closed = (more, e, inr stops)
+    → (k : Keeping) → MatchResult r (λ _. Unit {0}) (λ _. k ≡ IsPassed)
+    → (more : List LinkNote) × (all ≡ notes ++ more) × (((more ≡ []) × (n ≡ 0)) ⊎ ((n ≡ 1) × (k ≡ IsPassed) × StopsAtClose more new))
+cut_in o before n new (Ok b) all notes some e closed k passed = ([], e ∙ sym (append-nil notes), inl (refl, closed))
+cut_in o before n new (Err w) all notes some (more, e, inl wanted) closed k passed = absurd (some wanted.2)
+cut_in o before n new (Err w) all notes some (more, e, inr stops) closed k passed = (more, e, inr (stops.0, passed, stops.1))
+
+-- no snapshot was taken in an event that wanted memory
+none_kept : (r : Result Bool WantOfMemory) (w : WantOfMemory) (k : Keeping) → r ≡ Err w → MatchResult r (λ _. Unit {0}) (λ _. k ≡ IsPassed) → k ≡ IsPassed
+none_kept r w k bad e = subst (λ (q : Result Bool WantOfMemory). MatchResult q (λ _. Unit {0}) (λ _. k ≡ IsPassed)) bad e
 
 said_more : (a b : List Reading) → AreSaid a → AreSaid b → AreSaid (a ++ b)
 said_more [] b first second = second
@@ -290,7 +295,7 @@ none_wanted b e = absurd (let wrong : ◌≡◌ {A = ℕ} 0 1 = e in cc)
 -- one step more
 pub so_more : (S T U : List JournalRecord → Reads → Type 0) (turns : ℕ) (old mid got new : LinkTold) (kept after : Kept) (s : State) (seats : Seats) (event : Event) (r : Result Bool WantOfMemory) (b : Bool)
     → SoSealed S turns old mid kept s → Comes mid got (Ok event) → is_end event.what ≡ false
-    → (h : Hindrances) × (n : ℕ) × AreLicensed h.deliveries n got new × Leads T n s.kept (happens h s event) got new after seats r
+    → (h : Hindrances) × (n : ℕ) × AreLicensed h.deliveries n got new × Leads T n h.keeping s.kept (happens h s event) got new after seats r
     → r ≡ Ok b → b ≡ false → Only T → Chains S T U
     → SoSealed U (turns + 1) old new kept (record { kept = after; seats = seats })
 so_more S T U turns old mid got new kept after s seats event r b sealed came goes (h, n, licensed, leads) ok on only chain =
@@ -347,7 +352,7 @@ serves_more turns old mid kept after s step notes more so kept_is all =
 -- a console asked serving to stop
 pub so_stopped : (S T U : List JournalRecord → Reads → Type 0) (turns limit : ℕ) (old mid got new : LinkTold) (kept after : Kept) (s : State) (seats : Seats) (event : Event) (r : Result Bool WantOfMemory) (b : Bool)
     → SoSealed S turns old mid kept s → turns < limit → Comes mid got (Ok event) → is_end event.what ≡ false
-    → (h : Hindrances) × (n : ℕ) × AreLicensed h.deliveries n got new × Leads T n s.kept (happens h s event) got new after seats r
+    → (h : Hindrances) × (n : ℕ) × AreLicensed h.deliveries n got new × Leads T n h.keeping s.kept (happens h s event) got new after seats r
     → r ≡ Ok b → b ≡ true → Only T → Chains S T U
     → Ran U limit old new kept after (Ok tt)
 so_stopped S T U turns limit old mid got new kept after s seats event r b sealed few came goes (h, n, licensed, leads) ok stop only chain =
@@ -384,7 +389,7 @@ end_ignored h s conn at Left e = absurd (let wrong : false ≡ true = e in cc)
 end_ignored h s conn at Idle e = absurd (let wrong : false ≡ true = e in cc)
 
 abbrev pub unhindered : Hindrances
-unhindered = record { unfed = false; turns = []; stage = Ok None; deliveries = [] }
+unhindered = record { unfed = false; turns = []; stage = Ok None; deliveries = []; keeping = IsPassed }
 
 -- the end came
 pub so_ended : (S : List JournalRecord → Reads → Type 0) (turns limit : ℕ) (old mid got : LinkTold) (kept : Kept) (s : State) (event : Event)
@@ -498,21 +503,22 @@ so_spent S turns limit old new kept s sealed all =
 
 -- a close in the last step found no memory
 cut_at_close : (turns n : ℕ) (old mid new : LinkTold) (kept : Kept) (s : State) (step : Step) (notes more : List LinkNote) → (so : SoServed turns old mid kept s)
-    → (happens step.hindrances s step.event).notes ≡ notes ++ more → n ≡ 1 → StopsAtClose more new → IsCutAtClose n (so.steps ++ step ∷ []) kept more
-cut_at_close turns n old mid new kept s step notes more so all one stops = record {
+    → (happens step.hindrances s step.event).notes ≡ notes ++ more → n ≡ 1 → step.hindrances.keeping ≡ IsPassed → StopsAtClose more new → IsCutAtClose n (so.steps ++ step ∷ []) kept more
+cut_at_close turns n old mid new kept s step notes more so all one passed stops = record {
   front = notes;
   conn = stops.conn;
   rest = stops.rest;
   more_is = stops.more_is;
   of_last = record { before = so.steps; last = step; steps_are = refl; notes_are = ap (λ (q : Outcome). q.notes) (here_is turns old mid kept s step so) ∙ all };
+  passed = passed;
   wanted = one;
 }
 
 -- how memory was wanted in the last step
 left_starved : (turns n : ℕ) (old mid new : LinkTold) (kept : Kept) (s : State) (step : Step) (notes more : List LinkNote) → (so : SoServed turns old mid kept s)
     → (happens step.hindrances s step.event).notes ≡ notes ++ more → WantsIn (happens step.hindrances s step.event) s.kept n new notes more
-    → IsLeftStarved n (so.steps ++ step ∷ []) kept more × (n ≡ 1 → new.starved_last ≡ true)
-left_starved turns n old mid new kept s step notes more so all (inl (none, zero, sealed, undone)) = (
+    → step.hindrances.keeping ≡ IsPassed → IsLeftStarved n (so.steps ++ step ∷ []) kept more × (n ≡ 1 → new.starved_last ≡ true)
+left_starved turns n old mid new kept s step notes more so all (inl (none, zero, sealed, undone)) passed = (
   inr (inl (
     record {
       of_last = record {
@@ -527,21 +533,21 @@ left_starved turns n old mid new kept s step notes more so all (inl (none, zero,
   )),
   λ one. none_wanted new.starved_last (sym zero ∙ one),
 )
-left_starved turns n old mid new kept s step notes more so all (inr (one, stops)) =
-    (inr (inr (cut_at_close turns n old mid new kept s step notes more so all one stops)), λ _. stops.starved_last)
+left_starved turns n old mid new kept s step notes more so all (inr (one, stops)) passed =
+    (inr (inr (cut_at_close turns n old mid new kept s step notes more so all one passed stops)), λ _. stops.starved_last)
 
 -- what was left undone where sealing failed in the last step
 left_unsealed : (turns n : ℕ) (old mid new : LinkTold) (kept : Kept) (s : State) (step : Step) (notes more : List LinkNote) → (so : SoServed turns old mid kept s)
-    → (happens step.hindrances s step.event).notes ≡ notes ++ more → ((more ≡ []) × (n ≡ 0)) ⊎ ((n ≡ 1) × StopsAtClose more new)
+    → (happens step.hindrances s step.event).notes ≡ notes ++ more → ((more ≡ []) × (n ≡ 0)) ⊎ ((n ≡ 1) × (step.hindrances.keeping ≡ IsPassed) × StopsAtClose more new)
     → IsLeftUnsealed n (so.steps ++ step ∷ []) kept more × (n ≡ 1 → new.starved_last ≡ true)
 left_unsealed turns n old mid new kept s step notes more so all (inl none) = (inl none, λ one. none_wanted new.starved_last (sym none.1 ∙ one))
-left_unsealed turns n old mid new kept s step notes more so all (inr (one, stops)) =
-    (inr (cut_at_close turns n old mid new kept s step notes more so all one stops), λ _. stops.starved_last)
+left_unsealed turns n old mid new kept s step notes more so all (inr (one, passed, stops)) =
+    (inr (cut_at_close turns n old mid new kept s step notes more so all one passed stops), λ _. stops.starved_last)
 
 -- memory was wanted in an event
 pub so_starved : (S T U : List JournalRecord → Reads → Type 0) (turns limit : ℕ) (old mid got new : LinkTold) (kept after : Kept) (s : State) (seats : Seats) (event : Event) (r : Result Bool WantOfMemory) (w : WantOfMemory)
     → SoSealed S turns old mid kept s → turns < limit → Comes mid got (Ok event) → is_end event.what ≡ false
-    → (h : Hindrances) × (n : ℕ) × AreLicensed h.deliveries n got new × Leads T n s.kept (happens h s event) got new after seats r
+    → (h : Hindrances) × (n : ℕ) × AreLicensed h.deliveries n got new × Leads T n h.keeping s.kept (happens h s event) got new after seats r
     → r ≡ Err w → Only T → Chains S T U
     → Ran U limit old new kept after (Err NoMemory)
 so_starved S T U turns limit old mid got new kept after s seats event r w sealed few came goes (h, n, licensed, leads) bad only chain =
@@ -552,7 +558,7 @@ so_starved S T U turns limit old mid got new kept after s seats event r w sealed
     let (more, all, wants) = starved_in o s.kept n new r w o.notes did.notes bad did.whole in
     let leaves = leaves_more turns old mid kept s step so in
     let done = done_more turns n old mid got new kept s event h did.notes so came licensed did.goes in
-    let left = left_starved turns n old mid new kept s step did.notes more so all wants in
+    let left = left_starved turns n old mid new kept s step did.notes more so all wants (none_kept r w h.keeping bad leads.passed) in
     ended_over U limit n old new kept after (so.steps ++ step ∷ []) (so.notes ++ Came event ∷ did.notes) (Err NoMemory) done (
       more,
       serves_more turns old mid kept after s step did.notes more so leads.kept_is all,
@@ -568,7 +574,7 @@ so_starved S T U turns limit old mid got new kept after s seats event r w sealed
 -- sealing failed in an event
 pub so_failed : (S T U : List JournalRecord → Reads → Type 0) (turns limit : ℕ) (old mid got new : LinkTold) (kept after : Kept) (s : State) (seats : Seats) (event : Event) (r : Result Bool WantOfMemory)
     → SoSealed S turns old mid kept s → turns < limit → Comes mid got (Ok event) → is_end event.what ≡ false
-    → (h : Hindrances) × (n : ℕ) × AreLicensed h.deliveries n got new × Leads T n s.kept (happens h s event) got new after seats r
+    → (h : Hindrances) × (n : ℕ) × AreLicensed h.deliveries n got new × Leads T n h.keeping s.kept (happens h s event) got new after seats r
     → Fails T → Chains S T U
     → Ran U limit old new kept after (Err Disk)
 so_failed S T U turns limit old mid got new kept after s seats event r sealed few came goes (h, n, licensed, leads) some chain =
@@ -576,7 +582,7 @@ so_failed S T U turns limit old mid got new kept after s seats event r sealed fe
     let step : Step = record { event = event; hindrances = h } in
     let o = happens h s event in
     let did = leads.did in
-    let (more, all, cut) = cut_in o s.kept n new r o.notes did.notes (some o.unsealed o.reads leads.seals) did.whole leads.closed in
+    let (more, all, cut) = cut_in o s.kept n new r o.notes did.notes (some o.unsealed o.reads leads.seals) did.whole leads.closed h.keeping leads.passed in
     let leaves = leaves_more turns old mid kept s step so in
     let done = done_more turns n old mid got new kept s event h did.notes so came licensed did.goes in
     let left = left_unsealed turns n old mid new kept s step did.notes more so all cut in

@@ -1,5 +1,6 @@
 -- What the desk sealed, call after call.
-use Rattle.std.proofs.Common.{◌≡◌, ◌≢◌, ℕ, ◌+◌, ◌≤◌, arith, add-zero, zero-add, Bool, true, false, not, ◌||◌, List, [], ◌∷◌, ◌++◌, None, Some, Option, MatchOption, Result, Ok, Err, IfOk, IfErr, OnErr, refl, ap, sym, subst, ◌∙◌}
+use Rattle.std.specs.Prelude.{if◌then◌else◌}
+use Rattle.std.proofs.Common.{◌≡◌, ◌≢◌, ℕ, ◌+◌, ◌≤◌, arith, add-zero, zero-add, Bool, true, false, not, nat_le, ◌||◌, ◌&&◌, List, [], ◌∷◌, ◌++◌, None, Some, Option, MatchOption, Result, Ok, Err, IfOk, IfErr, OnErr, refl, ap, sym, subst, ◌∙◌}
 use Rattle.undo_base.specs.declared.keys.User.{User}
 use Rattle.undo_outside.specs.Disk.{DiskTold, ReadFailed}
 use Rattle.verb_core.specs.declared.ask.Ask.{Ask}
@@ -8,18 +9,23 @@ use Rattle.verb_core.specs.declared.ask.SubmitFault.TheVariants.{Refused as IsRe
 use Rattle.verb_core.specs.declared.item.Item.{Item}
 use Rattle.verb_core.specs.Live.{live}
 use Rattle.verb_core.specs.Names.{is_empty}
+use Rattle.seal_log.specs.declared.fault.SealFault.{SealFault}
+use Rattle.seal_log.specs.declared.fault.SealFault.TheVariants as seal_fault
 use Rattle.verb_bytes.specs.declared.journal.JournalRecord.{JournalRecord}
 use Rattle.verb_bytes.specs.declared.journal.JournalRecord.TheVariants.{Verb}
-use Rattle.paradox.specs.Kept.{Kept, store_of}
+use Rattle.paradox.specs.Kept.{Kept, snapshotted, store_of}
 use Rattle.mail_desk.specs.Desk.{submitted}
 use Rattle.time_desk.specs.Lasting.{Lasting, IsUnwritten}
 use Rattle.time_desk.specs.Reading.{HaveRead, IsStill, Reads, RoseBy, both_read, failed_once, none_read, wrong_once}
 use Rattle.time_desk.specs.Sealing.{Seals}
 use Rattle.time_desk.specs.Stored.{HoldsTexts}
-use Rattle.time_desk.specs.Submitting.{SubmitsNone}
+use Rattle.time_desk.specs.Records.{snapshot_record}
+use Rattle.time_desk.specs.Submitting.{SnapshotsNone, SubmitsNone}
 use Rattle.mail_loop.specs.declared.reply.Reply.{Reply}
 use Rattle.mail_loop.specs.Asked.{HaveSealed}
 use Rattle.mail_loop.specs.SmtpTurn.{Turn}
+use Rattle.mail_loop.specs.Machine.{Keeping, IsKept, IsPassed, IsUnkept}
+use Rattle.mail_loop.specs.Did.{Keeps, is_due_on, kept_by, unkept_by}
 use Rattle.mail_loop.specs.Took.{IsNone, Submits, Takes}
 
 -- ---- what was read, turn after turn
@@ -79,7 +85,7 @@ module _ {D : Type 0} (told : D → DiskTold) where
   -- the desk is as it was
   pub unsealed : Nothing → (a : Lasting D) → HaveSealed told a a [] none_read
   unsealed nothing a =
-      let seals = nothing a a (record { kept = refl; notes = refl; disk = refl; gate = refl; closed = refl }) in
+      let seals = nothing a a (record { kept = refl; notes = refl; marks = refl; disk = refl; gate = refl; closed = refl }) in
       ([], seals, nothing_read [] [] a a seals)
 
   -- the desk was read alone
@@ -104,11 +110,11 @@ module _ {D : Type 0} (told : D → DiskTold) where
       (added, seals, record { failed = read.failed; reliable = read.reliable; honest = λ e. absurd (other e) })
 
   pub chained : Then → (a b c : Lasting D) (failed : List JournalRecord) (r s : Reads) → HaveSealed told a b [] r → HaveSealed told b c failed s → HaveSealed told a c failed (both_read r s)
-  chained then a b c failed r s (added, first, read) (more, second, reads) = (added ++ more, then added more failed a b c first second, reads_join added a b c r s first read reads)
+  chained join a b c failed r s (added, first, read) (more, second, reads) = (added ++ more, join added more failed a b c first second, reads_join added a b c r s first read reads)
 
   -- nothing was read before
   pub chained_after : Then → (a b c : Lasting D) (failed : List JournalRecord) (s : Reads) → HaveSealed told a b [] none_read → HaveSealed told b c failed s → HaveSealed told a c failed s
-  chained_after then a b c failed s first second = subst (λ (r : Reads). HaveSealed told a c failed r) (no_more s) (chained then a b c failed none_read s first second)
+  chained_after join a b c failed s first second = subst (λ (r : Reads). HaveSealed told a c failed r) (no_more s) (chained join a b c failed none_read s first second)
 
   -- a desk that seals all stays open
   pub still_open : (a b : Lasting D) (r : Reads) → a.closed ≡ false → HaveSealed told a b [] r → b.closed ≡ false
@@ -123,6 +129,66 @@ module _ {D : Type 0} (told : D → DiskTold) where
   pub some_unsealed : (a b : Lasting D) (failed : List JournalRecord) (r : Reads) → a.closed ≡ false → b.closed ≡ true → HaveSealed told a b failed r → failed ≢ []
   some_unsealed a b failed r before after (added, seals, read) none =
       let wrong : true ≡ false = sym after ∙ seals.closed ∙ ap (λ (c : Bool). c || not (is_empty failed)) before ∙ ap (λ (f : List JournalRecord). false || not (is_empty f)) none in cc
+
+  -- what was sealed before a snapshot that is due, and with it
+  pub kept_sealed : Then → (a b c : Lasting D) (failed unkept : List JournalRecord) (r : Reads) (due : Bool) → a.closed ≡ false → HaveSealed told a b failed r
+      → HaveSealed told b c (if not b.closed && due then unkept else []) none_read → (b.closed ≡ true → c ≡ b)
+      → HaveSealed told a c (if not b.closed && due then unkept else failed) r
+  kept_sealed join a b c failed unkept r due open' first second stays =
+      elim b.closed as (λ x. b.closed ≡ x → HaveSealed told b c (if not x && due then unkept else []) none_read → HaveSealed told a c (if not x && due then unkept else failed) r) [
+        | true ↦ λ e more. subst (λ (d : Lasting D). HaveSealed told a d failed r) (sym (stays e)) first
+        | false ↦ λ e more.
+          let none = all_sealed a b failed r open' e first in
+          let whole = subst (λ (q : Reads). HaveSealed told a c (if due then unkept else []) q) (none_before r)
+          (chained join a b c (if due then unkept else []) r none_read (subst (λ (f : List JournalRecord). HaveSealed told a b f r) none first) more) in
+          subst (λ (f : List JournalRecord). HaveSealed told a c (if due then unkept else f) r) (sym none) whole
+      ] refl second
+
+  -- an open desk that sealed all is open, and no other
+  pub open_as : (a b : Lasting D) (failed : List JournalRecord) (r : Reads) → a.closed ≡ false → HaveSealed told a b failed r → not b.closed ≡ is_empty failed
+  open_as a b failed r open' (added, seals, read) =
+      ap not (seals.closed ∙ ap (λ (c : Bool). c || not (is_empty failed)) open') ∙ twice (is_empty failed)
+    where
+      twice : (t : Bool) → not (false || not t) ≡ t
+      twice true = refl
+      twice false = refl
+
+  -- ---- snapshots
+
+  -- no snapshot is due
+  pub none_due : Nothing → (k : Keeping) (a : Lasting D) → is_due_on a ≡ false → Keeps told k a a
+  none_due nothing k a e = record {
+    kept_is = rw e refl;
+    closed = λ _. refl;
+    seals = subst (λ (b : Bool). HaveSealed told a a (if b then unkept_by k a.kept else []) none_read) (sym e) (unsealed nothing a);
+  }
+
+  -- it is due of an open desk alone
+  open_due : (a : Lasting D) → is_due_on a ≡ true → a.closed ≡ false
+  open_due a e =
+      elim a.closed as (λ x. (not x && nat_le 1024 a.kept.marks.since) ≡ true → x ≡ false) [
+        | true ↦ λ wrong. absurd (let no : false ≡ true = wrong in cc)
+        | false ↦ λ due. refl
+      ] e
+
+  -- it is due, and this came of it
+  due_keeps : (k : Keeping) (a b : Lasting D) → is_due_on a ≡ true → a.closed ≡ false → b.kept ≡ kept_by k a.kept → HaveSealed told a b (unkept_by k a.kept) none_read → Keeps told k a b
+  due_keeps k a b e open' kept sealed = record {
+    kept_is = kept ∙ ap (λ (t : Bool). if t then kept_by k a.kept else a.kept) (sym e);
+    closed = λ shut. absurd (let wrong : true ≡ false = sym shut ∙ open' in cc);
+    seals = subst (λ (t : Bool). HaveSealed told a b (if t then unkept_by k a.kept else []) none_read) (sym e) sealed;
+  }
+
+  -- it was taken
+  pub snapshot_keeps : (a b : Lasting D) → is_due_on a ≡ true → b.kept ≡ snapshotted a.kept → Seals told (snapshot_record a.kept ∷ []) [] a b → Keeps told IsKept a b
+  snapshot_keeps a b e kept seals = due_keeps IsKept a b e (open_due a e) kept (snapshot_record a.kept ∷ [], seals, nothing_read (snapshot_record a.kept ∷ []) [] a b seals)
+
+  -- it was not
+  pub snapshot_passed : (a b : Lasting D) (f : SealFault) → is_due_on a ≡ true → b.kept ≡ a.kept → SnapshotsNone told a b f → (k : Keeping) × Keeps told k a b
+  snapshot_passed a b seal_fault.Disk e kept (open', seals) =
+      (IsUnkept, due_keeps IsUnkept a b e open' kept ([], seals, nothing_read [] (snapshot_record a.kept ∷ []) a b seals))
+  snapshot_passed a b seal_fault.NoMemory e kept (open', seals) = (IsPassed, due_keeps IsPassed a b e open' kept ([], seals, nothing_read [] [] a b seals))
+  snapshot_passed a b seal_fault.Closed e kept (shut, same) = absurd (let wrong : true ≡ false = sym shut ∙ open_due a e in cc)
 
 -- where no sealing failed and nothing was read
 pub none_sealed : (S : List JournalRecord → Reads → Type 0) (failed : List JournalRecord) (r : Reads) → IsNone failed r → S [] none_read → S failed r

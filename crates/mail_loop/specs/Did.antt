@@ -1,15 +1,19 @@
 -- What calls of the serving loop do to the link, in the machine's words.
-use Rattle.std.specs.Prelude.{◌≡◌, ◌⊎◌, ℕ, zero, suc, ◌+◌, ◌-◌, ◌^◌, ◌≤◌, min, Bool, true, List, [], ◌∷◌, ◌++◌, Result, Ok, Err, MatchResult}
+use Rattle.std.specs.Prelude.{◌≡◌, ◌⊎◌, ℕ, zero, suc, ◌+◌, ◌-◌, ◌^◌, ◌≤◌, ◌&&◌, min, nat_le, not, Bool, true, List, [], ◌∷◌, ◌++◌, Result, Ok, Err, MatchResult, if◌then◌else◌}
 use Rattle.undo_base.specs.declared.memory.NoMemory.{NoMemory as WantOfMemory}
 use Rattle.undo_outside.specs.declared.event.LinkNote.{LinkNote}
 use Rattle.undo_outside.specs.declared.event.LinkNote.TheVariants.{Closed}
 use Rattle.undo_outside.specs.Calls.{LinkTold, then_told}
+use Rattle.undo_outside.specs.Disk.{DiskTold}
 use Rattle.verb_bytes.specs.declared.journal.JournalRecord.{JournalRecord}
-use Rattle.time_desk.specs.Reading.{Reads}
-use Rattle.paradox.specs.Kept.{Kept}
+use Rattle.time_desk.specs.Lasting.{Lasting}
+use Rattle.time_desk.specs.Reading.{Reads, none_read}
+use Rattle.time_desk.specs.Records.{snapshot_record}
+use Rattle.paradox.specs.Kept.{Kept, snapshotted}
+use Rattle.mail_loop.specs.Asked.{HaveSealed}
 use Rattle.mail_loop.specs.ConsoleTurn.{AreSaid}
 use Rattle.mail_loop.specs.State.{Seat}
-use Rattle.mail_loop.specs.Machine.{Seats, Delivery, Arrives, IsMissed, IsLeftOut, Reply, Answered, Delivered, Outcome, string_notes, reply_notes, remains, with_new_seat}
+use Rattle.mail_loop.specs.Machine.{Seats, Delivery, Arrives, IsMissed, IsLeftOut, Keeping, IsKept, IsPassed, IsUnkept, Reply, Answered, Delivered, Outcome, string_notes, reply_notes, remains, with_new_seat}
 
 -- the link did this, and gave no event
 pub record Goes (old new : LinkTold) (notes : List LinkNote) : Type 0 where
@@ -99,12 +103,13 @@ WantsIn o before unclosed new notes more =
     ((notes ≡ []) × (unclosed ≡ 0) × (o.unsealed ≡ []) × (o.state.kept ≡ before)) ⊎ ((unclosed ≡ 1) × StopsAtClose more new)
 
 -- an event, before which this was kept, led to this outcome, and serving is asked to stop or not, or memory was wanted before the link had done all of it; S holds of the record
--- whose sealing failed and of what was not read, and what consoles' bytes were read as is so
-pub record Leads (S : List JournalRecord → Reads → Type 0) (unclosed : ℕ) (before : Kept) (o : Outcome) (old new : LinkTold) (kept : Kept) (seats : Seats) (result : Result Bool WantOfMemory) : Type 0 where
+-- whose sealing failed and of what was not read, and what consoles' bytes were read as is so. Where memory was wanted no snapshot was taken.
+pub record Leads (S : List JournalRecord → Reads → Type 0) (unclosed : ℕ) (keeping : Keeping) (before : Kept) (o : Outcome) (old new : LinkTold) (kept : Kept) (seats : Seats) (result : Result Bool WantOfMemory) : Type 0 where
   pub did : Did (WantsIn o before unclosed new) o.notes old new result
   pub kept_is : kept ≡ o.state.kept
   pub seats_are : MatchResult result (λ stops. (seats ≡ o.state.seats) × (stops ≡ o.consoles.stops)) (λ _. Unit {0})
   pub closed : MatchResult result (λ _. unclosed ≡ 0) (λ _. Unit {0})
+  pub passed : MatchResult result (λ _. Unit {0}) (λ _. keeping ≡ IsPassed)
   pub seals : S o.unsealed o.reads
   pub read : AreSaid o.consoles.readings
 
@@ -122,3 +127,25 @@ Answers S a kept seats view stops result = AnswersWith a kept seats view stops r
 abbrev pub Opens : {T : Type 0} → ℕ → Seat → List Reply → Seats → Seats → (T → List Reply) → Result T WantOfMemory → Type 0
 Opens conn seat replies old new view (Ok letters) = (new ≡ with_new_seat conn seat old) × (view letters ≡ replies)
 Opens conn seat replies old new view (Err e) = Unit {0}
+
+-- what is kept after the snapshot that is due
+abbrev pub kept_by : Keeping → Kept → Kept
+kept_by IsKept kept = snapshotted kept
+kept_by IsPassed kept = kept
+kept_by IsUnkept kept = kept
+
+-- the record whose sealing failed then
+abbrev pub unkept_by : Keeping → Kept → List JournalRecord
+unkept_by IsKept kept = []
+unkept_by IsPassed kept = []
+unkept_by IsUnkept kept = snapshot_record kept ∷ []
+
+-- whether a snapshot of what an open desk keeps is due
+abbrev pub is_due_on : {D : Type 0} → Lasting D → Bool
+is_due_on desk = not desk.closed && nat_le 1024 desk.kept.marks.since
+
+-- a desk took the snapshot that is due, or left it out, or its sealing failed; a closed desk stays as it was
+pub record Keeps {D : Type 0} (told : D → DiskTold) (k : Keeping) (old new : Lasting D) : Type 0 where
+  pub kept_is : new.kept ≡ (if is_due_on old then kept_by k old.kept else old.kept)
+  pub closed : old.closed ≡ true → new ≡ old
+  pub seals : HaveSealed told old new (if is_due_on old then unkept_by k old.kept else []) none_read

@@ -1,10 +1,11 @@
 -- The machine: what an event does to the state, and what the link does for it.
-use Rattle.std.specs.Prelude.{ℕ, ◌==◌, ◌&&◌, filter, Bool, true, false, not, min, List, [], ◌∷◌, ◌++◌, map, is_none, nat_lt, if◌then◌else◌, Option, None, Some}
+use Rattle.std.specs.Prelude.{ℕ, ◌==◌, ◌&&◌, filter, Bool, true, false, not, min, List, [], ◌∷◌, ◌++◌, map, is_none, nat_le, nat_lt, if◌then◌else◌, Option, None, Some}
 use Rattle.std.specs.List.{list_any}
 use Rattle.std.specs.Ordering.{nat_cmp}
 use Rattle.std.specs.Map.{lookup, remove_entry, set_value}
 use Rattle.std.specs.BTreeMap.{insert_entry, is_at}
 use Rattle.verb_core.specs.declared.mailbox.BoxId.{BoxId}
+use Rattle.verb_core.specs.Names.{is_empty}
 use Rattle.undo_outside.specs.declared.event.Event.{Event}
 use Rattle.undo_outside.specs.declared.event.What.{What}
 use Rattle.undo_outside.specs.declared.event.What.TheVariants.{Joined, Bytes, Left, Idle as NoEvent, End}
@@ -20,7 +21,9 @@ use Rattle.imap_stream.specs.declared.begun.Awaits.TheVariants.{Line}
 use Rattle.imap_session.specs.Dialog as imap
 use Rattle.imap_session.specs.Words.{changed_text, greeting_text, rewound_text}
 use Rattle.verb_bytes.specs.declared.journal.JournalRecord.{JournalRecord}
+use Rattle.paradox.specs.Kept.{snapshotted}
 use Rattle.time_desk.specs.Reading.{Reads, none_read}
+use Rattle.time_desk.specs.Records.{snapshot_record}
 use Rattle.console_head.specs.Request.{Stage}
 use Rattle.mail_loop.specs.State.{Seat, Smtp, Imap, Http, State}
 use Rattle.mail_loop.specs.Hindrance.{Hindrance}
@@ -35,12 +38,22 @@ pub data Delivery : Type 0 where
   -- no memory was found for it
   IsLeftOut : Delivery
 
--- What hinders an event: no memory for its bytes, what hinders its turns, and how each string goes; and what a console's bytes are read as.
+-- How the snapshot goes that is due after an event's strings.
+pub data Keeping : Type 0 where
+  IsKept : Keeping
+  -- no memory was found for it, and it is left out
+  IsPassed : Keeping
+  -- it could not be sealed, and serving ends
+  IsUnkept : Keeping
+
+-- What hinders an event: no memory for its bytes, what hinders its turns, how each string goes, and how the snapshot that is due; and what a
+-- console's bytes are read as.
 pub record Hindrances : Type 0 where
   pub unfed : Bool
   pub turns : List Hindrance
   pub stage : Stage
   pub deliveries : List Delivery
+  pub keeping : Keeping
 
 -- the open connections, by rising number
 abbrev pub Seats : Type 0
@@ -262,8 +275,27 @@ pub record Outcome : Type 0 where
 abbrev pub outcome : Answered → Delivered → Outcome
 outcome a d = record { state = record { kept = a.state.kept; seats = d.seats }; notes = d.notes; unsealed = a.unsealed; reads = a.reads; consoles = a.consoles }
 
--- an event
+-- the end of the events
+abbrev pub is_end : What → Bool
+is_end End = true
+is_end (Joined role) = false
+is_end (Bytes bytes) = false
+is_end Left = false
+is_end NoEvent = false
+
+-- A snapshot is due after the strings of each event but the end where at least so many items entered the timeline since the last one, and nothing
+-- was left unsealed.
+abbrev pub is_snapshot_due : What → Outcome → Bool
+is_snapshot_due what o = not (is_end what) && is_empty o.unsealed && nat_le 1024 o.state.kept.marks.since
+
+-- the snapshot that is due is taken, left out, or could not be sealed
+abbrev pub with_snapshot : Keeping → What → Outcome → Outcome
+with_snapshot IsKept what o = if is_snapshot_due what o then record o { state = record { kept = snapshotted o.state.kept; seats = o.state.seats } } else o
+with_snapshot IsPassed what o = o
+with_snapshot IsUnkept what o = if is_snapshot_due what o then record o { unsealed = snapshot_record o.state.kept ∷ [] } else o
+
+-- an event: its turns, its strings, and then the snapshot that is due
 abbrev pub happens : Hindrances → State → Event → Outcome
 happens h s event =
     let a = answered h.unfed h.turns h.stage s event in
-    outcome a (delivered h.deliveries a.state.seats a.replies)
+    with_snapshot h.keeping event.what (outcome a (delivered h.deliveries a.state.seats a.replies))

@@ -2,8 +2,6 @@
 use Rattle.std.specs.Prelude.{◌≡◌, ◌≢◌, ◌⊎◌, ℕ, ◌<◌, ◌≤◌, Bool, true, false, List, [], ◌∷◌, ◌++◌, length, map, ◌+◌, Option, None, Some, Result, Ok, Err}
 use Rattle.std.specs.List.{AllByRecursion}
 use Rattle.undo_outside.specs.declared.event.Event.{Event}
-use Rattle.undo_outside.specs.declared.event.What.{What}
-use Rattle.undo_outside.specs.declared.event.What.TheVariants.{Joined, Bytes, Left, Idle, End}
 use Rattle.undo_outside.specs.declared.event.LinkNote.{LinkNote}
 use Rattle.undo_outside.specs.declared.event.LinkNote.TheVariants.{Came, Closed}
 use Rattle.undo_outside.specs.Calls.{LinkTold, Rose, then_told}
@@ -14,20 +12,13 @@ use Rattle.verb_bytes.specs.declared.journal.JournalRecord.{JournalRecord}
 use Rattle.time_desk.specs.Reading.{Reads, both_read, none_read}
 use Rattle.mail_loop.specs.State.{State}
 use Rattle.mail_loop.specs.ConsoleTurn.{AreSaid, Consoles, Reading, both, no_consoles}
-use Rattle.mail_loop.specs.Machine.{Hindrances, Outcome, happens}
+use Rattle.mail_loop.specs.Machine.{Hindrances, IsPassed, Outcome, happens, is_end}
 use Rattle.mail_loop.specs.Did.{Counted, RoseBy, left_out_of, missed_of}
 
 -- an event that came, and what hindered it
 pub record Step : Type 0 where
   pub event : Event
   pub hindrances : Hindrances
-
-abbrev pub is_end : What → Bool
-is_end End = true
-is_end (Joined role) = false
-is_end (Bytes bytes) = false
-is_end Left = false
-is_end Idle = false
 
 -- an outcome after what the link did before, the record that was not sealed then, what was not read, and what came of consoles
 abbrev pub after_notes : List LinkNote → List JournalRecord → Reads → Consoles → Outcome → Outcome
@@ -98,13 +89,14 @@ pub record IsUndone (steps : List Step) (old : Kept) (more : List LinkNote) : Ty
   pub of_last : IsOfLast steps old [] more
   pub kept_is : (happens of_last.last.hindrances (run of_last.before (at_first old)).state of_last.last.event).state.kept ≡ (run of_last.before (at_first old)).state.kept
 
--- no memory was found for a close in the last step: the link did all before it
+-- no memory was found for a close in the last step: the link did all before it, and no snapshot was taken
 pub record IsCutAtClose (wants : ℕ) (steps : List Step) (old : Kept) (more : List LinkNote) : Type 0 where
   pub front : List LinkNote
   pub conn : ℕ
   pub rest : List LinkNote
   pub more_is : more ≡ Closed conn ∷ rest
   pub of_last : IsOfLast steps old front more
+  pub passed : of_last.last.hindrances.keeping ≡ IsPassed
   pub wanted : wants ≡ 1
 
 -- what the link did not do where sealing failed: nothing, or what follows from a close on for which no memory was found

@@ -2,6 +2,7 @@
 ghost use Rattle.std.specs.Prelude.{◌≡◌, ◌≤◌, ◌∷◌, ℕ, Bool, List, Ok, Err, IfOk, IfErr, OnErr, false, [], length};
 ghost use Rattle.console_head.specs.Request.{Stage};
 ghost use Rattle.undo_outside.specs.declared.event.LinkNote.{LinkNote};
+ghost use Rattle.paradox.specs.Kept.{IsRun};
 ghost use Rattle.mail_cycle.specs.Permanence.{UidsLast};
 ghost use Rattle.time_desk.specs.Stored.{HoldsTexts};
 ghost use Rattle.mail_loop.specs.Asked.{HaveSealed};
@@ -10,11 +11,11 @@ ghost use Rattle.mail_loop.specs.Took.{IsNone};
 ghost use Rattle.smtp_session.specs.declared.answer.Answer.TheVariants.{Ready};
 ghost use Rattle.smtp_session.specs.Answer.{answer_text};
 ghost use Rattle.imap_session.specs.Words.{greeting_text};
-ghost use Rattle.mail_loop.specs.Machine.{Hindrances, Delivery, admits, after_reply, answered, delivered, fresh, fresh_console, fresh_reader, happens, hears_at, joins, seat_at};
+ghost use Rattle.mail_loop.specs.Machine.{Hindrances, Delivery, Keeping, admits, after_reply, answered, delivered, fresh, fresh_console, fresh_reader, happens, hears_at, is_end, joins, seat_at};
 ghost use Rattle.verb_core.specs.declared.conf.House.{House as TheHouse};
 ghost use Rattle.mail_loop.specs.Stands.{AreHome, IsHome, letter_of, replies_of};
-ghost use Rattle.mail_loop.specs.Did.{AreLicensed, Told, Replied, Sends, Leads, Answers, Opens, unclosed_by};
-ghost use Rattle.mail_loop.specs.Serving.{Step, ServedOver, is_disk, is_end, reads_in, unsealed_in};
+ghost use Rattle.mail_loop.specs.Did.{AreLicensed, Told, Replied, Sends, Leads, Answers, Opens, Keeps, is_due_on, unclosed_by};
+ghost use Rattle.mail_loop.specs.Serving.{Step, ServedOver, is_disk, reads_in, unsealed_in};
 
 use crate::letters::{Letter, alone, letters_of, room_for_letters};
 use crate::open_connection::{
@@ -46,6 +47,9 @@ pub enum ServeFault {
     #[error("no memory")]
     NoMemory,
 }
+
+/// So many items enter between two snapshots, unless a snapshot is asked for earlier.
+const SNAPSHOT_AFTER: u32 = 1024;
 
 /// The strings of an event, and whether serving is to stop after it.
 #[derive(Drop)]
@@ -299,7 +303,30 @@ fn answer_event<R: Threads + Sync, D: Disk + Drop, G: Gate>(
     }
 }
 
-/// Serves one event. Answers whether serving is to stop after it.
+/// Whether a snapshot is due: the desk is open, and at least so many items entered since the last.
+fn is_due<D: Disk>(desk: &Desk<D>) -> bool
+    ensures { result ≡ is_due_on desk.now }
+{
+    !desk.closed() && desk.since_snapshot() >= SNAPSHOT_AFTER
+}
+
+/// Takes the snapshot that is due. Where no memory is found for it it is left out; where it can't be sealed the desk is closed from
+/// then on.
+fn keep_up<D: Disk>(alloc: Global, desk: &mut Desk<D>)
+    ensures home { desk.new.kept.house ≡ desk.old.kept.house }
+    ensures keeps { (k : Keeping) × Keeps D.told k desk.old desk.new }
+{
+    seals_join::<D>();
+    if !is_due(desk) {
+        return;
+    }
+    match desk.snapshot(alloc) {
+        Ok(_) => {}
+        Err(_) => {}
+    }
+}
+
+/// Serves one event, and takes the snapshot that is due after its strings. Answers whether serving is to stop after it.
 fn serve_event<R: Threads + Sync, L: Link, D: Disk + Drop, G: Gate>(
     rt: &R,
     alloc: Global,
@@ -311,15 +338,19 @@ fn serve_event<R: Threads + Sync, L: Link, D: Disk + Drop, G: Gate>(
 ) -> Result<bool, NoMemory>
     requires sealed { desk.old.closed ≡ false }
     requires home { AreHome desk.old.kept.house connections.old.entries }
+    requires goes_on { is_end event.now.what ≡ false }
     ensures home { AreHome desk.new.kept.house connections.new.entries }
     ensures leads { (h : Hindrances) × (unclosed : ℕ) × AreLicensed h.deliveries unclosed (L.told link.old) (L.told link.new) ×
-        Leads (HaveSealed D.told desk.old desk.new) unclosed desk.old.kept (happens h (record { kept = desk.old.kept; seats = connections.old.entries }) event.now) (L.told link.old) (L.told link.new)
+        Leads (HaveSealed D.told desk.old desk.new) unclosed h.keeping desk.old.kept (happens h (record { kept = desk.old.kept; seats = connections.old.entries }) event.now) (L.told link.old) (L.told link.new)
         desk.new.kept connections.new.entries result }
 {
     seals_join::<D>();
     let answer = answer_event(rt, alloc, desk, connections, gate, event)?;
     match deliver_all(connections, link, answer.letters.as_slice()) {
-        Ok(()) => Ok(answer.stops),
+        Ok(()) => {
+            keep_up(alloc, desk);
+            Ok(answer.stops)
+        }
         Err(NoMemory) => Err(NoMemory),
     }
 }
@@ -365,9 +396,10 @@ fn serve_each<R: Threads + Sync, L: Link, D: Disk + Drop, G: Gate>(
     Err(ServeFault::Turns)
 }
 
-/// Serves the events of a link until the end comes or a console asks it to stop, at most so many. A text that can't be read is
-/// told to who asked for it, and serving goes on. Whatever came, over a disk that holds the texts as they were stored no UID
-/// names another message or another text than before (RFC 3501, section 2.3.1.1).
+/// Serves the events of a link until the end comes or a console asks it to stop, at most so many, and takes a snapshot after an
+/// event where one is due. A text that can't be read is told to who asked for it, and serving goes on. Whatever came, over a disk
+/// that holds the texts as they were stored the store is at last what the items in force leave, and no UID names another message
+/// or another text than before (RFC 3501, section 2.3.1.1).
 pub fn serve_events<R: Threads + Sync, L: Link, D: Disk + Drop, G: Gate>(
     rt: &R,
     alloc: Global,
@@ -381,6 +413,7 @@ pub fn serve_events<R: Threads + Sync, L: Link, D: Disk + Drop, G: Gate>(
         ServedOver turns steps notes (L.told link.old) (L.told link.new) desk.old.kept desk.new.kept result ×
         HaveSealed D.told desk.old desk.new (unsealed_in steps desk.old.kept) (reads_in steps desk.old.kept) }
     ensures closed { desk.new.closed ≡ is_disk result }
+    ensures runs { HoldsTexts D.told desk.old → IsRun desk.new.kept }
     ensures uids { HoldsTexts D.told desk.old → UidsLast desk.old.kept desk.new.kept }
 {
     desk.stands();

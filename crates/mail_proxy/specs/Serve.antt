@@ -4,6 +4,7 @@ use Rattle.undo_outside.specs.declared.event.LinkNote.{LinkNote}
 use Rattle.undo_outside.specs.Calls.{LinkTold}
 use Rattle.undo_outside.specs.Disk.{DiskTold, WriteFailed}
 use Rattle.verb_bytes.specs.declared.journal.JournalRecord.{JournalRecord}
+use Rattle.paradox.specs.Kept.{IsRun}
 use Rattle.time_desk.specs.Lasting.{Lasting}
 use Rattle.time_desk.specs.Opening.{Starts}
 use Rattle.time_desk.specs.Stored.{HoldsTexts}
@@ -32,13 +33,14 @@ pub record ServesLink {D : Type 0} (told : D → DiskTold) (link link' : LinkTol
 
 module _ {D : Type 0} (told : D → DiskTold) where
   -- The events are served over the desk of a store that was opened, and then the disk gets no call more. On an honest disk the desk
-  -- that was opened holds its texts, so that what is kept at last is what the records leave, and no turn was given another text than was stored.
+  -- that was opened holds its texts, so that what is kept at last is what the records leave, its store is what the items in force leave, and no
+  -- turn was given another text than was stored.
   abbrev pub ServesOn : D → LinkTold → LinkTold → Lasting D → End D → Type 0
   ServesOn disk link link' first end =
       (last : Lasting D) × (run : ServesLink told link link' first last end.status end.output) × (end.disk ≡ last.disk)
       × ((told disk).honest
       → Journals (told disk) first.kept run.added (unsealed_in run.steps first.kept) (told end.disk)
-      × HoldsTexts told first × ((reads_in run.steps first.kept).wrong ≡ 0))
+      × HoldsTexts told first × IsRun last.kept × ((reads_in run.steps first.kept).wrong ≡ 0))
 
   -- what `serve` comes to: no store was opened, and the link got no call; or one was, and its events were served over it
   abbrev pub ServesStore : LinkTold → LinkTold → D → End D → Type 0

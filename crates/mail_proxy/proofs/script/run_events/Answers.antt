@@ -22,6 +22,7 @@ returns-in-Ok g c =
           subst (λ (d : g.row.D.Denot). Journals (told c.args.disk) first.kept run.added unsealed (told d)) (sym c.into_disk.ensures)
               (journals told g.met.D.Disk.tells_truth c.args.disk first last run.added unsealed c.in-Ok.ensures.started run.seals honest),
           c.in-Ok.ensures.texts honest,
+          (run.seals.texts (c.in-Ok.ensures.texts honest)).texts.runs,
           run.read.honest (c.in-Ok.ensures.texts honest),
         ),
       ),
