@@ -10,8 +10,8 @@ use Rattle.verb_core.specs.Store.{MailStore}
 use Rattle.verb_core.specs.Step.{step, step_with}
 use Rattle.touch_rules.specs.declared.touched.Touch.{Touch}
 use Rattle.touch_rules.specs.Table.{touches_of}
-use Rattle.touch_rules.specs.Commuting.{commute}
-use Rattle.touch_rules.specs.Swapping.{sets_conf, resolved}
+use Rattle.touch_rules.specs.Commuting.{commute, are_independent}
+use Rattle.touch_rules.specs.Swapping.{sets_conf, resolved, CanHave}
 
 -- an item with its aims
 abbrev pub Turn : Type 0
@@ -39,6 +39,15 @@ told s (p ∷ ps) = (p.0, (step_with p.1.0 s p.1.1).1) ∷ told (step_with p.1.0
 -- whether two may be turned: they commute, and not both are acts on aliases or filters
 abbrev pub may_turn : Placed → Placed → Bool
 may_turn p q = commute (touches_of (resolved p.1.0 p.1.1)) (touches_of (resolved q.1.0 q.1.1)) && not (sets_conf p.1.1.deed && sets_conf q.1.1.deed)
+
+-- whether two are independent
+abbrev pub are_apart : Placed → Placed → Bool
+are_apart p q = are_independent (touches_of (resolved p.1.0 p.1.1)) (touches_of (resolved q.1.0 q.1.1))
+
+-- each is well formed in the house, with aims that its item can have
+abbrev pub AllFit : House → List Placed → Type 0
+AllFit house [] = Unit {0}
+AllFit house (p ∷ ps) = (IsWellFormed house p.1.1 × CanHave p.1.0 p.1.1) × AllFit house ps
 
 -- an order of these: its first is one of them, which may be turned with each that stands before it here; then an order of
 -- the others
