@@ -1,18 +1,16 @@
 -- Behind items that are independent of it an item finds its mailboxes as before them.
-use Rattle.std.proofs.Common.{◌≡◌, ℕ, Bool, true, false, not, ◌&&◌, ◌||◌, ◌==◌, List, [], ◌∷◌, map, Option, Some, None, option_map, bytes_eq, cond, refl, sym, ap, ap₂, subst, ◌∙◌, true≢false}
+use Rattle.std.proofs.Common.{◌≡◌, ℕ, Bool, true, false, not, ◌&&◌, ◌||◌, List, [], ◌∷◌, map, Some, option_map, cond, refl, sym, ap, ◌∙◌, true≢false}
 use Rattle.std.specs.List.{list_all, AllByRecursion}
 use Rattle.std.specs.Ordering.{eq_by_cmp}
 use Rattle.std.specs.Cmp.{first_so, second_so}
 use Rattle.undo_base.specs.declared.keys.User.{User}
 use Rattle.verb_core.specs.declared.item.Item.{Item}
-use Rattle.verb_core.specs.declared.item.Shown.{Shown}
 use Rattle.verb_core.specs.declared.item.Deed.{Deed}
 use Rattle.verb_core.specs.declared.item.Deed.TheVariants.{Act as Acts}
 use Rattle.verb_core.specs.declared.item.Act.TheVariants.{SetAlias, DropAlias, SetFilter, DropFilter}
 use Rattle.verb_core.specs.declared.mailbox.BoxId.{BoxId}
 use Rattle.verb_core.specs.declared.mailbox.Mailbox.{Mailbox}
 use Rattle.verb_core.specs.Boxes.{box_cmp, box_of, row_at, change_row, same_user}
-use Rattle.verb_core.specs.Aims.{Sought}
 use Rattle.verb_core.specs.Store.{MailStore, IsValid}
 use Rattle.verb_core.specs.Step.{Boxes, step_with, shown}
 use Rattle.verb_core.specs.Touched.{touched, is_one, SameAt}
@@ -21,8 +19,8 @@ use Rattle.verb_core.proofs.Frame.{other_stays}
 use Rattle.verb_core.proofs.Validity.{step_with-IsValid}
 use Rattle.touch_rules.specs.declared.touched.Touch.{Touch}
 use Rattle.touch_rules.specs.declared.touched.Touch.TheVariants.{Keys, Tail, Whole, Names}
-use Rattle.touch_rules.specs.Commuting.{user_of, mailbox_of, same_mailbox, does_write, are_independent, commute}
-use Rattle.touch_rules.specs.Swapping.{sets_conf, resolved, CanHave, Swap}
+use Rattle.touch_rules.specs.Commuting.{user_of, mailbox_of, same_mailbox, does_write, commute}
+use Rattle.touch_rules.specs.Swapping.{sets_conf, Swap}
 use Rattle.touch_rules.proofs.Fitting.{is_free, commute_flip, independent_commute}
 use Rattle.touch_rules.proofs.Changes.{Change, IsAllowed, Allowed, after_changes}
 use Rattle.touch_rules.proofs.Plain.{moves_boxes, row_of, changes, works, allowed, covered}

@@ -28,7 +28,7 @@ append_assoc (x ∷ xs) ys zs = ap (λ r. x ∷ r) (append_assoc xs ys zs)
 abbrev Fit : House → Placed → Type 0
 Fit house p = IsWellFormed house p.1.1 × CanHave p.1.0 p.1.1
 
-fit_split : (house : House) (front : List Placed) (p : Placed) (back : List Placed) → AllFit house (front ++ p ∷ back) → Fit house p × AllFit house (front ++ back)
+pub fit_split : (house : House) (front : List Placed) (p : Placed) (back : List Placed) → AllFit house (front ++ p ∷ back) → Fit house p × AllFit house (front ++ back)
 fit_split house [] p back h = h
 fit_split house (q ∷ front) p back h =
     let r : Fit house p × AllFit house (front ++ back) = fit_split house front p back h.1 in (r.0, (h.0, r.1))
@@ -90,7 +90,7 @@ same_order (p ∷ ps) all s valid fit o =
 
 -- ---- the timeline's own order
 
-turns_fit : (n : ℕ) (s : MailStore) (items : List Item) → AreWellFormed s.house items → AllFit s.house (enumerate_from n (turns s items))
+pub turns_fit : (n : ℕ) (s : MailStore) (items : List Item) → AreWellFormed s.house items → AllFit s.house (enumerate_from n (turns s items))
 turns_fit n s [] h = tt
 turns_fit n s (i ∷ items) h = ((h.0, can_find s i), turns_fit (n + 1) (step s i).0 items h.1)
 

@@ -5,9 +5,11 @@ use Rattle.verb_core.specs.declared.conf.House.{House}
 use Rattle.verb_core.specs.declared.item.Item.{Item}
 use Rattle.verb_core.specs.declared.item.Shown.{Shown}
 use Rattle.verb_core.specs.Items.{IsWellFormed}
-use Rattle.verb_core.specs.Aims.{Sought, sought_by}
+use Rattle.verb_core.specs.declared.item.Aim.{Aim}
+use Rattle.verb_core.specs.Boxes.{has_row}
+use Rattle.verb_core.specs.Aims.{Sought, sought_by, box_aimed}
 use Rattle.verb_core.specs.Store.{MailStore}
-use Rattle.verb_core.specs.Step.{step, step_with}
+use Rattle.verb_core.specs.Step.{Boxes, step, step_with}
 use Rattle.touch_rules.specs.declared.touched.Touch.{Touch}
 use Rattle.touch_rules.specs.Table.{touches_of}
 use Rattle.touch_rules.specs.Commuting.{commute, are_independent}
@@ -72,3 +74,12 @@ by_levels (places ∷ more) all = at_places all places ++ by_levels more all
 -- what each turn touches
 abbrev pub touches_by_turn : List Turn → List (List Touch)
 touches_by_turn ts = map (λ (t : Turn). touches_of (resolved t.0 t.1)) ts
+
+-- the aims of a turn are there in these mailboxes, and what its item looked for in vain is not
+abbrev pub AimsHold : Boxes → Placed → Type 0
+AimsHold boxes p = IsTrue (list_all (λ (a : Aim). has_row (box_aimed a) boxes) p.1.0.aims) × IsTrue (list_all (λ (a : Aim). not (has_row (box_aimed a) boxes)) p.1.0.missed)
+
+-- the aims of each hold on the store of its turn
+abbrev pub AllAimed : MailStore → List Placed → Type 0
+AllAimed s [] = Unit {0}
+AllAimed s (p ∷ ps) = AimsHold s.boxes p × AllAimed (step_with p.1.0 s p.1.1).0 ps

@@ -8,7 +8,7 @@ ghost use Rattle.verb_core.specs.Step.{step_with, run, answers};
 ghost use Rattle.verb_core.specs.Store.{MailStore, IsValid};
 ghost use Rattle.verb_core.specs.Touched.{touched, SameAt};
 ghost use Rattle.replay_plan.specs.Placing.{levels_of};
-ghost use Rattle.replay_crew.specs.Orders.{Placed, AreWellFormed, turns, run_turns, told, IsOrder, AllFit, are_apart, by_levels, touches_by_turn};
+ghost use Rattle.replay_crew.specs.Orders.{Placed, AreWellFormed, turns, run_turns, told, IsOrder, AllFit, AllAimed, are_apart, by_levels, touches_by_turn};
 
 /// Items with the aims that each finds when its turn comes, performed in any order in which the items of each pair that is
 /// turned commute and are not both acts on aliases or filters, leave the store that the items leave in order, and each gets
@@ -30,4 +30,10 @@ pub fn plans_are_orders()
 pub fn levels_share_a_store()
     ensures { (s : MailStore) (level : List Placed) (p : Placed) → IsValid s → AllFit s.house (p ∷ level) → IsTrue (list_all (λ q. are_apart q p) level) →
         SameAt (touched p.1.0 p.1.1) s.boxes (run_turns s level).boxes × ((step_with p.1.0 (run_turns s level) p.1.1).1 ≡ (step_with p.1.0 s p.1.1).1) }
+{}
+
+/// In such an order each item finds the mailboxes at which its mail is aimed, and misses those that it looked for in vain.
+pub fn orders_keep_aims()
+    ensures { (s : MailStore) (items : List Item) (order : List Placed) → IsValid s → AreWellFormed s.house items →
+        IsOrder order (enumerate_from 0 (turns s items)) → AllAimed s order }
 {}
