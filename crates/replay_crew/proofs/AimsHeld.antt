@@ -22,8 +22,9 @@ use Rattle.touch_rules.proofs.Fitting.{commute_flip}
 use Rattle.touch_rules.proofs.Changes.{has_kept}
 use Rattle.touch_rules.proofs.Plain.{moves_boxes, row_of, changes, works}
 use Rattle.touch_rules.proofs.Orders.{off_named, swap_given}
-use Rattle.replay_crew.specs.Orders.{turns, Placed, may_turn, AllFit, IsOrder, AreWellFormed, AimsHold, AllAimed}
+use Rattle.replay_crew.specs.Orders.{turns, Placed, run_turns, may_turn, are_apart, AllFit, IsOrder, AreWellFormed, AimsHold, AllAimed}
 use Rattle.replay_crew.proofs.Turning.{append_assoc, after, fit_split, turns_fit}
+use Rattle.replay_crew.proofs.OneStore.{level_kept}
 
 -- ---- mailboxes that are touched
 
@@ -103,3 +104,8 @@ in_order_aimed n s (i ∷ items) valid formed = (
 
 pub order_aimed : (s : MailStore) (items : List Item) (order : List Placed) → IsValid s → AreWellFormed s.house items → IsOrder order (enumerate_from 0 (turns s items)) → AllAimed s order
 order_aimed s items order valid formed o = same_order_aimed order (enumerate_from 0 (turns s items)) s valid (turns_fit 0 s items formed) o (in_order_aimed 0 s items valid formed)
+
+-- ---- behind a level
+
+pub level_aims : (level : List Placed) (s : MailStore) (p : Placed) → IsValid s → AllFit s.house (p ∷ level) → list_all (λ q. are_apart q p) level ≡ true → AimsHold (run_turns s level).boxes p → AimsHold s.boxes p
+level_aims level s p valid fit apart = hold_alike (run_turns s level).boxes s.boxes p (λ id in_p. sym (ap is_some (level_kept level s p valid fit apart id in_p)))
