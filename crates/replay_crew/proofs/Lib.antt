@@ -1,2 +1,4 @@
 pub mod Turning
 pub mod ByLevels
+pub mod OneStore
+pub mod AimsHeld

@@ -14,7 +14,7 @@ use Rattle.verb_core.proofs.Validity.{step_with-IsValid}
 use Rattle.touch_rules.specs.Swapping.{CanHave, Swap}
 use Rattle.touch_rules.proofs.Orders.{swap_given}
 use Rattle.touch_rules.proofs.AimsKept.{can_find}
-use Rattle.replay_crew.specs.Orders.{turns, Placed, run_turns, told, may_turn, IsOrder, AreWellFormed}
+use Rattle.replay_crew.specs.Orders.{turns, Placed, run_turns, told, may_turn, AllFit, IsOrder, AreWellFormed}
 
 -- ---- lists
 
@@ -28,19 +28,15 @@ append_assoc (x ∷ xs) ys zs = ap (λ r. x ∷ r) (append_assoc xs ys zs)
 abbrev Fit : House → Placed → Type 0
 Fit house p = IsWellFormed house p.1.1 × CanHave p.1.0 p.1.1
 
-abbrev AllFit : House → List Placed → Type 0
-AllFit house [] = Unit {0}
-AllFit house (p ∷ ps) = Fit house p × AllFit house ps
-
-fit_split : (house : House) (front : List Placed) (p : Placed) (back : List Placed) → AllFit house (front ++ p ∷ back) → Fit house p × AllFit house (front ++ back)
+pub fit_split : (house : House) (front : List Placed) (p : Placed) (back : List Placed) → AllFit house (front ++ p ∷ back) → Fit house p × AllFit house (front ++ back)
 fit_split house [] p back h = h
 fit_split house (q ∷ front) p back h =
     let r : Fit house p × AllFit house (front ++ back) = fit_split house front p back h.1 in (r.0, (h.0, r.1))
 
-abbrev after : MailStore → Placed → MailStore
+abbrev pub after : MailStore → Placed → MailStore
 after s p = (step_with p.1.0 s p.1.1).0
 
-abbrev answer : MailStore → Placed → Shown
+abbrev pub answer : MailStore → Placed → Shown
 answer s p = (step_with p.1.0 s p.1.1).1
 
 -- ---- one turn is performed before those in front of it
@@ -94,7 +90,7 @@ same_order (p ∷ ps) all s valid fit o =
 
 -- ---- the timeline's own order
 
-turns_fit : (n : ℕ) (s : MailStore) (items : List Item) → AreWellFormed s.house items → AllFit s.house (enumerate_from n (turns s items))
+pub turns_fit : (n : ℕ) (s : MailStore) (items : List Item) → AreWellFormed s.house items → AllFit s.house (enumerate_from n (turns s items))
 turns_fit n s [] h = tt
 turns_fit n s (i ∷ items) h = ((h.0, can_find s i), turns_fit (n + 1) (step s i).0 items h.1)
 

@@ -5,13 +5,15 @@ use Rattle.verb_core.specs.declared.conf.House.{House}
 use Rattle.verb_core.specs.declared.item.Item.{Item}
 use Rattle.verb_core.specs.declared.item.Shown.{Shown}
 use Rattle.verb_core.specs.Items.{IsWellFormed}
-use Rattle.verb_core.specs.Aims.{Sought, sought_by}
+use Rattle.verb_core.specs.declared.item.Aim.{Aim}
+use Rattle.verb_core.specs.Boxes.{has_row}
+use Rattle.verb_core.specs.Aims.{Sought, sought_by, box_aimed}
 use Rattle.verb_core.specs.Store.{MailStore}
-use Rattle.verb_core.specs.Step.{step, step_with}
+use Rattle.verb_core.specs.Step.{Boxes, step, step_with}
 use Rattle.touch_rules.specs.declared.touched.Touch.{Touch}
 use Rattle.touch_rules.specs.Table.{touches_of}
-use Rattle.touch_rules.specs.Commuting.{commute}
-use Rattle.touch_rules.specs.Swapping.{sets_conf, resolved}
+use Rattle.touch_rules.specs.Commuting.{commute, are_independent}
+use Rattle.touch_rules.specs.Swapping.{sets_conf, resolved, CanHave}
 
 -- an item with its aims
 abbrev pub Turn : Type 0
@@ -40,6 +42,15 @@ told s (p ∷ ps) = (p.0, (step_with p.1.0 s p.1.1).1) ∷ told (step_with p.1.0
 abbrev pub may_turn : Placed → Placed → Bool
 may_turn p q = commute (touches_of (resolved p.1.0 p.1.1)) (touches_of (resolved q.1.0 q.1.1)) && not (sets_conf p.1.1.deed && sets_conf q.1.1.deed)
 
+-- whether two are independent
+abbrev pub are_apart : Placed → Placed → Bool
+are_apart p q = are_independent (touches_of (resolved p.1.0 p.1.1)) (touches_of (resolved q.1.0 q.1.1))
+
+-- each is well formed in the house, with aims that its item can have
+abbrev pub AllFit : House → List Placed → Type 0
+AllFit house [] = Unit {0}
+AllFit house (p ∷ ps) = (IsWellFormed house p.1.1 × CanHave p.1.0 p.1.1) × AllFit house ps
+
 -- an order of these: its first is one of them, which may be turned with each that stands before it here; then an order of
 -- the others
 abbrev pub IsOrder : List Placed → List Placed → Type 0
@@ -63,3 +74,12 @@ by_levels (places ∷ more) all = at_places all places ++ by_levels more all
 -- what each turn touches
 abbrev pub touches_by_turn : List Turn → List (List Touch)
 touches_by_turn ts = map (λ (t : Turn). touches_of (resolved t.0 t.1)) ts
+
+-- the aims of a turn are there in these mailboxes, and what its item looked for in vain is not
+abbrev pub AimsHold : Boxes → Placed → Type 0
+AimsHold boxes p = IsTrue (list_all (λ (a : Aim). has_row (box_aimed a) boxes) p.1.0.aims) × IsTrue (list_all (λ (a : Aim). not (has_row (box_aimed a) boxes)) p.1.0.missed)
+
+-- the aims of each hold on the store of its turn
+abbrev pub AllAimed : MailStore → List Placed → Type 0
+AllAimed s [] = Unit {0}
+AllAimed s (p ∷ ps) = AimsHold s.boxes p × AllAimed (step_with p.1.0 s p.1.1).0 ps

@@ -1,13 +1,14 @@
 //! What holds of each order. These functions do nothing: their contracts are laws of the definitions.
-ghost use Rattle.std.specs.Prelude.{◌≡◌, List};
-ghost use Rattle.std.specs.List.{enumerate_from};
+ghost use Rattle.std.specs.Prelude.{◌≡◌, List, ◌∷◌, IsTrue};
+ghost use Rattle.std.specs.List.{enumerate_from, list_all};
 ghost use Rattle.std.specs.List.Sorted.{IsPermutation};
 ghost use Rattle.verb_core.specs.declared.item.Item.{Item};
 ghost use Rattle.verb_core.specs.Items.{IsWellFormed};
-ghost use Rattle.verb_core.specs.Step.{run, answers};
+ghost use Rattle.verb_core.specs.Step.{step_with, run, answers};
 ghost use Rattle.verb_core.specs.Store.{MailStore, IsValid};
+ghost use Rattle.verb_core.specs.Touched.{touched, SameAt};
 ghost use Rattle.replay_plan.specs.Placing.{levels_of};
-ghost use Rattle.replay_crew.specs.Orders.{Placed, AreWellFormed, turns, run_turns, told, IsOrder, by_levels, touches_by_turn};
+ghost use Rattle.replay_crew.specs.Orders.{Placed, AreWellFormed, turns, run_turns, told, IsOrder, AllFit, AimsHold, AllAimed, are_apart, by_levels, touches_by_turn};
 
 /// Items with the aims that each finds when its turn comes, performed in any order in which the items of each pair that is
 /// turned commute and are not both acts on aliases or filters, leave the store that the items leave in order, and each gets
@@ -22,4 +23,22 @@ pub fn orders_give_the_fold()
 /// The plan of a timeline's items is such an order: level by level, and in each level by rising places.
 pub fn plans_are_orders()
     ensures { (s : MailStore) (items : List Item) → IsOrder (by_levels (levels_of (touches_by_turn (turns s items))) (enumerate_from 0 (turns s items))) (enumerate_from 0 (turns s items)) }
+{}
+
+/// An item finds its mailboxes behind items of which each is independent of it as it finds them before them, gets the same
+/// answer, and where its aims hold behind them they hold before them. So what the items of a level do can be worked out on
+/// the store before them.
+pub fn levels_share_a_store()
+    ensures mailboxes { (s : MailStore) (level : List Placed) (p : Placed) → IsValid s → AllFit s.house (p ∷ level) → IsTrue (list_all (λ q. are_apart q p) level) →
+        SameAt (touched p.1.0 p.1.1) s.boxes (run_turns s level).boxes }
+    ensures answer { (s : MailStore) (level : List Placed) (p : Placed) → IsValid s → AllFit s.house (p ∷ level) → IsTrue (list_all (λ q. are_apart q p) level) →
+        (step_with p.1.0 (run_turns s level) p.1.1).1 ≡ (step_with p.1.0 s p.1.1).1 }
+    ensures aims { (s : MailStore) (level : List Placed) (p : Placed) → IsValid s → AllFit s.house (p ∷ level) → IsTrue (list_all (λ q. are_apart q p) level) →
+        AimsHold (run_turns s level).boxes p → AimsHold s.boxes p }
+{}
+
+/// In such an order each item finds the mailboxes at which its mail is aimed, and misses those that it looked for in vain.
+pub fn orders_keep_aims()
+    ensures { (s : MailStore) (items : List Item) (order : List Placed) → IsValid s → AreWellFormed s.house items →
+        IsOrder order (enumerate_from 0 (turns s items)) → AllAimed s order }
 {}

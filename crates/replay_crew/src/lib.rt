@@ -1,6 +1,7 @@
 //! A replay by levels: items that commute may come in another order.
 //!
-//! `laws` says what any order gives in which only items that commute are turned. `specs/` has the orders.
+//! `laws` says what any order gives in which only items that commute are turned, that the plan is such an order, and that the
+//! items of a level can be worked out on one store. `specs/` has the orders.
 //! What carries the crate: such an order leaves the store that the timeline's order leaves, and gives each item its answer.
 #![tactic(auto)]
 

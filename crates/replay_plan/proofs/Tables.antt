@@ -108,9 +108,23 @@ then_is Greater p b c e f = ap (λ x. x && c) e
 -- slots compare alike where they are one spot
 pub slot_is : (a b : Slot) → is_at (order.cmp-value.it a) b ≡ same_spot (spot_of a) (spot_of b)
 slot_is a b =
-    then_is _ _ _ _ (user_is a.user b.user)
-    (then_is _ _ _ _ (mailbox_is a.mailbox b.mailbox)
-    (then_is _ _ _ _ (way_is a.written b.written) (part_is a.part b.part)))
+    then_is _ _ _ _ (part_is a.part b.part) (then_is _ _ _ _ (way_is a.written b.written) (then_is _ _ _ _ (user_is a.user b.user) (mailbox_is a.mailbox b.mailbox)))
+    ∙ turned (same_part a.part b.part) (same_way a.written b.written) (same_user a.user b.user) (same_mailbox (option_map (λ (n : Vec ℕ Global). n.items) a.mailbox) (option_map (λ (n : Vec ℕ Global). n.items) b.mailbox))
+  where
+    turned : (p w u m : Bool) → (p && (w && (u && m))) ≡ (u && (m && (w && p)))
+    turned true true true true = refl
+    turned true true true false = refl
+    turned true true false m = refl
+    turned true false true true = refl
+    turned true false true false = refl
+    turned true false false m = refl
+    turned false w true true = ends w
+      where
+        ends : (w : Bool) → false ≡ (w && false)
+        ends true = refl
+        ends false = refl
+    turned false w true false = refl
+    turned false w false m = refl
 
 -- a map finds what stands at the spot
 pub finds : (s : Slot) (es : List (Slot × ℕ)) → lookup (is_at (order.cmp-value.it s)) es ≡ lookup (λ t. same_spot (spot_of s) (spot_of t)) es

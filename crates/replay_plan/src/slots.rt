@@ -26,13 +26,14 @@ pub(crate) enum Part {
     Level(u32),
 }
 
-/// A part of a place, and whether only those that write it count.
+/// A part of a place, and whether only those that write it count. In order they stand by their parts first, so that most
+/// comparisons look at no name, and what is new stands together.
 #[derive(Drop, PartialEq, Eq, PartialOrd, Ord)]
 pub(crate) struct Slot {
+    pub(crate) part: Part,
+    pub(crate) written: bool,
     pub(crate) user: User,
     pub(crate) mailbox: Option<Vec<u8>>,
-    pub(crate) written: bool,
-    pub(crate) part: Part,
 }
 
 /// A level for each slot, and 0 where there is none.
