@@ -1,5 +1,6 @@
 pub mod Parts
 pub mod Held
+pub mod Holding
 pub mod Receiving
 pub mod Readings
 pub mod Sizes

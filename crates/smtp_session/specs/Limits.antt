@@ -1,5 +1,5 @@
 -- How large the parts of a dialog and of its asks are.
-use Rattle.std.specs.Prelude.{ℕ, ◌≤◌, List, length, IfSome}
+use Rattle.std.specs.Prelude.{ℕ, ◌≤◌, List, length, IfSome, Option, None, Some}
 use Rattle.smtp_session.specs.declared.answer.SmtpOut.{SmtpOut}
 use Rattle.smtp_session.specs.declared.answer.SmtpOut.TheVariants.{Nothing, Say, Mail as Asks, Bye}
 use Rattle.smtp_session.specs.declared.dialog.Dialog.{Dialog}
@@ -41,3 +41,19 @@ IsWithin (Due host) = Unit {0}
 pub record IsSmall (d : Dialog) : Type 0 where
   pub client : IfSome d.client (λ client. length client ≤ 200)
   pub transaction : IsWithin d.transaction
+
+-- how many octets a text has, of which there is none where it was too large
+abbrev pub text_octets : Option (List ℕ) → ℕ
+text_octets None = 0
+text_octets (Some text) = length text
+
+-- how many octets of a text a transaction holds
+abbrev pub octets_of : Transaction → ℕ
+octets_of Idle = 0
+octets_of (Begun path to) = 0
+octets_of (Writing path to text) = text_octets text
+octets_of (Due host) = 0
+
+-- how many octets of a text a dialog holds
+abbrev pub held_of : Dialog → ℕ
+held_of d = octets_of d.transaction

@@ -2,7 +2,7 @@
 ghost use Rattle.std.specs.Prelude.{◌≡◌, ◌≤◌, IsTrue, IfOk, OnErr, false, true};
 ghost use Rattle.verb_core.specs.Store.{is_house};
 ghost use Rattle.smtp_session.specs.Dialog.{is_due, is_outcome_of_delivery, is_writing, opening, settle, turn, turns};
-ghost use Rattle.smtp_session.specs.Limits.{AsksWithin};
+ghost use Rattle.smtp_session.specs.Limits.{AsksWithin, held_of, text_octets};
 
 use crate::answer::SmtpOut;
 use crate::dialog::{Dialog, Transaction, take_line};
@@ -10,7 +10,7 @@ use crate::ending::settle_dialog;
 use smtp_lines::SmtpLine;
 use std::alloc::Global;
 use std::marker::Model;
-use undo_base::{LAST_MOMENT, NoMemory};
+use undo_base::{LAST_MOMENT, NoMemory, Text};
 use verb_core::{Conf, House, Item, SubmitFault};
 
 /// The session of a mail client from its greeting to its last answer.
@@ -57,6 +57,7 @@ impl SmtpSession {
         requires free { is_due self.old ≡ false }
         ensures ok { IfOk result (λ out. turn house.now conf.now at self.old line.now ≡ turns out self.new) }
         ensures within { IfOk result AsksWithin }
+        ensures held { held_of self.new ≤ 1048576 }
         ensures err { OnErr result (self.new ≡ self.old) }
     {
         // The host's name is short, and so is the body that is asked.
@@ -79,6 +80,23 @@ impl SmtpSession {
         settle_dialog(alloc, &mut self.dialog, outcome)
     }
 
+    /// How many octets of a text are held. Takes no memory.
+    pub fn held(&self) -> usize
+        ensures value { result ≡ held_of self.now }
+        ensures most { held_of self.now ≤ 1048576 }
+    {
+        match &self.dialog.transaction {
+            Transaction::Idle => 0,
+            Transaction::Begun { .. } => 0,
+            Transaction::Writing {
+                path: _,
+                to: _,
+                text,
+            } => text_octets(text),
+            Transaction::Due { .. } => 0,
+        }
+    }
+
     /// Whether the outcome of what was asked is due.
     pub fn is_due(&self) -> bool
         ensures { result ≡ is_due self.now }
@@ -91,5 +109,15 @@ impl SmtpSession {
         ensures { result ≡ is_writing self.now }
     {
         matches!(&self.dialog.transaction, Transaction::Writing { .. })
+    }
+}
+
+/// How many octets a text has, of which there is none where it was too large.
+fn text_octets(text: &Option<Text>) -> usize
+    ensures { result ≡ text_octets text.now }
+{
+    match text {
+        None => 0,
+        Some(text) => text.bytes().len(),
     }
 }
