@@ -5,7 +5,7 @@
 set -e
 exec python3 - "$@" <<'END'
 import os, re, subprocess, sys, tempfile
-program, counts = sys.argv[1], [int(it) for it in sys.argv[2:]] or [1000, 2000, 4000]
+program, counts = sys.argv[1], [int(it) for it in sys.argv[2:]] or [1000, 8000, 34000]
 
 def house(users):
     return 'host = "mail.test"\ndomains = ["mail.test"]\npostmaster = "u0"\n' + ''.join(f'[[user]]\nname = "u{n}"\npassword = "p"\n' for n in range(users))
