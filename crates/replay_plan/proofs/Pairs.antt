@@ -5,7 +5,7 @@ use Rattle.undo_base.specs.declared.keys.Key.{Key}
 use Rattle.verb_core.specs.Mailboxes.{same_key, is_among}
 use Rattle.verb_core.specs.Boxes.{same_user}
 use Rattle.touch_rules.specs.declared.touched.Touch.{Touch}
-use Rattle.touch_rules.specs.declared.touched.Touch.TheVariants.{Keys, Tail, Whole as All, Names}
+use Rattle.touch_rules.specs.declared.touched.Touch.TheVariants.{Keys, Tail, Whole as WholeBox, Names}
 use Rattle.touch_rules.specs.Commuting.{user_of, mailbox_of, same_mailbox, share_place, does_write, both_read, different, have_common, has_number, are_independent, commute}
 use Rattle.replay_plan.specs.declared.slots.Part.{Part}
 use Rattle.replay_plan.specs.declared.slots.Part.TheVariants.{Anything, Whole, Tails, TailOf, KeysOf, At, Level}
@@ -134,19 +134,19 @@ parts_differ (Keys u m ks w) (Tail v n number) =
     and_true : (b : Bool) → (b && true) ≡ b
     and_true true = refl
     and_true false = refl
-parts_differ (Keys u m ks w) (All v n c) = refl
+parts_differ (Keys u m ks w) (WholeBox v n c) = refl
 parts_differ (Keys u m ks w) (Names v c) = refl
 parts_differ (Tail u m number) (Keys v n os c) = tail_keys number os
 parts_differ (Tail u m number) (Tail v n other) = refl
-parts_differ (Tail u m number) (All v n c) = refl
+parts_differ (Tail u m number) (WholeBox v n c) = refl
 parts_differ (Tail u m number) (Names v c) = refl
-parts_differ (All u m w) (Keys v n os c) = refl
-parts_differ (All u m w) (Tail v n number) = refl
-parts_differ (All u m w) (All v n c) = refl
-parts_differ (All u m w) (Names v c) = refl
+parts_differ (WholeBox u m w) (Keys v n os c) = refl
+parts_differ (WholeBox u m w) (Tail v n number) = refl
+parts_differ (WholeBox u m w) (WholeBox v n c) = refl
+parts_differ (WholeBox u m w) (Names v c) = refl
 parts_differ (Names u w) (Keys v n os c) = refl
 parts_differ (Names u w) (Tail v n number) = refl
-parts_differ (Names u w) (All v n c) = refl
+parts_differ (Names u w) (WholeBox v n c) = refl
 parts_differ (Names u w) (Names v c) = refl
 
 -- ---- spots

@@ -7,7 +7,7 @@ use Rattle.undo_base.specs.declared.keys.Key.{Key}
 use Rattle.verb_core.specs.Mailboxes.{same_key}
 use Rattle.verb_core.specs.Boxes.{same_user}
 use Rattle.touch_rules.specs.declared.touched.Touch.{Touch}
-use Rattle.touch_rules.specs.declared.touched.Touch.TheVariants.{Keys, Tail, Whole as All, Names}
+use Rattle.touch_rules.specs.declared.touched.Touch.TheVariants.{Keys, Tail, Whole as WholeBox, Names}
 use Rattle.touch_rules.specs.Commuting.{user_of, mailbox_of, same_mailbox, does_write}
 use Rattle.replay_plan.specs.Placing.{Placed, highest}
 use Rattle.replay_plan.specs.declared.slots.Part.{Part}
@@ -59,7 +59,7 @@ key_parts (key ∷ keys) = KeysOf key.item ∷ At key ∷ key_parts keys
 abbrev pub parts_of : Touch → List Part
 parts_of (Keys u mailbox keys writes) = Anything ∷ key_parts keys
 parts_of (Tail u mailbox number) = Anything ∷ Tails ∷ TailOf number ∷ []
-parts_of (All u mailbox writes) = Anything ∷ Whole ∷ []
+parts_of (WholeBox u mailbox writes) = Anything ∷ Whole ∷ []
 parts_of (Names u writes) = Anything ∷ Whole ∷ []
 
 abbrev pub key_asked : List Key → List Part
@@ -70,7 +70,7 @@ key_asked (key ∷ keys) = TailOf key.item ∷ At key ∷ key_asked keys
 abbrev pub asked_by : Touch → List Part
 asked_by (Keys u mailbox keys writes) = Whole ∷ key_asked keys
 asked_by (Tail u mailbox number) = Whole ∷ Tails ∷ KeysOf number ∷ []
-asked_by (All u mailbox writes) = Anything ∷ []
+asked_by (WholeBox u mailbox writes) = Anything ∷ []
 asked_by (Names u writes) = Anything ∷ []
 
 -- whether a touch of these parts is at a spot
