@@ -1,11 +1,9 @@
 -- Why there is no cycle.
-use Rattle.std.specs.Prelude.{◌≡◌, Result, Ok, Err}
+use Rattle.std.specs.Prelude.{◌≡◌}
 use Rattle.verb_bytes.specs.declared.journal.CycleAsk.{CycleAsk}
-use Rattle.verb_core.specs.Texts.{BodiesTold, Rose}
 use Rattle.paradox.specs.Kept.{Kept}
 use Rattle.mail_cycle.specs.declared.refused.CycleRefused.{CycleRefused}
 use Rattle.mail_cycle.specs.declared.refused.CycleRefused.TheVariants.{Point, Numbers, Disk, NoMemory}
-use Rattle.mail_cycle.specs.declared.settling.Rewound.{Rewound}
 use Rattle.mail_cycle.specs.Asking.{Due, IsRewinds, NoPoint, NoNumbers}
 
 -- by what is due: the timeline does not have the point, or else too few numbers are left; texts are read, and memory is wanted,
@@ -15,11 +13,3 @@ IsRefusalOf s ask due (Point given) = (due ≡ NoPoint) × (given ≡ ask.point)
 IsRefusalOf s ask due (Numbers next) = (due ≡ NoNumbers) × (next ≡ s.next)
 IsRefusalOf s ask due Disk = IsRewinds due
 IsRefusalOf s ask due NoMemory = IsRewinds due
-
--- how often a read failed: the count rose where that is why there is no cycle, and is as it was otherwise
-abbrev pub CountsReads : BodiesTold → BodiesTold → Result Rewound CycleRefused → Type 0
-CountsReads old new (Ok made) = new.faults ≡ old.faults
-CountsReads old new (Err (Point given)) = new.faults ≡ old.faults
-CountsReads old new (Err (Numbers next)) = new.faults ≡ old.faults
-CountsReads old new (Err Disk) = Rose old.faults new.faults
-CountsReads old new (Err NoMemory) = new.faults ≡ old.faults
