@@ -15,7 +15,7 @@ use Rattle.touch_rules.specs.Swapping.{sets_conf, resolved}
 use Rattle.replay_plan.specs.Placing.{Placed as WithLevel, may_have, level_behind, levels_behind, levels_by_item, levels_of, places_of, run_from, highest, least_from}
 use Rattle.replay_plan.proofs.Gathered.{places_from, highest_is_max}
 use Rattle.replay_plan.proofs.Least.{both, above, least_low, least_high, least_passes, levels_more, length_levels}
-use Rattle.replay_crew.specs.Orders.{Turn, turns, Placed, may_turn, IsOrder, at_places, by_levels, touches_by_turn}
+use Rattle.replay_crew.specs.Orders.{Turn, turns, Placed, may_turn, are_apart, IsOrder, at_places, by_levels, levels_at, touches_by_turn}
 use Rattle.replay_crew.proofs.Turning.{append_assoc}
 
 -- ---- lists
@@ -326,3 +326,70 @@ order_of ts =
 
 pub plan_order : (s : MailStore) (items : List Item) → IsOrder (by_levels (levels_of (touches_by_turn (turns s items))) (enumerate_from 0 (turns s items))) (enumerate_from 0 (turns s items))
 plan_order s items = order_of (turns s items)
+
+-- ---- items of one level are independent
+
+abbrev apart_fine : List Leveled → Bool
+apart_fine [] = true
+apart_fine (x ∷ xs) = list_all (λ (y : Leveled). not (y.1 == x.1) || are_apart x.0 y.0) xs && apart_fine xs
+
+module _ (a : Placed) (l : ℕ) where
+  later_apart : (front back : List WithLevel) (n : ℕ) (ts : List Turn) → highest (map (λ (e : WithLevel). e.1) (front ++ (touch_of a.1, l) ∷ back)) ≤ length (front ++ (touch_of a.1, l) ∷ back)
+      → list_all (λ (y : Leveled). not (y.1 == l) || are_apart a y.0) (zip (enumerate_from n ts) (levels_behind (front ++ (touch_of a.1, l) ∷ back) (touches_by_turn ts))) ≡ true
+  later_apart front back n [] few = refl
+  later_apart front back n (t ∷ ts) few =
+      let e : List WithLevel = front ++ (touch_of a.1, l) ∷ back in
+      let v : ℕ = level_behind e (touch_of t) in
+      let may : ((commute (touch_of a.1) (touch_of t) || nat_lt l v) && (are_independent (touch_of a.1) (touch_of t) || not (l == v))) ≡ true =
+      all_mid (λ (e : WithLevel). (commute e.0 (touch_of t) || nat_lt e.1 v) && (are_independent e.0 (touch_of t) || not (e.1 == v))) front (touch_of a.1, l) back (passes e (touch_of t) few) in
+      let joined : e ++ (touch_of t, v) ∷ [] ≡ front ++ (touch_of a.1, l) ∷ (back ++ (touch_of t, v) ∷ []) = append_assoc front ((touch_of a.1, l) ∷ back) ((touch_of t, v) ∷ []) in
+      both _ _
+      (elim (v == l) as (λ b. (v == l) ≡ b → (not b || are_independent (touch_of a.1) (touch_of t)) ≡ true) [
+        | true ↦ λ same. must (are_independent (touch_of a.1) (touch_of t)) (l == v) (eq-eqb l v (sym (eqb-true v l same))) (second_so _ _ may)
+        | false ↦ λ _. refl
+      ] refl)
+      (subst (λ (es : List WithLevel). list_all (λ (y : Leveled). not (y.1 == l) || are_apart a y.0) (zip (enumerate_from (n + 1) ts) (levels_behind es (touches_by_turn ts))) ≡ true) (sym joined)
+      (later_apart front (back ++ (touch_of t, v) ∷ []) (n + 1) ts (subst (λ (es : List WithLevel). highest (map (λ (e : WithLevel). e.1) es) ≤ length es) joined (few_more e (touch_of t) few))))
+    where
+      must : (x y : Bool) → y ≡ true → (x || not y) ≡ true → x ≡ true
+      must true y h k = refl
+      must false true h k = k
+      must false false h k = absurd (true≢false (sym h))
+
+apart_levels : (earlier : List WithLevel) (n : ℕ) (ts : List Turn) → highest (map (λ (e : WithLevel). e.1) earlier) ≤ length earlier → apart_fine (zip (enumerate_from n ts) (levels_behind earlier (touches_by_turn ts))) ≡ true
+apart_levels earlier n [] few = refl
+apart_levels earlier n (t ∷ ts) few =
+    let v : ℕ = level_behind earlier (touch_of t) in
+    both _ _ (later_apart (n, t) v earlier [] (n + 1) ts (few_more earlier (touch_of t) few))
+    (apart_levels (earlier ++ (touch_of t, v) ∷ []) (n + 1) ts (few_more earlier (touch_of t) few))
+
+-- each is independent of those before it
+abbrev pub all_apart : List Placed → Bool
+all_apart [] = true
+all_apart (p ∷ ps) = list_all (λ q. are_apart p q) ps && all_apart ps
+
+apart_from : (x : Placed) (low : ℕ) (xs : List Leveled) → list_all (λ (y : Leveled). not (y.1 == low) || are_apart x y.0) xs ≡ true → list_all (λ q. are_apart x q) (map (λ (q : Leveled). q.0) (filter (λ (y : Leveled). y.1 == low) xs)) ≡ true
+apart_from x low [] h = refl
+apart_from x low (y ∷ xs) h = elim (y.1 == low) as (λ b. (not b || are_apart x y.0) ≡ true → list_all (λ q. are_apart x q) (map (λ (q : Leveled). q.0) (cond b (y ∷ filter (λ (y : Leveled). y.1 == low) xs) (filter (λ (y : Leveled). y.1 == low) xs))) ≡ true) [
+  | true ↦ λ k. both _ _ k (apart_from x low xs (second_so _ _ h))
+  | false ↦ λ _. apart_from x low xs (second_so _ _ h)
+] (first_so _ _ h)
+
+level_is_apart : (low : ℕ) (xs : List Leveled) → apart_fine xs ≡ true → all_apart (map (λ (q : Leveled). q.0) (filter (λ (y : Leveled). y.1 == low) xs)) ≡ true
+level_is_apart low [] h = refl
+level_is_apart low (x ∷ xs) h = elim (x.1 == low) as (λ b. (x.1 == low) ≡ b → all_apart (map (λ (q : Leveled). q.0) (cond b (x ∷ filter (λ (y : Leveled). y.1 == low) xs) (filter (λ (y : Leveled). y.1 == low) xs))) ≡ true) [
+  | true ↦ λ is. both _ _ (apart_from x.0 low xs (subst (λ n. list_all (λ (y : Leveled). not (y.1 == n) || are_apart x.0 y.0) xs ≡ true) (eqb-true x.1 low is) (first_so _ _ h))) (level_is_apart low xs (second_so _ _ h))
+  | false ↦ λ _. level_is_apart low xs (second_so _ _ h)
+] refl
+
+abbrev pub EachApart : List (List Placed) → Type 0
+EachApart [] = Unit {0}
+EachApart (level ∷ more) = (all_apart level ≡ true) × EachApart more
+
+each_apart : (ts : List Turn) (levels : List ℕ) → length levels ≡ length ts → apart_fine (zip (enumerate_from 0 ts) levels) ≡ true → (count low : ℕ) → EachApart (levels_at (enumerate_from 0 ts) (map (places_of levels) (run_from low count)))
+each_apart ts levels same h zero low = tt
+each_apart ts levels same h (suc count) low =
+    (ap all_apart (places_are (enumerate_from 0 ts) 0 ts levels low same (found_all [] 0 ts refl)) ∙ level_is_apart low (zip (enumerate_from 0 ts) levels) h, each_apart ts levels same h count (low + 1))
+
+pub plan_apart : (ts : List Turn) → EachApart (levels_at (enumerate_from 0 ts) (levels_of (touches_by_turn ts)))
+plan_apart ts = each_apart ts (levels_by_item (touches_by_turn ts)) (length_levels [] (touches_by_turn ts) ∙ length_touches ts) (apart_levels [] 0 ts (omega arith)) (highest (levels_by_item (touches_by_turn ts))) 1

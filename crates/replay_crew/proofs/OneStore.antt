@@ -85,7 +85,7 @@ module _ (s : MailStore) (q p : Placed) (valid : IsValid s) (fit : AllFit s.hous
   turn : commute (row_of q.1.0 i i.by i.deed) (row_of p.1.0 j j.by j.deed) ≡ true
   turn = independent_commute (row_of q.1.0 i i.by i.deed) (row_of p.1.0 j j.by j.deed) apart
 
-  kept_behind : SameAt (touched p.1.0 j) s.boxes (after s q).boxes
+  pub kept_behind : SameAt (touched p.1.0 j) s.boxes (after s q).boxes
   kept_behind id in_j = elim (moves_boxes i.deed) as (λ b. moves_boxes i.deed ≡ b → row_at id s.boxes ≡ row_at id (after s q).boxes) [
     | true ↦ λ moves. sym (other_stays id q.1.0 s i (off_named q.1.0 p.1.0 s i j valid fit.1.0.0 fit.0.0 moves fit.1.0.1 fit.0.1 (commute_flip (row_of p.1.0 j j.by j.deed) (row_of q.1.0 i i.by i.deed) ∙ turn) id in_j))
     | false ↦ λ still.
@@ -98,7 +98,7 @@ module _ (s : MailStore) (q p : Placed) (valid : IsValid s) (fit : AllFit s.hous
         (touched_off (map (λ (c : Change). c.id) (changes q.1.0 i i.by i.deed s.boxes)) id p.1.0 j j.by j.deed fit.0.1 (offs (changes q.1.0 i i.by i.deed s.boxes) (allowed q.1.0 i i.by i.deed s.boxes) (row_of p.1.0 j j.by j.deed) each) in_j))
   ] refl
 
-  answer_behind : answer (after s q) p ≡ answer s p
+  pub answer_behind : answer (after s q) p ≡ answer s p
   answer_behind = elim (sets_conf i.deed && sets_conf j.deed) as (λ b. (sets_conf i.deed && sets_conf j.deed) ≡ b → answer (after s q) p ≡ answer s p) [
     | true ↦ λ both. nothing_shown _ _ j.deed (after s q).boxes s.boxes (second_so _ _ both)
     | false ↦ λ one.

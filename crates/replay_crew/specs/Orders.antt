@@ -83,3 +83,17 @@ AimsHold boxes p = IsTrue (list_all (λ (a : Aim). has_row (box_aimed a) boxes) 
 abbrev pub AllAimed : MailStore → List Placed → Type 0
 AllAimed s [] = Unit {0}
 AllAimed s (p ∷ ps) = AimsHold s.boxes p × AllAimed (step_with p.1.0 s p.1.1).0 ps
+
+-- a plan's levels, each as its turns
+abbrev pub levels_at : List Placed → List (List ℕ) → List (List Placed)
+levels_at all levels = map (at_places all) levels
+
+-- the store after levels, one after the other
+abbrev pub run_levels : MailStore → List (List Placed) → MailStore
+run_levels s [] = s
+run_levels s (level ∷ more) = run_levels (run_turns s level) more
+
+-- what each turn is answered, beside its place, where those of a level are all worked out on the store before the level
+abbrev pub told_by_levels : MailStore → List (List Placed) → List (ℕ × Shown)
+told_by_levels s [] = []
+told_by_levels s (level ∷ more) = map (λ (p : Placed). (p.0, (step_with p.1.0 s p.1.1).1)) level ++ told_by_levels (run_turns s level) more

@@ -8,7 +8,7 @@ ghost use Rattle.verb_core.specs.Step.{step_with, run, answers};
 ghost use Rattle.verb_core.specs.Store.{MailStore, IsValid};
 ghost use Rattle.verb_core.specs.Touched.{touched, SameAt};
 ghost use Rattle.replay_plan.specs.Placing.{levels_of};
-ghost use Rattle.replay_crew.specs.Orders.{Placed, AreWellFormed, turns, run_turns, told, IsOrder, AllFit, AimsHold, AllAimed, are_apart, by_levels, touches_by_turn};
+ghost use Rattle.replay_crew.specs.Orders.{Placed, AreWellFormed, turns, run_turns, told, IsOrder, AllFit, AimsHold, AllAimed, are_apart, by_levels, touches_by_turn, levels_at, run_levels, told_by_levels};
 
 /// Items with the aims that each finds when its turn comes, performed in any order in which the items of each pair that is
 /// turned commute and are not both acts on aliases or filters, leave the store that the items leave in order, and each gets
@@ -41,4 +41,13 @@ pub fn levels_share_a_store()
 pub fn orders_keep_aims()
     ensures { (s : MailStore) (items : List Item) (order : List Placed) → IsValid s → AreWellFormed s.house items →
         IsOrder order (enumerate_from 0 (turns s items)) → AllAimed s order }
+{}
+
+/// The plan of a timeline's items, level by level, each item of a level worked out on the store before that level, leaves the
+/// timeline's store, and gives each item its answer.
+pub fn plans_run_by_levels()
+    ensures store { (s : MailStore) (items : List Item) → IsValid s → AreWellFormed s.house items →
+        run_levels s (levels_at (enumerate_from 0 (turns s items)) (levels_of (touches_by_turn (turns s items)))) ≡ run s items }
+    ensures answers { (s : MailStore) (items : List Item) → IsValid s → AreWellFormed s.house items →
+        IsPermutation (told_by_levels s (levels_at (enumerate_from 0 (turns s items)) (levels_of (touches_by_turn (turns s items))))) (enumerate_from 0 (answers s items)) }
 {}
