@@ -138,10 +138,10 @@ module _ {D : Type 0} (told : D → DiskTold) where
       elim b.closed as (λ x. b.closed ≡ x → HaveSealed told b c (if not x && due then unkept else []) none_read → HaveSealed told a c (if not x && due then unkept else failed) r) [
         | true ↦ λ e more. subst (λ (d : Lasting D). HaveSealed told a d failed r) (sym (stays e)) first
         | false ↦ λ e more.
-          let none = all_sealed a b failed r open' e first in
-          let whole = subst (λ (q : Reads). HaveSealed told a c (if due then unkept else []) q) (none_before r)
-          (chained join a b c (if due then unkept else []) r none_read (subst (λ (f : List JournalRecord). HaveSealed told a b f r) none first) more) in
-          subst (λ (f : List JournalRecord). HaveSealed told a c (if due then unkept else f) r) (sym none) whole
+            let none = all_sealed a b failed r open' e first in
+            let whole = subst (λ (q : Reads). HaveSealed told a c (if due then unkept else []) q) (none_before r)
+            (chained join a b c (if due then unkept else []) r none_read (subst (λ (f : List JournalRecord). HaveSealed told a b f r) none first) more) in
+            subst (λ (f : List JournalRecord). HaveSealed told a c (if due then unkept else f) r) (sym none) whole
       ] refl second
 
   -- an open desk that sealed all is open, and no other
