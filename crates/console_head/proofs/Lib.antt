@@ -1,3 +1,4 @@
+pub mod Bounded
 pub mod Cut
 pub mod Fusion
 pub mod Heads

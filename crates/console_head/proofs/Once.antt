@@ -1,5 +1,5 @@
 -- Bytes are one thing, and stay a request or refused when more come.
-use Rattle.std.proofs.Common.{◌≡◌, ℕ, zero, suc, ◌+◌, ◌-◌, ◌<◌, ◌≤◌, ◌==◌, Bool, true, false, List, [], ◌∷◌, ◌++◌, length, take, drop, get_or, Option, Some, None, refl, sym, ap, ◌∙◌, subst, arith, inl, inr, eq-eqb, eqb-true, true≢false}
+use Rattle.std.proofs.Common.{◌≡◌, ℕ, zero, suc, ◌+◌, ◌-◌, ◌<◌, ◌≤◌, ◌==◌, Bool, true, false, List, [], ◌∷◌, ◌++◌, length, take, drop, get_or, Option, Some, None, refl, sym, ap, ◌∙◌, arith, inl, inr, eq-eqb, eqb-true, true≢false}
 use Rattle.std.specs.Prelude.{◌⊎◌, nat_lt, if◌then◌else◌, Ok, Err, map, option_map}
 use Rattle.std.proofs.lemmas.Bool.Decides.{nat_tests}
 use Rattle.std.proofs.lemmas.List.{drop-append-le, length-append, take-append-le}
@@ -69,7 +69,7 @@ pub record Stays (bytes : List ℕ) (head : Head) : Type 0 where
   pub value : head_of bytes ≡ Some head
   pub more : (more : List ℕ) → head_of (bytes ++ more) ≡ Some head
 
-abbrev Holds : List ℕ → Type 0
+abbrev pub Holds : List ℕ → Type 0
 Holds bytes = (head_of bytes ≡ None) ⊎ ((head : Head) × Stays bytes head)
 
 searched : (l m : Lines) (bytes : List ℕ) (found : Found) → AreFirst m bytes → Finds l m bytes found
@@ -96,7 +96,7 @@ same_beyond (Some head) =
     let fields : 0 + head.fields ≡ head.fields = omega arith in
     rw (size, fields) refl
 
-holds : (bytes : List ℕ) → Holds bytes
+pub holds : (bytes : List ℕ) → Holds bytes
 holds bytes = search (suc (length bytes)) (record { start = 0; begun = false; fields = 0; searched = 0 }) bytes
     (record {
       within = omega arith;

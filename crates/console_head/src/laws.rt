@@ -1,5 +1,5 @@
 //! What the definitions of requests imply. These functions do nothing: their contracts are laws of the definitions.
-ghost use Rattle.std.specs.Prelude.{◌≡◌, List, ℕ, ◌++◌, Ok, None};
+ghost use Rattle.std.specs.Prelude.{◌≡◌, ◌<◌, List, ℕ, ◌++◌, length, Ok, None};
 ghost use Rattle.console_head.specs.Request.{Says, Stage};
 
 /// Bytes are one thing: a request, not yet one, or refused for one reason.
@@ -10,4 +10,9 @@ pub fn bytes_are_one_thing()
 /// A request, and a refusal, stays what it is when more bytes come: so the pieces in which bytes come do not matter.
 pub fn what_is_decided_stays()
     ensures { (bytes more : List ℕ) → (stage : Stage) → Says bytes stage → (stage ≡ Ok None → ⊥) → Says (bytes ++ more) stage }
+{}
+
+/// Bytes that are not yet a request are fewer than the largest head and the largest body have together: no session keeps more.
+pub fn what_waits_is_bounded()
+    ensures { (bytes : List ℕ) → Says bytes (Ok None) → length bytes < 4210688 }
 {}
