@@ -1,0 +1,155 @@
+-- What is counted of a journal's records.
+use Rattle.std.proofs.Common.{◌≡◌, ℕ, ◌+◌, Bool, true, false, cond, List, [], ◌∷◌, ◌++◌, length, filter, Option, Some, None, refl, ap, sym, subst, ◌∙◌, arith, length-append}
+use Rattle.std.specs.Prelude.{option_and_then}
+use Rattle.std.proofs.lemmas.List.Elements.{filter-append}
+use Rattle.verb_core.specs.declared.conf.Conf.{Conf}
+use Rattle.verb_core.specs.declared.conf.House.{House}
+use Rattle.verb_core.specs.declared.item.Item.{Item}
+use Rattle.verb_core.specs.declared.mailbox.BoxId.{BoxId}
+use Rattle.verb_core.specs.declared.mailbox.Mailbox.{Mailbox}
+use Rattle.verb_core.specs.Deeds.{act_item}
+use Rattle.verb_bytes.specs.declared.journal.CycleAsk.{CycleAsk}
+use Rattle.verb_bytes.specs.declared.journal.JournalRecord.{JournalRecord}
+use Rattle.verb_bytes.specs.declared.journal.JournalRecord.TheVariants.{Format, Verb, Operator, Cycle, Snapshot}
+use Rattle.paradox.specs.Kept.{Kept, passed, performed, snapshotted}
+use Rattle.mail_cycle.specs.Asking.{after_cycle}
+use Rattle.mail_cycle.specs.Cycles.{cycled_at, told_at}
+use Rattle.time_desk.specs.Records.{after_kept, after_record, after_records, after_snapshot, first_state, is_true, state}
+use Rattle.time_desk.specs.Sealing.{is_cycle}
+use Rattle.time_desk.proofs.Runs.{state_append}
+use Rattle.snapshot_laws.specs.Usable.{cycles_in, is_snapshot, snapshots_in}
+use Rattle.snapshot_laws.proofs.Runs.{IsLasting, along}
+use Rattle.snapshot_laws.proofs.Steps.{IsFirst, cycled_is, is_first, kept_is, performed_is}
+
+-- ---- how many records pass a test
+
+one_first : (p : JournalRecord → Bool) (r : JournalRecord) (rs : List JournalRecord) → length (filter p (r ∷ rs)) ≡ length (filter p (r ∷ [])) + length (filter p rs)
+one_first p r rs = elim (p r) as (λ b. length (cond b (r ∷ filter p rs) (filter p rs)) ≡ length (cond b (r ∷ []) []) + length (filter p rs)) [ true ↦ omega arith | false ↦ omega arith ]
+
+one_last : (p : JournalRecord → Bool) (done : List JournalRecord) (r : JournalRecord) → length (filter p (done ++ r ∷ [])) ≡ length (filter p done) + length (filter p (r ∷ []))
+one_last p done r = ap length (filter-append p done (r ∷ [])) ∙ length-append (filter p done) (filter p (r ∷ []))
+
+-- ---- the snapshots
+
+abbrev IsTaken : List JournalRecord → Kept → Type 0
+IsTaken records kept = kept.marks.taken ≡ snapshots_in records
+
+taken_first : (r : JournalRecord) (kept : Kept) → first_state r ≡ Some kept → IsTaken (r ∷ []) kept
+taken_first r kept e = by (is_first r kept e)
+  where
+    by : IsFirst r kept → IsTaken (r ∷ []) kept
+    by first = subst (λ (x : JournalRecord). IsTaken (x ∷ []) kept) (sym first.record_is) (subst (IsTaken (Format first.house first.conf ∷ [])) first.kept_is refl)
+
+-- as many more as the record is
+taken_by : (done : List JournalRecord) (r : JournalRecord) (old new more : ℕ) → old ≡ snapshots_in done → new ≡ old + more → snapshots_in (r ∷ []) ≡ more → new ≡ snapshots_in (done ++ r ∷ [])
+taken_by done r old new more before rises one = omega (arith, one_last is_snapshot done r)
+
+taken_kept : (kept : Kept) (what : JournalRecord) → (after_kept kept what).marks.taken ≡ kept.marks.taken + 1
+taken_kept kept what = elim (is_true kept what) as (λ b. (cond b (snapshotted kept) (record kept { marks = passed kept.marks })).marks.taken ≡ kept.marks.taken + 1) [ true ↦ refl | false ↦ refl ]
+
+taken_more : IsLasting IsTaken
+taken_more done kept (Format house conf) next is old e = absurd (cc e)
+taken_more done kept (Verb item) next is old e =
+    taken_by done (Verb item) kept.marks.taken next.marks.taken 0 old (ap (λ (k : Kept). k.marks.taken) (sym (performed_is kept next (Verb item) item e)) ∙ omega arith) refl
+taken_more done kept (Operator number at act) next is old e =
+    taken_by done (Operator number at act) kept.marks.taken next.marks.taken 0 old
+    (ap (λ (k : Kept). k.marks.taken) (sym (performed_is kept next (Operator number at act) (act_item number at act) e)) ∙ omega arith) refl
+taken_more done kept (Cycle number at ask) next is old e =
+    taken_by done (Cycle number at ask) kept.marks.taken next.marks.taken 0 old (ap (λ (k : Kept). k.marks.taken) (sym (cycled_is kept next at ask number e).next_is) ∙ omega arith) refl
+taken_more done kept (Snapshot items conf rows) next is old e =
+    taken_by done (Snapshot items conf rows) kept.marks.taken next.marks.taken 1 old
+    (ap (λ (k : Kept). k.marks.taken) (sym (kept_is kept next items conf rows e).next_is) ∙ taken_kept kept (Snapshot items conf rows)) refl
+
+pub taken_are : (records : List JournalRecord) (kept : Kept) → state records ≡ Some kept → IsTaken records kept
+taken_are = along IsTaken taken_first taken_more
+
+-- ---- the items that entered
+
+-- between two states, with so many cycles and no snapshot, as many items entered as numbers were given, but for those of the cycles
+record Counts (old new : Kept) (cycles : ℕ) : Type 0 where
+  house : new.house ≡ old.house
+  numbers : old.next + cycles + new.marks.since ≡ new.next + old.marks.since
+
+counts_item : (kept : Kept) (item : Item) → Counts kept (performed kept item) 0
+counts_item kept item = record { house = refl; numbers = omega arith }
+
+given : (next since acts notices one : ℕ) → one ≡ 1 → next + one + (since + (acts + notices)) ≡ next + 1 + acts + notices + since
+given next since acts notices one e = omega arith
+
+counts_cycle : (kept : Kept) (at : ℕ) (ask : CycleAsk) (place : ℕ) (one : ℕ) → one ≡ 1 → Counts kept (after_cycle kept ask (cycled_at kept at ask place)) one
+counts_cycle kept at ask place one e = record { house = refl; numbers = given kept.next kept.marks.since (length ask.inserts) (length (told_at kept at ask place)) one e }
+
+counts_one : (kept next : Kept) (r : JournalRecord) → after_record kept r ≡ Some next → is_snapshot r ≡ false → Counts kept next (cycles_in (r ∷ []))
+counts_one kept next (Format house conf) e plain = absurd (cc e)
+counts_one kept next (Verb item) e plain = subst (λ (k : Kept). Counts kept k 0) (performed_is kept next (Verb item) item e) (counts_item kept item)
+counts_one kept next (Operator number at act) e plain =
+    subst (λ (k : Kept). Counts kept k 0) (performed_is kept next (Operator number at act) (act_item number at act) e) (counts_item kept (act_item number at act))
+counts_one kept next (Cycle number at ask) e plain =
+    let cycled = cycled_is kept next at ask number e in
+    subst (λ (k : Kept). Counts kept k (cycles_in (Cycle number at ask ∷ []))) cycled.next_is (counts_cycle kept at ask cycled.place (cycles_in (Cycle number at ask ∷ [])) refl)
+counts_one kept next (Snapshot items conf rows) e plain = absurd (cc plain)
+
+-- no record is a snapshot, nor the first
+no_first : (r : JournalRecord) (rs : List JournalRecord) → snapshots_in (r ∷ rs) ≡ 0 → (is_snapshot r ≡ false) × (snapshots_in rs ≡ 0)
+no_first r rs none = by (is_snapshot r) none
+  where
+    by : (b : Bool) → length (cond b (r ∷ filter is_snapshot rs) (filter is_snapshot rs)) ≡ 0 → (b ≡ false) × (snapshots_in rs ≡ 0)
+    by true e = absurd (omega (arith, e))
+    by false e = (refl, e)
+
+joined : (old mid new : Kept) (a b all : ℕ) → Counts old mid a → Counts mid new b → all ≡ a + b → Counts old new all
+joined old mid new a b all first second sum = record {
+  house = second.house ∙ first.house;
+  numbers = (let one = first.numbers in let two = second.numbers in omega arith);
+}
+
+counts : (rs : List JournalRecord) (old new : Kept) → after_records old rs ≡ Some new → snapshots_in rs ≡ 0 → Counts old new (cycles_in rs)
+counts [] old new e none = let same : old ≡ new = cc e in subst (λ (k : Kept). Counts old k 0) same (record { house = refl; numbers = omega arith })
+counts (r ∷ rs) old new e none = by (after_record old r) refl e (λ next f. counts rs next new f (no_first r rs none).1)
+  where
+    by : (o : Option Kept) → after_record old r ≡ o → option_and_then (λ (k : Kept). after_records k rs) o ≡ Some new
+        → ((next : Kept) → after_records next rs ≡ Some new → Counts next new (cycles_in rs)) → Counts old new (cycles_in (r ∷ rs))
+    by None f e more = absurd (cc e)
+    by (Some next) f e more =
+        joined old next new (cycles_in (r ∷ [])) (cycles_in rs) (cycles_in (r ∷ rs)) (counts_one old next r f (no_first r rs none).0) (more next e) (one_first is_cycle r rs)
+
+-- since the beginning
+pub since_first : (records : List JournalRecord) (kept : Kept) → state records ≡ Some kept → snapshots_in records ≡ 0 → kept.house.first + cycles_in records + kept.marks.since ≡ kept.next
+since_first [] kept e none = absurd (cc e)
+since_first (r ∷ rs) kept e none = by (first_state r) refl e
+  where
+    from : (first : Kept) → IsFirst r first → after_records first rs ≡ Some kept → kept.house.first + cycles_in (r ∷ rs) + kept.marks.since ≡ kept.next
+    from first is f =
+        let all = counts rs first kept f (no_first r rs none).1 in
+        let number : first.next ≡ kept.house.first = ap (λ (k : Kept). k.next) (sym is.kept_is) ∙ ap (λ (k : Kept). k.house.first) is.kept_is ∙ ap (λ (h : House). h.first) (sym all.house) in
+        let fresh : first.marks.since ≡ 0 = ap (λ (k : Kept). k.marks.since) (sym is.kept_is) in
+        let cycles : cycles_in (r ∷ rs) ≡ cycles_in rs = ap (λ (x : JournalRecord). cycles_in (x ∷ rs)) is.record_is in
+        let sum = all.numbers in
+        omega arith
+
+    by : (o : Option Kept) → first_state r ≡ o → option_and_then (λ (k : Kept). after_records k rs) o ≡ Some kept → kept.house.first + cycles_in (r ∷ rs) + kept.marks.since ≡ kept.next
+    by None f e = absurd (cc e)
+    by (Some first) f e = from first (is_first r first f) e
+
+-- since a snapshot
+module _ (old : Kept) (items : ℕ) (conf : Conf) (rows : List (BoxId × Mailbox)) where
+  next_kept : (after_kept old (Snapshot items conf rows)).next ≡ old.next
+  next_kept = elim (is_true old (Snapshot items conf rows)) as (λ b. (cond b (snapshotted old) (record old { marks = passed old.marks })).next ≡ old.next) [ true ↦ refl | false ↦ refl ]
+
+  since_kept : (after_kept old (Snapshot items conf rows)).marks.since ≡ 0
+  since_kept = elim (is_true old (Snapshot items conf rows)) as (λ b. (cond b (snapshotted old) (record old { marks = passed old.marks })).marks.since ≡ 0) [ true ↦ refl | false ↦ refl ]
+
+  since_by : (after : List JournalRecord) (kept : Kept) (o : Option Kept) → after_snapshot old items conf rows ≡ o → option_and_then (λ (k : Kept). after_records k after) o ≡ Some kept
+      → snapshots_in after ≡ 0 → old.next + cycles_in after + kept.marks.since ≡ kept.next
+  since_by after kept None f e none = absurd (cc e)
+  since_by after kept (Some next) f e none =
+      let is = (kept_is old next items conf rows f).next_is in
+      let number : next.next ≡ old.next = ap (λ (k : Kept). k.next) (sym is) ∙ next_kept in
+      let fresh : next.marks.since ≡ 0 = ap (λ (k : Kept). k.marks.since) (sym is) ∙ since_kept in
+      let sum = (counts after next kept e none).numbers in
+      omega arith
+
+  pub since_snapshot : (before after : List JournalRecord) (kept : Kept) → state before ≡ Some old → state (before ++ Snapshot items conf rows ∷ after) ≡ Some kept → snapshots_in after ≡ 0
+      → old.next + cycles_in after + kept.marks.since ≡ kept.next
+  since_snapshot before after kept is e none =
+      since_by after kept (after_snapshot old items conf rows) refl (sym (state_append before (Snapshot items conf rows ∷ after) old is) ∙ e) none

@@ -1,0 +1,7 @@
+pub mod Members
+pub mod Splits
+pub mod Runs
+pub mod Steps
+pub mod Standing
+pub mod Counting
+pub mod Rows

@@ -1,0 +1,36 @@
+-- What the first record of a journal has and each further one keeps, all its records have.
+use Rattle.std.proofs.Common.{◌≡◌, List, [], ◌∷◌, ◌++◌, Option, Some, None, refl, ap, sym, subst, ◌∙◌, append_assoc, append-nil}
+use Rattle.std.specs.Prelude.{option_and_then}
+use Rattle.verb_bytes.specs.declared.journal.JournalRecord.{JournalRecord}
+use Rattle.paradox.specs.Kept.{Kept}
+use Rattle.time_desk.specs.Records.{after_record, after_records, first_state, state}
+use Rattle.time_desk.proofs.Runs.{state_append}
+
+-- one more record
+pub one_more : (done : List JournalRecord) (r : JournalRecord) (kept next : Kept) → state done ≡ Some kept → after_record kept r ≡ Some next → state (done ++ r ∷ []) ≡ Some next
+one_more done r kept next is e = state_append done (r ∷ []) kept is ∙ ap (option_and_then (λ (k : Kept). after_records k [])) e
+
+module _ (P : List JournalRecord → Kept → Type 0) where
+  -- each further record keeps it
+  abbrev pub IsLasting : Type 0
+  IsLasting = (done : List JournalRecord) (kept : Kept) (r : JournalRecord) (next : Kept) → state done ≡ Some kept → P done kept → after_record kept r ≡ Some next → P (done ++ r ∷ []) next
+
+  behind : IsLasting → (rs done : List JournalRecord) (kept last : Kept) → state done ≡ Some kept → P done kept → after_records kept rs ≡ Some last → P (done ++ rs) last
+  behind step [] done kept last is holds e = let same : kept ≡ last = cc in subst (P (done ++ [])) same (subst (λ (xs : List JournalRecord). P xs kept) (sym (append-nil done)) holds)
+  behind step (r ∷ rs) done kept last is holds e =
+      by (after_record kept r) refl e
+      (λ (next : Kept) f g. subst (λ (xs : List JournalRecord). P xs last) (append_assoc done (r ∷ []) rs)
+      (behind step rs (done ++ r ∷ []) next last (one_more done r kept next is f) (step done kept r next is holds f) g))
+    where
+      by : (o : Option Kept) → after_record kept r ≡ o → option_and_then (λ (k : Kept). after_records k rs) o ≡ Some last
+          → ((next : Kept) → after_record kept r ≡ Some next → after_records next rs ≡ Some last → P (done ++ r ∷ rs) last) → P (done ++ r ∷ rs) last
+      by None f e go = absurd (cc e)
+      by (Some next) f e go = go next f e
+
+  pub along : ((r : JournalRecord) (kept : Kept) → first_state r ≡ Some kept → P (r ∷ []) kept) → IsLasting → (records : List JournalRecord) (last : Kept) → state records ≡ Some last → P records last
+  along first step [] last e = absurd (cc e)
+  along first step (r ∷ rs) last e = by (first_state r) refl e
+    where
+      by : (o : Option Kept) → first_state r ≡ o → option_and_then (λ (k : Kept). after_records k rs) o ≡ Some last → P (r ∷ rs) last
+      by None f e = absurd (cc e)
+      by (Some kept) f e = behind step rs (r ∷ []) kept last (ap (option_and_then (λ (k : Kept). after_records k [])) f) (first r kept f) e

@@ -1,0 +1,229 @@
+-- The places that are kept are those of the usable snapshots, record by record.
+use Rattle.std.proofs.Common.{◌≡◌, ◌⊎◌, inl, inr, ℕ, ◌≤◌, Bool, true, false, cond, List, [], ◌∷◌, ◌++◌, length, Some, refl, ap, sym, subst, ◌∙◌, arith, append_assoc, length-append}
+use Rattle.verb_core.specs.declared.conf.Conf.{Conf}
+use Rattle.verb_core.specs.declared.conf.House.{House}
+use Rattle.verb_core.specs.declared.item.Item.{Item}
+use Rattle.verb_core.specs.declared.mailbox.BoxId.{BoxId}
+use Rattle.verb_core.specs.declared.mailbox.Mailbox.{Mailbox}
+use Rattle.verb_core.specs.Deeds.{act_item}
+use Rattle.verb_bytes.specs.declared.journal.CycleAsk.{CycleAsk}
+use Rattle.verb_bytes.specs.declared.journal.JournalRecord.{JournalRecord}
+use Rattle.verb_bytes.specs.declared.journal.JournalRecord.TheVariants.{Format, Verb, Operator, Cycle, Snapshot}
+use Rattle.paradox.specs.Kept.{Kept, new_desk, not_behind, passed, performed, placed, snapshotted}
+use Rattle.repair_desk.specs.Repairs.{position}
+use Rattle.mail_cycle.specs.Cycles.{cycled_at}
+use Rattle.time_desk.specs.Records.{first_state, is_true, state}
+use Rattle.snapshot_laws.specs.Usable.{HasNoLowerCycle, IsUsable}
+use Rattle.snapshot_laws.proofs.Members.{In, Rises, placed_is, placed_itself, placed_others, rises_not_behind, rises_placed, stayed, stays}
+use Rattle.snapshot_laws.proofs.Runs.{IsLasting, along}
+use Rattle.snapshot_laws.proofs.Splits.{IsBehind, IsThere, splits_end}
+use Rattle.snapshot_laws.proofs.Steps.{cycled_is, cycled_within, is_first, kept_is, performed_is}
+
+-- places rise, none is behind so many items, and they are those of the usable snapshots
+pub record StandsAt (records : List JournalRecord) (places : List ℕ) (count : ℕ) : Type 0 where
+  pub rises : Rises places
+  pub within : (n : ℕ) → In n places → n ≤ count
+  pub usable : (n : ℕ) → In n places → IsUsable records n
+  pub there : (n : ℕ) → IsUsable records n → In n places
+
+abbrev pub Stands : List JournalRecord → Kept → Type 0
+Stands records kept = StandsAt records kept.marks.places (length kept.timeline)
+
+module _ (done : List JournalRecord) (kept : Kept) (r : JournalRecord) (is : state done ≡ Some kept) where
+  -- what the records leave is one
+  same_state : (k : Kept) (before : List JournalRecord) → state before ≡ Some k → done ≡ before → kept ≡ k
+  same_state k before e same = let both : Some kept ≡ Some k = sym is ∙ ap state same ∙ e in cc both
+
+  -- the record, if it is a cycle, has its point at this position or behind it
+  abbrev Allows : ℕ → Type 0
+  Allows n = (number at : ℕ) (ask : CycleAsk) (place : ℕ) → r ≡ Cycle number at ask → position kept.timeline ask.point ≡ Some place → n ≤ place
+
+  lasts_more : (n count : ℕ) → HasNoLowerCycle done count n → Allows n → HasNoLowerCycle (done ++ r ∷ []) count n
+  lasts_more n count lasts allows before after number at ask k place split le s p = by (splits_end done r before (Cycle number at ask) after split)
+    where
+      by : IsThere done r before (Cycle number at ask) after ⊎ IsBehind done r before (Cycle number at ask) after → n ≤ place
+      by (inl last) = allows number at ask place last.one (subst (λ (x : Kept). position x.timeline ask.point ≡ Some place) (sym (same_state k before s last.front_is)) p)
+      by (inr behind) = lasts before behind.mid number at ask k place behind.split le s p
+
+  -- what was usable is so still
+  extended : (n : ℕ) → IsUsable done n → Allows n → IsUsable (done ++ r ∷ []) n
+  extended n u allows = record {
+    before = u.before;
+    conf = u.conf;
+    rows = u.rows;
+    after = u.after ++ r ∷ [];
+    split = ap (λ (xs : List JournalRecord). xs ++ r ∷ []) u.split ∙ append_assoc u.before (Snapshot n u.conf u.rows ∷ u.after) (r ∷ []);
+    kept = u.kept;
+    state_is = u.state_is;
+    true_is = u.true_is;
+    lasts = lasts_more n (length u.before) u.lasts allows;
+  }
+
+  -- the record is a true snapshot of so many items
+  record IsLast (n : ℕ) : Type 0 where
+    conf : Conf
+    rows : List (BoxId × Mailbox)
+    record_is : r ≡ Snapshot n conf rows
+    true_is : is_true kept (Snapshot n conf rows) ≡ true
+
+  -- what is usable is the record, or was so before
+  before_it : (n : ℕ) → IsUsable (done ++ r ∷ []) n → IsLast n ⊎ (IsUsable done n × Allows n)
+  before_it n u = by (splits_end done r u.before (Snapshot n u.conf u.rows) u.after u.split)
+    where
+      by : IsThere done r u.before (Snapshot n u.conf u.rows) u.after ⊎ IsBehind done r u.before (Snapshot n u.conf u.rows) u.after → IsLast n ⊎ (IsUsable done n × Allows n)
+      by (inl last) = inl (record {
+        conf = u.conf;
+        rows = u.rows;
+        record_is = last.one;
+        true_is = subst (λ (k : Kept). is_true k (Snapshot n u.conf u.rows) ≡ true) (sym (same_state u.kept u.before u.state_is last.front_is)) u.true_is;
+      })
+      by (inr behind) = inr (
+        record {
+          before = u.before;
+          conf = u.conf;
+          rows = u.rows;
+          after = behind.mid;
+          split = behind.split;
+          kept = u.kept;
+          state_is = u.state_is;
+          true_is = u.true_is;
+          lasts = λ before after number at ask k place split le s p. u.lasts before (after ++ r ∷ []) number at ask k place
+              (ap (λ (xs : List JournalRecord). xs ++ r ∷ []) split ∙ append_assoc before (Cycle number at ask ∷ after) (r ∷ [])) le s p;
+        },
+        (λ number at ask place one p. u.lasts done [] number at ask kept place (ap (λ (x : JournalRecord). done ++ x ∷ []) one)
+            (omega (arith, ap length behind.split, length-append u.before (Snapshot n u.conf u.rows ∷ behind.mid))) is p),
+      )
+
+  module _ (stands : Stands done kept) where
+    -- a record that is no cycle and no true snapshot
+    plain : ((n : ℕ) → IsLast n → ⊥) → ((number at : ℕ) (ask : CycleAsk) → r ≡ Cycle number at ask → ⊥) → (count : ℕ) → length kept.timeline ≤ count → StandsAt (done ++ r ∷ []) kept.marks.places count
+    plain no_last no_cycle count more = record {
+      rises = stands.rises;
+      within = λ n there. let few : n ≤ length kept.timeline = stands.within n there in omega arith;
+      usable = λ n there. extended n (stands.usable n there) (λ number at ask place one p. absurd (no_cycle number at ask one));
+      there = λ n u. by n (before_it n u);
+    }
+      where
+        by : (n : ℕ) → IsLast n ⊎ (IsUsable done n × Allows n) → In n kept.marks.places
+        by n (inl last) = absurd (no_last n last)
+        by n (inr both) = stands.there n both.0
+
+    -- a true snapshot
+    taken : (items : ℕ) (conf : Conf) (rows : List (BoxId × Mailbox)) → r ≡ Snapshot items conf rows → items ≡ length kept.timeline → is_true kept (Snapshot items conf rows) ≡ true
+        → StandsAt (done ++ r ∷ []) (placed (length kept.timeline) kept.marks.places) (length kept.timeline)
+    taken items conf rows one many truth = record {
+      rises = rises_placed (length kept.timeline) kept.marks.places stands.rises;
+      within = λ n there. within n (placed_is (length kept.timeline) n kept.marks.places there);
+      usable = λ n there. usable n (placed_is (length kept.timeline) n kept.marks.places there);
+      there = λ n u. there n (before_it n u);
+    }
+      where
+        within : (n : ℕ) → (length kept.timeline ≡ n) ⊎ In n kept.marks.places → n ≤ length kept.timeline
+        within n (inl here) = omega arith
+        within n (inr behind) = stands.within n behind
+
+        -- no cycle is behind it
+        lasts : HasNoLowerCycle (done ++ r ∷ []) (length done) items
+        lasts before after number at ask k place split le s p = by (splits_end done r before (Cycle number at ask) after split)
+          where
+            by : IsThere done r before (Cycle number at ask) after ⊎ IsBehind done r before (Cycle number at ask) after → items ≤ place
+            by (inl last) = absurd (let wrong : Snapshot items conf rows ≡ Cycle number at ask = sym one ∙ last.one in cc wrong)
+            by (inr behind) = absurd (omega (arith, ap length behind.split, length-append before (Cycle number at ask ∷ behind.mid)))
+
+        own : IsUsable (done ++ r ∷ []) items
+        own = record {
+          before = done;
+          conf = conf;
+          rows = rows;
+          after = [];
+          split = ap (λ (x : JournalRecord). done ++ x ∷ []) one;
+          kept = kept;
+          state_is = is;
+          true_is = truth;
+          lasts = lasts;
+        }
+
+        usable : (n : ℕ) → (length kept.timeline ≡ n) ⊎ In n kept.marks.places → IsUsable (done ++ r ∷ []) n
+        usable n (inl here) = subst (IsUsable (done ++ r ∷ [])) (many ∙ here) own
+        usable n (inr behind) = extended n (stands.usable n behind) (λ number at ask place other p. absurd (let wrong : Snapshot items conf rows ≡ Cycle number at ask = sym one ∙ other in cc wrong))
+
+        there : (n : ℕ) → IsLast n ⊎ (IsUsable done n × Allows n) → In n (placed (length kept.timeline) kept.marks.places)
+        there n (inl last) =
+            let both : Snapshot items conf rows ≡ Snapshot n last.conf last.rows = sym one ∙ last.record_is in
+            let same : items ≡ n = cc both in
+            subst (λ (m : ℕ). In m (placed (length kept.timeline) kept.marks.places)) (sym many ∙ same) (placed_itself (length kept.timeline) kept.marks.places)
+        there n (inr both) = placed_others (length kept.timeline) n kept.marks.places (stands.there n both.0)
+
+    -- a cycle
+    rewound_at : (number at : ℕ) (ask : CycleAsk) (place count : ℕ) → r ≡ Cycle number at ask → position kept.timeline ask.point ≡ Some place → place ≤ count → StandsAt (done ++ r ∷ []) (not_behind place kept.marks.places) count
+    rewound_at number at ask place count one found le = record {
+      rises = rises_not_behind place kept.marks.places stands.rises;
+      within = λ n there. let low : n ≤ place = (stayed place n kept.marks.places there).1 in omega arith;
+      usable = λ n there. extended n (stands.usable n (stayed place n kept.marks.places there).0) (allows n (stayed place n kept.marks.places there).1);
+      there = λ n u. there n (before_it n u);
+    }
+      where
+        allows : (n : ℕ) → n ≤ place → Allows n
+        allows n low number' at' ask' place' other p =
+            let both : Cycle number at ask ≡ Cycle number' at' ask' = sym one ∙ other in
+            let same : ask' ≡ ask = cc both in
+            let places : Some place ≡ Some place' = sym found ∙ ap (λ (a : CycleAsk). position kept.timeline a.point) (sym same) ∙ p in
+            let equal : place ≡ place' = cc places in
+            omega arith
+
+        there : (n : ℕ) → IsLast n ⊎ (IsUsable done n × Allows n) → In n (not_behind place kept.marks.places)
+        there n (inl last) = absurd (let wrong : Cycle number at ask ≡ Snapshot n last.conf last.rows = sym one ∙ last.record_is in cc wrong)
+        there n (inr both) = stays place n kept.marks.places (stands.there n both.0) (both.1 number at ask place one found)
+
+-- ---- each record
+
+stands_item : (done : List JournalRecord) (kept next : Kept) (r : JournalRecord) (item : Item) → state done ≡ Some kept → Stands done kept → performed kept item ≡ next
+    → ((n : ℕ) (conf : Conf) (rows : List (BoxId × Mailbox)) → r ≡ Snapshot n conf rows → ⊥) → ((number at : ℕ) (ask : CycleAsk) → r ≡ Cycle number at ask → ⊥) → Stands (done ++ r ∷ []) next
+stands_item done kept next r item is stands same no_snapshot no_cycle =
+    subst (Stands (done ++ r ∷ [])) same
+    (plain done kept r is stands (λ n last. no_snapshot n last.conf last.rows last.record_is) no_cycle (length (kept.timeline ++ item ∷ [])) (omega (arith, length-append kept.timeline (item ∷ []))))
+
+stands_snapshot : (done : List JournalRecord) (kept : Kept) (items : ℕ) (conf : Conf) (rows : List (BoxId × Mailbox)) → state done ≡ Some kept → Stands done kept → items ≡ length kept.timeline
+    → (b : Bool) → is_true kept (Snapshot items conf rows) ≡ b → Stands (done ++ Snapshot items conf rows ∷ []) (cond b (snapshotted kept) (record kept { marks = passed kept.marks }))
+stands_snapshot done kept items conf rows is stands many true e = taken done kept (Snapshot items conf rows) is stands items conf rows refl many e
+stands_snapshot done kept items conf rows is stands many false e =
+    plain done kept (Snapshot items conf rows) is stands (λ n last. no_last n last.conf last.rows last.record_is last.true_is) (λ number at ask wrong. cc wrong) (length kept.timeline) (omega arith)
+  where
+    no_last : (n : ℕ) (conf' : Conf) (rows' : List (BoxId × Mailbox)) → Snapshot items conf rows ≡ Snapshot n conf' rows' → is_true kept (Snapshot n conf' rows') ≡ true → ⊥
+    no_last n conf' rows' same truth = let wrong : true ≡ false = sym truth ∙ ap (is_true kept) (sym same) ∙ e in cc wrong
+
+stands_more : IsLasting Stands
+stands_more done kept (Format house conf) next is stands e = absurd (cc e)
+stands_more done kept (Verb item) next is stands e =
+    stands_item done kept next (Verb item) item is stands (performed_is kept next (Verb item) item e) (λ n conf rows wrong. cc wrong) (λ number at ask wrong. cc wrong)
+stands_more done kept (Operator number at act) next is stands e =
+    stands_item done kept next (Operator number at act) (act_item number at act) is stands (performed_is kept next (Operator number at act) (act_item number at act) e)
+    (λ n conf rows wrong. cc wrong) (λ number at ask wrong. cc wrong)
+stands_more done kept (Cycle number at ask) next is stands e =
+    let cycled = cycled_is kept next at ask number e in
+    subst (Stands (done ++ Cycle number at ask ∷ [])) cycled.next_is
+    (rewound_at done kept (Cycle number at ask) is stands number at ask cycled.place (length (cycled_at kept at ask cycled.place).timeline) refl cycled.found (cycled_within kept at ask cycled.place cycled.found))
+stands_more done kept (Snapshot items conf rows) next is stands e =
+    let found = kept_is kept next items conf rows e in
+    subst (Stands (done ++ Snapshot items conf rows ∷ [])) found.next_is
+    (stands_snapshot done kept items conf rows is stands found.items_are (is_true kept (Snapshot items conf rows)) refl)
+
+-- the first record is no snapshot
+stands_first : (r : JournalRecord) (kept : Kept) → first_state r ≡ Some kept → Stands (r ∷ []) kept
+stands_first r kept e = let first = is_first r kept e in subst (Stands (r ∷ [])) first.kept_is (empty first.house first.conf)
+  where
+    none : (n : ℕ) (front : List JournalRecord) (conf : Conf) (rows : List (BoxId × Mailbox)) (rest : List JournalRecord) (k : Kept) → state front ≡ Some k → r ∷ [] ≡ front ++ Snapshot n conf rows ∷ rest → ⊥
+    none n [] conf rows rest k s split = cc s
+    none n (f ∷ []) conf rows rest k s split = cc split
+    none n (f ∷ g ∷ front) conf rows rest k s split = cc split
+
+    empty : (house : House) (conf : Conf) → Stands (r ∷ []) (new_desk house conf)
+    empty house conf = record {
+      rises = tt;
+      within = λ n wrong. absurd wrong;
+      usable = λ n wrong. absurd wrong;
+      there = λ n u. absurd (none n u.before u.conf u.rows u.after u.kept u.state_is u.split);
+    }
+
+pub stands : (records : List JournalRecord) (kept : Kept) → state records ≡ Some kept → Stands records kept
+stands = along Stands stands_first stands_more

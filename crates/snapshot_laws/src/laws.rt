@@ -1,0 +1,51 @@
+//! These functions do nothing: their contracts are laws of the definitions.
+ghost use Rattle.std.specs.Prelude.{◌≡◌, ◌⊎◌, ℕ, ◌+◌, ◌≤◌, List, ◌∷◌, ◌++◌, length, Some};
+ghost use Rattle.std.specs.List.{Contains};
+ghost use Rattle.std.specs.List.Sorted.{IsStrictlyIncreasing};
+ghost use Rattle.verb_core.specs.declared.conf.Conf.{Conf};
+ghost use Rattle.verb_core.specs.declared.mailbox.BoxId.{BoxId};
+ghost use Rattle.verb_core.specs.declared.mailbox.Mailbox.{Mailbox};
+ghost use Rattle.verb_bytes.specs.declared.journal.JournalRecord.{JournalRecord};
+ghost use Rattle.verb_bytes.specs.declared.journal.JournalRecord.TheVariants.{Snapshot};
+ghost use Rattle.paradox.specs.Kept.{Kept, newest_at};
+ghost use Rattle.time_desk.specs.Records.{state};
+ghost use Rattle.snapshot_laws.specs.Usable.{IsUsable, cycles_in, snapshots_in};
+
+/// Of places that rise, `newest_at` is the last that is not behind the given one, or 0.
+pub fn newest_at_is_the_last_at_or_before()
+    ensures one { (place : ℕ) (places : List ℕ) → (newest_at place places ≡ 0) ⊎ Contains places (newest_at place places) }
+    ensures before { (place : ℕ) (places : List ℕ) → newest_at place places ≤ place }
+    ensures last { (place : ℕ) (places : List ℕ) → IsStrictlyIncreasing places → (n : ℕ) → Contains places n → n ≤ place → n ≤ newest_at place places }
+{}
+
+/// The places of the snapshots that a journal's records leave rise, and none is behind the timeline's end.
+pub fn places_rise()
+    ensures rise { (records : List JournalRecord) (kept : Kept) → state records ≡ Some kept → IsStrictlyIncreasing kept.marks.places }
+    ensures within { (records : List JournalRecord) (kept : Kept) → state records ≡ Some kept → (n : ℕ) → Contains kept.marks.places n → n ≤ length kept.timeline }
+{}
+
+/// They are the places of the usable snapshots among the records, all of these and no others.
+pub fn places_are_the_usable_snapshots()
+    ensures usable { (records : List JournalRecord) (kept : Kept) → state records ≡ Some kept → (n : ℕ) → Contains kept.marks.places n → IsUsable records n }
+    ensures there { (records : List JournalRecord) (kept : Kept) → state records ≡ Some kept → (n : ℕ) → IsUsable records n → Contains kept.marks.places n }
+{}
+
+/// A cycle at a place begins from the last usable snapshot that is not behind it, or from the opening store: `newest_at` tells
+/// behind how many items.
+pub fn cycles_begin_from_the_last_usable_snapshot()
+    ensures usable { (records : List JournalRecord) (kept : Kept) (place : ℕ) → state records ≡ Some kept →
+        (newest_at place kept.marks.places ≡ 0) ⊎ IsUsable records (newest_at place kept.marks.places) }
+    ensures before { (records : List JournalRecord) (kept : Kept) (place : ℕ) → state records ≡ Some kept → newest_at place kept.marks.places ≤ place }
+    ensures last { (records : List JournalRecord) (kept : Kept) (place : ℕ) → state records ≡ Some kept →
+        (n : ℕ) → IsUsable records n → n ≤ place → n ≤ newest_at place kept.marks.places }
+{}
+
+/// The snapshots that are counted are the Snapshot records. The items that are counted as having entered since the last of these,
+/// or since the beginning, are as many as the numbers that were given since, but for those of the cycles.
+pub fn counts_are_the_records()
+    ensures taken { (records : List JournalRecord) (kept : Kept) → state records ≡ Some kept → kept.marks.taken ≡ snapshots_in records }
+    ensures since { (before after : List JournalRecord) (items : ℕ) (conf : Conf) (rows : List (BoxId × Mailbox)) (then kept : Kept) → state before ≡ Some then →
+        state (before ++ Snapshot items conf rows ∷ after) ≡ Some kept → snapshots_in after ≡ 0 → then.next + cycles_in after + kept.marks.since ≡ kept.next }
+    ensures first { (records : List JournalRecord) (kept : Kept) → state records ≡ Some kept → snapshots_in records ≡ 0 →
+        kept.house.first + cycles_in records + kept.marks.since ≡ kept.next }
+{}
