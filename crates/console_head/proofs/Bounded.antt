@@ -1,10 +1,12 @@
 -- Bytes that are not yet a request are bounded.
-use Rattle.std.proofs.Common.{◌≡◌, ℕ, ◌<◌, Bool, true, false, List, length, take, drop, Option, Some, None, refl, sym, ◌∙◌, arith, inl, inr}
+use Rattle.std.proofs.Common.{◌≡◌, ℕ, ◌<◌, ◌≤◌, Bool, true, false, List, length, take, drop, Option, Some, None, refl, sym, ◌∙◌, arith, inl, inr}
 use Rattle.std.specs.Prelude.{nat_lt, if◌then◌else◌, Ok, Err, map}
 use Rattle.std.proofs.lemmas.Bool.Decides.{nat_tests}
 use Rattle.std.proofs.lemmas.List.{length-drop, length-take}
 use Rattle.httparse.specs.Grammar.{RequestHead}
 use Rattle.httparse.specs.Spans.{name_and_value}
+use Rattle.console_head.specs.declared.lines.Head.{Head}
+use Rattle.console_head.specs.Lines.{head_of}
 use Rattle.console_head.specs.declared.request.HeadRefused.TheVariants.{Head as BadHead, Size}
 use Rattle.console_head.specs.Lengths.{body_length}
 use Rattle.console_head.specs.Request.{Says, SaysFields, Stage, with_length}
@@ -36,8 +38,24 @@ head_waits bytes s e none = elim (nat_lt (length bytes) 16384) as (λ t. nat_lt 
   | false ↦ λ long. absurd (let wrong : waiting ≡ Err Size = sym none ∙ (rw long at e) in cc)
 ] refl
 
+-- a head that is not whole
+pub head_bounded : (bytes : List ℕ) → Says bytes (Ok None) → head_of (take 16384 bytes) ≡ None → length bytes < 16384
+head_bounded bytes says none = head_waits bytes waiting (rw none at says) refl
+
+-- a whole head, and what follows it
+pub body_bounded : (bytes : List ℕ) (first : Head) → Says bytes (Ok None) → head_of (take 16384 bytes) ≡ Some first → (first.size ≤ 16384) × (length (drop first.size bytes) < 4194304)
+body_bounded bytes first says whole = (by_holds (holds (take 16384 bytes)), fields_wait (nat_lt 64 first.fields) (take first.size bytes) (drop first.size bytes) (rw whole at says))
+  where
+    by_holds : Holds (take 16384 bytes) → first.size ≤ 16384
+    by_holds (inl none) = absurd (let wrong : None ≡ Some first = sym none ∙ whole in cc)
+    by_holds (inr head) =
+        let same : Some first ≡ Some head.0 = sym whole ∙ head.1.value in
+        let is : first ≡ head.0 = cc in
+        let within = head.1.within in
+        rw is (omega (arith, within, length-take 16384 bytes))
+
 by_head : (bytes : List ℕ) → Holds (take 16384 bytes) → Says bytes (Ok None) → length bytes < 4210688
-by_head bytes (inl none) says = let short = head_waits bytes waiting (rw none at says) refl in omega arith
+by_head bytes (inl none) says = let short = head_bounded bytes says none in omega arith
 by_head bytes (inr head) says =
     let rest : length (drop head.0.size bytes) < 4194304 = fields_wait (nat_lt 64 head.0.fields) (take head.0.size bytes) (drop head.0.size bytes) (rw head.1.value at says) in
     let within = head.1.within in

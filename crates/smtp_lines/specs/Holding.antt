@@ -15,3 +15,8 @@ seen true given bytes = marked bytes
 abbrev pub IsKept : Bool → ℕ → ℕ → List ℕ → Type 0
 IsKept false given passed bytes = passes passed (drop given bytes) ≡ true
 IsKept true given passed bytes = (given ≡ 0) × (1048577 ≤ length bytes) × (passes 1048577 (marked bytes) ≡ true)
+
+-- what contracts see of a buffer: the stream that its bytes stand for, and how many bytes are in memory, those that were given included
+pub record Buffered : Type 0 where
+  pub stream : List ℕ
+  pub kept : ℕ

@@ -1,5 +1,5 @@
 -- A set of names beside a list of them.
-use Rattle.std.proofs.Common.{◌≡◌, ℕ, Bool, true, false, ◌||◌, List, [], ◌∷◌, ◌++◌, refl, bytes_eq, cond}
+use Rattle.std.proofs.Common.{◌≡◌, ℕ, ◌+◌, ◌≤◌, Bool, true, false, ◌||◌, List, [], ◌∷◌, ◌++◌, refl, bytes_eq, cond, arith}
 use Rattle.std.specs.List.{list_any}
 use Rattle.std.specs.Ordering.{nat_cmp, is_eq}
 use Rattle.std.specs.Cmp.Lexicographic.{slice_cmp}
@@ -22,3 +22,8 @@ pub holds_more : (old new : BTreeSet (List ℕ)) (names : List (List ℕ)) (k : 
 holds_more old new names k h u name =
     rw (u name, h name, is_eq-slice_cmp k name, list_any-append (λ n. bytes_eq n name) names (k ∷ []))
     (either (bytes_eq k name) (list_any (λ n. bytes_eq n name) names))
+
+-- at most one name more in the set for one more in the list
+pub one_more : (added : Bool) (old new names more : ℕ) → new ≡ old + cond added 1 0 → old ≤ names → more ≡ names + 1 → new ≤ more
+one_more true old new names more e few m = omega arith
+one_more false old new names more e few m = omega arith

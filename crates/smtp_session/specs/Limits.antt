@@ -1,5 +1,5 @@
 -- How large the parts of a dialog and of its asks are.
-use Rattle.std.specs.Prelude.{ℕ, ◌≤◌, List, length, IfSome, Option, None, Some}
+use Rattle.std.specs.Prelude.{ℕ, ◌+◌, ◌≤◌, List, length, sum_by, IfSome, Option, None, Some}
 use Rattle.smtp_session.specs.declared.answer.SmtpOut.{SmtpOut}
 use Rattle.smtp_session.specs.declared.answer.SmtpOut.TheVariants.{Nothing, Say, Mail as Asks, Bye}
 use Rattle.smtp_session.specs.declared.dialog.Dialog.{Dialog}
@@ -57,3 +57,22 @@ octets_of (Due host) = 0
 -- how many octets of a text a dialog holds
 abbrev pub held_of : Dialog → ℕ
 held_of d = octets_of d.transaction
+
+-- how many octets names have
+abbrev pub octets_in : List (List ℕ) → ℕ
+octets_in names = sum_by (λ name. length name) names
+
+-- how many octets a transaction keeps: the reverse path, the recipients' names and the text; or the host's name
+abbrev pub parts_in : Transaction → ℕ
+parts_in Idle = 0
+parts_in (Begun path to) = length path + octets_in to
+parts_in (Writing path to text) = length path + octets_in to + text_octets text
+parts_in (Due host) = length host
+
+-- how many octets a dialog keeps: of its client's greeting, and of its transaction
+abbrev pub kept_of : Dialog → ℕ
+kept_of d = text_octets d.client + parts_in d.transaction
+
+-- another dialog with the fields of this one: all that a dialog has
+abbrev pub same_fields : Dialog → Dialog → Dialog
+same_fields d other = record other { client = d.client; transaction = d.transaction }

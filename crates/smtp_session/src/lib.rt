@@ -2,7 +2,7 @@
 //!
 //! `session` is the session with its two calls, `dialog` its state, `commands` what each command does to it and `ending` how a
 //! transaction ends; `recipients` and `draft` are its parts, `answer` and `body` write texts; `laws` says what the definitions
-//! mean. What carries the crate: `SmtpSession::take` and
+//! mean, `kept` how much is kept. What carries the crate: `SmtpSession::take` and
 //! `done` are the functions `turn` and `settle` of specs/Dialog.antt.
 #![tactic(auto)]
 
@@ -12,6 +12,7 @@ mod commands;
 mod dialog;
 mod draft;
 mod ending;
+mod kept;
 mod laws;
 mod recipients;
 mod session;

@@ -1,5 +1,5 @@
 //! The recipients of a transaction.
-ghost use Rattle.std.specs.Prelude.{◌≡◌, ◌++◌, [], ◌∷◌, length, bytes_eq, OnOk, OnErr, IfOk};
+ghost use Rattle.std.specs.Prelude.{◌≡◌, ◌≤◌, ◌*◌, ◌++◌, [], ◌∷◌, length, bytes_eq, OnOk, OnErr, IfOk};
 ghost use Rattle.std.specs.Str.{str_to_ascii_lowercase};
 ghost use Rattle.std.specs.List.{list_any};
 ghost use Rattle.std.specs.Ordering.{nat_cmp};
@@ -20,14 +20,18 @@ pub struct Recipients {
 }
 
 impl Model for Recipients {
-    ghost use Rattle.std.specs.Prelude.{List, ℕ};
+    ghost use Rattle.std.specs.Prelude.{List, ℕ, ◌≡◌, ◌≤◌, length};
+    ghost use Rattle.std.specs.BTreeSet.{btree_set_len};
     ghost use Rattle.smtp_session.specs.Held.{Holds};
 
     ghost Value = { List (List ℕ) };
 
+    ghost use Rattle.smtp_session.specs.declared.recipients.Recipients.TheInside.{Inside};
+
     ghost view = { λ r. r.names.items };
 
-    ghost invariant = { λ r. Holds r.held r.names.items };
+    ghost invariant = { λ r. Holds r.held r.names.items × (btree_set_len r.held ≤ length r.names.items) ×
+        ((other : Inside) → r ≡ record other { names = r.names; held = r.held }) };
 }
 
 impl Recipients {
@@ -46,6 +50,20 @@ impl Recipients {
         ensures { result ≡ length self.now }
     {
         self.names.len()
+    }
+
+    /// How many names are in memory, in the list and in the set. Takes no memory.
+    pub fn kept(&self) -> usize
+        ensures { result ≤ 2 * length self.now }
+    {
+        self.names.len() + self.held.len()
+    }
+
+    /// The names, in their order.
+    pub(crate) fn names(&self) -> &[Name]
+        ensures { result.now ≡ self.now }
+    {
+        self.names.as_slice()
     }
 
     /// Adds a name at the end, where it is not held yet.

@@ -2,15 +2,16 @@
 ghost use Rattle.std.specs.Prelude.{◌≡◌, ◌≤◌, IsTrue, IfOk, OnErr, false, true};
 ghost use Rattle.verb_core.specs.Store.{is_house};
 ghost use Rattle.smtp_session.specs.Dialog.{is_due, is_outcome_of_delivery, is_writing, opening, settle, turn, turns};
-ghost use Rattle.smtp_session.specs.Limits.{AsksWithin, held_of, text_octets};
+ghost use Rattle.smtp_session.specs.Limits.{AsksWithin, held_of, kept_of};
 
 use crate::answer::SmtpOut;
 use crate::dialog::{Dialog, Transaction, take_line};
 use crate::ending::settle_dialog;
+use crate::kept::{kept, text_octets};
 use smtp_lines::SmtpLine;
 use std::alloc::Global;
 use std::marker::Model;
-use undo_base::{LAST_MOMENT, NoMemory, Text};
+use undo_base::{LAST_MOMENT, NoMemory};
 use verb_core::{Conf, House, Item, SubmitFault};
 
 /// The session of a mail client from its greeting to its last answer.
@@ -20,14 +21,17 @@ pub struct SmtpSession {
 }
 
 impl Model for SmtpSession {
+    ghost use Rattle.std.specs.Prelude.{◌≡◌};
     ghost use Rattle.smtp_session.specs.declared.dialog.Dialog.{Dialog as TheDialog};
-    ghost use Rattle.smtp_session.specs.Limits.{IsSmall};
+    ghost use Rattle.smtp_session.specs.Limits.{IsSmall, same_fields};
 
     ghost Value = { TheDialog };
 
+    ghost use Rattle.smtp_session.specs.declared.session.SmtpSession.TheInside.{Inside};
+
     ghost view = { λ s. s.dialog };
 
-    ghost invariant = { λ s. IsSmall s.dialog };
+    ghost invariant = { λ s. IsSmall s.dialog × ((other : Inside) → s ≡ record other { dialog = same_fields s.dialog other.dialog }) };
 }
 
 impl SmtpSession {
@@ -97,6 +101,14 @@ impl SmtpSession {
         }
     }
 
+    /// How many octets are kept of what the client said, each recipient's name counted once. Takes no memory.
+    pub fn kept(&self) -> usize
+        ensures value { result ≡ kept_of self.now }
+        ensures most { kept_of self.now ≤ 1249030 }
+    {
+        kept(&self.dialog)
+    }
+
     /// Whether the outcome of what was asked is due.
     pub fn is_due(&self) -> bool
         ensures { result ≡ is_due self.now }
@@ -109,15 +121,5 @@ impl SmtpSession {
         ensures { result ≡ is_writing self.now }
     {
         matches!(&self.dialog.transaction, Transaction::Writing { .. })
-    }
-}
-
-/// How many octets a text has, of which there is none where it was too large.
-fn text_octets(text: &Option<Text>) -> usize
-    ensures { result ≡ text_octets text.now }
-{
-    match text {
-        None => 0,
-        Some(text) => text.bytes().len(),
     }
 }

@@ -4,7 +4,7 @@ use Rattle.smtp_lines.specs.declared.line.SmtpLine.{SmtpLine}
 use Rattle.smtp_lines.specs.Line.{smtp_lines_of}
 use Rattle.smtp_lines.specs.Holding.{seen}
 use Rattle.smtp_lines.proofs.Marked.{marked_none, marked_line, on_err}
-use Rattle.smtp_lines.proofs.cutter.end_long.Goals as goal
+use Rattle.smtp_lines.proofs.buffer.end_long.Goals as goal
 
 pub returns-in_default-clause-found : goal.returns-in_default-clause-found
 returns-in_default-clause-found c =
