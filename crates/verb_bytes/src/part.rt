@@ -1,5 +1,5 @@
 //! Parts of records, and lists of them.
-ghost use Rattle.std.specs.Prelude.{◌≡◌, ◌≤◌, ℕ, List, Result, length, Option};
+ghost use Rattle.std.specs.Prelude.{◌≡◌, ◌≤◌, ◌+◌, ◌*◌, ℕ, List, [], ◌∷◌, ◌++◌, Result, Ok, Err, length, Option, IfErr, OnOk, OnErr, vec_len, vec_capacity};
 ghost use Rattle.std.specs.List.{flat_map};
 ghost use Rattle.verb_bytes.specs.Fields.{Field, list_fields, option_fields};
 ghost use Rattle.verb_bytes.specs.Readers.{Gives, list_at, option_at, read1, times};
@@ -8,7 +8,7 @@ ghost use Rattle.verb_bytes.specs.Writing.{Puts};
 use crate::cursor::{Cursor, Stop};
 use crate::write::{Unwritten, put_byte, put_count};
 use std::alloc::Global;
-use undo_base::{Sequence, Text};
+use undo_base::{NoMemory, Sequence, Text};
 
 /// A part of a record: its fields, and how it is read.
 pub(crate) trait Part: Sized + Drop {
@@ -27,6 +27,42 @@ pub(crate) trait Part: Sized + Drop {
         ensures { Gives reader cursor.old.rest.now cursor.new.rest.now result };
 }
 
+/// Adds an element. There is room for no more than as many again and four.
+fn push_read<T: Drop>(items: &mut Vec<T>, item: T) -> Result<(), NoMemory>
+    requires { vec_capacity items.old ≤ 2 * vec_len items.old + 4 }
+    ensures ok { OnOk result (items.new.items ≡ items.old.items ++ item ∷ []) }
+    ensures err { OnErr result (items.new.items ≡ items.old.items) }
+    ensures room { vec_capacity items.new ≤ 2 * vec_len items.new + 4 }
+{
+    let count = items.len();
+    if count == items.capacity() {
+        items.reserve_exact(count + 4)?;
+    }
+    items.push_reserved(item);
+    Ok(())
+}
+
+/// Reads so many elements. Memory is taken as they come, for as many again as came and four, whatever their count says.
+fn read_items<T: Part>(
+    alloc: Global,
+    count: u32,
+    cursor: &mut Cursor<'_>,
+    items: &mut Vec<T>,
+) -> Result<(), Stop>
+    requires none { items.old.items ≡ [] }
+    requires room { vec_capacity items.old ≤ 4 }
+    ensures ok { OnOk result (times count T.reader cursor.old.rest.now ≡ Ok (items.new.items, cursor.new.rest.now)) }
+    ensures err { IfErr result (λ stop. Gives {A = List T} (times count T.reader) cursor.old.rest.now cursor.new.rest.now (Err stop)) }
+    ensures came { (rest : List ℕ) × (times (length items.new.items) T.reader cursor.old.rest.now ≡ Ok (items.new.items, rest)) }
+    ensures room { vec_capacity items.new ≤ 2 * length items.new.items + 4 }
+{
+    for _ in 0..count {
+        let item = T::read(alloc, cursor)?;
+        push_read(items, item)?;
+    }
+    Ok(())
+}
+
 fn read_times<T: Part>(
     alloc: Global,
     count: u32,
@@ -34,12 +70,11 @@ fn read_times<T: Part>(
 ) -> Result<Sequence<T>, Stop>
     ensures { Gives (times count T.reader) cursor.old.rest.now cursor.new.rest.now result }
 {
-    let mut items = Sequence::new(alloc);
-    for _ in 0..count {
-        let item = T::read(alloc, cursor)?;
-        items.push(item)?;
+    let mut items = Vec::new(alloc);
+    match read_items(alloc, count, cursor, &mut items) {
+        Ok(()) => Ok(Sequence::from_vec(items)),
+        Err(stop) => Err(stop),
     }
-    Ok(items)
 }
 
 /// Reads a list of at most so many elements. Memory is taken as they come, whatever the count says.
