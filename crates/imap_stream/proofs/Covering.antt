@@ -8,7 +8,7 @@ use Rattle.std.specs.List.{list_any}
 use Rattle.std.specs.List.Sorted.{IsStrictlyIncreasing}
 use Rattle.imap_stream.specs.declared.picks.SetRange.{SetRange}
 use Rattle.imap_stream.specs.declared.picks.Span.{Span}
-use Rattle.imap_stream.specs.Sets.{covers, number_at, greatest_of}
+use Rattle.imap_stream.specs.Sets.{covers}
 use Rattle.imap_stream.specs.Spans.{in_span, IsBelow, IsSpanOf, IsRangeSpan, SpansSet}
 
 -- tests of facts that follow from each other
@@ -78,10 +78,9 @@ number_span_is count low high from to ef et p within = and_same (nat_le from p) 
     (same_test (nat_lt p to) (nat_le (p + 1) high) (λ e. le_true (p + 1) high (let lt = true_lt p to e in omega arith)) (λ e. lt_true p to (let le = leb-true (p + 1) high e in omega arith)))
 
 -- one span more
-pub spans_more : (by_uid : Bool) (uids : List ℕ) (set : List SetRange) (i : ℕ) (range : SetRange) (spans : List Span) (s : Span) → i < length set → range ≡ get_or set i range
-    → SpansSet by_uid uids (take i set) spans → IsRangeSpan by_uid uids range s → SpansSet by_uid uids (take (i + 1) set) (spans ++ s ∷ [])
-spans_more by_uid uids set i range spans s within is so_far one p inside =
-    let n = number_at by_uid uids p in
-    let test : SetRange → Bool = λ r. covers (greatest_of by_uid uids) r n in
+pub spans_more : (number : ℕ → ℕ) (greatest count : ℕ) (set : List SetRange) (i : ℕ) (range : SetRange) (spans : List Span) (s : Span) → i < length set → range ≡ get_or set i range
+    → SpansSet number greatest count (take i set) spans → IsRangeSpan number greatest count range s → SpansSet number greatest count (take (i + 1) set) (spans ++ s ∷ [])
+spans_more number greatest count set i range spans s within is so_far one p inside =
+    let test : SetRange → Bool = λ r. covers greatest r (number p) in
     list_any-append (in_span p) spans (s ∷ []) ∙ ap (λ b. b || (in_span p s || false)) (so_far p inside) ∙ ap (λ b. list_any test (take i set) || (b || false)) (one p inside)
     ∙ sym (ap (list_any test) (take_more set i range within ∙ ap (λ r. take i set ++ r ∷ []) (sym is)) ∙ list_any-append test (take i set) (range ∷ []))

@@ -1,5 +1,5 @@
 -- What is kept of a command stays within the limits.
-use Rattle.std.proofs.Common.{◌≡◌, ℕ, ◌+◌, ◌<◌, ◌≤◌, Bool, true, false, cond, List, [], ◌∷◌, ◌++◌, length, take, nat_lt, nat_le, Option, None, Some, refl, sym, ◌∙◌, arith, subst}
+use Rattle.std.proofs.Common.{◌≡◌, ℕ, ◌+◌, ◌<◌, ◌≤◌, Bool, true, false, cond, List, [], ◌∷◌, ◌++◌, length, take, nat_lt, nat_le, Option, None, Some, Result, Ok, Err, IfOk, refl, sym, ◌∙◌, arith, subst}
 use Rattle.std.proofs.lemmas.List.{length-append, length-take}
 use Rattle.std.proofs.lemmas.List.Sums.{sum_by_push}
 use Rattle.std.proofs.lemmas.Bool.{leb-false}
@@ -7,11 +7,12 @@ use Rattle.std.proofs.lemmas.Bool.Decides.{Decides-ltb}
 use Rattle.imap_stream.specs.Commands.{Heard, nothing, closed, told, bad, asked, ended, marked_or_finished, with_literal, awaits_after}
 use Rattle.imap_stream.specs.Holding.{octets_in, tag_octets}
 use Rattle.imap_stream.specs.Marks.{is_tag, tag_of, before_space, mark_of}
-use Rattle.imap_stream.specs.Reading.{IsBegun, IsWithin}
+use Rattle.imap_stream.specs.Reading.{IsBegun, IsWithin, parts_of}
 use Rattle.imap_stream.specs.declared.begun.Begun.{Begun}
 use Rattle.imap_stream.specs.declared.begun.Awaits.TheVariants.{Line, Literal, End}
+use Rattle.imap_stream.specs.declared.reader.Reader.{Reader}
 use Rattle.imap_stream.specs.declared.next.Next.{Next}
-use Rattle.imap_stream.specs.declared.next.Next.TheVariants.{Command}
+use Rattle.imap_stream.specs.declared.next.Next.TheVariants.{Command, NotYet}
 use Rattle.imap_stream.specs.declared.next.LineFault.TheVariants.{Long, Literal as TooLarge, Many}
 use Rattle.imap_stream.specs.declared.marks.Mark.{Mark}
 use Rattle.imap_stream.proofs.Tags.{too_long}
@@ -99,3 +100,17 @@ pub ended_within : (begun : Begun) (line : List ℕ) (next : Next) (new : Begun)
 ended_within begun line next new w e =
     subst Then e (either (nat_lt 65536 (begun.octets + length line)) (closed (bad begun line Long)) (marked_or_finished begun line (mark_of line)) (closed_then (bad begun line Long) refl)
     (λ short. marked_then begun line (mark_of line) w (ltb-not 65536 (begun.octets + length line) short)))
+
+-- what is kept of a command is within its limits
+pub parts_within : (reader : Reader) → reader.begun.octets ≤ 65536 → IsWithin reader.awaits reader.begun → parts_of reader ≤ 8454208
+parts_within reader most within =
+    let lines = within.lines in
+    let few = within.few in
+    let small = within.small in
+    let tag = within.tag in
+    omega arith
+
+-- what is said where nothing whole is there is said of nothing else
+pub none_waits : {E : Type 0} (X : Type 0) (r : Result Next E) → IfOk r (λ next. next ≡ NotYet → ⊥) → IfOk r (λ next. next ≡ NotYet → X)
+none_waits X (Ok next) other = λ e. absurd (other e)
+none_waits X (Err e) other = tt

@@ -50,9 +50,19 @@ IsOpen Line = Unit {0}
 IsOpen (Literal n) = Unit {0}
 IsOpen (End tag) = ⊥
 
+-- how many bytes were taken out of the stream, and are kept beside it: the lines and literals of a command, and the tag of one whose line is too long
+abbrev pub parts_of : Reader → ℕ
+parts_of reader = octets_in reader.begun.lines + octets_in reader.begun.literals + tag_octets (tag_kept reader.awaits)
+
 -- how many bytes the code keeps: of a command, and of the stream behind it
 abbrev pub kept : Reader → List ℕ → ℕ
-kept reader bytes = octets_in reader.begun.lines + octets_in reader.begun.literals + tag_octets (tag_kept reader.awaits) + length (drop reader.given bytes)
+kept reader bytes = parts_of reader + length (drop reader.given bytes)
+
+-- What contracts see of a buffer: what was heard of the stream; how many bytes were taken out of it and are kept; and how many bytes of the stream itself are in memory, those that were read included.
+pub record Buffered : Type 0 where
+  pub heard : Heard
+  pub parts : ℕ
+  pub bytes : ℕ
 
 -- no more is kept than what comes next needs
 pub record IsSettled (reader : Reader) (bytes : List ℕ) : Type 0 where
@@ -85,3 +95,13 @@ pub record Settles (old : Reader) (bytes : List ℕ) (start : ℕ) (new : Reader
   pub awaits : new.awaits ≡ Line
   pub given : new.given ≡ start
   pub scanned : new.scanned ≡ old.scanned
+
+-- another reader with the fields of this one: all that a reader has
+abbrev pub same_fields : Reader → Reader → Reader
+same_fields reader other =
+    record other {
+      begun = record other.begun { lines = reader.begun.lines; literals = reader.begun.literals; octets = reader.begun.octets };
+      awaits = reader.awaits;
+      given = reader.given;
+      scanned = reader.scanned;
+    }

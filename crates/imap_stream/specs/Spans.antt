@@ -3,7 +3,7 @@ use Rattle.std.specs.Prelude.{◌≡◌, ℕ, Bool, ◌<◌, ◌≤◌, ◌&&◌
 use Rattle.std.specs.List.{list_any, All}
 use Rattle.imap_stream.specs.declared.picks.SetRange.{SetRange}
 use Rattle.imap_stream.specs.declared.picks.Span.{Span}
-use Rattle.imap_stream.specs.Sets.{covers, covered, number_at, greatest_of}
+use Rattle.imap_stream.specs.Sets.{covers, covered}
 
 -- a place is in a span
 abbrev pub in_span : ℕ → Span → Bool
@@ -25,9 +25,10 @@ IsBelow number uids n = ((k : ℕ) → k < n → slice_index uids k < number) ×
 abbrev pub IsSpanOf : (ℕ → ℕ) → ℕ → ℕ → ℕ → Span → Type 0
 IsSpanOf number count low high s = (p : ℕ) → p < count → in_span p s ≡ (nat_le low (number p) && nat_le (number p) high)
 
-abbrev pub IsRangeSpan : Bool → List ℕ → SetRange → Span → Type 0
-IsRangeSpan by_uid uids range s = (p : ℕ) → p < length uids → in_span p s ≡ covers (greatest_of by_uid uids) range (number_at by_uid uids p)
+-- the span has the places, of so many, whose numbers a range covers, where * is the greatest
+abbrev pub IsRangeSpan : (ℕ → ℕ) → ℕ → ℕ → SetRange → Span → Type 0
+IsRangeSpan number greatest count range s = (p : ℕ) → p < count → in_span p s ≡ covers greatest range (number p)
 
--- the spans have the places that the set covers
-abbrev pub SpansSet : Bool → List ℕ → List SetRange → List Span → Type 0
-SpansSet by_uid uids set spans = (p : ℕ) → p < length uids → in_any spans p ≡ covered (greatest_of by_uid uids) set (number_at by_uid uids p)
+-- the spans have the places, of so many, whose numbers a set covers
+abbrev pub SpansSet : (ℕ → ℕ) → ℕ → ℕ → List SetRange → List Span → Type 0
+SpansSet number greatest count set spans = (p : ℕ) → p < count → in_any spans p ≡ covered greatest set (number p)

@@ -2,7 +2,7 @@
 ghost use Rattle.std.specs.Prelude.{◌≡◌, ◌+◌, ◌≤◌, ◌<◌, [], drop, length, min};
 ghost use Rattle.imap_stream.specs.Commands.{awaited, tag_of_command};
 ghost use Rattle.imap_stream.specs.Holding.{octets_in, tag_kept, tag_octets, held_in};
-ghost use Rattle.imap_stream.specs.Reading.{IsSound, IsOpen, kept, seen};
+ghost use Rattle.imap_stream.specs.Reading.{IsSound, IsOpen, IsWithin, kept, parts_of, seen};
 
 use crate::begun::{Awaits, Begun, MOST_OCTETS, octets_awaited, opening};
 use crate::marks::read_tag;
@@ -93,6 +93,16 @@ fn of_end(reader: &Reader, came: &[u8]) -> usize
     of_command(&reader.begun)
         .saturating_add(of_tag(&reader.awaits))
         .saturating_add(came.len().min(1))
+}
+
+/// How many bytes were taken out of the stream, and are kept.
+pub fn parts(reader: &Reader) -> usize
+    requires begun { reader.now.begun.octets ≤ 65536 }
+    requires limits { IsWithin reader.now.awaits reader.now.begun }
+    ensures value { result ≡ parts_of reader.now }
+    ensures most { parts_of reader.now ≤ 8454208 }
+{
+    of_command(&reader.begun).saturating_add(of_tag(&reader.awaits))
 }
 
 /// How many bytes are kept where nothing is whole.

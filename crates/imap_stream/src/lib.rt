@@ -1,12 +1,13 @@
 //! The commands of a mail client's stream (RFC 3501), cut out of it, and the messages that their sets name.
 //!
 //! `next` has what a stream gives; `begun` what is read of a command; `marks` the tags of lines and the marks of
-//! literals; `reader` reads as far as bytes have come, `cut` a whole stream, and `pieces` one that comes in any pieces; `picks` finds the messages of a set; `laws` says what a stream gives.
+//! literals; `reader` reads as far as bytes have come, `cut` a whole stream, and `pieces` one that comes in any pieces, whose bytes in memory are a `buffer`; `picks` finds the messages of a set; `laws` says what a stream gives.
 //! What carries the crate: `Pieces::next` gives the commands, literal marks and bad lines of the whole stream, and the
 //! law `one_reading` says what these are.
 #![tactic(auto)]
 
 mod begun;
+mod buffer;
 mod cut;
 mod held;
 mod laws;
@@ -17,10 +18,13 @@ mod pieces;
 mod reader;
 
 pub use begun::{Awaits, Begun};
+pub use buffer::Buffer;
 pub use cut::cut_all;
 pub use laws::one_reading;
 pub use marks::{Mark, are_digits, number, read_tag};
 pub use next::{BadLine, LineFault, Next, Nexts, RawCommand};
-pub use picks::{PickRefused, SetRange, SetText, Span, pick};
+pub use picks::{
+    PickRefused, SetRange, SetText, Span, join_spans, lower_end, pick, pick_numbers, upper_end,
+};
 pub use pieces::Pieces;
 pub use reader::Reader;

@@ -1,7 +1,7 @@
 //! The messages that a set names (RFC 3501, 6.4.8 and 9: sequence-set).
-ghost use Rattle.std.specs.Prelude.{◌≡◌, ℕ, ◌+◌, ◌-◌, ◌^◌, ◌≤◌, ◌<◌, ◌++◌, length, max, slice_index, IfOk, OnOk};
+ghost use Rattle.std.specs.Prelude.{◌≡◌, ℕ, ◌+◌, ◌-◌, ◌^◌, ◌≤◌, ◌<◌, ◌++◌, List, true, false, length, min, max, slice_index, IfOk, OnOk};
 ghost use Rattle.std.specs.List.Sorted.{IsNonDecreasingBy, IsStrictlyIncreasing};
-ghost use Rattle.imap_stream.specs.Sets.{greatest_of, beyond, first_beyond, places_in, run_from, picked, Picks};
+ghost use Rattle.imap_stream.specs.Sets.{greatest_of, number_at, beyond, covered, first_beyond, places_in, run_from, picked, Picks};
 ghost use Rattle.imap_stream.specs.Sets as spec;
 ghost use Rattle.imap_stream.specs.Spans.{in_span, in_any, AreWithin, IsBelow, IsSpanOf, IsRangeSpan, SpansSet};
 
@@ -43,13 +43,24 @@ fn end_at(greatest: u64, end: Option<u32>) -> u64
     }
 }
 
-/// The greatest number of a view.
-fn greatest(uids: &[u64], by_uid: bool) -> u64
-    ensures { result ≡ greatest_of by_uid uids.now }
+/// The lower end of a range, where `*` is the greatest number.
+pub fn lower_end(greatest: u64, range: SetRange) -> u64
+    ensures { result ≡ min (spec.end_at greatest range.from) (spec.end_at greatest range.to) }
 {
-    if !by_uid {
-        return uids.len() as u64;
-    }
+    end_at(greatest, range.from).min(end_at(greatest, range.to))
+}
+
+/// The upper end of a range, where `*` is the greatest number.
+pub fn upper_end(greatest: u64, range: SetRange) -> u64
+    ensures { result ≡ max (spec.end_at greatest range.from) (spec.end_at greatest range.to) }
+{
+    end_at(greatest, range.from).max(end_at(greatest, range.to))
+}
+
+/// The greatest UID of a view.
+fn greatest(uids: &[u64]) -> u64
+    ensures { result ≡ greatest_of true uids.now }
+{
     match uids {
         [] => 0,
         [.., last] => *last,
@@ -134,34 +145,48 @@ fn number_span(count: usize, low: u64, high: u64) -> Span
     }
 }
 
-/// The places that a range covers.
-fn span_of(uids: &[u64], by_uid: bool, range: SetRange) -> Span
+/// The places that a range of UIDs covers.
+fn uid_range(uids: &[u64], range: SetRange) -> Span
     ensures within { result.to ≤ length uids.now }
-    ensures places { IsStrictlyIncreasing uids.now → IsRangeSpan by_uid uids.now range result }
+    ensures places { IsStrictlyIncreasing uids.now → IsRangeSpan (number_at true uids.now) (greatest_of true uids.now) (length uids.now) range result }
 {
-    let most = greatest(uids, by_uid);
-    let from = end_at(most, range.from);
-    let to = end_at(most, range.to);
-    if by_uid {
-        uid_span(uids, from.min(to), from.max(to))
-    } else {
-        number_span(uids.len(), from.min(to), from.max(to))
-    }
+    let greatest = greatest(uids);
+    uid_span(uids, lower_end(greatest, range), upper_end(greatest, range))
 }
 
-/// The places that each range of a set covers.
-fn spans_of(
-    alloc: Global,
-    uids: &[u64],
-    by_uid: bool,
-    set: &[SetRange],
-) -> Result<Vec<Span>, NoMemory>
+/// The places that a range of sequence numbers covers.
+fn number_range(count: usize, range: SetRange) -> Span
+    ensures within { result.to ≤ count }
+    ensures places { IsRangeSpan (λ p. p + 1) count count range result }
+{
+    let greatest = count as u64;
+    number_span(
+        count,
+        lower_end(greatest, range),
+        upper_end(greatest, range),
+    )
+}
+
+/// The places that each range of UIDs covers.
+fn uid_spans(alloc: Global, uids: &[u64], set: &[SetRange]) -> Result<Vec<Span>, NoMemory>
     ensures within { IfOk result (λ spans. AreWithin (length uids.now) spans.items) }
-    ensures places { IfOk result (λ spans. IsStrictlyIncreasing uids.now → SpansSet by_uid uids.now set.now spans.items) }
+    ensures places { IfOk result (λ spans. IsStrictlyIncreasing uids.now → SpansSet (number_at true uids.now) (greatest_of true uids.now) (length uids.now) set.now spans.items) }
 {
     let mut spans = Vec::new(alloc);
     for range in set {
-        spans.push(span_of(uids, by_uid, *range))?;
+        spans.push(uid_range(uids, *range))?;
+    }
+    Ok(spans)
+}
+
+/// The places that each range of sequence numbers covers.
+fn number_spans(alloc: Global, count: usize, set: &[SetRange]) -> Result<Vec<Span>, NoMemory>
+    ensures within { IfOk result (λ spans. AreWithin count spans.items) }
+    ensures places { IfOk result (λ spans. SpansSet (λ p. p + 1) count count set.now spans.items) }
+{
+    let mut spans = Vec::new(alloc);
+    for range in set {
+        spans.push(number_range(count, *range))?;
     }
     Ok(spans)
 }
@@ -216,35 +241,58 @@ fn join(alloc: Global, spans: &[Span], count: usize) -> Result<Places, NoMemory>
     Ok(places)
 }
 
-/// The places in the view of the messages that a set covers.
-fn covered_places(
-    alloc: Global,
-    set: &[SetRange],
-    uids: &[u64],
-    by_uid: bool,
-) -> Result<Places, NoMemory>
-    ensures { IfOk result (λ places. IsStrictlyIncreasing uids.now → places ≡ picked set.now uids.now by_uid) }
+/// The places of spans in a view of so many messages, rising, each once.
+pub fn join_spans(alloc: Global, spans: Vec<Span>, count: usize) -> Result<Places, NoMemory>
+    requires { AreWithin count spans.items }
+    ensures { IfOk result (λ places. places ≡ places_in (in_any spans.items) 0 count) }
 {
-    if uids.len() >= u32::MAX as usize {
+    if count >= u32::MAX as usize {
         return Err(NoMemory);
     }
-    let mut spans = spans_of(alloc, uids, by_uid, set)?;
+    let mut spans = spans;
     sort(&mut spans);
-    join(alloc, &spans, uids.len())
+    join(alloc, &spans, count)
 }
 
-/// The places in a view of the messages that a set names, rising, each once.
-pub fn pick(alloc: Global, set: &SetText, uids: &Uids, by_uid: bool) -> Result<Places, PickRefused>
-    ensures { IsStrictlyIncreasing uids.now → Picks set.now uids.now by_uid result }
+/// The places of the messages whose UIDs a set covers.
+fn uid_places(alloc: Global, set: &[SetRange], uids: &[u64]) -> Result<Places, NoMemory>
+    ensures { IfOk result (λ places. IsStrictlyIncreasing uids.now → places ≡ picked set.now uids.now true) }
 {
-    let uids = uids.as_slice();
+    let spans = uid_spans(alloc, uids, set)?;
+    join_spans(alloc, spans, uids.len())
+}
+
+/// The places of the messages whose sequence numbers a set covers, of so many.
+fn number_places(alloc: Global, set: &[SetRange], count: usize) -> Result<Places, NoMemory>
+    ensures { IfOk result (λ places. places ≡ places_in (λ p. covered count set.now (p + 1)) 0 count) }
+{
+    let spans = number_spans(alloc, count, set)?;
+    join_spans(alloc, spans, count)
+}
+
+/// The places of the messages that a set of sequence numbers names in a view of so many messages, rising, each once. It looks at
+/// no UID: its time and memory grow as the set and as what is picked.
+pub fn pick_numbers(alloc: Global, set: &SetText, count: usize) -> Result<Places, PickRefused>
+    ensures { (uids : List ℕ) → length uids ≡ count → Picks set.now uids false result }
+{
     let set = set.as_slice();
-    if !by_uid {
-        if let Some(given) = beyond_set(uids.len(), set) {
-            return Err(PickRefused::Number { given });
-        }
+    if let Some(given) = beyond_set(count, set) {
+        return Err(PickRefused::Number { given });
     }
-    match covered_places(alloc, set, uids, by_uid) {
+    match number_places(alloc, set, count) {
+        Ok(places) => Ok(places),
+        Err(_) => Err(PickRefused::NoMemory),
+    }
+}
+
+/// The places in a view of the messages that a set names, rising, each once. UIDs are to rise; by sequence number nothing is asked of them.
+pub fn pick(alloc: Global, set: &SetText, uids: &Uids, by_uid: bool) -> Result<Places, PickRefused>
+    ensures { (by_uid ≡ true → IsStrictlyIncreasing uids.now) → Picks set.now uids.now by_uid result }
+{
+    if !by_uid {
+        return pick_numbers(alloc, set, uids.len());
+    }
+    match uid_places(alloc, set.as_slice(), uids.as_slice()) {
         Ok(places) => Ok(places),
         Err(_) => Err(PickRefused::NoMemory),
     }

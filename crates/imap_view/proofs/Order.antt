@@ -63,6 +63,15 @@ module _ {X : Type 0} (u : X → ℕ) where
         | inr (inr gt) ↦ absurd (omega arith)
       ]
 
+  -- what rises strictly rises
+  pub nondecreasing : (xs : List X) → rises_above 0 (map u xs) ≡ true → IsNonDecreasingBy u xs
+  nondecreasing xs h i j d le within =
+      elim (cases_order i j) [
+        | inr (inl lt) ↦ (let less : u (get_or xs i d) < u (get_or xs j d) = apart 0 xs h i j d lt within in omega arith)
+        | inl same ↦ subst (λ (k : ℕ). u (get_or xs k d) ≤ u (get_or xs j d)) (sym same) (omega arith)
+        | inr (inr gt) ↦ absurd (omega arith)
+      ]
+
   module _ (p : X → Bool) (n : ℕ) (only : (x : X) → p x ≡ true → u x ≡ n) where
     -- none passes where none has the number
     find_none : (xs : List X) → ((k : ℕ) (d : X) → k < length xs → u (get_or xs k d) ≡ n → ⊥) → find p xs ≡ None

@@ -7,7 +7,7 @@ ghost use Rattle.imap_view.specs.Views as spec;
 
 use imap_text::render_expunge;
 use std::alloc::{AllocError, Global};
-use undo_base::{Key, NoMemory, Places, Sequence, Text, Uids};
+use undo_base::{Key, NoMemory, Places, Sequence, Text};
 use verb_core::Entry;
 
 /// A message that a session knows.
@@ -228,18 +228,4 @@ pub fn view_of(alloc: Global, entries: &[Entry]) -> Result<View, NoMemory>
 {
     let view = all_known(alloc, entries)?;
     Ok(View::from_vec(view))
-}
-
-fn all_uids(alloc: Global, view: &[Known]) -> Result<Vec<u64>, AllocError>
-    ensures { IfOk result (λ uids. uids.items ≡ spec.uids_of view.now) }
-{
-    view.iter().map(|known| known.uid).collect(alloc)
-}
-
-/// The UIDs of a view.
-pub(crate) fn uids_of(alloc: Global, view: &View) -> Result<Uids, NoMemory>
-    ensures { IfOk result (λ uids. uids ≡ spec.uids_of view.now) }
-{
-    let uids = all_uids(alloc, view.as_slice())?;
-    Ok(Uids::from_vec(uids))
 }

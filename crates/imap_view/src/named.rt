@@ -1,22 +1,24 @@
 //! The messages that a command names.
-ghost use Rattle.std.specs.Prelude.{◌≡◌, ℕ, ◌<◌, Bool, List, Err, true, length, option_map, unwrap_or, IfOk};
+ghost use Rattle.std.specs.Prelude.{◌≡◌, ℕ, ◌<◌, List, Err, true, false, length, option_map, unwrap_or, IfOk};
 ghost use Rattle.shelf.specs.Notes.{size_of};
 ghost use Rattle.imap_stream.specs.declared.picks.SetRange.{SetRange as TheRange};
 ghost use Rattle.imap_stream.specs.Sets.{Picks};
 ghost use Rattle.imap_view.specs.Views.{entry_of, is_by_uid, is_in_order};
 ghost use Rattle.imap_view.specs.Named as spec;
 
-use crate::messages::{Known, View, find_entry, uids_of};
+use crate::messages::{Known, View, find_entry};
+use crate::picks::pick_uids;
 use imap_fetch::{Message, Messages};
-use imap_lines::{PickRefused, SetText, pick};
+use imap_lines::{PickRefused, SetText};
+use imap_stream::pick_numbers;
 use shelf::Shelf;
 use std::alloc::{AllocError, Global};
 use undo_base::{Key, Keys, NoMemory, Places};
 use verb_core::{Body, Entry};
 
-/// Why nothing is picked.
+/// Why nothing is picked by sequence number.
 fn unpicked(why: PickRefused) -> Result<Option<Places>, NoMemory>
-    ensures { IfOk result (λ places. (set : List TheRange) → (uids : List ℕ) → (by_uid : Bool) → Picks set uids by_uid (Err why) → places ≡ spec.places_by uids set by_uid) }
+    ensures { IfOk result (λ places. (set : List TheRange) → (uids : List ℕ) → Picks set uids false (Err why) → places ≡ spec.places_by uids set false) }
 {
     match why {
         PickRefused::Number { given: _ } => Ok(None),
@@ -24,7 +26,18 @@ fn unpicked(why: PickRefused) -> Result<Option<Places>, NoMemory>
     }
 }
 
-/// The places in a view of the messages that a set names; none where it names a number that the view does not have.
+/// The places in a view of the messages whose sequence numbers a set names.
+fn numbers_named(alloc: Global, view: &View, set: &SetText) -> Result<Option<Places>, NoMemory>
+    ensures { IfOk result (λ places. places ≡ spec.places_named view.now set.now false) }
+{
+    match pick_numbers(alloc, set, view.len()) {
+        Ok(places) => Ok(Some(places)),
+        Err(why) => unpicked(why),
+    }
+}
+
+/// The places in a view of the messages that a set names; none where it names a number that the view does not have. It copies
+/// nothing of the view: UIDs are found by halves, and sequence numbers are places.
 pub fn places_named(
     alloc: Global,
     view: &View,
@@ -34,10 +47,11 @@ pub fn places_named(
     requires { is_in_order view.now ≡ true }
     ensures { IfOk result (λ places. places ≡ spec.places_named view.now set.now by_uid) }
 {
-    let uids = uids_of(alloc, view)?;
-    match pick(alloc, set, &uids, by_uid) {
-        Ok(places) => Ok(Some(places)),
-        Err(why) => unpicked(why),
+    if by_uid {
+        let places = pick_uids(alloc, view.as_slice(), set.as_slice())?;
+        Ok(Some(places))
+    } else {
+        numbers_named(alloc, view, set)
     }
 }
 
