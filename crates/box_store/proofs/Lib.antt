@@ -9,3 +9,4 @@ mod Aimed
 mod GrowLaws
 pub mod SpareLaws
 mod Making
+pub mod Outlines

@@ -3,3 +3,4 @@ pub mod Effects
 pub mod Plans
 pub mod Refusing
 pub mod Making
+pub mod Outline

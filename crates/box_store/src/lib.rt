@@ -5,7 +5,7 @@
 //! `work`) does it. `live` answers what a user asks, by `refusals` and `room`. `laws` has what holds of every item.
 //! `rows` makes stores of rows that were read.
 //! Smaller: `effect` is what an effect is, `asked` what an ask names; `steps` counts, and `threads` says what may cross
-//! threads.
+//! threads. `outline` makes outlines, in which no mail lies.
 //! What carries the crate: `Store::perform` is `step`; `Store::effect`, `reserve` and `apply` are it in three parts, of
 //! which the last takes no memory; `Store::live` is `live`.
 //! `Store::from_rows` gives the valid store of the rows, or the place at which they are refused.
@@ -17,6 +17,7 @@ mod effect;
 mod laws;
 mod live;
 mod make;
+mod outline;
 mod plan;
 mod refusals;
 mod reserve;
