@@ -15,7 +15,7 @@ use Rattle.touch_rules.specs.Swapping.{sets_conf, resolved}
 use Rattle.replay_plan.specs.Placing.{Placed as WithLevel, may_have, level_behind, levels_behind, levels_by_item, levels_of, places_of, run_from, highest, least_from}
 use Rattle.replay_plan.proofs.Gathered.{places_from, highest_is_max}
 use Rattle.replay_plan.proofs.Least.{both, above, least_low, least_high, least_passes, levels_more, length_levels}
-use Rattle.replay_crew.specs.Orders.{Turn, turns, Placed, may_turn, are_apart, IsOrder, at_places, by_levels, levels_at, touches_by_turn}
+use Rattle.replay_crew.specs.Orders.{Turn, turns, Placed, may_turn, are_apart, all_apart, IsOrder, at_places, by_levels, levels_at, touches_by_turn}
 use Rattle.replay_crew.proofs.Turning.{append_assoc}
 
 -- ---- lists
@@ -24,11 +24,11 @@ append_none : {X : Type 0} (xs : List X) → xs ++ [] ≡ xs
 append_none [] = refl
 append_none (x ∷ xs) = ap (λ r. x ∷ r) (append_none xs)
 
-map_append : {X Y : Type 0} (f : X → Y) (xs ys : List X) → map f (xs ++ ys) ≡ map f xs ++ map f ys
+pub map_append : {X Y : Type 0} (f : X → Y) (xs ys : List X) → map f (xs ++ ys) ≡ map f xs ++ map f ys
 map_append f [] ys = refl
 map_append f (x ∷ xs) ys = ap (λ r. f x ∷ r) (map_append f xs ys)
 
-all_mid : {X : Type 0} (f : X → Bool) (front : List X) (x : X) (back : List X) → list_all f (front ++ x ∷ back) ≡ true → f x ≡ true
+pub all_mid : {X : Type 0} (f : X → Bool) (front : List X) (x : X) (back : List X) → list_all f (front ++ x ∷ back) ≡ true → f x ≡ true
 all_mid f [] x back h = first_so _ _ h
 all_mid f (y ∷ front) x back h = all_mid f front x back (second_so _ _ h)
 
@@ -362,11 +362,6 @@ apart_levels earlier n (t ∷ ts) few =
     let v : ℕ = level_behind earlier (touch_of t) in
     both _ _ (later_apart (n, t) v earlier [] (n + 1) ts (few_more earlier (touch_of t) few))
     (apart_levels (earlier ++ (touch_of t, v) ∷ []) (n + 1) ts (few_more earlier (touch_of t) few))
-
--- each is independent of those before it
-abbrev pub all_apart : List Placed → Bool
-all_apart [] = true
-all_apart (p ∷ ps) = list_all (λ q. are_apart p q) ps && all_apart ps
 
 apart_from : (x : Placed) (low : ℕ) (xs : List Leveled) → list_all (λ (y : Leveled). not (y.1 == low) || are_apart x y.0) xs ≡ true → list_all (λ q. are_apart x q) (map (λ (q : Leveled). q.0) (filter (λ (y : Leveled). y.1 == low) xs)) ≡ true
 apart_from x low [] h = refl

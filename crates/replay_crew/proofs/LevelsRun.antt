@@ -10,14 +10,14 @@ use Rattle.verb_core.specs.Store.{MailStore, IsValid}
 use Rattle.verb_core.specs.Step.{run, answers}
 use Rattle.verb_core.proofs.Validity.{step_with-IsValid}
 use Rattle.replay_plan.specs.Placing.{levels_of}
-use Rattle.replay_crew.specs.Orders.{turns, Placed, run_turns, told, are_apart, AllFit, IsOrder, AreWellFormed, at_places, by_levels, touches_by_turn, levels_at, run_levels, told_by_levels}
+use Rattle.replay_crew.specs.Orders.{turns, Placed, run_turns, told, are_apart, all_apart, AllFit, IsOrder, AreWellFormed, at_places, by_levels, touches_by_turn, levels_at, run_levels, told_by_levels}
 use Rattle.replay_crew.proofs.Turning.{after, answer, fit_split, turns_fit, order_store, order_told}
 use Rattle.replay_crew.proofs.OneStore.{answer_behind}
-use Rattle.replay_crew.proofs.ByLevels.{all_apart, EachApart, plan_apart, plan_order}
+use Rattle.replay_crew.proofs.ByLevels.{EachApart, plan_apart, plan_order}
 
 -- ---- turns that are joined
 
-run_join : (s : MailStore) (ps qs : List Placed) → run_turns s (ps ++ qs) ≡ run_turns (run_turns s ps) qs
+pub run_join : (s : MailStore) (ps qs : List Placed) → run_turns s (ps ++ qs) ≡ run_turns (run_turns s ps) qs
 run_join s [] qs = refl
 run_join s (p ∷ ps) qs = run_join (after s p) ps qs
 
@@ -25,23 +25,23 @@ told_join : (s : MailStore) (ps qs : List Placed) → told s (ps ++ qs) ≡ told
 told_join s [] qs = refl
 told_join s (p ∷ ps) qs = ap (λ r. (p.0, answer s p) ∷ r) (told_join (after s p) ps qs)
 
-run_house : (s : MailStore) (ps : List Placed) → (run_turns s ps).house ≡ s.house
+pub run_house : (s : MailStore) (ps : List Placed) → (run_turns s ps).house ≡ s.house
 run_house s [] = refl
 run_house s (p ∷ ps) = run_house (after s p) ps
 
-run_valid : (s : MailStore) (ps : List Placed) → IsValid s → AllFit s.house ps → IsValid (run_turns s ps)
+pub run_valid : (s : MailStore) (ps : List Placed) → IsValid s → AllFit s.house ps → IsValid (run_turns s ps)
 run_valid s [] valid fit = valid
 run_valid s (p ∷ ps) valid fit = run_valid (after s p) ps (step_with-IsValid p.1.0 s p.1.1 valid fit.0.0) fit.1
 
-fit_first : (house : House) (ps qs : List Placed) → AllFit house (ps ++ qs) → AllFit house ps
+pub fit_first : (house : House) (ps qs : List Placed) → AllFit house (ps ++ qs) → AllFit house ps
 fit_first house [] qs h = tt
 fit_first house (p ∷ ps) qs h = (h.0, fit_first house ps qs h.1)
 
-fit_rest : (house : House) (ps qs : List Placed) → AllFit house (ps ++ qs) → AllFit house qs
+pub fit_rest : (house : House) (ps qs : List Placed) → AllFit house (ps ++ qs) → AllFit house qs
 fit_rest house [] qs h = h
 fit_rest house (p ∷ ps) qs h = fit_rest house ps qs h.1
 
-fit_order : (house : House) (order all : List Placed) → IsOrder order all → AllFit house all → AllFit house order
+pub fit_order : (house : House) (order all : List Placed) → IsOrder order all → AllFit house all → AllFit house order
 fit_order house [] all o h = tt
 fit_order house (p ∷ ps) all o h =
     let split = fit_split house o.0 p o.1.0 (subst (AllFit house) o.1.1.0 h) in

@@ -3,3 +3,10 @@ pub mod ByLevels
 pub mod OneStore
 pub mod AimsHeld
 pub mod LevelsRun
+pub mod OutlineSteps
+pub mod Heard
+pub mod LevelDone
+pub mod Placed
+pub mod StoredTurns
+pub mod PlanRun
+pub mod Loops

@@ -1,5 +1,5 @@
 -- Orders of items that were resolved, and which of them may be performed in place of the timeline's.
-use Rattle.std.specs.Prelude.{◌≡◌, ℕ, Bool, not, ◌&&◌, List, [], ◌∷◌, ◌++◌, ◌==◌, map, find, filter_map, IsTrue}
+use Rattle.std.specs.Prelude.{◌≡◌, ℕ, Bool, true, not, ◌&&◌, List, [], ◌∷◌, ◌++◌, ◌==◌, map, find, filter_map, IsTrue}
 use Rattle.std.specs.List.{list_all}
 use Rattle.verb_core.specs.declared.conf.House.{House}
 use Rattle.verb_core.specs.declared.item.Item.{Item}
@@ -97,3 +97,8 @@ run_levels s (level ∷ more) = run_levels (run_turns s level) more
 abbrev pub told_by_levels : MailStore → List (List Placed) → List (ℕ × Shown)
 told_by_levels s [] = []
 told_by_levels s (level ∷ more) = map (λ (p : Placed). (p.0, (step_with p.1.0 s p.1.1).1)) level ++ told_by_levels (run_turns s level) more
+
+-- whether each is independent of those before it
+abbrev pub all_apart : List Placed → Bool
+all_apart [] = true
+all_apart (p ∷ ps) = list_all (λ q. are_apart p q) ps && all_apart ps

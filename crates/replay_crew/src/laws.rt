@@ -4,10 +4,13 @@ ghost use Rattle.std.specs.List.{enumerate_from, list_all};
 ghost use Rattle.std.specs.List.Sorted.{IsPermutation};
 ghost use Rattle.verb_core.specs.declared.item.Item.{Item};
 ghost use Rattle.verb_core.specs.Items.{IsWellFormed};
-ghost use Rattle.verb_core.specs.Step.{step_with, run, answers};
+ghost use Rattle.verb_core.specs.Aims.{sought_by};
+ghost use Rattle.verb_core.specs.Step.{step, step_with, run, answers};
 ghost use Rattle.verb_core.specs.Store.{MailStore, IsValid};
 ghost use Rattle.verb_core.specs.Touched.{touched, SameAt};
 ghost use Rattle.replay_plan.specs.Placing.{levels_of};
+ghost use Rattle.box_store.specs.Outline.{outline};
+ghost use Rattle.replay_crew.specs.Outline.{outline_after};
 ghost use Rattle.replay_crew.specs.Orders.{Placed, AreWellFormed, turns, run_turns, told, IsOrder, AllFit, AimsHold, AllAimed, are_apart, by_levels, touches_by_turn, levels_at, run_levels, told_by_levels};
 
 /// Items with the aims that each finds when its turn comes, performed in any order in which the items of each pair that is
@@ -50,4 +53,11 @@ pub fn plans_run_by_levels()
         run_levels s (levels_at (enumerate_from 0 (turns s items)) (levels_of (touches_by_turn (turns s items)))) ≡ run s items }
     ensures answers { (s : MailStore) (items : List Item) → IsValid s → AreWellFormed s.house items →
         IsPermutation (told_by_levels s (levels_at (enumerate_from 0 (turns s items)) (levels_of (touches_by_turn (turns s items))))) (enumerate_from 0 (answers s items)) }
+{}
+
+/// An outline goes on with the store by the configuration and the names alone: behind each item that is performed on it only
+/// where it changes these, it is the outline of the store. And an item aims on an outline as on the store.
+pub fn outlines_follow_names()
+    ensures goes_on { (s : MailStore) (i : Item) → outline (step s i).0 ≡ outline_after (outline s) i }
+    ensures aims { (s : MailStore) (i : Item) → sought_by (outline s) i ≡ sought_by s i }
 {}
