@@ -7,12 +7,10 @@ use Rattle.verb_core.specs.declared.item.Deed.{Deed}
 use Rattle.verb_core.specs.declared.item.Deed.TheVariants.{Deliver, Append, Fetch, Store, Copy, List as Names, Status, Select, Expunge, Close, Create, Rename, Delete, Act as Acts, Notice}
 use Rattle.verb_core.specs.declared.item.Item.{Item}
 use Rattle.verb_core.specs.declared.item.Shown.{Shown}
-use Rattle.verb_core.specs.declared.mailbox.Body.{Body}
-use Rattle.verb_core.specs.Deeds.{is_notice, with_text}
+use Rattle.verb_core.specs.Deeds.{with_text}
 use Rattle.verb_core.specs.Items.{IsWellFormed, text_in}
 use Rattle.verb_core.specs.Step.{answers, run, step}
 use Rattle.verb_core.specs.Store.{IsValid, MailStore}
-use Rattle.verb_core.specs.Texts.{BodiesTold, StaysTold}
 use Rattle.verb_core.proofs.Joins.{answers_joined, run_joined}
 use Rattle.stored_items.specs.Stored.{AllHeard, IsHeard, needs_text, step_text, stored, stored_deed, whole}
 use Rattle.stored_items.proofs.Alike.{does_with_any, does_with_text, formed_heard as one_formed, mailbox as mailbox_stored}
@@ -24,7 +22,7 @@ use Rattle.paradox.specs.Words.{told_of, verb_of}
 use Rattle.paradox.specs.declared.words.Reason.{Reason}
 use Rattle.paradox.specs.declared.words.Verb.{Verb}
 use Rattle.verb_core.specs.declared.item.Act.TheVariants.{SetAlias, DropAlias, SetFilter, DropFilter, Remove, Give}
-use Rattle.mail_cycle.specs.Hearing.{HoldsOf, StoresOf, TellsOf, body_of, heard_as}
+use Rattle.replay_crew.specs.Hearing.{heard_as}
 
 -- ---- one item
 
@@ -82,25 +80,6 @@ with_own text (Delete mailbox keys) needs is = absurd (true≢false (sym needs))
 with_own text (Acts act) needs is = absurd (true≢false (sym needs))
 with_own text (Notice user old) needs is = absurd (true≢false (sym needs))
 
--- one whose text is looked at is no notice
-pub no_notice : (d : Deed) → needs_text d ≡ true → is_notice d ≡ false
-unfolding is_notice
-no_notice (Deliver from to text) needs = refl
-no_notice (Append mailbox flags moment old) needs = refl
-no_notice (Fetch mailbox keys sets_seen shows_body) needs = refl
-no_notice (Store mailbox keys how flags) needs = refl
-no_notice (Copy mailbox keys target) needs = refl
-no_notice (Names pattern) needs = refl
-no_notice (Status mailbox) needs = refl
-no_notice (Select mailbox) needs = refl
-no_notice (Expunge mailbox keys) needs = refl
-no_notice (Close mailbox keys) needs = refl
-no_notice (Create mailbox) needs = refl
-no_notice (Rename mailbox target) needs = refl
-no_notice (Delete mailbox keys) needs = refl
-no_notice (Acts act) needs = refl
-no_notice (Notice user old) needs = absurd (true≢false (sym needs))
-
 pub is_heard : (i : Item) (text : List ℕ) → IsHeard i (heard_as i text)
 is_heard i text = by (needs_text i.deed) refl
   where
@@ -131,17 +110,6 @@ heard_own i text is = by (needs_text i.deed) refl
     by : (b : Bool) → needs_text i.deed ≡ b → cond b (whole i text) i ≡ i
     by true needs = ap (λ (d : Deed). record i { deed = d }) (with_own text i.deed needs (is needs))
     by false none = refl
-
--- ---- what is told of texts
-
-pub stays_on : (a b c : BodiesTold) → StaysTold a b → StaysTold b c → StaysTold a c
-stays_on a b c one two = record { holds = two.holds ∙ one.holds; texts = two.texts ∙ one.texts; honest = λ is. two.honest (one.honest is) }
-
-pub holds_on : (old new : BodiesTold) (i : Item) → StaysTold old new → TellsOf old i → HoldsOf new i
-holds_on old new i stays tells needs = ap (λ (holds : Body → Bool). holds (body_of i)) stays.holds ∙ (tells needs).0
-
-pub stores_on : (old new : BodiesTold) (i : Item) → StaysTold old new → TellsOf old i → old.honest → StoresOf new i
-stores_on old new i stays tells is needs = ap (λ (texts : Body → Option (List ℕ)). texts (body_of i)) stays.texts ∙ (tells needs).1 is
 
 -- ---- items in order
 

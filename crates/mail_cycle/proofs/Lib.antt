@@ -5,3 +5,5 @@ pub mod Placing
 pub mod Parts
 pub mod Lasting
 pub mod Made
+pub mod Parted
+pub mod Told

@@ -1,5 +1,5 @@
 pub mod Begun
-pub mod Hearing
+pub mod Leading
 pub mod Judging
 pub mod Cycles
 pub mod Places

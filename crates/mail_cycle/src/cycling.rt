@@ -1,25 +1,28 @@
 //! A cycle, put together.
-ghost use Rattle.std.specs.Prelude.{◌≡◌, ◌+◌, ◌-◌, ◌≤◌, ◌++◌, drop, length, take, IfOk, IsTrue, OnOk};
+ghost use Rattle.std.specs.Prelude.{◌≡◌, ℕ, ◌+◌, ◌-◌, ◌≤◌, ◌++◌, drop, length, take, IfOk, IsTrue, OnOk};
 ghost use Rattle.std.specs.List.{AllByRecursion};
 ghost use Rattle.verb_core.specs.Items.{IsWellFormed};
 ghost use Rattle.verb_core.specs.Step.{answers, run};
-ghost use Rattle.verb_core.specs.Store.{IsValid};
+ghost use Rattle.verb_core.specs.Store.{IsValid, MailStore};
 ghost use Rattle.verb_core.specs.Texts.{StaysTold};
 ghost use Rattle.stored_items.specs.Stored.{AllHeard};
 ghost use Rattle.repair_desk.specs.Repairs.{are_known, edited_at};
-ghost use Rattle.mail_cycle.specs.Cycles.{cycled_at, leaves_numbers, repaired_items};
-ghost use Rattle.mail_cycle.specs.Hearing.{Counts, TellsAll};
-ghost use Rattle.mail_cycle.specs.Leaving.{IsMadeFrom, Leaves};
+ghost use Rattle.mail_cycle.specs.Cycles.{cycled_at, cycled_from, leaves_numbers, reached_from, repaired_items};
+ghost use Rattle.mail_cycle.specs.Leaving.{IsMadeFrom, Leaves, LeavesAt};
+ghost use Rattle.replay_crew.specs.Hearing.{Counts, HoldsOf, StoresOf, TellsAll};
 
-use crate::running::{Replayed, replay};
+use crate::replaying::replay_by_levels;
+use crate::running::{Replayed, replay_in_order};
 use crate::settling::{Repairs, Rewound, settle};
 use crate::{Before, Beginning};
-use box_store::Steps;
+use box_store::{Steps, Store};
 use repair_desk::Edited;
 use std::alloc::Global;
 use std::sync::ledger::Ledger;
+use std::thread::Threads;
 use stored_items::StoredItems;
 use undo_base::{LAST_MOMENT, NoMemory};
+use undo_outside::Gate;
 use verb_bytes::CycleAsk;
 use verb_core::{Bodies, BodiesFault};
 
@@ -69,7 +72,7 @@ fn with_front(front: StoredItems, later: Replayed) -> Result<Replayed, NoMemory>
     }
 }
 
-/// Performs the items behind a beginning, and puts them behind the first ones again.
+/// Performs the items behind a beginning, one after the other, and puts them behind the first ones again.
 fn replay_behind<B: Bodies, L: Ledger>(
     alloc: Global,
     first: Beginning,
@@ -96,7 +99,14 @@ fn replay_behind<B: Bodies, L: Ledger>(
 {
     let Beginning { store, count } = first;
     match cut(items, count) {
-        Ok((front, later)) => match replay(alloc, store, bodies, later, place - count, steps) {
+        Ok((front, later)) => match replay_in_order(
+            alloc,
+            store,
+            bodies,
+            later,
+            place - count,
+            steps,
+        ) {
             Ok(made) => match with_front(front, made) {
                 Ok(made) => Ok(made),
                 Err(NoMemory) => Err(BodiesFault::NoMemory),
@@ -107,29 +117,39 @@ fn replay_behind<B: Bodies, L: Ledger>(
     }
 }
 
-/// Performs the repaired items behind a beginning, and makes the rest of what they show.
-fn run_edited<B: Bodies, L: Ledger>(
+/// A cycle at its point: the repaired items through it, as they were performed, the store that they lead to, those behind it,
+/// and what is told of the repairs.
+#[derive(Drop)]
+struct AtPoint {
+    items: StoredItems,
+    store: Store,
+    later: StoredItems,
+    repairs: Repairs,
+}
+
+/// Performs the items of a repaired timeline behind a beginning and through a place.
+fn go_to<B: Bodies, L: Ledger>(
     alloc: Global,
-    before: &Before<'_>,
     first: Beginning,
     bodies: &mut B,
-    at: u64,
-    ask: &CycleAsk,
     place: usize,
     edited: Edited,
     steps: &mut Steps<L>,
-) -> Result<Rewound, BodiesFault>
-    requires moment { at ≤ LAST_MOMENT }
-    requires numbers { IsTrue (leaves_numbers before.now ask.now) }
+) -> Result<AtPoint, BodiesFault>
     requires valid { IsValid first.store.store }
-    requires house { first.store.store.house ≡ before.now.house }
     requires few { first.count ≤ place }
-    requires place { place ≤ length before.now.timeline }
-    requires edited { edited ≡ edited_at before.now.timeline ask.now before.now.next at place }
-    requires formed { AllByRecursion (IsWellFormed before.now.house) edited.items }
+    requires place { place ≤ length edited.items }
+    requires formed { AllByRecursion (IsWellFormed first.store.store.house) edited.items }
     requires texts { TellsAll (B.told bodies.old) (drop first.count edited.items) }
-    ensures made { IfOk result (IsMadeFrom before.now at ask.now place first.store.store first.count (B.told bodies.old).honest) }
-    ensures steps { IfOk result (λ made. steps.new ≤ steps.old + (place - first.count) + length ask.now.inserts + made.report.kept + length made.report.notices) }
+    ensures heard { IfOk result (λ there. AllHeard (take place edited.items) there.items) }
+    ensures same { (B.told bodies.old).honest → IfOk result (λ there. there.items ≡ take place edited.items) }
+    ensures front { IfOk result (λ there. take first.count there.items ≡ take first.count (take place edited.items)) }
+    ensures store { IfOk result (λ there. there.store.store ≡ run first.store.store (drop first.count there.items)) }
+    ensures valid { IfOk result (λ there. IsValid there.store.store) }
+    ensures later { IfOk result (λ there. there.later ≡ drop place edited.items) }
+    ensures kept { IfOk result (λ there. there.repairs.kept ≡ edited.kept) }
+    ensures unmatched { IfOk result (λ there. there.repairs.unmatched ≡ edited.unmatched) }
+    ensures steps { OnOk result (steps.new + first.count ≡ steps.old + place) }
     ensures reads { Counts (B.told bodies.old) (B.told bodies.new) result }
     ensures stays { StaysTold (B.told bodies.old) (B.told bodies.new) }
     ensures leads { B.leads bodies.old bodies.new }
@@ -141,18 +161,145 @@ fn run_edited<B: Bodies, L: Ledger>(
         unmatched,
     } = edited;
     drop(withdrawn);
-    let replayed = replay_behind(alloc, first, bodies, place, items, steps)?;
     let repairs = Repairs { kept, unmatched };
-    match settle(alloc, before, at, ask, place, repairs, replayed, steps) {
+    match cut(items, place) {
+        Ok((front, later)) => {
+            let made = replay_behind(alloc, first, bodies, place, front, steps)?;
+            let Replayed {
+                items,
+                store,
+                shows,
+            } = made;
+            drop(shows);
+            Ok(AtPoint {
+                items,
+                store,
+                later,
+                repairs,
+            })
+        }
+        Err(NoMemory) => Err(BodiesFault::NoMemory),
+    }
+}
+
+/// Repairs the timeline, and performs its items behind a beginning and through a place.
+fn at_point<B: Bodies, L: Ledger>(
+    alloc: Global,
+    before: &Before<'_>,
+    first: Beginning,
+    bodies: &mut B,
+    at: u64,
+    ask: &CycleAsk,
+    place: usize,
+    steps: &mut Steps<L>,
+) -> Result<AtPoint, BodiesFault>
+    requires numbers { IsTrue (leaves_numbers before.now ask.now) }
+    requires acts { IsTrue (are_known before.now.house ask.now.inserts) }
+    requires valid { IsValid first.store.store }
+    requires house { first.store.store.house ≡ before.now.house }
+    requires few { first.count ≤ place }
+    requires place { place ≤ length before.now.timeline }
+    requires texts { TellsAll (B.told bodies.old) (drop first.count (repaired_items before.now at ask.now place)) }
+    ensures heard { IfOk result (λ there. AllHeard (take place (repaired_items before.now at ask.now place)) there.items) }
+    ensures same { (B.told bodies.old).honest → IfOk result (λ there. there.items ≡ take place (repaired_items before.now at ask.now place)) }
+    ensures front { IfOk result (λ there. take first.count there.items ≡ take first.count (take place (repaired_items before.now at ask.now place))) }
+    ensures store { IfOk result (λ there. there.store.store ≡ run first.store.store (drop first.count there.items)) }
+    ensures valid { IfOk result (λ there. IsValid there.store.store) }
+    ensures house { IfOk result (λ there. there.store.store.house ≡ before.now.house) }
+    ensures later { IfOk result (λ there. there.later ≡ drop place (repaired_items before.now at ask.now place)) }
+    ensures formed { IfOk result (λ there. AllByRecursion (IsWellFormed there.store.store.house) there.later) }
+    ensures held { IfOk result (λ there. AllByRecursion (HoldsOf (B.told bodies.new)) there.later) }
+    ensures stored { (B.told bodies.old).honest → IfOk result (λ there. AllByRecursion (StoresOf (B.told bodies.new)) there.later) }
+    ensures kept { IfOk result (λ there. there.repairs.kept ≡ (edited_at before.now.timeline ask.now before.now.next at place).kept) }
+    ensures unmatched { IfOk result (λ there. there.repairs.unmatched ≡ (edited_at before.now.timeline ask.now before.now.next at place).unmatched) }
+    ensures steps { OnOk result (steps.new + first.count ≡ steps.old + place) }
+    ensures reads { Counts (B.told bodies.old) (B.told bodies.new) result }
+    ensures stays { StaysTold (B.told bodies.old) (B.told bodies.new) }
+    ensures leads { B.leads bodies.old bodies.new }
+{
+    match before.repaired(alloc, ask, at, place) {
+        Ok(edited) => go_to(alloc, first, bodies, place, edited, steps),
+        Err(NoMemory) => Err(BodiesFault::NoMemory),
+    }
+}
+
+/// Puts the items behind a place, as they were replayed, behind those through it, and makes the rest of what they show.
+fn settled<L: Ledger>(
+    alloc: Global,
+    before: &Before<'_>,
+    at: u64,
+    ask: &CycleAsk,
+    place: usize,
+    repairs: Repairs,
+    front: StoredItems,
+    later: Replayed,
+    steps: &mut Steps<L>,
+) -> Result<Rewound, NoMemory>
+    requires moment { at ≤ LAST_MOMENT }
+    requires numbers { IsTrue (leaves_numbers before.now ask.now) }
+    requires place { place ≤ length before.now.timeline }
+    requires kept { repairs.kept ≡ (edited_at before.now.timeline ask.now before.now.next at place).kept }
+    requires unmatched { repairs.unmatched ≡ (edited_at before.now.timeline ask.now before.now.next at place).unmatched }
+    requires valid { IsValid later.store.store }
+    requires house { later.store.store.house ≡ before.now.house }
+    ensures made { (first : MailStore) (count : ℕ) → count ≤ place → count ≤ length (front ++ later.items) →
+        later.store.store ≡ run first (drop count (front ++ later.items)) → later.shows ≡ drop (place - count) (answers first (drop count (front ++ later.items))) →
+        IfOk result (LeavesAt (reached_from before.now at ask.now place first count (front ++ later.items)) (cycled_from before.now at ask.now place first count (front ++ later.items))) }
+    ensures steps { IfOk result (λ made. steps.new ≤ steps.old + length made.report.notices) }
+{
+    match with_front(front, later) {
+        Ok(replayed) => settle(alloc, before, at, ask, place, repairs, replayed, steps),
+        Err(NoMemory) => Err(NoMemory),
+    }
+}
+
+/// The cycle that is asked for at a moment, behind a place of the timeline, from a beginning at or before it: the repaired items
+/// behind the beginning are performed on its store, once each, those through the place one after the other, those behind it level
+/// by level on workers, the notices last. Each of their deliveries' texts is read, once, and no other text. In time that grows as
+/// these items, the mailboxes and these texts, beside copies of all items.
+pub fn cycle_from<R: Threads + Sync, G: Gate, B: Bodies, L: Ledger>(
+    rt: &R,
+    alloc: Global,
+    before: &Before<'_>,
+    first: Beginning,
+    bodies: &mut B,
+    at: u64,
+    ask: &CycleAsk,
+    place: usize,
+    gate: &G,
+    steps: &mut Steps<L>,
+) -> Result<Rewound, BodiesFault>
+    requires moment { at ≤ LAST_MOMENT }
+    requires numbers { IsTrue (leaves_numbers before.now ask.now) }
+    requires acts { IsTrue (are_known before.now.house ask.now.inserts) }
+    requires valid { IsValid first.store.store }
+    requires house { first.store.store.house ≡ before.now.house }
+    requires few { first.count ≤ place }
+    requires place { place ≤ length before.now.timeline }
+    requires texts { TellsAll (B.told bodies.old) (drop first.count (repaired_items before.now at ask.now place)) }
+    ensures made { IfOk result (IsMadeFrom before.now at ask.now place first.store.store first.count (B.told bodies.old).honest) }
+    ensures ok { (B.told bodies.old).honest → first.store.store ≡ run before.now.base (take first.count before.now.timeline) → IfOk result (Leaves before.now (cycled_at before.now at ask.now place)) }
+    ensures steps { IfOk result (λ made. steps.new ≤ steps.old + (place - first.count) + length ask.now.inserts + made.report.kept + length made.report.notices) }
+    ensures reads { Counts (B.told bodies.old) (B.told bodies.new) result }
+    ensures stays { StaysTold (B.told bodies.old) (B.told bodies.new) }
+    ensures leads { B.leads bodies.old bodies.new }
+{
+    let there = at_point(alloc, before, first, bodies, at, ask, place, steps)?;
+    let AtPoint {
+        items,
+        store,
+        later,
+        repairs,
+    } = there;
+    let later = replay_by_levels(rt, alloc, store, bodies, later, gate, steps)?;
+    match settled(alloc, before, at, ask, place, repairs, items, later, steps) {
         Ok(made) => Ok(made),
         Err(NoMemory) => Err(BodiesFault::NoMemory),
     }
 }
 
-/// The cycle that is asked for at a moment, behind a place of the timeline, from a beginning at or before it: the repaired items
-/// behind the beginning are performed on its store, once each, the notices last. Each of their deliveries' texts is read, once,
-/// and no other text. In time that grows as these items, the mailboxes and these texts, beside copies of all items.
-pub fn cycle_from<B: Bodies, L: Ledger>(
+/// The same where there are no workers: each item is performed after the other.
+pub fn cycle_in_order<B: Bodies, L: Ledger>(
     alloc: Global,
     before: &Before<'_>,
     first: Beginning,
@@ -177,8 +324,16 @@ pub fn cycle_from<B: Bodies, L: Ledger>(
     ensures stays { StaysTold (B.told bodies.old) (B.told bodies.new) }
     ensures leads { B.leads bodies.old bodies.new }
 {
-    match before.repaired(alloc, ask, at, place) {
-        Ok(edited) => run_edited(alloc, before, first, bodies, at, ask, place, edited, steps),
+    let there = at_point(alloc, before, first, bodies, at, ask, place, steps)?;
+    let AtPoint {
+        items,
+        store,
+        later,
+        repairs,
+    } = there;
+    let later = replay_in_order(alloc, store, bodies, later, 0, steps)?;
+    match settled(alloc, before, at, ask, place, repairs, items, later, steps) {
+        Ok(made) => Ok(made),
         Err(NoMemory) => Err(BodiesFault::NoMemory),
     }
 }

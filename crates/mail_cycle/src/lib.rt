@@ -3,16 +3,15 @@
 //! without their texts: those of deliveries, at which alone performing looks, are read as they are performed.
 //!
 //! `before` is what a cycle begins with, `due` says behind which place it is due, and `beginning` is a store to which the first
-//! items led. Two calls do the work, each with a contract of its own, so that each can be done in another way: `replay` (in
-//! `running`, with `rewind`, which gives the store through the point alone) performs the repaired items behind the beginning with
-//! the texts that `reading` reads, and gives the store and the answers of those from the point, and `settle` (in `settling`) makes
-//! the rest of these: `judge` finds the broken and withdrawn items, `showing` lets the broken ones show what they show now,
-//! `telling` writes to the users, `notices` makes the notices items, and `report` what is told of them. `cycle_from` (in
-//! `cycling`) is the two, one after the other. `refused` says why there is no cycle, and `laws` what holds of every one. In
-//! specs/, `Begun` and `Judging` lead up to `Cycles`, whose definitions are by what came of performing the items, from a beginning
-//! and from the first item on, over the items as they were read, and over the repaired ones, which these are where what is read is
-//! what was stored; `Hearing` says which texts are asked for; `Asking` what is due to a request, `Refusing` and `Leaving` what
-//! contracts say of its answers, and `Permanence` what a mail client may rely on that keeps mail by UID.
+//! items led. `running` performs items one after the other: `rewind` gives the store through the point alone. `replaying` replays
+//! items level by level on workers. `settle` (in `settling`) makes the rest of what replayed items show: `judge` finds the broken
+//! and withdrawn items, `showing` lets the broken ones show what they show now, `telling` writes to the users, `notices` makes the
+//! notices items, and `report` what is told of them. `cycle_from` (in `cycling`) performs the repaired items through the point one
+//! after the other, replays those behind it by levels, and settles; `cycle_in_order` is the same with no workers. `refused` says why there is no cycle, and `laws` what holds of every one. In specs/, `Begun` and
+//! `Judging` lead up to `Cycles`, whose definitions are by what came of performing the items, from a beginning and from the first
+//! item on, over the items as they were read, and over the repaired ones, which these are where what is read is what was stored;
+//! `Leading` says what rewinding leaves; `Asking` what is due to a request, `Refusing` and `Leaving` what contracts say of its
+//! answers, and `Permanence` what a mail client may rely on that keeps mail by UID.
 //! What carries the crate: `due_place` finds the place exactly where `due_anew` says so, and `cycle_from` leaves what it says,
 //! in steps that are counted from the beginning alone.
 #![tactic(auto)]
@@ -24,8 +23,8 @@ mod due;
 mod judge;
 pub mod laws;
 mod notices;
-mod reading;
 mod refused;
+mod replaying;
 mod report;
 mod running;
 mod settling;
@@ -34,14 +33,9 @@ mod telling;
 
 pub use before::Before;
 pub use beginning::{Beginning, opened};
-pub use cycling::cycle_from;
+pub use cycling::{cycle_from, cycle_in_order};
 pub use due::due_place;
-pub use reading::text_for;
 pub use refused::CycleRefused;
-pub use running::{Replayed, perform, replay, rewind};
+pub use replay_crew::Shows;
+pub use running::{Replayed, rewind};
 pub use settling::{Repairs, Rewound, settle};
-use undo_base::Sequence;
-use verb_core::Shown;
-
-/// What items show, in their order.
-pub type Shows = Sequence<Shown>;

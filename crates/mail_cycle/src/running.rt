@@ -1,5 +1,5 @@
 //! Items, performed one after the other, each delivery with its text, which is read: those through a point for the store that
-//! they lead to, those behind it for what they show too.
+//! they lead to, those behind it for what they show too, where there are no workers.
 ghost use Rattle.std.specs.Prelude.{◌≡◌, ◌+◌, ◌-◌, ◌≤◌, ◌==◌, if◌then◌else◌, [], ◌∷◌, ◌++◌, drop, length, take, IfErr, IfOk, OnOk};
 ghost use Rattle.std.specs.List.{AllByRecursion};
 ghost use Rattle.verb_core.specs.Items.{IsWellFormed};
@@ -8,11 +8,12 @@ ghost use Rattle.verb_core.specs.Store.{IsValid};
 ghost use Rattle.verb_core.specs.Texts.{StaysTold};
 ghost use Rattle.stored_items.specs.Stored.{AllHeard, IsHeard};
 ghost use Rattle.verb_core.specs.declared.bodies.BodiesFault.TheVariants.{NoMemory as no_memory};
-ghost use Rattle.mail_cycle.specs.Hearing.{Counts, HoldsOf, IsLedTo, StoresOf, TellsAll, heard_as};
+ghost use Rattle.mail_cycle.specs.Leading.{IsLedTo};
+ghost use Rattle.replay_crew.specs.Hearing.{Counts, HoldsOf, StoresOf, TellsAll, heard_as};
 
-use crate::reading::{hear, text_for};
 use crate::{Before, Shows};
 use box_store::{Steps, Store};
+use replay_crew::{hear, text_for};
 use std::alloc::Global;
 use std::sync::ledger::Ledger;
 use stored_items::{StoredItem, StoredItems};
@@ -29,7 +30,7 @@ pub struct Replayed {
 }
 
 /// Performs an item, in one step, with the text that is given beside it: what `text_for` gives.
-pub fn perform<L: Ledger>(
+fn perform<L: Ledger>(
     alloc: Global,
     store: &mut Store,
     item: &StoredItem,
@@ -105,9 +106,9 @@ fn perform_each<B: Bodies, L: Ledger>(
 ) -> Result<Shows, BodiesFault>
     requires valid { IsValid store.old.store }
     requires formed { AllByRecursion (IsWellFormed store.old.store.house) items.old.items }
-    requires texts { TellsAll (B.told bodies.old) items.old.items }
+    requires held { AllByRecursion (HoldsOf (B.told bodies.old)) items.old.items }
     ensures heard { OnOk result (AllHeard items.old.items items.new.items) }
-    ensures same { (B.told bodies.old).honest → OnOk result (items.new.items ≡ items.old.items) }
+    ensures same { (B.told bodies.old).honest → AllByRecursion (StoresOf (B.told bodies.old)) items.old.items → OnOk result (items.new.items ≡ items.old.items) }
     ensures store { OnOk result (store.new.store ≡ run store.old.store items.new.items) }
     ensures valid { OnOk result (IsValid store.new.store) }
     ensures shows { IfOk result (λ shows. shows ≡ drop front (answers store.old.store items.new.items)) }
@@ -125,9 +126,9 @@ fn perform_each<B: Bodies, L: Ledger>(
     Ok(shows)
 }
 
-/// The store that items lead to from the given one, and what each of those behind the first so many shows there. Each of them
-/// is performed once, and each delivery's text is read, once. In time that grows as these items and texts.
-pub fn replay<B: Bodies, L: Ledger>(
+/// The store that items lead to from the given one, one after the other, and what each of those behind the first so many shows
+/// there. Each of them is performed once, and each delivery's text is read, once. In time that grows as these items and texts.
+pub(crate) fn replay_in_order<B: Bodies, L: Ledger>(
     alloc: Global,
     store: Store,
     bodies: &mut B,
@@ -137,9 +138,9 @@ pub fn replay<B: Bodies, L: Ledger>(
 ) -> Result<Replayed, BodiesFault>
     requires valid { IsValid store.store }
     requires formed { AllByRecursion (IsWellFormed store.store.house) items }
-    requires texts { TellsAll (B.told bodies.old) items }
+    requires held { AllByRecursion (HoldsOf (B.told bodies.old)) items }
     ensures heard { IfOk result (λ made. AllHeard items made.items) }
-    ensures same { (B.told bodies.old).honest → IfOk result (λ made. made.items ≡ items) }
+    ensures same { (B.told bodies.old).honest → AllByRecursion (StoresOf (B.told bodies.old)) items → IfOk result (λ made. made.items ≡ items) }
     ensures store { IfOk result (λ made. made.store.store ≡ run store.store made.items) }
     ensures valid { IfOk result (λ made. IsValid made.store.store) }
     ensures shows { IfOk result (λ made. made.shows ≡ drop front (answers store.store made.items)) }
@@ -181,7 +182,7 @@ pub fn rewind<B: Bodies, L: Ledger>(
     ensures leads { B.leads bodies.old bodies.new }
 {
     match before.opened_with(alloc, place) {
-        Ok((store, items)) => match replay(alloc, store, bodies, items, place, steps) {
+        Ok((store, items)) => match replay_in_order(alloc, store, bodies, items, place, steps) {
             Ok(made) => Ok(made.store),
             Err(fault) => Err(fault),
         },

@@ -21,7 +21,7 @@ use Rattle.shelf.specs.declared.note.Note.{Note}
 use Rattle.shelf.specs.Notes.{LiesBefore, note_of}
 use Rattle.repair_desk.specs.Repairs.{inserted, is_dropped, kept, new_timeline, repaired, replaced_by, takes_text, text_asked}
 use Rattle.mail_cycle.specs.Cycles.{repaired_items}
-use Rattle.mail_cycle.specs.Hearing.{Counts, HoldsOf, StoresOf, TellsAll, TellsOf}
+use Rattle.replay_crew.specs.Hearing.{Counts, HoldsOf, StoresOf, TellsAll, TellsOf}
 use Rattle.paradox.specs.Kept.{Kept}
 use Rattle.verb_core.specs.declared.bodies.BodiesFault.{BodiesFault}
 use Rattle.verb_core.specs.declared.bodies.BodiesFault.TheVariants as bodies_faults
@@ -313,27 +313,6 @@ held_on old new held reads holds = (
 take_all : {X : Type 0} (xs : List X) → take (length xs) xs ≡ xs
 take_all [] = refl
 take_all (x ∷ xs) = ap (λ l. x ∷ l) (take_all xs)
-
--- ---- a reading goes on
-
--- what is told goes on
-pub holds_stay : (old new : BodiesTold) (i : Item) → StaysTold old new → HoldsOf old i → HoldsOf new i
-holds_stay old new i stays holds needs = ap (λ (holds : Body → Bool). holds (body_of i)) stays.holds ∙ holds needs
-
-pub stores_stay : (old new : BodiesTold) (i : Item) → StaysTold old new → StoresOf old i → StoresOf new i
-stores_stay old new i stays stores needs = ap (λ (texts : Body → Option (List ℕ)). texts (body_of i)) stays.texts ∙ stores needs
-
--- of the items behind a place, where all are told
-pub later_held : (old new : BodiesTold) (items : List Item) (place : ℕ) → StaysTold old new → TellsAll old items → AllByRecursion (HoldsOf new) (drop place items)
-later_held old new items place stays tells =
-    all_mapped (TellsOf old) (HoldsOf new) (drop place items) (λ i told. holds_stay old new i stays (λ needs. (told needs).0)) (all_dropped (TellsOf old) place items tells)
-
-pub later_stored : (old new : BodiesTold) (items : List Item) (place : ℕ) → StaysTold old new → old.honest → TellsAll old items → AllByRecursion (StoresOf new) (drop place items)
-later_stored old new items place stays honest tells =
-    all_mapped (TellsOf old) (StoresOf new) (drop place items) (λ i told. stores_stay old new i stays (λ needs. (told needs).1 honest)) (all_dropped (TellsOf old) place items tells)
-
-pub front_told : (told : BodiesTold) (items : List Item) (place : ℕ) → TellsAll told items → TellsAll told (take place items)
-front_told told items place tells = all_taken (TellsOf told) place items tells
 
 -- ---- a reading
 

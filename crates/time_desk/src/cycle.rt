@@ -315,12 +315,14 @@ fn cycle_made<D: Disk>(
 
 impl<D: Disk> Journal<D> {
     /// What the cycle leaves that is due under a new key: nothing was written.
-    fn rewound<L: Ledger>(
+    fn rewound<R: Threads + Sync, G: Gate, L: Ledger>(
         &mut self,
+        rt: &R,
         alloc: Global,
         desk: &mail_desk::Desk,
         at: u64,
         ask: &CycleAsk,
+        gate: &G,
         steps: &mut Steps<L>,
     ) -> Result<Rewound, CycleRefused>
         requires noted { NotedBefore self.old.gate desk.now.notes desk.now.kept.timeline }
@@ -339,23 +341,27 @@ impl<D: Disk> Journal<D> {
         ensures steps { IfOk result (λ made. steps.new ≤ steps.old + length made.timeline) }
     {
         rewound(
+            rt,
             alloc,
             &mut self.disk,
             self.log.last_gate(),
             desk,
             at,
             ask,
+            gate,
             steps,
         )
     }
 
     /// The same, with nothing counted.
-    fn rewound_alone(
+    fn rewound_alone<R: Threads + Sync, G: Gate>(
         &mut self,
+        rt: &R,
         alloc: Global,
         desk: &mail_desk::Desk,
         at: u64,
         ask: &CycleAsk,
+        gate: &G,
     ) -> Result<Rewound, CycleRefused>
         requires noted { NotedBefore self.old.gate desk.now.notes desk.now.kept.timeline }
         requires marked { MarkedBefore self.old.gate desk.now.marks }
@@ -366,17 +372,28 @@ impl<D: Disk> Journal<D> {
         ensures cause { RedoesCause (D.told self.old.disk) (D.told self.new.disk) result }
         ensures still { IsOnlyRead D.told self.old self.new }
     {
-        rewound_alone(alloc, &mut self.disk, self.log.last_gate(), desk, at, ask)
+        rewound_alone(
+            rt,
+            alloc,
+            &mut self.disk,
+            self.log.last_gate(),
+            desk,
+            at,
+            ask,
+            gate,
+        )
     }
 }
 
 /// Does a cycle under a new key on a desk that is not closed.
-fn cycle_open<D: Disk, L: Ledger>(
+fn cycle_open<R: Threads + Sync, G: Gate, D: Disk, L: Ledger>(
+    rt: &R,
     alloc: Global,
     journal: &mut Journal<D>,
     desk: &mut mail_desk::Desk,
     at: u64,
     ask: CycleAsk,
+    gate: &G,
     steps: &mut Steps<L>,
 ) -> Result<Report, CycleFault>
     requires moment { at ≤ LAST_MOMENT }
@@ -394,7 +411,7 @@ fn cycle_open<D: Disk, L: Ledger>(
         → OnOk result (steps.new ≤ steps.old + most_performed desk.old.kept ask due) }
     ensures steps { OnOk result (steps.new ≤ steps.old + length desk.new.kept.timeline) }
 {
-    match journal.rewound(alloc, desk, at, &ask, steps) {
+    match journal.rewound(rt, alloc, desk, at, &ask, gate, steps) {
         Ok(made) => cycle_made(alloc, journal, desk, at, ask, made),
         Err(refused) => {
             drop(ask);
@@ -404,12 +421,14 @@ fn cycle_open<D: Disk, L: Ledger>(
 }
 
 /// Does a cycle under a new key.
-fn cycle_anew<D: Disk, L: Ledger>(
+fn cycle_anew<R: Threads + Sync, G: Gate, D: Disk, L: Ledger>(
+    rt: &R,
     alloc: Global,
     journal: &mut Journal<D>,
     desk: &mut mail_desk::Desk,
     at: u64,
     ask: CycleAsk,
+    gate: &G,
     steps: &mut Steps<L>,
 ) -> Result<Report, CycleFault>
     requires moment { at ≤ LAST_MOMENT }
@@ -430,7 +449,7 @@ fn cycle_anew<D: Disk, L: Ledger>(
         drop(ask);
         return Err(CycleFault::Closed);
     }
-    cycle_open(alloc, journal, desk, at, ask, steps)
+    cycle_open(rt, alloc, journal, desk, at, ask, gate, steps)
 }
 
 impl<D: Disk> Desk<D> {
@@ -444,16 +463,17 @@ impl<D: Disk> Desk<D> {
     /// Does the cycle that is asked for, at a moment. A key that a cycle had is answered with that cycle's report, also on a
     /// closed desk, and nothing changes. Else the cycle is performed beside the desk, its one record is sealed, and what it
     /// leaves takes the place of what was kept. It begins with the newest snapshot at or before its point, and each delivery's text
-    /// behind that is read, once. At `Disk` what is kept is as before: either
+    /// behind that is read, once. The items behind the point are worked out level by level on workers, each of which passes the
+    /// gate before each item. At `Disk` what is kept is as before: either
     /// a read failed, nothing changed, and a later call may succeed; or the desk is closed from then on, and the record may be
     /// in the journal or not. In time that grows as the timeline, the mailboxes and these texts.
     pub fn cycle<R: Threads + Sync, G: Gate, L: Ledger>(
         &mut self,
-        _rt: &R,
+        rt: &R,
         alloc: Global,
         at: u64,
         ask: CycleAsk,
-        _gate: &G,
+        gate: &G,
         steps: &mut Steps<L>,
     ) -> Result<Report, CycleFault>
         requires moment { at ≤ LAST_MOMENT }
@@ -474,7 +494,16 @@ impl<D: Disk> Desk<D> {
                 drop(ask);
                 Ok(report)
             }
-            Ok(None) => cycle_anew(alloc, &mut self.journal, &mut self.desk, at, ask, steps),
+            Ok(None) => cycle_anew(
+                rt,
+                alloc,
+                &mut self.journal,
+                &mut self.desk,
+                at,
+                ask,
+                gate,
+                steps,
+            ),
             Err(NoMemory) => {
                 drop(ask);
                 Err(CycleFault::NoMemory)
@@ -485,11 +514,11 @@ impl<D: Disk> Desk<D> {
     /// The report that `cycle` would give under a new key. Nothing changes, and nothing is written. At `Disk` a read failed.
     pub fn try_cycle<R: Threads + Sync, G: Gate>(
         &mut self,
-        _rt: &R,
+        rt: &R,
         alloc: Global,
         at: u64,
         ask: &CycleAsk,
-        _gate: &G,
+        gate: &G,
     ) -> Result<Report, CycleFault>
         requires moment { at ≤ LAST_MOMENT }
         requires known { IsTrue (are_known self.old.kept.house ask.now.inserts) }
@@ -498,7 +527,10 @@ impl<D: Disk> Desk<D> {
         ensures same { OnOk result ((D.told self.new.disk).failed_reads ≡ (D.told self.old.disk).failed_reads) }
         ensures still { IsStill D.told self.old self.new }
     {
-        match self.journal.rewound_alone(alloc, &self.desk, at, ask) {
+        match self
+            .journal
+            .rewound_alone(rt, alloc, &self.desk, at, ask, gate)
+        {
             Ok(made) => Ok(report_in(made)),
             Err(refused) => Err(refused_as(refused)),
         }

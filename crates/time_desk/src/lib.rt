@@ -4,7 +4,7 @@
 //! reads one, with `standing` for the records that can stand, and `openings` has the law that an image opens in one way. `seal`
 //! seals the record of an item; `submit` and `act` take what users and the operator ask, `snapshot` keeps the store of a
 //! moment, and `cycle` does what the operator asks of the past, with `redo` for a cycle in memory and `beginning` for what it
-//! begins with; `plan` tells which later items could be done side by side; `spelling` says what has a record, and `fault` why a
+//! begins with; `again` performs a journal's cycles again; `plan` tells which later items could be done side by side; `spelling` says what has a record, and `fault` why a
 //! desk is not made, not started, an act or a cycle not done. `permanence` has the laws that no UID ever names two messages,
 //! and that each message is accounted for. In specs/, `Records` says what records leave one after the other and when one can
 //! stand, `Lasting` what contracts see of a desk, `Sealing` what a call seals and what a crash at any moment of it leaves,
@@ -16,6 +16,7 @@
 #![tactic(auto)]
 
 mod act;
+mod again;
 mod beginning;
 mod cycle;
 mod desk;

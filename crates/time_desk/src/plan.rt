@@ -1,21 +1,17 @@
 //! What the operator asks of the items later than a point: which of them could be done side by side.
-ghost use Rattle.std.specs.Prelude.{◌≡◌, ◌++◌, ◌∷◌, [], List, ◌<◌, ◌≤◌, drop, length, map, take, IfErr, IfOk, OnOk};
+ghost use Rattle.std.specs.Prelude.{◌≡◌, ◌++◌, ◌∷◌, [], List, ◌<◌, ◌≤◌, length, map, IfErr, IfOk, OnOk};
 ghost use Rattle.std.specs.List.{AllByRecursion};
 ghost use Rattle.undo_outside.specs.Moments.{OnlyReads};
-ghost use Rattle.verb_core.specs.Aims.{sought_by};
 ghost use Rattle.verb_core.specs.Items.{IsWellFormed};
-ghost use Rattle.verb_core.specs.Step.{run, step};
-ghost use Rattle.verb_core.specs.Texts.{StaysTold};
-ghost use Rattle.verb_core.specs.declared.bodies.BodiesFault.TheVariants.{NoMemory as no_memory};
+ghost use Rattle.verb_core.specs.Step.{run};
 ghost use Rattle.verb_core.specs.declared.item.Item.{Item as TheItem};
 ghost use Rattle.verb_core.specs.Store.{IsValid, MailStore};
-ghost use Rattle.stored_items.specs.Stored.{stored};
-ghost use Rattle.box_store.specs.Kept.{sought_in};
 ghost use Rattle.repair_desk.specs.Repairs.{numbers_of};
-ghost use Rattle.mail_cycle.specs.Hearing.{Counts, HoldsOf, StoresOf, TellsAll, heard_as};
 ghost use Rattle.touch_rules.specs.Table.{touches_of};
 ghost use Rattle.replay_plan.specs.Lines.{text_of_levels};
 ghost use Rattle.replay_plan.specs.Placing.{levels_of};
+ghost use Rattle.replay_crew.specs.Hearing.{Counts, HoldsOf, StoresOf, TellsAll};
+ghost use Rattle.replay_crew.specs.Resolving.{AreResolvedFrom};
 ghost use Rattle.time_desk.specs.Planning.{BodiesCause, Plans, PlansNone, plan_at, plan_from, resolved, resolved_on};
 ghost use Rattle.time_desk.specs.Reading.{IsStill};
 ghost use Rattle.time_desk.specs.Stored.{HoldsTexts, NotedBefore};
@@ -26,138 +22,28 @@ use crate::reading::Reading;
 use crate::redo::begun;
 use crate::{CycleFault, Desk};
 use box_store::{Steps, Store};
-use mail_cycle::{perform, rewind, text_for};
+use mail_cycle::rewind;
 use repair_desk::position_of;
+use replay_crew::{ResolvedList, resolve, touch_all};
 use replay_plan::laws::levels_have_places;
 use std::alloc::Global;
 use std::marker::Brand;
 use std::sync::ledger::{Blank, Ledger};
 use stored_items::StoredItem;
-use touch_rules::{TouchList, TouchSet, touches};
-use undo_base::{NoMemory, Numbers, Text};
+use undo_base::{Copies, NoMemory, Numbers, Text};
 use undo_outside::Disk;
 use verb_bytes::Replaces;
-use verb_core::{Bodies, BodiesFault, Resolved};
+use verb_core::{Bodies, BodiesFault};
 
-/// An item with the mailboxes that its mail goes to now, by the text that is given beside it.
-fn resolve(
-    alloc: Global,
-    store: &Store,
-    item: &StoredItem,
-    text: &[u8],
-) -> Result<Resolved, NoMemory>
-    requires valid { IsValid store.now.store }
-    requires formed { IsWellFormed store.now.store.house item.now }
-    ensures item { IfOk result (λ what. what.item ≡ stored item.now) }
-    ensures sought { IfOk result (λ what. sought_in what ≡ sought_by store.now.store (heard_as item.now text.now)) }
+/// Copies of items.
+fn copies(alloc: Global, items: &[StoredItem]) -> Result<Vec<StoredItem>, NoMemory>
+    ensures { IfOk result (λ copies. copies.items ≡ items.now) }
 {
-    store.aim(alloc, item.item(), text)
-}
-
-/// What an item touches now, by the text that is given beside it.
-fn touched(
-    alloc: Global,
-    store: &Store,
-    item: &StoredItem,
-    text: &[u8],
-) -> Result<TouchSet, NoMemory>
-    requires valid { IsValid store.now.store }
-    requires formed { IsWellFormed store.now.store.house item.now }
-    ensures { IfOk result (λ set. set ≡ touches_of (resolved_on store.now.store (heard_as item.now text.now))) }
-{
-    match resolve(alloc, store, item, text) {
-        Ok(what) => touches(alloc, &what),
-        Err(NoMemory) => Err(NoMemory),
-    }
-}
-
-/// What an item touches now; it is performed then.
-fn touch_with<L: Ledger>(
-    alloc: Global,
-    store: &mut Store,
-    item: &StoredItem,
-    text: &[u8],
-    steps: &mut Steps<L>,
-) -> Result<TouchSet, NoMemory>
-    requires valid { IsValid store.old.store }
-    requires formed { IsWellFormed store.old.store.house item.now }
-    ensures set { IfOk result (λ set. set ≡ touches_of (resolved_on store.old.store (heard_as item.now text.now))) }
-    ensures store { OnOk result (store.new.store ≡ (step store.old.store (heard_as item.now text.now)).0) }
-    ensures valid { OnOk result (IsValid store.new.store) }
-{
-    let set = touched(alloc, store, item, text)?;
-    match perform(alloc, store, item, text, steps) {
-        Ok(shown) => {
-            drop(shown);
-            Ok(set)
-        }
-        Err(NoMemory) => Err(NoMemory),
-    }
-}
-
-/// The same by the text that is read for it, once.
-fn touch_next<B: Bodies, L: Ledger>(
-    alloc: Global,
-    store: &mut Store,
-    bodies: &mut B,
-    item: &StoredItem,
-    steps: &mut Steps<L>,
-) -> Result<TouchSet, BodiesFault>
-    requires valid { IsValid store.old.store }
-    requires formed { IsWellFormed store.old.store.house item.now }
-    requires held { HoldsOf (B.told bodies.old) item.now }
-    ensures set { (B.told bodies.old).honest → StoresOf (B.told bodies.old) item.now
-        → IfOk result (λ set. set ≡ touches_of (resolved_on store.old.store item.now)) }
-    ensures store { (B.told bodies.old).honest → StoresOf (B.told bodies.old) item.now
-        → OnOk result (store.new.store ≡ (step store.old.store item.now).0) }
-    ensures valid { OnOk result (IsValid store.new.store) }
-    ensures house { OnOk result (store.new.store.house ≡ store.old.store.house) }
-    ensures reads { Counts (B.told bodies.old) (B.told bodies.new) result }
-    ensures stays { StaysTold (B.told bodies.old) (B.told bodies.new) }
-    ensures leads { B.leads bodies.old bodies.new }
-{
-    let text = text_for(alloc, bodies, item)?;
-    match touch_with(alloc, store, item, text.bytes(), steps) {
-        Ok(set) => Ok(set),
-        Err(NoMemory) => Err(BodiesFault::NoMemory),
-    }
-}
-
-/// Adds a set of touches.
-fn push_set(all: &mut TouchList, set: TouchSet) -> Result<(), BodiesFault>
-    ensures all { OnOk result (all.new ≡ all.old ++ set ∷ []) }
-    ensures memory { IfErr result (λ fault. fault ≡ no_memory) }
-{
-    match all.push(set) {
-        Ok(()) => Ok(()),
-        Err(NoMemory) => Err(BodiesFault::NoMemory),
-    }
-}
-
-/// What each item touches on the store that it is performed on. Each is performed once, and each delivery's text is read, once.
-fn touch_all<B: Bodies, L: Ledger>(
-    alloc: Global,
-    store: &mut Store,
-    bodies: &mut B,
-    items: &[StoredItem],
-    steps: &mut Steps<L>,
-) -> Result<TouchList, BodiesFault>
-    requires valid { IsValid store.old.store }
-    requires formed { AllByRecursion (IsWellFormed store.old.store.house) items.now }
-    requires held { AllByRecursion (HoldsOf (B.told bodies.old)) items.now }
-    ensures all { (B.told bodies.old).honest → AllByRecursion (StoresOf (B.told bodies.old)) items.now
-        → IfOk result (λ all. all ≡ map touches_of (resolved store.old.store items.now)) }
-    ensures count { IfOk result (λ all. length all ≡ length items.now) }
-    ensures reads { Counts (B.told bodies.old) (B.told bodies.new) result }
-    ensures stays { StaysTold (B.told bodies.old) (B.told bodies.new) }
-    ensures leads { B.leads bodies.old bodies.new }
-{
-    let mut all = TouchList::new(alloc);
+    let mut copies = Vec::new(alloc);
     for item in items {
-        let set = touch_next(alloc, store, bodies, item, steps)?;
-        push_set(&mut all, set)?;
+        copies.push(item.copy(alloc)?)?;
     }
-    Ok(all)
+    Ok(copies)
 }
 
 /// The numbers of items.
@@ -171,37 +57,58 @@ fn numbers(alloc: Global, items: &[StoredItem]) -> Result<Numbers, NoMemory>
     Ok(numbers)
 }
 
-/// The plan of items by what they touch.
-fn spell(alloc: Global, all: &TouchList, items: &[StoredItem]) -> Result<Text, NoMemory>
-    requires { length all.now ≡ length items.now }
-    ensures { IfOk result (λ text. text ≡ text_of_levels (levels_of all.now) (numbers_of items.now)) }
+/// The plan of items that were resolved.
+fn spell(alloc: Global, all: &ResolvedList, items: &[StoredItem]) -> Result<Text, NoMemory>
+    requires { (s : MailStore) × AreResolvedFrom s items.now all.now }
+    ensures { IfOk result (λ text. text ≡ text_of_levels (levels_of (map touches_of all.now)) (numbers_of items.now)) }
 {
     levels_have_places();
-    let levels = replay_plan::plan(alloc, all)?;
+    let touches = touch_all(alloc, all)?;
+    let levels = replay_plan::plan(alloc, &touches)?;
     let numbers = numbers(alloc, items)?;
     replay_plan::plan_text(alloc, &levels, &numbers)
 }
 
-/// The plan of items that are performed on a store.
-fn plan_items<B: Bodies, L: Ledger>(
+/// The plan of items that are to be performed on a store. Each delivery's text is read, once, and they have it then.
+fn plan_copies<B: Bodies>(
     alloc: Global,
-    store: Store,
+    store: &Store,
     bodies: &mut B,
-    items: &[StoredItem],
-    steps: &mut Steps<L>,
+    items: Vec<StoredItem>,
 ) -> Result<Text, BodiesFault>
-    requires valid { IsValid store.store }
-    requires formed { AllByRecursion (IsWellFormed store.store.house) items.now }
-    requires held { AllByRecursion (HoldsOf (B.told bodies.old)) items.now }
-    ensures text { (B.told bodies.old).honest → AllByRecursion (StoresOf (B.told bodies.old)) items.now
-        → IfOk result (λ text. text ≡ plan_from store.store items.now) }
+    requires valid { IsValid store.now.store }
+    requires formed { AllByRecursion (IsWellFormed store.now.store.house) items.items }
+    requires held { AllByRecursion (HoldsOf (B.told bodies.old)) items.items }
+    ensures text { (B.told bodies.old).honest → AllByRecursion (StoresOf (B.told bodies.old)) items.items
+        → IfOk result (λ text. text ≡ plan_from store.now.store items.items) }
     ensures reads { Counts (B.told bodies.old) (B.told bodies.new) result }
     ensures leads { B.leads bodies.old bodies.new }
 {
-    let mut store = store;
-    let all = touch_all(alloc, &mut store, bodies, items, steps)?;
-    match spell(alloc, &all, items) {
+    let mut items = items;
+    let all = resolve(alloc, store, &mut items, bodies)?;
+    match spell(alloc, &all, items.as_slice()) {
         Ok(text) => Ok(text),
+        Err(NoMemory) => Err(BodiesFault::NoMemory),
+    }
+}
+
+/// The same over copies of items.
+fn plan_items<B: Bodies>(
+    alloc: Global,
+    store: &Store,
+    bodies: &mut B,
+    items: &[StoredItem],
+) -> Result<Text, BodiesFault>
+    requires valid { IsValid store.now.store }
+    requires formed { AllByRecursion (IsWellFormed store.now.store.house) items.now }
+    requires held { AllByRecursion (HoldsOf (B.told bodies.old)) items.now }
+    ensures text { (B.told bodies.old).honest → AllByRecursion (StoresOf (B.told bodies.old)) items.now
+        → IfOk result (λ text. text ≡ plan_from store.now.store items.now) }
+    ensures reads { Counts (B.told bodies.old) (B.told bodies.new) result }
+    ensures leads { B.leads bodies.old bodies.new }
+{
+    match copies(alloc, items) {
+        Ok(copies) => plan_copies(alloc, store, bodies, copies),
         Err(NoMemory) => Err(BodiesFault::NoMemory),
     }
 }
@@ -222,13 +129,7 @@ fn plan_behind<B: Bodies, L: Ledger>(
 {
     desk.stands();
     let store = rewind(alloc, &begun(desk), bodies, place, steps)?;
-    plan_items(
-        alloc,
-        store,
-        bodies,
-        desk.all_items().split_at(place).1,
-        steps,
-    )
+    plan_items(alloc, &store, bodies, desk.all_items().split_at(place).1)
 }
 
 /// The same, with texts read in the journal that ends at a gate of a disk.

@@ -24,8 +24,9 @@ use seal_log::ReadFault;
 use std::alloc::Global;
 use std::marker::Brand;
 use std::sync::ledger::{Blank, Ledger};
+use std::thread::Threads;
 use undo_base::{LAST_MOMENT, Name, NoMemory};
-use undo_outside::Disk;
+use undo_outside::{Disk, Gate};
 use verb_bytes::CycleAsk;
 use verb_core::BodiesFault;
 
@@ -47,7 +48,8 @@ pub(crate) fn begun(desk: &Desk) -> Before<'_>
 
 /// What the cycle leaves behind a place, from a beginning on: the desk stays as it is. Texts are read in the journal that ends
 /// at a gate of a disk.
-fn rewound_from<D: Disk, L: Ledger>(
+fn rewound_from<R: Threads + Sync, G: Gate, D: Disk, L: Ledger>(
+    rt: &R,
     alloc: Global,
     disk: &mut D,
     end: u64,
@@ -56,6 +58,7 @@ fn rewound_from<D: Disk, L: Ledger>(
     at: u64,
     ask: &CycleAsk,
     place: usize,
+    gate: &G,
     steps: &mut Steps<L>,
 ) -> Result<Rewound, BodiesFault>
     requires end { end < (D.told disk.old).size }
@@ -78,6 +81,7 @@ fn rewound_from<D: Disk, L: Ledger>(
     bodies_have_texts();
     let mut bodies = Reading::of(disk, end, desk, &ask.replaces, desk.next());
     cycle_from(
+        rt,
         alloc,
         &begun(desk),
         first,
@@ -85,12 +89,14 @@ fn rewound_from<D: Disk, L: Ledger>(
         at,
         ask,
         place,
+        gate,
         steps,
     )
 }
 
 /// The same from the newest snapshot that can serve.
-fn rewound_at<D: Disk, L: Ledger>(
+fn rewound_at<R: Threads + Sync, G: Gate, D: Disk, L: Ledger>(
+    rt: &R,
     alloc: Global,
     disk: &mut D,
     end: u64,
@@ -98,6 +104,7 @@ fn rewound_at<D: Disk, L: Ledger>(
     at: u64,
     ask: &CycleAsk,
     place: usize,
+    gate: &G,
     steps: &mut Steps<L>,
 ) -> Result<Rewound, BodiesFault>
     requires end { end < (D.told disk.old).size }
@@ -119,20 +126,24 @@ fn rewound_at<D: Disk, L: Ledger>(
 {
     desk.stands();
     match beginning(alloc, disk, end, desk, place) {
-        Ok(first) => rewound_from(alloc, disk, end, desk, first, at, ask, place, steps),
+        Ok(first) => rewound_from(
+            rt, alloc, disk, end, desk, first, at, ask, place, gate, steps,
+        ),
         Err(ReadFault::Disk) => Err(BodiesFault::Failed),
         Err(ReadFault::NoMemory) => Err(BodiesFault::NoMemory),
     }
 }
 
 /// What the cycle leaves that is due under a new key.
-pub(crate) fn rewound<D: Disk, L: Ledger>(
+pub(crate) fn rewound<R: Threads + Sync, G: Gate, D: Disk, L: Ledger>(
+    rt: &R,
     alloc: Global,
     disk: &mut D,
     end: u64,
     desk: &Desk,
     at: u64,
     ask: &CycleAsk,
+    gate: &G,
     steps: &mut Steps<L>,
 ) -> Result<Rewound, CycleRefused>
     requires end { end < (D.told disk.old).size }
@@ -152,7 +163,7 @@ pub(crate) fn rewound<D: Disk, L: Ledger>(
     ensures steps { IfOk result (λ made. steps.new ≤ steps.old + length made.timeline) }
 {
     match due_place(&begun(desk), ask) {
-        Ok(place) => match rewound_at(alloc, disk, end, desk, at, ask, place, steps) {
+        Ok(place) => match rewound_at(rt, alloc, disk, end, desk, at, ask, place, gate, steps) {
             Ok(made) => Ok(made),
             Err(BodiesFault::Failed) => Err(CycleRefused::Disk),
             Err(BodiesFault::NoMemory) => Err(CycleRefused::NoMemory),
@@ -162,13 +173,15 @@ pub(crate) fn rewound<D: Disk, L: Ledger>(
 }
 
 /// The same over a counter that is made of the blank ledger.
-fn rewound_over<D: Disk, L: Ledger>(
+fn rewound_over<R: Threads + Sync, G: Gate, D: Disk, L: Ledger>(
+    rt: &R,
     alloc: Global,
     disk: &mut D,
     end: u64,
     desk: &Desk,
     at: u64,
     ask: &CycleAsk,
+    gate: &G,
     blank: Blank,
 ) -> Result<Rewound, CycleRefused>
     requires name { blank.name ≡ L.name }
@@ -187,17 +200,19 @@ fn rewound_over<D: Disk, L: Ledger>(
     ensures reads { OnlyReads (D.told disk.old) (D.told disk.new) }
 {
     let mut steps: Steps<L> = Steps::new(blank);
-    rewound(alloc, disk, end, desk, at, ask, &mut steps)
+    rewound(rt, alloc, disk, end, desk, at, ask, gate, &mut steps)
 }
 
 /// The same, with nothing counted.
-pub(crate) fn rewound_alone<D: Disk>(
+pub(crate) fn rewound_alone<R: Threads + Sync, G: Gate, D: Disk>(
+    rt: &R,
     alloc: Global,
     disk: &mut D,
     end: u64,
     desk: &Desk,
     at: u64,
     ask: &CycleAsk,
+    gate: &G,
 ) -> Result<Rewound, CycleRefused>
     requires end { end < (D.told disk.old).size }
     requires noted { NotedBefore end desk.now.notes desk.now.kept.timeline }
@@ -211,7 +226,7 @@ pub(crate) fn rewound_alone<D: Disk>(
     ensures cause { RedoesCause (D.told disk.old) (D.told disk.new) result }
     ensures reads { OnlyReads (D.told disk.old) (D.told disk.new) }
 {
-    rewound_over::<D, Brand>(alloc, disk, end, desk, at, ask, Blank::new(1))
+    rewound_over::<R, G, D, Brand>(rt, alloc, disk, end, desk, at, ask, gate, Blank::new(1))
 }
 
 /// Makes what a cycle leaves ready to be put in place, under a key.

@@ -19,8 +19,9 @@ ghost use Rattle.time_desk.specs.Standing.{Enters, IsFormed, Performs, begun, ha
 ghost use Rattle.time_desk.specs.Stored.{KeepsMarks, MarkedBefore, MarksLie, NotedBefore, NotesCycle, NotesTexts, Renotes, TextsHeld, TextsLie};
 
 use crate::act::item_of;
+use crate::again::performed_again;
 use crate::fresh::fresh_of;
-use crate::redo::{key_in, remade, rewound_alone};
+use crate::redo::{key_in, remade};
 use box_store::makes_store;
 use house_text::can_begin;
 use mail_cycle::{CycleRefused, Rewound};
@@ -363,7 +364,7 @@ fn rewind_anew<D: Disk>(
     ensures cause { ReadAtCause (D.told disk.old) (D.told disk.new) result }
 {
     desk.stands();
-    match rewound_alone(alloc, disk, end, desk, at, &ask) {
+    match performed_again(alloc, disk, end, desk, at, &ask) {
         Ok(made) => put_in_place(alloc, desk, ask, made, place),
         Err(refused) => {
             drop(ask);

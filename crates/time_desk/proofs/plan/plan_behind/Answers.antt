@@ -4,10 +4,10 @@ use Rattle.std.specs.Prelude.{IfOk}
 use Rattle.verb_core.specs.declared.item.Item.{Item}
 use Rattle.verb_core.specs.Step.{run}
 use Rattle.verb_core.specs.Store.{MailStore}
-use Rattle.mail_cycle.specs.Hearing.{StoresOf}
+use Rattle.replay_crew.specs.Hearing.{StoresOf}
 use Rattle.paradox.specs.Kept.{Kept}
 use Rattle.time_desk.specs.Planning.{plan_from}
-use Rattle.time_desk.proofs.Telling.{later_stored}
+use Rattle.mail_cycle.proofs.Told.{later_stored}
 use Rattle.time_desk.proofs.plan.plan_behind.Goals as goal
 
 -- the store is that before the items behind the place

@@ -6,7 +6,7 @@ use Rattle.time_desk.proofs.Telling.{bodies_cause, honest_as, tells_repaired_ite
 use Rattle.time_desk.proofs.redo.rewound_from.Goals as goal
 
 pub cycle_from-requires-clause-texts : goal.cycle_from-requires-clause-texts
-cycle_from-requires-clause-texts g c =
+cycle_from-requires-clause-texts g c = λ lifetimes lives.
     let r = c.of-bodies.ensures in
     tells_repaired_items g.D.Disk.told c.of-bodies.result c.args.disk.now c.args.desk.now c.args.end c.args.at c.args.ask.now c.begun.result
     r.disk.1 r.end r.desk r.replaces (r.cycle ∙ c.next.ensures) r.failed c.begun.ensures c.stands.ensures.timeline.apart c.requires.end c.requires.noted c.args.place c.args.first.count

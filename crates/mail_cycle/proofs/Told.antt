@@ -1,0 +1,65 @@
+-- What is told of the texts of items.
+use Rattle.std.proofs.Common.{◌∙◌, ℕ, zero, suc, ◌≤◌, arith, Bool, Option, ap, List, [], ◌∷◌, take, drop}
+use Rattle.std.specs.List.{AllByRecursion}
+use Rattle.verb_core.specs.declared.item.Item.{Item}
+use Rattle.verb_core.specs.declared.mailbox.Body.{Body}
+use Rattle.verb_core.specs.Texts.{BodiesTold, StaysTold}
+use Rattle.replay_crew.specs.Hearing.{HoldsOf, StoresOf, TellsAll, body_of}
+
+-- ---- while texts are read
+
+pub stays_on : (a b c : BodiesTold) → StaysTold a b → StaysTold b c → StaysTold a c
+stays_on a b c one two = record { holds = two.holds ∙ one.holds; texts = two.texts ∙ one.texts; honest = λ is. two.honest (one.honest is) }
+
+pub holds_on : (old new : BodiesTold) (i : Item) → StaysTold old new → HoldsOf old i → HoldsOf new i
+holds_on old new i stays holds needs = ap (λ (holds : Body → Bool). holds (body_of i)) stays.holds ∙ holds needs
+
+pub stores_on : (old new : BodiesTold) (i : Item) → StaysTold old new → StoresOf old i → StoresOf new i
+stores_on old new i stays stores needs = ap (λ (texts : Body → Option (List ℕ)). texts (body_of i)) stays.texts ∙ stores needs
+
+-- ---- of all items
+
+pub all_held : (told : BodiesTold) (items : List Item) → TellsAll told items → AllByRecursion (HoldsOf told) items
+all_held told [] all = tt
+all_held told (i ∷ items) all = (λ needs. (all.0 needs).0, all_held told items all.1)
+
+pub all_stored : (told : BodiesTold) (items : List Item) → told.honest → TellsAll told items → AllByRecursion (StoresOf told) items
+all_stored told [] honest all = tt
+all_stored told (i ∷ items) honest all = (λ needs. (all.0 needs).1 honest, all_stored told items honest all.1)
+
+-- of the first so many, and of those behind them once more texts were read
+pub front_told : (told : BodiesTold) (n : ℕ) (items : List Item) → TellsAll told items → TellsAll told (take n items)
+front_told told zero items all = tt
+front_told told (suc n) [] all = tt
+front_told told (suc n) (i ∷ items) all = (all.0, front_told told n items all.1)
+
+pub later_held : (old new : BodiesTold) (items : List Item) (n : ℕ) → StaysTold old new → TellsAll old items → AllByRecursion (HoldsOf new) (drop n items)
+later_held old new [] zero stays all = tt
+later_held old new (i ∷ items) zero stays all = (holds_on old new i stays (λ needs. (all.0 needs).0), later_held old new items zero stays all.1)
+later_held old new [] (suc n) stays all = tt
+later_held old new (i ∷ items) (suc n) stays all = later_held old new items n stays all.1
+
+pub later_stored : (old new : BodiesTold) (items : List Item) (n : ℕ) → StaysTold old new → old.honest → TellsAll old items → AllByRecursion (StoresOf new) (drop n items)
+later_stored old new [] zero stays honest all = tt
+later_stored old new (i ∷ items) zero stays honest all = (stores_on old new i stays (λ needs. (all.0 needs).1 honest), later_stored old new items zero stays honest all.1)
+later_stored old new [] (suc n) stays honest all = tt
+later_stored old new (i ∷ items) (suc n) stays honest all = later_stored old new items n stays honest all.1
+
+-- the same where those behind a beginning are told
+pub tells_between : (told : BodiesTold) (count place : ℕ) (items : List Item) → TellsAll told (drop count items) → TellsAll told (drop count (take place items))
+tells_between told zero place items all = front_told told place items all
+tells_between told (suc count) zero items all = tt
+tells_between told (suc count) (suc place) [] all = tt
+tells_between told (suc count) (suc place) (i ∷ items) all = tells_between told count place items all
+
+pub behind_held : (old new : BodiesTold) (count place : ℕ) (items : List Item) → count ≤ place → StaysTold old new → TellsAll old (drop count items) → AllByRecursion (HoldsOf new) (drop place items)
+behind_held old new zero place items few stays all = later_held old new items place stays all
+behind_held old new (suc count) zero items few stays all = absurd (omega arith)
+behind_held old new (suc count) (suc place) [] few stays all = tt
+behind_held old new (suc count) (suc place) (i ∷ items) few stays all = behind_held old new count place items (omega arith) stays all
+
+pub behind_stored : (old new : BodiesTold) (count place : ℕ) (items : List Item) → count ≤ place → StaysTold old new → old.honest → TellsAll old (drop count items) → AllByRecursion (StoresOf new) (drop place items)
+behind_stored old new zero place items few stays honest all = later_stored old new items place stays honest all
+behind_stored old new (suc count) zero items few stays honest all = absurd (omega arith)
+behind_stored old new (suc count) (suc place) [] few stays honest all = tt
+behind_stored old new (suc count) (suc place) (i ∷ items) few stays honest all = behind_stored old new count place items (omega arith) stays honest all
