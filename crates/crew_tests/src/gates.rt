@@ -1,0 +1,103 @@
+//! Gates that hold an item, and that note which passed.
+use std::alloc::Global;
+use std::sync::atomic::{AtomicBool, AtomicU32, Ordering};
+use std::test::Fail;
+use std::thread;
+use undo_outside::Gate;
+
+/// For how many turns an item is held at most.
+const TURNS: u32 = 10_000_000;
+
+/// Waits until it is set, for so many turns at most: whether it was.
+fn wait_for(set: &AtomicBool) -> bool {
+    for _ in 0..TURNS {
+        if set.load(Ordering::SeqCst) {
+            return true;
+        }
+        thread::yield_now();
+    }
+    false
+}
+
+/// Holds item 2 until item 3 has passed. Item 3 passes once item 2 is held, so that it doesn't come first.
+#[derive(Drop)]
+pub(crate) struct Holding {
+    held: AtomicBool,
+    passed: AtomicBool,
+    seen: AtomicBool,
+}
+
+impl Holding {
+    pub(crate) fn new() -> Holding {
+        Holding {
+            held: AtomicBool::new(false),
+            passed: AtomicBool::new(false),
+            seen: AtomicBool::new(false),
+        }
+    }
+
+    /// Item 2 waits, if item 3 hasn't passed yet.
+    fn hold(&self) {
+        if self.passed.load(Ordering::SeqCst) {
+            return;
+        }
+        self.held.store(true, Ordering::SeqCst);
+        if wait_for(&self.passed) {
+            self.seen.store(true, Ordering::SeqCst);
+        }
+    }
+
+    /// Item 3 passes.
+    fn let_pass(&self) {
+        wait_for(&self.held);
+        self.passed.store(true, Ordering::SeqCst);
+    }
+
+    /// Whether item 2 was held and then saw item 3 pass.
+    pub(crate) fn held_and_saw(&self) -> bool {
+        self.held.load(Ordering::SeqCst) && self.seen.load(Ordering::SeqCst)
+    }
+}
+
+impl Gate for Holding {
+    fn pass(&self, number: u32) {
+        match number {
+            2 => self.hold(),
+            3 => self.let_pass(),
+            _ => {}
+        }
+    }
+}
+
+/// Counts how often each item passes.
+#[derive(Drop)]
+pub(crate) struct Counting {
+    counts: Vec<AtomicU32>,
+}
+
+impl Counting {
+    /// For items whose numbers are below the given one.
+    pub(crate) fn new(alloc: Global, end: u32) -> Result<Counting, Fail> {
+        let mut counts = Vec::new(alloc);
+        for _ in 0..end {
+            counts.push(AtomicU32::new(0))?;
+        }
+        Ok(Counting { counts })
+    }
+
+    /// How often the item of a number passed.
+    pub(crate) fn count(&self, number: u32) -> u32 {
+        match self.counts.get(number as usize) {
+            Some(count) => count.load(Ordering::SeqCst),
+            None => 0,
+        }
+    }
+}
+
+impl Gate for Counting {
+    fn pass(&self, number: u32) {
+        if let Some(count) = self.counts.get(number as usize) {
+            count.fetch_add(1, Ordering::SeqCst);
+        }
+    }
+}
