@@ -1,12 +1,13 @@
 -- What the code does for an event is what the machine does.
 use Rattle.std.specs.Prelude.{if◌then◌else◌}
-use Rattle.std.proofs.Common.{◌≡◌, ◌&&◌, ℕ, Bool, true, false, nat_le, not, List, [], ◌∷◌, None, Some, Option, Result, Ok, Err, IfOk, IfErr, inl, inr, refl, ap, subst, sym, ◌∙◌}
+use Rattle.std.proofs.Common.{◌≡◌, ◌&&◌, ℕ, min, Bool, true, false, nat_le, not, List, [], ◌∷◌, None, Some, Option, Result, Ok, Err, IfOk, IfErr, inl, inr, refl, ap, subst, sym, ◌∙◌}
 use Rattle.std.specs.Ordering.{nat_cmp}
 use Rattle.std.specs.Map.{lookup, remove_entry, set_value}
 use Rattle.std.specs.BTreeMap.{is_at}
 use Rattle.undo_base.specs.declared.memory.NoMemory.{NoMemory as WantOfMemory}
 use Rattle.undo_outside.specs.declared.event.Event.{Event}
 use Rattle.undo_outside.specs.declared.event.What.{What}
+use Rattle.undo_outside.specs.declared.event.What.TheVariants.{Joined, Bytes, Left, Idle, End}
 use Rattle.verb_core.specs.Names.{is_empty}
 use Rattle.undo_outside.specs.Calls.{LinkTold}
 use Rattle.console_head.specs.Request.{Stage}
@@ -18,7 +19,7 @@ use Rattle.time_desk.specs.Reading.{Reads, none_read}
 use Rattle.time_desk.specs.Records.{snapshot_record}
 use Rattle.mail_loop.specs.State.{Seat, State}
 use Rattle.mail_loop.specs.Hindrance.{Hindrance}
-use Rattle.mail_loop.specs.Machine.{Seats, Delivery, Keeping, IsKept, IsPassed, IsUnkept, Outcome, told_others, ignored, unfed, with_reply, Hindrances, Reply, Answered, answered, hears_at, seat_at, seated, after_reply, delivered, happens, is_end, is_snapshot_due, outcome, with_snapshot}
+use Rattle.mail_loop.specs.Machine.{Seats, Delivery, Keeping, IsKept, IsPassed, IsUnkept, Outcome, told_others, ignored, unfed, with_reply, Hindrances, Reply, Answered, answered, answers, hears_at, seat_at, seated, after_reply, delivered, happens, is_end, is_snapshot_due, outcome, with_snapshot}
 use Rattle.mail_loop.specs.Stands.{reply_of}
 use Rattle.mail_loop.specs.Took.{seat_left}
 use Rattle.mail_loop.specs.Did.{AreLicensed, Sends, Leads, Answers, kept_by, unclosed_by, unkept_by}
@@ -94,11 +95,12 @@ going_answers {T} S a kept seats view of stops letters (Err e) ok err answers =
     let x = subst (λ (l : Result T WantOfMemory). Answers S a kept seats view (λ _. false) l) err answers in (x.0, x.1, x.2)
 
 -- memory was wanted before a string was sent
-pub leads_starved : (S : List JournalRecord → Reads → Type 0) (told : LinkTold) (s : State) (event : Event) (b : Bool) (hs : List Hindrance) (stage : Stage) (kept : Kept) (seats : Seats) (w : WantOfMemory) (result : Result Bool WantOfMemory)
+pub leads_starved : (S : List JournalRecord → Reads → Type 0) (W : Hindrances → Type 0) (told : LinkTold) (s : State) (event : Event) (b : Bool) (hs : List Hindrance) (stage : Stage) (kept : Kept) (seats : Seats) (w : WantOfMemory) (result : Result Bool WantOfMemory)
     → result ≡ Err w → kept ≡ (answered b hs stage s event).state.kept → (answered b hs stage s event).unsealed ≡ [] → kept ≡ s.kept
     → S (answered b hs stage s event).unsealed (answered b hs stage s event).reads → AreSaid (answered b hs stage s event).consoles.readings
-    → (h : Hindrances) × (unclosed : ℕ) × AreLicensed h.deliveries unclosed told told × Leads S unclosed h.keeping s.kept (happens h s event) told told kept seats result
-leads_starved S told s event b hs stage kept seats w result starved same none undone seals said =
+    → ((ds : List Delivery) (k : Keeping) → W (record { unfed = b; turns = hs; stage = stage; deliveries = ds; keeping = k }))
+    → (h : Hindrances) × (unclosed : ℕ) × AreLicensed h.deliveries unclosed told told × Leads S unclosed h.keeping s.kept (happens h s event) told told kept seats result × W h
+leads_starved S W told s event b hs stage kept seats w result starved same none undone seals said goes =
     let h : Hindrances = record { unfed = b; turns = hs; stage = stage; deliveries = []; keeping = IsPassed } in (
       h,
       0,
@@ -112,6 +114,7 @@ leads_starved S told s event b hs stage kept seats w result starved same none un
         seals = seals;
         read = said;
       }),
+      goes [] IsPassed,
     )
 
 -- ---- the snapshot after the strings
@@ -123,13 +126,13 @@ snapped IsPassed true o = o
 snapped IsUnkept true o = record o { unsealed = snapshot_record o.state.kept ∷ [] }
 snapped k false o = o
 
-snapped_is : (k : Keeping) (what : What) (o : Outcome) (due : Bool) → is_snapshot_due what o ≡ due → with_snapshot k what o ≡ snapped k due o
-snapped_is IsKept what o true e = rw e refl
-snapped_is IsPassed what o true e = refl
-snapped_is IsUnkept what o true e = rw e refl
-snapped_is IsKept what o false e = rw e refl
-snapped_is IsPassed what o false e = refl
-snapped_is IsUnkept what o false e = rw e refl
+snapped_is : (k : Keeping) (o : Outcome) (due : Bool) → is_snapshot_due o ≡ due → with_snapshot k o ≡ snapped k due o
+snapped_is IsKept o true e = rw e refl
+snapped_is IsPassed o true e = refl
+snapped_is IsUnkept o true e = rw e refl
+snapped_is IsKept o false e = rw e refl
+snapped_is IsPassed o false e = refl
+snapped_is IsUnkept o false e = rw e refl
 
 -- an event led to this before its snapshot, and to this with it
 leads_snapped : (S T : List JournalRecord → Reads → Type 0) (n : ℕ) (before : Kept) (o : Outcome) (old new : LinkTold) (mid after : Kept) (seats : Seats) (stops : Bool) (k : Keeping) (due : Bool)
@@ -176,30 +179,69 @@ empty_none : (xs : List JournalRecord) (t : Bool) → (is_empty xs && t) ≡ tru
 empty_none [] t e = refl
 empty_none (x ∷ xs) t e = absurd (let wrong : false ≡ true = e in cc)
 
-due_as : (what : What) (o : Outcome) → is_end what ≡ false → is_snapshot_due what o ≡ (is_empty o.unsealed && nat_le 1024 o.state.kept.marks.since)
-due_as what o e = rw e refl
-
 -- an event was answered, its strings were sent, and the snapshot that is due was taken or not
-pub leads_on : (S T : List JournalRecord → Reads → Type 0) (old new : LinkTold) (s : State) (event : Event) (b : Bool) (hs : List Hindrance) (stage : Stage) (mid after : Kept) (seats' : Seats) (stops : Bool)
+pub leads_on : (S T : List JournalRecord → Reads → Type 0) (W : Hindrances → Type 0) (old new : LinkTold) (s : State) (event : Event) (b : Bool) (hs : List Hindrance) (stage : Stage) (mid after : Kept) (seats' : Seats) (stops : Bool)
     (k : Keeping) (due : Bool)
-    → is_end event.what ≡ false
     → (ds : List Delivery) × AreLicensed ds 0 old new
     × Leads T 0 IsPassed s.kept (outcome (answered b hs stage s event) (delivered ds (answered b hs stage s event).state.seats (answered b hs stage s event).replies)) old new mid seats' (Ok stops)
     → (is_empty (answered b hs stage s event).unsealed && nat_le 1024 (answered b hs stage s event).state.kept.marks.since) ≡ due
     → after ≡ (if due then kept_by k mid else mid) → S (if due then unkept_by k mid else (answered b hs stage s event).unsealed) (answered b hs stage s event).reads
-    → (h : Hindrances) × (unclosed : ℕ) × AreLicensed h.deliveries unclosed old new × Leads S unclosed h.keeping s.kept (happens h s event) old new after seats' (Ok stops)
-leads_on S T old new s event b hs stage mid after seats' stops k due goes (ds, licensed, leads) is_due kept seals =
+    → ((ds : List Delivery) (k : Keeping) → W (record { unfed = b; turns = hs; stage = stage; deliveries = ds; keeping = k }))
+    → (h : Hindrances) × (unclosed : ℕ) × AreLicensed h.deliveries unclosed old new × Leads S unclosed h.keeping s.kept (happens h s event) old new after seats' (Ok stops) × W h
+leads_on S T W old new s event b hs stage mid after seats' stops k due (ds, licensed, leads) is_due kept seals goes =
     let h : Hindrances = record { unfed = b; turns = hs; stage = stage; deliveries = ds; keeping = k } in
     let a = answered b hs stage s event in
     let o = outcome a (delivered ds a.state.seats a.replies) in
-    let here = snapped_is k event.what o due (due_as event.what o goes ∙ is_due) in (
+    let here = snapped_is k o due is_due in (
       h,
       0,
       licensed,
       subst (λ (q : Outcome). Leads S 0 k s.kept q old new after seats' (Ok stops)) (sym here)
           (leads_snapped S T 0 s.kept o old new mid after seats' stops k due leads kept seals
           (λ e. empty_none a.unsealed (nat_le 1024 a.state.kept.marks.since) (is_due ∙ e))),
+      goes ds k,
     )
+
+-- ---- the end
+
+-- the end changes nothing
+pub end_ignored : (s : State) (event : Event) → is_end event.what ≡ true → answered false [] (Ok None) s event ≡ ignored s
+end_ignored s event = by_what event.what
+  where
+    by_what : (what : What) → is_end what ≡ true → answers what false [] (Ok None) (min event.at 253402300799) s event.conn ≡ ignored s
+    by_what End e = refl
+    by_what (Joined role) e = absurd (let wrong : false ≡ true = e in cc)
+    by_what (Bytes bytes) e = absurd (let wrong : false ≡ true = e in cc)
+    by_what Left e = absurd (let wrong : false ≡ true = e in cc)
+    by_what Idle e = absurd (let wrong : false ≡ true = e in cc)
+
+-- the end came, and the snapshot that is due was taken or not
+pub leads_end : (S T : List JournalRecord → Reads → Type 0) (W : Hindrances → Type 0) (told : LinkTold) (s : State) (event : Event) (after : Kept) (k : Keeping) (due : Bool)
+    → is_end event.what ≡ true → nat_le 1024 s.kept.marks.since ≡ due → after ≡ (if due then kept_by k s.kept else s.kept)
+    → S (if due then unkept_by k s.kept else []) none_read → T [] none_read
+    → ((ds : List Delivery) (k : Keeping) → W (record { unfed = false; turns = []; stage = Ok None; deliveries = ds; keeping = k }))
+    → (h : Hindrances) × (unclosed : ℕ) × AreLicensed h.deliveries unclosed told told × Leads S unclosed h.keeping s.kept (happens h s event) told told after s.seats (Ok false) × W h
+leads_end S T W told s event after k due ends is_due kept seals none goes =
+    let is = sym (end_ignored s event ends) in
+    leads_on S T W told told s event false [] (Ok None) s.kept after s.seats false k due (
+      [],
+      none_licensed told told refl refl,
+      subst (λ (a : Answered). Leads T 0 IsPassed s.kept (outcome a (delivered [] a.state.seats a.replies)) told told s.kept s.seats (Ok false)) is (record {
+        did = record { notes = []; goes = goes_none told; whole = refl };
+        kept_is = refl;
+        seats_are = (refl, refl);
+        closed = refl;
+        passed = tt;
+        seals = none;
+        read = tt;
+      }),
+    )
+    (subst (λ (a : Answered). (is_empty a.unsealed && nat_le 1024 a.state.kept.marks.since) ≡ due) is is_due)
+    kept
+    (subst (λ (a : Answered). S (if due then unkept_by k s.kept else a.unsealed) a.reads) is seals)
+    goes
+
+-- ---- strings
 
 -- an event was answered, and its strings were sent
 pub leads_by : (S : List JournalRecord → Reads → Type 0) (old new : LinkTold) (s : State) (event : Event) (b : Bool) (hs : List Hindrance) (stage : Stage) (kept : Kept) (seats seats' : Seats) (rs : List Reply)
@@ -229,13 +271,14 @@ leads_by S old new s event b hs stage kept seats seats' rs stops sent x same ope
     )
 
 -- an event was answered, and memory was wanted for its strings
-pub leads_cut : (S : List JournalRecord → Reads → Type 0) (old new : LinkTold) (s : State) (event : Event) (b : Bool) (hs : List Hindrance) (stage : Stage) (kept : Kept) (seats seats' : Seats) (rs : List Reply)
+pub leads_cut : (S : List JournalRecord → Reads → Type 0) (W : Hindrances → Type 0) (old new : LinkTold) (s : State) (event : Event) (b : Bool) (hs : List Hindrance) (stage : Stage) (kept : Kept) (seats seats' : Seats) (rs : List Reply)
     (sent : Result (Unit {0}) WantOfMemory) (w v : WantOfMemory)
     → kept ≡ (answered b hs stage s event).state.kept → seats ≡ (answered b hs stage s event).state.seats → rs ≡ (answered b hs stage s event).replies
     → (ds : List Delivery) × AreLicensed ds (unclosed_by sent) old new × Sends (delivered ds seats rs) old new seats' sent → sent ≡ Err w
     → S (answered b hs stage s event).unsealed (answered b hs stage s event).reads → AreSaid (answered b hs stage s event).consoles.readings
-    → (h : Hindrances) × (unclosed : ℕ) × AreLicensed h.deliveries unclosed old new × Leads S unclosed h.keeping s.kept (happens h s event) old new kept seats' (Err v)
-leads_cut S old new s event b hs stage kept seats seats' rs sent w v same open' replies (ds, licensed, sends) bad seals said =
+    → ((ds : List Delivery) (k : Keeping) → W (record { unfed = b; turns = hs; stage = stage; deliveries = ds; keeping = k }))
+    → (h : Hindrances) × (unclosed : ℕ) × AreLicensed h.deliveries unclosed old new × Leads S unclosed h.keeping s.kept (happens h s event) old new kept seats' (Err v) × W h
+leads_cut S W old new s event b hs stage kept seats seats' rs sent w v same open' replies (ds, licensed, sends) bad seals said goes =
     let h : Hindrances = record { unfed = b; turns = hs; stage = stage; deliveries = ds; keeping = IsPassed } in
     let a = answered b hs stage s event in
     let out : Sends (delivered ds a.state.seats a.replies) old new seats' (Err w) =
@@ -253,4 +296,5 @@ leads_cut S old new s event b hs stage kept seats seats' rs sent w v same open' 
         seals = seals;
         read = said;
       },
+      goes ds IsPassed,
     )

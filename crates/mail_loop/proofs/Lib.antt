@@ -10,6 +10,7 @@ pub mod ConsoleTurns
 pub mod Seats
 pub mod Events
 pub mod Runs
+pub mod Courses
 pub mod Placing
 pub mod Sealed
 pub mod Joining

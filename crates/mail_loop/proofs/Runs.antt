@@ -4,8 +4,6 @@ use Rattle.std.specs.List.{AllByRecursion}
 use Rattle.std.proofs.lemmas.List.{append-nil, append_assoc, length-append}
 use Rattle.undo_base.specs.declared.memory.NoMemory.{NoMemory as WantOfMemory}
 use Rattle.undo_outside.specs.declared.event.Event.{Event}
-use Rattle.undo_outside.specs.declared.event.What.{What}
-use Rattle.undo_outside.specs.declared.event.What.TheVariants.{Joined, Bytes, Left, Idle, End}
 use Rattle.undo_outside.specs.declared.event.LinkNote.{LinkNote}
 use Rattle.undo_outside.specs.declared.event.LinkNote.TheVariants.{Came}
 use Rattle.undo_outside.specs.declared.fault.Fault.TheVariants.{Failed, NoMemory as NoneForNext}
@@ -17,9 +15,9 @@ use Rattle.time_desk.specs.Reading.{Reads, both_read, none_read}
 use Rattle.paradox.specs.Kept.{Kept}
 use Rattle.mail_loop.specs.State.{State}
 use Rattle.mail_loop.specs.ConsoleTurn.{AreSaid, Reading, both, no_consoles}
-use Rattle.mail_loop.specs.Machine.{Seats, Hindrances, Keeping, IsPassed, Outcome, outcome, delivered, happens, answers, ignored, is_end}
+use Rattle.mail_loop.specs.Machine.{Seats, Hindrances, Keeping, IsPassed, Outcome, happens, is_end}
 use Rattle.mail_loop.specs.Did.{Counted, RoseBy, AreLicensed, Goes, Leads, StopsAtClose, WantsIn, left_out_of, missed_of}
-use Rattle.mail_loop.specs.Serving.{Step, after_notes, run, at_first, NoEnd, missed_in, ComeInOrder, events_of, readings_in, reads_in, stopped_in, unsealed_in, left_out_in, CountsFaults, IsCutAtClose, IsLeftStarved, IsLeftUnsealed, Serves, Served, ServedOver}
+use Rattle.mail_loop.specs.Serving.{Step, after_notes, run, at_first, NoEnd, missed_in, ComeInOrder, events_of, readings_in, reads_in, stopped_in, unsealed_in, left_out_in, CountsFaults, IsCutAtClose, IsLeftStarved, IsLeftUnsealed, Serves, Served, ServedOver, ended_as}
 use Rattle.mail_loop.proofs.Sealed.{no_more, none_before, reads_regroup}
 use Rattle.mail_loop.proofs.Links.{counted_add, counted_one, goes_none, none_licensed, then_told-nil, then_told-append, rose_add}
 
@@ -92,10 +90,10 @@ left_out_more : (steps : List Step) (step : Step) → left_out_in (steps ++ step
 left_out_more [] step = omega arith
 left_out_more (s ∷ steps) step = let more = left_out_more steps step in omega arith
 
--- serving ended so; T holds of the record whose sealing failed, and of what was not read
-abbrev pub Ran : (List JournalRecord → Reads → Type 0) → ℕ → LinkTold → LinkTold → Kept → Kept → Result (Unit {0}) ServeFault → Type 0
-Ran T limit old new kept kept' result =
-    (steps : List Step) × (notes : List LinkNote) × ServedOver limit steps notes old new kept kept' result × T (unsealed_in steps kept) (reads_in steps kept)
+-- serving ended so; T holds of the record whose sealing failed, and of what was not read, and C of the steps
+abbrev pub Ran : (List JournalRecord → Reads → Type 0) → (List Step → Type 0) → ℕ → LinkTold → LinkTold → Kept → Kept → Result (Unit {0}) ServeFault → Type 0
+Ran T C limit old new kept kept' result =
+    (steps : List Step) × (notes : List LinkNote) × ServedOver limit steps notes old new kept kept' result × T (unsealed_in steps kept) (reads_in steps kept) × C steps
 
 -- What the link did and counted over these steps. So many calls more found no memory than there are strings left out.
 pub record Done (wants : ℕ) (old new : LinkTold) (steps : List Step) (notes : List LinkNote) : Type 0 where
@@ -130,10 +128,11 @@ pub record SoServed (turns : ℕ) (old new : LinkTold) (kept : Kept) (state : St
   pub said : AreSaid readings
   pub done : Done 0 old new steps notes
 
--- the same, and S holds of what was not read
-pub record SoSealed (S : List JournalRecord → Reads → Type 0) (turns : ℕ) (old new : LinkTold) (kept : Kept) (state : State) : Type 0 where
+-- the same, and S holds of what was not read, and C of the steps
+pub record SoSealed (S : List JournalRecord → Reads → Type 0) (C : List Step → Type 0) (turns : ℕ) (old new : LinkTold) (kept : Kept) (state : State) : Type 0 where
   pub served : SoServed turns old new kept state
   pub seals : S [] served.reads
+  pub course : C served.steps
 
 -- none failed
 abbrev pub Only : (List JournalRecord → Reads → Type 0) → Type 0
@@ -147,9 +146,14 @@ Fails S = (failed : List JournalRecord) (reads : Reads) → S failed reads → f
 abbrev pub Chains : (List JournalRecord → Reads → Type 0) → (List JournalRecord → Reads → Type 0) → (List JournalRecord → Reads → Type 0) → Type 0
 Chains S T U = (failed : List JournalRecord) (r q : Reads) → S [] r → T failed q → U failed (both_read r q)
 
-pub so_served_none : (S : List JournalRecord → Reads → Type 0) (told : LinkTold) (kept : Kept) (seats : Seats) → seats ≡ [] → S [] none_read
-    → SoSealed S 0 told told kept (record { kept = kept; seats = seats })
-so_served_none S told kept seats none seals = record {
+-- C of steps, behind which the machine has this state, and then W of what hinders an event, which leaves this, is E of all
+abbrev pub Extends : (List Step → Type 0) → (Hindrances → Type 0) → (List Step → Type 0) → Kept → State → Event → Kept → Type 0
+Extends C W E first s event after =
+    (steps : List Step) (h : Hindrances) → C steps → (run steps (at_first first)).state ≡ s → after ≡ (happens h s event).state.kept → W h → E (steps ++ record { event = event; hindrances = h } ∷ [])
+
+pub so_served_none : (S : List JournalRecord → Reads → Type 0) (C : List Step → Type 0) (told : LinkTold) (kept : Kept) (seats : Seats) → seats ≡ [] → S [] none_read → C []
+    → SoSealed S C 0 told told kept (record { kept = kept; seats = seats })
+so_served_none S C told kept seats none seals course = record {
   served = record {
     steps = [];
     notes = [];
@@ -162,6 +166,7 @@ so_served_none S told kept seats none seals = record {
     done = done_none told;
   };
   seals = seals;
+  course = course;
 }
 
 -- the log after an event and what the link did for it
@@ -267,10 +272,10 @@ here_is : (turns : ℕ) (old mid : LinkTold) (kept : Kept) (s : State) (step : S
 here_is turns old mid kept s step so = ap (λ (q : Outcome). happens step.hindrances q.state step.event) so.leaves
 
 -- serving ended after these steps
-ended_over : (T : List JournalRecord → Reads → Type 0) (limit wants : ℕ) (old new : LinkTold) (kept kept' : Kept) (steps : List Step) (notes : List LinkNote) (result : Result (Unit {0}) ServeFault)
+ended_over : (T : List JournalRecord → Reads → Type 0) (C : List Step → Type 0) (limit wants : ℕ) (old new : LinkTold) (kept kept' : Kept) (steps : List Step) (notes : List LinkNote) (result : Result (Unit {0}) ServeFault)
     → Done wants old new steps notes → Served limit wants steps kept notes kept' result → (wants ≡ 1 → new.starved_last ≡ true) → CountsFaults result old new
-    → AreSaid (readings_in steps kept) → T (unsealed_in steps kept) (reads_in steps kept) → Ran T limit old new kept kept' result
-ended_over T limit wants old new kept kept' steps notes result done served last faults read seals = (
+    → AreSaid (readings_in steps kept) → T (unsealed_in steps kept) (reads_in steps kept) → C steps → Ran T C limit old new kept kept' result
+ended_over T C limit wants old new kept kept' steps notes result done served last faults read seals course = (
   steps,
   notes,
   record {
@@ -286,19 +291,24 @@ ended_over T limit wants old new kept kept' steps notes result done served last 
     read = read;
   },
   seals,
+  course,
 )
 
 -- no call of `next` or `close` found no memory
 none_wanted : (b : Bool) → ◌≡◌ {A = ℕ} 0 1 → b ≡ true
 none_wanted b e = absurd (let wrong : ◌≡◌ {A = ℕ} 0 1 = e in cc)
 
+-- the state behind the steps so far
+so_state : (turns : ℕ) (old new : LinkTold) (kept : Kept) (s : State) → (so : SoServed turns old new kept s) → (run so.steps (at_first kept)).state ≡ s
+so_state turns old new kept s so = ap (λ (o : Outcome). o.state) so.leaves
+
 -- one step more
-pub so_more : (S T U : List JournalRecord → Reads → Type 0) (turns : ℕ) (old mid got new : LinkTold) (kept after : Kept) (s : State) (seats : Seats) (event : Event) (r : Result Bool WantOfMemory) (b : Bool)
-    → SoSealed S turns old mid kept s → Comes mid got (Ok event) → is_end event.what ≡ false
-    → (h : Hindrances) × (n : ℕ) × AreLicensed h.deliveries n got new × Leads T n h.keeping s.kept (happens h s event) got new after seats r
-    → r ≡ Ok b → b ≡ false → Only T → Chains S T U
-    → SoSealed U (turns + 1) old new kept (record { kept = after; seats = seats })
-so_more S T U turns old mid got new kept after s seats event r b sealed came goes (h, n, licensed, leads) ok on only chain =
+pub so_more : (S T U : List JournalRecord → Reads → Type 0) (C : List Step → Type 0) (W : Hindrances → Type 0) (E : List Step → Type 0) (turns : ℕ) (old mid got new : LinkTold) (kept after : Kept) (s : State) (seats : Seats) (event : Event) (r : Result Bool WantOfMemory) (b : Bool)
+    → SoSealed S C turns old mid kept s → Comes mid got (Ok event) → is_end event.what ≡ false
+    → (h : Hindrances) × (n : ℕ) × AreLicensed h.deliveries n got new × Leads T n h.keeping s.kept (happens h s event) got new after seats r × W h
+    → r ≡ Ok b → b ≡ false → Only T → Chains S T U → Extends C W E kept s event after
+    → SoSealed U E (turns + 1) old new kept (record { kept = after; seats = seats })
+so_more S T U C W E turns old mid got new kept after s seats event r b sealed came goes (h, n, licensed, leads, went) ok on only chain extends =
     let so = sealed.served in
     let step : Step = record { event = event; hindrances = h } in
     let o = happens h s event in
@@ -329,6 +339,7 @@ so_more S T U turns old mid got new kept after s seats event r b sealed came goe
         done = subst (λ k. Done k old new steps notes) (all_closed r b n ok leads.closed) (done_more turns n old mid got new kept s event h did.notes so came licensed did.goes);
       };
       seals = chain [] so.reads o.reads sealed.seals (subst (λ (u : List JournalRecord). T u o.reads) none leads.seals);
+      course = extends so.steps h sealed.course (so_state turns old mid kept s so) leads.kept_is went;
     }
 
 -- what consoles' bytes were read as, with one step more
@@ -349,13 +360,17 @@ serves_more turns old mid kept after s step notes more so kept_is all =
       kept_is = kept_is ∙ sym (ap (λ (q : Outcome). q.state.kept) leaves);
     }
 
--- a console asked serving to stop
-pub so_stopped : (S T U : List JournalRecord → Reads → Type 0) (turns limit : ℕ) (old mid got new : LinkTold) (kept after : Kept) (s : State) (seats : Seats) (event : Event) (r : Result Bool WantOfMemory) (b : Bool)
-    → SoSealed S turns old mid kept s → turns < limit → Comes mid got (Ok event) → is_end event.what ≡ false
-    → (h : Hindrances) × (n : ℕ) × AreLicensed h.deliveries n got new × Leads T n h.keeping s.kept (happens h s event) got new after seats r
-    → r ≡ Ok b → b ≡ true → Only T → Chains S T U
-    → Ran U limit old new kept after (Ok tt)
-so_stopped S T U turns limit old mid got new kept after s seats event r b sealed few came goes (h, n, licensed, leads) ok stop only chain =
+-- the end came, or a console asked serving to stop
+abbrev pub Stops : Event → Bool → Type 0
+Stops event b = (is_end event.what ≡ true) ⊎ ((is_end event.what ≡ false) × (b ≡ true))
+
+-- the end came, or a console asked serving to stop, and nothing was left unsealed
+pub so_stopped : (S T U : List JournalRecord → Reads → Type 0) (C : List Step → Type 0) (W : Hindrances → Type 0) (E : List Step → Type 0) (turns limit : ℕ) (old mid got new : LinkTold) (kept after : Kept) (s : State) (seats : Seats) (event : Event) (r : Result Bool WantOfMemory) (b : Bool)
+    → SoSealed S C turns old mid kept s → turns < limit → Comes mid got (Ok event) → Stops event b
+    → (h : Hindrances) × (n : ℕ) × AreLicensed h.deliveries n got new × Leads T n h.keeping s.kept (happens h s event) got new after seats r × W h
+    → r ≡ Ok b → Only T → Chains S T U → Extends C W E kept s event after
+    → Ran U E limit old new kept after (Ok tt)
+so_stopped S T U C W E turns limit old mid got new kept after s seats event r b sealed few came stops (h, n, licensed, leads, went) ok only chain extends =
     let so = sealed.served in
     let step : Step = record { event = event; hindrances = h } in
     let o = happens h s event in
@@ -367,54 +382,23 @@ so_stopped S T U turns limit old mid got new kept after s seats event r b sealed
     let done = done_more turns n old mid got new kept s event h did.notes so came licensed did.goes in
     let steps = so.steps ++ step ∷ [] in
     let notes = so.notes ++ Came event ∷ did.notes in
-    ended_over U limit 0 old new kept after steps notes (Ok tt) (subst (λ k. Done k old new steps notes) zero done) (
+    ended_over U E limit 0 old new kept after steps notes (Ok tt) (subst (λ k. Done k old new steps notes) zero done) (
       record {
         notes_are = ap (λ l. so.notes ++ Came event ∷ l) (sym whole) ∙ sym (ap (λ (q : Outcome). q.notes) leaves);
         kept_is = leads.kept_is ∙ sym (ap (λ (q : Outcome). q.state.kept) leaves);
       },
-      (so.steps, step, refl, so.no_end, so_goes turns old mid kept s so, inr (goes, ap (λ (q : Outcome). q.consoles.stops) (here_is turns old mid kept s step so) ∙ sym left.1 ∙ stop)),
+      (so.steps, step, refl, so.no_end, so_goes turns old mid kept s so, how stops (ap (λ (q : Outcome). q.consoles.stops) (here_is turns old mid kept s step so) ∙ sym left.1)),
       ap (λ (q : Outcome). q.unsealed) leaves ∙ only o.unsealed o.reads leads.seals,
       few_more so.steps step turns limit so.count few,
       refl,
     )
     (none_wanted new.starved_last) done.faults (read_more turns old mid kept s step so leads.read)
     (subst (λ (q : Outcome). U q.unsealed q.reads) (sym leaves) (chain o.unsealed so.reads o.reads sealed.seals leads.seals))
-
--- the end changes nothing
-end_ignored : (h : Hindrances) (s : State) (conn at : ℕ) (what : What) → is_end what ≡ true → answers what h.unfed h.turns h.stage at s conn ≡ ignored s
-end_ignored h s conn at End e = refl
-end_ignored h s conn at (Joined role) e = absurd (let wrong : false ≡ true = e in cc)
-end_ignored h s conn at (Bytes bytes) e = absurd (let wrong : false ≡ true = e in cc)
-end_ignored h s conn at Left e = absurd (let wrong : false ≡ true = e in cc)
-end_ignored h s conn at Idle e = absurd (let wrong : false ≡ true = e in cc)
-
-abbrev pub unhindered : Hindrances
-unhindered = record { unfed = false; turns = []; stage = Ok None; deliveries = []; keeping = IsPassed }
-
--- the end came
-pub so_ended : (S : List JournalRecord → Reads → Type 0) (turns limit : ℕ) (old mid got : LinkTold) (kept : Kept) (s : State) (event : Event)
-    → SoSealed S turns old mid kept s → turns < limit → Comes mid got (Ok event) → is_end event.what ≡ true
-    → Ran S limit old got kept s.kept (Ok tt)
-so_ended S turns limit old mid got kept s event sealed some came ends =
-    let so = sealed.served in
-    let step : Step = record { event = event; hindrances = unhindered } in
-    let nothing : happens unhindered s event ≡ record { state = s; notes = []; unsealed = []; reads = none_read; consoles = no_consoles } =
-    ap (λ a. outcome a (delivered [] a.state.seats a.replies)) (end_ignored unhindered s event.conn (min event.at 253402300799) event.what ends) in
-    let leaves : run (so.steps ++ step ∷ []) (at_first kept) ≡ record { state = s; notes = so.notes ++ Came event ∷ []; unsealed = []; reads = so.reads; consoles = record { readings = so.readings ++ []; stops = false } } =
-    leaves_more turns old mid kept s step so
-    ∙ ap (λ (p : Outcome). record { state = p.state; notes = so.notes ++ Came event ∷ p.notes; unsealed = p.unsealed; reads = both_read so.reads p.reads; consoles = record { readings = so.readings ++ p.consoles.readings; stops = p.consoles.stops } }) nothing
-    ∙ ap (λ (q : Reads). record { state = s; notes = so.notes ++ Came event ∷ []; unsealed = []; reads = q; consoles = record { readings = so.readings ++ []; stops = false } }) (none_before so.reads) in
-    let done = done_more turns 0 old mid got got kept s event unhindered [] so came (none_licensed got got refl refl) (goes_none got) in
-    ended_over S limit 0 old got kept s.kept (so.steps ++ step ∷ []) (so.notes ++ Came event ∷ []) (Ok tt) done (
-      record { notes_are = sym (ap (λ (o : Outcome). o.notes) leaves); kept_is = sym (ap (λ (o : Outcome). o.state.kept) leaves) },
-      (so.steps, step, refl, so.no_end, so_goes turns old mid kept s so, inl ends),
-      ap (λ (o : Outcome). o.unsealed) leaves,
-      few_more so.steps step turns limit so.count some,
-      refl,
-    )
-    (none_wanted got.starved_last) done.faults
-    (subst AreSaid (sym (ap (λ (o : Outcome). o.consoles.readings) leaves)) (said_more so.readings [] so.said tt))
-    (subst (λ (o : Outcome). S o.unsealed o.reads) (sym leaves) sealed.seals)
+    (extends so.steps h sealed.course (so_state turns old mid kept s so) leads.kept_is went)
+  where
+    how : Stops event b → {asked : Bool} → asked ≡ b → (is_end event.what ≡ true) ⊎ ((is_end event.what ≡ false) × (asked ≡ true))
+    how (inl end) is = inl end
+    how (inr (goes, stop)) is = inr (goes, is ∙ stop)
 
 -- ---- serving ended between two events
 
@@ -446,9 +430,9 @@ done_still turns n old mid got kept s so log coming missed starved reliable faul
     }
 
 -- `next` failed
-pub so_unlinked : (S : List JournalRecord → Reads → Type 0) (turns limit : ℕ) (old mid got : LinkTold) (kept : Kept) (s : State)
-    → SoSealed S turns old mid kept s → turns < limit → Comes mid got (Err Failed) → Ran S limit old got kept s.kept (Err Link)
-so_unlinked S turns limit old mid got kept s sealed few came =
+pub so_unlinked : (S : List JournalRecord → Reads → Type 0) (C : List Step → Type 0) (turns limit : ℕ) (old mid got : LinkTold) (kept : Kept) (s : State)
+    → SoSealed S C turns old mid kept s → turns < limit → Comes mid got (Err Failed) → Ran S C limit old got kept s.kept (Err Link)
+so_unlinked S C turns limit old mid got kept s sealed few came =
     let so = sealed.served in (
       so.steps,
       so.notes,
@@ -470,16 +454,17 @@ so_unlinked S turns limit old mid got kept s sealed few came =
         read = so_read turns old mid kept s so;
       },
       subst (λ (o : Outcome). S o.unsealed o.reads) (sym so.leaves) sealed.seals,
+      sealed.course,
     )
 
 -- `next` found no memory
-pub so_unfed : (S : List JournalRecord → Reads → Type 0) (turns limit : ℕ) (old mid got : LinkTold) (kept : Kept) (s : State)
-    → SoSealed S turns old mid kept s → turns < limit → Comes mid got (Err NoneForNext) → Ran S limit old got kept s.kept (Err NoMemory)
-so_unfed S turns limit old mid got kept s sealed few (same, once) =
+pub so_unfed : (S : List JournalRecord → Reads → Type 0) (C : List Step → Type 0) (turns limit : ℕ) (old mid got : LinkTold) (kept : Kept) (s : State)
+    → SoSealed S C turns old mid kept s → turns < limit → Comes mid got (Err NoneForNext) → Ran S C limit old got kept s.kept (Err NoMemory)
+so_unfed S C turns limit old mid got kept s sealed few (same, once) =
     let so = sealed.served in
     let done = done_still turns 1 old mid got kept s so (ap (λ (t : LinkTold). t.log) same) (ap (λ (t : LinkTold). t.coming) same) (ap (λ (t : LinkTold). t.missed) same)
     (counted_one mid.starved got.starved once) (ap (λ (t : LinkTold). t.is_reliable) same) (ap (λ (t : LinkTold). t.faults) same) in
-    ended_over S limit 1 old got kept s.kept so.steps so.notes (Err NoMemory) done (
+    ended_over S C limit 1 old got kept s.kept so.steps so.notes (Err NoMemory) done (
       [],
       record { notes_are = append-nil so.notes ∙ (so_serves turns old mid kept s so).notes_are; kept_is = (so_serves turns old mid kept s so).kept_is },
       so.no_end,
@@ -488,16 +473,16 @@ so_unfed S turns limit old mid got kept s sealed few (same, once) =
       omega (arith, so.count, few),
       inl (so_goes turns old mid kept s so),
     )
-    (λ _. ap (λ (t : LinkTold). t.starved_last) same) done.faults (so_read turns old mid kept s so) (subst (λ (o : Outcome). S o.unsealed o.reads) (sym so.leaves) sealed.seals)
+    (λ _. ap (λ (t : LinkTold). t.starved_last) same) done.faults (so_read turns old mid kept s so) (subst (λ (o : Outcome). S o.unsealed o.reads) (sym so.leaves) sealed.seals) sealed.course
 
 -- so many events were taken
-pub so_spent : (S : List JournalRecord → Reads → Type 0) (turns limit : ℕ) (old new : LinkTold) (kept : Kept) (s : State)
-    → SoSealed S turns old new kept s → turns ≡ limit → Ran S limit old new kept s.kept (Err Turns)
-so_spent S turns limit old new kept s sealed all =
+pub so_spent : (S : List JournalRecord → Reads → Type 0) (C : List Step → Type 0) (turns limit : ℕ) (old new : LinkTold) (kept : Kept) (s : State)
+    → SoSealed S C turns old new kept s → turns ≡ limit → Ran S C limit old new kept s.kept (Err Turns)
+so_spent S C turns limit old new kept s sealed all =
     let so = sealed.served in
-    ended_over S limit 0 old new kept s.kept so.steps so.notes (Err Turns) so.done
+    ended_over S C limit 0 old new kept s.kept so.steps so.notes (Err Turns) so.done
     (so_serves turns old new kept s so, so.no_end, so.count ∙ all, so_sealed turns old new kept s so, so_goes turns old new kept s so, refl)
-    (none_wanted new.starved_last) so.done.faults (so_read turns old new kept s so) (subst (λ (o : Outcome). S o.unsealed o.reads) (sym so.leaves) sealed.seals)
+    (none_wanted new.starved_last) so.done.faults (so_read turns old new kept s so) (subst (λ (o : Outcome). S o.unsealed o.reads) (sym so.leaves) sealed.seals) sealed.course
 
 -- ---- and within one
 
@@ -545,12 +530,12 @@ left_unsealed turns n old mid new kept s step notes more so all (inr (one, passe
     (inr (cut_at_close turns n old mid new kept s step notes more so all one passed stops), λ _. stops.starved_last)
 
 -- memory was wanted in an event
-pub so_starved : (S T U : List JournalRecord → Reads → Type 0) (turns limit : ℕ) (old mid got new : LinkTold) (kept after : Kept) (s : State) (seats : Seats) (event : Event) (r : Result Bool WantOfMemory) (w : WantOfMemory)
-    → SoSealed S turns old mid kept s → turns < limit → Comes mid got (Ok event) → is_end event.what ≡ false
-    → (h : Hindrances) × (n : ℕ) × AreLicensed h.deliveries n got new × Leads T n h.keeping s.kept (happens h s event) got new after seats r
-    → r ≡ Err w → Only T → Chains S T U
-    → Ran U limit old new kept after (Err NoMemory)
-so_starved S T U turns limit old mid got new kept after s seats event r w sealed few came goes (h, n, licensed, leads) bad only chain =
+pub so_starved : (S T U : List JournalRecord → Reads → Type 0) (C : List Step → Type 0) (W : Hindrances → Type 0) (E : List Step → Type 0) (turns limit : ℕ) (old mid got new : LinkTold) (kept after : Kept) (s : State) (seats : Seats) (event : Event) (r : Result Bool WantOfMemory) (w : WantOfMemory)
+    → SoSealed S C turns old mid kept s → turns < limit → Comes mid got (Ok event) → is_end event.what ≡ false
+    → (h : Hindrances) × (n : ℕ) × AreLicensed h.deliveries n got new × Leads T n h.keeping s.kept (happens h s event) got new after seats r × W h
+    → r ≡ Err w → Only T → Chains S T U → Extends C W E kept s event after
+    → Ran U E limit old new kept after (Err NoMemory)
+so_starved S T U C W E turns limit old mid got new kept after s seats event r w sealed few came goes (h, n, licensed, leads, went) bad only chain extends =
     let so = sealed.served in
     let step : Step = record { event = event; hindrances = h } in
     let o = happens h s event in
@@ -559,7 +544,7 @@ so_starved S T U turns limit old mid got new kept after s seats event r w sealed
     let leaves = leaves_more turns old mid kept s step so in
     let done = done_more turns n old mid got new kept s event h did.notes so came licensed did.goes in
     let left = left_starved turns n old mid new kept s step did.notes more so all wants (none_kept r w h.keeping bad leads.passed) in
-    ended_over U limit n old new kept after (so.steps ++ step ∷ []) (so.notes ++ Came event ∷ did.notes) (Err NoMemory) done (
+    ended_over U E limit n old new kept after (so.steps ++ step ∷ []) (so.notes ++ Came event ∷ did.notes) (Err NoMemory) done (
       more,
       serves_more turns old mid kept after s step did.notes more so leads.kept_is all,
       all_more (λ t. is_end t.event.what ≡ false) so.steps step so.no_end goes,
@@ -570,14 +555,15 @@ so_starved S T U turns limit old mid got new kept after s seats event r w sealed
     )
     left.1 done.faults (read_more turns old mid kept s step so leads.read)
     (subst (λ (q : Outcome). U q.unsealed q.reads) (sym leaves) (chain o.unsealed so.reads o.reads sealed.seals leads.seals))
+    (extends so.steps h sealed.course (so_state turns old mid kept s so) leads.kept_is went)
 
 -- sealing failed in an event
-pub so_failed : (S T U : List JournalRecord → Reads → Type 0) (turns limit : ℕ) (old mid got new : LinkTold) (kept after : Kept) (s : State) (seats : Seats) (event : Event) (r : Result Bool WantOfMemory)
-    → SoSealed S turns old mid kept s → turns < limit → Comes mid got (Ok event) → is_end event.what ≡ false
-    → (h : Hindrances) × (n : ℕ) × AreLicensed h.deliveries n got new × Leads T n h.keeping s.kept (happens h s event) got new after seats r
-    → Fails T → Chains S T U
-    → Ran U limit old new kept after (Err Disk)
-so_failed S T U turns limit old mid got new kept after s seats event r sealed few came goes (h, n, licensed, leads) some chain =
+pub so_failed : (S T U : List JournalRecord → Reads → Type 0) (C : List Step → Type 0) (W : Hindrances → Type 0) (E : List Step → Type 0) (turns limit : ℕ) (old mid got new : LinkTold) (kept after : Kept) (s : State) (seats : Seats) (event : Event) (r : Result Bool WantOfMemory)
+    → SoSealed S C turns old mid kept s → turns < limit → Comes mid got (Ok event)
+    → (h : Hindrances) × (n : ℕ) × AreLicensed h.deliveries n got new × Leads T n h.keeping s.kept (happens h s event) got new after seats r × W h
+    → Fails T → Chains S T U → Extends C W E kept s event after
+    → Ran U E limit old new kept after (Err Disk)
+so_failed S T U C W E turns limit old mid got new kept after s seats event r sealed few came (h, n, licensed, leads, went) some chain extends =
     let so = sealed.served in
     let step : Step = record { event = event; hindrances = h } in
     let o = happens h s event in
@@ -586,15 +572,15 @@ so_failed S T U turns limit old mid got new kept after s seats event r sealed fe
     let leaves = leaves_more turns old mid kept s step so in
     let done = done_more turns n old mid got new kept s event h did.notes so came licensed did.goes in
     let left = left_unsealed turns n old mid new kept s step did.notes more so all cut in
-    ended_over U limit n old new kept after (so.steps ++ step ∷ []) (so.notes ++ Came event ∷ did.notes) (Err Disk) done (
+    ended_over U E limit n old new kept after (so.steps ++ step ∷ []) (so.notes ++ Came event ∷ did.notes) (Err Disk) done (
       more,
       serves_more turns old mid kept after s step did.notes more so leads.kept_is all,
-      all_more (λ t. is_end t.event.what ≡ false) so.steps step so.no_end goes,
       left.0,
       (
         so.steps,
         step,
         refl,
+        so.no_end,
         ap (λ (q : Outcome). q.unsealed) so.leaves,
         λ none. some o.unsealed o.reads leads.seals (sym (ap (λ (q : Outcome). q.unsealed) (here_is turns old mid kept s step so)) ∙ none),
       ),
@@ -603,3 +589,18 @@ so_failed S T U turns limit old mid got new kept after s seats event r sealed fe
     )
     left.1 done.faults (read_more turns old mid kept s step so leads.read)
     (subst (λ (q : Outcome). U q.unsealed q.reads) (sym leaves) (chain o.unsealed so.reads o.reads sealed.seals leads.seals))
+    (extends so.steps h sealed.course (so_state turns old mid kept s so) leads.kept_is went)
+
+-- the end came, and the snapshot that was due then was sealed or left out, or its sealing failed
+pub so_ended : (S T U : List JournalRecord → Reads → Type 0) (C : List Step → Type 0) (W : Hindrances → Type 0) (E : List Step → Type 0) (turns limit : ℕ) (old mid got : LinkTold) (kept after : Kept) (s : State) (event : Event)
+    (closed : Bool) (result : Result (Unit {0}) ServeFault)
+    → SoSealed S C turns old mid kept s → turns < limit → Comes mid got (Ok event) → is_end event.what ≡ true
+    → (h : Hindrances) × (n : ℕ) × AreLicensed h.deliveries n got got × Leads T n h.keeping s.kept (happens h s event) got got after s.seats (Ok false) × W h
+    → result ≡ ended_as closed → (closed ≡ false → Only T) → (closed ≡ true → Fails T) → Chains S T U → Extends C W E kept s event after
+    → Ran U E limit old got kept after result
+so_ended S T U C W E turns limit old mid got kept after s event closed result sealed few came ends leads is only some chain extends =
+    subst (λ (r : Result (Unit {0}) ServeFault). Ran U E limit old got kept after r) (sym is) (by_closed closed only some)
+  where
+    by_closed : (b : Bool) → (b ≡ false → Only T) → (b ≡ true → Fails T) → Ran U E limit old got kept after (ended_as b)
+    by_closed false all none = so_stopped S T U C W E turns limit old mid got got kept after s s.seats event (Ok false) false sealed few came (inl ends) leads refl (all refl) chain extends
+    by_closed true all none = so_failed S T U C W E turns limit old mid got got kept after s s.seats event (Ok false) sealed few came leads (none refl) chain extends

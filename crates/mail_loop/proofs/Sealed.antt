@@ -171,6 +171,10 @@ module _ {D : Type 0} (told : D → DiskTold) where
         | false ↦ λ due. refl
       ] e
 
+  -- of an open desk it is due where so many items entered
+  pub is_due_on_open : (a : Lasting D) → a.closed ≡ false → nat_le 1024 a.kept.marks.since ≡ is_due_on a
+  is_due_on_open a open' = ap (λ (x : Bool). not x && nat_le 1024 a.kept.marks.since) (sym open')
+
   -- it is due, and this came of it
   due_keeps : (k : Keeping) (a b : Lasting D) → is_due_on a ≡ true → a.closed ≡ false → b.kept ≡ kept_by k a.kept → HaveSealed told a b (unkept_by k a.kept) none_read → Keeps told k a b
   due_keeps k a b e open' kept sealed = record {

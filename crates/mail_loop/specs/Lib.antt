@@ -12,3 +12,4 @@ pub mod Took
 pub mod ImapTook
 pub mod Did
 pub mod Serving
+pub mod Acknowledged

@@ -283,19 +283,19 @@ is_end (Bytes bytes) = false
 is_end Left = false
 is_end NoEvent = false
 
--- A snapshot is due after the strings of each event but the end where at least so many items entered the timeline since the last one, and nothing
--- was left unsealed.
-abbrev pub is_snapshot_due : What → Outcome → Bool
-is_snapshot_due what o = not (is_end what) && is_empty o.unsealed && nat_le 1024 o.state.kept.marks.since
+-- A snapshot is due after the strings of each event, the end too, where at least so many items entered the timeline since the last one, and
+-- nothing was left unsealed.
+abbrev pub is_snapshot_due : Outcome → Bool
+is_snapshot_due o = is_empty o.unsealed && nat_le 1024 o.state.kept.marks.since
 
 -- the snapshot that is due is taken, left out, or could not be sealed
-abbrev pub with_snapshot : Keeping → What → Outcome → Outcome
-with_snapshot IsKept what o = if is_snapshot_due what o then record o { state = record { kept = snapshotted o.state.kept; seats = o.state.seats } } else o
-with_snapshot IsPassed what o = o
-with_snapshot IsUnkept what o = if is_snapshot_due what o then record o { unsealed = snapshot_record o.state.kept ∷ [] } else o
+abbrev pub with_snapshot : Keeping → Outcome → Outcome
+with_snapshot IsKept o = if is_snapshot_due o then record o { state = record { kept = snapshotted o.state.kept; seats = o.state.seats } } else o
+with_snapshot IsPassed o = o
+with_snapshot IsUnkept o = if is_snapshot_due o then record o { unsealed = snapshot_record o.state.kept ∷ [] } else o
 
 -- an event: its turns, its strings, and then the snapshot that is due
 abbrev pub happens : Hindrances → State → Event → Outcome
 happens h s event =
     let a = answered h.unfed h.turns h.stage s event in
-    with_snapshot h.keeping event.what (outcome a (delivered h.deliveries a.state.seats a.replies))
+    with_snapshot h.keeping (outcome a (delivered h.deliveries a.state.seats a.replies))

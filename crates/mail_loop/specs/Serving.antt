@@ -109,10 +109,10 @@ abbrev pub IsLeftStarved : ℕ → List Step → Kept → List LinkNote → Type
 IsLeftStarved wants steps old more =
     ((more ≡ []) × (wants ≡ 1)) ⊎ (IsUndone steps old more × (wants ≡ 0)) ⊎ IsCutAtClose wants steps old more
 
--- the last step is the first in which sealing failed
+-- the last step, which may be the end, is the first in which sealing failed
 abbrev pub EndsUnsealed : List Step → Kept → Type 0
 EndsUnsealed steps old =
-    (before : List Step) × (last : Step) × (steps ≡ before ++ last ∷ []) × (unsealed_in before old ≡ [])
+    (before : List Step) × (last : Step) × (steps ≡ before ++ last ∷ []) × NoEnd before × (unsealed_in before old ≡ [])
     × ((happens last.hindrances (run before (at_first old)).state last.event).unsealed ≢ [])
 
 -- Serving ended: with the end or as a console asked; after so many turns without it; where the link failed; where sealing failed in the last step; or where memory was
@@ -125,7 +125,7 @@ Served turns wants steps old notes new (Err Turns) =
 Served turns wants steps old notes new (Err Link) =
     Serves steps old notes new × NoEnd steps × (length steps < turns) × (unsealed_in steps old ≡ []) × (stopped_in steps old ≡ false) × (wants ≡ 0)
 Served turns wants steps old notes new (Err Disk) =
-    (more : List LinkNote) × Serves steps old (notes ++ more) new × NoEnd steps × IsLeftUnsealed wants steps old more × EndsUnsealed steps old × (length steps ≤ turns)
+    (more : List LinkNote) × Serves steps old (notes ++ more) new × IsLeftUnsealed wants steps old more × EndsUnsealed steps old × (length steps ≤ turns)
     × NoStop steps old
 Served turns wants steps old notes new (Err NoMemory) =
     (more : List LinkNote) × Serves steps old (notes ++ more) new × NoEnd steps × IsLeftStarved wants steps old more × (unsealed_in steps old ≡ []) × (length steps ≤ turns)
@@ -138,6 +138,11 @@ is_disk (Err Link) = false
 is_disk (Err Disk) = true
 is_disk (Err Turns) = false
 is_disk (Err NoMemory) = false
+
+-- how serving ends with the end of the events: the snapshot that is due then was sealed or left out, or its sealing failed, and the desk is closed
+abbrev pub ended_as : Bool → Result (Unit {0}) ServeFault
+ended_as false = Ok tt
+ended_as true = Err Disk
 
 -- how many strings the steps missed
 abbrev pub missed_in : List Step → ℕ

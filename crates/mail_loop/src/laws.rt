@@ -1,6 +1,19 @@
-//! What a mail reader's turns are turns of.
-ghost use Rattle.std.specs.Prelude.{◌≡◌, ◌++◌, ℕ, List};
+//! What a mail reader's turns are turns of, and that what was answered stays.
+ghost use Rattle.std.specs.Prelude.{◌≡◌, ◌++◌, ◌∷◌, ℕ, List, Some};
 ghost use Rattle.imap_stream.specs.Commands.{emptied, heard, heard_of, said_of};
+ghost use Rattle.undo_outside.specs.declared.event.LinkNote.TheVariants.{Came};
+ghost use Rattle.seal_log.specs.Settled.{IsSettled};
+ghost use Rattle.verb_bytes.specs.declared.journal.JournalRecord.{JournalRecord};
+ghost use Rattle.time_desk.specs.Lasting.{Lasting};
+ghost use Rattle.time_desk.specs.Records.{payloads_of, state};
+ghost use Rattle.time_desk.specs.Stored.{HoldsTexts};
+ghost use Rattle.mail_loop.specs.State.{State};
+ghost use Rattle.mail_loop.specs.Machine.{happens};
+ghost use Rattle.mail_loop.specs.Serving.{Step, at_first, run};
+ghost use Rattle.mail_loop.specs.Acknowledged.{AnswersLast, Course, Stretch, behind};
+
+use time_desk::laws::{crashes_leave_states, seals_join};
+use undo_outside::Disk;
 
 /// Each command, literal mark and bad line of a mail reader's whole stream is a turn once, however the stream was cut:
 /// the turns of an event are what the stream gives with its bytes beside what it gave before.
@@ -8,3 +21,19 @@ pub fn turns_are_of_the_whole_stream()
     ensures said { (stream bytes : List ℕ) → said_of (stream ++ bytes) ≡ said_of stream ++ (heard (emptied (heard_of stream)) bytes).said }
     ensures rest { (stream bytes : List ℕ) → emptied (heard_of (stream ++ bytes)) ≡ emptied (heard (emptied (heard_of stream)) bytes) }
 {}
+
+/// What was answered before a moment is in every image of that moment and of each later one. Serving went through a course, from a desk that
+/// holds its texts, whose disk was settled behind records that leave what it kept. Then for each step of the course: since the moment at which
+/// its strings were sent, each image that a crash may leave stands for those records and all that were sealed by then, which leave what the
+/// machine keeps then, and maybe for more behind them, and all of them can stand. In the link's log a step's strings stand behind its event,
+/// and that behind what was done for the steps before.
+pub fn answered_is_kept<D: Disk>()
+    ensures kept { (records : List JournalRecord) (old new : Lasting D) (course : List (Stretch D)) → IsSettled (D.told old.disk) old.gate (payloads_of records)
+        → state records ≡ Some old.kept → HoldsTexts D.told old → Course D.told (at_first old.kept) old course new
+        → AnswersLast D.told records old.kept course (D.told new.disk) }
+    ensures log { (before after : List Step) (step : Step) (s : State) → (run (before ++ step ∷ after) s).notes
+        ≡ (run before s).notes ++ Came step.event ∷ ((happens step.hindrances (run before s).state step.event).notes ++ (run after (behind (run before s).state step)).notes) }
+{
+    seals_join::<D>();
+    crashes_leave_states::<D>();
+}

@@ -2,9 +2,9 @@
 //!
 //! `smtp_turn` is a turn of a mail client, `imap_turn` one of a mail reader, `console_turn` one of a console; `asking` hands what
 //! a session asks to the desk. `open_connection`, `reply`, `letters` and `serve` are the loop over any number of connections,
-//! and `gone` closes those whose mailbox was changed; `laws` says what turns of a stream are turns of. In specs/, `State`, the
-//! three turns, the two of hindrances, `Turns` and `Machine` are the machine, `Serving` its runs. What carries the crate: `serves`
-//! and `uids` of `serve_events`.
+//! and `gone` closes those whose mailbox was changed; `laws` says what turns of a stream are turns of, and that what was answered
+//! stays. In specs/, `State`, the three turns, the two of hindrances, `Turns` and `Machine` are the machine, `Serving` its runs,
+//! `Acknowledged` what a crash leaves of them. What carries the crate: `serves` and `uids` of `serve_events`, and `answered_is_kept`.
 #![tactic(auto)]
 
 mod asking;
@@ -18,6 +18,6 @@ mod reply;
 mod serve;
 mod smtp_turn;
 
-pub use laws::turns_are_of_the_whole_stream;
+pub use laws::{answered_is_kept, turns_are_of_the_whole_stream};
 pub use serve::{ServeFault, serve_events};
 pub use time_desk::Desk;

@@ -15,7 +15,8 @@ ghost use Rattle.mail_loop.specs.Machine.{Hindrances, Delivery, Keeping, admits,
 ghost use Rattle.verb_core.specs.declared.conf.House.{House as TheHouse};
 ghost use Rattle.mail_loop.specs.Stands.{AreHome, IsHome, letter_of, replies_of};
 ghost use Rattle.mail_loop.specs.Did.{AreLicensed, Told, Replied, Sends, Leads, Answers, Opens, Keeps, is_due_on, unclosed_by};
-ghost use Rattle.mail_loop.specs.Serving.{Step, ServedOver, is_disk, reads_in, unsealed_in};
+ghost use Rattle.mail_loop.specs.Serving.{Step, ServedOver, ended_as, is_disk, reads_in, unsealed_in};
+ghost use Rattle.mail_loop.specs.Acknowledged.{GoesThrough, WentThrough};
 
 use crate::letters::{Letter, alone, letters_of, room_for_letters};
 use crate::open_connection::{
@@ -338,11 +339,11 @@ fn serve_event<R: Threads + Sync, L: Link, D: Disk + Drop, G: Gate>(
 ) -> Result<bool, NoMemory>
     requires sealed { desk.old.closed ≡ false }
     requires home { AreHome desk.old.kept.house connections.old.entries }
-    requires goes_on { is_end event.now.what ≡ false }
     ensures home { AreHome desk.new.kept.house connections.new.entries }
     ensures leads { (h : Hindrances) × (unclosed : ℕ) × AreLicensed h.deliveries unclosed (L.told link.old) (L.told link.new) ×
         Leads (HaveSealed D.told desk.old desk.new) unclosed h.keeping desk.old.kept (happens h (record { kept = desk.old.kept; seats = connections.old.entries }) event.now) (L.told link.old) (L.told link.new)
-        desk.new.kept connections.new.entries result }
+        desk.new.kept connections.new.entries result ×
+        GoesThrough D.told (record { kept = desk.old.kept; seats = connections.old.entries }) (record { event = event.now; hindrances = h }) desk.old desk.new }
 {
     seals_join::<D>();
     let answer = answer_event(rt, alloc, desk, connections, gate, event)?;
@@ -353,6 +354,23 @@ fn serve_event<R: Threads + Sync, L: Link, D: Disk + Drop, G: Gate>(
         }
         Err(NoMemory) => Err(NoMemory),
     }
+}
+
+/// Whether serving is over: a record was not sealed.
+fn is_over<D: Disk>(desk: &Desk<D>) -> bool
+    ensures { result ≡ desk.now.closed }
+{
+    desk.closed()
+}
+
+/// The end of the events: takes the snapshot that is due.
+fn end_serving<D: Disk>(alloc: Global, desk: &mut Desk<D>) -> Result<(), ServeFault>
+    ensures keeps { (k : Keeping) × Keeps D.told k desk.old desk.new }
+    ensures ends { result ≡ ended_as desk.new.closed }
+{
+    keep_up(alloc, desk);
+    let over = is_over(desk);
+    if over { Err(ServeFault::Disk) } else { Ok(()) }
 }
 
 /// Serves the events of a link, one after the other.
@@ -367,7 +385,7 @@ fn serve_each<R: Threads + Sync, L: Link, D: Disk + Drop, G: Gate>(
     requires sealed { desk.old.closed ≡ false }
     ensures serves { (steps : List Step) × (notes : List LinkNote) ×
         ServedOver turns steps notes (L.told link.old) (L.told link.new) desk.old.kept desk.new.kept result ×
-        HaveSealed D.told desk.old desk.new (unsealed_in steps desk.old.kept) (reads_in steps desk.old.kept) }
+        HaveSealed D.told desk.old desk.new (unsealed_in steps desk.old.kept) (reads_in steps desk.old.kept) × WentThrough D.told steps desk.old desk.new }
     ensures closed { desk.new.closed ≡ is_disk result }
 {
     seals_join::<D>();
@@ -379,10 +397,10 @@ fn serve_each<R: Threads + Sync, L: Link, D: Disk + Drop, G: Gate>(
             Err(Fault::NoMemory) => return Err(ServeFault::NoMemory),
         };
         if is_end_of(&event) {
-            return Ok(());
+            return end_serving(alloc, desk);
         }
         let sent = serve_event(rt, alloc, desk, &mut connections, link, gate, &event);
-        if desk.closed() {
+        if is_over(desk) {
             return Err(ServeFault::Disk);
         }
         let stops = match sent {
@@ -397,7 +415,7 @@ fn serve_each<R: Threads + Sync, L: Link, D: Disk + Drop, G: Gate>(
 }
 
 /// Serves the events of a link until the end comes or a console asks it to stop, at most so many, and takes a snapshot after an
-/// event where one is due. A text that can't be read is told to who asked for it, and serving goes on. Whatever came, over a disk
+/// event, the end too, where one is due. What was answered stays: `answered_is_kept` says so of the desks that serving goes through. A text that can't be read is told to who asked for it, and serving goes on. Whatever came, over a disk
 /// that holds the texts as they were stored the store is at last what the items in force leave, and no UID names another message
 /// or another text than before (RFC 3501, section 2.3.1.1).
 pub fn serve_events<R: Threads + Sync, L: Link, D: Disk + Drop, G: Gate>(
@@ -411,7 +429,7 @@ pub fn serve_events<R: Threads + Sync, L: Link, D: Disk + Drop, G: Gate>(
     requires sealed { desk.old.closed ≡ false }
     ensures serves { (steps : List Step) × (notes : List LinkNote) ×
         ServedOver turns steps notes (L.told link.old) (L.told link.new) desk.old.kept desk.new.kept result ×
-        HaveSealed D.told desk.old desk.new (unsealed_in steps desk.old.kept) (reads_in steps desk.old.kept) }
+        HaveSealed D.told desk.old desk.new (unsealed_in steps desk.old.kept) (reads_in steps desk.old.kept) × WentThrough D.told steps desk.old desk.new }
     ensures closed { desk.new.closed ≡ is_disk result }
     ensures runs { HoldsTexts D.told desk.old → IsRun desk.new.kept }
     ensures uids { HoldsTexts D.told desk.old → UidsLast desk.old.kept desk.new.kept }

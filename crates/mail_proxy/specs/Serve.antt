@@ -13,12 +13,14 @@ use Rattle.time_desk.specs.Sealing.{Seals}
 use Rattle.mail_loop.specs.declared.serve.ServeFault.{ServeFault}
 use Rattle.mail_loop.specs.declared.serve.ServeFault.TheVariants.{Disk}
 use Rattle.mail_loop.specs.Serving.{Step, ServedOver, reads_in, unsealed_in}
+use Rattle.mail_loop.specs.Acknowledged.{AnswersLast, WentThrough}
 use Rattle.mail_proxy.specs.Opening.{OpensNone}
 use Rattle.mail_proxy.specs.Script.{Journals, last_line, status_of}
 use Rattle.mail_proxy.specs.Texts.{End}
 
 -- How the events of a link were served over a desk: the machine's steps for those that came, what the link did, what was sealed, where what was not
--- sealed is what these steps say, how often a text could not be read or was not the one that was stored, and what is to be answered and written.
+-- sealed is what these steps say, how often a text could not be read or was not the one that was stored, what is to be answered and written, and
+-- which desks serving went through.
 pub record ServesLink {D : Type 0} (told : D → DiskTold) (link link' : LinkTold) (first last : Lasting D) (status : ℕ) (output : List ℕ) : Type 0 where
   pub outcome : Result (Unit {0}) ServeFault
   pub notes : List LinkNote
@@ -30,17 +32,19 @@ pub record ServesLink {D : Type 0} (told : D → DiskTold) (link link' : LinkTol
   pub seals : Seals told added (unsealed_in steps first.kept) first last
   pub read : HaveRead told first last (reads_in steps first.kept)
   pub disk_fault : outcome ≡ Err Disk → WriteFailed (told first.disk) (told last.disk)
+  pub through : WentThrough told steps first last
 
 module _ {D : Type 0} (told : D → DiskTold) where
   -- The events are served over the desk of a store that was opened, and then the disk gets no call more. On an honest disk the desk
   -- that was opened holds its texts, so that what is kept at last is what the records leave, its store is what the items in force leave, and no
-  -- turn was given another text than was stored.
+  -- turn was given another text than was stored; and what was answered before a moment is in every image of that moment and of each later one.
   abbrev pub ServesOn : D → LinkTold → LinkTold → Lasting D → End D → Type 0
   ServesOn disk link link' first end =
       (last : Lasting D) × (run : ServesLink told link link' first last end.status end.output) × (end.disk ≡ last.disk)
       × ((told disk).honest
-      → Journals (told disk) first.kept run.added (unsealed_in run.steps first.kept) (told end.disk)
-      × HoldsTexts told first × IsRun last.kept × ((reads_in run.steps first.kept).wrong ≡ 0))
+      → (journals : Journals (told disk) first.kept run.added (unsealed_in run.steps first.kept) (told end.disk))
+      × HoldsTexts told first × IsRun last.kept × ((reads_in run.steps first.kept).wrong ≡ 0)
+      × AnswersLast told journals.records first.kept run.through.0 (told end.disk))
 
   -- what `serve` comes to: no store was opened, and the link got no call; or one was, and its events were served over it
   abbrev pub ServesStore : LinkTold → LinkTold → D → End D → Type 0

@@ -10,7 +10,7 @@ use Rattle.mail_proxy.proofs.grow.serve_generated.Goals as goal
 
 pub returns-in-Ok : goal.returns-in-Ok
 returns-in-Ok g c =
-    let (steps, notes, over, (added, seals, read)) = c.serve_events.ensures.serves in
+    let (steps, notes, over, (added, seals, read), through) = c.serve_events.ensures.serves in
     let last = c.serve_events.new.desk in
     let plan = c.plan_grown.result in
     generated_over g.D.Disk.told c.args.rounds c.args.events c.args.desk.now last _ _ c.serve_events.result steps notes added plan.status (output_of plan) over seals read
@@ -20,7 +20,7 @@ returns-in-Ok g c =
 
 pub returns : goal.returns
 returns g c =
-    let (steps, notes, over, (added, seals, read)) = c.serve_events.ensures.serves in
+    let (steps, notes, over, (added, seals, read), through) = c.serve_events.ensures.serves in
     let last = c.serve_events.new.desk in
     let plan = c.plan_of.result in
     generated_over g.D.Disk.told c.args.rounds c.args.events c.args.desk.now last _ _ c.serve_events.result steps notes added plan.status (output_of plan) over seals read

@@ -1,4 +1,5 @@
 use Rattle.std.proofs.Common.{subst, sym, inr}
+use Rattle.mail_loop.specs.Acknowledged.{AnswersLast}
 use Rattle.mail_loop.specs.Serving.{unsealed_in}
 use Rattle.mail_proxy.specs.Script.{Journals}
 use Rattle.mail_proxy.proofs.Journals.{journals}
@@ -18,12 +19,11 @@ returns-in-Ok g c =
         last,
         run,
         c.into_disk.ensures,
-        λ honest. (
-          subst (λ (d : g.row.D.Denot). Journals (told c.args.disk) first.kept run.added unsealed (told d)) (sym c.into_disk.ensures)
-              (journals told g.met.D.Disk.tells_truth c.args.disk first last run.added unsealed c.in-Ok.ensures.started run.seals honest),
-          c.in-Ok.ensures.texts honest,
-          (run.seals.texts (c.in-Ok.ensures.texts honest)).texts.runs,
-          run.read.honest (c.in-Ok.ensures.texts honest),
-        ),
+        λ honest.
+            let texts = c.in-Ok.ensures.texts honest in
+            let (stands, answers) =
+            subst (λ (d : g.row.D.Denot). (j : Journals (told c.args.disk) first.kept run.added unsealed (told d)) × AnswersLast told j.records first.kept run.through.0 (told d)) (sym c.into_disk.ensures)
+            (journals told g.met.D.Disk.tells_truth c.answered_is_kept.ensures.kept c.args.disk first last run.added unsealed run.through.0 c.in-Ok.ensures.started run.seals run.through.2 texts honest) in
+            (stands, texts, (run.seals.texts texts).texts.runs, run.read.honest texts, answers),
       ),
     )

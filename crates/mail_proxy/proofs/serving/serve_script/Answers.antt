@@ -6,7 +6,7 @@ use Rattle.mail_proxy.proofs.serving.serve_script.Goals as goal
 
 pub returns-in-Ok : goal.returns-in-Ok
 returns-in-Ok g c =
-    let (steps, notes, over, (added, seals, read)) = c.serve_events-served.ensures.serves in
+    let (steps, notes, over, (added, seals, read), through) = c.serve_events-served.ensures.serves in
     let outcome = c.serve_events-served.result in
     let told = g.D.Disk.told in
     record {
@@ -20,11 +20,12 @@ returns-in-Ok g c =
       seals = seals;
       read = read;
       disk_fault = disk_fails told added (unsealed_in steps c.args.desk.now.kept) c.args.desk.now c.serve_events-served.new.desk outcome seals c.requires c.serve_events-served.ensures.closed;
+      through = through;
     }
 
 pub returns : goal.returns
 returns g c =
-    let (steps, notes, over, (added, seals, read)) = c.serve_events-served.ensures.serves in
+    let (steps, notes, over, (added, seals, read), through) = c.serve_events-served.ensures.serves in
     let outcome = c.serve_events-served.result in
     let told = g.D.Disk.told in
     record {
@@ -38,4 +39,5 @@ returns g c =
       seals = seals;
       read = read;
       disk_fault = disk_fails told added (unsealed_in steps c.args.desk.now.kept) c.args.desk.now c.serve_events-served.new.desk outcome seals c.requires c.serve_events-served.ensures.closed;
+      through = through;
     }

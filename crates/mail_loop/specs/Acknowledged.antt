@@ -1,0 +1,80 @@
+-- What was answered stays: the desks that serving goes through, step after step, and what each crash leaves since the strings of a step were sent.
+use Rattle.std.specs.Prelude.{◌≡◌, ℕ, Bool, true, false, List, [], ◌∷◌, ◌++◌, map, Some}
+use Rattle.undo_outside.specs.Disk.{DiskTold}
+use Rattle.verb_bytes.specs.declared.journal.JournalRecord.{JournalRecord}
+use Rattle.paradox.specs.Kept.{Kept}
+use Rattle.time_desk.specs.Crashing.{LeavesFront}
+use Rattle.time_desk.specs.Lasting.{Lasting}
+use Rattle.time_desk.specs.Records.{state}
+use Rattle.time_desk.specs.Sealing.{Seals}
+use Rattle.mail_loop.specs.State.{State}
+use Rattle.mail_loop.specs.Machine.{Answered, answered, happens}
+use Rattle.mail_loop.specs.Serving.{Step, at_first, run}
+
+-- what the turns of a step leave, before its strings are sent
+abbrev pub turned : State → Step → Answered
+turned s step = answered step.hindrances.unfed step.hindrances.turns step.hindrances.stage s step.event
+
+-- the state behind a step
+abbrev pub behind : State → Step → State
+behind s step = (happens step.hindrances s step.event).state
+
+-- A step of serving over a desk. When the step's strings are sent the desk is `telling`, and these records of its turns are sealed. At its end the
+-- desk is `after`, and behind the strings the snapshot that was due is sealed, or nothing.
+pub record Stretch (D : Type 0) : Type 0 where
+  pub step : Step
+  pub sealed : List JournalRecord
+  pub telling : Lasting D
+  pub snapshot : List JournalRecord
+  pub after : Lasting D
+
+-- From an open desk on a step went so: its turns sealed these records, in order, but for the one of them whose sealing failed, and what the desk kept
+-- when its strings were sent is what the machine keeps then. Behind the strings a snapshot was sealed, or nothing, or its sealing failed. A desk that
+-- was closed by then sealed nothing more.
+pub record Went {D : Type 0} (told : D → DiskTold) (s : State) (old : Lasting D) (w : Stretch D) : Type 0 where
+  pub is_open : old.closed ≡ false
+  pub turns : Seals told w.sealed (turned s w.step).unsealed old w.telling
+  pub telling_is : w.telling.kept ≡ (turned s w.step).state.kept
+  pub unkept : List JournalRecord
+  pub keeps : Seals told w.snapshot unkept w.telling w.after
+  pub stays : w.telling.closed ≡ true → (w.after ≡ w.telling) × (w.snapshot ≡ [])
+
+-- from old to new a desk goes through this step
+abbrev pub GoesThrough : {D : Type 0} → (D → DiskTold) → State → Step → Lasting D → Lasting D → Type 0
+GoesThrough {D} told s step old new = (w : Stretch D) × (w.step ≡ step) × Went told s old w × (w.after ≡ new)
+
+-- From old to new serving went through these steps, one behind the other, each from the state that the machine has then; behind each the desk keeps
+-- what the machine keeps.
+abbrev pub Course : {D : Type 0} → (D → DiskTold) → State → Lasting D → List (Stretch D) → Lasting D → Type 0
+Course told s old [] new = new ≡ old
+Course told s old (w ∷ more) new = Went told s old w × (w.after.kept ≡ (behind s w.step).kept) × Course told (behind s w.step) w.after more new
+
+abbrev pub steps_of : {D : Type 0} → List (Stretch D) → List Step
+steps_of {D} course = map (λ (w : Stretch D). w.step) course
+
+-- the records that were sealed in these steps, in order
+abbrev pub sealed_in : {D : Type 0} → List (Stretch D) → List JournalRecord
+sealed_in [] = []
+sealed_in (w ∷ more) = (w.sealed ++ w.snapshot) ++ sealed_in more
+
+-- serving went through these steps, and no connection was open at first
+abbrev pub WentThrough : {D : Type 0} → (D → DiskTold) → List Step → Lasting D → Lasting D → Type 0
+WentThrough {D} told steps old new = (course : List (Stretch D)) × (steps ≡ steps_of course) × Course told (at_first old.kept) old course new
+
+-- Since a moment each image that a crash may leave stands for these records, in order, and maybe for more behind them, and all of them can stand. These
+-- leave what was kept at that moment.
+pub record Lasts (records : List JournalRecord) (kept : Kept) (disk : DiskTold) (moment : ℕ) : Type 0 where
+  pub state_is : state records ≡ Some kept
+  pub more : List JournalRecord
+  pub each : (image : List ℕ) → disk.since moment image → LeavesFront records more image
+
+-- what the machine keeps when the strings of a step are sent, behind other steps
+abbrev pub kept_at : Kept → List Step → Step → Kept
+kept_at first before step = (turned (run before (at_first first)).state step).state.kept
+
+-- What was answered before a moment is in every image of that moment and of each later one: for each step, since the moment at which its strings
+-- were sent, the records at first and all that were sealed by then, which leave what the machine keeps then.
+abbrev pub AnswersLast : {D : Type 0} → (D → DiskTold) → List JournalRecord → Kept → List (Stretch D) → DiskTold → Type 0
+AnswersLast {D} told records first course disk =
+    (before : List (Stretch D)) (w : Stretch D) (after : List (Stretch D)) → course ≡ before ++ w ∷ after
+    → Lasts (records ++ sealed_in before ++ w.sealed) (kept_at first (steps_of before) w.step) disk (told w.telling.disk).moment
