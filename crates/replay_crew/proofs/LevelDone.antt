@@ -12,7 +12,7 @@ use Rattle.verb_core.specs.Store.{MailStore, IsValid}
 use Rattle.box_store.specs.Effects.{IsAimed, IsEffect, applied}
 use Rattle.replay_plan.proofs.Least.{both}
 use Rattle.touch_rules.specs.Swapping.{resolved}
-use Rattle.replay_crew.specs.declared.level.Made.{Made}
+use Rattle.replay_crew.specs.declared.made.Made.{Made}
 use Rattle.replay_crew.specs.Orders.{Turn, Placed, run_turns, are_apart, all_apart, AllFit}
 use Rattle.replay_crew.specs.Resolving.{turn_of}
 use Rattle.replay_crew.specs.Working.{level_of, CanMake, IsMade, IsLevel, applied_each, shown_at, answers_on}

@@ -2,15 +2,18 @@
 use Rattle.std.proofs.Common.{◌≡◌, ℕ, zero, suc, ◌+◌, ◌*◌, ◌<◌, ◌≤◌, List, [], ◌∷◌, ◌++◌, map, length, take, drop, get_or, Ok, Err, Result, Vec, false, true, true≢false, refl, sym, ap, ap₂, subst, ◌∙◌, arith}
 use Rattle.std.specs.Prelude.{IfOk, OnOk}
 use Rattle.std.specs.declared.alloc.Global.{Global}
+use Rattle.std.specs.Int.{div_ceil}
 use Rattle.std.specs.List.{AllByRecursion, flat_map}
 use Rattle.std.specs.Result.{IsOk}
 use Rattle.std.proofs.Math.Seq.{take-add}
+use Rattle.std.proofs.lemmas.Grind.{div_ceil_times}
+use Rattle.std.proofs.lemmas.Nat.{mul-le}
 use Rattle.std.proofs.lemmas.List.{drop-drop, take_all}
 use Rattle.undo_base.specs.declared.memory.NoMemory.{NoMemory}
 use Rattle.verb_core.specs.declared.item.Resolved.{Resolved}
 use Rattle.verb_core.specs.Store.{MailStore}
-use Rattle.replay_crew.specs.declared.level.Made.{Made}
-use Rattle.replay_crew.specs.Working.{IsMade, IsRun, made_in}
+use Rattle.replay_crew.specs.declared.made.Made.{Made}
+use Rattle.replay_crew.specs.Working.{IsMade, IsRun, made_in, run_at, run_length}
 use Rattle.replay_crew.proofs.ByLevels.{map_append}
 
 pub nothing_left : {X : Type 0} (xs : List X) → length xs ≡ 0 → xs ≡ []
@@ -59,19 +62,39 @@ no_times n = omega arith
 
 -- ---- runs
 
-module _ (s : MailStore) (all : List Resolved) (places : List ℕ) (size : ℕ) where
+-- a level that has items has runs that have some
+pub some_run : (count : ℕ) → 0 < count → 0 < run_length count
+some_run count some = from_times (run_length count) (div_ceil_times count 16 (omega arith)).0
+  where
+    from_times : (size : ℕ) → count ≤ size * 16 → 0 < size
+    from_times size h = omega (arith, h, some)
+
+-- each of the runs of a size that cover what is there begins within it
+pub runs_begin : (count size run : ℕ) → 0 < size → run < div_ceil count size → run * size < count
+runs_begin count size run some h = within (div_ceil count size) (div_ceil_times count size some).1 h
+  where
+    within : (runs : ℕ) → runs * size < count + size → run < runs → run * size < count
+    within runs below h =
+        let here : (run + 1) * size ≤ runs * size = mul-le (run + 1) size runs size (omega (arith, h)) (omega arith) in
+        omega (arith, below, here)
+
+module _ (s : MailStore) (all : List Resolved) (places : List ℕ) where
+  -- how long its runs are
+  abbrev size : ℕ
+  size = run_length (length places)
+
   abbrev Made' : List Made → ℕ → ℕ → Type 0
   Made' made from count = (map (λ (m : Made). m.place) made ≡ take (count * size) (drop (from * size) places)) × AllByRecursion (IsMade s all) made
 
   runs_made : (rs : List (Result (Vec Made Global) NoMemory)) (from : ℕ) → AllByRecursion IsOk rs
-      → ((i : ℕ) (d : Result (Vec Made Global) NoMemory) → i < length rs → IfOk (get_or rs i d) (λ (made : Vec Made Global). IsRun s all places size (from + i) made.items))
+      → ((i : ℕ) (d : Result (Vec Made Global) NoMemory) → i < length rs → IfOk (get_or rs i d) (λ (made : Vec Made Global). IsRun s all places (from + i) made.items))
       → Made' (flat_map made_in rs) from (length rs)
   runs_made [] from ok each = (sym (ap (λ n. take n (drop (from * size) places)) (no_times size)), tt)
   runs_made (Err e ∷ rs) from ok each = absurd (true≢false (sym ok.0))
   runs_made (Ok v ∷ rs) from ok each =
-      let here : IsRun s all places size (from + 0) v.items = each 0 (Ok v) (omega arith) in
+      let here : IsRun s all places (from + 0) v.items = each 0 (Ok v) (omega arith) in
       let rest : Made' (flat_map made_in rs) (from + 1) (length rs) =
-      runs_made rs (from + 1) ok.1 (λ i d h. subst (λ (n : ℕ). IfOk (get_or rs i d) (λ (made : Vec Made Global). IsRun s all places size n made.items)) (omega arith) (each (suc i) d (omega (arith, h)))) in
+      runs_made rs (from + 1) ok.1 (λ i d h. subst (λ (n : ℕ). IfOk (get_or rs i d) (λ (made : Vec Made Global). IsRun s all places n made.items)) (omega arith) (each (suc i) d (omega (arith, h)))) in
       let first : map (λ (m : Made). m.place) v.items ≡ take size (drop (from * size) places) = subst (λ (n : ℕ). map (λ (m : Made). m.place) v.items ≡ take size (drop (n * size) places)) (omega arith) here.places_are in
       let behind : drop ((from + 1) * size) places ≡ drop size (drop (from * size) places) = ap (λ n. drop n places) (one_more from size) ∙ sym (drop-drop size (from * size) places) in (
         map_append (λ (m : Made). m.place) v.items (flat_map made_in rs)
@@ -88,11 +111,11 @@ module _ (s : MailStore) (all : List Resolved) (places : List ℕ) (size : ℕ) 
       first_more a b = omega arith
 
   pub all_made : (rs : List (Result (Vec Made Global) NoMemory)) → length places ≤ length rs * size → AllByRecursion IsOk rs
-      → ((i : ℕ) (d : Result (Vec Made Global) NoMemory) → i < length rs → IfOk (get_or rs i d) (λ (made : Vec Made Global). IsRun s all places size i made.items))
+      → ((i : ℕ) (d : Result (Vec Made Global) NoMemory) → i < length rs → IfOk (get_or rs i d) (λ (made : Vec Made Global). IsRun s all places i made.items))
       → (map (λ (m : Made). m.place) (flat_map made_in rs) ≡ places) × AllByRecursion (IsMade s all) (flat_map made_in rs)
   all_made rs long ok each =
       let made : Made' (flat_map made_in rs) 0 (length rs) =
-      runs_made rs 0 ok (λ i d h. subst (λ (n : ℕ). IfOk (get_or rs i d) (λ (made : Vec Made Global). IsRun s all places size n made.items)) (none_before i) (each i d h)) in
+      runs_made rs 0 ok (λ i d h. subst (λ (n : ℕ). IfOk (get_or rs i d) (λ (made : Vec Made Global). IsRun s all places n made.items)) (none_before i) (each i d h)) in
       (made.0 ∙ ap (λ n. take (length rs * size) (drop n places)) (no_times size) ∙ take_all (length rs * size) places long, made.1)
     where
       none_before : (i : ℕ) → i ≡ 0 + i
@@ -100,7 +123,7 @@ module _ (s : MailStore) (all : List Resolved) (places : List ℕ) (size : ℕ) 
 
   -- what the runs of a level made
   pub level_made : (rs : List (Result (Vec Made Global) NoMemory)) (r : Result (Vec Made Global) NoMemory) → length places ≤ length rs * size
-      → ((i : ℕ) (d : Result (Vec Made Global) NoMemory) → i < length rs → IfOk (get_or rs i d) (λ (made : Vec Made Global). IsRun s all places size i made.items))
+      → ((i : ℕ) (d : Result (Vec Made Global) NoMemory) → i < length rs → IfOk (get_or rs i d) (λ (made : Vec Made Global). IsRun s all places i made.items))
       → IfOk r (λ (made : Vec Made Global). made.items ≡ flat_map made_in rs) → OnOk r (AllByRecursion IsOk rs)
       → IfOk r (λ (made : Vec Made Global). (map (λ (m : Made). m.place) made.items ≡ places) × AllByRecursion (IsMade s all) made.items)
   level_made rs (Ok made) long each joined ok =

@@ -2,6 +2,7 @@
 use Rattle.std.specs.Prelude.{◌≡◌, ℕ, ◌*◌, ◌<◌, List, [], ◌∷◌, length, map, take, drop, slice_index_or, slice_set, IsTrue, Result, Ok, Err, Vec}
 use Rattle.std.specs.List.{AllByRecursion, enumerate_from}
 use Rattle.std.specs.declared.alloc.Global.{Global}
+use Rattle.std.specs.Int.{div_ceil}
 use Rattle.undo_base.specs.declared.memory.NoMemory.{NoMemory}
 use Rattle.verb_core.specs.declared.item.Resolved.{Resolved}
 use Rattle.verb_core.specs.declared.item.Shown.{Shown}
@@ -10,7 +11,7 @@ use Rattle.verb_core.specs.Step.{step_with}
 use Rattle.verb_core.specs.Store.{MailStore}
 use Rattle.box_store.specs.Effects.{IsAimed, IsEffect, applied}
 use Rattle.touch_rules.specs.Swapping.{resolved}
-use Rattle.replay_crew.specs.declared.level.Made.{Made}
+use Rattle.replay_crew.specs.declared.made.Made.{Made}
 use Rattle.replay_crew.specs.Orders.{Placed, AllFit, all_apart, at_places, run_turns}
 use Rattle.replay_crew.specs.Resolving.{turn_of}
 
@@ -57,9 +58,17 @@ abbrev pub AreLevels : MailStore → List Resolved → List (List ℕ) → Type 
 AreLevels s all [] = Unit {0}
 AreLevels s all (places ∷ more) = IsLevel s all places × AreLevels (run_turns s (level_of all places)) all more
 
--- what a run of a level makes: of the places from the run's first on, so many at most
-pub record IsRun (s : MailStore) (all : List Resolved) (places : List ℕ) (size run : ℕ) (made : List Made) : Type 0 where
-  pub places_are : map (λ (m : Made). m.place) made ≡ take size (drop (run * size) places)
+-- how long a run of a level is: a sixteenth of the level's items, rounded up
+abbrev pub run_length : ℕ → ℕ
+run_length count = div_ceil count 16
+
+-- the places of a run: so many, behind those of the runs before it; the last run may have fewer
+abbrev pub run_at : List ℕ → ℕ → List ℕ
+run_at places run = take (run_length (length places)) (drop (run * run_length (length places)) places)
+
+-- what a run of a level makes: what the items at its places do
+pub record IsRun (s : MailStore) (all : List Resolved) (places : List ℕ) (run : ℕ) (made : List Made) : Type 0 where
+  pub places_are : map (λ (m : Made). m.place) made ≡ run_at places run
   pub made_are : AllByRecursion (IsMade s all) made
 
 -- what a run made, where it did not want memory

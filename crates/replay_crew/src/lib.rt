@@ -11,6 +11,7 @@
 
 pub mod laws;
 mod level;
+mod made;
 mod reading;
 mod resolving;
 mod run;

@@ -11,7 +11,8 @@ ghost use Rattle.replay_crew.specs.Orders.{levels_at, run_levels, run_turns, tol
 ghost use Rattle.replay_crew.specs.Resolving.{AreResolved, AreResolvedFrom, turn_of};
 ghost use Rattle.replay_crew.specs.Working.{AreLevels, IsLevel, answers_on, applied_each, level_of, put_each, shown_at};
 
-use crate::level::{Made, make_level};
+use crate::level::make_level;
+use crate::made::Made;
 use crate::{ResolvedList, Shows};
 use box_store::{Effect, Steps, Store};
 use replay_plan::Levels;
@@ -49,7 +50,7 @@ fn apply_made<L: Ledger>(
     ensures shows { OnOk result (shows.new.items ≡ slice_set shows.old.items made.place made.effect.shown) }
     ensures step { OnOk result (steps.new ≡ steps.old + 1) }
 {
-    let Made { place, effect } = made;
+    let (place, effect) = made.parts();
     let shown = apply_one(alloc, store, effect, steps)?;
     if let Some(slot) = shows.get_mut(place as usize) {
         *slot = shown;

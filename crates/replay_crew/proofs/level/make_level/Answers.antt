@@ -2,18 +2,19 @@ use Rattle.std.proofs.Common.{◌≡◌, ◌*◌, ◌≤◌, length, map, sym, s
 use Rattle.std.specs.Prelude.{IfOk}
 use Rattle.std.specs.List.{AllByRecursion}
 use Rattle.std.specs.declared.alloc.Global.{Global}
-use Rattle.replay_crew.specs.declared.level.Made.{Made}
-use Rattle.replay_crew.specs.Working.{IsMade}
+use Rattle.replay_crew.specs.declared.made.Made.{Made}
+use Rattle.replay_crew.specs.Working.{IsMade, run_length}
 use Rattle.replay_crew.proofs.Loops.{first_if, level_made, second_if}
 use Rattle.replay_crew.proofs.level.make_level.Goals as goal
 use Rattle.replay_crew.proofs.level.make_level.Goals.{After-joined}
 
 made : (g : _) (c : After-joined g) → IfOk c.joined.result (λ (made : Vec Made Global). (map (λ (m : Made). m.place) made.items ≡ c.args.places.now) × AllByRecursion (IsMade c.args.store.now.store c.args.items.now) made.items)
 made g c =
+    let places = c.args.places.now in
     let runs = c.in_ok-runs.runs in
     let long : length runs.items ≡ c.run_count.result = omega (arith, runs.ok.0, c.in_ok-runs.ensures.len) in
-    level_made c.args.store.now.store c.args.items.now c.args.places.now c.run_size-size.result runs.items c.joined.result
-    (subst (λ (n : ℕ). length c.args.places.now ≤ n * c.run_size-size.result) (sym long) c.run_count.ensures.all)
+    level_made c.args.store.now.store c.args.items.now places runs.items c.joined.result
+    (subst (λ (n : ℕ). length places ≤ n * run_length (length places)) (sym long) c.run_count.ensures.all)
     (λ i d h. (c.in_ok-runs.ensures.each i d (omega (arith, h, long))).1.met)
     c.joined.ensures.joined c.joined.ensures.each
 
