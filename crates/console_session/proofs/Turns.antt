@@ -21,8 +21,8 @@ use Rattle.paradox.specs.Kept.{performed, report_of, snapshotted, Kept}
 use Rattle.repair_desk.specs.Repairs.{position}
 use Rattle.mail_cycle.specs.Asking.{Due, IsRewinds, Repeats, NoPoint, NoNumbers, Rewinds as IsDue, after_cycle, cycle_due, due_anew, due_at, due_by}
 use Rattle.mail_cycle.specs.Cycles.{Cycled, cycled_at, leaves_numbers}
-use Rattle.time_desk.specs.declared.fault.ActFault.{ActFault}
-use Rattle.time_desk.specs.declared.fault.ActFault.TheVariants as fault
+use Rattle.desk_journal.specs.declared.fault.ActFault.{ActFault}
+use Rattle.desk_journal.specs.declared.fault.ActFault.TheVariants as fault
 use Rattle.time_desk.specs.declared.fault.CycleFault.{CycleFault}
 use Rattle.time_desk.specs.declared.fault.CycleFault.TheVariants as cycle_fault
 use Rattle.time_desk.specs.Cycling.{Cycles, CyclesBy, CyclesNone, FailsToCycle, FailsToRead, StarvesBy, Tries, TriesNone}

@@ -5,8 +5,8 @@ use Rattle.seal_log.specs.declared.fault.ReadFault.{ReadFault}
 use Rattle.seal_log.specs.declared.fault.ReadFault.TheVariants as read_fault
 use Rattle.seal_log.specs.declared.fault.SealFault.{SealFault}
 use Rattle.seal_log.specs.declared.fault.SealFault.TheVariants as seal_fault
-use Rattle.time_desk.specs.declared.fault.ActFault.{ActFault}
-use Rattle.time_desk.specs.declared.fault.ActFault.TheVariants as fault
+use Rattle.desk_journal.specs.declared.fault.ActFault.{ActFault}
+use Rattle.desk_journal.specs.declared.fault.ActFault.TheVariants as fault
 use Rattle.time_desk.specs.declared.fault.CycleFault.{CycleFault}
 use Rattle.time_desk.specs.declared.fault.CycleFault.TheVariants as cycle_fault
 use Rattle.time_desk.specs.Lasting.{Lasting}

@@ -14,8 +14,8 @@ use Rattle.mail_loop.specs.declared.serve.ServeFault.{ServeFault}
 use Rattle.mail_loop.specs.declared.serve.ServeFault.TheVariants as serve
 use Rattle.mail_loop.specs.Serving.{Step}
 use Rattle.script_link.specs.Script.{script_of}
-use Rattle.time_desk.specs.declared.fault.MakeFault.{MakeFault}
-use Rattle.time_desk.specs.declared.fault.MakeFault.TheVariants as make
+use Rattle.desk_journal.specs.declared.fault.MakeFault.{MakeFault}
+use Rattle.desk_journal.specs.declared.fault.MakeFault.TheVariants as make
 use Rattle.time_desk.specs.declared.fault.StartFault.{StartFault}
 use Rattle.time_desk.specs.declared.fault.StartFault.TheVariants as start
 use Rattle.time_desk.specs.Making.{Makes}

@@ -13,7 +13,7 @@ use Rattle.mail_loop.specs.declared.serve.ServeFault.TheVariants.{Link, Disk, Tu
 use Rattle.mail_loop.specs.Serving.{Step, CountsFaults, ServedOver}
 use Rattle.script_link.specs.Script.{script_of}
 use Rattle.script_link.specs.Transcript.{transcript_of}
-use Rattle.time_desk.specs.declared.fault.MakeFault.TheVariants as make
+use Rattle.desk_journal.specs.declared.fault.MakeFault.TheVariants as make
 use Rattle.time_desk.specs.declared.fault.StartFault.TheVariants as start
 use Rattle.time_desk.specs.Making.{Makes}
 use Rattle.time_desk.specs.Opening.{IsDamaged, OpensAs, Starts}

@@ -6,8 +6,8 @@ use Rattle.undo_outside.specs.Calls.{SourceTold}
 use Rattle.undo_outside.specs.Disk.{DiskTold}
 use Rattle.paradox.specs.Kept.{Kept}
 use Rattle.house_text.specs.Configuration.{configured}
-use Rattle.time_desk.specs.declared.fault.MakeFault.{MakeFault}
-use Rattle.time_desk.specs.declared.fault.MakeFault.TheVariants.{NotEmpty, Disk, NoMemory}
+use Rattle.desk_journal.specs.declared.fault.MakeFault.{MakeFault}
+use Rattle.desk_journal.specs.declared.fault.MakeFault.TheVariants.{NotEmpty, Disk, NoMemory}
 use Rattle.time_desk.specs.Making.{Makes}
 use Rattle.mail_proxy.specs.Lines.{bad_configuration, not_empty, disk_fault, no_memory}
 use Rattle.mail_proxy.specs.Texts.{End, ending, FromText}

@@ -16,7 +16,7 @@ use Rattle.mail_cycle.specs.Asking.{after_cycle}
 use Rattle.mail_cycle.specs.Cycles.{cycled_at, told_at}
 use Rattle.time_desk.specs.Records.{after_kept, after_record, after_records, after_snapshot, first_state, is_true, state}
 use Rattle.time_desk.specs.Sealing.{is_cycle}
-use Rattle.time_desk.proofs.Runs.{state_append}
+use Rattle.desk_journal.proofs.Runs.{state_append}
 use Rattle.snapshot_laws.specs.Usable.{cycles_in, is_snapshot, snapshots_in}
 use Rattle.snapshot_laws.proofs.Runs.{IsLasting, along}
 use Rattle.snapshot_laws.proofs.Steps.{IsFirst, cycled_is, is_first, kept_is, performed_is}

@@ -4,7 +4,7 @@ use Rattle.std.specs.Prelude.{option_and_then}
 use Rattle.verb_bytes.specs.declared.journal.JournalRecord.{JournalRecord}
 use Rattle.paradox.specs.Kept.{Kept}
 use Rattle.time_desk.specs.Records.{after_record, after_records, first_state, state}
-use Rattle.time_desk.proofs.Runs.{state_append}
+use Rattle.desk_journal.proofs.Runs.{state_append}
 
 -- one more record
 pub one_more : (done : List JournalRecord) (r : JournalRecord) (kept next : Kept) → state done ≡ Some kept → after_record kept r ≡ Some next → state (done ++ r ∷ []) ≡ Some next

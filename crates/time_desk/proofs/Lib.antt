@@ -1,18 +1,11 @@
-pub mod Beginnings
-pub mod Payloads
 pub mod Telling
-pub mod Noting
 pub mod Holding
 pub mod Renoting
-pub mod Runs
 pub mod Standings
 pub mod OneWay
 pub mod Surveys
 pub mod Soundness
-pub mod Sealed
-pub mod Submits
 pub mod Lasts
-pub mod Snapshots
 pub mod Servings
 pub mod Resolving
 pub mod Rewinding
@@ -20,5 +13,3 @@ pub mod Marking
 pub mod Messages
 pub mod Accounts
 pub mod States
-pub mod Turns
-pub mod Spots

@@ -40,7 +40,7 @@ use Rattle.mail_cycle.specs.Asking.{cycle_due, due_anew, due_by}
 use Rattle.time_desk.specs.Records.{after_cycle_record, after_due, can_rewind, is_spelled}
 use Rattle.time_desk.specs.Permanence.{RevsBelow}
 use Rattle.time_desk.specs.Stored.{HasNote, IsBefore, IsFresh, IsStored, LiesIn, NotedBefore, NotesCycle, Renotes, TextsLie, recorded_in}
-use Rattle.time_desk.proofs.Noting.{Moves, has_note_moves, recorded_is}
+use Rattle.desk_journal.proofs.Noting.{Moves, has_note_moves, recorded_is}
 
 -- ---- the text of a body
 

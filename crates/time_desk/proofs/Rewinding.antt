@@ -52,13 +52,14 @@ use Rattle.mail_cycle.specs.declared.beginning.Beginning.{Beginning}
 use Rattle.time_desk.specs.Serving.{CanServe, Serves, unmarked}
 use Rattle.time_desk.specs.Submitting.{SealsBytes, SealsNone, SealsNothing}
 use Rattle.time_desk.specs.Telling.{HoldsHeld, IsOnlyRead}
-use Rattle.time_desk.proofs.Holding.{holds_sealed, noted_later}
-use Rattle.time_desk.proofs.Payloads.{none_read, payloads_then}
+use Rattle.desk_journal.proofs.Holding.{holds_sealed, noted_later}
+use Rattle.desk_journal.proofs.Payloads.{none_read, payloads_then}
 use Rattle.time_desk.proofs.Marking.{length_shown, made_marks}
 use Rattle.time_desk.proofs.Renoting.{cycle_lies, cycle_noted, made_timeline, made_timeline_of, shown_made}
-use Rattle.time_desk.proofs.Runs.{seals_nothing, seals_still, seals_then, still_holds}
-use Rattle.time_desk.proofs.Sealed.{lies_longer, revs_on}
-use Rattle.time_desk.proofs.Submits.{not_sealed}
+use Rattle.desk_journal.proofs.Runs.{seals_nothing, seals_still, seals_then, still_holds}
+use Rattle.desk_journal.proofs.Sealed.{lies_longer}
+use Rattle.time_desk.proofs.Soundness.{revs_on}
+use Rattle.desk_journal.proofs.Submits.{not_sealed}
 
 -- ---- what a cycle leaves in memory
 

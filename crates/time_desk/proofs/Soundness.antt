@@ -1,7 +1,6 @@
 -- What holds of all that records leave, and what lasts from one of them to a later one.
-use Rattle.std.proofs.Common.{◌≡◌, ℕ, ◌+◌, ◌-◌, ◌<◌, ◌≤◌, ◌==◌, Bool, true, false, ◌&&◌, cond, nat_le, nat_lt, arith, refl, sym, ◌∙◌, ap, subst, List, [], ◌∷◌, length, map, Option, Some, None, is_some, is_eq, eqb-true, unwrap_or, option_and_then}
+use Rattle.std.proofs.Common.{◌≡◌, ℕ, ◌+◌, ◌-◌, ◌<◌, ◌≤◌, ◌==◌, Bool, true, false, ◌&&◌, cond, nat_le, nat_lt, arith, refl, sym, subst, List, ◌∷◌, length, map, Option, Some, None, is_some, is_eq, eqb-true, unwrap_or, option_and_then, []}
 use Rattle.std.specs.List.{AllByRecursion, list_all, cons_option}
-use Rattle.std.specs.Cmp.{first_so}
 use Rattle.std.proofs.lemmas.Bool.{and_parts, leb-true}
 use Rattle.verb_core.specs.declared.conf.Conf.{Conf}
 use Rattle.verb_core.specs.declared.conf.House.{House}
@@ -13,28 +12,27 @@ use Rattle.verb_core.specs.Deeds.{act_item}
 use Rattle.verb_core.specs.Items.{IsWellFormed, has_form, is_own, keys_in, users_in}
 use Rattle.verb_core.specs.Stamps.{stamps_after}
 use Rattle.verb_core.specs.Step.{Boxes, step}
-use Rattle.verb_core.specs.Store.{MailStore, is_house, is_known, opening}
-use Rattle.verb_core.proofs.Joins.{run_joined}
+use Rattle.verb_core.specs.Store.{is_house, is_known, opening}
 use Rattle.verb_core.proofs.StampLaws.{after-ids, opening-ids}
 use Rattle.verb_bytes.specs.declared.journal.CycleAsk.{CycleAsk}
 use Rattle.verb_bytes.specs.declared.journal.JournalRecord.{JournalRecord}
 use Rattle.verb_bytes.specs.declared.journal.JournalRecord.TheVariants.{Format, Verb, Operator, Cycle, Snapshot}
-use Rattle.verb_bytes.specs.Fields.{◌&◌, actor_field, are_in_range, byte_field, moment_field, only_if, u32_field}
-use Rattle.verb_bytes.specs.Spelling.{HasSpelling, deed_fields, item_fields, shown_fields, shown_kind}
-use Rattle.verb_bytes.proofs.Puts.{others_in_range}
+use Rattle.verb_bytes.specs.Fields.{◌&◌}
+use Rattle.verb_bytes.specs.Spelling.{HasSpelling}
 use Rattle.paradox.specs.declared.reports.Report.{Report}
-use Rattle.paradox.specs.Kept.{IsRun, Kept, Marks, marked, new_desk, passed, performed, report_of, snapshotted, store_of}
+use Rattle.paradox.specs.Kept.{Kept, Marks, marked, new_desk, passed, performed, report_of, snapshotted, store_of}
 use Rattle.repair_desk.specs.Repairs.{are_known, position}
 use Rattle.mail_cycle.specs.Asking.{Due, NoNumbers, NoPoint, Repeats, Rewinds, after_cycle, cycle_due, due_anew, due_at, due_by}
 use Rattle.mail_cycle.specs.Cycles.{Cycled, cycled_at, leaves_numbers}
 use Rattle.mail_cycle.specs.Permanence.{UidsLast}
 use Rattle.mail_cycle.proofs.Lasting.{lasts_cycled, lasts_itself, lasts_on, lasts_performed}
 use Rattle.mail_cycle.proofs.Left.{left_due, left_revs}
-use Rattle.mail_desk.proofs.Timelines.{all_on, all_weaker, apart_on, below_on, others_below}
+use Rattle.mail_desk.proofs.Timelines.{all_on, apart_on, below_on, others_below}
 use Rattle.house_text.specs.Beginning.{can_begin}
 use Rattle.time_desk.specs.Records.{after_cycle_record, after_due, after_item, after_record, after_records, after_snapshot, agree, can_follow, can_keep, can_rewind, first_state, is_formed, is_spelled, is_true, state}
 use Rattle.time_desk.specs.Permanence.{IsSound, RevsBelow}
-use Rattle.time_desk.proofs.Beginnings.{begins_known}
+use Rattle.desk_journal.proofs.Beginnings.{begins_known}
+use Rattle.desk_journal.proofs.Entering.{item_runs, item_revs, no_rev}
 
 -- ---- at first
 
@@ -93,10 +91,6 @@ fresh_on : (stamps : List (BoxId × ℕ)) (number next : ℕ) → number ≡ nex
 fresh_on stamps number next is all [] = tt
 fresh_on stamps number next is all (r ∷ boxes) = (row_low stamps r.0 number next is all, fresh_on stamps number next is all boxes)
 
--- the store stays what the items leave
-pub item_runs : (kept : Kept) (i : Item) → IsRun kept → IsRun (performed kept i)
-item_runs kept i runs = ap (λ (s : MailStore). (step s i).0) runs ∙ sym (run_joined kept.base kept.timeline (i ∷ []))
-
 pub item_sound : (kept : Kept) (i : Item) → IsSound kept → IsWellFormed kept.house i → i.number ≡ kept.next → IsSound (performed kept i)
 item_sound kept i sound formed number = record {
   house = sound.house;
@@ -111,11 +105,6 @@ item_sound kept i sound formed number = record {
   named = after-ids i.number (step (store_of kept) i).0.boxes kept.stamps;
   fresh = fresh_on kept.stamps i.number kept.next number sound.fresh (step (store_of kept) i).0.boxes;
 }
-
-item_revs : (kept : Kept) (i : Item) → i.rev ≡ 0 → RevsBelow kept → RevsBelow (performed kept i)
-item_revs kept i none revs =
-    all_on (λ (j : Item). j.rev < kept.next + 1) kept.timeline i
-    (all_weaker (λ (j : Item). j.rev < kept.next) (λ (j : Item). j.rev < kept.next + 1) (λ j less. omega arith) kept.timeline revs) (omega arith)
 
 agreed : (a b : Bool) → agree a b ≡ true → a ≡ b
 agreed true b e = sym e
@@ -151,16 +140,6 @@ item_follows kept i sound formed number rev = record {
   revs = item_revs kept i rev;
   lasts = lasts_performed kept i sound.named number;
 }
-
--- an item of a record has no rev
-no_rev : (i : Item) → HasSpelling (Verb i) → i.rev ≡ 0
-unfolding are_in_range only_if
-no_rev i fits =
-    let shown = shown_fields (shown_kind i.deed) i.shown in
-    let fields = deed_fields i.deed & shown & only_if (i.rev == 0) in
-    let behind = others_in_range (actor_field i.by) fields (others_in_range (moment_field i.at) (actor_field i.by & fields) (others_in_range (u32_field i.number) (moment_field i.at & actor_field i.by & fields) (others_in_range (byte_field 0 4 1) (item_fields i) fits))) in
-    let last = others_in_range shown (only_if (i.rev == 0)) (others_in_range (deed_fields i.deed) (shown & only_if (i.rev == 0)) behind) in
-    eqb-true i.rev 0 (first_so (i.rev == 0) true last)
 
 -- the record of an item
 item_record : (kept new : Kept) (what : JournalRecord) (i : Item) → (HasSpelling what → i.rev ≡ 0) → IsSound kept → after_item kept what i ≡ Some new → Follows kept new
@@ -287,3 +266,7 @@ state_holds (r ∷ rs) kept is = by (first_state r) refl is
         let held = first_holds r first e in
         let follows = records_follow rs first kept held.0 is in
         (follows.sound, follows.revs held.1)
+
+-- what a record leaves has revs below its next number
+pub revs_on : (what : JournalRecord) (kept new : Kept) → IsSound kept → after_record kept what ≡ Some new → RevsBelow kept → RevsBelow new
+revs_on what kept new sound is revs = (records_follow (what ∷ []) kept new sound (ap (option_and_then Some) is)).revs revs

@@ -1,5 +1,5 @@
 -- Records that are read and performed one after the other.
-use Rattle.std.proofs.Common.{◌≡◌, ℕ, zero, suc, ◌+◌, ◌-◌, ◌<◌, ◌≤◌, ◌∷◌, ◌++◌, ◌∙◌, ◌&&◌, [], List, Bool, true, false, Option, Some, None, Result, Ok, Err, length, take, drop, get_or, is_some, refl, sym, ap, subst, arith, append_assoc, length-append}
+use Rattle.std.proofs.Common.{◌≡◌, ℕ, zero, suc, ◌+◌, ◌-◌, ◌<◌, ◌≤◌, ◌∷◌, ◌++◌, ◌∙◌, ◌&&◌, List, Bool, true, false, Option, Some, None, Result, Ok, Err, length, take, drop, get_or, is_some, refl, sym, ap, subst, arith, append_assoc, length-append, []}
 use Rattle.std.proofs.lemmas.List.{map-append, take_all}
 use Rattle.std.proofs.lemmas.List.Concat.{flat_map-append}
 use Rattle.std.specs.Prelude.{option_and_then, if◌then◌else◌, IfOk, IfErr, slice_get}
@@ -9,29 +9,18 @@ use Rattle.verb_core.specs.declared.item.Item.{Item}
 use Rattle.verb_core.specs.declared.mailbox.BoxId.{BoxId}
 use Rattle.verb_core.specs.declared.mailbox.Mailbox.{Mailbox}
 use Rattle.std.specs.Int.{w32, to_be_bytes}
-use Rattle.undo_outside.specs.Disk.{DiskTold}
-use Rattle.undo_outside.specs.Moments.{OnlyReads}
 use Rattle.verb_bytes.specs.declared.journal.JournalRecord.{JournalRecord}
 use Rattle.verb_bytes.specs.declared.journal.JournalRecord.TheVariants.{Snapshot}
 use Rattle.verb_bytes.specs.Spelling.{HasSpelling, Spells, record_bytes}
 use Rattle.seal_log.specs.declared.place.Place.{Place}
 use Rattle.seal_log.specs.Journal.{frame, sealed, LiesAt}
 use Rattle.seal_log.specs.Loading.{places_from}
-use Rattle.seal_log.specs.Settled.{Holds, IsSettled}
 use Rattle.paradox.specs.Kept.{Kept, passed, performed, snapshotted}
 use Rattle.time_desk.specs.declared.fault.StartFault.{StartFault}
 use Rattle.time_desk.specs.declared.fault.StartFault.TheVariants.{NotFormatted, Damaged, Disk, NoMemory}
 use Rattle.time_desk.specs.Opening.{CanStand}
 use Rattle.time_desk.specs.Records.{after_item, after_kept, after_record, after_records, can_follow, can_keep, first_state, is_true, payloads_of, state}
 use Rattle.time_desk.specs.Standing.{BreaksFor, Enters, Fails, FailsPayload, FailsReading, LeadsTo, Performed, Performs, SpellsAll, SpellsNothing, StopsFor, kept_as}
-
--- ---- what stays while a disk is read
-
-pub holds_on : (old new : DiskTold) (payloads : List (List ℕ)) → OnlyReads old new → Holds old payloads → Holds new payloads
-holds_on old new payloads reads h = record { honest = reads.honest h.honest; front = λ c now. h.front c (reads.images h.honest c now) }
-
-pub settled_on : (old new : DiskTold) (gate : ℕ) (payloads : List (List ℕ)) → OnlyReads old new → IsSettled old gate payloads → IsSettled new gate payloads
-settled_on old new gate payloads reads s = record { honest = reads.honest s.honest; gate_is = s.gate_is; images = λ c now. s.images c (reads.images s.honest c now) }
 
 -- ---- one record more
 

@@ -34,7 +34,7 @@ use Rattle.time_desk.specs.Permanence.{Arrives, IsSound, Message, RevsBelow, mes
 use Rattle.time_desk.specs.Records.{after_records, state}
 use Rattle.time_desk.proofs.Accounts.{once_some, one_fate, sound_valid, stray_given}
 use Rattle.time_desk.proofs.Messages.{one_message, stamp_below, stamped_there}
-use Rattle.time_desk.proofs.Runs.{state_append}
+use Rattle.desk_journal.proofs.Runs.{state_append}
 use Rattle.time_desk.proofs.Soundness.{records_follow, state_holds}
 
 -- ---- uids

@@ -22,7 +22,7 @@ use Rattle.verb_core.specs.declared.mailbox.Body.{Body}
 use Rattle.shelf.specs.declared.note.Note.{Note}
 use Rattle.time_desk.specs.Stored.{SettledTexts, TextsHeld}
 use Rattle.time_desk.proofs.OneWay.{leaves_stand, payload_at, sealed_opens, some_closed}
-use Rattle.time_desk.proofs.Standings.{settled_on}
+use Rattle.desk_journal.proofs.Staying.{settled_on}
 
 -- ---- images
 

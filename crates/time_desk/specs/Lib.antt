@@ -6,7 +6,6 @@ pub mod Sealing
 pub mod Crashing
 pub mod Making
 pub mod Telling
-pub mod Going
 pub mod Submitting
 pub mod Cycling
 pub mod Serving
@@ -14,4 +13,3 @@ pub mod Planning
 pub mod Opening
 pub mod Standing
 pub mod Permanence
-pub mod Placing

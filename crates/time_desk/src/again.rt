@@ -14,9 +14,9 @@ ghost use Rattle.time_desk.specs.Stored.{MarkedBefore, NotedBefore, store_at};
 ghost use Rattle.time_desk.specs.Telling.{HoldsHeld};
 
 use crate::beginning::beginning;
-use crate::reading::Reading;
 use crate::redo::begun;
 use box_store::Steps;
+use desk_journal::Reading;
 use mail_cycle::laws::{cycles_begin_anywhere, cycles_leave_states};
 use mail_cycle::{Beginning, CycleRefused, Rewound, cycle_in_order, due_place};
 use mail_desk::Desk;

@@ -21,14 +21,11 @@ ghost use Rattle.time_desk.specs.Stored.{HoldsTexts, MarkedBefore, NotedBefore, 
 ghost use Rattle.time_desk.specs.Submitting.{SealsBytes};
 ghost use Rattle.time_desk.specs.Telling.{HoldsHeld, IsOnlyRead};
 
-use crate::fresh::fresh_of;
-use crate::on_disk::Journal;
 use crate::permanence::records_let_uids_last;
 use crate::redo::{key_in, remade, rewound, rewound_alone};
-use crate::seal::seal_bytes;
-use crate::spelling::cycle_bytes;
 use crate::{CycleFault, Desk};
 use box_store::Steps;
+use desk_journal::{Journal, cycle_bytes, fresh_of, seal_bytes};
 use mail_cycle::{CycleRefused, Rewound};
 use mail_desk::{Fresh, Remade};
 use paradox::Report;
@@ -313,76 +310,74 @@ fn cycle_made<D: Disk>(
     }
 }
 
-impl<D: Disk> Journal<D> {
-    /// What the cycle leaves that is due under a new key: nothing was written.
-    fn rewound<R: Threads + Sync, G: Gate, L: Ledger>(
-        &mut self,
-        rt: &R,
-        alloc: Global,
-        desk: &mail_desk::Desk,
-        at: u64,
-        ask: &CycleAsk,
-        gate: &G,
-        steps: &mut Steps<L>,
-    ) -> Result<Rewound, CycleRefused>
-        requires noted { NotedBefore self.old.gate desk.now.notes desk.now.kept.timeline }
-        requires marked { MarkedBefore self.old.gate desk.now.marks }
-        requires moment { at ≤ LAST_MOMENT }
-        requires known { IsTrue (are_known desk.now.kept.house ask.now.inserts) }
-        ensures due { IfOk result (Redoes desk.now.kept at ask.now (HoldsHeld (D.told self.old.disk) desk.now)) }
-        ensures made { IfOk result (IsMade desk.now.kept at ask.now (HoldsHeld (D.told self.old.disk) desk.now)) }
-        ensures fit { IfOk result (IsFit desk.now.kept) }
-        ensures refused { IfErr result (IsRefusalOf desk.now.kept ask.now (due_anew desk.now.kept at ask.now)) }
-        ensures untouched { IfErr result (λ refused. (IsRewinds (due_anew desk.now.kept at ask.now) → ⊥) → self.new ≡ self.old) }
-        ensures cause { RedoesCause (D.told self.old.disk) (D.told self.new.disk) result }
-        ensures still { IsOnlyRead D.told self.old self.new }
-        ensures rewinds { (due : Cycled) → due_anew desk.now.kept at ask.now ≡ Rewinds due → HoldsHeld (D.told self.old.disk) desk.now
-            → OnOk result (steps.new ≤ steps.old + most_performed desk.now.kept ask.now due) }
-        ensures steps { IfOk result (λ made. steps.new ≤ steps.old + length made.timeline) }
-    {
-        rewound(
-            rt,
-            alloc,
-            &mut self.disk,
-            self.log.last_gate(),
-            desk,
-            at,
-            ask,
-            gate,
-            steps,
-        )
-    }
+/// What the cycle leaves that is due under a new key: nothing was written.
+fn rewound_in<R: Threads + Sync, G: Gate, D: Disk, L: Ledger>(
+    rt: &R,
+    alloc: Global,
+    journal: &mut Journal<D>,
+    desk: &mail_desk::Desk,
+    at: u64,
+    ask: &CycleAsk,
+    gate: &G,
+    steps: &mut Steps<L>,
+) -> Result<Rewound, CycleRefused>
+    requires noted { NotedBefore journal.old.gate desk.now.notes desk.now.kept.timeline }
+    requires marked { MarkedBefore journal.old.gate desk.now.marks }
+    requires moment { at ≤ LAST_MOMENT }
+    requires known { IsTrue (are_known desk.now.kept.house ask.now.inserts) }
+    ensures due { IfOk result (Redoes desk.now.kept at ask.now (HoldsHeld (D.told journal.old.disk) desk.now)) }
+    ensures made { IfOk result (IsMade desk.now.kept at ask.now (HoldsHeld (D.told journal.old.disk) desk.now)) }
+    ensures fit { IfOk result (IsFit desk.now.kept) }
+    ensures refused { IfErr result (IsRefusalOf desk.now.kept ask.now (due_anew desk.now.kept at ask.now)) }
+    ensures untouched { IfErr result (λ refused. (IsRewinds (due_anew desk.now.kept at ask.now) → ⊥) → journal.new ≡ journal.old) }
+    ensures cause { RedoesCause (D.told journal.old.disk) (D.told journal.new.disk) result }
+    ensures still { IsOnlyRead D.told journal.old journal.new }
+    ensures rewinds { (due : Cycled) → due_anew desk.now.kept at ask.now ≡ Rewinds due → HoldsHeld (D.told journal.old.disk) desk.now
+        → OnOk result (steps.new ≤ steps.old + most_performed desk.now.kept ask.now due) }
+    ensures steps { IfOk result (λ made. steps.new ≤ steps.old + length made.timeline) }
+{
+    rewound(
+        rt,
+        alloc,
+        &mut journal.disk,
+        journal.log.last_gate(),
+        desk,
+        at,
+        ask,
+        gate,
+        steps,
+    )
+}
 
-    /// The same, with nothing counted.
-    fn rewound_alone<R: Threads + Sync, G: Gate>(
-        &mut self,
-        rt: &R,
-        alloc: Global,
-        desk: &mail_desk::Desk,
-        at: u64,
-        ask: &CycleAsk,
-        gate: &G,
-    ) -> Result<Rewound, CycleRefused>
-        requires noted { NotedBefore self.old.gate desk.now.notes desk.now.kept.timeline }
-        requires marked { MarkedBefore self.old.gate desk.now.marks }
-        requires moment { at ≤ LAST_MOMENT }
-        requires known { IsTrue (are_known desk.now.kept.house ask.now.inserts) }
-        ensures due { IfOk result (Redoes desk.now.kept at ask.now (HoldsHeld (D.told self.old.disk) desk.now)) }
-        ensures refused { IfErr result (IsRefusalOf desk.now.kept ask.now (due_anew desk.now.kept at ask.now)) }
-        ensures cause { RedoesCause (D.told self.old.disk) (D.told self.new.disk) result }
-        ensures still { IsOnlyRead D.told self.old self.new }
-    {
-        rewound_alone(
-            rt,
-            alloc,
-            &mut self.disk,
-            self.log.last_gate(),
-            desk,
-            at,
-            ask,
-            gate,
-        )
-    }
+/// The same, with nothing counted.
+fn rewound_alone_in<R: Threads + Sync, G: Gate, D: Disk>(
+    rt: &R,
+    alloc: Global,
+    journal: &mut Journal<D>,
+    desk: &mail_desk::Desk,
+    at: u64,
+    ask: &CycleAsk,
+    gate: &G,
+) -> Result<Rewound, CycleRefused>
+    requires noted { NotedBefore journal.old.gate desk.now.notes desk.now.kept.timeline }
+    requires marked { MarkedBefore journal.old.gate desk.now.marks }
+    requires moment { at ≤ LAST_MOMENT }
+    requires known { IsTrue (are_known desk.now.kept.house ask.now.inserts) }
+    ensures due { IfOk result (Redoes desk.now.kept at ask.now (HoldsHeld (D.told journal.old.disk) desk.now)) }
+    ensures refused { IfErr result (IsRefusalOf desk.now.kept ask.now (due_anew desk.now.kept at ask.now)) }
+    ensures cause { RedoesCause (D.told journal.old.disk) (D.told journal.new.disk) result }
+    ensures still { IsOnlyRead D.told journal.old journal.new }
+{
+    rewound_alone(
+        rt,
+        alloc,
+        &mut journal.disk,
+        journal.log.last_gate(),
+        desk,
+        at,
+        ask,
+        gate,
+    )
 }
 
 /// Does a cycle under a new key on a desk that is not closed.
@@ -411,7 +406,7 @@ fn cycle_open<R: Threads + Sync, G: Gate, D: Disk, L: Ledger>(
         → OnOk result (steps.new ≤ steps.old + most_performed desk.old.kept ask due) }
     ensures steps { OnOk result (steps.new ≤ steps.old + length desk.new.kept.timeline) }
 {
-    match journal.rewound(rt, alloc, desk, at, &ask, gate, steps) {
+    match rewound_in(rt, alloc, journal, desk, at, &ask, gate, steps) {
         Ok(made) => cycle_made(alloc, journal, desk, at, ask, made),
         Err(refused) => {
             drop(ask);
@@ -527,10 +522,7 @@ impl<D: Disk> Desk<D> {
         ensures same { OnOk result ((D.told self.new.disk).failed_reads ≡ (D.told self.old.disk).failed_reads) }
         ensures still { IsStill D.told self.old self.new }
     {
-        match self
-            .journal
-            .rewound_alone(rt, alloc, &self.desk, at, ask, gate)
-        {
+        match rewound_alone_in(rt, alloc, &mut self.journal, &self.desk, at, ask, gate) {
             Ok(made) => Ok(report_in(made)),
             Err(refused) => Err(refused_as(refused)),
         }

@@ -17,8 +17,8 @@ ghost use Rattle.mail_desk.specs.Timeline.{all_bodies, has_sizes, has_text, rev_
 ghost use Rattle.time_desk.specs.Permanence.{IsSound};
 ghost use Rattle.time_desk.specs.Stored.{MarkedBefore, NotedBefore};
 
-use crate::on_disk::Journal;
 use box_store::Store;
+use desk_journal::Journal;
 use mail_desk::Counts;
 use shelf::Shelf;
 use std::alloc::Global;

@@ -1,14 +1,4 @@
-//! Why a call on a desk was refused.
-
-/// Why a desk was not made. Where it is not `NotEmpty` the disk is to be removed.
-#[derive(Clone, Copy, Debug, PartialEq, Eq)]
-pub enum MakeFault {
-    /// The disk has bytes. It stays as it was.
-    NotEmpty,
-    /// A call on the disk failed.
-    Disk,
-    NoMemory,
-}
+//! Why a desk was not started, and why a cycle was not done.
 
 /// Why a desk was not started.
 #[derive(Clone, Copy, Debug, PartialEq, Eq)]
@@ -20,18 +10,6 @@ pub enum StartFault {
     /// A call on the disk failed.
     Disk,
     NoMemory,
-}
-
-/// Why an act was not done.
-#[derive(Clone, Copy, Debug, PartialEq, Eq)]
-pub enum ActFault {
-    /// No number is left: the next would be this one.
-    Numbers { next: u32 },
-    /// A write or a sync failed in this call. The desk is closed from then on.
-    Disk,
-    NoMemory,
-    /// A write or a sync failed earlier.
-    Closed,
 }
 
 /// Why a request for a cycle has no report. But for `NoMemory` the first that holds is told, in this order: `Closed`, `Point`,

@@ -17,11 +17,10 @@ ghost use Rattle.time_desk.specs.Reading.{IsStill};
 ghost use Rattle.time_desk.specs.Stored.{HoldsTexts, NotedBefore};
 ghost use Rattle.time_desk.specs.Telling.{HoldsHeld, IsOnlyRead};
 
-use crate::on_disk::Journal;
-use crate::reading::Reading;
 use crate::redo::begun;
 use crate::{CycleFault, Desk};
 use box_store::{Steps, Store};
+use desk_journal::{Journal, Reading};
 use mail_cycle::rewind;
 use repair_desk::position_of;
 use replay_crew::{ResolvedList, resolve, touch_all};
@@ -208,22 +207,26 @@ pub fn items_are_resolved_in_turn()
     ensures { (s : MailStore) (before later : List TheItem) (i : TheItem) → resolved s (before ++ i ∷ later) ≡ resolved s before ++ resolved_on (run s before) i ∷ resolved (run s (before ++ i ∷ [])) later }
 {}
 
-impl<D: Disk> Journal<D> {
-    /// The plan of a desk's items later than a point.
-    fn plan(
-        &mut self,
-        alloc: Global,
-        desk: &mail_desk::Desk,
-        point: u32,
-    ) -> Result<Text, CycleFault>
-        requires { NotedBefore self.old.gate desk.now.notes desk.now.kept.timeline }
-        ensures text { IfOk result (Plans desk.now.kept point (HoldsHeld (D.told self.old.disk) desk.now)) }
-        ensures why { IfErr result (PlansNone desk.now.kept point (D.told self.old.disk) (D.told self.new.disk)) }
-        ensures ok { OnOk result ((D.told self.new.disk).failed_reads ≡ (D.told self.old.disk).failed_reads) }
-        ensures still { IsOnlyRead D.told self.old self.new }
-    {
-        plan_of_point(alloc, &mut self.disk, self.log.last_gate(), desk, point)
-    }
+/// The plan of a desk's items later than a point.
+fn plan_in<D: Disk>(
+    alloc: Global,
+    journal: &mut Journal<D>,
+    desk: &mail_desk::Desk,
+    point: u32,
+) -> Result<Text, CycleFault>
+    requires { NotedBefore journal.old.gate desk.now.notes desk.now.kept.timeline }
+    ensures text { IfOk result (Plans desk.now.kept point (HoldsHeld (D.told journal.old.disk) desk.now)) }
+    ensures why { IfErr result (PlansNone desk.now.kept point (D.told journal.old.disk) (D.told journal.new.disk)) }
+    ensures ok { OnOk result ((D.told journal.new.disk).failed_reads ≡ (D.told journal.old.disk).failed_reads) }
+    ensures still { IsOnlyRead D.told journal.old journal.new }
+{
+    plan_of_point(
+        alloc,
+        &mut journal.disk,
+        journal.log.last_gate(),
+        desk,
+        point,
+    )
 }
 
 impl<D: Disk> Desk<D> {
@@ -236,6 +239,6 @@ impl<D: Disk> Desk<D> {
         ensures ok { OnOk result ((D.told self.new.disk).failed_reads ≡ (D.told self.old.disk).failed_reads) }
         ensures still { IsStill D.told self.old self.new }
     {
-        self.journal.plan(alloc, &self.desk, point)
+        plan_in(alloc, &mut self.journal, &self.desk, point)
     }
 }

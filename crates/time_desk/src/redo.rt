@@ -14,8 +14,8 @@ ghost use Rattle.time_desk.specs.Stored.{MarkedBefore, NotedBefore, Renotes, sto
 ghost use Rattle.time_desk.specs.Telling.{HoldsHeld};
 
 use crate::beginning::beginning;
-use crate::reading::Reading;
 use box_store::Steps;
+use desk_journal::Reading;
 use mail_cycle::laws::{cycles_begin_anywhere, cycles_leave_states};
 use mail_cycle::{Before, Beginning, CycleRefused, Rewound, cycle_from, due_place};
 use mail_desk::laws::bodies_have_texts;

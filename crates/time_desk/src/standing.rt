@@ -18,11 +18,10 @@ ghost use Rattle.time_desk.specs.Records.{after_cycle_record, after_due, after_r
 ghost use Rattle.time_desk.specs.Standing.{Enters, IsFormed, Performs, begun, has_users as uses, is_actor, kept_as, marked_as, opening_of};
 ghost use Rattle.time_desk.specs.Stored.{KeepsMarks, MarkedBefore, MarksLie, NotedBefore, NotesCycle, NotesTexts, Renotes, TextsHeld, TextsLie};
 
-use crate::act::item_of;
 use crate::again::performed_again;
-use crate::fresh::fresh_of;
 use crate::redo::{key_in, remade};
 use box_store::makes_store;
+use desk_journal::{fresh_of, item_of};
 use house_text::can_begin;
 use mail_cycle::{CycleRefused, Rewound};
 use mail_desk::{Desk, Fresh};

@@ -16,10 +16,10 @@ ghost use Rattle.time_desk.specs.Records.{after_record, first_state};
 ghost use Rattle.time_desk.specs.Standing.{BreaksFor, Fails, FailsPayload, FailsReading, LeadsTo, Performed, ReadCounts, SpellsAll, SpellsNothing, StopsFor};
 ghost use Rattle.time_desk.specs.Stored.{HoldsTexts, MarkedBefore, NotedBefore, SettledTexts, TextsHeld};
 
-use crate::on_disk::Journal;
 use crate::permanence::records_let_uids_last;
 use crate::standing::{begin, follow};
 use crate::{Desk, StartFault};
+use desk_journal::Journal;
 use seal_log::{End, LoadFault, Log, Place, ReadFault, Survey, read_before, survey};
 use std::alloc::Global;
 use undo_base::{NoMemory, Text};

@@ -1,161 +1,18 @@
 //! The texts of bodies: a notice's is in memory, and any other is read where it lies in the journal.
-ghost use Rattle.std.specs.Prelude.{◌≡◌, ◌<◌, ◌+◌, ◌++◌, ◌∷◌, [], List, ℕ, length, is_some, Some, IsTrue, IfOk, OnOk, IsErrOf};
+ghost use Rattle.std.specs.Prelude.{◌≡◌, ◌<◌, length, is_some, IsTrue, IfOk};
 ghost use Rattle.std.specs.List.{list_all};
-ghost use Rattle.undo_outside.specs.Moments.{OnlyReads};
 ghost use Rattle.verb_core.specs.Items.{text_of};
 ghost use Rattle.seal_log.specs.Causes.{ReadAtCause};
 ghost use Rattle.mail_desk.specs.Timeline.{has_text, texts_of};
 ghost use Rattle.time_desk.specs.Reading.{IsStill};
-ghost use Rattle.time_desk.specs.Stored.{HoldsTexts, NotedBefore};
-ghost use Rattle.time_desk.specs.Telling.{HoldsHeld, IsOnlyRead};
+ghost use Rattle.time_desk.specs.Stored.{HoldsTexts};
 
 use crate::Desk;
-use crate::on_disk::Journal;
-use crate::reading::read_noted;
 use seal_log::ReadFault;
 use std::alloc::Global;
-use undo_base::{Copies, NoMemory, Text, Texts};
+use undo_base::{Text, Texts};
 use undo_outside::Disk;
 use verb_core::Body;
-
-/// A copy of a text that is in memory.
-fn copied(alloc: Global, text: &Text) -> Result<Text, ReadFault>
-    ensures text { IfOk result (λ copy. copy ≡ text.now) }
-    ensures memory { IsErrOf result ReadFault.Disk → ⊥ }
-{
-    match text.copy(alloc) {
-        Ok(copy) => Ok(copy),
-        Err(NoMemory) => Err(ReadFault::NoMemory),
-    }
-}
-
-/// The text of a body that has one, in a journal that ends at a gate.
-fn text_at<D: Disk>(
-    alloc: Global,
-    disk: &mut D,
-    end: u64,
-    desk: &mail_desk::Desk,
-    body: Body,
-) -> Result<Text, ReadFault>
-    requires end { end < (D.told disk.old).size }
-    requires noted { NotedBefore end desk.now.notes desk.now.kept.timeline }
-    requires there { IsTrue (has_text desk.now.kept.timeline body) }
-    ensures text { HoldsHeld (D.told disk.old) desk.now → IfOk result (λ text. text_of desk.now.kept.timeline body ≡ Some text) }
-    ensures cause { ReadAtCause (D.told disk.old) (D.told disk.new) result }
-    ensures reads { OnlyReads (D.told disk.old) (D.told disk.new) }
-{
-    desk.stands();
-    match desk.notice(body) {
-        Some(text) => copied(alloc, text),
-        None => read_noted(alloc, disk, end, desk, body),
-    }
-}
-
-/// The text of a body, where it has one.
-fn found_at<D: Disk>(
-    alloc: Global,
-    disk: &mut D,
-    end: u64,
-    desk: &mail_desk::Desk,
-    body: Body,
-) -> Result<Option<Text>, ReadFault>
-    requires end { end < (D.told disk.old).size }
-    requires noted { NotedBefore end desk.now.notes desk.now.kept.timeline }
-    ensures there { IfOk result (λ found. is_some found ≡ has_text desk.now.kept.timeline body) }
-    ensures found { HoldsHeld (D.told disk.old) desk.now → IfOk result (λ found. found ≡ text_of desk.now.kept.timeline body) }
-    ensures cause { ReadAtCause (D.told disk.old) (D.told disk.new) result }
-    ensures reads { OnlyReads (D.told disk.old) (D.told disk.new) }
-{
-    if !desk.has_text(body) {
-        return Ok(None);
-    }
-    match text_at(alloc, disk, end, desk, body) {
-        Ok(text) => Ok(Some(text)),
-        Err(fault) => Err(fault),
-    }
-}
-
-/// Adds the text of a body.
-fn push_at<D: Disk>(
-    alloc: Global,
-    disk: &mut D,
-    end: u64,
-    desk: &mail_desk::Desk,
-    texts: &mut Texts,
-    body: Body,
-) -> Result<(), ReadFault>
-    requires end { end < (D.told disk.old).size }
-    requires noted { NotedBefore end desk.now.notes desk.now.kept.timeline }
-    requires there { IsTrue (has_text desk.now.kept.timeline body) }
-    ensures count { OnOk result (length texts.new ≡ length texts.old + 1) }
-    ensures texts { HoldsHeld (D.told disk.old) desk.now → OnOk result (texts.new ≡ texts.old ++ texts_of desk.now.kept.timeline (body ∷ [])) }
-    ensures cause { ReadAtCause (D.told disk.old) (D.told disk.new) result }
-    ensures reads { OnlyReads (D.told disk.old) (D.told disk.new) }
-{
-    let text = text_at(alloc, disk, end, desk, body)?;
-    match texts.push(text) {
-        Ok(()) => Ok(()),
-        Err(NoMemory) => Err(ReadFault::NoMemory),
-    }
-}
-
-/// The texts of bodies, in order.
-fn texts_at<D: Disk>(
-    alloc: Global,
-    disk: &mut D,
-    end: u64,
-    desk: &mail_desk::Desk,
-    bodies: &[Body],
-) -> Result<Texts, ReadFault>
-    requires end { end < (D.told disk.old).size }
-    requires noted { NotedBefore end desk.now.notes desk.now.kept.timeline }
-    requires there { IsTrue (list_all (has_text desk.now.kept.timeline) bodies.now) }
-    ensures count { IfOk result (λ texts. length texts ≡ length bodies.now) }
-    ensures texts { HoldsHeld (D.told disk.old) desk.now → IfOk result (λ texts. texts ≡ texts_of desk.now.kept.timeline bodies.now) }
-    ensures cause { ReadAtCause (D.told disk.old) (D.told disk.new) result }
-    ensures reads { OnlyReads (D.told disk.old) (D.told disk.new) }
-{
-    let mut texts = Texts::new(alloc);
-    for body in bodies {
-        push_at(alloc, disk, end, desk, &mut texts, *body)?;
-    }
-    Ok(texts)
-}
-
-impl<D: Disk> Journal<D> {
-    /// The text of a body of a desk, where it has one.
-    fn found(
-        &mut self,
-        alloc: Global,
-        desk: &mail_desk::Desk,
-        body: Body,
-    ) -> Result<Option<Text>, ReadFault>
-        requires { NotedBefore self.old.gate desk.now.notes desk.now.kept.timeline }
-        ensures there { IfOk result (λ found. is_some found ≡ has_text desk.now.kept.timeline body) }
-        ensures found { HoldsHeld (D.told self.old.disk) desk.now → IfOk result (λ found. found ≡ text_of desk.now.kept.timeline body) }
-        ensures cause { ReadAtCause (D.told self.old.disk) (D.told self.new.disk) result }
-        ensures still { IsOnlyRead D.told self.old self.new }
-    {
-        found_at(alloc, &mut self.disk, self.log.last_gate(), desk, body)
-    }
-
-    /// The texts of bodies of a desk, in order.
-    fn texts(
-        &mut self,
-        alloc: Global,
-        desk: &mail_desk::Desk,
-        bodies: &[Body],
-    ) -> Result<Texts, ReadFault>
-        requires noted { NotedBefore self.old.gate desk.now.notes desk.now.kept.timeline }
-        requires there { IsTrue (list_all (has_text desk.now.kept.timeline) bodies.now) }
-        ensures count { IfOk result (λ texts. length texts ≡ length bodies.now) }
-        ensures texts { HoldsHeld (D.told self.old.disk) desk.now → IfOk result (λ texts. texts ≡ texts_of desk.now.kept.timeline bodies.now) }
-        ensures cause { ReadAtCause (D.told self.old.disk) (D.told self.new.disk) result }
-        ensures still { IsOnlyRead D.told self.old self.new }
-    {
-        texts_at(alloc, &mut self.disk, self.log.last_gate(), desk, bodies)
-    }
-}
 
 impl<D: Disk> Desk<D> {
     /// The text of a body. None exactly where no item in force has it. It is read where it lies; a notice's is in memory. At

@@ -4,7 +4,7 @@ use Rattle.mail_cycle.specs.declared.beginning.Beginning.{Beginning}
 use Rattle.shelf.specs.Marks.{marks_at_or_before}
 use Rattle.time_desk.specs.Serving.{CanServe}
 use Rattle.time_desk.specs.Stored.{MarkLies, MarkedBefore, MarksLie}
-use Rattle.time_desk.proofs.Marking.{marked_front, marks_passed}
+use Rattle.desk_journal.proofs.Marking.{marked_front, marks_passed}
 use Rattle.time_desk.proofs.Servings.{Mark, all_before, found_newest, found_none, serves_first, some_has}
 use Rattle.time_desk.proofs.beginning.beginning.Goals as goal
 

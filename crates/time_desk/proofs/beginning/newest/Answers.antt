@@ -4,7 +4,7 @@ use Rattle.undo_outside.proofs.Moments.{reads_joined}
 use Rattle.box_store.specs.declared.store.Store.{Store}
 use Rattle.time_desk.specs.Stored.{MarkLies, store_at}
 use Rattle.time_desk.proofs.Servings.{Mark, last_mark, mark_at, none_left, none_stored, some_store}
-use Rattle.time_desk.proofs.Standings.{holds_on}
+use Rattle.desk_journal.proofs.Staying.{holds_on}
 use Rattle.time_desk.proofs.beginning.newest.Goals as goal
 
 pub returns-in-Ok-Some-clause-newest : goal.returns-in-Ok-Some-clause-newest

@@ -8,8 +8,8 @@ use Rattle.time_desk.specs.Cycling.{RenotesAs}
 use Rattle.time_desk.specs.Lasting.{lasting}
 use Rattle.time_desk.specs.Stored.{MarkedBefore, NotedBefore}
 use Rattle.time_desk.proofs.Rewinding.{cycle_notes, cycle_sealed, cycle_starved, cycle_unsealed, cycled}
-use Rattle.time_desk.proofs.Sealed.{marked_same, noted_same}
-use Rattle.time_desk.proofs.Marking.{marked_front, marked_later}
+use Rattle.desk_journal.proofs.Sealed.{marked_same, noted_same}
+use Rattle.desk_journal.proofs.Marking.{marked_front, marked_later}
 use Rattle.time_desk.proofs.cycle.cycle_made.Goals as goal
 
 pub fault_of-requires : goal.fault_of-requires

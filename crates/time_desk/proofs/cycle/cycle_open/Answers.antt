@@ -4,8 +4,8 @@ use Rattle.time_desk.specs.Lasting.{Lasting, lasting}
 use Rattle.time_desk.specs.Stored.{MarkedBefore, NotedBefore}
 use Rattle.time_desk.specs.Telling.{HoldsHeld}
 use Rattle.time_desk.proofs.Rewinding.{any_ok, cycles_as, made_unread, read_from, refused}
-use Rattle.time_desk.proofs.Runs.{seals_still}
-use Rattle.time_desk.proofs.Sealed.{still_read}
+use Rattle.desk_journal.proofs.Runs.{seals_still}
+use Rattle.desk_journal.proofs.Sealed.{still_read}
 use Rattle.time_desk.proofs.cycle.cycle_open.Goals as goal
 
 pub cycle_made-requires-clause-noted : goal.cycle_made-requires-clause-noted

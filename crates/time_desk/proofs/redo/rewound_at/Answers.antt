@@ -2,7 +2,7 @@ use Rattle.std.proofs.Common.{◌≡◌, ◌∙◌, ap, sym, subst}
 use Rattle.undo_outside.proofs.Moments.{reads_joined}
 use Rattle.time_desk.specs.Telling.{HoldsHeld}
 use Rattle.time_desk.proofs.Rewinding.{all_made, few_steps, most_steps}
-use Rattle.time_desk.proofs.Telling.{held_on}
+use Rattle.desk_journal.proofs.Telling.{held_on}
 use Rattle.time_desk.proofs.redo.rewound_at.Goals as goal
 
 pub returns-in-Ok-clause-done : goal.returns-in-Ok-clause-done

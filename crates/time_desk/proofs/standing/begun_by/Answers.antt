@@ -1,5 +1,5 @@
 use Rattle.std.proofs.Common.{◌∙◌, sym}
-use Rattle.time_desk.proofs.Beginnings.{begins_known, begins_unfiltered}
+use Rattle.desk_journal.proofs.Beginnings.{begins_known, begins_unfiltered}
 use Rattle.time_desk.proofs.standing.begun_by.Goals as goal
 
 pub new-requires-clause-aliases : goal.new-requires-clause-aliases

@@ -5,7 +5,8 @@ use Rattle.seal_log.specs.declared.fault.ReadFault.{ReadFault}
 use Rattle.time_desk.specs.Cycling.{after_rewound}
 use Rattle.time_desk.specs.Telling.{HoldsHeld}
 use Rattle.time_desk.specs.Stored.{MarkedBefore, MarksLie}
-use Rattle.time_desk.proofs.Marking.{made_marks, marked_front}
+use Rattle.desk_journal.proofs.Marking.{marked_front}
+use Rattle.time_desk.proofs.Marking.{made_marks}
 use Rattle.time_desk.proofs.Renoting.{put_lies, put_noted}
 use Rattle.time_desk.proofs.standing.rewind_anew.Goals as goal
 

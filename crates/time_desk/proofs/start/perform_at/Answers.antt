@@ -2,7 +2,7 @@ use Rattle.std.proofs.Common.{◌≡◌, List, None, ℕ, subst}
 use Rattle.seal_log.specs.Journal.{LiesAt}
 use Rattle.time_desk.specs.Records.{after_record}
 use Rattle.time_desk.specs.Standing.{FailsPayload, FailsReading}
-use Rattle.time_desk.proofs.Holding.{texts_read}
+use Rattle.desk_journal.proofs.Holding.{texts_read}
 use Rattle.time_desk.proofs.Standings.{fails_reading, fails_unspelled, if_err, if_ok}
 use Rattle.time_desk.proofs.start.perform_at.Goals as goal
 

@@ -1,7 +1,7 @@
 use Rattle.std.proofs.Common.{◌≡◌, Bool, Some, refl, subst}
 use Rattle.time_desk.specs.Records.{after_record}
 use Rattle.time_desk.specs.Standing.{Performs}
-use Rattle.time_desk.proofs.Standings.{holds_on}
+use Rattle.desk_journal.proofs.Staying.{holds_on}
 use Rattle.time_desk.proofs.start.performed.Goals as goal
 
 pub returns-then-stood-clause-next : goal.returns-then-stood-clause-next

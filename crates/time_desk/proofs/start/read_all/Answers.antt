@@ -4,8 +4,9 @@ use Rattle.seal_log.specs.Journal.{sealed}
 use Rattle.time_desk.specs.Records.{first_state}
 use Rattle.time_desk.specs.Standing.{BreaksFor, FailsPayload, LeadsTo, SpellsAll, StopsFor}
 use Rattle.time_desk.specs.Stored.{MarkedBefore, TextsHeld}
-use Rattle.time_desk.proofs.Holding.{held_none, noted_none}
-use Rattle.time_desk.proofs.Standings.{all_spelled, breaks_first, breaks_later, has_first, holds_on, if_err, if_ok, lies_first}
+use Rattle.desk_journal.proofs.Holding.{held_none, noted_none}
+use Rattle.desk_journal.proofs.Staying.{holds_on}
+use Rattle.time_desk.proofs.Standings.{all_spelled, breaks_first, breaks_later, has_first, if_err, if_ok, lies_first}
 use Rattle.time_desk.proofs.start.read_all.Goals as goal
 
 pub followed_by-requires-clause-noted : goal.followed_by-requires-clause-noted

@@ -5,7 +5,7 @@ use Rattle.seal_log.specs.Log.{last_gate}
 use Rattle.seal_log.specs.Settled.{IsSettled}
 use Rattle.time_desk.specs.Records.{payloads_of}
 use Rattle.time_desk.specs.Stored.{MarkedBefore}
-use Rattle.time_desk.proofs.Holding.{holds_first, none_marked, noted_none}
+use Rattle.desk_journal.proofs.Holding.{holds_first, none_marked, noted_none}
 use Rattle.time_desk.proofs.desk.Desk.make.Goals as goal
 
 pub invariant_of-result : goal.invariant_of-result

@@ -1,0 +1,3 @@
+pub mod Judging
+pub mod Cycles
+pub mod Asking

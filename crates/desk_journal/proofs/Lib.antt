@@ -1,0 +1,15 @@
+pub mod Beginnings
+pub mod Payloads
+pub mod Staying
+pub mod Telling
+pub mod EachText
+pub mod Noting
+pub mod Marking
+pub mod Holding
+pub mod Entering
+pub mod Runs
+pub mod Sealed
+pub mod Submits
+pub mod Snapshots
+pub mod Turns
+pub mod Spots

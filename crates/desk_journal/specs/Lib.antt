@@ -1,0 +1,12 @@
+pub mod Lasting
+pub mod Stored
+pub mod Records
+pub mod Reading
+pub mod Sealing
+pub mod Crashing
+pub mod Making
+pub mod Telling
+pub mod Going
+pub mod Submitting
+pub mod Permanence
+pub mod Placing

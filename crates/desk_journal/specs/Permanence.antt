@@ -1,0 +1,64 @@
+-- What a mail client goes by that keeps mail by UID, and what holds of all that is ever kept.
+use Rattle.std.specs.Prelude.{◌≡◌, ℕ, ◌<◌, ◌==◌, Bool, false, List, map, find, Option, None, option_map, IsTrue, if◌then◌else◌}
+use Rattle.std.specs.List.{AllByRecursion, list_all}
+use Rattle.std.specs.Option.{option_map_or}
+use Rattle.undo_base.specs.declared.keys.Key.{Key}
+use Rattle.undo_base.specs.declared.keys.User.{User}
+use Rattle.verb_core.specs.declared.item.Item.{Item}
+use Rattle.verb_core.specs.declared.mailbox.BoxId.{BoxId}
+use Rattle.verb_core.specs.declared.mailbox.Entry.{Entry}
+use Rattle.verb_core.specs.declared.mailbox.Mailbox.{Mailbox}
+use Rattle.verb_core.specs.Boxes.{mail_at}
+use Rattle.verb_core.specs.Fates.{HasOneFate, times_given}
+use Rattle.verb_core.specs.Items.{IsTimeline, text_of}
+use Rattle.verb_core.specs.Step.{run}
+use Rattle.verb_core.specs.Store.{is_house, is_known, opening}
+use Rattle.paradox.specs.Kept.{IsRun, Kept, stamp_at, store_of}
+
+-- ---- messages by UID
+
+-- a message as a mail client knows it: which one it is, and its text
+pub record Message : Type 0 where
+  pub key : Key
+  pub text : Option (List ℕ)
+
+-- the message of an entry
+abbrev pub message_of : Kept → Entry → Message
+message_of kept e = record { key = e.key; text = text_of kept.timeline e.body }
+
+-- whether the mailbox has this stamp, its UIDVALIDITY
+abbrev pub has_stamp : Kept → BoxId → ℕ → Bool
+has_stamp kept id stamp = option_map_or (λ n. n == stamp) (stamp_at kept id) false
+
+-- the entry under a UID of a mailbox
+abbrev pub entry_at : Kept → BoxId → ℕ → Option Entry
+entry_at kept id uid = find (λ (e : Entry). e.uid == uid) (mail_at id (store_of kept).boxes)
+
+-- the message under a UID of a mailbox that has this stamp (RFC 3501, section 2.3.1.1)
+abbrev pub message_at : Kept → BoxId → ℕ → ℕ → Option Message
+message_at kept id stamp uid = if has_stamp kept id stamp then option_map (message_of kept) (entry_at kept id uid) else None
+
+-- ---- what holds of all that is kept
+
+-- It began with the opening store of a house, and the store is what its items leave; they are well formed, with distinct numbers
+-- below the next one; its stamps name the mailboxes, and are below the next number too.
+pub record IsSound (kept : Kept) : Type 0 where
+  pub house : IsTrue (is_house kept.house)
+  pub aliases : IsTrue (list_all (λ a. list_all (is_known kept.house) a.users) kept.opening.aliases)
+  pub base : kept.base ≡ opening kept.house kept.opening
+  pub runs : IsRun kept
+  pub timeline : IsTimeline kept.house kept.timeline
+  pub below : AllByRecursion (λ (i : Item). i.number < kept.next) kept.timeline
+  pub named : map (λ (r : BoxId × ℕ). r.0) kept.stamps ≡ map (λ (r : BoxId × Mailbox). r.0) (store_of kept).boxes
+  pub fresh : AllByRecursion (λ (r : BoxId × ℕ). r.1 < kept.next) kept.stamps
+
+-- each text has a rev below the next number: 0, or the number of the cycle that replaced it
+abbrev pub RevsBelow : Kept → Type 0
+RevsBelow kept = AllByRecursion (λ (i : Item). i.rev < kept.next) kept.timeline
+
+-- ---- what becomes of messages
+
+-- an item of the timeline gives a user one message of a key, and that has one fate: in the end it lies in one mailbox under
+-- one UID, or one later item took it out
+abbrev pub Arrives : Kept → List Item → Item → List Item → User → Key → Type 0
+Arrives kept before i later u key = (times_given u key (run kept.base before) i ≡ 1) × HasOneFate u key kept.base before i later

@@ -1,0 +1,127 @@
+-- Records, what they leave one after the other, and when one can stand.
+use Rattle.std.specs.Prelude.{◌≡◌, ℕ, ◌==◌, nat_lt, bytes_eq, Bool, true, false, ◌&&◌, not, List, [], ◌∷◌, map, length, nat_le, is_some, Option, Some, None, option_and_then, if◌then◌else◌}
+use Rattle.std.specs.List.{list_all, cons_option}
+use Rattle.verb_core.specs.Deeds.{act_item}
+use Rattle.verb_core.specs.declared.conf.Conf.{Conf}
+use Rattle.verb_core.specs.declared.conf.House.{House}
+use Rattle.verb_core.specs.declared.item.Item.{Item}
+use Rattle.verb_core.specs.declared.mailbox.BoxId.{BoxId}
+use Rattle.verb_core.specs.declared.mailbox.Mailbox.{Mailbox}
+use Rattle.verb_core.specs.Items.{is_own, users_in, keys_in, has_form}
+use Rattle.verb_core.specs.Store.{is_known}
+use Rattle.verb_bytes.specs.declared.journal.CycleAsk.{CycleAsk}
+use Rattle.verb_bytes.specs.declared.journal.JournalRecord.{JournalRecord}
+use Rattle.verb_bytes.specs.declared.journal.JournalRecord.TheVariants.{Format, Verb, Operator, Cycle, Snapshot}
+use Rattle.verb_bytes.specs.Fields.{are_in_range}
+use Rattle.verb_bytes.specs.Spelling.{record_bytes, record_fields}
+use Rattle.seal_log.specs.Journal.{StandsFor}
+use Rattle.box_store.specs.Making.{makes_store}
+use Rattle.paradox.specs.Kept.{Kept, new_desk, passed, performed, snapshotted, store_of}
+use Rattle.repair_desk.specs.Repairs.{are_known}
+use Rattle.cycle_rules.specs.Asking.{Due, Repeats, NoPoint, NoNumbers, Rewinds, after_cycle, cycle_due}
+use Rattle.house_text.specs.Beginning.{can_begin}
+
+-- ---- one record
+
+-- whether two answers are the same
+abbrev pub agree : Bool → Bool → Bool
+agree true b = b
+agree false b = not b
+
+-- whether an item is such as can be recorded: somebody acts exactly where the deed is a user's own, its users are known,
+-- its keys are few, and what was shown has the form of the deed
+abbrev pub is_formed : House → Item → Bool
+is_formed house i =
+    agree (is_some i.by) (is_own i.deed) && list_all (is_known house) (cons_option i.by (users_in i.deed))
+    && nat_le (length (keys_in i.deed)) 65536 && has_form i.deed i.shown
+
+-- whether an item can follow: it has the next number, there is one left, and it can be recorded
+abbrev pub can_follow : Kept → Item → Bool
+can_follow kept i = (i.number == kept.next) && nat_lt kept.next 4194304 && is_formed kept.house i
+
+-- whether a record has a spelling
+abbrev pub is_spelled : JournalRecord → Bool
+is_spelled what = are_in_range (record_fields what)
+
+-- what is kept after the item of a record, where it can stand
+abbrev pub after_item : Kept → JournalRecord → Item → Option Kept
+after_item kept what item = if is_spelled what && can_follow kept item then Some (performed kept item) else None
+
+-- what is kept after a request for a cycle, where a cycle is due: its key is new, its point known, and numbers are left
+abbrev pub after_due : Kept → CycleAsk → Due → Option Kept
+after_due kept ask (Repeats report) = None
+after_due kept ask NoPoint = None
+after_due kept ask NoNumbers = None
+after_due kept ask (Rewinds due) = Some (after_cycle kept ask due)
+
+-- whether a cycle can follow: it has the next number, and the users that its acts name are known
+abbrev pub can_rewind : Kept → ℕ → CycleAsk → Bool
+can_rewind kept number ask = (number == kept.next) && are_known kept.house ask.inserts
+
+-- what is kept after the record of a cycle, where it can stand
+abbrev pub after_cycle_record : Kept → ℕ → ℕ → CycleAsk → Option Kept
+after_cycle_record kept number at ask =
+    if is_spelled (Cycle number at ask) && can_rewind kept number ask then after_due kept ask (cycle_due kept at ask) else None
+
+-- the snapshot of what is kept: how many items are in force, and the store that they leave
+abbrev pub snapshot_record : Kept → JournalRecord
+snapshot_record kept = Snapshot (length kept.timeline) (store_of kept).conf (store_of kept).boxes
+
+-- whether a snapshot can follow: it is of as many items as are in force, and makes a store of the house
+abbrev pub can_keep : Kept → ℕ → Conf → List (BoxId × Mailbox) → Bool
+can_keep kept items conf rows = (items == length kept.timeline) && makes_store kept.house conf rows
+
+-- whether a snapshot is true: its bytes are those of the snapshot of what is kept
+abbrev pub is_true : Kept → JournalRecord → Bool
+is_true kept what = bytes_eq (record_bytes what) (record_bytes (snapshot_record kept))
+
+-- what is kept after a snapshot that can stand: a cycle can begin from it where it is true, and else it is passed
+abbrev pub after_kept : Kept → JournalRecord → Kept
+after_kept kept what = if is_true kept what then snapshotted kept else record kept { marks = passed kept.marks }
+
+-- what is kept after a snapshot, where it can stand
+abbrev pub after_snapshot : Kept → ℕ → Conf → List (BoxId × Mailbox) → Option Kept
+after_snapshot kept items conf rows =
+    if is_spelled (Snapshot items conf rows) && can_keep kept items conf rows then Some (after_kept kept (Snapshot items conf rows)) else None
+
+-- what is kept after one more record; none where it can't stand
+abbrev pub after_record : Kept → JournalRecord → Option Kept
+after_record kept (Verb item) = after_item kept (Verb item) item
+after_record kept (Operator number at act) = after_item kept (Operator number at act) (act_item number at act)
+after_record kept (Format house conf) = None
+after_record kept (Cycle number at ask) = after_cycle_record kept number at ask
+after_record kept (Snapshot items conf rows) = after_snapshot kept items conf rows
+
+-- ---- many
+
+-- what is kept after more records
+abbrev pub after_records : Kept → List JournalRecord → Option Kept
+after_records kept [] = Some kept
+after_records kept (r ∷ rs) = option_and_then (λ next. after_records next rs) (after_record kept r)
+
+-- what a journal's first record leaves: it is a Format
+abbrev pub first_state : JournalRecord → Option Kept
+first_state (Format house conf) = if is_spelled (Format house conf) && can_begin house conf then Some (new_desk house conf) else None
+first_state (Verb item) = None
+first_state (Operator number at act) = None
+first_state (Cycle number at ask) = None
+first_state (Snapshot items conf rows) = None
+
+-- what a journal's records leave, where each of them can stand
+abbrev pub state : List JournalRecord → Option Kept
+state [] = None
+state (r ∷ rs) = option_and_then (λ kept. after_records kept rs) (first_state r)
+
+-- the bytes of each record
+abbrev pub payloads_of : List JournalRecord → List (List ℕ)
+payloads_of records = map record_bytes records
+
+-- the image stands for these records
+abbrev pub StandsForRecords : List JournalRecord → List ℕ → Type 0
+StandsForRecords records image = StandsFor image (payloads_of records)
+
+-- the image stands for records that leave this
+pub record Leaves (kept : Kept) (image : List ℕ) : Type 0 where
+  pub records : List JournalRecord
+  pub stands : StandsForRecords records image
+  pub state_is : state records ≡ Some kept

@@ -1,0 +1,146 @@
+-- Where the texts of what is kept lie in the journal.
+use Rattle.std.specs.Prelude.{◌≡◌, ◌≤◌, ◌+◌, ℕ, false, List, length, take, Option, Some, None, if◌then◌else◌}
+use Rattle.std.specs.List.{AllByRecursion}
+use Rattle.undo_outside.specs.Disk.{DiskTold}
+use Rattle.verb_core.specs.Deeds.{is_notice}
+use Rattle.verb_core.specs.Items.{text_in}
+use Rattle.verb_core.specs.declared.item.Item.{Item}
+use Rattle.verb_core.specs.declared.mailbox.Body.{Body}
+use Rattle.verb_bytes.specs.declared.journal.CycleAsk.{CycleAsk}
+use Rattle.verb_core.specs.Step.{run}
+use Rattle.verb_core.specs.Store.{MailStore}
+use Rattle.verb_bytes.specs.declared.journal.JournalRecord.{JournalRecord}
+use Rattle.verb_bytes.specs.declared.journal.JournalRecord.TheVariants.{Cycle, Snapshot}
+use Rattle.verb_bytes.specs.Spelling.{HasSpelling, record_bytes}
+use Rattle.repair_desk.specs.Repairs.{inserted, text_asked}
+use Rattle.seal_log.specs.Journal.{LiesAt}
+use Rattle.seal_log.specs.Settled.{Holds, IsSettled}
+use Rattle.seal_log.specs.declared.place.Place.{Place}
+use Rattle.shelf.specs.Notes.{LiesBefore, note_of, noted_text}
+use Rattle.shelf.specs.declared.note.Note.{Note}
+use Rattle.mail_desk.specs.Held.{Held}
+use Rattle.mail_desk.specs.Noting.{renoted}
+use Rattle.mail_desk.specs.declared.noting.Fresh.{Fresh}
+use Rattle.mail_desk.specs.Timeline.{body_of}
+use Rattle.paradox.specs.Kept.{IsRun, Kept}
+use Rattle.desk_journal.specs.Lasting.{Lasting}
+use Rattle.desk_journal.specs.Permanence.{RevsBelow}
+
+-- the text that an item has in a record: a cycle makes a notice's, and no record has it
+abbrev pub recorded_in : Item → Option (List ℕ)
+recorded_in i = if is_notice i.deed then None else text_in i.deed
+
+-- ---- one text
+
+-- the note tells of as many bytes as the text has, of a payload that lies before a gate
+pub record IsBefore (gate : ℕ) (note : Note) (text : List ℕ) : Type 0 where
+  pub lies : LiesBefore gate note
+  pub size : note.length ≡ length text
+
+-- the bytes that the note tells of are the text, in a journal of these payloads
+pub record IsStored (payloads : List (List ℕ)) (note : Note) (text : List ℕ) : Type 0 where
+  pub payload : List ℕ
+  pub lies : LiesAt payloads note.place.gate note.place.length payload
+  pub bytes : noted_text note payload ≡ text
+
+-- ---- the texts of a timeline
+
+-- the text that an item has in a record is noted, and so
+abbrev pub HasNote : (Note → List ℕ → Type 0) → List (Body × Note) → Item → Type 0
+HasNote P notes i = (text : List ℕ) → recorded_in i ≡ Some text → (note : Note) × (note_of notes (body_of i) ≡ Some note) × P note text
+
+-- each is noted as lying before a gate
+abbrev pub NotedBefore : ℕ → List (Body × Note) → List Item → Type 0
+NotedBefore gate notes timeline = AllByRecursion (HasNote (IsBefore gate) notes) timeline
+
+-- each lies where it is noted, in a journal of these payloads
+abbrev pub TextsLie : List (List ℕ) → List (Body × Note) → List Item → Type 0
+TextsLie payloads notes timeline = AllByRecursion (HasNote (IsStored payloads) notes) timeline
+
+-- ---- the snapshots
+
+-- the store that so many of the first items in force left
+abbrev pub store_at : Kept → ℕ → MailStore
+store_at kept count = run kept.base (take count kept.timeline)
+
+-- its snapshot
+abbrev pub snapshot_at : Kept → ℕ → JournalRecord
+snapshot_at kept count = Snapshot count (store_at kept count).conf (store_at kept count).boxes
+
+-- a snapshot is marked: so many items are in force, and the store that they left lies there, in a journal of these payloads
+pub record MarkLies (payloads : List (List ℕ)) (kept : Kept) (mark : ℕ × Place) : Type 0 where
+  pub within : mark.0 ≤ length kept.timeline
+  pub spelled : HasSpelling (snapshot_at kept mark.0)
+  pub lies : LiesAt payloads mark.1.gate mark.1.length (record_bytes (snapshot_at kept mark.0))
+
+-- each that is marked lies so
+abbrev pub MarksLie : List (List ℕ) → Kept → List (ℕ × Place) → Type 0
+MarksLie payloads kept marks = AllByRecursion (MarkLies payloads kept) marks
+
+-- each is marked in a payload that lies before a gate
+abbrev pub MarkedBefore : ℕ → List (ℕ × Place) → Type 0
+MarkedBefore gate marks = AllByRecursion (λ (m : ℕ × Place). m.1.gate + 5 + m.1.length ≤ gate) marks
+
+-- ---- an item
+
+-- What becomes of the notes when a record is performed whose bytes lie at a place before a gate: if each text was noted so,
+-- each is.
+pub record NotesTexts (gate : ℕ) (place : Place) (bytes : List ℕ) (old new : Held) : Type 0 where
+  pub before : NotedBefore gate old.notes old.kept.timeline → NotedBefore gate new.notes new.kept.timeline
+  pub lie : (payloads : List (List ℕ)) → LiesAt payloads place.gate place.length bytes → TextsLie payloads old.notes old.kept.timeline
+      → TextsLie payloads new.notes new.kept.timeline
+
+-- What becomes of the marks when a record is performed whose bytes lie at a place before a gate: if each snapshot lay where it was
+-- marked, each does.
+pub record KeepsMarks (gate : ℕ) (place : Place) (bytes : List ℕ) (old new : Held) : Type 0 where
+  pub before : MarkedBefore gate old.marks → MarkedBefore gate new.marks
+  pub lie : (payloads : List (List ℕ)) → LiesAt payloads place.gate place.length bytes → IsRun old.kept → MarksLie payloads old.kept old.marks
+      → MarksLie payloads new.kept new.marks
+
+-- ---- a cycle
+
+-- the note tells of the text, in a payload of these bytes at a place
+pub record LiesIn (place : Place) (bytes : List ℕ) (note : Note) (text : List ℕ) : Type 0 where
+  pub place_is : note.place ≡ place
+  pub size : note.length ≡ length text
+  pub within : note.from + note.length ≤ length bytes
+  pub is : noted_text note bytes ≡ text
+
+-- Where the texts lie that the cycle c brings at a moment: in its own record, of these bytes.
+pub record IsFresh (c at : ℕ) (ask : CycleAsk) (place : Place) (bytes : List ℕ) (fresh : Fresh) : Type 0 where
+  pub place_is : fresh.place ≡ place
+  pub replaced : (number : ℕ) (text : List ℕ) → text_asked ask.replaces number ≡ Some text
+      → (note : Note) × (note_of fresh.shelf.notes (record { origin = number; rev = c }) ≡ Some note) × LiesIn place bytes note text
+  pub given : AllByRecursion (HasNote (LiesIn place bytes) fresh.shelf.notes) (inserted c at ask.inserts)
+
+-- each text of the timeline lies where it lay before the cycle, or in the cycle's own record, or is a notice's
+abbrev pub Renotes : List (Body × Note) → Fresh → List Item → List (Body × Note) → Type 0
+Renotes old fresh timeline new = (body : Body) → note_of new body ≡ renoted old fresh timeline body
+
+-- the same of the cycle c at a moment, where its record lies at a place
+abbrev pub NotesCycle : ℕ → ℕ → CycleAsk → Place → List (Body × Note) → List Item → List (Body × Note) → Type 0
+NotesCycle c at ask place old timeline new = (fresh : Fresh) × IsFresh c at ask place (record_bytes (Cycle c at ask)) fresh × Renotes old fresh timeline new
+
+-- ---- the disk
+
+-- Each image of the disk begins with these payloads, and in them each text of what is kept lies where it is noted, and each
+-- snapshot where it is marked: what is read is what was stored, and the store is what the items in force leave. So the disk is
+-- honest.
+pub record TextsHeld (disk : DiskTold) (payloads : List (List ℕ)) (kept : Kept) (notes : List (Body × Note)) (snapshots : List (ℕ × Place)) : Type 0 where
+  pub held : Holds disk payloads
+  pub lie : TextsLie payloads notes kept.timeline
+  pub revs : RevsBelow kept
+  pub runs : IsRun kept
+  pub marks : MarksLie payloads kept snapshots
+
+-- the disk holds the texts, and it is settled behind their payloads
+pub record SettledTexts (disk : DiskTold) (gate : ℕ) (kept : Kept) (notes : List (Body × Note)) (marks : List (ℕ × Place)) : Type 0 where
+  pub payloads : List (List ℕ)
+  pub texts : TextsHeld disk payloads kept notes marks
+  pub settled : IsSettled disk gate payloads
+
+-- the disk holds the texts of a desk, and while the desk is open it is settled behind their payloads
+pub record HoldsTexts {D : Type 0} (told : D → DiskTold) (desk : Lasting D) : Type 0 where
+  pub payloads : List (List ℕ)
+  pub texts : TextsHeld (told desk.disk) payloads desk.kept desk.notes desk.marks
+  pub settled : desk.closed ≡ false → IsSettled (told desk.disk) desk.gate payloads

@@ -1,0 +1,218 @@
+//! What the operator does.
+ghost use Rattle.std.specs.Prelude.{◌≡◌, ◌<◌, ◌+◌, ℕ, List, [], ◌∷◌, length, Some, false, IsTrue, IfOk, OnOk, IfErr, OnErr, IsErrOf};
+ghost use Rattle.std.specs.List.{list_all};
+ghost use Rattle.verb_core.specs.Deeds.{act_item};
+ghost use Rattle.verb_core.specs.declared.item.Deed.TheVariants.{Act as Acts};
+ghost use Rattle.verb_core.specs.Items.{IsWellFormed, text_in, users_in};
+ghost use Rattle.verb_core.specs.Store.{is_known};
+ghost use Rattle.verb_bytes.specs.declared.journal.JournalRecord.TheVariants.{Operator};
+ghost use Rattle.verb_bytes.specs.Places.{IsTextAt};
+ghost use Rattle.paradox.specs.Kept.{performed};
+ghost use Rattle.mail_desk.specs.Entering.{CanEnter};
+ghost use Rattle.desk_journal.specs.Lasting.{lasting};
+ghost use Rattle.desk_journal.specs.Sealing.{IsRecordOf, Seals};
+ghost use Rattle.desk_journal.specs.Stored.{MarkedBefore, NotedBefore, NotesTexts};
+ghost use Rattle.desk_journal.specs.Submitting.{ActsNone, IsActOutcomeOf, SealsBytes};
+ghost use Rattle.desk_journal.specs.declared.fault.ActFault.TheVariants as act_faults;
+
+use crate::ActFault;
+use crate::on_disk::Journal;
+use crate::seal::seal_ready;
+use crate::spelling::act_bytes;
+use mail_desk::Ready;
+use seal_log::SealFault;
+use std::alloc::Global;
+use undo_base::{LAST_NUMBER, NoMemory, Text};
+use undo_outside::Disk;
+use verb_bytes::act_text_from;
+use verb_core::{Act, Deed, Item, Shown};
+
+/// The item of an act.
+pub fn item_of(number: u32, at: u64, act: Act) -> Item
+    ensures { result ≡ act_item number at act }
+{
+    Item {
+        number,
+        at,
+        by: None,
+        rev: 0,
+        deed: Deed::Act(act),
+        shown: Shown::Nothing,
+    }
+}
+
+/// The number of the next item, where one is left.
+fn next_number(desk: &mail_desk::Desk) -> Result<u32, ActFault>
+    ensures ok { IfOk result (λ number. (number ≡ desk.now.kept.next) × (number < 4194304)) }
+    ensures err { IfErr result (λ fault. (fault ≡ act_faults.Numbers desk.now.kept.next) × (desk.now.kept.next ≡ 4194304)) }
+{
+    desk.stands();
+    let next = desk.next();
+    if next <= LAST_NUMBER {
+        Ok(next)
+    } else {
+        Err(ActFault::Numbers { next })
+    }
+}
+
+/// An act's item that can be entered, the bytes of its record, and how far behind their front its text lies.
+#[derive(Drop)]
+struct FoundAct {
+    ready: Ready,
+    bytes: Text,
+    from: u32,
+}
+
+/// Makes all room for an act's item, beside the bytes of its record.
+fn with_room(
+    alloc: Global,
+    desk: &mut mail_desk::Desk,
+    item: Item,
+    bytes: Text,
+    from: u32,
+) -> Result<FoundAct, NoMemory>
+    requires formed { IsWellFormed desk.old.kept.house item }
+    requires number { item.number ≡ desk.old.kept.next }
+    requires left { desk.old.kept.next < 4194304 }
+    ensures kept { desk.new.kept ≡ desk.old.kept }
+    ensures notes { desk.new.notes ≡ desk.old.notes }
+    ensures marks { desk.new.marks ≡ desk.old.marks }
+    ensures item { IfOk result (λ found. found.ready.item ≡ item) }
+    ensures bytes { IfOk result (λ found. found.bytes ≡ bytes) }
+    ensures from { IfOk result (λ found. found.from ≡ from) }
+    ensures ready { IfOk result (λ found. CanEnter found.ready desk.new) }
+{
+    match desk.ready_item(alloc, item) {
+        Ok(ready) => Ok(FoundAct { ready, bytes, from }),
+        Err(NoMemory) => {
+            drop(bytes);
+            Err(NoMemory)
+        }
+    }
+}
+
+/// Makes all room for an act, and the bytes of its record.
+fn ready_act(
+    alloc: Global,
+    desk: &mut mail_desk::Desk,
+    at: u64,
+    act: Act,
+) -> Result<FoundAct, NoMemory>
+    requires known { IsTrue (list_all (is_known desk.old.kept.house) (users_in (Acts act))) }
+    requires left { desk.old.kept.next < 4194304 }
+    ensures kept { desk.new.kept ≡ desk.old.kept }
+    ensures notes { desk.new.notes ≡ desk.old.notes }
+    ensures marks { desk.new.marks ≡ desk.old.marks }
+    ensures item { IfOk result (λ found. found.ready.item ≡ act_item desk.old.kept.next at act) }
+    ensures ready { IfOk result (λ found. CanEnter found.ready desk.new) }
+    ensures lies { IfOk result (λ found. (text : List ℕ) → text_in (Acts act) ≡ Some text → IsTextAt found.bytes found.from text) }
+    ensures record { IfOk result (λ found. IsRecordOf (Operator desk.old.kept.next at act) found.bytes desk.old.kept (act_item desk.old.kept.next at act)) }
+{
+    let number = desk.next();
+    let from = act_text_from(&act);
+    match act_bytes(alloc, number, at, &act) {
+        Ok(bytes) => with_room(alloc, desk, item_of(number, at, act), bytes, from),
+        Err(NoMemory) => {
+            drop(act);
+            Err(NoMemory)
+        }
+    }
+}
+
+/// Why an act was not done.
+fn fault_of(fault: SealFault) -> ActFault
+    requires { fault ≡ SealFault.Closed → ⊥ }
+    ensures { IsActOutcomeOf fault result }
+{
+    match fault {
+        SealFault::Disk => ActFault::Disk,
+        SealFault::NoMemory => ActFault::NoMemory,
+        SealFault::Closed => unreachable!(),
+    }
+}
+
+/// Seals what was found, and enters it.
+fn seal_found<D: Disk>(
+    alloc: Global,
+    journal: &mut Journal<D>,
+    desk: &mut mail_desk::Desk,
+    found: FoundAct,
+) -> Result<(), SealFault>
+    requires open { journal.old.closed ≡ false }
+    requires ready { CanEnter found.ready desk.old }
+    requires lies { (text : List ℕ) → text_in found.ready.item.deed ≡ Some text → IsTextAt found.bytes found.from text }
+    ensures sealed { SealsBytes D.told found.bytes journal.old journal.new result }
+    ensures performed { OnOk result (desk.new.kept ≡ performed desk.old.kept found.ready.item) }
+    ensures noted { OnOk result (NotesTexts (journal.old.gate + 5 + length found.bytes) (record { gate = journal.old.gate; length = length found.bytes }) found.bytes desk.old desk.new) }
+    ensures marks { OnOk result (desk.new.marks ≡ desk.old.marks) }
+    ensures same { OnErr result (desk.new ≡ desk.old) }
+{
+    let FoundAct { ready, bytes, from } = found;
+    match seal_ready(alloc, journal, desk, &bytes, from, ready) {
+        Ok(item) => {
+            drop(item);
+            Ok(())
+        }
+        Err(fault) => Err(fault),
+    }
+}
+
+/// Does an act for which a number is left.
+fn act_numbered<D: Disk>(
+    alloc: Global,
+    journal: &mut Journal<D>,
+    desk: &mut mail_desk::Desk,
+    at: u64,
+    act: Act,
+) -> Result<(), ActFault>
+    requires open { journal.old.closed ≡ false }
+    requires known { IsTrue (list_all (is_known desk.old.kept.house) (users_in (Acts act))) }
+    requires left { desk.old.kept.next < 4194304 }
+    ensures ok { OnOk result (Seals D.told (Operator desk.old.kept.next at act ∷ []) [] (lasting desk.old journal.old) (lasting desk.new journal.new)) }
+    ensures performed { OnOk result (desk.new.kept ≡ performed desk.old.kept (act_item desk.old.kept.next at act)) }
+    ensures noted { NotedBefore journal.old.gate desk.old.notes desk.old.kept.timeline → NotedBefore journal.new.gate desk.new.notes desk.new.kept.timeline }
+    ensures marked { MarkedBefore journal.old.gate desk.old.marks → MarkedBefore journal.new.gate desk.new.marks }
+    ensures err { IfErr result (λ fault. ActsNone D.told at act (lasting desk.old journal.old) (lasting desk.new journal.new) fault) }
+    ensures same { OnErr result (desk.new.kept ≡ desk.old.kept) }
+    ensures not_closed { IsErrOf result ActFault.Closed → ⊥ }
+{
+    desk.stands();
+    match ready_act(alloc, desk, at, act) {
+        Ok(found) => match seal_found(alloc, journal, desk, found) {
+            Ok(()) => Ok(()),
+            Err(fault) => Err(fault_of(fault)),
+        },
+        Err(NoMemory) => Err(ActFault::NoMemory),
+    }
+}
+
+/// Does an act on a desk that is not closed.
+pub fn act_open<D: Disk>(
+    alloc: Global,
+    journal: &mut Journal<D>,
+    desk: &mut mail_desk::Desk,
+    at: u64,
+    act: Act,
+) -> Result<u32, ActFault>
+    requires open { journal.old.closed ≡ false }
+    requires known { IsTrue (list_all (is_known desk.old.kept.house) (users_in (Acts act))) }
+    ensures number { IfOk result (λ number. number ≡ desk.old.kept.next) }
+    ensures ok { OnOk result (Seals D.told (Operator desk.old.kept.next at act ∷ []) [] (lasting desk.old journal.old) (lasting desk.new journal.new)) }
+    ensures performed { OnOk result (desk.new.kept ≡ performed desk.old.kept (act_item desk.old.kept.next at act)) }
+    ensures noted { NotedBefore journal.old.gate desk.old.notes desk.old.kept.timeline → NotedBefore journal.new.gate desk.new.notes desk.new.kept.timeline }
+    ensures marked { MarkedBefore journal.old.gate desk.old.marks → MarkedBefore journal.new.gate desk.new.marks }
+    ensures err { IfErr result (λ fault. ActsNone D.told at act (lasting desk.old journal.old) (lasting desk.new journal.new) fault) }
+    ensures same { OnErr result (desk.new.kept ≡ desk.old.kept) }
+    ensures not_closed { IsErrOf result ActFault.Closed → ⊥ }
+{
+    match next_number(desk) {
+        Ok(number) => match act_numbered(alloc, journal, desk, at, act) {
+            Ok(()) => Ok(number),
+            Err(fault) => Err(fault),
+        },
+        Err(fault) => {
+            drop(act);
+            Err(fault)
+        }
+    }
+}

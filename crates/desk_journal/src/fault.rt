@@ -1,0 +1,23 @@
+//! Why a desk was not made, and why an act was not done.
+
+/// Why a desk was not made. Where it is not `NotEmpty` the disk is to be removed.
+#[derive(Clone, Copy, Debug, PartialEq, Eq)]
+pub enum MakeFault {
+    /// The disk has bytes. It stays as it was.
+    NotEmpty,
+    /// A call on the disk failed.
+    Disk,
+    NoMemory,
+}
+
+/// Why an act was not done.
+#[derive(Clone, Copy, Debug, PartialEq, Eq)]
+pub enum ActFault {
+    /// No number is left: the next would be this one.
+    Numbers { next: u32 },
+    /// A write or a sync failed in this call. The desk is closed from then on.
+    Disk,
+    NoMemory,
+    /// A write or a sync failed earlier.
+    Closed,
+}

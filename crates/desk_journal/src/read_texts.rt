@@ -1,0 +1,170 @@
+//! The texts of a desk, read where they lie in its journal.
+ghost use Rattle.std.specs.Prelude.{◌≡◌, ◌<◌, Some, true, false, option_copied, IfOk, OnOk, IfErr, IsErrOf};
+ghost use Rattle.std.specs.Option.{option_map_or};
+ghost use Rattle.undo_outside.specs.Moments.{OnlyReads};
+ghost use Rattle.verb_core.specs.Items.{text_of};
+ghost use Rattle.verb_core.specs.Texts.{Rose};
+ghost use Rattle.seal_log.specs.Causes.{ReadAtCause};
+ghost use Rattle.repair_desk.specs.Repairs.{text_asked};
+ghost use Rattle.mail_desk.specs.Timeline.{noted_of};
+ghost use Rattle.desk_journal.specs.Telling.{HoldsHeld, LeadsOn, ReadsOn, asked_of, is_readable, reading_told};
+ghost use Rattle.desk_journal.specs.Going.{leads_on, leads_to_itself};
+
+use mail_desk::Desk;
+use seal_log::{ReadFault, read_before};
+use std::alloc::Global;
+use undo_base::{Copies, NoMemory, Text};
+use undo_outside::Disk;
+use verb_bytes::Replaces;
+use verb_core::{Bodies, BodiesFault, Body};
+
+/// The texts that the items of a desk bring, read in the journal that ends at a gate of a disk; and beside them those that a
+/// request for a cycle asks for, whose record is not sealed yet. Once a read failed the disk is left alone.
+#[derive(Drop)]
+pub struct Reading<'a, D: Disk> {
+    /// The disk.
+    pub disk: &'a mut D,
+    /// The gate at which the journal ends.
+    pub end: u64,
+    /// The desk.
+    pub desk: &'a Desk,
+    /// The texts that the request asks for.
+    pub replaces: &'a Replaces,
+    /// Its cycle's number.
+    pub cycle: u32,
+    /// How many texts could not be read.
+    pub failed: u64,
+}
+
+/// The text of a number: of two the last.
+fn last_text(replaces: &Replaces, number: u32) -> Option<&Text>
+    ensures { option_copied result ≡ text_asked replaces.now number }
+{
+    match replaces.as_slice().iter().rev().find(|row| row.0 == number) {
+        Some(row) => Some(&row.1),
+        None => None,
+    }
+}
+
+/// The text that a request asks for a body.
+fn asked(replaces: &Replaces, cycle: u32, body: Body) -> Option<&Text>
+    ensures { option_copied result ≡ asked_of cycle replaces.now body }
+{
+    if body.rev == cycle {
+        last_text(replaces, body.origin)
+    } else {
+        None
+    }
+}
+
+/// Reads the text of a body where it was noted, in a journal that ends at a gate.
+pub fn read_noted<D: Disk>(
+    alloc: Global,
+    disk: &mut D,
+    end: u64,
+    desk: &Desk,
+    body: Body,
+) -> Result<Text, ReadFault>
+    requires { option_map_or (is_readable end (D.told disk.old).size) (noted_of desk.now.kept.timeline desk.now.notes body) false ≡ true }
+    ensures text { HoldsHeld (D.told disk.old) desk.now → IfOk result (λ text. text_of desk.now.kept.timeline body ≡ Some text) }
+    ensures cause { ReadAtCause (D.told disk.old) (D.told disk.new) result }
+    ensures reads { OnlyReads (D.told disk.old) (D.told disk.new) }
+{
+    desk.stands();
+    match desk.note(body) {
+        Some(note) => read_before(alloc, disk, end, note.place, note.from, note.length),
+        None => unreachable!(),
+    }
+}
+
+/// The same, where no read failed before.
+fn read_once<D: Disk>(
+    alloc: Global,
+    disk: &mut D,
+    failed: &mut u64,
+    end: u64,
+    desk: &Desk,
+    body: Body,
+) -> Result<Text, BodiesFault>
+    requires { option_map_or (is_readable end (D.told disk.old).size) (noted_of desk.now.kept.timeline desk.now.notes body) false ≡ true }
+    ensures text { HoldsHeld (D.told disk.old) desk.now → IfOk result (λ text. text_of desk.now.kept.timeline body ≡ Some text) }
+    ensures same { OnOk result (failed.new ≡ failed.old) }
+    ensures rises { IsErrOf result BodiesFault.Failed → Rose failed.old failed.new }
+    ensures no_memory { IsErrOf result BodiesFault.NoMemory → failed.new ≡ failed.old }
+    ensures reads { ReadsOn D.told disk.old disk.new failed.old failed.new }
+{
+    if *failed > 0 {
+        *failed = failed.saturating_add(1);
+        return Err(BodiesFault::Failed);
+    }
+    match read_noted(alloc, disk, end, desk, body) {
+        Ok(text) => Ok(text),
+        Err(ReadFault::Disk) => {
+            *failed = 1;
+            Err(BodiesFault::Failed)
+        }
+        Err(ReadFault::NoMemory) => Err(BodiesFault::NoMemory),
+    }
+}
+
+/// A copy of a text that is asked for.
+fn copied(alloc: Global, text: &Text) -> Result<Text, BodiesFault>
+    ensures text { IfOk result (λ copy. copy ≡ text.now) }
+    ensures memory { IfErr result (λ fault. fault ≡ BodiesFault.NoMemory) }
+{
+    match text.copy(alloc) {
+        Ok(copy) => Ok(copy),
+        Err(NoMemory) => Err(BodiesFault::NoMemory),
+    }
+}
+
+impl<'a, D: Disk> Bodies for Reading<'a, D> {
+    ghost told = { reading_told D.told };
+
+    ghost leads = { LeadsOn D.told };
+
+    fn text(&mut self, alloc: Global, body: Body) -> Result<Text, BodiesFault> {
+        match asked(self.replaces, self.cycle, body) {
+            Some(text) => copied(alloc, text),
+            None => read_once(
+                alloc,
+                self.disk,
+                &mut self.failed,
+                self.end,
+                self.desk,
+                body,
+            ),
+        }
+    }
+
+    ghost leads_to_itself = { leads_to_itself D.told D.tells_truth };
+
+    ghost leads_on = { leads_on D.told };
+}
+
+impl<'a, D: Disk> Reading<'a, D> {
+    /// The texts of a desk, and those that the request for a cycle of that number asks for.
+    pub fn of(
+        disk: &'a mut D,
+        end: u64,
+        desk: &'a Desk,
+        replaces: &'a Replaces,
+        cycle: u32,
+    ) -> Reading<'a, D>
+        ensures disk { (result.disk.ghost_name ≡ disk.entry.ghost_name) × (result.disk.now ≡ disk.old) }
+        ensures end { result.end ≡ end }
+        ensures desk { result.desk.now ≡ desk.now }
+        ensures replaces { result.replaces.now ≡ replaces.now }
+        ensures cycle { result.cycle ≡ cycle }
+        ensures failed { result.failed ≡ 0 }
+    {
+        Reading {
+            disk,
+            end,
+            desk,
+            replaces,
+            cycle,
+            failed: 0,
+        }
+    }
+}

@@ -1,0 +1,59 @@
+//! One record, sealed, and its item then entered.
+ghost use Rattle.std.specs.Prelude.{◌≡◌, ◌+◌, ℕ, List, length, Some, false, IfOk, OnOk, OnErr};
+ghost use Rattle.verb_core.specs.Items.{text_in};
+ghost use Rattle.verb_bytes.specs.Places.{IsTextAt};
+ghost use Rattle.paradox.specs.Kept.{performed};
+ghost use Rattle.mail_desk.specs.Entering.{CanEnter};
+ghost use Rattle.desk_journal.specs.Stored.{NotesTexts};
+ghost use Rattle.desk_journal.specs.Submitting.{SealsBytes};
+
+use crate::on_disk::Journal;
+use mail_desk::{Desk, Ready};
+use seal_log::SealFault;
+use std::alloc::Global;
+use undo_base::Text;
+use undo_outside::Disk;
+use verb_core::Item;
+
+/// Seals a payload.
+pub fn seal_bytes<D: Disk>(
+    alloc: Global,
+    journal: &mut Journal<D>,
+    bytes: &Text,
+) -> Result<(), SealFault>
+    requires { journal.old.closed ≡ false }
+    ensures { SealsBytes D.told bytes.now journal.old journal.new result }
+{
+    journal.seal(alloc, bytes)
+}
+
+/// Seals the record of an item for which all is ready, and then enters the item, and gives it back. Its text lies so far behind
+/// the front of the record.
+pub fn seal_ready<D: Disk>(
+    alloc: Global,
+    journal: &mut Journal<D>,
+    desk: &mut Desk,
+    bytes: &Text,
+    from: u32,
+    ready: Ready,
+) -> Result<Item, SealFault>
+    requires open { journal.old.closed ≡ false }
+    requires ready { CanEnter ready desk.old }
+    requires lies { (text : List ℕ) → text_in ready.item.deed ≡ Some text → IsTextAt bytes.now from text }
+    ensures sealed { SealsBytes D.told bytes.now journal.old journal.new result }
+    ensures item { IfOk result (λ item. item ≡ ready.item) }
+    ensures performed { OnOk result (desk.new.kept ≡ performed desk.old.kept ready.item) }
+    ensures noted { OnOk result (NotesTexts (journal.old.gate + 5 + length bytes.now) (record { gate = journal.old.gate; length = length bytes.now }) bytes.now desk.old desk.new) }
+    ensures marks { OnOk result (desk.new.marks ≡ desk.old.marks) }
+    ensures same { OnErr result (desk.new ≡ desk.old) }
+{
+    desk.stands();
+    let place = journal.next_place(bytes);
+    match seal_bytes(alloc, journal, bytes) {
+        Ok(()) => Ok(desk.enter(ready, place, from)),
+        Err(fault) => {
+            drop(ready);
+            Err(fault)
+        }
+    }
+}

@@ -1,0 +1,84 @@
+//! What the operator keeps of a moment: the store as it is, in a record of the journal, from which a later cycle can begin.
+ghost use Rattle.std.specs.Prelude.{◌≡◌, ◌<◌, false, length, IsTrue, IfOk, OnOk, IfErr, OnErr, IsErrOf};
+ghost use Rattle.verb_bytes.specs.Spelling.{record_bytes};
+ghost use Rattle.shelf.specs.Marks.{with_mark};
+ghost use Rattle.paradox.specs.Kept.{snapshotted};
+ghost use Rattle.mail_desk.specs.Held.{CanMark};
+ghost use Rattle.desk_journal.specs.Lasting.{lasting};
+ghost use Rattle.desk_journal.specs.Records.{is_spelled, snapshot_record};
+ghost use Rattle.desk_journal.specs.Sealing.{Seals};
+ghost use Rattle.desk_journal.specs.Stored.{MarkedBefore, NotedBefore};
+ghost use Rattle.desk_journal.specs.Submitting.{SealsBytes, Snapshots, SnapshotsNone};
+
+use crate::on_disk::Journal;
+use crate::seal::seal_bytes;
+use box_store::rows_make_valid_stores;
+use seal_log::SealFault;
+use std::alloc::Global;
+use store_digest::snapshot_text;
+use undo_base::{NoMemory, Text};
+use undo_outside::Disk;
+
+/// Makes room for a snapshot, and the bytes of its record.
+fn ready_snapshot(alloc: Global, desk: &mut mail_desk::Desk) -> Result<Text, NoMemory>
+    ensures kept { desk.new.kept ≡ desk.old.kept }
+    ensures notes { desk.new.notes ≡ desk.old.notes }
+    ensures marks { desk.new.marks ≡ desk.old.marks }
+    ensures ready { OnOk result (CanMark desk.new) }
+    ensures bytes { IfOk result (λ bytes. bytes ≡ record_bytes (snapshot_record desk.old.kept)) }
+    ensures spelled { OnOk result (IsTrue (is_spelled (snapshot_record desk.old.kept))) }
+{
+    desk.ready_mark()?;
+    let items = desk.counts().items;
+    snapshot_text(alloc, desk.store(), items)
+}
+
+/// Seals a snapshot for which all is ready, and then marks where it lies.
+fn seal_snapshot<D: Disk>(
+    alloc: Global,
+    journal: &mut Journal<D>,
+    desk: &mut mail_desk::Desk,
+    bytes: &Text,
+) -> Result<(), SealFault>
+    requires open { journal.old.closed ≡ false }
+    requires ready { CanMark desk.old }
+    ensures sealed { SealsBytes D.told bytes.now journal.old journal.new result }
+    ensures kept { OnOk result (desk.new.kept ≡ snapshotted desk.old.kept) }
+    ensures notes { OnOk result (desk.new.notes ≡ desk.old.notes) }
+    ensures marks { OnOk result (desk.new.marks ≡ with_mark (length desk.old.kept.timeline) (record { gate = journal.old.gate; length = length bytes.now }) desk.old.marks) }
+    ensures same { OnErr result (desk.new ≡ desk.old) }
+{
+    let place = journal.next_place(bytes);
+    match seal_bytes(alloc, journal, bytes) {
+        Ok(()) => {
+            desk.mark(place);
+            Ok(())
+        }
+        Err(fault) => Err(fault),
+    }
+}
+
+/// Takes a snapshot of a desk that is not closed.
+pub fn snapshot_open<D: Disk>(
+    alloc: Global,
+    journal: &mut Journal<D>,
+    desk: &mut mail_desk::Desk,
+) -> Result<(), SealFault>
+    requires open { journal.old.closed ≡ false }
+    ensures ok { OnOk result (Snapshots D.told (lasting desk.old journal.old) (lasting desk.new journal.new) (length desk.old.kept.timeline)) }
+    ensures noted { NotedBefore journal.old.gate desk.old.notes desk.old.kept.timeline → NotedBefore journal.new.gate desk.new.notes desk.new.kept.timeline }
+    ensures marked { MarkedBefore journal.old.gate desk.old.marks → MarkedBefore journal.new.gate desk.new.marks }
+    ensures err { OnErr result (desk.new.kept ≡ desk.old.kept) }
+    ensures why { IfErr result (λ fault. SnapshotsNone D.told (lasting desk.old journal.old) (lasting desk.new journal.new) fault) }
+    ensures not_closed { IsErrOf result SealFault.Closed → ⊥ }
+{
+    desk.stands();
+    rows_make_valid_stores();
+    match ready_snapshot(alloc, desk) {
+        Ok(bytes) => match seal_snapshot(alloc, journal, desk, &bytes) {
+            Ok(()) => Ok(()),
+            Err(fault) => Err(fault),
+        },
+        Err(NoMemory) => Err(SealFault::NoMemory),
+    }
+}

@@ -1,0 +1,85 @@
+//! The bytes of records.
+ghost use Rattle.std.specs.Prelude.{◌≡◌, IsTrue, IfOk, OnOk};
+ghost use Rattle.verb_bytes.specs.declared.journal.JournalRecord.TheVariants.{Format, Verb, Operator, Cycle};
+ghost use Rattle.verb_bytes.specs.Spelling.{record_bytes};
+ghost use Rattle.desk_journal.specs.Records.{is_spelled};
+
+use std::alloc::Global;
+use undo_base::{Copies, NoMemory, Text};
+use verb_bytes::{
+    CycleAsk, JournalRecord, Unwritten, spell_act, spell_cycle, spell_item, spell_record,
+};
+use verb_core::{Act, Conf, House, Item};
+
+/// The bytes of the record of a user's item. One without a spelling finds no memory.
+pub fn item_bytes(alloc: Global, item: &Item) -> Result<Text, NoMemory>
+    ensures spelled { OnOk result (IsTrue (is_spelled (Verb item.now))) }
+    ensures bytes { IfOk result (λ text. text ≡ record_bytes (Verb item.now)) }
+{
+    match spell_item(alloc, item) {
+        Ok(bytes) => Ok(bytes),
+        Err(Unwritten::Unspelled) => Err(NoMemory),
+        Err(Unwritten::NoMemory) => Err(NoMemory),
+    }
+}
+
+/// The same of an operator's act.
+pub fn act_bytes(alloc: Global, number: u32, at: u64, act: &Act) -> Result<Text, NoMemory>
+    ensures spelled { OnOk result (IsTrue (is_spelled (Operator number at act.now))) }
+    ensures bytes { IfOk result (λ text. text ≡ record_bytes (Operator number at act.now)) }
+{
+    match spell_act(alloc, number, at, act) {
+        Ok(bytes) => Ok(bytes),
+        Err(Unwritten::Unspelled) => Err(NoMemory),
+        Err(Unwritten::NoMemory) => Err(NoMemory),
+    }
+}
+
+/// The same of a cycle.
+pub fn cycle_bytes(alloc: Global, number: u32, at: u64, ask: &CycleAsk) -> Result<Text, NoMemory>
+    ensures spelled { OnOk result (IsTrue (is_spelled (Cycle number at ask.now))) }
+    ensures bytes { IfOk result (λ text. text ≡ record_bytes (Cycle number at ask.now)) }
+{
+    match spell_cycle(alloc, number, at, ask) {
+        Ok(bytes) => Ok(bytes),
+        Err(Unwritten::Unspelled) => Err(NoMemory),
+        Err(Unwritten::NoMemory) => Err(NoMemory),
+    }
+}
+
+/// The bytes of a record, where it has a spelling.
+fn record_text(alloc: Global, what: &JournalRecord) -> Result<Text, NoMemory>
+    ensures spelled { OnOk result (IsTrue (is_spelled what.now)) }
+    ensures bytes { IfOk result (λ text. text ≡ record_bytes what.now) }
+{
+    match spell_record(alloc, what) {
+        Ok(bytes) => Ok(bytes),
+        Err(Unwritten::Unspelled) => Err(NoMemory),
+        Err(Unwritten::NoMemory) => Err(NoMemory),
+    }
+}
+
+/// The first record.
+fn house_record(alloc: Global, house: &House, conf: &Conf) -> Result<JournalRecord, NoMemory>
+    ensures { IfOk result (λ what. what ≡ Format house.now conf.now) }
+{
+    let house = house.copy(alloc)?;
+    match conf.copy(alloc) {
+        Ok(conf) => Ok(JournalRecord::Format(house, conf)),
+        Err(NoMemory) => {
+            drop(house);
+            Err(NoMemory)
+        }
+    }
+}
+
+/// The bytes of the first record. One without a spelling, which has more names than four bytes count, finds no memory.
+pub fn house_bytes(alloc: Global, house: &House, conf: &Conf) -> Result<Text, NoMemory>
+    ensures spelled { OnOk result (IsTrue (is_spelled (Format house.now conf.now))) }
+    ensures bytes { IfOk result (λ text. text ≡ record_bytes (Format house.now conf.now)) }
+{
+    let what = house_record(alloc, house, conf)?;
+    let bytes = record_text(alloc, &what);
+    drop(what);
+    bytes
+}

@@ -1,0 +1,14 @@
+use Rattle.std.proofs.Common.{IfOk, subst}
+use Rattle.mail_cycle.specs.Leaving.{IsMade}
+use Rattle.time_desk.specs.Cycling.{Redoes}
+use Rattle.time_desk.specs.Lasting.{JournalTold}
+use Rattle.time_desk.specs.Telling.{HoldsHeld}
+use Rattle.time_desk.proofs.cycle.rewound_in.Goals as goal
+
+pub returns-clause-due : goal.returns-clause-due
+returns-clause-due g c =
+    subst (λ (j : JournalTold g.row.D.Denot). IfOk c.rewound.result (Redoes c.args.desk.now.kept c.args.at c.args.ask.now (HoldsHeld (g.D.Disk.told j.disk) c.args.desk.now))) c.journal.view_is c.rewound.ensures.due
+
+pub returns-clause-made : goal.returns-clause-made
+returns-clause-made g c =
+    subst (λ (j : JournalTold g.row.D.Denot). IfOk c.rewound.result (IsMade c.args.desk.now.kept c.args.at c.args.ask.now (HoldsHeld (g.D.Disk.told j.disk) c.args.desk.now))) c.journal.view_is c.rewound.ensures.made
