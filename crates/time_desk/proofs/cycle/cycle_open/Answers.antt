@@ -21,7 +21,7 @@ pub returns-in-Ok-clause-done : goal.returns-in-Ok-clause-done
 returns-in-Ok-clause-done g c =
     let made = c.in-Ok.ensures in
     let old = c.args.journal.now in
-    let read = c.rewound.new.self in
+    let read = c.rewound_in.new.journal in
     let tried = c.cycle_made in
     subst (λ (l : Lasting g.row.D.Denot). IfOk tried.result (λ report. Cycles g.D.Disk.told c.args.at c.args.ask l (lasting tried.new.desk tried.new.journal) report)) (read_from g.D.Disk.told c.args.desk.now old read made.still)
     (tried.ensures.done old.disk made.still.reads (cycles_as g.D.Disk.told c.args.desk.now old read c.args.at c.args.ask c.in-Ok.made made.due made.made))
@@ -34,7 +34,7 @@ pub returns-in-Ok-clause-why : goal.returns-in-Ok-clause-why
 returns-in-Ok-clause-why g c =
     let made = c.in-Ok.ensures in
     let old = c.args.journal.now in
-    let read = c.rewound.new.self in
+    let read = c.rewound_in.new.journal in
     let tried = c.cycle_made in
     subst (λ (l : Lasting g.row.D.Denot). IfErr tried.result (λ fault. CyclesNone g.D.Disk.told c.args.at c.args.ask l (lasting tried.new.desk tried.new.journal) fault)) (read_from g.D.Disk.told c.args.desk.now old read made.still)
     (tried.ensures.why old.disk made.still.reads (cycles_as g.D.Disk.told c.args.desk.now old read c.args.at c.args.ask c.in-Ok.made made.due made.made))
@@ -46,8 +46,8 @@ pub returns-in-Err-clause-why : goal.returns-in-Err-clause-why
 returns-in-Err-clause-why g c =
     let told = c.in-Err.ensures in
     let old = lasting c.args.desk.now c.args.journal.now in
-    let read = lasting c.args.desk.now c.rewound.new.self in
-    let still = still_read g.D.Disk.told c.args.desk.now c.args.journal.now c.rewound.new.self told.still in
+    let read = lasting c.args.desk.now c.rewound_in.new.journal in
+    let still = still_read g.D.Disk.told c.args.desk.now c.args.journal.now c.rewound_in.new.journal told.still in
     refused g.D.Disk.told c.args.at c.args.ask old read c.in-Err.refused c.refused_as.result still (seals_still g.D.Disk.told old read still)
     (λ none. ap (lasting c.args.desk.now) (told.untouched none)) c.requires.anew c.requires.open told.refused told.cause c.refused_as.ensures
 
