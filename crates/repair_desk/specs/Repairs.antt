@@ -101,6 +101,10 @@ edited_at t ask c at place = record {
   unmatched = unmatched ask (drop place t);
 }
 
+-- the same, with the items behind the first so many alone
+abbrev pub edited_behind : List Item → CycleAsk → ℕ → ℕ → ℕ → ℕ → Edited
+edited_behind t ask c at from place = record (edited_at t ask c at place) { items = drop from (new_timeline t ask c at place) }
+
 -- the repairs of the cycle c at a moment, where the timeline has the point
 abbrev pub edited : List Item → CycleAsk → ℕ → ℕ → Option Edited
 edited t ask c at = option_map (edited_at t ask c at) (position t ask.point)

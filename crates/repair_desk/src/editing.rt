@@ -1,7 +1,7 @@
 //! The timeline after the repairs that are asked for.
-ghost use Rattle.std.specs.Prelude.{◌≡◌, ◌+◌, ◌++◌, ◌≤◌, length, map, Some, IfOk, IfErr};
+ghost use Rattle.std.specs.Prelude.{◌≡◌, ◌+◌, ◌++◌, ◌≤◌, drop, length, map, Some, IfOk, IfErr};
 ghost use Rattle.repair_desk.specs.Refusing.{IsRefusalOf};
-ghost use Rattle.repair_desk.specs.Repairs.{edited as edits, edited_at, inserted, kept as kept_of, repaired};
+ghost use Rattle.repair_desk.specs.Repairs.{edited as edits, edited_at, edited_behind, inserted, kept as kept_of, repaired};
 
 use crate::asked::Asked;
 use crate::inserts::push_inserts;
@@ -42,7 +42,7 @@ impl From<NoMemory> for EditRefused {
     }
 }
 
-/// The items of the new timeline: those through the place, the acts, and the later ones that stay.
+/// The items of the new timeline behind the first so many: those through the place, the acts, and the later ones that stay.
 fn new_items(
     alloc: Global,
     front: &[StoredItem],
@@ -51,13 +51,15 @@ fn new_items(
     asked: &Asked<'_>,
     c: u32,
     at: u64,
+    from: usize,
 ) -> Result<StoredItems, NoMemory>
     requires asked { asked.now ≡ ask.now }
     requires numbers { c + length ask.now.inserts ≤ LAST_NUMBER }
-    ensures { IfOk result (λ items. items ≡ front.now ++ inserted c at ask.now.inserts ++ map (repaired ask.now c) (kept_of ask.now later.now)) }
+    requires from { from ≤ length front.now }
+    ensures { IfOk result (λ items. items ≡ drop from (front.now ++ inserted c at ask.now.inserts ++ map (repaired ask.now c) (kept_of ask.now later.now))) }
 {
     let mut items = StoredItems::new(alloc);
-    push_copies(alloc, &mut items, front)?;
+    push_copies(alloc, &mut items, front.split_at(from).1)?;
     push_inserts(alloc, &mut items, ask.inserts.as_slice(), c, at)?;
     push_kept(alloc, &mut items, asked, later, c)?;
     Ok(items)
@@ -86,6 +88,36 @@ fn kept_later(asked: &Asked<'_>, later: &[StoredItem]) -> Result<u32, NoMemory>
     }
 }
 
+/// The same as `edit_at`, but for the first so many items, none of which the repairs touch: of these no copy is made. In time
+/// that grows as the items behind them.
+pub fn edit_behind(
+    alloc: Global,
+    timeline: &[StoredItem],
+    ask: &CycleAsk,
+    c: u32,
+    at: u64,
+    from: usize,
+    place: usize,
+) -> Result<Edited, NoMemory>
+    requires from { from ≤ place }
+    requires place { place ≤ length timeline.now }
+    requires numbers { c + length ask.now.inserts ≤ LAST_NUMBER }
+    ensures { IfOk result (λ edited. edited ≡ edited_behind timeline.now ask.now c at from place) }
+{
+    let (front, later) = timeline.split_at(place);
+    let asked = Asked::of(alloc, ask)?;
+    let kept = kept_later(&asked, later)?;
+    let withdrawn = withdrawn(alloc, &asked, later)?;
+    let unmatched = unmatched(alloc, ask, &asked, later)?;
+    let items = new_items(alloc, front, later, ask, &asked, c, at, from)?;
+    Ok(Edited {
+        items,
+        kept,
+        withdrawn,
+        unmatched,
+    })
+}
+
 /// The timeline after the repairs of the cycle `c` at a moment, cut behind the place of its point, which `position_of` finds.
 pub fn edit_at(
     alloc: Global,
@@ -99,18 +131,7 @@ pub fn edit_at(
     requires numbers { c + length ask.now.inserts ≤ LAST_NUMBER }
     ensures { IfOk result (λ edited. edited ≡ edited_at timeline.now ask.now c at place) }
 {
-    let (front, later) = timeline.split_at(place);
-    let asked = Asked::of(alloc, ask)?;
-    let kept = kept_later(&asked, later)?;
-    let withdrawn = withdrawn(alloc, &asked, later)?;
-    let unmatched = unmatched(alloc, ask, &asked, later)?;
-    let items = new_items(alloc, front, later, ask, &asked, c, at)?;
-    Ok(Edited {
-        items,
-        kept,
-        withdrawn,
-        unmatched,
-    })
+    edit_behind(alloc, timeline, ask, c, at, 0, place)
 }
 
 /// The timeline after the repairs of the cycle `c` at a moment: the items through the point, the acts that come in with the

@@ -1,6 +1,6 @@
 //! The operator's repairs of a timeline, and the stamps of mailboxes after them.
 //!
-//! `edit` (in `editing`) makes the new timeline, and `edit_at` where the place of the point is known: `point` finds where it
+//! `edit` (in `editing`) makes the new timeline, and `edit_at` where the place of the point is known, `edit_behind` but for the first items, which stay: `point` finds where it
 //! is cut; `items` copies items and makes those of acts; `inserts` and `later` make what stands behind the point; `unmatched`
 //! tells the asked numbers that did nothing.
 //! `asked` has what is asked, to be looked up by number, and `numbers` sets of numbers.
@@ -20,7 +20,7 @@ mod point;
 mod renewing;
 mod unmatched;
 
-pub use editing::{EditRefused, Edited, edit, edit_at};
+pub use editing::{EditRefused, Edited, edit, edit_at, edit_behind};
 pub use numbers::NumberSet;
 pub use point::position_of;
 pub use renewing::renew;
