@@ -1,7 +1,7 @@
 -- Items as they were read: what they do, and what they have as before.
 use Rattle.std.proofs.Common.{◌≡◌, ℕ, zero, suc, ◌+◌, ◌-◌, ◌<◌, ◌==◌, Ok, Err, OnOk, Result, eqb-true, get_or, slice_get, slice_set, take, Bool, cond, true, false, true≢false, Option, Some, option_and_then, option_map, arith, refl, sym, ◌∙◌, ap, ap₂, subst, List, [], ◌∷◌, ◌++◌, drop, length}
 use Rattle.std.specs.List.{AllByRecursion}
-use Rattle.std.proofs.lemmas.List.{drop-drop, length-take-le, take-append-drop}
+use Rattle.std.proofs.lemmas.List.{drop-drop, length-take-le}
 use Rattle.verb_core.specs.declared.conf.House.{House}
 use Rattle.verb_core.specs.declared.item.Deed.{Deed}
 use Rattle.verb_core.specs.declared.item.Deed.TheVariants.{Deliver, Append, Fetch, Store, Copy, List as Names, Status, Select, Expunge, Close, Create, Rename, Delete, Act as Acts, Notice}
@@ -14,7 +14,7 @@ use Rattle.verb_core.specs.Store.{IsValid, MailStore}
 use Rattle.verb_core.proofs.Joins.{answers_joined, run_joined}
 use Rattle.stored_items.specs.Stored.{AllHeard, IsHeard, needs_text, step_text, stored, stored_deed, whole}
 use Rattle.stored_items.proofs.Alike.{does_with_any, does_with_text, formed_heard as one_formed, mailbox as mailbox_stored}
-use Rattle.stored_items.proofs.Heard.{all_heard_themselves, handed_on, heard_joined, heard_longer}
+use Rattle.stored_items.proofs.Heard.{handed_on, heard_longer}
 use Rattle.undo_base.specs.declared.keys.User.{User}
 use Rattle.undo_base.specs.declared.memory.NoMemory.{NoMemory}
 use Rattle.paradox.specs.Answers.{amiss, broken, looks_at_texts}
@@ -121,13 +121,6 @@ revs_heard P = handed_on (λ (i : Item). P i.rev) (λ i h is p. subst P (ap (λ 
 
 pub formed_heard : (house : House) (items heard : List Item) → AllHeard items heard → AllByRecursion (IsWellFormed house) items → AllByRecursion (IsWellFormed house) heard
 formed_heard house = handed_on (IsWellFormed house) (one_formed house)
-
--- behind the first so many, which are as they were
-pub behind_heard : (count : ℕ) (items front later heard all : List Item) → front ≡ take count items → later ≡ drop count items → AllHeard later heard → all ≡ front ++ heard → AllHeard items all
-behind_heard count items front later heard all fronts laters are joined =
-    subst (AllHeard items) (sym joined)
-    (subst (λ (t : List Item). AllHeard t (front ++ heard)) (ap₂ (λ (a b : List Item). a ++ b) fronts laters ∙ take-append-drop count items)
-    (heard_joined front front later heard (all_heard_themselves front) are))
 
 -- ---- items performed one after the other
 

@@ -9,7 +9,6 @@ use Rattle.verb_bytes.specs.declared.journal.CycleAsk.{CycleAsk}
 use Rattle.paradox.specs.Kept.{Kept, Marks}
 use Rattle.paradox.specs.declared.reports.Report.{Report}
 use Rattle.stored_items.specs.Stored.{AllHeard}
-use Rattle.stored_items.proofs.Heard.{length_alike}
 use Rattle.repair_desk.specs.Repairs.{edited_at}
 use Rattle.repair_desk.proofs.Points.{front as front_stays, within}
 use Rattle.mail_cycle.specs.declared.settling.Rewound.{Rewound}
@@ -69,17 +68,17 @@ module _ (s : Kept) (at : ℕ) (ask : CycleAsk) (place : ℕ) (first : MailStore
 
 module _ (s : Kept) (at : ℕ) (ask : CycleAsk) (place : ℕ) (first : MailStore) (count : ℕ) (honest : Type 0) (made : Rewound) (items : List Item) where
   -- from the items as they were performed
-  pub made_of : (heard : List Item) (before : MailStore) (shows : List Shown) → count ≤ place → place ≤ length s.timeline → items ≡ repaired_items s at ask place
-      → AllHeard items heard → (honest → heard ≡ items) → take count heard ≡ take count items → before ≡ run first (drop count heard) → shows ≡ drop (place - count) (answers first (drop count heard))
-      → ((m : MailStore) (n : ℕ) → n ≤ place → n ≤ length heard → before ≡ run m (drop n heard) → shows ≡ drop (place - n) (answers m (drop n heard))
-      → LeavesAt (reached_from s at ask place m n heard) (cycled_from s at ask place m n heard) made)
+  pub made_of : (heard : List Item) → items ≡ repaired_items s at ask place
+      → AllHeard items heard → (honest → heard ≡ items) → take count heard ≡ take count s.timeline → made.from ≡ count
+      → LeavesAt s.timeline (reached_from s at ask place first count heard) (cycled_from s at ask place first count heard) made
       → IsMadeFrom s at ask place first count honest made
-  made_of heard before shows few le are all same begins led shown leaves = record {
+  made_of heard are all same begins from leaves = record {
     heard = heard;
     all = subst (λ (t : List Item). AllHeard t heard) are all;
     same = λ is. same is ∙ are;
-    front = begins ∙ ap (take count) are ∙ first_stay s at ask place count few le;
-    leaves = leaves first count few (let long = length_repaired s at ask place le in let more = ap (λ (t : List Item). length t) are in omega (arith, long, more, length_alike items heard all)) led shown;
+    front = begins;
+    from = from;
+    leaves = leaves;
   }
 
   -- each item behind a beginning and each notice is one step at most
@@ -97,8 +96,8 @@ pub made_exact : (s : Kept) (at : ℕ) (ask : CycleAsk) (place : ℕ) (first : M
 made_exact s at ask place first count honest made few le is led by =
     let heard : List Item = by.heard in
     subst (λ (items : List Item). Leaves s (cycled_with s at ask place items) made) (by.same is)
-    (subst (λ (due : Cycled). LeavesAt (run s.base (timeline_with s at ask place heard)) due made) (cycled_alike s at ask place first count heard few le by.front led)
-    (subst (λ (after : MailStore). LeavesAt after (cycled_from s at ask place first count heard) made) (reached_alike s at ask place first count heard few le by.front led) by.leaves))
+    (subst (λ (due : Cycled). LeavesAt s.timeline (run s.base (timeline_with s at ask place heard)) due made) (cycled_alike s at ask place first count heard few le by.front led)
+    (subst (λ (after : MailStore). LeavesAt s.timeline after (cycled_from s at ask place first count heard) made) (reached_alike s at ask place first count heard few le by.front led) by.leaves))
 
 pub exact_where : {E : Type 0} (s : Kept) (at : ℕ) (ask : CycleAsk) (place : ℕ) (first : MailStore) (count : ℕ) (honest : Type 0) (r : Result Rewound E) → count ≤ place → place ≤ length s.timeline → honest
     → first ≡ run s.base (take count s.timeline) → IfOk r (IsMadeFrom s at ask place first count honest) → IfOk r (Leaves s (cycled_at s at ask place))
@@ -115,9 +114,9 @@ made_due s at ask honest made is by = (
 -- what is known of snapshots makes no difference
 pub made_unmarked : (s : Kept) (marks : Marks) (at : ℕ) (ask : CycleAsk) (place : ℕ) (first : MailStore) (count : ℕ) (honest : Type 0) (made : Rewound)
     → IsMadeFrom (record s { marks = marks }) at ask place first count honest made → IsMadeFrom s at ask place first count honest made
-made_unmarked s marks at ask place first count honest made is = record { heard = is.heard; all = is.all; same = is.same; front = is.front; leaves = is.leaves }
+made_unmarked s marks at ask place first count honest made is = record { heard = is.heard; all = is.all; same = is.same; front = is.front; from = is.from; leaves = is.leaves }
 
 -- the same where less is known of what is read
 pub made_weaker : (s : Kept) (at : ℕ) (ask : CycleAsk) (place : ℕ) (first : MailStore) (count : ℕ) (honest more : Type 0) (made : Rewound) → (more → honest)
     → IsMadeFrom s at ask place first count honest made → IsMadeFrom s at ask place first count more made
-made_weaker s at ask place first count honest more made so is = record { heard = is.heard; all = is.all; same = λ m. is.same (so m); front = is.front; leaves = is.leaves }
+made_weaker s at ask place first count honest more made so is = record { heard = is.heard; all = is.all; same = λ m. is.same (so m); front = is.front; from = is.from; leaves = is.leaves }

@@ -1,7 +1,7 @@
 -- The end of a cycle, step by step: what each of them has is what the cycle is to have.
-use Rattle.std.proofs.Common.{◌≡◌, ◌∙◌, ℕ, Bool, cond, Some, ◌+◌, ◌≤◌, ◌++◌, Err, IfOk, ◌-◌, List, Ok, Result, ap, ap₂, arith, drop, length, subst, sym, true}
+use Rattle.std.proofs.Common.{◌≡◌, ◌∙◌, ℕ, Bool, cond, Some, ◌+◌, ◌≤◌, ◌++◌, Err, IfOk, ◌-◌, List, Ok, Result, ap, ap₂, arith, drop, length, subst, sym, take, true}
 use Rattle.std.specs.List.{AllByRecursion}
-use Rattle.std.proofs.lemmas.List.{drop-append-le}
+use Rattle.std.proofs.lemmas.List.{append_assoc, drop-append-le, length-append, length-take-le, take-append-drop}
 use Rattle.undo_base.specs.declared.keys.User.{User}
 use Rattle.undo_base.specs.declared.memory.NoMemory.{NoMemory}
 use Rattle.verb_bytes.specs.declared.journal.CycleAsk.{CycleAsk}
@@ -18,26 +18,27 @@ use Rattle.paradox.specs.Letters.{notices}
 use Rattle.paradox.specs.declared.reports.BrokenItem.{BrokenItem}
 use Rattle.repair_desk.specs.declared.editing.Edited.{Edited}
 use Rattle.repair_desk.specs.Renewals.{renewed}
-use Rattle.repair_desk.specs.Repairs.{are_known, edited_at, is_among, numbers_of, position}
+use Rattle.repair_desk.specs.Repairs.{are_known, edited_at, edited_behind, is_among, numbers_of, position}
 use Rattle.repair_desk.proofs.Everywhere.{all_formed}
 use Rattle.mail_cycle.specs.declared.settling.Rewound.{Rewound}
 use Rattle.mail_cycle.specs.Cycles.{broken_by, compared_from, cycled_at, cycled_from, front_of, leaves_numbers, notice_items, reached_from, renewed_by, report_by, stamps_by, timeline_by, told_by}
 use Rattle.mail_cycle.specs.Judging.{judged, shown_after}
 use Rattle.mail_cycle.specs.Asking.{IsRewinds, NoNumbers, Rewinds, due_anew, due_at}
-use Rattle.mail_cycle.specs.Leaving.{LeavesAt}
-use Rattle.mail_cycle.proofs.Cycled.{drop_more, few_notices, few_told, judged_same, length_map, length_shown, run_shown, shown_behind, told_formed}
+use Rattle.mail_cycle.specs.Leaving.{LeavesAt, items_left}
+use Rattle.mail_cycle.proofs.Parted.{all_dropped, behind_of, first_of}
+use Rattle.mail_cycle.proofs.Cycled.{drop_more, few_notices, few_told, judged_same, length_map, length_shown, run_shown, shown_behind, shown_front, told_formed}
 
 -- ---- the repaired items
 
 -- they are well formed; what is lent of a state is that state
-pub items_formed : (v s : Kept) → v ≡ s → (ask : CycleAsk) (at place : ℕ) (r : Result Edited NoMemory) → AllByRecursion (IsWellFormed v.house) v.timeline → are_known s.house ask.inserts ≡ true
-    → IfOk r (λ e. e ≡ edited_at v.timeline ask v.next at place) → IfOk r (λ e. AllByRecursion (IsWellFormed s.house) e.items)
-items_formed v s same ask at place (Err e) formed known is = tt
-items_formed v s same ask at place (Ok e) formed known is =
+pub items_formed : (v s : Kept) → v ≡ s → (ask : CycleAsk) (at from place : ℕ) (r : Result Edited NoMemory) → AllByRecursion (IsWellFormed v.house) v.timeline → are_known s.house ask.inserts ≡ true
+    → IfOk r (λ e. e ≡ edited_behind v.timeline ask v.next at from place) → IfOk r (λ e. AllByRecursion (IsWellFormed s.house) e.items)
+items_formed v s same ask at from place (Err e) formed known is = tt
+items_formed v s same ask at from place (Ok e) formed known is =
     let acts : are_known v.house ask.inserts ≡ true = subst (λ (h : House). are_known h ask.inserts ≡ true) (ap (λ (k : Kept). k.house) (sym same)) known in
     let all : AllByRecursion (IsWellFormed v.house) (edited_at v.timeline ask v.next at place).items = all_formed v.house v.timeline ask v.next at place formed acts in
     subst (λ (h : House). AllByRecursion (IsWellFormed h) e.items) (ap (λ (k : Kept). k.house) same)
-    (subst (AllByRecursion (IsWellFormed v.house)) (ap (λ (x : Edited). x.items) (sym is)) all)
+    (subst (AllByRecursion (IsWellFormed v.house)) (ap (λ (x : Edited). x.items) (sym is)) (all_dropped (IsWellFormed v.house) from (edited_at v.timeline ask v.next at place).items all))
 
 -- ---- notices
 
@@ -111,6 +112,23 @@ module _ (s : Kept) (at : ℕ) (ask : CycleAsk) (place : ℕ) (now : List Shown)
   many_told numbers more tells are =
       ap (λ (ns : List ℕ). length ns) (are ∙ ap numbers_of tells) ∙ length_map (λ (i : Item). i.number) (told_by s at ask place now)
 
+-- ---- behind the first items, which stay
+
+long_enough : {X : Type 0} (t xs : List X) (n : ℕ) → n ≤ length t → n ≤ length (take n t ++ xs)
+long_enough t xs n le = omega (arith, length-append (take n t) xs, length-take-le n t le)
+
+-- those behind show their answers as they do behind the first ones
+left_is : (n front : ℕ) (t items more : List Item) (now : List Shown) (made : Rewound) → n ≤ length t → n ≤ front → made.from ≡ n → made.behind ≡ shown_after (front - n) items now ++ more
+    → items_left t made ≡ shown_after front (take n t ++ items) now ++ more
+left_is n front t items more now made le few from are =
+    let all : List Item = take n t ++ items in
+    let rest : front - n + n ≡ front = omega arith in
+    let later : drop n (shown_after front all now) ≡ shown_after (front - n) items now = shown_behind n front (front - n) all now rest ∙ ap (λ (xs : List Item). shown_after (front - n) xs now) (behind_of n t items le) in
+    let first : take n (shown_after front all now) ≡ take n t = shown_front n front all now few ∙ first_of n t items le in
+    ap₂ (λ (k : ℕ) (xs : List Item). take k t ++ xs) from are
+    ∙ sym (append_assoc (take n t) (shown_after (front - n) items now) more)
+    ∙ ap (λ (xs : List Item). xs ++ more) (ap₂ (λ (a b : List Item). a ++ b) (sym first) (sym later) ∙ take-append-drop n (shown_after front all now))
+
 -- ---- the whole
 
 -- numbers among which the same ones are judge the same
@@ -122,33 +140,38 @@ judged_is drops asked count inserts later all shows now (Ok list) same laters co
 
 module _ (s : Kept) (at : ℕ) (ask : CycleAsk) (place : ℕ) where
   pub settled : (items : List Item) (kept : ℕ) (unmatched : List ℕ) (before : MailStore) (shows lent : List Shown) (broken : List BrokenItem) (more : List Item) (numbers : List ℕ) (r : Result Rewound NoMemory)
-      (first : MailStore) (count : ℕ) → count ≤ place → count ≤ length items
-      → before ≡ run first (drop count items) → shows ≡ drop (place - count) (answers first (drop count items))
+      (first : MailStore) (count : ℕ) → count ≤ place → place ≤ length s.timeline
+      → before ≡ run first items → shows ≡ drop (place - count) (answers first items)
       → lent ≡ shows → kept ≡ (edited_at s.timeline ask s.next at place).kept → unmatched ≡ (edited_at s.timeline ask s.next at place).unmatched
       → broken ≡ judged ask.drops (drop place s.timeline) (drop (length ask.inserts) lent)
       → more ≡ notice_items (s.next + length ask.inserts) at (notices s.house s.next at broken) → numbers ≡ numbers_of more
       → IfOk r (λ made. made.store.store ≡ run before more) → IfOk r (λ made. IsValid made.store.store)
-      → IfOk r (λ made. made.timeline ≡ shown_after (front_of ask place) items (drop (length ask.inserts) shows) ++ more)
+      → IfOk r (λ made. made.from ≡ count)
+      → IfOk r (λ made. made.behind ≡ shown_after (front_of ask place - count) items (drop (length ask.inserts) shows) ++ more)
       → IfOk r (λ made. made.stamps ≡ renewed (store_of s).boxes made.store.store.boxes s.stamps s.next)
       → IfOk r (λ made. made.place ≡ place)
       → IfOk r (λ made. made.next ≡ s.next + 1 + length ask.inserts + length numbers)
       → IfOk r (λ made. made.entered ≡ length ask.inserts + length numbers)
       → IfOk r (λ made. made.report ≡ record { cycle = s.next; point = ask.point; kept = kept; broken = broken; notices = numbers; renewed = renewed_by s.next made.stamps; unmatched = unmatched })
-      → IfOk r (LeavesAt (reached_from s at ask place first count items) (cycled_from s at ask place first count items))
-  settled items kept unmatched before shows lent broken more numbers (Err x) first count few long firsts shown lends counts misses breaks tells nums a b c d e f g h = tt
-  settled items kept unmatched before shows lent broken more numbers (Ok made) first count few long firsts shown lends counts misses breaks tells nums stored valid timed stamped placed numbered entered reported =
-      let compared : List Shown = compared_from ask place first count items in
-      let after : MailStore = reached_from s at ask place first count items in
-      let now : drop (length ask.inserts) shows ≡ compared = now_is s at ask place items first count shows few shown in
+      → IfOk r (LeavesAt s.timeline (reached_from s at ask place first count (take count s.timeline ++ items)) (cycled_from s at ask place first count (take count s.timeline ++ items)))
+  settled items kept unmatched before shows lent broken more numbers (Err x) first count few long firsts shown lends counts misses breaks tells nums a b c d e f g h i = tt
+  settled items kept unmatched before shows lent broken more numbers (Ok made) first count few long firsts shown lends counts misses breaks tells nums stored valid from timed stamped placed numbered entered reported =
+      let all : List Item = take count s.timeline ++ items in
+      let behind : drop count all ≡ items = behind_of count s.timeline items (omega arith) in
+      let compared : List Shown = compared_from ask place first count all in
+      let after : MailStore = reached_from s at ask place first count all in
+      let now : drop (length ask.inserts) shows ≡ compared =
+      now_is s at ask place all first count shows few (shown ∙ ap (λ (t : List Item). drop (place - count) (answers first t)) (sym behind)) in
       let broke : broken ≡ broken_by s ask place compared =
       breaks ∙ ap (λ (xs : List Shown). judged ask.drops (drop place s.timeline) (drop (length ask.inserts) xs)) lends ∙ ap (judged ask.drops (drop place s.timeline)) now in
       let said : more ≡ told_by s at ask place compared = told_is s at ask place compared broken more broke tells in
-      let leads : made.store.store ≡ after = store_is s at ask place items first count compared before made.store.store more few long said firsts stored in
+      let leads : made.store.store ≡ after = store_is s at ask place all first count compared before made.store.store more few (long_enough s.timeline items count (omega arith)) said (firsts ∙ ap (run first) (sym behind)) stored in
       let stamps : made.stamps ≡ stamps_by s after = stamps_are s at ask place compared after made.store.store made.stamps leads stamped in
       let many : length numbers ≡ length (told_by s at ask place compared) = many_told s at ask place compared numbers more said nums in
       record {
         place = placed;
-        timeline = timeline_is s at ask place compared items more made.timeline (drop (length ask.inserts) shows) now said timed;
+        timeline = timeline_is s at ask place compared all more (items_left s.timeline made) (drop (length ask.inserts) shows) now said
+            (left_is count (front_of ask place) s.timeline items more (drop (length ask.inserts) shows) made (omega arith) (omega arith) from timed);
         stamps = stamps;
         next = numbered ∙ ap (λ (n : ℕ). s.next + 1 + length ask.inserts + n) many;
         entered = entered ∙ ap (λ (n : ℕ). length ask.inserts + n) many;

@@ -45,13 +45,7 @@ later_stored old new (i ∷ items) zero stays honest all = (stores_on old new i 
 later_stored old new [] (suc n) stays honest all = tt
 later_stored old new (i ∷ items) (suc n) stays honest all = later_stored old new items n stays honest all.1
 
--- the same where those behind a beginning are told
-pub tells_between : (told : BodiesTold) (count place : ℕ) (items : List Item) → TellsAll told (drop count items) → TellsAll told (drop count (take place items))
-tells_between told zero place items all = front_told told place items all
-tells_between told (suc count) zero items all = tt
-tells_between told (suc count) (suc place) [] all = tt
-tells_between told (suc count) (suc place) (i ∷ items) all = tells_between told count place items all
-
+-- of those behind a place, where those behind a beginning are told
 pub behind_held : (old new : BodiesTold) (count place : ℕ) (items : List Item) → count ≤ place → StaysTold old new → TellsAll old (drop count items) → AllByRecursion (HoldsOf new) (drop place items)
 behind_held old new zero place items few stays all = later_held old new items place stays all
 behind_held old new (suc count) zero items few stays all = absurd (omega arith)

@@ -1,5 +1,5 @@
 -- What a cycle leaves in memory, and what holds of it.
-use Rattle.std.specs.Prelude.{◌≡◌, ℕ, ◌<◌, ◌≤◌, List, map, take, Some, IsTrue}
+use Rattle.std.specs.Prelude.{◌≡◌, ℕ, ◌<◌, ◌≤◌, ◌++◌, List, map, take, Some, IsTrue}
 use Rattle.std.specs.List.{AllByRecursion}
 use Rattle.verb_core.specs.declared.item.Item.{Item}
 use Rattle.verb_core.specs.declared.mailbox.BoxId.{BoxId}
@@ -14,10 +14,14 @@ use Rattle.mail_cycle.specs.declared.settling.Rewound.{Rewound}
 use Rattle.repair_desk.specs.Repairs.{position}
 use Rattle.mail_cycle.specs.Cycles.{Cycled, cycled_from, leaves_numbers, reached_from, repaired_items}
 
--- all parts are those of the cycle, and the store is the one to which it led
-pub record LeavesAt (after : MailStore) (due : Cycled) (made : Rewound) : Type 0 where
+-- the items in force that it leaves: the first ones of those before, and those behind them
+abbrev pub items_left : List Item → Rewound → List Item
+items_left before made = take made.from before ++ made.behind
+
+-- all parts are those of the cycle, over the items in force before, and the store is the one to which it led
+pub record LeavesAt (before : List Item) (after : MailStore) (due : Cycled) (made : Rewound) : Type 0 where
   pub place : made.place ≡ due.place
-  pub timeline : made.timeline ≡ due.timeline
+  pub timeline : items_left before made ≡ due.timeline
   pub stamps : made.stamps ≡ due.stamps
   pub next : made.next ≡ due.next
   pub entered : made.entered ≡ due.entered
@@ -27,17 +31,18 @@ pub record LeavesAt (after : MailStore) (due : Cycled) (made : Rewound) : Type 0
 
 -- the same, where the store is what the whole timeline leads to
 abbrev pub Leaves : Kept → Cycled → Rewound → Type 0
-Leaves s due made = LeavesAt (run s.base due.timeline) due made
+Leaves s due made = LeavesAt s.timeline (run s.base due.timeline) due made
 
 -- From a beginning, a store and a count: the repaired items behind the first so many were performed on the store as they were
 -- read. Only texts of deliveries may be others, and they are none where what is read is what was stored; the first so many are as
--- they were. What is left is the cycle over these items, behind a place of the timeline.
+-- they were, and stay where they are. What is left is the cycle over these items, behind a place of the timeline.
 pub record IsMadeFrom (s : Kept) (at : ℕ) (ask : CycleAsk) (place : ℕ) (first : MailStore) (count : ℕ) (honest : Type 0) (made : Rewound) : Type 0 where
   pub heard : List Item
   pub all : AllHeard (repaired_items s at ask place) heard
   pub same : honest → heard ≡ repaired_items s at ask place
   pub front : take count heard ≡ take count s.timeline
-  pub leaves : LeavesAt (reached_from s at ask place first count heard) (cycled_from s at ask place first count heard) made
+  pub from : made.from ≡ count
+  pub leaves : LeavesAt s.timeline (reached_from s at ask place first count heard) (cycled_from s at ask place first count heard) made
 
 -- The same behind the place of the point, which the timeline has, with numbers left, from a beginning at or before it: a valid
 -- store of the house, and the one to which the first so many items led, where what is read is what was stored.

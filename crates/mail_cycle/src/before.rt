@@ -7,11 +7,11 @@ ghost use Rattle.verb_core.specs.Items.{IsWellFormed};
 ghost use Rattle.verb_core.specs.Store.{IsValid, is_house, is_known};
 ghost use Rattle.paradox.specs.Kept.{store_of};
 ghost use Rattle.repair_desk.specs.Renewals.{renewed};
-ghost use Rattle.repair_desk.specs.Repairs.{are_known, edited_at, position};
+ghost use Rattle.repair_desk.specs.Repairs.{are_known, edited_behind, position};
 
 use box_store::Store;
 use paradox::Report;
-use repair_desk::{Edited, edit_at, position_of, renew};
+use repair_desk::{Edited, edit_behind, position_of, renew};
 use std::alloc::Global;
 use std::marker::Model;
 use stored_items::{StoredItem, StoredItems};
@@ -165,21 +165,23 @@ impl<'a> Before<'a> {
         }
     }
 
-    /// The timeline after the repairs that are asked for.
+    /// The timeline after the repairs that are asked for, behind the first so many items, of which no copy is made.
     pub(crate) fn repaired(
         &self,
         alloc: Global,
         ask: &CycleAsk,
         at: u64,
+        from: usize,
         place: usize,
     ) -> Result<Edited, NoMemory>
+        requires from { from ≤ place }
         requires place { place ≤ length self.now.timeline }
         requires numbers { self.now.next + length ask.now.inserts ≤ LAST_NUMBER }
         requires acts { IsTrue (are_known self.now.house ask.now.inserts) }
-        ensures edited { IfOk result (λ edited. edited ≡ edited_at self.now.timeline ask.now self.now.next at place) }
+        ensures edited { IfOk result (λ edited. edited ≡ edited_behind self.now.timeline ask.now self.now.next at from place) }
         ensures formed { IfOk result (λ edited. AllByRecursion (IsWellFormed self.now.house) edited.items) }
     {
-        edit_at(alloc, self.timeline, ask, self.next, at, place)
+        edit_behind(alloc, self.timeline, ask, self.next, at, from, place)
     }
 
     /// The stamps of the mailboxes that a store has after the cycle.

@@ -1,5 +1,5 @@
 //! A cycle, put together.
-ghost use Rattle.std.specs.Prelude.{◌≡◌, ℕ, ◌+◌, ◌-◌, ◌≤◌, ◌++◌, drop, length, take, IfOk, IsTrue, OnOk};
+ghost use Rattle.std.specs.Prelude.{◌≡◌, ◌+◌, ◌-◌, ◌≤◌, ◌++◌, drop, length, take, IfOk, IsTrue, OnOk};
 ghost use Rattle.std.specs.List.{AllByRecursion};
 ghost use Rattle.verb_core.specs.Items.{IsWellFormed};
 ghost use Rattle.verb_core.specs.Step.{answers, run};
@@ -72,53 +72,8 @@ fn with_front(front: StoredItems, later: Replayed) -> Result<Replayed, NoMemory>
     }
 }
 
-/// Performs the items behind a beginning, one after the other, and puts them behind the first ones again.
-fn replay_behind<B: Bodies, L: Ledger>(
-    alloc: Global,
-    first: Beginning,
-    bodies: &mut B,
-    place: usize,
-    items: StoredItems,
-    steps: &mut Steps<L>,
-) -> Result<Replayed, BodiesFault>
-    requires valid { IsValid first.store.store }
-    requires few { first.count ≤ place }
-    requires long { place ≤ length items }
-    requires formed { AllByRecursion (IsWellFormed first.store.store.house) items }
-    requires texts { TellsAll (B.told bodies.old) (drop first.count items) }
-    ensures heard { IfOk result (λ made. AllHeard items made.items) }
-    ensures same { (B.told bodies.old).honest → IfOk result (λ made. made.items ≡ items) }
-    ensures front { IfOk result (λ made. take first.count made.items ≡ take first.count items) }
-    ensures store { IfOk result (λ made. made.store.store ≡ run first.store.store (drop first.count made.items)) }
-    ensures valid { IfOk result (λ made. IsValid made.store.store) }
-    ensures shows { IfOk result (λ made. made.shows ≡ drop (place - first.count) (answers first.store.store (drop first.count made.items))) }
-    ensures steps { OnOk result (steps.new + first.count ≡ steps.old + length items) }
-    ensures reads { Counts (B.told bodies.old) (B.told bodies.new) result }
-    ensures stays { StaysTold (B.told bodies.old) (B.told bodies.new) }
-    ensures leads { B.leads bodies.old bodies.new }
-{
-    let Beginning { store, count } = first;
-    match cut(items, count) {
-        Ok((front, later)) => match replay_in_order(
-            alloc,
-            store,
-            bodies,
-            later,
-            place - count,
-            steps,
-        ) {
-            Ok(made) => match with_front(front, made) {
-                Ok(made) => Ok(made),
-                Err(NoMemory) => Err(BodiesFault::NoMemory),
-            },
-            Err(fault) => Err(fault),
-        },
-        Err(NoMemory) => Err(BodiesFault::NoMemory),
-    }
-}
-
-/// A cycle at its point: the repaired items through it, as they were performed, the store that they lead to, those behind it,
-/// and what is told of the repairs.
+/// A cycle at its point: the items behind its beginning and through the point, as they were performed, the store that they lead to,
+/// the repaired ones behind the point, and what is told of the repairs.
 #[derive(Drop)]
 struct AtPoint {
     items: StoredItems,
@@ -127,7 +82,7 @@ struct AtPoint {
     repairs: Repairs,
 }
 
-/// Performs the items of a repaired timeline behind a beginning and through a place.
+/// Performs the items behind a beginning and through a place, of the repaired ones behind that beginning.
 fn go_to<B: Bodies, L: Ledger>(
     alloc: Global,
     first: Beginning,
@@ -138,15 +93,14 @@ fn go_to<B: Bodies, L: Ledger>(
 ) -> Result<AtPoint, BodiesFault>
     requires valid { IsValid first.store.store }
     requires few { first.count ≤ place }
-    requires place { place ≤ length edited.items }
+    requires place { place - first.count ≤ length edited.items }
     requires formed { AllByRecursion (IsWellFormed first.store.store.house) edited.items }
-    requires texts { TellsAll (B.told bodies.old) (drop first.count edited.items) }
-    ensures heard { IfOk result (λ there. AllHeard (take place edited.items) there.items) }
-    ensures same { (B.told bodies.old).honest → IfOk result (λ there. there.items ≡ take place edited.items) }
-    ensures front { IfOk result (λ there. take first.count there.items ≡ take first.count (take place edited.items)) }
-    ensures store { IfOk result (λ there. there.store.store ≡ run first.store.store (drop first.count there.items)) }
+    requires texts { TellsAll (B.told bodies.old) edited.items }
+    ensures heard { IfOk result (λ there. AllHeard (take (place - first.count) edited.items) there.items) }
+    ensures same { (B.told bodies.old).honest → IfOk result (λ there. there.items ≡ take (place - first.count) edited.items) }
+    ensures store { IfOk result (λ there. there.store.store ≡ run first.store.store there.items) }
     ensures valid { IfOk result (λ there. IsValid there.store.store) }
-    ensures later { IfOk result (λ there. there.later ≡ drop place edited.items) }
+    ensures later { IfOk result (λ there. there.later ≡ drop (place - first.count) edited.items) }
     ensures kept { IfOk result (λ there. there.repairs.kept ≡ edited.kept) }
     ensures unmatched { IfOk result (λ there. there.repairs.unmatched ≡ edited.unmatched) }
     ensures steps { OnOk result (steps.new + first.count ≡ steps.old + place) }
@@ -162,9 +116,10 @@ fn go_to<B: Bodies, L: Ledger>(
     } = edited;
     drop(withdrawn);
     let repairs = Repairs { kept, unmatched };
-    match cut(items, place) {
-        Ok((front, later)) => {
-            let made = replay_behind(alloc, first, bodies, place, front, steps)?;
+    let Beginning { store, count } = first;
+    match cut(items, place - count) {
+        Ok((through, later)) => {
+            let made = replay_in_order(alloc, store, bodies, through, place - count, steps)?;
             let Replayed {
                 items,
                 store,
@@ -200,10 +155,9 @@ fn at_point<B: Bodies, L: Ledger>(
     requires few { first.count ≤ place }
     requires place { place ≤ length before.now.timeline }
     requires texts { TellsAll (B.told bodies.old) (drop first.count (repaired_items before.now at ask.now place)) }
-    ensures heard { IfOk result (λ there. AllHeard (take place (repaired_items before.now at ask.now place)) there.items) }
-    ensures same { (B.told bodies.old).honest → IfOk result (λ there. there.items ≡ take place (repaired_items before.now at ask.now place)) }
-    ensures front { IfOk result (λ there. take first.count there.items ≡ take first.count (take place (repaired_items before.now at ask.now place))) }
-    ensures store { IfOk result (λ there. there.store.store ≡ run first.store.store (drop first.count there.items)) }
+    ensures heard { IfOk result (λ there. AllHeard (take place (repaired_items before.now at ask.now place)) (take first.count before.now.timeline ++ there.items)) }
+    ensures same { (B.told bodies.old).honest → IfOk result (λ there. take first.count before.now.timeline ++ there.items ≡ take place (repaired_items before.now at ask.now place)) }
+    ensures store { IfOk result (λ there. there.store.store ≡ run first.store.store there.items) }
     ensures valid { IfOk result (λ there. IsValid there.store.store) }
     ensures house { IfOk result (λ there. there.store.store.house ≡ before.now.house) }
     ensures later { IfOk result (λ there. there.later ≡ drop place (repaired_items before.now at ask.now place)) }
@@ -217,19 +171,21 @@ fn at_point<B: Bodies, L: Ledger>(
     ensures stays { StaysTold (B.told bodies.old) (B.told bodies.new) }
     ensures leads { B.leads bodies.old bodies.new }
 {
-    match before.repaired(alloc, ask, at, place) {
+    match before.repaired(alloc, ask, at, first.count, place) {
         Ok(edited) => go_to(alloc, first, bodies, place, edited, steps),
         Err(NoMemory) => Err(BodiesFault::NoMemory),
     }
 }
 
-/// Puts the items behind a place, as they were replayed, behind those through it, and makes the rest of what they show.
+/// Puts the items behind a place, as they were replayed, behind those through it and behind a beginning, and makes the rest of
+/// what they show.
 fn settled<L: Ledger>(
     alloc: Global,
     before: &Before<'_>,
     at: u64,
     ask: &CycleAsk,
     place: usize,
+    from: usize,
     repairs: Repairs,
     front: StoredItems,
     later: Replayed,
@@ -242,21 +198,25 @@ fn settled<L: Ledger>(
     requires unmatched { repairs.unmatched ≡ (edited_at before.now.timeline ask.now before.now.next at place).unmatched }
     requires valid { IsValid later.store.store }
     requires house { later.store.store.house ≡ before.now.house }
-    ensures made { (first : MailStore) (count : ℕ) → count ≤ place → count ≤ length (front ++ later.items) →
-        later.store.store ≡ run first (drop count (front ++ later.items)) → later.shows ≡ drop (place - count) (answers first (drop count (front ++ later.items))) →
-        IfOk result (LeavesAt (reached_from before.now at ask.now place first count (front ++ later.items)) (cycled_from before.now at ask.now place first count (front ++ later.items))) }
+    requires from { from ≤ place }
+    ensures from { IfOk result (λ made. made.from ≡ from) }
+    ensures made { (first : MailStore) → later.store.store ≡ run first (front ++ later.items) → later.shows ≡ drop (place - from) (answers first (front ++ later.items)) →
+        IfOk result (LeavesAt before.now.timeline (reached_from before.now at ask.now place first from (take from before.now.timeline ++ (front ++ later.items)))
+        (cycled_from before.now at ask.now place first from (take from before.now.timeline ++ (front ++ later.items)))) }
     ensures steps { IfOk result (λ made. steps.new ≤ steps.old + length made.report.notices) }
 {
     match with_front(front, later) {
-        Ok(replayed) => settle(alloc, before, at, ask, place, repairs, replayed, steps),
+        Ok(replayed) => settle(
+            alloc, before, at, ask, place, from, repairs, replayed, steps,
+        ),
         Err(NoMemory) => Err(NoMemory),
     }
 }
 
 /// The cycle that is asked for at a moment, behind a place of the timeline, from a beginning at or before it: the repaired items
 /// behind the beginning are performed on its store, once each, those through the place one after the other, those behind it level
-/// by level on workers, the notices last. Each of their deliveries' texts is read, once, and no other text. In time that grows as
-/// these items, the mailboxes and these texts, beside copies of all items.
+/// by level on workers, the notices last. Each of their deliveries' texts is read, once, and no other text. The items before the
+/// beginning stay where they are, and are not copied. In time that grows as the items behind it, the mailboxes and these texts.
 pub fn cycle_from<R: Threads + Sync, G: Gate, B: Bodies, L: Ledger>(
     rt: &R,
     alloc: Global,
@@ -284,6 +244,7 @@ pub fn cycle_from<R: Threads + Sync, G: Gate, B: Bodies, L: Ledger>(
     ensures stays { StaysTold (B.told bodies.old) (B.told bodies.new) }
     ensures leads { B.leads bodies.old bodies.new }
 {
+    let from = first.count;
     let there = at_point(alloc, before, first, bodies, at, ask, place, steps)?;
     let AtPoint {
         items,
@@ -292,7 +253,9 @@ pub fn cycle_from<R: Threads + Sync, G: Gate, B: Bodies, L: Ledger>(
         repairs,
     } = there;
     let later = replay_by_levels(rt, alloc, store, bodies, later, gate, steps)?;
-    match settled(alloc, before, at, ask, place, repairs, items, later, steps) {
+    match settled(
+        alloc, before, at, ask, place, from, repairs, items, later, steps,
+    ) {
         Ok(made) => Ok(made),
         Err(NoMemory) => Err(BodiesFault::NoMemory),
     }
@@ -324,6 +287,7 @@ pub fn cycle_in_order<B: Bodies, L: Ledger>(
     ensures stays { StaysTold (B.told bodies.old) (B.told bodies.new) }
     ensures leads { B.leads bodies.old bodies.new }
 {
+    let from = first.count;
     let there = at_point(alloc, before, first, bodies, at, ask, place, steps)?;
     let AtPoint {
         items,
@@ -332,7 +296,9 @@ pub fn cycle_in_order<B: Bodies, L: Ledger>(
         repairs,
     } = there;
     let later = replay_in_order(alloc, store, bodies, later, 0, steps)?;
-    match settled(alloc, before, at, ask, place, repairs, items, later, steps) {
+    match settled(
+        alloc, before, at, ask, place, from, repairs, items, later, steps,
+    ) {
         Ok(made) => Ok(made),
         Err(NoMemory) => Err(BodiesFault::NoMemory),
     }

@@ -1,5 +1,5 @@
 //! The end of a cycle: what replayed items show is compared with what users were shown, users are told, and all is put together.
-ghost use Rattle.std.specs.Prelude.{◌≡◌, ℕ, ◌+◌, ◌-◌, ◌≤◌, ◌++◌, drop, length, IfOk, IsTrue, OnOk};
+ghost use Rattle.std.specs.Prelude.{◌≡◌, ◌+◌, ◌-◌, ◌≤◌, ◌++◌, drop, length, take, IfOk, IsTrue, OnOk};
 ghost use Rattle.std.specs.List.{AllByRecursion};
 ghost use Rattle.verb_core.specs.Items.{IsWellFormed};
 ghost use Rattle.verb_core.specs.Step.{answers, run, step};
@@ -27,13 +27,14 @@ use verb_bytes::CycleAsk;
 use verb_core::laws::steps_keep_validity;
 use verb_core::{Item, Items, Shown, Stamps};
 
-/// What a cycle leaves: the store, the place of its point, the items in force, the stamp of each mailbox, the next number, how
-/// many items entered, acts and notices, and the report.
+/// What a cycle leaves: the store, the place of its point, how many of the first items stay as they are and the items in force
+/// behind them, the stamp of each mailbox, the next number, how many items entered, acts and notices, and the report.
 #[derive(Drop)]
 pub struct Rewound {
     pub store: Store,
     pub place: u32,
-    pub timeline: StoredItems,
+    pub from: usize,
+    pub behind: StoredItems,
     pub stamps: Stamps,
     pub next: u32,
     pub entered: u32,
@@ -159,7 +160,7 @@ fn marks_of(alloc: Global, before: &Before<'_>, after: &Store) -> Result<Marks, 
 #[derive(Drop)]
 struct Led {
     store: Store,
-    timeline: StoredItems,
+    items: StoredItems,
 }
 
 /// Performs the notices, and puts them behind the items, which show what they show now where what they showed no longer holds:
@@ -176,7 +177,7 @@ fn lead<L: Ledger>(
     requires formed { AllByRecursion (IsWellFormed replayed.store.store.house) notices }
     ensures store { IfOk result (λ led. led.store.store ≡ run replayed.store.store notices) }
     ensures valid { IfOk result (λ led. IsValid led.store.store) }
-    ensures timeline { IfOk result (λ led. led.timeline ≡ shown_after front replayed.items (drop inserts replayed.shows) ++ notices) }
+    ensures items { IfOk result (λ led. led.items ≡ shown_after front replayed.items (drop inserts replayed.shows) ++ notices) }
     ensures steps { IfOk result (λ led. steps.new ≡ steps.old + length notices) }
 {
     let Replayed {
@@ -187,15 +188,17 @@ fn lead<L: Ledger>(
     let store = performed(alloc, store, notices.as_slice(), steps)?;
     let now = behind(shows.as_slice(), inserts);
     match in_force(alloc, front, items, now, notices) {
-        Ok(timeline) => Ok(Led { store, timeline }),
+        Ok(items) => Ok(Led { store, items }),
         Err(NoMemory) => Err(NoMemory),
     }
 }
 
-/// What is told of a cycle, but for the stamps, with the place of its point, the next number, and how many items entered.
+/// What is told of a cycle, but for the stamps, with the place of its point, how many of the first items stay, the next number,
+/// and how many items entered.
 #[derive(Drop)]
 struct Found {
     place: u32,
+    from: usize,
     next: u32,
     entered: u32,
     kept: u32,
@@ -213,7 +216,8 @@ fn finish(
     found: Found,
 ) -> Result<Rewound, NoMemory>
     ensures store { IfOk result (λ made. made.store.store ≡ led.store.store) }
-    ensures timeline { IfOk result (λ made. made.timeline ≡ led.timeline) }
+    ensures from { IfOk result (λ made. made.from ≡ found.from) }
+    ensures behind { IfOk result (λ made. made.behind ≡ led.items) }
     ensures stamps { IfOk result (λ made. made.stamps ≡ renewed_stamps (store_of before.now).boxes made.store.store.boxes before.now.stamps before.now.next) }
     ensures place { IfOk result (λ made. made.place ≡ found.place) }
     ensures next { IfOk result (λ made. made.next ≡ found.next) }
@@ -232,7 +236,8 @@ fn finish(
         Ok(marks) => Ok(Rewound {
             store: led.store,
             place: found.place,
-            timeline: led.timeline,
+            from: found.from,
+            behind: led.items,
             stamps: marks.stamps,
             next: found.next,
             entered: found.entered,
@@ -260,12 +265,13 @@ fn short(place: usize) -> Result<u32, NoMemory>
     }
 }
 
-/// Puts all together by what users are told, with the notices performed.
+/// Puts all together by what users are told, with the notices performed. The replayed items are those behind the first so many.
 fn close<L: Ledger>(
     alloc: Global,
     before: &Before<'_>,
     ask: &CycleAsk,
     place: usize,
+    from: usize,
     repairs: Repairs,
     replayed: Replayed,
     told: Told,
@@ -273,12 +279,14 @@ fn close<L: Ledger>(
 ) -> Result<Rewound, NoMemory>
     requires numbers { before.now.next + 1 + length ask.now.inserts + length before.now.house.accounts ≤ LAST_NUMBER }
     requires place { place ≤ length before.now.timeline }
+    requires from { from ≤ place }
     requires valid { IsValid replayed.store.store }
     requires few { length told.numbers ≤ length before.now.house.accounts }
     requires formed { AllByRecursion (IsWellFormed replayed.store.store.house) told.notices }
     ensures store { IfOk result (λ made. made.store.store ≡ run replayed.store.store told.notices) }
     ensures valid { IfOk result (λ made. IsValid made.store.store) }
-    ensures timeline { IfOk result (λ made. made.timeline ≡ shown_after (place + length ask.now.inserts) replayed.items (drop (length ask.now.inserts) replayed.shows) ++ told.notices) }
+    ensures from { IfOk result (λ made. made.from ≡ from) }
+    ensures behind { IfOk result (λ made. made.behind ≡ shown_after (place + length ask.now.inserts - from) replayed.items (drop (length ask.now.inserts) replayed.shows) ++ told.notices) }
     ensures stamps { IfOk result (λ made. made.stamps ≡ renewed_stamps (store_of before.now).boxes made.store.store.boxes before.now.stamps before.now.next) }
     ensures place { IfOk result (λ made. made.place ≡ place) }
     ensures next { IfOk result (λ made. made.next ≡ before.now.next + 1 + length ask.now.inserts + length told.numbers) }
@@ -295,10 +303,11 @@ fn close<L: Ledger>(
     ensures steps { IfOk result (λ made. steps.new ≤ steps.old + length told.notices) }
 {
     let inserts = ask.inserts.len();
-    let front = before.front_with(place, inserts);
+    let front = before.front_with(place, inserts) - from;
     let entered = inserts as u32 + told.numbers.len() as u32;
     let found = Found {
         place: short(place)?,
+        from,
         next: before.next() + 1 + entered,
         entered,
         kept: repairs.kept,
@@ -312,15 +321,17 @@ fn close<L: Ledger>(
     }
 }
 
-/// What the cycle leaves behind a place, from the repaired items as they were read, the store that those behind a beginning lead to
+/// What the cycle leaves behind a place, from the repaired items behind a beginning as they were read, the store that they lead to
 /// and the answers that those behind the place gave: the broken and the withdrawn items, what the broken ones show, the notices, which are
-/// performed, the stamps and the report. In time that grows as the timeline and the mailboxes.
+/// performed, the stamps and the report. The items before the beginning stay as they are. In time that grows as the items behind
+/// the beginning, those of the timeline behind the place, and the mailboxes.
 pub fn settle<L: Ledger>(
     alloc: Global,
     before: &Before<'_>,
     at: u64,
     ask: &CycleAsk,
     place: usize,
+    from: usize,
     repairs: Repairs,
     replayed: Replayed,
     steps: &mut Steps<L>,
@@ -332,13 +343,17 @@ pub fn settle<L: Ledger>(
     requires unmatched { repairs.unmatched ≡ (edited_at before.now.timeline ask.now before.now.next at place).unmatched }
     requires valid { IsValid replayed.store.store }
     requires house { replayed.store.store.house ≡ before.now.house }
-    ensures made { (first : MailStore) (count : ℕ) → count ≤ place → count ≤ length replayed.items →
-        replayed.store.store ≡ run first (drop count replayed.items) → replayed.shows ≡ drop (place - count) (answers first (drop count replayed.items)) →
-        IfOk result (LeavesAt (reached_from before.now at ask.now place first count replayed.items) (cycled_from before.now at ask.now place first count replayed.items)) }
+    requires from { from ≤ place }
+    ensures from { IfOk result (λ made. made.from ≡ from) }
+    ensures made { (first : MailStore) → replayed.store.store ≡ run first replayed.items → replayed.shows ≡ drop (place - from) (answers first replayed.items) →
+        IfOk result (LeavesAt before.now.timeline (reached_from before.now at ask.now place first from (take from before.now.timeline ++ replayed.items))
+        (cycled_from before.now at ask.now place first from (take from before.now.timeline ++ replayed.items))) }
     ensures steps { IfOk result (λ made. steps.new ≤ steps.old + length made.report.notices) }
 {
     match tell_users(alloc, before, at, ask, place, replayed.shows.as_slice()) {
-        Ok(told) => close(alloc, before, ask, place, repairs, replayed, told, steps),
+        Ok(told) => close(
+            alloc, before, ask, place, from, repairs, replayed, told, steps,
+        ),
         Err(NoMemory) => Err(NoMemory),
     }
 }

@@ -1,15 +1,15 @@
 -- The places of items, by their numbers.
-use Rattle.std.proofs.Common.{◌≡◌, ◌≢◌, inl, inr, ℕ, ◌+◌, ◌-◌, ◌<◌, ◌≤◌, List, [], ◌∷◌, ◌++◌, length, get_or, take, None, Some, Result, Err, refl, ap, sym, subst, ◌∙◌, arith, rules}
+use Rattle.std.proofs.Common.{◌≡◌, ◌≢◌, inl, inr, ℕ, zero, suc, ◌+◌, ◌-◌, ◌<◌, ◌≤◌, Bool, true, false, cond, filter, nat_lt, List, [], ◌∷◌, ◌++◌, length, get_or, take, None, Some, Result, Err, refl, ap, sym, subst, ◌∙◌, arith, rules}
 use Rattle.std.specs.List.{AllByRecursion, Contains}
 use Rattle.std.specs.List.Sorted.{IsBinarySearchResult, IsNonDecreasingBy, IsPermutation}
 use Rattle.std.specs.Ordering.{nat_cmp, ordering_index}
 use Rattle.std.specs.declared.cmp.Ordering.{Ordering}
 use Rattle.std.specs.declared.cmp.Ordering.TheVariants.{Less, Equal, Greater}
 use Rattle.std.specs.Cmp.{nat_cmp_is}
-use Rattle.std.proofs.lemmas.Bool.{cases_order}
+use Rattle.std.proofs.lemmas.Bool.{cases_order, lt-ltb, ltb-true}
 use Rattle.std.proofs.lemmas.Cmp.{ranked}
-use Rattle.std.proofs.lemmas.List.{get_or_append_left, get_or_default, get_or_push, length_push}
-use Rattle.std.proofs.lemmas.List.Elements.{All-from_recursion, All-push, All-weaker, Contains-append_left, Contains-push}
+use Rattle.std.proofs.lemmas.List.{get_or-take, get_or_append_left, get_or_push, length-take-le, length_push}
+use Rattle.std.proofs.lemmas.List.Elements.{All-filter, All-from_recursion, All-push, All-weaker, Contains-append_left, Contains-append_right, Contains-get_or, Contains-push, filter_passes}
 use Rattle.std.proofs.lemmas.List.Sorted.{All-permutation, Contains-permutation, IsNonDecreasingBy-push}
 use Rattle.verb_core.specs.declared.item.Item.{Item}
 use Rattle.verb_core.specs.Items.{NumbersApart}
@@ -131,27 +131,59 @@ index_none rows t none empty =
 
 -- ---- items in any order
 
--- the rows of the items before a place, and one more
-pub places_none : (rows : List (ℕ × ℕ)) (t : List Item) → rows ≡ [] → HasPlaces rows t 0
-places_none rows t none = subst (λ (rs : List (ℕ × ℕ)). HasPlaces rs t 0) (sym none) (record {
-  right = λ k d within. absurd (omega arith);
-  whole = λ place d less. absurd (omega arith);
-})
-
-pub place_more : (rows : List (ℕ × ℕ)) (t : List Item) (count : ℕ) (i : Item) → count < length t → i ≡ get_or t count i → HasPlaces rows t count → HasPlaces (rows ++ (i.number, count) ∷ []) t (count + 1)
-place_more rows t count i within is places = record {
-  right = All-push (IsPlaceIn t) rows (i.number, count) places.right (record {
-    within = within;
-    number = λ d. ap (λ (j : Item). j.number) (get_or_default t count d i within ∙ sym is);
+-- an item more
+pub place_last : (rows : List (ℕ × ℕ)) (t : List Item) (i : Item) → HasPlaces rows t (length t) → HasPlaces (rows ++ (i.number, length t) ∷ []) (t ++ i ∷ []) (length (t ++ i ∷ []))
+place_last rows t i has = record {
+  right = All-push (IsPlaceIn (t ++ i ∷ [])) rows (i.number, length t) (All-weaker (IsPlaceIn t) (IsPlaceIn (t ++ i ∷ [])) (place_on t i) rows has.right) (record {
+    within = omega (arith, length_push t i);
+    number = λ d. ap (λ (j : Item). j.number) (get_or_push t i d (length t) refl);
   });
-  whole = λ place d less. elim (cases_order place count) [
+  whole = λ place d within. elim (cases_order place (length t)) [
     | inl same ↦
-        subst (λ (n : ℕ). Contains (rows ++ (i.number, count) ∷ []) ((get_or t n d).number, n)) (sym same)
-        (subst (λ (j : Item). Contains (rows ++ (i.number, count) ∷ []) (j.number, count)) (is ∙ get_or_default t count i d within) (Contains-push rows (i.number, count)))
-    | inr (inl lt) ↦ Contains-append_left rows ((i.number, count) ∷ []) ((get_or t place d).number, place) (places.whole place d lt)
-    | inr (inr gt) ↦ absurd (omega arith)
+        subst (λ (n : ℕ). Contains (rows ++ (i.number, length t) ∷ []) ((get_or (t ++ i ∷ []) n d).number, n)) (sym same)
+        (subst (λ (j : Item). Contains (rows ++ (i.number, length t) ∷ []) (j.number, length t)) (sym (get_or_push t i d (length t) refl)) (Contains-push rows (i.number, length t)))
+    | inr (inl lt) ↦
+        subst (λ (j : Item). Contains (rows ++ (i.number, length t) ∷ []) (j.number, place)) (sym (get_or_append_left t (i ∷ []) d place lt))
+        (Contains-append_left rows ((i.number, length t) ∷ []) ((get_or t place d).number, place) (has.whole place d lt))
+    | inr (inr gt) ↦ absurd (omega (arith, length_push t i))
   ];
 }
+
+-- what passes a test is still there
+kept_there : {X : Type 0} (p : X → Bool) (xs : List X) (x : X) → p x ≡ true → Contains xs x → Contains (filter p xs) x
+kept_there p [] x passes there = absurd (let low : there.0 < 0 = there.1 in omega arith)
+kept_there p (y ∷ xs) x passes (zero, within, same) =
+    subst (λ (b : Bool). Contains (cond b (y ∷ filter p xs) (filter p xs)) x) (sym (ap p same ∙ passes))
+    (subst (λ z. Contains (y ∷ filter p xs) z) same (Contains-get_or (y ∷ filter p xs) 0 y (omega arith)))
+kept_there p (y ∷ xs) x passes (suc k, within, same) =
+    let rest : Contains (filter p xs) x = kept_there p xs x passes (k, omega arith, same) in
+    elim (p y) as (λ b. Contains (cond b (y ∷ filter p xs) (filter p xs)) x) [
+      | true ↦ Contains-append_right (y ∷ []) (filter p xs) x rest
+      | false ↦ rest
+    ]
+
+-- the rows of the first so many places are those of the first so many items
+pub places_kept : (rows : List (ℕ × ℕ)) (t : List Item) (n : ℕ) → IsIndex rows t → n ≤ length t → HasPlaces (filter (λ (r : ℕ × ℕ). nat_lt r.1 n) rows) (take n t) (length (take n t))
+places_kept rows t n index le = record {
+  right = λ k d within.
+      let row = get_or (filter (λ (r : ℕ × ℕ). nat_lt r.1 n) rows) k d in
+      let inside = All-filter (λ (r : ℕ × ℕ). nat_lt r.1 n) (IsPlaceIn t) rows index.right k d within in
+      let lt : row.1 < n = ltb-true row.1 n (filter_passes (λ (r : ℕ × ℕ). nat_lt r.1 n) rows k d within) in
+      record {
+        within = omega (arith, lt, length-take-le n t le);
+        number = λ e. ap (λ (j : Item). j.number) (get_or-take n t row.1 e lt) ∙ inside.number e;
+      };
+  whole = λ place d within.
+      let lt : place < n = omega (arith, length-take-le n t le) in
+      let there : place < length t = omega arith in
+      subst (λ (j : Item). Contains (filter (λ (r : ℕ × ℕ). nat_lt r.1 n) rows) (j.number, place)) (sym (get_or-take n t place d lt))
+      (kept_there (λ (r : ℕ × ℕ). nat_lt r.1 n) rows ((get_or t place d).number, place) (lt-ltb place n lt) (index.whole place d there));
+}
+
+pub still_kept : (rows kept : List (ℕ × ℕ)) (t front : List Item) (n : ℕ) → IsIndex rows t → n ≤ length t → kept ≡ filter (λ (r : ℕ × ℕ). nat_lt r.1 n) rows → front ≡ take n t → HasPlaces kept front (length front)
+still_kept rows kept t front n index le are is =
+    subst (λ (rs : List (ℕ × ℕ)). HasPlaces rs front (length front)) (sym are)
+    (subst (λ (f : List Item). HasPlaces (filter (λ (r : ℕ × ℕ). nat_lt r.1 n) rows) f (length f)) (sym is) (places_kept rows t n index le))
 
 -- sorted they are an index
 pub index_sorted : (rows sorted : List (ℕ × ℕ)) (t : List Item) → HasPlaces rows t (length t) → IsNonDecreasingBy (λ (r : ℕ × ℕ). r.0) sorted → IsPermutation rows sorted → IsIndex sorted t

@@ -1,5 +1,5 @@
 -- The outcome of a cycle is a desk.
-use Rattle.std.proofs.Common.{◌≡◌, ℕ, ◌+◌, ◌-◌, ◌<◌, ◌≤◌, List, [], ◌∷◌, ◌++◌, length, map, option_map, Result, Ok, Err, IfOk, OnOk, IsTrue, ap, sym, subst, ◌∙◌, arith}
+use Rattle.std.proofs.Common.{◌≡◌, ℕ, ◌+◌, ◌-◌, ◌<◌, ◌≤◌, List, [], ◌∷◌, ◌++◌, length, map, take, option_map, Result, Ok, Err, IfOk, OnOk, IsTrue, sym, subst, ◌∙◌, arith}
 use Rattle.std.specs.List.{AllByRecursion}
 use Rattle.std.proofs.lemmas.List.{length_push}
 use Rattle.undo_base.specs.declared.memory.NoMemory.{NoMemory as MemoryWant}
@@ -51,13 +51,13 @@ desk_remade kept store timeline stamps next reported place more is house valid t
 -- ---- what was made
 
 -- the parts that it was made of
-pub made_is : (r : Result Remade MemoryWant) (kept : Kept) (store : StoreHeld) (timeline : List Item) (stamps : List (BoxId × ℕ)) (next : ℕ) (key : List ℕ) (report : Report) (place more : ℕ)
-    → IfOk r (λ made. made.store ≡ store) → IfOk r (λ made. made.timeline.items ≡ timeline) → IfOk r (λ made. made.stamps ≡ stamps) → IfOk r (λ made. made.next ≡ next) → IfOk r (λ made. made.key ≡ key)
+pub made_is : (r : Result Remade MemoryWant) (kept : Kept) (store : StoreHeld) (from : ℕ) (behind : List Item) (stamps : List (BoxId × ℕ)) (next : ℕ) (key : List ℕ) (report : Report) (place more : ℕ)
+    → IfOk r (λ made. made.store ≡ store) → IfOk r (λ made. made.from ≡ from) → IfOk r (λ made. made.behind ≡ behind) → IfOk r (λ made. made.stamps ≡ stamps) → IfOk r (λ made. made.next ≡ next) → IfOk r (λ made. made.key ≡ key)
     → IfOk r (λ made. made.report ≡ report) → IfOk r (λ made. made.place ≡ place) → IfOk r (λ made. made.entered ≡ more)
-    → IfOk r (λ made. remade_as kept made ≡ with_parts kept store.store timeline stamps next (key, report) place more)
-made_is (Ok made) kept store timeline stamps next key report place more stored items stamped numbered keyed told placed grown =
-    λ j. with_parts kept (stored j).store (items j) (stamped j) (numbered j) (keyed j, told j) (placed j) (grown j)
-made_is (Err why) kept store timeline stamps next key report place more stored items stamped numbered keyed told placed grown = tt
+    → IfOk r (λ made. remade_as kept made ≡ with_parts kept store.store (take from kept.timeline ++ behind) stamps next (key, report) place more)
+made_is (Ok made) kept store from behind stamps next key report place more stored stays items stamped numbered keyed told placed grown =
+    λ j. with_parts kept (stored j).store (take (stays j) kept.timeline ++ items j) (stamped j) (numbered j) (keyed j, told j) (placed j) (grown j)
+made_is (Err why) kept store from behind stamps next key report place more stored stays items stamped numbered keyed told placed grown = tt
 
 -- room, as a number
 pub some_room : {A W : Type 0} (r : Result A W) (len capacity : ℕ) → OnOk r (len < capacity) → OnOk r (0 < capacity - len)
@@ -65,14 +65,16 @@ some_room (Ok x) len capacity more = omega arith
 some_room (Err why) len capacity more = tt
 
 -- it can be put in place
-pub can_replace : (r : Result Remade MemoryWant) (held : Held) (timeline : List Item) (left : Kept)
+pub can_replace : (r : Result Remade MemoryWant) (held : Held) (from : ℕ) (behind : List Item) (left : Kept) → from ≤ length held.kept.timeline
     → IfOk r (λ made. remade_as held.kept made ≡ left) → IsDesk left
-    → IfOk r (λ made. made.timeline.items ≡ timeline)
-    → IfOk r (λ made. SizesOf made.shelf.notes timeline)
-    → OnOk r (0 < held.room.reports) → IfOk r (λ made. CanReplace made held)
-can_replace (Ok made) held timeline left is desk items sizes room = record {
+    → IfOk r (λ made. made.from ≡ from) → IfOk r (λ made. made.behind ≡ behind)
+    → IfOk r (λ made. SizesOf made.shelf.notes (take from held.kept.timeline ++ behind))
+    → OnOk r (length behind ≤ held.room.items) → OnOk r (0 < held.room.reports) → IfOk r (λ made. CanReplace made held)
+can_replace (Ok made) held from behind left le is desk stays items sizes places room = record {
   desk = subst (λ (k : Kept). IsDesk k) (sym is) desk;
-  sizes = λ body. sizes body ∙ ap (λ (t : List Item). option_map length (text_of t body)) (sym items);
+  sizes = λ body. sizes body ∙ sym (λ j. option_map length (text_of (take (stays j) held.kept.timeline ++ items j) body));
+  from = subst (λ (n : ℕ). n ≤ length held.kept.timeline) (sym stays) le;
+  items = subst (λ (t : List Item). length t ≤ held.room.items) (sym items) places;
   reports = room;
 }
-can_replace (Err why) held timeline left is desk items sizes room = tt
+can_replace (Err why) held from behind left le is desk stays items sizes places room = tt

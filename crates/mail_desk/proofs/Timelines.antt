@@ -15,6 +15,10 @@ pub all_on : {X : Type 0} (P : X → Type 0) (xs : List X) (x : X) → AllByRecu
 all_on P [] x all here = (here, tt)
 all_on P (y ∷ xs) x all here = (all.0, all_on P xs x all.1 here)
 
+pub all_joined : {X : Type 0} (P : X → Type 0) (xs ys : List X) → AllByRecursion P xs → AllByRecursion P ys → AllByRecursion P (xs ++ ys)
+all_joined P [] ys one other = other
+all_joined P (x ∷ xs) ys one other = (one.0, all_joined P xs ys one.1 other)
+
 pub all_weaker : {X : Type 0} (P Q : X → Type 0) → ((x : X) → P x → Q x) → (xs : List X) → AllByRecursion P xs → AllByRecursion Q xs
 all_weaker P Q so [] all = tt
 all_weaker P Q so (x ∷ xs) all = (so x all.0, all_weaker P Q so xs all.1)

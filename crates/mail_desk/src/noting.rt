@@ -134,20 +134,36 @@ fn push_noted(
     }
 }
 
-/// The bodies of the texts that items bring, in the order of the items.
+/// Adds the bodies of the texts that items bring, in the order of the items.
+fn push_bodies(
+    rows: &mut NotedBodies,
+    old: &Shelf,
+    fresh: &Fresh,
+    items: &[StoredItem],
+) -> Result<(), NoMemory>
+    ensures rows { OnOk result (rows.new.items ≡ rows.old.items ++ rows_by old.now.notes fresh.now items.now) }
+    ensures noted { OnOk result (AllByRecursion (IsNotedBy old.now.notes fresh.now) items.now) }
+{
+    for item in items {
+        push_noted(rows, old, fresh, item)?;
+    }
+    Ok(())
+}
+
+/// The bodies of the texts that items bring, and others behind them, in the order of the items.
 fn noted_bodies(
     alloc: Global,
     old: &Shelf,
     fresh: &Fresh,
-    items: &[StoredItem],
+    front: &[StoredItem],
+    behind: &[StoredItem],
 ) -> Result<NotedBodies, NoMemory>
-    ensures rows { IfOk result (λ rows. rows.items ≡ rows_by old.now.notes fresh.now items.now) }
-    ensures noted { OnOk result (AllByRecursion (IsNotedBy old.now.notes fresh.now) items.now) }
+    ensures rows { IfOk result (λ rows. rows.items ≡ rows_by old.now.notes fresh.now (front.now ++ behind.now)) }
+    ensures noted { OnOk result (AllByRecursion (IsNotedBy old.now.notes fresh.now) (front.now ++ behind.now)) }
 {
     let mut rows = Vec::new(alloc);
-    for item in items {
-        push_noted(&mut rows, old, fresh, item)?;
-    }
+    push_bodies(&mut rows, old, fresh, front)?;
+    push_bodies(&mut rows, old, fresh, behind)?;
     Ok(rows)
 }
 
@@ -178,19 +194,20 @@ fn shelved(alloc: Global, rows: &[(Body, Note)]) -> Result<Shelf, NoMemory>
     Ok(shelf)
 }
 
-/// Where the texts of all items lie: where they lay before, or else in a cycle's own record; a notice's text is noted with the
+/// Where the texts of all items lie, those of the first ones and of those behind them: where they lay before, or else in a cycle's own record; a notice's text is noted with the
 /// record's place, from 0. Where a note has another length than its text it finds no memory.
 pub(crate) fn noted_anew(
     alloc: Global,
     old: &Shelf,
     fresh: &Fresh,
-    items: &[StoredItem],
+    front: &[StoredItem],
+    behind: &[StoredItem],
 ) -> Result<Shelf, NoMemory>
-    requires { NumbersApart items.now }
-    ensures notes { IfOk result (λ shelf. (body : TheBody) → note_of shelf.notes body ≡ renoted old.now.notes fresh.now items.now body) }
-    ensures sizes { IfOk result (λ shelf. SizesOf shelf.notes items.now) }
+    requires { NumbersApart (front.now ++ behind.now) }
+    ensures notes { IfOk result (λ shelf. (body : TheBody) → note_of shelf.notes body ≡ renoted old.now.notes fresh.now (front.now ++ behind.now) body) }
+    ensures sizes { IfOk result (λ shelf. SizesOf shelf.notes (front.now ++ behind.now)) }
 {
-    let mut rows = noted_bodies(alloc, old, fresh, items)?;
+    let mut rows = noted_bodies(alloc, old, fresh, front, behind)?;
     sort_bodies(&mut rows);
     shelved(alloc, rows.as_slice())
 }

@@ -1,10 +1,10 @@
 //! Items in order, found by their numbers.
-ghost use Rattle.std.specs.Prelude.{◌≡◌, ◌<◌, ◌≤◌, ℕ, [], ◌∷◌, ◌++◌, length, take, IfOk, OnOk, option_copied, vec_len, vec_capacity};
+ghost use Rattle.std.specs.Prelude.{◌≡◌, ◌<◌, ◌≤◌, ℕ, [], ◌∷◌, ◌++◌, ◌+◌, filter, length, nat_lt, take, OnOk, option_copied, vec_len, vec_capacity};
 ghost use Rattle.std.specs.List.{AllByRecursion};
 ghost use Rattle.std.specs.List.Sorted.{IsNonDecreasingBy, IsPermutation};
 ghost use Rattle.verb_core.specs.declared.item.Item.{Item as TheItem};
 ghost use Rattle.verb_core.specs.Items.{NumbersApart};
-ghost use Rattle.mail_desk.specs.Places.{HasPlaces, IsIndex};
+ghost use Rattle.mail_desk.specs.Places.{HasPlaces};
 ghost use Rattle.mail_desk.specs.Timeline.{item_of};
 
 use std::alloc::Global;
@@ -48,22 +48,6 @@ impl Numbered {
         Numbered {
             items: Vec::new(alloc),
             places: Vec::new(alloc),
-        }
-    }
-
-    /// Items, their numbers put in order.
-    pub(crate) fn of(alloc: Global, items: StoredItems) -> Result<Numbered, NoMemory>
-        ensures { IfOk result (λ numbered. numbered.items ≡ items) }
-    {
-        match index_of(alloc, items.as_slice()) {
-            Ok(places) => Ok(Numbered {
-                items: items.into_vec(),
-                places,
-            }),
-            Err(NoMemory) => {
-                drop(items);
-                Err(NoMemory)
-            }
         }
     }
 
@@ -122,6 +106,29 @@ impl Numbered {
         Ok(())
     }
 
+    /// Makes room for so many items more.
+    pub(crate) fn make_room_for(&mut self, count: usize) -> Result<(), NoMemory>
+        ensures items { self.new.items ≡ self.old.items }
+        ensures ok { OnOk result (count ≤ self.new.room) }
+    {
+        self.items.reserve(count)?;
+        self.places.reserve(count)?;
+        Ok(())
+    }
+
+    /// Keeps the first so many items, and puts others behind them, for which there is room, in any order of numbers. It takes no
+    /// memory.
+    pub(crate) fn go_on(&mut self, from: usize, behind: StoredItems)
+        requires from { from ≤ length self.old.items }
+        requires room { length behind ≤ self.old.room }
+        ensures { self.new.items ≡ take from self.old.items ++ behind }
+    {
+        keep_places(&mut self.places, from);
+        self.items.truncate(from);
+        place_all(&mut self.items, &mut self.places, behind);
+        sort(&mut self.places);
+    }
+
     /// Adds an item of a higher number than all before it, for which there is room.
     pub(crate) fn push(&mut self, item: StoredItem)
         requires room { 0 < self.old.room }
@@ -134,15 +141,41 @@ impl Numbered {
     }
 }
 
-/// The number of each item with its place, in the order of the items.
-fn places_of(alloc: Global, items: &[StoredItem]) -> Result<Vec<(u32, usize)>, NoMemory>
-    ensures { IfOk result (λ places. HasPlaces places.items items.now (length items.now)) }
+/// Keeps the rows of the first so many places.
+fn keep_places(places: &mut Vec<(u32, usize)>, from: usize)
+    ensures items { places.new.items ≡ filter (λ (r : ℕ × ℕ). nat_lt r.1 from) places.old.items }
+    ensures len { vec_len places.new ≤ vec_len places.old }
+    ensures capacity { vec_capacity places.new ≡ vec_capacity places.old }
 {
-    let mut places = Vec::new(alloc);
-    for (place, item) in items.iter().enumerate() {
-        places.push((number_of(item), place))?;
+    places.retain(|row| row.1 < from);
+}
+
+/// Puts an item last, and its number with its place beside the others. There is room for both.
+fn place_one(items: &mut Vec<StoredItem>, places: &mut Vec<(u32, usize)>, item: StoredItem)
+    requires room { vec_len items.old < vec_capacity items.old }
+    requires more { vec_len places.old < vec_capacity places.old }
+    ensures items { items.new.items ≡ items.old.items ++ item ∷ [] }
+    ensures len { vec_len items.new ≡ vec_len items.old + 1 }
+    ensures capacity { vec_capacity items.new ≡ vec_capacity items.old }
+    ensures places_len { vec_len places.new ≡ vec_len places.old + 1 }
+    ensures places_capacity { vec_capacity places.new ≡ vec_capacity places.old }
+    ensures places { HasPlaces places.old.items items.old.items (length items.old.items) → HasPlaces places.new.items items.new.items (length items.new.items) }
+{
+    let row = (number_of(&item), items.len());
+    places.push_reserved(row);
+    items.push_reserved(item);
+}
+
+/// Puts items last, one after the other, and their numbers beside the others. There is room for all.
+fn place_all(items: &mut Vec<StoredItem>, places: &mut Vec<(u32, usize)>, more: StoredItems)
+    requires room { vec_len items.old + length more ≤ vec_capacity items.old }
+    requires rows { vec_len places.old + length more ≤ vec_capacity places.old }
+    ensures items { items.new.items ≡ items.old.items ++ more }
+    ensures places { HasPlaces places.old.items items.old.items (length items.old.items) → HasPlaces places.new.items items.new.items (length items.new.items) }
+{
+    for item in more.into_vec() {
+        place_one(items, places, item);
     }
-    Ok(places)
 }
 
 /// Puts rows in the order of their numbers.
@@ -151,15 +184,6 @@ fn sort(places: &mut Vec<(u32, usize)>)
     ensures same { IsPermutation places.old.items places.new.items }
 {
     places.sort_unstable_by_key(|row| row.0);
-}
-
-/// The place of each number.
-fn index_of(alloc: Global, items: &[StoredItem]) -> Result<Vec<(u32, usize)>, NoMemory>
-    ensures { IfOk result (λ places. IsIndex places.items items.now) }
-{
-    let mut places = places_of(alloc, items)?;
-    sort(&mut places);
-    Ok(places)
 }
 
 /// Adds an element for which there is room.

@@ -1,5 +1,5 @@
 //! The outcome of a cycle: made ready, and put in place.
-ghost use Rattle.std.specs.Prelude.{◌≡◌, ℕ, ◌+◌, ◌<◌, ◌≤◌, [], ◌∷◌, ◌++◌, length, map, IfOk, OnOk, IsTrue, Ok, vec_len, vec_capacity};
+ghost use Rattle.std.specs.Prelude.{◌≡◌, ℕ, ◌+◌, ◌<◌, ◌≤◌, [], ◌∷◌, ◌++◌, length, map, take, IfOk, OnOk, IsTrue, Ok, vec_len, vec_capacity};
 ghost use Rattle.std.specs.List.{AllByRecursion};
 ghost use Rattle.verb_core.specs.declared.item.Item.{Item as TheItem};
 ghost use Rattle.verb_core.specs.declared.mailbox.Body.{Body as TheBody};
@@ -25,11 +25,13 @@ use stored_items::StoredItems;
 use undo_base::{Name, NoMemory};
 use verb_core::Stamps;
 
-/// What a cycle leaves, with all that a desk keeps beside it: it can be put in place with no memory taken.
+/// What a cycle leaves, with all that a desk keeps beside it: it can be put in place with no memory taken. The first so many
+/// items stay where they are on the desk, and those behind them come in.
 #[derive(Drop)]
 pub struct Remade {
     pub(crate) store: Store,
-    pub(crate) timeline: Numbered,
+    pub(crate) from: usize,
+    pub(crate) behind: StoredItems,
     pub(crate) stamps: Stamps,
     pub(crate) next: u32,
     pub(crate) key: Name,
@@ -48,81 +50,54 @@ impl Remade {
     }
 }
 
-/// Items found by their numbers, and where their texts lie.
-type Indexed = (Numbered, Shelf);
-
-/// Items, and where their texts lie.
-fn with_notes(timeline: Result<Numbered, NoMemory>, shelf: Shelf) -> Result<Indexed, NoMemory>
-    ensures timeline { IfOk result (λ made. timeline ≡ Ok made.0) }
-    ensures shelf { IfOk result (λ made. made.1 ≡ shelf) }
-{
-    match timeline {
-        Ok(timeline) => Ok((timeline, shelf)),
-        Err(NoMemory) => {
-            drop(shelf);
-            Err(NoMemory)
-        }
-    }
-}
-
-/// Puts the numbers of items in order, and notes where their texts lie.
-fn indexed(
-    alloc: Global,
-    old: &Shelf,
-    fresh: &Fresh,
-    timeline: StoredItems,
-) -> Result<Indexed, NoMemory>
-    requires { NumbersApart timeline }
-    ensures items { IfOk result (λ made. made.0.items ≡ timeline) }
-    ensures notes { IfOk result (λ made. (body : TheBody) → note_of made.1.notes body ≡ renoted old.now.notes fresh.now timeline body) }
-    ensures sizes { IfOk result (λ made. SizesOf made.1.notes timeline) }
-{
-    match noted_anew(alloc, old, fresh, timeline.as_slice()) {
-        Ok(shelf) => with_notes(Numbered::of(alloc, timeline), shelf),
-        Err(NoMemory) => {
-            drop(timeline);
-            Err(NoMemory)
-        }
-    }
-}
-
-/// The same, with room for one report more.
-fn indexed_with_room(
+/// Makes room for one report more, and for so many items as stand behind the first so many, and notes where the texts of all
+/// of these lie.
+fn noted_with_room(
     alloc: Global,
     reports: &mut Vec<(Name, Report)>,
+    timeline: &mut Numbered,
     old: &Shelf,
     fresh: &Fresh,
-    timeline: StoredItems,
-) -> Result<Indexed, NoMemory>
-    requires { NumbersApart timeline }
+    from: usize,
+    behind: &StoredItems,
+) -> Result<Shelf, NoMemory>
+    requires from { from ≤ length timeline.old.items }
+    requires apart { NumbersApart (take from timeline.old.items ++ behind.now) }
     ensures same { reports.new.items ≡ reports.old.items }
+    ensures items { timeline.new.items ≡ timeline.old.items }
     ensures room { OnOk result (vec_len reports.new < vec_capacity reports.new) }
-    ensures items { IfOk result (λ made. made.0.items ≡ timeline) }
-    ensures notes { IfOk result (λ made. (body : TheBody) → note_of made.1.notes body ≡ renoted old.now.notes fresh.now timeline body) }
-    ensures sizes { IfOk result (λ made. SizesOf made.1.notes timeline) }
+    ensures places { OnOk result (length behind.now ≤ timeline.new.room) }
+    ensures notes { IfOk result (λ shelf. (body : TheBody) → note_of shelf.notes body ≡ renoted old.now.notes fresh.now (take from timeline.old.items ++ behind.now) body) }
+    ensures sizes { IfOk result (λ shelf. SizesOf shelf.notes (take from timeline.old.items ++ behind.now)) }
 {
-    match reports.reserve(1) {
-        Ok(()) => indexed(alloc, old, fresh, timeline),
-        Err(_) => {
-            drop(timeline);
-            Err(NoMemory)
-        }
-    }
+    reports.reserve(1)?;
+    timeline.make_room_for(behind.len())?;
+    noted_anew(
+        alloc,
+        old,
+        fresh,
+        timeline.as_slice().split_at(from).0,
+        behind.as_slice(),
+    )
 }
 
 /// The outcome of a cycle with its items and notes.
 fn completed(
     store: Store,
+    from: usize,
+    behind: StoredItems,
     stamps: Stamps,
     next: u32,
     key: Name,
     report: Report,
     place: u32,
     entered: u32,
-    indexed: Result<Indexed, NoMemory>,
+    shelf: Result<Shelf, NoMemory>,
 ) -> Result<Remade, NoMemory>
-    ensures parts { IfOk result (λ made. indexed ≡ Ok (made.timeline, made.shelf)) }
+    ensures shelf { IfOk result (λ made. shelf ≡ Ok made.shelf) }
     ensures store { IfOk result (λ made. made.store ≡ store) }
+    ensures from { IfOk result (λ made. made.from ≡ from) }
+    ensures behind { IfOk result (λ made. made.behind ≡ behind) }
     ensures stamps { IfOk result (λ made. made.stamps ≡ stamps) }
     ensures next { IfOk result (λ made. made.next ≡ next) }
     ensures key { IfOk result (λ made. made.key ≡ key) }
@@ -130,10 +105,11 @@ fn completed(
     ensures place { IfOk result (λ made. made.place ≡ place) }
     ensures entered { IfOk result (λ made. made.entered ≡ entered) }
 {
-    match indexed {
-        Ok((timeline, shelf)) => Ok(Remade {
+    match shelf {
+        Ok(shelf) => Ok(Remade {
             store,
-            timeline,
+            from,
+            behind,
             stamps,
             next,
             key,
@@ -144,6 +120,7 @@ fn completed(
         }),
         Err(NoMemory) => {
             drop(store);
+            drop(behind);
             drop(stamps);
             drop(key);
             drop(report);
@@ -160,15 +137,16 @@ fn put<T: Drop>(place: &mut T, value: T)
 }
 
 impl Desk {
-    /// Makes the outcome of a cycle ready, whose items have any order: their places by number, where their texts lie, and room
-    /// for its report under the key of its request. A text keeps the note that its body had; another lies in the cycle's own
-    /// record, and a notice's, which no record holds, is noted there from 0. The cycle is behind that place, and let so many items
-    /// enter. The desk stays as it was but for its room.
+    /// Makes the outcome of a cycle ready, which leaves the first so many items as they are and others behind them, in any order
+    /// of numbers: where the texts of all lie, and room for the items and for its report under the key of its request. A text
+    /// keeps the note that its body had; another lies in the cycle's own record, and a notice's, which no record holds, is noted
+    /// there from 0. The cycle is behind that place, and let so many items enter. The desk stays as it was but for its room.
     pub fn remake(
         &mut self,
         alloc: Global,
         store: Store,
-        timeline: StoredItems,
+        from: usize,
+        behind: StoredItems,
         stamps: Stamps,
         next: u32,
         key: Name,
@@ -179,9 +157,10 @@ impl Desk {
     ) -> Result<Remade, NoMemory>
         requires house { store.store.house ≡ self.old.kept.house }
         requires valid { IsValid store.store }
-        requires texts { IsTrue (all_bodies (has_text timeline) store.store.boxes) }
-        requires timeline { IsTimeline self.old.kept.house timeline }
-        requires below { AllByRecursion (λ (i : TheItem). i.number < next) timeline }
+        requires from { from ≤ length self.old.kept.timeline }
+        requires texts { IsTrue (all_bodies (has_text (take from self.old.kept.timeline ++ behind)) store.store.boxes) }
+        requires timeline { IsTimeline self.old.kept.house (take from self.old.kept.timeline ++ behind) }
+        requires below { AllByRecursion (λ (i : TheItem). i.number < next) (take from self.old.kept.timeline ++ behind) }
         requires named { map (λ (r : TheBoxId × ℕ). r.0) stamps ≡ map (λ (r : TheBoxId × TheMailbox). r.0) store.store.boxes }
         requires fresh { AllByRecursion (λ (r : TheBoxId × ℕ). r.1 < next) stamps }
         requires rises { self.old.kept.next + entered < next }
@@ -189,17 +168,28 @@ impl Desk {
         ensures kept { self.new.kept ≡ self.old.kept }
         ensures same { self.new.notes ≡ self.old.notes }
         ensures marks { self.new.marks ≡ self.old.marks }
-        ensures made { IfOk result (λ made. remade_as self.old.kept made ≡ record self.old.kept { store = store.store; timeline = timeline; stamps = stamps; next = next; reports = self.old.kept.reports ++ (key, report) ∷ []; marks = rewound place entered self.old.kept.marks }) }
+        ensures made { IfOk result (λ made. remade_as self.old.kept made ≡ record self.old.kept { store = store.store; timeline = take from self.old.kept.timeline ++ behind; stamps = stamps; next = next; reports = self.old.kept.reports ++ (key, report) ∷ []; marks = rewound place entered self.old.kept.marks }) }
         ensures place { IfOk result (λ made. made.place ≡ place) }
         ensures report { IfOk result (λ made. made.report ≡ report) }
-        ensures notes { IfOk result (λ made. (body : TheBody) → note_of made.shelf.notes body ≡ renoted self.old.notes fresh.now timeline body) }
+        ensures notes { IfOk result (λ made. (body : TheBody) → note_of made.shelf.notes body ≡ renoted self.old.notes fresh.now (take from self.old.kept.timeline ++ behind) body) }
         ensures ready { IfOk result (λ made. CanReplace made self.new) }
     {
-        let indexed = indexed_with_room(alloc, &mut self.reports, &self.shelf, fresh, timeline);
-        completed(store, stamps, next, key, report, place, entered, indexed)
+        let shelf = noted_with_room(
+            alloc,
+            &mut self.reports,
+            &mut self.timeline,
+            &self.shelf,
+            fresh,
+            from,
+            &behind,
+        );
+        completed(
+            store, from, behind, stamps, next, key, report, place, entered, shelf,
+        )
     }
 
-    /// Puts the outcome of a cycle in place, and forgets the snapshots behind its place. It takes no memory.
+    /// Puts the outcome of a cycle in place, and forgets the snapshots behind its place. The first items stay where they are. It
+    /// takes no memory.
     pub fn replace(&mut self, remade: Remade)
         requires { CanReplace remade self.old }
         ensures kept { self.new.kept ≡ remade_as self.old.kept remade }
@@ -208,7 +198,8 @@ impl Desk {
     {
         let Remade {
             store,
-            timeline,
+            from,
+            behind,
             stamps,
             next,
             key,
@@ -218,7 +209,7 @@ impl Desk {
             entered,
         } = remade;
         put(&mut self.store, store);
-        put(&mut self.timeline, timeline);
+        self.timeline.go_on(from, behind);
         put(&mut self.stamps, stamps);
         self.shelf.take_notes(shelf);
         self.shelf.forget_after(place);

@@ -10,7 +10,7 @@ use Rattle.repair_desk.specs.Repairs.{inserted, kept as kept_of, repaired}
 use Rattle.repair_desk.proofs.Points.{front, within}
 use Rattle.mail_cycle.specs.Cycles.{front_of, repaired_items, timeline_by, told_by}
 use Rattle.mail_cycle.specs.Judging.{shown_after}
-use Rattle.mail_cycle.specs.Leaving.{IsMade}
+use Rattle.mail_cycle.specs.Leaving.{IsMade, items_left}
 use Rattle.mail_cycle.specs.declared.settling.Rewound.{Rewound}
 use Rattle.time_desk.specs.Stored.{MarksLie}
 use Rattle.time_desk.proofs.Renoting.{made_timeline_of, shown_made}
@@ -51,7 +51,7 @@ module _ (s : Kept) (at : ℕ) (ask : CycleAsk) (place : ℕ) (now : List Shown)
 
 -- the snapshots at its place or before stay marked, where what was read is what was stored
 pub made_marks : (payloads : List (List ℕ)) (a b : Kept) (at : ℕ) (ask : CycleAsk) (honest : Type 0) (made : Rewound) (marks : List Mark) → honest → IsMade a at ask honest made
-    → b.base ≡ a.base → b.timeline ≡ made.timeline → MarksLie payloads a marks → MarksLie payloads b (marks_at_or_before made.place marks)
+    → b.base ≡ a.base → b.timeline ≡ items_left a.timeline made → MarksLie payloads a marks → MarksLie payloads b (marks_at_or_before made.place marks)
 made_marks payloads a b at ask honest made marks truth is base put all =
     let now = shown_made a at ask honest made is in
     let le : is.place ≤ length a.timeline = within a.timeline ask.point is.place is.is_place in

@@ -29,7 +29,7 @@ use Rattle.repair_desk.proofs.Everywhere.{everywhere, inserted_above, joined, ma
 use Rattle.mail_desk.specs.declared.noting.Fresh.{Fresh}
 use Rattle.verb_bytes.specs.declared.journal.JournalRecord.TheVariants.{Cycle}
 use Rattle.verb_bytes.specs.Spelling.{record_bytes}
-use Rattle.mail_cycle.specs.Leaving.{IsMade}
+use Rattle.mail_cycle.specs.Leaving.{IsMade, items_left}
 use Rattle.mail_cycle.specs.declared.settling.Rewound.{Rewound}
 use Rattle.mail_desk.specs.Held.{Held}
 use Rattle.mail_desk.specs.Timeline.{SizesOf, body_of, notice_text_of}
@@ -391,35 +391,35 @@ abbrev pub shown_made : (s : Kept) (at : ℕ) (ask : CycleAsk) (honest : Type 0)
 shown_made s at ask honest made is = compared_from ask is.place is.first is.count is.made_from.heard
 
 -- the timeline that it leaves is that of the items as they were read
-pub made_timeline : (s : Kept) (at : ℕ) (ask : CycleAsk) (honest : Type 0) (made : Rewound) (is : IsMade s at ask honest made) → made.timeline ≡ timeline_by s at ask is.place is.made_from.heard (shown_made s at ask honest made is)
+pub made_timeline : (s : Kept) (at : ℕ) (ask : CycleAsk) (honest : Type 0) (made : Rewound) (is : IsMade s at ask honest made) → items_left s.timeline made ≡ timeline_by s at ask is.place is.made_from.heard (shown_made s at ask honest made is)
 made_timeline s at ask honest made is = is.made_from.leaves.timeline
 
 -- and where what was read is what was stored, that of the repaired items
 pub made_timeline_of : (s : Kept) (at : ℕ) (ask : CycleAsk) (honest : Type 0) (made : Rewound) (is : IsMade s at ask honest made) → honest
-    → made.timeline ≡ timeline_by s at ask is.place (repaired_items s at ask is.place) (shown_made s at ask honest made is)
+    → items_left s.timeline made ≡ timeline_by s at ask is.place (repaired_items s at ask is.place) (shown_made s at ask honest made is)
 made_timeline_of s at ask honest made is truth =
     made_timeline s at ask honest made is ∙ ap (λ (t : List Item). timeline_by s at ask is.place t (shown_made s at ask honest made is)) (is.made_from.same truth)
 
 pub put_noted : (gate : ℕ) (old new : Held) (at : ℕ) (ask : CycleAsk) (honest : Type 0) (made : Rewound) (where_ : Place)
     → where_.gate + 5 + where_.length ≤ gate → where_.length ≡ length (record_bytes (Cycle old.kept.next at ask))
-    → IsMade old.kept at ask honest made → NumbersApart made.timeline → new.kept.timeline ≡ made.timeline
+    → IsMade old.kept at ask honest made → NumbersApart (items_left old.kept.timeline made) → new.kept.timeline ≡ items_left old.kept.timeline made
     → SizesOf old.notes old.kept.timeline → NumbersApart old.kept.timeline → AllByRecursion (λ (j : Item). j.number < old.kept.next) old.kept.timeline
-    → NotesCycle old.kept.next at ask where_ old.notes made.timeline new.notes → SizesOf new.notes new.kept.timeline
+    → NotesCycle old.kept.next at ask where_ old.notes (items_left old.kept.timeline made) new.notes → SizesOf new.notes new.kept.timeline
     → NotedBefore gate old.notes old.kept.timeline → NotedBefore gate new.notes new.kept.timeline
 put_noted gate old new at ask honest made where_ within long is apart' put sizes apart below notes sizes' noted =
-    let now : made.timeline ≡ timeline_by old.kept at ask is.place is.made_from.heard (shown_made old.kept at ask honest made is) = made_timeline old.kept at ask honest made is in
+    let now : items_left old.kept.timeline made ≡ timeline_by old.kept at ask is.place is.made_from.heard (shown_made old.kept at ask honest made is) = made_timeline old.kept at ask honest made is in
     subst (λ (t : List Item). NotedBefore gate new.notes t) (sym (put ∙ now))
     (cycle_noted gate old.notes new.notes notes.0 old.kept at ask is.place is.made_from.heard (shown_made old.kept at ask honest made is) where_ (record_bytes (Cycle old.kept.next at ask)) within long notes.1 sizes apart below is.made_from.all
     (subst NumbersApart now apart') (subst (λ (t : List Item). Renotes old.notes notes.0 t new.notes) now notes.2) (subst (λ (t : List Item). SizesOf new.notes t) (put ∙ now) sizes') noted)
 
 pub put_lies : (payloads : List (List ℕ)) (old new : Held) (at : ℕ) (ask : CycleAsk) (honest : Type 0) (made : Rewound) (where_ : Place)
     → LiesAt payloads where_.gate where_.length (record_bytes (Cycle old.kept.next at ask))
-    → honest → IsMade old.kept at ask honest made → NumbersApart made.timeline → new.kept.timeline ≡ made.timeline
+    → honest → IsMade old.kept at ask honest made → NumbersApart (items_left old.kept.timeline made) → new.kept.timeline ≡ items_left old.kept.timeline made
     → SizesOf old.notes old.kept.timeline → NumbersApart old.kept.timeline → AllByRecursion (λ (j : Item). j.number < old.kept.next) old.kept.timeline → RevsBelow old.kept
-    → NotesCycle old.kept.next at ask where_ old.notes made.timeline new.notes
+    → NotesCycle old.kept.next at ask where_ old.notes (items_left old.kept.timeline made) new.notes
     → TextsLie payloads old.notes old.kept.timeline → TextsLie payloads new.notes new.kept.timeline
 put_lies payloads old new at ask honest made where_ lies truth is apart' put sizes apart below revs notes all =
-    let now : made.timeline ≡ timeline_by old.kept at ask is.place (repaired_items old.kept at ask is.place) (shown_made old.kept at ask honest made is) =
+    let now : items_left old.kept.timeline made ≡ timeline_by old.kept at ask is.place (repaired_items old.kept at ask is.place) (shown_made old.kept at ask honest made is) =
     made_timeline_of old.kept at ask honest made is truth in
     subst (λ (t : List Item). TextsLie payloads new.notes t) (sym (put ∙ now))
     (cycle_lies payloads old.notes new.notes notes.0 old.kept at ask is.place (shown_made old.kept at ask honest made is) where_ (record_bytes (Cycle old.kept.next at ask)) lies notes.1 sizes apart below revs

@@ -35,7 +35,7 @@ use Rattle.mail_cycle.specs.declared.refused.CycleRefused.TheVariants as refusal
 use Rattle.mail_cycle.specs.declared.settling.Rewound.{Rewound}
 use Rattle.mail_cycle.specs.Asking.{Due, IsRewinds, NoNumbers, NoPoint, Repeats, Rewinds, after_cycle, cycle_due, due_anew, due_at, due_by}
 use Rattle.mail_cycle.specs.Cycles.{Cycled, compared_from, cycled_at, cycled_from, front_of, leaves_numbers, reached_from, repaired_items, timeline_by, timeline_from, told_by}
-use Rattle.mail_cycle.specs.Leaving.{GoesOnAt, IsMade, IsMadeFrom, Leaves, LeavesAt}
+use Rattle.mail_cycle.specs.Leaving.{GoesOnAt, IsMade, IsMadeFrom, Leaves, LeavesAt, items_left}
 use Rattle.mail_cycle.specs.Refusing.{IsRefusalOf}
 use Rattle.time_desk.specs.declared.fault.CycleFault.{CycleFault}
 use Rattle.time_desk.specs.declared.fault.CycleFault.TheVariants as cycle_faults
@@ -87,7 +87,7 @@ repaired_length kept at ask place within =
     omega (arith, length-append front (acts ++ later), length-append acts later, length-append (front ++ acts) later, length-append front acts, length-take-le place kept.timeline within, acts_length kept.next at ask.inserts, length-map (stays ask (drop place kept.timeline)) (repaired ask kept.next))
 
 made_length : (kept : Kept) (at : ℕ) (ask : CycleAsk) (place : ℕ) (first : MailStore) (count : ℕ) (honest : Type 0) (made : Rewound) → place ≤ length kept.timeline → IsMadeFrom kept at ask place first count honest made
-    → length made.timeline ≡ place + length ask.inserts + made.report.kept + length made.report.notices
+    → length (items_left kept.timeline made) ≡ place + length ask.inserts + made.report.kept + length made.report.notices
 made_length kept at ask place first count honest made within is =
     let now = compared_from ask place first count is.heard in
     ap (λ (t : List Item). length t) is.leaves.timeline
@@ -105,10 +105,11 @@ module _ (kept : Kept) (at : ℕ) (ask : CycleAsk) (place : ℕ) (first : MailSt
   abbrev Timeline : List Item
   Timeline = timeline_from kept at ask place first count heard
 
-  pub fits : BodiesOn → LeavesAt (reached_from kept at ask place first count heard) (cycled_from kept at ask place first count heard) made
+  pub fits : BodiesOn → made.from ≡ count → count ≤ place → LeavesAt kept.timeline (reached_from kept at ask place first count heard) (cycled_from kept at ask place first count heard) made
       → GoesOnAt kept (reached_from kept at ask place first count heard) (cycled_from kept at ask place first count heard)
       → place ≤ length kept.timeline → CanServe kept count first → take count Timeline ≡ take count kept.timeline → IsFit kept made
-  fits bodies leaves goes within serves front = record {
+  fits bodies stays few leaves goes within serves front = record {
+    from = subst (λ (n : ℕ). n ≤ length kept.timeline) (sym stays) (omega arith);
     house = ap (λ (s : MailStore). s.house) leaves.store ∙ run_house first (drop count Timeline) ∙ serves.house;
     texts = subst (λ (t : List Item). IsTrue (all_bodies (has_text t) made.store.store.boxes)) (sym leaves.timeline)
         (subst (λ (s : MailStore). IsTrue (all_bodies (has_text Timeline) s.boxes)) (sym leaves.store)
@@ -118,7 +119,7 @@ module _ (kept : Kept) (at : ℕ) (ask : CycleAsk) (place : ℕ) (first : MailSt
         (subst (λ (t : List Item). IsTrue (all_bodies (has_text t) first.boxes)) (sym front) serves.texts))));
     valid = leaves.valid;
     timeline = subst (IsTimeline kept.house) (sym leaves.timeline) goes.timeline;
-    below = subst (λ (n : ℕ). AllByRecursion (λ (i : Item). i.number < n) made.timeline) (sym leaves.next)
+    below = subst (λ (n : ℕ). AllByRecursion (λ (i : Item). i.number < n) (items_left kept.timeline made)) (sym leaves.next)
         (subst (AllByRecursion (λ (i : Item). i.number < (cycled_from kept at ask place first count heard).next)) (sym leaves.timeline) goes.below);
     named = ap (map (λ (r : BoxId × ℕ). r.0)) leaves.stamps ∙ goes.named ∙ ap (λ (s : MailStore). map (λ (r : BoxId × Mailbox). r.0) s.boxes) (sym leaves.store);
     fresh = subst (λ (n : ℕ). AllByRecursion (λ (r : BoxId × ℕ). r.1 < n) made.stamps) (sym leaves.next)
@@ -139,7 +140,7 @@ module _ (kept : Kept) (at : ℕ) (ask : CycleAsk) (place : ℕ) (first : MailSt
 -- what a cycle is told of what is kept makes it
 module _ (kept before : Kept) (at : ℕ) (ask : CycleAsk) (place : ℕ) (first : MailStore) (count : ℕ) where
   unmarked_made : (honest : Type 0) (made : Rewound) → IsMadeFrom (unmarked kept) at ask place first count honest made → IsMadeFrom kept at ask place first count honest made
-  unmarked_made honest made is = record { heard = is.heard; all = is.all; same = is.same; front = is.front; leaves = is.leaves }
+  unmarked_made honest made is = record { heard = is.heard; all = is.all; same = is.same; front = is.front; from = is.from; leaves = is.leaves }
 
   pub made_as : {E : Type 0} (told was : Type 0) (result : Result Rewound E) → before ≡ unmarked kept → was ≡ told → IfOk result (IsMadeFrom before at ask place first count was) → IfOk result (IsMadeFrom kept at ask place first count told)
   made_as told was (Ok m) same told_is made = unmarked_made told m (subst (λ (k : Kept). IsMadeFrom k at ask place first count told m) same (subst (λ (t : Type 0). IsMadeFrom before at ask place first count t m) told_is made))
@@ -154,19 +155,19 @@ module _ (kept before : Kept) (at : ℕ) (ask : CycleAsk) (place : ℕ) (first :
       by (Ok m) is = is
       by (Err e) is = tt
 
-  pub fits_made : {E : Type 0} (was : Type 0) (result : Result Rewound E) → before ≡ unmarked kept → IfOk result (IsMadeFrom before at ask place first count was) → BodiesOn → place ≤ length kept.timeline → CanServe kept count first
+  pub fits_made : {E : Type 0} (was : Type 0) (result : Result Rewound E) → before ≡ unmarked kept → IfOk result (IsMadeFrom before at ask place first count was) → BodiesOn → count ≤ place → place ≤ length kept.timeline → CanServe kept count first
       → ((heard : List Item) → AllHeard (repaired_items kept at ask place) heard → GoesOnAt kept (reached_from kept at ask place first count heard) (cycled_from kept at ask place first count heard))
       → ((heard : List Item) → take count heard ≡ take count kept.timeline → take count (timeline_from kept at ask place first count heard) ≡ take count kept.timeline)
       → IfOk result (IsFit kept)
-  fits_made was (Ok m) same made bodies within serves goes front =
+  fits_made was (Ok m) same made bodies few within serves goes front =
       let is = unmarked_made was m (subst (λ (k : Kept). IsMadeFrom k at ask place first count was m) same made) in
-      fits kept at ask place first count is.heard m bodies is.leaves (goes is.heard is.all) within serves (front is.heard is.front)
-  fits_made was (Err e) same made bodies within serves goes front = tt
+      fits kept at ask place first count is.heard m bodies is.from few is.leaves (goes is.heard is.all) within serves (front is.heard is.front)
+  fits_made was (Err e) same made bodies few within serves goes front = tt
 
 -- where the same is known of more
 pub made_from_weaker : (kept : Kept) (at : ℕ) (ask : CycleAsk) (place : ℕ) (first : MailStore) (count : ℕ) (told more : Type 0) (made : Rewound) → (more → told) → IsMadeFrom kept at ask place first count told made
     → IsMadeFrom kept at ask place first count more made
-made_from_weaker kept at ask place first count told more made so is = record { heard = is.heard; all = is.all; same = λ m. is.same (so m); front = is.front; leaves = is.leaves }
+made_from_weaker kept at ask place first count told more made so is = record { heard = is.heard; all = is.all; same = λ m. is.same (so m); front = is.front; from = is.from; leaves = is.leaves }
 
 pub made_weaker : (kept : Kept) (at : ℕ) (ask : CycleAsk) (told more : Type 0) (made : Rewound) → (more → told) → IsMade kept at ask told made → IsMade kept at ask more made
 made_weaker kept at ask told more made so is = record {
@@ -232,9 +233,9 @@ module _ (kept : Kept) (at : ℕ) (ask : CycleAsk) (place : ℕ) (first : Beginn
 
   -- at most those of the new timeline
   pub few_steps : {E : Type 0} (told : Type 0) (result : Result Rewound E) (old new : ℕ) → place ≤ length kept.timeline → IfOk result (IsMadeFrom kept at ask place first.store.store first.count told)
-      → IfOk result (λ made. new ≤ old + (place - first.count) + length ask.inserts + made.report.kept + length made.report.notices) → IfOk result (λ made. new ≤ old + length made.timeline)
+      → IfOk result (λ made. new ≤ old + (place - first.count) + length ask.inserts + made.report.kept + length made.report.notices) → IfOk result (λ made. new ≤ old + length (items_left kept.timeline made))
   few_steps told (Ok m) old new within made steps =
-      let items : length m.timeline ≡ place + length ask.inserts + m.report.kept + length m.report.notices = made_length kept at ask place first.store.store first.count told m within made in
+      let items : length (items_left kept.timeline m) ≡ place + length ask.inserts + m.report.kept + length m.report.notices = made_length kept at ask place first.store.store first.count told m within made in
       omega (arith, items, steps)
   few_steps told (Err e) old new within made steps = tt
 
@@ -244,12 +245,12 @@ apart_made : (kept : Kept) (at : ℕ) (ask : CycleAsk) (told : Type 0) (made : R
 apart_made kept at ask told made is fit = subst NumbersApart (made_timeline kept at ask told made is) fit.timeline.apart
 
 pub cycle_notes : (gate next : ℕ) (before : Held) (at : ℕ) (ask : CycleAsk) (told : Type 0) (made : Rewound) (bytes : List ℕ) (notes : List (Body × Note)) → next ≡ gate + 5 + length bytes → bytes ≡ record_bytes (Cycle before.kept.next at ask)
-    → SizesOf before.notes before.kept.timeline → NumbersApart before.kept.timeline → AllByRecursion (λ (i : Item). i.number < before.kept.next) before.kept.timeline → IsFit before.kept made → IsMade before.kept at ask told made → RenotesAs before ask at (record { gate = gate; length = length bytes }) made notes → SizesOf notes made.timeline
-    → NotedBefore gate before.notes before.kept.timeline → NotedBefore next notes made.timeline
+    → SizesOf before.notes before.kept.timeline → NumbersApart before.kept.timeline → AllByRecursion (λ (i : Item). i.number < before.kept.next) before.kept.timeline → IsFit before.kept made → IsMade before.kept at ask told made → RenotesAs before ask at (record { gate = gate; length = length bytes }) made notes → SizesOf notes (items_left before.kept.timeline made)
+    → NotedBefore gate before.notes before.kept.timeline → NotedBefore next notes (items_left before.kept.timeline made)
 cycle_notes gate next before at ask told made bytes notes next_is bytes_are sizes apart below fit is renotes sizes' noted =
     let where_ : Place = record { gate = gate; length = length bytes } in
     let now = shown_made before.kept at ask told made is in
-    let timeline : made.timeline ≡ timeline_by before.kept at ask is.place is.made_from.heard now = made_timeline before.kept at ask told made is in
+    let timeline : items_left before.kept.timeline made ≡ timeline_by before.kept at ask is.place is.made_from.heard now = made_timeline before.kept at ask told made is in
     subst (NotedBefore next notes) (sym timeline)
     (cycle_noted next before.notes notes renotes.fresh before.kept at ask is.place is.made_from.heard now where_ bytes (omega (arith, next_is)) refl
     (subst (λ (b : List ℕ). IsFresh before.kept.next at ask where_ b renotes.fresh) (sym bytes_are) renotes.is_fresh)
@@ -435,7 +436,7 @@ module _ {D : Type 0} (told : D → DiskTold) (disk : D) (before after : Held) (
             let is = red.is_made in
             let where_ : Place = record { gate = old.gate; length = length bytes } in
             let now = shown_made before.kept at ask (HoldsTexts told First) made is in
-            let timeline : made.timeline ≡ timeline_by before.kept at ask is.place (repaired_items before.kept at ask is.place) now = made_timeline_of before.kept at ask (HoldsTexts told First) made is holds in
+            let timeline : items_left before.kept.timeline made ≡ timeline_by before.kept at ask is.place (repaired_items before.kept at ask is.place) now = made_timeline_of before.kept at ask (HoldsTexts told First) made is holds in
             let whole = sound holds.texts.runs in
             subst (TextsLie payloads after.notes) (sym (ap (λ (k : Kept). k.timeline) kept_is ∙ timeline))
             (cycle_lies payloads before.notes after.notes renotes.fresh before.kept at ask is.place now where_ bytes at_place

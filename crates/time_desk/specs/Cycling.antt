@@ -15,7 +15,7 @@ use Rattle.paradox.specs.declared.reports.Report.{Report}
 use Rattle.paradox.specs.Kept.{Kept, newest_at, report_of, rewound}
 use Rattle.mail_cycle.specs.Asking.{Due, IsRewinds, Repeats, NoPoint, NoNumbers, Rewinds, after_cycle, cycle_due, due_anew}
 use Rattle.mail_cycle.specs.Cycles.{Cycled}
-use Rattle.mail_cycle.specs.Leaving.{IsMade, Leaves}
+use Rattle.mail_cycle.specs.Leaving.{IsMade, Leaves, items_left}
 use Rattle.mail_cycle.specs.declared.settling.Rewound.{Rewound}
 use Rattle.mail_cycle.specs.declared.refused.CycleRefused.{CycleRefused}
 use Rattle.mail_cycle.specs.declared.refused.CycleRefused.TheVariants as refusals
@@ -51,10 +51,11 @@ RedoesCause old new (Err refusals.NoMemory) = new.failed_reads ≡ old.failed_re
 -- what is left in memory can be put in the place of what is kept: each mailbox's texts are in force
 pub record IsFit (kept : Kept) (made : Rewound) : Type 0 where
   pub house : made.store.store.house ≡ kept.house
-  pub texts : IsTrue (all_bodies (has_text made.timeline) made.store.store.boxes)
+  pub from : made.from ≤ length kept.timeline
+  pub texts : IsTrue (all_bodies (has_text (items_left kept.timeline made)) made.store.store.boxes)
   pub valid : IsValid made.store.store
-  pub timeline : IsTimeline kept.house made.timeline
-  pub below : AllByRecursion (λ (i : Item). i.number < made.next) made.timeline
+  pub timeline : IsTimeline kept.house (items_left kept.timeline made)
+  pub below : AllByRecursion (λ (i : Item). i.number < made.next) (items_left kept.timeline made)
   pub named : map (λ (r : BoxId × ℕ). r.0) made.stamps ≡ map (λ (r : BoxId × Mailbox). r.0) made.store.store.boxes
   pub fresh : AllByRecursion (λ (r : BoxId × ℕ). r.1 < made.next) made.stamps
   pub rises : kept.next < made.next
@@ -66,7 +67,7 @@ pub record IsFit (kept : Kept) (made : Rewound) : Type 0 where
 abbrev pub after_rewound : Kept → List ℕ → Rewound → Kept
 after_rewound kept key made = record kept {
   store = made.store.store;
-  timeline = made.timeline;
+  timeline = items_left kept.timeline made;
   stamps = made.stamps;
   next = made.next;
   reports = kept.reports ++ (key, made.report) ∷ [];
@@ -77,7 +78,7 @@ after_rewound kept key made = record kept {
 pub record RenotesAs (old : Held) (ask : CycleAsk) (at : ℕ) (place : Place) (made : Rewound) (notes : List (Body × Note)) : Type 0 where
   pub fresh : Fresh
   pub is_fresh : IsFresh old.kept.next at ask place (record_bytes (Cycle old.kept.next at ask)) fresh
-  pub renotes : Renotes old.notes fresh made.timeline notes
+  pub renotes : Renotes old.notes fresh (items_left old.kept.timeline made) notes
 
 -- a refusal of a cycle in memory, as it is told
 abbrev pub IsTold : CycleRefused → CycleFault → Type 0

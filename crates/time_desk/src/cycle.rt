@@ -9,7 +9,7 @@ ghost use Rattle.paradox.specs.Kept.{report_of};
 ghost use Rattle.repair_desk.specs.Repairs.{are_known};
 ghost use Rattle.mail_cycle.specs.Asking.{IsRewinds, Rewinds, cycle_due, due_anew, Repeats};
 ghost use Rattle.mail_cycle.specs.Cycles.{Cycled};
-ghost use Rattle.mail_cycle.specs.Leaving.{IsMade};
+ghost use Rattle.mail_cycle.specs.Leaving.{IsMade, items_left};
 ghost use Rattle.mail_cycle.specs.Permanence.{UidsLast};
 ghost use Rattle.mail_cycle.specs.Refusing.{IsRefusalOf};
 ghost use Rattle.mail_desk.specs.Remaking.{CanReplace, remade_as};
@@ -61,13 +61,13 @@ fn report_in(made: Rewound) -> Report
 {
     let Rewound {
         store,
-        timeline,
+        behind,
         stamps,
         report,
         ..
     } = made;
     drop(store);
-    drop(timeline);
+    drop(behind);
     drop(stamps);
     report
 }
@@ -115,7 +115,7 @@ fn ready_with(
     ensures same_marks { desk.new.marks ≡ desk.old.marks }
     ensures made { IfOk result (λ found. remade_as desk.old.kept found.remade ≡ after_rewound desk.old.kept key made) }
     ensures report { IfOk result (λ found. found.report ≡ made.report) }
-    ensures notes { IfOk result (λ found. Renotes desk.old.notes fresh.now made.timeline found.remade.shelf.notes) }
+    ensures notes { IfOk result (λ found. Renotes desk.old.notes fresh.now (items_left desk.old.kept.timeline made) found.remade.shelf.notes) }
     ensures place { IfOk result (λ found. found.remade.place ≡ made.place) }
     ensures ready { IfOk result (λ found. CanReplace found.remade desk.new) }
     ensures bytes { IfOk result (λ found. found.bytes ≡ bytes) }
@@ -295,7 +295,7 @@ fn cycle_made<D: Disk>(
         → IfOk result (λ report. Cycles D.told at ask (lasting desk.old (record journal.old { disk = disk })) (lasting desk.new journal.new) report) }
     ensures noted { IsMade desk.old.kept at ask ⊥ made → NotedBefore journal.new.gate desk.new.notes desk.new.kept.timeline }
     ensures marked { MarkedBefore journal.new.gate desk.new.marks }
-    ensures timeline { OnOk result (desk.new.kept.timeline ≡ made.timeline) }
+    ensures timeline { OnOk result (desk.new.kept.timeline ≡ items_left desk.old.kept.timeline made) }
     ensures err { OnErr result (desk.new.kept ≡ desk.old.kept) }
     ensures why { (disk : D) → OnlyReads (D.told disk) (D.told journal.old.disk) → CyclesAs D.told (lasting desk.old (record journal.old { disk = disk })) at ask made
         → IfErr result (λ fault. CyclesNone D.told at ask (lasting desk.old (record journal.old { disk = disk })) (lasting desk.new journal.new) fault) }
@@ -334,7 +334,7 @@ fn rewound_in<R: Threads + Sync, G: Gate, D: Disk, L: Ledger>(
     ensures still { IsOnlyRead D.told journal.old journal.new }
     ensures rewinds { (due : Cycled) → due_anew desk.now.kept at ask.now ≡ Rewinds due → HoldsHeld (D.told journal.old.disk) desk.now
         → OnOk result (steps.new ≤ steps.old + most_performed desk.now.kept ask.now due) }
-    ensures steps { IfOk result (λ made. steps.new ≤ steps.old + length made.timeline) }
+    ensures steps { IfOk result (λ made. steps.new ≤ steps.old + length (items_left desk.now.kept.timeline made)) }
 {
     rewound(
         rt,

@@ -4,7 +4,7 @@ ghost use Rattle.undo_outside.specs.Moments.{OnlyReads};
 ghost use Rattle.repair_desk.specs.Repairs.{are_known, position};
 ghost use Rattle.mail_cycle.specs.Asking.{IsRewinds, Rewinds, due_anew};
 ghost use Rattle.mail_cycle.specs.Cycles.{Cycled, cycled_at, leaves_numbers};
-ghost use Rattle.mail_cycle.specs.Leaving.{IsMade, IsMadeFrom, Leaves};
+ghost use Rattle.mail_cycle.specs.Leaving.{IsMade, IsMadeFrom, Leaves, items_left};
 ghost use Rattle.mail_cycle.specs.Refusing.{IsRefusalOf};
 ghost use Rattle.mail_desk.specs.Remaking.{CanReplace, remade_as};
 ghost use Rattle.time_desk.specs.Cycling.{IsFit, Redoes, RedoesCause, after_rewound, most_performed};
@@ -122,7 +122,7 @@ fn rewound_at<R: Threads + Sync, G: Gate, D: Disk, L: Ledger>(
     ensures reads { OnlyReads (D.told disk.old) (D.told disk.new) }
     ensures rewinds { HoldsHeld (D.told disk.old) desk.now
         → OnOk result (steps.new ≤ steps.old + most_performed desk.now.kept ask.now (cycled_at desk.now.kept at ask.now place)) }
-    ensures steps { IfOk result (λ made. steps.new ≤ steps.old + length made.timeline) }
+    ensures steps { IfOk result (λ made. steps.new ≤ steps.old + length (items_left desk.now.kept.timeline made)) }
 {
     desk.stands();
     match beginning(alloc, disk, end, desk, place) {
@@ -160,7 +160,7 @@ pub(crate) fn rewound<R: Threads + Sync, G: Gate, D: Disk, L: Ledger>(
     ensures reads { OnlyReads (D.told disk.old) (D.told disk.new) }
     ensures rewinds { (due : Cycled) → due_anew desk.now.kept at ask.now ≡ Rewinds due → HoldsHeld (D.told disk.old) desk.now
         → OnOk result (steps.new ≤ steps.old + most_performed desk.now.kept ask.now due) }
-    ensures steps { IfOk result (λ made. steps.new ≤ steps.old + length made.timeline) }
+    ensures steps { IfOk result (λ made. steps.new ≤ steps.old + length (items_left desk.now.kept.timeline made)) }
 {
     match due_place(&begun(desk), ask) {
         Ok(place) => match rewound_at(rt, alloc, disk, end, desk, at, ask, place, gate, steps) {
@@ -243,21 +243,22 @@ pub(crate) fn remade(
     ensures same_marks { desk.new.marks ≡ desk.old.marks }
     ensures made { IfOk result (λ remade. remade_as desk.old.kept remade ≡ after_rewound desk.old.kept key made) }
     ensures report { IfOk result (λ remade. remade.report ≡ made.report) }
-    ensures notes { IfOk result (λ remade. Renotes desk.old.notes fresh.now made.timeline remade.shelf.notes) }
+    ensures notes { IfOk result (λ remade. Renotes desk.old.notes fresh.now (items_left desk.old.kept.timeline made) remade.shelf.notes) }
     ensures place { IfOk result (λ remade. remade.place ≡ made.place) }
     ensures ready { IfOk result (λ remade. CanReplace remade desk.new) }
 {
     let Rewound {
         store,
-        timeline,
+        place,
+        from,
+        behind,
         stamps,
         next,
-        report,
-        place,
         entered,
+        report,
     } = made;
     desk.remake(
-        alloc, store, timeline, stamps, next, key, report, fresh, place, entered,
+        alloc, store, from, behind, stamps, next, key, report, fresh, place, entered,
     )
 }
 

@@ -12,6 +12,7 @@ ghost use Rattle.paradox.specs.Kept.{report_of};
 ghost use Rattle.shelf.specs.Marks.{marks_at_or_before};
 ghost use Rattle.repair_desk.specs.Repairs.{are_known as acts_name_known};
 ghost use Rattle.mail_cycle.specs.Asking.{due_anew};
+ghost use Rattle.mail_cycle.specs.Leaving.{items_left};
 ghost use Rattle.mail_desk.specs.Timeline.{NotesText, SizesOf, body_of};
 ghost use Rattle.time_desk.specs.Cycling.{IsFit, after_rewound};
 ghost use Rattle.time_desk.specs.Records.{after_cycle_record, after_due, after_record, can_follow as follows, can_keep as keeps, can_rewind as rewinds, first_state, is_true as tells_all, snapshot_record};
@@ -275,7 +276,7 @@ fn replace_with(
 ) -> Result<bool, ReadFault>
     requires { IsFit desk.old.kept made }
     ensures kept { IfOk result (λ stood. (stood ≡ true) × (desk.new.kept ≡ after_rewound desk.old.kept key made)) }
-    ensures notes { OnOk result (Renotes desk.old.notes fresh made.timeline desk.new.notes) }
+    ensures notes { OnOk result (Renotes desk.old.notes fresh (items_left desk.old.kept.timeline made) desk.new.notes) }
     ensures sizes { OnOk result (SizesOf desk.new.notes desk.new.kept.timeline) }
     ensures marks { OnOk result (desk.new.marks ≡ marks_at_or_before made.place desk.old.marks) }
     ensures never { IsErrOf result ReadFault.Disk → ⊥ }
@@ -302,7 +303,7 @@ fn put_in_place(
 ) -> Result<bool, ReadFault>
     requires { IsFit desk.old.kept made }
     ensures kept { IfOk result (λ stood. (stood ≡ true) × (desk.new.kept ≡ after_rewound desk.old.kept ask.key made)) }
-    ensures notes { (at : ℕ) → OnOk result (NotesCycle desk.old.kept.next at ask place desk.old.notes made.timeline desk.new.notes) }
+    ensures notes { (at : ℕ) → OnOk result (NotesCycle desk.old.kept.next at ask place desk.old.notes (items_left desk.old.kept.timeline made) desk.new.notes) }
     ensures sizes { OnOk result (SizesOf desk.new.notes desk.new.kept.timeline) }
     ensures marks { OnOk result (desk.new.marks ≡ marks_at_or_before made.place desk.old.marks) }
     ensures never { IsErrOf result ReadFault.Disk → ⊥ }

@@ -1,4 +1,4 @@
-use Rattle.std.proofs.Common.{◌≡◌, ◌∙◌, ◌+◌, ◌-◌, ◌≤◌, ◌++◌, List, ap, arith, length, refl, subst}
+use Rattle.std.proofs.Common.{◌≡◌, ◌∙◌, ◌+◌, ◌-◌, ◌≤◌, ◌++◌, List, ap, arith, length, refl, subst, take}
 use Rattle.std.proofs.lemmas.List.{length-drop}
 use Rattle.verb_core.specs.declared.item.Item.{Item}
 use Rattle.verb_core.specs.Store.{MailStore}
@@ -32,13 +32,15 @@ returns-in-Ok-clause-made g c =
     let many = length_repaired s c.args.at c.args.ask.now place c.requires.place in
     let le : place ≤ length items = omega (arith, many) in
     let honest = (g.B.Bodies.told c.args.bodies.now).honest in
-    made_of s c.args.at c.args.ask.now place first count honest c.in-Ok.made items (front ++ next) after shows few c.requires.place refl
-    (heard first mid after count place items front next shows few le there.heard there.store later.store later.shows (subst (λ (t : List Item). AllHeard t next) there.later later.heard))
-    (λ is. alike first mid after count place items front next shows few le there.heard there.store later.store later.shows (there.same is) (later.same (there.stays.honest is) (there.stored is) ∙ there.later))
-    (begins first mid after count place items front next shows few le there.heard there.store later.store later.shows there.front)
-    (led first mid after count place items front next shows few le there.heard there.store later.store later.shows)
-    (shown first mid after count place items front next shows few le there.heard there.store later.store later.shows)
-    c.in-Ok.ensures.made
+    let long = c.requires.place in
+    made_of s c.args.at c.args.ask.now place first count honest c.in-Ok.made items (take count s.timeline ++ (front ++ next)) refl
+    (heard first mid after count place s.timeline items front next shows few long le there.heard there.store later.store later.shows (subst (λ (t : List Item). AllHeard t next) there.later later.heard))
+    (λ is. alike first mid after count place s.timeline items front next shows few long le there.heard there.store later.store later.shows (there.same is) (later.same (there.stays.honest is) (there.stored is) ∙ there.later))
+    (begins first mid after count place s.timeline items front next shows few long le there.heard there.store later.store later.shows)
+    c.in-Ok.ensures.from
+    (c.in-Ok.ensures.made first
+    (led first mid after count place s.timeline items front next shows few long le there.heard there.store later.store later.shows)
+    (shown first mid after count place s.timeline items front next shows few long le there.heard there.store later.store later.shows))
 
 pub returns-in-Ok-clause-ok : goal.returns-in-Ok-clause-ok
 returns-in-Ok-clause-ok g c = λ is led.

@@ -1,10 +1,20 @@
-use Rattle.std.proofs.Common.{List, drop, subst, sym}
-use Rattle.verb_core.specs.declared.item.Item.{Item}
-use Rattle.replay_crew.specs.Hearing.{TellsAll}
-use Rattle.mail_cycle.proofs.Told.{tells_between}
+use Rattle.std.proofs.Common.{◌∙◌, ◌-◌, subst, sym, take}
+use Rattle.std.specs.List.{AllByRecursion}
+use Rattle.replay_crew.specs.Hearing.{HoldsOf, StoresOf}
+use Rattle.mail_cycle.proofs.Told.{all_held, all_stored, front_told}
 use Rattle.mail_cycle.proofs.cycling.go_to.Goals as goal
 
-pub replay_behind-requires-clause-texts : goal.replay_behind-requires-clause-texts
-replay_behind-requires-clause-texts g c =
+pub replay_in_order-requires-clause-held : goal.replay_in_order-requires-clause-held
+replay_in_order-requires-clause-held g c =
     let told = g.B.Bodies.told c.args.bodies.now in
-    subst (λ (t : List Item). TellsAll told (drop c.args.first.count t)) (sym c.in-Ok.ensures.front) (tells_between told c.args.first.count c.args.place c.args.edited.items c.requires.texts)
+    let rest = c.args.place - c.args.first.count in
+    let items = c.args.edited.items in
+    subst (AllByRecursion (HoldsOf told)) (sym c.in-Ok.ensures.front) (all_held told (take rest items) (front_told told rest items c.requires.texts))
+
+pub returns-in_ok-made-in-Ok-clause-same : goal.returns-in_ok-made-in-Ok-clause-same
+returns-in_ok-made-in-Ok-clause-same g c = λ is.
+    let told = g.B.Bodies.told c.args.bodies.now in
+    let rest = c.args.place - c.args.first.count in
+    let items = c.args.edited.items in
+    c.in_ok-made-in-Ok.ensures.same is (subst (AllByRecursion (StoresOf told)) (sym c.in-Ok.ensures.front) (all_stored told (take rest items) is (front_told told rest items c.requires.texts)))
+    ∙ c.in-Ok.ensures.front

@@ -9,8 +9,8 @@ pub close-requires-clause-formed : goal.close-requires-clause-formed
 close-requires-clause-formed g c = subst (λ (h : House). AllByRecursion (IsWellFormed h) c.in-Ok.told.notices) (sym c.requires.house) c.in-Ok.ensures.formed
 
 pub returns-in-Ok-clause-made : goal.returns-in-Ok-clause-made
-returns-in-Ok-clause-made g c = λ first count few long firsts shown.
+returns-in-Ok-clause-made g c = λ first firsts shown.
     settled c.args.before.now c.args.at c.args.ask.now c.args.place c.args.replayed.items c.args.repairs.kept c.args.repairs.unmatched c.args.replayed.store.store c.args.replayed.shows _ _ _ _ _
-    first count few long firsts shown
+    first c.args.from c.requires.from c.requires.place firsts shown
     c.as_slice.ensures c.requires.kept c.requires.unmatched c.in-Ok.ensures.broken c.in-Ok.ensures.notices c.in-Ok.ensures.numbers
-    c.close.ensures.store c.close.ensures.valid c.close.ensures.timeline c.close.ensures.stamps c.close.ensures.place c.close.ensures.next c.close.ensures.entered c.close.ensures.report
+    c.close.ensures.store c.close.ensures.valid c.close.ensures.from c.close.ensures.behind c.close.ensures.stamps c.close.ensures.place c.close.ensures.next c.close.ensures.entered c.close.ensures.report

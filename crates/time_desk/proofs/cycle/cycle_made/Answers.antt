@@ -1,6 +1,7 @@
-use Rattle.std.proofs.Common.{◌≡◌, ◌∙◌, ◌+◌, Err, [], length, ap, arith, refl, sym, subst}
+use Rattle.std.proofs.Common.{◌≡◌, ◌∙◌, ◌+◌, ◌++◌, Err, [], length, ap, arith, refl, sym, subst, take}
 use Rattle.paradox.specs.Kept.{Kept}
 use Rattle.shelf.specs.Marks.{marks_at_or_before}
+use Rattle.mail_cycle.specs.Leaving.{items_left}
 use Rattle.mail_desk.specs.Held.{Held}
 use Rattle.mail_desk.specs.Remaking.{remade_as}
 use Rattle.mail_desk.specs.Timeline.{SizesOf}
@@ -39,10 +40,11 @@ returns-in-Ok-seal_found-clause-noted g c = λ is.
     let told = c.stands.ensures in
     let kept_is = done.kept ∙ ap (λ (k : Kept). remade_as k found.remade) c.in-Ok.ensures.kept ∙ c.in-Ok.ensures.made in
     subst (λ (k : Kept). NotedBefore new.journal.gate new.desk.notes k.timeline) (sym kept_is)
-    (subst (λ notes. NotedBefore new.journal.gate notes c.args.made.timeline) (sym done.notes)
+    (subst (λ notes. NotedBefore new.journal.gate notes (items_left c.args.desk.now.kept.timeline c.args.made)) (sym done.notes)
     (cycle_notes c.args.journal.now.gate new.journal.gate c.args.desk.now c.args.at c.args.ask ⊥ c.args.made found.bytes found.remade.shelf.notes done.sealed.next c.in-Ok.ensures.bytes told.sizes
     told.timeline.apart told.below c.requires.fit is c.in-Ok.ensures.notes
-    (subst (SizesOf found.remade.shelf.notes) (ap (λ (k : Kept). k.timeline) c.in-Ok.ensures.made) c.in-Ok.ensures.ready.sizes) c.requires.noted))
+    (subst (SizesOf found.remade.shelf.notes) (ap (λ (k : Kept). k.timeline) c.in-Ok.ensures.made)
+    (subst (λ (k : Kept). SizesOf found.remade.shelf.notes (take found.remade.from k.timeline ++ found.remade.behind)) c.in-Ok.ensures.kept c.in-Ok.ensures.ready.sizes)) c.requires.noted))
 
 pub returns-in-Err-seal_found-clause-noted : goal.returns-in-Err-seal_found-clause-noted
 returns-in-Err-seal_found-clause-noted g c = λ is.

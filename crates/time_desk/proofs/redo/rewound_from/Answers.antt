@@ -30,6 +30,6 @@ returns-clause-fit g c =
     let stands = c.stands.ensures in
     let first = c.args.first in
     fits_made kept c.begun.result c.args.at c.args.ask.now c.args.place first.store.store first.count _ c.cycle_from.result c.begun.ensures c.cycle_from.ensures.made
-    c.bodies_have_texts.ensures.behind c.requires.place c.requires.serves.serves
+    c.bodies_have_texts.ensures.behind c.requires.serves.few c.requires.place c.requires.serves.serves
     (λ heard all. c.cycles_leave_states.ensures.from kept c.args.at c.args.ask.now c.args.place first.store.store first.count heard stands.timeline stands.below stands.fresh c.requires.known c.requires.serves.few all c.requires.numbers)
     (λ heard same. c.cycles_begin_anywhere.ensures.front kept c.args.at c.args.ask.now c.args.place first.store.store first.count heard c.requires.serves.few c.requires.place same)
