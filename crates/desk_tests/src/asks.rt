@@ -13,13 +13,13 @@ use verb_core::{Act, Ask, Item, SubmitFault};
 /// The moment of each item.
 pub(crate) const NOW: u64 = 1105092000;
 
-/// A mail for ann.
-fn mail(alloc: Global) -> Result<Ask, Fail>
+/// A mail for a user.
+fn mail(alloc: Global, user: &str) -> Result<Ask, Fail>
     ensures { IfOk result (λ ask. is_users ask ≡ false) }
 {
     let from = Text::new(alloc);
     let mut to = Names::new(alloc);
-    to.push(Name::read(alloc, b"ann")?)?;
+    to.push(Name::read(alloc, user.as_bytes())?)?;
     let text = Text::of(alloc, b"Hi")?;
     Ok(Ask::Deliver { from, to, text })
 }
@@ -46,14 +46,23 @@ fn number_of(asked: Result<Item, SubmitFault>) -> Result<u32, SubmitFault> {
     }
 }
 
-/// Hands a mail to a desk, and tells the number of the item.
+/// Hands a mail for a user to a desk, and tells the number of the item.
+pub(crate) fn mailed_to(
+    alloc: Global,
+    desk: &mut Desk<MemDisk>,
+    user: &str,
+) -> Result<Result<u32, SubmitFault>, Fail> {
+    let ask = mail(alloc, user)?;
+    desk.stands();
+    Ok(number_of(desk.submit(alloc, NOW, None, ask)))
+}
+
+/// Hands a mail for ann to a desk, and tells the number of the item.
 pub(crate) fn mailed(
     alloc: Global,
     desk: &mut Desk<MemDisk>,
 ) -> Result<Result<u32, SubmitFault>, Fail> {
-    let ask = mail(alloc)?;
-    desk.stands();
-    Ok(number_of(desk.submit(alloc, NOW, None, ask)))
+    mailed_to(alloc, desk, "ann")
 }
 
 /// Sets an alias, and tells the number of the act.

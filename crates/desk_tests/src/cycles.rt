@@ -1,4 +1,4 @@
-//! Cycles from the beginning, and trials of them.
+//! Cycles, and trials of them.
 ghost use Rattle.std.specs.Prelude.{◌≡◌, ◌<◌, [], IfOk};
 
 use box_store::Steps;
@@ -10,21 +10,21 @@ use std::test::Fail;
 use std::thread::Threads;
 use time_desk::{CycleFault, Desk};
 use undo_base::{Name, Numbers};
-use undo_outside::{MemDisk, OpenGate};
+use undo_outside::{Gate, MemDisk, OpenGate};
 use verb_bytes::{Acts, CycleAsk, Replaces};
 
 /// The moment of each cycle.
 const NOW: u64 = 1105092000;
 
-/// From the beginning, under a key, without the items of these numbers.
-fn ask(alloc: Global, key: &str, drops: &[u32]) -> Result<CycleAsk, Fail>
+/// From a point, under a key, without the items of these numbers.
+fn ask(alloc: Global, key: &str, point: u32, drops: &[u32]) -> Result<CycleAsk, Fail>
     ensures { IfOk result (λ ask. ask.inserts ≡ []) }
 {
     let key = Name::read(alloc, key.as_bytes())?;
     let drops = Numbers::from_vec(Vec::from_slice(alloc, drops)?);
     Ok(CycleAsk {
         key,
-        point: 0,
+        point,
         drops,
         replaces: Replaces::new(alloc),
         inserts: Acts::new(alloc),
@@ -43,11 +43,12 @@ fn number_of(told: Result<Report, CycleFault>) -> Result<u32, CycleFault> {
     }
 }
 
-fn cycled_by<R: Threads + Sync, L: Ledger>(
+fn cycled_by<R: Threads + Sync, G: Gate, L: Ledger>(
     rt: &R,
     alloc: Global,
     desk: &mut Desk<MemDisk>,
     ask: CycleAsk,
+    gate: &G,
     blank: Blank,
 ) -> Result<u32, CycleFault>
     requires name { blank.name ≡ L.name }
@@ -56,10 +57,23 @@ fn cycled_by<R: Threads + Sync, L: Ledger>(
     requires inserts { ask.inserts ≡ [] }
 {
     let mut steps: Steps<L> = Steps::new(blank);
-    number_of(desk.cycle(rt, alloc, NOW, ask, &OpenGate, &mut steps))
+    number_of(desk.cycle(rt, alloc, NOW, ask, gate, &mut steps))
 }
 
-/// Asks for a cycle, and tells its number.
+/// Asks for a cycle without repairs from a point, whose workers pass a gate, and tells its number.
+pub(crate) fn cycled_past<R: Threads + Sync, G: Gate>(
+    rt: &R,
+    alloc: Global,
+    desk: &mut Desk<MemDisk>,
+    key: &str,
+    point: u32,
+    gate: &G,
+) -> Result<Result<u32, CycleFault>, Fail> {
+    let ask = ask(alloc, key, point, &[])?;
+    Ok(cycled_by::<R, G, Brand>(rt, alloc, desk, ask, gate, Blank::new(1)))
+}
+
+/// Asks for a cycle from the beginning, and tells its number.
 pub(crate) fn cycled<R: Threads + Sync>(
     rt: &R,
     alloc: Global,
@@ -67,17 +81,17 @@ pub(crate) fn cycled<R: Threads + Sync>(
     key: &str,
     drops: &[u32],
 ) -> Result<Result<u32, CycleFault>, Fail> {
-    let ask = ask(alloc, key, drops)?;
-    Ok(cycled_by::<R, Brand>(rt, alloc, desk, ask, Blank::new(1)))
+    let ask = ask(alloc, key, 0, drops)?;
+    Ok(cycled_by::<R, OpenGate, Brand>(rt, alloc, desk, ask, &OpenGate, Blank::new(1)))
 }
 
-/// Tries a cycle, and tells the number that it would have.
+/// Tries a cycle from the beginning, and tells the number that it would have.
 pub(crate) fn tried<R: Threads + Sync>(
     rt: &R,
     alloc: Global,
     desk: &mut Desk<MemDisk>,
     drops: &[u32],
 ) -> Result<Result<u32, CycleFault>, Fail> {
-    let ask = ask(alloc, "-", drops)?;
+    let ask = ask(alloc, "-", 0, drops)?;
     Ok(number_of(desk.try_cycle(rt, alloc, NOW, &ask, &OpenGate)))
 }
