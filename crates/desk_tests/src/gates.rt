@@ -1,77 +1,70 @@
 //! What workers pass: a gate that holds one item for another, and one that notes the items' numbers.
 use std::alloc::Global;
-use std::sync::atomic::{AtomicU64, Ordering};
+use std::sync::atomic::{AtomicBool, AtomicU64, Ordering};
 use std::test::Fail;
 use std::thread;
-use std::time::{Clock, Duration};
 use undo_outside::Gate;
 
-/// For how many turns an item is held at most. A turn is a short sleep, so that what it waits for can go on.
-const TURNS: u32 = 100_000;
+/// For how many turns an item is held at most.
+const TURNS: u32 = 10_000_000;
 
-const TURN: u64 = 20;
+/// Waits until it is set, for so many turns at most: whether it was.
+fn wait_for(set: &AtomicBool) -> bool {
+    for _ in 0..TURNS {
+        if set.load(Ordering::SeqCst) {
+            return true;
+        }
+        thread::yield_now();
+    }
+    false
+}
 
-/// Holds an item until another has passed, and that one until the first is held.
+/// Holds item 2 until item 3 has passed. Item 3 passes once item 2 is held, so that it doesn't come first.
 #[derive(Drop)]
-pub(crate) struct Holding<'a, C> {
-    clock: &'a C,
-    first: u32,
-    second: u32,
-    held: AtomicU64,
-    passed: AtomicU64,
-    saw: AtomicU64,
+pub(crate) struct Holding {
+    held: AtomicBool,
+    passed: AtomicBool,
+    seen: AtomicBool,
 }
 
-impl<'a, C: Clock + Sync> Holding<'a, C> {
-    pub(crate) fn of(clock: &'a C, first: u32, second: u32) -> Holding<'a, C> {
+impl Holding {
+    pub(crate) fn new() -> Holding {
         Holding {
-            clock,
-            first,
-            second,
-            held: AtomicU64::new(0),
-            passed: AtomicU64::new(0),
-            saw: AtomicU64::new(0),
+            held: AtomicBool::new(false),
+            passed: AtomicBool::new(false),
+            seen: AtomicBool::new(false),
         }
     }
 
-    /// Whether the first was held, and then saw the second pass.
-    pub(crate) fn held_and_saw(&self) -> bool {
-        self.held.load(Ordering::SeqCst) == 1 && self.saw.load(Ordering::SeqCst) == 1
-    }
-
-    /// Whether a flag was set, now or in one of the turns.
-    fn awaits(&self, flag: &AtomicU64) -> bool {
-        for _ in 0..TURNS {
-            if flag.load(Ordering::SeqCst) == 1 {
-                return true;
-            }
-            thread::sleep(self.clock, Duration::from_micros(TURN));
-        }
-        false
-    }
-
+    /// Item 2 waits, if item 3 hasn't passed yet.
     fn hold(&self) {
-        if self.passed.load(Ordering::SeqCst) == 0 {
-            self.held.store(1, Ordering::SeqCst);
-            if self.awaits(&self.passed) {
-                self.saw.store(1, Ordering::SeqCst);
-            }
+        if self.passed.load(Ordering::SeqCst) {
+            return;
+        }
+        self.held.store(true, Ordering::SeqCst);
+        if wait_for(&self.passed) {
+            self.seen.store(true, Ordering::SeqCst);
         }
     }
 
-    fn follow(&self) {
-        let _held = self.awaits(&self.held);
-        self.passed.store(1, Ordering::SeqCst);
+    /// Item 3 passes.
+    fn let_pass(&self) {
+        wait_for(&self.held);
+        self.passed.store(true, Ordering::SeqCst);
+    }
+
+    /// Whether item 2 was held and then saw item 3 pass.
+    pub(crate) fn held_and_saw(&self) -> bool {
+        self.held.load(Ordering::SeqCst) && self.seen.load(Ordering::SeqCst)
     }
 }
 
-impl<'a, C: Clock + Sync> Gate for Holding<'a, C> {
+impl Gate for Holding {
     fn pass(&self, number: u32) {
-        if number == self.first {
-            self.hold();
-        }
-        if number == self.second {
-            self.follow();
+        match number {
+            2 => self.hold(),
+            3 => self.let_pass(),
+            _ => {}
         }
     }
 }
