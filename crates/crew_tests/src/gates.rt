@@ -85,12 +85,18 @@ impl Counting {
         Ok(Counting { counts })
     }
 
-    /// How often the item of a number passed.
-    pub(crate) fn count(&self, number: u32) -> u32 {
-        match self.counts.get(number as usize) {
-            Some(count) => count.load(Ordering::SeqCst),
-            None => 0,
+    /// Whether exactly the items from the first number on and below the second passed, once each.
+    pub(crate) fn passed_once(&self, from: u32, end: u32) -> bool {
+        let mut all = true;
+        for (number, count) in self.counts.iter().enumerate() {
+            let wanted = if (from as usize) <= number && number < end as usize {
+                1
+            } else {
+                0
+            };
+            all = all && count.load(Ordering::SeqCst) == wanted;
         }
+        all
     }
 }
 

@@ -3,7 +3,6 @@ ghost use Rattle.std.specs.Prelude.{◌≡◌, ◌%◌, [], IsTrue, IfOk, true, 
 ghost use Rattle.verb_core.specs.Items.{IsWellFormed, has_form, is_own, keys_in, users_in};
 ghost use Rattle.verb_core.specs.Store.{IsValid, is_house};
 ghost use Rattle.verb_core.specs.declared.item.Shown.TheVariants.{Nothing as nothing};
-ghost use Rattle.verb_core.specs.declared.conf.House.{House as AHouse};
 
 use box_store::{RowsRefused, Store};
 use std::alloc::Global;
@@ -209,9 +208,10 @@ fn item(number: u32, by: Option<User>, deed: Deed, shown: Shown) -> Item
 }
 
 /// The item of a delivery to a user.
-pub(crate) fn sent(alloc: Global, number: u32, user: u8) -> Result<StoredItem, Fail>
-    ensures { IfOk result (λ item. (house : AHouse) → IsWellFormed house item) }
+pub(crate) fn sent(alloc: Global, house: &House, number: u32, user: u8) -> Result<StoredItem, Fail>
+    ensures { IfOk result (λ item. IsWellFormed house.now item) }
 {
+    let _house = house;
     let deed = delivery(alloc, user)?;
     Ok(StoredItem::of(alloc, item(number, None, deed, Shown::Nothing)))
 }

@@ -1,16 +1,17 @@
 //! The items of one level, side by side.
-ghost use Rattle.std.specs.Prelude.{◌≡◌, ◌<◌, IfOk};
+ghost use Rattle.std.specs.Prelude.{◌≡◌, ◌<◌, IfOk, map};
 ghost use Rattle.std.specs.List.{AllByRecursion};
 ghost use Rattle.verb_core.specs.Items.{IsWellFormed};
-ghost use Rattle.verb_core.specs.Store.{IsValid};
-ghost use Rattle.verb_core.specs.declared.conf.House.{House as AHouse};
-ghost use Rattle.replay_crew.specs.Resolving.{AreResolvedFrom};
+ghost use Rattle.verb_core.specs.Store.{IsValid, MailStore};
+ghost use Rattle.touch_rules.specs.Table.{touches_of};
+ghost use Rattle.replay_plan.specs.Placing.{levels_of};
+ghost use Rattle.replay_crew.specs.Resolving.{AreResolved, AreResolvedFrom};
 
 use crate::gates::{Counting, Holding};
 use crate::given::{EmptyTexts, Given, USERS, at_first, box_id, count_at_first, counted, sent};
 use box_store::{Steps, Store};
 use replay_crew::{ResolvedList, Shows, resolve, run_plan, touch_all};
-use replay_plan::plan;
+use replay_plan::{Levels, plan};
 use std::alloc::Global;
 use std::marker::Brand;
 use std::sync::ledger::{Blank, Ledger};
@@ -19,7 +20,7 @@ use std::thread::Threads;
 use stored_items::StoredItem;
 use undo_base::NoMemory;
 use undo_outside::{Gate, OpenGate};
-use verb_core::{House, Shown};
+use verb_core::{House, Mailbox, Shown};
 
 /// What came of items: in how many levels they were performed, the store, and what they show.
 #[derive(Drop)]
@@ -44,6 +45,38 @@ fn resolved(
     }
 }
 
+/// In which levels items are to be performed.
+fn planned(alloc: Global, all: &ResolvedList) -> Result<Levels, NoMemory>
+    requires { (s : MailStore) × AreResolved s all.now }
+    ensures { IfOk result (λ plan. plan ≡ levels_of (map touches_of all.now)) }
+{
+    let touches = touch_all(alloc, all)?;
+    plan(alloc, &touches)
+}
+
+/// What came of items that were resolved.
+fn came_of_all<R: Threads + Sync, G: Gate, L: Ledger>(
+    rt: &R,
+    alloc: Global,
+    store: Store,
+    all: &ResolvedList,
+    gate: &G,
+    steps: &mut Steps<L>,
+) -> Result<Came, NoMemory>
+    requires valid { IsValid store.store }
+    requires resolved { AreResolved store.store all.now }
+{
+    let plan = planned(alloc, all)?;
+    match run_plan(rt, alloc, store, &plan, all, gate, steps) {
+        Ok((store, shows)) => Ok(Came {
+            levels: plan.len(),
+            store,
+            shows,
+        }),
+        Err(NoMemory) => Err(NoMemory),
+    }
+}
+
 fn came_of<R: Threads + Sync, G: Gate, L: Ledger>(
     rt: &R,
     alloc: Global,
@@ -60,15 +93,10 @@ fn came_of<R: Threads + Sync, G: Gate, L: Ledger>(
 {
     let mut items = items;
     let mut steps: Steps<L> = Steps::new(blank);
-    let all = resolved(alloc, &store, &mut items)?;
-    let touches = touch_all(alloc, &all)?;
-    let plan = plan(alloc, &touches)?;
-    let (store, shows) = run_plan(rt, alloc, store, &plan, &all, gate, &mut steps)?;
-    Ok(Came {
-        levels: plan.len(),
-        store,
-        shows,
-    })
+    match resolved(alloc, &store, &mut items) {
+        Ok(all) => came_of_all(rt, alloc, store, &all, gate, &mut steps),
+        Err(NoMemory) => Err(NoMemory),
+    }
 }
 
 /// The items performed on a store.
@@ -89,28 +117,34 @@ fn performed<R: Threads + Sync, G: Gate>(
 }
 
 /// So many deliveries from item 2 on, each to a user of its own: user 0 and those behind.
-fn sends(alloc: Global, count: u8) -> Result<Vec<StoredItem>, Fail>
-    ensures { IfOk result (λ items. (house : AHouse) → AllByRecursion (IsWellFormed house) items.items) }
+fn sends(alloc: Global, house: &House, count: u8) -> Result<Vec<StoredItem>, Fail>
+    ensures { IfOk result (λ items. AllByRecursion (IsWellFormed house.now) items.items) }
 {
     let mut items = Vec::new(alloc);
     for user in 0..count {
-        items.push(sent(alloc, 2 + u32::from(user), user)?)?;
+        items.push(sent(alloc, house, 2 + u32::from(user), user)?)?;
     }
     Ok(items)
 }
 
-/// An item for each user, from item 2 on: a delivery to each with an odd number, and of the others each counts INBOX.
+/// A user's item: a delivery for an odd number, else a count of INBOX.
+fn mixed_item(alloc: Global, house: &House, user: u8) -> Result<StoredItem, Fail>
+    ensures { IfOk result (λ item. IsWellFormed house.now item) }
+{
+    let number = 2 + u32::from(user);
+    if user % 2 == 1 {
+        return sent(alloc, house, number, user);
+    }
+    counted(alloc, house, number, user)
+}
+
+/// An item for each user, from item 2 on.
 fn mixed(alloc: Global, house: &House) -> Result<Vec<StoredItem>, Fail>
     ensures { IfOk result (λ items. AllByRecursion (IsWellFormed house.now) items.items) }
 {
     let mut items = Vec::new(alloc);
     for user in 0..USERS {
-        let number = 2 + u32::from(user);
-        if user % 2 == 1 {
-            items.push(sent(alloc, number, user)?)?;
-        } else {
-            items.push(counted(alloc, house, number, user)?)?;
-        }
+        items.push(mixed_item(alloc, house, user)?)?;
     }
     Ok(items)
 }
@@ -122,8 +156,8 @@ fn sent_to<R: Threads + Sync, G: Gate>(
     count: u8,
     gate: &G,
 ) -> Result<Came, Fail> {
-    let items = sends(alloc, count)?;
     let Given { house, store } = at_first(alloc)?;
+    let items = sends(alloc, &house, count)?;
     drop(house);
     performed(rt, alloc, store, items, gate)
 }
@@ -136,42 +170,85 @@ fn mixed_on<R: Threads + Sync, G: Gate>(rt: &R, alloc: Global, gate: &G) -> Resu
     performed(rt, alloc, store, items, gate)
 }
 
-/// How many messages are in a user's INBOX, and which item brought the last of them.
+/// How many messages are in a mailbox, and which item brought the last of them.
+fn counts(mailbox: &Mailbox) -> (u64, u32) {
+    let count = mailbox.entries.len() as u64;
+    match mailbox.entries.as_slice().last() {
+        Some(entry) => (count, entry.key.item),
+        None => (count, 0),
+    }
+}
+
+/// The same of a user's INBOX.
 fn inbox(alloc: Global, store: &Store, user: u8) -> Result<(u64, u32), Fail> {
     let id = box_id(alloc, user, b"INBOX")?;
-    match store.mailbox(id.user, &id.name) {
-        Some(mailbox) => {
-            let count = mailbox.entries.len();
-            let last = match mailbox.entries.as_slice().last() {
-                Some(entry) => entry.key.item,
-                None => 0,
-            };
-            Ok((count as u64, last))
-        }
-        None => Ok((9999, 0)),
+    Ok(match store.mailbox(id.user, &id.name) {
+        Some(mailbox) => counts(mailbox),
+        None => (9999, 0),
+    })
+}
+
+/// Whether a delivery shows nothing, and a count this.
+fn shows(shown: &Shown, sends: bool, before: u64) -> bool {
+    match shown {
+        Shown::Nothing => sends,
+        Shown::Count(Some(count)) => !sends && u64::from(*count) == before,
+        _ => false,
     }
 }
 
 /// Whether a user's mixed item left the user's INBOX and shows as it should.
 fn is_right(alloc: Global, came: &Came, user: u8) -> Result<bool, Fail> {
+    let sends = user % 2 == 1;
     let before = count_at_first(user);
     let (count, last) = inbox(alloc, &came.store, user)?;
+    let there = if sends {
+        count == before + 1 && last == 2 + u32::from(user)
+    } else {
+        count == before
+    };
     Ok(match came.shows.get(user as usize) {
-        Some(Shown::Nothing) => {
-            user % 2 == 1 && count == before + 1 && last == 2 + u32::from(user)
-        }
-        Some(Shown::Count(Some(shown))) => {
-            user % 2 == 0 && count == before && *shown as u64 == before
-        }
-        _ => false,
+        Some(shown) => there && shows(shown, sends, before),
+        None => false,
     })
+}
+
+/// Whether all that came of the mixed items is right.
+fn are_right(alloc: Global, came: &Came) -> Result<bool, Fail> {
+    let mut right = came.levels == 1 && came.shows.len() == USERS as usize;
+    for user in 0..USERS {
+        right = is_right(alloc, came, user)? && right;
+    }
+    Ok(right)
+}
+
+/// Whether the mixed items of forty users, one level, are right.
+fn forty_are_right<R: Threads + Sync>(rt: &R, alloc: Global) -> Result<bool, Fail> {
+    let came = mixed_on(rt, alloc, &OpenGate)?;
+    are_right(alloc, &came)
+}
+
+/// Whether one delivery is one level, and leaves the user's INBOX as it should.
+fn one_is_right<R: Threads + Sync, G: Gate>(rt: &R, alloc: Global, gate: &G) -> Result<bool, Fail> {
+    let came = sent_to(rt, alloc, 1, gate)?;
+    Ok(came.levels == 1 && inbox(alloc, &came.store, 0)? == (1, 2))
+}
+
+/// In how many levels so many deliveries were performed.
+fn levels_of_sends<R: Threads + Sync, G: Gate>(
+    rt: &R,
+    alloc: Global,
+    count: u8,
+    gate: &G,
+) -> Result<usize, Fail> {
+    let came = sent_to(rt, alloc, count, gate)?;
+    Ok(came.levels)
 }
 
 #[test]
 fn two_sends_are_worked_out_side_by_side(rt: HostRuntime) -> Result<(), Fail> {
     let gate = Holding::new();
-    let came = sent_to(&rt, rt.alloc(), 2, &gate)?;
-    assert_eq!(rt; came.levels, 1);
+    assert!(rt; levels_of_sends(&rt, rt.alloc(), 2, &gate)? == 1);
     assert!(rt; gate.held_and_saw());
     Ok(())
 }
@@ -180,34 +257,20 @@ fn two_sends_are_worked_out_side_by_side(rt: HostRuntime) -> Result<(), Fail> {
 fn each_item_passes_the_gate_once(rt: HostRuntime) -> Result<(), Fail> {
     let gate = Counting::new(rt.alloc(), 50)?;
     drop(mixed_on(&rt, rt.alloc(), &gate)?);
-    for number in 0..50 {
-        let wanted = if 2 <= number && number < 2 + u32::from(USERS) {
-            1
-        } else {
-            0
-        };
-        assert_eq!(rt; gate.count(number), wanted);
-    }
+    assert!(rt; gate.passed_once(2, 2 + u32::from(USERS)));
     Ok(())
 }
 
 #[test]
 fn a_level_of_forty_items_is_right(rt: HostRuntime) -> Result<(), Fail> {
-    let came = mixed_on(&rt, rt.alloc(), &OpenGate)?;
-    assert_eq!(rt; came.levels, 1);
-    assert_eq!(rt; came.shows.len(), USERS as usize);
-    for user in 0..USERS {
-        assert!(rt; is_right(rt.alloc(), &came, user)?);
-    }
+    assert!(rt; forty_are_right(&rt, rt.alloc())?);
     Ok(())
 }
 
 #[test]
 fn a_level_of_one_item_passes_too(rt: HostRuntime) -> Result<(), Fail> {
     let gate = Counting::new(rt.alloc(), 4)?;
-    let came = sent_to(&rt, rt.alloc(), 1, &gate)?;
-    assert_eq!(rt; came.levels, 1);
-    assert_eq!(rt; gate.count(2), 1);
-    assert_eq!(rt; inbox(rt.alloc(), &came.store, 0)?, (1, 2));
+    assert!(rt; one_is_right(&rt, rt.alloc(), &gate)?);
+    assert!(rt; gate.passed_once(2, 3));
     Ok(())
 }
