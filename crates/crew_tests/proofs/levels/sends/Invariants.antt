@@ -1,7 +1,6 @@
 use Rattle.std.specs.List.{AllByRecursion}
-use Rattle.verb_core.specs.declared.conf.House.{House}
 use Rattle.verb_core.specs.Items.{IsWellFormed}
 use Rattle.crew_tests.proofs.levels.sends.Given as goal
 
 abbrev pub invariant-loop-user : goal.invariant-loop-user
-invariant-loop-user l = (house : House) → AllByRecursion (IsWellFormed house) l.items.items
+invariant-loop-user l = AllByRecursion (IsWellFormed l.house) l.items.items
