@@ -3,6 +3,7 @@ ghost use Rattle.std.specs.Prelude.{◌≡◌, ◌⊎◌, ℕ, false, Some, IfEr
 ghost use Rattle.command_words.specs.Usage.{command_of};
 ghost use Rattle.mail_proxy.specs.Answers.{Answers, Does, Shows};
 ghost use Rattle.mail_proxy.specs.Causes.{Comes, uses_disk, uses_link, uses_text};
+ghost use Rattle.mail_proxy.specs.Completing.{EndsInTime, NoneFailed};
 ghost use Rattle.mail_proxy.specs.Due.{IsDue, IsHindered};
 ghost use Rattle.mail_proxy.specs.Plans.{end_of};
 ghost use Rattle.mail_proxy.specs.Lines.{no_memory};
@@ -90,6 +91,13 @@ pub fn run<R: Threads + Sync, S: Source, L: Link, D: Disk + Drop, W: Sink, G: Ga
     // The status that is due by the words, the text and the disk comes, unless a call failed or memory was wanted.
     ensures due { (k : ℕ) → IsDue (command_of (map string_bytes words.now.items)) (record { text = S.told text.old; link = L.told link.old; disk = D.told disk; out = W.told out.old }) k
         → (result.0 ≡ k) ⊎ IsHindered result.0 }
+    // Where no call failed and an end came in time, it comes, or that of want of memory.
+    ensures complete { (k : ℕ) → IsDue (command_of (map string_bytes words.now.items)) (record { text = S.told text.old; link = L.told link.old; disk = D.told disk; out = W.told out.old }) k
+        → NoneFailed (record { text = S.told text.old; link = L.told link.old; disk = D.told disk; out = W.told out.old })
+        (record { text = S.told text.new; link = L.told link.new; disk = D.told result.1; out = W.told out.new })
+        → EndsInTime (command_of (map string_bytes words.now.items)) (record { text = S.told text.old; link = L.told link.old; disk = D.told disk; out = W.told out.old })
+        (record { text = S.told text.new; link = L.told link.new; disk = D.told result.1; out = W.told out.new })
+        → (result.0 ≡ k) ⊎ (result.0 ≡ 8) }
     // What is not used gets no call.
     ensures text { uses_text (command_of (map string_bytes words.now.items)) ≡ false → text.new ≡ text.old }
     ensures link { uses_link (command_of (map string_bytes words.now.items)) ≡ false → link.new ≡ link.old }
