@@ -16,10 +16,10 @@ ghost use Rattle.box_store.specs.Plans.{Does, after};
 use crate::{KeySet, Work};
 use mail_rows::flags::changes_of;
 use mail_rows::new_mail::{copy_puts, message_puts, own_message};
-use mail_rows::shown::{mail_of, way_of};
+use mail_rows::shown::{view_of, way_of};
 use std::alloc::Global;
 use undo_base::{Flags, How, Key, Keys, Name, NoMemory, Sequence, User};
-use verb_core::{Act, Aims, BoxId, Deed, Entry, Item, Mailbox};
+use verb_core::{Act, Aims, BoxId, Deed, Item, MailView, Mailbox};
 
 fn box_named(alloc: Global, user: User, name: &Name) -> Result<BoxId, NoMemory>
     ensures { IfOk result (λ id. id ≡ box_of user name.now) }
@@ -47,7 +47,7 @@ fn flags_work(
     ensures { IfOk result (λ w. Does (box_of user mailbox.now ∷ []) rows.now w (change_row (box_of user mailbox.now) (with_entries (reflagged keys.now how given)))) }
 {
     let keys = KeySet::of(alloc, keys.as_slice())?;
-    let flags = changes_of(alloc, mail_of(rows, user, mailbox), &keys, how, given)?;
+    let flags = changes_of(alloc, &view_of(rows, user, mailbox), &keys, how, given)?;
     let mailbox = box_named(alloc, user, mailbox)?;
     Ok(Work::Flags { mailbox, flags })
 }
@@ -160,7 +160,7 @@ fn message_work(
 #[tactic(auto, using(crate::proofs::Plans::puts_are))]
 fn copy_work(
     alloc: Global,
-    entries: &[Entry],
+    entries: &MailView<'_>,
     number: u32,
     keys: &Keys,
     aims: &Aims,
@@ -227,7 +227,13 @@ pub(crate) fn work_of(
         Some((flags, at)) => message_work(alloc, item, aims, flags, at),
         None => match &item.deed {
             Deed::Copy { mailbox, keys, .. } => {
-                copy_work(alloc, mail_of(rows, user, mailbox), item.number, keys, aims)
+                copy_work(
+                    alloc,
+                    &view_of(rows, user, mailbox),
+                    item.number,
+                    keys,
+                    aims,
+                )
             }
             _ => plain_work(alloc, rows, user, &item.deed),
         },

@@ -11,7 +11,7 @@ use mail_rows::aims::who_acts;
 use mail_rows::sights::there_of;
 use std::alloc::{AllocError, Global};
 use undo_base::{Key, Keys, MOST_KEYS, Name, NoMemory, User};
-use verb_core::{Ask, Entry, Refused};
+use verb_core::{Ask, Entry, MailView, Refused};
 
 /// Whether the asker has a mailbox of that name.
 pub(crate) fn has_box(store: &Store, by: Option<User>, name: &Name) -> bool
@@ -21,13 +21,20 @@ pub(crate) fn has_box(store: &Store, by: Option<User>, name: &Name) -> bool
 }
 
 /// The asker's mail of that name; none where the mailbox is missing.
+pub(crate) fn view_of<'a>(store: &'a Store, by: Option<User>, name: &Name) -> MailView<'a>
+    ensures { result ≡ mail_of store.now.store by name.now }
+{
+    match store.mailbox(who_acts(by), name) {
+        None => MailView::none(),
+        Some(mailbox) => mailbox.entries.view(),
+    }
+}
+
+/// The same as a slice.
 pub(crate) fn mail_of<'a>(store: &'a Store, by: Option<User>, name: &Name) -> &'a [Entry]
     ensures { result.now ≡ mail_of store.now.store by name.now }
 {
-    match store.mailbox(who_acts(by), name) {
-        None => &[],
-        Some(mailbox) => mailbox.entries.as_slice(),
-    }
+    view_of(store, by, name).as_slice()
 }
 
 /// Whether a mailbox of the asker that is named is missing.
@@ -127,7 +134,7 @@ fn close_count(removes: bool, entries: &[Entry]) -> usize
 }
 
 /// Whether one of the keys is not there.
-fn lacks(alloc: Global, entries: &[Entry], keys: &Keys) -> Result<bool, NoMemory>
+fn lacks(alloc: Global, entries: &MailView<'_>, keys: &Keys) -> Result<bool, NoMemory>
     ensures { IfOk result (λ lacking. lacking ≡ lacks entries.now keys.now) }
 {
     let found = there_of(alloc, entries, keys.as_slice())?;
@@ -135,7 +142,12 @@ fn lacks(alloc: Global, entries: &[Entry], keys: &Keys) -> Result<bool, NoMemory
 }
 
 /// Whether one of the keys, where they were named by sequence number, is no longer there.
-fn are_gone(alloc: Global, strict: bool, entries: &[Entry], keys: &Keys) -> Result<bool, NoMemory>
+fn are_gone(
+    alloc: Global,
+    strict: bool,
+    entries: &MailView<'_>,
+    keys: &Keys,
+) -> Result<bool, NoMemory>
     ensures { IfOk result (λ gone. gone ≡ (strict && lacks entries.now keys.now)) }
 {
     if strict {
@@ -155,19 +167,19 @@ fn is_gone(alloc: Global, store: &Store, by: Option<User>, ask: &Ask) -> Result<
             keys,
             strict,
             ..
-        } => are_gone(alloc, *strict, mail_of(store, by, mailbox), keys),
+        } => are_gone(alloc, *strict, &view_of(store, by, mailbox), keys),
         Ask::Store {
             mailbox,
             keys,
             strict,
             ..
-        } => are_gone(alloc, *strict, mail_of(store, by, mailbox), keys),
+        } => are_gone(alloc, *strict, &view_of(store, by, mailbox), keys),
         Ask::Copy {
             mailbox,
             keys,
             strict,
             ..
-        } => are_gone(alloc, *strict, mail_of(store, by, mailbox), keys),
+        } => are_gone(alloc, *strict, &view_of(store, by, mailbox), keys),
         Ask::Deliver { .. } => Ok(false),
         Ask::Append { .. } => Ok(false),
         Ask::List { .. } => Ok(false),

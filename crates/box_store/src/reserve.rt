@@ -12,7 +12,7 @@ use mail_rows::mail::take_entries;
 use mail_rows::rows::place_of;
 use std::alloc::Global;
 use undo_base::{NoMemory, User};
-use verb_core::{Act, BoxId, Conf, Entries, House, Mailbox, Way};
+use verb_core::{Act, BoxId, Conf, House, Mail, Mailbox, Way};
 
 /// How many entries a mailbox has at most.
 const MOST_ENTRIES: usize = 4_294_967_295;
@@ -21,9 +21,9 @@ const MOST_ENTRIES: usize = 4_294_967_295;
 fn grow(alloc: Global, mailbox: &mut Mailbox, count: usize) -> Result<(), NoMemory>
     ensures { mailbox.new ≡ mailbox.old }
 {
-    let mut list = take_entries(alloc, mailbox);
+    let (mut list, in_order) = take_entries(alloc, mailbox).into_parts();
     let grown = list.reserve(count);
-    mailbox.entries = Entries::from_vec(list);
+    mailbox.entries = Mail::from_parts(list, in_order);
     grown?;
     Ok(())
 }

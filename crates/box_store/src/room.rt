@@ -13,7 +13,7 @@ ghost use Rattle.box_store.specs.Refusing.{fills_up, outgrows, box_outgrows, aim
 
 use crate::Store;
 use crate::asked::adds_name;
-use crate::refusals::mail_of;
+use crate::refusals::{mail_of, view_of};
 use mail_rows::aims::{reach_delivery, who_acts};
 use mail_rows::sights::there_of;
 use std::alloc::Global;
@@ -109,7 +109,7 @@ fn copy_outgrows(
     if !box_outgrows(store, who_acts(by), target, keys.len()) {
         return Ok(false);
     }
-    let found = there_of(alloc, mail_of(store, by, mailbox), keys.as_slice())?;
+    let found = there_of(alloc, &view_of(store, by, mailbox), keys.as_slice())?;
     Ok(box_outgrows(store, who_acts(by), target, found.len()))
 }
 

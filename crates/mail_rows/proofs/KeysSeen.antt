@@ -47,10 +47,11 @@ module _ (all : List Key) where
   unfolding Within
   whole k is = is
 
-module _ (index : List (Key × Entry)) (keys : List Key) (es : List Entry) (found : (k : Key) → found_at index k ≡ indexed keys es k) where
-  entry_found : (k : Key) → is_among keys k ≡ true → found_at index k ≡ entry_of es k
-  entry_found k is = found k ∙ ap (λ b. cond b (entry_of es k) None) is
+-- an index of the entries of some keys has the entry of each
+pub indexed_found : (index : List (Key × Entry)) (keys : List Key) (es : List Entry) → ((k : Key) → found_at index k ≡ indexed keys es k) → (k : Key) → is_among keys k ≡ true → found_at index k ≡ entry_of es k
+indexed_found index keys es found k is = found k ∙ ap (λ b. cond b (entry_of es k) None) is
 
+module _ (index : List (Key × Entry)) (keys : List Key) (es : List Entry) (entry_found : (k : Key) → is_among keys k ≡ true → found_at index k ≡ entry_of es k) where
   pub there_is : there_by index keys ≡ there es keys
   there_is = same_filter keys _ _ (λ k is. ap is_some (entry_found k is) ∙ some_found (λ (e : Entry). same_key k e.key) es) keys (whole keys)
 
@@ -84,7 +85,7 @@ module _ (keys : List Key) (k : Key) (is : is_among keys k ≡ true) where
   left_any (e ∷ es) = left_step e (filter no_deleted es) (expunged keys es) (left_any es)
 
 pub left_is : (index : List (Key × Entry)) (keys : List Key) (es : List Entry) → ((k : Key) → found_at index k ≡ indexed keys (filter no_deleted es) k) → there_by index keys ≡ there (expunged keys es) keys
-left_is index keys es found = same_filter keys _ _ (λ k is. ap is_some (entry_found index keys (filter no_deleted es) found k is) ∙ some_found (λ (e : Entry). same_key k e.key) (filter no_deleted es) ∙ left_any keys k is es) keys (whole keys)
+left_is index keys es found = same_filter keys _ _ (λ k is. ap is_some (indexed_found index keys (filter no_deleted es) found k is) ∙ some_found (λ (e : Entry). same_key k e.key) (filter no_deleted es) ∙ left_any keys k is es) keys (whole keys)
 
 pub sights_more : (index : List (Key × Entry)) (keys : List Key) (i : ℕ) (d : Key) → i < length keys → sights_by index (take (i + 1) keys) ≡ sights_by index (take i keys) ++ cons_option (sight_at index (get_or keys i d)) []
 sights_more index keys i d lt = ap (sights_by index) (take_more keys i d lt) ∙ filter_map-append (sight_at index) (take i keys) (get_or keys i d ∷ [])

@@ -2,6 +2,7 @@ pub mod PlaceLaws
 pub mod MailLaws
 mod FixedRows
 mod Keys
+mod KeyPlaces
 mod Indexes
 mod KeysSeen
 mod Patterns

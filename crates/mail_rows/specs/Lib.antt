@@ -4,5 +4,6 @@ pub mod Places
 pub mod Mail
 pub mod Confs
 pub mod Indexed
+pub mod Lookups
 pub mod Patterns
 pub mod Changes

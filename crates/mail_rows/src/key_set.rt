@@ -44,6 +44,13 @@ impl KeySet {
         Ok(())
     }
 
+    /// The keys, in order.
+    pub(crate) fn keys(&self) -> &BTreeSet<Key>
+        ensures { result.now.keys ≡ self.now }
+    {
+        &self.keys
+    }
+
     /// Whether the key is one of them.
     pub fn contains(&self, key: Key) -> bool
         ensures { result ≡ is_among self.now key }

@@ -3,7 +3,7 @@
 //! `rows` finds the place of a row and lets rows come and go; `lookup` finds mailboxes and names among rows, `opening`
 //! makes the first rows. `mail` is what comes to a mailbox, changes and goes; `change` is what is to come and to change,
 //! `new_mail` and `flags` say which of it an item brings. `sights` and `shown` are what a user is shown, with entries
-//! looked up by `key_set` and `key_index`; `pattern` has the names of LIST. `reach` and `aims` find where an item's mail
+//! looked up by `key_set`, `key_index` and `places`; `pattern` has the names of LIST. `reach` and `aims` find where an item's mail
 //! goes, `held_conf` holds the configuration, and `conf_change` makes what an act changes in it.
 //! What carries the crate: `shown_by` is what the model shows, `reach_of` is `sought`, `HeldConf` is changed as the model's
 //! configuration is.
@@ -21,6 +21,7 @@ pub mod mail;
 pub mod new_mail;
 pub mod opening;
 mod pattern;
+mod places;
 pub mod reach;
 pub mod rows;
 pub mod shown;

@@ -1,5 +1,6 @@
 //! The mail of one mailbox: what comes to its end, what changes and what goes. Nothing here takes memory.
-ghost use Rattle.std.specs.Prelude.{◌≡◌, ◌+◌, ◌≤◌, ◌<◌, ◌^◌, [], ◌∷◌, ◌++◌, length, vec_len, vec_capacity};
+ghost use Rattle.std.specs.Prelude.{◌≡◌, ◌+◌, ◌≤◌, ◌<◌, ◌^◌, [], ◌∷◌, ◌++◌, ◌&&◌, length, vec_len, vec_capacity};
+ghost use Rattle.verb_core.specs.KeyOrder.{keys_rise_from, last_key};
 ghost use Rattle.verb_core.specs.Mailboxes.{no_mail, put_all, with_entries, emptied, expunged, without as left_out};
 ghost use Rattle.mail_rows.specs.Mail.{flags_set, all_flags_set};
 ghost use Rattle.mail_rows.specs.Mail.{numbered};
@@ -8,14 +9,14 @@ use crate::{FlagChange, KeySet};
 use std::alloc::Global;
 use std::mem;
 use undo_base::Key;
-use verb_core::{Entries, Entry, Mailbox};
+use verb_core::{Entry, Mail, Mailbox, keys_rise_from, last_key};
 
 /// Takes the entries out of a mailbox.
-pub fn take_entries(alloc: Global, mailbox: &mut Mailbox) -> Vec<Entry>
-    ensures list { result.items ≡ mailbox.old.entries }
+pub fn take_entries(alloc: Global, mailbox: &mut Mailbox) -> Mail
+    ensures list { result ≡ mailbox.old.entries }
     ensures mailbox { mailbox.new ≡ emptied mailbox.old }
 {
-    mem::replace(&mut mailbox.entries, Entries::new(alloc)).into_vec()
+    mem::replace(&mut mailbox.entries, Mail::new(alloc))
 }
 
 /// Adds an entry. There is room for it.
@@ -82,6 +83,13 @@ fn joined(
     }
 }
 
+/// Whether keys that are known to rise still do with mail behind them.
+fn rise_on(in_order: bool, list: &[Entry], mail: &[Entry]) -> bool
+    ensures { result ≡ (in_order && keys_rise_from (last_key None list.now) mail.now) }
+{
+    in_order && keys_rise_from(last_key(list), mail)
+}
+
 /// Puts mail at the end of a mailbox. The spare list has room for all; an empty list comes back.
 pub fn put_mail(
     alloc: Global,
@@ -96,9 +104,10 @@ pub fn put_mail(
     ensures spare { result.items ≡ [] }
 {
     let first = mailbox.next;
-    let list = take_entries(alloc, mailbox);
+    let (list, in_order) = take_entries(alloc, mailbox).into_parts();
+    let in_order = rise_on(in_order, list.as_slice(), mail);
     let (list, spare) = joined(list, spare, mail, first);
-    mailbox.entries = Entries::from_vec(list);
+    mailbox.entries = Mail::from_parts(list, in_order);
     mailbox.next = first + mail.len() as u64;
     spare
 }
@@ -114,7 +123,7 @@ pub fn begun_anew(mut list: Vec<Entry>) -> Mailbox
     }
     Mailbox {
         next,
-        entries: Entries::from_vec(list),
+        entries: Mail::from_vec(list),
     }
 }
 
@@ -131,29 +140,29 @@ fn set_flag(list: &mut Vec<Entry>, change: FlagChange)
 pub fn set_flags(alloc: Global, mailbox: &mut Mailbox, changes: &[FlagChange])
     ensures { mailbox.new ≡ with_entries (all_flags_set changes.now) mailbox.old }
 {
-    let mut list = take_entries(alloc, mailbox);
+    let (mut list, in_order) = take_entries(alloc, mailbox).into_parts();
     for change in changes {
         set_flag(&mut list, *change);
     }
-    mailbox.entries = Entries::from_vec(list);
+    mailbox.entries = Mail::from_parts(list, in_order);
 }
 
 /// The entries of these keys that have `\Deleted` go.
 pub fn expunge(alloc: Global, mailbox: &mut Mailbox, keys: &KeySet)
     ensures { mailbox.new ≡ with_entries (expunged keys.now) mailbox.old }
 {
-    let mut list = take_entries(alloc, mailbox);
+    let mut list = take_entries(alloc, mailbox).into_vec();
     list.retain(|entry| !(keys.contains(entry.key) && entry.flags.deleted));
-    mailbox.entries = Entries::from_vec(list);
+    mailbox.entries = Mail::from_vec(list);
 }
 
 /// The entries of a key go.
 pub fn remove(alloc: Global, mailbox: &mut Mailbox, key: Key)
     ensures { mailbox.new ≡ with_entries (left_out (key ∷ [])) mailbox.old }
 {
-    let mut list = take_entries(alloc, mailbox);
+    let mut list = take_entries(alloc, mailbox).into_vec();
     list.retain(|entry| entry.key != key);
-    mailbox.entries = Entries::from_vec(list);
+    mailbox.entries = Mail::from_vec(list);
 }
 
 /// The entries of a mailbox but for those of these keys.

@@ -11,7 +11,7 @@ use crate::Put;
 use crate::key_index::KeyIndex;
 use std::alloc::Global;
 use undo_base::{Flags, Key, NoMemory, Sequence};
-use verb_core::{Act, Aim, Body, BoxId, Deed, Entries, Entry, Item};
+use verb_core::{Act, Aim, Body, BoxId, Deed, Entries, Entry, Item, MailView};
 
 /// The item's own message, before it has a UID.
 fn message(item: &Item, index: u16, flags: Flags, at: u64) -> Entry
@@ -114,7 +114,7 @@ pub fn message_puts(
 /// Adds the entry of a key under the item's key of that place, where there is one.
 fn push_copy(
     copies: &mut Entries,
-    index: &KeyIndex,
+    index: &KeyIndex<'_>,
     number: u32,
     place: u16,
     key: Key,
@@ -135,7 +135,7 @@ fn push_copy(
 
 fn copies_in(
     alloc: Global,
-    index: &KeyIndex,
+    index: &KeyIndex<'_>,
     number: u32,
     keys: &[Key],
 ) -> Result<Entries, NoMemory>
@@ -151,7 +151,7 @@ fn copies_in(
 
 fn put_copies(
     alloc: Global,
-    index: &KeyIndex,
+    index: &KeyIndex<'_>,
     number: u32,
     keys: &[Key],
     aim: &Aim,
@@ -166,7 +166,7 @@ fn put_copies(
 
 fn put_each_copies(
     alloc: Global,
-    index: &KeyIndex,
+    index: &KeyIndex<'_>,
     number: u32,
     keys: &[Key],
     aims: &[Aim],
@@ -184,7 +184,7 @@ fn put_each_copies(
 /// The copies of a mailbox's entries for each aim.
 pub fn copy_puts(
     alloc: Global,
-    entries: &[Entry],
+    entries: &MailView<'_>,
     number: u32,
     keys: &[Key],
     aims: &[Aim],

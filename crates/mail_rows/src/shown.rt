@@ -10,17 +10,25 @@ use crate::pattern::listed;
 use crate::sights::{left_of, others_of, sights_of, there_of};
 use std::alloc::Global;
 use undo_base::{Key, Keys, Name, NoMemory, User};
-use verb_core::{BoxId, Deed, Entry, Mailbox, Shown, Way, is_fixed, is_lost_found};
+use verb_core::{BoxId, Deed, Entry, MailView, Mailbox, Shown, Way, is_fixed, is_lost_found};
 
 /// The entries of the mailbox of that user and name; none where it is missing.
-pub fn mail_of<'a>(rows: &'a [(BoxId, Mailbox)], user: User, name: &Name) -> &'a [Entry]
+pub fn view_of<'a>(rows: &'a [(BoxId, Mailbox)], user: User, name: &Name) -> MailView<'a>
+    requires { IsTrue (is_rising rows.now) }
+    ensures { result ≡ mail_at (box_of user name.now) rows.now }
+{
+    match search_mailbox(rows, user, name) {
+        None => MailView::none(),
+        Some(mailbox) => mailbox.entries.view(),
+    }
+}
+
+/// The same as a slice.
+fn mail_of<'a>(rows: &'a [(BoxId, Mailbox)], user: User, name: &Name) -> &'a [Entry]
     requires { IsTrue (is_rising rows.now) }
     ensures { result.now ≡ mail_at (box_of user name.now) rows.now }
 {
-    match search_mailbox(rows, user, name) {
-        None => &[],
-        Some(mailbox) => mailbox.entries.as_slice(),
-    }
+    view_of(rows, user, name).as_slice()
 }
 
 /// How many entries the mailbox has, where it is there. More than 4,294,967,295 find no memory.
@@ -86,16 +94,16 @@ pub fn shown_by(
     match deed {
         Deed::Append { .. } => Ok(Shown::Put { redirected }),
         Deed::Fetch { mailbox, keys, .. } => {
-            let mail = mail_of(rows, user, mailbox);
-            Ok(Shown::Seen(sights_of(alloc, mail, keys.as_slice())?))
+            let mail = view_of(rows, user, mailbox);
+            Ok(Shown::Seen(sights_of(alloc, &mail, keys.as_slice())?))
         }
         Deed::Store { mailbox, keys, .. } => {
-            let mail = mail_of(rows, user, mailbox);
-            Ok(Shown::Done(there_of(alloc, mail, keys.as_slice())?))
+            let mail = view_of(rows, user, mailbox);
+            Ok(Shown::Done(there_of(alloc, &mail, keys.as_slice())?))
         }
         Deed::Copy { mailbox, keys, .. } => {
-            let mail = mail_of(rows, user, mailbox);
-            let keys = there_of(alloc, mail, keys.as_slice())?;
+            let mail = view_of(rows, user, mailbox);
+            let keys = there_of(alloc, &mail, keys.as_slice())?;
             Ok(Shown::Copied { keys, redirected })
         }
         Deed::List { pattern } => Ok(Shown::Names(listed(alloc, rows, user, pattern)?)),

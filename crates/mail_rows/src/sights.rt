@@ -9,10 +9,10 @@ use crate::KeySet;
 use crate::key_index::KeyIndex;
 use std::alloc::Global;
 use undo_base::{Key, Keys, NoMemory};
-use verb_core::{Entry, Sight, Sights};
+use verb_core::{Entry, MailView, Sight, Sights};
 
 /// Adds the key, where it has an entry.
-fn push_there(there: &mut Keys, index: &KeyIndex, key: Key) -> Result<(), NoMemory>
+fn push_there(there: &mut Keys, index: &KeyIndex<'_>, key: Key) -> Result<(), NoMemory>
     ensures { OnOk result (there.new ≡ there.old ++ (if is_some (found_at index.now key) then key ∷ [] else [])) }
 {
     if index.find(key).is_some() {
@@ -22,7 +22,7 @@ fn push_there(there: &mut Keys, index: &KeyIndex, key: Key) -> Result<(), NoMemo
 }
 
 /// The keys that have an entry, in their order.
-fn there_in(alloc: Global, index: &KeyIndex, keys: &[Key]) -> Result<Keys, NoMemory>
+fn there_in(alloc: Global, index: &KeyIndex<'_>, keys: &[Key]) -> Result<Keys, NoMemory>
     ensures { IfOk result (λ there. there ≡ there_by index.now keys.now) }
 {
     let mut there = Keys::new(alloc);
@@ -33,7 +33,7 @@ fn there_in(alloc: Global, index: &KeyIndex, keys: &[Key]) -> Result<Keys, NoMem
 }
 
 /// The keys that are among the entries, in their order.
-pub fn there_of(alloc: Global, entries: &[Entry], keys: &[Key]) -> Result<Keys, NoMemory>
+pub fn there_of(alloc: Global, entries: &MailView<'_>, keys: &[Key]) -> Result<Keys, NoMemory>
     ensures { IfOk result (λ keys'. keys' ≡ there entries.now keys.now) }
 {
     let index = KeyIndex::of(alloc, keys, entries)?;
@@ -49,7 +49,7 @@ pub(crate) fn left_of(alloc: Global, entries: &[Entry], keys: &[Key]) -> Result<
 }
 
 /// Adds the key with the rev of its body, where it has an entry.
-fn push_sight(sights: &mut Sights, index: &KeyIndex, key: Key) -> Result<(), NoMemory>
+fn push_sight(sights: &mut Sights, index: &KeyIndex<'_>, key: Key) -> Result<(), NoMemory>
     ensures { OnOk result (sights.new ≡ sights.old ++ cons_option (sight_at index.now key) []) }
 {
     match index.find(key) {
@@ -62,7 +62,7 @@ fn push_sight(sights: &mut Sights, index: &KeyIndex, key: Key) -> Result<(), NoM
 }
 
 #[tactic(auto, using(crate::proofs::KeysSeen::sights_more))]
-fn sights_in(alloc: Global, index: &KeyIndex, keys: &[Key]) -> Result<Sights, NoMemory>
+fn sights_in(alloc: Global, index: &KeyIndex<'_>, keys: &[Key]) -> Result<Sights, NoMemory>
     ensures { IfOk result (λ sights. sights ≡ sights_by index.now keys.now) }
 {
     let mut sights = Sights::new(alloc);
@@ -73,7 +73,11 @@ fn sights_in(alloc: Global, index: &KeyIndex, keys: &[Key]) -> Result<Sights, No
 }
 
 /// What FETCH shows of the keys.
-pub(crate) fn sights_of(alloc: Global, entries: &[Entry], keys: &[Key]) -> Result<Sights, NoMemory>
+pub(crate) fn sights_of(
+    alloc: Global,
+    entries: &MailView<'_>,
+    keys: &[Key],
+) -> Result<Sights, NoMemory>
     ensures { IfOk result (λ shown. shown ≡ sights entries.now keys.now) }
 {
     let index = KeyIndex::of(alloc, keys, entries)?;

@@ -1,10 +1,16 @@
 //! Mailboxes as parts of records.
+ghost use Rattle.verb_bytes.specs.Fields.{list_fields};
+ghost use Rattle.verb_bytes.specs.Reading.{entry_at};
+ghost use Rattle.verb_bytes.specs.Readers.{Gives, list_at};
+ghost use Rattle.verb_bytes.specs.Spelling.{entry_fields};
+ghost use Rattle.verb_bytes.specs.Writing.{Puts};
+
 use crate::cursor::{Cursor, Stop};
-use crate::part::{Part, put_list, read_list};
+use crate::part::{Part, put_slice, read_list};
 use crate::write::{Unwritten, put_flags, put_key, put_name, put_u32, put_u64, put_user};
 use std::alloc::Global;
 use undo_base::{LAST_MOMENT, Text};
-use verb_core::{Body, BoxId, Entry, Mailbox};
+use verb_core::{Body, BoxId, Entries, Entry, Mail, Mailbox};
 
 impl Part for Entry {
     ghost use Rattle.verb_bytes.specs.Spelling.{entry_fields};
@@ -41,6 +47,23 @@ impl Part for Entry {
     }
 }
 
+/// Writes the entries of a mailbox.
+fn put_mail(mail: &Mail, out: &mut Text) -> Result<(), Unwritten>
+    ensures { Puts (list_fields 4294967295 entry_fields mail.now) out.old out.new result }
+{
+    put_slice(u32::MAX, mail.as_slice(), out)
+}
+
+/// Reads the entries of a mailbox.
+fn read_mail(alloc: Global, cursor: &mut Cursor<'_>) -> Result<Mail, Stop>
+    ensures { Gives (list_at 4294967295 entry_at) cursor.old.rest.now cursor.new.rest.now result }
+{
+    match read_list(alloc, u32::MAX, cursor) {
+        Ok(entries) => Ok(Mail::from_vec(Entries::into_vec(entries))),
+        Err(stop) => Err(stop),
+    }
+}
+
 impl Part for (BoxId, Mailbox) {
     ghost use Rattle.verb_bytes.specs.Spelling.{row_fields};
     ghost use Rattle.verb_bytes.specs.Reading.{row_at};
@@ -54,14 +77,14 @@ impl Part for (BoxId, Mailbox) {
         put_user(out, self.0.user)?;
         put_name(out, &self.0.name)?;
         put_u64(out, u64::MAX, self.1.next)?;
-        put_list(u32::MAX, &self.1.entries, out)
+        put_mail(&self.1.entries, out)
     }
 
     fn read(alloc: Global, cursor: &mut Cursor<'_>) -> Result<(BoxId, Mailbox), Stop> {
         let user = cursor.user()?;
         let name = cursor.name(alloc)?;
         let next = cursor.u64(u64::MAX)?;
-        let entries = read_list(alloc, u32::MAX, cursor)?;
+        let entries = read_mail(alloc, cursor)?;
         Ok((BoxId { user, name }, Mailbox { next, entries }))
     }
 }

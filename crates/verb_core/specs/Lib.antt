@@ -1,6 +1,7 @@
 pub mod Texts
 pub mod Names
 pub mod Mailboxes
+pub mod KeyOrder
 pub mod Boxes
 pub mod Store
 pub mod Recipients

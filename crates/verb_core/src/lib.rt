@@ -1,6 +1,6 @@
 //! The verbs of the mail store: its parts, its items, and what each item does.
 //!
-//! `mailbox` and `conf` are the parts of a store, `item` what is recorded, `deed` what a deed has, `fixed` the names that are
+//! `mailbox`, `mail` and `conf` are the parts of a store, `item` what is recorded, `deed` what a deed has, `fixed` the names that are
 //! always there, `flags` those that a STORE leaves, `ask` what is asked and refused, `bodies` where texts are read, `copy` and `copy_deeds` the copies,
 //! `recipients` whom a local part means; `threads` says what may cross threads, and `laws` what holds of every store and
 //! item. `specs/` says what each item does to the store, what it answers, and what is kept of a store in use.
@@ -16,6 +16,7 @@ mod fixed;
 mod flags;
 mod item;
 pub mod laws;
+mod mail;
 mod mailbox;
 mod recipients;
 mod threads;
@@ -26,12 +27,13 @@ pub use conf::{Account, Alias, Conf, Filter, House};
 pub use fixed::{is_fixed, is_inbox, is_lost_found, is_new_name, is_wildcard};
 pub use flags::flags_after;
 pub use item::{Act, Aim, Deed, Item, Resolved, Shown, Sight, Way};
+pub use mail::{Mail, MailView, keys_rise_from, last_key};
 pub use mailbox::{Body, BoxId, Entry, Mailbox};
 pub use recipients::resolve_local;
 pub use threads::types_cross_threads;
 use undo_base::Sequence;
 
-/// The entries of a mailbox, by rising UID.
+/// Entries, in order.
 pub type Entries = Sequence<Entry>;
 
 /// Mailboxes, by rising user and name.

@@ -1,5 +1,5 @@
 //! Mailboxes and what lies in them.
-use crate::Entries;
+use crate::Mail;
 use undo_base::{Flags, Key, Name, User};
 
 /// Names the text of a message: the item that brought it, and 0 or the cycle that replaced it.
@@ -20,10 +20,10 @@ pub struct Entry {
 }
 
 /// The next UID, and the entries by rising UID (RFC 3501, section 2.3.1.1).
-#[derive(Debug, Drop, PartialEq, Eq)]
+#[derive(Debug, Drop)]
 pub struct Mailbox {
     pub next: u64,
-    pub entries: Entries,
+    pub entries: Mail,
 }
 
 /// Names a mailbox: whose it is, and its name.

@@ -13,6 +13,6 @@ pub returns : goal.returns
 returns c = λ boxes rising same.
     let id : BoxId = box_of c.args.user c.args.mailbox.now in
     let set : List Key = c.in_ok-keys.keys in
-    ap₂ (λ (q : BoxId) (changes : List FlagChange). change_row q (with_entries (all_flags_set changes)) boxes) c.in_ok-mailbox.ensures (c.in_ok-flags.ensures ∙ ap (changes_from 0 set c.args.how c.args.given) c.mail_of.ensures)
+    ap₂ (λ (q : BoxId) (changes : List FlagChange). change_row q (with_entries (all_flags_set changes)) boxes) c.in_ok-mailbox.ensures (c.in_ok-flags.ensures ∙ ap (changes_from 0 set c.args.how c.args.given) c.view_of.ensures)
     ∙ flags_do set c.as_slice.result.now c.in_ok-keys.ensures c.args.how c.args.given id c.args.rows.now boxes rising same
     ∙ ap (λ (keys : List Key). change_row id (with_entries (reflagged keys c.args.how c.args.given)) boxes) c.as_slice.ensures

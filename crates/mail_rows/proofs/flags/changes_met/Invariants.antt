@@ -1,6 +1,6 @@
 use Rattle.std.proofs.Common.{◌≡◌, ◌++◌, drop}
 use Rattle.mail_rows.specs.Changes.{changes_from}
-use Rattle.mail_rows.proofs.flags.changes_of.Given as goal
+use Rattle.mail_rows.proofs.flags.changes_met.Given as goal
 
 -- those found, and those of the entries that are left, are all of them
 abbrev pub invariant-loop-place : goal.invariant-loop-place
