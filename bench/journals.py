@@ -42,4 +42,5 @@ def main():
         store.write(CLOSED)
 
 
-main()
+if __name__ == "__main__":
+    main()
