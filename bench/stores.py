@@ -1,9 +1,11 @@
 #!/usr/bin/env python3
-"""Times what replays STOREs, one message each, in one mailbox of as many messages.
+"""Times what replays STOREs and FETCHes in one mailbox: those of one message each, and those of every message.
 
-usage: bench/stores.py PROGRAM..      processor seconds of `check` for each PROGRAM, in three rounds, at 8,000 to 64,000 STOREs
+usage: bench/stores.py PROGRAM..      processor seconds of `check` for each PROGRAM, in three rounds
 
-It makes a store by `init`, and appends deliveries to ann and STOREs by ann, as docs/FORMATS.md spells their records.
+First as many STOREs as messages, each of one message, at 8,000 to 64,000 messages; then 20 STOREs, and 20 FETCHes, each of
+every message, at 20,000 and 65,536 messages, beside none. It makes a store by `init`, and appends deliveries to ann and items by
+ann, as docs/FORMATS.md spells their records.
 """
 import os
 import resource
@@ -16,17 +18,50 @@ sys.path.insert(0, os.path.dirname(os.path.abspath(__file__)))
 from journals import AT, CLOSED, OPEN, delivery, name, text
 
 FIRST = 2
+ROUNDS = 20
 HERE = os.path.dirname(os.path.abspath(__file__))
 HOUSE = os.path.join(HERE, "..", "examples", "house.toml")
 
 
-def store(number, of):
-    keys = struct.pack(">IIH", 1, of, 0)
-    head = struct.pack(">BIQB", 1, number, AT, 0)
-    return head + b"\x04" + name(b"INBOX") + keys + b"\x01\x08" + b"\x04" + keys
+def key(number):
+    return struct.pack(">IH", number, 0)
 
 
-def written(path, count):
+def listed(parts):
+    return struct.pack(">I", len(parts)) + b"".join(parts)
+
+
+def head(number):
+    return struct.pack(">BIQB", 1, number, AT, 0)
+
+
+def store(number, keys):
+    keys = listed([key(it) for it in keys])
+    return head(number) + b"\x04" + name(b"INBOX") + keys + b"\x01\x08" + b"\x04" + keys
+
+
+def fetch(number, keys):
+    seen = listed([key(it) + struct.pack(">I", 0) for it in keys])
+    return head(number) + b"\x03" + name(b"INBOX") + listed([key(it) for it in keys]) + b"\x00\x01" + b"\x01" + seen
+
+
+def one_each(count):
+    return [store(FIRST + count + n, [FIRST + n * 7919 % count]) for n in range(count)]
+
+
+def of_all(verb):
+    return lambda count: [verb(FIRST + count + n, range(FIRST, FIRST + count)) for n in range(ROUNDS)]
+
+
+TABLE = (
+    [(count, f"{count} STOREs of one message", one_each) for count in (8000, 16000, 32000, 64000)]
+    + [(count, f"nothing behind {count} deliveries", lambda count: []) for count in (20000, 65536)]
+    + [(count, f"{ROUNDS} STOREs of {count} messages", of_all(store)) for count in (20000, 65536)]
+    + [(count, f"{ROUNDS} FETCHes of {count} messages", of_all(fetch)) for count in (20000, 65536)]
+)
+
+
+def written(path, count, items):
     with open(path, "r+b") as out:
         out.seek(-1, 2)
         if out.read(1) != CLOSED:
@@ -34,8 +69,8 @@ def written(path, count):
         out.seek(-1, 2)
         for n in range(count):
             out.write(OPEN + text(delivery(FIRST + n)))
-        for n in range(count):
-            out.write(OPEN + text(store(FIRST + count + n, FIRST + n * 7919 % count)))
+        for item in items:
+            out.write(OPEN + text(item))
         out.write(CLOSED)
 
 
@@ -48,15 +83,16 @@ def seconds(program, path):
 
 def main():
     with tempfile.TemporaryDirectory() as folder:
-        for count in (8000, 16000, 32000, 64000):
-            path = os.path.join(folder, str(count))
+        for at, (count, what, items) in enumerate(TABLE):
+            path = os.path.join(folder, str(at))
             subprocess.run([sys.argv[1], "init", path], stdin=open(HOUSE, "rb"), check=True)
-            written(path, count)
+            written(path, count, items(count))
             told = set()
             for program in sys.argv[1:]:
                 rounds = [seconds(program, path) for _ in range(3)]
                 told |= {said for _, said in rounds}
-                print(f"{count} STOREs, {program}:", *(f"{spent:.2f}" for spent, _ in rounds), "s", flush=True)
+                print(f"{what}, {program}:", *(f"{spent:.2f}" for spent, _ in rounds), "s", flush=True)
+            os.remove(path)
             if len(told) != 1:
                 sys.exit(f"they differ: {told}")
             print(next(iter(told)).decode().replace("\n", ", "))
