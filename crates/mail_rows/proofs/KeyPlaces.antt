@@ -129,8 +129,8 @@ found_at_place low (e ∷ es) key (suc at) d rise within is =
     ap (λ b. cond b (Some e) (entry_of es key)) (apart_above key e.key below)
     ∙ found_at_place (Some e.key) es key at d rest (omega arith) is
 
-pub entry_found : (es : List Entry) (key : Key) (at : ℕ) (e : Entry) → keys_rise es ≡ true → IsKeyPlace key es (Some at) → e ≡ get_or es at e → Some e ≡ entry_of es key
-entry_found es key at e rise is read = ap Some read ∙ sym (found_at_place None es key at e rise is.0 is.1)
+pub entry_found : (es : List Entry) (key : Key) (at : ℕ) (d : Entry) → keys_rise es ≡ true → IsKeyPlace key es (Some at) → Some (get_or es at d) ≡ entry_of es key
+entry_found es key at d rise is = sym (found_at_place None es key at d rise is.0 is.1)
 
 -- entries beside their keys are found by them
 pub beside_found : (es : List Entry) (key : Key) → found_at (beside_keys es) key ≡ entry_of es key
@@ -185,12 +185,12 @@ module _ (how : How) (given : Flags) where
       ∙ changes_at (Some e.key) (n + 1) key es at d rest (omega arith) is
       ∙ (λ j. change (m j) (get_or es at d) ∷ [])
 
-  pub changes_read : (key : Key) (es : List Entry) (at : ℕ) (e : Entry) (flags : Flags) → keys_rise es ≡ true → IsKeyPlace key es (Some at) → e ≡ get_or es at e → flags ≡ changed how given e.flags
+  pub changes_read : (key : Key) (es : List Entry) (at : ℕ) (d : Entry) (flags : Flags) → keys_rise es ≡ true → IsKeyPlace key es (Some at) → flags ≡ changed how given (get_or es at d).flags
       → ◌≡◌ {A = List FlagChange} (record { place = at; flags = flags } ∷ []) (changes_from 0 (key ∷ []) how given es)
-  changes_read key es at e flags rise is read new =
+  changes_read key es at d flags rise is new =
       let m : at ≡ 0 + at = omega arith in
-      (λ j. record { place = m j; flags = (new ∙ ap (λ (x : Entry). changed how given x.flags) read) j } ∷ [])
-      ∙ sym (changes_at None 0 key es at e rise is.0 is.1)
+      (λ j. record { place = m j; flags = new j } ∷ [])
+      ∙ sym (changes_at None 0 key es at d rise is.0 is.1)
 
   -- the changes of the first key come before those of the keys above it
   module _ (key : Key) (keys : List Key) (above : (q : Key) → is_among keys q ≡ true → key_cmp key q ≡ Less) where

@@ -11,8 +11,9 @@ use Rattle.mail_rows.proofs.flags.changes_found.Goals as goal
 
 pub loop-key-init : goal.loop-key-init
 loop-key-init c = record {
-  changes = ap₂ (λ (cs : List FlagChange) (ks : List Key). cs ++ changes_from 0 ks c.args.how c.args.given c.args.entries.now) c.new-changes.ensures (c.iter-key-iterator.ensures.rest ∙ c.keys.ensures);
-  sorted = subst (IsStrictlySortedBy key_cmp) (sym c.iter-key-iterator.ensures.rest) c.iter-key-iterator.ensures.ordered;
+  changes = ap₂ (λ (cs : List FlagChange) (ks : List Key). cs ++ changes_from 0 ks c.args.how c.args.given c.args.entries.now) c.new-changes.ensures
+      (c.into_iter-key-iterator.ensures.into_iter_gives ∙ c.iter-key-items.ensures.rest ∙ c.keys.ensures);
+  sorted = subst (IsStrictlySortedBy key_cmp) (sym (c.into_iter-key-iterator.ensures.into_iter_gives ∙ c.iter-key-items.ensures.rest)) c.iter-key-items.ensures.ordered;
 }
 
 pub loop-key-preserved : goal.loop-key-preserved

@@ -13,4 +13,4 @@ returns-in-None c =
 pub returns-in-Some : goal.returns-in-Some
 returns-in-Some c = on_ok_weaker c.push.result (λ e.
     e ∙ ap (λ (cs : List FlagChange). c.args.changes.now ++ cs)
-    (changes_read c.args.how c.args.given c.args.key c.args.entries.now c.in-Some.place c.index-entries-place.result c.flags_after.result c.requires c.in-Some.ensures c.index-entries-place.is c.flags_after.ensures)) c.push.ensures.ok
+    (changes_read c.args.how c.args.given c.args.key c.args.entries.now c.in-Some.place _ c.flags_after.result c.requires c.in-Some.ensures c.flags_after.ensures)) c.push.ensures.ok

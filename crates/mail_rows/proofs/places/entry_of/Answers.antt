@@ -5,4 +5,4 @@ pub returns-in-None : goal.returns-in-None
 returns-in-None c = entry_missing c.args.entries.now c.args.key c.in-None.ensures
 
 pub returns-in-Some : goal.returns-in-Some
-returns-in-Some c = entry_found c.args.entries.now c.args.key c.in-Some.place c.index-entries-place.result c.requires c.in-Some.ensures c.index-entries-place.is
+returns-in-Some c = entry_found c.args.entries.now c.args.key c.in-Some.place _ c.requires c.in-Some.ensures
