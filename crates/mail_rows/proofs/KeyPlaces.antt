@@ -1,8 +1,8 @@
 -- Entries found by halves, where keys rise.
-use Rattle.std.proofs.Common.{◌≡◌, ◌+◌, ◌<◌, ◌≤◌, ◌&&◌, ◌||◌, ◌++◌, ℕ, zero, suc, Bool, cond, true, false, List, [], ◌∷◌, length, get_or, Option, Some, None, Result, Ok, Err, find, refl, sym, ap, ◌∙◌, subst, arith, rules, true≢false, inl, inr, Ordering, Less, Equal, Greater, is_lt, slice_get, slice_set, option_map, unwrap_or}
+use Rattle.std.proofs.Common.{◌≡◌, ◌+◌, ◌<◌, ◌≤◌, ◌&&◌, ◌||◌, ◌++◌, ℕ, zero, suc, Bool, cond, true, false, List, [], ◌∷◌, length, get_or, Option, Some, None, Result, Err, find, refl, sym, ap, ◌∙◌, subst, arith, rules, true≢false, inl, inr, Ordering, Less, Equal, Greater, is_lt, slice_get, slice_set, option_map, unwrap_or}
 use Rattle.std.specs.Cmp.{first_so, second_so}
 use Rattle.std.specs.List.{list_any, AllByRecursion}
-use Rattle.std.specs.List.Sorted.{IsBinarySearchResult, IsNonDecreasingBy, IsSearchInRange, IsStrictlySortedBy}
+use Rattle.std.specs.List.Sorted.{IsBinarySearchResult, IsNonDecreasingBy, IsStrictlySortedBy}
 use Rattle.std.specs.Ordering.{ordering_index, ordering_reverse}
 use Rattle.std.proofs.lemmas.Bool.{cases_order}
 use Rattle.std.proofs.lemmas.Cmp.{alike_right, tied_itself}
