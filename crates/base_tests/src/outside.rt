@@ -1,4 +1,5 @@
 //! A source, a sink and a link in memory, whose calls fail as listed.
+ghost use Rattle.std.specs.Prelude.{◌≡◌, ◌==◌, false, IfOk};
 
 use std::alloc::Global;
 use std::test::Fail;
@@ -11,13 +12,18 @@ fn numbers(alloc: Global, list: &[u32]) -> Result<Numbers, NoMemory> {
     Ok(Numbers::from_vec(Vec::from_slice(alloc, list)?))
 }
 
-fn source(alloc: Global) -> Result<MemSource, Fail> {
+fn source(alloc: Global) -> Result<MemSource, Fail>
+    ensures { IfOk result (λ source. (⟦<MemSource as Source>⟧.told source).ended ≡ false) }
+{
     let failing = numbers(alloc, &[2, 4])?;
     Ok(MemSource::new(Text::of(alloc, b"abcde")?, failing))
 }
 
 /// What a read of two bytes at most gives: how many, and the first of them; 9 where it fails.
-fn got(source: &mut MemSource) -> (usize, u8) {
+fn got(source: &mut MemSource) -> (usize, u8)
+    requires { (⟦<MemSource as Source>⟧.told source.old).ended ≡ false }
+    ensures { (⟦<MemSource as Source>⟧.told source.new).ended ≡ (result.0 == 0) }
+{
     let mut buf = [0u8; 2];
     match source.read(&mut buf) {
         Ok(count) => (count, buf[0]),
@@ -28,9 +34,12 @@ fn got(source: &mut MemSource) -> (usize, u8) {
 #[test]
 fn a_source_gives_its_bytes_and_fails_as_listed(rt: HostRuntime) -> Result<(), Fail> {
     let mut source = source(rt.alloc())?;
-    for want in [(2, b'a'), (9, 0), (2, b'c'), (9, 0), (1, b'e'), (0, 0)] {
-        assert_eq!(rt; got(&mut source), want);
-    }
+    assert_eq!(rt; got(&mut source), (2, b'a'));
+    assert_eq!(rt; got(&mut source), (9, 0));
+    assert_eq!(rt; got(&mut source), (2, b'c'));
+    assert_eq!(rt; got(&mut source), (9, 0));
+    assert_eq!(rt; got(&mut source), (1, b'e'));
+    assert_eq!(rt; got(&mut source), (0, 0));
     Ok(())
 }
 

@@ -1,5 +1,5 @@
 //! The command `init`: an empty disk is formatted for a configuration.
-ghost use Rattle.std.specs.Prelude.{◌≡◌, ◌⊎◌, Err, IsTrue};
+ghost use Rattle.std.specs.Prelude.{◌≡◌, ◌⊎◌, false, Err, IsTrue};
 ghost use Rattle.house_text.specs.Beginning.{can_begin};
 ghost use Rattle.mail_proxy.specs.Init.{Configures, Formats, Inits, made_line, made_status};
 ghost use Rattle.mail_proxy.specs.Lines.{no_memory};
@@ -17,6 +17,7 @@ use verb_core::{Conf, House};
 
 /// Reads a configuration, and formats the disk for it.
 pub fn plan_init<S: Source, D: Disk + Drop>(alloc: Global, text: &mut S, disk: D) -> (Plan, D)
+    requires { (S.told text.old).ended ≡ false }
     ensures { Inits D.told (S.told text.old) (S.told text.new) disk (end_of result.0 result.1) }
 {
     match read_text(alloc, text) {

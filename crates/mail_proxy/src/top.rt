@@ -35,6 +35,7 @@ fn make_plan<R: Threads + Sync, S: Source, L: Link, D: Disk + Drop, G: Gate>(
     disk: D,
     gate: &G,
 ) -> (Plan, D)
+    requires { (S.told text.old).ended ≡ false }
     ensures answers { Answers D.told (map string_bytes words.now.items) (S.told text.old) (S.told text.new) (L.told link.old) (L.told link.new) disk (end_of result.0 result.1) }
     ensures unread { uses_text (command_of (map string_bytes words.now.items)) ≡ false → text.new ≡ text.old }
     ensures unlinked { uses_link (command_of (map string_bytes words.now.items)) ≡ false → link.new ≡ link.old }
@@ -56,6 +57,7 @@ fn plan_command<R: Threads + Sync, S: Source, L: Link, D: Disk + Drop, G: Gate>(
     disk: D,
     gate: &G,
 ) -> (Plan, D)
+    requires { (S.told text.old).ended ≡ false }
     ensures does { Does D.told (Some command) (S.told text.old) (S.told text.new) (L.told link.old) (L.told link.new) disk (end_of result.0 result.1) }
     ensures unread { uses_text (Some command) ≡ false → text.new ≡ text.old }
     ensures unlinked { uses_link (Some command) ≡ false → link.new ≡ link.old }
@@ -81,6 +83,8 @@ pub fn run<R: Threads + Sync, S: Source, L: Link, D: Disk + Drop, W: Sink, G: Ga
     out: &mut W,
     gate: &G,
 ) -> (u8, D)
+    // The text is read from its beginning on, or at least not behind its end.
+    requires { (S.told text.old).ended ≡ false }
     // The status, what is written and the disk are those of the words, the text, the disk and the machine's run over its events.
     ensures says { (end : End D) × Answers D.told (map string_bytes words.now.items) (S.told text.old) (S.told text.new) (L.told link.old) (L.told link.new) disk end ×
         Shows end.status end.output result.0 (W.told out.old) (W.told out.new) × (result.1 ≡ end.disk) }
@@ -121,6 +125,7 @@ pub fn status_of_words<R: Threads + Sync, S: Source, L: Link, D: Disk + Drop, W:
     out: &mut W,
     gate: &G,
 ) -> u8
+    requires { (S.told text.old).ended ≡ false }
     ensures found { IfOk found (λ _. Runs D.told (map string_bytes words.now.items) disk
         (record { text = S.told text.old; link = L.told link.old; disk = D.told disk; out = W.told out.old })
         (S.told text.new) (L.told link.new) (W.told out.new) result) }
