@@ -1,5 +1,5 @@
 -- Lists of which a part is done.
-use Rattle.std.proofs.Common.{◌≡◌, ℕ, zero, suc, ◌+◌, ◌*◌, ◌<◌, ◌≤◌, List, [], ◌∷◌, ◌++◌, map, length, take, drop, get_or, Ok, Err, Result, Vec, false, true, true≢false, refl, sym, ap, ap₂, subst, ◌∙◌, arith}
+use Rattle.std.proofs.Common.{◌≡◌, ℕ, zero, suc, ◌+◌, ◌*◌, ◌<◌, ◌≤◌, List, [], ◌∷◌, ◌++◌, map, length, take, drop, get_or, Ok, Err, Result, Vec, true≢false, refl, sym, ap, ap₂, subst, ◌∙◌, arith}
 use Rattle.std.specs.Prelude.{IfOk, OnOk}
 use Rattle.std.specs.declared.alloc.Global.{Global}
 use Rattle.std.specs.Int.{div_ceil}
@@ -13,7 +13,7 @@ use Rattle.undo_base.specs.declared.memory.NoMemory.{NoMemory}
 use Rattle.verb_core.specs.declared.item.Resolved.{Resolved}
 use Rattle.verb_core.specs.Store.{MailStore}
 use Rattle.replay_crew.specs.declared.made.Made.{Made}
-use Rattle.replay_crew.specs.Working.{IsMade, IsRun, made_in, run_at, run_length}
+use Rattle.replay_crew.specs.Working.{IsMade, IsRun, made_in, run_length}
 use Rattle.replay_crew.proofs.ByLevels.{map_append}
 
 pub nothing_left : {X : Type 0} (xs : List X) → length xs ≡ 0 → xs ≡ []

@@ -1,5 +1,5 @@
 -- The plan of items that were resolved: its levels can be worked out one by one, and they lead where the timeline leads.
-use Rattle.std.proofs.Common.{◌≡◌, ℕ, suc, ◌+◌, ◌<◌, Bool, true, false, ◌==◌, List, [], ◌∷◌, ◌++◌, map, length, find, Option, Some, None, cond, unwrap_or, refl, sym, ap, subst, ◌∙◌, arith}
+use Rattle.std.proofs.Common.{◌≡◌, ℕ, suc, ◌+◌, ◌<◌, Bool, true, false, ◌==◌, List, [], ◌∷◌, ◌++◌, map, length, find, Option, Some, None, cond, unwrap_or, refl, sym, ap, subst, ◌∙◌}
 use Rattle.std.specs.List.{list_all, enumerate_from, cons_option, AllByRecursion}
 use Rattle.std.specs.List.Sorted.{IsPermutation}
 use Rattle.std.specs.Cmp.{first_so, second_so}
@@ -23,7 +23,7 @@ use Rattle.replay_plan.specs.Placing.{levels_of}
 use Rattle.replay_plan.proofs.Turns.{places_there}
 use Rattle.replay_crew.specs.Orders.{Turn, turns, Placed, run_turns, all_apart, AllFit, AimsHold, AllAimed, at_places, by_levels, touches_by_turn, levels_at, run_levels, told_by_levels}
 use Rattle.replay_crew.specs.Resolving.{turn_of, stored_turn, AreResolvedFrom}
-use Rattle.replay_crew.specs.Working.{level_of, IsLevel, AreLevels, put_each}
+use Rattle.replay_crew.specs.Working.{level_of, AreLevels, put_each}
 use Rattle.replay_crew.proofs.Turning.{append_assoc, after, turns_fit}
 use Rattle.replay_crew.proofs.AimsHeld.{level_aims, order_aimed}
 use Rattle.replay_crew.proofs.ByLevels.{EachApart, plan_apart, plan_order}

@@ -1,6 +1,6 @@
 -- Turns whose items are kept without their texts touch and do what those of the whole items touch and do.
-use Rattle.std.proofs.Common.{◌≡◌, ℕ, ◌+◌, Bool, true, false, ◌&&◌, ◌==◌, List, [], ◌∷◌, ◌++◌, map, find, Option, Some, None, option_map, cond, refl, sym, ap, ap₂, subst, ◌∙◌}
-use Rattle.std.specs.List.{list_all, enumerate_from, cons_option, AllByRecursion}
+use Rattle.std.proofs.Common.{◌≡◌, ℕ, ◌+◌, true, false, ◌&&◌, ◌==◌, List, [], ◌∷◌, ◌++◌, map, find, Option, Some, None, option_map, cond, refl, sym, ap, ap₂, ◌∙◌}
+use Rattle.std.specs.List.{list_all, enumerate_from, cons_option}
 use Rattle.undo_base.specs.declared.keys.User.{User}
 use Rattle.verb_core.specs.declared.conf.House.{House}
 use Rattle.verb_core.specs.declared.item.Deed.{Deed}

@@ -3,7 +3,6 @@ ghost use Rattle.std.specs.Prelude.{◌≡◌, List, ◌∷◌, IsTrue};
 ghost use Rattle.std.specs.List.{enumerate_from, list_all};
 ghost use Rattle.std.specs.List.Sorted.{IsPermutation};
 ghost use Rattle.verb_core.specs.declared.item.Item.{Item};
-ghost use Rattle.verb_core.specs.Items.{IsWellFormed};
 ghost use Rattle.verb_core.specs.Aims.{sought_by};
 ghost use Rattle.verb_core.specs.Step.{step, step_with, run, answers};
 ghost use Rattle.verb_core.specs.Store.{MailStore, IsValid};

@@ -1,4 +1,4 @@
-use Rattle.std.proofs.Common.{ℕ, ◌*◌, List, drop, length, subst, sym, take}
+use Rattle.std.proofs.Common.{◌*◌, drop, length, subst, sym}
 use Rattle.std.specs.List.{AllByRecursion}
 use Rattle.replay_crew.specs.Working.{CanMake, run_at, run_length}
 use Rattle.replay_crew.proofs.Loops.{all_drop, all_take, at_place}

@@ -1,4 +1,4 @@
-use Rattle.std.proofs.Common.{◌≡◌, ℕ, ◌*◌, ◌<◌, ◌∙◌, ap, subst, sym}
+use Rattle.std.proofs.Common.{ℕ, ◌*◌, ◌<◌, ◌∙◌, ap, subst, sym}
 use Rattle.std.specs.Int.{div_ceil}
 use Rattle.replay_crew.specs.Working.{run_length}
 use Rattle.replay_crew.proofs.Loops.{runs_begin, some_run}

@@ -1,6 +1,5 @@
-use Rattle.std.proofs.Common.{◌≡◌, ◌+◌, ◌∷◌, [], List, length, map, sym, ap, subst, ◌∙◌, arith}
+use Rattle.std.proofs.Common.{◌≡◌, ◌∷◌, [], length, map, sym, ap, ◌∙◌, arith}
 use Rattle.std.specs.Vec.Iter.{into_iter_items}
-use Rattle.replay_crew.specs.declared.made.Made.{Made}
 use Rattle.replay_crew.specs.Working.{applied_each, put_each, shown_at}
 use Rattle.replay_crew.proofs.Loops.{nothing_left}
 use Rattle.replay_crew.proofs.run.apply_each.Goals as goal

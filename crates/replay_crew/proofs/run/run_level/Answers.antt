@@ -1,4 +1,4 @@
-use Rattle.std.proofs.Common.{◌≡◌, ◌+◌, length, sym, ap, subst, ◌∙◌, arith}
+use Rattle.std.proofs.Common.{◌≡◌, ◌+◌, sym, ap, subst, ◌∙◌, arith}
 use Rattle.verb_core.specs.Store.{IsValid}
 use Rattle.replay_crew.specs.Working.{level_of, put_each}
 use Rattle.replay_crew.proofs.LevelDone.{level_can, level_does, level_many, level_tells}

@@ -1,8 +1,6 @@
-use Rattle.std.proofs.Common.{◌≡◌, ℕ, ◌+◌, List, length, map, sym, ap, subst, ◌∙◌, arith}
+use Rattle.std.proofs.Common.{◌≡◌, ℕ, ◌+◌, List, length, map, sym, ap, subst, ◌∙◌}
 use Rattle.std.specs.List.{enumerate_from}
 use Rattle.verb_core.specs.declared.item.Resolved.{Resolved}
-use Rattle.touch_rules.specs.Table.{touches_of}
-use Rattle.replay_plan.specs.Placing.{levels_of}
 use Rattle.replay_crew.specs.Orders.{levels_at, run_levels, told_by_levels}
 use Rattle.replay_crew.specs.Resolving.{turn_of}
 use Rattle.replay_crew.specs.Working.{AreLevels, put_each}
