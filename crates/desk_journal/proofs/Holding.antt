@@ -7,7 +7,7 @@ use Rattle.verb_core.specs.declared.item.Item.{Item}
 use Rattle.verb_core.specs.declared.mailbox.Body.{Body}
 use Rattle.verb_core.specs.Items.{text_in}
 use Rattle.seal_log.specs.declared.place.Place.{Place}
-use Rattle.seal_log.specs.Journal.{LiesAt, sealed}
+use Rattle.seal_log.specs.Journal.{LiesAt}
 use Rattle.seal_log.specs.Settled.{Holds, IsSettled}
 use Rattle.shelf.specs.declared.note.Note.{Note}
 use Rattle.mail_desk.specs.Held.{Held}

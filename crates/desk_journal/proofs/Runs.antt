@@ -8,7 +8,7 @@ use Rattle.undo_outside.specs.Disk.{DiskTold, IsHonest}
 use Rattle.undo_outside.specs.Moments.{OnlyReads}
 use Rattle.undo_outside.proofs.Moments.{reads_none}
 use Rattle.seal_log.specs.Journal.{StandsFor, StandsForFront}
-use Rattle.seal_log.specs.Settled.{Holds, IsSettled}
+use Rattle.seal_log.specs.Settled.{IsSettled}
 use Rattle.verb_core.specs.Names.{is_empty}
 use Rattle.verb_bytes.specs.declared.journal.JournalRecord.{JournalRecord}
 use Rattle.verb_bytes.specs.Spelling.{record_bytes}
@@ -20,7 +20,7 @@ use Rattle.desk_journal.specs.Reading.{IsStill}
 use Rattle.desk_journal.specs.Sealing.{HasNoCycle, Seals, SealsPayloads, is_cycle}
 use Rattle.desk_journal.specs.Stored.{HoldsTexts}
 use Rattle.desk_journal.proofs.Holding.{holds_same}
-use Rattle.desk_journal.proofs.Payloads.{none_read, payloads_none, payloads_then}
+use Rattle.desk_journal.proofs.Payloads.{none_read, payloads_then}
 use Rattle.desk_journal.proofs.Staying.{holds_on, settled_on}
 
 -- ---- what records leave

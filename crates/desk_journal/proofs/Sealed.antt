@@ -4,7 +4,7 @@ use Rattle.std.specs.Prelude.{◌⊎◌, IsSome, option_and_then}
 use Rattle.std.proofs.Common.{inl, inr}
 use Rattle.undo_outside.specs.Disk.{DiskTold}
 use Rattle.seal_log.specs.declared.place.Place.{Place}
-use Rattle.seal_log.specs.Journal.{LiesAt, sealed}
+use Rattle.seal_log.specs.Journal.{LiesAt}
 use Rattle.seal_log.specs.Settled.{Holds, IsSettled}
 use Rattle.seal_log.proofs.Uses.{settled_holds}
 use Rattle.verb_core.specs.declared.item.Item.{Item}

@@ -1,12 +1,10 @@
 -- A snapshot that is sealed.
-use Rattle.std.proofs.Common.{◌≡◌, ℕ, ◌+◌, ◌≤◌, ◌&&◌, ◌==◌, Bool, true, false, cond, List, [], ◌∷◌, length, Option, Some, None, Result, Ok, Err, IfErr, arith, refl, sym, ap, subst, ◌∙◌}
-use Rattle.std.specs.Prelude.{IsTrue}
+use Rattle.std.proofs.Common.{◌≡◌, ℕ, ◌+◌, ◌≤◌, ◌&&◌, Bool, true, false, cond, List, [], ◌∷◌, length, Some, None, arith, refl, sym, ap, subst, ◌∙◌}
 use Rattle.std.proofs.lemmas.Bool.{eq-eqb}
 use Rattle.undo_outside.specs.Disk.{DiskTold}
-use Rattle.verb_core.specs.Store.{IsValid, MailStore}
+use Rattle.verb_core.specs.Store.{IsValid}
 use Rattle.verb_core.proofs.BoxLaws.{bytes_eq-refl}
-use Rattle.verb_bytes.specs.declared.journal.JournalRecord.{JournalRecord}
-use Rattle.verb_bytes.specs.Spelling.{HasSpelling, record_bytes}
+use Rattle.verb_bytes.specs.Spelling.{record_bytes}
 use Rattle.seal_log.specs.declared.fault.SealFault.{SealFault}
 use Rattle.seal_log.specs.declared.fault.SealFault.TheVariants as log_faults
 use Rattle.seal_log.specs.declared.place.Place.{Place}

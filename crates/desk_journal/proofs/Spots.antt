@@ -1,12 +1,11 @@
 -- Where the texts lie that a cycle brings: one more noted, and what that leaves.
-use Rattle.std.proofs.Common.{◌≡◌, ◌≢◌, ◌+◌, ◌<◌, ◌≤◌, ◌==◌, ◌&&◌, ℕ, Bool, cond, true, false, arith, refl, sym, ◌∙◌, ap, subst, List, [], ◌∷◌, ◌++◌, Option, Some, None, take, drop, length, get_or, find, reverse, option_map, map, true≢false, eqb-true}
-use Rattle.std.specs.List.{AllByRecursion, AllZip, cons_option, filter_map}
+use Rattle.std.proofs.Common.{◌≡◌, ◌≢◌, ◌+◌, ◌<◌, ◌≤◌, ◌==◌, ◌&&◌, ℕ, Bool, cond, true, false, arith, refl, sym, ◌∙◌, ap, subst, List, [], ◌∷◌, ◌++◌, Option, Some, None, take, drop, length, get_or, find, reverse, option_map, eqb-true}
+use Rattle.std.specs.List.{AllByRecursion, AllZip, cons_option}
 use Rattle.std.specs.Prelude.{slice_range}
 use Rattle.std.proofs.lemmas.Bool.Decides.{nat_tests}
 use Rattle.std.proofs.lemmas.List.{drop_more, reverse-append, take_more}
 use Rattle.verb_core.specs.declared.item.Act.{Act}
 use Rattle.verb_core.specs.declared.item.Deed.TheVariants.{Act as Acts}
-use Rattle.verb_core.specs.declared.item.Item.{Item}
 use Rattle.verb_core.specs.declared.mailbox.Body.{Body}
 use Rattle.verb_core.specs.Deeds.{act_item, is_notice}
 use Rattle.verb_core.specs.Items.{text_in}
@@ -14,7 +13,7 @@ use Rattle.verb_bytes.specs.declared.places.TextPlace.{TextPlace}
 use Rattle.verb_bytes.specs.Places.{LiesThere}
 use Rattle.seal_log.specs.declared.place.Place.{Place}
 use Rattle.shelf.specs.declared.note.Note.{Note}
-use Rattle.shelf.specs.Notes.{NotesOnly, note_of, same_body}
+use Rattle.shelf.specs.Notes.{NotesOnly, note_of}
 use Rattle.repair_desk.specs.Repairs.{inserted, text_asked}
 use Rattle.desk_journal.specs.Placing.{GivenLie, KeepsReplaced, ReplacedLie, TakesFirst, TakesGiven, note_at, texts_given, texts_replacing}
 use Rattle.desk_journal.specs.Stored.{HasNote, LiesIn, recorded_in}

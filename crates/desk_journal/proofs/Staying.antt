@@ -1,5 +1,5 @@
 -- What stays while a disk is read.
-use Rattle.std.proofs.Common.{ℕ, ◌-◌, List}
+use Rattle.std.proofs.Common.{ℕ, List}
 use Rattle.undo_outside.specs.Disk.{DiskTold}
 use Rattle.undo_outside.specs.Moments.{OnlyReads}
 use Rattle.seal_log.specs.Settled.{Holds, IsSettled}

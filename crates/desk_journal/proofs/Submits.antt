@@ -1,5 +1,5 @@
 -- What becomes of asks and acts, from what became of sealing them.
-use Rattle.std.proofs.Common.{◌≡◌, ◌<◌, ℕ, false, List, [], ◌∷◌, Some, Result, Ok, Err, IfOk, OnOk, IfErr, subst, sym, ap, refl, ◌∙◌}
+use Rattle.std.proofs.Common.{◌≡◌, ◌<◌, ℕ, false, List, [], ◌∷◌, Result, Ok, Err, IfOk, OnOk, IfErr, subst, sym, ap, refl, ◌∙◌}
 use Rattle.std.specs.Prelude.{IsSome}
 use Rattle.undo_outside.specs.Disk.{DiskTold}
 use Rattle.seal_log.specs.declared.fault.SealFault.{SealFault}

@@ -1,8 +1,6 @@
 -- What turns that read texts leave.
-use Rattle.std.proofs.Common.{◌≡◌, ◌≤◌, ◌+◌, ◌-◌, ◌^◌, ℕ, List, [], true, false, Bool, arith, refl, sym, ◌∙◌, ap, subst}
-use Rattle.std.specs.Prelude.{min}
+use Rattle.std.proofs.Common.{◌≡◌, ◌≤◌, ◌+◌, ℕ, List, true, false, Bool, arith, refl, sym, ◌∙◌}
 use Rattle.undo_outside.specs.Disk.{DiskTold, ReadFailed}
-use Rattle.undo_outside.specs.Moments.{OnlyReads}
 use Rattle.verb_bytes.specs.declared.journal.JournalRecord.{JournalRecord}
 use Rattle.desk_journal.specs.Lasting.{Lasting}
 use Rattle.desk_journal.specs.Reading.{HaveRead, Reads, RoseBy, both_read, failed_once, none_read, wrong_once}

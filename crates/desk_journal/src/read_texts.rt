@@ -1,5 +1,5 @@
 //! The texts of a desk, read where they lie in its journal.
-ghost use Rattle.std.specs.Prelude.{◌≡◌, ◌<◌, Some, true, false, option_copied, IfOk, OnOk, IfErr, IsErrOf};
+ghost use Rattle.std.specs.Prelude.{◌≡◌, Some, true, false, option_copied, IfOk, OnOk, IfErr, IsErrOf};
 ghost use Rattle.std.specs.Option.{option_map_or};
 ghost use Rattle.undo_outside.specs.Moments.{OnlyReads};
 ghost use Rattle.verb_core.specs.Items.{text_of};

@@ -1,12 +1,11 @@
 //! What the operator keeps of a moment: the store as it is, in a record of the journal, from which a later cycle can begin.
-ghost use Rattle.std.specs.Prelude.{◌≡◌, ◌<◌, false, length, IsTrue, IfOk, OnOk, IfErr, OnErr, IsErrOf};
+ghost use Rattle.std.specs.Prelude.{◌≡◌, false, length, IsTrue, IfOk, OnOk, IfErr, OnErr, IsErrOf};
 ghost use Rattle.verb_bytes.specs.Spelling.{record_bytes};
 ghost use Rattle.shelf.specs.Marks.{with_mark};
 ghost use Rattle.paradox.specs.Kept.{snapshotted};
 ghost use Rattle.mail_desk.specs.Held.{CanMark};
 ghost use Rattle.desk_journal.specs.Lasting.{lasting};
 ghost use Rattle.desk_journal.specs.Records.{is_spelled, snapshot_record};
-ghost use Rattle.desk_journal.specs.Sealing.{Seals};
 ghost use Rattle.desk_journal.specs.Stored.{MarkedBefore, NotedBefore};
 ghost use Rattle.desk_journal.specs.Submitting.{SealsBytes, Snapshots, SnapshotsNone};
 

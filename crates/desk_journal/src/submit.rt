@@ -1,5 +1,5 @@
 //! What users ask.
-ghost use Rattle.std.specs.Prelude.{◌≡◌, ◌<◌, ◌↔◌, ℕ, List, [], ◌∷◌, Ok, Some, false, IsTrue, IsSome, IfOk, OnOk, IfErr, OnErr, IsErrOf};
+ghost use Rattle.std.specs.Prelude.{◌≡◌, ◌↔◌, ℕ, List, [], ◌∷◌, Ok, Some, false, IsTrue, IsSome, IfOk, OnOk, IfErr, OnErr, IsErrOf};
 ghost use Rattle.std.specs.List.{list_all, cons_option};
 ghost use Rattle.verb_core.specs.Live.{is_users, live};
 ghost use Rattle.verb_core.specs.Store.{is_known};

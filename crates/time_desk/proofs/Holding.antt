@@ -20,7 +20,7 @@ use Rattle.time_desk.specs.Records.{is_formed, is_true, snapshot_record}
 use Rattle.time_desk.specs.Standing.{Enters, kept_as, marked_as}
 use Rattle.time_desk.specs.Stored.{KeepsMarks, MarkedBefore, MarksLie, NotesTexts}
 use Rattle.desk_journal.proofs.Marking.{marks_entered, marks_kept, marks_snapshotted, marks_with}
-use Rattle.desk_journal.proofs.Noting.{entered, recorded_is}
+use Rattle.desk_journal.proofs.Noting.{recorded_is}
 use Rattle.desk_journal.proofs.Holding.{entered_notes}
 
 -- ---- an item more

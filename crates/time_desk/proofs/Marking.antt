@@ -1,5 +1,5 @@
 -- Where snapshots lie behind a cycle.
-use Rattle.std.proofs.Common.{◌≡◌, ℕ, zero, suc, ◌+◌, ◌≤◌, List, ◌∷◌, ◌++◌, length, map, take, drop, length-take-le, refl, ap, sym, subst, ◌∙◌, arith, []}
+use Rattle.std.proofs.Common.{◌≡◌, ℕ, zero, suc, ◌≤◌, List, ◌∷◌, ◌++◌, length, map, take, drop, length-take-le, refl, ap, sym, subst, ◌∙◌, arith, []}
 use Rattle.std.proofs.lemmas.List.{length-append, take-append-le}
 use Rattle.verb_core.specs.declared.item.Item.{Item}
 use Rattle.shelf.specs.Marks.{marks_at_or_before}

@@ -1,17 +1,16 @@
 -- Where texts lie after a cycle.
-use Rattle.std.proofs.Common.{◌≡◌, ◌≢◌, ℕ, zero, suc, ◌+◌, ◌<◌, ◌≤◌, Bool, true, false, ◌&&◌, ◌==◌, cond, List, [], ◌∷◌, ◌++◌, length, map, filter, take, drop, find, not, Option, None, Some, is_some, refl, ap, sym, subst, ◌∙◌, arith}
+use Rattle.std.proofs.Common.{◌≡◌, ◌≢◌, ℕ, zero, suc, ◌+◌, ◌<◌, ◌≤◌, Bool, true, false, ◌&&◌, ◌==◌, cond, List, [], ◌∷◌, length, take, drop, not, Option, None, Some, is_some, refl, ap, sym, subst, ◌∙◌, arith}
 use Rattle.std.specs.Prelude.{option_map, option_and_then, is_none, IsTrue}
 use Rattle.std.specs.Cmp.{first_so}
-use Rattle.std.specs.List.{AllByRecursion, slice_range}
+use Rattle.std.specs.List.{AllByRecursion}
 use Rattle.std.specs.Option.{option_or}
 use Rattle.std.proofs.lemmas.Bool.Decides.{nat_tests}
 use Rattle.undo_base.specs.declared.keys.User.{User}
-use Rattle.verb_core.specs.Deeds.{act_item, is_notice, with_text}
+use Rattle.verb_core.specs.Deeds.{is_notice, with_text}
 use Rattle.verb_core.specs.Items.{NumbersApart, text_in, text_of}
-use Rattle.verb_core.specs.declared.item.Act.{Act}
 use Rattle.verb_core.specs.declared.item.Act.TheVariants.{Give}
 use Rattle.verb_core.specs.declared.item.Deed.{Deed}
-use Rattle.verb_core.specs.declared.item.Deed.TheVariants.{Deliver, Append, Fetch, Store, Copy, List as Names, Status, Select, Expunge, Close, Create, Rename, Delete, Act as Acts, Notice}
+use Rattle.verb_core.specs.declared.item.Deed.TheVariants.{Deliver, Append, Act as Acts, Notice}
 use Rattle.verb_core.specs.declared.item.Item.{Item}
 use Rattle.verb_core.specs.declared.item.Shown.{Shown}
 use Rattle.verb_core.specs.declared.mailbox.Body.{Body}
@@ -21,7 +20,7 @@ use Rattle.seal_log.specs.declared.place.Place.{Place}
 use Rattle.shelf.specs.declared.note.Note.{Note}
 use Rattle.shelf.specs.Notes.{LiesBefore, note_of, size_of}
 use Rattle.paradox.specs.Answers.{broken}
-use Rattle.stored_items.specs.Stored.{AllHeard, IsHeard, stored, stored_deed}
+use Rattle.stored_items.specs.Stored.{AllHeard, IsHeard, stored_deed}
 use Rattle.mail_cycle.specs.Cycles.{compared_from, notice_item, notice_items, repaired_items, timeline_by}
 use Rattle.mail_cycle.specs.Judging.{shown_after, shown_by}
 use Rattle.repair_desk.specs.Repairs.{are_known, inserted, is_dropped, kept, new_timeline, repaired, replaced_by, takes_text, text_asked}

@@ -1,5 +1,5 @@
 -- Items, each resolved on the store that it is performed on.
-use Rattle.std.proofs.Common.{◌≡◌, ◌∙◌, ℕ, List, [], ◌∷◌, ◌++◌, map, drop, Option, refl, ap, ap₂, sym}
+use Rattle.std.proofs.Common.{◌≡◌, ◌∙◌, List, [], ◌∷◌, ◌++◌, map, drop, Option, refl, ap, ap₂}
 use Rattle.undo_base.specs.declared.keys.User.{User}
 use Rattle.verb_core.specs.Aims.{Sought, sought_by}
 use Rattle.verb_core.specs.Items.{actor}

@@ -1,27 +1,23 @@
 -- What a cycle begins with.
-use Rattle.std.proofs.Common.{◌≡◌, ℕ, zero, suc, ◌+◌, ◌-◌, ◌<◌, ◌≤◌, ◌&&◌, Bool, true, false, cond, nat_le, List, [], ◌∷◌, ◌++◌, length, map, filter, take, drop, get_or, Option, Some, None, Result, Ok, Err, IfOk, arith, refl, sym, ap, subst, ◌∙◌, slice_get}
+use Rattle.std.proofs.Common.{◌≡◌, ℕ, zero, suc, ◌-◌, ◌<◌, ◌≤◌, true, false, cond, nat_le, List, [], ◌∷◌, length, map, take, get_or, Option, Some, None, Result, Ok, Err, IfOk, arith, refl, sym, ap, subst, ◌∙◌, slice_get}
 use Rattle.std.specs.Prelude.{IfSome, IsTrue, option_map, slice_index_or}
-use Rattle.std.specs.List.{AllByRecursion, list_all}
-use Rattle.std.proofs.lemmas.Bool.{and_from, and_parts}
+use Rattle.std.specs.List.{AllByRecursion}
 use Rattle.std.proofs.lemmas.Bool.Decides.{nat_tests}
-use Rattle.verb_core.specs.declared.conf.Conf.{Conf}
 use Rattle.verb_core.specs.declared.conf.House.{House}
 use Rattle.verb_core.specs.declared.item.Item.{Item}
-use Rattle.verb_core.specs.declared.mailbox.BoxId.{BoxId}
-use Rattle.verb_core.specs.declared.mailbox.Mailbox.{Mailbox}
 use Rattle.verb_core.specs.Items.{IsWellFormed}
 use Rattle.verb_core.specs.Step.{run, step}
-use Rattle.verb_core.specs.Store.{IsValid, MailStore, is_house, is_known, opening}
+use Rattle.verb_core.specs.Store.{IsValid, MailStore, opening}
 use Rattle.verb_core.proofs.Joins.{run_house}
 use Rattle.seal_log.specs.declared.place.Place.{Place}
 use Rattle.shelf.specs.Marks.{marks_at_or_before, newest}
-use Rattle.box_store.specs.Making.{makes_store, store_of_rows}
+use Rattle.box_store.specs.Making.{store_of_rows}
 use Rattle.mail_cycle.specs.declared.beginning.Beginning.{Beginning}
 use Rattle.mail_desk.specs.Timeline.{all_bodies, has_text}
-use Rattle.paradox.specs.Kept.{Kept, newest_at, not_behind}
+use Rattle.paradox.specs.Kept.{Kept, not_behind}
 use Rattle.repair_desk.proofs.Everywhere.{taken}
 use Rattle.time_desk.specs.Serving.{CanServe, FindsLast, IsNewest, Serves}
-use Rattle.time_desk.specs.Stored.{MarksLie, store_at}
+use Rattle.time_desk.specs.Stored.{store_at}
 
 abbrev pub Mark : Type 0
 Mark = ℕ × Place

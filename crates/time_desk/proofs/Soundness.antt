@@ -17,7 +17,6 @@ use Rattle.verb_core.proofs.StampLaws.{after-ids, opening-ids}
 use Rattle.verb_bytes.specs.declared.journal.CycleAsk.{CycleAsk}
 use Rattle.verb_bytes.specs.declared.journal.JournalRecord.{JournalRecord}
 use Rattle.verb_bytes.specs.declared.journal.JournalRecord.TheVariants.{Format, Verb, Operator, Cycle, Snapshot}
-use Rattle.verb_bytes.specs.Fields.{◌&◌}
 use Rattle.verb_bytes.specs.Spelling.{HasSpelling}
 use Rattle.paradox.specs.declared.reports.Report.{Report}
 use Rattle.paradox.specs.Kept.{Kept, Marks, marked, new_desk, passed, performed, report_of, snapshotted, store_of}

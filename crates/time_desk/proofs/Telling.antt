@@ -12,14 +12,14 @@ use Rattle.verb_core.specs.declared.item.Item.{Item}
 use Rattle.verb_core.specs.declared.mailbox.Body.{Body}
 use Rattle.verb_core.specs.Deeds.{is_notice, with_text}
 use Rattle.verb_core.specs.Items.{NumbersApart, text_in, text_of}
-use Rattle.verb_core.specs.Texts.{BodiesTold, Rose, StaysTold}
+use Rattle.verb_core.specs.Texts.{BodiesTold, Rose}
 use Rattle.stored_items.specs.Stored.{needs_text}
 use Rattle.verb_bytes.specs.declared.journal.CycleAsk.{CycleAsk}
 use Rattle.shelf.specs.declared.note.Note.{Note}
 use Rattle.shelf.specs.Notes.{note_of}
 use Rattle.repair_desk.specs.Repairs.{inserted, is_dropped, kept, new_timeline, repaired, replaced_by, takes_text, text_asked}
 use Rattle.mail_cycle.specs.Cycles.{repaired_items}
-use Rattle.replay_crew.specs.Hearing.{Counts, HoldsOf, StoresOf, TellsAll, TellsOf}
+use Rattle.replay_crew.specs.Hearing.{Counts, TellsAll, TellsOf}
 use Rattle.paradox.specs.Kept.{Kept}
 use Rattle.verb_core.specs.declared.bodies.BodiesFault.{BodiesFault}
 use Rattle.verb_core.specs.declared.bodies.BodiesFault.TheVariants as bodies_faults

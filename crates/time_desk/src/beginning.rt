@@ -1,5 +1,5 @@
 //! What a cycle begins with: the newest snapshot in the journal that can serve, or else the store before the first item.
-ghost use Rattle.std.specs.Prelude.{◌≡◌, ◌<◌, ◌≤◌, ◌+◌, ◌&&◌, ℕ, List, true, Some, take, length, option_map, IfOk, IfSome, IsErrOf};
+ghost use Rattle.std.specs.Prelude.{◌≡◌, ◌<◌, ◌≤◌, ◌+◌, ◌&&◌, ℕ, List, Some, take, length, option_map, IfOk, IfSome, IsErrOf};
 ghost use Rattle.std.specs.List.{AllByRecursion, list_all};
 ghost use Rattle.undo_outside.specs.Moments.{OnlyReads};
 ghost use Rattle.verb_core.specs.declared.conf.Conf.{Conf as TheConf};
@@ -15,7 +15,7 @@ ghost use Rattle.seal_log.specs.Settled.{Holds};
 ghost use Rattle.box_store.specs.Making.{makes_store as rows_make_store, store_of_rows as made_of};
 ghost use Rattle.mail_desk.specs.Timeline.{all_bodies, has_text};
 ghost use Rattle.time_desk.specs.Serving.{CanServe, FindsLast, IsNewest, Serves};
-ghost use Rattle.time_desk.specs.Stored.{MarkLies, MarkedBefore, MarksLie, TextsHeld, store_at};
+ghost use Rattle.time_desk.specs.Stored.{MarkLies, MarkedBefore, MarksLie, store_at};
 ghost use Rattle.time_desk.specs.Telling.{HoldsHeld};
 
 use crate::redo::begun;

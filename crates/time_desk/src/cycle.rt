@@ -1,5 +1,5 @@
 //! What the operator asks of the past: a cycle, and a trial of one.
-ghost use Rattle.std.specs.Prelude.{◌≡◌, ◌<◌, ◌+◌, ◌≤◌, ℕ, false, Some, None, length, option_copied, IsTrue, IsSome, IfOk, OnOk, IfErr, OnErr};
+ghost use Rattle.std.specs.Prelude.{◌≡◌, ◌+◌, ◌≤◌, ℕ, false, None, length, option_copied, IsTrue, IsSome, IfOk, OnOk, IfErr, OnErr};
 ghost use Rattle.undo_outside.specs.Moments.{OnlyReads};
 ghost use Rattle.verb_bytes.specs.declared.journal.JournalRecord.TheVariants.{Cycle};
 ghost use Rattle.verb_bytes.specs.Spelling.{record_bytes};

@@ -1,5 +1,5 @@
 //! The desk over its disk, and what it tells of itself.
-ghost use Rattle.std.specs.Prelude.{◌≡◌, ℕ, ◌≤◌, ◌<◌, [], map, length, option_map, Some, IsTrue, IfOk, IfErr};
+ghost use Rattle.std.specs.Prelude.{◌≡◌, ℕ, ◌≤◌, ◌<◌, [], map, length, option_map, IsTrue, IfOk};
 ghost use Rattle.std.specs.List.{AllByRecursion, list_all};
 ghost use Rattle.verb_core.specs.declared.item.Item.{Item as TheItem};
 ghost use Rattle.verb_core.specs.declared.mailbox.Body.{Body as TheBody};

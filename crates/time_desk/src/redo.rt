@@ -1,5 +1,5 @@
 //! A cycle in memory, beside the desk.
-ghost use Rattle.std.specs.Prelude.{◌≡◌, ◌<◌, ◌+◌, ◌-◌, ◌≤◌, ℕ, List, Some, length, take, IsTrue, IfOk, IfErr, OnOk};
+ghost use Rattle.std.specs.Prelude.{◌≡◌, ◌<◌, ◌+◌, ◌-◌, ◌≤◌, Some, length, IsTrue, IfOk, IfErr, OnOk};
 ghost use Rattle.undo_outside.specs.Moments.{OnlyReads};
 ghost use Rattle.repair_desk.specs.Repairs.{are_known, position};
 ghost use Rattle.mail_cycle.specs.Asking.{IsRewinds, Rewinds, due_anew};

@@ -1,5 +1,5 @@
 //! What the operator keeps of a moment: the store as it is, in a record of the journal, from which a later cycle can begin.
-ghost use Rattle.std.specs.Prelude.{◌≡◌, ◌<◌, ◌↔◌, [], ◌∷◌, length, IsTrue, IfOk, OnOk, IfErr, OnErr, IsErrOf};
+ghost use Rattle.std.specs.Prelude.{◌≡◌, ◌↔◌, [], ◌∷◌, length, IsTrue, IfOk, OnOk, IfErr, OnErr, IsErrOf};
 ghost use Rattle.paradox.specs.Kept.{snapshotted};
 ghost use Rattle.mail_cycle.specs.Permanence.{UidsLast};
 ghost use Rattle.time_desk.specs.Records.{snapshot_record};

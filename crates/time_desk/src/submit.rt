@@ -1,10 +1,10 @@
 //! What users ask.
-ghost use Rattle.std.specs.Prelude.{◌≡◌, ◌<◌, ◌↔◌, [], ◌∷◌, Ok, IsTrue, IsSome, IfOk, IfErr, OnErr, IsErrOf};
+ghost use Rattle.std.specs.Prelude.{◌≡◌, ◌↔◌, [], ◌∷◌, Ok, IsTrue, IsSome, IfOk, IfErr, OnErr, IsErrOf};
 ghost use Rattle.std.specs.List.{list_all, cons_option};
 ghost use Rattle.verb_core.specs.Live.{is_users, live};
 ghost use Rattle.verb_core.specs.Store.{is_known};
 ghost use Rattle.verb_bytes.specs.declared.journal.JournalRecord.TheVariants.{Verb};
-ghost use Rattle.paradox.specs.Kept.{performed, store_of};
+ghost use Rattle.paradox.specs.Kept.{store_of};
 ghost use Rattle.mail_desk.specs.Desk.{submitted};
 ghost use Rattle.mail_cycle.specs.Permanence.{UidsLast};
 ghost use Rattle.time_desk.specs.Sealing.{Seals};

@@ -1,5 +1,5 @@
 //! The texts of bodies: a notice's is in memory, and any other is read where it lies in the journal.
-ghost use Rattle.std.specs.Prelude.{◌≡◌, ◌<◌, length, is_some, IsTrue, IfOk};
+ghost use Rattle.std.specs.Prelude.{◌≡◌, length, is_some, IsTrue, IfOk};
 ghost use Rattle.std.specs.List.{list_all};
 ghost use Rattle.verb_core.specs.Items.{text_of};
 ghost use Rattle.seal_log.specs.Causes.{ReadAtCause};

@@ -1,4 +1,4 @@
-use Rattle.std.proofs.Common.{Err, [], ◌∷◌, ap, ◌∙◌, refl, sym, subst}
+use Rattle.std.proofs.Common.{Err, [], ◌∷◌, ap, ◌∙◌, refl}
 use Rattle.verb_core.specs.Deeds.{act_item}
 use Rattle.verb_bytes.specs.declared.journal.JournalRecord.TheVariants.{Operator}
 use Rattle.verb_core.specs.declared.item.Item.{Item}

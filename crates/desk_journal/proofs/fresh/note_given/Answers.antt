@@ -1,5 +1,5 @@
 use Rattle.std.proofs.lemmas.List.{take_all}
-use Rattle.std.proofs.Common.{◌≡◌, ◌+◌, ◌≤◌, ℕ, List, arith, length, take, length-take-le, subst}
+use Rattle.std.proofs.Common.{◌≡◌, ◌+◌, List, arith, length, take, length-take-le, subst}
 use Rattle.verb_core.specs.declared.item.Act.{Act}
 use Rattle.desk_journal.specs.Placing.{GivenLie}
 use Rattle.desk_journal.proofs.Spots.{act_keeps, act_noted}

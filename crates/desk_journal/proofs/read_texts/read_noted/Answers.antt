@@ -1,4 +1,4 @@
-use Rattle.std.proofs.Common.{◌≡◌, sym}
+use Rattle.std.proofs.Common.{sym}
 use Rattle.verb_core.specs.Items.{text_of}
 use Rattle.shelf.specs.Notes.{noted_text}
 use Rattle.desk_journal.specs.Stored.{IsStored}

@@ -1,4 +1,4 @@
-use Rattle.std.proofs.Common.{◌≡◌, ◌+◌, ℕ, length, ap, arith, refl, subst}
+use Rattle.std.proofs.Common.{◌+◌, length, ap, arith, refl, subst}
 use Rattle.verb_core.specs.Items.{text_in}
 use Rattle.seal_log.specs.declared.place.Place.{Place}
 use Rattle.paradox.specs.Kept.{Kept}

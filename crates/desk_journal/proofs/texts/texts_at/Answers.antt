@@ -1,4 +1,4 @@
-use Rattle.std.proofs.Common.{◌∙◌, arith, refl}
+use Rattle.std.proofs.Common.{◌∙◌, arith}
 use Rattle.undo_outside.proofs.Moments.{reads_joined}
 use Rattle.desk_journal.proofs.EachText.{texts_next}
 use Rattle.desk_journal.proofs.Telling.{held_on}

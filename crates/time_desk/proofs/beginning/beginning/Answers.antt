@@ -1,4 +1,4 @@
-use Rattle.std.proofs.Common.{◌≡◌, ◌∙◌, ◌≤◌, List, ap, nat_le, subst, sym}
+use Rattle.std.proofs.Common.{◌≡◌, ◌∙◌, ◌≤◌, ap, nat_le, subst, sym}
 use Rattle.std.specs.List.{AllByRecursion}
 use Rattle.mail_cycle.specs.declared.beginning.Beginning.{Beginning}
 use Rattle.shelf.specs.Marks.{marks_at_or_before}

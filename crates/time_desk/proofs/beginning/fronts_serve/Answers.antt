@@ -1,4 +1,3 @@
-use Rattle.std.proofs.Common.{List}
 use Rattle.time_desk.proofs.Servings.{front_serves}
 use Rattle.time_desk.proofs.beginning.fronts_serve.Goals as goal
 

@@ -1,4 +1,4 @@
-use Rattle.std.proofs.Common.{◌≡◌, ◌∙◌, IfOk, None, Option, Some, ap, subst, sym}
+use Rattle.std.proofs.Common.{◌≡◌, ◌∙◌, IfOk, None, Option, Some, subst, sym}
 use Rattle.std.specs.Prelude.{option_map}
 use Rattle.box_store.specs.declared.store.Store.{Store}
 use Rattle.verb_bytes.specs.declared.journal.JournalRecord.{JournalRecord}

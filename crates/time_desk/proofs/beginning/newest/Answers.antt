@@ -1,4 +1,4 @@
-use Rattle.std.proofs.Common.{◌≡◌, ◌∙◌, ◌-◌, ◌<◌, arith}
+use Rattle.std.proofs.Common.{◌∙◌, ◌-◌, arith}
 use Rattle.std.specs.Prelude.{slice_index_or}
 use Rattle.undo_outside.proofs.Moments.{reads_joined}
 use Rattle.box_store.specs.declared.store.Store.{Store}

@@ -1,4 +1,4 @@
-use Rattle.std.proofs.Common.{◌≡◌, ◌≤◌, ℕ, List, length}
+use Rattle.std.proofs.Common.{◌≡◌, ℕ, List, length}
 use Rattle.undo_outside.specs.Moments.{OnlyReads}
 use Rattle.seal_log.specs.Settled.{Holds}
 use Rattle.time_desk.specs.Stored.{MarksLie}

@@ -1,4 +1,4 @@
-use Rattle.std.proofs.Common.{◌≡◌, ◌∙◌, sym}
+use Rattle.std.proofs.Common.{◌≡◌, ◌∙◌}
 use Rattle.verb_bytes.specs.Spelling.{record_bytes}
 use Rattle.time_desk.proofs.Standings.{whole_range}
 use Rattle.time_desk.proofs.beginning.record_at.Goals as goal

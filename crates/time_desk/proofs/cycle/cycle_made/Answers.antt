@@ -1,4 +1,4 @@
-use Rattle.std.proofs.Common.{◌≡◌, ◌∙◌, ◌+◌, ◌++◌, Err, [], length, ap, arith, refl, sym, subst, take}
+use Rattle.std.proofs.Common.{◌∙◌, ◌++◌, Err, [], length, ap, arith, refl, sym, subst, take}
 use Rattle.paradox.specs.Kept.{Kept}
 use Rattle.shelf.specs.Marks.{marks_at_or_before}
 use Rattle.mail_cycle.specs.Leaving.{items_left}

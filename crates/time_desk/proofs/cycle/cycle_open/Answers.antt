@@ -1,4 +1,4 @@
-use Rattle.std.proofs.Common.{IfErr, IfOk, ap, refl, subst, sym, ℕ}
+use Rattle.std.proofs.Common.{IfErr, IfOk, ap, subst, sym, ℕ}
 use Rattle.time_desk.specs.Cycling.{Cycles, CyclesNone}
 use Rattle.time_desk.specs.Lasting.{Lasting, lasting}
 use Rattle.time_desk.specs.Stored.{MarkedBefore, NotedBefore}

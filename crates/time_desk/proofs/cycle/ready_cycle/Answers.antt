@@ -1,4 +1,3 @@
-use Rattle.std.proofs.Common.{ℕ}
 use Rattle.seal_log.specs.declared.place.Place.{Place}
 use Rattle.time_desk.specs.Cycling.{RenotesAs}
 use Rattle.time_desk.specs.declared.cycle.Found.{Found}

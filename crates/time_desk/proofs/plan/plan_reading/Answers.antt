@@ -1,5 +1,5 @@
 use Rattle.std.proofs.Common.{◌∙◌}
-use Rattle.time_desk.proofs.Telling.{bodies_cause, honest_as, tells_timeline}
+use Rattle.time_desk.proofs.Telling.{tells_timeline}
 use Rattle.time_desk.proofs.plan.plan_reading.Goals as goal
 
 pub plan_behind-requires-clause-texts : goal.plan_behind-requires-clause-texts

@@ -1,5 +1,3 @@
-use Rattle.std.proofs.Common.{◌≡◌, ◌∙◌, ap, sym, subst}
-use Rattle.undo_outside.proofs.Moments.{reads_joined}
 use Rattle.time_desk.specs.Telling.{HoldsHeld}
 use Rattle.time_desk.proofs.Rewinding.{all_made, few_steps, most_steps}
 use Rattle.desk_journal.proofs.Telling.{held_on}

@@ -4,7 +4,6 @@ use Rattle.verb_bytes.specs.declared.journal.JournalRecord.{JournalRecord}
 use Rattle.verb_bytes.specs.Spelling.{Spells}
 use Rattle.time_desk.specs.Standing.{Fails, SpellsNothing}
 use Rattle.time_desk.proofs.Standings.{if_err, spells_nothing, whole_range}
-use Rattle.time_desk.proofs.start.record_at.Goals.{In-Ok}
 use Rattle.time_desk.proofs.start.record_at.Goals as goal
 
 pub returns-in-Ok-clause-read : goal.returns-in-Ok-clause-read

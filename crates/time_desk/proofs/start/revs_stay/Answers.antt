@@ -1,4 +1,4 @@
-use Rattle.std.proofs.Common.{◌≡◌, [], ◌∷◌, ap}
+use Rattle.std.proofs.Common.{[], ◌∷◌, ap}
 use Rattle.std.specs.Prelude.{option_and_then}
 use Rattle.paradox.specs.Kept.{Kept}
 use Rattle.time_desk.specs.Records.{after_records}

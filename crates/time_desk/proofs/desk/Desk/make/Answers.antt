@@ -1,4 +1,4 @@
-use Rattle.std.proofs.Common.{◌≡◌, ℕ, ◌∷◌, [], List, ap, refl, sym, subst, ◌∙◌}
+use Rattle.std.proofs.Common.{ℕ, ◌∷◌, [], List, ap, refl, sym, subst, ◌∙◌}
 use Rattle.verb_bytes.specs.declared.journal.JournalRecord.TheVariants.{Format}
 use Rattle.paradox.specs.Kept.{IsRun, Kept}
 use Rattle.seal_log.specs.Log.{last_gate}
