@@ -1,6 +1,6 @@
 -- The desks that serving goes through, and what crashes leave since.
 use Rattle.std.specs.Prelude.{IsSome, option_and_then}
-use Rattle.std.proofs.Common.{◌≡◌, ◌⊎◌, ◌≤◌, ℕ, zero, suc, Bool, true, false, not, ◌||◌, List, [], ◌∷◌, ◌++◌, take, Some, None, Option, Ok, refl, ap, sym, subst, ◌∙◌, inl, inr}
+use Rattle.std.proofs.Common.{◌≡◌, ◌⊎◌, ◌≤◌, ℕ, zero, suc, Bool, true, false, not, ◌||◌, List, [], ◌∷◌, ◌++◌, take, Some, None, Option, Ok, refl, ap, sym, subst, ◌∙◌, inl}
 use Rattle.std.proofs.lemmas.List.{append-nil, append_assoc, length-map, map-append, take-map}
 use Rattle.undo_outside.specs.Disk.{DiskTold, IsHonest}
 use Rattle.undo_outside.specs.declared.event.Event.{Event}

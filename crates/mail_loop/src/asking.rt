@@ -1,5 +1,5 @@
 //! What a mail reader asks of the desk, and the mailboxes that this takes away.
-ghost use Rattle.std.specs.Prelude.{◌≡◌, ◌↔◌, ◌++◌, [], false, bytes_eq, option_copied, IfErr, IfOk, IsSome, IsTrue, OnErr, OnOk};
+ghost use Rattle.std.specs.Prelude.{◌≡◌, ◌↔◌, ◌++◌, [], false, bytes_eq, option_copied, IsSome, IsTrue, OnErr, OnOk};
 ghost use Rattle.std.specs.List.{cons_option, list_all};
 ghost use Rattle.verb_core.specs.Live.{is_users};
 ghost use Rattle.verb_core.specs.Names.{inbox};

@@ -1,5 +1,5 @@
 //! The turn of a console: its session answers one request over the desk.
-ghost use Rattle.std.specs.Prelude.{◌≡◌, ◌≤◌, Bool, List, false, [], map, length};
+ghost use Rattle.std.specs.Prelude.{◌≡◌, ◌≤◌, Bool, List, false};
 ghost use Rattle.verb_bytes.specs.declared.journal.JournalRecord.{JournalRecord};
 ghost use Rattle.time_desk.specs.Reading.{Reads};
 ghost use Rattle.console_head.specs.Request.{Stage};

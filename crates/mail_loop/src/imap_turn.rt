@@ -1,5 +1,5 @@
 //! The turns of a mail reader: what its session makes of a command, and what that asks of the desk.
-ghost use Rattle.std.specs.Prelude.{◌≡◌, ◌≤◌, ℕ, Ok, Err, true, false, IfOk, IsTrue, OnErr, OnOk};
+ghost use Rattle.std.specs.Prelude.{◌≡◌, ℕ, Ok, Err, true, false, IfOk, IsTrue, OnErr, OnOk};
 ghost use Rattle.std.specs.List.{list_all};
 ghost use Rattle.verb_core.specs.declared.conf.House.{House as TheHouse};
 ghost use Rattle.imap_lines.specs.Command.{ReadsCommand, Reading, command_of};

@@ -1,12 +1,12 @@
 //! An open connection: what it speaks, its stream and its dialog, and what it makes of the bytes that come.
-ghost use Rattle.std.specs.Prelude.{◌≡◌, ◌≤◌, ◌++◌, Bool, List, ℕ, false, true};
+ghost use Rattle.std.specs.Prelude.{◌≡◌, ◌≤◌, Bool, List, false, true};
 ghost use Rattle.std.specs.List.{list_any};
 ghost use Rattle.verb_core.specs.declared.mailbox.BoxId.{BoxId as TheBoxId};
 ghost use Rattle.smtp_session.specs.Dialog.{is_due};
 ghost use Rattle.imap_session.specs.Dialog.{holds, is_at_home, is_free};
 ghost use Rattle.verb_bytes.specs.declared.journal.JournalRecord.{JournalRecord};
 ghost use Rattle.time_desk.specs.Reading.{Reads};
-ghost use Rattle.mail_loop.specs.State.{State, Smtp as SmtpSeat, Imap as ImapSeat};
+ghost use Rattle.mail_loop.specs.State.{Smtp as SmtpSeat, Imap as ImapSeat};
 ghost use Rattle.mail_loop.specs.Asked.{HaveSealed};
 ghost use Rattle.mail_loop.specs.Hindrance.{Hindrance};
 ghost use Rattle.mail_loop.specs.Turns.{hears_lines, hears_commands};

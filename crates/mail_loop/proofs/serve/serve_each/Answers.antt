@@ -12,7 +12,7 @@ use Rattle.mail_loop.proofs.Courses.{ends_disk, none_through, one_more, went_end
 use Rattle.mail_loop.proofs.Events.{leads_end}
 use Rattle.mail_loop.proofs.Seats.{none_home}
 use Rattle.mail_loop.proofs.Sealed.{all_sealed, chained, is_due_on_open, some_unsealed, unsealed}
-use Rattle.mail_loop.proofs.Runs.{so_served_none, so_more, so_ended, so_failed, so_spent, so_starved, so_stopped, so_unfed, so_unlinked}
+use Rattle.mail_loop.proofs.Runs.{so_served_none, so_more, so_ended, so_failed, so_starved, so_stopped, so_unfed, so_unlinked}
 use Rattle.mail_loop.proofs.serve.serve_each.Goals as goal
 
 pub loop-init : goal.loop-init
