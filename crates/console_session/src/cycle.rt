@@ -1,7 +1,5 @@
 //! Cycles: sealed, put in place and then answered; or only tried.
 ghost use Rattle.std.specs.Prelude.{◌≡◌, ◌≤◌, ◌<◌, IfOk, IfErr, IsTrue, None, Ok, false};
-ghost use Rattle.serde_json.specs.Data.{Data};
-ghost use Rattle.serde_json.specs.Written.{compact_text};
 ghost use Rattle.paradox.specs.Kept.{report_of};
 ghost use Rattle.repair_desk.specs.Repairs.{are_known};
 ghost use Rattle.time_desk.specs.Cycling.{Cycles, CyclesNone};

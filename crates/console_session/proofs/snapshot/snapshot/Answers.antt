@@ -1,4 +1,3 @@
-use Rattle.std.proofs.Common.{ℕ}
 use Rattle.console_replies.specs.Bodies.{items_data}
 use Rattle.console_session.proofs.Turns.{snapshot_done, snapshot_not_done}
 use Rattle.console_session.proofs.snapshot.snapshot.Goals as goal
