@@ -1,8 +1,7 @@
 -- Where no call of the outside failed, the status that is due comes, or that of want of memory.
-use Rattle.std.proofs.Common.{◌≡◌, ◌⊎◌, ℕ, List, Option, None, Some, Result, Err, subst, inl, inr}
+use Rattle.std.proofs.Common.{◌≡◌, ◌⊎◌, ℕ, List, Option, None, Some, Err, subst, inl, inr}
 use Rattle.undo_outside.specs.Calls.{Rose, SinkTold, SourceTold}
-use Rattle.undo_outside.specs.Disk.{DiskTold, ReadFailed, WriteFailed}
-use Rattle.desk_journal.specs.declared.fault.MakeFault.TheVariants as make
+use Rattle.undo_outside.specs.Disk.{ReadFailed, WriteFailed}
 use Rattle.time_desk.specs.declared.fault.StartFault.TheVariants as start
 use Rattle.time_desk.specs.Opening.{Starts}
 use Rattle.command_words.specs.declared.commands.Command.{Command}

@@ -1,5 +1,5 @@
 -- Completeness: where no call of the outside failed and an end came in time, the status that is due comes, or that of want of memory.
-use Rattle.std.specs.Prelude.{ℕ, Option}
+use Rattle.std.specs.Prelude.{Option}
 use Rattle.undo_outside.specs.Calls.{Rose}
 use Rattle.command_words.specs.declared.commands.Command.{Command}
 use Rattle.mail_proxy.specs.Causes.{EndsLate, Outside}

@@ -1,5 +1,5 @@
 //! What is to be answered and written, and the writing of it.
-ghost use Rattle.std.specs.Prelude.{◌≡◌, ◌≢◌, ℕ, [], ◌++◌, IfOk};
+ghost use Rattle.std.specs.Prelude.{◌≡◌, ◌≢◌, ℕ, [], IfOk};
 ghost use Rattle.mail_proxy.specs.Reading.{Wrote, WritesAll};
 ghost use Rattle.mail_proxy.specs.Lines.{bad_line, damaged, is_nothing, line_text, no_memory};
 ghost use Rattle.mail_proxy.specs.Answers.{Shows, first_fault};
