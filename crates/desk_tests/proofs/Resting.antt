@@ -1,5 +1,5 @@
 -- A cycle behind the last item, from a snapshot there, performs nothing.
-use Rattle.std.proofs.Common.{◌≡◌, ◌∙◌, ℕ, ◌+◌, ◌-◌, ◌≤◌, arith, Bool, cond, refl, true, false, ap, subst, sym, List, [], length, Option, Some, None, Result, Ok, Err, IfOk, OnOk}
+use Rattle.std.proofs.Common.{◌≡◌, ◌∙◌, ℕ, ◌+◌, ◌≤◌, arith, Bool, cond, refl, true, false, ap, subst, sym, List, [], length, Option, Some, None, Result, Ok, Err, IfOk, OnOk}
 use Rattle.verb_bytes.specs.declared.journal.CycleAsk.{CycleAsk}
 use Rattle.verb_core.specs.declared.item.Act.{Act}
 use Rattle.verb_core.specs.declared.item.Item.{Item}

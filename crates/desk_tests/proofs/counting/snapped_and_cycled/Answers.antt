@@ -1,4 +1,4 @@
-use Rattle.std.proofs.Common.{◌≡◌, ◌≤◌, length, subst, sym, arith, Some}
+use Rattle.std.proofs.Common.{◌≡◌, length, subst, sym, arith, Some}
 use Rattle.repair_desk.specs.Repairs.{position}
 use Rattle.paradox.specs.Kept.{Kept, newest_at, snapshotted}
 use Rattle.mail_cycle.specs.Asking.{cycle_due}
