@@ -5,7 +5,6 @@ ghost use Rattle.std.specs.List.Sorted.{IsPermutation};
 ghost use Rattle.verb_core.specs.declared.mailbox.Body.{Body as TheBody};
 ghost use Rattle.verb_core.specs.Deeds.{is_notice as is_of_notice};
 ghost use Rattle.verb_core.specs.Items.{NumbersApart, text_in};
-ghost use Rattle.shelf.specs.declared.note.Note.{Note as TheNote};
 ghost use Rattle.shelf.specs.Notes.{note_of, same_body};
 ghost use Rattle.mail_desk.specs.Noting.{IsNotedBy, Knows, note_by, renoted, rows_by};
 ghost use Rattle.mail_desk.specs.Timeline.{NotesText, SizesOf, body_of};

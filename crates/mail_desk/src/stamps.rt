@@ -4,7 +4,7 @@ ghost use Rattle.std.specs.Ordering.{eq_by_cmp};
 ghost use Rattle.verb_core.specs.declared.mailbox.BoxId.{BoxId as TheBoxId};
 ghost use Rattle.verb_core.specs.declared.mailbox.Mailbox.{Mailbox as TheMailbox};
 ghost use Rattle.verb_core.specs.Boxes.{box_cmp, box_of, is_rising, row_at, has_row, add_row, drop_row};
-ghost use Rattle.verb_core.specs.Names.{inbox, lost_found, is_fixed as is_always_there};
+ghost use Rattle.verb_core.specs.Names.{lost_found, is_fixed as is_always_there};
 ghost use Rattle.verb_core.specs.Stamps.{stamps_after};
 ghost use Rattle.verb_core.specs.Step.{step, way_of};
 ghost use Rattle.verb_core.specs.Store.{IsValid};
