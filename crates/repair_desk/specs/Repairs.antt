@@ -1,5 +1,5 @@
 -- The operator's repairs of a timeline: acts that come in behind a point, and later items that go or get another text.
-use Rattle.std.specs.Prelude.{ℕ, ◌+◌, Bool, true, false, not, ◌&&◌, ◌==◌, if◌then◌else◌, List, [], ◌∷◌, ◌++◌, map, reverse, filter, find, take, drop, length, Option, Some, None, is_some, option_map}
+use Rattle.std.specs.Prelude.{ℕ, ◌+◌, Bool, not, ◌&&◌, ◌==◌, if◌then◌else◌, List, [], ◌∷◌, ◌++◌, map, reverse, filter, find, take, drop, length, Option, Some, None, is_some, option_map}
 use Rattle.std.specs.List.{list_all, list_any, position_from}
 use Rattle.verb_core.specs.declared.conf.House.{House}
 use Rattle.verb_core.specs.declared.item.Act.{Act}

@@ -1,5 +1,5 @@
 //! What is asked of a cycle, to be looked up by number.
-ghost use Rattle.std.specs.Prelude.{◌≡◌, ◌&&◌, IfOk, Some, option_copied};
+ghost use Rattle.std.specs.Prelude.{◌≡◌, IfOk, Some, option_copied};
 ghost use Rattle.repair_desk.specs.Lookups.{LeadTo, text_at as at_place};
 ghost use Rattle.repair_desk.specs.Repairs.{is_dropped, is_replaced, text_asked};
 

@@ -1,5 +1,5 @@
 //! The later items, those that stay and those that go.
-ghost use Rattle.std.specs.Prelude.{◌≡◌, ◌++◌, map, length, IfOk, OnOk};
+ghost use Rattle.std.specs.Prelude.{◌≡◌, ◌++◌, map, IfOk, OnOk};
 ghost use Rattle.repair_desk.specs.Repairs.{kept, repaired as is_repaired, withdrawn as withdrawn_of};
 
 use crate::asked::Asked;

@@ -1,6 +1,6 @@
 //! What holds of every repaired timeline, of stamps after a cycle, and of mailboxes after an item. These functions do nothing:
 //! their contracts are laws of the definitions.
-ghost use Rattle.std.specs.Prelude.{◌≡◌, ◌≢◌, ℕ, ◌+◌, ◌<◌, ◌≤◌, ◌==◌, Bool, true, not, ◌&&◌, List, map, take, length, IsTrue, Some};
+ghost use Rattle.std.specs.Prelude.{◌≡◌, ◌≢◌, ℕ, ◌+◌, ◌<◌, ◌≤◌, ◌==◌, true, not, ◌&&◌, List, map, take, length, IsTrue, Some};
 ghost use Rattle.std.specs.List.{AllByRecursion, list_any};
 ghost use Rattle.verb_core.specs.declared.conf.House.{House};
 ghost use Rattle.verb_core.specs.declared.item.Item.{Item};

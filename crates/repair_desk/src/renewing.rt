@@ -1,12 +1,12 @@
 //! The stamps after a cycle.
-ghost use Rattle.std.specs.Prelude.{◌≡◌, ℕ, map, IfOk, IsTrue, option_copied, unwrap_or};
+ghost use Rattle.std.specs.Prelude.{◌≡◌, ℕ, map, IfOk, IsTrue};
 ghost use Rattle.std.specs.List.{list_any};
 ghost use Rattle.verb_core.specs.declared.mailbox.BoxId.{BoxId as TheBoxId};
 ghost use Rattle.verb_core.specs.declared.mailbox.Mailbox.{Mailbox as TheMailbox};
 ghost use Rattle.verb_core.specs.Boxes.{box_cmp, is_rising, row_at};
 ghost use Rattle.verb_core.specs.Mailboxes.{is_mailbox};
 ghost use Rattle.verb_core.specs.Store.{IsValid};
-ghost use Rattle.repair_desk.specs.Renewals.{UidsRise, extends as is_extended, extends_one, is_old as is_old_mail, renewed, same_mail as is_same_mail, stamp_after as is_stamp_after};
+ghost use Rattle.repair_desk.specs.Renewals.{UidsRise, extends as is_extended, is_old as is_old_mail, renewed, same_mail as is_same_mail, stamp_after as is_stamp_after};
 
 use box_store::Store;
 use std::alloc::Global;
