@@ -1,5 +1,6 @@
 //! LIST, LSUB and STATUS (RFC 3501, sections 6.3.8 to 6.3.10).
-ghost use Rattle.std.specs.Prelude.{◌≡◌, ◌++◌, [], IfOk, OnErr};
+ghost use Rattle.std.specs.Prelude.{◌≡◌, ◌++◌, [], IfOk, IsTrue, OnErr};
+ghost use Rattle.verb_core.specs.Boxes.{is_rising};
 ghost use Rattle.verb_core.specs.Store.{IsValid};
 ghost use Rattle.imap_text.specs.Answers.{list_lines, status_line};
 ghost use Rattle.imap_view.specs.Names.{mailbox_of as mailbox_named};
@@ -170,7 +171,8 @@ pub(crate) fn counted(
     mailbox: &Name,
     asked: &StatusAsks,
 ) -> Result<ImapOut, NoMemory>
-    requires { IsValid store.now.store }
+    requires valid { IsValid store.now.store }
+    requires rising { IsTrue (is_rising stamps.now) }
     ensures { IfOk result (λ out. out ≡ ImapOut.Say (status_line mailbox.now asked.now (facts_at store.now.store stamps.now user mailbox.now) ++ words.tagged tag.now (Answer.Done Word.Status))) }
 {
     let facts = facts_of(store, stamps, user, mailbox)?;

@@ -1,6 +1,7 @@
 //! The session of a mail client.
 ghost use Rattle.std.specs.Prelude.{◌≡◌, IsTrue, IfOk, OnOk, OnErr, true};
 ghost use Rattle.shelf.specs.Notes.{size_of};
+ghost use Rattle.verb_core.specs.Boxes.{is_rising};
 ghost use Rattle.verb_core.specs.Store.{is_house, IsValid};
 ghost use Rattle.imap_session.specs.Dialog.{AsksAsUser, IsNext, ReadsOf, heard, is_at_home, is_due, is_free, is_reading, opening, settle, took, turn, without_memory};
 ghost use Rattle.imap_session.specs.Dialog as spec;
@@ -116,6 +117,7 @@ impl ImapSession {
         outcome: &Result<Item, SubmitFault>,
     ) -> Result<ImapOut, NoMemory>
         requires valid { IsValid store.now.store }
+        requires rising { IsTrue (is_rising stamps.now) }
         requires due { is_due self.old ≡ true }
         ensures ok { IfOk result (λ out. settle store.now.store stamps.now self.old outcome.now ≡ took out self.new) }
         ensures free { OnOk result (is_free self.new ≡ true) }

@@ -1,5 +1,6 @@
 //! The outcome of what was asked of the store.
-ghost use Rattle.std.specs.Prelude.{◌≡◌, ◌++◌, true, if◌then◌else◌, [], IfOk, OnOk, OnErr, IfSome, None};
+ghost use Rattle.std.specs.Prelude.{◌≡◌, ◌++◌, true, if◌then◌else◌, [], IfOk, IsTrue, OnOk, OnErr, IfSome, None};
+ghost use Rattle.verb_core.specs.Boxes.{is_rising};
 ghost use Rattle.verb_core.specs.Store.{IsValid};
 ghost use Rattle.verb_core.specs.Live.{mail_of as mail_in};
 ghost use Rattle.imap_fetch.specs.Told.{fetch_lines as told_lines, store_lines as stored_lines};
@@ -54,7 +55,8 @@ fn selects(
     mailbox: &Name,
     writes: bool,
 ) -> Result<ImapOut, NoMemory>
-    requires { IsValid store.now.store }
+    requires valid { IsValid store.now.store }
+    requires rising { IsTrue (is_rising stamps.now) }
     ensures ok { IfOk result (λ out.
         spec.selects store.now.store stamps.now tag.now (record { user = user; selected = selected.old; awaits = AtRest }) mailbox.now writes
         ≡ took out (record { user = user; selected = selected.new; awaits = AtRest })) }
@@ -160,6 +162,7 @@ fn done(
     item: &Item,
 ) -> Result<ImapOut, NoMemory>
     requires valid { IsValid store.now.store }
+    requires rising { IsTrue (is_rising stamps.now) }
     requires order { IfSome selected.old (λ s. views.is_in_order s.view ≡ true) }
     ensures ok { IfOk result (λ out.
         spec.done store.now.store stamps.now tag.now (record { user = user; selected = selected.old; awaits = AtRest }) item.now pending.now
@@ -265,6 +268,7 @@ fn settle_pending(
     outcome: &Result<Item, SubmitFault>,
 ) -> Result<ImapOut, NoMemory>
     requires valid { IsValid store.now.store }
+    requires rising { IsTrue (is_rising stamps.now) }
     requires order { IfSome selected.old (λ s. views.is_in_order s.view ≡ true) }
     ensures ok { IfOk result (λ out.
         spec.settle_pending store.now.store stamps.now tag.now (record { user = user; selected = selected.old; awaits = AtRest }) pending.now outcome.now
@@ -286,6 +290,7 @@ pub(crate) fn settle(
     outcome: &Result<Item, SubmitFault>,
 ) -> Result<ImapOut, NoMemory>
     requires valid { IsValid store.now.store }
+    requires rising { IsTrue (is_rising stamps.now) }
     requires order { IfSome dialog.old.selected (λ s. views.is_in_order s.view ≡ true) }
     requires due { spec.is_outcome dialog.old.awaits ≡ true }
     ensures ok { IfOk result (λ out. spec.settle store.now.store stamps.now dialog.old outcome.now ≡ took out dialog.new) }

@@ -1,5 +1,6 @@
 //! Ann's INBOX with two messages, which items 2 and 3 brought, and the lengths of their texts.
 ghost use Rattle.std.specs.Prelude.{◌≡◌, ◌<◌, [], IsTrue, IfOk, unwrap_or};
+ghost use Rattle.verb_core.specs.Boxes.{is_rising};
 ghost use Rattle.verb_core.specs.Items.{IsWellFormed, text_in};
 ghost use Rattle.verb_core.specs.Store.{IsValid, is_house};
 ghost use Rattle.verb_core.specs.declared.conf.House.{House};
@@ -58,7 +59,9 @@ fn sound_house(alloc: Global) -> Result<House, Fail>
     Err(Fail::new("the house is not sound"))
 }
 
-fn stamps(alloc: Global) -> Result<Stamps, Fail> {
+fn stamps(alloc: Global) -> Result<Stamps, Fail>
+    ensures { IfOk result (λ stamps. IsTrue (is_rising stamps)) }
+{
     let mut stamps = Stamps::new(alloc);
     let inbox = BoxId {
         user: User(0),
@@ -192,10 +195,12 @@ pub(crate) struct Desk {
     pub shelf: Shelf,
     ghost sound: { IsTrue (is_house house) },
     ghost valid: { IsValid store.store },
+    ghost rising: { IsTrue (is_rising stamps) },
 }
 
 fn desk_with(alloc: Global, house: House, stamps: Stamps, shelf: Shelf) -> Result<Desk, Fail>
-    requires { IsTrue (is_house house) }
+    requires house { IsTrue (is_house house) }
+    requires rising { IsTrue (is_rising stamps) }
 {
     match store(alloc, &house) {
         Ok(store) => Ok(Desk {
@@ -214,7 +219,8 @@ fn desk_with(alloc: Global, house: House, stamps: Stamps, shelf: Shelf) -> Resul
 }
 
 fn desk_of(alloc: Global, house: House, stamps: Stamps) -> Result<Desk, Fail>
-    requires { IsTrue (is_house house) }
+    requires house { IsTrue (is_house house) }
+    requires rising { IsTrue (is_rising stamps) }
 {
     match shelf(alloc) {
         Ok(shelf) => desk_with(alloc, house, stamps, shelf),

@@ -1,6 +1,7 @@
 pub mod Order
 pub mod Views
 pub mod Mail
+pub mod Stamped
 pub mod Picked
 pub mod Told
 pub mod Gone

@@ -1,7 +1,6 @@
 //! What the store tells of a mailbox.
-ghost use Rattle.std.specs.Prelude.{◌≡◌, ◌+◌, true, find, option_copied, option_map, unwrap_or, count_by, position, IfOk};
-ghost use Rattle.std.specs.Ordering.{eq_by_cmp};
-ghost use Rattle.verb_core.specs.Boxes.{box_cmp, box_of, next_at, row_at};
+ghost use Rattle.std.specs.Prelude.{◌≡◌, ◌+◌, true, option_map, unwrap_or, count_by, position, IfOk, IsTrue};
+ghost use Rattle.verb_core.specs.Boxes.{box_cmp, box_of, is_rising, next_at, row_at};
 ghost use Rattle.verb_core.specs.Live as live;
 ghost use Rattle.verb_core.specs.Store.{IsValid};
 ghost use Rattle.imap_view.specs.Facts as fact;
@@ -10,6 +9,7 @@ ghost use Rattle.imap_view.specs.Views as spec;
 use crate::messages::number;
 use box_store::Store;
 use imap_text::BoxFacts;
+use std::cmp::Ordering;
 use undo_base::{Name, NoMemory, User};
 use verb_core::{BoxId, Entry, Stamps};
 
@@ -54,29 +54,31 @@ fn next_of(store: &Store, user: Option<User>, name: &Name) -> u64
     }
 }
 
-fn is_stamp_of(row: &(BoxId, u32), user: User, name: &Name) -> bool
-    ensures { result ≡ eq_by_cmp box_cmp (box_of user name.now) row.now.0 }
+/// How a row lies to the mailbox of that user and name.
+fn compare(row: &(BoxId, u32), user: User, name: &Name) -> Ordering
+    ensures { result ≡ box_cmp row.now.0 (box_of user name.now) }
 {
-    user == row.0.user && name.bytes() == row.0.name.bytes()
+    match row.0.user.0.cmp(&user.0) {
+        Ordering::Less => Ordering::Less,
+        Ordering::Equal => row.0.name.bytes().cmp(name.bytes()),
+        Ordering::Greater => Ordering::Greater,
+    }
 }
 
-fn find_stamp<'a>(stamps: &'a [(BoxId, u32)], user: User, name: &Name) -> Option<&'a (BoxId, u32)>
-    ensures { option_copied result ≡ find (λ r. eq_by_cmp box_cmp (box_of user name.now) r.0) stamps.entry.now }
-{
-    stamps.iter().find(|row| is_stamp_of(row, user, name))
-}
-
+/// The stamp of a mailbox, found by halves: 0 where it is missing.
 fn stamp_at(stamps: &[(BoxId, u32)], user: User, name: &Name) -> u32
+    requires { IsTrue (is_rising stamps.now) }
     ensures { result ≡ unwrap_or (row_at (box_of user name.now) stamps.now) 0 }
 {
-    match find_stamp(stamps, user, name) {
-        Some(row) => row.1,
-        None => 0,
+    match stamps.binary_search_by(|row| compare(row, user, name)) {
+        Ok(place) => stamps[place].1,
+        Err(_) => 0,
     }
 }
 
 /// The UIDVALIDITY of a mailbox.
 fn stamp_of(stamps: &Stamps, user: Option<User>, name: &Name) -> u32
+    requires { IsTrue (is_rising stamps.now) }
     ensures { result ≡ fact.stamp_of stamps.now user name.now }
 {
     stamp_at(stamps.as_slice(), asker(user), name)
@@ -123,7 +125,8 @@ pub fn facts_of(
     user: Option<User>,
     name: &Name,
 ) -> Result<BoxFacts, NoMemory>
-    requires { IsValid store.now.store }
+    requires valid { IsValid store.now.store }
+    requires rising { IsTrue (is_rising stamps.now) }
     ensures { IfOk result (λ facts. facts ≡ fact.facts_at store.now.store stamps.now user name.now) }
 {
     let entries = mail_of(store, user, name);
