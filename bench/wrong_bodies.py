@@ -31,7 +31,7 @@ WRONG = {
     'clock-is-an-hour-off': (SEATS, 'LAST_MOMENT.min(time.as_secs())', 'LAST_MOMENT.min(time.as_secs().saturating_add(3600))'),
     'no-sleep': (SEATS, '        thread::sleep(&self.rt, Duration::from_micros(self.sleep));\n', ''),
     'slow-to-wake': (SEATS, 'let most = longest_sleep(', 'let most = 1000 * longest_sleep('),
-    'status-10-is-3': (MAIN, 'ExitCode::from(status)', 'ExitCode::from(if status == 10 { 3 } else { status })'),
+    'status-10-is-3': (MAIN, 'ExitCode::from(status_of_words(\n        &rt, alloc, &words, found, &mut text, &mut link, disk, &mut out, &OpenGate,\n    ))', 'let status = status_of_words(\n        &rt, alloc, &words, found, &mut text, &mut link, disk, &mut out, &OpenGate,\n    );\n    ExitCode::from(if status == 10 { 3 } else { status })'),
     'words-past-the-fifth-are-dropped': (MAIN, 'args.skip(1)', 'args.skip(1).take(5)'),
 }
 
