@@ -7,7 +7,8 @@ A mailbox of so many messages is made by `init` and by deliveries that are appen
 kind of command: how many went into the piece, the octets of their answers, the seconds until the last answer was there, those in which the server used a
 processor, and how long another client, who asked for a NOOP just after, waited for it (all of a piece is served before anybody else is). Commands that are
 recorded seal an item each, with two syncs: in a memory file system (-d /dev/shm) these cost nothing, and on a disk most. One row for each kind, in this
-order; the store grows meanwhile, and behind 1,024 items comes a snapshot.
+order; the store grows meanwhile, and behind 1,024 items comes a snapshot. Below them single commands that are long: their parts, beside what they are
+compared with, so that a row twice as large tells whether a command costs the product of the two.
 """
 import os, socket, subprocess, sys, tempfile, time
 
@@ -18,6 +19,18 @@ HOUSE = b'host = "mail.test"\ndomains = ["mail.test"]\npostmaster = "ann"\n[[use
 FIRST, OCTETS, MOST = 2, 61_440, 600
 KINDS = ('CAPABILITY', 'NOOP', 'CHECK', 'STATUS INBOX (MESSAGES)', 'STATUS INBOX (UNSEEN)', 'SELECT INBOX', 'EXPUNGE', 'FETCH 1 FLAGS', 'FETCH 1 BODY.PEEK[]',
          'STORE 1 +FLAGS.SILENT (\\Flagged)', 'UID STORE 1 +FLAGS.SILENT (\\Flagged)', 'SEARCH FLAGGED', 'SEARCH UID 1', 'LIST "" *', 'COPY 1 Other', 'NOOP')
+
+# Two messages that are appended: one of so many header fields, one of a text that repeats the front of the string that is searched.
+FIELDS, LETTERS = 25_000, 200_000
+
+def long_ones(count):
+    """Single commands over the last two of the messages, or over all, and what they are."""
+    for many in (1_450, 2_900, 5_800):
+        ranges = b','.join(b'%d' % (4_294_900_000 + n) for n in range(many))
+        yield f'SEARCH, {many} ranges of none', b'SEARCH UID ' + ranges
+        yield f'UID FETCH, {many} ranges of none', b'UID FETCH ' + ranges + b' FLAGS'
+    for many in (3_000, 6_000, 12_000): yield f'FETCH of {many} fields, of {FIELDS}', b'FETCH %d BODY.PEEK[HEADER.FIELDS (%s)]' % (count + 1, b' '.join([b'x'] * many))
+    for many in (1_000, 2_000, 4_000): yield f'SEARCH of {many} letters, in {LETTERS}', b'SEARCH %d TEXT {%d}\r\n%sb' % (count + 2, many + 1, b'a' * many)
 
 def filled(path, count):
     """So many deliveries to ann behind the last record."""
@@ -84,6 +97,12 @@ def row(pid, link, other, command):
     waited = time.perf_counter() - asked   # at least until the piece's answers were read here
     print(f'{command:40} {many:6} {octets:10} {all_:9.3f} {used(pid) - before:9.2f} {waited:9.3f}', flush=True)
 
+def long_row(pid, link, what, command):
+    before, begun = used(pid), time.perf_counter()
+    link.sendall(b'z ' + command + b'\r\n')
+    octets = answers(link, b'z')
+    print(f'{what:40} {1:6} {octets:10} {time.perf_counter() - begun:9.3f} {used(pid) - before:9.2f}', flush=True)
+
 def measured(program, folder, count):
     store, ports = os.path.join(folder, f'store-{count}'), [free_port() for _ in range(3)]
     subprocess.run([program, 'init', store], input=HOUSE, check=True)
@@ -96,6 +115,8 @@ def measured(program, folder, count):
         asks(link, 'SELECT INBOX')
         print(f'{count} messages: commands, octets of answers, seconds until all are there, of a processor, and that another waits')
         for command in KINDS: row(server.pid, link, other, command)
+        for body in (b'b:\r\n' * FIELDS + b'\r\n', b'a' * LETTERS): asks(link, f'APPEND INBOX {{{len(body)}}}\r\n{body.decode()}')
+        for what, command in long_ones(count): long_row(server.pid, link, what, command)
         print(f'memory {memory(server.pid, "VmRSS"):.1f} MB, at most {memory(server.pid, "VmHWM"):.1f}')
     finally:
         server.kill(); server.wait(); os.remove(store)
