@@ -1,16 +1,22 @@
 #!/usr/bin/env python3
-"""Shows that the system's tests see what no proof covers: builds the program with one wrong body at a time, and runs the tests on it.
+"""Shows that the tests see what no proof covers: builds the program with one wrong body at a time, and runs the tests on it.
 
 usage, at the top of a checkout in which `rt ci` has passed:  bench/wrong_bodies.py [--jobs N] [NAME ..]
 
-Each wrong body is a text of one file of the adapters or of `main`, replaced on a copy of the checkout. It is told as 'refused' where the prover does
-not take it, 'red' where `tests/system` or `tests/run` fails on the program that has it (with the first line that says so), and 'NOT SEEN' else. The status
-is 0 where none was NOT SEEN. A build takes minutes: host_outside is proved anew for each.
+Each wrong body is a text of one file, replaced on a copy of the checkout. It is told as 'refused' where the prover does not take it, 'red' where a test fails
+on the program that has it (with the first line that says so), and 'NOT SEEN' else. The status is 0 where none was NOT SEEN. A build takes minutes.
+
+Those of the adapters and of `main` are texts that no clause covers, or few. Those of the sessions' turns and of the console's answers are proved: they give
+up as for want of memory, and no clause can tell a want that a body makes itself from a real one. So only a test refuses them: tests/run, whose cases have ample
+memory, shows the first three red, and tests/faults, on the program `faulty`, those that leave out the answer to a seal that failed.
 """
 import concurrent.futures, os, subprocess, sys, tempfile
 
 PATH, NET, SEATS = 'crates/host_outside/src/path_file.rt', 'crates/host_outside/src/connection.rt', 'crates/host_outside/src/sockets.rt'
 PORTS, MAIN = 'crates/host_outside/src/listeners.rt', 'crates/undomail/src/main.rt'
+REPLY, CLIENT, READER = 'crates/mail_loop/src/reply.rt', 'crates/mail_loop/src/smtp_turn.rt', 'crates/mail_loop/src/imap_turn.rt'
+CONSOLE = 'crates/console_session/src/reply.rt'
+WORDS = '\n        &rt, alloc, &words, found, &mut text, &mut link, disk, &mut out, &OpenGate,\n    '
 WRONG = {
     'file-is-not-synced': (PATH, '.sync_all().map_err(failed)', '.metadata().map(|_| ()).map_err(failed)'),
     'bytes-are-not-synced': (PATH, '.sync_data()', '.metadata()\n            .map(|_| ())'),
@@ -31,9 +37,25 @@ WRONG = {
     'clock-is-an-hour-off': (SEATS, 'LAST_MOMENT.min(time.as_secs())', 'LAST_MOMENT.min(time.as_secs().saturating_add(3600))'),
     'no-sleep': (SEATS, '        thread::sleep(&self.rt, Duration::from_micros(self.sleep));\n', ''),
     'slow-to-wake': (SEATS, 'let most = longest_sleep(', 'let most = 1000 * longest_sleep('),
-    'status-10-is-3': (MAIN, 'ExitCode::from(status_of_words(\n        &rt, alloc, &words, found, &mut text, &mut link, disk, &mut out, &OpenGate,\n    ))', 'let status = status_of_words(\n        &rt, alloc, &words, found, &mut text, &mut link, disk, &mut out, &OpenGate,\n    );\n    ExitCode::from(if status == 10 { 3 } else { status })'),
+    'status-10-is-3': (MAIN, 'ExitCode::from(status_of_words(' + WORDS + '))', 'let status = status_of_words(' + WORDS + ');\n    ExitCode::from(if status == 10 { 3 } else { status })'),
     'words-past-the-fifth-are-dropped': (MAIN, 'args.skip(1)', 'args.skip(1).take(5)'),
+
+    # Proved: they give up as for want of memory.
+    'answer-over-50000-octets-closes': (REPLY, '    reply.closes = match', '    if text.len() > 50000 {\n        reply.closes = true;\n        return;\n    }\n    reply.closes = match'),
+    'line-over-1048576-octets-finds-no-memory': (CLIENT, '    match session.take(', '    if line.long {\n        return starve(session, reply);\n    }\n    match session.take('),
+    'bad-line-closes': (READER, 'Next::Bad(line) => answer(session, bad_line(alloc, &line), reply)', 'Next::Bad(_) => close(session, reply)'),
+    'client-is-not-told-of-a-failed-seal': (CLIENT, '    match session.done(alloc, outcome) {', '    if matches!(outcome, Err(SubmitFault::Disk)) {\n        return close(session, reply);\n    }\n    match session.done(alloc, outcome) {'),
+    'reader-is-not-told-of-a-failed-seal': (READER, '    match done_with(alloc, desk, session, outcome) {', '    if matches!(outcome, Err(SubmitFault::Disk)) {\n        return close(session, reply);\n    }\n    match done_with(alloc, desk, session, outcome) {'),
+    'console-is-not-told-of-a-failed-seal': (CONSOLE, '    tell_only(alloc, 500, error_json(alloc, ErrorWord::Disk), After::Fails)', '    silent(alloc, After::Fails)'),
 }
+
+def built(copy, crate):
+    """The program of a crate of a copy, built anew, or none where the prover does not take it, and what was said of that."""
+    program = f'{copy}/crates/{crate}/out/{crate}'
+    if os.path.exists(program): os.remove(program)
+    ran = subprocess.run(['rt', 'run', '--', 'check', 'none'], cwd=f'{copy}/crates/{crate}', capture_output=True, text=True)
+    if os.path.exists(program): return program, ''
+    return None, next((it for it in ran.stdout.splitlines() + ran.stderr.splitlines() if 'proved' in it or 'error' in it), '')[:160]
 
 def tried(name):
     path, old, new = WRONG[name]
@@ -43,15 +65,12 @@ def tried(name):
         text = open(f'{copy}/{path}').read()
         if text.count(old) != 1: return name, 'BAD', f'{text.count(old)} times in {path}'
         open(f'{copy}/{path}', 'w').write(text.replace(old, new))
-        program = f'{copy}/crates/undomail/out/undomail'
-        if os.path.exists(program): os.remove(program)
-        built = subprocess.run(['rt', 'run', '--', 'check', scratch + '/none'], cwd=copy + '/crates/undomail', capture_output=True, text=True)
-        
-        if not os.path.exists(program): return name, 'refused', next((it for it in built.stdout.splitlines() + built.stderr.splitlines() if 'proved' in it or 'error' in it), '')[:160]
-        for words in (['tests/system', program], ['tests/run', program]):
-            try: ran = subprocess.run(words, cwd=copy, capture_output=True, text=True, timeout=600)
-            except subprocess.TimeoutExpired: return name, 'red', f'{words[0]}: did not end'
-            if ran.returncode: return name, 'red', f'{words[0]}: ' + next((it for it in (ran.stdout + ran.stderr).splitlines() if 'FAILED' in it or 'failed' in it or 'wanted' in it), '')[:200]
+        for tests, crate in (('tests/system', 'undomail'), ('tests/run', 'undomail'), ('tests/faults', 'faulty')):
+            if tests != 'tests/run': program, said = built(copy, crate)
+            if not program: return name, 'refused', said
+            try: ran = subprocess.run([tests, program], cwd=copy, capture_output=True, text=True, timeout=600)
+            except subprocess.TimeoutExpired: return name, 'red', f'{tests}: did not end'
+            if ran.returncode: return name, 'red', f'{tests}: ' + next(iter((ran.stdout + ran.stderr).splitlines()), '')[:200]
     return name, 'NOT SEEN', ''
 
 if __name__ == '__main__':
