@@ -22,7 +22,7 @@ const SEATS: usize = 1000;
 const MOST_VISITS: usize = 2003;
 
 /// The most bytes of one event.
-const MOST_BYTES: usize = 65536;
+const MOST_BYTES: usize = 4096;
 
 /// So many rounds without an event, with a sleep after each, give an idle one, even where the clock can't be read.
 const MOST_ROUNDS: u64 = 2048;
