@@ -194,6 +194,11 @@ fn delivery(alloc: Global, user: u8) -> Result<Deed, Fail>
     })
 }
 
+/// The number of a user's item: 2 of user 0, and so on.
+pub(crate) fn number_of(user: u8) -> u32 {
+    2 + u32::from(user)
+}
+
 fn item(number: u32, by: Option<User>, deed: Deed, shown: Shown) -> Item
     ensures { result ≡ record { number = number; at = 1105092000; by = by; rev = 0; deed = deed; shown = shown } }
 {

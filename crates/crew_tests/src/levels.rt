@@ -8,7 +8,9 @@ ghost use Rattle.replay_plan.specs.Placing.{levels_of};
 ghost use Rattle.replay_crew.specs.Resolving.{AreResolved, AreResolvedFrom};
 
 use crate::gates::{Counting, Holding};
-use crate::given::{EmptyTexts, Given, USERS, at_first, box_id, count_at_first, counted, sent};
+use crate::given::{
+    EmptyTexts, Given, USERS, at_first, box_id, count_at_first, counted, number_of, sent,
+};
 use box_store::{Steps, Store};
 use replay_crew::{ResolvedList, Shows, resolve, run_plan, touch_all};
 use replay_plan::{Levels, plan};
@@ -122,17 +124,22 @@ fn sends(alloc: Global, house: &House, count: u8) -> Result<Vec<StoredItem>, Fai
 {
     let mut items = Vec::new(alloc);
     for user in 0..count {
-        items.push(sent(alloc, house, 2 + u32::from(user), user)?)?;
+        items.push(sent(alloc, house, number_of(user), user)?)?;
     }
     Ok(items)
+}
+
+/// Whether a user's mixed item is a delivery.
+fn is_sent(user: u8) -> bool {
+    user % 2 == 1
 }
 
 /// A user's item: a delivery for an odd number, else a count of INBOX.
 fn mixed_item(alloc: Global, house: &House, user: u8) -> Result<StoredItem, Fail>
     ensures { IfOk result (λ item. IsWellFormed house.now item) }
 {
-    let number = 2 + u32::from(user);
-    if user % 2 == 1 {
+    let number = number_of(user);
+    if is_sent(user) {
         return sent(alloc, house, number, user);
     }
     counted(alloc, house, number, user)
@@ -199,11 +206,11 @@ fn shows(shown: &Shown, sends: bool, before: u64) -> bool {
 
 /// Whether a user's mixed item left the user's INBOX and shows as it should.
 fn is_right(alloc: Global, came: &Came, user: u8) -> Result<bool, Fail> {
-    let sends = user % 2 == 1;
+    let sends = is_sent(user);
     let before = count_at_first(user);
     let (count, last) = inbox(alloc, &came.store, user)?;
     let there = if sends {
-        count == before + 1 && last == 2 + u32::from(user)
+        count == before + 1 && last == number_of(user)
     } else {
         count == before
     };
@@ -257,7 +264,7 @@ fn two_sends_are_worked_out_side_by_side(rt: HostRuntime) -> Result<(), Fail> {
 fn each_item_passes_the_gate_once(rt: HostRuntime) -> Result<(), Fail> {
     let gate = Counting::new(rt.alloc(), 50)?;
     drop(mixed_on(&rt, rt.alloc(), &gate)?);
-    assert!(rt; gate.passed_once(2, 2 + u32::from(USERS)));
+    assert!(rt; gate.passed_once(2, number_of(USERS)));
     Ok(())
 }
 
