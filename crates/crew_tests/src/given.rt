@@ -213,23 +213,19 @@ fn item(number: u32, by: Option<User>, deed: Deed, shown: Shown) -> Item
 }
 
 /// The item of a delivery to a user.
-pub(crate) fn sent(alloc: Global, house: &House, number: u32, user: u8) -> Result<StoredItem, Fail>
+pub(crate) fn sent(alloc: Global, house: &House, user: u8) -> Result<StoredItem, Fail>
     ensures { IfOk result (λ item. IsWellFormed house.now item) }
 {
     let _house = house;
     let deed = delivery(alloc, user)?;
-    Ok(StoredItem::of(alloc, item(number, None, deed, Shown::Nothing)))
+    Ok(StoredItem::of(alloc, item(number_of(user), None, deed, Shown::Nothing)))
 }
 
 /// A user's item that asks how many messages are in INBOX.
-pub(crate) fn counted(
-    alloc: Global,
-    house: &House,
-    number: u32,
-    user: u8,
-) -> Result<StoredItem, Fail>
+pub(crate) fn counted(alloc: Global, house: &House, user: u8) -> Result<StoredItem, Fail>
     ensures { IfOk result (λ item. IsWellFormed house.now item) }
 {
+    let number = number_of(user);
     let user = User(user);
     if !house.knows(user) {
         return Err(Fail::new("an unknown user"));

@@ -124,7 +124,7 @@ fn sends(alloc: Global, house: &House, count: u8) -> Result<Vec<StoredItem>, Fai
 {
     let mut items = Vec::new(alloc);
     for user in 0..count {
-        items.push(sent(alloc, house, number_of(user), user)?)?;
+        items.push(sent(alloc, house, user)?)?;
     }
     Ok(items)
 }
@@ -138,11 +138,10 @@ fn is_sent(user: u8) -> bool {
 fn mixed_item(alloc: Global, house: &House, user: u8) -> Result<StoredItem, Fail>
     ensures { IfOk result (λ item. IsWellFormed house.now item) }
 {
-    let number = number_of(user);
     if is_sent(user) {
-        return sent(alloc, house, number, user);
+        return sent(alloc, house, user);
     }
-    counted(alloc, house, number, user)
+    counted(alloc, house, user)
 }
 
 /// An item for each user, from item 2 on.
