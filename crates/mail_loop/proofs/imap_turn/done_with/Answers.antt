@@ -7,7 +7,7 @@ use Rattle.mail_loop.proofs.imap_turn.done_with.Goals as goal
 
 -- the stamps' names are those of the mailboxes, which rise
 pub done-requires-clause-rising : goal.done-requires-clause-rising
-done-requires-clause-rising c =
+done-requires-clause-rising g c =
     rise_alike c.stamps.result.now c.store.result.now.store.boxes
     (c.stamps.ensures.named ∙ ap (λ (s : MailStore). map (λ (r : BoxId × Mailbox). r.0) s.boxes) (sym c.store.ensures.value))
     c.store.ensures.valid.rising
