@@ -15,7 +15,7 @@ import concurrent.futures, os, subprocess, sys, tempfile
 PATH, NET, SEATS = 'crates/host_outside/src/path_file.rt', 'crates/host_outside/src/connection.rt', 'crates/host_outside/src/sockets.rt'
 PORTS, MAIN = 'crates/host_outside/src/listeners.rt', 'crates/undomail/src/main.rt'
 REPLY, CLIENT, READER = 'crates/mail_loop/src/reply.rt', 'crates/mail_loop/src/smtp_turn.rt', 'crates/mail_loop/src/imap_turn.rt'
-CONSOLE = 'crates/console_session/src/reply.rt'
+CONSOLE, DIALOG = 'crates/console_session/src/reply.rt', 'crates/smtp_session/src/dialog.rt'
 WORDS = '\n        &rt, alloc, &words, found, &mut text, &mut link, disk, &mut out, &OpenGate,\n    '
 WRONG = {
     'file-is-not-synced': (PATH, '.sync_all().map_err(failed)', '.metadata().map(|_| ()).map_err(failed)'),
@@ -42,8 +42,8 @@ WRONG = {
 
     # Proved: they give up as for want of memory.
     'answer-over-50000-octets-closes': (REPLY, '    reply.closes = match', '    if text.len() > 50000 {\n        reply.closes = true;\n        return;\n    }\n    reply.closes = match'),
-    'line-over-1048576-octets-finds-no-memory': (CLIENT, '    match session.take(', '    if line.long {\n        return starve(session, reply);\n    }\n    match session.take('),
-    'bad-line-closes': (READER, 'Next::Bad(line) => answer(session, bad_line(alloc, &line), reply)', 'Next::Bad(_) => close(session, reply)'),
+    'line-over-1048576-octets-finds-no-memory': (DIALOG, '    match read_command(alloc, line) {', '    if line.long {\n        return Err(NoMemory);\n    }\n    match read_command(alloc, line) {'),
+    'bad-line-closes': (READER, 'Ok(text) => say(reply, text.bytes(), false)', 'Ok(_) => reply.closes = true'),
     'client-is-not-told-of-a-failed-seal': (CLIENT, '    match session.done(alloc, outcome) {', '    if matches!(outcome, Err(SubmitFault::Disk)) {\n        return close(session, reply);\n    }\n    match session.done(alloc, outcome) {'),
     'reader-is-not-told-of-a-failed-seal': (READER, '    match done_with(alloc, desk, session, outcome) {', '    if matches!(outcome, Err(SubmitFault::Disk)) {\n        return close(session, reply);\n    }\n    match done_with(alloc, desk, session, outcome) {'),
     'console-is-not-told-of-a-failed-seal': (CONSOLE, '    tell_only(alloc, 500, error_json(alloc, ErrorWord::Disk), After::Fails)', '    silent(alloc, After::Fails)'),
