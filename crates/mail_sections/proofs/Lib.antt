@@ -1,5 +1,6 @@
 pub mod Cutting
 pub mod Grouping
+pub mod Listing
 pub mod Telling
 pub mod Together
 pub mod Rows

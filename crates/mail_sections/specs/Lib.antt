@@ -1,4 +1,5 @@
 pub mod Lines
 pub mod Fields
+pub mod Listed
 pub mod Sections
 pub mod Laws

@@ -6,6 +6,7 @@ ghost use Rattle.mail_sections.specs.Lines.{begins_empty as empty_begins};
 
 use crate::fields::{field_len, is_wanted};
 use crate::lines::{begins_empty, is_empty_line, line_len};
+use crate::listed::ListedNames;
 use std::alloc::Global;
 use undo_base::{Names, NoMemory, Section, SectionAsk, Text, after, before};
 
@@ -87,13 +88,14 @@ fn fields(
 ) -> Result<Text, NoMemory>
     ensures { IfOk result (λ told. told ≡ part_of asked (fields_where (wanted among names.now) text.now)) }
 {
+    let listed = ListedNames::of(alloc, names)?;
     let mut told = Text::new(alloc);
     let mut left = asked;
     let mut rest = text;
     while begins_field(rest) {
         let count = field_len(rest);
         let field = before(rest, count);
-        if is_wanted(among, names, field) {
+        if is_wanted(among, &listed, field) {
             left = tell(&mut told, left, field)?;
         }
         rest = after(rest, count);

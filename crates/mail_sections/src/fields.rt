@@ -6,7 +6,8 @@ ghost use Rattle.mail_sections.specs.Lines.{begins_empty as empty_begins};
 ghost use Rattle.mail_sections.specs.Fields.{is_blank as blank, is_colon, is_folded as folded, fields_of, has_empty_line, trimmed, name_of, is_listed as listed, is_wanted as wanted};
 
 use crate::lines::line_len;
-use undo_base::{Name, Names, after, before};
+use crate::listed::ListedNames;
+use undo_base::{after, before};
 
 fn is_blank(byte: u8) -> bool
     ensures { result ≡ blank byte }
@@ -79,25 +80,15 @@ fn name_in(field: &[u8]) -> &[u8]
     trim(before(field, colon_of(field)))
 }
 
-/// Whether a name is one of the names, ignoring case.
-fn is_among(names: &Names, own: &[u8]) -> bool
-    ensures { result ≡ list_any (λ name. str_eq_ignore_ascii_case own.now name) names.now }
-{
-    names
-        .as_slice()
-        .iter()
-        .any(|name| own.eq_ignore_ascii_case(name.bytes()))
-}
-
 /// Whether a field has one of the names.
-fn is_listed(names: &Names, field: &[u8]) -> bool
+fn is_listed(names: &ListedNames<'_>, field: &[u8]) -> bool
     ensures { result ≡ listed names.now field.now }
 {
-    has_colon(field) && is_among(names, name_in(field))
+    has_colon(field) && names.contains(name_in(field))
 }
 
 /// Whether a field has one of the names, or has none of them where the others are wanted.
-pub(crate) fn is_wanted(among: bool, names: &Names, field: &[u8]) -> bool
+pub(crate) fn is_wanted(among: bool, names: &ListedNames<'_>, field: &[u8]) -> bool
     ensures { result ≡ wanted among names.now field.now }
 {
     is_listed(names, field) == among

@@ -18,7 +18,8 @@ loop-count-preserved c =
     let next : fields_where test more ≡ fields_where test c.after-rest.result.now = ap (fields_where test) (sym c.after-rest.ensures) in
     let is = c.field_len-count.ensures.fields in
     let ends = c.field_len-count.ensures.end in
-    let tested = ap test (sym c.before-field.ensures) ∙ sym c.is_wanted.ensures in
+    let listed = ap (λ (names : List (List ℕ)). is_wanted c.args.among names c.before-field.result.now) (sym c.in_ok-listed.ensures) in
+    let tested = ap test (sym c.before-field.ensures) ∙ listed ∙ sym c.is_wanted.ensures in
     elim c.if-is_wanted.branch [
       | then-is_wanted+in_ok-left w ↦
           let same : c.before-field.result.now ≡ field = c.before-field.ensures in

@@ -1,0 +1,74 @@
+//! Listed names: whether a name is one of them, in time that grows as the logarithm of how many there are.
+ghost use Rattle.std.specs.Prelude.{◌≡◌, ◌≤◌, length, take, IfOk, OnOk};
+ghost use Rattle.std.specs.List.{list_any};
+ghost use Rattle.std.specs.Str.{str_eq_ignore_ascii_case, str_to_ascii_lowercase};
+ghost use Rattle.mail_sections.specs.Listed.{AreShort, Holds};
+
+use std::alloc::Global;
+use std::collections::BTreeSet;
+use std::marker::Model;
+use undo_base::{MOST_NAME, Name, Names, NoMemory, before};
+
+/// Listed names, and the set of them in lower case.
+#[derive(Drop)]
+pub(crate) struct ListedNames<'a> {
+    names: &'a Names,
+    lower: BTreeSet<Vec<u8>>,
+}
+
+impl<'a> Model for ListedNames<'a> {
+    ghost use Rattle.std.specs.Prelude.{List, ℕ};
+    ghost use Rattle.mail_sections.specs.Listed.{AreShort, Holds};
+
+    ghost Value = { List (List ℕ) };
+
+    ghost view = { λ l. l.names.now };
+
+    ghost invariant = { λ l. Holds l.lower l.names.now × AreShort l.names.now };
+}
+
+/// Names in lower case, each once.
+fn lowered(alloc: Global, names: &[Name]) -> Result<BTreeSet<Vec<u8>>, NoMemory>
+    ensures holds { IfOk result (λ lower. Holds lower names.now) }
+    ensures short { OnOk result (AreShort names.now) }
+{
+    let mut lower = BTreeSet::new(alloc);
+    for name in names {
+        lower.insert(name.bytes().to_ascii_lowercase(alloc)?)?;
+    }
+    Ok(lower)
+}
+
+/// Writes bytes in lower case at the front of others.
+fn write_lower(bytes: &[u8], out: &mut [u8])
+    requires { length bytes.now ≤ length out.old }
+    ensures same { length out.new ≡ length out.old }
+    ensures written { take (length bytes.now) out.new ≡ str_to_ascii_lowercase bytes.now }
+{
+    for (place, byte) in bytes.iter().enumerate() {
+        out[place] = byte.to_ascii_lowercase();
+    }
+}
+
+impl<'a> ListedNames<'a> {
+    /// The names of a list.
+    pub(crate) fn of(alloc: Global, names: &'a Names) -> Result<ListedNames<'a>, NoMemory>
+        ensures { IfOk result (λ listed. listed ≡ names.now) }
+    {
+        let lower = lowered(alloc, names.as_slice())?;
+        Ok(ListedNames { names, lower })
+    }
+
+    /// Whether a name is one of them, ignoring case. Takes no memory; a name that is longer than any that can be listed is not read.
+    pub(crate) fn contains(&self, own: &[u8]) -> bool
+        ensures { result ≡ list_any (λ name. str_eq_ignore_ascii_case own.now name) self.now }
+    {
+        let listed = &self.lower;
+        if own.len() > MOST_NAME {
+            return false;
+        }
+        let mut lower = [0; MOST_NAME];
+        write_lower(own, &mut lower);
+        listed.contains(before(&lower, own.len()))
+    }
+}
