@@ -1,5 +1,5 @@
 -- The events of `grow`, one after the other, and how many there are.
-use Rattle.std.proofs.Common.{◌≡◌, ◌≤◌, ◌↔◌, ℕ, ◌+◌, ◌*◌, zero, suc, List, [], ◌∷◌, ◌++◌, length, Option, None, Some, Err, refl, ap, subst, sym, ◌∙◌, arith}
+use Rattle.std.proofs.Common.{◌≡◌, ◌≢◌, ◌≤◌, ◌↔◌, ℕ, ◌+◌, ◌*◌, ◌^◌, zero, suc, List, [], ◌∷◌, ◌++◌, length, Option, None, Some, Result, Err, refl, ap, subst, sym, ◌∙◌, arith}
 use Rattle.std.specs.List.{flat_map}
 use Rattle.std.proofs.lemmas.List.{append-nil, append_assoc, length-append, length-map}
 use Rattle.std.proofs.lemmas.Grind.{flat_map-append}
@@ -7,14 +7,16 @@ use Rattle.undo_outside.specs.declared.event.Event.{Event}
 use Rattle.undo_outside.specs.declared.event.LinkNote.{LinkNote}
 use Rattle.undo_outside.specs.Coming.{with_end}
 use Rattle.paradox.specs.Kept.{Kept}
-use Rattle.mail_loop.specs.declared.serve.ServeFault.TheVariants.{Turns}
-use Rattle.mail_loop.specs.Serving.{Step, events_of}
+use Rattle.mail_loop.specs.declared.serve.ServeFault.{ServeFault}
+use Rattle.mail_loop.specs.declared.serve.ServeFault.TheVariants.{NoMemory, Turns}
+use Rattle.mail_loop.specs.Serving.{Served, Step, events_of, left_out_in}
 use Rattle.command_words.specs.declared.commands.Command.{Command}
 use Rattle.command_words.specs.declared.commands.Command.TheVariants.{Init, Serve, Script, Play, Grow, Check}
 use Rattle.command_words.specs.Spelling.{Says}
 use Rattle.command_words.specs.Usage.{command_of}
 use Rattle.mail_proxy.specs.Generated.{generated, greeting, reading_of, repair_of, round_of, up_to}
 use Rattle.mail_proxy.specs.Script.{Played}
+use Rattle.mail_proxy.proofs.LeftOut.{ended_as}
 
 -- an event, and then more
 pub followed : (a b c : List Event) (x : Event) (xs : List Event) → b ≡ a ++ x ∷ [] → c ≡ b ++ xs → c ≡ a ++ x ∷ xs
@@ -55,12 +57,17 @@ length-with_end : (at : ℕ) (events : List Event) → length (with_end at event
 length-with_end at [] = refl
 length-with_end at (e ∷ events) = omega (arith, length-with_end e.at events)
 
+no_want : ◌≢◌ {A = ServeFault} Turns NoMemory
+no_want e = cc
+
 -- fewer than are served at most
 pub few_events : (rounds : ℕ) (first : Kept) (notes : List LinkNote) (steps : List Step) (last : Kept) → rounds ≤ 100000
     → Played first (generated rounds) (Err Turns) notes steps last → ⊥
 few_events rounds first notes steps last few played =
     let (rest, all) = played.events_are in
-    let many : length steps ≡ 1099511627776 = played.served.2 in
+    let ended : played.ended ≡ Err Turns = ended_as (left_out_in steps) played.ended Turns no_want played.outcome_is in
+    let served : Served (2 ^ 40) played.wants steps first notes last (Err Turns) = subst (λ (r : Result (Unit {0}) ServeFault). Served (2 ^ 40) played.wants steps first notes last r) ended played.served in
+    let many : length steps ≡ 1099511627776 = served.2 in
     let whole : length (with_end 0 (generated rounds)) ≡ length steps + length rest =
     ap length all ∙ length-append (events_of steps) rest ∙ ap (λ (n : ℕ). n + length rest) (length-map steps (λ (step : Step). step.event)) in
     omega (arith, few, many, whole, length-with_end 0 (generated rounds), length-generated rounds)

@@ -6,17 +6,18 @@ ghost use Rattle.mail_proxy.specs.Growing.{Grows, ServesGenerated, grown_text};
 ghost use Rattle.mail_proxy.specs.Plans.{output_of};
 
 use crate::check::{counts_text, push_count};
+use crate::counting_link::CountingLink;
 use crate::generating::generate;
 use crate::plan::{LastLine, Plan, only_line};
 use crate::play::playing_desk;
-use crate::serving::{MOST_EVENTS, plan_of};
+use crate::serving::{MOST_EVENTS, outcome_over, plan_of};
 use mail_desk::Counts;
 use mail_loop::serve_events;
 use std::alloc::Global;
 use std::thread::Threads;
 use time_desk::Desk;
-use undo_base::{NoMemory, Numbers, Text};
-use undo_outside::{Disk, Events, Gate, MemLink};
+use undo_base::{NoMemory, Text};
+use undo_outside::{Disk, Events, Gate};
 
 /// Generates the events of so many rounds, and serves them over a store in memory, which has the house of `play`.
 pub fn plan_grow<R: Threads + Sync, G: Gate>(rt: &R, alloc: Global, rounds: u32, gate: &G) -> Plan
@@ -61,8 +62,9 @@ fn serve_generated<R: Threads + Sync, D: Disk + Drop, G: Gate>(
     requires { desk.old.closed ≡ false }
     ensures { ServesGenerated D.told rounds events desk.old desk.new result.status (output_of result) }
 {
-    let mut link = MemLink::new(alloc, events, Numbers::new(alloc));
-    match serve_events(rt, alloc, desk, &mut link, gate, MOST_EVENTS) {
+    let mut link = CountingLink::new(alloc, events);
+    let ended = serve_events(rt, alloc, desk, &mut link, gate, MOST_EVENTS);
+    match outcome_over(&link, ended) {
         Ok(()) => plan_grown(alloc, rounds, desk.counts()),
         Err(fault) => plan_of(Err(fault), Text::new(alloc)),
     }

@@ -2,22 +2,23 @@
 ghost use Rattle.std.specs.Prelude.{◌≡◌, false};
 ghost use Rattle.mail_proxy.specs.Lines.{line_text};
 ghost use Rattle.mail_proxy.specs.Plans.{output_of};
-ghost use Rattle.mail_proxy.specs.Script.{ServesOver, last_line, or_no_memory, status_of};
+ghost use Rattle.mail_proxy.specs.Script.{ServesOver, last_line, or_no_memory, status_of, unless_left_out};
 
+use crate::counting_link::CountingLink;
 use crate::plan::{LastLine, Plan};
 use mail_loop::{ServeFault, serve_events};
 use script_link::transcript;
 use std::alloc::Global;
 use std::thread::Threads;
 use time_desk::Desk;
-use undo_base::{NoMemory, Numbers, Text};
-use undo_outside::{Disk, Events, Gate, MemLink};
+use undo_base::{NoMemory, Text};
+use undo_outside::{Disk, Events, Gate, Link};
 
 /// The most events that a command serves; more than come in any run.
 pub const MOST_EVENTS: u64 = 1 << 40;
 
 /// Serves the events over a link in memory. What is written is the transcript and the last line; the transcript is left out
-/// where no memory is found for it.
+/// where no memory is found for it. Where a string was left out and no fault came the last line tells want of memory.
 pub fn serve_script<R: Threads + Sync, D: Disk + Drop, G: Gate>(
     rt: &R,
     alloc: Global,
@@ -28,11 +29,23 @@ pub fn serve_script<R: Threads + Sync, D: Disk + Drop, G: Gate>(
     requires { desk.old.closed ≡ false }
     ensures { ServesOver D.told events desk.old desk.new result.status (output_of result) }
 {
-    let mut link = MemLink::new(alloc, events, Numbers::new(alloc));
-    let served = serve_events(rt, alloc, desk, &mut link, gate, MOST_EVENTS);
+    let mut link = CountingLink::new(alloc, events);
+    let ended = serve_events(rt, alloc, desk, &mut link, gate, MOST_EVENTS);
+    let served = outcome_over(&link, ended);
     match transcript(alloc, link.log()) {
         Ok(transcript) => plan_of(served, transcript),
         Err(NoMemory) => plan_of(or_starved(served), Text::new(alloc)),
+    }
+}
+
+/// What serving over a link came to: want of memory where a call of the link found none, and no fault came before.
+pub fn outcome_over(link: &CountingLink, ended: Result<(), ServeFault>) -> Result<(), ServeFault>
+    ensures { result ≡ unless_left_out (⟦<CountingLink as Link>⟧.told link.now).starved ended }
+{
+    if link.starved() == 0 {
+        ended
+    } else {
+        or_starved(ended)
     }
 }
 

@@ -1,43 +1,45 @@
-use Rattle.std.proofs.Common.{◌==◌, ℕ, List, length, ap, ◌∙◌}
+use Rattle.std.proofs.Common.{◌∙◌}
 use Rattle.mail_loop.specs.Serving.{unsealed_in}
 use Rattle.mail_proxy.specs.Lines.{line_text}
-use Rattle.mail_proxy.proofs.Served.{played_by, log_notes, tells_by, tells_last, disk_fails}
+use Rattle.mail_proxy.proofs.Served.{played_by, log_notes, tells_by, tells_last, disk_failed}
 use Rattle.mail_proxy.proofs.serving.serve_script.Goals as goal
 
 pub returns-in-Ok : goal.returns-in-Ok
 returns-in-Ok g c =
-    let (steps, notes, over, (added, seals, read), through) = c.serve_events-served.ensures.serves in
-    let outcome = c.serve_events-served.result in
+    let (steps, notes, over, (added, seals, read), through) = c.serve_events-ended.ensures.serves in
+    let ended = c.serve_events-ended.result in
+    let outcome = c.outcome_over-served.result in
     let told = g.D.Disk.told in
     record {
       outcome = outcome;
       notes = notes;
       steps = steps;
       added = added;
-      played = played_by c.args.events over c.new-link.ensures.coming (c.new-link.ensures.reliable ∙ ap (λ (l : List ℕ). length l == 0) c.new.ensures);
+      played = played_by c.args.events outcome over c.new-link.ensures.coming c.new-link.ensures.reliable c.new-link.ensures.starved c.outcome_over-served.ensures;
       tells = tells_by outcome notes c.log.result.now c.plan_of.result.status c.plan_of.result.body (line_text c.plan_of.result.last)
           c.plan_of.ensures.status (c.plan_of.ensures.body ∙ c.in-Ok.ensures) (log_notes c.log.result.now over c.new-link.ensures.log c.log.ensures) c.plan_of.ensures.last;
       seals = seals;
       read = read;
-      disk_fault = disk_fails told added (unsealed_in steps c.args.desk.now.kept) c.args.desk.now c.serve_events-served.new.desk outcome seals c.requires c.serve_events-served.ensures.closed;
+      disk_fault = disk_failed told added (unsealed_in steps c.args.desk.now.kept) c.args.desk.now c.serve_events-ended.new.desk _ ended outcome seals c.requires c.serve_events-ended.ensures.closed c.outcome_over-served.ensures;
       through = through;
     }
 
 pub returns : goal.returns
 returns g c =
-    let (steps, notes, over, (added, seals, read), through) = c.serve_events-served.ensures.serves in
-    let outcome = c.serve_events-served.result in
+    let (steps, notes, over, (added, seals, read), through) = c.serve_events-ended.ensures.serves in
+    let ended = c.serve_events-ended.result in
+    let outcome = c.outcome_over-served.result in
     let told = g.D.Disk.told in
     record {
       outcome = outcome;
       notes = notes;
       steps = steps;
       added = added;
-      played = played_by c.args.events over c.new-link.ensures.coming (c.new-link.ensures.reliable ∙ ap (λ (l : List ℕ). length l == 0) c.new.ensures);
+      played = played_by c.args.events outcome over c.new-link.ensures.coming c.new-link.ensures.reliable c.new-link.ensures.starved c.outcome_over-served.ensures;
       tells = tells_last outcome c.or_starved.result notes c.plan_of-in-Err.result.status c.plan_of-in-Err.result.body (line_text c.plan_of-in-Err.result.last)
-          c.or_starved.ensures c.plan_of-in-Err.ensures.status (c.plan_of-in-Err.ensures.body ∙ c.new-in-Err.ensures) c.plan_of-in-Err.ensures.last;
+          c.or_starved.ensures c.plan_of-in-Err.ensures.status (c.plan_of-in-Err.ensures.body ∙ c.new.ensures) c.plan_of-in-Err.ensures.last;
       seals = seals;
       read = read;
-      disk_fault = disk_fails told added (unsealed_in steps c.args.desk.now.kept) c.args.desk.now c.serve_events-served.new.desk outcome seals c.requires c.serve_events-served.ensures.closed;
+      disk_fault = disk_failed told added (unsealed_in steps c.args.desk.now.kept) c.args.desk.now c.serve_events-ended.new.desk _ ended outcome seals c.requires c.serve_events-ended.ensures.closed c.outcome_over-served.ensures;
       through = through;
     }

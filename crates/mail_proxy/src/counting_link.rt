@@ -1,0 +1,87 @@
+//! A link in memory that can be asked how many of its calls found no memory.
+ghost use Rattle.std.specs.Prelude.{◌≡◌, [], true, Some};
+ghost use Rattle.undo_outside.specs.Calls.{RoseOnce};
+ghost use Rattle.undo_outside.specs.Coming.{with_end};
+
+use std::alloc::Global;
+use undo_base::{NoMemory, Numbers};
+use undo_outside::{Event, Events, Fault, Link, LinkFault, LinkNotes, MemLink};
+
+/// Gives stated events and `End` after them, keeps its log, and counts the calls that found no memory.
+#[derive(Debug, Drop)]
+pub struct CountingLink {
+    link: MemLink,
+    starved: u64,
+}
+
+impl CountingLink {
+    /// A link on which these events come and then `End`, and none of whose calls is to fail.
+    pub fn new(alloc: Global, events: Events) -> CountingLink
+        ensures log { (⟦<CountingLink as Link>⟧.told result).log ≡ Some [] }
+        ensures coming { (⟦<CountingLink as Link>⟧.told result).coming ≡ Some (with_end 0 events) }
+        ensures reliable { (⟦<CountingLink as Link>⟧.told result).is_reliable ≡ true }
+        ensures starved { (⟦<CountingLink as Link>⟧.told result).starved ≡ 0 }
+    {
+        CountingLink {
+            link: MemLink::new(alloc, events, Numbers::new(alloc)),
+            starved: 0,
+        }
+    }
+
+    /// What the link did so far.
+    pub fn log(&self) -> &LinkNotes
+        ensures { (⟦<CountingLink as Link>⟧.told self.now).log ≡ Some result.now }
+    {
+        self.link.log()
+    }
+
+    /// How many calls found no memory so far.
+    pub fn starved(&self) -> u64
+        ensures { result ≡ (⟦<CountingLink as Link>⟧.told self.now).starved }
+    {
+        self.starved
+    }
+}
+
+/// A call found no memory.
+fn count(starved: &mut u64)
+    ensures { RoseOnce starved.old starved.new }
+{
+    *starved = starved.saturating_add(1);
+}
+
+impl Link for CountingLink {
+    ghost told = { λ l. record (⟦<MemLink as Link>⟧.told l.link) { starved = l.starved } };
+
+    fn next(&mut self) -> Result<Event, LinkFault> {
+        match self.link.next() {
+            Ok(event) => Ok(event),
+            Err(Fault::Failed) => Err(Fault::Failed),
+            Err(Fault::NoMemory) => {
+                count(&mut self.starved);
+                Err(Fault::NoMemory)
+            }
+        }
+    }
+
+    fn send(&mut self, conn: u32, bytes: &[u8]) -> Result<(), LinkFault> {
+        match self.link.send(conn, bytes) {
+            Ok(()) => Ok(()),
+            Err(Fault::Failed) => Err(Fault::Failed),
+            Err(Fault::NoMemory) => {
+                count(&mut self.starved);
+                Err(Fault::NoMemory)
+            }
+        }
+    }
+
+    fn close(&mut self, conn: u32) -> Result<(), NoMemory> {
+        match self.link.close(conn) {
+            Ok(()) => Ok(()),
+            Err(NoMemory) => {
+                count(&mut self.starved);
+                Err(NoMemory)
+            }
+        }
+    }
+}
