@@ -1,0 +1,10 @@
+pub mod Lists
+pub mod Options
+pub mod Boxes
+pub mod Live
+pub mod Steps
+pub mod Naming
+pub mod Mailing
+pub mod Tokens
+pub mod Spoken
+pub mod Reading

@@ -1,0 +1,13 @@
+//! Every ask that the dialogs make can be recorded.
+//!
+//! `ranges` says of what the store makes of an ask that its record has a spelling, and of items that they keep the store's numbers and names
+//! in the ranges of records; `mail_client` says what a mail client's dialog asks, and `mail_reader` what a mail reader's asks.
+#![tactic(auto)]
+
+mod mail_client;
+mod mail_reader;
+mod ranges;
+
+pub use mail_client::{mail_clients_ask_for_deliveries, mail_dialogs_have_names};
+pub use mail_reader::{commands_are_in_range, mail_readers_ask_what_can_be_recorded, reading_dialogs_have_names};
+pub use ranges::{live_items_have_spellings, stores_stay_in_range};

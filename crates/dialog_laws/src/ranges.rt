@@ -1,0 +1,36 @@
+//! What the store makes of an ask, and what items leave of it. These functions do nothing: their contracts are laws of the definitions.
+ghost use Rattle.std.specs.Prelude.{◌≡◌, ℕ, ◌+◌, ◌≤◌, IsTrue, IfSome, List, length, None, Ok, Option};
+ghost use Rattle.std.specs.List.{AllByRecursion};
+ghost use Rattle.undo_base.specs.declared.keys.User.{User};
+ghost use Rattle.verb_core.specs.declared.ask.Ask.{Ask};
+ghost use Rattle.verb_core.specs.declared.ask.Ask.TheVariants.{Deliver};
+ghost use Rattle.verb_core.specs.declared.conf.Conf.{Conf};
+ghost use Rattle.verb_core.specs.declared.conf.House.{House};
+ghost use Rattle.verb_core.specs.declared.item.Item.{Item};
+ghost use Rattle.verb_core.specs.Live.{live};
+ghost use Rattle.verb_core.specs.Step.{run, step};
+ghost use Rattle.verb_core.specs.Store.{IsValid, MailStore, is_house, opening};
+ghost use Rattle.verb_bytes.specs.declared.journal.JournalRecord.TheVariants.{Verb};
+ghost use Rattle.verb_bytes.specs.Limits.{IsAsked, IsUser, delivery};
+ghost use Rattle.verb_bytes.specs.Spelling.{HasSpelling};
+ghost use Rattle.dialog_laws.specs.Ranges.{IsKeeping, IsRecordable, IsStored};
+
+/// The item that a store makes of an ask that can be recorded has a spelling, with what is shown for it.
+pub fn live_items_have_spellings()
+    ensures asked { (s : MailStore) (number at : ℕ) (by : Option User) (ask : Ask) (item : Item) → IsValid s → IsStored s → IsRecordable ask → IfSome by IsUser →
+        number ≤ 4294967295 → at ≤ 253402300799 → live s number at by ask ≡ Ok item → IsAsked item }
+    ensures spelled { (s : MailStore) (number at : ℕ) (by : Option User) (ask : Ask) (item : Item) → IsValid s → IsStored s → IsRecordable ask → IfSome by IsUser →
+        number ≤ 4294967295 → at ≤ 253402300799 → live s number at by ask ≡ Ok item → HasSpelling (Verb item) }
+    ensures delivered { (s : MailStore) (number at : ℕ) (from : List ℕ) (to : List (List ℕ)) (text : List ℕ) (item : Item) →
+        live s number at None (Deliver from to text) ≡ Ok item → item ≡ delivery number at from to text }
+{}
+
+/// The opening store is in the ranges of records, and so is each that items lead to whose own numbers and names are, as long as the mailboxes and
+/// the items are no more than four bytes count. What users ask is such an item.
+pub fn stores_stay_in_range()
+    ensures opening { (house : House) (conf : Conf) → IsTrue (is_house house) → IsStored (opening house conf) }
+    ensures step { (s : MailStore) (i : Item) → IsStored s → length s.boxes + 1 ≤ 4294967295 → IsKeeping i → IsStored (step s i).0 }
+    ensures grown { (s : MailStore) (i : Item) → length (step s i).0.boxes ≤ length s.boxes + 1 }
+    ensures run { (base : MailStore) (t : List Item) → IsStored base → length base.boxes + length t ≤ 4294967295 → AllByRecursion IsKeeping t → IsStored (run base t) }
+    ensures asked { (i : Item) → IsAsked i → IsKeeping i }
+{}
