@@ -8,3 +8,6 @@ pub mod Mailing
 pub mod Tokens
 pub mod Spoken
 pub mod Reading
+pub mod Desks
+pub mod Stretches
+pub mod Rows

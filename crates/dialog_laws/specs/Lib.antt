@@ -1,3 +1,4 @@
 pub mod Ranges
 pub mod MailClient
 pub mod MailReader
+pub mod Joined

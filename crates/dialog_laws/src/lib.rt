@@ -1,13 +1,18 @@
-//! Every ask that the dialogs make can be recorded.
+//! What the dialogs ask can be recorded, and a connection's stream may come in several events.
 //!
-//! `ranges` says of what the store makes of an ask that its record has a spelling, and of items that they keep the store's numbers and names
-//! in the ranges of records; `mail_client` says what a mail client's dialog asks, and `mail_reader` what a mail reader's asks.
+//! `ranges` says of what the store makes of an ask that its record has a spelling, and of items that they keep the store's numbers and names in the ranges
+//! of records; `mail_client` says what a mail client's dialog asks, `mail_reader` what a mail reader's asks, and `events` what two events of a connection leave.
+//! What carries the crate: `mail_clients_ask_for_deliveries` and `mail_readers_ask_what_can_be_recorded`.
 #![tactic(auto)]
 
+mod events;
 mod mail_client;
 mod mail_reader;
 mod ranges;
 
+pub use events::{mail_client_events_join, mail_reader_events_join};
 pub use mail_client::{mail_clients_ask_for_deliveries, mail_dialogs_have_names};
-pub use mail_reader::{commands_are_in_range, mail_readers_ask_what_can_be_recorded, reading_dialogs_have_names};
-pub use ranges::{live_items_have_spellings, stores_stay_in_range};
+pub use mail_reader::{
+    commands_are_in_range, mail_readers_ask_what_can_be_recorded, reading_dialogs_have_names,
+};
+pub use ranges::{desk_stores_are_in_range, live_items_have_spellings, stores_stay_in_range};

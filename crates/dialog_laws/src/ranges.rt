@@ -13,7 +13,10 @@ ghost use Rattle.verb_core.specs.Store.{IsValid, MailStore, is_house, opening};
 ghost use Rattle.verb_bytes.specs.declared.journal.JournalRecord.TheVariants.{Verb};
 ghost use Rattle.verb_bytes.specs.Limits.{IsAsked, IsUser, delivery};
 ghost use Rattle.verb_bytes.specs.Spelling.{HasSpelling};
-ghost use Rattle.dialog_laws.specs.Ranges.{IsKeeping, IsRecordable, IsStored};
+ghost use Rattle.paradox.specs.Kept.{IsRun, Kept, store_of};
+ghost use Rattle.mail_desk.specs.Desk.{IsDesk};
+ghost use Rattle.desk_journal.specs.Permanence.{RevsBelow};
+ghost use Rattle.dialog_laws.specs.Ranges.{IsKeeping, IsRecordable, IsStored, MakesNames};
 
 /// The item that a store makes of an ask that can be recorded has a spelling, with what is shown for it.
 pub fn live_items_have_spellings()
@@ -33,4 +36,9 @@ pub fn stores_stay_in_range()
     ensures grown { (s : MailStore) (i : Item) → length (step s i).0.boxes ≤ length s.boxes + 1 }
     ensures run { (base : MailStore) (t : List Item) → IsStored base → length base.boxes + length t ≤ 4294967295 → AllByRecursion IsKeeping t → IsStored (run base t) }
     ensures asked { (i : Item) → IsAsked i → IsKeeping i }
+{}
+
+/// So is the store of a desk, which is what the items in force leave, where the mailboxes that these make have names.
+pub fn desk_stores_are_in_range()
+    ensures { (kept : Kept) → IsDesk kept → IsRun kept → RevsBelow kept → AllByRecursion MakesNames kept.timeline → IsStored (store_of kept) }
 {}

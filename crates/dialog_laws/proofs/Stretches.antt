@@ -1,0 +1,154 @@
+-- The turns of some lines, and later of more, are the turns of all of them.
+use Rattle.std.proofs.Common.{◌≡◌, ℕ, zero, suc, Bool, true, false, List, [], ◌∷◌, ◌++◌, length, drop, Option, None, Some, option_map, refl, sym, ap, ◌∙◌}
+use Rattle.std.proofs.lemmas.List.{append-nil, append_assoc}
+use Rattle.smtp_lines.specs.declared.line.SmtpLine.{SmtpLine}
+use Rattle.smtp_lines.specs.Line.{smtp_lines_of}
+use Rattle.smtp_lines.specs.Lines.{rest_of}
+use Rattle.smtp_session.specs.declared.dialog.Dialog.{Dialog}
+use Rattle.verb_core.specs.declared.mailbox.BoxId.{BoxId}
+use Rattle.verb_bytes.specs.declared.journal.JournalRecord.{JournalRecord}
+use Rattle.desk_journal.specs.Reading.{Reads, both_read, none_read}
+use Rattle.imap_stream.specs.Commands as imap_stream
+use Rattle.imap_stream.specs.Commands.{Heard as Stream, emptied, saying}
+use Rattle.imap_stream.specs.declared.next.Next.{Next}
+use Rattle.imap_stream.specs.declared.next.Next.TheVariants.{NotYet}
+use Rattle.imap_stream.proofs.Hearing.{heard-append, heard-saying}
+use Rattle.imap_session.specs.declared.dialog.Dialog.{Dialog as ImapDialog}
+use Rattle.console_head.specs.Request.{Stage}
+use Rattle.mail_loop.specs.ConsoleTurn.{no_consoles}
+use Rattle.mail_loop.specs.Hindrance.{Clear, Hindrance, first_hindrance, other_hindrances}
+use Rattle.mail_loop.specs.State.{Imap, Seat, Smtp, State}
+use Rattle.mail_loop.specs.Turns.{Heard, Outcome, after, goes_on, heard_by, hears_commands, hears_lines, hears_seat, imap_turn, none_yet, smtp_turn, turns}
+use Rattle.mail_loop.proofs.Sealed.{no_more, none_before, reads_regroup}
+use Rattle.dialog_laws.specs.Joined.{hears_then, joined}
+
+module _ {D U : Type 0} where
+  after_none : (o : Outcome D) → after [] [] [] none_read o ≡ o
+  after_none o = λ j. record { said = o.said; state = o.state; dialog = o.dialog; changed = o.changed; unsealed = o.unsealed; reads = no_more o.reads j }
+
+  after_twice : (o p q : Outcome D) → after o.said o.changed o.unsealed o.reads (after p.said p.changed p.unsealed p.reads q)
+      ≡ after (o.said ++ p.said) (o.changed ++ p.changed) (o.unsealed ++ p.unsealed) (both_read o.reads p.reads) q
+  after_twice o p q = λ j. record {
+    said = sym (append_assoc o.said p.said q.said) j;
+    state = q.state;
+    dialog = q.dialog;
+    changed = sym (append_assoc o.changed p.changed q.changed) j;
+    unsealed = sym (append_assoc o.unsealed p.unsealed q.unsealed) j;
+    reads = sym (reads_regroup o.reads p.reads q.reads) j;
+  }
+
+  -- turns go on behind those of an open connection as behind any
+  goes_twice : (o p : Outcome D) (e : Option D) (more : State → D → Outcome D)
+      → after o.said o.changed o.unsealed o.reads (goes_on p e more) ≡ goes_on (after o.said o.changed o.unsealed o.reads p) e more
+  goes_twice o p None more = refl
+  goes_twice o p (Some d) more = after_twice o p (more p.state d)
+
+  drop_more : (hs : List Hindrance) (n : ℕ) → drop n (other_hindrances hs) ≡ drop (suc n) hs
+  drop_more [] zero = refl
+  drop_more [] (suc n) = refl
+  drop_more (h ∷ hs) n = refl
+
+  module _ (one : Hindrance → State → D → U → Outcome D) where
+    turns_more : (hs : List Hindrance) (o : Outcome D) (e : Option D) (us vs : List U)
+        → ((s : State) (d : D) → turns one (other_hindrances hs) s d (us ++ vs)
+        ≡ goes_on (turns one (other_hindrances hs) s d us) (turns one (other_hindrances hs) s d us).dialog (λ t f. turns one (drop (length us) (other_hindrances hs)) t f vs))
+        → goes_on o e (λ s d. turns one (other_hindrances hs) s d (us ++ vs))
+        ≡ goes_on (goes_on o e (λ s d. turns one (other_hindrances hs) s d us)) (goes_on o e (λ s d. turns one (other_hindrances hs) s d us)).dialog
+        (λ t f. turns one (drop (suc (length us)) hs) t f vs)
+    turns_more hs o None us vs more = refl
+    turns_more hs o (Some d) us vs more =
+        let p : Outcome D = turns one (other_hindrances hs) o.state d us in
+        ap (after o.said o.changed o.unsealed o.reads) (more o.state d)
+        ∙ goes_twice o p p.dialog (λ t f. turns one (drop (length us) (other_hindrances hs)) t f vs)
+        ∙ ap (λ (ks : List Hindrance). goes_on (after o.said o.changed o.unsealed o.reads p) p.dialog (λ t f. turns one ks t f vs)) (drop_more hs (length us))
+
+    -- the turns of all are those of some, and later those of the others where they left the connection
+    pub turns_join : (hs : List Hindrance) (s : State) (d : D) (us vs : List U)
+        → turns one hs s d (us ++ vs) ≡ goes_on (turns one hs s d us) (turns one hs s d us).dialog (λ t e. turns one (drop (length us) hs) t e vs)
+    turns_join hs s d [] vs = sym (after_none (turns one hs s d vs))
+    turns_join hs s d (u ∷ us) vs =
+        let o : Outcome D = one (first_hindrance hs) s d u in
+        turns_more hs o o.dialog us vs (λ t e. turns_join (other_hindrances hs) t e us vs)
+
+drop_none : (n : ℕ) → ◌≡◌ {A = List Hindrance} (drop n []) []
+drop_none zero = refl
+drop_none (suc n) = refl
+
+module _ {D U : Type 0} (one : Hindrance → State → D → U → Outcome D) (u : U) (quiet : (s : State) (d : D) → one Clear s d u ≡ none_yet s d) where
+  alone_quiet : (n : ℕ) (s : State) (d : D) → turns one (drop n []) s d (u ∷ []) ≡ none_yet s d
+  alone_quiet n s d =
+      ap (λ (hs : List Hindrance). turns one hs s d (u ∷ [])) (drop_none n)
+      ∙ ap (λ (o : Outcome D). goes_on o o.dialog (λ t e. none_yet t e)) (quiet s d) ∙ after_none (none_yet s d)
+
+  behind_quiet : (o : Outcome D) (e : Option D) (n : ℕ) → o.dialog ≡ e → goes_on o e (λ t f. turns one (drop n []) t f (u ∷ [])) ≡ o
+  behind_quiet o None n is = λ j. record { said = o.said; state = o.state; dialog = sym is j; changed = o.changed; unsealed = o.unsealed; reads = o.reads }
+  behind_quiet o (Some d) n is =
+      ap (after o.said o.changed o.unsealed o.reads) (alone_quiet n o.state d)
+      ∙ (λ j. record { said = append-nil o.said j; state = o.state; dialog = sym is j; changed = append-nil o.changed j; unsealed = append-nil o.unsealed j; reads = none_before o.reads j })
+
+  -- what says nothing changes nothing behind turns that nothing hinders
+  pub quiet_last : (s : State) (d : D) (us : List U) → turns one [] s d (us ++ u ∷ []) ≡ turns one [] s d us
+  quiet_last s d us = turns_join one [] s d us (u ∷ []) ∙ behind_quiet (turns one [] s d us) (turns one [] s d us).dialog (length us) refl
+
+-- what an outcome is heard as, over two events
+heard_on : (kept unserved : List ℕ) (o : Outcome Dialog) (e : Option Dialog) (more : State → Dialog → Outcome Dialog) (later : State → Seat → Heard) → o.dialog ≡ e
+    → ((s : State) (d : Dialog) → later s (Smtp kept d) ≡ heard_by (Smtp unserved) (more s d))
+    → heard_by (Smtp unserved) (goes_on o e more) ≡ hears_then (heard_by (Smtp kept) o) (option_map (Smtp kept) e) later
+heard_on kept unserved o None more later is same = λ j. record {
+  said = o.said; state = o.state; seat = option_map (Smtp kept) (sym is j); changed = o.changed; rewound = false; unsealed = o.unsealed; reads = o.reads; consoles = no_consoles;
+}
+heard_on kept unserved o (Some d) more later is same =
+    ap (λ (h : Heard). hears_then (heard_by (Smtp kept) o) (Some (Smtp kept d)) (λ s seat. h)) (sym (same o.state d))
+
+pub events_join : ((stream more : List ℕ) → smtp_lines_of (stream ++ more) ≡ smtp_lines_of stream ++ smtp_lines_of (rest_of stream ++ more))
+    → ((stream more : List ℕ) → rest_of (stream ++ more) ≡ rest_of (rest_of stream ++ more))
+    → (hs : List Hindrance) (stage : Stage) (at : ℕ) (s : State) (unserved : List ℕ) (d : Dialog) (first second : List ℕ)
+    → hears_seat hs stage at s (Smtp unserved d) (first ++ second)
+    ≡ joined (hears_seat hs stage at s (Smtp unserved d) first) (λ t seat. hears_seat (drop (length (smtp_lines_of (unserved ++ first))) hs) stage at t seat second)
+events_join lines rest hs stage at s unserved d first second =
+    let stream : List ℕ = unserved ++ first in
+    let us : List SmtpLine = smtp_lines_of stream in
+    let o : Outcome Dialog = turns (smtp_turn at) hs s d us in
+    ap (hears_lines hs at s d) (sym (append_assoc unserved first second))
+    ∙ (λ j. heard_by (Smtp (rest stream second j)) (turns (smtp_turn at) hs s d (lines stream second j)))
+    ∙ ap (heard_by (Smtp (rest_of (rest_of stream ++ second)))) (turns_join (smtp_turn at) hs s d us (smtp_lines_of (rest_of stream ++ second)))
+    ∙ heard_on (rest_of stream) (rest_of (rest_of stream ++ second)) o o.dialog (λ t e. turns (smtp_turn at) (drop (length us) hs) t e (smtp_lines_of (rest_of stream ++ second)))
+    (λ t seat. hears_seat (drop (length us) hs) stage at t seat second) refl (λ t e. refl)
+
+-- ---- a mail reader's
+
+reader_on : (mid last : Stream) (o : Outcome ImapDialog) (e : Option ImapDialog) (more : State → ImapDialog → Outcome ImapDialog) (later : State → Seat → Heard) → o.dialog ≡ e
+    → ((s : State) (d : ImapDialog) → later s (Imap mid d) ≡ heard_by (Imap last) (more s d))
+    → heard_by (Imap last) (goes_on o e more) ≡ hears_then (heard_by (Imap mid) o) (option_map (Imap mid) e) later
+reader_on mid last o None more later is same = λ j. record {
+  said = o.said; state = o.state; seat = option_map (Imap mid) (sym is j); changed = o.changed; rewound = false; unsealed = o.unsealed; reads = o.reads; consoles = no_consoles;
+}
+reader_on mid last o (Some d) more later is same =
+    ap (λ (h : Heard). hears_then (heard_by (Imap mid) o) (Some (Imap mid d)) (λ s seat. h)) (sym (same o.state d))
+
+-- a reader's turns, but for the one of what is not whole yet
+reader_heard : (at : ℕ) (s : State) (d : ImapDialog) (stream : Stream) → hears_commands [] at s d stream ≡ heard_by (Imap (emptied stream)) (turns (imap_turn at) [] s d stream.said)
+reader_heard at s d stream = ap (heard_by (Imap (emptied stream))) (quiet_last (imap_turn at) NotYet (λ t e. refl) s d stream.said)
+
+split : (stream : Stream) (first second : List ℕ) → imap_stream.heard (emptied stream) (first ++ second)
+    ≡ saying (imap_stream.heard (emptied stream) first).said (imap_stream.heard (emptied (imap_stream.heard (emptied stream) first)) second)
+split stream first second =
+    let h : Stream = imap_stream.heard (emptied stream) first in
+    heard-append (emptied stream) first second ∙ ap (λ (k : Stream). imap_stream.heard k second) (whole_said h) ∙ heard-saying h.said (emptied h) second
+  where
+    whole_said : (h : Stream) → h ≡ saying h.said (emptied h)
+    whole_said h = ap (λ (said : List Next). record { said = said; begun = h.begun; awaits = h.awaits; rest = h.rest }) (sym (append-nil h.said))
+
+pub reader_events_join : (stage : Stage) (at : ℕ) (s : State) (stream : Stream) (d : ImapDialog) (first second : List ℕ)
+    → hears_seat [] stage at s (Imap (emptied stream) d) (first ++ second)
+    ≡ joined (hears_seat [] stage at s (Imap (emptied stream) d) first) (λ t seat. hears_seat [] stage at t seat second)
+reader_events_join stage at s stream d first second =
+    let h : Stream = imap_stream.heard (emptied stream) first in
+    let g : Stream = imap_stream.heard (emptied h) second in
+    let o : Outcome ImapDialog = turns (imap_turn at) [] s d h.said in
+    reader_heard at s d (imap_stream.heard (emptied stream) (first ++ second))
+    ∙ ap (λ (k : Stream). heard_by (Imap (emptied k)) (turns (imap_turn at) [] s d k.said)) (split stream first second)
+    ∙ ap (heard_by (Imap (emptied g))) (turns_join (imap_turn at) [] s d h.said g.said)
+    ∙ ap (λ (hs : List Hindrance). heard_by (Imap (emptied g)) (goes_on o o.dialog (λ t e. turns (imap_turn at) hs t e g.said))) (drop_none (length h.said))
+    ∙ reader_on (emptied h) (emptied g) o o.dialog (λ t e. turns (imap_turn at) [] t e g.said) (λ t seat. hears_seat [] stage at t seat second) refl (λ t e. reader_heard at t e g)
+    ∙ ap (λ (x : Heard). joined x (λ t seat. hears_seat [] stage at t seat second)) (sym (reader_heard at s d h))

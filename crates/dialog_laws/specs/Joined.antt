@@ -1,0 +1,27 @@
+-- Two events of one connection, one behind the other.
+use Rattle.std.specs.Prelude.{List, ◌++◌, ◌||◌, Option, None, Some}
+use Rattle.desk_journal.specs.Reading.{both_read}
+use Rattle.mail_loop.specs.State.{Seat, State}
+use Rattle.mail_loop.specs.ConsoleTurn.{both}
+use Rattle.mail_loop.specs.Turns.{Heard}
+
+-- what comes of an event, and then of another
+abbrev pub both_heard : Heard → Heard → Heard
+both_heard first next = record {
+  said = first.said ++ next.said;
+  state = next.state;
+  seat = next.seat;
+  changed = first.changed ++ next.changed;
+  rewound = first.rewound || next.rewound;
+  unsealed = first.unsealed ++ next.unsealed;
+  reads = both_read first.reads next.reads;
+  consoles = both first.consoles next.consoles;
+}
+
+-- another event finds the connection where an event left it; one that was closed hears no more
+abbrev pub hears_then : Heard → Option Seat → (State → Seat → Heard) → Heard
+hears_then first None more = first
+hears_then first (Some seat) more = both_heard first (more first.state seat)
+
+abbrev pub joined : Heard → (State → Seat → Heard) → Heard
+joined first more = hears_then first first.seat more

@@ -1,0 +1,32 @@
+//! A connection's stream over several events. These functions do nothing but name a law: their contracts are laws of the definitions.
+ghost use Rattle.std.specs.Prelude.{◌≡◌, ℕ, List, [], ◌++◌, drop, length};
+ghost use Rattle.smtp_lines.specs.Line.{smtp_lines_of};
+ghost use Rattle.smtp_session.specs.declared.dialog.Dialog.{Dialog as TheDialog};
+ghost use Rattle.imap_stream.specs.Commands.{Heard as Stream, emptied};
+ghost use Rattle.imap_session.specs.declared.dialog.Dialog.{Dialog as TheReader};
+ghost use Rattle.console_head.specs.Request.{Stage};
+ghost use Rattle.mail_loop.specs.Hindrance.{Hindrance};
+ghost use Rattle.mail_loop.specs.State.{Imap, Smtp, State};
+ghost use Rattle.mail_loop.specs.Turns.{hears_seat};
+ghost use Rattle.dialog_laws.specs.Joined.{joined};
+
+use smtp_lines::what_is_kept_goes_on;
+
+/// A mail client's bytes may come in one event or in two, cut anywhere. What an event with all of them says, does and leaves (the state, the dialog and
+/// the bytes that are no whole line yet) is what the first says, does and leaves, and then what the second does where the first left the connection;
+/// where the first closes it, by QUIT or by a fault, it is what the first does alone. The turns of the second are hindered by what is left of the
+/// hindrances behind those of the first's lines.
+pub fn mail_client_events_join()
+    ensures { (hindrances : List Hindrance) (stage : Stage) (at : ℕ) (s : State) (unserved : List ℕ) (d : TheDialog) (first second : List ℕ) →
+        hears_seat hindrances stage at s (Smtp unserved d) (first ++ second)
+        ≡ joined (hears_seat hindrances stage at s (Smtp unserved d) first) (λ t seat. hears_seat (drop (length (smtp_lines_of (unserved ++ first))) hindrances) stage at t seat second) }
+{
+    what_is_kept_goes_on();
+}
+
+/// So are two events of a mail reader, where nothing hinders them: its commands may come in one event or in two, cut anywhere.
+pub fn mail_reader_events_join()
+    ensures { (stage : Stage) (at : ℕ) (s : State) (stream : Stream) (d : TheReader) (first second : List ℕ) →
+        hears_seat [] stage at s (Imap (emptied stream) d) (first ++ second)
+        ≡ joined (hears_seat [] stage at s (Imap (emptied stream) d) first) (λ t seat. hears_seat [] stage at t seat second) }
+{}
