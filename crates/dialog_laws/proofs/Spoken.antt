@@ -20,13 +20,14 @@ use Rattle.imap_stream.specs.Marks.{tag_of}
 use Rattle.imap_stream.specs.Streams.{Entry, IsEntry, IsPart, IsReading, Line, Octets, Open, Part, Rest, marked_line, octets_of, told_end, told_entry, told_of, told_open, told_part}
 use Rattle.imap_tokens.specs.Dates.{clock_in, date_in, day_in, is_punctuated, is_real, parts_in, real_moment, zone_in}
 use Rattle.imap_tokens.specs.Parts.{from_space, is_space, line_before}
+use Rattle.imap_tokens.specs.Sets.{set_in}
 use Rattle.imap_tokens.specs.Tokens.{is_open, literal_of, pattern_of, quoted_of, string_of, text_by, tokens_with}
 use Rattle.imap_tokens.specs.Tokens as tokens_spec
 use Rattle.imap_tokens.specs.Words.{is_atom, is_pattern_byte, is_word}
 use Rattle.imap_tokens.specs.declared.tokens.Token.{Token}
 use Rattle.imap_tokens.specs.declared.tokens.Token.TheVariants.{Space, Open as Opens, Close, Word, Quoted, Literal}
 use Rattle.imap_lines.specs.Append.{append_in, date_by, first_date, first_flags, message_in, only_literal, spaced_date}
-use Rattle.imap_lines.specs.Arguments.{behind_space, first_pattern, first_string, next_string, string_and_list, string_and_pattern, two_strings, last_string}
+use Rattle.imap_lines.specs.Arguments.{behind_space, first_pattern, first_string, next_string, next_word, string_and_list, string_and_pattern, two_strings, last_string}
 use Rattle.imap_lines.specs.Asks.{statuses_from}
 use Rattle.imap_lines.specs.Command.{Reading, command_in, command_of, heading_of, if_asked, if_headed, if_tagged, of_lines, spoken, tagged, takes_all, uid_heading_of}
 use Rattle.imap_lines.specs.Fetch.{fetch_in}
@@ -190,9 +191,14 @@ what_spoken verb.List by_uid tokens few = list_spoken false tokens few
 what_spoken verb.Lsub by_uid tokens few = list_spoken true tokens few
 what_spoken verb.Status by_uid tokens few = any_then IsSpoken _ (string_and_list tokens) (λ r. any_mapped IsSpoken (λ asked. what.Status r.0 asked) (statuses_from true [] r.1) (λ asked. tt))
 what_spoken verb.Append by_uid tokens few = append_spoken tokens
-what_spoken verb.Fetch by_uid tokens few = any_then IsSpoken _ _ (λ w. any_then IsSpoken _ _ (λ rest. any_then IsSpoken _ _ (λ set. any_mapped IsSpoken (λ asked. what.Fetch set asked by_uid) _ (λ asked. tt))))
-what_spoken verb.Store by_uid tokens few = any_then IsSpoken _ _ (λ w. any_then IsSpoken _ _ (λ (c : How × Bool × Flags). any_mapped IsSpoken (λ set. what.Store set c.0 c.1 c.2 by_uid) _ (λ set. tt)))
-what_spoken verb.Copy by_uid tokens few = any_then IsSpoken _ _ (λ w. any_then IsSpoken _ _ (λ target. any_mapped IsSpoken (λ set. what.Copy set target by_uid) _ (λ set. tt)))
+what_spoken verb.Fetch by_uid tokens few =
+    any_then IsSpoken _ (next_word tokens)
+    (λ w. any_then IsSpoken _ (behind_space w.1) (λ rest. any_then IsSpoken _ (set_in w.0) (λ set. any_mapped IsSpoken (λ asked. what.Fetch set asked by_uid) (fetch_in rest) (λ asked. tt))))
+what_spoken verb.Store by_uid tokens few =
+    any_then IsSpoken _ (next_word tokens)
+    (λ w. any_then IsSpoken _ (change_in w.1) (λ (c : How × Bool × Flags). any_mapped IsSpoken (λ set. what.Store set c.0 c.1 c.2 by_uid) (set_in w.0) (λ set. tt)))
+what_spoken verb.Copy by_uid tokens few =
+    any_then IsSpoken _ (next_word tokens) (λ w. any_then IsSpoken _ (last_string w.1) (λ target. any_mapped IsSpoken (λ set. what.Copy set target by_uid) (set_in w.0) (λ set. tt)))
 what_spoken verb.Search by_uid tokens few = any_mapped IsSpoken (with_sought by_uid) _ (λ sought. tt)
 what_spoken verb.Authenticate by_uid tokens few = tt
 

@@ -1,4 +1,4 @@
--- The turns of some lines, and later of more, are the turns of all of them.
+-- The turns of some lines, and then of more, are the turns of all of them.
 use Rattle.std.proofs.Common.{◌≡◌, ℕ, zero, suc, Bool, true, false, List, [], ◌∷◌, ◌++◌, length, drop, Option, None, Some, option_map, refl, sym, ap, ◌∙◌}
 use Rattle.std.proofs.lemmas.List.{append-nil, append_assoc}
 use Rattle.smtp_lines.specs.declared.line.SmtpLine.{SmtpLine}
@@ -22,7 +22,7 @@ use Rattle.mail_loop.specs.Turns.{Heard, Outcome, after, goes_on, heard_by, hear
 use Rattle.mail_loop.proofs.Sealed.{no_more, none_before, reads_regroup}
 use Rattle.dialog_laws.specs.Joined.{hears_then, joined}
 
-module _ {D U : Type 0} where
+module _ {D : Type 0} where
   after_none : (o : Outcome D) → after [] [] [] none_read o ≡ o
   after_none o = λ j. record { said = o.said; state = o.state; dialog = o.dialog; changed = o.changed; unsealed = o.unsealed; reads = no_more o.reads j }
 
@@ -43,32 +43,32 @@ module _ {D U : Type 0} where
   goes_twice o p None more = refl
   goes_twice o p (Some d) more = after_twice o p (more p.state d)
 
-  drop_more : (hs : List Hindrance) (n : ℕ) → drop n (other_hindrances hs) ≡ drop (suc n) hs
-  drop_more [] zero = refl
-  drop_more [] (suc n) = refl
-  drop_more (h ∷ hs) n = refl
+drop_more : (hs : List Hindrance) (n : ℕ) → drop n (other_hindrances hs) ≡ drop (suc n) hs
+drop_more [] zero = refl
+drop_more [] (suc n) = refl
+drop_more (h ∷ hs) n = refl
 
-  module _ (one : Hindrance → State → D → U → Outcome D) where
-    turns_more : (hs : List Hindrance) (o : Outcome D) (e : Option D) (us vs : List U)
-        → ((s : State) (d : D) → turns one (other_hindrances hs) s d (us ++ vs)
-        ≡ goes_on (turns one (other_hindrances hs) s d us) (turns one (other_hindrances hs) s d us).dialog (λ t f. turns one (drop (length us) (other_hindrances hs)) t f vs))
-        → goes_on o e (λ s d. turns one (other_hindrances hs) s d (us ++ vs))
-        ≡ goes_on (goes_on o e (λ s d. turns one (other_hindrances hs) s d us)) (goes_on o e (λ s d. turns one (other_hindrances hs) s d us)).dialog
-        (λ t f. turns one (drop (suc (length us)) hs) t f vs)
-    turns_more hs o None us vs more = refl
-    turns_more hs o (Some d) us vs more =
-        let p : Outcome D = turns one (other_hindrances hs) o.state d us in
-        ap (after o.said o.changed o.unsealed o.reads) (more o.state d)
-        ∙ goes_twice o p p.dialog (λ t f. turns one (drop (length us) (other_hindrances hs)) t f vs)
-        ∙ ap (λ (ks : List Hindrance). goes_on (after o.said o.changed o.unsealed o.reads p) p.dialog (λ t f. turns one ks t f vs)) (drop_more hs (length us))
+module _ {D U : Type 0} (one : Hindrance → State → D → U → Outcome D) where
+  turns_more : (hs : List Hindrance) (o : Outcome D) (e : Option D) (us vs : List U)
+      → ((s : State) (d : D) → turns one (other_hindrances hs) s d (us ++ vs)
+      ≡ goes_on (turns one (other_hindrances hs) s d us) (turns one (other_hindrances hs) s d us).dialog (λ t f. turns one (drop (length us) (other_hindrances hs)) t f vs))
+      → goes_on o e (λ s d. turns one (other_hindrances hs) s d (us ++ vs))
+      ≡ goes_on (goes_on o e (λ s d. turns one (other_hindrances hs) s d us)) (goes_on o e (λ s d. turns one (other_hindrances hs) s d us)).dialog
+      (λ t f. turns one (drop (suc (length us)) hs) t f vs)
+  turns_more hs o None us vs more = refl
+  turns_more hs o (Some d) us vs more =
+      let p : Outcome D = turns one (other_hindrances hs) o.state d us in
+      ap (after o.said o.changed o.unsealed o.reads) (more o.state d)
+      ∙ goes_twice o p p.dialog (λ t f. turns one (drop (length us) (other_hindrances hs)) t f vs)
+      ∙ ap (λ (ks : List Hindrance). goes_on (after o.said o.changed o.unsealed o.reads p) p.dialog (λ t f. turns one ks t f vs)) (drop_more hs (length us))
 
-    -- the turns of all are those of some, and later those of the others where they left the connection
-    pub turns_join : (hs : List Hindrance) (s : State) (d : D) (us vs : List U)
-        → turns one hs s d (us ++ vs) ≡ goes_on (turns one hs s d us) (turns one hs s d us).dialog (λ t e. turns one (drop (length us) hs) t e vs)
-    turns_join hs s d [] vs = sym (after_none (turns one hs s d vs))
-    turns_join hs s d (u ∷ us) vs =
-        let o : Outcome D = one (first_hindrance hs) s d u in
-        turns_more hs o o.dialog us vs (λ t e. turns_join (other_hindrances hs) t e us vs)
+  -- the turns of all are those of some, and then those of the others where they left the connection
+  pub turns_join : (hs : List Hindrance) (s : State) (d : D) (us vs : List U)
+      → turns one hs s d (us ++ vs) ≡ goes_on (turns one hs s d us) (turns one hs s d us).dialog (λ t e. turns one (drop (length us) hs) t e vs)
+  turns_join hs s d [] vs = sym (after_none (turns one hs s d vs))
+  turns_join hs s d (u ∷ us) vs =
+      let o : Outcome D = one (first_hindrance hs) s d u in
+      turns_more hs o o.dialog us vs (λ t e. turns_join (other_hindrances hs) t e us vs)
 
 drop_none : (n : ℕ) → ◌≡◌ {A = List Hindrance} (drop n []) []
 drop_none zero = refl
