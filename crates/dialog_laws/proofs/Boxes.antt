@@ -1,29 +1,22 @@
 -- Mailboxes that have names, and entries in the ranges of records.
-use Rattle.std.proofs.Common.{◌≡◌, ℕ, zero, suc, ◌+◌, ◌<◌, ◌≤◌, Bool, true, false, not, cond, List, [], ◌∷◌, ◌++◌, length, map, filter, filter_map, flat_map, find, Option, None, Some, option_map, unwrap_or, Ordering, Less, Equal, Greater, refl, sym, subst, arith, bytes_eq, nat_lt, ltb-true}
+use Rattle.std.proofs.Common.{◌≡◌, ℕ, ◌+◌, ◌<◌, ◌≤◌, Bool, true, List, [], ◌∷◌, length, filter, Option, None, Some, option_map, unwrap_or, arith, nat_lt, ltb-true}
 use Rattle.std.specs.Prelude.{IfSome}
-use Rattle.std.specs.List.{AllByRecursion, enumerate_from}
+use Rattle.std.specs.List.{AllByRecursion}
 use Rattle.std.specs.Ordering.{eq_by_cmp}
 use Rattle.std.specs.Cmp.{first_so, second_so}
-use Rattle.std.specs.FinMap.Entries as rows
 use Rattle.std.proofs.lemmas.List.{length-map}
 use Rattle.undo_base.specs.declared.keys.Key.{Key}
-use Rattle.undo_base.specs.declared.keys.Flags.{Flags}
 use Rattle.undo_base.specs.declared.keys.User.{User}
-use Rattle.undo_base.specs.declared.asks.How.{How}
 use Rattle.undo_base.specs.Name.{IsName}
-use Rattle.verb_core.specs.declared.conf.House.{House}
-use Rattle.verb_core.specs.declared.item.Sight.{Sight}
 use Rattle.verb_core.specs.declared.mailbox.BoxId.{BoxId}
 use Rattle.verb_core.specs.declared.mailbox.Entry.{Entry}
 use Rattle.verb_core.specs.declared.mailbox.Mailbox.{Mailbox}
-use Rattle.verb_core.specs.Names.{inbox}
-use Rattle.verb_core.specs.Mailboxes.{changed, copies, emptied, entry_of, expunged, is_among, is_mailbox, keys_of, no_mail, put, put_all, reflagged, same_key, sights, there, uids_rise, with_entries, without}
-use Rattle.verb_core.specs.Boxes.{add_row, box_cmp, change_row, drop_row, mail_at, names_of, row_at, rows_of, same_user}
-use Rattle.verb_core.specs.Store.{is_row}
+use Rattle.verb_core.specs.Mailboxes.{entry_of, keys_of, same_key, sights, uids_rise}
+use Rattle.verb_core.specs.Boxes.{box_cmp, mail_at, names_of, row_at, rows_of, same_user}
 use Rattle.verb_core.specs.Step.{Boxes}
 use Rattle.verb_bytes.specs.Limits.{AreFew, AreKeys, AreMany, IsKey, IsSight}
 use Rattle.dialog_laws.specs.Ranges.{AreAllKeys, IsStoredEntry, IsStoredRow}
-use Rattle.dialog_laws.proofs.Lists.{all_chosen, all_filtered, all_joined, all_mapped, all_weaker, chosen_no_longer, either, filter_no_longer, found_has, some_mapped}
+use Rattle.dialog_laws.proofs.Lists.{all_chosen, all_filtered, all_mapped, chosen_no_longer, either, filter_no_longer, found_has, some_mapped}
 
 abbrev pub AreStored : List Entry → Type 0
 AreStored es = AllByRecursion IsStoredEntry es

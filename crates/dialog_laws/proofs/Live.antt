@@ -1,7 +1,7 @@
 -- The item that a store makes of an ask is in the ranges of its record.
-use Rattle.std.proofs.Common.{◌≡◌, ℕ, ◌+◌, ◌≤◌, ◌<◌, Bool, true, false, not, cond, ◌&&◌, ◌==◌, List, [], ◌∷◌, length, map, filter, Option, None, Some, option_map, unwrap_or, Result, Ok, Err, is_some, nat_lt, refl, sym, ap, subst, arith, bytes_eq, ltb-false}
-use Rattle.std.specs.Prelude.{IfSome, IsTrue}
-use Rattle.std.specs.List.{AllByRecursion, list_all, list_any}
+use Rattle.std.proofs.Common.{◌≡◌, ℕ, ◌+◌, ◌≤◌, ◌<◌, Bool, true, false, not, cond, List, [], ◌∷◌, length, filter, Option, None, Some, option_map, unwrap_or, Ok, nat_lt, refl, sym, subst, arith, ltb-false}
+use Rattle.std.specs.Prelude.{IfSome}
+use Rattle.std.specs.List.{list_all, list_any}
 use Rattle.std.specs.Ordering.{eq_by_cmp}
 use Rattle.std.specs.Cmp.{first_so, second_so}
 use Rattle.std.proofs.lemmas.List.{length-map}
@@ -11,27 +11,25 @@ use Rattle.undo_base.specs.Name.{IsName}
 use Rattle.verb_core.specs.declared.ask.Ask.{Ask}
 use Rattle.verb_core.specs.declared.ask.Ask.TheVariants.{Deliver, Append, Fetch, Store, Copy, List as Names, Status, Select, Expunge, Close, Create, Rename, Delete}
 use Rattle.verb_core.specs.declared.ask.Refused.{Refused}
-use Rattle.verb_core.specs.declared.ask.Refused.TheVariants.{NoBox, Exists, Fixed, NameShape, TryCreate, Gone, TooMany, TooLarge, BoxesFull, UidWide, Numbers}
+use Rattle.verb_core.specs.declared.ask.Refused.TheVariants.{NoBox, Exists, Fixed, NameShape, TryCreate, Gone, TooMany, TooLarge, BoxesFull, UidWide}
 use Rattle.verb_core.specs.declared.conf.House.{House}
-use Rattle.verb_core.specs.declared.item.Deed.{Deed}
-use Rattle.verb_core.specs.declared.item.Deed.TheVariants as deed
 use Rattle.verb_core.specs.declared.item.Item.{Item}
 use Rattle.verb_core.specs.declared.mailbox.BoxId.{BoxId}
 use Rattle.verb_core.specs.declared.mailbox.Entry.{Entry}
 use Rattle.verb_core.specs.declared.mailbox.Mailbox.{Mailbox}
 use Rattle.verb_core.specs.Names.{is_empty, is_fixed, is_listed}
 use Rattle.verb_core.specs.Mailboxes.{expunged, is_among, is_mailbox, keys_of, same_key, without}
-use Rattle.verb_core.specs.Boxes.{box_cmp, box_of, mail_at, names_of, next_at, row_at}
+use Rattle.verb_core.specs.Boxes.{box_cmp, box_of, names_of, row_at}
 use Rattle.verb_core.specs.Store.{IsValid, MailStore, is_row}
-use Rattle.verb_core.specs.Items.{actor, keys_in}
+use Rattle.verb_core.specs.Items.{actor}
 use Rattle.verb_core.specs.Aims.{sought_by}
-use Rattle.verb_core.specs.Step.{Boxes, saved, shown, step}
+use Rattle.verb_core.specs.Step.{Boxes, shown}
 use Rattle.verb_core.specs.Live.{answered, asked_item, asker, asks_fixed, deed_of, first_of, if_so, is_gone, is_misshapen, is_missing, is_there, is_uid_wide, is_wide, key_count, live, mail_of, marked, named, new_names, or_item, overfills, targets, too_large}
-use Rattle.verb_bytes.specs.Limits.{AreFew, AreKeys, AreMany, IsAsked, IsDeed, IsKey, IsShown, IsUser, delivery}
+use Rattle.verb_bytes.specs.Limits.{AreKeys, IsAsked, IsDeed, IsKey, IsShown, IsUser, delivery}
 use Rattle.verb_bytes.specs.Spelling.{shown_kind}
-use Rattle.dialog_laws.specs.Ranges.{AreAllKeys, IsRecordable, IsStored, IsStoredEntry, IsStoredRow}
+use Rattle.dialog_laws.specs.Ranges.{AreAllKeys, IsRecordable, IsStored, IsStoredEntry}
 use Rattle.dialog_laws.proofs.Lists.{all_filtered, either, filter_no_longer}
-use Rattle.dialog_laws.proofs.Boxes.{AreStored, AreRows, below_next, few_filtered, keys_stored, mail_stored, names_stored, sights_few}
+use Rattle.dialog_laws.proofs.Boxes.{AreStored, below_next, few_filtered, keys_stored, mail_stored, names_stored, sights_few}
 
 -- ---- what is not refused
 
@@ -163,14 +161,16 @@ module _ (s : MailStore) (number at : ℕ) (by : Option User) (valid : IsValid s
   shown_is (Fetch mailbox keys sets_seen shows_body strict asked) missed i h few wide = (refl, sights_few (mail_of s by mailbox) keys (mail_here mailbox) h.1)
   shown_is (Store mailbox keys how flags strict) missed i h few wide = (refl, there_few (mail_of s by mailbox) keys h.1)
   shown_is (Copy mailbox keys target strict) missed i h few wide = (refl, there_few (mail_of s by mailbox) keys h.1)
-  shown_is (Names pattern) missed i h few wide =
-      (refl, record {
-        each = all_filtered IsName (is_listed pattern) (names_of (asker by) s.boxes) (names_stored (asker by) s.boxes stored).each;
-        few =
-            let le : length (filter (is_listed pattern) (names_of (asker by) s.boxes)) ≤ length (names_of (asker by) s.boxes) = filter_no_longer (is_listed pattern) (names_of (asker by) s.boxes) in
-            let names : length (names_of (asker by) s.boxes) ≤ 4294967295 = (names_stored (asker by) s.boxes stored).few in
-            omega (arith, le, names);
-      })
+  shown_is (Names pattern) missed i h few wide = (
+    refl,
+    record {
+      each = all_filtered IsName (is_listed pattern) (names_of (asker by) s.boxes) (names_stored (asker by) s.boxes stored).each;
+      few =
+          let le : length (filter (is_listed pattern) (names_of (asker by) s.boxes)) ≤ length (names_of (asker by) s.boxes) = filter_no_longer (is_listed pattern) (names_of (asker by) s.boxes) in
+          let names : length (names_of (asker by) s.boxes) ≤ 4294967295 = (names_stored (asker by) s.boxes stored).few in
+          omega (arith, le, names);
+    },
+  )
   shown_is (Status mailbox) missed i h few wide = (refl, count_is mailbox wide)
   shown_is (Select mailbox) missed i h few wide = (refl, count_is mailbox wide)
   shown_is (Expunge mailbox) missed i h few wide = (refl, there_few (expunged (marked (mail_of s by mailbox)) (mail_of s by mailbox)) (marked (mail_of s by mailbox)) h.1)

@@ -1,6 +1,5 @@
 -- A mail client's dialog has names for recipients, and asks for deliveries of mail that can be stored.
-use Rattle.std.proofs.Common.{◌≡◌, ℕ, ◌≤◌, ◌<◌, Bool, true, false, cond, ◌↔◌, List, [], ◌∷◌, ◌++◌, length, Option, None, Some, Result, Ok, Err, refl, sym, subst, arith, bytes_eq, nat_le, codes, option_map, unwrap_or}
-use Rattle.std.specs.Prelude.{if◌then◌else◌}
+use Rattle.std.proofs.Common.{◌≡◌, ℕ, ◌≤◌, Bool, ◌↔◌, List, [], ◌∷◌, ◌++◌, length, Option, None, Some, Result, Ok, Err, refl, subst, arith, bytes_eq, nat_le, codes, option_map, unwrap_or}
 use Rattle.std.specs.List.{AllByRecursion, Contains, list_any}
 use Rattle.std.specs.Str.{str_to_ascii_lowercase}
 use Rattle.undo_base.specs.Name.{IsName}
@@ -8,7 +7,6 @@ use Rattle.smtp_lines.specs.declared.line.SmtpLine.{SmtpLine}
 use Rattle.smtp_lines.specs.declared.command.SmtpCommand.TheVariants.{Helo, Ehlo, Mail, Rcpt, Data, Rset, Noop, Vrfy, Quit}
 use Rattle.smtp_lines.specs.Command.{Reading, command_of}
 use Rattle.smtp_lines.specs.Grammar.{IsReading}
-use Rattle.verb_core.specs.declared.ask.Ask.{Ask}
 use Rattle.verb_core.specs.declared.ask.Ask.TheVariants.{Deliver, Append, Fetch, Store, Copy, List as Listed, Status, Select, Expunge, Close, Create, Rename, Delete}
 use Rattle.verb_core.specs.declared.ask.SubmitFault.{SubmitFault}
 use Rattle.verb_core.specs.declared.ask.SubmitFault.TheVariants.{Refused as IsRefused, Disk, Closed}
@@ -22,13 +20,11 @@ use Rattle.smtp_session.specs.declared.dialog.Transaction.{Transaction}
 use Rattle.smtp_session.specs.declared.dialog.Transaction.TheVariants.{Idle, Begun, Writing, Due}
 use Rattle.smtp_session.specs.Body.{body_of}
 use Rattle.smtp_session.specs.Recipients.{put_once, is_here}
-use Rattle.smtp_session.specs.Text.{add_line}
-use Rattle.smtp_session.specs.Dialog.{Turn, begin, end_text, has_recipient, host_due, obey, opening, receive, settle, take_text, told, told_fault, turn, turn_in, turns, with_transaction, write}
-use Rattle.smtp_session.specs.Limits.{AsksWithin, IsAskOfDelivery, IsSmall}
-use Rattle.smtp_session.specs.Limits as limits
+use Rattle.smtp_session.specs.Dialog.{Turn, begin, end_text, has_recipient, host_due, obey, opening, receive, settle, told, told_fault, turn, turn_in, write}
+use Rattle.smtp_session.specs.Limits.{AsksWithin}
 use Rattle.smtp_session.proofs.Stays.{small_turn, asks_turn}
 use Rattle.verb_bytes.specs.Limits.{IsMail}
-use Rattle.dialog_laws.specs.MailClient.{HasNames, IsDelivery, IsMailing, IsTimely, Line, Outcome, Taken, asked_by, asked_in, turn_of}
+use Rattle.dialog_laws.specs.MailClient.{HasNames, IsDelivery, IsMailing, IsTimely, Line, Outcome, Taken, asked_by, asked_in}
 use Rattle.dialog_laws.proofs.Lists.{all_joined, either, member_has}
 use Rattle.dialog_laws.proofs.Naming.{recipient_named}
 

@@ -1,10 +1,10 @@
 -- What bytes are names.
-use Rattle.std.proofs.Common.{◌≡◌, ℕ, ◌+◌, ◌≤◌, ◌<◌, Bool, true, false, not, cond, ◌&&◌, ◌⊎◌, inl, inr, List, [], ◌∷◌, ◌++◌, length, map, Option, Some, None, refl, sym, ap, ◌∙◌, subst, arith, nat_lt, nat_le, nat_eq, length-append}
-use Rattle.std.specs.Prelude.{codes, is_none, IfSome}
+use Rattle.std.proofs.Common.{◌≡◌, ℕ, ◌+◌, ◌≤◌, ◌<◌, Bool, true, not, ◌&&◌, ◌⊎◌, inl, inr, List, [], ◌∷◌, ◌++◌, length, map, Option, Some, None, refl, sym, ap, ◌∙◌, subst, arith, nat_lt, nat_le, nat_eq}
+use Rattle.std.specs.Prelude.{codes}
 use Rattle.std.specs.Char.{to_ascii_lowercase}
 use Rattle.std.specs.Int.{IsInRange}
 use Rattle.std.specs.List.{list_all, position_or_len}
-use Rattle.std.specs.Str.{bytes_eq, str_eq_ignore_ascii_case, str_to_ascii_lowercase}
+use Rattle.std.specs.Str.{str_eq_ignore_ascii_case, str_to_ascii_lowercase}
 use Rattle.std.proofs.lemmas.Bool.{and_parts, cases_Bool, cond-false, le-ltb, leb-true}
 use Rattle.std.proofs.lemmas.Bool.Decides.{nat_tests}
 use Rattle.std.proofs.lemmas.List.{length-map}
@@ -12,9 +12,8 @@ use Rattle.std.proofs.lemmas.List.Folds.{list_all-append}
 use Rattle.std.proofs.lemmas.Slice.Eq.{bytes_eq-Decides}
 use Rattle.std.proofs.lemmas.Str.Ascii.{lowercase_is}
 use Rattle.undo_base.specs.Name.{IsName, first_unprintable, is_printable}
-use Rattle.smtp_lines.specs.Parts.{is_short, is_spelled, is_visible}
-use Rattle.smtp_lines.specs.Grammar.{HasNoRoute, HasPath, HasRoute, IsAddress, IsPostmaster, Names, is_inner_byte}
-use Rattle.dialog_laws.proofs.Lists.{either}
+use Rattle.smtp_lines.specs.Parts.{is_visible}
+use Rattle.smtp_lines.specs.Grammar.{HasNoRoute, HasPath, HasRoute, Names, is_inner_byte}
 
 -- ---- bytes that can be printed
 

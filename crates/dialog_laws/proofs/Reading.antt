@@ -1,13 +1,12 @@
 -- A mail reader's dialog is of a user, of names and of keys, and what it asks can be recorded.
-use Rattle.std.proofs.Common.{◌≡◌, ℕ, ◌+◌, ◌≤◌, ◌<◌, Bool, true, false, cond, not, List, [], ◌∷◌, ◌++◌, length, map, filter_map, find, slice_get, Option, None, Some, option_map, unwrap_or, Result, Ok, Err, bytes_eq, nat_lt, nat_le, ltb-true, refl, sym, subst, arith, is_none, length-append, ◌&&◌}
+use Rattle.std.proofs.Common.{◌≡◌, ℕ, ◌+◌, ◌≤◌, ◌<◌, Bool, true, false, cond, List, [], ◌∷◌, ◌++◌, length, slice_get, Option, None, Some, unwrap_or, Result, Ok, Err, bytes_eq, nat_lt, nat_le, ltb-true, refl, arith, is_none, length-append, ◌&&◌}
 use Rattle.std.specs.Prelude.{IfSome, IsTrue}
-use Rattle.std.specs.List.{AllByRecursion, Contains, range_with_len}
+use Rattle.std.specs.List.{AllByRecursion, Contains}
 use Rattle.std.specs.Option.{option_and_then}
 use Rattle.std.specs.Str.{str_eq_ignore_ascii_case}
 use Rattle.std.proofs.lemmas.Bool.{and_parts, leb-true}
 use Rattle.undo_base.specs.declared.asks.StatusAsk.{StatusAsk}
 use Rattle.undo_base.specs.declared.keys.Flags.{Flags}
-use Rattle.undo_base.specs.declared.keys.Key.{Key}
 use Rattle.undo_base.specs.declared.keys.User.{User}
 use Rattle.undo_base.specs.Name.{IsName, first_unprintable}
 use Rattle.seal_log.specs.declared.fault.ReadFault.{ReadFault}
@@ -54,7 +53,7 @@ use Rattle.imap_session.specs.declared.out.ImapOut.TheVariants.{Say, Read, Submi
 use Rattle.imap_session.specs.declared.words.Answer.TheVariants.{ReadOnly, BadCharset}
 use Rattle.imap_session.specs.declared.words.Word.{Word}
 use Rattle.imap_session.specs.declared.words.Word.TheVariants as word
-use Rattle.imap_session.specs.Dialog.{Took, after_rename, append, asks, at_rest, begin_fetch, begin_search, check, close, copy, copy_places, create, delete, done, enter, expunge, fetch, fetch_in, fetch_places, fetching, follow, heard, heard_in, hears, hears_reading, is_on, list, login, obey, opening, rename, rename_to, says, search, search_in, searching, select, settle, settle_in, settle_pending, status, store, store_places, subscribe, took, turn, undone, unselected, without_memory}
+use Rattle.imap_session.specs.Dialog.{Took, after_rename, append, asks, at_rest, begin_fetch, begin_search, check, close, copy, copy_places, create, delete, done, enter, expunge, fetch_in, fetch_places, fetching, follow, heard, heard_in, hears, hears_reading, is_on, list, login, obey, opening, rename, says, search, search_in, searching, select, settle, settle_in, settle_pending, status, store, store_places, subscribe, took, turn, undone, unselected, without_memory}
 use Rattle.imap_session.specs.Fetching.{ask_of, bodies_of}
 use Rattle.imap_session.specs.Searching.{all_places, finds, found, found_from, is_known_charset, is_vast, kept, keys_of, search_ask, search_bodies}
 use Rattle.verb_bytes.specs.Limits.{IsKey, IsUser}

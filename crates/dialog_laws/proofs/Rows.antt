@@ -1,13 +1,10 @@
 -- Worked rows: short dialogs ask what they should, so that the laws speak of something.
-use Rattle.std.proofs.Common.{◌≡◌, ℕ, false, List, [], ◌∷◌, length, codes, Option, None, Some, refl}
-use Rattle.smtp_lines.specs.declared.line.SmtpLine.{SmtpLine}
+use Rattle.std.proofs.Common.{◌≡◌, ℕ, false, List, [], ◌∷◌, length, codes, None, Some, refl}
 use Rattle.smtp_lines.specs.Command.{spoken}
 use Rattle.imap_lines.specs.What.{what_in}
-use Rattle.imap_stream.specs.declared.next.RawCommand.{RawCommand}
 use Rattle.verb_core.specs.declared.ask.Ask.TheVariants.{Select}
 use Rattle.verb_core.specs.declared.conf.Conf.{Conf}
 use Rattle.verb_core.specs.declared.conf.House.{House}
-use Rattle.verb_core.specs.declared.mailbox.Body.{Body}
 use Rattle.verb_core.specs.Store.{MailStore}
 use Rattle.verb_core.specs.Store as store
 use Rattle.smtp_session.specs.Dialog as client

@@ -1,12 +1,11 @@
 -- What a command asks is in its ranges, and the commands of a stream are short.
-use Rattle.std.proofs.Common.{◌≡◌, ℕ, ℤ, pos, negsuc, ◌+◌, ◌*◌, ◌≤◌, ◌<◌, Bool, true, false, cond, ◌==◌, ◌&&◌, List, [], ◌∷◌, ◌++◌, length, map, take, drop, flat_map, min, Option, None, Some, option_map, Result, Ok, Err, refl, sym, subst, arith, length-append}
+use Rattle.std.proofs.Common.{◌≡◌, ℕ, ℤ, pos, negsuc, ◌+◌, ◌*◌, ◌≤◌, Bool, true, false, ◌==◌, ◌&&◌, List, [], ◌∷◌, ◌++◌, length, map, flat_map, Option, None, Some, option_map, Ok, Err, refl, sym, subst, arith, length-append}
 use Rattle.std.specs.Prelude.{IfSome, codes}
-use Rattle.std.specs.List.{AllByRecursion, Contains, after_first, before_first, sum_by}
+use Rattle.std.specs.List.{AllByRecursion, Contains, after_first, before_first}
 use Rattle.std.specs.Option.{option_and_then}
 use Rattle.std.proofs.Math.Nat.{min-le_right}
 use Rattle.std.proofs.lemmas.Grind.{common_steps}
 use Rattle.std.proofs.lemmas.List.Sums.{sum_by-append, sum_by-cons}
-use Rattle.civil_dates.specs.declared.days.Day.{Day}
 use Rattle.civil_dates.specs.Days.{kept, seconds_of}
 use Rattle.undo_base.specs.declared.asks.How.{How}
 use Rattle.undo_base.specs.declared.keys.Flags.{Flags}
@@ -18,22 +17,21 @@ use Rattle.imap_stream.specs.Commands.{said_of}
 use Rattle.imap_stream.specs.Holding.{octets_in}
 use Rattle.imap_stream.specs.Marks.{tag_of}
 use Rattle.imap_stream.specs.Streams.{Entry, IsEntry, IsPart, IsReading, Line, Octets, Open, Part, Rest, marked_line, octets_of, told_end, told_entry, told_of, told_open, told_part}
-use Rattle.imap_tokens.specs.Dates.{clock_in, date_in, day_in, is_punctuated, is_real, parts_in, real_moment, zone_in}
+use Rattle.imap_tokens.specs.Dates.{clock_in, date_in, day_in, is_punctuated, is_real, parts_in, zone_in}
 use Rattle.imap_tokens.specs.Parts.{from_space, is_space, line_before}
 use Rattle.imap_tokens.specs.Sets.{set_in}
-use Rattle.imap_tokens.specs.Tokens.{is_open, literal_of, pattern_of, quoted_of, string_of, text_by, tokens_with}
-use Rattle.imap_tokens.specs.Tokens as tokens_spec
-use Rattle.imap_tokens.specs.Words.{is_atom, is_pattern_byte, is_word}
+use Rattle.imap_tokens.specs.Tokens.{pattern_of, quoted_of, string_of, text_by, tokens_with}
+use Rattle.imap_tokens.specs.Words.{is_atom, is_word}
 use Rattle.imap_tokens.specs.declared.tokens.Token.{Token}
 use Rattle.imap_tokens.specs.declared.tokens.Token.TheVariants.{Space, Open as Opens, Close, Word, Quoted, Literal}
-use Rattle.imap_lines.specs.Append.{append_in, date_by, first_date, first_flags, message_in, only_literal, spaced_date}
+use Rattle.imap_lines.specs.Append.{append_in, date_by, first_date, first_flags, message_in, only_literal}
 use Rattle.imap_lines.specs.Arguments.{behind_space, first_pattern, first_string, next_string, next_word, string_and_list, string_and_pattern, two_strings, last_string}
 use Rattle.imap_lines.specs.Asks.{statuses_from}
-use Rattle.imap_lines.specs.Command.{Reading, command_in, command_of, heading_of, if_asked, if_headed, if_tagged, of_lines, spoken, tagged, takes_all, uid_heading_of}
+use Rattle.imap_lines.specs.Command.{Reading, command_in, command_of, heading_of, if_asked, if_headed, if_tagged, spoken, takes_all, uid_heading_of}
 use Rattle.imap_lines.specs.Fetch.{fetch_in}
-use Rattle.imap_lines.specs.Messages.{change_in, copy_of, fetch_of, search_of, store_of, with_sought}
+use Rattle.imap_lines.specs.Messages.{change_in, with_sought}
 use Rattle.imap_lines.specs.Verbs.{message_verb, verb_in}
-use Rattle.imap_lines.specs.What.{bare, bare_in, list_in, login_in, mailbox_in, rename_in, status_in, what_in, with_list, with_mailbox}
+use Rattle.imap_lines.specs.What.{bare, list_in, what_in, with_list, with_mailbox}
 use Rattle.imap_lines.specs.declared.command.ImapCommand.{ImapCommand}
 use Rattle.imap_lines.specs.declared.command.ImapWhat.{ImapWhat}
 use Rattle.imap_lines.specs.declared.command.ImapWhat.TheVariants as what
@@ -44,7 +42,7 @@ use Rattle.imap_lines.specs.declared.verbs.MailboxVerb.TheVariants as mailbox_ve
 use Rattle.imap_lines.specs.declared.verbs.Verb.{Verb}
 use Rattle.imap_lines.specs.declared.verbs.Verb.TheVariants as verb
 use Rattle.dialog_laws.specs.MailReader.{IsShort, IsSpoken}
-use Rattle.dialog_laws.proofs.Lists.{all_joined, either, member_has}
+use Rattle.dialog_laws.proofs.Lists.{all_joined, member_has}
 use Rattle.dialog_laws.proofs.Options.{any_mapped, any_then, if_has, mapped_has, then_has, when_has}
 use Rattle.dialog_laws.proofs.Tokens.{Fit, octets_cons, size, sizes, sizes_cons, tokens_within, trimmed_short}
 
@@ -293,7 +291,7 @@ end_short parts last None is =
     let texts : octets_in (map (λ (p : Part). p.text) parts) ≤ octets_of parts = texts_short parts in
     let literals : octets_in (map (λ (p : Part). p.literal) parts) ≤ 1048576 * length parts = literals_short parts is.parts.each in
     let joined : octets_in (map (λ (p : Part). p.text) parts ++ last ∷ []) ≡ octets_in (map (λ (p : Part). p.text) parts) + octets_in (last ∷ []) =
-        sum_by-append (λ (t : List ℕ). length t) (map (λ (p : Part). p.text) parts) (last ∷ []) in
+    sum_by-append (λ (t : List ℕ). length t) (map (λ (p : Part). p.text) parts) (last ∷ []) in
     let one : octets_in (last ∷ []) ≡ length last + octets_in [] = octets_cons last [] in
     let none : octets_in [] ≡ 0 = refl in
     let few : length parts ≤ 8 = is.parts.few in

@@ -1,5 +1,5 @@
 -- A step keeps a store in the ranges of records.
-use Rattle.std.proofs.Common.{◌≡◌, ℕ, zero, suc, ◌+◌, ◌<◌, ◌≤◌, Bool, true, false, not, cond, ◌&&◌, List, [], ◌∷◌, ◌++◌, length, map, filter, filter_map, flat_map, Option, None, Some, option_map, unwrap_or, Ordering, Less, Equal, Greater, refl, sym, ap, subst, arith, bytes_eq, nat_le, ◌∙◌, leb-true}
+use Rattle.std.proofs.Common.{◌≡◌, ℕ, suc, ◌+◌, ◌<◌, ◌≤◌, true, not, cond, ◌&&◌, List, [], ◌∷◌, length, flat_map, Option, None, Some, option_map, unwrap_or, Less, Equal, Greater, refl, ap, arith, bytes_eq, nat_le, ◌∙◌, leb-true}
 use Rattle.std.specs.Prelude.{IfSome, IsTrue}
 use Rattle.std.specs.List.{AllByRecursion, enumerate_from}
 use Rattle.std.specs.Ordering.{eq_by_cmp}
@@ -32,9 +32,9 @@ use Rattle.verb_core.specs.Items.{actor, keys_in, text_in}
 use Rattle.verb_core.specs.Mailboxes.{changed, copies, emptied, entry_of, expunged, is_among, no_flags, no_mail, put, put_all, reflagged, same_key, with_entries, without}
 use Rattle.verb_core.specs.Names.{inbox, is_fixed, lost_found}
 use Rattle.verb_core.specs.Recipients.{deciding, recipients, some_unknown}
-use Rattle.verb_core.specs.Step.{Boxes, after_rename, created, deleted, left, message, new_mail, put_at, rearranged, renamed, run, saved, step, way_of}
+use Rattle.verb_core.specs.Step.{Boxes, after_rename, deleted, left, message, new_mail, put_at, rearranged, renamed, run, saved, step, way_of}
 use Rattle.verb_core.specs.Store.{MailStore, is_house, is_known, opening, users_of}
-use Rattle.verb_bytes.specs.Limits.{AreKeys, AreMany, IsAsked, IsDeed, IsKey}
+use Rattle.verb_bytes.specs.Limits.{IsAsked, IsDeed}
 use Rattle.dialog_laws.specs.Ranges.{IsKeeping, IsStored, IsStoredEntry, IsStoredRow, names_made}
 use Rattle.dialog_laws.proofs.Lists.{all_chosen, all_filtered, all_joined, all_mapped, either, filter_no_longer, found_has, some_mapped}
 use Rattle.dialog_laws.proofs.Boxes.{AreRows, AreStored, mail_stored, row_has}

@@ -1,13 +1,11 @@
 -- The turns of some lines, and then of more, are the turns of all of them.
-use Rattle.std.proofs.Common.{◌≡◌, ℕ, zero, suc, Bool, true, false, List, [], ◌∷◌, ◌++◌, length, drop, Option, None, Some, option_map, refl, sym, ap, ◌∙◌}
+use Rattle.std.proofs.Common.{◌≡◌, ℕ, zero, suc, false, List, [], ◌∷◌, ◌++◌, length, drop, Option, None, Some, option_map, refl, sym, ap, ◌∙◌}
 use Rattle.std.proofs.lemmas.List.{append-nil, append_assoc}
 use Rattle.smtp_lines.specs.declared.line.SmtpLine.{SmtpLine}
 use Rattle.smtp_lines.specs.Line.{smtp_lines_of}
 use Rattle.smtp_lines.specs.Lines.{rest_of}
 use Rattle.smtp_session.specs.declared.dialog.Dialog.{Dialog}
-use Rattle.verb_core.specs.declared.mailbox.BoxId.{BoxId}
-use Rattle.verb_bytes.specs.declared.journal.JournalRecord.{JournalRecord}
-use Rattle.desk_journal.specs.Reading.{Reads, both_read, none_read}
+use Rattle.desk_journal.specs.Reading.{both_read, none_read}
 use Rattle.imap_stream.specs.Commands as imap_stream
 use Rattle.imap_stream.specs.Commands.{Heard as Stream, emptied, saying}
 use Rattle.imap_stream.specs.declared.next.Next.{Next}
@@ -95,7 +93,14 @@ heard_on : (kept unserved : List ℕ) (o : Outcome Dialog) (e : Option Dialog) (
     → ((s : State) (d : Dialog) → later s (Smtp kept d) ≡ heard_by (Smtp unserved) (more s d))
     → heard_by (Smtp unserved) (goes_on o e more) ≡ hears_then (heard_by (Smtp kept) o) (option_map (Smtp kept) e) later
 heard_on kept unserved o None more later is same = λ j. record {
-  said = o.said; state = o.state; seat = option_map (Smtp kept) (sym is j); changed = o.changed; rewound = false; unsealed = o.unsealed; reads = o.reads; consoles = no_consoles;
+  said = o.said;
+  state = o.state;
+  seat = option_map (Smtp kept) (sym is j);
+  changed = o.changed;
+  rewound = false;
+  unsealed = o.unsealed;
+  reads = o.reads;
+  consoles = no_consoles;
 }
 heard_on kept unserved o (Some d) more later is same =
     ap (λ (h : Heard). hears_then (heard_by (Smtp kept) o) (Some (Smtp kept d)) (λ s seat. h)) (sym (same o.state d))
@@ -121,7 +126,14 @@ reader_on : (mid last : Stream) (o : Outcome ImapDialog) (e : Option ImapDialog)
     → ((s : State) (d : ImapDialog) → later s (Imap mid d) ≡ heard_by (Imap last) (more s d))
     → heard_by (Imap last) (goes_on o e more) ≡ hears_then (heard_by (Imap mid) o) (option_map (Imap mid) e) later
 reader_on mid last o None more later is same = λ j. record {
-  said = o.said; state = o.state; seat = option_map (Imap mid) (sym is j); changed = o.changed; rewound = false; unsealed = o.unsealed; reads = o.reads; consoles = no_consoles;
+  said = o.said;
+  state = o.state;
+  seat = option_map (Imap mid) (sym is j);
+  changed = o.changed;
+  rewound = false;
+  unsealed = o.unsealed;
+  reads = o.reads;
+  consoles = no_consoles;
 }
 reader_on mid last o (Some d) more later is same =
     ap (λ (h : Heard). hears_then (heard_by (Imap mid) o) (Some (Imap mid d)) (λ s seat. h)) (sym (same o.state d))

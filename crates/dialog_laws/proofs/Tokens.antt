@@ -1,12 +1,11 @@
 -- No more octets stand in tokens than in the lines and literals that they are read from.
-use Rattle.std.proofs.Common.{◌≡◌, ℕ, zero, suc, ◌+◌, ◌≤◌, ◌-◌, Bool, true, false, cond, ◌==◌, ◌||◌, List, [], ◌∷◌, ◌++◌, length, take, drop, Option, None, Some, option_map, refl, sym, subst, arith, length-append}
+use Rattle.std.proofs.Common.{◌≡◌, ℕ, suc, ◌+◌, ◌≤◌, ◌==◌, ◌||◌, List, [], ◌∷◌, ◌++◌, length, drop, Option, None, Some, option_map, refl, subst, arith, length-append}
 use Rattle.std.specs.Prelude.{IfSome}
-use Rattle.std.specs.List.{sum_by, suffix_len}
-use Rattle.std.specs.Option.{option_and_then}
+use Rattle.std.specs.List.{sum_by}
 use Rattle.std.proofs.lemmas.Grind.{common_steps}
 use Rattle.std.proofs.lemmas.List.Sums.{sum_by-append, sum_by-cons}
 use Rattle.imap_stream.specs.Holding.{octets_in}
-use Rattle.imap_tokens.specs.Parts.{is_space, line_before, trimmed}
+use Rattle.imap_tokens.specs.Parts.{line_before, trimmed}
 use Rattle.imap_tokens.specs.Tokens.{ended, escaped, in_quotes, in_word, is_quoted_byte, is_word_byte, started, tokens_from, tokens_in, tokens_of, tokens_with, with_byte, with_first}
 use Rattle.imap_tokens.specs.declared.tokens.Part.{Part}
 use Rattle.imap_tokens.specs.declared.tokens.Part.TheVariants.{Between, Word as PartWord, Quoted as PartQuoted, Escape}

@@ -1,5 +1,5 @@
 -- Two events of one connection, one behind the other.
-use Rattle.std.specs.Prelude.{List, ◌++◌, ◌||◌, Option, None, Some}
+use Rattle.std.specs.Prelude.{◌++◌, ◌||◌, Option, None, Some}
 use Rattle.desk_journal.specs.Reading.{both_read}
 use Rattle.mail_loop.specs.State.{Seat, State}
 use Rattle.mail_loop.specs.ConsoleTurn.{both}
