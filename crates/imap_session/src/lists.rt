@@ -15,7 +15,7 @@ use crate::out::ImapOut;
 use crate::words::{Answer, Word, list_word, word_text};
 use box_store::Store;
 use imap_text::{render_list, render_status};
-use imap_view::{facts_of, mailbox_of};
+use imap_view::{mailbox_of, status_facts};
 use std::alloc::Global;
 use undo_base::{Name, Names, NoMemory, StatusAsks, Text, User};
 use verb_core::{Ask, Refused, Shown, Stamps};
@@ -175,7 +175,7 @@ pub(crate) fn counted(
     requires rising { IsTrue (is_rising stamps.now) }
     ensures { IfOk result (λ out. out ≡ ImapOut.Say (status_line mailbox.now asked.now (facts_at store.now.store stamps.now user mailbox.now) ++ words.tagged tag.now (Answer.Done Word.Status))) }
 {
-    let facts = facts_of(store, stamps, user, mailbox)?;
+    let facts = status_facts(store, stamps, user, mailbox, asked)?;
     let text = render_status(alloc, mailbox, asked, &facts)?;
     tell(text, tag, Answer::Done(Word::Status))
 }

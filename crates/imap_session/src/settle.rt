@@ -19,7 +19,7 @@ use crate::words::{Answer, Word, fetch_word, store_word};
 use box_store::Store;
 use imap_fetch::{FetchForm, Messages, StoreForm, fetch_lines, store_lines};
 use imap_text::render_select;
-use imap_view::{facts_of, mail_of, view_of};
+use imap_view::{mail_of, select_facts, view_of};
 use std::alloc::Global;
 use undo_base::{Name, NoMemory, Text, Texts, User};
 use verb_core::{Item, Stamps, SubmitFault};
@@ -62,7 +62,7 @@ fn selects(
         ≡ took out (record { user = user; selected = selected.new; awaits = AtRest })) }
     ensures err { OnErr result (selected.new ≡ selected.old) }
 {
-    let facts = facts_of(store, stamps, user, mailbox)?;
+    let facts = select_facts(store, stamps, user, mailbox)?;
     let text = render_select(alloc, &facts, writes)?;
     let now = opened(alloc, store, user, mailbox, writes)?;
     let out = tell(text, tag, Answer::Opened { writes })?;

@@ -1,5 +1,6 @@
 //! What the store tells of a mailbox.
-ghost use Rattle.std.specs.Prelude.{◌≡◌, ◌+◌, true, option_map, unwrap_or, count_by, position, IfOk, IsTrue};
+ghost use Rattle.std.specs.Prelude.{◌≡◌, ◌+◌, Bool, true, option_map, unwrap_or, count_by, position, if◌then◌else◌, IfOk, IsTrue};
+ghost use Rattle.imap_text.specs.Answers.{select_lines, status_line};
 ghost use Rattle.verb_core.specs.Boxes.{box_cmp, box_of, is_rising, next_at, row_at};
 ghost use Rattle.verb_core.specs.Live as live;
 ghost use Rattle.verb_core.specs.Store.{IsValid};
@@ -10,7 +11,7 @@ use crate::messages::number;
 use box_store::Store;
 use imap_text::BoxFacts;
 use std::cmp::Ordering;
-use undo_base::{Name, NoMemory, User};
+use undo_base::{Name, NoMemory, StatusAsk, StatusAsks, User};
 use verb_core::{BoxId, Entry, Stamps};
 
 fn asker(user: Option<User>) -> User
@@ -118,8 +119,63 @@ fn first_unseen(entries: &[Entry]) -> Result<Option<u32>, NoMemory>
     }
 }
 
-/// What a mailbox tells of itself.
-pub fn facts_of(
+fn is_unseen_asked(ask: StatusAsk) -> bool
+    ensures { result ≡ fact.is_unseen_asked ask }
+{
+    match ask {
+        StatusAsk::Messages => false,
+        StatusAsk::Recent => false,
+        StatusAsk::UidNext => false,
+        StatusAsk::UidValidity => false,
+        StatusAsk::Unseen => true,
+    }
+}
+
+fn asks_unseen(asked: &[StatusAsk]) -> bool
+    ensures { result ≡ fact.asks_unseen asked.now }
+{
+    asked.iter().any(|ask| is_unseen_asked(*ask))
+}
+
+/// How many messages lack `\Seen`, where that is asked.
+fn count_asked(entries: &[Entry], asked: &[StatusAsk]) -> Result<u32, NoMemory>
+    ensures { IfOk result (λ n. n ≡ (if fact.asks_unseen asked.now then count_by spec.is_unseen entries.now else 0)) }
+{
+    if asks_unseen(asked) {
+        count_unseen(entries)
+    } else {
+        Ok(0)
+    }
+}
+
+#[tactic(auto, using(crate::proofs::Unasked::status_same))]
+/// What a mailbox tells of itself where STATUS asks so. The messages are looked at only where those that lack `\Seen` are
+/// asked for, and the first of these is not looked for.
+pub fn status_facts(
+    store: &Store,
+    stamps: &Stamps,
+    user: Option<User>,
+    name: &Name,
+    asked: &StatusAsks,
+) -> Result<BoxFacts, NoMemory>
+    requires valid { IsValid store.now.store }
+    requires rising { IsTrue (is_rising stamps.now) }
+    ensures { IfOk result (λ facts. status_line name.now asked.now facts ≡ status_line name.now asked.now (fact.facts_at store.now.store stamps.now user name.now)) }
+{
+    let entries = mail_of(store, user, name);
+    Ok(BoxFacts {
+        messages: number(entries.len())?,
+        next: next_of(store, user, name),
+        stamp: stamp_of(stamps, user, name),
+        unseen: count_asked(entries, asked.as_slice())?,
+        first_unseen: None,
+    })
+}
+
+#[tactic(auto, using(crate::proofs::Unasked::select_same))]
+/// What a mailbox tells of itself where it is selected. The messages are looked at up to the first that lacks `\Seen`, and
+/// how many lack it is not counted.
+pub fn select_facts(
     store: &Store,
     stamps: &Stamps,
     user: Option<User>,
@@ -127,14 +183,14 @@ pub fn facts_of(
 ) -> Result<BoxFacts, NoMemory>
     requires valid { IsValid store.now.store }
     requires rising { IsTrue (is_rising stamps.now) }
-    ensures { IfOk result (λ facts. facts ≡ fact.facts_at store.now.store stamps.now user name.now) }
+    ensures { IfOk result (λ facts. (writes : Bool) → select_lines facts writes ≡ select_lines (fact.facts_at store.now.store stamps.now user name.now) writes) }
 {
     let entries = mail_of(store, user, name);
     Ok(BoxFacts {
         messages: number(entries.len())?,
         next: next_of(store, user, name),
         stamp: stamp_of(stamps, user, name),
-        unseen: count_unseen(entries)?,
+        unseen: 0,
         first_unseen: first_unseen(entries)?,
     })
 }
