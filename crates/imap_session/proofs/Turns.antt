@@ -1,5 +1,6 @@
 -- What comes of a command keeps what holds of each dialog, and says which call is due.
-use Rattle.std.proofs.Common.{◌≡◌, ℕ, Bool, true, false, cond, nat_lt, List, [], ◌∷◌, length, refl, Option, None, Some, is_some, sym, true≢false}
+use Rattle.std.proofs.Common.{◌≡◌, ℕ, Bool, true, false, cond, nat_lt, List, [], ◌∷◌, length, refl, Option, None, Some, is_some, sym, ap, ◌∙◌, subst, true≢false}
+use Rattle.std.specs.Cmp.{first_so, second_so}
 use Rattle.undo_base.specs.declared.asks.StatusAsk.{StatusAsk}
 use Rattle.undo_base.specs.declared.keys.Flags.{Flags}
 use Rattle.undo_base.specs.declared.keys.User.{User}
@@ -14,7 +15,7 @@ use Rattle.verb_core.specs.declared.ask.Ask.TheVariants as ask
 use Rattle.verb_core.specs.declared.conf.House.{House}
 use Rattle.verb_core.specs.declared.mailbox.Body.{Body}
 use Rattle.verb_core.specs.Boxes.{box_of}
-use Rattle.verb_core.specs.Live.{asker, is_users}
+use Rattle.verb_core.specs.Live.{asker, is_users, mail_of}
 use Rattle.verb_core.specs.Store.{MailStore, IsValid}
 use Rattle.imap_session.specs.declared.dialog.Dialog.{Dialog}
 use Rattle.imap_session.specs.declared.dialog.Fetching.{Fetching}
@@ -31,10 +32,11 @@ use Rattle.imap_session.specs.Fetching.{bodies_of}
 use Rattle.imap_session.specs.Searching.{all_places, is_known_charset, search_bodies}
 use Rattle.search_verb.specs.Asked.{Asked}
 use Rattle.imap_view.specs.Named.{places_named}
-use Rattle.imap_session.specs.Dialog.{AsksAsUser, IsNext, ReadsOf, Took, append, asks, begin_fetch, begin_search, check, close, copy, copy_places, create, delete, enter, expunge, fetch, fetch_in, fetch_places, fetching, follow, holds_all, is_at_home, is_free, list, login, logout, obey, rename, says, search, search_in, searching, select, status, store, store_places, subscribe, took, unselected, without_memory}
+use Rattle.imap_session.specs.Dialog.{AsksAsUser, IsNext, ReadsOf, Took, append, asks, begin_fetch, begin_search, check, close, copy, copy_places, create, delete, enter, expunge, fetch, fetch_in, fetch_places, fetching, follow, follows_view, holds_all, is_at_home, is_free, is_said, is_shown, is_view_current, list, login, logout, obey, rename, says, search, search_in, searching, select, status, stays_current, store, store_places, subscribe, took, unselected, without_memory}
 use Rattle.imap_session.specs.Sound.{IsSound}
 use Rattle.std.specs.List.{list_all}
 use Rattle.imap_view.proofs.Mail.{view_in_order}
+use Rattle.imap_view.proofs.Views.{view_is_current}
 use Rattle.imap_session.proofs.Wanted.{bodies_are, searched_are}
 
 -- what holds of what comes of a command
@@ -44,10 +46,16 @@ pub record IsFine (house : House) (s : MailStore) (old : Dialog) (t : Took) : Ty
   pub user : AsksAsUser t.out t.dialog
   pub reads : ReadsOf s t.out
   pub home : is_at_home house old ≡ true → is_at_home house t.dialog ≡ true
+  pub view : is_said t.out ≡ true → is_view_current s old ≡ true → is_view_current s t.dialog ≡ true
+
+-- where nobody is logged in no mailbox is selected, and there is no view that could lack something
+none_selected : (s : MailStore) (user : Option User) (selected : Option Selected) → (is_some selected ≡ true → ⊥) → is_shown s user selected ≡ true
+none_selected s user None h = refl
+none_selected s user (Some selected) h = absurd (h refl)
 
 module _ (house : House) (s : MailStore) (d : Dialog) (sound : IsSound d) (free : is_free d ≡ true) where
   fine_say : (text : List ℕ) → IsFine house s d (took (Say text) d)
-  fine_say text = record { sound = sound; next = free; user = tt; reads = tt; home = λ h. h }
+  fine_say text = record { sound = sound; next = free; user = tt; reads = tt; home = λ h. h; view = λ said h. h }
 
   fine_asks : (asked : Ask) (tag : List ℕ) (pending : Pending) → is_users asked ≡ true → is_some d.user ≡ true → IsFine house s d (asks asked tag pending d)
   fine_asks asked tag pending users user = record {
@@ -56,6 +64,7 @@ module _ (house : House) (s : MailStore) (d : Dialog) (sound : IsSound d) (free 
     user = (users, user);
     reads = tt;
     home = λ h. h;
+    view = λ said h. absurd (true≢false (sym said));
   }
 
   fine_follow : (tag : List ℕ) (w : Word) → IsValid s → (selected : Option Selected) → (is_some selected ≡ true → is_some d.user ≡ true)
@@ -67,24 +76,26 @@ module _ (house : House) (s : MailStore) (d : Dialog) (sound : IsSound d) (free 
     user = tt;
     reads = tt;
     home = λ h. h;
+    view = λ said h. view_is_current (mail_of s d.user selected.mailbox);
   }
 
   fine_logout : (tag : List ℕ) → IsFine house s d (logout tag d)
-  fine_logout tag = record { sound = sound; next = free; user = tt; reads = tt; home = λ h. h }
+  fine_logout tag = record { sound = sound; next = free; user = tt; reads = tt; home = λ h. h; view = λ said h. h }
 
-  fine_enter : (tag : List ℕ) (b : Bool) (number : ℕ) → nat_lt number (length house.accounts) ≡ b → IsFine house s d (enter tag d (cond b (Some number) None))
-  fine_enter tag true number known = record {
+  fine_enter : (tag : List ℕ) (b : Bool) (number : ℕ) → None ≡ d.user → nat_lt number (length house.accounts) ≡ b → IsFine house s d (enter tag d (cond b (Some number) None))
+  fine_enter tag true number nobody known = record {
     sound = record { view = sound.view; selected = λ h. refl; awaits = λ h. refl };
     next = free;
     user = tt;
     reads = tt;
     home = λ h. known;
+    view = λ said h. none_selected s (Some (record { 0 = number })) d.selected (λ (some : is_some d.selected ≡ true). true≢false (sym (sound.selected some) ∙ ap (λ (u : Option User). is_some u) (sym nobody)));
   }
-  fine_enter tag false number known = fine_say _
+  fine_enter tag false number nobody known = fine_say _
 
-  fine_login : (tag : List ℕ) (u : Option User) (name password : List ℕ) → IsFine house s d (login house tag d u name password)
-  fine_login tag (Some u) name password = fine_say _
-  fine_login tag None name password = fine_enter tag _ _ refl
+  fine_login : (tag : List ℕ) (u : Option User) (name password : List ℕ) → u ≡ d.user → IsFine house s d (login house tag d u name password)
+  fine_login tag (Some u) name password is = fine_say _
+  fine_login tag None name password is = fine_enter tag _ _ is refl
 
   fine_select : (tag : List ℕ) (u : Option User) (mailbox : Option (List ℕ)) (writes : Bool) → (is_some u ≡ true → is_some d.user ≡ true)
       → IsFine house s d (select tag d u mailbox writes)
@@ -95,6 +106,7 @@ module _ (house : House) (s : MailStore) (d : Dialog) (sound : IsSound d) (free 
     user = tt;
     reads = tt;
     home = λ h. h;
+    view = λ said h. refl;
   }
   fine_select tag (Some u) (Some mailbox) writes user = fine_asks _ tag _ refl (user refl)
 
@@ -115,6 +127,7 @@ module _ (house : House) (s : MailStore) (d : Dialog) (sound : IsSound d) (free 
     user = tt;
     reads = held;
     home = λ h. h;
+    view = λ said h. absurd (true≢false (sym said));
   }
 
   fine_fetch_places : (sizes : Body → Option ℕ) (tag : List ℕ) (selected : Selected) (attributes : List Attribute) (by_uid : Bool) (places : Option (List ℕ))
@@ -143,6 +156,7 @@ module _ (house : House) (s : MailStore) (d : Dialog) (sound : IsSound d) (free 
     user = tt;
     reads = held;
     home = λ h. h;
+    view = λ said h. absurd (true≢false (sym said));
   }
 
   fine_search : (sizes : Body → Option ℕ) (tag : List ℕ) (selected : Option Selected) (charset : Option (List ℕ)) (key : Asked) (by_uid : Bool) → (is_some selected ≡ true → is_some d.user ≡ true)
@@ -225,7 +239,7 @@ module _ (house : House) (s : MailStore) (d : Dialog) (sound : IsSound d) (free 
   fine_obey sizes tag what.Capability valid = fine_say _
   fine_obey sizes tag what.Noop valid = fine_follow tag word.Noop valid d.selected sound.selected
   fine_obey sizes tag what.Logout valid = fine_logout tag
-  fine_obey sizes tag (what.Login user password) valid = fine_login tag d.user user password
+  fine_obey sizes tag (what.Login user password) valid = fine_login tag d.user user password refl
   fine_obey sizes tag (what.Select mailbox) valid = fine_select tag d.user (mailbox_of mailbox) true (λ h. h)
   fine_obey sizes tag (what.Examine mailbox) valid = fine_select tag d.user (mailbox_of mailbox) false (λ h. h)
   fine_obey sizes tag (what.Create mailbox) valid = fine_create tag d.user (mailbox_of mailbox) (λ h. h)
@@ -245,6 +259,49 @@ module _ (house : House) (s : MailStore) (d : Dialog) (sound : IsSound d) (free 
   fine_obey sizes tag (what.Copy set target by_uid) valid = fine_copy tag d.selected set (mailbox_of target) by_uid sound.selected
   fine_obey sizes tag (what.Search charset key by_uid) valid = fine_search sizes tag d.selected charset key by_uid sound.selected
   fine_obey sizes tag what.Authenticate valid = fine_say _
+
+-- ---- a view that is known to be current
+
+module _ (house : House) (s : MailStore) (d : Dialog) where
+  followed_current : (tag : List ℕ) (w : Word) (selected : Option Selected) → selected ≡ d.selected → is_view_current s (follow s tag w d selected).dialog ≡ true
+  followed_current tag w None is = subst (λ (none : Option Selected). is_shown s d.user none ≡ true) is refl
+  followed_current tag w (Some selected) is = view_is_current (mail_of s d.user selected.mailbox)
+
+  checked_current : (tag : List ℕ) (selected : Option Selected) → selected ≡ d.selected → is_view_current s (check s tag d selected).dialog ≡ true
+  checked_current tag None is = subst (λ (none : Option Selected). is_shown s d.user none ≡ true) is refl
+  checked_current tag (Some selected) is = view_is_current (mail_of s d.user selected.mailbox)
+
+  -- behind NOOP and CHECK the view is current
+  told_current : (sizes : Body → Option ℕ) (tag : List ℕ) (asked : ImapWhat) → follows_view asked ≡ true → is_view_current s (obey house s sizes tag d asked).dialog ≡ true
+  told_current sizes tag what.Capability h = absurd (true≢false (sym h))
+  told_current sizes tag what.Noop h = followed_current tag word.Noop d.selected refl
+  told_current sizes tag what.Logout h = absurd (true≢false (sym h))
+  told_current sizes tag (what.Login user password) h = absurd (true≢false (sym h))
+  told_current sizes tag (what.Select mailbox) h = absurd (true≢false (sym h))
+  told_current sizes tag (what.Examine mailbox) h = absurd (true≢false (sym h))
+  told_current sizes tag (what.Create mailbox) h = absurd (true≢false (sym h))
+  told_current sizes tag (what.Delete mailbox) h = absurd (true≢false (sym h))
+  told_current sizes tag (what.Rename mailbox target) h = absurd (true≢false (sym h))
+  told_current sizes tag (what.Subscribe mailbox) h = absurd (true≢false (sym h))
+  told_current sizes tag (what.Unsubscribe mailbox) h = absurd (true≢false (sym h))
+  told_current sizes tag (what.List reference pattern) h = absurd (true≢false (sym h))
+  told_current sizes tag (what.Lsub reference pattern) h = absurd (true≢false (sym h))
+  told_current sizes tag (what.Status mailbox asked) h = absurd (true≢false (sym h))
+  told_current sizes tag (what.Append mailbox flags moment text) h = absurd (true≢false (sym h))
+  told_current sizes tag what.Check h = checked_current tag d.selected refl
+  told_current sizes tag what.Close h = absurd (true≢false (sym h))
+  told_current sizes tag what.Expunge h = absurd (true≢false (sym h))
+  told_current sizes tag (what.Fetch set asked by_uid) h = absurd (true≢false (sym h))
+  told_current sizes tag (what.Store set how silent flags by_uid) h = absurd (true≢false (sym h))
+  told_current sizes tag (what.Copy set target by_uid) h = absurd (true≢false (sym h))
+  told_current sizes tag (what.Search charset key by_uid) h = absurd (true≢false (sym h))
+  told_current sizes tag what.Authenticate h = absurd (true≢false (sym h))
+
+-- what stays known of the view behind a command holds
+pub current_after : (house : House) (s : MailStore) (sizes : Body → Option ℕ) (tag : List ℕ) (d : Dialog) (asked : ImapWhat) (current : Bool) → IsFine house s d (obey house s sizes tag d asked)
+    → (current ≡ true → is_view_current s d ≡ true) → stays_current current asked (obey house s sizes tag d asked).out ≡ true → is_view_current s (obey house s sizes tag d asked).dialog ≡ true
+current_after house s sizes tag d asked true fine known h = fine.view (first_so (is_said (obey house s sizes tag d asked).out) true h) (known refl)
+current_after house s sizes tag d asked false fine known h = told_current house s d sizes tag asked (second_so (is_said (obey house s sizes tag d asked).out) (follows_view asked) h)
 
 -- CHECK, by what the view is told
 pub check_is : (house : House) (s : MailStore) (sizes : Body → Option ℕ) (tag : List ℕ) (d : Dialog) (asked : ImapWhat) (t : Took) → asked ≡ what.Check

@@ -1,6 +1,6 @@
 -- The dialog with a mail client (RFC 3501, 3 and 6), as a function of its state, the house, the store, the lengths of
 -- texts and one command. It gives what is said, read or asked of the store, and the state after it.
-use Rattle.std.specs.Prelude.{◌≡◌, ℕ, Bool, true, false, not, ◌&&◌, List, [], ◌∷◌, ◌++◌, length, bytes_eq, is_some, option_map, unwrap_or, Option, None, Some, Result, Ok, Err, if◌then◌else◌}
+use Rattle.std.specs.Prelude.{◌≡◌, ℕ, Bool, true, false, not, ◌&&◌, ◌||◌, List, [], ◌∷◌, ◌++◌, length, bytes_eq, is_some, option_map, unwrap_or, Option, None, Some, Result, Ok, Err, if◌then◌else◌}
 use Rattle.std.specs.List.{list_all}
 use Rattle.undo_base.specs.declared.asks.StatusAsk.{StatusAsk}
 use Rattle.undo_base.specs.declared.keys.Flags.{Flags}
@@ -54,7 +54,7 @@ use Rattle.imap_session.specs.declared.words.Word.{Word}
 use Rattle.imap_session.specs.declared.words.Word.TheVariants as word
 use Rattle.imap_session.specs.Words.{bye_text, capability_text, copy_word, fault_text, fetch_word, list_word, no_names_text, search_word, store_word, tagged, unread_text, word_text}
 use Rattle.imap_view.specs.Names.{account_of, mailbox_of}
-use Rattle.imap_view.specs.Views.{news, view_of}
+use Rattle.imap_view.specs.Views.{is_current, news, view_of}
 use Rattle.imap_view.specs.Named.{keys_at, places_named, rows_at}
 use Rattle.imap_view.specs.Facts.{facts_at, is_there}
 use Rattle.imap_session.specs.Fetching.{ask_of, bodies_of}
@@ -488,6 +488,51 @@ is_reading d = is_texts d.awaits
 -- the outcome of what was asked is awaited
 abbrev pub is_due : Dialog → Bool
 is_due d = is_outcome d.awaits
+
+-- the view of the selected mailbox, if there is one, is of exactly what lies in it
+abbrev pub is_shown : MailStore → Option User → Option Selected → Bool
+is_shown s user None = true
+is_shown s user (Some selected) = is_current (mail_of s user selected.mailbox) selected.view
+
+abbrev pub is_view_current : MailStore → Dialog → Bool
+is_view_current s d = is_shown s d.user d.selected
+
+-- it says something, and neither reads nor asks, nor closes the connection
+abbrev pub is_said : ImapOut → Bool
+is_said (Say text) = true
+is_said (Read bodies) = false
+is_said (Submit asked) = false
+is_said (Bye text) = false
+
+-- the command tells the view of what lies in its mailbox, and the view follows
+abbrev pub follows_view : ImapWhat → Bool
+follows_view what.Capability = false
+follows_view what.Noop = true
+follows_view what.Logout = false
+follows_view (what.Login user password) = false
+follows_view (what.Select mailbox) = false
+follows_view (what.Examine mailbox) = false
+follows_view (what.Create mailbox) = false
+follows_view (what.Delete mailbox) = false
+follows_view (what.Rename mailbox target) = false
+follows_view (what.Subscribe mailbox) = false
+follows_view (what.Unsubscribe mailbox) = false
+follows_view (what.List reference pattern) = false
+follows_view (what.Lsub reference pattern) = false
+follows_view (what.Status mailbox asked) = false
+follows_view (what.Append mailbox flags moment text) = false
+follows_view what.Check = true
+follows_view what.Close = false
+follows_view what.Expunge = false
+follows_view (what.Fetch set asked by_uid) = false
+follows_view (what.Store set how silent flags by_uid) = false
+follows_view (what.Copy set target by_uid) = false
+follows_view (what.Search charset key by_uid) = false
+follows_view what.Authenticate = false
+
+-- the view is known to be current behind a command: it only said something, and the view was known to be current before, or followed
+abbrev pub stays_current : Bool → ImapWhat → ImapOut → Bool
+stays_current current asked out = is_said out && (current || follows_view asked)
 
 -- the mailbox is selected, by its user
 abbrev pub holds : Dialog → User → List ℕ → Bool

@@ -72,8 +72,10 @@ pub(crate) fn check(
     user: Option<User>,
     selected: &mut Option<Selected>,
     tag: &Name,
+    current: bool,
 ) -> Result<ImapOut, NoMemory>
     requires valid { IsValid store.now.store }
+    requires current { current ≡ true → spec.is_shown store.now.store user selected.old ≡ true }
     requires order { IfSome selected.old (λ s. is_in_order s.view ≡ true) }
     ensures ok { IfOk result (λ out. (awaits : TheAwaits) →
         spec.check store.now.store tag.now (record { user = user; selected = selected.old; awaits = awaits }) selected.old
@@ -82,7 +84,7 @@ pub(crate) fn check(
 {
     match selected {
         None => say(alloc, tag, Answer::WrongState),
-        Some(selected) => follow_view(alloc, store, user, selected, tag, Word::Check),
+        Some(selected) => follow_view(alloc, store, user, selected, tag, Word::Check, current),
     }
 }
 

@@ -34,6 +34,7 @@ pub(crate) fn tell(mut text: Text, tag: &Name, answer: Answer) -> Result<ImapOut
     Ok(ImapOut::Say(text))
 }
 
+/// Done; a view is told of its mailbox first, and follows it. The messages are not looked at where the view is known to be current.
 pub(crate) fn follow_view(
     alloc: Global,
     store: &Store,
@@ -41,15 +42,17 @@ pub(crate) fn follow_view(
     selected: &mut Selected,
     tag: &Name,
     word: Word,
+    current: bool,
 ) -> Result<ImapOut, NoMemory>
     requires valid { IsValid store.now.store }
     requires order { views.is_in_order selected.old.view ≡ true }
+    requires current { current ≡ true → views.is_current (mail_in store.now.store user selected.old.mailbox) selected.old.view ≡ true }
     ensures said { IfOk result (λ out. out ≡ ImapOut.Say (views.news (mail_in store.now.store user selected.old.mailbox) selected.old.view ++ words.tagged tag.now (Answer.Done word))) }
     ensures view { IfOk result (λ out. selected.new ≡ record selected.old { view = views.view_of (mail_in store.now.store user selected.old.mailbox) }) }
     ensures err { OnErr result (selected.new ≡ selected.old) }
 {
     let entries = mail_of(store, user, &selected.mailbox);
-    if is_current(entries, &selected.view) {
+    if is_current(entries, &selected.view, current) {
         return say(alloc, tag, Answer::Done(word));
     }
     let text = news(alloc, entries, &selected.view)?;
@@ -67,8 +70,10 @@ pub(crate) fn follow(
     selected: &mut Option<Selected>,
     tag: &Name,
     word: Word,
+    current: bool,
 ) -> Result<ImapOut, NoMemory>
     requires valid { IsValid store.now.store }
+    requires current { current ≡ true → spec.is_shown store.now.store user selected.old ≡ true }
     requires order { IfSome selected.old (λ s. views.is_in_order s.view ≡ true) }
     ensures ok { IfOk result (λ out. (awaits : TheAwaits) →
         spec.follow store.now.store tag.now word (record { user = user; selected = selected.old; awaits = awaits }) selected.old
@@ -77,7 +82,7 @@ pub(crate) fn follow(
 {
     match selected {
         None => say(alloc, tag, Answer::Done(word)),
-        Some(selected) => follow_view(alloc, store, user, selected, tag, word),
+        Some(selected) => follow_view(alloc, store, user, selected, tag, word, current),
     }
 }
 

@@ -18,13 +18,38 @@ use crate::search::search;
 use crate::words::{Answer, Word};
 use box_store::Store;
 use imap_fetch::StoreForm;
-use imap_lines::ImapWhat;
+use imap_lines::{ImapCommand, ImapWhat};
 use shelf::Shelf;
 use std::alloc::Global;
 use undo_base::{Name, NoMemory};
 use verb_core::House;
 
-/// One command with its tag.
+/// Whether a command tells the view of its mailbox, and the view follows.
+fn follows_view(what: &ImapWhat) -> bool
+    ensures { result ≡ spec.follows_view what.now }
+{
+    matches!(what, ImapWhat::Noop | ImapWhat::Check)
+}
+
+fn is_said(out: &ImapOut) -> bool
+    ensures { result ≡ spec.is_said out.now }
+{
+    match out {
+        ImapOut::Say(_) => true,
+        ImapOut::Read(_) => false,
+        ImapOut::Submit(_) => false,
+        ImapOut::Bye(_) => false,
+    }
+}
+
+/// Whether the view is known to be current behind a command, of which this came. Takes no memory.
+pub fn stays_current(current: bool, command: &ImapCommand, out: &ImapOut) -> bool
+    ensures { result ≡ spec.stays_current current command.now.what out.now }
+{
+    is_said(out) && (current || follows_view(&command.what))
+}
+
+/// One command with its tag. `current` says that the view is known to be current.
 pub(crate) fn obey(
     alloc: Global,
     house: &House,
@@ -33,9 +58,11 @@ pub(crate) fn obey(
     dialog: &mut Dialog,
     tag: &Name,
     what: &ImapWhat,
+    current: bool,
 ) -> Result<ImapOut, NoMemory>
     requires house { IsTrue (is_house house.now) }
     requires valid { IsValid store.now.store }
+    requires current { current ≡ true → spec.is_view_current store.now.store dialog.old ≡ true }
     requires order { IfSome dialog.old.selected (λ s. is_in_order s.view ≡ true) }
     ensures ok { IfOk result (λ out. spec.obey house.now store.now.store (size_of sizes.now.notes) tag.now dialog.old what.now ≡ took out dialog.new) }
     ensures err { OnErr result (dialog.new ≡ spec.without_memory what.now dialog.old) }
@@ -48,6 +75,7 @@ pub(crate) fn obey(
             &mut dialog.selected,
             tag,
             Word::Noop,
+            current,
         ),
         ImapWhat::Logout => logout(alloc, tag),
         ImapWhat::Login { user, password } => login(alloc, house, dialog, tag, user, password),
@@ -88,7 +116,14 @@ pub(crate) fn obey(
             moment,
             text,
         } => append(alloc, dialog, tag, mailbox, *flags, *moment, text),
-        ImapWhat::Check => check(alloc, store, dialog.user, &mut dialog.selected, tag),
+        ImapWhat::Check => check(
+            alloc,
+            store,
+            dialog.user,
+            &mut dialog.selected,
+            tag,
+            current,
+        ),
         ImapWhat::Close => close(alloc, dialog, tag),
         ImapWhat::Copy {
             set,

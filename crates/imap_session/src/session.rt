@@ -56,7 +56,7 @@ impl ImapSession {
     }
 
     /// Takes one command. A SELECT or EXAMINE that found no memory leaves no mailbox selected; any other command that
-    /// found none has changed nothing.
+    /// found none has changed nothing. Where the view is known to be current, a NOOP or CHECK does not look at the mailbox.
     pub fn take(
         &mut self,
         alloc: Global,
@@ -65,16 +65,19 @@ impl ImapSession {
         stamps: &Stamps,
         sizes: &Shelf,
         command: &ImapCommand,
+        current: bool,
     ) -> Result<ImapOut, NoMemory>
         requires house { IsTrue (is_house house.now) }
         requires valid { IsValid store.now.store }
         requires home { is_at_home house.now self.old ≡ true }
         requires free { is_free self.old ≡ true }
+        requires current { current ≡ true → spec.is_view_current store.now.store self.old ≡ true }
         ensures ok { IfOk result (λ out. turn house.now store.now.store (size_of sizes.now.notes) self.old command.now ≡ took out self.new) }
         ensures next { IfOk result (λ out. IsNext out self.new) }
         ensures user { IfOk result (λ out. AsksAsUser out self.new) }
         ensures reads { IfOk result (λ out. ReadsOf store.now.store out) }
         ensures stays { is_at_home house.now self.new ≡ true }
+        ensures current { IfOk result (λ out. spec.stays_current current command.now.what out ≡ true → spec.is_view_current store.now.store self.new ≡ true) }
         ensures err { OnErr result (self.new ≡ without_memory command.now.what self.old) }
         ensures rests { OnErr result (is_free self.new ≡ true) }
     {
@@ -87,6 +90,7 @@ impl ImapSession {
             &mut self.dialog,
             &command.tag,
             &command.what,
+            current,
         )
     }
 

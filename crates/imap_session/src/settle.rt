@@ -183,7 +183,7 @@ fn done(
         Pending::Status { mailbox, asked } => {
             counted(alloc, store, stamps, user, tag, mailbox, asked)
         }
-        Pending::Follow { word } => follow(alloc, store, user, selected, tag, *word),
+        Pending::Follow { word } => follow(alloc, store, user, selected, tag, *word, false),
     }
 }
 

@@ -79,6 +79,11 @@ alike n = grind (arith, nat_tests)
 itself : (e : Entry) → is_message (known_of e) e ≡ true
 itself e = both _ _ (alike e.uid) (both _ _ (alike e.key.item) (alike e.key.index))
 
+-- a view made of a mailbox is current
+pub view_is_current : (entries : List Entry) → is_current entries (view_of entries) ≡ true
+view_is_current [] = refl
+view_is_current (e ∷ entries) = both _ _ (itself e) (view_is_current entries)
+
 -- each of some is like one of all, where all have what some have
 each_inside : {X : Type 0} (f : X → X → Bool) → ((x : X) → f x x ≡ true) → (xs ys : List X) → ((p : X → Bool) → list_any p xs ≡ true → list_any p ys ≡ true) → list_all (λ x. list_any (f x) ys) xs ≡ true
 each_inside f same [] ys h = refl

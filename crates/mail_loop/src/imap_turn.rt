@@ -2,8 +2,9 @@
 ghost use Rattle.std.specs.Prelude.{◌≡◌, ℕ, Ok, Err, true, false, IfOk, IsTrue, OnErr, OnOk};
 ghost use Rattle.std.specs.List.{list_all};
 ghost use Rattle.verb_core.specs.declared.conf.House.{House as TheHouse};
+ghost use Rattle.verb_core.specs.Store.{MailStore};
 ghost use Rattle.imap_lines.specs.Command.{ReadsCommand, Reading, command_of};
-ghost use Rattle.imap_session.specs.Dialog.{AsksAsUser, IsNext, is_at_home, is_due, is_free, is_reading, settle, took};
+ghost use Rattle.imap_session.specs.Dialog.{AsksAsUser, IsNext, is_at_home, is_due, is_free, is_reading, is_said, is_view_current, settle, took};
 ghost use Rattle.paradox.specs.Kept.{store_of, Kept};
 ghost use Rattle.mail_desk.specs.Timeline.{has_text};
 ghost use Rattle.mail_loop.specs.Asked.{HaveSealed};
@@ -16,7 +17,9 @@ ghost use Rattle.mail_loop.specs.ImapTook.{AreThere, IsAnswered, IsAwaitedLast, 
 use crate::asking::{ask_desk, is_refused};
 use crate::reply::{Reply, say};
 use imap_lines::{ImapCommand, ImapRefused, read_command};
-use imap_session::{Bodies0, ImapOut, ImapSession, bad_line, no_memory, ready, refused};
+use imap_session::{
+    Bodies0, ImapOut, ImapSession, bad_line, no_memory, ready, refused, stays_current,
+};
 use imap_stream::{Next, RawCommand};
 use seal_log::ReadFault;
 use std::alloc::Global;
@@ -30,6 +33,7 @@ use verb_core::{Ask, Item, Refused, SubmitFault};
 fn close(session: &mut ImapSession, reply: &mut Reply)
     ensures free { is_free session.new ≡ true }
     ensures home { (house : TheHouse) → is_at_home house session.new ≡ true }
+    ensures view { (store : MailStore) → is_view_current store session.new ≡ true }
     ensures closed { reply.new ≡ record reply.old { closes = true } }
 {
     *session = ImapSession::new();
@@ -60,6 +64,7 @@ fn answer(session: &mut ImapSession, text: Result<Text, NoMemory>, reply: &mut R
     requires free { is_free session.old ≡ true }
     ensures free { is_free session.new ≡ true }
     ensures home { (house : TheHouse) → is_at_home house session.old ≡ true → is_at_home house session.new ≡ true }
+    ensures view { (store : MailStore) → is_view_current store session.old ≡ true → is_view_current store session.new ≡ true }
     ensures answered { IsAnswered text session.old reply.old session.new reply.new }
 {
     match text {
@@ -283,6 +288,7 @@ fn follow<D: Disk + Drop>(
     ensures house { desk.new.kept.house ≡ desk.old.kept.house }
     ensures turn { (h : Hindrance) ×
         Takes (HaveSealed D.told desk.old desk.new) (under h at desk.old.kept (λ service. followed service desk.old.kept out session.old)) reply.old desk.new.kept session.new reply.new }
+    ensures still { is_said out ≡ true → (desk.new.kept ≡ desk.old.kept) × (session.new ≡ session.old) }
 {
     seals_join::<D>();
     match out {
@@ -293,30 +299,38 @@ fn follow<D: Disk + Drop>(
     }
 }
 
-/// Serves a command.
+/// Serves a command. `current` says that the session's view is known to be of exactly what lies in its mailbox.
 fn take_command<D: Disk + Drop>(
     alloc: Global,
     desk: &mut Desk<D>,
     session: &mut ImapSession,
     at: u64,
     command: &ImapCommand,
+    current: &mut bool,
     reply: &mut Reply,
 )
     requires free { is_free session.old ≡ true }
     requires stays { reply.old.closes ≡ false }
     requires home { is_at_home desk.old.kept.house session.old ≡ true }
+    requires current { current.old ≡ true → is_view_current (store_of desk.old.kept) session.old ≡ true }
     requires sealed { desk.old.closed ≡ false }
     ensures free { is_free session.new ≡ true }
     ensures home { is_at_home desk.new.kept.house session.new ≡ true }
     ensures house { desk.new.kept.house ≡ desk.old.kept.house }
     ensures turn { (h : Hindrance) ×
         Takes (HaveSealed D.told desk.old desk.new) (obeyed_under h at desk.old.kept session.old (Ok command.now)) reply.old desk.new.kept session.new reply.new }
+    ensures current { current.new ≡ true → is_view_current (store_of desk.new.kept) session.new ≡ true }
 {
     seals_join::<D>();
     desk.stands();
     let (house, store, stamps, sizes) = (desk.house(), desk.store(), desk.stamps(), desk.shelf());
-    match session.take(alloc, house, store, stamps, sizes, command) {
-        Ok(out) => follow(alloc, desk, session, at, out, reply),
+    let known = *current;
+    *current = false;
+    match session.take(alloc, house, store, stamps, sizes, command, known) {
+        Ok(out) => {
+            *current = stays_current(known, command, &out);
+            follow(alloc, desk, session, at, out, reply)
+        }
         Err(NoMemory) => answer(session, no_memory(alloc, &command.tag), reply),
     }
 }
@@ -327,6 +341,7 @@ fn refuse(alloc: Global, session: &mut ImapSession, why: &ImapRefused, reply: &m
     requires stays { reply.old.closes ≡ false }
     ensures free { is_free session.new ≡ true }
     ensures home { (house : TheHouse) → is_at_home house session.old ≡ true → is_at_home house session.new ≡ true }
+    ensures view { (store : MailStore) → is_view_current store session.old ≡ true → is_view_current store session.new ≡ true }
     ensures turn { (at : ℕ) → (kept : Kept) → (reading : Reading) → ReadsCommand reading (Err why.now) → (h : Hindrance) ×
         Takes IsNone (obeyed_under h at kept session.old reading) reply.old kept session.new reply.new }
 {
@@ -345,47 +360,55 @@ fn take_raw<D: Disk + Drop>(
     session: &mut ImapSession,
     at: u64,
     raw: &RawCommand,
+    current: &mut bool,
     reply: &mut Reply,
 )
     requires free { is_free session.old ≡ true }
     requires stays { reply.old.closes ≡ false }
     requires home { is_at_home desk.old.kept.house session.old ≡ true }
+    requires current { current.old ≡ true → is_view_current (store_of desk.old.kept) session.old ≡ true }
     requires sealed { desk.old.closed ≡ false }
     ensures free { is_free session.new ≡ true }
     ensures home { is_at_home desk.new.kept.house session.new ≡ true }
     ensures house { desk.new.kept.house ≡ desk.old.kept.house }
     ensures turn { (h : Hindrance) ×
         Takes (HaveSealed D.told desk.old desk.new) (obeyed_under h at desk.old.kept session.old (command_of raw.now)) reply.old desk.new.kept session.new reply.new }
+    ensures current { current.new ≡ true → is_view_current (store_of desk.new.kept) session.new ≡ true }
 {
     seals_join::<D>();
     match read_command(alloc, raw) {
-        Ok(command) => take_command(alloc, desk, session, at, &command, reply),
+        Ok(command) => take_command(alloc, desk, session, at, &command, current, reply),
         Err(why) => refuse(alloc, session, &why, reply),
     }
 }
 
-/// Serves one command, literal mark or bad line, and adds its answer to the reply.
+/// Serves one command, literal mark or bad line, and adds its answer to the reply. `current` says that the session's view is
+/// known to be of exactly what lies in its mailbox: it is set by a command that tells the view, and unset by one that reads texts or
+/// asks something of the desk.
 pub fn take_next<D: Disk + Drop>(
     alloc: Global,
     desk: &mut Desk<D>,
     session: &mut ImapSession,
     at: u64,
     next: Next,
+    current: &mut bool,
     reply: &mut Reply,
 )
     requires free { is_free session.old ≡ true }
     requires stays { reply.old.closes ≡ false }
     requires home { is_at_home desk.old.kept.house session.old ≡ true }
+    requires current { current.old ≡ true → is_view_current (store_of desk.old.kept) session.old ≡ true }
     requires sealed { desk.old.closed ≡ false }
     ensures free { is_free session.new ≡ true }
     ensures home { is_at_home desk.new.kept.house session.new ≡ true }
     ensures house { desk.new.kept.house ≡ desk.old.kept.house }
     ensures turn { (h : Hindrance) ×
         Takes (HaveSealed D.told desk.old desk.new) (imap_hindered h at desk.old.kept session.old next) reply.old desk.new.kept session.new reply.new }
+    ensures current { current.new ≡ true → is_view_current (store_of desk.new.kept) session.new ≡ true }
 {
     seals_join::<D>();
     match next {
-        Next::Command(raw) => take_raw(alloc, desk, session, at, &raw, reply),
+        Next::Command(raw) => take_raw(alloc, desk, session, at, &raw, current, reply),
         Next::Ask { length: _ } => say(reply, ready(), false),
         Next::Bad(line) => answer(session, bad_line(alloc, &line), reply),
         Next::NotYet => {}

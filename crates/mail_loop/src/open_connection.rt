@@ -211,7 +211,8 @@ fn is_not_yet(next: &Next) -> bool
     matches!(next, Next::NotYet)
 }
 
-/// Serves the commands, literal marks and bad lines that are whole, each of which is a turn.
+/// Serves the commands, literal marks and bad lines that are whole, each of which is a turn. Between them the store changes only
+/// by what they ask, so a view that was told of its mailbox is known to be current until one of them asks something.
 fn serve_commands<D: Disk + Drop>(
     alloc: Global,
     desk: &mut Desk<D>,
@@ -232,6 +233,7 @@ fn serve_commands<D: Disk + Drop>(
 {
     seals_join::<D>();
     let mut reply = empty_reply(alloc, conn, false);
+    let mut current = false;
     loop {
         let next = match stream.next(alloc) {
             Ok(next) => next,
@@ -243,7 +245,7 @@ fn serve_commands<D: Disk + Drop>(
         if is_not_yet(&next) {
             return reply;
         }
-        take_next(alloc, desk, dialog, at, next, &mut reply);
+        take_next(alloc, desk, dialog, at, next, &mut current, &mut reply);
         if reply.closes {
             return reply;
         }

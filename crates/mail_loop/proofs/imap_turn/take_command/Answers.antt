@@ -1,7 +1,10 @@
-use Rattle.std.proofs.Common.{Ok, refl, subst}
+use Rattle.std.proofs.Common.{◌≡◌, Ok, true, refl, ap, sym, subst, ◌∙◌, ◌||◌}
+use Rattle.std.specs.Cmp.{first_so}
+use Rattle.verb_core.specs.Store.{MailStore}
+use Rattle.paradox.specs.Kept.{Kept, store_of}
 use Rattle.shelf.specs.Notes.{size_of}
 use Rattle.imap_session.specs.declared.dialog.Dialog.{Dialog}
-use Rattle.imap_session.specs.Dialog.{without_memory}
+use Rattle.imap_session.specs.Dialog.{follows_view, is_said, is_view_current, stays_current, without_memory}
 use Rattle.mail_loop.specs.Asked.{HaveSealed}
 use Rattle.mail_loop.specs.SmtpTurn.{Turn}
 use Rattle.mail_loop.specs.Hindrance.{Hindrance, Refused}
@@ -12,6 +15,9 @@ use Rattle.mail_loop.proofs.ImapTurns.{answered_turn, command_is, command_turn}
 use Rattle.mail_loop.proofs.Sealed.{unsealed}
 use Rattle.mail_loop.proofs.Turns.{lifted_turn}
 use Rattle.mail_loop.proofs.imap_turn.take_command.Goals as goal
+
+pub take-requires-clause-current : goal.take-requires-clause-current
+take-requires-clause-current g c = λ h. subst (λ (s : MailStore). is_view_current s c.args.session.now ≡ true) (sym c.store-store.ensures.value) (c.requires.current h)
 
 pub follow-requires-clause-there : goal.follow-requires-clause-there
 follow-requires-clause-there g c =
@@ -38,3 +44,11 @@ returns-in-Err-clause-turn g c =
     lifted_turn (HaveSealed g.D.Disk.told desk desk) f old desk.kept new.session new.reply (unsealed g.D.Disk.told c.seals_join.ensures.nothing desk)
     (answered_turn (memory_told c.args.command.now.tag) text desk.kept left new.session old new.reply f Refused c.no_memory.ensures refl refl
     (subst (λ (e : Dialog). IsAnswered text e old new.session new.reply) c.in-Err.ensures.err c.answer.ensures.answered))
+
+pub returns-in-Ok-clause-current : goal.returns-in-Ok-clause-current
+returns-in-Ok-clause-current g c = λ h.
+    let stays : stays_current c.args.current.now c.args.command.now.what c.in-Ok.out ≡ true = sym c.stays_current.ensures ∙ h in
+    let still = c.follow.ensures.still (first_so (is_said c.in-Ok.out) (c.args.current.now || follows_view c.args.command.now.what) stays) in
+    subst (λ (d : Dialog). is_view_current (store_of c.follow.new.desk.kept) d ≡ true) (sym still.1) (
+      subst (λ (s : MailStore). is_view_current s c.take.new.self ≡ true) (c.store-store.ensures.value ∙ ap (λ (kept : Kept). store_of kept) (sym still.0)) (c.in-Ok.ensures.current stays),
+    )

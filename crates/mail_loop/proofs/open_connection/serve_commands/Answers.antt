@@ -1,4 +1,4 @@
-use Rattle.std.proofs.Common.{List, [], ◌∷◌, ◌++◌, true, None, Some, ap, sym, ◌∙◌, subst, refl}
+use Rattle.std.proofs.Common.{List, [], ◌∷◌, ◌++◌, true, true≢false, None, Some, ap, sym, ◌∙◌, subst, refl}
 use Rattle.imap_stream.specs.Commands.{Heard, emptied}
 use Rattle.imap_stream.specs.declared.next.Next.{Next}
 use Rattle.imap_stream.specs.declared.next.Next.TheVariants.{NotYet}
@@ -21,6 +21,7 @@ loop-next-init g c =
       conn = ap (λ (r : Reply). r.conn) reply.ensures;
       free = c.requires.free;
       home = c.requires.home;
+      current = λ h. absurd (true≢false (sym h));
       house = refl;
       rest = refl;
       open' = c.requires.sealed;
@@ -97,6 +98,7 @@ loop-next-preserved g c =
       conn = turn.1.conn ∙ l.invariant.conn;
       free = c.take_next.ensures.free;
       home = c.take_next.ensures.home;
+      current = c.take_next.ensures.current;
       house = c.take_next.ensures.house ∙ l.invariant.house;
       rest = sym some.1 ∙ l.invariant.rest;
       open' = still_open told l.desk new.desk last.reads l.invariant.open' sealed;

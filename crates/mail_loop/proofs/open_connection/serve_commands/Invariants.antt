@@ -1,7 +1,8 @@
 use Rattle.std.proofs.Common.{◌≡◌, ◌++◌, ◌∷◌, [], false, true, length}
 use Rattle.imap_stream.specs.Commands.{emptied}
 use Rattle.imap_stream.specs.declared.next.Next.TheVariants.{NotYet}
-use Rattle.imap_session.specs.Dialog.{is_at_home, is_free}
+use Rattle.imap_session.specs.Dialog.{is_at_home, is_free, is_view_current}
+use Rattle.paradox.specs.Kept.{store_of}
 use Rattle.time_desk.specs.Reading.{Reads}
 use Rattle.mail_loop.specs.Asked.{HaveSealed}
 use Rattle.mail_loop.specs.Machine.{Seats}
@@ -16,6 +17,7 @@ invariant-loop-next g l = record {
   conn : l.reply.conn ≡ l.conn;
   free : is_free l.dialog ≡ true;
   home : is_at_home l.desk.kept.house l.dialog ≡ true;
+  current : l.current ≡ true → is_view_current (store_of l.desk.kept) l.dialog ≡ true;
   house : l.desk.kept.house ≡ l.fn.desk.kept.house;
   rest : emptied l.stream ≡ emptied l.fn.stream;
   open' : l.desk.closed ≡ false;
