@@ -148,7 +148,6 @@ fn count_asked(entries: &[Entry], asked: &[StatusAsk]) -> Result<u32, NoMemory>
     }
 }
 
-#[tactic(auto, using(crate::proofs::Unasked::status_same))]
 /// What a mailbox tells of itself where STATUS asks so. The messages are looked at only where those that lack `\Seen` are
 /// asked for, and the first of these is not looked for.
 pub fn status_facts(
@@ -172,7 +171,6 @@ pub fn status_facts(
     })
 }
 
-#[tactic(auto, using(crate::proofs::Unasked::select_same))]
 /// What a mailbox tells of itself where it is selected. The messages are looked at up to the first that lacks `\Seen`, and
 /// how many lack it is not counted.
 pub fn select_facts(
