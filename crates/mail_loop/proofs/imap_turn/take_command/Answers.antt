@@ -1,4 +1,4 @@
-use Rattle.std.proofs.Common.{◌≡◌, Ok, true, refl, ap, sym, subst, ◌∙◌, ◌||◌}
+use Rattle.std.proofs.Common.{◌≡◌, Ok, true, refl, sym, subst, ◌∙◌, ◌||◌}
 use Rattle.std.specs.Cmp.{first_so}
 use Rattle.verb_core.specs.Store.{MailStore}
 use Rattle.paradox.specs.Kept.{Kept, store_of}
@@ -49,6 +49,8 @@ pub returns-in-Ok-clause-current : goal.returns-in-Ok-clause-current
 returns-in-Ok-clause-current g c = λ h.
     let stays : stays_current c.args.current.now c.args.command.now.what c.in-Ok.out ≡ true = sym c.stays_current.ensures ∙ h in
     let still = c.follow.ensures.still (first_so (is_said c.in-Ok.out) (c.args.current.now || follows_view c.args.command.now.what) stays) in
-    subst (λ (d : Dialog). is_view_current (store_of c.follow.new.desk.kept) d ≡ true) (sym still.1) (
-      subst (λ (s : MailStore). is_view_current s c.take.new.self ≡ true) (c.store-store.ensures.value ∙ ap (λ (kept : Kept). store_of kept) (sym still.0)) (c.in-Ok.ensures.current stays),
-    )
+    let before : is_view_current (store_of c.args.desk.now.kept) c.take.new.self ≡ true =
+    subst (λ (s : MailStore). is_view_current s c.take.new.self ≡ true) c.store-store.ensures.value (c.in-Ok.ensures.current stays) in
+    let kept : is_view_current (store_of c.follow.new.desk.kept) c.take.new.self ≡ true =
+    subst (λ (kept : Kept). is_view_current (store_of kept) c.take.new.self ≡ true) (sym still.0) before in
+    subst (λ (d : Dialog). is_view_current (store_of c.follow.new.desk.kept) d ≡ true) (sym still.1) kept
