@@ -1,16 +1,16 @@
 #!/usr/bin/env python3
-"""What one event costs: as many short commands as go into 60 KB, sent in one piece over a socket of `undomail serve`.
+"""What pipelined commands cost: as many short ones as go into 60 KB, sent in one piece over a socket of `undomail serve`, which hears 4,096 octets in one event.
 
 usage: bench/event.py PROGRAM [-d FOLDER] [COUNT..]      COUNT: messages of the mailbox, 10000 and 100000 by default
 
 A mailbox of so many messages is made by `init` and by deliveries that are appended to the store, as docs/FORMATS.md spells their records. Each row is a
 kind of command: how many went into the piece, the octets of their answers, the seconds until the last answer was there, those in which the server used a
-processor, and how long another client, who asked for a NOOP just after, waited for it (all of a piece is served before anybody else is). Commands that are
+processor, and how long another client, who asked for a NOOP just after, waited for it. Commands that are
 recorded seal an item each, with two syncs: in a memory file system (-d /dev/shm) these cost nothing, and on a disk most. One row for each kind, in this
 order; the store grows meanwhile, and behind 1,024 items comes a snapshot. Below them single commands that are long: their parts, beside what they are
 compared with, so that a row twice as large tells whether a command costs the product of the two.
 """
-import os, socket, subprocess, sys, tempfile, time
+import os, socket, subprocess, sys, tempfile, threading, time
 
 sys.path.insert(0, os.path.dirname(os.path.abspath(__file__)))
 from journals import CLOSED, OPEN, delivery, text
@@ -84,18 +84,23 @@ def pipelined(command):
     many = OCTETS // len(one)
     return one * (many - 1) + b'z' + one[1:], many
 
+def waited(other):
+    asked = time.perf_counter()
+    asks(other, 'NOOP')
+    return time.perf_counter() - asked
+
 def row(pid, link, other, command):
     said, many = pipelined(command)
     before, begun = used(pid), time.perf_counter()
     link.sendall(said)
     time.sleep(.002)
-    asked = time.perf_counter()
-    other.sendall(b'q NOOP\r\n')
+    waits = threading.Thread(target=lambda: times.append(waited(other)))
+    times = []
+    waits.start()
     octets = answers(link, b'z')
     all_ = time.perf_counter() - begun
-    answers(other, b'q')
-    waited = time.perf_counter() - asked   # at least until the piece's answers were read here
-    print(f'{command:40} {many:6} {octets:10} {all_:9.3f} {used(pid) - before:9.2f} {waited:9.3f}', flush=True)
+    waits.join()
+    print(f'{command:40} {many:6} {octets:10} {all_:9.3f} {used(pid) - before:9.2f} {times[0]:9.3f}', flush=True)
 
 def long_row(pid, link, what, command):
     before, begun = used(pid), time.perf_counter()
