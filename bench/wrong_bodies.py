@@ -7,8 +7,9 @@ Each wrong body is a text of one file, replaced on a copy of the checkout. It is
 on the program that has it (with the first line that says so), and 'NOT SEEN' else. The status is 0 where none was NOT SEEN. A build takes minutes.
 
 Those of the adapters and of `main` are texts that no clause covers, or few. Those of the sessions' turns and of the console's answers are proved: they give
-up as for want of memory, and no clause can tell a want that a body makes itself from a real one. So only a test refuses them: tests/run, whose cases have ample
-memory, shows the first three red, and tests/faults, on the program `faulty`, those that leave out the answer to a seal that failed.
+up as for want of memory, and no clause can tell a want that a body makes itself from a real one. So only tests refuse them: tests/run, whose cases have ample
+memory, the first three, and tests/faults, on the program `faulty`, those that leave out the answer to a seal that failed. tests/system, which comes first, sees
+some of them too.
 """
 import concurrent.futures, os, subprocess, sys, tempfile
 
