@@ -8,6 +8,6 @@ pub mod Mailing
 pub mod Tokens
 pub mod Spoken
 pub mod Reading
-pub mod Desks
+pub mod Standing
 pub mod Stretches
 pub mod Rows

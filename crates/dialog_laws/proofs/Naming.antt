@@ -1,6 +1,6 @@
 -- What bytes are names.
 use Rattle.std.proofs.Common.{◌≡◌, ℕ, ◌+◌, ◌≤◌, ◌<◌, Bool, true, not, ◌&&◌, ◌⊎◌, inl, inr, List, [], ◌∷◌, ◌++◌, length, map, Option, Some, None, refl, sym, ap, ◌∙◌, subst, arith, nat_lt, nat_le, nat_eq}
-use Rattle.std.specs.Prelude.{codes}
+use Rattle.std.specs.Prelude.{is_none, codes}
 use Rattle.std.specs.Char.{to_ascii_lowercase}
 use Rattle.std.specs.Int.{IsInRange}
 use Rattle.std.specs.List.{list_all, position_or_len}
@@ -32,6 +32,17 @@ no_bad_byte text e =
 
 named : (text : List ℕ) → 1 ≤ length text → length text ≤ 200 → list_all is_printable text ≡ true → IsName text
 named text some most e = record { some = some; most = most; printable = no_bad_byte text e }
+
+none_is : (o : Option ℕ) → is_none o ≡ true → o ≡ None
+none_is None e = refl
+none_is (Some n) e = cc
+
+-- 1 to 200 printable bytes, by the test
+pub name_of_test : (bytes : List ℕ) → (nat_le 1 (length bytes) && nat_le (length bytes) 200 && is_none (first_unprintable bytes)) ≡ true → IsName bytes
+name_of_test bytes e =
+    let p : ((nat_le 1 (length bytes) && nat_le (length bytes) 200) ≡ true) × (is_none (first_unprintable bytes) ≡ true) = and_parts _ _ e in
+    let q : (nat_le 1 (length bytes) ≡ true) × (nat_le (length bytes) 200 ≡ true) = and_parts _ _ p.0 in
+    record { some = leb-true 1 (length bytes) q.0; most = leb-true (length bytes) 200 q.1; printable = none_is (first_unprintable bytes) p.1 }
 
 weaker : (p q : ℕ → Bool) → ((b : ℕ) → p b ≡ true → q b ≡ true) → (text : List ℕ) → list_all p text ≡ true → list_all q text ≡ true
 weaker p q so [] e = refl

@@ -1,14 +1,13 @@
 -- A mail reader's dialog is of a user, of names and of keys, and what it asks can be recorded.
-use Rattle.std.proofs.Common.{◌≡◌, ℕ, ◌+◌, ◌≤◌, ◌<◌, Bool, true, false, cond, List, [], ◌∷◌, ◌++◌, length, slice_get, Option, None, Some, unwrap_or, Result, Ok, Err, bytes_eq, nat_lt, nat_le, ltb-true, refl, arith, is_none, length-append, ◌&&◌}
+use Rattle.std.proofs.Common.{◌≡◌, ℕ, ◌+◌, ◌≤◌, ◌<◌, Bool, true, false, cond, List, [], ◌∷◌, ◌++◌, length, slice_get, Option, None, Some, unwrap_or, Result, Ok, Err, bytes_eq, nat_lt, ltb-true, refl, arith, length-append}
 use Rattle.std.specs.Prelude.{IfSome, IsTrue}
 use Rattle.std.specs.List.{AllByRecursion, Contains}
 use Rattle.std.specs.Option.{option_and_then}
 use Rattle.std.specs.Str.{str_eq_ignore_ascii_case}
-use Rattle.std.proofs.lemmas.Bool.{and_parts, leb-true}
 use Rattle.undo_base.specs.declared.asks.StatusAsk.{StatusAsk}
 use Rattle.undo_base.specs.declared.keys.Flags.{Flags}
 use Rattle.undo_base.specs.declared.keys.User.{User}
-use Rattle.undo_base.specs.Name.{IsName, first_unprintable}
+use Rattle.undo_base.specs.Name.{IsName}
 use Rattle.seal_log.specs.declared.fault.ReadFault.{ReadFault}
 use Rattle.search_verb.specs.Asked.{Asked}
 use Rattle.imap_stream.specs.declared.next.RawCommand.{RawCommand}
@@ -61,25 +60,16 @@ use Rattle.dialog_laws.specs.Ranges.{AreAllKeys, IsRecordable, IsStored, IsStore
 use Rattle.dialog_laws.specs.MailReader.{AskedBy, AsksRecordable, Command, IsAwaited, IsPending, IsPlain, IsReading, IsShort, IsSpoken, IsViewed, IsWanted, Outcome, Taken, Texts, Unserved, asked_by, asked_in, turn_of}
 use Rattle.dialog_laws.proofs.Lists.{all_chosen, all_joined, all_mapped, either, found_has, member_has}
 use Rattle.dialog_laws.proofs.Boxes.{AreStored, mail_stored}
+use Rattle.dialog_laws.proofs.Naming.{name_of_test}
 use Rattle.dialog_laws.proofs.Options.{at_has, if_has, mapped_has, then_has, when_has}
 use Rattle.dialog_laws.proofs.Spoken.{IsSaid, reading_said}
 use Rattle.dialog_laws.proofs.Steps.{few_users}
 
 -- ---- names
 
-no_bad_byte : (o : Option ℕ) → is_none o ≡ true → o ≡ None
-no_bad_byte None e = refl
-no_bad_byte (Some n) e = cc
-
-is_named : (bytes : List ℕ) → is_name bytes ≡ true → IsName bytes
-is_named bytes e =
-    let p : ((nat_le 1 (length bytes) && nat_le (length bytes) 200) ≡ true) × (is_none (first_unprintable bytes) ≡ true) = and_parts _ _ e in
-    let q : (nat_le 1 (length bytes) ≡ true) × (nat_le (length bytes) 200 ≡ true) = and_parts _ _ p.0 in
-    record { some = leb-true 1 (length bytes) q.0; most = leb-true (length bytes) 200 q.1; printable = no_bad_byte (first_unprintable bytes) p.1 }
-
 mailbox_named : (bytes : List ℕ) → IfSome (mailbox_of bytes) IsName
 mailbox_named bytes =
-    if_has IsName (str_eq_ignore_ascii_case bytes inbox) (Some inbox) (name_of bytes) (record { some = omega arith; most = omega arith; printable = refl }) (when_has IsName (is_name bytes) bytes (is_named bytes))
+    if_has IsName (str_eq_ignore_ascii_case bytes inbox) (Some inbox) (name_of bytes) (record { some = omega arith; most = omega arith; printable = refl }) (when_has IsName (is_name bytes) bytes (name_of_test bytes))
 
 -- ---- views, and what they name
 

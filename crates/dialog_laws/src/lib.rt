@@ -15,4 +15,4 @@ pub use mail_client::{mail_clients_ask_for_deliveries, mail_dialogs_have_names};
 pub use mail_reader::{
     commands_are_in_range, mail_readers_ask_what_can_be_recorded, reading_dialogs_have_names,
 };
-pub use ranges::{desk_stores_are_in_range, live_items_have_spellings, stores_stay_in_range};
+pub use ranges::{journals_leave_stores_in_range, live_items_have_spellings, stores_stay_in_range};

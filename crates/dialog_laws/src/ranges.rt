@@ -1,5 +1,5 @@
 //! What the store makes of an ask, and what items leave of it. These functions do nothing: their contracts are laws of the definitions.
-ghost use Rattle.std.specs.Prelude.{◌≡◌, ℕ, ◌+◌, ◌≤◌, IsTrue, IfSome, List, length, None, Ok, Option};
+ghost use Rattle.std.specs.Prelude.{◌≡◌, ℕ, ◌+◌, ◌≤◌, IsTrue, IfSome, List, length, None, Ok, Option, Some};
 ghost use Rattle.std.specs.List.{AllByRecursion};
 ghost use Rattle.undo_base.specs.declared.keys.User.{User};
 ghost use Rattle.verb_core.specs.declared.ask.Ask.{Ask};
@@ -10,13 +10,13 @@ ghost use Rattle.verb_core.specs.declared.item.Item.{Item};
 ghost use Rattle.verb_core.specs.Live.{live};
 ghost use Rattle.verb_core.specs.Step.{run, step};
 ghost use Rattle.verb_core.specs.Store.{IsValid, MailStore, is_house, opening};
+ghost use Rattle.verb_bytes.specs.declared.journal.JournalRecord.{JournalRecord};
 ghost use Rattle.verb_bytes.specs.declared.journal.JournalRecord.TheVariants.{Verb};
 ghost use Rattle.verb_bytes.specs.Limits.{IsAsked, IsUser, delivery};
 ghost use Rattle.verb_bytes.specs.Spelling.{HasSpelling};
-ghost use Rattle.paradox.specs.Kept.{IsRun, Kept, store_of};
-ghost use Rattle.mail_desk.specs.Desk.{IsDesk};
-ghost use Rattle.desk_journal.specs.Permanence.{RevsBelow};
-ghost use Rattle.dialog_laws.specs.Ranges.{IsKeeping, IsRecordable, IsStored, MakesNames};
+ghost use Rattle.paradox.specs.Kept.{Kept, store_of};
+ghost use Rattle.desk_journal.specs.Records.{state};
+ghost use Rattle.dialog_laws.specs.Ranges.{IsKeeping, IsRecordable, IsStored};
 
 /// The item that a store makes of an ask that can be recorded has a spelling, with what is shown for it.
 pub fn live_items_have_spellings()
@@ -38,7 +38,8 @@ pub fn stores_stay_in_range()
     ensures asked { (i : Item) → IsAsked i → IsKeeping i }
 {}
 
-/// So is the store of a desk, which is what the items in force leave, where the mailboxes that these make have names.
-pub fn desk_stores_are_in_range()
-    ensures { (kept : Kept) → IsDesk kept → IsRun kept → RevsBelow kept → AllByRecursion MakesNames kept.timeline → IsStored (store_of kept) }
+/// The store that a journal's records leave, where each can stand, is in the ranges of records: each item has its number, its rev and its names from a
+/// record that has a spelling, or from a cycle.
+pub fn journals_leave_stores_in_range()
+    ensures { (records : List JournalRecord) (kept : Kept) → state records ≡ Some kept → IsStored (store_of kept) }
 {}
