@@ -1,8 +1,10 @@
-use Rattle.std.proofs.Common.{List, [], ◌∷◌, ◌++◌, true, true≢false, None, Some, ap, sym, ◌∙◌, subst, refl}
+use Rattle.std.proofs.Common.{◌≡◌, List, [], ◌∷◌, ◌++◌, true, true≢false, None, Some, ap, sym, ◌∙◌, subst, refl}
 use Rattle.imap_stream.specs.Commands.{Heard, emptied}
 use Rattle.imap_stream.specs.declared.next.Next.{Next}
 use Rattle.imap_stream.specs.declared.next.Next.TheVariants.{NotYet}
 use Rattle.mail_loop.specs.declared.reply.Reply.{Reply}
+use Rattle.imap_session.specs.Dialog.{is_view_current}
+use Rattle.paradox.specs.Kept.{store_of}
 use Rattle.time_desk.specs.Reading.{both_read, none_read}
 use Rattle.mail_loop.specs.Asked.{HaveSealed}
 use Rattle.mail_loop.specs.State.{Imap}
@@ -21,7 +23,7 @@ loop-next-init g c =
       conn = ap (λ (r : Reply). r.conn) reply.ensures;
       free = c.requires.free;
       home = c.requires.home;
-      current = λ h. absurd (true≢false (sym h));
+      current = λ h. absurd {A = is_view_current (store_of c.args.desk.now.kept) c.args.dialog.now ≡ true} (true≢false (sym h));
       house = refl;
       rest = refl;
       open' = c.requires.sealed;
