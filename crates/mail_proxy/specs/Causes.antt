@@ -21,7 +21,7 @@ use Rattle.command_words.specs.declared.commands.Command.{Command}
 use Rattle.command_words.specs.declared.commands.Command.TheVariants.{Init, Serve, Script, Play, Grow, Check}
 use Rattle.mail_proxy.specs.Init.{IsNoConfig}
 use Rattle.mail_proxy.specs.Lines.{usage, too_long, bad_configuration, bad_line, not_empty, not_a_store, link_fault, disk_fault, read_fault, too_many, no_memory, damaged}
-use Rattle.mail_proxy.specs.Reading.{ReadFails, WriteFails, WriteStarves, Wrote}
+use Rattle.mail_proxy.specs.Reading.{ReadFails, Took, WriteFails, WriteStarves, Wrote}
 use Rattle.mail_proxy.specs.Script.{Played, opening}
 use Rattle.mail_proxy.specs.Texts.{IsText}
 
@@ -159,7 +159,7 @@ IsFirst (Some Check) disk first = IsOpened disk first
 abbrev pub HasDesk : Option Command → DiskTold → Type 0
 HasDesk command disk = (first : Kept) × IsFirst command disk first
 
--- the events of the script were served over what the desk kept at first, until serving ended so, with this transcript
+-- the events of the script were served over what the desk kept at first, and came out so, with this transcript
 pub record RanTo (command : Option Command) (told : Option (List ℕ)) (disk : DiskTold) (outcome : Result (Unit {0}) ServeFault) (transcript : List ℕ) : Type 0 where
   pub takes : takes_script command ≡ true
   pub events : List Event
@@ -172,7 +172,7 @@ pub record RanTo (command : Option Command) (told : Option (List ℕ)) (disk : D
   pub played : Played first events outcome notes steps last
   pub transcript_is : transcript ≡ transcript_of notes
 
--- before the last line nothing stands, or the transcript of a script whose serving ended so
+-- before the last line nothing stands, or the transcript of a script whose serving came out so
 abbrev pub IsFront : Option Command → Option (List ℕ) → DiskTold → Result (Unit {0}) ServeFault → List ℕ → Type 0
 IsFront command told disk outcome front = (front ≡ []) ⊎ RanTo command told disk outcome front
 
@@ -202,11 +202,15 @@ abbrev pub CountsReads : Option Command → DiskTold → DiskTold → Type 0
 CountsReads command old new = MatchBool (serves command) (old.failed_reads ≤ new.failed_reads) (new.failed_reads ≡ old.failed_reads)
 
 module _ (command : Option Command) (old new : Outside) where
-  -- 0: the words are a command, and no read and no write failed, but for reads of texts while events were served
+  -- a script was served well, so that none of its strings was missed or left out, and its transcript was written whole
+  abbrev pub PlayedWell : Type 0
+  PlayedWell = (transcript : List ℕ) × RanTo command old.text.left old.disk (Ok tt) transcript × Took old.out new.out transcript
+
+  -- 0: the words are a command, and no read and no write failed, but for reads of texts while events were served; a script was served well
   abbrev pub AllWell : Type 0
   AllWell =
       (is_some command ≡ true) × (new.text.faults ≡ old.text.faults) × CountsReads command old.disk new.disk × (new.disk.failed_writes ≡ old.disk.failed_writes)
-      × (new.out.faults ≡ old.out.faults)
+      × (new.out.faults ≡ old.out.faults) × (takes_script command ≡ true → PlayedWell)
 
   -- 1: the words are of no stated shape
   abbrev pub IsMisused : Type 0
