@@ -1,5 +1,5 @@
 //! A file as a disk, which tells its length and its counts alone, and what each of its calls does to the file.
-ghost use Rattle.std.specs.Prelude.{◌≡◌, ◌≤◌, ◌+◌, [], ◌∷◌, length, true, false, if◌then◌else◌, IfOk, OnOk, OnErr};
+ghost use Rattle.std.specs.Prelude.{◌≡◌, ◌≢◌, ◌≤◌, ◌+◌, [], ◌∷◌, length, max, true, false, if◌then◌else◌, IfOk, OnOk, OnErr};
 ghost use Rattle.undo_outside.specs.Calls.{Rose, then_told};
 ghost use Rattle.host_outside.specs.Files.{finds, makes, reads, syncs};
 ghost use Rattle.host_outside.specs.declared.calls.FileCall.TheVariants.{SyncedAll, SyncedBytes, SyncedFolder, Wrote};
@@ -216,22 +216,19 @@ impl<F: FileCalls> DiskOver<F> {
 }
 
 impl<F: FileCalls> Disk for DiskOver<F> {
-    ghost told = { λ d. record {
-      honest = ⊥;
-      size = d.size;
-      content = [];
-      images = λ _. ⊥;
-      moment = 0;
-      since = λ _ _. ⊥;
-      failed_reads = d.failed_reads;
-      failed_writes = d.failed_writes;
-      failed_last = d.failed_last;
-      is_reliable = false;
-    } };
+    ghost use Rattle.undo_outside.specs.Disk.{Measures, ReadsAt, Syncs, WritesAt};
+    ghost use Rattle.host_outside.specs.FileDisk.{told_by};
+
+    ghost told = { told_by };
 
     ghost tells_truth = { λ d h. absurd h };
 
-    fn len(&mut self) -> Result<u64, Failed> {
+    fn len(&mut self) -> Result<u64, Failed>
+        ensures call { Measures (told_by self.old) (told_by self.new) result }
+        ensures there { OnOk result (self.old.state ≢ states.Nothing) }
+        ensures none { OnErr result (self.old.state ≡ states.Nothing) }
+        ensures others { self.new ≡ record self.old { failed_reads = self.new.failed_reads; failed_last = self.new.failed_last } }
+    {
         if matches!(self.state, State::Nothing) {
             return Err(self.fail_read());
         }
@@ -239,7 +236,12 @@ impl<F: FileCalls> Disk for DiskOver<F> {
         Ok(self.size)
     }
 
-    fn read(&mut self, place: u64, buf: &mut [u8]) -> Result<(), Failed> {
+    fn read(&mut self, place: u64, buf: &mut [u8]) -> Result<(), Failed>
+        requires { place + length buf.old ≤ (told_by self.old).size }
+        ensures call { ReadsAt (told_by self.old) (told_by self.new) place (length buf.old) buf.new result }
+        ensures calls { OnOk result (F.told self.new.file ≡ then_told (F.told self.old.file) (reads self.old.state place (length buf.old))) }
+        ensures others { self.new ≡ record self.old { file = self.new.file; failed_reads = self.new.failed_reads; failed_last = self.new.failed_last } }
+    {
         if self.read_there(place, buf).is_err() {
             return Err(self.fail_read());
         }
@@ -247,7 +249,18 @@ impl<F: FileCalls> Disk for DiskOver<F> {
         Ok(())
     }
 
-    fn write_at(&mut self, place: u64, bytes: &[u8]) -> Result<(), DiskFault> {
+    fn write_at(&mut self, place: u64, bytes: &[u8]) -> Result<(), DiskFault>
+        requires { place ≤ (told_by self.old).size }
+        ensures call { WritesAt (told_by self.old) (told_by self.new) place bytes.now result }
+        ensures calls { OnOk result (F.told self.new.file ≡ then_told (then_told (F.told self.old.file) (makes self.old.state)) (Wrote place bytes.now ∷ [])) }
+        ensures size { OnOk result (self.new.size ≡ max self.old.size (place + length bytes.now)) }
+        ensures unwritten { OnErr result (self.new.size ≡ self.old.size) }
+        ensures there { OnOk result (self.new.state ≡ states.There) }
+        ensures made { OnOk result (self.old.state ≡ states.Missing → self.new.is_new ≡ true) }
+        ensures new { self.old.is_new ≡ true → self.new.is_new ≡ true }
+        ensures noted { self.new.has_grown ≡ false → place + length bytes.now ≤ self.old.size }
+        ensures grown { self.old.has_grown ≡ true → self.new.has_grown ≡ true }
+    {
         self.note_growth(place, bytes);
         let Ok(end) = self.write_there(place, bytes) else {
             self.fail_write();
@@ -258,7 +271,12 @@ impl<F: FileCalls> Disk for DiskOver<F> {
         Ok(())
     }
 
-    fn sync(&mut self) -> Result<(), Failed> {
+    fn sync(&mut self) -> Result<(), Failed>
+        ensures call { Syncs (told_by self.old) (told_by self.new) result }
+        ensures calls { OnOk result (F.told self.new.file ≡ then_told (then_told (F.told self.old.file) (syncs self.old.state self.old.has_grown)) (finds self.old.state self.old.is_new)) }
+        ensures kept { OnErr result ((self.new.is_new ≡ self.old.is_new) × (self.new.has_grown ≡ self.old.has_grown)) }
+        ensures others { self.new ≡ record self.old { file = self.new.file; is_new = self.new.is_new; has_grown = self.new.has_grown; failed_writes = self.new.failed_writes; failed_last = self.new.failed_last } }
+    {
         if self.sync_there().is_err() {
             return Err(self.fail_write());
         }
