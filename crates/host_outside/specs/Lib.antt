@@ -1,3 +1,4 @@
 pub mod FileDisk
 pub mod Files
 pub mod Seats
+pub mod Streams

@@ -1,6 +1,8 @@
 //! One connection, of which the other side may take its time.
-ghost use Rattle.std.specs.Prelude.{◌≡◌, ℕ, ◌++◌, drop, true, Ok, IsSome, IfOk, OnErr};
-ghost use Rattle.host_outside.specs.declared.connection.Received.TheVariants.{Nothing, Left};
+ghost use Rattle.std.specs.Prelude.{◌≡◌, ◌⊎◌, ℕ, true, false, Ok, IsSome, OnErr, is_err};
+ghost use Rattle.std.specs.Result.{result_unwrap_or};
+ghost use Rattle.host_outside.specs.Streams.{IsExchanged, IsGiven, IsTaken, IsWhole};
+ghost use Rattle.host_outside.specs.declared.connection.Received.TheVariants.{Nothing, Bytes, Left};
 
 use crate::waiting::Waiting;
 use std::alloc::Global;
@@ -37,6 +39,8 @@ pub(crate) struct Connection<S> {
     is_over: bool,
     /// Some of what waits was taken at the last visit, or something came that is not wanted any more.
     has_moved: bool,
+    /// The stream refused the last bytes that it was given, and will not take what waits.
+    is_broken: bool,
 }
 
 impl<S> Connection<S> {
@@ -61,6 +65,7 @@ impl<S: Read + Write + OpenStream> Connection<S> {
             ends_at: None,
             is_over: false,
             has_moved: false,
+            is_broken: false,
         })
     }
 
@@ -68,11 +73,13 @@ impl<S: Read + Write + OpenStream> Connection<S> {
         self.has_moved
     }
 
-    /// Sends a string, or keeps what is not taken yet. Answers whether it may still arrive whole: then no byte of it, or of what
-    /// waited before, is lost or out of its place.
+    /// Sends a string, or keeps what is not taken yet. Answers whether it may still arrive whole: then the stream took the
+    /// front of what waited and the string behind it, the rest of these waits now, and the stream did not refuse them.
     pub(crate) fn send(&mut self, bytes: &[u8]) -> Result<bool, NoMemory>
         ensures stays { self.new.ends_at ≡ self.old.ends_at }
-        ensures whole { result ≡ Ok true → (count : ℕ) × (self.new.waiting ≡ drop count (self.old.waiting ++ bytes.now)) }
+        ensures whole { result ≡ Ok true → IsWhole S.contents bytes.now self.old self.new }
+        ensures missed { result ≡ Ok false → (self.new.is_broken ≡ true) ⊎ (self.new ≡ self.old) }
+        ensures unsent { OnErr result (self.new ≡ self.old) }
     {
         if self.ends_at.is_some() || self.waiting.len() > MOST_WAITING {
             return Ok(false);
@@ -87,6 +94,7 @@ impl<S: Read + Write + OpenStream> Connection<S> {
         ensures ended { IsSome self.old.ends_at → result ≡ Nothing }
         ensures left { result ≡ Left → IsSome self.new.ends_at }
         ensures stays { IsSome self.old.ends_at → IsSome self.new.ends_at }
+        ensures came { (count : ℕ) → result ≡ Bytes count → IsExchanged S.contents S.remaining self.old self.new buf.new (Bytes count) }
     {
         self.has_moved = false;
         if self.ends_at.is_some() {
@@ -147,8 +155,10 @@ impl<S: Read + Write + OpenStream> Connection<S> {
     }
 
     /// Sends what waits, and reads what came, unless too much waits.
+    #[tactic(auto, using(crate::proofs::Known::kept))]
     fn exchange(&mut self, buf: &mut [u8]) -> Received
-        ensures { self.new.ends_at ≡ self.old.ends_at }
+        ensures stays { self.new.ends_at ≡ self.old.ends_at }
+        ensures exchanged { IsExchanged S.contents S.remaining self.old self.new buf.new result }
     {
         if self.flush().is_err() {
             return Received::Left;
@@ -159,11 +169,22 @@ impl<S: Read + Write + OpenStream> Connection<S> {
         read_some(&mut self.stream, buf)
     }
 
-    /// Sends what is taken of what waits, and answers how much that was: so much goes from its front.
+    /// Sends what is taken of what waits, and answers how much that was: so much goes from its front. Notes a refusal.
     fn flush(&mut self) -> io::Result<usize>
         ensures stays { self.new.ends_at ≡ self.old.ends_at }
-        ensures sent { IfOk result (λ count. self.new.waiting ≡ drop count self.old.waiting) }
-        ensures kept { OnErr result (self.new.waiting ≡ self.old.waiting) }
+        ensures sent { IsTaken (result_unwrap_or result 0) self.old.waiting self.new.waiting (S.contents self.old.stream) (S.contents self.new.stream) }
+        ensures noted { self.new.is_broken ≡ is_err result }
+    {
+        let count = self.write_waiting();
+        self.is_broken = count.is_err();
+        count
+    }
+
+    /// Writes what waits to the stream, once. None of it taken, where some waits, is a failure.
+    #[tactic(auto, using(crate::proofs::Known::kept, crate::proofs::Known::grown_by_none))]
+    fn write_waiting(&mut self) -> io::Result<usize>
+        ensures stays { self.new.ends_at ≡ self.old.ends_at }
+        ensures sent { IsTaken (result_unwrap_or result 0) self.old.waiting self.new.waiting (S.contents self.old.stream) (S.contents self.new.stream) }
     {
         if self.waiting.len() == 0 {
             return Ok(0);
@@ -186,7 +207,11 @@ fn is_for_later(error: &io::Error) -> bool {
     matches!(error.kind(), ErrorKind::WouldBlock | ErrorKind::Interrupted)
 }
 
-fn read_some<S: Read>(stream: &mut S, buf: &mut [u8]) -> Received {
+/// Reads what came.
+#[tactic(auto, using(crate::proofs::Known::none_lost))]
+fn read_some<S: Read>(stream: &mut S, buf: &mut [u8]) -> Received
+    ensures { IsGiven (S.remaining stream.old) (S.remaining stream.new) buf.new result }
+{
     match stream.read(buf) {
         Ok(0) => Received::Left,
         Ok(count) => Received::Bytes(count),

@@ -1,0 +1,32 @@
+-- What a connection does with its stream.
+use Rattle.std.specs.Prelude.{◌≡◌, ℕ, ◌<◌, ◌≤◌, false, List, ◌++◌, take, drop, length, Option}
+use Rattle.std.specs.Io.KnownBytes.{Appends, Consumes, Keeps}
+use Rattle.host_outside.specs.declared.connection.Connection.{Connection}
+use Rattle.host_outside.specs.declared.connection.Received.{Received}
+use Rattle.host_outside.specs.declared.connection.Received.TheVariants.{Nothing, Bytes, Left}
+
+-- The stream, which held old and now holds new, took so many first bytes of those that wait, and the rest is left.
+pub record IsTaken (count : ℕ) (wait left : List ℕ) (old new : Option (List ℕ)) : Type 0 where
+  pub bound : count ≤ length wait
+  pub taken : Appends old new (take count wait)
+  pub rest : left ≡ drop count wait
+
+-- A string was sent whole so far: the stream took the front of what waited and of the string behind it, the rest of these waits
+-- now, and the stream did not refuse.
+pub record IsWhole {S : Type 0} (contents : S → Option (List ℕ)) (bytes : List ℕ) (old new : Connection S) : Type 0 where
+  pub count : ℕ
+  pub taken : IsTaken count (old.waiting ++ bytes) new.waiting (contents old.stream) (contents new.stream)
+  pub sound : new.is_broken ≡ false
+
+-- What came is the front of what the stream had to give. Where nothing came, or the other side left, it gave nothing.
+abbrev pub IsGiven : Option (List ℕ) → Option (List ℕ) → List ℕ → Received → Type 0
+IsGiven old new buffer Nothing = Keeps old new
+IsGiven old new buffer (Bytes count) = (0 < count) × (count ≤ length buffer) × Consumes old new (take count buffer)
+IsGiven old new buffer Left = Keeps old new
+
+-- the stream took some of what waited, and then gave what came
+pub record IsExchanged {S : Type 0} (contents remaining : S → Option (List ℕ)) (old new : Connection S) (buffer : List ℕ) (received : Received) : Type 0 where
+  pub between : S
+  pub count : ℕ
+  pub sent : IsTaken count old.waiting new.waiting (contents old.stream) (contents between)
+  pub given : IsGiven (remaining between) (remaining new.stream) buffer received
