@@ -3,7 +3,7 @@ use Rattle.std.specs.Prelude.{◌≡◌, ℕ, Bool, if◌then◌else◌, List, [
 use Rattle.undo_outside.specs.declared.fault.Failed.{Failed as Failure}
 use Rattle.undo_outside.specs.Calls.{then_told}
 use Rattle.host_outside.specs.declared.calls.FileCall.{FileCall}
-use Rattle.host_outside.specs.declared.calls.FileCall.TheVariants.{Made, Read, Wrote, SyncedAll, SyncedBytes, SyncedFolder}
+use Rattle.host_outside.specs.declared.calls.FileCall.TheVariants.{Made, Read, SyncedAll, SyncedBytes, SyncedFolder}
 use Rattle.host_outside.specs.declared.file_disk.State.{State}
 use Rattle.host_outside.specs.declared.file_disk.State.TheVariants.{Nothing, Missing, There}
 

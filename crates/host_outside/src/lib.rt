@@ -5,7 +5,9 @@
 //! connections: `sockets` visits them in turn, over `listeners` and `connection`, and `waiting` is what a slow reader has
 //! not taken yet. They tell nothing of content: what a real file or a peer does is no part of any proof. What is proved is
 //! that each meets its trait: a call fails only where its own count rises by one, a call that succeeds leaves the counts,
-//! and a disk's length never falls; and that nothing comes of a connection that was closed or left (`Connection::receive`).
+//! and a disk's length never falls; what a disk does to its file (`calls` of `DiskOver`); and what a connection does with
+//! its stream: which bytes it took (`Connection::send`), which it gave, to whose number they are told (`Sockets::receive`),
+//! and that nothing comes of a connection that was closed or left (`Connection::receive`).
 #![tactic(auto)]
 
 mod calls;

@@ -1,12 +1,15 @@
 //! The listeners and the connections, visited in rounds: those that were active lately in each, the others by turns.
-ghost use Rattle.std.specs.Prelude.{◌≡◌, ◌≤◌, true, false, IfSome, IsNone, None};
-ghost use Rattle.host_outside.specs.Seats.{IsAt, IsOf};
+ghost use Rattle.std.specs.Prelude.{◌≡◌, ◌<◌, ◌≤◌, ◌+◌, ℕ, true, false, IfSome, IfNone, IsNone, None, Some, Ok, length, min, take, position};
+ghost use Rattle.host_outside.specs.Seats.{Ends, Fills, Gives, Hears, IsLeft, IsSent, Receives, SatBefore, Turns, is_free, told_of};
+ghost use Rattle.host_outside.specs.declared.connection.Received.TheVariants as came;
+ghost use Rattle.host_outside.specs.Seats as spec;
 ghost use Rattle.undo_outside.specs.declared.event.What.TheVariants.{Joined};
 
 use crate::connection::{Connection, Received};
 use crate::listeners::Listeners;
 use std::alloc::Global;
-use std::net::Net;
+use std::io::{Read, Write};
+use std::net::{Net, OpenStream};
 use std::time::{Clock, Duration};
 use std::{mem, thread};
 use undo_base::{LAST_MOMENT, NoMemory, Text};
@@ -59,6 +62,7 @@ impl<S: Drop> Seat<S> {
         ensures over { IfSome self.old.connection (λ connection. connection.is_over ≡ true → self.new.connection ≡ None) }
         ensures kept { IfSome self.old.connection (λ connection. connection.is_over ≡ false → self.new.connection ≡ self.old.connection) }
         ensures empty { IsNone self.old.connection → self.new.connection ≡ None }
+        ensures same { SatBefore self.old self.new }
         ensures lively { self.new.lively_until ≡ self.old.lively_until }
     {
         let is_over = match &self.connection {
@@ -67,6 +71,67 @@ impl<S: Drop> Seat<S> {
         };
         if is_over {
             self.connection = None;
+        }
+    }
+
+    /// Its connection has just been active. `lively` is the list of those that were.
+    fn enliven(&mut self, lively: &mut Vec<usize>, place: usize, now: u64)
+        ensures { self.new.connection ≡ self.old.connection }
+    {
+        if self.lively_until.is_none() && lively.push(place).is_err() {
+            return;
+        }
+        self.lively_until = Some((now / 1000).saturating_add(LIVELY));
+    }
+}
+
+impl<S: Read + Write + OpenStream + Drop> Seat<S> {
+    /// Sends a string over its connection. Answers whether it may still arrive whole.
+    fn send(&mut self, bytes: &[u8]) -> Result<bool, NoMemory>
+        ensures { result ≡ Ok true → IsSent S.contents bytes.now self.old self.new }
+    {
+        match &mut self.connection {
+            Some(connection) => connection.send(bytes),
+            None => Ok(false),
+        }
+    }
+
+    /// Sends what waits for its connection, and takes what came over it.
+    fn receive(&mut self, now: u64, buf: &mut [u8]) -> Received
+        ensures given { (count : ℕ) → result ≡ came.Bytes count → Gives S.contents S.remaining self.old buf.new count }
+        ensures left { result ≡ came.Left → IsLeft self.new }
+    {
+        match &mut self.connection {
+            Some(connection) => connection.receive(now / 1000, buf),
+            None => Received::Nothing,
+        }
+    }
+
+    /// Its connection was active at a visit in which that came.
+    fn is_active(&self, received: &Received) -> bool {
+        let has_moved = match &self.connection {
+            Some(connection) => connection.has_moved(),
+            None => false,
+        };
+        has_moved || !matches!(received, Received::Nothing)
+    }
+
+    /// Ends a visit, at which its connection was active or not.
+    fn settle(&mut self, is_active: bool, lively: &mut Vec<usize>, place: usize, now: u64)
+        ensures { SatBefore self.old self.new }
+    {
+        self.free();
+        if is_active {
+            self.enliven(lively, place, now);
+        }
+    }
+
+    /// Ends its connection, if there is one.
+    fn end(&mut self, now: u64)
+        ensures { Ends self.old self.new }
+    {
+        if let Some(connection) = &mut self.connection {
+            connection.end(now / 1000);
         }
     }
 }
@@ -257,80 +322,80 @@ impl<R: Net + Clock> Sockets<R> {
         self.receive(place, now)
     }
 
-    /// A seat's connection has just been active.
-    fn enliven(&mut self, place: usize, now: u64) {
-        let Some(seat) = self.seats.get_mut(place) else {
-            return;
-        };
-        if seat.lively_until.is_none() && self.lively.push(place).is_err() {
-            return;
-        }
-        seat.lively_until = Some((now / 1000).saturating_add(LIVELY));
-    }
-
     /// Takes in a connection that waits, under the lowest free number.
     fn accept(&mut self, role: Role, now: u64) -> Option<Event>
         ensures joined { IfSome result (λ event. event.what ≡ Joined role) }
-        ensures numbered { IfSome result (λ event. 1 ≤ event.conn) }
+        ensures seated { IfSome result (λ event. (place : ℕ) × (event.conn ≡ place + 1) × (position is_free self.old.seats.items ≡ Some place) × Turns place Fills self.old.seats.items self.new.seats.items) }
     {
-        let place = self
-            .seats
-            .iter()
-            .position(|seat| seat.connection.is_none())?;
+        let place = first_free(&self.seats)?;
+        let number = number_of(place)?;
         let stream = self.listeners.as_ref()?.accept(role)?;
         let connection = Connection::new(self.alloc, stream).ok()?;
-        self.seats.get_mut(place)?.connection = Some(connection);
-        self.enliven(place, now);
-        Some(self.event_of(place, What::Joined(role)))
+        let seat = self.seats.get_mut(place)?;
+        seat.connection = Some(connection);
+        seat.enliven(&mut self.lively, place, now);
+        Some(self.event(number, What::Joined(role)))
     }
 
-    /// Sends what waits for a seat's connection, and takes what came over it.
+    /// Sends what waits for a seat's connection, and tells what came over it.
     fn receive(&mut self, place: usize, now: u64) -> Option<Event>
-        ensures { IfSome result (λ event. IsOf place event) }
+        ensures numbered { IfSome result (λ event. event.conn ≡ place + 1) }
+        ensures told { IfSome result (λ event. Hears R.Stream.contents R.Stream.remaining place event.what self.old.seats.items self.new.seats.items) }
     {
-        let connection = self.seats.get_mut(place)?.connection.as_mut()?;
-        let received = connection.receive(now / 1000, &mut self.spare);
-        let has_moved = connection.has_moved();
-        self.free(place);
-        if has_moved {
-            self.sleep = SHORTEST_SLEEP;
-            self.enliven(place, now);
-        }
-        let what = match received {
-            Received::Nothing => return None,
-            Received::Bytes(count) => What::Bytes(self.take_bytes(count)),
-            Received::Left => What::Left,
-        };
-        self.enliven(place, now);
-        Some(self.event_of(place, what))
+        let number = number_of(place)?;
+        let received = self.visit(place, now)?;
+        let what = self.told(received)?;
+        Some(self.event(number, what))
     }
 
-    /// Nobody has the seat any more where its connection is over.
-    fn free(&mut self, place: usize) {
-        if let Some(seat) = self.seats.get_mut(place) {
-            seat.free();
+    /// Sends what waits for a seat's connection, and takes what came over it into the buffer.
+    fn visit(&mut self, place: usize, now: u64) -> Option<Received>
+        ensures { IfSome result (λ received. Turns place (Receives R.Stream.contents R.Stream.remaining self.new.spare.items received) self.old.seats.items self.new.seats.items) }
+    {
+        let seat = self.seats.get_mut(place)?;
+        let received = seat.receive(now, &mut self.spare);
+        let is_active = seat.is_active(&received);
+        seat.settle(is_active, &mut self.lively, place, now);
+        self.wake(is_active);
+        Some(received)
+    }
+
+    /// The next sleep is a short one where something came or went.
+    fn wake(&mut self, is_active: bool)
+        ensures { self.new ≡ record self.old { sleep = self.new.sleep } }
+    {
+        if is_active {
+            self.sleep = SHORTEST_SLEEP;
+        }
+    }
+
+    /// What an event tells of what came into the buffer.
+    fn told(&mut self, received: Received) -> Option<What>
+        ensures told { result ≡ told_of received self.old.spare.items }
+        ensures others { self.new ≡ record self.old { spare = self.new.spare } }
+    {
+        match received {
+            Received::Nothing => None,
+            Received::Bytes(count) => Some(What::Bytes(self.take_bytes(count))),
+            Received::Left => Some(What::Left),
         }
     }
 
     /// The first bytes of the buffer, which goes with them: none is copied, and no memory is taken.
-    fn take_bytes(&mut self, count: usize) -> Text {
+    fn take_bytes(&mut self, count: usize) -> Text
+        ensures bytes { result ≡ take (min count 65536) self.old.spare.items }
+        ensures others { self.new ≡ record self.old { spare = self.new.spare } }
+    {
         let mut bytes = mem::replace(&mut self.spare, Vec::new(self.alloc));
         bytes.truncate(count.min(MOST_BYTES));
         Text::from_vec(bytes)
-    }
-
-    /// What happened at a seat, now.
-    fn event_of(&mut self, place: usize, what: What) -> Event
-        ensures { IsAt place what result }
-    {
-        let number = place.saturating_add(1).min(u32::MAX as usize);
-        self.event(number as u32, what)
     }
 
     /// What happened, now. Where the clock can't be read, it happened when the event before did.
     fn event(&mut self, conn: u32, what: What) -> Event
         ensures conn { result.conn ≡ conn }
         ensures what { result.what ≡ what }
+        ensures others { self.new ≡ record self.old { at = self.new.at } }
     {
         if let Ok(time) = self.rt.since_1970() {
             self.at = LAST_MOMENT.min(time.as_secs());
@@ -354,25 +419,56 @@ impl<R: Net + Clock> Sockets<R> {
     }
 
     /// Sends a string over a connection. Answers whether it may still arrive whole.
-    pub(crate) fn send(&mut self, conn: u32, bytes: &[u8]) -> Result<bool, NoMemory> {
-        match self.connection(conn) {
-            Some(connection) => connection.send(bytes),
+    pub(crate) fn send(&mut self, conn: u32, bytes: &[u8]) -> Result<bool, NoMemory>
+        ensures { result ≡ Ok true → (place : ℕ) × (spec.place_of conn ≡ Some place) × Turns place (IsSent R.Stream.contents bytes.now) self.old.seats.items self.new.seats.items }
+    {
+        let Some(place) = place_of(conn) else {
+            return Ok(false);
+        };
+        match self.seats.get_mut(place) {
+            Some(seat) => seat.send(bytes),
             None => Ok(false),
         }
     }
 
     /// Ends a connection, if there is one of this number.
-    pub(crate) fn close(&mut self, conn: u32) {
+    pub(crate) fn close(&mut self, conn: u32)
+        ensures { IfSome (spec.place_of conn) (λ place. place < length self.old.seats.items → Turns place Ends self.old.seats.items self.new.seats.items) }
+    {
         let now = self.millis();
-        if let Some(connection) = self.connection(conn) {
-            connection.end(now / 1000);
+        let Some(place) = place_of(conn) else {
+            return;
+        };
+        if let Some(seat) = self.seats.get_mut(place) {
+            seat.end(now);
         }
     }
+}
 
-    fn connection(&mut self, conn: u32) -> Option<&mut Connection<R::Stream>> {
-        let place = (conn as usize).checked_sub(1)?;
-        self.seats.get_mut(place)?.connection.as_mut()
+/// The number of a seat's connection: they are counted from 1.
+fn number_of(place: usize) -> Option<u32>
+    ensures some { IfSome result (λ number. number ≡ place + 1) }
+    ensures none { IfNone result (4294967295 ≤ place) }
+{
+    let number = place.checked_add(1)?;
+    if number > u32::MAX as usize {
+        return None;
     }
+    Some(number as u32)
+}
+
+/// The seat of the connection of a number.
+fn place_of(number: u32) -> Option<usize>
+    ensures { result ≡ spec.place_of number }
+{
+    (number as usize).checked_sub(1)
+}
+
+/// The lowest seat at which nobody sits.
+fn first_free<S>(seats: &[Seat<S>]) -> Option<usize>
+    ensures { result ≡ position is_free seats.now }
+{
+    seats.iter().position(|seat| seat.connection.is_none())
 }
 
 /// The longest sleep so many milliseconds after the last event, in microseconds.
