@@ -49,7 +49,7 @@ Ends before after = IfSome before.connection (λ _. IsSomeAnd after.connection (
 -- what an event tells of what came into the buffer
 abbrev pub told_of : Received → List ℕ → Option What
 told_of came.Nothing buffer = None
-told_of (came.Bytes count) buffer = Some (Bytes (take (min count 65536) buffer))
+told_of (came.Bytes count) buffer = Some (Bytes (take (min count 4096) buffer))
 told_of came.Left buffer = Some Left
 
 -- the stream of the seat's connection gave so many bytes into the buffer, once it had taken some of what waited

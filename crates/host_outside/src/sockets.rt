@@ -383,7 +383,7 @@ impl<R: Net + Clock> Sockets<R> {
 
     /// The first bytes of the buffer, which goes with them: none is copied, and no memory is taken.
     fn take_bytes(&mut self, count: usize) -> Text
-        ensures bytes { result ≡ take (min count 65536) self.old.spare.items }
+        ensures bytes { result ≡ take (min count 4096) self.old.spare.items }
         ensures others { self.new ≡ record self.old { spare = self.new.spare } }
     {
         let mut bytes = mem::replace(&mut self.spare, Vec::new(self.alloc));
