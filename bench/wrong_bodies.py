@@ -33,7 +33,7 @@ WRONG = {
     'short-write-to-a-socket-is-whole': (NET, 'self.waiting.sent(count);', 'let all = self.waiting.len(); self.waiting.sent(all);'),
     'front-of-a-string-is-sent': (NET, 'self.waiting.push(bytes)?;', 'self.waiting.push(&bytes[..bytes.len().min(8192)])?;'),
     'strings-go-to-the-second': (SEATS, '(number as usize).checked_sub(1)', '(number as usize).checked_sub(1).map(|place| place.min(1))'),
-    'past-the-hundredth-unheard': (SEATS, 'let number = number_of(place)?;\n        let seat = self.seats.get_mut(place)?;\n        let received', 'if place >= 100 {\n            return None;\n        }\n        let number = number_of(place)?;\n        let seat = self.seats.get_mut(place)?;\n        let received'),
+    'past-the-hundredth-unheard': (SEATS, 'let received = self.visit(place, now)?;', 'if place >= 100 {\n            return None;\n        }\n        let received = self.visit(place, now)?;'),
     'answers-are-lost-after-a-half-close': (NET, 'self.end(now);\n            self.go_on_ending(now, buf);', 'self.end(now);\n            self.is_over = true;'),
     'clock-is-an-hour-off': (SEATS, 'LAST_MOMENT.min(time.as_secs())', 'LAST_MOMENT.min(time.as_secs().saturating_add(3600))'),
     'no-sleep': (SEATS, '        thread::sleep(&self.rt, Duration::from_micros(self.sleep));\n', ''),
