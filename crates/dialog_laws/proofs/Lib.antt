@@ -10,4 +10,5 @@ pub mod Spoken
 pub mod Reading
 pub mod Standing
 pub mod Stretches
+pub mod Pieces
 pub mod Rows

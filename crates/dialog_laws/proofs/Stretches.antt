@@ -68,7 +68,7 @@ module _ {D U : Type 0} (one : Hindrance → State → D → U → Outcome D) wh
       let o : Outcome D = one (first_hindrance hs) s d u in
       turns_more hs o o.dialog us vs (λ t e. turns_join (other_hindrances hs) t e us vs)
 
-drop_none : (n : ℕ) → ◌≡◌ {A = List Hindrance} (drop n []) []
+pub drop_none : (n : ℕ) → ◌≡◌ {A = List Hindrance} (drop n []) []
 drop_none zero = refl
 drop_none (suc n) = refl
 

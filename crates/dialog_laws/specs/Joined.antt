@@ -1,9 +1,10 @@
--- Two events of one connection, one behind the other.
-use Rattle.std.specs.Prelude.{◌++◌, ◌||◌, Option, None, Some}
+-- Events of one connection, one behind the other.
+use Rattle.std.specs.Prelude.{ℕ, List, [], ◌∷◌, ◌++◌, ◌||◌, Option, None, Some}
 use Rattle.desk_journal.specs.Reading.{both_read}
+use Rattle.console_head.specs.Request.{Stage}
 use Rattle.mail_loop.specs.State.{Seat, State}
 use Rattle.mail_loop.specs.ConsoleTurn.{both}
-use Rattle.mail_loop.specs.Turns.{Heard}
+use Rattle.mail_loop.specs.Turns.{Heard, hears_seat}
 
 -- what comes of an event, and then of another
 abbrev pub both_heard : Heard → Heard → Heard
@@ -25,3 +26,8 @@ hears_then first (Some seat) more = both_heard first (more first.state seat)
 
 abbrev pub joined : Heard → (State → Seat → Heard) → Heard
 joined first more = hears_then first first.seat more
+
+-- what comes of several events of a connection at a moment, one behind the other, that nothing hinders: a first, and more
+abbrev pub hears_all : Stage → ℕ → State → Seat → List ℕ → List (List ℕ) → Heard
+hears_all stage at s seat first [] = hears_seat [] stage at s seat first
+hears_all stage at s seat first (next ∷ more) = joined (hears_seat [] stage at s seat first) (λ t left. hears_all stage at t left next more)

@@ -1,5 +1,5 @@
 //! A connection's stream over several events. These functions do nothing but name a law: their contracts are laws of the definitions.
-ghost use Rattle.std.specs.Prelude.{◌≡◌, ℕ, List, [], ◌++◌, drop, length};
+ghost use Rattle.std.specs.Prelude.{◌≡◌, ℕ, List, [], ◌++◌, drop, flat_map, length};
 ghost use Rattle.smtp_lines.specs.Line.{smtp_lines_of};
 ghost use Rattle.smtp_session.specs.declared.dialog.Dialog.{Dialog as TheDialog};
 ghost use Rattle.imap_stream.specs.Commands.{Heard as Stream, emptied};
@@ -8,7 +8,7 @@ ghost use Rattle.console_head.specs.Request.{Stage};
 ghost use Rattle.mail_loop.specs.Hindrance.{Hindrance};
 ghost use Rattle.mail_loop.specs.State.{Imap, Smtp, State};
 ghost use Rattle.mail_loop.specs.Turns.{hears_seat};
-ghost use Rattle.dialog_laws.specs.Joined.{joined};
+ghost use Rattle.dialog_laws.specs.Joined.{hears_all, joined};
 
 use smtp_lines::what_is_kept_goes_on;
 
@@ -30,3 +30,13 @@ pub fn mail_reader_events_join()
         hears_seat [] stage at s (Imap (emptied stream) d) (first ++ second)
         ≡ joined (hears_seat [] stage at s (Imap (emptied stream) d) first) (λ t seat. hears_seat [] stage at t seat second) }
 {}
+
+/// So may the bytes of a mail client, or of a mail reader, come in any number of events, where nothing hinders them.
+pub fn events_of_a_stream_join()
+    ensures client { (stage : Stage) (at : ℕ) (s : State) (unserved : List ℕ) (d : TheDialog) (first : List ℕ) (more : List (List ℕ)) →
+        hears_all stage at s (Smtp unserved d) first more ≡ hears_seat [] stage at s (Smtp unserved d) (first ++ flat_map (λ piece. piece) more) }
+    ensures reader { (stage : Stage) (at : ℕ) (s : State) (stream : Stream) (d : TheReader) (first : List ℕ) (more : List (List ℕ)) →
+        hears_all stage at s (Imap (emptied stream) d) first more ≡ hears_seat [] stage at s (Imap (emptied stream) d) (first ++ flat_map (λ piece. piece) more) }
+{
+    what_is_kept_goes_on();
+}

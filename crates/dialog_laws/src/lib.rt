@@ -10,7 +10,7 @@ mod mail_client;
 mod mail_reader;
 mod ranges;
 
-pub use events::{mail_client_events_join, mail_reader_events_join};
+pub use events::{events_of_a_stream_join, mail_client_events_join, mail_reader_events_join};
 pub use mail_client::{mail_clients_ask_for_deliveries, mail_dialogs_have_names};
 pub use mail_reader::{
     commands_are_in_range, mail_readers_ask_what_can_be_recorded, reading_dialogs_have_names,
