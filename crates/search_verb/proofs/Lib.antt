@@ -4,3 +4,4 @@ pub mod Behind
 pub mod Finding
 pub mod Rows
 pub mod Parts
+pub mod Lowering

@@ -4,7 +4,7 @@ ghost use Rattle.search_verb.specs.Asked.{asked_by, Every, Never, Answered, Dele
 ghost use Rattle.search_verb.specs.Asked as asked;
 ghost use Rattle.search_verb.specs.Meets.{meets, facts_of, needed};
 
-use crate::{Bytes, Candidate, Look, SearchKey, SearchKeys, SearchRanges, matching};
+use crate::{Bytes, Candidate, Look, SearchKey, SearchKeys, SearchRanges, matching, strings};
 use std::alloc::Global;
 use std::marker::Model;
 use undo_base::NoMemory;
@@ -243,6 +243,13 @@ impl Search {
         ensures { result ≡ meets self.now (facts_of what.now) }
     {
         matching::matches(&self.key, what)
+    }
+
+    /// The same, in time that grows as strings and text together, whatever repeats in them. The one error is want of memory.
+    pub fn finds(&self, alloc: Global, what: &Candidate<'_>) -> Result<bool, NoMemory>
+        ensures { IfOk result (λ found. found ≡ meets self.now (facts_of what.now)) }
+    {
+        strings::finds(alloc, &self.key, what)
     }
 
     /// What of a message has to be looked at to tell whether it matches.

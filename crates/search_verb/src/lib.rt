@@ -2,7 +2,8 @@
 //!
 //! `keys` has the keys and `candidate` what is known of a message; `lines` and `fields` cut the header of a text, `occurs` finds a
 //! string in bytes, and `matching` puts them together. What carries the crate: `matches` answers `does_match`, and `looks` answers
-//! `looked_at`, both with no memory and no refusal.
+//! `looked_at`, both with no memory and no refusal. `strings` gives the answers of `matches` in time that grows as strings and
+//! texts together, and takes memory for it.
 #![tactic(auto)]
 
 mod building;
@@ -14,6 +15,7 @@ mod laws;
 mod lines;
 mod matching;
 mod occurs;
+mod strings;
 
 pub use building::{Search, Searches};
 pub use candidate::{Candidate, Look};
