@@ -164,8 +164,14 @@ fn text_at(texts: &[Text], place: usize) -> &[u8]
 }
 
 /// Whether a message matches.
-fn finds(searching: &Searching, texts: &[Text], place: usize, row: &Message) -> bool
-    ensures { result ≡ search_spec.finds searching.now texts.now place row.now }
+fn finds(
+    alloc: Global,
+    searching: &Searching,
+    texts: &[Text],
+    place: usize,
+    row: &Message,
+) -> Result<bool, NoMemory>
+    ensures { IfOk result (λ found. found ≡ search_spec.finds searching.now texts.now place row.now) }
 {
     let flags = row.entry.flags;
     let what = Candidate {
@@ -182,11 +188,12 @@ fn finds(searching: &Searching, texts: &[Text], place: usize, row: &Message) -> 
         size: row.size,
         text: text_at(texts, place),
     };
-    searching.key.matches(&what)
+    searching.key.finds(alloc, &what)
 }
 
 /// Adds a message, where it matches.
 fn keep(
+    alloc: Global,
     found: &mut Messages,
     searching: &Searching,
     texts: &[Text],
@@ -195,7 +202,7 @@ fn keep(
 ) -> Result<(), NoMemory>
     ensures { OnOk result (found.new ≡ found.old ++ search_spec.kept searching.now texts.now place row.now) }
 {
-    if finds(searching, texts, place, row) {
+    if finds(alloc, searching, texts, place, row)? {
         found.push(*row)?;
     }
     Ok(())
@@ -208,7 +215,7 @@ fn matching(alloc: Global, searching: &Searching, texts: &[Text]) -> Result<Mess
     let mut found = Messages::new(alloc);
     let rows = searching.rows.as_slice();
     for (place, row) in rows.iter().enumerate() {
-        keep(&mut found, searching, texts, place, row)?;
+        keep(alloc, &mut found, searching, texts, place, row)?;
     }
     Ok(found)
 }
