@@ -1,7 +1,6 @@
 //! Fields of a header.
 ghost use Rattle.std.specs.Prelude.{◌≡◌, ◌≤◌, ◌<◌, ◌&&◌, false, [], ◌∷◌, length, take, drop};
 ghost use Rattle.std.specs.List.{list_any, position_or_len, before_first};
-ghost use Rattle.std.specs.Str.{str_eq_ignore_ascii_case};
 ghost use Rattle.mail_sections.specs.Lines.{begins_empty as empty_begins};
 ghost use Rattle.mail_sections.specs.Fields.{is_blank as blank, is_colon, is_folded as folded, fields_of, has_empty_line, trimmed, name_of, is_listed as listed, is_wanted as wanted};
 
