@@ -9,7 +9,7 @@ use crate::spares::Spares;
 use mail_rows::HeldConf;
 use std::alloc::Global;
 use undo_base::{Copies, NoMemory};
-use verb_core::{BoxId, Mail, Mailbox};
+use verb_core::{BoxId, Entries, Mailbox};
 
 /// A new mailbox of that user and name.
 fn new_row(alloc: Global, id: &BoxId) -> Result<(BoxId, Mailbox), NoMemory>
@@ -18,7 +18,7 @@ fn new_row(alloc: Global, id: &BoxId) -> Result<(BoxId, Mailbox), NoMemory>
     let id = id.copy(alloc)?;
     let mailbox = Mailbox {
         next: 1,
-        entries: Mail::new(alloc),
+        entries: Entries::new(alloc),
     };
     Ok((id, mailbox))
 }

@@ -19,7 +19,7 @@ use mail_rows::new_mail::{copy_puts, message_puts, own_message};
 use mail_rows::shown::{view_of, way_of};
 use std::alloc::Global;
 use undo_base::{Flags, How, Key, Keys, Name, NoMemory, Sequence, User};
-use verb_core::{Act, Aims, BoxId, Deed, Item, MailView, Mailbox};
+use verb_core::{Act, Aims, BoxId, Deed, EntriesView, Item, Mailbox};
 
 fn box_named(alloc: Global, user: User, name: &Name) -> Result<BoxId, NoMemory>
     ensures { IfOk result (λ id. id ≡ box_of user name.now) }
@@ -160,7 +160,7 @@ fn message_work(
 #[tactic(auto, using(crate::proofs::Plans::puts_are))]
 fn copy_work(
     alloc: Global,
-    entries: &MailView<'_>,
+    entries: &EntriesView<'_>,
     number: u32,
     keys: &Keys,
     aims: &Aims,

@@ -11,7 +11,7 @@ use mail_rows::aims::who_acts;
 use mail_rows::sights::there_of;
 use std::alloc::{AllocError, Global};
 use undo_base::{Key, Keys, MOST_KEYS, Name, NoMemory, User};
-use verb_core::{Ask, Entry, MailView, Refused};
+use verb_core::{Ask, EntriesView, Entry, Refused};
 
 /// Whether the asker has a mailbox of that name.
 pub(crate) fn has_box(store: &Store, by: Option<User>, name: &Name) -> bool
@@ -21,11 +21,11 @@ pub(crate) fn has_box(store: &Store, by: Option<User>, name: &Name) -> bool
 }
 
 /// The asker's mail of that name; none where the mailbox is missing.
-pub(crate) fn view_of<'a>(store: &'a Store, by: Option<User>, name: &Name) -> MailView<'a>
+pub(crate) fn view_of<'a>(store: &'a Store, by: Option<User>, name: &Name) -> EntriesView<'a>
     ensures { result ≡ mail_of store.now.store by name.now }
 {
     match store.mailbox(who_acts(by), name) {
-        None => MailView::none(),
+        None => EntriesView::none(),
         Some(mailbox) => mailbox.entries.view(),
     }
 }
@@ -134,7 +134,7 @@ fn close_count(removes: bool, entries: &[Entry]) -> usize
 }
 
 /// Whether one of the keys is not there.
-fn lacks(alloc: Global, entries: &MailView<'_>, keys: &Keys) -> Result<bool, NoMemory>
+fn lacks(alloc: Global, entries: &EntriesView<'_>, keys: &Keys) -> Result<bool, NoMemory>
     ensures { IfOk result (λ lacking. lacking ≡ lacks entries.now keys.now) }
 {
     let found = there_of(alloc, entries, keys.as_slice())?;
@@ -145,7 +145,7 @@ fn lacks(alloc: Global, entries: &MailView<'_>, keys: &Keys) -> Result<bool, NoM
 fn are_gone(
     alloc: Global,
     strict: bool,
-    entries: &MailView<'_>,
+    entries: &EntriesView<'_>,
     keys: &Keys,
 ) -> Result<bool, NoMemory>
     ensures { IfOk result (λ gone. gone ≡ (strict && lacks entries.now keys.now)) }

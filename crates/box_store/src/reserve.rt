@@ -12,7 +12,7 @@ use mail_rows::mail::take_entries;
 use mail_rows::rows::place_of;
 use std::alloc::Global;
 use undo_base::{NoMemory, User};
-use verb_core::{Act, BoxId, Conf, House, Mail, Mailbox, Way};
+use verb_core::{Act, BoxId, Conf, Entries, House, Mailbox, Way};
 
 /// How many entries a mailbox has at most.
 const MOST_ENTRIES: usize = 4_294_967_295;
@@ -23,7 +23,7 @@ fn grow(alloc: Global, mailbox: &mut Mailbox, count: usize) -> Result<(), NoMemo
 {
     let (mut list, in_order) = take_entries(alloc, mailbox).into_parts();
     let grown = list.reserve(count);
-    mailbox.entries = Mail::from_parts(list, in_order);
+    mailbox.entries = Entries::from_parts(list, in_order);
     grown?;
     Ok(())
 }

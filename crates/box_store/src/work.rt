@@ -13,7 +13,7 @@ use mail_rows::mail::{begun_anew, expunge, put_mail, remove, set_flags, take_ent
 use mail_rows::rows::{insert_row, place_of, put_row, take_row};
 use std::alloc::Global;
 use undo_base::{Key, Name, User};
-use verb_core::{BoxId, Entry, Mail, Mailbox, Way, is_fixed, is_inbox};
+use verb_core::{BoxId, Entries, Entry, Mailbox, Way, is_fixed, is_inbox};
 
 /// Puts mail at the end of a mailbox, where there is one. The spare list at that place has room for all of its entries.
 fn put_into(
@@ -94,7 +94,7 @@ fn no_mail(alloc: Global) -> Mailbox
 {
     Mailbox {
         next: 1,
-        entries: Mail::new(alloc),
+        entries: Entries::new(alloc),
     }
 }
 

@@ -10,8 +10,8 @@ use std::test::Fail;
 use stored_items::StoredItem;
 use undo_base::{Flags, Key, Name, Names, Text, User};
 use verb_core::{
-    Account, Accounts, Aliases, Bodies, BodiesFault, Body, BoxId, Conf, Deed, Entry, Filters,
-    House, Item, Mail, Mailbox, Rows, Shown,
+    Account, Accounts, Aliases, Bodies, BodiesFault, Body, BoxId, Conf, Deed, Entries, Entry,
+    Filters, House, Item, Mailbox, Rows, Shown,
 };
 
 /// 7 January 2005, 10:00:00.
@@ -107,14 +107,14 @@ fn inbox(alloc: Global, user: u8) -> Result<Mailbox, Fail> {
     }
     Ok(Mailbox {
         next: count + 1,
-        entries: Mail::from_vec(entries),
+        entries: Entries::from_vec(entries),
     })
 }
 
 fn empty(alloc: Global) -> Mailbox {
     Mailbox {
         next: 1,
-        entries: Mail::new(alloc),
+        entries: Entries::new(alloc),
     }
 }
 

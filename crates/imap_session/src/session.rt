@@ -56,8 +56,33 @@ impl ImapSession {
     }
 
     /// Takes one command. A SELECT or EXAMINE that found no memory leaves no mailbox selected; any other command that
-    /// found none has changed nothing. Where the view is known to be current, a NOOP or CHECK does not look at the mailbox.
+    /// found none has changed nothing.
     pub fn take(
+        &mut self,
+        alloc: Global,
+        house: &House,
+        store: &Store,
+        stamps: &Stamps,
+        sizes: &Shelf,
+        command: &ImapCommand,
+    ) -> Result<ImapOut, NoMemory>
+        requires house { IsTrue (is_house house.now) }
+        requires valid { IsValid store.now.store }
+        requires home { is_at_home house.now self.old ≡ true }
+        requires free { is_free self.old ≡ true }
+        ensures ok { IfOk result (λ out. turn house.now store.now.store (size_of sizes.now.notes) self.old command.now ≡ took out self.new) }
+        ensures next { IfOk result (λ out. IsNext out self.new) }
+        ensures user { IfOk result (λ out. AsksAsUser out self.new) }
+        ensures reads { IfOk result (λ out. ReadsOf store.now.store out) }
+        ensures stays { is_at_home house.now self.new ≡ true }
+        ensures err { OnErr result (self.new ≡ without_memory command.now.what self.old) }
+        ensures rests { OnErr result (is_free self.new ≡ true) }
+    {
+        self.take_known(alloc, house, store, stamps, sizes, command, false)
+    }
+
+    /// `take`, where it may be known that the view is current: then a NOOP or CHECK does not look at the mailbox.
+    pub fn take_known(
         &mut self,
         alloc: Global,
         house: &House,

@@ -52,7 +52,6 @@ fn obeyed(alloc: Global, talk: &mut Talk, command: &ImapCommand) -> Result<ImapO
             &talk.desk.stamps,
             &talk.desk.shelf,
             command,
-            false,
         )?,
     )
 }

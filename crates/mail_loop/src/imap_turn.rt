@@ -326,7 +326,7 @@ fn take_command<D: Disk + Drop>(
     let (house, store, stamps, sizes) = (desk.house(), desk.store(), desk.stamps(), desk.shelf());
     let known = *current;
     *current = false;
-    match session.take(alloc, house, store, stamps, sizes, command, known) {
+    match session.take_known(alloc, house, store, stamps, sizes, command, known) {
         Ok(out) => {
             *current = stays_current(known, command, &out);
             follow(alloc, desk, session, at, out, reply)

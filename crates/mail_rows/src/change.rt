@@ -1,12 +1,12 @@
 //! What changes in a mailbox: mail that comes, and flags.
 use undo_base::Flags;
-use verb_core::{BoxId, Entries};
+use verb_core::{BoxId, EntryList};
 
 /// New mail for a mailbox, in order. Its UIDs are those that come next there.
 #[derive(Drop)]
 pub struct Put {
     pub mailbox: BoxId,
-    pub mail: Entries,
+    pub mail: EntryList,
 }
 
 /// Other flags for the entry at a place of a mailbox, from 0.

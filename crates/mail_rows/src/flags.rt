@@ -8,7 +8,7 @@ use crate::places::key_place;
 use crate::{FlagChange, KeySet};
 use std::alloc::Global;
 use undo_base::{Flags, How, Key, NoMemory, Sequence};
-use verb_core::{Entry, MailView, flags_after};
+use verb_core::{EntriesView, Entry, flags_after};
 
 /// Adds the change of the entry at a place, if its key is one of the keys.
 fn push_change(
@@ -88,7 +88,7 @@ fn changes_found(
 /// What a STORE changes in a mailbox.
 pub fn changes_of(
     alloc: Global,
-    entries: &MailView<'_>,
+    entries: &EntriesView<'_>,
     keys: &KeySet,
     how: How,
     given: Flags,

@@ -12,7 +12,7 @@ use std::alloc::Global;
 use std::collections::BTreeMap;
 use std::marker::Model;
 use undo_base::{Key, NoMemory};
-use verb_core::{Entry, MailView};
+use verb_core::{EntriesView, Entry};
 
 /// How an entry is found.
 #[derive(Drop)]
@@ -116,7 +116,7 @@ impl<'a> KeyIndex<'a> {
     pub(crate) fn of(
         alloc: Global,
         keys: &[Key],
-        entries: &MailView<'a>,
+        entries: &EntriesView<'a>,
     ) -> Result<KeyIndex<'a>, NoMemory>
         ensures { IfOk result (λ index. (key : _) → IsTrue (is_among keys.now key) → found_at index key ≡ entry_of entries.now key) }
     {

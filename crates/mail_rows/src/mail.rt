@@ -9,14 +9,14 @@ use crate::{FlagChange, KeySet};
 use std::alloc::Global;
 use std::mem;
 use undo_base::Key;
-use verb_core::{Entry, Mail, Mailbox, keys_rise_from, last_key};
+use verb_core::{Entries, Entry, Mailbox, keys_rise_from, last_key};
 
 /// Takes the entries out of a mailbox.
-pub fn take_entries(alloc: Global, mailbox: &mut Mailbox) -> Mail
+pub fn take_entries(alloc: Global, mailbox: &mut Mailbox) -> Entries
     ensures list { result ≡ mailbox.old.entries }
     ensures mailbox { mailbox.new ≡ emptied mailbox.old }
 {
-    mem::replace(&mut mailbox.entries, Mail::new(alloc))
+    mem::replace(&mut mailbox.entries, Entries::new(alloc))
 }
 
 /// Adds an entry. There is room for it.
@@ -107,7 +107,7 @@ pub fn put_mail(
     let (list, in_order) = take_entries(alloc, mailbox).into_parts();
     let in_order = rise_on(in_order, list.as_slice(), mail);
     let (list, spare) = joined(list, spare, mail, first);
-    mailbox.entries = Mail::from_parts(list, in_order);
+    mailbox.entries = Entries::from_parts(list, in_order);
     mailbox.next = first + mail.len() as u64;
     spare
 }
@@ -123,7 +123,7 @@ pub fn begun_anew(mut list: Vec<Entry>) -> Mailbox
     }
     Mailbox {
         next,
-        entries: Mail::from_vec(list),
+        entries: Entries::from_vec(list),
     }
 }
 
@@ -144,7 +144,7 @@ pub fn set_flags(alloc: Global, mailbox: &mut Mailbox, changes: &[FlagChange])
     for change in changes {
         set_flag(&mut list, *change);
     }
-    mailbox.entries = Mail::from_parts(list, in_order);
+    mailbox.entries = Entries::from_parts(list, in_order);
 }
 
 /// The entries of these keys that have `\Deleted` go.
@@ -153,7 +153,7 @@ pub fn expunge(alloc: Global, mailbox: &mut Mailbox, keys: &KeySet)
 {
     let mut list = take_entries(alloc, mailbox).into_vec();
     list.retain(|entry| !(keys.contains(entry.key) && entry.flags.deleted));
-    mailbox.entries = Mail::from_vec(list);
+    mailbox.entries = Entries::from_vec(list);
 }
 
 /// The entries of a key go.
@@ -162,7 +162,7 @@ pub fn remove(alloc: Global, mailbox: &mut Mailbox, key: Key)
 {
     let mut list = take_entries(alloc, mailbox).into_vec();
     list.retain(|entry| entry.key != key);
-    mailbox.entries = Mail::from_vec(list);
+    mailbox.entries = Entries::from_vec(list);
 }
 
 /// The entries of a mailbox but for those of these keys.

@@ -11,7 +11,7 @@ use crate::Put;
 use crate::key_index::KeyIndex;
 use std::alloc::Global;
 use undo_base::{Flags, Key, NoMemory, Sequence};
-use verb_core::{Act, Aim, Body, BoxId, Deed, Entries, Entry, Item, MailView};
+use verb_core::{Act, Aim, Body, BoxId, Deed, EntriesView, Entry, EntryList, Item};
 
 /// The item's own message, before it has a UID.
 fn message(item: &Item, index: u16, flags: Flags, at: u64) -> Entry
@@ -89,7 +89,7 @@ fn put_message(
     ensures { IfOk result (λ put. put ≡ record { mailbox = box_aimed aim.now; mail = brought item.now aim.now.index flags at ∷ [] }) }
 {
     let mailbox = box_aimed(alloc, aim)?;
-    let mut mail = Entries::new(alloc);
+    let mut mail = EntryList::new(alloc);
     mail.push(message(item, aim.index, flags, at))?;
     Ok(Put { mailbox, mail })
 }
@@ -113,7 +113,7 @@ pub fn message_puts(
 
 /// Adds the entry of a key under the item's key of that place, where there is one.
 fn push_copy(
-    copies: &mut Entries,
+    copies: &mut EntryList,
     index: &KeyIndex<'_>,
     number: u32,
     place: u16,
@@ -138,11 +138,11 @@ fn copies_in(
     index: &KeyIndex<'_>,
     number: u32,
     keys: &[Key],
-) -> Result<Entries, NoMemory>
+) -> Result<EntryList, NoMemory>
     requires { length keys.now ≤ 65536 }
     ensures { IfOk result (λ copies. copies ≡ copies_by number index.now keys.now) }
 {
-    let mut copies = Entries::new(alloc);
+    let mut copies = EntryList::new(alloc);
     for (place, key) in keys.iter().enumerate() {
         push_copy(&mut copies, index, number, place as u16, *key)?;
     }
@@ -184,7 +184,7 @@ fn put_each_copies(
 /// The copies of a mailbox's entries for each aim.
 pub fn copy_puts(
     alloc: Global,
-    entries: &MailView<'_>,
+    entries: &EntriesView<'_>,
     number: u32,
     keys: &[Key],
     aims: &[Aim],

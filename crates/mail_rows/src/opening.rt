@@ -8,7 +8,7 @@ ghost use Rattle.mail_rows.specs.Fixed.{fixed_of};
 
 use std::alloc::Global;
 use undo_base::{Name, NoMemory, User};
-use verb_core::{BoxId, House, Mail, Mailbox};
+use verb_core::{BoxId, Entries, House, Mailbox};
 
 /// The name of the mailbox that each user has for what comes in.
 pub(crate) fn inbox_name(alloc: Global) -> Result<Name, NoMemory>
@@ -35,7 +35,7 @@ fn empty_row(alloc: Global, user: User, name: Name) -> (BoxId, Mailbox)
 {
     let mailbox = Mailbox {
         next: 1,
-        entries: Mail::new(alloc),
+        entries: Entries::new(alloc),
     };
     (BoxId { user, name }, mailbox)
 }

@@ -10,15 +10,15 @@ use crate::pattern::listed;
 use crate::sights::{left_of, others_of, sights_of, there_of};
 use std::alloc::Global;
 use undo_base::{Key, Keys, Name, NoMemory, User};
-use verb_core::{BoxId, Deed, Entry, MailView, Mailbox, Shown, Way, is_fixed, is_lost_found};
+use verb_core::{BoxId, Deed, EntriesView, Entry, Mailbox, Shown, Way, is_fixed, is_lost_found};
 
 /// The entries of the mailbox of that user and name; none where it is missing.
-pub fn view_of<'a>(rows: &'a [(BoxId, Mailbox)], user: User, name: &Name) -> MailView<'a>
+pub fn view_of<'a>(rows: &'a [(BoxId, Mailbox)], user: User, name: &Name) -> EntriesView<'a>
     requires { IsTrue (is_rising rows.now) }
     ensures { result ≡ mail_at (box_of user name.now) rows.now }
 {
     match search_mailbox(rows, user, name) {
-        None => MailView::none(),
+        None => EntriesView::none(),
         Some(mailbox) => mailbox.entries.view(),
     }
 }

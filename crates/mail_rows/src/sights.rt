@@ -9,7 +9,7 @@ use crate::KeySet;
 use crate::key_index::KeyIndex;
 use std::alloc::Global;
 use undo_base::{Key, Keys, NoMemory};
-use verb_core::{Entry, MailView, Sight, Sights};
+use verb_core::{EntriesView, Entry, Sight, Sights};
 
 /// Adds the key, where it has an entry.
 fn push_there(there: &mut Keys, index: &KeyIndex<'_>, key: Key) -> Result<(), NoMemory>
@@ -33,7 +33,7 @@ fn there_in(alloc: Global, index: &KeyIndex<'_>, keys: &[Key]) -> Result<Keys, N
 }
 
 /// The keys that are among the entries, in their order.
-pub fn there_of(alloc: Global, entries: &MailView<'_>, keys: &[Key]) -> Result<Keys, NoMemory>
+pub fn there_of(alloc: Global, entries: &EntriesView<'_>, keys: &[Key]) -> Result<Keys, NoMemory>
     ensures { IfOk result (λ keys'. keys' ≡ there entries.now keys.now) }
 {
     let index = KeyIndex::of(alloc, keys, entries)?;
@@ -75,7 +75,7 @@ fn sights_in(alloc: Global, index: &KeyIndex<'_>, keys: &[Key]) -> Result<Sights
 /// What FETCH shows of the keys.
 pub(crate) fn sights_of(
     alloc: Global,
-    entries: &MailView<'_>,
+    entries: &EntriesView<'_>,
     keys: &[Key],
 ) -> Result<Sights, NoMemory>
     ensures { IfOk result (λ shown. shown ≡ sights entries.now keys.now) }

@@ -7,7 +7,7 @@ use box_store::{RowsRefused, Store};
 use std::alloc::Global;
 use std::test::Fail;
 use undo_base::{Flags, Key, Name, User};
-use verb_core::{Aliases, Body, BoxId, Conf, Entry, Filters, House, Mail, Mailbox, Rows};
+use verb_core::{Aliases, Body, BoxId, Conf, Entries, Entry, Filters, House, Mailbox, Rows};
 
 fn entry(uid: u64) -> Entry {
     let flags = Flags {
@@ -26,12 +26,12 @@ fn entry(uid: u64) -> Entry {
     }
 }
 
-fn entries(alloc: Global, uids: &[u64]) -> Result<Mail, Fail> {
+fn entries(alloc: Global, uids: &[u64]) -> Result<Entries, Fail> {
     let mut entries = Vec::new(alloc);
     for uid in uids {
         entries.push(entry(*uid))?;
     }
-    Ok(Mail::from_vec(entries))
+    Ok(Entries::from_vec(entries))
 }
 
 /// A mailbox of a user, with its next UID and the UIDs of its entries.

@@ -10,7 +10,7 @@ use crate::part::{Part, put_slice, read_list};
 use crate::write::{Unwritten, put_flags, put_key, put_name, put_u32, put_u64, put_user};
 use std::alloc::Global;
 use undo_base::{LAST_MOMENT, Text};
-use verb_core::{Body, BoxId, Entries, Entry, Mail, Mailbox};
+use verb_core::{Body, BoxId, Entries, Entry, EntryList, Mailbox};
 
 impl Part for Entry {
     ghost use Rattle.verb_bytes.specs.Spelling.{entry_fields};
@@ -48,18 +48,18 @@ impl Part for Entry {
 }
 
 /// Writes the entries of a mailbox.
-fn put_mail(mail: &Mail, out: &mut Text) -> Result<(), Unwritten>
+fn put_mail(mail: &Entries, out: &mut Text) -> Result<(), Unwritten>
     ensures { Puts (list_fields 4294967295 entry_fields mail.now) out.old out.new result }
 {
     put_slice(u32::MAX, mail.as_slice(), out)
 }
 
 /// Reads the entries of a mailbox.
-fn read_mail(alloc: Global, cursor: &mut Cursor<'_>) -> Result<Mail, Stop>
+fn read_mail(alloc: Global, cursor: &mut Cursor<'_>) -> Result<Entries, Stop>
     ensures { Gives (list_at 4294967295 entry_at) cursor.old.rest.now cursor.new.rest.now result }
 {
     match read_list(alloc, u32::MAX, cursor) {
-        Ok(entries) => Ok(Mail::from_vec(Entries::into_vec(entries))),
+        Ok(entries) => Ok(Entries::from_vec(EntryList::into_vec(entries))),
         Err(stop) => Err(stop),
     }
 }

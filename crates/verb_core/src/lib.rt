@@ -27,14 +27,14 @@ pub use conf::{Account, Alias, Conf, Filter, House};
 pub use fixed::{is_fixed, is_inbox, is_lost_found, is_new_name, is_wildcard};
 pub use flags::flags_after;
 pub use item::{Act, Aim, Deed, Item, Resolved, Shown, Sight, Way};
-pub use mail::{Mail, MailView, keys_rise_from, last_key};
+pub use mail::{Entries, EntriesView, keys_rise_from, last_key};
 pub use mailbox::{Body, BoxId, Entry, Mailbox};
 pub use recipients::resolve_local;
 pub use threads::types_cross_threads;
 use undo_base::Sequence;
 
 /// Entries, in order.
-pub type Entries = Sequence<Entry>;
+pub type EntryList = Sequence<Entry>;
 
 /// Mailboxes, by rising user and name.
 pub type Rows = Sequence<(BoxId, Mailbox)>;

@@ -9,12 +9,12 @@ use undo_base::{Copies, Key, NoMemory};
 
 /// The entries of a mailbox. Where their keys are known to rise, an entry is found by halves.
 #[derive(Debug, Drop)]
-pub struct Mail {
+pub struct Entries {
     list: Vec<Entry>,
     in_order: bool,
 }
 
-impl Model for Mail {
+impl Model for Entries {
     ghost use Rattle.std.specs.Prelude.{List, IsTrue};
     ghost use Rattle.verb_core.specs.declared.mailbox.Entry.{Entry};
     ghost use Rattle.verb_core.specs.KeyOrder.{keys_rise};
@@ -28,12 +28,12 @@ impl Model for Mail {
 
 /// The entries of a mailbox, lent.
 #[derive(Drop)]
-pub struct MailView<'a> {
+pub struct EntriesView<'a> {
     list: &'a [Entry],
     in_order: bool,
 }
 
-impl<'a> Model for MailView<'a> {
+impl<'a> Model for EntriesView<'a> {
     ghost use Rattle.std.specs.Prelude.{List, IsTrue};
     ghost use Rattle.verb_core.specs.declared.mailbox.Entry.{Entry};
     ghost use Rattle.verb_core.specs.KeyOrder.{keys_rise};
@@ -79,23 +79,23 @@ pub fn last_key(entries: &[Entry]) -> Option<Key>
     }
 }
 
-impl Mail {
+impl Entries {
     /// No entries.
-    pub fn new(alloc: Global) -> Mail
+    pub fn new(alloc: Global) -> Entries
         ensures { result ≡ [] }
     {
-        Mail {
+        Entries {
             list: Vec::new(alloc),
             in_order: true,
         }
     }
 
     /// The entries of a list, with no memory taken. One pass over them finds whether their keys rise.
-    pub fn from_vec(list: Vec<Entry>) -> Mail
+    pub fn from_vec(list: Vec<Entry>) -> Entries
         ensures { result ≡ list.items }
     {
         let in_order = keys_rise_from(None, list.as_slice());
-        Mail { list, in_order }
+        Entries { list, in_order }
     }
 
     /// The entries as a list, with no memory taken.
@@ -106,11 +106,11 @@ impl Mail {
     }
 
     /// The entries of a list, and whether their keys are known to rise.
-    pub fn from_parts(list: Vec<Entry>, in_order: bool) -> Mail
+    pub fn from_parts(list: Vec<Entry>, in_order: bool) -> Entries
         requires { IsTrue in_order → IsTrue (keys_rise list.items) }
         ensures { result ≡ list.items }
     {
-        Mail { list, in_order }
+        Entries { list, in_order }
     }
 
     /// The entries as a list, and whether their keys are known to rise.
@@ -118,15 +118,15 @@ impl Mail {
         ensures list { result.0.items ≡ self }
         ensures order { IsTrue result.1 → IsTrue (keys_rise result.0.items) }
     {
-        let Mail { list, in_order } = self;
+        let Entries { list, in_order } = self;
         (list, in_order)
     }
 
     /// The entries, lent.
-    pub fn view(&self) -> MailView<'_>
+    pub fn view(&self) -> EntriesView<'_>
         ensures { result ≡ self.now }
     {
-        MailView {
+        EntriesView {
             list: self.list.as_slice(),
             in_order: self.in_order,
         }
@@ -147,12 +147,12 @@ impl Mail {
     }
 }
 
-impl<'a> MailView<'a> {
+impl<'a> EntriesView<'a> {
     /// No entries.
-    pub fn none() -> MailView<'a>
+    pub fn none() -> EntriesView<'a>
         ensures { result ≡ [] }
     {
-        MailView {
+        EntriesView {
             list: &[],
             in_order: true,
         }
@@ -173,13 +173,13 @@ impl<'a> MailView<'a> {
     }
 }
 
-impl Copies for Mail {
-    fn copy(&self, alloc: Global) -> Result<Mail, NoMemory> {
+impl Copies for Entries {
+    fn copy(&self, alloc: Global) -> Result<Entries, NoMemory> {
         let mut list = Vec::new(alloc);
         for entry in &self.list {
             list.push(*entry)?;
         }
-        Ok(Mail {
+        Ok(Entries {
             list,
             in_order: self.in_order,
         })

@@ -1,5 +1,5 @@
 //! Mailboxes and what lies in them.
-use crate::Mail;
+use crate::Entries;
 use undo_base::{Flags, Key, Name, User};
 
 /// Names the text of a message: the item that brought it, and 0 or the cycle that replaced it.
@@ -23,7 +23,7 @@ pub struct Entry {
 #[derive(Debug, Drop)]
 pub struct Mailbox {
     pub next: u64,
-    pub entries: Mail,
+    pub entries: Entries,
 }
 
 /// Names a mailbox: whose it is, and its name.

@@ -16,8 +16,8 @@ use Rattle.mail_loop.proofs.Sealed.{unsealed}
 use Rattle.mail_loop.proofs.Turns.{lifted_turn}
 use Rattle.mail_loop.proofs.imap_turn.take_command.Goals as goal
 
-pub take-requires-clause-current : goal.take-requires-clause-current
-take-requires-clause-current g c = λ h. subst (λ (s : MailStore). is_view_current s c.args.session.now ≡ true) (sym c.store-store.ensures.value) (c.requires.current h)
+pub take_known-requires-clause-current : goal.take_known-requires-clause-current
+take_known-requires-clause-current g c = λ h. subst (λ (s : MailStore). is_view_current s c.args.session.now ≡ true) (sym c.store-store.ensures.value) (c.requires.current h)
 
 pub follow-requires-clause-there : goal.follow-requires-clause-there
 follow-requires-clause-there g c =
@@ -27,7 +27,7 @@ pub returns-in-Ok-clause-turn : goal.returns-in-Ok-clause-turn
 returns-in-Ok-clause-turn g c =
     let kept = c.args.desk.now.kept in
     let d = c.args.session.now in
-    let e = c.take.new.self in
+    let e = c.take_known.new.self in
     let is = command_is kept c.house-house.result.now c.store-store.result.now.store (size_of c.shelf-sizes.result.now.notes) d e c.args.command.now c.in-Ok.out
     c.house-house.ensures.value c.store-store.ensures.value c.shelf-sizes.ensures.sizes c.in-Ok.ensures.ok in
     command_turn (HaveSealed g.D.Disk.told c.args.desk.now c.follow.new.desk) c.args.at kept c.follow.new.desk.kept c.args.command.now c.in-Ok.out d e c.follow.new.session c.args.reply.now c.follow.new.reply is c.follow.ensures.turn
@@ -49,8 +49,8 @@ pub returns-in-Ok-clause-current : goal.returns-in-Ok-clause-current
 returns-in-Ok-clause-current g c = λ h.
     let stays : stays_current c.args.current.now c.args.command.now.what c.in-Ok.out ≡ true = sym c.stays_current.ensures ∙ h in
     let still = c.follow.ensures.still (first_so (is_said c.in-Ok.out) (c.args.current.now || follows_view c.args.command.now.what) stays) in
-    let before : is_view_current (store_of c.args.desk.now.kept) c.take.new.self ≡ true =
-    subst (λ (s : MailStore). is_view_current s c.take.new.self ≡ true) c.store-store.ensures.value (c.in-Ok.ensures.current stays) in
-    let kept : is_view_current (store_of c.follow.new.desk.kept) c.take.new.self ≡ true =
-    subst (λ (kept : Kept). is_view_current (store_of kept) c.take.new.self ≡ true) (sym still.0) before in
+    let before : is_view_current (store_of c.args.desk.now.kept) c.take_known.new.self ≡ true =
+    subst (λ (s : MailStore). is_view_current s c.take_known.new.self ≡ true) c.store-store.ensures.value (c.in-Ok.ensures.current stays) in
+    let kept : is_view_current (store_of c.follow.new.desk.kept) c.take_known.new.self ≡ true =
+    subst (λ (kept : Kept). is_view_current (store_of kept) c.take_known.new.self ≡ true) (sym still.0) before in
     subst (λ (d : Dialog). is_view_current (store_of c.follow.new.desk.kept) d ≡ true) (sym still.1) kept

@@ -5,7 +5,7 @@ use Rattle.imap_session.specs.Dialog.{AsksAsUser, IsNext, ReadsOf, is_at_home, i
 use Rattle.imap_session.specs.Sound.{IsSound}
 use Rattle.imap_session.proofs.Turns.{current_after, fine_left, fine_obey}
 use Rattle.imap_session.proofs.Settled.{dialog_after, out_after}
-use Rattle.imap_session.proofs.session.ImapSession.take.Goals as goal
+use Rattle.imap_session.proofs.session.ImapSession.take_known.Goals as goal
 
 pub invariant_of-self : goal.invariant_of-self
 invariant_of-self c =
