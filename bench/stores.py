@@ -98,4 +98,5 @@ def main():
             print(next(iter(told)).decode().replace("\n", ", "))
 
 
-main()
+if __name__ == "__main__":
+    main()
