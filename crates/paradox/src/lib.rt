@@ -1,22 +1,19 @@
 //! After a cycle: whether an answer that a user was shown still holds, and the notice that tells the user.
 //!
 //! `answers` compares what was shown with what would be shown now, and `among` looks for the one in the other;
-//! `words` has the verbs and the reasons, `reports` what a cycle reports, `letters` writes to users. `kept` finds a report by
-//! the key of its request; in specs/, `Kept` is what is kept of a store in use.
+//! `words` has the verbs and the reasons, `reports` what a cycle reports, `letters` writes to users.
 //! What carries the crate: `broken` is the table of reasons over what was shown and what is shown now, and `notice`
 //! is the text that names exactly a user's broken items.
 #![tactic(auto)]
 
 mod among;
 mod answers;
-mod kept;
 pub mod laws;
 mod letters;
 mod reports;
 mod words;
 
 pub use answers::broken;
-pub use kept::{Reports, report_of};
 pub use letters::{notice, notices, user_name, users_told};
 pub use reports::{BrokenItem, Report};
 use undo_base::{Sequence, Text, User};

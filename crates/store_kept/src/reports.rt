@@ -1,8 +1,8 @@
 //! The reports of cycles, by the keys of their requests.
 ghost use Rattle.std.specs.Prelude.{◌≡◌, option_copied};
-ghost use Rattle.paradox.specs.Kept.{report_of as report_in};
+ghost use Rattle.store_kept.specs.Kept.{report_of as report_in};
 
-use crate::Report;
+use paradox::Report;
 use undo_base::{Name, Sequence};
 
 /// Each cycle's report by the key of its request, in the order of the cycles.

@@ -76,12 +76,22 @@ pub record Kept : Type 0 where
   pub reports : Reports
   pub marks : Marks
 
--- what is kept where the items began with the opening store of a house and a configuration
-abbrev pub kept_from : House → Conf → MailStore → List Item → List (BoxId × ℕ) → ℕ → Reports → Marks → Kept
-kept_from house conf store timeline stamps next reports marks = record {
-  house = house;
-  opening = conf;
-  base = opening house conf;
+-- what a store in use begins with: its house, the configuration at first, and the base, the store before the first item
+pub record Origin : Type 0 where
+  pub house : House
+  pub opening : Conf
+  pub base : MailStore
+
+-- where the base is the opening store of the house and the configuration
+abbrev pub opening_origin : House → Conf → Origin
+opening_origin house conf = record { house = house; opening = conf; base = opening house conf }
+
+-- what is kept, by where it began
+abbrev pub kept_from : Origin → MailStore → List Item → List (BoxId × ℕ) → ℕ → Reports → Marks → Kept
+kept_from origin store timeline stamps next reports marks = record {
+  house = origin.house;
+  opening = origin.opening;
+  base = origin.base;
   store = store;
   timeline = timeline;
   stamps = stamps;
@@ -89,6 +99,10 @@ kept_from house conf store timeline stamps next reports marks = record {
   reports = reports;
   marks = marks;
 }
+
+-- what it began with
+abbrev pub origin_of : Kept → Origin
+origin_of kept = record { house = kept.house; opening = kept.opening; base = kept.base }
 
 -- the store
 abbrev pub store_of : Kept → MailStore

@@ -1,0 +1,47 @@
+-- Where the texts of what is kept come from.
+use Rattle.std.specs.Prelude.{ℕ, Bool, List, [], map, is_some, Option, None, unwrap_or}
+use Rattle.std.specs.List.{list_all}
+use Rattle.verb_core.specs.declared.item.Item.{Item}
+use Rattle.verb_core.specs.declared.mailbox.Body.{Body}
+use Rattle.verb_core.specs.declared.mailbox.BoxId.{BoxId}
+use Rattle.verb_core.specs.declared.mailbox.Entry.{Entry}
+use Rattle.verb_core.specs.declared.mailbox.Mailbox.{Mailbox}
+use Rattle.verb_core.specs.Deeds.{is_notice}
+use Rattle.verb_core.specs.Items.{text_of}
+use Rattle.verb_core.specs.Store.{MailStore}
+use Rattle.store_kept.specs.Kept.{Kept}
+
+-- whether a test passes at the body of each entry
+abbrev pub all_bodies : (Body → Bool) → List (BoxId × Mailbox) → Bool
+all_bodies test boxes = list_all (λ (r : BoxId × Mailbox). list_all (λ (e : Entry). test e.body) r.1.entries) boxes
+
+-- the text of a body that comes with a base: none does, each text comes with an item
+abbrev pub text_before : MailStore → Body → Option (List ℕ)
+text_before base body = None
+
+-- the text of a body, where these are the items in force: one of them brings it
+abbrev pub text_among : Kept → List Item → Body → Option (List ℕ)
+text_among kept items body = text_of items body
+
+abbrev pub has_text_among : Kept → List Item → Body → Bool
+has_text_among kept items body = is_some (text_among kept items body)
+
+-- the text of a body that is kept
+abbrev pub text_kept : Kept → Body → Option (List ℕ)
+text_kept kept body = text_among kept kept.timeline body
+
+-- whether a body has a text that is kept
+abbrev pub has_text_kept : Kept → Body → Bool
+has_text_kept kept body = is_some (text_kept kept body)
+
+-- the texts of bodies, in order
+abbrev pub texts_kept : Kept → List Body → List (List ℕ)
+texts_kept kept bodies = map (λ (body : Body). unwrap_or (text_kept kept body) []) bodies
+
+-- the items whose texts may be asked for: those in force
+abbrev pub items_asked : Kept → List Item
+items_asked kept = kept.timeline
+
+-- whether an item's text is in memory: a cycle makes a notice's, and no record has it
+abbrev pub is_in_memory : Item → Bool
+is_in_memory i = is_notice i.deed
