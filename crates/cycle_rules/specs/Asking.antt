@@ -3,7 +3,7 @@ use Rattle.std.specs.Prelude.{ℕ, [], ◌∷◌, ◌++◌, Option, Some, None, 
 use Rattle.verb_bytes.specs.declared.journal.CycleAsk.{CycleAsk}
 use Rattle.paradox.specs.declared.reports.Report.{Report}
 use Rattle.verb_core.specs.Step.{run}
-use Rattle.paradox.specs.Kept.{Kept, report_of, rewound}
+use Rattle.store_kept.specs.Kept.{Kept, report_of, rewound}
 use Rattle.repair_desk.specs.Repairs.{position}
 use Rattle.cycle_rules.specs.Cycles.{Cycled, cycled_at, leaves_numbers}
 

@@ -19,8 +19,8 @@ use Rattle.paradox.specs.Letters.{is_told, notice_text, notices, users_told}
 use Rattle.paradox.specs.declared.reports.BrokenItem.{BrokenItem}
 use Rattle.paradox.specs.declared.words.Reason.TheVariants.{Withdrawn}
 use Rattle.repair_desk.specs.Repairs.{inserted, is_among}
-use Rattle.mail_cycle.specs.Cycles.{notice_items}
-use Rattle.mail_cycle.specs.Judging.{judged, reason_by, shown_after, shown_by, told}
+use Rattle.cycle_rules.specs.Cycles.{notice_items}
+use Rattle.cycle_rules.specs.Judging.{judged, reason_by, shown_after, shown_by, told}
 
 -- ---- runs
 

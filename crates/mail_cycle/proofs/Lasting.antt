@@ -10,13 +10,13 @@ use Rattle.verb_core.specs.Items.{NumbersApart, text_in, text_of}
 use Rattle.verb_core.specs.Step.{Boxes, run, step}
 use Rattle.verb_core.proofs.StampLaws.{stamp-each}
 use Rattle.verb_bytes.specs.declared.journal.CycleAsk.{CycleAsk}
-use Rattle.paradox.specs.Kept.{Kept, Marks, mailbox_at, performed, stamp_at, store_of}
+use Rattle.store_kept.specs.Kept.{Kept, Marks, mailbox_at, performed, stamp_at, store_of}
 use Rattle.repair_desk.specs.Renewals.{extends_one, stamp_after}
 use Rattle.repair_desk.specs.Repairs.{position}
 use Rattle.repair_desk.proofs.Extended.{each, itself, transitive}
 use Rattle.repair_desk.proofs.Growth.{step_extends}
-use Rattle.mail_cycle.specs.Asking.{Due, NoNumbers, NoPoint, Repeats, Rewinds, after_cycle, due_anew, due_at}
-use Rattle.mail_cycle.specs.Cycles.{Cycled, cycled_at, leaves_numbers, timeline_at}
+use Rattle.cycle_rules.specs.Asking.{Due, NoNumbers, NoPoint, Repeats, Rewinds, after_cycle, due_anew, due_at}
+use Rattle.cycle_rules.specs.Cycles.{Cycled, cycled_at, leaves_numbers, timeline_at}
 use Rattle.mail_cycle.specs.Permanence.{StampsLast, TextsLast, UidsLast}
 use Rattle.mail_cycle.proofs.Left.{left_texts}
 

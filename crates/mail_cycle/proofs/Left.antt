@@ -14,6 +14,7 @@ use Rattle.verb_core.specs.declared.item.Shown.{Shown}
 use Rattle.verb_core.specs.declared.mailbox.Body.{Body}
 use Rattle.verb_core.specs.declared.mailbox.BoxId.{BoxId}
 use Rattle.verb_core.specs.declared.mailbox.Mailbox.{Mailbox}
+use Rattle.verb_core.specs.Fates.{IsBase, IsFresh}
 use Rattle.verb_core.specs.Items.{IsTimeline, IsWellFormed, NumbersApart, has_form, text_of}
 use Rattle.verb_core.specs.Step.{Boxes, answers, run, shown, step}
 use Rattle.verb_core.specs.Store.{MailStore, users_of}
@@ -25,14 +26,16 @@ use Rattle.paradox.specs.declared.words.Reason.{Reason}
 use Rattle.paradox.proofs.Holding.{holds}
 use Rattle.paradox.specs.Answers.{looks_at_texts}
 use Rattle.repair_desk.specs.Repairs.{are_known, edited_at, inserted, is_among, kept as kept_later, position, repaired, replaced_by, text_asked}
-use Rattle.repair_desk.proofs.Everywhere.{all_apart, all_below, all_formed, joined, revs_below, weaker}
+use Rattle.repair_desk.proofs.Everywhere.{all_apart, all_below, all_formed, everywhere, inserted_above, joined, of_numbers, rest_of, revs_below, taken, weaker}
 use Rattle.repair_desk.proofs.Extended.{below as stamps_below}
 use Rattle.repair_desk.proofs.Texts.{IsOld, found_old, higher_old, new_old}
-use Rattle.mail_cycle.specs.Asking.{Due, NoNumbers, NoPoint, Repeats, Rewinds, due_anew, due_at}
-use Rattle.mail_cycle.specs.Cycles.{Cycled, broken_at, broken_by, compared_at, compared_from, cycled_at, cycled_by, cycled_from, front_of, kept_at, leaves_numbers, notice_items, reached_from, repaired_items, report_at, stamps_at, stamps_by, timeline_at, timeline_by, timeline_from, told_at, told_by}
+use Rattle.cycle_rules.specs.Asking.{Due, NoNumbers, NoPoint, Repeats, Rewinds, due_anew, due_at}
+use Rattle.cycle_rules.specs.Cycles.{Cycled, broken_at, compared_at, cycled_at, front_of, kept_at, leaves_numbers, notice_items, repaired_items, report_at, stamps_at, timeline_at, told_at}
+use Rattle.mail_cycle.specs.Comparing.{broken_by, compared_from, cycled_by, cycled_from, reached_from, stamps_by, timeline_by, timeline_from, told_by}
 use Rattle.mail_cycle.specs.Leaving.{GoesOn, GoesOnAt}
-use Rattle.mail_cycle.specs.Judging.{judged, shown_after, shown_by, told as tell}
-use Rattle.paradox.specs.Kept.{Kept, store_of}
+use Rattle.cycle_rules.specs.Judging.{judged, shown_after, shown_by, told as tell}
+use Rattle.store_kept.specs.Bases.{HasBase}
+use Rattle.store_kept.specs.Kept.{Kept, store_of}
 use Rattle.stored_items.specs.Stored.{AllHeard}
 use Rattle.stored_items.proofs.Heard.{apart_heard}
 use Rattle.mail_cycle.proofs.Heard.{formed_heard, numbers_heard, revs_heard}
@@ -188,6 +191,20 @@ module _ (s : Kept) (at : ℕ) (ask : CycleAsk) (place : ℕ) (items : List Item
       let few = few_told s.house last s.next at (broken_by s ask place now) in
       omega arith
 
+  -- what holds of the numbers of the items, and of each number to come
+  numbers_by : (P : ℕ → Type 0) → AllByRecursion (λ (i : Item). P i.number) items → ((n : ℕ) → s.next < n → P n) → AllByRecursion (λ (i : Item). P i.number) (timeline_by s at ask place items now)
+  numbers_by P all higher = joined (λ (i : Item). P i.number) kept told (shown_numbers P (front_of ask place) items now all)
+      (weaker (λ (j : Item). s.next < j.number) (λ (j : Item). P j.number) (λ j more. higher j.number more) told (above s.next last at _ (omega arith)))
+
+  -- they stand on the base
+  base_by : HasBase s → IsTimeline s.house (timeline_by s at ask place items now) → AllByRecursion (λ (i : Item). IsFresh i.number s.base) items → IsBase (timeline_by s at ask place items now) s.base
+  base_by base timeline fresh = record {
+    valid = base.stands.valid;
+    timeline = subst (λ (h : House). IsTimeline h (timeline_by s at ask place items now)) (sym base.house_is) timeline;
+    once = base.stands.once;
+    fresh = numbers_by (λ (n : ℕ). IsFresh n s.base) fresh (λ n more. base.beyond n (omega (arith, more)));
+  }
+
   -- the stamps
   fresh_by : AllByRecursion (λ (r : BoxId × ℕ). r.1 < s.next) s.stamps → AllByRecursion (λ (r : BoxId × ℕ). r.1 < cycled.next) (stamps_by s after)
   fresh_by fresh = lower (stamps_by s after) (stamps_below (store_of s).boxes after.boxes s.stamps s.next fresh)
@@ -195,6 +212,16 @@ module _ (s : Kept) (at : ℕ) (ask : CycleAsk) (place : ℕ) (items : List Item
       lower : (rows : List (BoxId × ℕ)) → AllByRecursion (λ (r : BoxId × ℕ). r.1 ≤ s.next) rows → AllByRecursion (λ (r : BoxId × ℕ). r.1 < cycled.next) rows
       lower [] low = tt
       lower (r ∷ rows) low = (omega (arith, low.0), lower rows low.1)
+
+-- what holds of the numbers of the items before, and of each number to come, holds of those of the repaired ones
+repaired_numbers : (P : ℕ → Type 0) (s : Kept) (at : ℕ) (ask : CycleAsk) (place : ℕ) → AllByRecursion (λ (i : Item). P i.number) s.timeline → ((n : ℕ) → s.next < n → P n) → AllByRecursion (λ (i : Item). P i.number) (repaired_items s at ask place)
+repaired_numbers P s at ask place all higher =
+    everywhere (λ (i : Item). P i.number) s.timeline ask s.next at place (taken (λ (i : Item). P i.number) place s.timeline all)
+    (weaker (λ (j : Item). s.next < j.number) (λ (j : Item). P j.number) (λ j more. higher j.number more) (inserted s.next at ask.inserts) (inserted_above s.next s.next at ask.inserts (omega arith)))
+    (of_numbers P ask s.next (drop place s.timeline) (rest_of (λ (i : Item). P i.number) place s.timeline all))
+
+fresh_repaired : (s : Kept) (at : ℕ) (ask : CycleAsk) (place : ℕ) → HasBase s → AllByRecursion (λ (i : Item). IsFresh i.number s.base) (repaired_items s at ask place)
+fresh_repaired s at ask place base = repaired_numbers (λ (n : ℕ). IsFresh n s.base) s at ask place base.stands.fresh (λ n more. base.beyond n (omega (arith, more)))
 
 -- ---- items as they were read
 
@@ -220,15 +247,19 @@ module _ (s : Kept) (at : ℕ) (ask : CycleAsk) (place : ℕ) (first : MailStore
       → are_known s.house ask.inserts ≡ true → count ≤ place → AllHeard (repaired_items s at ask place) heard → leaves_numbers s ask ≡ true
       → GoesOnAt s after_from (cycled_from s at ask place first count heard)
   left_from timeline below fresh known few all left = record {
-    timeline = timeline_left s at ask place heard now_from after_from
-        (formed_from s.house first count (front_of ask place) (front_of ask place - count) heard (omega arith) (heard_formed s at ask place heard all timeline.formed known))
-        (apart_heard (repaired_items s at ask place) heard all (all_apart s.timeline ask s.next at place timeline.apart below)) (heard_low s at ask place heard all below);
+    timeline = timeline_is;
+    base = λ base. base_by s at ask place heard now_from after_from base timeline_is (numbers_heard (λ (n : ℕ). IsFresh n s.base) (repaired_items s at ask place) heard all (fresh_repaired s at ask place base));
     below = below_by s at ask place heard now_from after_from (heard_low s at ask place heard all below);
     named = named_by s at ask place heard now_from after_from;
     fresh = fresh_by s at ask place heard now_from after_from fresh;
     rises = rises_by s at ask place heard now_from after_from;
     next = next_by s at ask place heard now_from after_from left;
   }
+    where
+      timeline_is : IsTimeline s.house (timeline_from s at ask place first count heard)
+      timeline_is = timeline_left s at ask place heard now_from after_from
+          (formed_from s.house first count (front_of ask place) (front_of ask place - count) heard (omega (arith, few)) (heard_formed s at ask place heard all timeline.formed known))
+          (apart_heard (repaired_items s at ask place) heard all (all_apart s.timeline ask s.next at place timeline.apart below)) (heard_low s at ask place heard all below)
 
   pub left_from_revs : AllByRecursion (λ (i : Item). i.rev < s.next) s.timeline → AllHeard (repaired_items s at ask place) heard
       → AllByRecursion (λ (i : Item). i.rev < (cycled_from s at ask place first count heard).next) (timeline_from s at ask place first count heard)
@@ -258,6 +289,9 @@ module _ (s : Kept) (at : ℕ) (ask : CycleAsk) (place : ℕ) where
   pub left_timeline : IsTimeline s.house s.timeline → AllByRecursion (λ (i : Item). i.number < s.next) s.timeline → are_known s.house ask.inserts ≡ true → IsTimeline s.house (timeline_at s at ask place)
   left_timeline is below known = timeline_left s at ask place items shown_then after (at_formed is.formed known) (all_apart s.timeline ask s.next at place is.apart below)
       (all_below s.timeline ask s.next at place below)
+
+  pub left_base : HasBase s → IsTimeline s.house (timeline_at s at ask place) → IsBase (timeline_at s at ask place) s.base
+  left_base base timeline = base_by s at ask place items shown_then after base timeline (fresh_repaired s at ask place base)
 
   pub left_revs : AllByRecursion (λ (i : Item). i.rev < s.next) s.timeline → AllByRecursion (λ (i : Item). i.rev < (cycled_at s at ask place).next) (timeline_at s at ask place)
   left_revs below = revs_by s at ask place items shown_then after (revs_below s.timeline ask s.next at place below)
@@ -307,6 +341,7 @@ module _ (s : Kept) (at : ℕ) (ask : CycleAsk) where
       by_numbers : (place : ℕ) (b : Bool) → leaves_numbers s ask ≡ b → GoesOnBy (cond b (Rewinds (cycled_at s at ask place)) NoNumbers)
       by_numbers place true left = record {
         timeline = left_timeline s at ask place timeline below known;
+        base = λ base. left_base s at ask place base (left_timeline s at ask place timeline below known);
         below = left_below s at ask place below;
         named = left_named s at ask place;
         fresh = left_fresh s at ask place fresh;

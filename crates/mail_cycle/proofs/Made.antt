@@ -6,15 +6,16 @@ use Rattle.verb_core.specs.declared.item.Shown.{Shown}
 use Rattle.verb_core.specs.Step.{answers, run}
 use Rattle.verb_core.specs.Store.{MailStore}
 use Rattle.verb_bytes.specs.declared.journal.CycleAsk.{CycleAsk}
-use Rattle.paradox.specs.Kept.{Kept, Marks}
+use Rattle.store_kept.specs.Kept.{Kept, Marks}
 use Rattle.paradox.specs.declared.reports.Report.{Report}
 use Rattle.stored_items.specs.Stored.{AllHeard}
 use Rattle.repair_desk.specs.Repairs.{edited_at}
 use Rattle.repair_desk.proofs.Points.{front as front_stays, within}
 use Rattle.mail_cycle.specs.declared.settling.Rewound.{Rewound}
-use Rattle.mail_cycle.specs.Asking.{Rewinds, due_anew}
-use Rattle.mail_cycle.specs.Cycles.{Cycled, compared_from, compared_with, cycled_at, cycled_by, cycled_from, cycled_with, front_of, reached_from, repaired_items, timeline_by, timeline_from, timeline_with, told_by}
-use Rattle.mail_cycle.specs.Judging.{shown_after}
+use Rattle.cycle_rules.specs.Asking.{Rewinds, due_anew}
+use Rattle.cycle_rules.specs.Cycles.{Cycled, compared_at, cycled_at, front_of, kept_at, repaired_items, timeline_at, told_at}
+use Rattle.mail_cycle.specs.Comparing.{compared_from, compared_with, cycled_by, cycled_from, cycled_with, reached_from, timeline_by, timeline_from, timeline_with, told_by}
+use Rattle.cycle_rules.specs.Judging.{shown_after}
 use Rattle.mail_cycle.specs.Leaving.{IsMade, IsMadeFrom, Leaves, LeavesAt}
 use Rattle.mail_cycle.proofs.Cycled.{answers_behind, drop_more, length_shown, run_behind, shown_front}
 use Rattle.mail_cycle.proofs.Left.{length_repaired}
@@ -26,6 +27,14 @@ use Rattle.mail_cycle.proofs.Parts.{due_is}
 pub first_stay : (s : Kept) (at : ℕ) (ask : CycleAsk) (place count : ℕ) → count ≤ place → place ≤ length s.timeline → take count (repaired_items s at ask place) ≡ take count s.timeline
 first_stay s at ask place count few le =
     sym (take-take count place (repaired_items s at ask place) few) ∙ ap (take count) (front_stays s.timeline ask s.next at place le) ∙ take-take count place s.timeline few
+
+-- so the items through the point stay
+pub through_stays : (s : Kept) (at : ℕ) (ask : CycleAsk) (place : ℕ) → place ≤ length s.timeline → take place (timeline_at s at ask place) ≡ take place s.timeline
+through_stays s at ask place le =
+    let items = repaired_items s at ask place in
+    let now = compared_at s at ask place in
+    let long : place ≤ length (kept_at s at ask place) = omega (arith, length_shown (front_of ask place) items now, length_repaired s at ask place le) in
+    take-append-le place (kept_at s at ask place) (told_at s at ask place) long ∙ shown_front place (front_of ask place) items now (omega arith) ∙ first_stay s at ask place place (omega arith) le
 
 -- a list that begins as another is no shorter
 as_long : {X : Type 0} (count : ℕ) (xs ys : List X) → count ≤ length ys → take count xs ≡ take count ys → count ≤ length xs

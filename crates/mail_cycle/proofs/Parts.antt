@@ -13,7 +13,7 @@ use Rattle.verb_core.specs.Items.{IsWellFormed}
 use Rattle.verb_core.specs.Step.{answers, run}
 use Rattle.verb_core.specs.Store.{IsValid, MailStore}
 use Rattle.verb_core.proofs.Joins.{run_joined}
-use Rattle.paradox.specs.Kept.{Kept, store_of}
+use Rattle.store_kept.specs.Kept.{Kept, store_of}
 use Rattle.paradox.specs.Letters.{notices}
 use Rattle.paradox.specs.declared.reports.BrokenItem.{BrokenItem}
 use Rattle.repair_desk.specs.declared.editing.Edited.{Edited}
@@ -21,9 +21,10 @@ use Rattle.repair_desk.specs.Renewals.{renewed}
 use Rattle.repair_desk.specs.Repairs.{are_known, edited_at, edited_behind, is_among, numbers_of, position}
 use Rattle.repair_desk.proofs.Everywhere.{all_formed}
 use Rattle.mail_cycle.specs.declared.settling.Rewound.{Rewound}
-use Rattle.mail_cycle.specs.Cycles.{broken_by, compared_from, cycled_at, cycled_from, front_of, leaves_numbers, notice_items, reached_from, renewed_by, report_by, stamps_by, timeline_by, told_by}
-use Rattle.mail_cycle.specs.Judging.{judged, shown_after}
-use Rattle.mail_cycle.specs.Asking.{IsRewinds, NoNumbers, Rewinds, due_anew, due_at}
+use Rattle.cycle_rules.specs.Cycles.{cycled_at, front_of, leaves_numbers, notice_items, renewed_by}
+use Rattle.mail_cycle.specs.Comparing.{broken_by, compared_from, cycled_from, reached_from, report_by, stamps_by, timeline_by, told_by}
+use Rattle.cycle_rules.specs.Judging.{judged, shown_after}
+use Rattle.cycle_rules.specs.Asking.{IsRewinds, NoNumbers, Rewinds, due_anew, due_at}
 use Rattle.mail_cycle.specs.Leaving.{LeavesAt, items_left}
 use Rattle.mail_cycle.proofs.Parted.{all_dropped, behind_of, first_of}
 use Rattle.mail_cycle.proofs.Cycled.{drop_more, few_notices, few_told, judged_same, length_map, length_shown, run_shown, shown_behind, shown_front, told_formed}

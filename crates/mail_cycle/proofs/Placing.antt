@@ -1,8 +1,8 @@
 -- Each later item is judged by its own answer, and shows it where what it showed no longer holds.
-use Rattle.std.proofs.Common.{◌≡◌, ◌≢◌, ℕ, zero, suc, ◌+◌, ◌≤◌, Bool, cond, true, false, ◌||◌, ◌==◌, arith, refl, sym, ◌∙◌, ap, ap₂, subst, List, [], ◌∷◌, ◌++◌, take, drop, length, filter, find, map, not, Option, Some, None, option_and_then, option_map, slice_get, eqb-true, length-append}
-use Rattle.std.specs.List.{AllByRecursion, cons_option}
+use Rattle.std.proofs.Common.{◌≡◌, ◌≢◌, ℕ, zero, suc, ◌+◌, ◌≤◌, Bool, cond, true, false, ◌||◌, ◌==◌, arith, refl, sym, ◌∙◌, ap, ap₂, subst, List, [], ◌∷◌, ◌++◌, take, drop, length, filter, filter_map, find, map, not, Option, Some, None, option_and_then, option_map, slice_get, add-zero, eqb-true, length-append}
+use Rattle.std.specs.List.{AllByRecursion, cons_option, enumerate_from}
 use Rattle.std.proofs.lemmas.Bool.Decides.{nat_tests}
-use Rattle.std.proofs.lemmas.List.{append_assoc, length-take-le, map-append}
+use Rattle.std.proofs.lemmas.List.{append_assoc, length-take-le, length_push, map-append}
 use Rattle.std.proofs.lemmas.List.Elements.{filter-append}
 use Rattle.undo_base.specs.declared.keys.User.{User}
 use Rattle.verb_core.specs.declared.item.Item.{Item}
@@ -13,7 +13,7 @@ use Rattle.verb_core.specs.Step.{answers, run, step}
 use Rattle.verb_core.proofs.Joins.{answers_behind}
 use Rattle.verb_bytes.specs.declared.journal.CycleAsk.{CycleAsk}
 use Rattle.paradox.specs.Answers.{broken}
-use Rattle.paradox.specs.Kept.{Kept}
+use Rattle.store_kept.specs.Kept.{Kept}
 use Rattle.paradox.specs.Words.{told_of, verb_of}
 use Rattle.paradox.specs.declared.reports.BrokenItem.{BrokenItem}
 use Rattle.paradox.specs.declared.words.Reason.{Reason}
@@ -21,9 +21,9 @@ use Rattle.paradox.specs.declared.words.Reason.TheVariants.{Withdrawn}
 use Rattle.paradox.specs.declared.words.Verb.{Verb}
 use Rattle.repair_desk.specs.Repairs.{inserted, is_among, is_dropped, kept, numbers_of, repaired}
 use Rattle.repair_desk.proofs.Everywhere.{weaker}
-use Rattle.mail_cycle.specs.Cycles.{broken_at, compared_at, front_of, kept_at, repaired_items, shown_now, timeline_at, told_at}
-use Rattle.mail_cycle.specs.Judging.{judged, reason_by, shown_after, shown_by, told}
-use Rattle.mail_cycle.specs.Places.{items_before, own_answer, reason_at, shown_at}
+use Rattle.cycle_rules.specs.Cycles.{broken_at, compared_at, front_of, kept_at, repaired_items, timeline_at, told_at}
+use Rattle.cycle_rules.specs.Judging.{judged, reason_by, shown_after, shown_by, told}
+use Rattle.mail_cycle.specs.Places.{items_before, own_answer, reason_at, shown_at, telling_at, tellings}
 use Rattle.mail_cycle.proofs.Cycled.{drop_more, length_acts, length_map}
 
 -- ---- what is told of one item
@@ -190,22 +190,27 @@ module _ (s : Kept) (at : ℕ) (ask : CycleAsk) (place : ℕ) (earlier : List It
   pub answer_at : place ≤ length s.timeline → drop place s.timeline ≡ earlier ++ i ∷ later → is_among ask.drops i.number ≡ false
       → drop (length (kept ask earlier)) (compared_at s at ask place) ≡ own_answer s at ask place earlier i ∷ answers (step (run s.base before) (repaired ask s.next i)).0 behind
   answer_at le split stays =
-      drop_more (length (kept ask earlier)) (front_of ask place) (shown_now s at ask place)
+      drop_more (length (kept ask earlier)) (front_of ask place) (answers s.base (repaired_items s at ask place))
       ∙ ap₂ (λ (n : ℕ) (t : List Item). drop n (answers s.base t)) (sym (length_before le)) (around split stays)
       ∙ answers_behind s.base before (repaired ask s.next i ∷ behind)
 
-  pub told_alone : place ≤ length s.timeline → NumbersApart (drop place s.timeline) → drop place s.timeline ≡ earlier ++ i ∷ later
-      → under i.number (broken_at s at ask place) ≡ option_and_then (told_of i) (reason_at s at ask place earlier i)
-  told_alone le apart split =
-      ap (λ (t : List Item). under i.number (judged ask.drops t (compared_at s at ask place))) split
-      ∙ judged_alone ask.drops earlier i later (compared_at s at ask place) (subst NumbersApart split apart)
-      ∙ by (is_among ask.drops i.number) refl
+  -- the reason by that answer is that by its own step
+  reason_alone : place ≤ length s.timeline → drop place s.timeline ≡ earlier ++ i ∷ later
+      → option_and_then (told_of i) (cond (is_among ask.drops i.number) (Some Withdrawn) (reason_by i (drop (length (kept ask earlier)) (compared_at s at ask place)))) ≡ telling_at s at ask place earlier i
+  reason_alone le split = by (is_among ask.drops i.number) refl
     where
       by : (b : Bool) → is_among ask.drops i.number ≡ b
           → option_and_then (told_of i) (cond b (Some Withdrawn) (reason_by i (drop (length (kept ask earlier)) (compared_at s at ask place))))
           ≡ option_and_then (told_of i) (cond b (Some Withdrawn) (broken i (own_answer s at ask place earlier i)))
       by true goes = refl
       by false stays = ap (λ (now : List Shown). option_and_then (told_of i) (reason_by i now)) (answer_at le split stays)
+
+  pub told_alone : place ≤ length s.timeline → NumbersApart (drop place s.timeline) → drop place s.timeline ≡ earlier ++ i ∷ later
+      → under i.number (broken_at s at ask place) ≡ option_and_then (told_of i) (reason_at s at ask place earlier i)
+  told_alone le apart split =
+      ap (λ (t : List Item). under i.number (judged ask.drops t (compared_at s at ask place))) split
+      ∙ judged_alone ask.drops earlier i later (compared_at s at ask place) (subst NumbersApart split apart)
+      ∙ reason_alone le split
 
   -- a later item that stays shows its own answer, where what it showed no longer holds
   pub shown_alone : place ≤ length s.timeline → drop place s.timeline ≡ earlier ++ i ∷ later → is_among ask.drops i.number ≡ false
@@ -215,3 +220,59 @@ module _ (s : Kept) (at : ℕ) (ask : CycleAsk) (place : ℕ) (earlier : List It
       (ap (λ (t : List Item). slice_get (shown_after (front_of ask place) t (compared_at s at ask place)) (length before)) (around split stays)
       ∙ shown_there (front_of ask place) (length (kept ask earlier)) before (repaired ask s.next i) behind (compared_at s at ask place) (sym (length_before le))
       ∙ ap (λ (now : List Shown). Some (shown_by (repaired ask s.next i) now)) (answer_at le split stays))
+
+-- ---- the whole list
+
+-- one more is before: it stays, or it goes
+one_staying : (i : Item) (b : Bool) → length (cond (not b) (i ∷ []) []) ≡ cond b 0 1
+one_staying i true = refl
+one_staying i false = refl
+
+staying_on : (drops : List ℕ) (e : List Item) (i : Item) → length (staying drops (e ++ i ∷ [])) ≡ length (staying drops e) + cond (is_among drops i.number) 0 1
+staying_on drops e i =
+    ap (λ (t : List Item). length t) (filter-append (λ (j : Item). not (is_among drops j.number)) e (i ∷ []))
+    ∙ length-append (staying drops e) (staying drops (i ∷ []))
+    ∙ ap (λ (n : ℕ). length (staying drops e) + n) (one_staying i (is_among drops i.number))
+
+-- one more, before the rest
+told_step : (drops : List ℕ) (now : List Shown) (telling : ℕ × Item → Option BrokenItem) (e : List Item) (i : Item) (t : List Item)
+    → option_and_then (told_of i) (cond (is_among drops i.number) (Some Withdrawn) (reason_by i (drop (length (staying drops e)) now))) ≡ telling (length e, i)
+    → judged drops t (drop (length (staying drops (e ++ i ∷ []))) now) ≡ filter_map telling (enumerate_from (length (e ++ i ∷ [])) t)
+    → judged drops (i ∷ t) (drop (length (staying drops e)) now) ≡ filter_map telling (enumerate_from (length e) (i ∷ t))
+told_step drops now telling e i t own rest = by (is_among drops i.number) refl
+  where
+    behind : List Shown
+    behind = drop (length (staying drops e)) now
+
+    more : judged drops t (drop (length (staying drops e) + cond (is_among drops i.number) 0 1) now) ≡ filter_map telling (enumerate_from (length e + 1) t)
+    more = ap (λ (n : ℕ). judged drops t (drop n now)) (sym (staying_on drops e i)) ∙ rest ∙ ap (λ (n : ℕ). filter_map telling (enumerate_from n t)) (length_push e i)
+
+    by : (b : Bool) → is_among drops i.number ≡ b
+        → cond b (told i (Some Withdrawn) (judged drops t behind)) (told i (reason_by i behind) (judged drops t (drop 1 behind))) ≡ cons_option (telling (length e, i)) (filter_map telling (enumerate_from (length e + 1) t))
+    by true goes = ap₂ (λ (one : Option BrokenItem) (list : List BrokenItem). cons_option one list)
+        (ap (λ (b : Bool). option_and_then (told_of i) (cond b (Some Withdrawn) (reason_by i behind))) (sym goes) ∙ own)
+        (ap (λ (n : ℕ). judged drops t (drop n now)) (sym (ap (λ (b : Bool). length (staying drops e) + cond b 0 1) goes ∙ add-zero (length (staying drops e)))) ∙ more)
+    by false stays = ap₂ (λ (one : Option BrokenItem) (list : List BrokenItem). cons_option one list)
+        (ap (λ (b : Bool). option_and_then (told_of i) (cond b (Some Withdrawn) (reason_by i behind))) (sym stays) ∙ own)
+        (ap (λ (l : List Shown). judged drops t l) (drop_more 1 (length (staying drops e)) now)
+        ∙ ap (λ (b : Bool). judged drops t (drop (length (staying drops e) + cond b 0 1) now)) (sym stays) ∙ more)
+
+-- what is told of later items, if of each that is told by the answers behind those of the earlier ones that stay
+told_each : (drops : List ℕ) (now : List Shown) (all : List Item) (telling : ℕ × Item → Option BrokenItem)
+    → ((e : List Item) (i : Item) (later : List Item) → all ≡ e ++ i ∷ later
+    → option_and_then (told_of i) (cond (is_among drops i.number) (Some Withdrawn) (reason_by i (drop (length (staying drops e)) now))) ≡ telling (length e, i))
+    → (e t : List Item) → all ≡ e ++ t → judged drops t (drop (length (staying drops e)) now) ≡ filter_map telling (enumerate_from (length e) t)
+told_each drops now all telling each e [] split = refl
+told_each drops now all telling each e (i ∷ t) split =
+    told_step drops now telling e i t (each e i t split) (told_each drops now all telling each (e ++ i ∷ []) t (split ∙ sym (append_assoc e (i ∷ []) t)))
+
+take_front : (e t : List Item) → take (length e) (e ++ t) ≡ e
+take_front [] t = refl
+take_front (i ∷ e) t = ap (λ (rest : List Item). i ∷ rest) (take_front e t)
+
+pub told_in_order : (s : Kept) (at : ℕ) (ask : CycleAsk) (place : ℕ) → place ≤ length s.timeline → broken_at s at ask place ≡ tellings s at ask place
+told_in_order s at ask place le =
+    told_each ask.drops (compared_at s at ask place) (drop place s.timeline) (λ (r : ℕ × Item). telling_at s at ask place (take r.0 (drop place s.timeline)) r.1)
+    (λ e i later split. reason_alone s at ask place e i later le split
+    ∙ ap (λ (earlier : List Item). telling_at s at ask place earlier i) (sym (ap (take (length e)) split ∙ take_front e (i ∷ later))))
+    [] (drop place s.timeline) refl

@@ -4,15 +4,18 @@ use Rattle.std.specs.List.{AllByRecursion}
 use Rattle.verb_core.specs.declared.item.Item.{Item}
 use Rattle.verb_core.specs.declared.mailbox.BoxId.{BoxId}
 use Rattle.verb_core.specs.declared.mailbox.Mailbox.{Mailbox}
+use Rattle.verb_core.specs.Fates.{IsBase}
 use Rattle.verb_core.specs.Items.{IsTimeline}
 use Rattle.verb_core.specs.Step.{run}
 use Rattle.verb_core.specs.Store.{IsValid, MailStore}
 use Rattle.verb_bytes.specs.declared.journal.CycleAsk.{CycleAsk}
 use Rattle.stored_items.specs.Stored.{AllHeard}
-use Rattle.paradox.specs.Kept.{Kept}
+use Rattle.store_kept.specs.Bases.{HasBase}
+use Rattle.store_kept.specs.Kept.{Kept}
 use Rattle.mail_cycle.specs.declared.settling.Rewound.{Rewound}
 use Rattle.repair_desk.specs.Repairs.{position}
-use Rattle.mail_cycle.specs.Cycles.{Cycled, cycled_from, leaves_numbers, reached_from, repaired_items}
+use Rattle.cycle_rules.specs.Cycles.{Cycled, leaves_numbers, repaired_items}
+use Rattle.mail_cycle.specs.Comparing.{cycled_from, reached_from}
 
 -- the items in force that it leaves: the first ones of those before, and those behind them
 abbrev pub items_left : List Item → Rewound → List Item
@@ -59,7 +62,7 @@ pub record IsMade (s : Kept) (at : ℕ) (ask : CycleAsk) (honest : Type 0) (made
   pub made_from : IsMadeFrom s at ask place first count honest made
 
 -- what is left can be gone on with: the items are a timeline with numbers below the next one, the stamps name the mailboxes and
--- are below it too, and it has risen and is one that an item can have
+-- are below it too, it has risen and is one that an item can have, and the items stand on the base, if it carries those before
 pub record GoesOnAt (s : Kept) (after : MailStore) (due : Cycled) : Type 0 where
   pub timeline : IsTimeline s.house due.timeline
   pub below : AllByRecursion (λ (i : Item). i.number < due.next) due.timeline
@@ -67,6 +70,7 @@ pub record GoesOnAt (s : Kept) (after : MailStore) (due : Cycled) : Type 0 where
   pub fresh : AllByRecursion (λ (r : BoxId × ℕ). r.1 < due.next) due.stamps
   pub rises : s.next < due.next
   pub next : due.next ≤ 4194303
+  pub base : HasBase s → IsBase due.timeline s.base
 
 -- the same, where the store is what the whole timeline leads to
 abbrev pub GoesOn : Kept → Cycled → Type 0

@@ -1,9 +1,7 @@
 pub mod Begun
 pub mod Leading
-pub mod Judging
-pub mod Cycles
+pub mod Comparing
 pub mod Places
-pub mod Asking
 pub mod Refusing
 pub mod Leaving
 pub mod Permanence

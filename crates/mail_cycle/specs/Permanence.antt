@@ -4,8 +4,8 @@ use Rattle.std.specs.Prelude.{◌≡◌, ℕ, ◌<◌, ◌≤◌, true, List, So
 use Rattle.verb_core.specs.declared.mailbox.Body.{Body}
 use Rattle.verb_core.specs.declared.mailbox.BoxId.{BoxId}
 use Rattle.verb_core.specs.declared.mailbox.Mailbox.{Mailbox}
-use Rattle.verb_core.specs.Items.{text_of}
-use Rattle.paradox.specs.Kept.{Kept, mailbox_at, stamp_at}
+use Rattle.store_kept.specs.Kept.{Kept, mailbox_at, stamp_at}
+use Rattle.store_kept.specs.Texts.{text_kept}
 use Rattle.repair_desk.specs.Renewals.{extends_one}
 
 -- a mailbox with a stamp that was given before had it then, and extends the one of then
@@ -15,8 +15,8 @@ StampsLast old new = (id : BoxId) (stamp : ℕ) (m : Mailbox) → stamp < old.ne
 
 -- a body whose number and rev were given before has the text that it had then
 abbrev pub TextsLast : Kept → Kept → Type 0
-TextsLast old new = (body : Body) (text : List ℕ) → body.origin < old.next → body.rev < old.next → text_of new.timeline body ≡ Some text →
-    text_of old.timeline body ≡ Some text
+TextsLast old new = (body : Body) (text : List ℕ) → body.origin < old.next → body.rev < old.next → text_kept new body ≡ Some text →
+    text_kept old body ≡ Some text
 
 -- the next number has not fallen, and stamps and texts last
 pub record UidsLast (old new : Kept) : Type 0 where

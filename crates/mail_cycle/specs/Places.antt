@@ -1,11 +1,14 @@
 -- Where a later item stands in the new timeline, and what it shows there.
-use Rattle.std.specs.Prelude.{ℕ, ◌++◌, if◌then◌else◌, List, map, take, Option, Some, is_some}
+use Rattle.std.specs.Prelude.{ℕ, ◌++◌, if◌then◌else◌, List, drop, filter_map, map, take, Option, Some, is_some, option_and_then}
+use Rattle.std.specs.List.{enumerate_from}
 use Rattle.verb_bytes.specs.declared.journal.CycleAsk.{CycleAsk}
 use Rattle.verb_core.specs.declared.item.Item.{Item}
 use Rattle.verb_core.specs.declared.item.Shown.{Shown}
 use Rattle.verb_core.specs.Step.{run, step}
 use Rattle.paradox.specs.Answers.{broken}
-use Rattle.paradox.specs.Kept.{Kept}
+use Rattle.paradox.specs.Words.{told_of}
+use Rattle.paradox.specs.declared.reports.BrokenItem.{BrokenItem}
+use Rattle.store_kept.specs.Kept.{Kept}
 use Rattle.paradox.specs.declared.words.Reason.{Reason}
 use Rattle.paradox.specs.declared.words.Reason.TheVariants.{Withdrawn}
 use Rattle.repair_desk.specs.Repairs.{inserted, is_dropped, kept, repaired}
@@ -22,6 +25,14 @@ own_answer s at ask place earlier i = (step (run s.base (items_before s at ask p
 -- why it is told of: it goes, or what it showed no longer holds
 abbrev pub reason_at : Kept → ℕ → CycleAsk → ℕ → List Item → Item → Option Reason
 reason_at s at ask place earlier i = if is_dropped ask i then Some Withdrawn else broken i (own_answer s at ask place earlier i)
+
+-- what is told of it, if anything
+abbrev pub telling_at : Kept → ℕ → CycleAsk → ℕ → List Item → Item → Option BrokenItem
+telling_at s at ask place earlier i = option_and_then (told_of i) (reason_at s at ask place earlier i)
+
+-- what is told of the later items, in their order, each by its own place among them
+abbrev pub tellings : Kept → ℕ → CycleAsk → ℕ → List BrokenItem
+tellings s at ask place = filter_map (λ (r : ℕ × Item). telling_at s at ask place (take r.0 (drop place s.timeline)) r.1) (enumerate_from 0 (drop place s.timeline))
 
 -- the item afterwards: it shows what it shows there, where what it showed no longer holds
 abbrev pub shown_at : Kept → ℕ → CycleAsk → ℕ → List Item → Item → Item

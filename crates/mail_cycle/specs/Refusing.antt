@@ -1,10 +1,10 @@
 -- Why there is no cycle.
 use Rattle.std.specs.Prelude.{◌≡◌}
 use Rattle.verb_bytes.specs.declared.journal.CycleAsk.{CycleAsk}
-use Rattle.paradox.specs.Kept.{Kept}
+use Rattle.store_kept.specs.Kept.{Kept}
 use Rattle.mail_cycle.specs.declared.refused.CycleRefused.{CycleRefused}
 use Rattle.mail_cycle.specs.declared.refused.CycleRefused.TheVariants.{Point, Numbers, Disk, NoMemory}
-use Rattle.mail_cycle.specs.Asking.{Due, IsRewinds, NoPoint, NoNumbers}
+use Rattle.cycle_rules.specs.Asking.{Due, IsRewinds, NoPoint, NoNumbers}
 
 -- by what is due: the timeline does not have the point, or else too few numbers are left; texts are read, and memory is wanted,
 -- for a cycle alone

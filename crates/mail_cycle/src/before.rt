@@ -1,11 +1,11 @@
 //! What a cycle begins with.
-ghost use Rattle.std.specs.Prelude.{◌≡◌, ℕ, ◌+◌, ◌≤◌, [], drop, map, take, length, IfOk, IfSome, IsTrue};
-ghost use Rattle.std.specs.List.{AllByRecursion, list_all};
+ghost use Rattle.std.specs.Prelude.{◌≡◌, ℕ, ◌+◌, ◌≤◌, drop, map, take, length, IfOk, IfSome, IsTrue};
+ghost use Rattle.std.specs.List.{AllByRecursion};
 ghost use Rattle.verb_core.specs.declared.mailbox.BoxId.{BoxId as TheBoxId};
 ghost use Rattle.verb_core.specs.declared.mailbox.Mailbox.{Mailbox as TheMailbox};
 ghost use Rattle.verb_core.specs.Items.{IsWellFormed};
-ghost use Rattle.verb_core.specs.Store.{IsValid, is_house, is_known};
-ghost use Rattle.paradox.specs.Kept.{store_of};
+ghost use Rattle.verb_core.specs.Store.{IsValid, is_house};
+ghost use Rattle.store_kept.specs.Kept.{store_of};
 ghost use Rattle.repair_desk.specs.Renewals.{renewed};
 ghost use Rattle.repair_desk.specs.Repairs.{are_known, edited_behind, position};
 
@@ -14,17 +14,17 @@ use paradox::Report;
 use repair_desk::{Edited, edit_behind, position_of, renew};
 use std::alloc::Global;
 use std::marker::Model;
+use store_kept::Base;
 use stored_items::{StoredItem, StoredItems};
 use undo_base::{Copies, LAST_NUMBER, Name, NoMemory};
 use verb_bytes::CycleAsk;
-use verb_core::{Conf, House, Stamps};
+use verb_core::{House, Stamps};
 
-/// A store in use: its house, the configuration at first, the store, the items in force, the stamp of each mailbox, the next
+/// A store in use: what it began with, the store, the items in force, the stamp of each mailbox, the next
 /// number, and the reports of earlier cycles. What is known of snapshots is none of its concerns: its value has none.
 #[derive(Drop)]
 pub struct Before<'a> {
-    house: &'a House,
-    opening: &'a Conf,
+    base: &'a Base,
     store: &'a Store,
     timeline: &'a [StoredItem],
     stamps: &'a Stamps,
@@ -34,13 +34,13 @@ pub struct Before<'a> {
 
 impl<'a> Model for Before<'a> {
     ghost use Rattle.mail_cycle.specs.Begun.{IsBegun};
-    ghost use Rattle.paradox.specs.Kept.{Kept, kept_from, no_marks};
+    ghost use Rattle.store_kept.specs.Kept.{Kept, kept_from, no_marks};
 
     ghost Value = { Kept };
 
-    ghost view = { λ b. kept_from b.house.now b.opening.now b.store.now.store b.timeline.now b.stamps.now b.next b.reports.now no_marks };
+    ghost view = { λ b. kept_from b.base.now b.store.now.store b.timeline.now b.stamps.now b.next b.reports.now no_marks };
 
-    ghost invariant = { λ b. IsBegun (kept_from b.house.now b.opening.now b.store.now.store b.timeline.now b.stamps.now b.next b.reports.now no_marks) };
+    ghost invariant = { λ b. IsBegun (kept_from b.base.now b.store.now.store b.timeline.now b.stamps.now b.next b.reports.now no_marks) };
 }
 
 /// Copies of items.
@@ -55,30 +55,26 @@ fn copies(alloc: Global, items: &[StoredItem]) -> Result<StoredItems, NoMemory>
 }
 
 impl<'a> Before<'a> {
-    ghost use Rattle.paradox.specs.Kept.{kept_from, no_marks};
+    ghost use Rattle.store_kept.specs.Kept.{kept_from, no_marks};
 
     /// A store in use.
     pub fn of(
-        house: &'a House,
-        opening: &'a Conf,
+        base: &'a Base,
         store: &'a Store,
         timeline: &'a [StoredItem],
         stamps: &'a Stamps,
         next: u32,
         reports: &'a [(Name, Report)],
     ) -> Before<'a>
-        requires house { IsTrue (is_house house.now) }
-        requires aliases { IsTrue (list_all (λ a. list_all (is_known house.now) a.users) opening.now.aliases) }
-        requires filters { opening.now.filters ≡ [] }
+        requires house { IsTrue (is_house base.now.house) }
         requires valid { IsValid store.now.store }
-        requires formed { AllByRecursion (IsWellFormed house.now) timeline.now }
+        requires formed { AllByRecursion (IsWellFormed base.now.house) timeline.now }
         requires named { map (λ (r : TheBoxId × ℕ). r.0) stamps.now ≡ map (λ (r : TheBoxId × TheMailbox). r.0) store.now.store.boxes }
         requires next { next ≤ 4194304 }
-        ensures { result ≡ kept_from house.now opening.now store.now.store timeline.now stamps.now next reports.now no_marks }
+        ensures { result ≡ kept_from base.now store.now.store timeline.now stamps.now next reports.now no_marks }
     {
         Before {
-            house,
-            opening,
+            base,
             store,
             timeline,
             stamps,
@@ -91,7 +87,7 @@ impl<'a> Before<'a> {
         ensures house { result.now ≡ self.now.house }
         ensures is { IsTrue (is_house result.now) }
     {
-        self.house
+        self.base.house()
     }
 
     pub(crate) fn next(&self) -> u32
@@ -141,8 +137,7 @@ impl<'a> Before<'a> {
         ensures valid { IfOk result (λ store. IsValid store.store) }
         ensures house { IfOk result (λ store. store.store.house ≡ self.now.house) }
     {
-        let conf = self.opening.copy(alloc)?;
-        Store::opening(alloc, self.house, conf)
+        self.base.store(alloc)
     }
 
     /// The store before the first item, and copies of the items through a place.

@@ -7,7 +7,8 @@ ghost use Rattle.verb_core.specs.Store.{IsValid, MailStore};
 ghost use Rattle.verb_core.specs.Texts.{StaysTold};
 ghost use Rattle.stored_items.specs.Stored.{AllHeard};
 ghost use Rattle.repair_desk.specs.Repairs.{are_known, edited_at};
-ghost use Rattle.mail_cycle.specs.Cycles.{cycled_at, cycled_from, leaves_numbers, reached_from, repaired_items};
+ghost use Rattle.cycle_rules.specs.Cycles.{cycled_at, leaves_numbers, repaired_items};
+ghost use Rattle.mail_cycle.specs.Comparing.{cycled_from, reached_from};
 ghost use Rattle.mail_cycle.specs.Leaving.{IsMadeFrom, Leaves, LeavesAt};
 ghost use Rattle.replay_crew.specs.Hearing.{Counts, HoldsOf, StoresOf, TellsAll};
 

@@ -1,8 +1,8 @@
 //! Whether a cycle is due.
 ghost use Rattle.std.specs.Prelude.{◌≡◌, ℕ, ◌+◌, ◌≤◌, length, nat_le, IfErr, IfOk, IsTrue, OnErr, OnOk, Some};
 ghost use Rattle.repair_desk.specs.Repairs.{position};
-ghost use Rattle.mail_cycle.specs.Asking.{IsRewinds, Rewinds, due_anew};
-ghost use Rattle.mail_cycle.specs.Cycles.{cycled_at, leaves_numbers};
+ghost use Rattle.cycle_rules.specs.Asking.{IsRewinds, Rewinds, due_anew};
+ghost use Rattle.cycle_rules.specs.Cycles.{cycled_at, leaves_numbers};
 ghost use Rattle.mail_cycle.specs.Refusing.{IsRefusalOf};
 
 use crate::{Before, CycleRefused};

@@ -1,6 +1,6 @@
 //! The items of users that are broken or withdrawn.
 ghost use Rattle.std.specs.Prelude.{◌≡◌, [], ◌++◌, drop, IfOk, OnOk};
-ghost use Rattle.mail_cycle.specs.Judging.{judged, reason_by as reason_due, told as telling};
+ghost use Rattle.cycle_rules.specs.Judging.{judged, reason_by as reason_due, told as telling};
 
 use crate::Shows;
 use paradox::{BrokenItem, BrokenList, Reason, broken};

@@ -13,12 +13,13 @@ ghost use Rattle.paradox.specs.Words.{told_of};
 ghost use Rattle.paradox.specs.declared.reports.BrokenItem.{BrokenItem};
 ghost use Rattle.stored_items.specs.Stored.{AllHeard};
 ghost use Rattle.repair_desk.specs.Repairs.{are_known, is_among, is_dropped, numbers_of};
-ghost use Rattle.mail_cycle.specs.Asking.{Rewinds, after_cycle, due_anew};
-ghost use Rattle.mail_cycle.specs.Cycles.{Cycled, broken_at, cycled_at, cycled_from, cycled_with, leaves_numbers, reached_from, repaired_items, report_at, stamps_at, timeline_at, timeline_from, timeline_with};
+ghost use Rattle.cycle_rules.specs.Asking.{Rewinds, after_cycle, due_anew};
+ghost use Rattle.cycle_rules.specs.Cycles.{Cycled, broken_at, cycled_at, leaves_numbers, repaired_items, report_at, stamps_at, timeline_at};
+ghost use Rattle.mail_cycle.specs.Comparing.{cycled_from, cycled_with, reached_from, timeline_from, timeline_with};
 ghost use Rattle.mail_cycle.specs.Leaving.{GoesOn, GoesOnAt};
 ghost use Rattle.mail_cycle.specs.Permanence.{UidsLast};
-ghost use Rattle.mail_cycle.specs.Places.{items_before, reason_at, shown_at};
-ghost use Rattle.paradox.specs.Kept.{Kept, Marks, performed, store_of};
+ghost use Rattle.mail_cycle.specs.Places.{items_before, reason_at, shown_at, tellings};
+ghost use Rattle.store_kept.specs.Kept.{Kept, Marks, performed, store_of};
 
 /// What a cycle leaves can be gone on with: the items are well formed, their numbers distinct and below the next one, the
 /// stamps name the mailboxes and are below the next number, and it has risen and is one that an item can have. So it is with
@@ -72,7 +73,8 @@ pub fn timelines_have_their_length()
 
 /// Each later item is judged by its own answer, at its own place of the new timeline: it is told of exactly where it is dropped
 /// and a user's, or stays and what it showed no longer holds there; and nothing but later items is told of. The one that stays
-/// shows its own answer afterwards exactly where what it showed no longer holds.
+/// shows its own answer afterwards exactly where what it showed no longer holds. The whole list is what is told of the later items
+/// so, each once, in the order of the timeline before.
 pub fn later_items_are_judged_alone()
     ensures told { (s : Kept) (at : ℕ) (ask : CycleAsk) (place : ℕ) (earlier : List Item) (i : Item) (later : List Item) → place ≤ length s.timeline →
         NumbersApart (drop place s.timeline) → drop place s.timeline ≡ earlier ++ i ∷ later →
@@ -82,6 +84,12 @@ pub fn later_items_are_judged_alone()
     ensures shown { (s : Kept) (at : ℕ) (ask : CycleAsk) (place : ℕ) (earlier : List Item) (i : Item) (later : List Item) → place ≤ length s.timeline →
         drop place s.timeline ≡ earlier ++ i ∷ later → is_dropped ask i ≡ false →
         slice_get (timeline_at s at ask place) (length (items_before s at ask place earlier)) ≡ Some (shown_at s at ask place earlier i) }
+    ensures list { (s : Kept) (at : ℕ) (ask : CycleAsk) (place : ℕ) → place ≤ length s.timeline → broken_at s at ask place ≡ tellings s at ask place }
+{}
+
+/// The items through the point stay as they are.
+pub fn items_through_the_point_stay()
+    ensures { (s : Kept) (at : ℕ) (ask : CycleAsk) (place : ℕ) → place ≤ length s.timeline → take place (timeline_at s at ask place) ≡ take place s.timeline }
 {}
 
 /// A body that has a text in the new timeline had it before the cycle, unless it is a replacement of the cycle, or an act or a

@@ -7,11 +7,12 @@
 //! items level by level on workers. `settle` (in `settling`) makes the rest of what replayed items show: `judge` finds the broken
 //! and withdrawn items, `showing` lets the broken ones show what they show now, `telling` writes to the users, `notices` makes the
 //! notices items, and `report` what is told of them. `cycle_from` (in `cycling`) performs the repaired items through the point one
-//! after the other, replays those behind it by levels, and settles; `cycle_in_order` is the same with no workers. `refused` says why there is no cycle, and `laws` what holds of every one. In specs/, `Begun` and
-//! `Judging` lead up to `Cycles`, whose definitions are by what came of performing the items, from a beginning and from the first
-//! item on, over the items as they were read, and over the repaired ones, which these are where what is read is what was stored;
-//! `Leading` says what rewinding leaves; `Asking` what is due to a request, `Refusing` and `Leaving` what contracts say of its
-//! answers, and `Permanence` what a mail client may rely on that keeps mail by UID.
+//! after the other, replays those behind it by levels, and settles; `cycle_in_order` is the same with no workers. `refused`
+//! says why there is no cycle, and `laws` what holds of every one. What a cycle is stands in cycle_rules. In specs/, `Begun` says
+//! what holds of a store in use; `Comparing` is the cycle as it is worked out, by what came of performing the items, from a
+//! beginning and from the base on, over items as they were read; `Leading` says what rewinding leaves, `Refusing` and `Leaving`
+//! what contracts say of the answers, `Places` how each later item is judged at its own place, and `Permanence` what a mail
+//! client may rely on that keeps mail by UID.
 //! What carries the crate: `due_place` finds the place exactly where `due_anew` says so, and `cycle_from` leaves what it says,
 //! in steps that are counted from the beginning alone.
 #![tactic(auto)]

@@ -1,6 +1,6 @@
 //! Notices, as items that are performed last.
 ghost use Rattle.std.specs.Prelude.{◌≡◌, ◌+◌, ◌≤◌, length, IfOk};
-ghost use Rattle.mail_cycle.specs.Cycles.{notice_item as item_of, notice_items};
+ghost use Rattle.cycle_rules.specs.Cycles.{notice_item as item_of, notice_items};
 
 use std::alloc::Global;
 use undo_base::{Copies, LAST_NUMBER, NoMemory, Text, User};

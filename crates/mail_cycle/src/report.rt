@@ -1,7 +1,7 @@
 //! What is told of a cycle.
 ghost use Rattle.std.specs.Prelude.{◌≡◌, IfOk};
 ghost use Rattle.repair_desk.specs.Repairs.{numbers_of as numbers_in};
-ghost use Rattle.mail_cycle.specs.Cycles.{renewed_by as renewed_in};
+ghost use Rattle.cycle_rules.specs.Cycles.{renewed_by as renewed_in};
 
 use paradox::Renewals;
 use std::alloc::Global;

@@ -4,11 +4,12 @@ ghost use Rattle.std.specs.List.{AllByRecursion};
 ghost use Rattle.verb_core.specs.Items.{IsWellFormed};
 ghost use Rattle.verb_core.specs.Step.{answers, run, step};
 ghost use Rattle.verb_core.specs.Store.{IsValid, MailStore};
-ghost use Rattle.paradox.specs.Kept.{store_of};
+ghost use Rattle.store_kept.specs.Kept.{store_of};
 ghost use Rattle.repair_desk.specs.Renewals.{renewed as renewed_stamps};
 ghost use Rattle.repair_desk.specs.Repairs.{edited_at};
-ghost use Rattle.mail_cycle.specs.Cycles.{cycled_from, leaves_numbers, reached_from, renewed_by as renewed_in};
-ghost use Rattle.mail_cycle.specs.Judging.{shown_after};
+ghost use Rattle.cycle_rules.specs.Cycles.{leaves_numbers, renewed_by as renewed_in};
+ghost use Rattle.mail_cycle.specs.Comparing.{cycled_from, reached_from};
+ghost use Rattle.cycle_rules.specs.Judging.{shown_after};
 ghost use Rattle.mail_cycle.specs.Leaving.{LeavesAt};
 
 use crate::Before;

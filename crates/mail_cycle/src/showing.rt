@@ -1,6 +1,6 @@
 //! What items show after a cycle.
 ghost use Rattle.std.specs.Prelude.{◌≡◌, IfOk, OnOk};
-ghost use Rattle.mail_cycle.specs.Judging.{shown_after, shown_by};
+ghost use Rattle.cycle_rules.specs.Judging.{shown_after, shown_by};
 
 use crate::judge::rest;
 use paradox::broken;

@@ -4,8 +4,8 @@ ghost use Rattle.std.specs.List.{AllByRecursion};
 ghost use Rattle.verb_core.specs.Items.{IsWellFormed};
 ghost use Rattle.paradox.specs.Letters.{notices as notices_of};
 ghost use Rattle.repair_desk.specs.Repairs.{numbers_of as numbers_in};
-ghost use Rattle.mail_cycle.specs.Cycles.{notice_items};
-ghost use Rattle.mail_cycle.specs.Judging.{judged};
+ghost use Rattle.cycle_rules.specs.Cycles.{notice_items};
+ghost use Rattle.cycle_rules.specs.Judging.{judged};
 
 use crate::Before;
 use crate::judge::{behind, judge};

@@ -9,7 +9,7 @@ use Rattle.verb_core.proofs.Joins.{run_house}
 use Rattle.stored_items.specs.Stored.{AllHeard}
 use Rattle.repair_desk.specs.declared.editing.Edited.{Edited}
 use Rattle.replay_crew.specs.Hearing.{HoldsOf, StoresOf, TellsAll}
-use Rattle.mail_cycle.specs.Cycles.{repaired_items}
+use Rattle.cycle_rules.specs.Cycles.{repaired_items}
 use Rattle.mail_cycle.specs.declared.cycling.AtPoint.{AtPoint}
 use Rattle.mail_cycle.proofs.Left.{length_repaired}
 use Rattle.mail_cycle.proofs.Made.{first_stay}

@@ -4,7 +4,7 @@ use Rattle.verb_core.specs.declared.item.Item.{Item}
 use Rattle.verb_core.specs.Store.{MailStore}
 use Rattle.verb_core.proofs.Joins.{run_house}
 use Rattle.stored_items.specs.Stored.{AllHeard}
-use Rattle.mail_cycle.specs.Cycles.{repaired_items}
+use Rattle.cycle_rules.specs.Cycles.{repaired_items}
 use Rattle.mail_cycle.proofs.Left.{length_repaired}
 use Rattle.mail_cycle.proofs.Made.{made_exact, made_of, many_steps}
 use Rattle.mail_cycle.proofs.Parted.{alike, begins, heard, led, shown}

@@ -1,5 +1,5 @@
 use Rattle.std.proofs.Common.{◌≡◌, ◌++◌, drop}
-use Rattle.mail_cycle.specs.Judging.{judged}
+use Rattle.cycle_rules.specs.Judging.{judged}
 use Rattle.mail_cycle.proofs.judge.judge.Given as goal
 
 -- those so far, and those of the items that are left over the answers that are left, are all of them

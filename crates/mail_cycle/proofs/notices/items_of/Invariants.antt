@@ -1,5 +1,5 @@
 use Rattle.std.proofs.Common.{◌≡◌, ◌+◌, ◌++◌, drop}
-use Rattle.mail_cycle.specs.Cycles.{notice_items}
+use Rattle.cycle_rules.specs.Cycles.{notice_items}
 use Rattle.mail_cycle.proofs.notices.items_of.Given as goal
 
 -- the items so far, and those of the notices that are left, are all of them

@@ -1,5 +1,5 @@
 use Rattle.std.proofs.Common.{◌≡◌, take}
-use Rattle.mail_cycle.specs.Cycles.{renewed_by}
+use Rattle.cycle_rules.specs.Cycles.{renewed_by}
 use Rattle.mail_cycle.proofs.report.renewed_by.Given as goal
 
 abbrev pub invariant-loop-row : goal.invariant-loop-row

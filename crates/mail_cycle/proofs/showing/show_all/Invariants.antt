@@ -1,5 +1,5 @@
 use Rattle.std.proofs.Common.{◌≡◌, ◌++◌, take, drop}
-use Rattle.mail_cycle.specs.Judging.{shown_after}
+use Rattle.cycle_rules.specs.Judging.{shown_after}
 use Rattle.mail_cycle.proofs.showing.show_all.Given as goal
 
 -- the items so far, and what the answers that are left make of those that are left, are all of them
