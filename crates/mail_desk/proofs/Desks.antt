@@ -1,5 +1,5 @@
 -- The desk at first, and what every desk has.
-use Rattle.std.proofs.Common.{◌≡◌, ℕ, ◌-◌, ◌<◌, ◌≤◌, Bool, true, ◌&&◌, List, [], ◌∷◌, map, flat_map, option_map, refl, ap, sym, ◌∙◌, arith, length, nat_le}
+use Rattle.std.proofs.Common.{◌≡◌, ℕ, ◌-◌, ◌<◌, ◌≤◌, Bool, true, ◌&&◌, List, [], ◌∷◌, map, flat_map, option_map, is_some, refl, ap, sym, ◌∙◌, arith, length, nat_le}
 use Rattle.std.specs.List.{AllByRecursion, list_all}
 use Rattle.std.specs.Cmp.{first_so, second_so}
 use Rattle.std.proofs.lemmas.Bool.{leb-true}
@@ -17,13 +17,16 @@ use Rattle.verb_core.specs.Store.{MailStore, IsValid, is_house, is_known, openin
 use Rattle.verb_core.specs.Step.{Boxes}
 use Rattle.verb_core.specs.Stamps.{opening_stamps}
 use Rattle.verb_core.specs.Items.{text_of}
+use Rattle.verb_core.proofs.OpeningLaws.{held-opening, opening-IsBase}
 use Rattle.seal_log.specs.declared.place.Place.{Place}
 use Rattle.shelf.specs.declared.note.Note.{Note}
 use Rattle.shelf.specs.Notes.{size_of}
-use Rattle.paradox.specs.Kept.{Reports, kept_from, new_desk}
+use Rattle.store_kept.specs.Kept.{Origin, Reports, kept_from, new_desk, opening_origin}
+use Rattle.store_kept.specs.Bases.{HasBase}
 use Rattle.mail_desk.specs.Desk.{IsDesk}
 use Rattle.mail_desk.specs.Held.{marks_kept}
-use Rattle.mail_desk.specs.Timeline.{has_text, all_bodies}
+use Rattle.mail_desk.specs.Timeline.{has_text}
+use Rattle.store_kept.specs.Texts.{all_bodies, text_before}
 
 -- empty mailboxes name no body
 pub empty_boxes : (test : Body → Bool) (users : List User) →
@@ -40,11 +43,21 @@ first_bounds house sound =
     }
 
 -- the parts of a new desk, as they were made
-pub new_desk_is : (house : House) (conf : Conf) (store : MailStore) (stamps : List (BoxId × ℕ)) (timeline : List Item) (reports : Reports) (marks : List (ℕ × Place)) → store ≡ opening house conf
-    → stamps ≡ opening_stamps (opening house conf) → timeline ≡ [] → reports ≡ [] → marks ≡ []
-    → kept_from house conf store timeline stamps house.first reports (marks_kept 0 0 marks) ≡ new_desk house conf
-new_desk_is house conf store stamps timeline reports marks made stamped empty none unmarked =
-    λ j. kept_from house conf (made j) (empty j) (stamped j) house.first (none j) (marks_kept 0 0 (unmarked j))
+pub new_desk_is : (origin : Origin) (store : MailStore) (stamps : List (BoxId × ℕ)) (first : ℕ) (timeline : List Item) (reports : Reports) (marks : List (ℕ × Place)) → origin ≡ opening_origin origin.house origin.opening
+    → store ≡ origin.base → stamps ≡ opening_stamps origin.base → first ≡ origin.house.first → timeline ≡ [] → reports ≡ [] → marks ≡ []
+    → kept_from origin store timeline stamps first reports (marks_kept 0 0 marks) ≡ new_desk origin.house origin.opening
+new_desk_is origin store stamps first timeline reports marks made stored stamped numbered empty none unmarked =
+    (λ j. kept_from origin (stored j) (empty j) (stamped j) (numbered j) (none j) (marks_kept 0 0 (unmarked j)))
+    ∙ ap (λ (o : Origin). kept_from (record origin { base = o.base }) o.base [] (opening_stamps o.base) origin.house.first [] (marks_kept 0 0 [])) made
+
+-- the opening store carries any timeline
+pub base_opening : (house : House) (conf : Conf) → is_house house ≡ true → list_all (λ a. list_all (is_known house) a.users) conf.aliases ≡ true → HasBase (new_desk house conf)
+base_opening house conf sound aliases = record {
+  house_is = refl;
+  stands = opening-IsBase house conf [] sound aliases (record { formed = tt; apart = tt });
+  beyond = λ number le u key is. held-opening house conf u key;
+  texts = empty_boxes (λ (body : Body). is_some (text_before (opening house conf) body)) (users_of house);
+}
 
 -- one stamp is below the next number
 first_fresh : (n next : ℕ) → n < next → (rs : Boxes) → AllByRecursion (λ (r : BoxId × ℕ). r.1 < next) (map (λ (r : BoxId × Mailbox). (r.0, n)) rs)
@@ -61,7 +74,7 @@ new_desk_holds house conf sound aliases filters valid named =
       house = sound;
       aliases = aliases;
       filters = filters;
-      base = refl;
+      base = base_opening house conf sound aliases;
       house_is = refl;
       valid = valid;
       next = omega arith;

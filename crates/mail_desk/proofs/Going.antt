@@ -1,5 +1,5 @@
 -- A desk goes on by an item.
-use Rattle.std.proofs.Common.{◌≡◌, ℕ, ◌+◌, ◌<◌, ◌≤◌, Bool, true, false, not, ◌&&◌, cond, List, [], ◌∷◌, ◌++◌, length, map, filter_map, Option, None, Some, is_some, option_map, unwrap_or, sum_by, refl, ap, sym, subst, ◌∙◌, arith, zero-add}
+use Rattle.std.proofs.Common.{◌≡◌, ℕ, ◌+◌, ◌<◌, ◌≤◌, Bool, true, false, not, ◌&&◌, cond, List, [], ◌∷◌, ◌++◌, length, map, filter_map, Option, None, Some, is_some, option_map, unwrap_or, sum_by, refl, ap, sym, subst, ◌∙◌, arith, true≢false, zero-add}
 use Rattle.std.proofs.lemmas.List.Sums.{sum_by-cons}
 use Rattle.std.specs.List.{list_all, cons_option, enumerate_from, AllByRecursion}
 use Rattle.std.specs.Cmp.{first_so, second_so}
@@ -28,9 +28,12 @@ use Rattle.verb_core.proofs.BoxLaws.{same_user-refl}
 use Rattle.verb_core.proofs.FateLaws.{count_in-cons}
 use Rattle.verb_core.proofs.Validity.{all_kept}
 use Rattle.mail_desk.specs.Desk.{IsDesk}
-use Rattle.paradox.specs.Kept.{Kept, performed}
-use Rattle.mail_desk.specs.Timeline.{all_bodies, body_of, has_text, unshown}
+use Rattle.store_kept.specs.Kept.{Kept, performed}
+use Rattle.mail_desk.specs.Timeline.{body_of, has_text, unshown}
+use Rattle.store_kept.specs.Bases.{HasBase}
+use Rattle.store_kept.specs.Texts.{all_bodies, has_text_among, text_before as text_at_first}
 use Rattle.mail_desk.proofs.BodyTexts.{has_unshown, own_texts, text_added, text_before, text_behind, text_stays}
+use Rattle.mail_desk.proofs.Bases.{base_goes_on}
 use Rattle.mail_desk.proofs.Timelines.{all_on, all_weaker, apart_on, below_on, others_below}
 
 -- ---- entries whose bodies pass a test, by how many fail
@@ -188,7 +191,7 @@ run_known law stays test s (i ∷ t) valid formed own all =
     run_known law stays test (step s i).0 t (stays s i valid formed.0) formed.1 own.1 (step_known law test s i valid formed.0 all own.0)
 
 -- entries whose bodies pass a weaker test
-bodies_weaker : (test other : Body → Bool) (boxes : Boxes) → ((body : Body) → test body ≡ true → other body ≡ true) → all_bodies test boxes ≡ true → all_bodies other boxes ≡ true
+pub bodies_weaker : (test other : Body → Bool) (boxes : Boxes) → ((body : Body) → test body ≡ true → other body ≡ true) → all_bodies test boxes ≡ true → all_bodies other boxes ≡ true
 bodies_weaker test other boxes weaker all =
     all_kept (λ (r : BoxId × Mailbox). list_all (λ (e : Entry). test e.body) r.1.entries) (λ (r : BoxId × Mailbox). list_all (λ (e : Entry). other e.body) r.1.entries) boxes
     (λ r here. all_kept (λ (e : Entry). test e.body) (λ (e : Entry). other e.body) r.1.entries (λ e has. weaker e.body has) here) all
@@ -225,7 +228,7 @@ desk_goes_on keeps stays named kept item is in_house number left =
       house = is.house;
       aliases = is.aliases;
       filters = is.filters;
-      base = is.base;
+      base = base_goes_on kept item is.base in_house number is.below;
       house_is = is.house_is;
       valid = stays kept.store item is.valid formed;
       next = omega arith;
@@ -238,6 +241,12 @@ desk_goes_on keeps stays named kept item is in_house number left =
       few = omega arith;
       texts = step_known keeps (has_text (kept.timeline ++ item ∷ [])) kept.store item is.valid formed (more_known kept.timeline item kept.store.boxes is.texts) (text_added kept.timeline item);
     }
+
+-- ---- the base
+
+-- each body in it has a text, whatever the items
+pub base_known : (kept : Kept) (items : List Item) → HasBase kept → all_bodies (has_text_among kept items) kept.base.boxes ≡ true
+base_known kept items base = bodies_weaker (λ (body : Body). is_some (text_at_first kept.base body)) (has_text_among kept items) kept.base.boxes (λ body e. absurd (true≢false (sym e))) base.texts
 
 -- ---- items behind others
 

@@ -5,6 +5,7 @@ pub mod Renoted
 pub mod Desks
 pub mod Stampings
 pub mod Searched
+pub mod Bases
 pub mod Going
 pub mod Readied
 pub mod Remades

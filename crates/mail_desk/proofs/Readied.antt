@@ -20,7 +20,7 @@ use Rattle.box_store.specs.declared.effect.Effect.{Effect}
 use Rattle.box_store.specs.Effects.{IsEffect, IsReady, applied}
 use Rattle.box_store.specs.Kept.{sought_in}
 use Rattle.mail_desk.specs.declared.ready.Ready.{Ready}
-use Rattle.paradox.specs.Kept.{store_of}
+use Rattle.store_kept.specs.Kept.{store_of}
 use Rattle.mail_desk.specs.Entering.{CanEnter}
 use Rattle.mail_desk.specs.Held.{Held}
 

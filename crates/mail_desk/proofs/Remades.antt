@@ -9,13 +9,16 @@ use Rattle.verb_core.specs.declared.mailbox.Mailbox.{Mailbox}
 use Rattle.verb_core.specs.Items.{IsTimeline, text_of}
 use Rattle.verb_core.specs.Store.{MailStore, IsValid}
 use Rattle.box_store.specs.Kept.{Kept as StoreHeld}
-use Rattle.paradox.specs.Kept.{Kept, rewound}
+use Rattle.store_kept.specs.Kept.{Kept, rewound}
 use Rattle.paradox.specs.declared.reports.Report.{Report}
 use Rattle.mail_desk.specs.declared.remake.Remade.{Remade}
 use Rattle.mail_desk.specs.Desk.{IsDesk}
 use Rattle.mail_desk.specs.Held.{Held}
 use Rattle.mail_desk.specs.Remaking.{CanReplace, remade_as}
-use Rattle.mail_desk.specs.Timeline.{SizesOf, all_bodies, has_text}
+use Rattle.mail_desk.specs.Timeline.{SizesOf, has_text}
+use Rattle.verb_core.specs.Fates.{IsBase}
+use Rattle.mail_desk.proofs.Bases.{base_stays}
+use Rattle.store_kept.specs.Texts.{all_bodies}
 
 -- what is kept with these parts, one report more, and the snapshots that can serve still
 abbrev pub with_parts : Kept → MailStore → List Item → List (BoxId × ℕ) → ℕ → List ℕ × Report → ℕ → ℕ → Kept
@@ -26,15 +29,15 @@ with_parts kept store timeline stamps next reported place more =
 pub desk_remade : (kept : Kept) (store : MailStore) (timeline : List Item) (stamps : List (BoxId × ℕ)) (next : ℕ) (reported : List ℕ × Report) (place more : ℕ) → IsDesk kept
     → store.house ≡ kept.house → IsValid store → IsTrue (all_bodies (has_text timeline) store.boxes) → IsTimeline kept.house timeline → AllByRecursion (λ (i : Item). i.number < next) timeline
     → map (λ (r : BoxId × ℕ). r.0) stamps ≡ map (λ (r : BoxId × Mailbox). r.0) store.boxes → AllByRecursion (λ (r : BoxId × ℕ). r.1 < next) stamps
-    → kept.next + more < next → next ≤ 4194304 → IsDesk (with_parts kept store timeline stamps next reported place more)
-desk_remade kept store timeline stamps next reported place more is house valid texts items below named fresh rises most =
+    → kept.next + more < next → next ≤ 4194304 → IsBase timeline kept.base → IsDesk (with_parts kept store timeline stamps next reported place more)
+desk_remade kept store timeline stamps next reported place more is house valid texts items below named fresh rises most stands =
     let few : length kept.reports ≤ kept.next = is.few in
     let since : kept.marks.since ≤ kept.next = is.since in
     record {
       house = is.house;
       aliases = is.aliases;
       filters = is.filters;
-      base = is.base;
+      base = base_stays kept timeline next is.base stands (omega (arith, rises));
       house_is = house;
       valid = valid;
       next = most;

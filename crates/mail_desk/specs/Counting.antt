@@ -4,7 +4,7 @@ use Rattle.verb_core.specs.declared.item.Item.{Item}
 use Rattle.verb_core.specs.declared.mailbox.BoxId.{BoxId}
 use Rattle.verb_core.specs.declared.mailbox.Mailbox.{Mailbox}
 use Rattle.verb_core.specs.Deeds.{is_notice, with_text}
-use Rattle.paradox.specs.Kept.{Kept, store_of}
+use Rattle.store_kept.specs.Kept.{Kept, store_of}
 use Rattle.mail_desk.specs.declared.counts.Counts.{Counts}
 
 -- ---- counts

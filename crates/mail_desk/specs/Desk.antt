@@ -10,17 +10,18 @@ use Rattle.verb_core.specs.declared.item.Item.{Item}
 use Rattle.verb_core.specs.declared.mailbox.BoxId.{BoxId}
 use Rattle.verb_core.specs.declared.mailbox.Mailbox.{Mailbox}
 use Rattle.verb_core.specs.Items.{IsWellFormed, NumbersApart}
-use Rattle.verb_core.specs.Store.{IsValid, is_house, is_known, opening}
-use Rattle.paradox.specs.Kept.{Kept, performed, store_of}
+use Rattle.verb_core.specs.Store.{IsValid, is_house, is_known}
+use Rattle.store_kept.specs.Bases.{HasBase}
+use Rattle.store_kept.specs.Kept.{Kept, performed, store_of}
+use Rattle.store_kept.specs.Texts.{all_bodies, has_text_kept}
 use Rattle.verb_core.specs.Live.{live}
-use Rattle.mail_desk.specs.Timeline.{has_text, all_bodies}
 
 -- a store that is kept beside the items in force
 pub record IsDesk (kept : Kept) : Type 0 where
   pub house : IsTrue (is_house kept.house)
   pub aliases : IsTrue (list_all (λ a. list_all (is_known kept.house) a.users) kept.opening.aliases)
   pub filters : kept.opening.filters ≡ []
-  pub base : kept.base ≡ opening kept.house kept.opening
+  pub base : HasBase kept
   pub house_is : kept.store.house ≡ kept.house
   pub valid : IsValid kept.store
   pub next : kept.next ≤ 4194304
@@ -31,7 +32,7 @@ pub record IsDesk (kept : Kept) : Type 0 where
   pub apart : NumbersApart kept.timeline
   pub below : AllByRecursion (λ (i : Item). i.number < kept.next) kept.timeline
   pub few : length kept.reports ≤ kept.next
-  pub texts : IsTrue (all_bodies (has_text kept.timeline) kept.store.boxes)
+  pub texts : IsTrue (all_bodies (has_text_kept kept) kept.store.boxes)
 
 -- what became of an ask: the item or why there is none, and what is kept
 pub record Submitted : Type 0 where

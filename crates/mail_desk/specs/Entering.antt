@@ -5,7 +5,7 @@ use Rattle.verb_core.specs.Step.{step}
 use Rattle.verb_core.specs.Stamps.{stamps_after}
 use Rattle.box_store.specs.Effects.{IsReady, applied}
 use Rattle.mail_desk.specs.declared.ready.Ready.{Ready}
-use Rattle.paradox.specs.Kept.{store_of}
+use Rattle.store_kept.specs.Kept.{store_of}
 use Rattle.mail_desk.specs.Held.{Held}
 
 -- The item has the next number and is made ready to be stored, the effect is what it does, the stamps are those after it, where they change, and there

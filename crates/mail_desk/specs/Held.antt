@@ -2,7 +2,7 @@
 use Rattle.std.specs.Prelude.{ℕ, ◌<◌, ◌-◌, ◌^◌, List, map}
 use Rattle.box_store.specs.Kept.{Kept as StoreHeld}
 use Rattle.verb_core.specs.declared.mailbox.Body.{Body}
-use Rattle.paradox.specs.Kept.{Kept, Marks}
+use Rattle.store_kept.specs.Kept.{Kept, Marks}
 use Rattle.seal_log.specs.declared.place.Place.{Place}
 use Rattle.shelf.specs.declared.note.Note.{Note}
 

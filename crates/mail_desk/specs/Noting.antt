@@ -4,8 +4,8 @@ use Rattle.std.specs.List.{Contains}
 use Rattle.std.specs.Option.{option_or}
 use Rattle.verb_core.specs.declared.item.Item.{Item}
 use Rattle.verb_core.specs.declared.mailbox.Body.{Body}
-use Rattle.verb_core.specs.Deeds.{is_notice}
 use Rattle.verb_core.specs.Items.{text_in, text_of}
+use Rattle.store_kept.specs.Texts.{is_in_memory}
 use Rattle.seal_log.specs.declared.place.Place.{Place}
 use Rattle.shelf.specs.declared.note.Note.{Note}
 use Rattle.shelf.specs.Notes.{note_of}
@@ -26,7 +26,7 @@ renoted old fresh t body =
 
 -- the note of the text that an item brings
 abbrev pub note_by : List (Body × Note) → Fresh → Item → List ℕ → Option Note
-note_by old fresh i text = option_or (note_of old (body_of i)) (option_or (note_of fresh.shelf.notes (body_of i)) (if is_notice i.deed then Some (notice_note fresh.place text) else None))
+note_by old fresh i text = option_or (note_of old (body_of i)) (option_or (note_of fresh.shelf.notes (body_of i)) (if is_in_memory i then Some (notice_note fresh.place text) else None))
 
 -- its body with the note
 abbrev pub noted_by : List (Body × Note) → Fresh → Item → Option (Body × Note)

@@ -1,6 +1,6 @@
 -- The outcome of a cycle, put in place.
 use Rattle.std.specs.Prelude.{◌<◌, ◌≤◌, [], ◌∷◌, ◌++◌, length, take}
-use Rattle.paradox.specs.Kept.{Kept, rewound}
+use Rattle.store_kept.specs.Kept.{Kept, rewound}
 use Rattle.mail_desk.specs.declared.remake.Remade.{Remade}
 use Rattle.mail_desk.specs.Desk.{IsDesk}
 use Rattle.mail_desk.specs.Held.{Held}

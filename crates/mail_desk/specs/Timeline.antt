@@ -1,14 +1,12 @@
 -- The numbers and the texts of a timeline, and where the texts lie.
 use Rattle.std.specs.Prelude.{◌≡◌, ℕ, Bool, ◌==◌, List, [], map, find, length, is_some, Option, Some, None, if◌then◌else◌, unwrap_or, option_map, option_and_then}
-use Rattle.std.specs.List.{list_all}
 use Rattle.verb_core.specs.declared.item.Item.{Item}
 use Rattle.verb_core.specs.declared.item.Shown.TheVariants.{Nothing}
 use Rattle.verb_core.specs.declared.mailbox.Body.{Body}
 use Rattle.verb_core.specs.declared.mailbox.BoxId.{BoxId}
-use Rattle.verb_core.specs.declared.mailbox.Entry.{Entry}
 use Rattle.verb_core.specs.declared.mailbox.Mailbox.{Mailbox}
-use Rattle.verb_core.specs.Deeds.{is_notice}
 use Rattle.verb_core.specs.Items.{text_in, text_of}
+use Rattle.store_kept.specs.Texts.{all_bodies, is_in_memory}
 use Rattle.seal_log.specs.declared.place.Place.{Place}
 use Rattle.shelf.specs.declared.note.Note.{Note}
 use Rattle.shelf.specs.Notes.{NotesOnly, note_of, size_of}
@@ -34,15 +32,15 @@ NotesText (Some text) body place from old new = NotesOnly old new body (record {
 abbrev pub told_by : Body → Item → Option (List ℕ)
 told_by body i = if i.rev == body.rev then text_in i.deed else None
 
--- the same of an item that is a notice, whose text is in memory
+-- the same of a notice: its text is in memory
 abbrev pub notice_told_by : Body → Item → Option (List ℕ)
-notice_told_by body i = if is_notice i.deed then told_by body i else None
+notice_told_by body i = if is_in_memory i then told_by body i else None
 
 -- the text of a body that a notice brings
 abbrev pub notice_text_of : List Item → Body → Option (List ℕ)
 notice_text_of t body = option_and_then (notice_told_by body) (item_of t body.origin)
 
--- the note of a body that an item brings which is no notice
+-- the note of a body whose text is not in memory
 abbrev pub noted_of : List Item → List (Body × Note) → Body → Option Note
 noted_of t notes body = if is_some (notice_text_of t body) then None else note_of notes body
 
@@ -61,10 +59,6 @@ unshown i = record i { shown = Nothing }
 -- the texts of bodies, in order
 abbrev pub texts_of : List Item → List Body → List (List ℕ)
 texts_of t bodies = map (λ (body : Body). unwrap_or (text_of t body) []) bodies
-
--- whether a test passes at the body of each entry
-abbrev pub all_bodies : (Body → Bool) → List (BoxId × Mailbox) → Bool
-all_bodies test boxes = list_all (λ (r : BoxId × Mailbox). list_all (λ (e : Entry). test e.body) r.1.entries) boxes
 
 -- whether a shelf has the size of each body that an entry names
 abbrev pub has_sizes : List (Body × Note) → List (BoxId × Mailbox) → Bool

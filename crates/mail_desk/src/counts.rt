@@ -139,7 +139,7 @@ impl Desk {
             messages: messages_in(&self.store, self.stamps.as_slice()),
             next: self.next,
             notices: notices_in(self.timeline.as_slice()) as u32,
-            users: self.house.accounts.len() as u32,
+            users: self.base.house().accounts.len() as u32,
         }
     }
 

@@ -7,29 +7,31 @@ ghost use Rattle.verb_core.specs.declared.mailbox.Mailbox.{Mailbox as TheMailbox
 ghost use Rattle.verb_core.specs.Boxes.{box_of, row_at};
 ghost use Rattle.seal_log.specs.declared.place.Place.{Place as ThePlace};
 ghost use Rattle.verb_core.specs.Items.{IsTimeline};
-ghost use Rattle.paradox.specs.Kept.{new_desk, report_of as report_in, store_of};
+ghost use Rattle.store_kept.specs.Kept.{new_desk, opening_origin, origin_of, report_of as report_in, store_of};
+ghost use Rattle.store_kept.specs.Bases.{HasBase};
+ghost use Rattle.store_kept.specs.Texts.{all_bodies, has_text_kept};
 ghost use Rattle.verb_core.specs.Stamps.{opening_stamps};
-ghost use Rattle.verb_core.specs.Store.{IsValid, is_house, is_known, opening as store_at_first};
-ghost use Rattle.mail_desk.specs.Timeline.{SizesOf, all_bodies, has_sizes, has_text};
+ghost use Rattle.verb_core.specs.Store.{IsValid, is_house, is_known};
+ghost use Rattle.mail_desk.specs.Timeline.{SizesOf, has_sizes};
 
 use crate::numbered::Numbered;
 use crate::stamps::{find_stamp, push_stamp};
 use box_store::Store;
-use paradox::{Report, report_of};
+use paradox::Report;
 use shelf::Shelf;
 use std::alloc::Global;
 use std::marker::Model;
-use undo_base::{Copies, Name, NoMemory, User};
+use store_kept::{Base, report_of};
+use undo_base::{Name, NoMemory, User};
 use verb_core::laws::stamps_name_mailboxes;
 use verb_core::{BoxId, Conf, House, Mailbox, Stamps};
 
-/// The house, the configuration at first, the store, the items in force in order, the stamp of each mailbox, the next
+/// What it begins with, the store, the items in force in order, the stamp of each mailbox, the next
 /// number, each cycle's report by the key of its request, where each text and each snapshot lies, and how many items entered
 /// since the last snapshot, and how many snapshots there are.
 #[derive(Drop)]
 pub struct Desk {
-    pub(crate) house: House,
-    pub(crate) opening: Conf,
+    pub(crate) base: Base,
     pub(crate) store: Store,
     pub(crate) timeline: Numbered,
     pub(crate) stamps: Stamps,
@@ -45,12 +47,12 @@ impl Model for Desk {
     ghost use Rattle.mail_desk.specs.Desk.{IsDesk};
     ghost use Rattle.mail_desk.specs.Held.{Held, marks_kept};
     ghost use Rattle.mail_desk.specs.Timeline.{SizesOf};
-    ghost use Rattle.paradox.specs.Kept.{kept_from};
+    ghost use Rattle.store_kept.specs.Kept.{kept_from};
 
     ghost Value = { Held };
 
     ghost view = { λ d. record {
-      kept = kept_from d.house d.opening d.store.store d.timeline.items d.stamps d.next d.reports.items (marks_kept d.since d.taken d.shelf.marks);
+      kept = kept_from d.base d.store.store d.timeline.items d.stamps d.next d.reports.items (marks_kept d.since d.taken d.shelf.marks);
       notes = d.shelf.notes;
       marks = d.shelf.marks;
       room = record {
@@ -63,7 +65,7 @@ impl Model for Desk {
     } };
 
     ghost invariant = { λ d. record {
-      desk : IsDesk (kept_from d.house d.opening d.store.store d.timeline.items d.stamps d.next d.reports.items (marks_kept d.since d.taken d.shelf.marks));
+      desk : IsDesk (kept_from d.base d.store.store d.timeline.items d.stamps d.next d.reports.items (marks_kept d.since d.taken d.shelf.marks));
       sizes : SizesOf d.shelf.notes d.timeline.items;
     } };
 }
@@ -107,37 +109,23 @@ fn stamps_at_first(alloc: Global, store: &Store, first: u32) -> Result<Stamps, N
     }
 }
 
-/// The store on which nothing was done yet.
-fn first_store(alloc: Global, house: &House, conf: &Conf) -> Result<Store, NoMemory>
-    requires house { IsTrue (is_house house.now) }
-    requires aliases { IsTrue (list_all (λ a. list_all (is_known house.now) a.users) conf.now.aliases) }
-    requires filters { conf.now.filters ≡ [] }
-    ensures store { IfOk result (λ made. made.store ≡ store_at_first house.now conf.now) }
-    ensures valid { IfOk result (λ made. IsValid made.store) }
-{
-    match conf.copy(alloc) {
-        Ok(conf) => Store::opening(alloc, house, conf),
-        Err(NoMemory) => Err(NoMemory),
-    }
-}
-
 /// A desk of a store and stamps on which nothing was done yet.
-fn begun(alloc: Global, house: House, opening: Conf, store: Store, stamps: Stamps) -> Desk
-    requires house { IsTrue (is_house house) }
-    requires store { store.store ≡ store_at_first house opening }
+fn begun(alloc: Global, base: Base, store: Store, stamps: Stamps) -> Desk
+    requires house { IsTrue (is_house base.house) }
+    requires base { base ≡ opening_origin base.house base.opening }
+    requires store { store.store ≡ base.base }
     requires valid { IsValid store.store }
     requires stamps { stamps ≡ opening_stamps store.store }
-    requires aliases { IsTrue (list_all (λ a. list_all (is_known house) a.users) opening.aliases) }
-    requires filters { opening.filters ≡ [] }
-    ensures kept { result.kept ≡ new_desk house opening }
+    requires aliases { IsTrue (list_all (λ a. list_all (is_known base.house) a.users) base.opening.aliases) }
+    requires filters { base.opening.filters ≡ [] }
+    ensures kept { result.kept ≡ new_desk base.house base.opening }
     ensures notes { result.notes ≡ [] }
     ensures marks { result.marks ≡ [] }
 {
     stamps_name_mailboxes();
-    let next = house.first;
+    let next = base.house().first;
     Desk {
-        house,
-        opening,
+        base,
         store,
         timeline: Numbered::new(alloc),
         stamps,
@@ -150,21 +138,21 @@ fn begun(alloc: Global, house: House, opening: Conf, store: Store, stamps: Stamp
 }
 
 /// A desk of a store on which nothing was done yet.
-fn begun_over(alloc: Global, house: House, opening: Conf, store: Store) -> Result<Desk, NoMemory>
-    requires house { IsTrue (is_house house) }
-    requires store { store.store ≡ store_at_first house opening }
+fn begun_over(alloc: Global, base: Base, store: Store) -> Result<Desk, NoMemory>
+    requires house { IsTrue (is_house base.house) }
+    requires base { base ≡ opening_origin base.house base.opening }
+    requires store { store.store ≡ base.base }
     requires valid { IsValid store.store }
-    requires aliases { IsTrue (list_all (λ a. list_all (is_known house) a.users) opening.aliases) }
-    requires filters { opening.filters ≡ [] }
-    ensures kept { IfOk result (λ desk. desk.kept ≡ new_desk house opening) }
+    requires aliases { IsTrue (list_all (λ a. list_all (is_known base.house) a.users) base.opening.aliases) }
+    requires filters { base.opening.filters ≡ [] }
+    ensures kept { IfOk result (λ desk. desk.kept ≡ new_desk base.house base.opening) }
     ensures notes { IfOk result (λ desk. desk.notes ≡ []) }
     ensures marks { IfOk result (λ desk. desk.marks ≡ []) }
 {
-    match stamps_at_first(alloc, &store, house.first) {
-        Ok(stamps) => Ok(begun(alloc, house, opening, store, stamps)),
+    match stamps_at_first(alloc, &store, base.house().first) {
+        Ok(stamps) => Ok(begun(alloc, base, store, stamps)),
         Err(NoMemory) => {
-            drop(house);
-            drop(opening);
+            drop(base);
             drop(store);
             Err(NoMemory)
         }
@@ -181,14 +169,21 @@ impl Desk {
         ensures notes { IfOk result (λ desk. desk.notes ≡ []) }
         ensures marks { IfOk result (λ desk. desk.marks ≡ []) }
     {
-        match first_store(alloc, &house, &conf) {
-            Ok(store) => begun_over(alloc, house, conf, store),
+        let base = Base::new(house, conf);
+        match base.store(alloc) {
+            Ok(store) => begun_over(alloc, base, store),
             Err(NoMemory) => {
-                drop(house);
-                drop(conf);
+                drop(base);
                 Err(NoMemory)
             }
         }
+    }
+
+    /// What it begins with.
+    pub fn base(&self) -> &Base
+        ensures { result.now ≡ origin_of self.now.kept }
+    {
+        &self.base
     }
 
     /// What its configuration says for good.
@@ -196,14 +191,14 @@ impl Desk {
         ensures value { result.now ≡ self.now.kept.house }
         ensures sound { IsTrue (is_house result.now) }
     {
-        &self.house
+        self.base.house()
     }
 
     /// The configuration at first.
     pub fn opening(&self) -> &Conf
         ensures { result.now ≡ self.now.kept.opening }
     {
-        &self.opening
+        self.base.opening()
     }
 
     /// The configuration in force.
@@ -270,7 +265,7 @@ impl Desk {
     /// What holds of each desk: this does nothing.
     pub fn stands(&self)
         ensures house { IsTrue (is_house self.now.kept.house) }
-        ensures base { self.now.kept.base ≡ store_at_first self.now.kept.house self.now.kept.opening }
+        ensures base { HasBase self.now.kept }
         ensures aliases { IsTrue (list_all (λ a. list_all (is_known self.now.kept.house) a.users) self.now.kept.opening.aliases) }
         ensures filters { self.now.kept.opening.filters ≡ [] }
         ensures valid { IsValid (store_of self.now.kept) }
@@ -281,7 +276,7 @@ impl Desk {
         ensures fresh { AllByRecursion (λ (r : TheBoxId × ℕ). r.1 < self.now.kept.next) self.now.kept.stamps }
         ensures next { self.now.kept.next ≤ 4194304 }
         ensures reports { length self.now.kept.reports ≤ self.now.kept.next }
-        ensures texts { IsTrue (all_bodies (has_text self.now.kept.timeline) (store_of self.now.kept).boxes) }
+        ensures texts { IsTrue (all_bodies (has_text_kept self.now.kept) (store_of self.now.kept).boxes) }
         ensures sizes { SizesOf self.now.notes self.now.kept.timeline }
         ensures since { self.now.kept.marks.since ≤ self.now.kept.next }
         ensures places { self.now.kept.marks.places ≡ map (λ (m : ℕ × ThePlace). m.0) self.now.marks }

@@ -1,15 +1,19 @@
 //! What holds of every timeline. These functions do nothing: their contracts are laws of the definitions.
-ghost use Rattle.std.specs.Prelude.{◌≡◌, List, ◌++◌, map, IsTrue};
+ghost use Rattle.std.specs.Prelude.{◌≡◌, ℕ, ◌<◌, ◌≤◌, List, ◌++◌, map, IsTrue};
 ghost use Rattle.std.specs.List.{AllByRecursion, list_all};
 ghost use Rattle.verb_core.specs.declared.conf.Conf.{Conf};
 ghost use Rattle.verb_core.specs.declared.conf.House.{House};
 ghost use Rattle.verb_core.specs.declared.item.Item.{Item};
 ghost use Rattle.verb_core.specs.declared.mailbox.BoxId.{BoxId};
 ghost use Rattle.verb_core.specs.declared.mailbox.Mailbox.{Mailbox};
+ghost use Rattle.verb_core.specs.Fates.{IsBase};
 ghost use Rattle.verb_core.specs.Items.{IsWellFormed};
 ghost use Rattle.verb_core.specs.Step.{run};
 ghost use Rattle.verb_core.specs.Store.{MailStore, IsValid, is_house, is_known, opening as opening_store};
-ghost use Rattle.mail_desk.specs.Timeline.{all_bodies, has_text, unshown};
+ghost use Rattle.mail_desk.specs.Timeline.{has_text, unshown};
+ghost use Rattle.store_kept.specs.Bases.{Carries, HasBase};
+ghost use Rattle.store_kept.specs.Kept.{Kept, new_desk, performed};
+ghost use Rattle.store_kept.specs.Texts.{all_bodies, has_text_among};
 
 use verb_core::laws::{mail_is_kept, steps_keep_validity};
 
@@ -29,3 +33,13 @@ pub fn bodies_have_texts()
     steps_keep_validity();
     mail_is_kept();
 }
+
+/// The base carries what is kept: so does the opening store at first, and it goes on by each item of the next number and by
+/// whatever other items can stand on it. Each body in it has a text, whatever the items.
+pub fn bases_carry()
+    ensures opening { (house : House) (conf : Conf) → IsTrue (is_house house) → IsTrue (list_all (λ a. list_all (is_known house) a.users) conf.aliases) → HasBase (new_desk house conf) }
+    ensures item { (kept : Kept) (item : Item) → HasBase kept → IsWellFormed kept.house item → item.number ≡ kept.next → AllByRecursion (λ (i : Item). i.number < kept.next) kept.timeline →
+        HasBase (performed kept item) }
+    ensures other { (kept : Kept) (timeline : List Item) (next : ℕ) → HasBase kept → IsBase timeline kept.base → kept.next ≤ next → Carries kept.house kept.base timeline next }
+    ensures texts { (kept : Kept) (items : List Item) → HasBase kept → IsTrue (all_bodies (has_text_among kept items) kept.base.boxes) }
+{}

@@ -4,7 +4,7 @@
 //! `desk` has it and tells its parts, and `numbered` has its items, found by their numbers; `ready` finds what is asked for,
 //! makes room for it and enters it, with the stamps that `stamps` makes and finds; `remake` makes the outcome of a cycle ready
 //! and puts it in place; `texts` tells whether a body has a text, where it lies, and a notice's, the one text in memory;
-//! `noting` notes texts, `marking` where snapshots lie, and `counts` has what is counted and listed. What is kept is paradox's
+//! `noting` notes texts, `marking` where snapshots lie, and `counts` has what is counted and listed. What is kept is store_kept's
 //! `Kept`, of whole items; in specs/, `Desk` says what holds of it, `Timeline` its items, texts and notes, `Places` where the
 //! items stand by their numbers, `Noting` where texts lie after a cycle, `Stamping` the stamps after a deed, `Held` and
 //! `Entering` the room for the next item and snapshot, `Remaking` a cycle's outcome.

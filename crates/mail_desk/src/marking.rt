@@ -2,7 +2,7 @@
 ghost use Rattle.std.specs.Prelude.{◌≡◌, ℕ, ◌<◌, length, map, OnOk};
 ghost use Rattle.seal_log.specs.declared.place.Place.{Place as ThePlace};
 ghost use Rattle.shelf.specs.Marks.{MarksRise, marks_at_or_before as not_behind_of, with_mark};
-ghost use Rattle.paradox.specs.Kept.{not_behind, passed, snapshotted};
+ghost use Rattle.store_kept.specs.Kept.{not_behind, passed, snapshotted};
 ghost use Rattle.mail_desk.specs.Held.{CanMark, most_taken};
 
 use crate::Desk;

@@ -5,14 +5,16 @@ ghost use Rattle.verb_core.specs.declared.item.Item.{Item as TheItem};
 ghost use Rattle.verb_core.specs.declared.mailbox.Body.{Body as TheBody};
 ghost use Rattle.verb_core.specs.declared.mailbox.BoxId.{BoxId as TheBoxId};
 ghost use Rattle.verb_core.specs.declared.mailbox.Mailbox.{Mailbox as TheMailbox};
+ghost use Rattle.verb_core.specs.Fates.{IsBase};
 ghost use Rattle.verb_core.specs.Items.{IsTimeline, NumbersApart};
 ghost use Rattle.verb_core.specs.Store.{IsValid};
 ghost use Rattle.shelf.specs.Marks.{marks_at_or_before};
 ghost use Rattle.shelf.specs.Notes.{note_of};
-ghost use Rattle.paradox.specs.Kept.{rewound};
+ghost use Rattle.store_kept.specs.Kept.{rewound};
+ghost use Rattle.store_kept.specs.Texts.{all_bodies, has_text_among};
 ghost use Rattle.mail_desk.specs.Noting.{renoted};
 ghost use Rattle.mail_desk.specs.Remaking.{CanReplace, remade_as};
-ghost use Rattle.mail_desk.specs.Timeline.{SizesOf, all_bodies, has_text};
+ghost use Rattle.mail_desk.specs.Timeline.{SizesOf};
 
 use crate::Desk;
 use crate::noting::{Fresh, noted_anew};
@@ -158,13 +160,14 @@ impl Desk {
         requires house { store.store.house ≡ self.old.kept.house }
         requires valid { IsValid store.store }
         requires from { from ≤ length self.old.kept.timeline }
-        requires texts { IsTrue (all_bodies (has_text (take from self.old.kept.timeline ++ behind)) store.store.boxes) }
+        requires texts { IsTrue (all_bodies (has_text_among self.old.kept (take from self.old.kept.timeline ++ behind)) store.store.boxes) }
         requires timeline { IsTimeline self.old.kept.house (take from self.old.kept.timeline ++ behind) }
         requires below { AllByRecursion (λ (i : TheItem). i.number < next) (take from self.old.kept.timeline ++ behind) }
         requires named { map (λ (r : TheBoxId × ℕ). r.0) stamps ≡ map (λ (r : TheBoxId × TheMailbox). r.0) store.store.boxes }
         requires fresh { AllByRecursion (λ (r : TheBoxId × ℕ). r.1 < next) stamps }
         requires rises { self.old.kept.next + entered < next }
         requires next { next ≤ 4194304 }
+        requires base { IsBase (take from self.old.kept.timeline ++ behind) self.old.kept.base }
         ensures kept { self.new.kept ≡ self.old.kept }
         ensures same { self.new.notes ≡ self.old.notes }
         ensures marks { self.new.marks ≡ self.old.marks }

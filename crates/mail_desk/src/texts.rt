@@ -1,7 +1,8 @@
 //! The texts that items bring: whether a body has one, where it lies, and a notice's, which is in memory.
 ghost use Rattle.std.specs.Prelude.{◌≡◌, Some, None, List, ℕ, is_some, length, take, option_copied, option_map, if◌then◌else◌};
-ghost use Rattle.verb_core.specs.Items.{NumbersApart, text_of};
+ghost use Rattle.verb_core.specs.Items.{NumbersApart};
 ghost use Rattle.mail_desk.specs.Timeline.{has_text, notice_text_of, notice_told_by, noted_of, rev_of, told_by};
+ghost use Rattle.store_kept.specs.Texts.{has_text_among, has_text_kept, text_kept};
 
 use crate::Desk;
 use crate::numbered::Numbered;
@@ -91,14 +92,14 @@ fn find_rev(timeline: &Numbered, number: u32) -> Option<u32>
 impl Desk {
     /// Whether an item in force brings the text of a body. It takes no memory.
     pub fn has_text(&self, body: Body) -> bool
-        ensures { result ≡ has_text self.now.kept.timeline body }
+        ensures { result ≡ has_text_kept self.now.kept body }
     {
         is_told(&self.timeline, body)
     }
 
     /// Whether one of the first so many items in force brings the text of a body. It takes no memory.
     pub fn has_text_before(&self, body: Body, place: usize) -> bool
-        ensures { result ≡ has_text (take place self.now.kept.timeline) body }
+        ensures { result ≡ has_text_among self.now.kept (take place self.now.kept.timeline) body }
     {
         is_told_before(&self.timeline, body, place)
     }
@@ -106,7 +107,7 @@ impl Desk {
     /// The text of a body that a notice in force brings. It takes no memory.
     pub fn notice(&self, body: Body) -> Option<&Text>
         ensures value { option_copied result ≡ notice_text_of self.now.kept.timeline body }
-        ensures told { (text : List ℕ) → option_copied result ≡ Some text → text_of self.now.kept.timeline body ≡ Some text }
+        ensures told { (text : List ℕ) → option_copied result ≡ Some text → text_kept self.now.kept body ≡ Some text }
     {
         find_notice(&self.timeline, body)
     }
@@ -115,7 +116,7 @@ impl Desk {
     pub fn note(&self, body: Body) -> Option<Note>
         ensures value { result ≡ noted_of self.now.kept.timeline self.now.notes body }
         ensures size { option_map (λ note. note.length) result
-            ≡ (if is_some (notice_text_of self.now.kept.timeline body) then None else option_map length (text_of self.now.kept.timeline body)) }
+            ≡ (if is_some (notice_text_of self.now.kept.timeline body) then None else option_map length (text_kept self.now.kept body)) }
     {
         match self.notice(body) {
             Some(_) => None,

@@ -6,7 +6,7 @@ use Rattle.verb_core.specs.Live.{live}
 use Rattle.verb_core.specs.Store.{is_known}
 use Rattle.box_store.specs.Refusing.{IsRefusal}
 use Rattle.mail_desk.specs.Held.{Held}
-use Rattle.paradox.specs.Kept.{store_of}
+use Rattle.store_kept.specs.Kept.{store_of}
 use Rattle.mail_desk.proofs.Readied.{number_asked, number_left}
 use Rattle.mail_desk.proofs.desk.Desk.asked.Goals as goal
 

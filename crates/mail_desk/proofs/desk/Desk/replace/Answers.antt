@@ -3,7 +3,7 @@ use Rattle.verb_core.specs.declared.item.Item.{Item}
 use Rattle.verb_core.specs.declared.mailbox.Body.{Body}
 use Rattle.verb_core.specs.Items.{text_of}
 use Rattle.seal_log.specs.declared.place.Place.{Place}
-use Rattle.paradox.specs.Kept.{Kept, kept_from, not_behind}
+use Rattle.store_kept.specs.Kept.{Kept, kept_from, not_behind}
 use Rattle.shelf.specs.declared.note.Note.{Note}
 use Rattle.shelf.specs.Notes.{size_of}
 use Rattle.mail_desk.specs.Desk.{IsDesk}
@@ -14,14 +14,14 @@ use Rattle.mail_desk.proofs.desk.Desk.replace.Goals as goal
 -- what is kept is the outcome
 left_is : (c : goal.After-push_within) →
     let d = c.self.inside in
-    kept_from d.house d.opening c.put.new.place.store c.go_on.new.self.items c.put-2.new.place c.args.remade.next c.push_within.new.list.items
+    kept_from d.base c.put.new.place.store c.go_on.new.self.items c.put-2.new.place c.args.remade.next c.push_within.new.list.items
     (marks_kept (d.since + c.args.remade.entered) d.taken c.forget_after.new.self.marks)
-    ≡ remade_as (kept_from d.house d.opening d.store.store d.timeline.items d.stamps d.next d.reports.items (marks_kept d.since d.taken d.shelf.marks)) c.args.remade
+    ≡ remade_as (kept_from d.base d.store.store d.timeline.items d.stamps d.next d.reports.items (marks_kept d.since d.taken d.shelf.marks)) c.args.remade
 left_is c =
     let d = c.self.inside in
     let made = c.args.remade in
     let places = c.forget_after.ensures.positions ∙ ap (λ (ms : List (ℕ × Place)). not_behind made.place (map (λ (m : ℕ × Place). m.0) ms)) c.take_notes.ensures.marks in
-    λ j. kept_from d.house d.opening (c.put.ensures j).store (c.go_on.ensures j) (c.put-2.ensures j) made.next (c.push_within.ensures j)
+    λ j. kept_from d.base (c.put.ensures j).store (c.go_on.ensures j) (c.put-2.ensures j) made.next (c.push_within.ensures j)
     (record { since = d.since + made.entered; taken = d.taken; places = places j })
 
 pub go_on-requires-clause-from : goal.go_on-requires-clause-from

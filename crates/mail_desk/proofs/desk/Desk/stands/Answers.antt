@@ -7,4 +7,4 @@ use Rattle.mail_desk.proofs.desk.Desk.stands.Goals as goal
 pub returns-clause-timeline : goal.returns-clause-timeline
 returns-clause-timeline c =
     let desk = c.self.invariant.desk in
-    subst (λ (h : Held). IsTimeline h.kept.house h.kept.timeline) c.self.view_is (is_timeline c.self.inside.house c.self.inside.timeline.items desk.formed desk.apart)
+    subst (λ (h : Held). IsTimeline h.kept.house h.kept.timeline) c.self.view_is (is_timeline c.self.inside.base.house c.self.inside.timeline.items desk.formed desk.apart)

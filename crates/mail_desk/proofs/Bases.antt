@@ -1,0 +1,31 @@
+-- The base carries what is kept.
+use Rattle.std.proofs.Common.{◌≡◌, ℕ, ◌<◌, ◌≤◌, List, [], ◌∷◌, ◌++◌, arith, subst, sym}
+use Rattle.std.specs.List.{AllByRecursion}
+use Rattle.verb_core.specs.declared.conf.House.{House}
+use Rattle.verb_core.specs.declared.item.Item.{Item}
+use Rattle.verb_core.specs.Fates.{IsBase, IsFresh}
+use Rattle.verb_core.specs.Items.{IsWellFormed}
+use Rattle.store_kept.specs.Bases.{Carries, HasBase}
+use Rattle.store_kept.specs.Kept.{Kept, performed}
+use Rattle.mail_desk.proofs.Timelines.{all_on, apart_on, others_below}
+
+-- it goes on so by an item of the next number
+pub base_goes_on : (kept : Kept) (item : Item) → HasBase kept → IsWellFormed kept.house item → item.number ≡ kept.next → AllByRecursion (λ (i : Item). i.number < kept.next) kept.timeline → HasBase (performed kept item)
+base_goes_on kept item base formed number below = record {
+  house_is = base.house_is;
+  stands = record {
+    valid = base.stands.valid;
+    timeline = record {
+      formed = all_on (IsWellFormed kept.base.house) kept.timeline item base.stands.timeline.formed (subst (λ (h : House). IsWellFormed h item) (sym base.house_is) formed);
+      apart = apart_on kept.timeline item base.stands.timeline.apart (others_below kept.next kept.timeline item below number);
+    };
+    once = base.stands.once;
+    fresh = all_on (λ (i : Item). IsFresh i.number kept.base) kept.timeline item base.stands.fresh (base.beyond item.number (let same : item.number ≡ kept.next = number in omega arith));
+  };
+  beyond = λ n le. base.beyond n (omega (arith, le));
+  texts = base.texts;
+}
+
+-- and by whatever other items can stand on it
+pub base_stays : (kept : Kept) (timeline : List Item) (next : ℕ) → HasBase kept → IsBase timeline kept.base → kept.next ≤ next → Carries kept.house kept.base timeline next
+base_stays kept timeline next base stands le = record { house_is = base.house_is; stands = stands; beyond = λ n more. base.beyond n (omega (arith, le, more)); texts = base.texts }
