@@ -1,7 +1,9 @@
 -- What stays of the store and of revs when an item is performed.
-use Rattle.std.proofs.Common.{◌≡◌, ◌+◌, ◌<◌, ◌==◌, ◌&&◌, Bool, true, false, cond, arith, refl, sym, ◌∙◌, ap, [], ◌∷◌, Some, None, eqb-true}
+use Rattle.std.proofs.Common.{◌≡◌, ◌+◌, ◌<◌, ◌==◌, ◌&&◌, Bool, true, false, cond, arith, refl, sym, subst, ◌∙◌, ap, ap₂, [], ◌∷◌, length, Some, None, is_some, eqb-true}
+use Rattle.std.proofs.lemmas.Bool.{eq-eqb, le-leb, lt-ltb}
 use Rattle.std.specs.Cmp.{first_so}
 use Rattle.verb_core.specs.declared.item.Item.{Item}
+use Rattle.verb_core.specs.Items.{IsWellFormed, is_own, keys_in}
 use Rattle.verb_core.specs.Step.{step}
 use Rattle.verb_core.specs.Store.{MailStore}
 use Rattle.verb_core.proofs.Joins.{run_joined}
@@ -9,10 +11,10 @@ use Rattle.verb_bytes.specs.declared.journal.JournalRecord.TheVariants.{Verb}
 use Rattle.verb_bytes.specs.Fields.{◌&◌, actor_field, are_in_range, byte_field, moment_field, only_if, u32_field}
 use Rattle.verb_bytes.specs.Spelling.{HasSpelling, deed_fields, item_fields, shown_fields, shown_kind}
 use Rattle.verb_bytes.proofs.Puts.{others_in_range}
-use Rattle.paradox.specs.Kept.{IsRun, Kept, performed}
+use Rattle.store_kept.specs.Kept.{IsRun, Kept, performed}
 use Rattle.mail_desk.proofs.Timelines.{all_on, all_weaker}
 use Rattle.desk_journal.specs.Permanence.{RevsBelow}
-use Rattle.desk_journal.specs.Records.{after_record, can_follow, is_spelled}
+use Rattle.desk_journal.specs.Records.{after_record, agree, can_follow, is_formed, is_spelled}
 
 -- the store stays what the items leave
 pub item_runs : (kept : Kept) (i : Item) → IsRun kept → IsRun (performed kept i)
@@ -40,3 +42,26 @@ stood_rev kept new i is = by (is_spelled (Verb i)) (can_follow kept i) refl is
     by : (spelled can : Bool) → is_spelled (Verb i) ≡ spelled → cond (spelled && can) (Some (performed kept i)) None ≡ Some new → i.rev ≡ 0
     by true can e is = no_rev i e
     by false can e is = absurd (cc is)
+
+-- ---- an item that stands
+
+agree_same : (a b : Bool) → a ≡ b → agree a b ≡ true
+agree_same a b same = subst (λ (c : Bool). agree a c ≡ true) same (itself a)
+  where
+    itself : (c : Bool) → agree c c ≡ true
+    itself true = refl
+    itself false = refl
+
+both_so : (a b : Bool) → a ≡ true → b ≡ true → (a && b) ≡ true
+both_so a b x y = ap₂ (λ (c d : Bool). c && d) x y
+
+-- one of the next number that is well formed, where one is left, and whose record has a spelling
+pub item_stands : (kept : Kept) (i : Item) → is_spelled (Verb i) ≡ true → IsWellFormed kept.house i → i.number ≡ kept.next → kept.next < 4194304 → after_record kept (Verb i) ≡ Some (performed kept i)
+item_stands kept i spelled formed number left =
+    ap (λ (b : Bool). cond (b && can_follow kept i) (Some (performed kept i)) None) spelled ∙ ap (λ (b : Bool). cond b (Some (performed kept i)) None) follows
+  where
+    is : is_formed kept.house i ≡ true
+    is = both_so _ _ (both_so _ _ (both_so _ _ (agree_same (is_some i.by) (is_own i.deed) formed.by) formed.users) (le-leb (length (keys_in i.deed)) 65536 formed.few)) formed.form
+
+    follows : can_follow kept i ≡ true
+    follows = both_so _ _ (both_so _ _ (eq-eqb i.number kept.next number) (lt-ltb kept.next 4194304 left)) is

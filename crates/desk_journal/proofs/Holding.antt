@@ -12,10 +12,10 @@ use Rattle.seal_log.specs.Settled.{Holds, IsSettled}
 use Rattle.shelf.specs.declared.note.Note.{Note}
 use Rattle.mail_desk.specs.Held.{Held}
 use Rattle.mail_desk.specs.Timeline.{NotesText, body_of}
-use Rattle.paradox.specs.Kept.{IsRun, Kept, new_desk}
+use Rattle.store_kept.specs.Kept.{IsRun, Kept, new_desk}
 use Rattle.house_text.specs.Beginning.{can_begin}
 use Rattle.verb_bytes.specs.declared.journal.JournalRecord.{JournalRecord}
-use Rattle.verb_bytes.specs.declared.journal.JournalRecord.TheVariants.{Format, Verb, Operator, Cycle, Snapshot}
+use Rattle.verb_bytes.specs.declared.journal.JournalRecord.TheVariants.{Format}
 use Rattle.desk_journal.specs.Lasting.{Lasting}
 use Rattle.desk_journal.specs.Records.{first_state, is_spelled}
 use Rattle.desk_journal.specs.Permanence.{RevsBelow}
@@ -172,10 +172,7 @@ first_none (Format house conf) kept is = elim (is_spelled (Format house conf) &&
   | true ↦ λ e. let same : new_desk house conf ≡ kept = cc in ap (λ (k : Kept). k.timeline) (sym same)
   | false ↦ λ e. absurd (cc e)
 ] is
-first_none (Verb item) kept is = absurd (cc is)
-first_none (Operator number at act) kept is = absurd (cc is)
-first_none (Cycle number at ask) kept is = absurd (cc is)
-first_none (Snapshot items conf rows) kept is = absurd (cc is)
+first_none _ kept is = absurd (cc is)
 
 -- and no snapshot was taken
 pub first_unmarked : (what : JournalRecord) (kept : Kept) → first_state what ≡ Some kept → (kept.marks.places ≡ []) × IsRun kept
@@ -183,10 +180,7 @@ first_unmarked (Format house conf) kept is = elim (is_spelled (Format house conf
   | true ↦ λ e. let same : new_desk house conf ≡ kept = cc in subst (λ (k : Kept). (k.marks.places ≡ []) × IsRun k) same (refl, refl)
   | false ↦ λ e. absurd (cc e)
 ] is
-first_unmarked (Verb item) kept is = absurd (cc is)
-first_unmarked (Operator number at act) kept is = absurd (cc is)
-first_unmarked (Cycle number at ask) kept is = absurd (cc is)
-first_unmarked (Snapshot items conf rows) kept is = absurd (cc is)
+first_unmarked _ kept is = absurd (cc is)
 
 -- where no number is marked no snapshot is
 pub none_marked : (marks : List (ℕ × Place)) → map (λ (m : ℕ × Place). m.0) marks ≡ [] → marks ≡ []

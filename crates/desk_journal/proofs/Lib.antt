@@ -7,6 +7,7 @@ pub mod Noting
 pub mod Marking
 pub mod Holding
 pub mod Entering
+pub mod Truth
 pub mod Runs
 pub mod Sealed
 pub mod Submits

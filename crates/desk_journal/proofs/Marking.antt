@@ -12,7 +12,7 @@ use Rattle.verb_bytes.specs.Spelling.{HasSpelling, record_bytes}
 use Rattle.seal_log.specs.declared.place.Place.{Place}
 use Rattle.seal_log.specs.Journal.{LiesAt}
 use Rattle.shelf.specs.Marks.{marks_at_or_before, with_mark}
-use Rattle.paradox.specs.Kept.{IsRun, Kept}
+use Rattle.store_kept.specs.Kept.{IsRun, Kept}
 use Rattle.repair_desk.proofs.Points.{front, within}
 use Rattle.desk_journal.specs.Records.{snapshot_record}
 use Rattle.desk_journal.specs.Stored.{MarkLies, MarkedBefore, MarksLie, snapshot_at}

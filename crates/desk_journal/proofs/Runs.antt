@@ -1,5 +1,5 @@
 -- What runs of calls leave.
-use Rattle.std.proofs.Common.{◌≡◌, ◌≤◌, ◌⊎◌, inl, inr, ℕ, List, [], ◌∷◌, ◌++◌, take, Bool, true, false, ◌||◌, not, Option, Some, None, zero, suc, subst, sym, ap, refl, ◌∙◌}
+use Rattle.std.proofs.Common.{◌≡◌, ◌≤◌, ◌⊎◌, inl, inr, ℕ, List, [], ◌∷◌, ◌++◌, take, Bool, true, false, ◌||◌, not, Option, Some, None, zero, suc, subst, sym, ap, refl, ◌∙◌, append_assoc, append-nil}
 use Rattle.std.specs.Prelude.{is_some, IsSome, option_and_then}
 use Rattle.std.specs.List.{list_any}
 use Rattle.std.proofs.Math.Bool.{or-false}
@@ -12,16 +12,17 @@ use Rattle.seal_log.specs.Settled.{IsSettled}
 use Rattle.verb_core.specs.Names.{is_empty}
 use Rattle.verb_bytes.specs.declared.journal.JournalRecord.{JournalRecord}
 use Rattle.verb_bytes.specs.Spelling.{record_bytes}
-use Rattle.paradox.specs.Kept.{Kept}
+use Rattle.store_kept.specs.Kept.{Kept}
 use Rattle.desk_journal.specs.Crashing.{LeavesFront}
 use Rattle.desk_journal.specs.Lasting.{IsUnwritten, Lasting}
-use Rattle.desk_journal.specs.Records.{after_record, after_records, first_state, payloads_of, state}
+use Rattle.desk_journal.specs.Records.{after_record, after_records, all_true, are_true, first_state, payloads_of, state}
 use Rattle.desk_journal.specs.Reading.{IsStill}
-use Rattle.desk_journal.specs.Sealing.{HasNoCycle, Seals, SealsPayloads, is_cycle}
+use Rattle.desk_journal.specs.Sealing.{ReadNoTexts, Seals, SealsPayloads, reads_texts}
 use Rattle.desk_journal.specs.Stored.{HoldsTexts}
 use Rattle.desk_journal.proofs.Holding.{holds_same}
 use Rattle.desk_journal.proofs.Payloads.{none_read, payloads_then}
 use Rattle.desk_journal.proofs.Staying.{holds_on, settled_on}
+use Rattle.desk_journal.proofs.Truth.{journal_more, true_append, true_front}
 
 -- ---- what records leave
 
@@ -57,10 +58,10 @@ after_front kept (r ∷ rs) (suc count) can = step (λ next. after_front next rs
 
 -- ---- what calls seal
 
--- where no record of two lists is a cycle's, none of each is
-none_of_both : (a b : List JournalRecord) → HasNoCycle (a ++ b) → HasNoCycle a × HasNoCycle b
+-- where no record of two lists reads texts, none of each does
+none_of_both : (a b : List JournalRecord) → ReadNoTexts (a ++ b) → ReadNoTexts a × ReadNoTexts b
 none_of_both [] b none = (refl, none)
-none_of_both (r ∷ a) b none = elim (is_cycle r) as (λ (x : Bool). (x || list_any is_cycle (a ++ b)) ≡ false → ((x || list_any is_cycle a) ≡ false) × (list_any is_cycle b ≡ false)) [
+none_of_both (r ∷ a) b none = elim (reads_texts r) as (λ (x : Bool). (x || list_any reads_texts (a ++ b)) ≡ false → ((x || list_any reads_texts a) ≡ false) × (list_any reads_texts b ≡ false)) [
   | true ↦ λ e. absurd (let wrong : ◌≡◌ {A = Bool} true false = e in cc)
   | false ↦ λ e. none_of_both a b e
 ] none
@@ -78,6 +79,7 @@ module _ {D : Type 0} (told : D → DiskTold) where
     kept = λ h. ap Some (sym still.kept);
     house = ap (λ (k : Kept). k.house) still.kept;
     could = refl;
+    truth = λ h. refl;
     closed = still.closed ∙ sym (or-false a.closed);
     on_disk = subst (λ (n : ℕ). SealsPayloads [] [] (told a.disk) (told b.disk) a.gate n) (sym still.gate) (none_read (told a.disk) (told b.disk) a.gate still.reads);
     texts = still_holds a b still;
@@ -91,18 +93,31 @@ module _ {D : Type 0} (told : D → DiskTold) where
         kept = λ h. ap Some (sym same.kept);
         house = ap (λ (k : Kept). k.house) same.kept;
         could = refl;
+        truth = λ h. refl;
         closed = same.closed ∙ sym (or-false a.closed);
         on_disk = subst (λ (n : ℕ). SealsPayloads [] [] (told a.disk) (told b.disk) a.gate n) (sym same.gate) (none_read (told a.disk) (told b.disk) a.gate reads);
         texts = holds_same told a b same.kept same.notes same.marks same.closed (λ payloads. holds_on (told a.disk) (told b.disk) payloads reads)
             (λ payloads s. subst (λ (n : ℕ). IsSettled (told b.disk) n payloads) (sym same.gate) (settled_on (told a.disk) (told b.disk) a.gate payloads reads s));
       }
 
-  then_kept : (added more failed : List JournalRecord) (a b c : Lasting D) → Seals told added [] a b → Seals told more failed b c → HoldsTexts told a ⊎ HasNoCycle (added ++ more)
+  then_kept : (added more failed : List JournalRecord) (a b c : Lasting D) → Seals told added [] a b → Seals told more failed b c → HoldsTexts told a ⊎ ReadNoTexts (added ++ more)
       → after_records a.kept (added ++ more) ≡ Some c.kept
   then_kept added more failed a b c first second (inl holds) =
       after_append a.kept added more ∙ ap (option_and_then (λ (k : Kept). after_records k more)) (first.kept (inl holds)) ∙ second.kept (inl (first.texts holds))
   then_kept added more failed a b c first second (inr none) =
       after_append a.kept added more ∙ ap (option_and_then (λ (k : Kept). after_records k more)) (first.kept (inr (none_of_both added more none).0)) ∙ second.kept (inr (none_of_both added more none).1)
+
+  then_true : (added more failed : List JournalRecord) (a b c : Lasting D) → Seals told added [] a b → Seals told more failed b c → HoldsTexts told a ⊎ ReadNoTexts (added ++ more)
+      → all_true a.kept (added ++ more ++ failed) ≡ true
+  then_true added more failed a b c first second why = subst (λ (l : List JournalRecord). all_true a.kept l ≡ true) (sym (append_assoc added more failed)) (by why)
+    where
+      both : HoldsTexts told a ⊎ ReadNoTexts added → HoldsTexts told b ⊎ ReadNoTexts more → all_true a.kept (added ++ (more ++ failed)) ≡ true
+      both one two =
+          true_append a.kept b.kept added (more ++ failed) (first.kept one) (subst (λ (l : List JournalRecord). all_true a.kept l ≡ true) (append-nil added) (first.truth one)) (second.truth two)
+
+      by : HoldsTexts told a ⊎ ReadNoTexts (added ++ more) → all_true a.kept (added ++ (more ++ failed)) ≡ true
+      by (inl holds) = both (inl holds) (inl (first.texts holds))
+      by (inr none) = let apart = none_of_both added more none in both (inr apart.0) (inr apart.1)
 
   -- one run after the other
   pub seals_then : (added more failed : List JournalRecord) (a b c : Lasting D) → Seals told added [] a b → Seals told more failed b c → Seals told (added ++ more) failed a c
@@ -110,6 +125,7 @@ module _ {D : Type 0} (told : D → DiskTold) where
     kept = then_kept added more failed a b c first second;
     house = second.house ∙ first.house;
     could = second.could;
+    truth = then_true added more failed a b c first second;
     closed = second.closed ∙ ap (λ (x : Bool). x || not (is_empty failed)) (first.closed ∙ or-false a.closed);
     on_disk = subst (λ (l : List (List ℕ)). SealsPayloads l (payloads_of failed) (told a.disk) (told c.disk) a.gate c.gate) (sym (map-append record_bytes added more))
         (payloads_then (payloads_of added) (payloads_of more) (payloads_of failed) (told a.disk) (told b.disk) (told c.disk) a.gate b.gate c.gate first.on_disk second.on_disk);
@@ -117,15 +133,15 @@ module _ {D : Type 0} (told : D → DiskTold) where
   }
 
   -- what was sealed is what the journal's records leave
-  pub seals_state : (records added : List JournalRecord) (a b : Lasting D) → state records ≡ Some a.kept → HoldsTexts told a ⊎ HasNoCycle added → Seals told added [] a b → state (records ++ added) ≡ Some b.kept
+  pub seals_state : (records added : List JournalRecord) (a b : Lasting D) → state records ≡ Some a.kept → HoldsTexts told a ⊎ ReadNoTexts added → Seals told added [] a b → state (records ++ added) ≡ Some b.kept
   seals_state records added a b e as_stored seals = state_append records added a.kept e ∙ seals.kept as_stored
 
   -- all that was to be sealed could stand
-  all_stand : (added failed : List JournalRecord) (a b : Lasting D) → HoldsTexts told a ⊎ HasNoCycle added → Seals told added failed a b → IsSome (after_records a.kept (added ++ failed))
+  all_stand : (added failed : List JournalRecord) (a b : Lasting D) → HoldsTexts told a ⊎ ReadNoTexts added → Seals told added failed a b → IsSome (after_records a.kept (added ++ failed))
   all_stand added failed a b as_stored seals = ap is_some (after_append a.kept added failed ∙ ap (option_and_then (λ (k : Kept). after_records k failed)) (seals.kept as_stored)) ∙ seals.could
 
   -- what a crash leaves can stand
-  pub crash_leaves : (records added failed : List JournalRecord) (a b : Lasting D) (image : List ℕ) → state records ≡ Some a.kept → HoldsTexts told a ⊎ HasNoCycle added → Seals told added failed a b
+  pub crash_leaves : (records added failed : List JournalRecord) (a b : Lasting D) (image : List ℕ) → state records ≡ Some a.kept → HoldsTexts told a ⊎ ReadNoTexts added → Seals told added failed a b
       → StandsForFront (payloads_of records) (payloads_of (added ++ failed)) image → LeavesFront records (added ++ failed) image
   crash_leaves records added failed a b image e as_stored seals front =
       let count = front.count in
@@ -144,3 +160,16 @@ module _ {D : Type 0} (told : D → DiskTold) where
       some_of : (found : Option Kept) → IsSome found → (kept : Kept) × (found ≡ Some kept)
       some_of None can = cc
       some_of (Some kept) can = (kept, refl)
+
+  -- ---- what is true stays true
+
+  -- true records, and those that were sealed behind them, and the one whose sealing failed
+  pub records_stay_true : (records added failed : List JournalRecord) (a b : Lasting D) → state records ≡ Some a.kept → HoldsTexts told a ⊎ ReadNoTexts added → Seals told added failed a b → are_true records ≡ true
+      → are_true (records ++ (added ++ failed)) ≡ true
+  records_stay_true records added failed a b e as_stored seals truth = journal_more records (added ++ failed) a.kept e truth (seals.truth as_stored)
+
+  -- and as many of them as a crash leaves
+  pub crash_stays_true : (records added failed : List JournalRecord) (a b : Lasting D) (count : ℕ) → state records ≡ Some a.kept → HoldsTexts told a ⊎ ReadNoTexts added → Seals told added failed a b → are_true records ≡ true
+      → are_true (records ++ take count (added ++ failed)) ≡ true
+  crash_stays_true records added failed a b count e as_stored seals truth =
+      journal_more records (take count (added ++ failed)) a.kept e truth (true_front a.kept (added ++ failed) count (seals.truth as_stored))

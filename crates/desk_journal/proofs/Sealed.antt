@@ -12,18 +12,19 @@ use Rattle.verb_core.specs.declared.mailbox.Body.{Body}
 use Rattle.verb_bytes.specs.declared.journal.JournalRecord.{JournalRecord}
 use Rattle.verb_bytes.specs.Spelling.{record_bytes}
 use Rattle.shelf.specs.declared.note.Note.{Note}
-use Rattle.paradox.specs.Kept.{IsRun, Kept, performed}
+use Rattle.store_kept.specs.Kept.{IsRun, Kept, performed}
 use Rattle.mail_desk.specs.Held.{Held}
 use Rattle.desk_journal.specs.Lasting.{JournalTold, Lasting, lasting}
 use Rattle.desk_journal.specs.Permanence.{RevsBelow}
 use Rattle.desk_journal.specs.Reading.{IsStill}
-use Rattle.desk_journal.specs.Records.{after_record, after_records}
-use Rattle.desk_journal.specs.Sealing.{HasNoCycle, IsRecordOf, Seals, SealsPayloads}
+use Rattle.desk_journal.specs.Records.{after_record, after_records, all_true, is_true}
+use Rattle.desk_journal.specs.Sealing.{ReadNoTexts, IsRecordOf, Seals, SealsPayloads}
 use Rattle.desk_journal.specs.Stored.{HoldsTexts, MarkedBefore, MarksLie, NotedBefore, NotesTexts, TextsLie}
 use Rattle.desk_journal.specs.Telling.{IsOnlyRead}
 use Rattle.desk_journal.proofs.Holding.{holds_closed, holds_same, holds_sealed, noted_later}
 use Rattle.desk_journal.proofs.Marking.{marked_later, marks_entered}
 use Rattle.desk_journal.proofs.Entering.{item_revs, item_runs}
+use Rattle.desk_journal.proofs.Truth.{one_true}
 
 -- ---- notes
 
@@ -91,31 +92,33 @@ module _ {D : Type 0} (told : D → DiskTold) where
   -- ---- what was sealed
 
   -- one record
-  pub seals_one : (what : JournalRecord) (bytes : List ℕ) (before after : Held) (old new : JournalTold D) → record_bytes what ≡ bytes
+  pub seals_one : (what : JournalRecord) (bytes : List ℕ) (before after : Held) (old new : JournalTold D) → record_bytes what ≡ bytes → is_true before.kept what ≡ true
       → SealsPayloads (bytes ∷ []) [] (told old.disk) (told new.disk) old.gate new.gate → old.closed ≡ false → new.closed ≡ false
       → after.kept.house ≡ before.kept.house
-      → (HoldsTexts told (lasting before old) ⊎ HasNoCycle (what ∷ []) → after_record before.kept what ≡ Some after.kept)
+      → (HoldsTexts told (lasting before old) ⊎ ReadNoTexts (what ∷ []) → after_record before.kept what ≡ Some after.kept)
       → (HoldsTexts told (lasting before old) → HoldsTexts told (lasting after new))
       → Seals told (what ∷ []) [] (lasting before old) (lasting after new)
-  seals_one what bytes before after old new bytes_are seals open_ still house can texts = record {
+  seals_one what bytes before after old new bytes_are truth seals open_ still house can texts = record {
     kept = λ why. ap (option_and_then Some) (can why);
     house = house;
     could = refl;
+    truth = λ why. one_true before.kept what truth;
     closed = still ∙ sym (ap (λ b. b || false) open_);
     on_disk = subst (λ (b : List ℕ). SealsPayloads (b ∷ []) [] (told old.disk) (told new.disk) old.gate new.gate) (sym bytes_are) seals;
     texts = texts;
   }
 
   -- the sealing of a record failed
-  pub seals_failed : (what : JournalRecord) (bytes : List ℕ) (before after : Held) (old new : JournalTold D) → record_bytes what ≡ bytes
+  pub seals_failed : (what : JournalRecord) (bytes : List ℕ) (before after : Held) (old new : JournalTold D) → record_bytes what ≡ bytes → is_true before.kept what ≡ true
       → SealsPayloads [] (bytes ∷ []) (told old.disk) (told new.disk) old.gate new.gate → old.closed ≡ false → new.closed ≡ true
       → after.kept ≡ before.kept → after.notes ≡ before.notes → after.marks ≡ before.marks → IsSome (after_record before.kept what)
       → ((payloads : List (List ℕ)) → IsSettled (told old.disk) old.gate payloads → Holds (told new.disk) payloads)
       → Seals told [] (what ∷ []) (lasting before old) (lasting after new)
-  seals_failed what bytes before after old new bytes_are seals open_ shut kept notes marks can held = record {
+  seals_failed what bytes before after old new bytes_are truth seals open_ shut kept notes marks can held = record {
     kept = λ why. ap Some (sym kept);
     house = ap (λ (k : Kept). k.house) kept;
     could = could (after_record after.kept what) (subst (λ (k : Kept). IsSome (after_record k what)) (sym kept) can);
+    truth = λ why. one_true before.kept what truth;
     closed = shut ∙ sym (ap (λ b. b || true) open_);
     on_disk = subst (λ (b : List ℕ). SealsPayloads [] (b ∷ []) (told old.disk) (told new.disk) old.gate new.gate) (sym bytes_are) seals;
     texts = holds_closed told (lasting before old) (lasting after new) kept notes marks open_ shut held;
@@ -132,6 +135,7 @@ module _ {D : Type 0} (told : D → DiskTold) where
     kept = λ why. ap Some (sym kept);
     house = ap (λ (k : Kept). k.house) kept;
     could = refl;
+    truth = λ why. refl;
     closed = still ∙ sym (ap (λ b. b || false) open_);
     on_disk = seals;
     texts = texts_none before after old new seals open_ kept notes marks;
@@ -144,12 +148,13 @@ module _ {D : Type 0} (told : D → DiskTold) where
     kept = λ why. subst (λ (k : Kept). after_records k added ≡ Some new.kept) kept (seals.kept (moved why));
     house = seals.house ∙ ap (λ (k : Kept). k.house) kept;
     could = seals.could;
+    truth = λ why. subst (λ (k : Kept). all_true k (added ++ failed) ≡ true) kept (seals.truth (moved why));
     closed = seals.closed;
     on_disk = seals.on_disk;
     texts = λ holds. seals.texts (texts_moved before after journal kept notes marks holds);
   }
     where
-      moved : HoldsTexts told (lasting before journal) ⊎ HasNoCycle added → HoldsTexts told (lasting after journal) ⊎ HasNoCycle added
+      moved : HoldsTexts told (lasting before journal) ⊎ ReadNoTexts added → HoldsTexts told (lasting after journal) ⊎ ReadNoTexts added
       moved (inl holds) = inl (texts_moved before after journal kept notes marks holds)
       moved (inr none) = inr none
 
@@ -162,7 +167,7 @@ module _ {D : Type 0} (told : D → DiskTold) where
       → Seals told (what ∷ []) [] (lasting before old) (lasting after new)
   item_sealed what bytes item before after old new none made seals open_ still done same noted =
       let can : after_record before.kept what ≡ Some after.kept = made.can_stand ∙ ap Some (sym done) in
-      seals_one what bytes before after old new made.bytes_are seals open_ still (ap (λ (k : Kept). k.house) done) (λ why. can)
+      seals_one what bytes before after old new made.bytes_are made.truth seals open_ still (ap (λ (k : Kept). k.house) done) (λ why. can)
       (λ holds. holds_sealed told (lasting before old) (lasting after new) bytes lies_longer open_ (λ payloads settled. seals.settled payloads settled refl)
       (λ payloads lies all. noted.lie payloads lies all) (λ revs. subst RevsBelow (sym done) (item_revs before.kept item none revs))
       (λ runs. subst IsRun (sym done) (item_runs before.kept item runs))

@@ -3,7 +3,6 @@ use Rattle.std.proofs.Common.{◌≡◌, ℕ, ◌+◌, ◌≤◌, ◌&&◌, Bool
 use Rattle.std.proofs.lemmas.Bool.{eq-eqb}
 use Rattle.undo_outside.specs.Disk.{DiskTold}
 use Rattle.verb_core.specs.Store.{IsValid}
-use Rattle.verb_core.proofs.BoxLaws.{bytes_eq-refl}
 use Rattle.verb_bytes.specs.Spelling.{record_bytes}
 use Rattle.seal_log.specs.declared.fault.SealFault.{SealFault}
 use Rattle.seal_log.specs.declared.fault.SealFault.TheVariants as log_faults
@@ -14,7 +13,7 @@ use Rattle.shelf.specs.declared.note.Note.{Note}
 use Rattle.verb_core.specs.declared.mailbox.Body.{Body}
 use Rattle.box_store.specs.Making.{makes_store, store_of_rows}
 use Rattle.mail_desk.specs.Held.{Held}
-use Rattle.paradox.specs.Kept.{IsRun, Kept, passed, snapshotted, store_of}
+use Rattle.store_kept.specs.Kept.{IsRun, Kept, passed, snapshotted, store_of}
 use Rattle.desk_journal.specs.Lasting.{JournalTold, Lasting, lasting}
 use Rattle.desk_journal.specs.Permanence.{RevsBelow}
 use Rattle.desk_journal.specs.Records.{after_kept, after_record, can_keep, is_spelled, snapshot_record}
@@ -24,6 +23,7 @@ use Rattle.desk_journal.specs.Submitting.{SealsNone, Snapshots, SnapshotsNone}
 use Rattle.desk_journal.proofs.Holding.{holds_sealed, noted_later}
 use Rattle.desk_journal.proofs.Marking.{marked_later, marks_kept, marks_snapshotted, marks_with}
 use Rattle.desk_journal.proofs.Sealed.{lies_longer, seals_from, seals_one}
+use Rattle.desk_journal.proofs.Truth.{snapshot_true}
 
 -- the snapshot of what is kept can stand, where the store is valid and of the house: it is true
 pub snapshot_stands : (kept : Kept) → makes_store kept.house (store_of kept).conf (store_of kept).boxes ≡ true → is_spelled (snapshot_record kept) ≡ true
@@ -32,7 +32,7 @@ snapshot_stands kept makes spelled =
     ap (λ (b : Bool). cond (b && can_keep kept (length kept.timeline) (store_of kept).conf (store_of kept).boxes) (Some (after_kept kept (snapshot_record kept))) None) spelled
     ∙ ap (λ (b : Bool). cond (b && makes_store kept.house (store_of kept).conf (store_of kept).boxes) (Some (after_kept kept (snapshot_record kept))) None) (eq-eqb (length kept.timeline) (length kept.timeline) refl)
     ∙ ap (λ (b : Bool). cond b (Some (after_kept kept (snapshot_record kept))) None) makes
-    ∙ ap (λ (b : Bool). Some (cond b (snapshotted kept) (record kept { marks = passed kept.marks }))) (bytes_eq-refl (record_bytes (snapshot_record kept)))
+    ∙ ap (λ (b : Bool). Some (cond b (snapshotted kept) (record kept { marks = passed kept.marks }))) (snapshot_true kept)
 
 -- the store of what is kept is one of its house
 pub store_is_made : (kept : Kept) → (store_of kept).house ≡ kept.house → IsValid (store_of kept) → IsValid (store_of_rows kept.house (store_of kept).conf (store_of kept).boxes)
@@ -40,7 +40,7 @@ store_is_made kept house valid = subst (λ h. IsValid (store_of_rows h (store_of
 
 pub snapshot_record_of : (kept : Kept) (bytes : List ℕ) → bytes ≡ record_bytes (snapshot_record kept) → makes_store kept.house (store_of kept).conf (store_of kept).boxes ≡ true → is_spelled (snapshot_record kept) ≡ true
     → IsRecordTo (snapshot_record kept) bytes kept (snapshotted kept)
-snapshot_record_of kept bytes is makes spelled = record { bytes_are = sym is; can_stand = snapshot_stands kept makes spelled }
+snapshot_record_of kept bytes is makes spelled = record { bytes_are = sym is; can_stand = snapshot_stands kept makes spelled; truth = snapshot_true kept }
 
 -- each text is noted before the later gate
 pub noted_snapshot : (gate next : ℕ) (bytes : List ℕ) (before after : Held) → next ≡ gate + 5 + length bytes → after.kept ≡ snapshotted before.kept → after.notes ≡ before.notes
@@ -64,7 +64,7 @@ module _ {D : Type 0} (told : D → DiskTold) where
       → Seals told (snapshot_record before.kept ∷ []) [] (lasting before old) (lasting after new)
   snapshot_sealed bytes before after old new made spelled seals open_ still done notes marks =
       let kept = before.kept in
-      seals_one told (snapshot_record kept) bytes before after old new made.bytes_are seals open_ still (ap (λ (k : Kept). k.house) done)
+      seals_one told (snapshot_record kept) bytes before after old new made.bytes_are made.truth seals open_ still (ap (λ (k : Kept). k.house) done)
       (λ why. made.can_stand ∙ ap Some (sym done))
       (holds_sealed told (lasting before old) (lasting after new) bytes lies_longer open_ (λ payloads settled. seals.settled payloads settled refl)
       (λ payloads lies all. subst (λ n. TextsLie payloads n after.kept.timeline) (sym notes) (subst (λ (k : Kept). TextsLie payloads before.notes k.timeline) (sym done) all))

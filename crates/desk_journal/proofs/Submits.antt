@@ -12,7 +12,7 @@ use Rattle.verb_core.specs.declared.item.Act.{Act}
 use Rattle.verb_core.specs.declared.item.Item.{Item}
 use Rattle.verb_bytes.specs.declared.journal.JournalRecord.{JournalRecord}
 use Rattle.verb_bytes.specs.declared.journal.JournalRecord.TheVariants.{Verb, Operator}
-use Rattle.paradox.specs.Kept.{performed, Kept}
+use Rattle.store_kept.specs.Kept.{performed, Kept}
 use Rattle.mail_desk.specs.Desk.{submitted_as}
 use Rattle.mail_desk.specs.Held.{Held}
 use Rattle.desk_journal.specs.declared.fault.ActFault.{ActFault}
@@ -62,7 +62,7 @@ module _ {D X : Type 0} (told : D → DiskTold) where
   pub not_sealed : (what : JournalRecord) (bytes : List ℕ) (next : Kept) (before after : Held) (old new : JournalTold D) (fault : SealFault) → IsRecordTo what bytes before.kept next → after.kept ≡ before.kept → after.notes ≡ before.notes → after.marks ≡ before.marks
       → old.closed ≡ false → SealsBytes {X = X} told bytes old new (Err fault) → SealsNone told what (lasting before old) (lasting after new) fault
   not_sealed what bytes next before after old new log_faults.Disk made kept notes marks open_ sealed =
-      seals_failed told what bytes before after old new made.bytes_are (sealed.failed refl) open_ (sealed.closes refl) kept notes marks (some_after what bytes before.kept next made) sealed.held
+      seals_failed told what bytes before after old new made.bytes_are made.truth (sealed.failed refl) open_ (sealed.closes refl) kept notes marks (some_after what bytes before.kept next made) sealed.held
   not_sealed what bytes next before after old new log_faults.NoMemory made kept notes marks open_ sealed =
       seals_none told before after old new (sealed.no_memory refl) open_ (sealed.open_again refl) kept notes marks
   not_sealed what bytes next before after old new log_faults.Closed made kept notes marks open_ sealed = sealed.never refl

@@ -1,7 +1,7 @@
 -- What a crash leaves of a run of calls.
 use Rattle.std.specs.Prelude.{◌≡◌, ◌≤◌, ℕ, List, ◌++◌, length, take, Some}
 use Rattle.verb_bytes.specs.declared.journal.JournalRecord.{JournalRecord}
-use Rattle.paradox.specs.Kept.{Kept}
+use Rattle.store_kept.specs.Kept.{Kept}
 use Rattle.desk_journal.specs.Records.{StandsForRecords, state}
 
 -- the image stands for the records from before and the first of the others, and each of them can stand

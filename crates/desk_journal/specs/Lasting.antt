@@ -6,7 +6,7 @@ use Rattle.seal_log.specs.declared.place.Place.{Place}
 use Rattle.seal_log.specs.declared.log.Log.{Log}
 use Rattle.seal_log.specs.Log.{last_gate}
 use Rattle.mail_desk.specs.Held.{Held, Room}
-use Rattle.paradox.specs.Kept.{Kept}
+use Rattle.store_kept.specs.Kept.{Kept}
 
 -- what is kept, where each text lies, where each snapshot from which a cycle can begin, by the number of items that it holds, and
 -- the room that was made; the disk, the place of the journal's last gate, and whether a write or a sync failed

@@ -1,5 +1,6 @@
 pub mod Lasting
 pub mod Stored
+pub mod Sameness
 pub mod Records
 pub mod Reading
 pub mod Sealing

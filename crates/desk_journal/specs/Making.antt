@@ -10,7 +10,7 @@ use Rattle.seal_log.specs.Journal.{frame}
 use Rattle.seal_log.specs.declared.log.Log.{Log}
 use Rattle.seal_log.specs.Log.{last_gate}
 use Rattle.seal_log.specs.Settled.{IsSettled}
-use Rattle.paradox.specs.Kept.{Kept}
+use Rattle.store_kept.specs.Kept.{Kept}
 use Rattle.desk_journal.specs.declared.fault.MakeFault.{MakeFault}
 use Rattle.desk_journal.specs.declared.fault.MakeFault.TheVariants.{NotEmpty, Disk, NoMemory}
 use Rattle.desk_journal.specs.Records.{payloads_of, state}

@@ -1,5 +1,5 @@
 -- What a mail client goes by that keeps mail by UID, and what holds of all that is ever kept.
-use Rattle.std.specs.Prelude.{◌≡◌, ℕ, ◌<◌, ◌==◌, Bool, false, List, map, find, Option, None, option_map, IsTrue, if◌then◌else◌}
+use Rattle.std.specs.Prelude.{◌≡◌, ℕ, ◌+◌, ◌<◌, ◌==◌, Bool, false, List, [], ◌∷◌, ◌++◌, length, map, find, Option, None, option_map, IsTrue, if◌then◌else◌}
 use Rattle.std.specs.List.{AllByRecursion, list_all}
 use Rattle.std.specs.Option.{option_map_or}
 use Rattle.undo_base.specs.declared.keys.Key.{Key}
@@ -9,11 +9,13 @@ use Rattle.verb_core.specs.declared.mailbox.BoxId.{BoxId}
 use Rattle.verb_core.specs.declared.mailbox.Entry.{Entry}
 use Rattle.verb_core.specs.declared.mailbox.Mailbox.{Mailbox}
 use Rattle.verb_core.specs.Boxes.{mail_at}
-use Rattle.verb_core.specs.Fates.{HasOneFate, times_given}
-use Rattle.verb_core.specs.Items.{IsTimeline, text_of}
+use Rattle.verb_core.specs.Fates.{places_of, takers, times_given}
+use Rattle.verb_core.specs.Items.{IsTimeline}
 use Rattle.verb_core.specs.Step.{run}
-use Rattle.verb_core.specs.Store.{is_house, is_known, opening}
-use Rattle.paradox.specs.Kept.{IsRun, Kept, stamp_at, store_of}
+use Rattle.verb_core.specs.Store.{is_house, is_known}
+use Rattle.store_kept.specs.Bases.{HasBase}
+use Rattle.store_kept.specs.Kept.{IsRun, Kept, stamp_at, store_of}
+use Rattle.store_kept.specs.Texts.{text_kept}
 
 -- ---- messages by UID
 
@@ -24,7 +26,7 @@ pub record Message : Type 0 where
 
 -- the message of an entry
 abbrev pub message_of : Kept → Entry → Message
-message_of kept e = record { key = e.key; text = text_of kept.timeline e.body }
+message_of kept e = record { key = e.key; text = text_kept kept e.body }
 
 -- whether the mailbox has this stamp, its UIDVALIDITY
 abbrev pub has_stamp : Kept → BoxId → ℕ → Bool
@@ -40,12 +42,12 @@ message_at kept id stamp uid = if has_stamp kept id stamp then option_map (messa
 
 -- ---- what holds of all that is kept
 
--- It began with the opening store of a house, and the store is what its items leave; they are well formed, with distinct numbers
--- below the next one; its stamps name the mailboxes, and are below the next number too.
+-- The base carries it, and the store is what its items leave; they are well formed, with distinct numbers below the next one; its
+-- stamps name the mailboxes, and are below the next number too.
 pub record IsSound (kept : Kept) : Type 0 where
   pub house : IsTrue (is_house kept.house)
   pub aliases : IsTrue (list_all (λ a. list_all (is_known kept.house) a.users) kept.opening.aliases)
-  pub base : kept.base ≡ opening kept.house kept.opening
+  pub base : HasBase kept
   pub runs : IsRun kept
   pub timeline : IsTimeline kept.house kept.timeline
   pub below : AllByRecursion (λ (i : Item). i.number < kept.next) kept.timeline
@@ -58,7 +60,11 @@ RevsBelow kept = AllByRecursion (λ (i : Item). i.rev < kept.next) kept.timeline
 
 -- ---- what becomes of messages
 
--- an item of the timeline gives a user one message of a key, and that has one fate: in the end it lies in one mailbox under
--- one UID, or one later item took it out
+-- of a message that an item of the timeline gives to a user: in the store that is kept it lies in one mailbox under one UID, or
+-- one of the later items took it out
+abbrev pub IsAccounted : Kept → List Item → Item → List Item → User → Key → Type 0
+IsAccounted kept before i later u key = length (places_of u key (store_of kept).boxes) + length (takers u key (run kept.base (before ++ i ∷ [])) later) ≡ 1
+
+-- an item of the timeline gives a user one message of a key, and that has one fate
 abbrev pub Arrives : Kept → List Item → Item → List Item → User → Key → Type 0
-Arrives kept before i later u key = (times_given u key (run kept.base before) i ≡ 1) × HasOneFate u key kept.base before i later
+Arrives kept before i later u key = (times_given u key (run kept.base before) i ≡ 1) × IsAccounted kept before i later u key

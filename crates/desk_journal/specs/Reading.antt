@@ -1,5 +1,5 @@
 -- What a turn leaves that reads texts from the disk.
-use Rattle.std.specs.Prelude.{◌≡◌, ℕ, ◌+◌, ◌-◌, ◌^◌, ◌≤◌, min, true}
+use Rattle.std.specs.Prelude.{◌≡◌, ℕ, zero, suc, ◌+◌, ◌-◌, ◌^◌, ◌≤◌, min, true}
 use Rattle.undo_outside.specs.Disk.{DiskTold}
 use Rattle.undo_outside.specs.Moments.{OnlyReads}
 use Rattle.desk_journal.specs.Lasting.{Lasting}
@@ -23,14 +23,23 @@ wrong_once = record { failed = 0; wrong = 1 }
 abbrev pub both_read : Reads → Reads → Reads
 both_read a b = record { failed = a.failed + b.failed; wrong = a.wrong + b.wrong }
 
--- a count went up by so many at least, or stands at its last value
-pub record RoseBy (n old new : ℕ) : Type 0 where
-  pub rises : old ≤ new
-  pub by : min (old + n) (2 ^ 64 - 1) ≤ new
+-- a count rose by so many at least, or stands at its last value; by none, it is as it was
+abbrev pub RoseBy : ℕ → ℕ → ℕ → Type 0
+RoseBy zero before now = now ≡ before
+RoseBy (suc n) before now = (before ≤ now) × (min (before + suc n) (2 ^ 64 - 1) ≤ now)
 
--- reads fail only where the disk counted it, and give another text only where the texts do not lie on the disk as they are noted
+-- a count rose by just so many, or stands at its last value
+abbrev pub Counted : ℕ → ℕ → ℕ → Type 0
+Counted n before now = RoseBy n before now × (now ≤ before + n)
+
+-- no read failed from old to new
+abbrev pub ReadsWell : {D : Type 0} → (D → DiskTold) → Lasting D → Lasting D → Type 0
+ReadsWell told old new = (told new.disk).failed_reads ≡ (told old.disk).failed_reads
+
+-- The disk counted so many failed reads and no other: each of these turns made one, and no turn made two. Another text is given only where the
+-- texts do not lie on the disk as they are noted.
 pub record HaveRead {D : Type 0} (told : D → DiskTold) (old new : Lasting D) (r : Reads) : Type 0 where
-  pub failed : RoseBy r.failed (told old.disk).failed_reads (told new.disk).failed_reads
+  pub failed : Counted r.failed (told old.disk).failed_reads (told new.disk).failed_reads
   pub reliable : (told old.disk).is_reliable ≡ true → r.failed ≡ 0
   pub honest : HoldsTexts told old → r.wrong ≡ 0
 

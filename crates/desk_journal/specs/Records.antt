@@ -1,6 +1,8 @@
 -- Records, what they leave one after the other, and when one can stand.
-use Rattle.std.specs.Prelude.{◌≡◌, ℕ, ◌==◌, nat_lt, bytes_eq, Bool, true, false, ◌&&◌, not, List, [], ◌∷◌, map, length, nat_le, is_some, Option, Some, None, option_and_then, if◌then◌else◌}
+use Rattle.std.specs.Prelude.{◌≡◌, ℕ, ◌==◌, nat_lt, Bool, true, false, ◌&&◌, not, List, [], ◌∷◌, map, length, nat_le, is_some, Option, Some, None, option_and_then, if◌then◌else◌}
+use Rattle.std.specs.Coded.{Coded, codes}
 use Rattle.std.specs.List.{list_all, cons_option}
+use Rattle.std.specs.Option.{option_map_or}
 use Rattle.verb_core.specs.Deeds.{act_item}
 use Rattle.verb_core.specs.declared.conf.Conf.{Conf}
 use Rattle.verb_core.specs.declared.conf.House.{House}
@@ -8,6 +10,7 @@ use Rattle.verb_core.specs.declared.item.Item.{Item}
 use Rattle.verb_core.specs.declared.mailbox.BoxId.{BoxId}
 use Rattle.verb_core.specs.declared.mailbox.Mailbox.{Mailbox}
 use Rattle.verb_core.specs.Items.{is_own, users_in, keys_in, has_form}
+use Rattle.verb_core.specs.Live.{answered}
 use Rattle.verb_core.specs.Store.{is_known}
 use Rattle.verb_bytes.specs.declared.journal.CycleAsk.{CycleAsk}
 use Rattle.verb_bytes.specs.declared.journal.JournalRecord.{JournalRecord}
@@ -16,10 +19,39 @@ use Rattle.verb_bytes.specs.Fields.{are_in_range}
 use Rattle.verb_bytes.specs.Spelling.{record_bytes, record_fields}
 use Rattle.seal_log.specs.Journal.{StandsFor}
 use Rattle.box_store.specs.Making.{makes_store}
-use Rattle.paradox.specs.Kept.{Kept, new_desk, passed, performed, snapshotted, store_of}
-use Rattle.repair_desk.specs.Repairs.{are_known}
+use Rattle.store_kept.specs.Kept.{Kept, new_desk, passed, performed, snapshotted, store_of}
+use Rattle.repair_desk.specs.Repairs.{are_known, position}
 use Rattle.cycle_rules.specs.Asking.{Due, Repeats, NoPoint, NoNumbers, Rewinds, after_cycle, cycle_due}
 use Rattle.house_text.specs.Beginning.{can_begin}
+use Rattle.desk_journal.specs.Sameness.{is_same}
+
+-- ---- what a record says
+
+-- the house and the configuration at first, of a Format
+abbrev pub format_of : JournalRecord → Option (House × Conf)
+format_of (Format house conf) = Some (house, conf)
+format_of _ = None
+
+-- the request of a cycle
+abbrev pub cycle_in : JournalRecord → Option CycleAsk
+cycle_in (Cycle number at ask) = Some ask
+cycle_in _ = None
+
+-- of how many items a snapshot is, and its configuration and its rows
+abbrev pub snapshot_in : JournalRecord → Option (ℕ × Conf × List (BoxId × Mailbox))
+snapshot_in (Snapshot items conf rows) = Some (items, conf, rows)
+snapshot_in _ = None
+
+-- whether a record is a cycle, and whether it is a snapshot
+abbrev pub is_cycle : JournalRecord → Bool
+is_cycle what = is_some (cycle_in what)
+
+abbrev pub is_snapshot : JournalRecord → Bool
+is_snapshot what = is_some (snapshot_in what)
+
+-- the place of the timeline that a record goes back to, where it goes back: behind it all is performed anew
+abbrev pub place_rewound_to : Kept → JournalRecord → Option ℕ
+place_rewound_to kept what = option_and_then (λ ask. position kept.timeline ask.point) (cycle_in what)
 
 -- ---- one record
 
@@ -71,9 +103,20 @@ snapshot_record kept = Snapshot (length kept.timeline) (store_of kept).conf (sto
 abbrev pub can_keep : Kept → ℕ → Conf → List (BoxId × Mailbox) → Bool
 can_keep kept items conf rows = (items == length kept.timeline) && makes_store kept.house conf rows
 
--- whether a snapshot is true: its bytes are those of the snapshot of what is kept
+-- the record that would be true in the place of one: an item with the step's answer on the store of before, the snapshot of what
+-- is kept; and of any other record it is that record
+abbrev pub true_record : Kept → JournalRecord → JournalRecord
+true_record kept (Verb item) = Verb (answered (store_of kept) item)
+true_record kept (Snapshot items conf rows) = snapshot_record kept
+true_record kept what = what
+
+-- the code by which records are told apart
+pub record_code : Coded JournalRecord
+record_code = Prim.hlevel (codes)
+
+-- whether a record is true of what is kept before it
 abbrev pub is_true : Kept → JournalRecord → Bool
-is_true kept what = bytes_eq (record_bytes what) (record_bytes (snapshot_record kept))
+is_true kept what = is_same record_code what (true_record kept what)
 
 -- what is kept after a snapshot that can stand: a cycle can begin from it where it is true, and else it is passed
 abbrev pub after_kept : Kept → JournalRecord → Kept
@@ -88,9 +131,9 @@ after_snapshot kept items conf rows =
 abbrev pub after_record : Kept → JournalRecord → Option Kept
 after_record kept (Verb item) = after_item kept (Verb item) item
 after_record kept (Operator number at act) = after_item kept (Operator number at act) (act_item number at act)
-after_record kept (Format house conf) = None
 after_record kept (Cycle number at ask) = after_cycle_record kept number at ask
 after_record kept (Snapshot items conf rows) = after_snapshot kept items conf rows
+after_record kept _ = None
 
 -- ---- many
 
@@ -99,18 +142,42 @@ abbrev pub after_records : Kept → List JournalRecord → Option Kept
 after_records kept [] = Some kept
 after_records kept (r ∷ rs) = option_and_then (λ next. after_records next rs) (after_record kept r)
 
+-- whether each of more records is true of what is kept before it
+abbrev pub all_true : Kept → List JournalRecord → Bool
+all_true kept [] = true
+all_true kept (r ∷ rs) = is_true kept r && option_map_or (λ next. all_true next rs) (after_record kept r) true
+
+-- ---- a journal: its front, and the records behind it
+
 -- what a journal's first record leaves: it is a Format
 abbrev pub first_state : JournalRecord → Option Kept
-first_state (Format house conf) = if is_spelled (Format house conf) && can_begin house conf then Some (new_desk house conf) else None
-first_state (Verb item) = None
-first_state (Operator number at act) = None
-first_state (Cycle number at ask) = None
-first_state (Snapshot items conf rows) = None
+first_state what =
+    option_and_then (λ (parts : House × Conf). if is_spelled what && can_begin parts.0 parts.1 then Some (new_desk parts.0 parts.1) else None) (format_of what)
+
+-- the records that a journal opens with, which are judged as one: its first
+abbrev pub front : List JournalRecord → List JournalRecord
+front [] = []
+front (r ∷ rs) = r ∷ []
+
+-- those behind them, each of which is judged by what the ones before it left
+abbrev pub behind : List JournalRecord → List JournalRecord
+behind [] = []
+behind (r ∷ rs) = rs
+
+-- what the records of a front leave, where they can stand
+abbrev pub opening_state : List JournalRecord → Option Kept
+opening_state [] = None
+opening_state (r ∷ []) = first_state r
+opening_state (r ∷ q ∷ rs) = None
 
 -- what a journal's records leave, where each of them can stand
 abbrev pub state : List JournalRecord → Option Kept
-state [] = None
-state (r ∷ rs) = option_and_then (λ kept. after_records kept rs) (first_state r)
+state records = option_and_then (λ kept. after_records kept (behind records)) (opening_state (front records))
+
+-- A journal is true where each record behind its front is true of what is kept before it: each item shows the step's answer,
+-- and each snapshot holds the store.
+abbrev pub are_true : List JournalRecord → Bool
+are_true records = option_map_or (λ kept. all_true kept (behind records)) (opening_state (front records)) true
 
 -- the bytes of each record
 abbrev pub payloads_of : List JournalRecord → List (List ℕ)

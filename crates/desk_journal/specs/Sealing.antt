@@ -1,5 +1,5 @@
 -- What a call seals.
-use Rattle.std.specs.Prelude.{◌≡◌, ◌≤◌, ◌⊎◌, ℕ, ◌||◌, Bool, true, false, not, IsSome, List, [], ◌∷◌, ◌++◌, Some}
+use Rattle.std.specs.Prelude.{◌≡◌, ◌≤◌, ◌⊎◌, ℕ, ◌||◌, Bool, true, false, not, IsSome, IsTrue, List, [], ◌∷◌, ◌++◌, Some}
 use Rattle.std.specs.List.{list_any}
 use Rattle.undo_outside.specs.Disk.{DiskTold, WriteFailed}
 use Rattle.undo_outside.specs.Moments.{LeavesOnly}
@@ -8,17 +8,17 @@ use Rattle.seal_log.specs.Settled.{IsSettled}
 use Rattle.verb_core.specs.Names.{is_empty}
 use Rattle.verb_core.specs.declared.item.Item.{Item}
 use Rattle.verb_bytes.specs.declared.journal.JournalRecord.{JournalRecord}
-use Rattle.verb_bytes.specs.declared.journal.JournalRecord.TheVariants.{Format, Verb, Operator, Cycle, Snapshot}
 use Rattle.verb_bytes.specs.Spelling.{record_bytes}
-use Rattle.paradox.specs.Kept.{Kept, performed}
+use Rattle.store_kept.specs.Kept.{Kept, performed}
 use Rattle.desk_journal.specs.Lasting.{Lasting}
-use Rattle.desk_journal.specs.Records.{after_record, after_records, payloads_of}
+use Rattle.desk_journal.specs.Records.{after_record, after_records, all_true, is_cycle, is_true, payloads_of}
 use Rattle.desk_journal.specs.Stored.{HoldsTexts}
 
--- a record that can stand: these are its bytes, and this is what it leaves
+-- a record that can stand, and is true: these are its bytes, and this is what it leaves
 pub record IsRecordTo (what : JournalRecord) (bytes : List ℕ) (kept next : Kept) : Type 0 where
   pub bytes_are : record_bytes what ≡ bytes
   pub can_stand : after_record kept what ≡ Some next
+  pub truth : IsTrue (is_true kept what)
 
 -- the record of an item: it leaves the item performed
 abbrev pub IsRecordOf : JournalRecord → List ℕ → Kept → Item → Type 0
@@ -43,25 +43,22 @@ pub record SealsPayloads (added failed : List (List ℕ)) (old new : DiskTold) (
   pub reliable : new.is_reliable ≡ old.is_reliable
   pub honest : old.honest → new.honest
 
--- whether a record is a cycle's
-abbrev pub is_cycle : JournalRecord → Bool
-is_cycle (Format house conf) = false
-is_cycle (Verb item) = false
-is_cycle (Operator number at act) = false
-is_cycle (Cycle number at ask) = true
-is_cycle (Snapshot items conf rows) = false
+-- whether a record's performing reads texts: a cycle performs items with the texts that the disk gives
+abbrev pub reads_texts : JournalRecord → Bool
+reads_texts what = is_cycle what
 
--- none of the records is a cycle's
-abbrev pub HasNoCycle : List JournalRecord → Type 0
-HasNoCycle records = list_any is_cycle records ≡ false
+-- none of the records performs anything with texts that are read
+abbrev pub ReadNoTexts : List JournalRecord → Type 0
+ReadNoTexts records = list_any reads_texts records ≡ false
 
--- The same of records and a desk: each could stand, what is kept is what the sealed ones leave, and the desk is closed from
--- then on where one failed. A cycle performs items with the texts that are read: what it leaves is told where those are what
--- was stored.
+-- The same of records and a desk: each could stand and is true, what is kept is what the sealed ones leave, and the desk is
+-- closed from then on where one failed. A cycle performs items with the texts that are read: what it leaves is told where those
+-- are what was stored.
 pub record Seals {D : Type 0} (told : D → DiskTold) (added failed : List JournalRecord) (old new : Lasting D) : Type 0 where
-  pub kept : HoldsTexts told old ⊎ HasNoCycle added → after_records old.kept added ≡ Some new.kept
+  pub kept : HoldsTexts told old ⊎ ReadNoTexts added → after_records old.kept added ≡ Some new.kept
   pub house : new.kept.house ≡ old.kept.house
   pub could : IsSome (after_records new.kept failed)
+  pub truth : HoldsTexts told old ⊎ ReadNoTexts added → IsTrue (all_true old.kept (added ++ failed))
   pub closed : new.closed ≡ (old.closed || not (is_empty failed))
   pub on_disk : SealsPayloads (payloads_of added) (payloads_of failed) (told old.disk) (told new.disk) old.gate new.gate
   pub texts : HoldsTexts told old → HoldsTexts told new

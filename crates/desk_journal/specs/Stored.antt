@@ -2,7 +2,6 @@
 use Rattle.std.specs.Prelude.{◌≡◌, ◌≤◌, ◌+◌, ℕ, false, List, length, take, Option, Some, None, if◌then◌else◌}
 use Rattle.std.specs.List.{AllByRecursion}
 use Rattle.undo_outside.specs.Disk.{DiskTold}
-use Rattle.verb_core.specs.Deeds.{is_notice}
 use Rattle.verb_core.specs.Items.{text_in}
 use Rattle.verb_core.specs.declared.item.Item.{Item}
 use Rattle.verb_core.specs.declared.mailbox.Body.{Body}
@@ -22,13 +21,14 @@ use Rattle.mail_desk.specs.Held.{Held}
 use Rattle.mail_desk.specs.Noting.{renoted}
 use Rattle.mail_desk.specs.declared.noting.Fresh.{Fresh}
 use Rattle.mail_desk.specs.Timeline.{body_of}
-use Rattle.paradox.specs.Kept.{IsRun, Kept}
+use Rattle.store_kept.specs.Kept.{IsRun, Kept}
+use Rattle.store_kept.specs.Texts.{is_in_memory, items_asked}
 use Rattle.desk_journal.specs.Lasting.{Lasting}
 use Rattle.desk_journal.specs.Permanence.{RevsBelow}
 
--- the text that an item has in a record: a cycle makes a notice's, and no record has it
+-- the text that an item has in a record: none where it is in memory
 abbrev pub recorded_in : Item → Option (List ℕ)
-recorded_in i = if is_notice i.deed then None else text_in i.deed
+recorded_in i = if is_in_memory i then None else text_in i.deed
 
 -- ---- one text
 
@@ -56,6 +56,14 @@ NotedBefore gate notes timeline = AllByRecursion (HasNote (IsBefore gate) notes)
 -- each lies where it is noted, in a journal of these payloads
 abbrev pub TextsLie : List (List ℕ) → List (Body × Note) → List Item → Type 0
 TextsLie payloads notes timeline = AllByRecursion (HasNote (IsStored payloads) notes) timeline
+
+-- ---- the texts of what is kept, as long as they may be asked for
+
+abbrev pub TextsNoted : ℕ → List (Body × Note) → Kept → Type 0
+TextsNoted gate notes kept = NotedBefore gate notes (items_asked kept)
+
+abbrev pub TextsStored : List (List ℕ) → List (Body × Note) → Kept → Type 0
+TextsStored payloads notes kept = TextsLie payloads notes (items_asked kept)
 
 -- ---- the snapshots
 
@@ -86,9 +94,9 @@ MarkedBefore gate marks = AllByRecursion (λ (m : ℕ × Place). m.1.gate + 5 + 
 -- What becomes of the notes when a record is performed whose bytes lie at a place before a gate: if each text was noted so,
 -- each is.
 pub record NotesTexts (gate : ℕ) (place : Place) (bytes : List ℕ) (old new : Held) : Type 0 where
-  pub before : NotedBefore gate old.notes old.kept.timeline → NotedBefore gate new.notes new.kept.timeline
-  pub lie : (payloads : List (List ℕ)) → LiesAt payloads place.gate place.length bytes → TextsLie payloads old.notes old.kept.timeline
-      → TextsLie payloads new.notes new.kept.timeline
+  pub before : TextsNoted gate old.notes old.kept → TextsNoted gate new.notes new.kept
+  pub lie : (payloads : List (List ℕ)) → LiesAt payloads place.gate place.length bytes → TextsStored payloads old.notes old.kept
+      → TextsStored payloads new.notes new.kept
 
 -- What becomes of the marks when a record is performed whose bytes lie at a place before a gate: if each snapshot lay where it was
 -- marked, each does.
@@ -128,7 +136,7 @@ NotesCycle c at ask place old timeline new = (fresh : Fresh) × IsFresh c at ask
 -- honest.
 pub record TextsHeld (disk : DiskTold) (payloads : List (List ℕ)) (kept : Kept) (notes : List (Body × Note)) (snapshots : List (ℕ × Place)) : Type 0 where
   pub held : Holds disk payloads
-  pub lie : TextsLie payloads notes kept.timeline
+  pub lie : TextsStored payloads notes kept
   pub revs : RevsBelow kept
   pub runs : IsRun kept
   pub marks : MarksLie payloads kept snapshots

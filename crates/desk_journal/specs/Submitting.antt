@@ -15,7 +15,7 @@ use Rattle.seal_log.specs.declared.fault.SealFault.TheVariants as log_faults
 use Rattle.desk_journal.specs.declared.fault.ActFault.{ActFault}
 use Rattle.desk_journal.specs.declared.fault.ActFault.TheVariants as act_faults
 use Rattle.seal_log.specs.Settled.{Holds, IsSettled}
-use Rattle.paradox.specs.Kept.{snapshotted}
+use Rattle.store_kept.specs.Kept.{snapshotted}
 use Rattle.desk_journal.specs.Lasting.{IsUnwritten, JournalTold, Lasting}
 use Rattle.desk_journal.specs.Records.{snapshot_record}
 use Rattle.desk_journal.specs.Sealing.{Seals, SealsPayloads}
@@ -47,7 +47,7 @@ WritesNone (Err Disk) old new = Unit {0}
 WritesNone (Err Closed) old new = Unit {0}
 
 -- what a call made of a payload that it was to seal behind a journal: it was sealed; or a write or a sync failed, and the journal
--- is closed; or no memory was found
+-- is closed; or no memory was found. It reads nothing.
 pub record SealsBytes {D X : Type 0} (told : D → DiskTold) (bytes : List ℕ) (old new : JournalTold D) (result : Result X SealFault) : Type 0 where
   pub ok : OnOk result (SealsPayloads (bytes ∷ []) [] (told old.disk) (told new.disk) old.gate new.gate)
   pub failed : IsErrOf result log_faults.Disk → SealsPayloads [] (bytes ∷ []) (told old.disk) (told new.disk) old.gate new.gate
@@ -59,6 +59,7 @@ pub record SealsBytes {D X : Type 0} (told : D → DiskTold) (bytes : List ℕ) 
   pub next : OnOk result (new.gate ≡ old.gate + 5 + length bytes)
   pub err : OnErr result (new.gate ≡ old.gate)
   pub held : (payloads : List (List ℕ)) → IsSettled (told old.disk) old.gate payloads → Holds (told new.disk) payloads
+  pub reads : (told new.disk).failed_reads ≡ (told old.disk).failed_reads
 
 module _ {D : Type 0} (told : D → DiskTold) where
   -- nothing was sealed, and nothing is lost

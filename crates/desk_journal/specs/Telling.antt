@@ -4,7 +4,6 @@ use Rattle.std.specs.Option.{option_map_or, option_or}
 use Rattle.undo_outside.specs.Disk.{DiskTold, ReadFailed}
 use Rattle.undo_outside.specs.Moments.{OnlyReads}
 use Rattle.verb_core.specs.declared.mailbox.Body.{Body}
-use Rattle.verb_core.specs.Items.{text_of}
 use Rattle.verb_core.specs.Texts.{BodiesTold}
 use Rattle.shelf.specs.declared.note.Note.{Note}
 use Rattle.repair_desk.specs.Repairs.{text_asked}
@@ -13,6 +12,7 @@ use Rattle.mail_desk.specs.Timeline.{noted_of}
 use Rattle.desk_journal.specs.declared.read_texts.Reading.{Reading}
 use Rattle.desk_journal.specs.Lasting.{JournalTold}
 use Rattle.desk_journal.specs.Stored.{TextsHeld}
+use Rattle.store_kept.specs.Texts.{text_kept}
 
 -- the text that a request asks for a body, of two the last: its cycle's number is the body's rev
 abbrev pub asked_of : ℕ → List (ℕ × List ℕ) → Body → Option (List ℕ)
@@ -29,7 +29,7 @@ is_told held gate size c replaces body =
 
 -- the text that the request asks for, or else that of the timeline
 abbrev pub text_told : Held → ℕ → List (ℕ × List ℕ) → Body → Option (List ℕ)
-text_told held c replaces body = option_or (asked_of c replaces body) (text_of held.kept.timeline body)
+text_told held c replaces body = option_or (asked_of c replaces body) (text_kept held.kept body)
 
 -- the disk holds the texts of what is kept in memory
 abbrev pub HoldsHeld : DiskTold → Held → Type 0

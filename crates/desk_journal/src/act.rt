@@ -7,11 +7,11 @@ ghost use Rattle.verb_core.specs.Items.{IsWellFormed, text_in, users_in};
 ghost use Rattle.verb_core.specs.Store.{is_known};
 ghost use Rattle.verb_bytes.specs.declared.journal.JournalRecord.TheVariants.{Operator};
 ghost use Rattle.verb_bytes.specs.Places.{IsTextAt};
-ghost use Rattle.paradox.specs.Kept.{performed};
+ghost use Rattle.store_kept.specs.Kept.{performed};
 ghost use Rattle.mail_desk.specs.Entering.{CanEnter};
 ghost use Rattle.desk_journal.specs.Lasting.{lasting};
 ghost use Rattle.desk_journal.specs.Sealing.{IsRecordOf, Seals};
-ghost use Rattle.desk_journal.specs.Stored.{MarkedBefore, NotedBefore, NotesTexts};
+ghost use Rattle.desk_journal.specs.Stored.{MarkedBefore, TextsNoted, NotesTexts};
 ghost use Rattle.desk_journal.specs.Submitting.{ActsNone, IsActOutcomeOf, SealsBytes};
 ghost use Rattle.desk_journal.specs.declared.fault.ActFault.TheVariants as act_faults;
 
@@ -170,10 +170,13 @@ fn act_numbered<D: Disk>(
     requires left { desk.old.kept.next < 4194304 }
     ensures ok { OnOk result (Seals D.told (Operator desk.old.kept.next at act ∷ []) [] (lasting desk.old journal.old) (lasting desk.new journal.new)) }
     ensures performed { OnOk result (desk.new.kept ≡ performed desk.old.kept (act_item desk.old.kept.next at act)) }
-    ensures noted { NotedBefore journal.old.gate desk.old.notes desk.old.kept.timeline → NotedBefore journal.new.gate desk.new.notes desk.new.kept.timeline }
+    ensures noted { TextsNoted journal.old.gate desk.old.notes desk.old.kept → TextsNoted journal.new.gate desk.new.notes desk.new.kept }
     ensures marked { MarkedBefore journal.old.gate desk.old.marks → MarkedBefore journal.new.gate desk.new.marks }
     ensures err { IfErr result (λ fault. ActsNone D.told at act (lasting desk.old journal.old) (lasting desk.new journal.new) fault) }
     ensures same { OnErr result (desk.new.kept ≡ desk.old.kept) }
+    ensures notes { OnErr result (desk.new.notes ≡ desk.old.notes) }
+    ensures marks { OnErr result (desk.new.marks ≡ desk.old.marks) }
+    ensures reads { (D.told journal.new.disk).failed_reads ≡ (D.told journal.old.disk).failed_reads }
     ensures not_closed { IsErrOf result ActFault.Closed → ⊥ }
 {
     desk.stands();
@@ -199,10 +202,13 @@ pub fn act_open<D: Disk>(
     ensures number { IfOk result (λ number. number ≡ desk.old.kept.next) }
     ensures ok { OnOk result (Seals D.told (Operator desk.old.kept.next at act ∷ []) [] (lasting desk.old journal.old) (lasting desk.new journal.new)) }
     ensures performed { OnOk result (desk.new.kept ≡ performed desk.old.kept (act_item desk.old.kept.next at act)) }
-    ensures noted { NotedBefore journal.old.gate desk.old.notes desk.old.kept.timeline → NotedBefore journal.new.gate desk.new.notes desk.new.kept.timeline }
+    ensures noted { TextsNoted journal.old.gate desk.old.notes desk.old.kept → TextsNoted journal.new.gate desk.new.notes desk.new.kept }
     ensures marked { MarkedBefore journal.old.gate desk.old.marks → MarkedBefore journal.new.gate desk.new.marks }
     ensures err { IfErr result (λ fault. ActsNone D.told at act (lasting desk.old journal.old) (lasting desk.new journal.new) fault) }
     ensures same { OnErr result (desk.new.kept ≡ desk.old.kept) }
+    ensures notes { OnErr result (desk.new.notes ≡ desk.old.notes) }
+    ensures marks { OnErr result (desk.new.marks ≡ desk.old.marks) }
+    ensures reads { (D.told journal.new.disk).failed_reads ≡ (D.told journal.old.disk).failed_reads }
     ensures not_closed { IsErrOf result ActFault.Closed → ⊥ }
 {
     match next_number(desk) {

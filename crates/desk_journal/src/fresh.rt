@@ -109,6 +109,61 @@ fn note_given(
     Ok(())
 }
 
+/// Adds the bodies of the texts that replace others, by their items and the cycle.
+fn push_replaced(
+    bodies: &mut Vec<Body>,
+    cycle: u32,
+    replaces: &[(u32, Text)],
+) -> Result<(), NoMemory> {
+    for row in replaces {
+        bodies.push(Body {
+            origin: row.0,
+            rev: cycle,
+        })?;
+    }
+    Ok(())
+}
+
+/// Adds the bodies of the texts that acts give, by the numbers of their items behind the cycle's.
+fn push_given(bodies: &mut Vec<Body>, cycle: u32, acts: &[Act]) -> Result<(), NoMemory> {
+    let mut number = cycle;
+    for act in acts {
+        number = next(number)?;
+        if act.text().is_some() {
+            bodies.push(Body {
+                origin: number,
+                rev: 0,
+            })?;
+        }
+    }
+    Ok(())
+}
+
+/// Notes bodies, one behind the other, with nothing of the record at a place.
+fn note_each(shelf: &mut Shelf, bodies: &[Body], place: Place) -> Result<(), NoMemory> {
+    for body in bodies {
+        shelf.note_room(1)?;
+        shelf.note(*body, place, 0, 0);
+    }
+    Ok(())
+}
+
+/// Gives each body that a cycle brings its row of an empty shelf, in the order in which a shelf keeps them: no row is moved then, in
+/// whatever order the texts are noted that are asked for. In time that grows as they are many, times its logarithm.
+fn set_out(
+    alloc: Global,
+    shelf: &mut Shelf,
+    number: u32,
+    ask: &CycleAsk,
+    place: Place,
+) -> Result<(), NoMemory> {
+    let mut bodies = Vec::new(alloc);
+    push_replaced(&mut bodies, number, ask.replaces.as_slice())?;
+    push_given(&mut bodies, number, ask.inserts.as_slice())?;
+    bodies.sort_unstable_by_key(|body| (body.origin.max(body.rev), body.origin, body.rev));
+    note_each(shelf, &bodies, place)
+}
+
 /// Notes the texts of what is asked, whose places these are.
 #[tactic(auto, using(crate::proofs::Spots::replaced_kept))]
 fn note_ask(
@@ -142,6 +197,7 @@ pub fn fresh_of(alloc: Global, number: u32, ask: &CycleAsk, place: Place) -> Res
     }
     let spots = ask_text_places(alloc, ask)?;
     let mut shelf = Shelf::new(alloc);
+    set_out(alloc, &mut shelf, number, ask, place)?;
     note_ask(&mut shelf, number, ask, spots.as_slice(), place)?;
     Ok(Fresh { place, shelf })
 }

@@ -2,8 +2,8 @@
 //!
 //! `on_disk` has the journal on a disk, `seal` seals the record of an item, and `spelling` makes the bytes of each. `make` begins a
 //! journal; `submit`, `act` and `snapshot` do what users and the operator ask of a desk in memory and its open journal; `texts`
-//! reads the texts of bodies, `read_texts` is the texts of a desk for whoever performs its items once more, and `fresh` says where
-//! those lie that a cycle brings. `fault` says why a desk is not made and an act not done, and `laws` what holds of runs of
+//! reads the texts of bodies, `read_texts` is the texts of a desk for whoever performs its items once more, with those that a
+//! request brings (`new_texts`), and `fresh` says where those lie that a cycle brings. `fault` says why a desk is not made and an act not done, and `laws` what holds of runs of
 //! calls. In specs/, `Records` says what records leave one after the other and when one can stand, `Lasting` what contracts see
 //! of a desk over a disk, `Stored` where its texts lie, `Sealing` what a call seals and what a crash at any moment of it leaves,
 //! `Making` and `Submitting` why calls are refused, `Reading` and `Telling` what a read leaves, and `Permanence` what holds of all
@@ -17,6 +17,7 @@ mod fault;
 mod fresh;
 pub mod laws;
 mod make;
+mod new_texts;
 mod on_disk;
 mod read_texts;
 mod seal;
@@ -29,6 +30,7 @@ pub use act::{act_open, item_of};
 pub use fault::{ActFault, MakeFault};
 pub use fresh::fresh_of;
 pub use make::make_parts;
+pub use new_texts::NewTexts;
 pub use on_disk::Journal;
 pub use read_texts::Reading;
 pub use seal::seal_bytes;

@@ -3,7 +3,7 @@ ghost use Rattle.std.specs.Prelude.{◌≡◌, ◌<◌, ◌∷◌, [], Some, fal
 ghost use Rattle.verb_bytes.specs.declared.journal.JournalRecord.TheVariants.{Format};
 ghost use Rattle.verb_bytes.specs.Spelling.{record_bytes};
 ghost use Rattle.seal_log.specs.Log.{last_gate};
-ghost use Rattle.paradox.specs.Kept.{new_desk};
+ghost use Rattle.store_kept.specs.Kept.{new_desk};
 ghost use Rattle.house_text.specs.Beginning.{can_begin};
 ghost use Rattle.desk_journal.specs.Making.{Begins, LooksEmpty, Makes};
 ghost use Rattle.desk_journal.specs.Records.{state};

@@ -45,6 +45,7 @@ fn seal_payload<D: Disk>(
         → SealsPayloads [] (payload.now ∷ []) (D.told disk.old) (D.told disk.new) (last_gate log.old) (last_gate log.new) }
     ensures no_memory { IsErrOf result SealFault.NoMemory
         → SealsPayloads [] [] (D.told disk.old) (D.told disk.new) (last_gate log.old) (last_gate log.new) }
+    ensures reads { (D.told disk.new).failed_reads ≡ (D.told disk.old).failed_reads }
     ensures not_closed { IsErrOf result SealFault.Closed → ⊥ }
     ensures still_open { OnOk result (log.new.closed ≡ false) }
     ensures open_again { IsErrOf result SealFault.NoMemory → log.new.closed ≡ false }
@@ -103,6 +104,7 @@ impl<D: Disk> Journal<D> {
             → SealsPayloads [] (payload.now ∷ []) (D.told self.old.disk) (D.told self.new.disk) self.old.gate self.new.gate }
         ensures no_memory { IsErrOf result SealFault.NoMemory
             → SealsPayloads [] [] (D.told self.old.disk) (D.told self.new.disk) self.old.gate self.new.gate }
+        ensures reads { (D.told self.new.disk).failed_reads ≡ (D.told self.old.disk).failed_reads }
         ensures not_closed { IsErrOf result SealFault.Closed → ⊥ }
         ensures still_open { OnOk result (self.new.closed ≡ false) }
         ensures open_again { IsErrOf result SealFault.NoMemory → self.new.closed ≡ false }

@@ -1,21 +1,20 @@
 //! The texts of a desk, read where they lie in its journal.
-ghost use Rattle.std.specs.Prelude.{◌≡◌, Some, true, false, option_copied, IfOk, OnOk, IfErr, IsErrOf};
+ghost use Rattle.std.specs.Prelude.{◌≡◌, ◌+◌, ◌≤◌, Some, true, false, option_copied, IfOk, OnOk, IfErr, IsErrOf};
 ghost use Rattle.std.specs.Option.{option_map_or};
 ghost use Rattle.undo_outside.specs.Moments.{OnlyReads};
-ghost use Rattle.verb_core.specs.Items.{text_of};
 ghost use Rattle.verb_core.specs.Texts.{Rose};
 ghost use Rattle.seal_log.specs.Causes.{ReadAtCause};
-ghost use Rattle.repair_desk.specs.Repairs.{text_asked};
 ghost use Rattle.mail_desk.specs.Timeline.{noted_of};
 ghost use Rattle.desk_journal.specs.Telling.{HoldsHeld, LeadsOn, ReadsOn, asked_of, is_readable, reading_told};
 ghost use Rattle.desk_journal.specs.Going.{leads_on, leads_to_itself};
+ghost use Rattle.store_kept.specs.Texts.{text_kept};
 
+use crate::new_texts::NewTexts;
 use mail_desk::Desk;
 use seal_log::{ReadFault, read_before};
 use std::alloc::Global;
 use undo_base::{Copies, NoMemory, Text};
 use undo_outside::Disk;
-use verb_bytes::Replaces;
 use verb_core::{Bodies, BodiesFault, Body};
 
 /// The texts that the items of a desk bring, read in the journal that ends at a gate of a disk; and beside them those that a
@@ -29,29 +28,19 @@ pub struct Reading<'a, D: Disk> {
     /// The desk.
     pub desk: &'a Desk,
     /// The texts that the request asks for.
-    pub replaces: &'a Replaces,
+    pub replaces: &'a NewTexts<'a>,
     /// Its cycle's number.
     pub cycle: u32,
     /// How many texts could not be read.
     pub failed: u64,
 }
 
-/// The text of a number: of two the last.
-fn last_text(replaces: &Replaces, number: u32) -> Option<&Text>
-    ensures { option_copied result ≡ text_asked replaces.now number }
-{
-    match replaces.as_slice().iter().rev().find(|row| row.0 == number) {
-        Some(row) => Some(&row.1),
-        None => None,
-    }
-}
-
 /// The text that a request asks for a body.
-fn asked(replaces: &Replaces, cycle: u32, body: Body) -> Option<&Text>
+fn asked<'a>(replaces: &'a NewTexts<'_>, cycle: u32, body: Body) -> Option<&'a Text>
     ensures { option_copied result ≡ asked_of cycle replaces.now body }
 {
     if body.rev == cycle {
-        last_text(replaces, body.origin)
+        replaces.text(body.origin)
     } else {
         None
     }
@@ -66,7 +55,7 @@ pub fn read_noted<D: Disk>(
     body: Body,
 ) -> Result<Text, ReadFault>
     requires { option_map_or (is_readable end (D.told disk.old).size) (noted_of desk.now.kept.timeline desk.now.notes body) false ≡ true }
-    ensures text { HoldsHeld (D.told disk.old) desk.now → IfOk result (λ text. text_of desk.now.kept.timeline body ≡ Some text) }
+    ensures text { HoldsHeld (D.told disk.old) desk.now → IfOk result (λ text. text_kept desk.now.kept body ≡ Some text) }
     ensures cause { ReadAtCause (D.told disk.old) (D.told disk.new) result }
     ensures reads { OnlyReads (D.told disk.old) (D.told disk.new) }
 {
@@ -87,9 +76,10 @@ fn read_once<D: Disk>(
     body: Body,
 ) -> Result<Text, BodiesFault>
     requires { option_map_or (is_readable end (D.told disk.old).size) (noted_of desk.now.kept.timeline desk.now.notes body) false ≡ true }
-    ensures text { HoldsHeld (D.told disk.old) desk.now → IfOk result (λ text. text_of desk.now.kept.timeline body ≡ Some text) }
+    ensures text { HoldsHeld (D.told disk.old) desk.now → IfOk result (λ text. text_kept desk.now.kept body ≡ Some text) }
     ensures same { OnOk result (failed.new ≡ failed.old) }
     ensures rises { IsErrOf result BodiesFault.Failed → Rose failed.old failed.new }
+    ensures once { failed.new ≤ failed.old + 1 }
     ensures no_memory { IsErrOf result BodiesFault.NoMemory → failed.new ≡ failed.old }
     ensures reads { ReadsOn D.told disk.old disk.new failed.old failed.new }
 {
@@ -148,7 +138,7 @@ impl<'a, D: Disk> Reading<'a, D> {
         disk: &'a mut D,
         end: u64,
         desk: &'a Desk,
-        replaces: &'a Replaces,
+        replaces: &'a NewTexts<'a>,
         cycle: u32,
     ) -> Reading<'a, D>
         ensures disk { (result.disk.ghost_name ≡ disk.entry.ghost_name) × (result.disk.now ≡ disk.old) }

@@ -2,7 +2,7 @@
 ghost use Rattle.std.specs.Prelude.{◌≡◌, ◌+◌, ℕ, List, length, Some, false, IfOk, OnOk, OnErr};
 ghost use Rattle.verb_core.specs.Items.{text_in};
 ghost use Rattle.verb_bytes.specs.Places.{IsTextAt};
-ghost use Rattle.paradox.specs.Kept.{performed};
+ghost use Rattle.store_kept.specs.Kept.{performed};
 ghost use Rattle.mail_desk.specs.Entering.{CanEnter};
 ghost use Rattle.desk_journal.specs.Stored.{NotesTexts};
 ghost use Rattle.desk_journal.specs.Submitting.{SealsBytes};

@@ -2,11 +2,11 @@
 ghost use Rattle.std.specs.Prelude.{◌≡◌, false, length, IsTrue, IfOk, OnOk, IfErr, OnErr, IsErrOf};
 ghost use Rattle.verb_bytes.specs.Spelling.{record_bytes};
 ghost use Rattle.shelf.specs.Marks.{with_mark};
-ghost use Rattle.paradox.specs.Kept.{snapshotted};
+ghost use Rattle.store_kept.specs.Kept.{snapshotted};
 ghost use Rattle.mail_desk.specs.Held.{CanMark};
 ghost use Rattle.desk_journal.specs.Lasting.{lasting};
 ghost use Rattle.desk_journal.specs.Records.{is_spelled, snapshot_record};
-ghost use Rattle.desk_journal.specs.Stored.{MarkedBefore, NotedBefore};
+ghost use Rattle.desk_journal.specs.Stored.{MarkedBefore, TextsNoted};
 ghost use Rattle.desk_journal.specs.Submitting.{SealsBytes, Snapshots, SnapshotsNone};
 
 use crate::on_disk::Journal;
@@ -65,10 +65,13 @@ pub fn snapshot_open<D: Disk>(
 ) -> Result<(), SealFault>
     requires open { journal.old.closed ≡ false }
     ensures ok { OnOk result (Snapshots D.told (lasting desk.old journal.old) (lasting desk.new journal.new) (length desk.old.kept.timeline)) }
-    ensures noted { NotedBefore journal.old.gate desk.old.notes desk.old.kept.timeline → NotedBefore journal.new.gate desk.new.notes desk.new.kept.timeline }
+    ensures noted { TextsNoted journal.old.gate desk.old.notes desk.old.kept → TextsNoted journal.new.gate desk.new.notes desk.new.kept }
     ensures marked { MarkedBefore journal.old.gate desk.old.marks → MarkedBefore journal.new.gate desk.new.marks }
     ensures err { OnErr result (desk.new.kept ≡ desk.old.kept) }
+    ensures notes { OnErr result (desk.new.notes ≡ desk.old.notes) }
+    ensures marks { OnErr result (desk.new.marks ≡ desk.old.marks) }
     ensures why { IfErr result (λ fault. SnapshotsNone D.told (lasting desk.old journal.old) (lasting desk.new journal.new) fault) }
+    ensures reads { (D.told journal.new.disk).failed_reads ≡ (D.told journal.old.disk).failed_reads }
     ensures not_closed { IsErrOf result SealFault.Closed → ⊥ }
 {
     desk.stands();

@@ -8,13 +8,13 @@ ghost use Rattle.verb_bytes.specs.declared.journal.JournalRecord.TheVariants.{Ve
 ghost use Rattle.verb_core.specs.Items.{text_in};
 ghost use Rattle.verb_bytes.specs.Places.{IsTextAt};
 ghost use Rattle.verb_bytes.specs.Spelling.{record_bytes};
-ghost use Rattle.paradox.specs.Kept.{performed, store_of};
+ghost use Rattle.store_kept.specs.Kept.{performed, store_of};
 ghost use Rattle.mail_desk.specs.Desk.{submitted};
 ghost use Rattle.mail_desk.specs.Entering.{CanEnter};
 ghost use Rattle.desk_journal.specs.Lasting.{lasting};
 ghost use Rattle.desk_journal.specs.Records.{is_spelled};
 ghost use Rattle.desk_journal.specs.Sealing.{IsRecordOf, Seals};
-ghost use Rattle.desk_journal.specs.Stored.{MarkedBefore, NotedBefore};
+ghost use Rattle.desk_journal.specs.Stored.{MarkedBefore, TextsNoted};
 ghost use Rattle.desk_journal.specs.Submitting.{IsOutcomeOf, RefusesNone, SubmitsNone, WritesNone};
 
 use crate::on_disk::Journal;
@@ -116,11 +116,12 @@ fn seal_found<D: Disk>(
     ensures item { IfOk result (λ item. item ≡ found.ready.item) }
     ensures ok { OnOk result (Seals D.told (Verb found.ready.item ∷ []) [] (lasting desk.old journal.old) (lasting desk.new journal.new)) }
     ensures performed { OnOk result (desk.new.kept ≡ performed desk.old.kept found.ready.item) }
-    ensures noted { NotedBefore journal.old.gate desk.old.notes desk.old.kept.timeline → NotedBefore journal.new.gate desk.new.notes desk.new.kept.timeline }
+    ensures noted { TextsNoted journal.old.gate desk.old.notes desk.old.kept → TextsNoted journal.new.gate desk.new.notes desk.new.kept }
     ensures marked { MarkedBefore journal.old.gate desk.old.marks → MarkedBefore journal.new.gate desk.new.marks }
     ensures same { OnErr result (desk.new ≡ desk.old) }
     ensures err { IfErr result (λ fault. SubmitsNone D.told (Ok found.ready.item) (lasting desk.old journal.old) (lasting desk.new journal.new) fault) }
     ensures refuses_none { RefusesNone result }
+    ensures reads { (D.told journal.new.disk).failed_reads ≡ (D.told journal.old.disk).failed_reads }
     ensures not_closed { IsErrOf result SubmitFault.Closed → ⊥ }
 {
     desk.stands();
@@ -145,12 +146,15 @@ pub fn submit_open<D: Disk>(
     requires open { journal.old.closed ≡ false }
     ensures ok { IfOk result (λ item. submitted desk.old.kept at by ask ≡ record { outcome = Ok item; kept = desk.new.kept }) }
     ensures sealed { IfOk result (λ item. Seals D.told (Verb item ∷ []) [] (lasting desk.old journal.old) (lasting desk.new journal.new)) }
-    ensures noted { NotedBefore journal.old.gate desk.old.notes desk.old.kept.timeline → NotedBefore journal.new.gate desk.new.notes desk.new.kept.timeline }
+    ensures noted { TextsNoted journal.old.gate desk.old.notes desk.old.kept → TextsNoted journal.new.gate desk.new.notes desk.new.kept }
     ensures marked { MarkedBefore journal.old.gate desk.old.marks → MarkedBefore journal.new.gate desk.new.marks }
     ensures err { OnErr result (desk.new.kept ≡ desk.old.kept) }
+    ensures notes { OnErr result (desk.new.notes ≡ desk.old.notes) }
+    ensures marks { OnErr result (desk.new.marks ≡ desk.old.marks) }
     ensures why { IfErr result (λ fault. SubmitsNone D.told (live (store_of desk.old.kept) desk.old.kept.next at by ask)
         (lasting desk.old journal.old) (lasting desk.new journal.new) fault) }
     ensures writes_none { WritesNone result (lasting desk.old journal.old) (lasting desk.new journal.new) }
+    ensures reads { (D.told journal.new.disk).failed_reads ≡ (D.told journal.old.disk).failed_reads }
     ensures not_closed { IsErrOf result SubmitFault.Closed → ⊥ }
 {
     match find(alloc, desk, at, by, ask) {

@@ -2,11 +2,11 @@
 ghost use Rattle.std.specs.Prelude.{◌≡◌, ◌<◌, ◌+◌, ◌++◌, ◌∷◌, [], length, is_some, Some, IsTrue, IfOk, OnOk, IsErrOf};
 ghost use Rattle.std.specs.List.{list_all};
 ghost use Rattle.undo_outside.specs.Moments.{OnlyReads};
-ghost use Rattle.verb_core.specs.Items.{text_of};
 ghost use Rattle.seal_log.specs.Causes.{ReadAtCause};
-ghost use Rattle.mail_desk.specs.Timeline.{has_text, texts_of};
-ghost use Rattle.desk_journal.specs.Stored.{NotedBefore};
+ghost use Rattle.mail_desk.specs.Timeline.{has_text};
+ghost use Rattle.desk_journal.specs.Stored.{TextsNoted};
 ghost use Rattle.desk_journal.specs.Telling.{HoldsHeld, IsOnlyRead};
+ghost use Rattle.store_kept.specs.Texts.{has_text_kept, text_kept, texts_kept};
 
 use crate::on_disk::Journal;
 use crate::read_texts::read_noted;
@@ -36,9 +36,9 @@ fn text_at<D: Disk>(
     body: Body,
 ) -> Result<Text, ReadFault>
     requires end { end < (D.told disk.old).size }
-    requires noted { NotedBefore end desk.now.notes desk.now.kept.timeline }
-    requires there { IsTrue (has_text desk.now.kept.timeline body) }
-    ensures text { HoldsHeld (D.told disk.old) desk.now → IfOk result (λ text. text_of desk.now.kept.timeline body ≡ Some text) }
+    requires noted { TextsNoted end desk.now.notes desk.now.kept }
+    requires there { IsTrue (has_text_kept desk.now.kept body) }
+    ensures text { HoldsHeld (D.told disk.old) desk.now → IfOk result (λ text. text_kept desk.now.kept body ≡ Some text) }
     ensures cause { ReadAtCause (D.told disk.old) (D.told disk.new) result }
     ensures reads { OnlyReads (D.told disk.old) (D.told disk.new) }
 {
@@ -58,9 +58,9 @@ fn found_at<D: Disk>(
     body: Body,
 ) -> Result<Option<Text>, ReadFault>
     requires end { end < (D.told disk.old).size }
-    requires noted { NotedBefore end desk.now.notes desk.now.kept.timeline }
-    ensures there { IfOk result (λ found. is_some found ≡ has_text desk.now.kept.timeline body) }
-    ensures found { HoldsHeld (D.told disk.old) desk.now → IfOk result (λ found. found ≡ text_of desk.now.kept.timeline body) }
+    requires noted { TextsNoted end desk.now.notes desk.now.kept }
+    ensures there { IfOk result (λ found. is_some found ≡ has_text_kept desk.now.kept body) }
+    ensures found { HoldsHeld (D.told disk.old) desk.now → IfOk result (λ found. found ≡ text_kept desk.now.kept body) }
     ensures cause { ReadAtCause (D.told disk.old) (D.told disk.new) result }
     ensures reads { OnlyReads (D.told disk.old) (D.told disk.new) }
 {
@@ -83,10 +83,10 @@ fn push_at<D: Disk>(
     body: Body,
 ) -> Result<(), ReadFault>
     requires end { end < (D.told disk.old).size }
-    requires noted { NotedBefore end desk.now.notes desk.now.kept.timeline }
-    requires there { IsTrue (has_text desk.now.kept.timeline body) }
+    requires noted { TextsNoted end desk.now.notes desk.now.kept }
+    requires there { IsTrue (has_text_kept desk.now.kept body) }
     ensures count { OnOk result (length texts.new ≡ length texts.old + 1) }
-    ensures texts { HoldsHeld (D.told disk.old) desk.now → OnOk result (texts.new ≡ texts.old ++ texts_of desk.now.kept.timeline (body ∷ [])) }
+    ensures texts { HoldsHeld (D.told disk.old) desk.now → OnOk result (texts.new ≡ texts.old ++ texts_kept desk.now.kept (body ∷ [])) }
     ensures cause { ReadAtCause (D.told disk.old) (D.told disk.new) result }
     ensures reads { OnlyReads (D.told disk.old) (D.told disk.new) }
 {
@@ -106,10 +106,10 @@ fn texts_at<D: Disk>(
     bodies: &[Body],
 ) -> Result<Texts, ReadFault>
     requires end { end < (D.told disk.old).size }
-    requires noted { NotedBefore end desk.now.notes desk.now.kept.timeline }
-    requires there { IsTrue (list_all (has_text desk.now.kept.timeline) bodies.now) }
+    requires noted { TextsNoted end desk.now.notes desk.now.kept }
+    requires there { IsTrue (list_all (has_text_kept desk.now.kept) bodies.now) }
     ensures count { IfOk result (λ texts. length texts ≡ length bodies.now) }
-    ensures texts { HoldsHeld (D.told disk.old) desk.now → IfOk result (λ texts. texts ≡ texts_of desk.now.kept.timeline bodies.now) }
+    ensures texts { HoldsHeld (D.told disk.old) desk.now → IfOk result (λ texts. texts ≡ texts_kept desk.now.kept bodies.now) }
     ensures cause { ReadAtCause (D.told disk.old) (D.told disk.new) result }
     ensures reads { OnlyReads (D.told disk.old) (D.told disk.new) }
 {
@@ -128,9 +128,9 @@ impl<D: Disk> Journal<D> {
         desk: &mail_desk::Desk,
         body: Body,
     ) -> Result<Option<Text>, ReadFault>
-        requires { NotedBefore self.old.gate desk.now.notes desk.now.kept.timeline }
-        ensures there { IfOk result (λ found. is_some found ≡ has_text desk.now.kept.timeline body) }
-        ensures found { HoldsHeld (D.told self.old.disk) desk.now → IfOk result (λ found. found ≡ text_of desk.now.kept.timeline body) }
+        requires { TextsNoted self.old.gate desk.now.notes desk.now.kept }
+        ensures there { IfOk result (λ found. is_some found ≡ has_text_kept desk.now.kept body) }
+        ensures found { HoldsHeld (D.told self.old.disk) desk.now → IfOk result (λ found. found ≡ text_kept desk.now.kept body) }
         ensures cause { ReadAtCause (D.told self.old.disk) (D.told self.new.disk) result }
         ensures still { IsOnlyRead D.told self.old self.new }
     {
@@ -144,10 +144,10 @@ impl<D: Disk> Journal<D> {
         desk: &mail_desk::Desk,
         bodies: &[Body],
     ) -> Result<Texts, ReadFault>
-        requires noted { NotedBefore self.old.gate desk.now.notes desk.now.kept.timeline }
-        requires there { IsTrue (list_all (has_text desk.now.kept.timeline) bodies.now) }
+        requires noted { TextsNoted self.old.gate desk.now.notes desk.now.kept }
+        requires there { IsTrue (list_all (has_text_kept desk.now.kept) bodies.now) }
         ensures count { IfOk result (λ texts. length texts ≡ length bodies.now) }
-        ensures texts { HoldsHeld (D.told self.old.disk) desk.now → IfOk result (λ texts. texts ≡ texts_of desk.now.kept.timeline bodies.now) }
+        ensures texts { HoldsHeld (D.told self.old.disk) desk.now → IfOk result (λ texts. texts ≡ texts_kept desk.now.kept bodies.now) }
         ensures cause { ReadAtCause (D.told self.old.disk) (D.told self.new.disk) result }
         ensures still { IsOnlyRead D.told self.old self.new }
     {

@@ -11,13 +11,12 @@ use Rattle.verb_core.specs.Deeds.{act_item}
 use Rattle.verb_bytes.specs.declared.journal.CycleAsk.{CycleAsk}
 use Rattle.verb_bytes.specs.declared.journal.JournalRecord.{JournalRecord}
 use Rattle.verb_bytes.specs.declared.journal.JournalRecord.TheVariants.{Format, Verb, Operator, Cycle, Snapshot}
-use Rattle.paradox.specs.Kept.{Kept, passed, performed, snapshotted}
-use Rattle.mail_cycle.specs.Asking.{after_cycle}
-use Rattle.mail_cycle.specs.Cycles.{cycled_at, told_at}
-use Rattle.time_desk.specs.Records.{after_kept, after_record, after_records, after_snapshot, first_state, is_true, state}
-use Rattle.time_desk.specs.Sealing.{is_cycle}
+use Rattle.store_kept.specs.Kept.{Kept, passed, performed, snapshotted}
+use Rattle.cycle_rules.specs.Asking.{after_cycle}
+use Rattle.cycle_rules.specs.Cycles.{cycled_at, told_at}
+use Rattle.time_desk.specs.Records.{after_kept, after_record, after_records, after_snapshot, first_state, is_cycle, is_snapshot, is_true, state}
 use Rattle.desk_journal.proofs.Runs.{state_append}
-use Rattle.snapshot_laws.specs.Usable.{cycles_in, is_snapshot, snapshots_in}
+use Rattle.snapshot_laws.specs.Usable.{cycles_in, snapshots_in}
 use Rattle.snapshot_laws.proofs.Runs.{IsLasting, along}
 use Rattle.snapshot_laws.proofs.Steps.{IsFirst, cycled_is, is_first, kept_is, performed_is}
 
@@ -48,7 +47,6 @@ taken_kept : (kept : Kept) (what : JournalRecord) → (after_kept kept what).mar
 taken_kept kept what = elim (is_true kept what) as (λ b. (cond b (snapshotted kept) (record kept { marks = passed kept.marks })).marks.taken ≡ kept.marks.taken + 1) [ true ↦ refl | false ↦ refl ]
 
 taken_more : IsLasting IsTaken
-taken_more done kept (Format house conf) next is old e = absurd (cc e)
 taken_more done kept (Verb item) next is old e =
     taken_by done (Verb item) kept.marks.taken next.marks.taken 0 old (ap (λ (k : Kept). k.marks.taken) (sym (performed_is kept next (Verb item) item e)) ∙ omega arith) refl
 taken_more done kept (Operator number at act) next is old e =
@@ -59,6 +57,7 @@ taken_more done kept (Cycle number at ask) next is old e =
 taken_more done kept (Snapshot items conf rows) next is old e =
     taken_by done (Snapshot items conf rows) kept.marks.taken next.marks.taken 1 old
     (ap (λ (k : Kept). k.marks.taken) (sym (kept_is kept next items conf rows e).next_is) ∙ taken_kept kept (Snapshot items conf rows)) refl
+taken_more done kept _ next is old e = absurd (cc e)
 
 pub taken_are : (records : List JournalRecord) (kept : Kept) → state records ≡ Some kept → IsTaken records kept
 taken_are = along IsTaken taken_first taken_more
@@ -80,7 +79,6 @@ counts_cycle : (kept : Kept) (at : ℕ) (ask : CycleAsk) (place : ℕ) (one : �
 counts_cycle kept at ask place one e = record { house = refl; numbers = given kept.next kept.marks.since (length ask.inserts) (length (told_at kept at ask place)) one e }
 
 counts_one : (kept next : Kept) (r : JournalRecord) → after_record kept r ≡ Some next → is_snapshot r ≡ false → Counts kept next (cycles_in (r ∷ []))
-counts_one kept next (Format house conf) e plain = absurd (cc e)
 counts_one kept next (Verb item) e plain = subst (λ (k : Kept). Counts kept k 0) (performed_is kept next (Verb item) item e) (counts_item kept item)
 counts_one kept next (Operator number at act) e plain =
     subst (λ (k : Kept). Counts kept k 0) (performed_is kept next (Operator number at act) (act_item number at act) e) (counts_item kept (act_item number at act))
@@ -88,6 +86,7 @@ counts_one kept next (Cycle number at ask) e plain =
     let cycled = cycled_is kept next at ask number e in
     subst (λ (k : Kept). Counts kept k (cycles_in (Cycle number at ask ∷ []))) cycled.next_is (counts_cycle kept at ask cycled.place (cycles_in (Cycle number at ask ∷ [])) refl)
 counts_one kept next (Snapshot items conf rows) e plain = absurd (cc plain)
+counts_one kept next _ e plain = absurd (cc e)
 
 -- no record is a snapshot, nor the first
 no_first : (r : JournalRecord) (rs : List JournalRecord) → snapshots_in (r ∷ rs) ≡ 0 → (is_snapshot r ≡ false) × (snapshots_in rs ≡ 0)

@@ -1,6 +1,6 @@
 -- Worked rows.
 use Rattle.std.proofs.Common.{◌≡◌, [], ◌∷◌, refl}
-use Rattle.paradox.specs.Kept.{newest_at}
+use Rattle.store_kept.specs.Kept.{newest_at}
 
 -- at a snapshot's own place, between two, behind all, before all
 own_place : newest_at 5 (2 ∷ 5 ∷ 7 ∷ []) ≡ 5

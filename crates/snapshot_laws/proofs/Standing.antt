@@ -1,19 +1,17 @@
 -- The places that are kept are those of the usable snapshots, record by record.
-use Rattle.std.proofs.Common.{◌≡◌, ◌⊎◌, inl, inr, ℕ, ◌≤◌, Bool, true, false, cond, List, [], ◌∷◌, ◌++◌, length, Some, refl, ap, sym, subst, ◌∙◌, arith, append_assoc, length-append}
+use Rattle.std.proofs.Common.{◌≡◌, ◌⊎◌, inl, inr, ℕ, ◌≤◌, Bool, true, false, cond, List, [], ◌∷◌, ◌++◌, length, Option, Some, None, refl, ap, sym, subst, ◌∙◌, arith, append_assoc, length-append}
 use Rattle.verb_core.specs.declared.conf.Conf.{Conf}
 use Rattle.verb_core.specs.declared.conf.House.{House}
 use Rattle.verb_core.specs.declared.item.Item.{Item}
 use Rattle.verb_core.specs.declared.mailbox.BoxId.{BoxId}
 use Rattle.verb_core.specs.declared.mailbox.Mailbox.{Mailbox}
 use Rattle.verb_core.specs.Deeds.{act_item}
-use Rattle.verb_bytes.specs.declared.journal.CycleAsk.{CycleAsk}
 use Rattle.verb_bytes.specs.declared.journal.JournalRecord.{JournalRecord}
-use Rattle.verb_bytes.specs.declared.journal.JournalRecord.TheVariants.{Format, Verb, Operator, Cycle, Snapshot}
-use Rattle.paradox.specs.Kept.{Kept, new_desk, not_behind, passed, performed, placed, snapshotted}
-use Rattle.repair_desk.specs.Repairs.{position}
-use Rattle.mail_cycle.specs.Cycles.{cycled_at}
-use Rattle.time_desk.specs.Records.{first_state, is_true, state}
-use Rattle.snapshot_laws.specs.Usable.{HasNoLowerCycle, IsUsable}
+use Rattle.verb_bytes.specs.declared.journal.JournalRecord.TheVariants.{Verb, Operator, Cycle, Snapshot}
+use Rattle.store_kept.specs.Kept.{Kept, new_desk, not_behind, passed, performed, placed, snapshotted}
+use Rattle.cycle_rules.specs.Cycles.{cycled_at}
+use Rattle.time_desk.specs.Records.{first_state, is_true, place_rewound_to, state}
+use Rattle.snapshot_laws.specs.Usable.{GoesNoLower, IsUsable}
 use Rattle.snapshot_laws.proofs.Members.{In, Rises, placed_is, placed_itself, placed_others, rises_not_behind, rises_placed, stayed, stays}
 use Rattle.snapshot_laws.proofs.Runs.{IsLasting, along}
 use Rattle.snapshot_laws.proofs.Splits.{IsBehind, IsThere, splits_end}
@@ -34,16 +32,16 @@ module _ (done : List JournalRecord) (kept : Kept) (r : JournalRecord) (is : sta
   same_state : (k : Kept) (before : List JournalRecord) → state before ≡ Some k → done ≡ before → kept ≡ k
   same_state k before e same = let both : Some kept ≡ Some k = sym is ∙ ap state same ∙ e in cc both
 
-  -- the record, if it is a cycle, has its point at this position or behind it
+  -- the record, if it goes back, goes to this position or one behind it
   abbrev Allows : ℕ → Type 0
-  Allows n = (number at : ℕ) (ask : CycleAsk) (place : ℕ) → r ≡ Cycle number at ask → position kept.timeline ask.point ≡ Some place → n ≤ place
+  Allows n = (place : ℕ) → place_rewound_to kept r ≡ Some place → n ≤ place
 
-  lasts_more : (n count : ℕ) → HasNoLowerCycle done count n → Allows n → HasNoLowerCycle (done ++ r ∷ []) count n
-  lasts_more n count lasts allows before after number at ask k place split le s p = by (splits_end done r before (Cycle number at ask) after split)
+  lasts_more : (n count : ℕ) → GoesNoLower done count n → Allows n → GoesNoLower (done ++ r ∷ []) count n
+  lasts_more n count lasts allows before after what k place split le s p = by (splits_end done r before what after split)
     where
-      by : IsThere done r before (Cycle number at ask) after ⊎ IsBehind done r before (Cycle number at ask) after → n ≤ place
-      by (inl last) = allows number at ask place last.one (subst (λ (x : Kept). position x.timeline ask.point ≡ Some place) (sym (same_state k before s last.front_is)) p)
-      by (inr behind) = lasts before behind.mid number at ask k place behind.split le s p
+      by : IsThere done r before what after ⊎ IsBehind done r before what after → n ≤ place
+      by (inl last) = allows place (ap (place_rewound_to kept) last.one ∙ ap (λ (x : Kept). place_rewound_to x what) (same_state k before s last.front_is) ∙ p)
+      by (inr behind) = lasts before behind.mid what k place behind.split le s p
 
   -- what was usable is so still
   extended : (n : ℕ) → IsUsable done n → Allows n → IsUsable (done ++ r ∷ []) n
@@ -87,20 +85,22 @@ module _ (done : List JournalRecord) (kept : Kept) (r : JournalRecord) (is : sta
           kept = u.kept;
           state_is = u.state_is;
           true_is = u.true_is;
-          lasts = λ before after number at ask k place split le s p. u.lasts before (after ++ r ∷ []) number at ask k place
-              (ap (λ (xs : List JournalRecord). xs ++ r ∷ []) split ∙ append_assoc before (Cycle number at ask ∷ after) (r ∷ [])) le s p;
+          lasts = λ before after what k place split le s p. u.lasts before (after ++ r ∷ []) what k place
+              (ap (λ (xs : List JournalRecord). xs ++ r ∷ []) split ∙ append_assoc before (what ∷ after) (r ∷ [])) le s p;
         },
-        (λ number at ask place one p. u.lasts done [] number at ask kept place (ap (λ (x : JournalRecord). done ++ x ∷ []) one)
-            (omega (arith, ap length behind.split, length-append u.before (Snapshot n u.conf u.rows ∷ behind.mid))) is p),
+        (λ place p. u.lasts done [] r kept place refl (omega (arith, ap length behind.split, length-append u.before (Snapshot n u.conf u.rows ∷ behind.mid))) is p),
       )
 
+  goes_nowhere : {X : Type 0} (place : ℕ) → ◌≡◌ {A = Option ℕ} None (Some place) → X
+  goes_nowhere place wrong = absurd (cc wrong)
+
   module _ (stands : Stands done kept) where
-    -- a record that is no cycle and no true snapshot
-    plain : ((n : ℕ) → IsLast n → ⊥) → ((number at : ℕ) (ask : CycleAsk) → r ≡ Cycle number at ask → ⊥) → (count : ℕ) → length kept.timeline ≤ count → StandsAt (done ++ r ∷ []) kept.marks.places count
-    plain no_last no_cycle count more = record {
+    -- a record that goes nowhere back, and is no true snapshot
+    plain : ((n : ℕ) → IsLast n → ⊥) → place_rewound_to kept r ≡ None → (count : ℕ) → length kept.timeline ≤ count → StandsAt (done ++ r ∷ []) kept.marks.places count
+    plain no_last stays_there count more = record {
       rises = stands.rises;
       within = λ n there. let few : n ≤ length kept.timeline = stands.within n there in omega arith;
-      usable = λ n there. extended n (stands.usable n there) (λ number at ask place one p. absurd (no_cycle number at ask one));
+      usable = λ n there. extended n (stands.usable n there) (λ place p. goes_nowhere place (sym stays_there ∙ p));
       there = λ n u. by n (before_it n u);
     }
       where
@@ -122,13 +122,13 @@ module _ (done : List JournalRecord) (kept : Kept) (r : JournalRecord) (is : sta
         within n (inl here) = omega arith
         within n (inr behind) = stands.within n behind
 
-        -- no cycle is behind it
-        lasts : HasNoLowerCycle (done ++ r ∷ []) (length done) items
-        lasts before after number at ask k place split le s p = by (splits_end done r before (Cycle number at ask) after split)
+        -- none is behind it, and it goes nowhere back itself
+        lasts : GoesNoLower (done ++ r ∷ []) (length done) items
+        lasts before after what k place split le s p = by (splits_end done r before what after split)
           where
-            by : IsThere done r before (Cycle number at ask) after ⊎ IsBehind done r before (Cycle number at ask) after → items ≤ place
-            by (inl last) = absurd (let wrong : Snapshot items conf rows ≡ Cycle number at ask = sym one ∙ last.one in cc wrong)
-            by (inr behind) = absurd (omega (arith, ap length behind.split, length-append before (Cycle number at ask ∷ behind.mid)))
+            by : IsThere done r before what after ⊎ IsBehind done r before what after → items ≤ place
+            by (inl last) = goes_nowhere place (ap (place_rewound_to k) (sym one ∙ last.one) ∙ p)
+            by (inr behind) = absurd (omega (arith, ap length behind.split, length-append before (what ∷ behind.mid)))
 
         own : IsUsable (done ++ r ∷ []) items
         own = record {
@@ -145,7 +145,7 @@ module _ (done : List JournalRecord) (kept : Kept) (r : JournalRecord) (is : sta
 
         usable : (n : ℕ) → (length kept.timeline ≡ n) ⊎ In n kept.marks.places → IsUsable (done ++ r ∷ []) n
         usable n (inl here) = subst (IsUsable (done ++ r ∷ [])) (many ∙ here) own
-        usable n (inr behind) = extended n (stands.usable n behind) (λ number at ask place other p. absurd (let wrong : Snapshot items conf rows ≡ Cycle number at ask = sym one ∙ other in cc wrong))
+        usable n (inr behind) = extended n (stands.usable n behind) (λ place p. goes_nowhere place (ap (place_rewound_to kept) (sym one) ∙ p))
 
         there : (n : ℕ) → IsLast n ⊎ (IsUsable done n × Allows n) → In n (placed (length kept.timeline) kept.marks.places)
         there n (inl last) =
@@ -154,9 +154,9 @@ module _ (done : List JournalRecord) (kept : Kept) (r : JournalRecord) (is : sta
             subst (λ (m : ℕ). In m (placed (length kept.timeline) kept.marks.places)) (sym many ∙ same) (placed_itself (length kept.timeline) kept.marks.places)
         there n (inr both) = placed_others (length kept.timeline) n kept.marks.places (stands.there n both.0)
 
-    -- a cycle
-    rewound_at : (number at : ℕ) (ask : CycleAsk) (place count : ℕ) → r ≡ Cycle number at ask → position kept.timeline ask.point ≡ Some place → place ≤ count → StandsAt (done ++ r ∷ []) (not_behind place kept.marks.places) count
-    rewound_at number at ask place count one found le = record {
+    -- a record that goes back, and is no true snapshot
+    rewound_at : (place count : ℕ) → ((n : ℕ) → IsLast n → ⊥) → place_rewound_to kept r ≡ Some place → place ≤ count → StandsAt (done ++ r ∷ []) (not_behind place kept.marks.places) count
+    rewound_at place count no_last found le = record {
       rises = rises_not_behind place kept.marks.places stands.rises;
       within = λ n there. let low : n ≤ place = (stayed place n kept.marks.places there).1 in omega arith;
       usable = λ n there. extended n (stands.usable n (stayed place n kept.marks.places there).0) (allows n (stayed place n kept.marks.places there).1);
@@ -164,49 +164,48 @@ module _ (done : List JournalRecord) (kept : Kept) (r : JournalRecord) (is : sta
     }
       where
         allows : (n : ℕ) → n ≤ place → Allows n
-        allows n low number' at' ask' place' other p =
-            let both : Cycle number at ask ≡ Cycle number' at' ask' = sym one ∙ other in
-            let same : ask' ≡ ask = cc both in
-            let places : Some place ≡ Some place' = sym found ∙ ap (λ (a : CycleAsk). position kept.timeline a.point) (sym same) ∙ p in
+        allows n low place' p =
+            let places : Some place ≡ Some place' = sym found ∙ p in
             let equal : place ≡ place' = cc places in
             omega arith
 
         there : (n : ℕ) → IsLast n ⊎ (IsUsable done n × Allows n) → In n (not_behind place kept.marks.places)
-        there n (inl last) = absurd (let wrong : Cycle number at ask ≡ Snapshot n last.conf last.rows = sym one ∙ last.record_is in cc wrong)
-        there n (inr both) = stays place n kept.marks.places (stands.there n both.0) (both.1 number at ask place one found)
+        there n (inl last) = absurd (no_last n last)
+        there n (inr both) = stays place n kept.marks.places (stands.there n both.0) (both.1 place found)
 
 -- ---- each record
 
 stands_item : (done : List JournalRecord) (kept next : Kept) (r : JournalRecord) (item : Item) → state done ≡ Some kept → Stands done kept → performed kept item ≡ next
-    → ((n : ℕ) (conf : Conf) (rows : List (BoxId × Mailbox)) → r ≡ Snapshot n conf rows → ⊥) → ((number at : ℕ) (ask : CycleAsk) → r ≡ Cycle number at ask → ⊥) → Stands (done ++ r ∷ []) next
-stands_item done kept next r item is stands same no_snapshot no_cycle =
+    → ((n : ℕ) (conf : Conf) (rows : List (BoxId × Mailbox)) → r ≡ Snapshot n conf rows → ⊥) → place_rewound_to kept r ≡ None → Stands (done ++ r ∷ []) next
+stands_item done kept next r item is stands same no_snapshot stays_there =
     subst (Stands (done ++ r ∷ [])) same
-    (plain done kept r is stands (λ n last. no_snapshot n last.conf last.rows last.record_is) no_cycle (length (kept.timeline ++ item ∷ [])) (omega (arith, length-append kept.timeline (item ∷ []))))
+    (plain done kept r is stands (λ n last. no_snapshot n last.conf last.rows last.record_is) stays_there (length (kept.timeline ++ item ∷ [])) (omega (arith, length-append kept.timeline (item ∷ []))))
 
 stands_snapshot : (done : List JournalRecord) (kept : Kept) (items : ℕ) (conf : Conf) (rows : List (BoxId × Mailbox)) → state done ≡ Some kept → Stands done kept → items ≡ length kept.timeline
     → (b : Bool) → is_true kept (Snapshot items conf rows) ≡ b → Stands (done ++ Snapshot items conf rows ∷ []) (cond b (snapshotted kept) (record kept { marks = passed kept.marks }))
 stands_snapshot done kept items conf rows is stands many true e = taken done kept (Snapshot items conf rows) is stands items conf rows refl many e
 stands_snapshot done kept items conf rows is stands many false e =
-    plain done kept (Snapshot items conf rows) is stands (λ n last. no_last n last.conf last.rows last.record_is last.true_is) (λ number at ask wrong. cc wrong) (length kept.timeline) (omega arith)
+    plain done kept (Snapshot items conf rows) is stands (λ n last. no_last n last.conf last.rows last.record_is last.true_is) refl (length kept.timeline) (omega arith)
   where
     no_last : (n : ℕ) (conf' : Conf) (rows' : List (BoxId × Mailbox)) → Snapshot items conf rows ≡ Snapshot n conf' rows' → is_true kept (Snapshot n conf' rows') ≡ true → ⊥
     no_last n conf' rows' same truth = let wrong : true ≡ false = sym truth ∙ ap (is_true kept) (sym same) ∙ e in cc wrong
 
 stands_more : IsLasting Stands
-stands_more done kept (Format house conf) next is stands e = absurd (cc e)
 stands_more done kept (Verb item) next is stands e =
-    stands_item done kept next (Verb item) item is stands (performed_is kept next (Verb item) item e) (λ n conf rows wrong. cc wrong) (λ number at ask wrong. cc wrong)
+    stands_item done kept next (Verb item) item is stands (performed_is kept next (Verb item) item e) (λ n conf rows wrong. cc wrong) refl
 stands_more done kept (Operator number at act) next is stands e =
     stands_item done kept next (Operator number at act) (act_item number at act) is stands (performed_is kept next (Operator number at act) (act_item number at act) e)
-    (λ n conf rows wrong. cc wrong) (λ number at ask wrong. cc wrong)
+    (λ n conf rows wrong. cc wrong) refl
 stands_more done kept (Cycle number at ask) next is stands e =
     let cycled = cycled_is kept next at ask number e in
     subst (Stands (done ++ Cycle number at ask ∷ [])) cycled.next_is
-    (rewound_at done kept (Cycle number at ask) is stands number at ask cycled.place (length (cycled_at kept at ask cycled.place).timeline) refl cycled.found (cycled_within kept at ask cycled.place cycled.found))
+    (rewound_at done kept (Cycle number at ask) is stands cycled.place (length (cycled_at kept at ask cycled.place).timeline) (λ n last. let wrong : Cycle number at ask ≡ Snapshot n last.conf last.rows = last.record_is in cc wrong)
+    cycled.found (cycled_within kept at ask cycled.place cycled.found))
 stands_more done kept (Snapshot items conf rows) next is stands e =
     let found = kept_is kept next items conf rows e in
     subst (Stands (done ++ Snapshot items conf rows ∷ [])) found.next_is
     (stands_snapshot done kept items conf rows is stands found.items_are (is_true kept (Snapshot items conf rows)) refl)
+stands_more done kept _ next is stands e = absurd (cc e)
 
 -- the first record is no snapshot
 stands_first : (r : JournalRecord) (kept : Kept) → first_state r ≡ Some kept → Stands (r ∷ []) kept

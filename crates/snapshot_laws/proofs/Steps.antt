@@ -8,16 +8,16 @@ use Rattle.verb_core.specs.declared.mailbox.BoxId.{BoxId}
 use Rattle.verb_core.specs.declared.mailbox.Mailbox.{Mailbox}
 use Rattle.verb_bytes.specs.declared.journal.CycleAsk.{CycleAsk}
 use Rattle.verb_bytes.specs.declared.journal.JournalRecord.{JournalRecord}
-use Rattle.verb_bytes.specs.declared.journal.JournalRecord.TheVariants.{Format, Verb, Operator, Cycle, Snapshot}
+use Rattle.verb_bytes.specs.declared.journal.JournalRecord.TheVariants.{Format, Cycle, Snapshot}
 use Rattle.box_store.specs.Making.{makes_store}
 use Rattle.house_text.specs.Beginning.{can_begin}
 use Rattle.paradox.specs.declared.reports.Report.{Report}
-use Rattle.paradox.specs.Kept.{Kept, new_desk, performed, report_of}
+use Rattle.store_kept.specs.Kept.{Kept, new_desk, performed, report_of}
 use Rattle.repair_desk.specs.Repairs.{inserted, kept as kept_of, position, repaired}
 use Rattle.repair_desk.proofs.Points.{within}
-use Rattle.mail_cycle.specs.Asking.{NoNumbers, Rewinds, after_cycle, cycle_due, due_at, due_by}
-use Rattle.mail_cycle.specs.Cycles.{compared_at, cycled_at, front_of, leaves_numbers, timeline_at, told_at}
-use Rattle.mail_cycle.specs.Judging.{shown_after}
+use Rattle.cycle_rules.specs.Asking.{NoNumbers, Rewinds, after_cycle, cycle_due, due_at, due_by}
+use Rattle.cycle_rules.specs.Cycles.{compared_at, cycled_at, front_of, leaves_numbers, timeline_at, told_at}
+use Rattle.cycle_rules.specs.Judging.{shown_after}
 use Rattle.mail_cycle.proofs.Cycled.{length_shown}
 use Rattle.time_desk.specs.Records.{after_cycle_record, after_due, after_item, after_kept, after_snapshot, can_follow, can_rewind, first_state, is_spelled}
 
@@ -35,10 +35,7 @@ is_first (Format house conf) kept e = by (is_spelled (Format house conf) && can_
     by : (b : Bool) → cond b (Some (new_desk house conf)) None ≡ Some kept → IsFirst (Format house conf) kept
     by true e = record { house = house; conf = conf; record_is = refl; kept_is = cc e }
     by false e = absurd (cc e)
-is_first (Verb item) kept e = absurd (cc e)
-is_first (Operator number at act) kept e = absurd (cc e)
-is_first (Cycle number at ask) kept e = absurd (cc e)
-is_first (Snapshot items conf rows) kept e = absurd (cc e)
+is_first _ kept e = absurd (cc e)
 
 -- ---- an item
 

@@ -7,7 +7,7 @@ ghost use Rattle.verb_core.specs.declared.mailbox.BoxId.{BoxId};
 ghost use Rattle.verb_core.specs.declared.mailbox.Mailbox.{Mailbox};
 ghost use Rattle.verb_bytes.specs.declared.journal.JournalRecord.{JournalRecord};
 ghost use Rattle.verb_bytes.specs.declared.journal.JournalRecord.TheVariants.{Snapshot};
-ghost use Rattle.paradox.specs.Kept.{Kept, newest_at};
+ghost use Rattle.store_kept.specs.Kept.{Kept, newest_at};
 ghost use Rattle.time_desk.specs.Records.{state};
 ghost use Rattle.snapshot_laws.specs.Usable.{IsUsable, cycles_in, snapshots_in};
 

@@ -2,7 +2,7 @@ use Rattle.std.proofs.Common.{Err, [], ◌∷◌, ap, ◌∙◌, refl}
 use Rattle.verb_core.specs.Deeds.{act_item}
 use Rattle.verb_bytes.specs.declared.journal.JournalRecord.TheVariants.{Operator}
 use Rattle.verb_core.specs.declared.item.Item.{Item}
-use Rattle.paradox.specs.Kept.{performed}
+use Rattle.store_kept.specs.Kept.{performed}
 use Rattle.mail_desk.specs.Held.{Held}
 use Rattle.desk_journal.specs.Lasting.{lasting}
 use Rattle.desk_journal.proofs.Submits.{acts_none, not_sealed, record_as}

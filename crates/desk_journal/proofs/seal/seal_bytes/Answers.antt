@@ -12,4 +12,5 @@ returns g c = record {
   next = c.seal.ensures.next;
   err = c.seal.ensures.err;
   held = c.seal.ensures.held;
+  reads = c.seal.ensures.reads;
 }

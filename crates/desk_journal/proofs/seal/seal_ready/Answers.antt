@@ -1,7 +1,7 @@
 use Rattle.std.proofs.Common.{◌+◌, length, ap, arith, refl, subst}
 use Rattle.verb_core.specs.Items.{text_in}
 use Rattle.seal_log.specs.declared.place.Place.{Place}
-use Rattle.paradox.specs.Kept.{Kept}
+use Rattle.store_kept.specs.Kept.{Kept}
 use Rattle.mail_desk.specs.Timeline.{NotesText, body_of}
 use Rattle.mail_desk.proofs.Timelines.{lower}
 use Rattle.desk_journal.proofs.Holding.{entered_notes}

@@ -1,6 +1,6 @@
 use Rattle.std.proofs.Common.{◌∙◌, length, ap, subst, sym}
 use Rattle.shelf.specs.Marks.{with_mark}
-use Rattle.paradox.specs.Kept.{Kept, snapshotted, store_of}
+use Rattle.store_kept.specs.Kept.{Kept, snapshotted, store_of}
 use Rattle.mail_desk.specs.Held.{Held}
 use Rattle.desk_journal.specs.Lasting.{lasting}
 use Rattle.desk_journal.specs.Records.{snapshot_record}

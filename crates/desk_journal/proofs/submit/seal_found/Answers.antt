@@ -1,6 +1,6 @@
 use Rattle.std.proofs.Common.{Err, ap}
 use Rattle.verb_bytes.specs.declared.journal.JournalRecord.TheVariants.{Verb}
-use Rattle.paradox.specs.Kept.{performed}
+use Rattle.store_kept.specs.Kept.{performed}
 use Rattle.mail_desk.specs.Held.{Held}
 use Rattle.desk_journal.specs.Lasting.{lasting}
 use Rattle.desk_journal.proofs.Entering.{stood_rev}

@@ -1,7 +1,7 @@
 use Rattle.std.proofs.Common.{◌≡◌, OnOk, refl, subst}
 use Rattle.verb_bytes.specs.declared.journal.JournalRecord.TheVariants.{Verb}
 use Rattle.verb_core.specs.Live.{live}
-use Rattle.paradox.specs.Kept.{performed, store_of, Kept}
+use Rattle.store_kept.specs.Kept.{performed, store_of, Kept}
 use Rattle.desk_journal.specs.Lasting.{lasting}
 use Rattle.desk_journal.proofs.Runs.{seals_nothing}
 use Rattle.desk_journal.proofs.Submits.{none_written, ok_submitted, record_as, submits_none_from}

@@ -1,7 +1,7 @@
 -- The places are those of the usable snapshots, and rise.
 use Rattle.std.proofs.Common.{◌≡◌, ◌⊎◌, inl, inr, ℕ, List}
 use Rattle.verb_bytes.specs.declared.journal.JournalRecord.{JournalRecord}
-use Rattle.paradox.specs.Kept.{newest_at}
+use Rattle.store_kept.specs.Kept.{newest_at}
 use Rattle.snapshot_laws.specs.Usable.{IsUsable}
 use Rattle.snapshot_laws.proofs.Members.{In, newest_before, newest_last, newest_one}
 use Rattle.snapshot_laws.proofs.Standing.{stands}

@@ -1,7 +1,7 @@
 -- The last of those that are not behind the place.
 use Rattle.std.proofs.Common.{◌≡◌, ◌⊎◌, inl, inr, ℕ, List}
 use Rattle.std.specs.List.{Contains}
-use Rattle.paradox.specs.Kept.{newest_at}
+use Rattle.store_kept.specs.Kept.{newest_at}
 use Rattle.snapshot_laws.proofs.Members.{In, contains_of, in_of, newest_before, newest_last, newest_one, rises_of}
 use Rattle.snapshot_laws.proofs.laws.newest_at_is_the_last_at_or_before.Goals as goal
 
