@@ -24,15 +24,16 @@ use Rattle.verb_bytes.specs.declared.journal.JournalRecord.TheVariants.{Format, 
 use Rattle.verb_bytes.specs.Fields.{Field, are_in_range, byte_field, name_field, only_if, u32_field, moment_field, actor_field}
 use Rattle.verb_bytes.specs.Fields as fields
 use Rattle.verb_bytes.specs.Spelling.{deed_fields, item_fields, shown_fields, shown_kind}
-use Rattle.paradox.specs.Kept.{Kept, new_desk, passed, performed, snapshotted, store_of}
+use Rattle.store_kept.specs.Kept.{Kept, new_desk, passed, performed, snapshotted, store_of}
 use Rattle.paradox.specs.Letters.{notices}
 use Rattle.paradox.specs.declared.reports.BrokenItem.{BrokenItem}
 use Rattle.paradox.specs.declared.reports.Report.{Report}
-use Rattle.paradox.specs.Kept.{report_of}
+use Rattle.store_kept.specs.Kept.{report_of}
 use Rattle.paradox.specs.Answers.{broken}
 use Rattle.repair_desk.specs.Repairs.{inserted, is_dropped, kept, new_timeline, position, repaired, replaced_by, takes_text, text_asked}
 use Rattle.cycle_rules.specs.Asking.{NoNumbers, Rewinds, after_cycle, cycle_due, due_anew, due_at, due_by}
-use Rattle.cycle_rules.specs.Cycles.{broken_by, compared_at, cycled_at, front_of, kept_at, leaves_numbers, notice_items, repaired_items, told_at}
+use Rattle.cycle_rules.specs.Cycles.{compared_at, cycled_at, front_of, kept_at, leaves_numbers, notice_items, repaired_items, told_at}
+use Rattle.mail_cycle.specs.Comparing.{broken_by}
 use Rattle.cycle_rules.specs.Judging.{shown_after, shown_by}
 use Rattle.mail_cycle.proofs.Cycled.{few_notices, length_shown}
 use Rattle.desk_journal.proofs.Entering.{item_runs}
@@ -309,7 +310,6 @@ due_good k at ask (Some report) new g e = absurd (none_is new e)
 -- ---- one record, and all
 
 record_good : (k : Kept) (r : JournalRecord) (new : Kept) → IsGood k → after_record k r ≡ Some new → IsGood new
-record_good k (Format house conf) new g e = absurd (none_is new e)
 record_good k (Verb i) new g e =
     let s = some_when (is_spelled (Verb i) && can_follow k i) (performed k i) new e in
     let p = and_parts (is_spelled (Verb i)) (can_follow k i) s.0 in
@@ -327,6 +327,7 @@ record_good k (Snapshot items conf rows) new g e =
     (either IsGood (is_true k (Snapshot items conf rows)) (snapshotted k) (record k { marks = passed k.marks })
     (record { stored = g.stored; rows = g.rows; accounts = g.accounts; runs = g.runs; keeping = g.keeping; few = g.few; next = g.next })
     (record { stored = g.stored; rows = g.rows; accounts = g.accounts; runs = g.runs; keeping = g.keeping; few = g.few; next = g.next }))
+record_good k _ new g e = absurd (none_is new e)
 
 records_good : (k : Kept) (rs : List JournalRecord) (new : Kept) → IsGood k → after_records k rs ≡ Some new → IsGood new
 records_good k [] new g e = subst IsGood (one_some k new e) g
@@ -351,10 +352,7 @@ first_good (Format house conf) new e =
       few = omega arith;
       next = omega (arith, first);
     })
-first_good (Verb i) new e = absurd (none_is new e)
-first_good (Operator number at act) new e = absurd (none_is new e)
-first_good (Cycle number at ask) new e = absurd (none_is new e)
-first_good (Snapshot items conf rows) new e = absurd (none_is new e)
+first_good _ new e = absurd (none_is new e)
 
 pub journal_stored : (records : List JournalRecord) (new : Kept) → state records ≡ Some new → IsStored (store_of new)
 journal_stored [] new e = absurd (none_is new e)

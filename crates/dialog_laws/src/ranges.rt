@@ -14,7 +14,7 @@ ghost use Rattle.verb_bytes.specs.declared.journal.JournalRecord.{JournalRecord}
 ghost use Rattle.verb_bytes.specs.declared.journal.JournalRecord.TheVariants.{Verb};
 ghost use Rattle.verb_bytes.specs.Limits.{IsAsked, IsUser, delivery};
 ghost use Rattle.verb_bytes.specs.Spelling.{HasSpelling};
-ghost use Rattle.paradox.specs.Kept.{Kept, store_of};
+ghost use Rattle.store_kept.specs.Kept.{Kept, store_of};
 ghost use Rattle.desk_journal.specs.Records.{state};
 ghost use Rattle.dialog_laws.specs.Ranges.{IsKeeping, IsRecordable, IsStored};
 

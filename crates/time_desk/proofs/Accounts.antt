@@ -21,16 +21,15 @@ use Rattle.verb_core.specs.Step.{message, new_mail, run}
 use Rattle.verb_core.specs.Store.{IsValid, MailStore}
 use Rattle.verb_core.proofs.BoxLaws.{same_user-refl}
 use Rattle.verb_core.proofs.NoTwice.{given_at, message_once, times_given-le}
-use Rattle.verb_core.proofs.OpeningLaws.{opening-IsBase}
 use Rattle.verb_core.proofs.Runs.{one_fate-run, valid-run}
-use Rattle.paradox.specs.Kept.{Kept, store_of}
+use Rattle.store_kept.specs.Kept.{Kept, store_of}
 use Rattle.time_desk.specs.Permanence.{IsSound}
 
 -- ---- fates
 
--- a timeline stands on its opening store
+-- a timeline stands on its base
 pub sound_base : (kept : Kept) → IsSound kept → IsBase kept.timeline kept.base
-sound_base kept sound = subst (IsBase kept.timeline) (sym sound.base) (opening-IsBase kept.house kept.opening kept.timeline sound.house sound.aliases sound.timeline)
+sound_base kept sound = sound.base.stands
 
 pub sound_valid : (kept : Kept) → IsSound kept → IsValid (store_of kept)
 sound_valid kept sound = subst IsValid (sym sound.runs) (valid-run kept.base kept.timeline (sound_base kept sound))

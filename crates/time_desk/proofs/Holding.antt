@@ -3,23 +3,26 @@ use Rattle.std.proofs.Common.{◌≡◌, ℕ, ◌+◌, ◌<◌, ◌≤◌, Bool,
 use Rattle.std.specs.List.{AllByRecursion}
 use Rattle.std.specs.Cmp.{first_so}
 use Rattle.std.proofs.lemmas.Bool.Decides.{nat_tests}
-use Rattle.std.proofs.lemmas.Slice.Eq.{bytes_eq-Decides}
 use Rattle.undo_base.specs.declared.memory.NoMemory.{NoMemory}
+use Rattle.verb_core.specs.declared.conf.Conf.{Conf}
 use Rattle.verb_core.specs.declared.item.Item.{Item}
+use Rattle.verb_core.specs.declared.mailbox.BoxId.{BoxId}
+use Rattle.verb_core.specs.declared.mailbox.Mailbox.{Mailbox}
 use Rattle.verb_core.specs.Items.{text_in}
 use Rattle.seal_log.specs.declared.place.Place.{Place}
 use Rattle.seal_log.specs.Journal.{LiesAt}
 use Rattle.shelf.specs.Marks.{with_mark}
 use Rattle.mail_desk.specs.Held.{Held}
 use Rattle.mail_desk.specs.Timeline.{NotesText, body_of}
-use Rattle.paradox.specs.Kept.{Kept}
-use Rattle.verb_bytes.specs.declared.journal.JournalRecord.{JournalRecord}
+use Rattle.store_kept.specs.Kept.{Kept}
+use Rattle.verb_bytes.specs.declared.journal.JournalRecord.TheVariants.{Snapshot}
 use Rattle.verb_bytes.specs.Places.{IsTextAt}
 use Rattle.verb_bytes.specs.Spelling.{HasSpelling, record_bytes}
 use Rattle.time_desk.specs.Records.{is_formed, is_true, snapshot_record}
 use Rattle.time_desk.specs.Standing.{Enters, kept_as, marked_as}
 use Rattle.time_desk.specs.Stored.{KeepsMarks, MarkedBefore, MarksLie, NotesTexts}
 use Rattle.desk_journal.proofs.Marking.{marks_entered, marks_kept, marks_snapshotted, marks_with}
+use Rattle.desk_journal.proofs.Truth.{true_is}
 use Rattle.desk_journal.proofs.Noting.{recorded_is}
 use Rattle.desk_journal.proofs.Holding.{entered_notes}
 
@@ -53,18 +56,18 @@ entered_marks gate place bytes old new i (Ok false) enters same = λ e. absurd (
 entered_marks gate place bytes old new i (Err why) enters same = tt
 
 -- a snapshot that is true is marked, and another is passed
-pub kept_marks : (gate : ℕ) (place : Place) (what : JournalRecord) (old new : Held) (truth : Bool) → place.gate + 5 + place.length ≤ gate → HasSpelling (snapshot_record old.kept) → truth ≡ is_true old.kept what
-    → new.kept ≡ kept_as old.kept truth → new.marks ≡ marked_as old truth place → KeepsMarks gate place (record_bytes what) old new
-kept_marks gate place what old new true within spelled is kept marks =
+pub kept_marks : (gate : ℕ) (place : Place) (items : ℕ) (conf : Conf) (rows : List (BoxId × Mailbox)) (old new : Held) (truth : Bool) → place.gate + 5 + place.length ≤ gate → HasSpelling (snapshot_record old.kept)
+    → truth ≡ is_true old.kept (Snapshot items conf rows) → new.kept ≡ kept_as old.kept truth → new.marks ≡ marked_as old truth place → KeepsMarks gate place (record_bytes (Snapshot items conf rows)) old new
+kept_marks gate place items conf rows old new true within spelled is kept marks =
     let all_marks = with_mark (length old.kept.timeline) place old.marks in
-    let bytes : record_bytes what ≡ record_bytes (snapshot_record old.kept) = (bytes_eq-Decides (record_bytes what) (record_bytes (snapshot_record old.kept))).0 (sym is) in
+    let bytes : record_bytes (Snapshot items conf rows) ≡ record_bytes (snapshot_record old.kept) = ap record_bytes (true_is old.kept (Snapshot items conf rows) (sym is)) in
     record {
       before = λ all. subst (MarkedBefore gate) (sym marks) (marks_with (λ m. m.1.gate + 5 + m.1.length ≤ gate) (length old.kept.timeline) place old.marks within all);
       lie = λ payloads lies runs all. subst (MarksLie payloads new.kept) (sym marks)
           (marks_kept payloads old.kept new.kept all_marks (ap (λ (k : Kept). k.base) kept) (ap (λ (k : Kept). k.timeline) kept)
           (marks_snapshotted payloads old.kept place old.marks runs spelled (subst (LiesAt payloads place.gate place.length) bytes lies) all));
     }
-kept_marks gate place what old new false within spelled is kept marks = record {
+kept_marks gate place items conf rows old new false within spelled is kept marks = record {
   before = λ all. subst (MarkedBefore gate) (sym marks) all;
   lie = λ payloads lies runs all. subst (MarksLie payloads new.kept) (sym marks)
       (marks_kept payloads old.kept new.kept old.marks (ap (λ (k : Kept). k.base) kept) (ap (λ (k : Kept). k.timeline) kept) all);

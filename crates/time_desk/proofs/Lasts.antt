@@ -8,13 +8,13 @@ use Rattle.verb_core.specs.declared.item.Item.{Item}
 use Rattle.verb_core.specs.declared.mailbox.BoxId.{BoxId}
 use Rattle.verb_core.specs.declared.mailbox.Mailbox.{Mailbox}
 use Rattle.verb_bytes.specs.declared.journal.JournalRecord.{JournalRecord}
-use Rattle.verb_bytes.specs.declared.journal.JournalRecord.TheVariants.{Format, Verb, Operator, Cycle, Snapshot}
-use Rattle.paradox.specs.Kept.{Kept, Marks, passed, performed, snapshotted, store_of}
+use Rattle.verb_bytes.specs.declared.journal.JournalRecord.TheVariants.{Verb, Operator, Cycle, Snapshot}
+use Rattle.store_kept.specs.Kept.{Kept, Marks, passed, performed, snapshotted, store_of}
 use Rattle.mail_cycle.specs.Permanence.{UidsLast}
 use Rattle.mail_cycle.proofs.Lasting.{lasts_itself, lasts_performed}
 use Rattle.time_desk.specs.Lasting.{Lasting}
-use Rattle.time_desk.specs.Records.{after_item, after_kept, after_record, can_follow, can_keep, is_formed, is_spelled, is_true}
-use Rattle.time_desk.specs.Sealing.{Seals, is_cycle}
+use Rattle.time_desk.specs.Records.{after_item, after_kept, after_record, can_follow, can_keep, is_cycle, is_formed, is_spelled, is_true}
+use Rattle.time_desk.specs.Sealing.{Seals}
 use Rattle.time_desk.specs.Submitting.{Snapshots}
 
 -- the stamps name the mailboxes
@@ -44,7 +44,6 @@ item_lasts kept new what item named is = by (is_spelled what) (can_follow kept i
 pub record_lasts : (kept new : Kept) (what : JournalRecord) → is_cycle what ≡ false → IsNamed kept → after_record kept what ≡ Some new → UidsLast kept new
 record_lasts kept new (Verb item) plain named is = item_lasts kept new (Verb item) item named is
 record_lasts kept new (Operator number at act) plain named is = item_lasts kept new (Operator number at act) (act_item number at act) named is
-record_lasts kept new (Format house conf) plain named is = absurd (cc is)
 record_lasts kept new (Cycle number at ask) plain named is = absurd (cc plain)
 record_lasts kept new (Snapshot items conf rows) plain named is = by (is_spelled (Snapshot items conf rows)) (can_keep kept items conf rows) is
   where
@@ -58,6 +57,7 @@ record_lasts kept new (Snapshot items conf rows) plain named is = by (is_spelled
     by true true is = let same : after_kept kept (Snapshot items conf rows) ≡ new = cc is in subst (UidsLast kept) same as_marked
     by true false is = absurd (cc is)
     by false can is = absurd (cc is)
+record_lasts kept new _ plain named is = absurd (cc is)
 
 after_one : (o : Option Kept) (new : Kept) → option_and_then Some o ≡ Some new → o ≡ Some new
 after_one None new is = is

@@ -5,11 +5,12 @@ use Rattle.verb_core.specs.declared.item.Item.{Item}
 use Rattle.shelf.specs.Marks.{marks_at_or_before}
 use Rattle.verb_bytes.specs.declared.journal.CycleAsk.{CycleAsk}
 use Rattle.verb_core.specs.declared.item.Shown.{Shown}
-use Rattle.paradox.specs.Kept.{Kept}
+use Rattle.store_kept.specs.Kept.{Kept}
 use Rattle.repair_desk.specs.Repairs.{inserted, kept as kept_of, repaired}
 use Rattle.repair_desk.proofs.Points.{front, within}
-use Rattle.mail_cycle.specs.Cycles.{front_of, repaired_items, timeline_by, told_by}
-use Rattle.mail_cycle.specs.Judging.{shown_after}
+use Rattle.cycle_rules.specs.Cycles.{front_of, repaired_items}
+use Rattle.mail_cycle.specs.Comparing.{timeline_by, told_by}
+use Rattle.cycle_rules.specs.Judging.{shown_after}
 use Rattle.mail_cycle.specs.Leaving.{IsMade, items_left}
 use Rattle.mail_cycle.specs.declared.settling.Rewound.{Rewound}
 use Rattle.time_desk.specs.Stored.{MarksLie}

@@ -16,10 +16,11 @@ use Rattle.verb_core.specs.Deeds.{same_body}
 use Rattle.verb_core.specs.Items.{text_in, text_of}
 use Rattle.verb_core.specs.Mailboxes.{same_key, uids_rise}
 use Rattle.verb_core.specs.Store.{IsValid, is_row}
-use Rattle.paradox.specs.Kept.{Kept, mailbox_at, stamp_at, store_of}
+use Rattle.store_kept.specs.Kept.{Kept, mailbox_at, stamp_at, store_of}
 use Rattle.repair_desk.specs.Renewals.{extends, extends_one, is_old, same_mail}
 use Rattle.mail_cycle.specs.Permanence.{UidsLast}
-use Rattle.mail_desk.specs.Timeline.{all_bodies, has_text}
+use Rattle.mail_desk.specs.Timeline.{has_text}
+use Rattle.store_kept.specs.Texts.{all_bodies}
 use Rattle.time_desk.specs.Permanence.{IsSound, Message, RevsBelow, entry_at, message_at, message_of}
 
 -- ---- rows
@@ -186,7 +187,7 @@ there kept id stamp uid m is = by_stamp (stamp_at kept id) refl is
     by_stamp (Some n) stamped is = by_test n (n == stamp) refl stamped is
 
 -- the entry has a text
-text_there : (t : List Item) (boxes : List (BoxId × Mailbox)) (id : BoxId) (uid : ℕ) (box : Mailbox) (e : Entry) → all_bodies (has_text t) boxes ≡ true → row_at id boxes ≡ Some box
+pub text_there : (t : List Item) (boxes : List (BoxId × Mailbox)) (id : BoxId) (uid : ℕ) (box : Mailbox) (e : Entry) → all_bodies (has_text t) boxes ≡ true → row_at id boxes ≡ Some box
     → find (λ (x : Entry). x.uid == uid) box.entries ≡ Some e → (text : List ℕ) × (text_of t e.body ≡ Some text)
 text_there t boxes id uid box e texts here found =
     some_of (text_of t e.body) (row_has (λ (r : BoxId × Mailbox). list_all (λ (x : Entry). has_text t x.body) r.1.entries) (λ (m : Mailbox). find (λ (x : Entry). x.uid == uid) m.entries ≡ Some e → has_text t e.body ≡ true)

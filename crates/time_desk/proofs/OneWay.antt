@@ -1,5 +1,5 @@
 -- An image opens in one way.
-use Rattle.std.proofs.Common.{◌≡◌, ◌⊎◌, inl, inr, ℕ, ◌<◌, ◌∷◌, ◌++◌, ◌∙◌, [], List, Bool, true, false, ◌&&◌, Some, None, Result, Ok, Err, length, is_some, IsTrue, refl, sym, ap, subst, arith, append_assoc, length-append}
+use Rattle.std.proofs.Common.{◌≡◌, ◌⊎◌, inl, inr, ℕ, ◌<◌, ◌∷◌, ◌++◌, ◌∙◌, [], List, Bool, true, false, ◌&&◌, Option, Some, None, Result, Ok, Err, length, is_some, IsTrue, refl, sym, ap, subst, arith, append_assoc, length-append}
 use Rattle.std.proofs.lemmas.List.{append-nil}
 use Rattle.std.specs.Prelude.{option_and_then, if◌then◌else◌}
 use Rattle.std.specs.List.{AllByRecursion}
@@ -14,13 +14,19 @@ use Rattle.verb_bytes.specs.declared.journal.JournalRecord.TheVariants.{Format, 
 use Rattle.verb_bytes.specs.Spelling.{HasSpelling, Spells, record_bytes}
 use Rattle.seal_log.specs.Journal.{frame, sealed, BeginsClosed, IsPayload, StandsFor}
 use Rattle.seal_log.specs.Loading.{BeginsCut, GoesOn, IsNotFormatted}
-use Rattle.paradox.specs.Kept.{Kept, performed, new_desk}
-use Rattle.mail_cycle.specs.Asking.{cycle_due}
+use Rattle.store_kept.specs.Kept.{Kept, performed, new_desk}
+use Rattle.cycle_rules.specs.Asking.{cycle_due}
 use Rattle.house_text.specs.Beginning.{can_begin}
 use Rattle.time_desk.specs.declared.fault.StartFault.{StartFault}
 use Rattle.time_desk.specs.declared.fault.StartFault.TheVariants.{NotFormatted, Damaged, Disk, NoMemory}
-use Rattle.time_desk.specs.Opening.{BeginsBad, CanStand, IsDamaged, OpensAs}
+use Rattle.time_desk.specs.Opening.{BeginsBroken, IsDamaged, OpensAs}
 use Rattle.time_desk.specs.Records.{Leaves, after_cycle_record, after_due, after_item, after_kept, after_record, after_records, after_snapshot, can_follow, can_keep, can_rewind, first_state, is_spelled, payloads_of, state}
+use Rattle.time_desk.proofs.Standings.{state_push}
+
+-- each of the records can stand: they leave something, or there are none
+abbrev CanStand : List JournalRecord → Type 0
+CanStand [] = Unit {0}
+CanStand (r ∷ rs) = IsTrue (is_some (state (r ∷ rs)))
 
 -- ---- records that can stand have their spelling
 
@@ -47,9 +53,9 @@ snapshot_spelled kept items conf rows = by_test (is_spelled (Snapshot items conf
 record_spelled : (kept : Kept) (r : JournalRecord) → IsTrue (is_some (after_record kept r)) → HasSpelling r
 record_spelled kept (Verb item) h = item_spelled kept (Verb item) item h
 record_spelled kept (Operator number at act) h = item_spelled kept (Operator number at act) (act_item number at act) h
-record_spelled kept (Format house conf) h = absurd (cc h)
 record_spelled kept (Cycle number at ask) h = cycle_spelled kept number at ask h
 record_spelled kept (Snapshot items conf rows) h = snapshot_spelled kept items conf rows h
+record_spelled kept _ h = absurd (cc h)
 
 first_spelled : (r : JournalRecord) → IsTrue (is_some (first_state r)) → HasSpelling r
 first_spelled (Format house conf) h = by_test (is_spelled (Format house conf)) h
@@ -57,10 +63,7 @@ first_spelled (Format house conf) h = by_test (is_spelled (Format house conf)) h
     by_test : (b : Bool) → is_some (if b && can_begin house conf then Some (new_desk house conf) else None) ≡ true → b ≡ true
     by_test true h = refl
     by_test false h = h
-first_spelled (Verb item) h = absurd (cc h)
-first_spelled (Operator number at act) h = absurd (cc h)
-first_spelled (Cycle number at ask) h = absurd (cc h)
-first_spelled (Snapshot items conf rows) h = absurd (cc h)
+first_spelled _ h = absurd (cc h)
 
 after_spelled : (kept : Kept) (rs : List JournalRecord) → IsTrue (is_some (after_records kept rs)) → AllByRecursion HasSpelling rs
 after_spelled kept [] h = tt
@@ -77,7 +80,7 @@ stand_spelled (r ∷ rs) h = elim (first_state r) as (λ o. first_state r ≡ o 
 ] refl h
 
 -- records that leave something can stand
-pub leaves_stand : (rs : List JournalRecord) (kept : Kept) → state rs ≡ Some kept → CanStand rs
+leaves_stand : (rs : List JournalRecord) (kept : Kept) → state rs ≡ Some kept → CanStand rs
 leaves_stand [] kept is = tt
 leaves_stand (r ∷ rs) kept is = ap is_some is
 
@@ -105,8 +108,58 @@ state_front (r ∷ b) x c = elim (first_state r) as (λ o. IsTrue (is_some (opti
 
 -- ---- rests
 
+-- what the records leave with one more behind them
+abbrev with_one : List JournalRecord → JournalRecord → Option Kept
+with_one records what = state (records ++ what ∷ [])
+
 abbrev IsBad : List JournalRecord → List ℕ → Type 0
-IsBad records rest = BeginsCut rest ⊎ BeginsBad records rest
+IsBad records rest = BeginsBroken (with_one records) rest
+
+-- damage in the front and behind it alike: behind records that can stand, none of which need be there
+record Damage (image : List ℕ) (place : ℕ) : Type 0 where
+  pub records : List JournalRecord
+  pub rest : List ℕ
+  pub split : image ≡ sealed (payloads_of records) ++ rest
+  pub short : AllByRecursion IsPayload (payloads_of records)
+  pub can_stand : CanStand records
+  pub place_is : place ≡ length (sealed (payloads_of records))
+  pub bad : IsBad records rest
+
+-- what begins with a record that comes to nothing does so of whatever comes to the same
+broken_as : (due other : JournalRecord → Option Kept) (bytes : List ℕ) → ((what : JournalRecord) → other what ≡ due what) → BeginsBroken due bytes → BeginsBroken other bytes
+broken_as due other bytes same (inl cut) = inl cut
+broken_as due other bytes same (inr bad) = inr (record {
+  payload = bad.payload;
+  more = bad.more;
+  split = bad.split;
+  fits = bad.fits;
+  some = bad.some;
+  stands_none = λ what spells. same what ∙ bad.stands_none what spells;
+})
+
+one_alone : (o : Option Kept) → option_and_then (λ (k : Kept). after_records k []) o ≡ o
+one_alone None = refl
+one_alone (Some k) = refl
+
+as_damage : (image : List ℕ) (place : ℕ) → IsDamaged image place → Damage image place
+as_damage image place (inl first) = record {
+  records = [];
+  rest = image;
+  split = refl;
+  short = tt;
+  can_stand = tt;
+  place_is = first.place_is;
+  bad = broken_as first_state (with_one []) image (λ what. one_alone (first_state what)) first.bad;
+}
+as_damage image place (inr later) = record {
+  records = later.records;
+  rest = later.rest;
+  split = later.split;
+  short = later.short;
+  can_stand = leaves_stand later.records later.kept later.state_is;
+  place_is = later.place_is;
+  bad = broken_as (after_record later.kept) (with_one later.records) later.rest (λ what. state_push later.records what later.kept later.state_is) later.bad;
+}
 
 begins_open : (rest tail : List ℕ) → rest ≡ 85 ∷ tail → BeginsClosed rest → ⊥
 begins_open [] tail is closed = closed
@@ -151,6 +204,9 @@ sealed_opens p payloads rest = append_assoc (85 ∷ frame p) (sealed payloads) r
 damaged_formatted : (records : List JournalRecord) (image rest : List ℕ) → image ≡ sealed (payloads_of records) ++ rest → IsBad records rest → IsNotFormatted image → ⊥
 damaged_formatted [] image rest split bad none = let opens = bad_opens [] rest bad in formatted image opens.0 (split ∙ opens.1) none
 damaged_formatted (r ∷ records) image rest split bad none = formatted image (frame (record_bytes r) ++ (sealed (payloads_of records) ++ rest)) (split ∙ sealed_opens (record_bytes r) (payloads_of records) rest) none
+
+not_formatted : (image : List ℕ) (place : ℕ) → IsDamaged image place → IsNotFormatted image → ⊥
+not_formatted image place damaged = let d = as_damage image place damaged in damaged_formatted d.records image d.rest d.split d.bad
 
 pub payload_at : (xs : List (List ℕ)) (p : List ℕ) (ms : List (List ℕ)) → AllByRecursion IsPayload (xs ++ p ∷ ms) → IsPayload p
 payload_at [] p ms all = all.0
@@ -229,7 +285,7 @@ module _
         by_more (p ∷ ms) is = absurd (begins_open r (frame p ++ (sealed ms ++ s)) (is ∙ sealed_opens p ms s) closed)
 
     -- what leaves something is not damaged
-    sound : (image : List ℕ) (kept : Kept) (place : ℕ) → Leaves kept image → IsDamaged image place → ⊥
+    sound : (image : List ℕ) (kept : Kept) (place : ℕ) → Leaves kept image → Damage image place → ⊥
     sound image kept place one two = by_cases (agree (payloads_of one.records) (payloads_of two.records) one.stands.rest two.rest one.stands.short two.short (sym one.stands.split ∙ two.split))
       where
         by_cases : GoesOn (payloads_of one.records) one.stands.rest (payloads_of two.records) two.rest ⊎ GoesOn (payloads_of two.records) two.rest (payloads_of one.records) one.stands.rest → ⊥
@@ -238,7 +294,7 @@ module _
             let same = goes_no_further one.records two.records two.rest one.stands.rest (leaves_stand one.records kept one.state_is) two.can_stand one.stands.short two.bad (some_closed one.stands.rest one.stands.closed) on in
             closed_not_bad two.records two.rest (subst BeginsClosed (sym same.1) one.stands.closed) two.bad
 
-    one_place : (image : List ℕ) (p q : ℕ) → IsDamaged image p → IsDamaged image q → p ≡ q
+    one_place : (image : List ℕ) (p q : ℕ) → Damage image p → Damage image q → p ≡ q
     one_place image p q one two = one.place_is ∙ ap (λ (l : List (List ℕ)). length (sealed l)) (by_cases (agree (payloads_of one.records) (payloads_of two.records) one.rest two.rest one.short two.short (sym one.split ∙ two.split))) ∙ sym two.place_is
       where
         by_cases : GoesOn (payloads_of one.records) one.rest (payloads_of two.records) two.rest ⊎ GoesOn (payloads_of two.records) two.rest (payloads_of one.records) one.rest → payloads_of one.records ≡ payloads_of two.records
@@ -261,17 +317,17 @@ module _
     pub opens_once : ((image : List ℕ) (a b : List (List ℕ)) → StandsFor image a → StandsFor image b → a ≡ b) → (image : List ℕ) (x y : Result Kept StartFault) → OpensAs image x → OpensAs image y → x ≡ y
     opens_once payloads image (Ok k) (Ok l) one two = ap Ok (one_kept image k l (payloads image) one two)
     opens_once payloads image (Ok k) (Err NotFormatted) one two = absurd (leaves_formatted image k one two)
-    opens_once payloads image (Ok k) (Err (Damaged q)) one two = absurd (sound image k q one two)
+    opens_once payloads image (Ok k) (Err (Damaged q)) one two = absurd (sound image k q one (as_damage image q two))
     opens_once payloads image (Ok k) (Err Disk) one two = absurd two
     opens_once payloads image (Ok k) (Err NoMemory) one two = absurd two
     opens_once payloads image (Err NotFormatted) (Ok l) one two = absurd (leaves_formatted image l two one)
     opens_once payloads image (Err NotFormatted) (Err NotFormatted) one two = refl
-    opens_once payloads image (Err NotFormatted) (Err (Damaged q)) one two = absurd (damaged_formatted two.records image two.rest two.split two.bad one)
+    opens_once payloads image (Err NotFormatted) (Err (Damaged q)) one two = absurd (not_formatted image q two one)
     opens_once payloads image (Err NotFormatted) (Err Disk) one two = absurd two
     opens_once payloads image (Err NotFormatted) (Err NoMemory) one two = absurd two
-    opens_once payloads image (Err (Damaged p)) (Ok l) one two = absurd (sound image l p two one)
-    opens_once payloads image (Err (Damaged p)) (Err NotFormatted) one two = absurd (damaged_formatted one.records image one.rest one.split one.bad two)
-    opens_once payloads image (Err (Damaged p)) (Err (Damaged q)) one two = ap (λ (n : ℕ). Err (Damaged n)) (one_place image p q one two)
+    opens_once payloads image (Err (Damaged p)) (Ok l) one two = absurd (sound image l p two (as_damage image p one))
+    opens_once payloads image (Err (Damaged p)) (Err NotFormatted) one two = absurd (not_formatted image p one two)
+    opens_once payloads image (Err (Damaged p)) (Err (Damaged q)) one two = ap (λ (n : ℕ). Err (Damaged n)) (one_place image p q (as_damage image p one) (as_damage image q two))
     opens_once payloads image (Err (Damaged p)) (Err Disk) one two = absurd two
     opens_once payloads image (Err (Damaged p)) (Err NoMemory) one two = absurd two
     opens_once payloads image (Err Disk) y one two = absurd one

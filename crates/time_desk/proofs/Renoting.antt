@@ -21,8 +21,9 @@ use Rattle.shelf.specs.declared.note.Note.{Note}
 use Rattle.shelf.specs.Notes.{LiesBefore, note_of, size_of}
 use Rattle.paradox.specs.Answers.{broken}
 use Rattle.stored_items.specs.Stored.{AllHeard, IsHeard, stored_deed}
-use Rattle.mail_cycle.specs.Cycles.{compared_from, notice_item, notice_items, repaired_items, timeline_by}
-use Rattle.mail_cycle.specs.Judging.{shown_after, shown_by}
+use Rattle.cycle_rules.specs.Cycles.{notice_item, notice_items, repaired_items}
+use Rattle.mail_cycle.specs.Comparing.{compared_from, timeline_by}
+use Rattle.cycle_rules.specs.Judging.{shown_after, shown_by}
 use Rattle.repair_desk.specs.Repairs.{are_known, inserted, is_dropped, kept, new_timeline, repaired, replaced_by, takes_text, text_asked}
 use Rattle.repair_desk.proofs.Everywhere.{everywhere, inserted_above, joined, mapped, passing, rest_of, taken, weaker}
 use Rattle.mail_desk.specs.declared.noting.Fresh.{Fresh}
@@ -33,9 +34,9 @@ use Rattle.mail_cycle.specs.declared.settling.Rewound.{Rewound}
 use Rattle.mail_desk.specs.Held.{Held}
 use Rattle.mail_desk.specs.Timeline.{SizesOf, body_of, notice_text_of}
 use Rattle.mail_desk.specs.Noting.{notice_note}
-use Rattle.paradox.specs.Kept.{Kept, report_of}
+use Rattle.store_kept.specs.Kept.{Kept, report_of}
 use Rattle.paradox.specs.declared.reports.Report.{Report}
-use Rattle.mail_cycle.specs.Asking.{cycle_due, due_anew, due_by}
+use Rattle.cycle_rules.specs.Asking.{cycle_due, due_anew, due_by}
 use Rattle.time_desk.specs.Records.{after_cycle_record, after_due, can_rewind, is_spelled}
 use Rattle.time_desk.specs.Permanence.{RevsBelow}
 use Rattle.time_desk.specs.Stored.{HasNote, IsBefore, IsFresh, IsStored, LiesIn, NotedBefore, NotesCycle, Renotes, TextsLie, recorded_in}

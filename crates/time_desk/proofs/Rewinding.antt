@@ -2,7 +2,7 @@
 use Rattle.std.proofs.Common.{◌≡◌, ◌<◌, ◌≤◌, ◌-◌, suc, ◌∷◌, ◌++◌, ◌∙◌, ◌&&◌, [], ℕ, take, drop, List, Bool, true, false, Option, Some, None, Result, Ok, Err, IfOk, OnOk, inl, inr, map, refl, sym, ap, subst, arith}
 use Rattle.std.specs.Prelude.{◌⊎◌, ◌+◌, ◌||◌, if◌then◌else◌, is_none, option_and_then, length, IsSome, IsTrue}
 use Rattle.std.proofs.lemmas.List.{length-append, length-map, length-take-le, take-append-drop}
-use Rattle.mail_cycle.specs.Judging.{shown_after}
+use Rattle.cycle_rules.specs.Judging.{shown_after}
 use Rattle.std.proofs.lemmas.Bool.{eq-eqb}
 use Rattle.std.specs.List.{AllByRecursion}
 use Rattle.undo_outside.specs.Disk.{DiskTold, IsHonest}
@@ -17,6 +17,7 @@ use Rattle.verb_core.specs.declared.item.Item.{Item}
 use Rattle.verb_core.specs.declared.mailbox.BoxId.{BoxId}
 use Rattle.verb_core.specs.declared.mailbox.Mailbox.{Mailbox}
 use Rattle.verb_core.specs.declared.mailbox.Body.{Body}
+use Rattle.verb_core.specs.Fates.{IsBase}
 use Rattle.verb_core.specs.Items.{IsTimeline, IsWellFormed, NumbersApart}
 use Rattle.verb_core.specs.Step.{run}
 use Rattle.verb_core.specs.Store.{IsValid, MailStore}
@@ -25,7 +26,8 @@ use Rattle.verb_bytes.specs.declared.journal.CycleAsk.{CycleAsk}
 use Rattle.verb_bytes.specs.declared.journal.JournalRecord.TheVariants.{Cycle}
 use Rattle.verb_bytes.specs.Spelling.{record_bytes}
 use Rattle.paradox.specs.declared.reports.Report.{Report}
-use Rattle.paradox.specs.Kept.{IsRun, Kept, newest_at, report_of, rewound}
+use Rattle.store_kept.specs.Bases.{HasBase}
+use Rattle.store_kept.specs.Kept.{IsRun, Kept, newest_at, report_of, rewound}
 use Rattle.shelf.specs.Marks.{marks_at_or_before}
 use Rattle.stored_items.specs.Stored.{AllHeard}
 use Rattle.repair_desk.specs.Repairs.{are_known, inserted, kept as stays, numbers_of, position, repaired}
@@ -33,20 +35,22 @@ use Rattle.repair_desk.proofs.Everywhere.{rest_of}
 use Rattle.mail_cycle.specs.declared.refused.CycleRefused.{CycleRefused}
 use Rattle.mail_cycle.specs.declared.refused.CycleRefused.TheVariants as refusals
 use Rattle.mail_cycle.specs.declared.settling.Rewound.{Rewound}
-use Rattle.mail_cycle.specs.Asking.{Due, IsRewinds, NoNumbers, NoPoint, Repeats, Rewinds, after_cycle, cycle_due, due_anew, due_by}
-use Rattle.mail_cycle.specs.Cycles.{Cycled, compared_from, cycled_at, cycled_from, front_of, leaves_numbers, reached_from, repaired_items, timeline_by, timeline_from, told_by}
+use Rattle.cycle_rules.specs.Asking.{Due, IsRewinds, NoNumbers, NoPoint, Repeats, Rewinds, after_cycle, cycle_due, due_anew, due_by}
+use Rattle.cycle_rules.specs.Cycles.{Cycled, cycled_at, front_of, leaves_numbers, repaired_items}
+use Rattle.mail_cycle.specs.Comparing.{compared_from, cycled_from, reached_from, timeline_by, timeline_from, told_by}
 use Rattle.mail_cycle.specs.Leaving.{GoesOnAt, IsMade, IsMadeFrom, Leaves, LeavesAt, items_left}
 use Rattle.mail_cycle.specs.Refusing.{IsRefusalOf}
 use Rattle.time_desk.specs.declared.fault.CycleFault.{CycleFault}
 use Rattle.time_desk.specs.declared.fault.CycleFault.TheVariants as cycle_faults
 use Rattle.time_desk.specs.Cycling.{Cycles, CyclesAs, CyclesBy, CyclesNone, IsCycleOutcomeOf, IsFit, IsTold, Redoes, RedoesCause, RenotesAs, StarvesBy, TriesNone, after_rewound, most_performed}
 use Rattle.mail_desk.specs.Held.{Held}
-use Rattle.mail_desk.specs.Timeline.{SizesOf, all_bodies, has_text}
+use Rattle.mail_desk.specs.Timeline.{SizesOf, has_text}
+use Rattle.store_kept.specs.Texts.{all_bodies}
 use Rattle.time_desk.specs.Lasting.{JournalTold, Lasting, lasting}
 use Rattle.time_desk.specs.Permanence.{IsSound}
-use Rattle.time_desk.specs.Reading.{IsStill}
+use Rattle.time_desk.specs.Reading.{IsStill, ReadsWell}
 use Rattle.time_desk.specs.Records.{after_cycle_record, after_due, after_record, can_rewind, is_spelled}
-use Rattle.time_desk.specs.Sealing.{HasNoCycle, IsRecordTo, Seals, SealsPayloads}
+use Rattle.time_desk.specs.Sealing.{ReadNoTexts, IsRecordTo, Seals, SealsPayloads}
 use Rattle.time_desk.specs.Stored.{HoldsTexts, IsFresh, MarksLie, NotedBefore, Renotes, TextsLie, store_at}
 use Rattle.mail_cycle.specs.declared.beginning.Beginning.{Beginning}
 use Rattle.time_desk.specs.Serving.{CanServe, Serves, unmarked}
@@ -60,6 +64,7 @@ use Rattle.desk_journal.proofs.Runs.{seals_nothing, seals_still, seals_then, sti
 use Rattle.desk_journal.proofs.Sealed.{lies_longer}
 use Rattle.time_desk.proofs.Soundness.{revs_on}
 use Rattle.desk_journal.proofs.Submits.{not_sealed}
+use Rattle.desk_journal.proofs.Truth.{cycle_true, one_true}
 
 -- ---- what a cycle leaves in memory
 
@@ -105,10 +110,10 @@ module _ (kept : Kept) (at : ℕ) (ask : CycleAsk) (place : ℕ) (first : MailSt
   abbrev Timeline : List Item
   Timeline = timeline_from kept at ask place first count heard
 
-  pub fits : BodiesOn → made.from ≡ count → count ≤ place → LeavesAt kept.timeline (reached_from kept at ask place first count heard) (cycled_from kept at ask place first count heard) made
+  pub fits : BodiesOn → HasBase kept → made.from ≡ count → count ≤ place → LeavesAt kept.timeline (reached_from kept at ask place first count heard) (cycled_from kept at ask place first count heard) made
       → GoesOnAt kept (reached_from kept at ask place first count heard) (cycled_from kept at ask place first count heard)
       → place ≤ length kept.timeline → CanServe kept count first → take count Timeline ≡ take count kept.timeline → IsFit kept made
-  fits bodies stays few leaves goes within serves front = record {
+  fits bodies base stays few leaves goes within serves front = record {
     from = subst (λ (n : ℕ). n ≤ length kept.timeline) (sym stays) (omega arith);
     house = ap (λ (s : MailStore). s.house) leaves.store ∙ run_house first (drop count Timeline) ∙ serves.house;
     texts = subst (λ (t : List Item). IsTrue (all_bodies (has_text t) made.store.store.boxes)) (sym leaves.timeline)
@@ -118,6 +123,7 @@ module _ (kept : Kept) (at : ℕ) (ask : CycleAsk) (place : ℕ) (first : MailSt
         (subst (λ h. AllByRecursion (IsWellFormed h) (drop count Timeline)) (sym serves.house) (rest_of (IsWellFormed kept.house) count Timeline goes.timeline.formed))
         (subst (λ (t : List Item). IsTrue (all_bodies (has_text t) first.boxes)) (sym front) serves.texts))));
     valid = leaves.valid;
+    base = subst (λ (t : List Item). IsBase t kept.base) (sym leaves.timeline) (goes.base base);
     timeline = subst (IsTimeline kept.house) (sym leaves.timeline) goes.timeline;
     below = subst (λ (n : ℕ). AllByRecursion (λ (i : Item). i.number < n) (items_left kept.timeline made)) (sym leaves.next)
         (subst (AllByRecursion (λ (i : Item). i.number < (cycled_from kept at ask place first count heard).next)) (sym leaves.timeline) goes.below);
@@ -155,14 +161,14 @@ module _ (kept before : Kept) (at : ℕ) (ask : CycleAsk) (place : ℕ) (first :
       by (Ok m) is = is
       by (Err e) is = tt
 
-  pub fits_made : {E : Type 0} (was : Type 0) (result : Result Rewound E) → before ≡ unmarked kept → IfOk result (IsMadeFrom before at ask place first count was) → BodiesOn → count ≤ place → place ≤ length kept.timeline → CanServe kept count first
+  pub fits_made : {E : Type 0} (was : Type 0) (result : Result Rewound E) → before ≡ unmarked kept → IfOk result (IsMadeFrom before at ask place first count was) → BodiesOn → HasBase kept → count ≤ place → place ≤ length kept.timeline → CanServe kept count first
       → ((heard : List Item) → AllHeard (repaired_items kept at ask place) heard → GoesOnAt kept (reached_from kept at ask place first count heard) (cycled_from kept at ask place first count heard))
       → ((heard : List Item) → take count heard ≡ take count kept.timeline → take count (timeline_from kept at ask place first count heard) ≡ take count kept.timeline)
       → IfOk result (IsFit kept)
-  fits_made was (Ok m) same made bodies few within serves goes front =
+  fits_made was (Ok m) same made bodies base few within serves goes front =
       let is = unmarked_made was m (subst (λ (k : Kept). IsMadeFrom k at ask place first count was m) same made) in
-      fits kept at ask place first count is.heard m bodies is.from few is.leaves (goes is.heard is.all) within serves (front is.heard is.front)
-  fits_made was (Err e) same made bodies few within serves goes front = tt
+      fits kept at ask place first count is.heard m bodies base is.from few is.leaves (goes is.heard is.all) within serves (front is.heard is.front)
+  fits_made was (Err e) same made bodies base few within serves goes front = tt
 
 -- where the same is known of more
 pub made_from_weaker : (kept : Kept) (at : ℕ) (ask : CycleAsk) (place : ℕ) (first : MailStore) (count : ℕ) (told more : Type 0) (made : Rewound) → (more → told) → IsMadeFrom kept at ask place first count told made
@@ -310,6 +316,7 @@ pub record_is : (kept : Kept) (at : ℕ) (ask : CycleAsk) (due : Cycled) (bytes 
 record_is kept at ask due bytes new due_is bytes_are spelled known = record {
   bytes_are = sym bytes_are;
   can_stand = record_after kept at ask spelled known ∙ ap (after_due kept ask) (due_new kept at ask new ∙ due_is);
+  truth = cycle_true kept kept.next at ask;
 }
 
 -- ---- answers
@@ -322,10 +329,10 @@ any_ok (Err e) holds = tt
 -- why there is no cycle, of a trial
 pub tries_none : (kept : Kept) (at : ℕ) (ask : CycleAsk) (old new : DiskTold) (refused : CycleRefused) (fault : CycleFault) → IsRefusalOf kept ask (due_anew kept at ask) refused
     → RedoesCause {T = Rewound} old new (Err refused) → IsTold refused fault → TriesNone kept at ask old new fault
-tries_none kept at ask old new (refusals.Point given) fault refusal cause is = subst (TriesNone kept at ask old new) (sym is) refusal
-tries_none kept at ask old new (refusals.Numbers next) fault refusal cause is = subst (TriesNone kept at ask old new) (sym is) refusal
+tries_none kept at ask old new (refusals.Point given) fault refusal cause is = subst (TriesNone kept at ask old new) (sym is) (refusal.0, refusal.1, cause)
+tries_none kept at ask old new (refusals.Numbers next) fault refusal cause is = subst (TriesNone kept at ask old new) (sym is) (refusal.0, refusal.1, cause)
 tries_none kept at ask old new refusals.Disk fault refusal cause is = subst (TriesNone kept at ask old new) (sym is) (refusal, cause)
-tries_none kept at ask old new refusals.NoMemory fault refusal cause is = subst (TriesNone kept at ask old new) (sym is) refusal
+tries_none kept at ask old new refusals.NoMemory fault refusal cause is = subst (TriesNone kept at ask old new) (sym is) (refusal, cause)
 
 module _ {D : Type 0} (told : D → DiskTold) where
   -- a report of before
@@ -354,18 +361,18 @@ module _ {D : Type 0} (told : D → DiskTold) where
 
   -- a cycle is due, and found no memory
   pub starved : (at : ℕ) (ask : CycleAsk) (old new : Lasting D) (due : Cycled) → report_of old.kept.reports ask.key ≡ None → due_anew old.kept at ask ≡ Rewinds due → old.closed ≡ false
-      → SealsNothing told old new → CyclesNone told at ask old new cycle_faults.NoMemory
-  starved at ask old new due anew due_is open_ nothing = subst (StarvesBy told old new) (sym (due_new old.kept at ask anew ∙ due_is)) (open_, nothing)
+      → SealsNothing told old new → ReadsWell told old new → CyclesNone told at ask old new cycle_faults.NoMemory
+  starved at ask old new due anew due_is open_ nothing well = subst (StarvesBy told old new) (sym (due_new old.kept at ask anew ∙ due_is)) (open_, nothing, well)
 
   -- a cycle that was not sealed
   pub cycles_none : (at : ℕ) (ask : CycleAsk) (old new : Lasting D) (due : Cycled) (fault : SealFault) (out : CycleFault)
       → report_of old.kept.reports ask.key ≡ None → due_anew old.kept at ask ≡ Rewinds due → old.closed ≡ false → IsCycleOutcomeOf fault out
-      → SealsNone told (Cycle old.kept.next at ask) old new fault → CyclesNone told at ask old new out
-  cycles_none at ask old new due log_faults.Disk out anew due_is open_ is none =
-      subst (CyclesNone told at ask old new) (sym is) (open_, inl (due, due_new old.kept at ask anew ∙ due_is, none))
-  cycles_none at ask old new due log_faults.NoMemory out anew due_is open_ is none =
-      subst (CyclesNone told at ask old new) (sym is) (starved at ask old new due anew due_is open_ none)
-  cycles_none at ask old new due log_faults.Closed out anew due_is open_ is none = absurd none
+      → SealsNone told (Cycle old.kept.next at ask) old new fault → ReadsWell told old new → CyclesNone told at ask old new out
+  cycles_none at ask old new due log_faults.Disk out anew due_is open_ is none well =
+      subst (CyclesNone told at ask old new) (sym is) (open_, inl (due, due_new old.kept at ask anew ∙ due_is, none, well))
+  cycles_none at ask old new due log_faults.NoMemory out anew due_is open_ is none well =
+      subst (CyclesNone told at ask old new) (sym is) (starved at ask old new due anew due_is open_ none well)
+  cycles_none at ask old new due log_faults.Closed out anew due_is open_ is none well = absurd none
 
   -- no cycle in memory
   pub refused : (at : ℕ) (ask : CycleAsk) (old new : Lasting D) (why : CycleRefused) (out : CycleFault) → IsStill told old new → SealsNothing told old new
@@ -386,7 +393,7 @@ module _ {D : Type 0} (told : D → DiskTold) where
       by_due (Repeats report) wanted = absurd wanted
       by_due NoPoint wanted = absurd wanted
       by_due NoNumbers wanted = absurd wanted
-      by_due (Rewinds due) wanted = (open_, nothing)
+      by_due (Rewinds due) wanted = (open_, nothing, cause)
 
 -- ---- a cycle that is sealed
 
@@ -411,6 +418,7 @@ module _ {D : Type 0} (told : D → DiskTold) (disk : D) (before after : Held) (
       kept = λ why. ap (option_and_then Some) (can why);
       house = ap (λ (k : Kept). k.house) kept_is;
       could = refl;
+      truth = λ why. one_true before.kept (Cycle before.kept.next at ask) due_record.truth;
       closed = still ∙ sym (ap (λ b. b || false) open_);
       on_disk = subst (λ (b : List ℕ). SealsPayloads (b ∷ []) [] (told disk) (told new.disk) old.gate new.gate) bytes_are
           (payloads_then [] (bytes ∷ []) [] (told disk) (told old.disk) (told new.disk) old.gate old.gate new.gate (none_read (told disk) (told old.disk) old.gate reads) seals);
@@ -420,7 +428,7 @@ module _ {D : Type 0} (told : D → DiskTold) (disk : D) (before after : Held) (
           (still_holds told First (lasting before old) read_still holds);
     }
       where
-        can : HoldsTexts told First ⊎ HasNoCycle (Cycle before.kept.next at ask ∷ []) → after_record before.kept (Cycle before.kept.next at ask) ≡ Some after.kept
+        can : HoldsTexts told First ⊎ ReadNoTexts (Cycle before.kept.next at ask ∷ []) → after_record before.kept (Cycle before.kept.next at ask) ≡ Some after.kept
         can (inl holds) = due_record.can_stand ∙ ap Some (after_is before.kept ask red.redoes.0 made (red.redoes.2 holds) ∙ sym kept_is)
         can (inr none) = absurd (let wrong : true ≡ false = none in cc)
 
@@ -445,11 +453,12 @@ module _ {D : Type 0} (told : D → DiskTold) (disk : D) (before after : Held) (
             (subst (λ (t : List Item). Renotes before.notes renotes.fresh t after.notes) timeline renotes.renotes) all)
 
     -- it was not
-    pub cycle_unsealed : {X : Type 0} (fault : SealFault) (out : CycleFault) → SealsBytes {X = X} told bytes old new (Err fault) → after.kept ≡ before.kept → after.notes ≡ before.notes → after.marks ≡ before.marks → IsCycleOutcomeOf fault out
+    pub cycle_unsealed : {X : Type 0} (fault : SealFault) (out : CycleFault) → SealsBytes {X = X} told bytes old new (Err fault) → (told old.disk).failed_reads ≡ (told disk).failed_reads → after.kept ≡ before.kept → after.notes ≡ before.notes → after.marks ≡ before.marks → IsCycleOutcomeOf fault out
         → CyclesNone told at ask First (lasting after new) out
-    cycle_unsealed fault out sealed kept notes marks is =
+    cycle_unsealed fault out sealed well kept notes marks is =
         cycles_none told at ask First (lasting after new) red.redoes.0 fault out anew red.redoes.1 open_ is
         (later fault (not_sealed told (Cycle before.kept.next at ask) bytes (after_cycle before.kept ask red.redoes.0) before after old new fault due_record kept notes marks open_ sealed))
+        (sealed.reads ∙ well)
       where
         later : (f : SealFault) → SealsNone told (Cycle before.kept.next at ask) (lasting before old) (lasting after new) f → SealsNone told (Cycle before.kept.next at ask) First (lasting after new) f
         later log_faults.Disk none = seals_then told [] [] (Cycle before.kept.next at ask ∷ []) First (lasting before old) (lasting after new) (seals_still told First (lasting before old) read_still) none
@@ -457,12 +466,13 @@ module _ {D : Type 0} (told : D → DiskTold) (disk : D) (before after : Held) (
         later log_faults.Closed none = none
 
   -- there was no memory for what is to be put in place
-  pub cycle_starved : CyclesAs told First at ask made → report_of before.kept.reports ask.key ≡ None → old.closed ≡ false → ((d : D) → (told d).honest → IsHonest (told d)) → after.kept ≡ before.kept → after.notes ≡ before.notes → after.marks ≡ before.marks
+  pub cycle_starved : CyclesAs told First at ask made → report_of before.kept.reports ask.key ≡ None → old.closed ≡ false → ((d : D) → (told d).honest → IsHonest (told d)) → (told old.disk).failed_reads ≡ (told disk).failed_reads → after.kept ≡ before.kept → after.notes ≡ before.notes → after.marks ≡ before.marks
       → CyclesNone told at ask First (lasting after old) cycle_faults.NoMemory
-  cycle_starved red anew open_ truth kept notes marks =
+  cycle_starved red anew open_ truth well kept notes marks =
       starved told at ask First (lasting after old) red.redoes.0 anew red.redoes.1 open_
       (seals_then told [] [] [] First (lasting before old) (lasting after old) (seals_still told First (lasting before old) read_still)
       (seals_nothing told truth (lasting before old) (lasting after old) (record { kept = kept; notes = notes; marks = marks; disk = refl; gate = refl; closed = refl })))
+      well
 
 -- ---- a journal that was read
 

@@ -1,23 +1,33 @@
 -- What a cycle begins with.
-use Rattle.std.proofs.Common.{◌≡◌, ℕ, zero, suc, ◌-◌, ◌<◌, ◌≤◌, true, false, cond, nat_le, List, [], ◌∷◌, length, map, take, get_or, Option, Some, None, Result, Ok, Err, IfOk, arith, refl, sym, ap, subst, ◌∙◌, slice_get}
-use Rattle.std.specs.Prelude.{IfSome, IsTrue, option_map, slice_index_or}
-use Rattle.std.specs.List.{AllByRecursion}
+use Rattle.std.proofs.Common.{◌≡◌, inl, inr, ℕ, zero, suc, ◌+◌, ◌-◌, ◌<◌, ◌≤◌, ◌&&◌, Bool, true, false, cond, nat_le, List, [], ◌∷◌, ◌++◌, length, map, take, drop, get_or, Option, Some, None, Result, Ok, Err, IfOk, arith, refl, sym, ap, ap₂, subst, ◌∙◌, slice_get}
+use Rattle.std.specs.Prelude.{IfSome, IsTrue, option_and_then, option_map, slice_index_or}
+use Rattle.std.specs.List.{AllByRecursion, slice_range}
+use Rattle.std.proofs.lemmas.Bool.{eq-eqb}
 use Rattle.std.proofs.lemmas.Bool.Decides.{nat_tests}
+use Rattle.undo_outside.specs.Disk.{DiskTold}
+use Rattle.verb_core.specs.declared.conf.Conf.{Conf}
 use Rattle.verb_core.specs.declared.conf.House.{House}
 use Rattle.verb_core.specs.declared.item.Item.{Item}
+use Rattle.verb_core.specs.declared.mailbox.BoxId.{BoxId}
+use Rattle.verb_core.specs.declared.mailbox.Mailbox.{Mailbox}
 use Rattle.verb_core.specs.Items.{IsWellFormed}
 use Rattle.verb_core.specs.Step.{run, step}
-use Rattle.verb_core.specs.Store.{IsValid, MailStore, opening}
+use Rattle.verb_core.specs.Store.{IsValid, MailStore}
 use Rattle.verb_core.proofs.Joins.{run_house}
 use Rattle.seal_log.specs.declared.place.Place.{Place}
 use Rattle.shelf.specs.Marks.{marks_at_or_before, newest}
-use Rattle.box_store.specs.Making.{store_of_rows}
+use Rattle.verb_bytes.specs.declared.journal.JournalRecord.{JournalRecord}
+use Rattle.verb_bytes.specs.Spelling.{Spells}
+use Rattle.box_store.specs.Making.{makes_store, store_of_rows}
+use Rattle.mail_desk.specs.Held.{Held}
 use Rattle.mail_cycle.specs.declared.beginning.Beginning.{Beginning}
-use Rattle.mail_desk.specs.Timeline.{all_bodies, has_text}
-use Rattle.paradox.specs.Kept.{Kept, not_behind}
+use Rattle.mail_desk.specs.Timeline.{has_text}
+use Rattle.store_kept.specs.Bases.{HasBase}
+use Rattle.store_kept.specs.Texts.{all_bodies, has_text_among}
+use Rattle.store_kept.specs.Kept.{Kept, not_behind}
 use Rattle.repair_desk.proofs.Everywhere.{taken}
-use Rattle.time_desk.specs.Serving.{CanServe, FindsLast, IsNewest, Serves}
-use Rattle.time_desk.specs.Stored.{store_at}
+use Rattle.time_desk.specs.Serving.{BeginsBy, CanServe, FindsLast, IsLastToServe, IsNewest, NoneServes, Serves, ServesBy, bytes_at, can_serve, store_from, store_in}
+use Rattle.time_desk.specs.Stored.{snapshot_at, store_at}
 
 abbrev pub Mark : Type 0
 Mark = ℕ × Place
@@ -30,17 +40,18 @@ run_valid law base (i ∷ t) valid formed = run_valid law (step base i).0 t (law
 
 -- the store that the first items left
 pub front_serves : ((s : MailStore) (i : Item) → IsValid s → IsWellFormed s.house i → IsValid (step s i).0)
-    → (kept : Kept) (count : ℕ) → kept.base ≡ opening kept.house kept.opening → IsValid (opening kept.house kept.opening)
-    → AllByRecursion (IsWellFormed kept.house) kept.timeline
-    → ((t : List Item) → AllByRecursion (IsWellFormed kept.house) t → IsTrue (all_bodies (has_text t) (run (opening kept.house kept.opening) t).boxes))
+    → (kept : Kept) (count : ℕ) → HasBase kept
+    → ((base : MailStore) (t : List Item) → IsValid base → AllByRecursion (IsWellFormed base.house) t → IsTrue (all_bodies (has_text t) base.boxes) → IsTrue (all_bodies (has_text t) (run base t).boxes))
+    → ((kept : Kept) (items : List Item) → HasBase kept → IsTrue (all_bodies (has_text_among kept items) kept.base.boxes))
     → CanServe kept count (store_at kept count)
-front_serves law kept count base valid formed texts =
-    let front : AllByRecursion (IsWellFormed kept.house) (take count kept.timeline) = taken (IsWellFormed kept.house) count kept.timeline formed in
-    subst (λ (s : MailStore). CanServe kept count (run s (take count kept.timeline))) (sym base) (record {
-      valid = run_valid law (opening kept.house kept.opening) (take count kept.timeline) valid front;
-      house = run_house (opening kept.house kept.opening) (take count kept.timeline);
-      texts = texts (take count kept.timeline) front;
-    })
+front_serves law kept count base texts known =
+    let items = take count kept.timeline in
+    let front : AllByRecursion (IsWellFormed kept.base.house) items = taken (IsWellFormed kept.base.house) count kept.timeline base.stands.timeline.formed in
+    record {
+      valid = run_valid law kept.base items base.stands.valid front;
+      house = run_house kept.base items ∙ base.house_is;
+      texts = texts kept.base items base.stands.valid front (known kept items base);
+    }
 
 -- a store is made of its own rows
 pub made_again : (s : MailStore) (house : House) → s.house ≡ house → store_of_rows house s.conf s.boxes ≡ s
@@ -149,3 +160,76 @@ module _ (kept : Kept) (place : ℕ) (marks ms : List Mark) (places : kept.marks
 pub serves_first : {E : Type 0} (kept : Kept) (place : ℕ) (result : Result Beginning E) → IfOk result (λ first. first.count ≡ 0) → IfOk result (λ first. CanServe kept 0 first.store.store) → IfOk result (Serves kept place)
 serves_first kept place (Ok first) count serves = record { few = subst (λ (n : ℕ). n ≤ place) (sym count) (omega arith); serves = subst (λ (n : ℕ). CanServe kept n first.store.store) (sym count) serves }
 serves_first kept place (Err e) count serves = tt
+
+-- ---- what reads give
+
+-- the snapshot of the first items gives their store
+pub own_store : (kept : Kept) (count : ℕ) → ((house : House) (conf : Conf) (rows : List (BoxId × Mailbox)) → IsValid (store_of_rows house conf rows) → makes_store house conf rows ≡ true) → CanServe kept count (store_at kept count)
+    → store_in kept count (snapshot_at kept count) ≡ Some (store_at kept count)
+own_store kept count law serves =
+    let s = store_at kept count in
+    let again : store_of_rows kept.house s.conf s.boxes ≡ s = made_again s kept.house serves.house in
+    let can : can_serve kept count s.conf s.boxes ≡ true = ap₂ (λ (x y : Bool). x && y) (law kept.house s.conf s.boxes (subst IsValid (sym again) serves.valid)) serves.texts in
+    ap (λ (b : Bool). option_and_then (λ (parts : Conf × List (BoxId × Mailbox)). store_from kept count parts.0 parts.1) (cond b (Some (s.conf, s.boxes)) None)) (eq-eqb count count refl)
+    ∙ ap (λ (b : Bool). cond b (Some (store_of_rows kept.house s.conf s.boxes)) None) can ∙ ap Some again
+
+-- bytes that spell a record give its store
+pub serves_by : ((first second : JournalRecord) (bytes : List ℕ) → Spells first bytes → Spells second bytes → first ≡ second) → (kept : Kept) (count : ℕ) (bytes : List ℕ) (what : JournalRecord) → Spells what bytes
+    → (o : Option MailStore) → o ≡ store_in kept count what → ServesBy kept count bytes o
+serves_by one kept count bytes what spells None is = λ other spelled. ap (store_in kept count) (one other what bytes spelled spells) ∙ sym is
+serves_by one kept count bytes what spells (Some store) is = (what, spells, sym is)
+
+-- the bytes are the same where what a disk's reads give is the same
+pub serves_still : (kept : Kept) (m : Mark) (a b : DiskTold) (o : Option MailStore) → b.content ≡ a.content → ServesBy kept m.0 (bytes_at b m.1) o → ServesBy kept m.0 (bytes_at a m.1) o
+serves_still kept m a b o same = subst (λ (content : List ℕ). ServesBy kept m.0 (slice_range content (m.1.gate + 5) (m.1.gate + 5 + m.1.length)) o) same
+
+-- a mark among others, and those behind it
+drop_here : (xs : List Mark) (k : ℕ) (d : Mark) → k < length xs → drop k xs ≡ slice_index_or xs k d ∷ drop (suc k) xs
+drop_here [] k d less = absurd (omega arith)
+drop_here (x ∷ xs) zero d less = refl
+drop_here (x ∷ xs) (suc k) d less = drop_here xs k d (omega arith)
+
+split_here : (xs : List Mark) (k : ℕ) (d : Mark) → k < length xs → xs ≡ take k xs ++ slice_index_or xs k d ∷ drop (suc k) xs
+split_here [] k d less = absurd (omega arith)
+split_here (x ∷ xs) zero d less = refl
+split_here (x ∷ xs) (suc k) d less = ap (λ (l : List Mark). x ∷ l) (split_here xs k d (omega arith))
+
+module _ (disk : DiskTold) (kept : Kept) (xs : List Mark) (i : ℕ) (d : Mark) (some : 0 < i) (within : i ≤ length xs) where
+  next_is : i ≡ suc (i - 1)
+  next_is = omega (arith, some)
+
+  behind_it : NoneServes disk kept (drop i xs) → NoneServes disk kept (drop (suc (i - 1)) xs)
+  behind_it = subst (λ (n : ℕ). NoneServes disk kept (drop n xs)) next_is
+
+  -- one more was passed over
+  pub passed_on : ServesBy kept (slice_index_or xs (i - 1) d).0 (bytes_at disk (slice_index_or xs (i - 1) d).1) None → NoneServes disk kept (drop i xs) → NoneServes disk kept (drop (i - 1) xs)
+  passed_on here passed = subst (NoneServes disk kept) (sym (drop_here xs (i - 1) d (omega (arith, some, within)))) (here, behind_it passed)
+
+  -- one serves, and those behind it were passed over
+  pub serves_last : (first : Beginning) → first.count ≡ (slice_index_or xs (i - 1) d).0 → ServesBy kept (slice_index_or xs (i - 1) d).0 (bytes_at disk (slice_index_or xs (i - 1) d).1) (Some first.store.store) → NoneServes disk kept (drop i xs)
+      → IsLastToServe disk kept xs first
+  serves_last first count serves passed =
+      let m = slice_index_or xs (i - 1) d in
+      record {
+        older = take (i - 1) xs;
+        place = m.1;
+        passed = drop (suc (i - 1)) xs;
+        split = split_here xs (i - 1) d (omega (arith, some, within)) ∙ ap (λ (n : ℕ). take (i - 1) xs ++ (n, m.1) ∷ drop (suc (i - 1)) xs) (sym count);
+        serves = subst (λ (n : ℕ). ServesBy kept n (bytes_at disk m.1) (Some first.store.store)) (sym count) serves;
+        others = behind_it passed;
+      }
+
+-- none before the first was left
+pub none_serves : (disk : DiskTold) (kept : Kept) (xs : List Mark) (i : ℕ) → i ≤ 0 → NoneServes disk kept (drop i xs) → NoneServes disk kept xs
+none_serves disk kept xs i none = subst (λ (n : ℕ). NoneServes disk kept (drop n xs)) (let zero_is : i ≡ 0 = omega (arith, none) in zero_is)
+
+-- at first none was looked at
+pub none_yet : (disk : DiskTold) (kept : Kept) (xs : List Mark) → NoneServes disk kept (drop (length xs) xs)
+none_yet disk kept [] = tt
+none_yet disk kept (x ∷ xs) = none_yet disk kept xs
+
+-- the store before the first item, where none serves
+pub begins_first : {E : Type 0} (disk : DiskTold) (desk : Held) (place : ℕ) (result : Result Beginning E) → NoneServes disk desk.kept (marks_at_or_before place desk.marks) → IfOk result (λ first. first.count ≡ 0)
+    → IfOk result (λ first. first.store.store ≡ desk.kept.base) → IfOk result (BeginsBy disk desk place)
+begins_first disk desk place (Ok first) none count store = inr (none, count, store)
+begins_first disk desk place (Err e) none count store = tt

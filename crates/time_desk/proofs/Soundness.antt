@@ -19,13 +19,15 @@ use Rattle.verb_bytes.specs.declared.journal.JournalRecord.{JournalRecord}
 use Rattle.verb_bytes.specs.declared.journal.JournalRecord.TheVariants.{Format, Verb, Operator, Cycle, Snapshot}
 use Rattle.verb_bytes.specs.Spelling.{HasSpelling}
 use Rattle.paradox.specs.declared.reports.Report.{Report}
-use Rattle.paradox.specs.Kept.{Kept, Marks, marked, new_desk, passed, performed, report_of, snapshotted, store_of}
+use Rattle.store_kept.specs.Kept.{Kept, Marks, marked, new_desk, passed, performed, report_of, snapshotted, store_of}
 use Rattle.repair_desk.specs.Repairs.{are_known, position}
-use Rattle.mail_cycle.specs.Asking.{Due, NoNumbers, NoPoint, Repeats, Rewinds, after_cycle, cycle_due, due_anew, due_at, due_by}
-use Rattle.mail_cycle.specs.Cycles.{Cycled, cycled_at, leaves_numbers}
+use Rattle.cycle_rules.specs.Asking.{Due, NoNumbers, NoPoint, Repeats, Rewinds, after_cycle, cycle_due, due_anew, due_at, due_by}
+use Rattle.cycle_rules.specs.Cycles.{Cycled, cycled_at, leaves_numbers}
 use Rattle.mail_cycle.specs.Permanence.{UidsLast}
 use Rattle.mail_cycle.proofs.Lasting.{lasts_cycled, lasts_itself, lasts_on, lasts_performed}
 use Rattle.mail_cycle.proofs.Left.{left_due, left_revs}
+use Rattle.mail_desk.proofs.Bases.{base_goes_on, base_stays}
+use Rattle.mail_desk.proofs.Desks.{base_opening}
 use Rattle.mail_desk.proofs.Timelines.{all_on, apart_on, below_on, others_below}
 use Rattle.house_text.specs.Beginning.{can_begin}
 use Rattle.time_desk.specs.Records.{after_cycle_record, after_due, after_item, after_record, after_records, after_snapshot, agree, can_follow, can_keep, can_rewind, first_state, is_formed, is_spelled, is_true, state}
@@ -53,7 +55,7 @@ begun_sound house conf can =
     record {
       house = good;
       aliases = begins_known house conf can;
-      base = refl;
+      base = base_opening house conf good (begins_known house conf can);
       runs = refl;
       timeline = record { formed = tt; apart = tt };
       below = tt;
@@ -61,21 +63,22 @@ begun_sound house conf can =
       fresh = first_fresh (house.first - 1) house.first (omega arith) (opening house conf).boxes;
     }
 
+-- the base is the opening store
+abbrev pub BeginsOpen : Kept → Type 0
+BeginsOpen kept = kept.base ≡ opening kept.house kept.opening
+
 -- what holds of what is kept, and of the revs of its texts
 abbrev pub Holds : Kept → Type 0
-Holds kept = IsSound kept × RevsBelow kept
+Holds kept = IsSound kept × RevsBelow kept × BeginsOpen kept
 
 pub first_holds : (r : JournalRecord) (kept : Kept) → first_state r ≡ Some kept → Holds kept
 first_holds (Format house conf) kept is = by (is_spelled (Format house conf)) (can_begin house conf) refl is
   where
     by : (spelled can : Bool) → can_begin house conf ≡ can → cond (spelled && can) (Some (new_desk house conf)) None ≡ Some kept → Holds kept
-    by true true e is = let same : new_desk house conf ≡ kept = cc is in subst Holds same (begun_sound house conf e, tt)
+    by true true e is = let same : new_desk house conf ≡ kept = cc is in subst Holds same (begun_sound house conf e, tt, refl)
     by true false e is = absurd (cc is)
     by false can e is = absurd (cc is)
-first_holds (Verb item) kept is = absurd (cc is)
-first_holds (Operator number at act) kept is = absurd (cc is)
-first_holds (Cycle number at ask) kept is = absurd (cc is)
-first_holds (Snapshot items conf rows) kept is = absurd (cc is)
+first_holds _ kept is = absurd (cc is)
 
 -- ---- an item more
 
@@ -94,7 +97,7 @@ pub item_sound : (kept : Kept) (i : Item) → IsSound kept → IsWellFormed kept
 item_sound kept i sound formed number = record {
   house = sound.house;
   aliases = sound.aliases;
-  base = sound.base;
+  base = base_goes_on kept i sound.base formed number sound.below;
   runs = item_runs kept i sound.runs;
   timeline = record {
     formed = all_on (IsWellFormed kept.house) kept.timeline i sound.timeline.formed formed;
@@ -132,12 +135,14 @@ pub record Follows (old new : Kept) : Type 0 where
   pub sound : IsSound new
   pub revs : RevsBelow old → RevsBelow new
   pub lasts : UidsLast old new
+  pub opens : BeginsOpen old → BeginsOpen new
 
 pub item_follows : (kept : Kept) (i : Item) → IsSound kept → IsWellFormed kept.house i → i.number ≡ kept.next → i.rev ≡ 0 → Follows kept (performed kept i)
 item_follows kept i sound formed number rev = record {
   sound = item_sound kept i sound formed number;
   revs = item_revs kept i rev;
   lasts = lasts_performed kept i sound.named number;
+  opens = λ opens. opens;
 }
 
 -- the record of an item
@@ -172,7 +177,7 @@ module _ (kept : Kept) (at : ℕ) (ask : CycleAsk) (sound : IsSound kept) (known
         sound = record {
           house = sound.house;
           aliases = sound.aliases;
-          base = sound.base;
+          base = base_stays kept due.timeline due.next sound.base (goes.base sound.base) (risen goes.rises);
           runs = refl;
           timeline = goes.timeline;
           below = goes.below;
@@ -181,7 +186,11 @@ module _ (kept : Kept) (at : ℕ) (ask : CycleAsk) (sound : IsSound kept) (known
         };
         revs = subst RevsBy is (revs_by_place (position kept.timeline ask.point));
         lasts = lasts_cycled kept at ask due sound.timeline.apart is;
+        opens = λ opens. opens;
       }
+    where
+      risen : {a b : ℕ} → a < b → a ≤ b
+      risen less = omega (arith, less)
 
 cycle_record : (kept new : Kept) (number at : ℕ) (ask : CycleAsk) → IsSound kept → after_cycle_record kept number at ask ≡ Some new → Follows kept new
 cycle_record kept new number at ask sound is = by (is_spelled (Cycle number at ask)) (can_rewind kept number ask) refl is
@@ -220,6 +229,7 @@ marks_follow kept marks sound =
       };
       revs = λ revs. revs;
       lasts = record { next = same.next; stamps = same.stamps; texts = same.texts };
+      opens = λ opens. opens;
     }
 
 snapshot_record_follows : (kept new : Kept) (items : ℕ) (conf : Conf) (rows : Boxes) → IsSound kept → after_snapshot kept items conf rows ≡ Some new → Follows kept new
@@ -236,14 +246,14 @@ pub record_follows : (kept new : Kept) (r : JournalRecord) → IsSound kept → 
 record_follows kept new (Verb item) sound is = item_record kept new (Verb item) item (no_rev item) sound is
 record_follows kept new (Operator number at act) sound is = item_record kept new (Operator number at act) (act_item number at act) (λ fits. refl) sound is
 record_follows kept new (Cycle number at ask) sound is = cycle_record kept new number at ask sound is
-record_follows kept new (Format house conf) sound is = absurd (cc is)
 record_follows kept new (Snapshot items conf rows) sound is = snapshot_record_follows kept new items conf rows sound is
+record_follows kept new _ sound is = absurd (cc is)
 
 follows_itself : (kept : Kept) → IsSound kept → Follows kept kept
-follows_itself kept sound = record { sound = sound; revs = λ revs. revs; lasts = lasts_itself kept }
+follows_itself kept sound = record { sound = sound; revs = λ revs. revs; lasts = lasts_itself kept; opens = λ opens. opens }
 
 follows_on : (a b c : Kept) → Follows a b → Follows b c → Follows a c
-follows_on a b c first second = record { sound = second.sound; revs = λ revs. second.revs (first.revs revs); lasts = lasts_on a b c first.lasts second.lasts }
+follows_on a b c first second = record { sound = second.sound; revs = λ revs. second.revs (first.revs revs); lasts = lasts_on a b c first.lasts second.lasts; opens = λ opens. second.opens (first.opens opens) }
 
 pub records_follow : (rs : List JournalRecord) (kept new : Kept) → IsSound kept → after_records kept rs ≡ Some new → Follows kept new
 records_follow [] kept new sound is = let same : kept ≡ new = cc is in subst (Follows kept) same (follows_itself kept sound)
@@ -264,7 +274,7 @@ state_holds (r ∷ rs) kept is = by (first_state r) refl is
     by (Some first) e is =
         let held = first_holds r first e in
         let follows = records_follow rs first kept held.0 is in
-        (follows.sound, follows.revs held.1)
+        (follows.sound, follows.revs held.1, follows.opens held.2)
 
 -- what a record leaves has revs below its next number
 pub revs_on : (what : JournalRecord) (kept new : Kept) → IsSound kept → after_record kept what ≡ Some new → RevsBelow kept → RevsBelow new

@@ -1,9 +1,11 @@
 -- Records that are read and performed one after the other.
-use Rattle.std.proofs.Common.{◌≡◌, ℕ, zero, suc, ◌+◌, ◌-◌, ◌<◌, ◌≤◌, ◌∷◌, ◌++◌, ◌∙◌, ◌&&◌, List, Bool, true, false, Option, Some, None, Result, Ok, Err, length, take, drop, get_or, is_some, refl, sym, ap, subst, arith, append_assoc, length-append, []}
+use Rattle.std.proofs.Common.{◌≡◌, inl, inr, ℕ, zero, suc, ◌+◌, ◌-◌, ◌<◌, ◌≤◌, ◌∷◌, ◌++◌, ◌∙◌, ◌&&◌, List, Bool, true, false, Option, Some, None, Result, Ok, Err, length, take, drop, get_or, is_some, refl, sym, ap, subst, arith, append_assoc, append-nil, length-append, []}
 use Rattle.std.proofs.lemmas.List.{map-append, take_all}
 use Rattle.std.proofs.lemmas.List.Concat.{flat_map-append}
-use Rattle.std.specs.Prelude.{option_and_then, if◌then◌else◌, IfOk, IfErr, slice_get}
+use Rattle.std.specs.Prelude.{bytes_eq, option_and_then, if◌then◌else◌, IfOk, IfErr, slice_get}
 use Rattle.std.specs.List.{slice_range}
+use Rattle.std.proofs.lemmas.Bool.Decides.{same_from_decides}
+use Rattle.std.proofs.lemmas.Slice.Eq.{bytes_eq-Decides}
 use Rattle.verb_core.specs.declared.conf.Conf.{Conf}
 use Rattle.verb_core.specs.declared.item.Item.{Item}
 use Rattle.verb_core.specs.declared.mailbox.BoxId.{BoxId}
@@ -15,12 +17,12 @@ use Rattle.verb_bytes.specs.Spelling.{HasSpelling, Spells, record_bytes}
 use Rattle.seal_log.specs.declared.place.Place.{Place}
 use Rattle.seal_log.specs.Journal.{frame, sealed, LiesAt}
 use Rattle.seal_log.specs.Loading.{places_from}
-use Rattle.paradox.specs.Kept.{Kept, passed, performed, snapshotted}
+use Rattle.store_kept.specs.Kept.{Kept, passed, performed, snapshotted}
+use Rattle.desk_journal.proofs.Truth.{true_as, true_is}
 use Rattle.time_desk.specs.declared.fault.StartFault.{StartFault}
 use Rattle.time_desk.specs.declared.fault.StartFault.TheVariants.{NotFormatted, Damaged, Disk, NoMemory}
-use Rattle.time_desk.specs.Opening.{CanStand}
-use Rattle.time_desk.specs.Records.{after_item, after_kept, after_record, after_records, can_follow, can_keep, first_state, is_true, payloads_of, state}
-use Rattle.time_desk.specs.Standing.{BreaksFor, Enters, Fails, FailsPayload, FailsReading, LeadsTo, Performed, Performs, SpellsAll, SpellsNothing, StopsFor, kept_as}
+use Rattle.time_desk.specs.Records.{after_item, after_kept, after_record, after_records, behind, can_follow, can_keep, first_state, is_true, opening_state, payloads_of, snapshot_record, state}
+use Rattle.time_desk.specs.Standing.{BreaksFor, Enters, Fails, FailsPayload, FailsReading, FrontBreaksFor, LeadsTo, Opens, Performed, Performs, SpellsAll, SpellsNothing, StopsFor, kept_as}
 
 -- ---- one record more
 
@@ -42,20 +44,6 @@ state_push (q ∷ rs) r kept is = elim (first_state q) as (λ o. option_and_then
   | None ↦ λ e. absurd (cc e)
   | Some next ↦ λ e. after_push rs r next kept e
 ] is
-
-pub state_one : (r : JournalRecord) → state (r ∷ []) ≡ first_state r
-state_one r = alone (first_state r)
-  where
-    alone : (o : Option Kept) → option_and_then (λ next. after_records next []) o ≡ o
-    alone None = refl
-    alone (Some k) = refl
-
--- what the records behind a first one leave
-state_from : (r : JournalRecord) (rs : List JournalRecord) (kept new : Kept) → first_state r ≡ Some kept → after_records kept rs ≡ Some new → state (r ∷ rs) ≡ Some new
-state_from r rs kept new first others = ap (option_and_then (λ k. after_records k rs)) first ∙ others
-
-can_stand : (r : JournalRecord) (rs : List JournalRecord) (kept : Kept) → state (r ∷ rs) ≡ Some kept → CanStand (r ∷ rs)
-can_stand r rs kept is = ap is_some is
 
 payloads-push : (rs : List JournalRecord) (r : JournalRecord) (payload : List ℕ) → payload ≡ record_bytes r → payloads_of (rs ++ r ∷ []) ≡ payloads_of rs ++ payload ∷ []
 payloads-push rs r payload is = map-append record_bytes rs (r ∷ []) ∙ ap (λ (p : List ℕ). payloads_of rs ++ p ∷ []) (sym is)
@@ -114,6 +102,16 @@ item_after kept what item stood new fits entered =
 
 -- ---- a snapshot
 
+-- its bytes tell whether it is true: each record has bytes of its own
+pub true_by_bytes : ((first second : JournalRecord) (bytes : List ℕ) → Spells first bytes → Spells second bytes → first ≡ second) → (kept : Kept) (items : ℕ) (conf : Conf) (rows : List (BoxId × Mailbox))
+    → HasSpelling (Snapshot items conf rows) → HasSpelling (snapshot_record kept) → bytes_eq (record_bytes (Snapshot items conf rows)) (record_bytes (snapshot_record kept)) ≡ is_true kept (Snapshot items conf rows)
+true_by_bytes one kept items conf rows spelled own =
+    let what = Snapshot items conf rows in
+    same_from_decides (bytes_eq (record_bytes what) (record_bytes (snapshot_record kept))) (is_true kept what) (bytes_eq-Decides (record_bytes what) (record_bytes (snapshot_record kept))) (
+      λ truth. ap record_bytes (true_is kept what truth),
+      λ same. true_as kept what (one what (snapshot_record kept) (record_bytes what) (spelled, refl) (own, same)),
+    )
+
 -- one that can follow stands, and is marked or passed
 pub snapshot_after : (kept new : Kept) (items : ℕ) (conf : Conf) (rows : List (BoxId × Mailbox)) (truth : Bool) → HasSpelling (Snapshot items conf rows) → can_keep kept items conf rows ≡ true
     → truth ≡ is_true kept (Snapshot items conf rows) → new ≡ kept_as kept truth → after_record kept (Snapshot items conf rows) ≡ Some new
@@ -131,51 +129,55 @@ snapshot_none kept items conf rows spelled cant =
     ap (λ (b : Bool). if b && can_keep kept items conf rows then Some (after_kept kept (Snapshot items conf rows)) else None) spelled
     ∙ ap (λ (b : Bool). if b then Some (after_kept kept (Snapshot items conf rows)) else None) cant
 
--- ---- the first record
+-- ---- the front
 
-pub all_spelled : (kept new : Kept) (payload : List ℕ) (payloads : List (List ℕ)) → Performed first_state payload kept → LeadsTo kept payloads new → SpellsAll (payload ∷ payloads) new
-all_spelled kept new payload payloads first led = record {
-  records = first.what ∷ led.records;
-  spelled = ap (λ (p : List ℕ). p ∷ payloads) first.spells.1 ∙ ap (λ (ps : List (List ℕ)). record_bytes first.what ∷ ps) led.spelled;
-  state_is = state_from first.what led.records kept new first.is led.leaves;
+-- what the records behind a front leave
+state_opened : (payloads : List (List ℕ)) (kept new : Kept) (places : List Place) (o : Opens payloads kept places) (more : List JournalRecord) (rest : List (List ℕ)) → o.others ≡ payloads_of more ++ rest
+    → after_records kept more ≡ Some new → state (o.records ++ more) ≡ Some new
+state_opened payloads kept new places o more rest spelled is =
+    ap (λ (f : List JournalRecord). option_and_then (λ (k : Kept). after_records k (behind (o.records ++ more))) (opening_state f)) (o.fronts more rest spelled)
+    ∙ ap (λ (b : List JournalRecord). option_and_then (λ (k : Kept). after_records k b) (opening_state o.records)) (o.behinds more rest spelled)
+    ∙ ap (option_and_then (λ (k : Kept). after_records k more)) o.state_is ∙ is
+
+-- the bytes of two lists of records
+both_payloads : (first more : List JournalRecord) → payloads_of (first ++ more) ≡ payloads_of first ++ payloads_of more
+both_payloads first more = map-append record_bytes first more
+
+pub all_spelled : (kept new : Kept) (payloads : List (List ℕ)) (places : List Place) (o : Opens payloads kept places) → LeadsTo kept o.others new → SpellsAll payloads new
+all_spelled kept new payloads places o led = record {
+  records = o.records ++ led.records;
+  spelled = o.split ∙ ap (λ (ps : List (List ℕ)). payloads_of o.records ++ ps) led.spelled ∙ sym (both_payloads o.records led.records);
+  state_is = state_opened payloads kept new places o led.records [] (led.spelled ∙ sym (append-nil (payloads_of led.records))) led.leaves;
 }
 
--- a first payload that is no record that can begin a journal
-pub breaks_first : (payload : List ℕ) (payloads : List (List ℕ)) (fault : StartFault) → FailsPayload first_state payload 0 fault → BreaksFor (payload ∷ payloads) fault
-breaks_first payload payloads NotFormatted fails = fails
-breaks_first payload payloads (Damaged place) fails = record {
-  records = [];
-  payload = payload;
-  after = payloads;
-  split = refl;
-  can_stand = tt;
-  stands_none = λ what spells. state_one what ∙ fails.0 what spells;
-  place_is = fails.1;
-}
-breaks_first payload payloads Disk fails = tt
-breaks_first payload payloads NoMemory fails = tt
+-- a front that is not such as a journal can open with
+pub breaks_front : (payloads : List (List ℕ)) (fault : StartFault) → FrontBreaksFor payloads fault → BreaksFor payloads fault
+breaks_front payloads NotFormatted breaks = breaks
+breaks_front payloads (Damaged place) breaks = inl breaks
+breaks_front payloads Disk breaks = tt
+breaks_front payloads NoMemory breaks = tt
 
-length-sealed-cons : (payload : List ℕ) (payloads : List (List ℕ)) → length (sealed (payload ∷ payloads)) ≡ length (sealed (payload ∷ [])) + length (sealed payloads)
-length-sealed-cons payload payloads =
-    ap length (flat_map-append (λ (p : List ℕ). 85 ∷ frame p) (payload ∷ []) payloads) ∙ length-append (sealed (payload ∷ [])) (sealed payloads)
-
-pub breaks_later : (kept : Kept) (payload : List ℕ) (payloads : List (List ℕ)) (fault : StartFault) → Performed first_state payload kept → StopsFor kept (length (sealed (payload ∷ []))) payloads fault → BreaksFor (payload ∷ payloads) fault
-breaks_later kept payload payloads NotFormatted first stop = stop
-breaks_later kept payload payloads (Damaged place) first stop =
-    let records = first.what ∷ stop.leads.records in
-    let bytes : payload ∷ stop.first ≡ payloads_of records = ap (λ (p : List ℕ). p ∷ stop.first) first.spells.1 ∙ ap (λ (ps : List (List ℕ)). record_bytes first.what ∷ ps) stop.leads.spelled in
-    let is = state_from first.what stop.leads.records kept stop.mid first.is stop.leads.leaves in
-    record {
-      records = records;
+-- one behind the front that can't follow
+pub breaks_later : (kept : Kept) (payloads : List (List ℕ)) (places : List Place) (fault : StartFault) (o : Opens payloads kept places) → StopsFor kept (length (sealed (payloads_of o.records))) o.others fault → BreaksFor payloads fault
+breaks_later kept payloads places NotFormatted o stop = stop
+breaks_later kept payloads places (Damaged place) o stop =
+    let opened = payloads_of o.records in
+    let led = payloads_of stop.leads.records in
+    let spelled : o.others ≡ led ++ stop.payload ∷ stop.after = stop.split ∙ ap (λ (ps : List (List ℕ)). ps ++ stop.payload ∷ stop.after) stop.leads.spelled in
+    inr (record {
+      records = o.records ++ stop.leads.records;
       payload = stop.payload;
       after = stop.after;
-      split = ap (λ (ps : List (List ℕ)). payload ∷ ps) stop.split ∙ ap (λ (ps : List (List ℕ)). ps ++ stop.payload ∷ stop.after) bytes;
-      can_stand = can_stand first.what stop.leads.records stop.mid is;
-      stands_none = λ what spells. state_push records what stop.mid is ∙ stop.stands_none what spells;
-      place_is = stop.place_is ∙ sym (length-sealed-cons payload stop.first) ∙ ap (λ (ps : List (List ℕ)). length (sealed ps)) bytes;
-    }
-breaks_later kept payload payloads Disk first stop = tt
-breaks_later kept payload payloads NoMemory first stop = tt
+      split = o.split ∙ ap (λ (ps : List (List ℕ)). opened ++ ps) spelled ∙ sym (append_assoc opened led (stop.payload ∷ stop.after))
+          ∙ ap (λ (ps : List (List ℕ)). ps ++ stop.payload ∷ stop.after) (sym (both_payloads o.records stop.leads.records));
+      kept = stop.mid;
+      state_is = state_opened payloads kept stop.mid places o stop.leads.records (stop.payload ∷ stop.after) spelled stop.leads.leaves;
+      stands_none = stop.stands_none;
+      place_is = stop.place_is ∙ sym (length-append (sealed opened) (sealed stop.first)) ∙ sym (ap length (flat_map-append (λ (p : List ℕ). 85 ∷ frame p) opened stop.first))
+          ∙ ap (λ (ps : List (List ℕ)). length (sealed (opened ++ ps))) stop.leads.spelled ∙ ap (λ (ps : List (List ℕ)). length (sealed ps)) (sym (both_payloads o.records stop.leads.records));
+    })
+breaks_later kept payloads places Disk o stop = tt
+breaks_later kept payloads places NoMemory o stop = tt
 
 -- ---- one payload
 
@@ -294,6 +296,31 @@ has_first (p ∷ payloads) places first are is =
       length_is = ap (λ (q : Place). q.length) same;
       rest = ap (drop 1) are ∙ ap (λ (n : ℕ). places_from n payloads) size;
     }
+
+-- a front of one record
+pub opens_first : (kept : Kept) (payloads : List (List ℕ)) (places : List Place) (first : Place) (has : HasFirst payloads places first) → Performed first_state has.payload kept → Opens payloads kept (drop 1 places)
+opens_first kept payloads places first has done = record {
+  records = done.what ∷ [];
+  others = has.others;
+  split = has.split ∙ ap (λ (p : List ℕ). p ∷ has.others) done.spells.1;
+  state_is = done.is;
+  fronts = λ more rest is. refl;
+  behinds = λ more rest is. refl;
+  places_are = has.rest ∙ ap (λ (p : List ℕ). places_from (length (sealed (p ∷ []))) has.others) done.spells.1;
+}
+
+-- a first payload that is no record that can begin a journal
+pub breaks_first : (payloads : List (List ℕ)) (places : List Place) (first : Place) (has : HasFirst payloads places first) (fault : StartFault) → FailsPayload first_state has.payload first.gate fault → FrontBreaksFor payloads fault
+breaks_first payloads places first has NotFormatted fails = fails
+breaks_first payloads places first has (Damaged place) fails = record {
+  payload = has.payload;
+  after = has.others;
+  split = has.split;
+  stands_none = fails.0;
+  place_is = fails.1 ∙ has.gate_is;
+}
+breaks_first payloads places first has Disk fails = tt
+breaks_first payloads places first has NoMemory fails = tt
 
 -- the first payload lies at the first place
 pub lies_first : (payloads : List (List ℕ)) (places : List Place) (first : Place) (has : HasFirst payloads places first) → LiesAt payloads first.gate first.length has.payload

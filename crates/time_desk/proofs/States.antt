@@ -1,39 +1,41 @@
 -- What holds over all that a journal's records leave.
-use Rattle.std.proofs.Common.{◌≡◌, ◌≢◌, ℕ, ◌<◌, true, false, List, [], ◌∷◌, ◌++◌, Some, sym, ap, ◌∙◌, subst, arith}
+use Rattle.std.proofs.Common.{◌≡◌, ◌≢◌, ℕ, ◌+◌, ◌<◌, true, false, List, [], ◌∷◌, ◌++◌, length, Some, is_some, sym, ap, ◌∙◌, subst, arith}
 use Rattle.std.specs.Prelude.{IfOk, IsTrue, OnErr, OnOk, Result, Ok, Err}
-use Rattle.std.specs.List.{AllByRecursion, list_all, list_any}
+use Rattle.std.specs.List.{AllByRecursion, list_any}
 use Rattle.undo_base.specs.declared.keys.User.{User}
 use Rattle.undo_base.specs.declared.keys.Key.{Key}
 use Rattle.undo_outside.specs.Disk.{DiskTold}
-use Rattle.verb_core.specs.declared.conf.Conf.{Conf}
 use Rattle.verb_core.specs.declared.conf.House.{House}
 use Rattle.verb_core.specs.declared.item.Deed.TheVariants.{Deliver}
 use Rattle.verb_core.specs.declared.item.Item.{Item}
 use Rattle.verb_core.specs.declared.mailbox.BoxId.{BoxId}
 use Rattle.verb_core.specs.Boxes.{same_user}
-use Rattle.verb_core.specs.Fates.{HasOneFate, is_discarded, times_given}
+use Rattle.verb_core.specs.Fates.{is_discarded, places_of, takers, times_given}
 use Rattle.verb_core.specs.Items.{IsWellFormed}
 use Rattle.verb_core.specs.Recipients.{recipients, some_unknown}
 use Rattle.verb_core.specs.Step.{run}
-use Rattle.verb_core.specs.Store.{MailStore, is_house, is_known, opening}
+use Rattle.verb_core.specs.Store.{IsValid, MailStore}
+use Rattle.mail_desk.proofs.Going.{base_known}
 use Rattle.verb_core.proofs.Deliveries.{arrives-step}
+use Rattle.verb_core.proofs.Joins.{run_house}
 use Rattle.verb_bytes.specs.declared.journal.CycleAsk.{CycleAsk}
 use Rattle.verb_bytes.specs.declared.journal.JournalRecord.{JournalRecord}
 use Rattle.verb_bytes.specs.declared.journal.JournalRecord.TheVariants.{Cycle}
 use Rattle.paradox.specs.declared.reports.Report.{Report}
-use Rattle.paradox.specs.Kept.{Kept, stamp_at, store_of}
-use Rattle.mail_cycle.specs.Asking.{Due, NoNumbers, NoPoint, Repeats, Rewinds, cycle_due}
+use Rattle.store_kept.specs.Kept.{Kept, stamp_at, store_of}
+use Rattle.cycle_rules.specs.Asking.{Due, NoNumbers, NoPoint, Repeats, Rewinds, cycle_due}
 use Rattle.mail_cycle.specs.Permanence.{UidsLast}
-use Rattle.mail_desk.specs.Timeline.{all_bodies, has_text}
+use Rattle.mail_desk.specs.Timeline.{has_text}
+use Rattle.store_kept.specs.Texts.{all_bodies}
 use Rattle.time_desk.specs.Cycling.{Cycles, CyclesBy}
 use Rattle.time_desk.specs.Lasting.{Lasting}
-use Rattle.time_desk.specs.Sealing.{HasNoCycle, Seals}
+use Rattle.time_desk.specs.Sealing.{ReadNoTexts, Seals}
 use Rattle.time_desk.specs.Stored.{HoldsTexts}
 use Rattle.std.proofs.Common.{inl, inr}
-use Rattle.time_desk.specs.Permanence.{Arrives, IsSound, Message, RevsBelow, message_at}
+use Rattle.time_desk.specs.Permanence.{Arrives, IsAccounted, IsSound, Message, RevsBelow, message_at}
 use Rattle.time_desk.specs.Records.{after_records, state}
 use Rattle.time_desk.proofs.Accounts.{once_some, one_fate, sound_valid, stray_given}
-use Rattle.time_desk.proofs.Messages.{one_message, stamp_below, stamped_there}
+use Rattle.time_desk.proofs.Messages.{one_message, stamp_below, stamped_there, text_there, there}
 use Rattle.desk_journal.proofs.Runs.{state_append}
 use Rattle.time_desk.proofs.Soundness.{records_follow, state_holds}
 
@@ -41,16 +43,23 @@ use Rattle.time_desk.proofs.Soundness.{records_follow, state_holds}
 
 -- each body in a store that items lead to has a text among them
 abbrev pub BodiesHaveTexts : Type 0
-BodiesHaveTexts = (house : House) (conf : Conf) (t : List Item) → IsTrue (is_house house) → IsTrue (list_all (λ a. list_all (is_known house) a.users) conf.aliases) → AllByRecursion (IsWellFormed house) t
-    → IsTrue (all_bodies (has_text t) (run (opening house conf) t).boxes)
+BodiesHaveTexts = (base : MailStore) (t : List Item) → IsValid base → AllByRecursion (IsWellFormed base.house) t → IsTrue (all_bodies (has_text t) base.boxes) → IsTrue (all_bodies (has_text t) (run base t).boxes)
 
 sound_texts : BodiesHaveTexts → (kept : Kept) → IsSound kept → all_bodies (has_text kept.timeline) (store_of kept).boxes ≡ true
 sound_texts texts kept sound =
-    subst (λ (s : MailStore). all_bodies (has_text kept.timeline) s.boxes ≡ true) (ap (λ (s : MailStore). run s kept.timeline) (sym sound.base) ∙ sym sound.runs) (texts kept.house kept.opening kept.timeline sound.house sound.aliases sound.timeline.formed)
+    subst (λ (s : MailStore). all_bodies (has_text kept.timeline) s.boxes ≡ true) (sym sound.runs)
+    (texts kept.base kept.timeline sound.base.stands.valid sound.base.stands.timeline.formed (base_known kept kept.timeline sound.base))
 
 pub one_message_kept : BodiesHaveTexts → (a b : Kept) (id : BoxId) (stamp uid : ℕ) (m n : Message) → IsSound a → RevsBelow a → IsSound b → UidsLast a b → message_at a id stamp uid ≡ Some m → message_at b id stamp uid ≡ Some n → m ≡ n
 one_message_kept texts a b id stamp uid m n old revs new lasts =
     one_message a b id stamp uid m n old revs (sound_valid a old) (sound_texts texts a old) (sound_texts texts b new) lasts
+
+-- each message that is named has a text
+pub named_text : BodiesHaveTexts → (records : List JournalRecord) (kept : Kept) (id : BoxId) (stamp uid : ℕ) (m : Message) → state records ≡ Some kept → message_at kept id stamp uid ≡ Some m → is_some m.text ≡ true
+named_text texts records kept id stamp uid m is named =
+    let found = there kept id stamp uid m named in
+    let has = text_there kept.timeline (store_of kept).boxes id uid found.box found.entry (sound_texts texts kept (state_holds records kept is).0) found.there found.found in
+    subst (λ (n : Message). is_some n.text ≡ true) found.is (ap is_some has.1)
 
 -- what is kept after more records
 behind : (front more : List JournalRecord) (a b : Kept) → state front ≡ Some a → state (front ++ more) ≡ Some b → after_records a more ≡ Some b
@@ -82,23 +91,38 @@ lost_behind front mid more a b c id stamp first second third =
 -- ---- fates
 
 module _ (records : List JournalRecord) (kept : Kept) (is : state records ≡ Some kept) where
-  pub fate_of : (before later : List Item) (i : Item) (u : User) (key : Key) → kept.timeline ≡ before ++ i ∷ later → times_given u key (run kept.base before) i ≢ 0 → HasOneFate u key kept.base before i later
-  fate_of before later i u key split some = one_fate kept before later i u key (state_holds records kept is).0 split some
+  -- the store is of its house, and so is each that its items led through
+  pub led_house : (items : List Item) → (run kept.base items).house ≡ kept.house
+  led_house items = run_house kept.base items ∙ (state_holds records kept is).0.base.house_is
+
+  pub kept_house : (store_of kept).house ≡ kept.house
+  kept_house = ap (λ (s : MailStore). s.house) (state_holds records kept is).0.runs ∙ led_house kept.timeline
+
+  pub fate_of : (before later : List Item) (i : Item) (u : User) (key : Key) → kept.timeline ≡ before ++ i ∷ later → times_given u key (run kept.base before) i ≢ 0 → IsAccounted kept before i later u key
+  fate_of before later i u key split some =
+      let sound = (state_holds records kept is).0 in
+      subst (λ (s : MailStore). length (places_of u key s.boxes) + length (takers u key (run kept.base (before ++ i ∷ [])) later) ≡ 1) (sym (sound.runs ∙ ap (run kept.base) split))
+      (one_fate kept before later i u key sound split some)
 
   arrived : (before later : List Item) (i : Item) (u : User) (key : Key) → kept.timeline ≡ before ++ i ∷ later → times_given u key (run kept.base before) i ≡ 1 → Arrives kept before i later u key
   arrived before later i u key split once = (once, fate_of before later i u key split (once_some _ once))
 
   pub recipient_of : (before later : List Item) (i : Item) (from : List ℕ) (to : List (List ℕ)) (text : List ℕ) (u : User) → kept.timeline ≡ before ++ i ∷ later → i.deed ≡ Deliver from to text
-      → list_any (same_user u) (recipients (run kept.base before).house (run kept.base before).conf to) ≡ true → is_discarded (run kept.base before).conf text ≡ false
+      → list_any (same_user u) (recipients kept.house (run kept.base before).conf to) ≡ true → is_discarded (run kept.base before).conf text ≡ false
       → Arrives kept before i later u (record { item = i.number; index = 0 })
   recipient_of before later i from to text u split deed among stays =
-      arrived before later i u (record { item = i.number; index = 0 }) split (arrives-step (run kept.base before) i from to text u deed among stays)
+      let s = run kept.base before in
+      arrived before later i u (record { item = i.number; index = 0 }) split
+      (arrives-step s i from to text u deed (subst (λ (h : House). list_any (same_user u) (recipients h s.conf to) ≡ true) (sym (led_house before)) among) stays)
 
   pub stray_of : (before later : List Item) (i : Item) (from : List ℕ) (to : List (List ℕ)) (text : List ℕ) → kept.timeline ≡ before ++ i ∷ later → i.deed ≡ Deliver from to text
-      → some_unknown (run kept.base before).house (run kept.base before).conf to ≡ true → is_discarded (run kept.base before).conf text ≡ false
-      → Arrives kept before i later (run kept.base before).house.postmaster (record { item = i.number; index = 1 })
+      → some_unknown kept.house (run kept.base before).conf to ≡ true → is_discarded (run kept.base before).conf text ≡ false
+      → Arrives kept before i later kept.house.postmaster (record { item = i.number; index = 1 })
   stray_of before later i from to text split deed unknown stays =
-      arrived before later i (run kept.base before).house.postmaster (record { item = i.number; index = 1 }) split (stray_given (run kept.base before) i from to text deed unknown stays)
+      let s = run kept.base before in
+      subst (λ (h : House). Arrives kept before i later h.postmaster (record { item = i.number; index = 1 })) (led_house before)
+      (arrived before later i s.house.postmaster (record { item = i.number; index = 1 }) split
+      (stray_given s i from to text deed (subst (λ (h : House). some_unknown h s.conf to ≡ true) (sym (led_house before)) unknown) stays))
 
 -- ---- calls
 
@@ -113,13 +137,13 @@ module _ (law : LetsUidsLast) where
 
   module _ {D : Type 0} (told : D → DiskTold) where
     -- over a call that sealed records, or left what is kept as it was
-    pub lasts_sealed : {T E : Type 0} (result : Result T E) (added : T → List JournalRecord) (old new : Lasting D) → ((x : T) → HasNoCycle (added x)) → IsSound old.kept → IfOk result (λ x. Seals told (added x) [] old new)
+    pub lasts_sealed : {T E : Type 0} (result : Result T E) (added : T → List JournalRecord) (old new : Lasting D) → ((x : T) → ReadNoTexts (added x)) → IsSound old.kept → IfOk result (λ x. Seals told (added x) [] old new)
         → OnErr result (new.kept ≡ old.kept) → UidsLast old.kept new.kept
     lasts_sealed (Ok x) added old new plain sound seals same = law old.kept new.kept (added x) sound (seals.kept (inr (plain x)))
     lasts_sealed (Err e) added old new plain sound seals same = lasts_same old.kept new.kept sound same
 
     -- the same of one record
-    pub lasts_operated : {T E : Type 0} (result : Result T E) (added : List JournalRecord) (old new : Lasting D) → HasNoCycle added → IsSound old.kept → OnOk result (Seals told added [] old new)
+    pub lasts_operated : {T E : Type 0} (result : Result T E) (added : List JournalRecord) (old new : Lasting D) → ReadNoTexts added → IsSound old.kept → OnOk result (Seals told added [] old new)
         → OnErr result (new.kept ≡ old.kept) → UidsLast old.kept new.kept
     lasts_operated (Ok x) added old new plain sound seals same = law old.kept new.kept added sound (seals.kept (inr plain))
     lasts_operated (Err e) added old new plain sound seals same = lasts_same old.kept new.kept sound same

@@ -9,10 +9,10 @@ use Rattle.undo_outside.proofs.Moments.{images_now, joined}
 use Rattle.seal_log.specs.Causes.{SameCounts}
 use Rattle.seal_log.specs.declared.place.Place.{Place}
 use Rattle.seal_log.specs.Journal.{frame, sealed, IsPayload, StandsFor}
-use Rattle.seal_log.specs.Loading.{places_from}
+use Rattle.seal_log.specs.Loading.{BeginsCut, places_from}
 use Rattle.seal_log.specs.Loads.{Ends, IsSurveyed}
 use Rattle.seal_log.specs.Settled.{IsSettled}
-use Rattle.paradox.specs.Kept.{Kept}
+use Rattle.store_kept.specs.Kept.{Kept}
 use Rattle.time_desk.specs.declared.fault.StartFault.{StartFault}
 use Rattle.time_desk.specs.declared.fault.StartFault.TheVariants.{NotFormatted, Damaged, Disk, NoMemory}
 use Rattle.time_desk.specs.Opening.{IsDamaged, IsStarted, Refuses, Starts}
@@ -21,7 +21,7 @@ use Rattle.time_desk.specs.Standing.{BreaksAt, BreaksFor, Fails, SpellsAll}
 use Rattle.verb_core.specs.declared.mailbox.Body.{Body}
 use Rattle.shelf.specs.declared.note.Note.{Note}
 use Rattle.time_desk.specs.Stored.{SettledTexts, TextsHeld}
-use Rattle.time_desk.proofs.OneWay.{leaves_stand, payload_at, sealed_opens, some_closed}
+use Rattle.time_desk.proofs.OneWay.{payload_at, sealed_opens, some_closed}
 use Rattle.desk_journal.proofs.Staying.{settled_on}
 
 -- ---- images
@@ -43,15 +43,29 @@ behind first payload after rest =
 
 module _ (image : List ℕ) (disk : DiskTold) (gate : ℕ) (places : List Place) where
   broken : (is_cut : Bool) (seen : IsSurveyed image disk gate places is_cut) (place : ℕ) → BreaksAt seen.payloads place → IsDamaged image place
-  broken is_cut seen place b =
+  broken is_cut seen place (inl b) =
+      let short = subst (AllByRecursion IsPayload) b.split seen.short in
+      inl (record {
+        place_is = b.place_is;
+        bad = inr (record {
+          payload = b.payload;
+          more = sealed b.after ++ seen.rest;
+          split = seen.split ∙ ap (λ (ps : List (List ℕ)). sealed ps ++ seen.rest) b.split ∙ sealed_opens b.payload b.after seen.rest;
+          fits = short.0;
+          some = omega (arith, length-append (sealed b.after) seen.rest, some_rest is_cut disk gate seen.payloads seen.rest seen.ends);
+          stands_none = b.stands_none;
+        });
+      })
+  broken is_cut seen place (inr b) =
       let first = payloads_of b.records in
       let short = subst (AllByRecursion IsPayload) b.split seen.short in
-      record {
+      inr (record {
         records = b.records;
         rest = 85 ∷ (frame b.payload ++ (sealed b.after ++ seen.rest));
         split = seen.split ∙ ap (λ (ps : List (List ℕ)). sealed ps ++ seen.rest) b.split ∙ behind first b.payload b.after seen.rest;
         short = front_all first (b.payload ∷ b.after) short;
-        can_stand = b.can_stand;
+        kept = b.kept;
+        state_is = b.state_is;
         place_is = b.place_is;
         bad = inr (record {
           payload = b.payload;
@@ -61,7 +75,7 @@ module _ (image : List ℕ) (disk : DiskTold) (gate : ℕ) (places : List Place)
           some = omega (arith, length-append (sealed b.after) seen.rest, some_rest is_cut disk gate seen.payloads seen.rest seen.ends);
           stands_none = b.stands_none;
         });
-      }
+      })
 
   -- the first payload that is no record that can stand
   pub breaks : (is_cut : Bool) (seen : IsSurveyed image disk gate places is_cut) (fault : StartFault) → BreaksFor seen.payloads fault → Refuses image fault
@@ -73,15 +87,16 @@ module _ (image : List ℕ) (disk : DiskTold) (gate : ℕ) (places : List Place)
   -- a frame that is cut, behind records that all can stand
   pub cut_behind : (is_cut : Bool) (seen : IsSurveyed image disk gate places is_cut) (kept : Kept) → is_cut ≡ true → SpellsAll seen.payloads kept → IsDamaged image gate
   cut_behind false seen kept cut all = absurd (cc cut)
-  cut_behind true seen kept cut all = record {
+  cut_behind true seen kept cut all = inr (record {
     records = all.records;
     rest = seen.rest;
     split = seen.split ∙ ap (λ (ps : List (List ℕ)). sealed ps ++ seen.rest) all.spelled;
     short = subst (AllByRecursion IsPayload) all.spelled seen.short;
-    can_stand = leaves_stand all.records kept all.state_is;
+    kept = kept;
+    state_is = all.state_is;
     place_is = seen.gate_is ∙ ap (λ (ps : List (List ℕ)). length (sealed ps)) all.spelled;
     bad = inl seen.ends;
-  }
+  })
 
   pub cut_told : (is_cut : Bool) (seen : IsSurveyed image disk gate places is_cut) (kept : Kept) (fault : StartFault) → SpellsAll seen.payloads kept → Fails (is_cut ≡ true) gate fault → Refuses image fault
   cut_told is_cut seen kept NotFormatted all fails = absurd fails
@@ -95,7 +110,7 @@ module _ (image : List ℕ) (disk : DiskTold) (gate : ℕ) (places : List Place)
     where
       by_cases : (cut : Bool) (payloads : List (List ℕ)) → image ≡ sealed payloads ++ seen.rest → places_from 0 payloads ≡ [] → gate ≡ length (sealed payloads) → Ends cut disk gate payloads seen.rest → IsDamaged image gate
       by_cases cut (p ∷ ps) split none gate_is ends = absurd (cc none)
-      by_cases true [] split none gate_is ends = record { records = []; rest = seen.rest; split = split; short = tt; can_stand = tt; place_is = gate_is; bad = inl ends }
+      by_cases true [] split none gate_is ends = inl (record { place_is = gate_is; bad = inl (subst BeginsCut (sym split) ends) })
       by_cases false [] split none gate_is ends = absurd (omega (arith, ends.1))
 
   -- records that all can stand, and a gate that is not open behind them

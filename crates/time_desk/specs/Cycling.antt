@@ -6,15 +6,17 @@ use Rattle.verb_core.specs.declared.item.Item.{Item}
 use Rattle.verb_core.specs.declared.mailbox.Body.{Body}
 use Rattle.verb_core.specs.declared.mailbox.BoxId.{BoxId}
 use Rattle.verb_core.specs.declared.mailbox.Mailbox.{Mailbox}
+use Rattle.verb_core.specs.Fates.{IsBase}
 use Rattle.verb_core.specs.Items.{IsTimeline}
 use Rattle.verb_core.specs.Store.{IsValid}
 use Rattle.verb_bytes.specs.declared.journal.CycleAsk.{CycleAsk}
 use Rattle.verb_bytes.specs.declared.journal.JournalRecord.TheVariants.{Cycle}
 use Rattle.verb_bytes.specs.Spelling.{record_bytes}
 use Rattle.paradox.specs.declared.reports.Report.{Report}
-use Rattle.paradox.specs.Kept.{Kept, newest_at, report_of, rewound}
-use Rattle.mail_cycle.specs.Asking.{Due, IsRewinds, Repeats, NoPoint, NoNumbers, Rewinds, after_cycle, cycle_due, due_anew}
-use Rattle.mail_cycle.specs.Cycles.{Cycled}
+use Rattle.store_kept.specs.Kept.{Kept, newest_at, report_of, rewound}
+use Rattle.store_kept.specs.Texts.{all_bodies, has_text_among}
+use Rattle.cycle_rules.specs.Asking.{Due, IsRewinds, Repeats, NoPoint, NoNumbers, Rewinds, after_cycle, cycle_due, due_anew}
+use Rattle.cycle_rules.specs.Cycles.{Cycled}
 use Rattle.mail_cycle.specs.Leaving.{IsMade, Leaves, items_left}
 use Rattle.mail_cycle.specs.declared.settling.Rewound.{Rewound}
 use Rattle.mail_cycle.specs.declared.refused.CycleRefused.{CycleRefused}
@@ -23,13 +25,12 @@ use Rattle.seal_log.specs.declared.place.Place.{Place}
 use Rattle.shelf.specs.declared.note.Note.{Note}
 use Rattle.mail_desk.specs.declared.noting.Fresh.{Fresh}
 use Rattle.mail_desk.specs.Held.{Held}
-use Rattle.mail_desk.specs.Timeline.{all_bodies, has_text}
 use Rattle.seal_log.specs.declared.fault.SealFault.{SealFault}
 use Rattle.seal_log.specs.declared.fault.SealFault.TheVariants as log_faults
 use Rattle.time_desk.specs.declared.fault.CycleFault.{CycleFault}
 use Rattle.time_desk.specs.declared.fault.CycleFault.TheVariants.{Point, Numbers, Disk, NoMemory, Closed}
 use Rattle.time_desk.specs.Lasting.{Lasting}
-use Rattle.time_desk.specs.Reading.{IsStill}
+use Rattle.time_desk.specs.Reading.{IsStill, ReadsWell}
 use Rattle.time_desk.specs.Sealing.{Seals}
 use Rattle.time_desk.specs.Stored.{HoldsTexts, IsFresh, Renotes}
 use Rattle.time_desk.specs.Submitting.{SealsNothing}
@@ -52,7 +53,7 @@ RedoesCause old new (Err refusals.NoMemory) = new.failed_reads ≡ old.failed_re
 pub record IsFit (kept : Kept) (made : Rewound) : Type 0 where
   pub house : made.store.store.house ≡ kept.house
   pub from : made.from ≤ length kept.timeline
-  pub texts : IsTrue (all_bodies (has_text (items_left kept.timeline made)) made.store.store.boxes)
+  pub texts : IsTrue (all_bodies (has_text_among kept (items_left kept.timeline made)) made.store.store.boxes)
   pub valid : IsValid made.store.store
   pub timeline : IsTimeline kept.house (items_left kept.timeline made)
   pub below : AllByRecursion (λ (i : Item). i.number < made.next) (items_left kept.timeline made)
@@ -62,6 +63,7 @@ pub record IsFit (kept : Kept) (made : Rewound) : Type 0 where
   pub next : made.next ≤ 4194304
   pub place : made.place ≤ length kept.timeline
   pub entered : kept.next + made.entered < made.next
+  pub base : IsBase (items_left kept.timeline made) kept.base
 
 -- what is kept where it is put in place, under a key
 abbrev pub after_rewound : Kept → List ℕ → Rewound → Kept
@@ -100,12 +102,12 @@ abbrev pub Tries : Kept → ℕ → CycleAsk → Type 0 → Report → Type 0
 Tries kept at ask told report = (due : Cycled) × (due_anew kept at ask ≡ Rewinds due) × (told → report ≡ due.report)
 
 -- why a trial has no report: the timeline does not have the point, or else too few numbers are left; memory is wanted, and
--- texts are read, where a cycle is due alone
+-- texts are read, where a cycle is due alone. A read failed exactly where it says so.
 abbrev pub TriesNone : Kept → ℕ → CycleAsk → DiskTold → DiskTold → CycleFault → Type 0
-TriesNone kept at ask old new (Point given) = (due_anew kept at ask ≡ NoPoint) × (given ≡ ask.point)
-TriesNone kept at ask old new (Numbers next) = (due_anew kept at ask ≡ NoNumbers) × (next ≡ kept.next)
+TriesNone kept at ask old new (Point given) = (due_anew kept at ask ≡ NoPoint) × (given ≡ ask.point) × (new.failed_reads ≡ old.failed_reads)
+TriesNone kept at ask old new (Numbers next) = (due_anew kept at ask ≡ NoNumbers) × (next ≡ kept.next) × (new.failed_reads ≡ old.failed_reads)
 TriesNone kept at ask old new Disk = IsRewinds (due_anew kept at ask) × ReadFailed old new
-TriesNone kept at ask old new NoMemory = IsRewinds (due_anew kept at ask)
+TriesNone kept at ask old new NoMemory = IsRewinds (due_anew kept at ask) × (new.failed_reads ≡ old.failed_reads)
 TriesNone kept at ask old new Closed = ⊥
 
 -- ---- a cycle
@@ -137,16 +139,17 @@ module _ {D : Type 0} (told : D → DiskTold) where
   Cycles at ask old new report = CyclesBy at ask old new report (cycle_due old.kept at ask)
 
   -- want of memory, by what is due: it is wanted for a report or for a cycle, never where the point or the numbers are missing;
-  -- nothing was sealed
+  -- nothing was sealed, and no read failed
   abbrev pub StarvesBy : Lasting D → Lasting D → Due → Type 0
   StarvesBy old new (Repeats earlier) = new ≡ old
   StarvesBy old new NoPoint = ⊥
   StarvesBy old new NoNumbers = ⊥
-  StarvesBy old new (Rewinds due) = (old.closed ≡ false) × SealsNothing told old new
+  StarvesBy old new (Rewinds due) = (old.closed ≡ false) × SealsNothing told old new × ReadsWell told old new
 
-  -- a cycle is due, and the sealing of its record failed
+  -- a cycle is due, and the sealing of its record failed, behind reads that did not
   abbrev pub FailsToCycle : ℕ → CycleAsk → Lasting D → Lasting D → Type 0
-  FailsToCycle at ask old new = (due : Cycled) × (cycle_due old.kept at ask ≡ Rewinds due) × Seals told [] (Cycle old.kept.next at ask ∷ []) old new
+  FailsToCycle at ask old new =
+      (due : Cycled) × (cycle_due old.kept at ask ≡ Rewinds due) × Seals told [] (Cycle old.kept.next at ask ∷ []) old new × ReadsWell told old new
 
   -- a cycle is due, and a read of a text failed: nothing was sealed, and nothing changed
   abbrev pub FailsToRead : ℕ → CycleAsk → Lasting D → Lasting D → Type 0

@@ -1,5 +1,5 @@
 -- What an image opens as, and what becomes of a disk on which a journal is opened.
-use Rattle.std.specs.Prelude.{◌≡◌, ◌⊎◌, ◌<◌, ℕ, List, [], ◌∷◌, ◌++◌, length, is_some, Some, None, Result, Ok, Err, IsErrOf, IsTrue}
+use Rattle.std.specs.Prelude.{◌≡◌, ◌⊎◌, ◌<◌, ℕ, List, [], ◌∷◌, ◌++◌, length, Option, Some, None, Result, Ok, Err, IsErrOf}
 use Rattle.std.specs.List.{AllByRecursion}
 use Rattle.undo_outside.specs.Disk.{DiskTold, ReadFailed, WriteFailed}
 use Rattle.undo_outside.specs.Moments.{LeavesOnly}
@@ -9,41 +9,55 @@ use Rattle.seal_log.specs.Causes.{SameCounts}
 use Rattle.seal_log.specs.Journal.{frame, sealed, IsPayload}
 use Rattle.seal_log.specs.Loading.{BeginsCut, IsNotFormatted}
 use Rattle.seal_log.specs.Settled.{IsSettled}
-use Rattle.paradox.specs.Kept.{Kept}
+use Rattle.store_kept.specs.Kept.{Kept}
 use Rattle.time_desk.specs.declared.fault.StartFault.{StartFault}
 use Rattle.time_desk.specs.declared.fault.StartFault.TheVariants.{NotFormatted, Damaged, Disk, NoMemory}
-use Rattle.time_desk.specs.Records.{Leaves, StandsForRecords, payloads_of, state}
+use Rattle.time_desk.specs.Records.{Leaves, StandsForRecords, after_record, opening_state, payloads_of, state}
 
 -- ---- damage
 
--- each of the records can stand: they leave something, or there are none
-abbrev pub CanStand : List JournalRecord → Type 0
-CanStand [] = Unit {0}
-CanStand (r ∷ rs) = IsTrue (is_some (state (r ∷ rs)))
+-- the payload spells no record that comes to something
+abbrev pub SpellsNone : (JournalRecord → Option Kept) → List ℕ → Type 0
+SpellsNone due payload = (what : JournalRecord) → Spells what payload → due what ≡ None
 
--- the payload spells no record that can stand behind these
-abbrev pub SpellsNone : List JournalRecord → List ℕ → Type 0
-SpellsNone records payload = (what : JournalRecord) → Spells what payload → state (records ++ what ∷ []) ≡ None
-
--- an open gate, a frame and a gate stand first, and the payload is no record that can stand behind these
-pub record BeginsBad (records : List JournalRecord) (bytes : List ℕ) : Type 0 where
+-- an open gate, a frame and a gate stand first, and the payload spells no record that comes to something
+pub record BeginsBad (due : JournalRecord → Option Kept) (bytes : List ℕ) : Type 0 where
   pub payload : List ℕ
   pub more : List ℕ
   pub split : bytes ≡ 85 ∷ (frame payload ++ more)
   pub fits : IsPayload payload
   pub some : 0 < length more
-  pub stands_none : SpellsNone records payload
+  pub stands_none : SpellsNone due payload
 
--- Behind records that can stand, an open gate stands at this place, and behind it no record that can stand there: its frame
--- and the next gate are not within the image, or its payload is none.
-pub record IsDamaged (image : List ℕ) (place : ℕ) : Type 0 where
+-- an open gate stands first, and behind it no record that comes to something: its frame and the next gate are not within the
+-- bytes, or its payload spells none
+abbrev pub BeginsBroken : (JournalRecord → Option Kept) → List ℕ → Type 0
+BeginsBroken due bytes = BeginsCut bytes ⊎ BeginsBad due bytes
+
+-- what a journal's front of one record leaves
+abbrev pub opened_by : JournalRecord → Option Kept
+opened_by what = opening_state (what ∷ [])
+
+-- The image does not begin with what a journal opens with. Its front is judged as one: it is one record, so the place is that of
+-- the first gate.
+pub record IsDamagedInFront (image : List ℕ) (place : ℕ) : Type 0 where
+  pub place_is : place ≡ 0
+  pub bad : BeginsBroken opened_by image
+
+-- Behind records that leave this, an open gate stands at this place, and behind it no record that can follow.
+pub record IsDamagedBehind (image : List ℕ) (place : ℕ) : Type 0 where
   pub records : List JournalRecord
   pub rest : List ℕ
   pub split : image ≡ sealed (payloads_of records) ++ rest
   pub short : AllByRecursion IsPayload (payloads_of records)
-  pub can_stand : CanStand records
+  pub kept : Kept
+  pub state_is : state records ≡ Some kept
   pub place_is : place ≡ length (sealed (payloads_of records))
-  pub bad : BeginsCut rest ⊎ BeginsBad records rest
+  pub bad : BeginsBroken (after_record kept) rest
+
+-- the image is damaged at a place: in its front, or behind it
+abbrev pub IsDamaged : List ℕ → ℕ → Type 0
+IsDamaged image place = IsDamagedInFront image place ⊎ IsDamagedBehind image place
 
 -- ---- the answer that is due
 

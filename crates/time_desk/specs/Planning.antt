@@ -8,7 +8,7 @@ use Rattle.verb_core.specs.declared.item.Resolved.{Resolved}
 use Rattle.verb_core.specs.Aims.{sought_by}
 use Rattle.verb_core.specs.Step.{run, step}
 use Rattle.verb_core.specs.Store.{MailStore}
-use Rattle.paradox.specs.Kept.{Kept}
+use Rattle.store_kept.specs.Kept.{Kept}
 use Rattle.repair_desk.specs.Repairs.{numbers_of, position}
 use Rattle.touch_rules.specs.Table.{touches_of}
 use Rattle.replay_plan.specs.Lines.{text_of_levels}
@@ -48,10 +48,10 @@ BodiesCause old new (Err bodies_faults.Failed) = ReadFailed old new
 BodiesCause old new (Err bodies_faults.NoMemory) = new.failed_reads ≡ old.failed_reads
 
 -- why no plan is told: the timeline does not have the point, exactly where it says so; where it has it a read may have failed,
--- and want of memory is free
+-- exactly where it says so, and want of memory is free
 abbrev pub PlansNone : Kept → ℕ → DiskTold → DiskTold → CycleFault → Type 0
-PlansNone kept point old new (Point given) = (position kept.timeline point ≡ None) × (given ≡ point)
+PlansNone kept point old new (Point given) = (position kept.timeline point ≡ None) × (given ≡ point) × (new.failed_reads ≡ old.failed_reads)
 PlansNone kept point old new (Numbers next) = ⊥
 PlansNone kept point old new Disk = IsSome (position kept.timeline point) × ReadFailed old new
-PlansNone kept point old new NoMemory = IsSome (position kept.timeline point)
+PlansNone kept point old new NoMemory = IsSome (position kept.timeline point) × (new.failed_reads ≡ old.failed_reads)
 PlansNone kept point old new Closed = ⊥

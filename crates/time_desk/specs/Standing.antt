@@ -1,5 +1,5 @@
 -- Payloads that are read in order, and the records that stand one behind the other.
-use Rattle.std.specs.Prelude.{◌≡◌, ◌≤◌, ◌+◌, ℕ, Bool, true, false, ◌&&◌, not, List, ◌∷◌, ◌++◌, length, Option, Some, None, IsTrue, if◌then◌else◌}
+use Rattle.std.specs.Prelude.{◌≡◌, ◌⊎◌, ◌≤◌, ◌+◌, ℕ, Bool, true, false, ◌&&◌, not, List, ◌∷◌, ◌++◌, length, Option, Some, None, IsTrue, if◌then◌else◌}
 use Rattle.std.specs.List.{list_all}
 use Rattle.undo_base.specs.declared.keys.User.{User}
 use Rattle.verb_core.specs.declared.conf.Conf.{Conf}
@@ -9,29 +9,21 @@ use Rattle.verb_core.specs.declared.item.Item.{Item}
 use Rattle.verb_core.specs.Items.{has_form, is_own, keys_in, users_in}
 use Rattle.verb_core.specs.Store.{is_known}
 use Rattle.verb_bytes.specs.declared.journal.JournalRecord.{JournalRecord}
-use Rattle.verb_bytes.specs.declared.journal.JournalRecord.TheVariants.{Format, Verb, Operator, Cycle, Snapshot}
 use Rattle.verb_bytes.specs.Spelling.{Spells}
 use Rattle.undo_outside.specs.Disk.{DiskTold, ReadFailed}
 use Rattle.seal_log.specs.Journal.{sealed}
+use Rattle.seal_log.specs.Loading.{places_from}
 use Rattle.seal_log.specs.declared.place.Place.{Place}
 use Rattle.shelf.specs.Marks.{with_mark}
 use Rattle.mail_desk.specs.Held.{Held}
-use Rattle.paradox.specs.Kept.{new_desk, passed, performed, snapshotted, Kept}
+use Rattle.store_kept.specs.Kept.{new_desk, passed, performed, snapshotted, Kept}
 use Rattle.house_text.specs.Beginning.{can_begin}
 use Rattle.time_desk.specs.declared.fault.StartFault.{StartFault}
 use Rattle.time_desk.specs.declared.fault.StartFault.TheVariants.{NotFormatted, Damaged, Disk, NoMemory}
-use Rattle.time_desk.specs.Opening.{CanStand, SpellsNone}
-use Rattle.time_desk.specs.Records.{after_record, after_records, can_follow, payloads_of, state}
+use Rattle.time_desk.specs.Opening.{SpellsNone, opened_by}
+use Rattle.time_desk.specs.Records.{after_record, after_records, behind, can_follow, front, opening_state, payloads_of, state}
 
 -- ---- one record
-
--- the house and the opening configuration of a record that has them
-abbrev pub opening_of : JournalRecord → Option (House × Conf)
-opening_of (Format house conf) = Some (house, conf)
-opening_of (Verb item) = None
-opening_of (Operator number at act) = None
-opening_of (Cycle number at ask) = None
-opening_of (Snapshot items conf rows) = None
 
 -- what is kept at first, where a journal can begin so
 abbrev pub begun : House → Conf → Option Kept
@@ -97,7 +89,7 @@ FailsReading none gate NoMemory = Unit {0}
 -- the payload spells no record that comes to something, and that is told of its gate
 abbrev pub FailsPayload : (JournalRecord → Option Kept) → List ℕ → ℕ → StartFault → Type 0
 FailsPayload due payload gate NotFormatted = ⊥
-FailsPayload due payload gate (Damaged place) = ((what : JournalRecord) → Spells what payload → due what ≡ None) × (place ≡ gate)
+FailsPayload due payload gate (Damaged place) = SpellsNone due payload × (place ≡ gate)
 FailsPayload due payload gate Disk = Unit {0}
 FailsPayload due payload gate NoMemory = Unit {0}
 
@@ -130,7 +122,7 @@ pub record StopsAt (kept : Kept) (gate : ℕ) (payloads : List (List ℕ)) (plac
   pub split : payloads ≡ first ++ payload ∷ after
   pub mid : Kept
   pub leads : LeadsTo kept first mid
-  pub stands_none : (what : JournalRecord) → Spells what payload → after_record mid what ≡ None
+  pub stands_none : SpellsNone (after_record mid) payload
   pub place_is : place ≡ gate + length (sealed first)
 
 -- why the payloads do not lead on from what is kept
@@ -146,16 +138,48 @@ pub record SpellsAll (payloads : List (List ℕ)) (kept : Kept) : Type 0 where
   pub spelled : payloads ≡ payloads_of records
   pub state_is : state records ≡ Some kept
 
--- The first of a journal's payloads spell records that can stand, and the next spells none that can stand there; its gate is
--- here.
-pub record BreaksAt (payloads : List (List ℕ)) (place : ℕ) : Type 0 where
+-- ---- all payloads of a journal
+
+-- The first of the payloads spell the records that a journal opens with, and leave this; what the others spell, which lie at
+-- these places, stands behind them.
+pub record Opens (payloads : List (List ℕ)) (kept : Kept) (places : List Place) : Type 0 where
+  pub records : List JournalRecord
+  pub others : List (List ℕ)
+  pub split : payloads ≡ payloads_of records ++ others
+  pub state_is : opening_state records ≡ Some kept
+  pub fronts : (more : List JournalRecord) (rest : List (List ℕ)) → others ≡ payloads_of more ++ rest → front (records ++ more) ≡ records
+  pub behinds : (more : List JournalRecord) (rest : List (List ℕ)) → others ≡ payloads_of more ++ rest → behind (records ++ more) ≡ more
+  pub places_are : places ≡ places_from (length (sealed (payloads_of records))) others
+
+-- A journal's payloads do not begin with what it can open with. The front is one record, and its gate is the first.
+pub record BreaksInFront (payloads : List (List ℕ)) (place : ℕ) : Type 0 where
+  pub payload : List ℕ
+  pub after : List (List ℕ)
+  pub split : payloads ≡ payload ∷ after
+  pub stands_none : SpellsNone opened_by payload
+  pub place_is : place ≡ 0
+
+-- the first payloads spell records that leave this, and the next spells none that can follow; its gate is here
+pub record BreaksBehind (payloads : List (List ℕ)) (place : ℕ) : Type 0 where
   pub records : List JournalRecord
   pub payload : List ℕ
   pub after : List (List ℕ)
   pub split : payloads ≡ payloads_of records ++ payload ∷ after
-  pub can_stand : CanStand records
-  pub stands_none : SpellsNone records payload
+  pub kept : Kept
+  pub state_is : state records ≡ Some kept
+  pub stands_none : SpellsNone (after_record kept) payload
   pub place_is : place ≡ length (sealed (payloads_of records))
+
+-- a journal's payloads leave nothing: the front does not, or one of those behind it can't follow
+abbrev pub BreaksAt : List (List ℕ) → ℕ → Type 0
+BreaksAt payloads place = BreaksInFront payloads place ⊎ BreaksBehind payloads place
+
+-- why a journal's payloads do not begin with what it can open with
+abbrev pub FrontBreaksFor : List (List ℕ) → StartFault → Type 0
+FrontBreaksFor payloads NotFormatted = ⊥
+FrontBreaksFor payloads (Damaged place) = BreaksInFront payloads place
+FrontBreaksFor payloads Disk = Unit {0}
+FrontBreaksFor payloads NoMemory = Unit {0}
 
 -- why a journal's payloads leave nothing
 abbrev pub BreaksFor : List (List ℕ) → StartFault → Type 0

@@ -6,8 +6,9 @@ ghost use Rattle.verb_core.specs.declared.item.Deed.TheVariants.{Act as Acts};
 ghost use Rattle.verb_core.specs.Items.{users_in};
 ghost use Rattle.verb_core.specs.Store.{is_known};
 ghost use Rattle.verb_bytes.specs.declared.journal.JournalRecord.TheVariants.{Operator};
-ghost use Rattle.paradox.specs.Kept.{performed};
+ghost use Rattle.store_kept.specs.Kept.{performed};
 ghost use Rattle.mail_cycle.specs.Permanence.{UidsLast};
+ghost use Rattle.time_desk.specs.Reading.{ReadsWell};
 ghost use Rattle.time_desk.specs.Sealing.{Seals};
 ghost use Rattle.time_desk.specs.Submitting.{ActsNone};
 
@@ -25,7 +26,10 @@ impl<D: Disk> Desk<D> {
         ensures ok { OnOk result (self.new.kept ≡ performed self.old.kept (act_item self.old.kept.next at act)) }
         ensures sealed { OnOk result (Seals D.told (Operator self.old.kept.next at act ∷ []) [] self.old self.new) }
         ensures err { OnErr result (self.new.kept ≡ self.old.kept) }
+        ensures notes { OnErr result (self.new.notes ≡ self.old.notes) }
+        ensures marks { OnErr result (self.new.marks ≡ self.old.marks) }
         ensures why { IfErr result (λ fault. ActsNone D.told at act self.old self.new fault) }
+        ensures reads { ReadsWell D.told self.old self.new }
         ensures closed { IsErrOf result ActFault.Closed ↔ IsTrue self.old.closed }
         ensures uids { UidsLast self.old.kept self.new.kept }
     {

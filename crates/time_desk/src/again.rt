@@ -3,18 +3,18 @@
 ghost use Rattle.std.specs.Prelude.{◌≡◌, ◌<◌, ◌≤◌, Some, length, IsTrue, IfOk, IfErr};
 ghost use Rattle.undo_outside.specs.Moments.{OnlyReads};
 ghost use Rattle.repair_desk.specs.Repairs.{are_known, position};
-ghost use Rattle.mail_cycle.specs.Asking.{due_anew};
-ghost use Rattle.mail_cycle.specs.Cycles.{cycled_at, leaves_numbers};
+ghost use Rattle.cycle_rules.specs.Asking.{due_anew};
+ghost use Rattle.cycle_rules.specs.Cycles.{cycled_at, leaves_numbers};
 ghost use Rattle.mail_cycle.specs.Leaving.{IsMade, IsMadeFrom, Leaves};
 ghost use Rattle.mail_cycle.specs.Refusing.{IsRefusalOf};
 ghost use Rattle.time_desk.specs.Cycling.{IsFit, Redoes, RedoesCause};
 ghost use Rattle.time_desk.specs.Planning.{BodiesCause};
 ghost use Rattle.time_desk.specs.Serving.{Serves};
-ghost use Rattle.time_desk.specs.Stored.{MarkedBefore, NotedBefore, store_at};
+ghost use Rattle.time_desk.specs.Stored.{MarkedBefore, TextsNoted, store_at};
 ghost use Rattle.time_desk.specs.Telling.{HoldsHeld};
 
 use crate::beginning::beginning;
-use crate::redo::begun;
+use crate::redo::{begun, new_texts};
 use box_store::Steps;
 use desk_journal::Reading;
 use mail_cycle::laws::{cycles_begin_anywhere, cycles_leave_states};
@@ -44,7 +44,7 @@ fn again_from<D: Disk, L: Ledger>(
     steps: &mut Steps<L>,
 ) -> Result<Rewound, BodiesFault>
     requires end { end < (D.told disk.old).size }
-    requires noted { NotedBefore end desk.now.notes desk.now.kept.timeline }
+    requires noted { TextsNoted end desk.now.notes desk.now.kept }
     requires serves { Serves desk.now.kept place first }
     requires place { place ≤ length desk.now.kept.timeline }
     requires numbers { IsTrue (leaves_numbers desk.now.kept ask.now) }
@@ -60,7 +60,8 @@ fn again_from<D: Disk, L: Ledger>(
     cycles_leave_states();
     cycles_begin_anywhere();
     bodies_have_texts();
-    let mut bodies = Reading::of(disk, end, desk, &ask.replaces, desk.next());
+    let texts = new_texts(alloc, &ask.replaces)?;
+    let mut bodies = Reading::of(disk, end, desk, &texts, desk.next());
     cycle_in_order(
         alloc,
         &begun(desk),
@@ -85,7 +86,7 @@ fn again_at<D: Disk, L: Ledger>(
     steps: &mut Steps<L>,
 ) -> Result<Rewound, BodiesFault>
     requires end { end < (D.told disk.old).size }
-    requires noted { NotedBefore end desk.now.notes desk.now.kept.timeline }
+    requires noted { TextsNoted end desk.now.notes desk.now.kept }
     requires marked { MarkedBefore end desk.now.marks }
     requires is_place { position desk.now.kept.timeline ask.now.point ≡ Some place }
     requires place { place ≤ length desk.now.kept.timeline }
@@ -117,7 +118,7 @@ fn again<D: Disk, L: Ledger>(
     steps: &mut Steps<L>,
 ) -> Result<Rewound, CycleRefused>
     requires end { end < (D.told disk.old).size }
-    requires noted { NotedBefore end desk.now.notes desk.now.kept.timeline }
+    requires noted { TextsNoted end desk.now.notes desk.now.kept }
     requires marked { MarkedBefore end desk.now.marks }
     requires moment { at ≤ LAST_MOMENT }
     requires known { IsTrue (are_known desk.now.kept.house ask.now.inserts) }
@@ -152,7 +153,7 @@ fn again_over<D: Disk, L: Ledger>(
     requires parts { blank.parts ≡ L.parts }
     requires some { 0 < blank.parts }
     requires end { end < (D.told disk.old).size }
-    requires noted { NotedBefore end desk.now.notes desk.now.kept.timeline }
+    requires noted { TextsNoted end desk.now.notes desk.now.kept }
     requires marked { MarkedBefore end desk.now.marks }
     requires moment { at ≤ LAST_MOMENT }
     requires known { IsTrue (are_known desk.now.kept.house ask.now.inserts) }
@@ -177,7 +178,7 @@ pub(crate) fn performed_again<D: Disk>(
     ask: &CycleAsk,
 ) -> Result<Rewound, CycleRefused>
     requires end { end < (D.told disk.old).size }
-    requires noted { NotedBefore end desk.now.notes desk.now.kept.timeline }
+    requires noted { TextsNoted end desk.now.notes desk.now.kept }
     requires marked { MarkedBefore end desk.now.marks }
     requires moment { at ≤ LAST_MOMENT }
     requires known { IsTrue (are_known desk.now.kept.house ask.now.inserts) }

@@ -1,32 +1,28 @@
 //! What a cycle begins with: the newest snapshot in the journal that can serve, or else the store before the first item.
-ghost use Rattle.std.specs.Prelude.{◌≡◌, ◌<◌, ◌≤◌, ◌+◌, ◌&&◌, ℕ, List, Some, take, length, option_map, IfOk, IfSome, IsErrOf};
+ghost use Rattle.std.specs.Prelude.{◌≡◌, ◌<◌, ◌≤◌, ◌+◌, ℕ, List, Some, take, length, option_map, IfOk, IfSome, IsErrOf};
 ghost use Rattle.std.specs.List.{AllByRecursion, list_all};
 ghost use Rattle.undo_outside.specs.Moments.{OnlyReads};
-ghost use Rattle.verb_core.specs.declared.conf.Conf.{Conf as TheConf};
-ghost use Rattle.verb_core.specs.declared.mailbox.BoxId.{BoxId as TheBoxId};
 ghost use Rattle.verb_core.specs.declared.mailbox.Entry.{Entry as TheEntry};
-ghost use Rattle.verb_core.specs.declared.mailbox.Mailbox.{Mailbox as TheMailbox};
 ghost use Rattle.verb_bytes.specs.declared.journal.JournalRecord.{JournalRecord as TheRecord};
-ghost use Rattle.verb_bytes.specs.declared.journal.JournalRecord.TheVariants.{Snapshot};
 ghost use Rattle.verb_bytes.specs.Spelling.{HasSpelling, Spells, record_bytes};
 ghost use Rattle.seal_log.specs.Causes.{ReadAtCause};
 ghost use Rattle.seal_log.specs.Journal.{LiesAt};
 ghost use Rattle.seal_log.specs.Settled.{Holds};
-ghost use Rattle.box_store.specs.Making.{makes_store as rows_make_store, store_of_rows as made_of};
-ghost use Rattle.mail_desk.specs.Timeline.{all_bodies, has_text};
-ghost use Rattle.time_desk.specs.Serving.{CanServe, FindsLast, IsNewest, Serves};
+ghost use Rattle.time_desk.specs.Serving.{BeginsBy, CanServe, FindsLast, FindsNewest, IsNewest, Serves, ServesBy, SpelledBy, bytes_at, can_serve as serves, rows_in, store_from, store_in};
 ghost use Rattle.time_desk.specs.Stored.{MarkLies, MarkedBefore, MarksLie, store_at};
 ghost use Rattle.time_desk.specs.Telling.{HoldsHeld};
+ghost use Rattle.store_kept.specs.Texts.{all_bodies, has_text_among};
 
 use crate::redo::begun;
 use box_store::{RowsRefused, Store, makes_store, rows_make_valid_stores};
 use mail_cycle::{Beginning, opened};
 use mail_desk::Desk;
-use mail_desk::laws::bodies_have_texts;
+use mail_desk::laws::{bases_carry, bodies_have_texts};
 use seal_log::{Place, ReadFault, read_before};
 use std::alloc::Global;
 use undo_base::{NoMemory, Text};
 use undo_outside::Disk;
+use verb_bytes::laws::one_spelling;
 use verb_bytes::{BadBytes, JournalRecord, decode_record};
 use verb_core::laws::steps_keep_validity;
 use verb_core::{BoxId, Conf, Entry, Mailbox, Rows};
@@ -34,6 +30,7 @@ use verb_core::{BoxId, Conf, Entry, Mailbox, Rows};
 /// The record that a payload spells, where it spells one.
 fn record_of(alloc: Global, payload: &Text) -> Result<Option<JournalRecord>, ReadFault>
     ensures found { (what : TheRecord) → Spells what payload.now → IfOk result (λ found. found ≡ Some what) }
+    ensures read { IfOk result (SpelledBy payload.now) }
     ensures never { IsErrOf result ReadFault.Disk → ⊥ }
 {
     match decode_record(alloc, payload.bytes()) {
@@ -54,6 +51,7 @@ fn record_at<D: Disk>(
     requires place { place.gate + 5 + place.length ≤ end }
     ensures found { (payloads : List (List ℕ)) (what : TheRecord) → Holds (D.told disk.old) payloads → HasSpelling what
         → LiesAt payloads place.gate place.length (record_bytes what) → IfOk result (λ found. found ≡ Some what) }
+    ensures read { (D.told disk.old).honest → IfOk result (SpelledBy (bytes_at (D.told disk.old) place)) }
     ensures cause { ReadAtCause (D.told disk.old) (D.told disk.new) result }
     ensures reads { OnlyReads (D.told disk.old) (D.told disk.new) }
 {
@@ -63,9 +61,9 @@ fn record_at<D: Disk>(
     }
 }
 
-/// The configuration and the rows of a snapshot of so many items.
+/// The configuration and the rows of a record that is a snapshot of so many items; of any other, none.
 fn rows_of(what: JournalRecord, count: u32) -> Option<(Conf, Rows)>
-    ensures { (conf : TheConf) (rows : List (TheBoxId × TheMailbox)) → what ≡ Snapshot count conf rows → result ≡ Some (conf, rows) }
+    ensures { result ≡ rows_in count what }
 {
     match what {
         JournalRecord::Snapshot { items, conf, rows } => {
@@ -76,21 +74,8 @@ fn rows_of(what: JournalRecord, count: u32) -> Option<(Conf, Rows)>
             drop(rows);
             None
         }
-        JournalRecord::Format(house, conf) => {
-            drop(house);
-            drop(conf);
-            None
-        }
-        JournalRecord::Verb(item) => {
-            drop(item);
-            None
-        }
-        JournalRecord::Operator { act, .. } => {
-            drop(act);
-            None
-        }
-        JournalRecord::Cycle { ask, .. } => {
-            drop(ask);
+        other => {
+            drop(other);
             None
         }
     }
@@ -98,7 +83,7 @@ fn rows_of(what: JournalRecord, count: u32) -> Option<(Conf, Rows)>
 
 /// Whether the body of each entry has a text among the first so many items.
 fn have_texts(desk: &Desk, count: u32, entries: &[Entry]) -> bool
-    ensures { result ≡ list_all (λ (e : TheEntry). has_text (take count desk.now.kept.timeline) e.body) entries.now }
+    ensures { result ≡ list_all (λ (e : TheEntry). has_text_among desk.now.kept (take count desk.now.kept.timeline) e.body) entries.now }
 {
     entries
         .iter()
@@ -107,7 +92,7 @@ fn have_texts(desk: &Desk, count: u32, entries: &[Entry]) -> bool
 
 /// The same of all rows.
 fn rows_have_texts(desk: &Desk, count: u32, rows: &[(BoxId, Mailbox)]) -> bool
-    ensures { result ≡ all_bodies (has_text (take count desk.now.kept.timeline)) rows.now }
+    ensures { result ≡ all_bodies (has_text_among desk.now.kept (take count desk.now.kept.timeline)) rows.now }
 {
     rows.iter()
         .all(|row| have_texts(desk, count, row.1.entries.as_slice()))
@@ -115,7 +100,7 @@ fn rows_have_texts(desk: &Desk, count: u32, rows: &[(BoxId, Mailbox)]) -> bool
 
 /// Whether rows make a store of the house, each body of which has a text among the first so many items.
 fn can_serve(desk: &Desk, count: u32, conf: &Conf, rows: &[(BoxId, Mailbox)]) -> bool
-    ensures { result ≡ (rows_make_store desk.now.kept.house conf.now rows.now && all_bodies (has_text (take count desk.now.kept.timeline)) rows.now) }
+    ensures { result ≡ serves desk.now.kept count conf.now rows.now }
 {
     makes_store(desk.house(), conf, rows) && rows_have_texts(desk, count, rows)
 }
@@ -127,6 +112,7 @@ fn fronts_serve(desk: &Desk)
     desk.stands();
     steps_keep_validity();
     bodies_have_texts();
+    bases_carry();
 }
 
 /// The store of rows, where it can serve.
@@ -138,8 +124,7 @@ fn store_of_rows(
     rows: Rows,
 ) -> Result<Option<Store>, ReadFault>
     ensures serves { IfOk result (λ found. IfSome found (λ store. CanServe desk.now.kept count store.store)) }
-    ensures found { CanServe desk.now.kept count (made_of desk.now.kept.house conf rows)
-        → IfOk result (λ found. option_map (λ store. store.store) found ≡ Some (made_of desk.now.kept.house conf rows)) }
+    ensures exact { IfOk result (λ found. option_map (λ store. store.store) found ≡ store_from desk.now.kept count conf rows) }
     ensures never { IsErrOf result ReadFault.Disk → ⊥ }
 {
     rows_make_valid_stores();
@@ -163,9 +148,7 @@ fn store_of_record(
     what: JournalRecord,
 ) -> Result<Option<Store>, ReadFault>
     ensures serves { IfOk result (λ found. IfSome found (λ store. CanServe desk.now.kept count store.store)) }
-    ensures found { (conf : TheConf) (rows : List (TheBoxId × TheMailbox)) → what ≡ Snapshot count conf rows
-        → CanServe desk.now.kept count (made_of desk.now.kept.house conf rows)
-        → IfOk result (λ found. option_map (λ store. store.store) found ≡ Some (made_of desk.now.kept.house conf rows)) }
+    ensures exact { IfOk result (λ found. option_map (λ store. store.store) found ≡ store_in desk.now.kept count what) }
     ensures never { IsErrOf result ReadFault.Disk → ⊥ }
 {
     match rows_of(what, count) {
@@ -188,10 +171,14 @@ fn marked_store<D: Disk>(
     ensures serves { IfOk result (λ found. IfSome found (λ store. CanServe desk.now.kept count store.store)) }
     ensures found { (payloads : List (List ℕ)) → Holds (D.told disk.old) payloads → MarkLies payloads desk.now.kept (count, place)
         → IfOk result (λ found. option_map (λ store. store.store) found ≡ Some (store_at desk.now.kept count)) }
+    ensures read { (D.told disk.old).honest
+        → IfOk result (λ found. ServesBy desk.now.kept count (bytes_at (D.told disk.old) place) (option_map (λ store. store.store) found)) }
     ensures cause { ReadAtCause (D.told disk.old) (D.told disk.new) result }
     ensures reads { OnlyReads (D.told disk.old) (D.told disk.new) }
 {
     fronts_serve(desk);
+    rows_make_valid_stores();
+    one_spelling();
     match record_at(alloc, disk, end, place) {
         Ok(Some(what)) => store_of_record(alloc, desk, count, what),
         Ok(None) => Ok(None),
@@ -199,7 +186,7 @@ fn marked_store<D: Disk>(
     }
 }
 
-/// The newest of the snapshots that are marked, the last that can serve.
+/// The newest of the snapshots that are marked, the last that can serve: each one behind it is passed over.
 fn newest<D: Disk>(
     alloc: Global,
     disk: &mut D,
@@ -213,6 +200,7 @@ fn newest<D: Disk>(
     ensures few { (place : ℕ) → AllByRecursion (λ (m : ℕ × Place). m.0 ≤ place) marks.now → IfOk result (λ found. IfSome found (λ first. first.count ≤ place)) }
     ensures newest { (payloads : List (List ℕ)) → Holds (D.told disk.old) payloads → MarksLie payloads desk.now.kept marks.now
         → IfOk result (FindsLast desk.now.kept marks.now) }
+    ensures passes { (D.told disk.old).honest → IfOk result (FindsNewest (D.told disk.old) desk.now.kept marks.now) }
     ensures cause { ReadAtCause (D.told disk.old) (D.told disk.new) result }
     ensures reads { OnlyReads (D.told disk.old) (D.told disk.new) }
 {
@@ -269,6 +257,7 @@ pub(crate) fn beginning<D: Disk>(
     requires place { place ≤ length desk.now.kept.timeline }
     ensures serves { IfOk result (Serves desk.now.kept place) }
     ensures newest { HoldsHeld (D.told disk.old) desk.now → IfOk result (IsNewest desk.now.kept place) }
+    ensures passes { (D.told disk.old).honest → IfOk result (BeginsBy (D.told disk.old) desk.now place) }
     ensures cause { ReadAtCause (D.told disk.old) (D.told disk.new) result }
     ensures reads { OnlyReads (D.told disk.old) (D.told disk.new) }
 {

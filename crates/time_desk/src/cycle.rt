@@ -5,19 +5,19 @@ ghost use Rattle.verb_bytes.specs.declared.journal.JournalRecord.TheVariants.{Cy
 ghost use Rattle.verb_bytes.specs.Spelling.{record_bytes};
 ghost use Rattle.shelf.specs.Marks.{marks_at_or_before};
 ghost use Rattle.paradox.specs.declared.reports.Report.{Report as TheReport};
-ghost use Rattle.paradox.specs.Kept.{report_of};
+ghost use Rattle.store_kept.specs.Kept.{report_of};
 ghost use Rattle.repair_desk.specs.Repairs.{are_known};
-ghost use Rattle.mail_cycle.specs.Asking.{IsRewinds, Rewinds, cycle_due, due_anew, Repeats};
-ghost use Rattle.mail_cycle.specs.Cycles.{Cycled};
+ghost use Rattle.cycle_rules.specs.Asking.{IsRewinds, Rewinds, cycle_due, due_anew, Repeats};
+ghost use Rattle.cycle_rules.specs.Cycles.{Cycled};
 ghost use Rattle.mail_cycle.specs.Leaving.{IsMade, items_left};
 ghost use Rattle.mail_cycle.specs.Permanence.{UidsLast};
 ghost use Rattle.mail_cycle.specs.Refusing.{IsRefusalOf};
 ghost use Rattle.mail_desk.specs.Remaking.{CanReplace, remade_as};
 ghost use Rattle.time_desk.specs.Cycling.{Cycles, CyclesAs, CyclesNone, IsCycleOutcomeOf, IsFit, IsTold, Redoes, RedoesCause, RenotesAs, Tries, TriesNone, after_rewound, most_performed};
 ghost use Rattle.time_desk.specs.Lasting.{lasting};
-ghost use Rattle.time_desk.specs.Reading.{IsStill};
+ghost use Rattle.time_desk.specs.Reading.{IsStill, ReadsWell};
 ghost use Rattle.time_desk.specs.Records.{is_spelled};
-ghost use Rattle.time_desk.specs.Stored.{HoldsTexts, MarkedBefore, NotedBefore, Renotes};
+ghost use Rattle.time_desk.specs.Stored.{HoldsTexts, MarkedBefore, TextsNoted, Renotes};
 ghost use Rattle.time_desk.specs.Submitting.{SealsBytes};
 ghost use Rattle.time_desk.specs.Telling.{HoldsHeld, IsOnlyRead};
 
@@ -289,15 +289,19 @@ fn cycle_made<D: Disk>(
     requires known { IsTrue (are_known desk.old.kept.house ask.inserts) }
     requires anew { report_of desk.old.kept.reports ask.key ≡ None }
     requires fit { IsFit desk.old.kept made }
-    requires noted { NotedBefore journal.old.gate desk.old.notes desk.old.kept.timeline }
+    requires noted { TextsNoted journal.old.gate desk.old.notes desk.old.kept }
     requires marked { MarkedBefore journal.old.gate desk.old.marks }
     ensures done { (disk : D) → OnlyReads (D.told disk) (D.told journal.old.disk) → CyclesAs D.told (lasting desk.old (record journal.old { disk = disk })) at ask made
         → IfOk result (λ report. Cycles D.told at ask (lasting desk.old (record journal.old { disk = disk })) (lasting desk.new journal.new) report) }
-    ensures noted { IsMade desk.old.kept at ask ⊥ made → NotedBefore journal.new.gate desk.new.notes desk.new.kept.timeline }
+    ensures noted { IsMade desk.old.kept at ask ⊥ made → TextsNoted journal.new.gate desk.new.notes desk.new.kept }
     ensures marked { MarkedBefore journal.new.gate desk.new.marks }
     ensures timeline { OnOk result (desk.new.kept.timeline ≡ items_left desk.old.kept.timeline made) }
     ensures err { OnErr result (desk.new.kept ≡ desk.old.kept) }
-    ensures why { (disk : D) → OnlyReads (D.told disk) (D.told journal.old.disk) → CyclesAs D.told (lasting desk.old (record journal.old { disk = disk })) at ask made
+    ensures notes { OnErr result (desk.new.notes ≡ desk.old.notes) }
+    ensures marks { OnErr result (desk.new.marks ≡ desk.old.marks) }
+    ensures reads { (D.told journal.new.disk).failed_reads ≡ (D.told journal.old.disk).failed_reads }
+    ensures why { (disk : D) → OnlyReads (D.told disk) (D.told journal.old.disk) → (D.told journal.old.disk).failed_reads ≡ (D.told disk).failed_reads
+        → CyclesAs D.told (lasting desk.old (record journal.old { disk = disk })) at ask made
         → IfErr result (λ fault. CyclesNone D.told at ask (lasting desk.old (record journal.old { disk = disk })) (lasting desk.new journal.new) fault) }
 {
     desk.stands();
@@ -321,7 +325,7 @@ fn rewound_in<R: Threads + Sync, G: Gate, D: Disk, L: Ledger>(
     gate: &G,
     steps: &mut Steps<L>,
 ) -> Result<Rewound, CycleRefused>
-    requires noted { NotedBefore journal.old.gate desk.now.notes desk.now.kept.timeline }
+    requires noted { TextsNoted journal.old.gate desk.now.notes desk.now.kept }
     requires marked { MarkedBefore journal.old.gate desk.now.marks }
     requires moment { at ≤ LAST_MOMENT }
     requires known { IsTrue (are_known desk.now.kept.house ask.now.inserts) }
@@ -359,7 +363,7 @@ fn rewound_alone_in<R: Threads + Sync, G: Gate, D: Disk>(
     ask: &CycleAsk,
     gate: &G,
 ) -> Result<Rewound, CycleRefused>
-    requires noted { NotedBefore journal.old.gate desk.now.notes desk.now.kept.timeline }
+    requires noted { TextsNoted journal.old.gate desk.now.notes desk.now.kept }
     requires marked { MarkedBefore journal.old.gate desk.now.marks }
     requires moment { at ≤ LAST_MOMENT }
     requires known { IsTrue (are_known desk.now.kept.house ask.now.inserts) }
@@ -395,15 +399,18 @@ fn cycle_open<R: Threads + Sync, G: Gate, D: Disk, L: Ledger>(
     requires open { journal.old.closed ≡ false }
     requires known { IsTrue (are_known desk.old.kept.house ask.inserts) }
     requires anew { report_of desk.old.kept.reports ask.key ≡ None }
-    requires noted { NotedBefore journal.old.gate desk.old.notes desk.old.kept.timeline }
+    requires noted { TextsNoted journal.old.gate desk.old.notes desk.old.kept }
     requires marked { MarkedBefore journal.old.gate desk.old.marks }
     ensures done { IfOk result (λ report. Cycles D.told at ask (lasting desk.old journal.old) (lasting desk.new journal.new) report) }
-    ensures noted { NotedBefore journal.new.gate desk.new.notes desk.new.kept.timeline }
+    ensures noted { TextsNoted journal.new.gate desk.new.notes desk.new.kept }
     ensures marked { MarkedBefore journal.new.gate desk.new.marks }
     ensures err { OnErr result (desk.new.kept ≡ desk.old.kept) }
+    ensures notes { OnErr result (desk.new.notes ≡ desk.old.notes) }
+    ensures marks { OnErr result (desk.new.marks ≡ desk.old.marks) }
     ensures why { IfErr result (λ fault. CyclesNone D.told at ask (lasting desk.old journal.old) (lasting desk.new journal.new) fault) }
     ensures rewinds { (due : Cycled) → due_anew desk.old.kept at ask ≡ Rewinds due → HoldsTexts D.told (lasting desk.old journal.old)
         → OnOk result (steps.new ≤ steps.old + most_performed desk.old.kept ask due) }
+    ensures same { OnOk result ((D.told journal.new.disk).failed_reads ≡ (D.told journal.old.disk).failed_reads) }
     ensures steps { OnOk result (steps.new ≤ steps.old + length desk.new.kept.timeline) }
 {
     match rewound_in(rt, alloc, journal, desk, at, &ask, gate, steps) {
@@ -429,15 +436,18 @@ fn cycle_anew<R: Threads + Sync, G: Gate, D: Disk, L: Ledger>(
     requires moment { at ≤ LAST_MOMENT }
     requires known { IsTrue (are_known desk.old.kept.house ask.inserts) }
     requires anew { report_of desk.old.kept.reports ask.key ≡ None }
-    requires noted { NotedBefore journal.old.gate desk.old.notes desk.old.kept.timeline }
+    requires noted { TextsNoted journal.old.gate desk.old.notes desk.old.kept }
     requires marked { MarkedBefore journal.old.gate desk.old.marks }
     ensures done { IfOk result (λ report. Cycles D.told at ask (lasting desk.old journal.old) (lasting desk.new journal.new) report) }
-    ensures noted { NotedBefore journal.new.gate desk.new.notes desk.new.kept.timeline }
+    ensures noted { TextsNoted journal.new.gate desk.new.notes desk.new.kept }
     ensures marked { MarkedBefore journal.new.gate desk.new.marks }
     ensures err { OnErr result (desk.new.kept ≡ desk.old.kept) }
+    ensures notes { OnErr result (desk.new.notes ≡ desk.old.notes) }
+    ensures marks { OnErr result (desk.new.marks ≡ desk.old.marks) }
     ensures why { IfErr result (λ fault. CyclesNone D.told at ask (lasting desk.old journal.old) (lasting desk.new journal.new) fault) }
     ensures rewinds { (due : Cycled) → due_anew desk.old.kept at ask ≡ Rewinds due → HoldsTexts D.told (lasting desk.old journal.old)
         → OnOk result (steps.new ≤ steps.old + most_performed desk.old.kept ask due) }
+    ensures same { OnOk result ((D.told journal.new.disk).failed_reads ≡ (D.told journal.old.disk).failed_reads) }
     ensures steps { OnOk result (steps.new ≤ steps.old + length desk.new.kept.timeline) }
 {
     if journal.is_closed() {
@@ -475,9 +485,12 @@ impl<D: Disk> Desk<D> {
         requires known { IsTrue (are_known self.old.kept.house ask.inserts) }
         ensures done { IfOk result (λ report. Cycles D.told at ask self.old self.new report) }
         ensures err { OnErr result (self.new.kept ≡ self.old.kept) }
+        ensures notes { OnErr result (self.new.notes ≡ self.old.notes) }
+        ensures marks { OnErr result (self.new.marks ≡ self.old.marks) }
         ensures why { IfErr result (λ fault. CyclesNone D.told at ask self.old self.new fault) }
         ensures rewinds { (due : Cycled) → cycle_due self.old.kept at ask ≡ Rewinds due → HoldsTexts D.told self.old
             → OnOk result (steps.new ≤ steps.old + most_performed self.old.kept ask due) }
+        ensures same { OnOk result (ReadsWell D.told self.old self.new) }
         ensures steps { OnOk result (steps.new ≤ steps.old + length self.new.kept.timeline) }
         ensures once { (earlier : TheReport) → cycle_due self.old.kept at ask ≡ Repeats earlier → steps.new ≡ steps.old }
         ensures uids { HoldsTexts D.told self.old → UidsLast self.old.kept self.new.kept }

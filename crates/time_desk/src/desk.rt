@@ -6,16 +6,18 @@ ghost use Rattle.verb_core.specs.declared.mailbox.Body.{Body as TheBody};
 ghost use Rattle.verb_core.specs.declared.mailbox.BoxId.{BoxId as TheBoxId};
 ghost use Rattle.verb_core.specs.declared.mailbox.Mailbox.{Mailbox as TheMailbox};
 ghost use Rattle.verb_core.specs.Boxes.{box_of, row_at};
-ghost use Rattle.verb_core.specs.Items.{IsTimeline, text_of};
-ghost use Rattle.verb_core.specs.Store.{IsValid, is_house, is_known, opening as store_at_first};
+ghost use Rattle.verb_core.specs.Items.{IsTimeline};
+ghost use Rattle.verb_core.specs.Store.{IsValid, is_house, is_known};
+ghost use Rattle.store_kept.specs.Bases.{HasBase};
 ghost use Rattle.seal_log.specs.declared.place.Place.{Place as ThePlace};
 ghost use Rattle.shelf.specs.Notes.{size_of};
 ghost use Rattle.store_digest.specs.Snapshots.{digest_of};
 ghost use Rattle.mail_desk.specs.Counting.{counts_of, listed, page};
-ghost use Rattle.paradox.specs.Kept.{IsRun, store_of};
-ghost use Rattle.mail_desk.specs.Timeline.{all_bodies, has_sizes, has_text, rev_of};
+ghost use Rattle.store_kept.specs.Kept.{IsRun, store_of};
+ghost use Rattle.store_kept.specs.Texts.{all_bodies, has_text_kept, text_kept};
+ghost use Rattle.mail_desk.specs.Timeline.{has_sizes, has_text, rev_of};
 ghost use Rattle.time_desk.specs.Permanence.{IsSound};
-ghost use Rattle.time_desk.specs.Stored.{MarkedBefore, NotedBefore};
+ghost use Rattle.time_desk.specs.Stored.{MarkedBefore, TextsNoted};
 
 use box_store::Store;
 use desk_journal::Journal;
@@ -38,14 +40,14 @@ pub struct Desk<D: Disk> {
 
 impl<D: Disk> Model for Desk<D> {
     ghost use Rattle.time_desk.specs.Lasting.{Lasting, lasting};
-    ghost use Rattle.time_desk.specs.Stored.{MarkedBefore, NotedBefore};
+    ghost use Rattle.time_desk.specs.Stored.{MarkedBefore, TextsNoted};
 
     ghost Value = { Lasting D };
 
     ghost view = { λ d. lasting d.desk d.journal };
 
     ghost invariant = { λ d. record {
-      noted : NotedBefore d.journal.gate d.desk.notes d.desk.kept.timeline;
+      noted : TextsNoted d.journal.gate d.desk.notes d.desk.kept;
       marked : MarkedBefore d.journal.gate d.desk.marks;
     } };
 }
@@ -107,7 +109,7 @@ impl<D: Disk> Desk<D> {
     /// Where the text of each body lies, and its size.
     pub fn shelf(&self) -> &Shelf
         ensures value { result.now.notes ≡ self.now.notes }
-        ensures sizes { (body : TheBody) → size_of result.now.notes body ≡ option_map length (text_of self.now.kept.timeline body) }
+        ensures sizes { (body : TheBody) → size_of result.now.notes body ≡ option_map length (text_kept self.now.kept body) }
         ensures known { IsTrue (has_sizes result.now.notes (store_of self.now.kept).boxes) }
     {
         self.desk.shelf()
@@ -151,7 +153,7 @@ impl<D: Disk> Desk<D> {
 
     /// Whether a body has a text.
     pub fn has_text(&self, body: Body) -> bool
-        ensures { result ≡ has_text self.now.kept.timeline body }
+        ensures { result ≡ has_text_kept self.now.kept body }
     {
         self.desk.has_text(body)
     }
@@ -166,7 +168,7 @@ impl<D: Disk> Desk<D> {
     /// What holds of each desk: this does nothing.
     pub fn stands(&self)
         ensures house { IsTrue (is_house self.now.kept.house) }
-        ensures base { self.now.kept.base ≡ store_at_first self.now.kept.house self.now.kept.opening }
+        ensures base { HasBase self.now.kept }
         ensures aliases { IsTrue (list_all (λ a. list_all (is_known self.now.kept.house) a.users) self.now.kept.opening.aliases) }
         ensures filters { self.now.kept.opening.filters ≡ [] }
         ensures valid { IsValid (store_of self.now.kept) }
@@ -177,10 +179,10 @@ impl<D: Disk> Desk<D> {
         ensures fresh { AllByRecursion (λ (r : TheBoxId × ℕ). r.1 < self.now.kept.next) self.now.kept.stamps }
         ensures next { self.now.kept.next ≤ 4194304 }
         ensures reports { length self.now.kept.reports ≤ self.now.kept.next }
-        ensures texts { IsTrue (all_bodies (has_text self.now.kept.timeline) (store_of self.now.kept).boxes) }
+        ensures texts { IsTrue (all_bodies (has_text_kept self.now.kept) (store_of self.now.kept).boxes) }
         ensures sound { IsRun self.now.kept → IsSound self.now.kept }
         ensures within { self.now.gate < (D.told self.now.disk).size }
-        ensures noted { NotedBefore self.now.gate self.now.notes self.now.kept.timeline }
+        ensures noted { TextsNoted self.now.gate self.now.notes self.now.kept }
         ensures marked { MarkedBefore self.now.gate self.now.marks }
         ensures since { self.now.kept.marks.since ≤ self.now.kept.next }
         ensures places { self.now.kept.marks.places ≡ map (λ (m : ℕ × ThePlace). m.0) self.now.marks }

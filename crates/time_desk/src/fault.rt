@@ -13,14 +13,16 @@ pub enum StartFault {
 }
 
 /// Why a request for a cycle has no report. But for `NoMemory` the first that holds is told, in this order: `Closed`, `Point`,
-/// `Numbers`, `Disk`. A key that a cycle had is answered before all of them. A plan is missing for `Point` or `NoMemory` alone.
+/// `Numbers`, `Disk`. A key that a cycle had is answered before all of them. A plan is missing for `Point`, `Disk` or `NoMemory`
+/// alone.
 #[derive(Clone, Copy, Debug, PartialEq, Eq)]
 pub enum CycleFault {
     /// The timeline has no item of this number, which is not 0.
     Point { given: u32 },
     /// Too few numbers are left for the cycle, its acts and a notice to each user: the next would be this one.
     Numbers { next: u32 },
-    /// A write or a sync failed in this call. The desk is closed from then on.
+    /// A write or a sync failed in this call, and the desk is closed from then on; or a read failed, and it stays open. Of a try
+    /// and of a plan it is always a read.
     Disk,
     NoMemory,
     /// A write or a sync failed earlier.

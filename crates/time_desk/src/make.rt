@@ -1,6 +1,6 @@
 //! A desk on an empty disk.
 ghost use Rattle.std.specs.Prelude.{◌≡◌, false, Ok, Err, IsTrue, IfOk, IfErr};
-ghost use Rattle.paradox.specs.Kept.{new_desk};
+ghost use Rattle.store_kept.specs.Kept.{new_desk};
 ghost use Rattle.house_text.specs.Beginning.{can_begin};
 ghost use Rattle.time_desk.specs.Making.{Makes};
 ghost use Rattle.time_desk.specs.Stored.{HoldsTexts};

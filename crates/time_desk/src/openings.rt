@@ -1,6 +1,6 @@
 //! What the definitions of opening imply.
 ghost use Rattle.std.specs.Prelude.{◌≡◌, ℕ, List, Result};
-ghost use Rattle.paradox.specs.Kept.{Kept};
+ghost use Rattle.store_kept.specs.Kept.{Kept};
 ghost use Rattle.time_desk.specs.declared.fault.StartFault.{StartFault};
 ghost use Rattle.time_desk.specs.Opening.{OpensAs};
 

@@ -1,7 +1,7 @@
 //! What a mail client that keeps mail by UID may rely on, and what an operator who must account for every message: over all
 //! that a journal's records leave, with any number of cycles and reopenings. These functions do nothing: their contracts are
 //! laws of the definitions.
-ghost use Rattle.std.specs.Prelude.{◌≡◌, ◌≢◌, ℕ, List, ◌∷◌, ◌++◌, true, false, Some};
+ghost use Rattle.std.specs.Prelude.{◌≡◌, ◌≢◌, ℕ, List, ◌∷◌, ◌++◌, true, false, Some, IsSome};
 ghost use Rattle.std.specs.List.{list_any};
 ghost use Rattle.undo_base.specs.declared.keys.Key.{Key};
 ghost use Rattle.undo_base.specs.declared.keys.User.{User};
@@ -9,23 +9,25 @@ ghost use Rattle.verb_core.specs.declared.item.Deed.TheVariants.{Deliver};
 ghost use Rattle.verb_core.specs.declared.item.Item.{Item};
 ghost use Rattle.verb_core.specs.declared.mailbox.BoxId.{BoxId};
 ghost use Rattle.verb_core.specs.Boxes.{same_user};
-ghost use Rattle.verb_core.specs.Fates.{HasOneFate, is_discarded, times_given};
+ghost use Rattle.verb_core.specs.Fates.{is_discarded, times_given};
 ghost use Rattle.verb_core.specs.Recipients.{recipients, some_unknown};
 ghost use Rattle.verb_core.specs.Step.{run};
+ghost use Rattle.verb_core.specs.Store.{opening};
 ghost use Rattle.verb_bytes.specs.declared.journal.JournalRecord.{JournalRecord};
 ghost use Rattle.mail_cycle.specs.Permanence.{UidsLast};
-ghost use Rattle.paradox.specs.Kept.{IsRun, Kept, stamp_at};
-ghost use Rattle.time_desk.specs.Permanence.{Arrives, IsSound, Message, RevsBelow, message_at};
+ghost use Rattle.store_kept.specs.Kept.{IsRun, Kept, stamp_at};
+ghost use Rattle.time_desk.specs.Permanence.{Arrives, IsAccounted, IsSound, Message, RevsBelow, message_at};
 ghost use Rattle.time_desk.specs.Records.{after_records, state};
 
 use mail_desk::laws::bodies_have_texts;
 
 /// What a journal's records leave is sound, each text has a rev below the next number, and the store is what the items in force
-/// leave, performed one after the other.
+/// leave, performed one after the other, from the opening store on.
 pub fn states_are_sound()
     ensures sound { (records : List JournalRecord) (kept : Kept) → state records ≡ Some kept → IsSound kept }
     ensures revs { (records : List JournalRecord) (kept : Kept) → state records ≡ Some kept → RevsBelow kept }
     ensures runs { (records : List JournalRecord) (kept : Kept) → state records ≡ Some kept → IsRun kept }
+    ensures opening { (records : List JournalRecord) (kept : Kept) → state records ≡ Some kept → kept.base ≡ opening kept.house kept.opening }
 {}
 
 /// Whatever records come next, what is kept stays sound, and what a client knows by UID lasts.
@@ -36,11 +38,13 @@ pub fn records_let_uids_last()
 {}
 
 /// A user, name, UIDVALIDITY and UID never name two messages or two contents (RFC 3501, section 2.3.1.1): not behind whatever
-/// more records, verbs, acts and cycles, and not of two desks that let UIDs last.
+/// more records, verbs, acts and cycles, and not of two desks that let UIDs last. Each message that is named has a text.
 pub fn uids_name_one_message()
     ensures records { (front more : List JournalRecord) (old new : Kept) (id : BoxId) (stamp uid : ℕ) (m n : Message) →
         state front ≡ Some old → state (front ++ more) ≡ Some new →
         message_at old id stamp uid ≡ Some m → message_at new id stamp uid ≡ Some n → m ≡ n }
+    ensures text { (records : List JournalRecord) (kept : Kept) (id : BoxId) (stamp uid : ℕ) (m : Message) →
+        state records ≡ Some kept → message_at kept id stamp uid ≡ Some m → IsSome m.text }
     ensures kept { (old new : Kept) (id : BoxId) (stamp uid : ℕ) (m n : Message) → IsSound old → RevsBelow old → IsSound new → UidsLast old new →
         message_at old id stamp uid ≡ Some m → message_at new id stamp uid ≡ Some n → m ≡ n }
 {
@@ -59,7 +63,13 @@ pub fn lost_stamps_stay_lost()
 pub fn each_message_has_one_fate()
     ensures { (records : List JournalRecord) (kept : Kept) (before later : List Item) (i : Item) (u : User) (key : Key) →
         state records ≡ Some kept → kept.timeline ≡ before ++ i ∷ later →
-        times_given u key (run kept.base before) i ≢ 0 → HasOneFate u key kept.base before i later }
+        times_given u key (run kept.base before) i ≢ 0 → IsAccounted kept before i later u key }
+{}
+
+/// The store that a journal's records leave is of its house, and so is each store that its items led through.
+pub fn houses_stay()
+    ensures kept { (records : List JournalRecord) (kept : Kept) → state records ≡ Some kept → kept.store.house ≡ kept.house }
+    ensures led { (records : List JournalRecord) (kept : Kept) (items : List Item) → state records ≡ Some kept → (run kept.base items).house ≡ kept.house }
 {}
 
 /// A delivery of the timeline gives its message to each user whom one of its local parts means, and one more to the postmaster
@@ -67,12 +77,12 @@ pub fn each_message_has_one_fate()
 pub fn deliveries_arrive()
     ensures recipients { (records : List JournalRecord) (kept : Kept) (before later : List Item) (i : Item) (from : List ℕ) (to : List (List ℕ)) (text : List ℕ) (u : User) →
         state records ≡ Some kept → kept.timeline ≡ before ++ i ∷ later → i.deed ≡ Deliver from to text →
-        list_any (same_user u) (recipients (run kept.base before).house (run kept.base before).conf to) ≡ true →
+        list_any (same_user u) (recipients kept.house (run kept.base before).conf to) ≡ true →
         is_discarded (run kept.base before).conf text ≡ false →
         Arrives kept before i later u (record { item = i.number; index = 0 }) }
     ensures strays { (records : List JournalRecord) (kept : Kept) (before later : List Item) (i : Item) (from : List ℕ) (to : List (List ℕ)) (text : List ℕ) →
         state records ≡ Some kept → kept.timeline ≡ before ++ i ∷ later → i.deed ≡ Deliver from to text →
-        some_unknown (run kept.base before).house (run kept.base before).conf to ≡ true →
+        some_unknown kept.house (run kept.base before).conf to ≡ true →
         is_discarded (run kept.base before).conf text ≡ false →
-        Arrives kept before i later (run kept.base before).house.postmaster (record { item = i.number; index = 1 }) }
+        Arrives kept before i later kept.house.postmaster (record { item = i.number; index = 1 }) }
 {}

@@ -1,5 +1,5 @@
 //! What the operator asks of the items later than a point: which of them could be done side by side.
-ghost use Rattle.std.specs.Prelude.{◌≡◌, ◌++◌, ◌∷◌, [], List, ◌<◌, ◌≤◌, length, map, IfErr, IfOk, OnOk};
+ghost use Rattle.std.specs.Prelude.{◌≡◌, ◌++◌, ◌∷◌, [], List, ◌<◌, ◌≤◌, length, map, take, drop, IfErr, IfOk, OnOk};
 ghost use Rattle.std.specs.List.{AllByRecursion};
 ghost use Rattle.undo_outside.specs.Moments.{OnlyReads};
 ghost use Rattle.verb_core.specs.Items.{IsWellFormed};
@@ -14,21 +14,23 @@ ghost use Rattle.replay_crew.specs.Hearing.{Counts, HoldsOf, StoresOf, TellsAll}
 ghost use Rattle.replay_crew.specs.Resolving.{AreResolvedFrom};
 ghost use Rattle.time_desk.specs.Planning.{BodiesCause, Plans, PlansNone, plan_at, plan_from, resolved, resolved_on};
 ghost use Rattle.time_desk.specs.Reading.{IsStill};
-ghost use Rattle.time_desk.specs.Stored.{HoldsTexts, NotedBefore};
+ghost use Rattle.time_desk.specs.Serving.{Serves};
+ghost use Rattle.time_desk.specs.Stored.{HoldsTexts, MarkedBefore, TextsNoted, store_at};
 ghost use Rattle.time_desk.specs.Telling.{HoldsHeld, IsOnlyRead};
 
-use crate::redo::begun;
+use crate::beginning::beginning;
+use crate::redo::new_texts;
 use crate::{CycleFault, Desk};
-use box_store::{Steps, Store};
+use box_store::Store;
 use desk_journal::{Journal, Reading};
-use mail_cycle::rewind;
+use mail_cycle::Beginning;
 use repair_desk::position_of;
 use replay_crew::{ResolvedList, resolve, touch_all};
 use replay_plan::laws::levels_have_places;
+use seal_log::ReadFault;
 use std::alloc::Global;
-use std::marker::Brand;
-use std::sync::ledger::{Blank, Ledger};
 use stored_items::StoredItem;
+use touch_rules::TouchList;
 use undo_base::{Copies, NoMemory, Numbers, Text};
 use undo_outside::Disk;
 use verb_bytes::Replaces;
@@ -56,36 +58,57 @@ fn numbers(alloc: Global, items: &[StoredItem]) -> Result<Numbers, NoMemory>
     Ok(numbers)
 }
 
-/// The plan of items that were resolved.
-fn spell(alloc: Global, all: &ResolvedList, items: &[StoredItem]) -> Result<Text, NoMemory>
-    requires { (s : MailStore) × AreResolvedFrom s items.now all.now }
-    ensures { IfOk result (λ text. text ≡ text_of_levels (levels_of (map touches_of all.now)) (numbers_of items.now)) }
+/// What items touch that were resolved, but for the first so many.
+fn touches_behind(alloc: Global, all: &ResolvedList, count: usize) -> Result<TouchList, NoMemory>
+    requires all { (s : MailStore) × (items : List TheItem) × AreResolvedFrom s items all.now }
+    requires count { count ≤ length all.now }
+    ensures { IfOk result (λ list. list ≡ drop count (map touches_of all.now)) }
+{
+    let mut touches = touch_all(alloc, all)?.into_vec();
+    let later = touches.split_off(count)?;
+    drop(touches);
+    Ok(TouchList::from_vec(later))
+}
+
+/// The plan of items that were resolved, but for the first so many.
+fn spell(
+    alloc: Global,
+    all: &ResolvedList,
+    items: &[StoredItem],
+    count: usize,
+) -> Result<Text, NoMemory>
+    requires all { (s : MailStore) × AreResolvedFrom s items.now all.now }
+    requires count { count ≤ length items.now }
+    ensures { IfOk result (λ text. text ≡ text_of_levels (levels_of (drop count (map touches_of all.now))) (numbers_of (drop count items.now))) }
 {
     levels_have_places();
-    let touches = touch_all(alloc, all)?;
+    let touches = touches_behind(alloc, all, count)?;
     let levels = replay_plan::plan(alloc, &touches)?;
-    let numbers = numbers(alloc, items)?;
+    let numbers = numbers(alloc, items.split_at(count).1)?;
     replay_plan::plan_text(alloc, &levels, &numbers)
 }
 
-/// The plan of items that are to be performed on a store. Each delivery's text is read, once, and they have it then.
+/// The plan of items that are to be performed on a store, but for the first so many, which lead to the store on which the plan
+/// begins. Each delivery's text is read, once, and they have it then.
 fn plan_copies<B: Bodies>(
     alloc: Global,
     store: &Store,
     bodies: &mut B,
     items: Vec<StoredItem>,
+    count: usize,
 ) -> Result<Text, BodiesFault>
     requires valid { IsValid store.now.store }
     requires formed { AllByRecursion (IsWellFormed store.now.store.house) items.items }
     requires held { AllByRecursion (HoldsOf (B.told bodies.old)) items.items }
+    requires count { count ≤ length items.items }
     ensures text { (B.told bodies.old).honest → AllByRecursion (StoresOf (B.told bodies.old)) items.items
-        → IfOk result (λ text. text ≡ plan_from store.now.store items.items) }
+        → IfOk result (λ text. text ≡ plan_from (run store.now.store (take count items.items)) (drop count items.items)) }
     ensures reads { Counts (B.told bodies.old) (B.told bodies.new) result }
     ensures leads { B.leads bodies.old bodies.new }
 {
     let mut items = items;
     let all = resolve(alloc, store, &mut items, bodies)?;
-    match spell(alloc, &all, items.as_slice()) {
+    match spell(alloc, &all, items.as_slice(), count) {
         Ok(text) => Ok(text),
         Err(NoMemory) => Err(BodiesFault::NoMemory),
     }
@@ -97,83 +120,88 @@ fn plan_items<B: Bodies>(
     store: &Store,
     bodies: &mut B,
     items: &[StoredItem],
+    count: usize,
 ) -> Result<Text, BodiesFault>
     requires valid { IsValid store.now.store }
     requires formed { AllByRecursion (IsWellFormed store.now.store.house) items.now }
     requires held { AllByRecursion (HoldsOf (B.told bodies.old)) items.now }
+    requires count { count ≤ length items.now }
     ensures text { (B.told bodies.old).honest → AllByRecursion (StoresOf (B.told bodies.old)) items.now
-        → IfOk result (λ text. text ≡ plan_from store.now.store items.now) }
+        → IfOk result (λ text. text ≡ plan_from (run store.now.store (take count items.now)) (drop count items.now)) }
     ensures reads { Counts (B.told bodies.old) (B.told bodies.new) result }
     ensures leads { B.leads bodies.old bodies.new }
 {
     match copies(alloc, items) {
-        Ok(copies) => plan_copies(alloc, store, bodies, copies),
+        Ok(copies) => plan_copies(alloc, store, bodies, copies, count),
         Err(NoMemory) => Err(BodiesFault::NoMemory),
     }
 }
 
-/// The plan of the items behind a place of the timeline.
-fn plan_behind<B: Bodies, L: Ledger>(
+/// The plan of the items behind a place of the timeline, from a beginning at or before it on.
+fn plan_behind<B: Bodies>(
     alloc: Global,
     desk: &mail_desk::Desk,
+    first: &Beginning,
     bodies: &mut B,
     place: usize,
-    steps: &mut Steps<L>,
 ) -> Result<Text, BodiesFault>
     requires place { place ≤ length desk.now.kept.timeline }
+    requires serves { Serves desk.now.kept place first.now }
     requires texts { TellsAll (B.told bodies.old) desk.now.kept.timeline }
-    ensures text { (B.told bodies.old).honest → IfOk result (λ text. text ≡ plan_at desk.now.kept place) }
+    ensures text { (B.told bodies.old).honest → first.now.store.store ≡ store_at desk.now.kept first.now.count → IfOk result (λ text. text ≡ plan_at desk.now.kept place) }
     ensures reads { Counts (B.told bodies.old) (B.told bodies.new) result }
     ensures leads { B.leads bodies.old bodies.new }
 {
     desk.stands();
-    let store = rewind(alloc, &begun(desk), bodies, place, steps)?;
-    plan_items(alloc, &store, bodies, desk.all_items().split_at(place).1)
+    let items = desk.all_items().split_at(first.count).1;
+    plan_items(alloc, &first.store, bodies, items, place - first.count)
 }
 
 /// The same, with texts read in the journal that ends at a gate of a disk.
-fn plan_reading<D: Disk, L: Ledger>(
+fn plan_reading<D: Disk>(
     alloc: Global,
     disk: &mut D,
     end: u64,
     desk: &mail_desk::Desk,
+    first: &Beginning,
     place: usize,
-    steps: &mut Steps<L>,
 ) -> Result<Text, BodiesFault>
     requires end { end < (D.told disk.old).size }
-    requires noted { NotedBefore end desk.now.notes desk.now.kept.timeline }
+    requires noted { TextsNoted end desk.now.notes desk.now.kept }
     requires place { place ≤ length desk.now.kept.timeline }
-    ensures text { HoldsHeld (D.told disk.old) desk.now → IfOk result (λ text. text ≡ plan_at desk.now.kept place) }
+    requires serves { Serves desk.now.kept place first.now }
+    ensures text { HoldsHeld (D.told disk.old) desk.now → first.now.store.store ≡ store_at desk.now.kept first.now.count → IfOk result (λ text. text ≡ plan_at desk.now.kept place) }
     ensures cause { BodiesCause (D.told disk.old) (D.told disk.new) result }
     ensures reads { OnlyReads (D.told disk.old) (D.told disk.new) }
 {
     desk.stands();
     let none = Replaces::new(alloc);
-    let mut bodies = Reading::of(disk, end, desk, &none, desk.next());
-    plan_behind(alloc, desk, &mut bodies, place, steps)
+    let texts = new_texts(alloc, &none)?;
+    let mut bodies = Reading::of(disk, end, desk, &texts, desk.next());
+    plan_behind(alloc, desk, first, &mut bodies, place)
 }
 
-/// The same over a counter that is made of the blank ledger.
-fn plan_over<D: Disk, L: Ledger>(
+/// The same from the newest snapshot that can serve.
+fn plan_from_newest<D: Disk>(
     alloc: Global,
     disk: &mut D,
     end: u64,
     desk: &mail_desk::Desk,
     place: usize,
-    blank: Blank,
 ) -> Result<Text, BodiesFault>
-    requires name { blank.name ≡ L.name }
-    requires parts { blank.parts ≡ L.parts }
-    requires some { 0 < blank.parts }
     requires end { end < (D.told disk.old).size }
-    requires noted { NotedBefore end desk.now.notes desk.now.kept.timeline }
+    requires noted { TextsNoted end desk.now.notes desk.now.kept }
+    requires marked { MarkedBefore end desk.now.marks }
     requires place { place ≤ length desk.now.kept.timeline }
     ensures text { HoldsHeld (D.told disk.old) desk.now → IfOk result (λ text. text ≡ plan_at desk.now.kept place) }
     ensures cause { BodiesCause (D.told disk.old) (D.told disk.new) result }
     ensures reads { OnlyReads (D.told disk.old) (D.told disk.new) }
 {
-    let mut steps: Steps<L> = Steps::new(blank);
-    plan_reading(alloc, disk, end, desk, place, &mut steps)
+    match beginning(alloc, disk, end, desk, place) {
+        Ok(first) => plan_reading(alloc, disk, end, desk, &first, place),
+        Err(ReadFault::Disk) => Err(BodiesFault::Failed),
+        Err(ReadFault::NoMemory) => Err(BodiesFault::NoMemory),
+    }
 }
 
 /// The plan of the items later than a point.
@@ -185,7 +213,8 @@ fn plan_of_point<D: Disk>(
     point: u32,
 ) -> Result<Text, CycleFault>
     requires end { end < (D.told disk.old).size }
-    requires noted { NotedBefore end desk.now.notes desk.now.kept.timeline }
+    requires noted { TextsNoted end desk.now.notes desk.now.kept }
+    requires marked { MarkedBefore end desk.now.marks }
     ensures text { IfOk result (Plans desk.now.kept point (HoldsHeld (D.told disk.old) desk.now)) }
     ensures why { IfErr result (PlansNone desk.now.kept point (D.told disk.old) (D.told disk.new)) }
     ensures ok { OnOk result ((D.told disk.new).failed_reads ≡ (D.told disk.old).failed_reads) }
@@ -194,7 +223,7 @@ fn plan_of_point<D: Disk>(
     let Some(place) = position_of(desk.all_items(), point) else {
         return Err(CycleFault::Point { given: point });
     };
-    match plan_over::<D, Brand>(alloc, disk, end, desk, place, Blank::new(1)) {
+    match plan_from_newest(alloc, disk, end, desk, place) {
         Ok(text) => Ok(text),
         Err(BodiesFault::Failed) => Err(CycleFault::Disk),
         Err(BodiesFault::NoMemory) => Err(CycleFault::NoMemory),
@@ -214,7 +243,8 @@ fn plan_in<D: Disk>(
     desk: &mail_desk::Desk,
     point: u32,
 ) -> Result<Text, CycleFault>
-    requires { NotedBefore journal.old.gate desk.now.notes desk.now.kept.timeline }
+    requires noted { TextsNoted journal.old.gate desk.now.notes desk.now.kept }
+    requires marked { MarkedBefore journal.old.gate desk.now.marks }
     ensures text { IfOk result (Plans desk.now.kept point (HoldsHeld (D.told journal.old.disk) desk.now)) }
     ensures why { IfErr result (PlansNone desk.now.kept point (D.told journal.old.disk) (D.told journal.new.disk)) }
     ensures ok { OnOk result ((D.told journal.new.disk).failed_reads ≡ (D.told journal.old.disk).failed_reads) }
@@ -231,8 +261,9 @@ fn plan_in<D: Disk>(
 
 impl<D: Disk> Desk<D> {
     /// The levels of the items later than a point: two items of one level could be done side by side, and what commutes could
-    /// change places. Each delivery's text is read, once; at `Disk` a read failed, and a later call may succeed. Nothing
-    /// changes. In time that grows as the timeline, what its items touch and these texts.
+    /// change places. It begins with the newest snapshot at or before the point, and each delivery's text behind that is read,
+    /// once; at `Disk` a read failed, and a later call may succeed. Nothing changes. In time that grows as the search for the point,
+    /// the mailboxes, what the items behind the snapshot touch and these texts.
     pub fn plan_text(&mut self, alloc: Global, point: u32) -> Result<Text, CycleFault>
         ensures text { IfOk result (Plans self.old.kept point (HoldsTexts D.told self.old)) }
         ensures why { IfErr result (PlansNone self.old.kept point (D.told self.old.disk) (D.told self.new.disk)) }

@@ -2,20 +2,20 @@
 ghost use Rattle.std.specs.Prelude.{◌≡◌, ◌<◌, ◌+◌, ◌-◌, ◌≤◌, Some, length, IsTrue, IfOk, IfErr, OnOk};
 ghost use Rattle.undo_outside.specs.Moments.{OnlyReads};
 ghost use Rattle.repair_desk.specs.Repairs.{are_known, position};
-ghost use Rattle.mail_cycle.specs.Asking.{IsRewinds, Rewinds, due_anew};
-ghost use Rattle.mail_cycle.specs.Cycles.{Cycled, cycled_at, leaves_numbers};
+ghost use Rattle.cycle_rules.specs.Asking.{IsRewinds, Rewinds, due_anew};
+ghost use Rattle.cycle_rules.specs.Cycles.{Cycled, cycled_at, leaves_numbers};
 ghost use Rattle.mail_cycle.specs.Leaving.{IsMade, IsMadeFrom, Leaves, items_left};
 ghost use Rattle.mail_cycle.specs.Refusing.{IsRefusalOf};
 ghost use Rattle.mail_desk.specs.Remaking.{CanReplace, remade_as};
 ghost use Rattle.time_desk.specs.Cycling.{IsFit, Redoes, RedoesCause, after_rewound, most_performed};
 ghost use Rattle.time_desk.specs.Planning.{BodiesCause};
 ghost use Rattle.time_desk.specs.Serving.{Serves, unmarked};
-ghost use Rattle.time_desk.specs.Stored.{MarkedBefore, NotedBefore, Renotes, store_at};
+ghost use Rattle.time_desk.specs.Stored.{MarkedBefore, TextsNoted, Renotes, store_at};
 ghost use Rattle.time_desk.specs.Telling.{HoldsHeld};
 
 use crate::beginning::beginning;
 use box_store::Steps;
-use desk_journal::Reading;
+use desk_journal::{NewTexts, Reading};
 use mail_cycle::laws::{cycles_begin_anywhere, cycles_leave_states};
 use mail_cycle::{Before, Beginning, CycleRefused, Rewound, cycle_from, due_place};
 use mail_desk::laws::bodies_have_texts;
@@ -27,7 +27,7 @@ use std::sync::ledger::{Blank, Ledger};
 use std::thread::Threads;
 use undo_base::{LAST_MOMENT, Name, NoMemory};
 use undo_outside::{Disk, Gate};
-use verb_bytes::CycleAsk;
+use verb_bytes::{CycleAsk, Replaces};
 use verb_core::BodiesFault;
 
 /// What a cycle begins with.
@@ -36,14 +36,27 @@ pub(crate) fn begun(desk: &Desk) -> Before<'_>
 {
     desk.stands();
     Before::of(
-        desk.house(),
-        desk.opening(),
+        desk.base(),
         desk.store(),
         desk.all_items(),
         desk.stamps(),
         desk.next(),
         desk.reports(),
     )
+}
+
+/// The texts that a request asks for, to be read beside those of the journal.
+pub(crate) fn new_texts<'a>(
+    alloc: Global,
+    replaces: &'a Replaces,
+) -> Result<NewTexts<'a>, BodiesFault>
+    ensures texts { IfOk result (λ texts. texts ≡ replaces.now) }
+    ensures memory { IfErr result (λ fault. fault ≡ BodiesFault.NoMemory) }
+{
+    match NewTexts::of(alloc, replaces) {
+        Ok(texts) => Ok(texts),
+        Err(NoMemory) => Err(BodiesFault::NoMemory),
+    }
 }
 
 /// What the cycle leaves behind a place, from a beginning on: the desk stays as it is. Texts are read in the journal that ends
@@ -62,7 +75,7 @@ fn rewound_from<R: Threads + Sync, G: Gate, D: Disk, L: Ledger>(
     steps: &mut Steps<L>,
 ) -> Result<Rewound, BodiesFault>
     requires end { end < (D.told disk.old).size }
-    requires noted { NotedBefore end desk.now.notes desk.now.kept.timeline }
+    requires noted { TextsNoted end desk.now.notes desk.now.kept }
     requires serves { Serves desk.now.kept place first }
     requires place { place ≤ length desk.now.kept.timeline }
     requires numbers { IsTrue (leaves_numbers desk.now.kept ask.now) }
@@ -79,7 +92,8 @@ fn rewound_from<R: Threads + Sync, G: Gate, D: Disk, L: Ledger>(
     cycles_leave_states();
     cycles_begin_anywhere();
     bodies_have_texts();
-    let mut bodies = Reading::of(disk, end, desk, &ask.replaces, desk.next());
+    let texts = new_texts(alloc, &ask.replaces)?;
+    let mut bodies = Reading::of(disk, end, desk, &texts, desk.next());
     cycle_from(
         rt,
         alloc,
@@ -108,7 +122,7 @@ fn rewound_at<R: Threads + Sync, G: Gate, D: Disk, L: Ledger>(
     steps: &mut Steps<L>,
 ) -> Result<Rewound, BodiesFault>
     requires end { end < (D.told disk.old).size }
-    requires noted { NotedBefore end desk.now.notes desk.now.kept.timeline }
+    requires noted { TextsNoted end desk.now.notes desk.now.kept }
     requires marked { MarkedBefore end desk.now.marks }
     requires is_place { position desk.now.kept.timeline ask.now.point ≡ Some place }
     requires place { place ≤ length desk.now.kept.timeline }
@@ -147,7 +161,7 @@ pub(crate) fn rewound<R: Threads + Sync, G: Gate, D: Disk, L: Ledger>(
     steps: &mut Steps<L>,
 ) -> Result<Rewound, CycleRefused>
     requires end { end < (D.told disk.old).size }
-    requires noted { NotedBefore end desk.now.notes desk.now.kept.timeline }
+    requires noted { TextsNoted end desk.now.notes desk.now.kept }
     requires marked { MarkedBefore end desk.now.marks }
     requires moment { at ≤ LAST_MOMENT }
     requires known { IsTrue (are_known desk.now.kept.house ask.now.inserts) }
@@ -188,7 +202,7 @@ fn rewound_over<R: Threads + Sync, G: Gate, D: Disk, L: Ledger>(
     requires parts { blank.parts ≡ L.parts }
     requires some { 0 < blank.parts }
     requires end { end < (D.told disk.old).size }
-    requires noted { NotedBefore end desk.now.notes desk.now.kept.timeline }
+    requires noted { TextsNoted end desk.now.notes desk.now.kept }
     requires marked { MarkedBefore end desk.now.marks }
     requires moment { at ≤ LAST_MOMENT }
     requires known { IsTrue (are_known desk.now.kept.house ask.now.inserts) }
@@ -215,7 +229,7 @@ pub(crate) fn rewound_alone<R: Threads + Sync, G: Gate, D: Disk>(
     gate: &G,
 ) -> Result<Rewound, CycleRefused>
     requires end { end < (D.told disk.old).size }
-    requires noted { NotedBefore end desk.now.notes desk.now.kept.timeline }
+    requires noted { TextsNoted end desk.now.notes desk.now.kept }
     requires marked { MarkedBefore end desk.now.marks }
     requires moment { at ≤ LAST_MOMENT }
     requires known { IsTrue (are_known desk.now.kept.house ask.now.inserts) }

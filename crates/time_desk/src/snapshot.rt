@@ -1,8 +1,9 @@
 //! What the operator keeps of a moment: the store as it is, in a record of the journal, from which a later cycle can begin.
 ghost use Rattle.std.specs.Prelude.{◌≡◌, ◌↔◌, [], ◌∷◌, length, IsTrue, IfOk, OnOk, IfErr, OnErr, IsErrOf};
-ghost use Rattle.paradox.specs.Kept.{snapshotted};
+ghost use Rattle.store_kept.specs.Kept.{snapshotted};
 ghost use Rattle.mail_cycle.specs.Permanence.{UidsLast};
 ghost use Rattle.time_desk.specs.Records.{snapshot_record};
+ghost use Rattle.time_desk.specs.Reading.{ReadsWell};
 ghost use Rattle.time_desk.specs.Sealing.{Seals};
 ghost use Rattle.time_desk.specs.Submitting.{SnapshotsNone};
 
@@ -27,7 +28,10 @@ impl<D: Disk> Desk<D> {
         ensures ok { OnOk result (self.new.kept ≡ snapshotted self.old.kept) }
         ensures sealed { OnOk result (Seals D.told (snapshot_record self.old.kept ∷ []) [] self.old self.new) }
         ensures err { OnErr result (self.new.kept ≡ self.old.kept) }
+        ensures notes { OnErr result (self.new.notes ≡ self.old.notes) }
+        ensures marks { OnErr result (self.new.marks ≡ self.old.marks) }
         ensures why { IfErr result (λ fault. SnapshotsNone D.told self.old self.new fault) }
+        ensures reads { ReadsWell D.told self.old self.new }
         ensures closed { IsErrOf result SealFault.Closed ↔ IsTrue self.old.closed }
         ensures uids { UidsLast self.old.kept self.new.kept }
     {

@@ -8,16 +8,16 @@ ghost use Rattle.verb_bytes.specs.declared.journal.JournalRecord.TheVariants.{Cy
 ghost use Rattle.verb_bytes.specs.Spelling.{HasSpelling, record_bytes};
 ghost use Rattle.seal_log.specs.Causes.{ReadAtCause};
 ghost use Rattle.seal_log.specs.Journal.{LiesAt};
-ghost use Rattle.paradox.specs.Kept.{report_of};
+ghost use Rattle.store_kept.specs.Kept.{report_of};
 ghost use Rattle.shelf.specs.Marks.{marks_at_or_before};
 ghost use Rattle.repair_desk.specs.Repairs.{are_known as acts_name_known};
-ghost use Rattle.mail_cycle.specs.Asking.{due_anew};
+ghost use Rattle.cycle_rules.specs.Asking.{due_anew};
 ghost use Rattle.mail_cycle.specs.Leaving.{items_left};
 ghost use Rattle.mail_desk.specs.Timeline.{NotesText, SizesOf, body_of};
 ghost use Rattle.time_desk.specs.Cycling.{IsFit, after_rewound};
-ghost use Rattle.time_desk.specs.Records.{after_cycle_record, after_due, after_record, can_follow as follows, can_keep as keeps, can_rewind as rewinds, first_state, is_true as tells_all, snapshot_record};
-ghost use Rattle.time_desk.specs.Standing.{Enters, IsFormed, Performs, begun, has_users as uses, is_actor, kept_as, marked_as, opening_of};
-ghost use Rattle.time_desk.specs.Stored.{KeepsMarks, MarkedBefore, MarksLie, NotedBefore, NotesCycle, NotesTexts, Renotes, TextsHeld, TextsLie};
+ghost use Rattle.time_desk.specs.Records.{format_of, after_cycle_record, after_due, after_record, can_follow as follows, can_keep as keeps, can_rewind as rewinds, first_state, is_true as tells_all, snapshot_record};
+ghost use Rattle.time_desk.specs.Standing.{Enters, IsFormed, Performs, begun, has_users as uses, is_actor, kept_as, marked_as};
+ghost use Rattle.time_desk.specs.Stored.{KeepsMarks, MarkedBefore, MarksLie, TextsNoted, NotesCycle, NotesTexts, Renotes, TextsHeld, TextsStored};
 
 use crate::again::performed_again;
 use crate::redo::{key_in, remade};
@@ -31,7 +31,7 @@ use std::alloc::Global;
 use store_digest::snapshot_text;
 use undo_base::{LAST_MOMENT, LAST_NUMBER, Name, NoMemory, Text, User};
 use undo_outside::Disk;
-use verb_bytes::laws::{spelled_cycles_have_moments, spelled_items_are_formed};
+use verb_bytes::laws::{one_spelling, spelled_cycles_have_moments, spelled_items_are_formed};
 use verb_bytes::{
     CycleAsk, JournalRecord, Unwritten, act_text_from, item_text_from, spell_snapshot,
 };
@@ -39,27 +39,14 @@ use verb_core::{Act, BoxId, Conf, Deed, House, Item, Mailbox, Rows};
 
 // ---- the first record
 
-/// The house and the opening configuration of a record that has them.
+/// The house and the configuration at first, of a Format.
 fn opening_in(what: JournalRecord) -> Option<(House, Conf)>
-    ensures { result ≡ opening_of what }
+    ensures { result ≡ format_of what }
 {
     match what {
         JournalRecord::Format(house, conf) => Some((house, conf)),
-        JournalRecord::Verb(item) => {
-            drop(item);
-            None
-        }
-        JournalRecord::Operator { act, .. } => {
-            drop(act);
-            None
-        }
-        JournalRecord::Cycle { ask, .. } => {
-            drop(ask);
-            None
-        }
-        JournalRecord::Snapshot { conf, rows, .. } => {
-            drop(conf);
-            drop(rows);
+        other => {
+            drop(other);
             None
         }
     }
@@ -346,7 +333,7 @@ fn rewind_anew<D: Disk>(
     requires moment { at ≤ LAST_MOMENT }
     requires known { IsTrue (acts_name_known desk.old.kept.house ask.inserts) }
     requires end { end < (D.told disk.old).size }
-    requires noted { NotedBefore end desk.old.notes desk.old.kept.timeline }
+    requires noted { TextsNoted end desk.old.notes desk.old.kept }
     requires marked { MarkedBefore end desk.old.marks }
     requires place { place.gate + 5 + place.length ≤ end }
     requires long { place.length ≡ length (record_bytes (Cycle desk.old.kept.next at ask)) }
@@ -354,11 +341,11 @@ fn rewind_anew<D: Disk>(
         → IfOk result (λ stood. Performs (after_due desk.old.kept ask (due_anew desk.old.kept at ask)) stood desk.new.kept) }
     ensures texts { (payloads : List (List ℕ)) → TextsHeld (D.told disk.old) payloads desk.old.kept desk.old.notes desk.old.marks
         → LiesAt payloads place.gate place.length (record_bytes (Cycle desk.old.kept.next at ask))
-        → IfOk result (λ stood. stood ≡ true → TextsLie payloads desk.new.notes desk.new.kept.timeline) }
+        → IfOk result (λ stood. stood ≡ true → TextsStored payloads desk.new.notes desk.new.kept) }
     ensures marks { (payloads : List (List ℕ)) → TextsHeld (D.told disk.old) payloads desk.old.kept desk.old.notes desk.old.marks
         → LiesAt payloads place.gate place.length (record_bytes (Cycle desk.old.kept.next at ask))
         → IfOk result (λ stood. stood ≡ true → MarksLie payloads desk.new.kept desk.new.marks) }
-    ensures noted { IfOk result (λ stood. stood ≡ true → NotedBefore end desk.new.notes desk.new.kept.timeline) }
+    ensures noted { IfOk result (λ stood. stood ≡ true → TextsNoted end desk.new.notes desk.new.kept) }
     ensures marked { IfOk result (λ stood. stood ≡ true → MarkedBefore end desk.new.marks) }
     ensures reads { OnlyReads (D.told disk.old) (D.told disk.new) }
     ensures cause { ReadAtCause (D.told disk.old) (D.told disk.new) result }
@@ -387,7 +374,7 @@ fn rewind<D: Disk>(
 ) -> Result<bool, ReadFault>
     requires spelled { HasSpelling (Cycle number at ask) }
     requires end { end < (D.told disk.old).size }
-    requires noted { NotedBefore end desk.old.notes desk.old.kept.timeline }
+    requires noted { TextsNoted end desk.old.notes desk.old.kept }
     requires marked { MarkedBefore end desk.old.marks }
     requires place { place.gate + 5 + place.length ≤ end }
     requires long { place.length ≡ length (record_bytes (Cycle number at ask)) }
@@ -395,11 +382,11 @@ fn rewind<D: Disk>(
         → IfOk result (λ stood. Performs (after_cycle_record desk.old.kept number at ask) stood desk.new.kept) }
     ensures texts { (payloads : List (List ℕ)) → TextsHeld (D.told disk.old) payloads desk.old.kept desk.old.notes desk.old.marks
         → LiesAt payloads place.gate place.length (record_bytes (Cycle number at ask))
-        → IfOk result (λ stood. stood ≡ true → TextsLie payloads desk.new.notes desk.new.kept.timeline) }
+        → IfOk result (λ stood. stood ≡ true → TextsStored payloads desk.new.notes desk.new.kept) }
     ensures marks { (payloads : List (List ℕ)) → TextsHeld (D.told disk.old) payloads desk.old.kept desk.old.notes desk.old.marks
         → LiesAt payloads place.gate place.length (record_bytes (Cycle number at ask))
         → IfOk result (λ stood. stood ≡ true → MarksLie payloads desk.new.kept desk.new.marks) }
-    ensures noted { IfOk result (λ stood. stood ≡ true → NotedBefore end desk.new.notes desk.new.kept.timeline) }
+    ensures noted { IfOk result (λ stood. stood ≡ true → TextsNoted end desk.new.notes desk.new.kept) }
     ensures marked { IfOk result (λ stood. stood ≡ true → MarkedBefore end desk.new.marks) }
     ensures reads { OnlyReads (D.told disk.old) (D.told disk.new) }
     ensures cause { ReadAtCause (D.told disk.old) (D.told disk.new) result }
@@ -438,7 +425,8 @@ fn has_bytes(
     }
 }
 
-/// Whether a snapshot of as many items as are in force is true: its bytes are those of the snapshot of what is kept.
+/// Whether a snapshot of as many items as are in force is true: it holds the store that is kept, exactly where its bytes are those
+/// of the snapshot of what is kept.
 fn is_true(
     alloc: Global,
     desk: &Desk,
@@ -446,10 +434,12 @@ fn is_true(
     conf: &Conf,
     rows: &[(BoxId, Mailbox)],
 ) -> Result<bool, NoMemory>
-    requires { items ≡ length desk.now.kept.timeline }
+    requires items { items ≡ length desk.now.kept.timeline }
+    requires spelled { HasSpelling (Snapshot items conf.now rows.now) }
     ensures truth { IfOk result (λ truth. truth ≡ tells_all desk.now.kept (Snapshot items conf.now rows.now)) }
     ensures spelled { OnOk result (HasSpelling (snapshot_record desk.now.kept)) }
 {
+    one_spelling();
     match snapshot_text(alloc, desk.store(), items) {
         Ok(bytes) => has_bytes(alloc, items, conf, rows, &bytes),
         Err(NoMemory) => Err(NoMemory),
@@ -547,7 +537,7 @@ pub(crate) fn follow<D: Disk>(
 ) -> Result<bool, ReadFault>
     requires spelled { HasSpelling what }
     requires end { end < (D.told disk.old).size }
-    requires noted { NotedBefore end desk.old.notes desk.old.kept.timeline }
+    requires noted { TextsNoted end desk.old.notes desk.old.kept }
     requires marked { MarkedBefore end desk.old.marks }
     requires place { place.gate + 5 + place.length ≤ end }
     requires long { place.length ≡ length (record_bytes what) }
@@ -555,11 +545,11 @@ pub(crate) fn follow<D: Disk>(
         → IfOk result (λ stood. Performs (after_record desk.old.kept what) stood desk.new.kept) }
     ensures texts { (payloads : List (List ℕ)) → TextsHeld (D.told disk.old) payloads desk.old.kept desk.old.notes desk.old.marks
         → LiesAt payloads place.gate place.length (record_bytes what)
-        → IfOk result (λ stood. stood ≡ true → TextsLie payloads desk.new.notes desk.new.kept.timeline) }
+        → IfOk result (λ stood. stood ≡ true → TextsStored payloads desk.new.notes desk.new.kept) }
     ensures marks { (payloads : List (List ℕ)) → TextsHeld (D.told disk.old) payloads desk.old.kept desk.old.notes desk.old.marks
         → LiesAt payloads place.gate place.length (record_bytes what)
         → IfOk result (λ stood. stood ≡ true → MarksLie payloads desk.new.kept desk.new.marks) }
-    ensures noted { IfOk result (λ stood. stood ≡ true → NotedBefore end desk.new.notes desk.new.kept.timeline) }
+    ensures noted { IfOk result (λ stood. stood ≡ true → TextsNoted end desk.new.notes desk.new.kept) }
     ensures marked { IfOk result (λ stood. stood ≡ true → MarkedBefore end desk.new.marks) }
     ensures reads { OnlyReads (D.told disk.old) (D.told disk.new) }
     ensures cause { ReadAtCause (D.told disk.old) (D.told disk.new) result }

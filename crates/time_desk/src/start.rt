@@ -9,12 +9,12 @@ ghost use Rattle.seal_log.specs.Loading.{places_from};
 ghost use Rattle.seal_log.specs.Loads.{IsSurveyed};
 ghost use Rattle.seal_log.specs.Log.{end_gate, is_cut, last_gate, leaves_open};
 ghost use Rattle.seal_log.specs.Settled.{Holds};
-ghost use Rattle.paradox.specs.Kept.{IsRun, Kept};
+ghost use Rattle.store_kept.specs.Kept.{IsRun, Kept};
 ghost use Rattle.time_desk.specs.Permanence.{RevsBelow};
 ghost use Rattle.time_desk.specs.Opening.{IsStarted, Refuses, Starts};
 ghost use Rattle.time_desk.specs.Records.{after_record, first_state};
-ghost use Rattle.time_desk.specs.Standing.{BreaksFor, Fails, FailsPayload, FailsReading, LeadsTo, Performed, ReadCounts, SpellsAll, SpellsNothing, StopsFor};
-ghost use Rattle.time_desk.specs.Stored.{HoldsTexts, MarkedBefore, NotedBefore, SettledTexts, TextsHeld};
+ghost use Rattle.time_desk.specs.Standing.{BreaksFor, Fails, FailsPayload, FailsReading, FrontBreaksFor, LeadsTo, Opens, Performed, ReadCounts, SpellsAll, SpellsNothing, StopsFor};
+ghost use Rattle.time_desk.specs.Stored.{HoldsTexts, MarkedBefore, TextsNoted, SettledTexts, TextsHeld};
 
 use crate::permanence::records_let_uids_last;
 use crate::standing::{begin, follow};
@@ -22,7 +22,7 @@ use crate::{Desk, StartFault};
 use desk_journal::Journal;
 use seal_log::{End, LoadFault, Log, Place, ReadFault, Survey, read_before, survey};
 use std::alloc::Global;
-use undo_base::{NoMemory, Text};
+use undo_base::{NoMemory, Text, after};
 use undo_outside::Disk;
 use verb_bytes::laws::one_spelling;
 use verb_bytes::{BadBytes, JournalRecord, decode_record};
@@ -99,8 +99,8 @@ fn begun(alloc: Global, what: JournalRecord, gate: u64) -> Result<mail_desk::Des
     }
 }
 
-/// Reads the first record, and begins a desk with it.
-fn begin_at<D: Disk>(
+/// Reads a first record, and begins a desk with it.
+fn begin_with<D: Disk>(
     alloc: Global,
     disk: &mut D,
     end: u64,
@@ -125,6 +125,40 @@ fn begin_at<D: Disk>(
     }
 }
 
+fn first(places: &[Place]) -> Place
+    requires { 0 < length places.now }
+    ensures { slice_get places.now 0 ≡ Some result }
+{
+    places[0]
+}
+
+/// Reads the records that a journal opens with, one, and begins a desk with them; and tells how many they are.
+fn begin_at<D: Disk>(
+    alloc: Global,
+    disk: &mut D,
+    end: u64,
+    places: &[Place],
+) -> Result<(mail_desk::Desk, usize), StartFault>
+    requires some { 0 < length places.now }
+    requires end { end < (D.told disk.old).size }
+    requires places { All (λ place. place.gate + 5 + place.length ≤ end) places.now }
+    ensures opened { (payloads : List (List ℕ)) → Holds (D.told disk.old) payloads → places.now ≡ places_from 0 payloads
+        → IfOk result (λ front. Opens payloads front.0.kept (drop front.1 places.now)) }
+    ensures few { IfOk result (λ front. front.1 ≤ length places.now) }
+    ensures none { IfOk result (λ front. (front.0.kept.timeline ≡ []) × (front.0.marks ≡ [])) }
+    ensures runs { IfOk result (λ front. IsRun front.0.kept) }
+    ensures bad { (payloads : List (List ℕ)) → Holds (D.told disk.old) payloads → places.now ≡ places_from 0 payloads
+        → IfErr result (FrontBreaksFor payloads) }
+    ensures reads { OnlyReads (D.told disk.old) (D.told disk.new) }
+    ensures ok { OnOk result ((D.told disk.new).failed_reads ≡ (D.told disk.old).failed_reads) }
+    ensures fault { IfErr result (ReadCounts (D.told disk.old) (D.told disk.new)) }
+{
+    match begin_with(alloc, disk, end, first(places)) {
+        Ok(desk) => Ok((desk, 1)),
+        Err(fault) => Err(fault),
+    }
+}
+
 /// Revs stay below the next number when records are performed, and the store stays what the items leave.
 fn revs_stay(desk: &mail_desk::Desk)
     ensures revs { (what : TheRecord) (next : Kept) → IsRun desk.now.kept → RevsBelow desk.now.kept → after_record desk.now.kept what ≡ Some next → RevsBelow next }
@@ -145,7 +179,7 @@ fn performed<D: Disk>(
 ) -> Result<(), StartFault>
     requires spelled { HasSpelling what }
     requires end { end < (D.told disk.old).size }
-    requires noted { NotedBefore end desk.old.notes desk.old.kept.timeline }
+    requires noted { TextsNoted end desk.old.notes desk.old.kept }
     requires marked { MarkedBefore end desk.old.marks }
     requires place { place.gate + 5 + place.length ≤ end }
     requires long { place.length ≡ length (record_bytes what) }
@@ -156,7 +190,7 @@ fn performed<D: Disk>(
     ensures texts { (payloads : List (List ℕ)) → TextsHeld (D.told disk.old) payloads desk.old.kept desk.old.notes desk.old.marks
         → LiesAt payloads place.gate place.length (record_bytes what)
         → OnOk result (TextsHeld (D.told disk.new) payloads desk.new.kept desk.new.notes desk.new.marks) }
-    ensures noted { OnOk result (NotedBefore end desk.new.notes desk.new.kept.timeline) }
+    ensures noted { OnOk result (TextsNoted end desk.new.notes desk.new.kept) }
     ensures marked { OnOk result (MarkedBefore end desk.new.marks) }
     ensures reads { OnlyReads (D.told disk.old) (D.told disk.new) }
     ensures ok { OnOk result ((D.told disk.new).failed_reads ≡ (D.told disk.old).failed_reads) }
@@ -184,7 +218,7 @@ fn perform_at<D: Disk>(
     desk: &mut mail_desk::Desk,
 ) -> Result<(), StartFault>
     requires end { end < (D.told disk.old).size }
-    requires noted { NotedBefore end desk.old.notes desk.old.kept.timeline }
+    requires noted { TextsNoted end desk.old.notes desk.old.kept }
     requires marked { MarkedBefore end desk.old.marks }
     requires place { place.gate + 5 + place.length ≤ end }
     ensures performed { (payloads : List (List ℕ)) (payload : List ℕ) → TextsHeld (D.told disk.old) payloads desk.old.kept desk.old.notes desk.old.marks
@@ -196,7 +230,7 @@ fn perform_at<D: Disk>(
     ensures texts { (payloads : List (List ℕ)) (payload : List ℕ) → TextsHeld (D.told disk.old) payloads desk.old.kept desk.old.notes desk.old.marks
         → LiesAt payloads place.gate place.length payload
         → OnOk result (TextsHeld (D.told disk.new) payloads desk.new.kept desk.new.notes desk.new.marks) }
-    ensures noted { OnOk result (NotedBefore end desk.new.notes desk.new.kept.timeline) }
+    ensures noted { OnOk result (TextsNoted end desk.new.notes desk.new.kept) }
     ensures marked { OnOk result (MarkedBefore end desk.new.marks) }
     ensures reads { OnlyReads (D.told disk.old) (D.told disk.new) }
     ensures ok { OnOk result ((D.told disk.new).failed_reads ≡ (D.told disk.old).failed_reads) }
@@ -221,14 +255,14 @@ fn perform_all<D: Disk>(
 ) -> Result<(), StartFault>
     requires end { end < (D.told disk.old).size }
     requires places { All (λ place. place.gate + 5 + place.length ≤ end) places.now }
-    requires noted { NotedBefore end desk.old.notes desk.old.kept.timeline }
+    requires noted { TextsNoted end desk.old.notes desk.old.kept }
     requires marked { MarkedBefore end desk.old.marks }
     ensures performed { (before payloads : List (List ℕ)) → TextsHeld (D.told disk.old) (before ++ payloads) desk.old.kept desk.old.notes desk.old.marks
         → places.now ≡ places_from (length (sealed before)) payloads → OnOk result (LeadsTo desk.old.kept payloads desk.new.kept) }
     ensures texts { (before payloads : List (List ℕ)) → TextsHeld (D.told disk.old) (before ++ payloads) desk.old.kept desk.old.notes desk.old.marks
         → places.now ≡ places_from (length (sealed before)) payloads
         → OnOk result (TextsHeld (D.told disk.new) (before ++ payloads) desk.new.kept desk.new.notes desk.new.marks) }
-    ensures noted { OnOk result (NotedBefore end desk.new.notes desk.new.kept.timeline) }
+    ensures noted { OnOk result (TextsNoted end desk.new.notes desk.new.kept) }
     ensures marked { OnOk result (MarkedBefore end desk.new.marks) }
     ensures bad { (before payloads : List (List ℕ)) → TextsHeld (D.told disk.old) (before ++ payloads) desk.old.kept desk.old.notes desk.old.marks
         → places.now ≡ places_from (length (sealed before)) payloads
@@ -256,14 +290,14 @@ fn followed_by<D: Disk>(
 ) -> Result<mail_desk::Desk, StartFault>
     requires end { end < (D.told disk.old).size }
     requires places { All (λ place. place.gate + 5 + place.length ≤ end) places.now }
-    requires noted { NotedBefore end desk.notes desk.kept.timeline }
+    requires noted { TextsNoted end desk.notes desk.kept }
     requires marked { MarkedBefore end desk.marks }
     ensures performed { (before payloads : List (List ℕ)) → TextsHeld (D.told disk.old) (before ++ payloads) desk.kept desk.notes desk.marks
         → places.now ≡ places_from (length (sealed before)) payloads → IfOk result (λ led. LeadsTo desk.kept payloads led.kept) }
     ensures texts { (before payloads : List (List ℕ)) → TextsHeld (D.told disk.old) (before ++ payloads) desk.kept desk.notes desk.marks
         → places.now ≡ places_from (length (sealed before)) payloads
         → IfOk result (λ led. TextsHeld (D.told disk.new) (before ++ payloads) led.kept led.notes led.marks) }
-    ensures noted { IfOk result (λ led. NotedBefore end led.notes led.kept.timeline) }
+    ensures noted { IfOk result (λ led. TextsNoted end led.notes led.kept) }
     ensures marked { IfOk result (λ led. MarkedBefore end led.marks) }
     ensures bad { (before payloads : List (List ℕ)) → TextsHeld (D.told disk.old) (before ++ payloads) desk.kept desk.notes desk.marks
         → places.now ≡ places_from (length (sealed before)) payloads
@@ -282,20 +316,6 @@ fn followed_by<D: Disk>(
     }
 }
 
-fn first(places: &[Place]) -> Place
-    requires { 0 < length places.now }
-    ensures { slice_get places.now 0 ≡ Some result }
-{
-    places[0]
-}
-
-fn others(places: &[Place]) -> &[Place]
-    requires { 0 < length places.now }
-    ensures { result.now ≡ drop 1 places.now }
-{
-    &places[1..]
-}
-
 /// The desk that the records at all places of a journal leave.
 fn read_all<D: Disk>(
     alloc: Global,
@@ -310,7 +330,7 @@ fn read_all<D: Disk>(
         → IfOk result (λ desk. SpellsAll payloads desk.kept) }
     ensures texts { (payloads : List (List ℕ)) → Holds (D.told disk.old) payloads → places.now ≡ places_from 0 payloads
         → IfOk result (λ desk. TextsHeld (D.told disk.new) payloads desk.kept desk.notes desk.marks) }
-    ensures noted { IfOk result (λ desk. NotedBefore end desk.notes desk.kept.timeline) }
+    ensures noted { IfOk result (λ desk. TextsNoted end desk.notes desk.kept) }
     ensures marked { IfOk result (λ desk. MarkedBefore end desk.marks) }
     ensures bad { (payloads : List (List ℕ)) → Holds (D.told disk.old) payloads → places.now ≡ places_from 0 payloads
         → IfErr result (BreaksFor payloads) }
@@ -318,8 +338,8 @@ fn read_all<D: Disk>(
     ensures ok { OnOk result ((D.told disk.new).failed_reads ≡ (D.told disk.old).failed_reads) }
     ensures fault { IfErr result (ReadCounts (D.told disk.old) (D.told disk.new)) }
 {
-    match begin_at(alloc, disk, end, first(places)) {
-        Ok(desk) => followed_by(alloc, disk, end, others(places), desk),
+    match begin_at(alloc, disk, end, places) {
+        Ok((desk, count)) => followed_by(alloc, disk, end, after(places, count), desk),
         Err(fault) => Err(fault),
     }
 }
@@ -366,7 +386,7 @@ fn opened_from<D: Disk>(
         → IfOk result (λ parts. IsStarted image (D.told disk.new) parts.1.kept (last_gate parts.0)) }
     ensures texts { (image : List ℕ) → IsSurveyed image (D.told disk.old) (end_gate seen.end) seen.places (is_cut seen.end)
         → IfOk result (λ parts. SettledTexts (D.told disk.new) (last_gate parts.0) parts.1.kept parts.1.notes parts.1.marks) }
-    ensures noted { IfOk result (λ parts. NotedBefore (last_gate parts.0) parts.1.notes parts.1.kept.timeline) }
+    ensures noted { IfOk result (λ parts. TextsNoted (last_gate parts.0) parts.1.notes parts.1.kept) }
     ensures marked { IfOk result (λ parts. MarkedBefore (last_gate parts.0) parts.1.marks) }
     ensures bad { (image : List ℕ) → IsSurveyed image (D.told disk.old) (end_gate seen.end) seen.places (is_cut seen.end)
         → IfErr result (Refuses image) }
@@ -394,7 +414,7 @@ fn opened<D: Disk>(alloc: Global, disk: &mut D) -> Result<(Log, mail_desk::Desk)
     ensures started { IfOk result (λ parts. Starts (D.told disk.old) (D.told disk.new) (Ok (parts.1.kept, last_gate parts.0))) }
     ensures texts { (D.told disk.old).honest
         → IfOk result (λ parts. SettledTexts (D.told disk.new) (last_gate parts.0) parts.1.kept parts.1.notes parts.1.marks) }
-    ensures noted { IfOk result (λ parts. NotedBefore (last_gate parts.0) parts.1.notes parts.1.kept.timeline) }
+    ensures noted { IfOk result (λ parts. TextsNoted (last_gate parts.0) parts.1.notes parts.1.kept) }
     ensures marked { IfOk result (λ parts. MarkedBefore (last_gate parts.0) parts.1.marks) }
     ensures refused { IfErr result (λ fault. Starts (D.told disk.old) (D.told disk.new) (Err fault)) }
     ensures open { IfOk result (λ parts. parts.0.closed ≡ false) }

@@ -4,9 +4,10 @@ ghost use Rattle.std.specs.List.{list_all, cons_option};
 ghost use Rattle.verb_core.specs.Live.{is_users, live};
 ghost use Rattle.verb_core.specs.Store.{is_known};
 ghost use Rattle.verb_bytes.specs.declared.journal.JournalRecord.TheVariants.{Verb};
-ghost use Rattle.paradox.specs.Kept.{store_of};
+ghost use Rattle.store_kept.specs.Kept.{store_of};
 ghost use Rattle.mail_desk.specs.Desk.{submitted};
 ghost use Rattle.mail_cycle.specs.Permanence.{UidsLast};
+ghost use Rattle.time_desk.specs.Reading.{ReadsWell};
 ghost use Rattle.time_desk.specs.Sealing.{Seals};
 ghost use Rattle.time_desk.specs.Submitting.{SubmitsNone, WritesNone};
 
@@ -33,8 +34,11 @@ impl<D: Disk> Desk<D> {
         ensures ok { IfOk result (λ item. submitted self.old.kept at by ask ≡ record { outcome = Ok item; kept = self.new.kept }) }
         ensures sealed { IfOk result (λ item. Seals D.told (Verb item ∷ []) [] self.old self.new) }
         ensures err { OnErr result (self.new.kept ≡ self.old.kept) }
+        ensures notes { OnErr result (self.new.notes ≡ self.old.notes) }
+        ensures marks { OnErr result (self.new.marks ≡ self.old.marks) }
         ensures why { IfErr result (λ fault. SubmitsNone D.told (live (store_of self.old.kept) self.old.kept.next at by ask) self.old self.new fault) }
         ensures writes_none { WritesNone result self.old self.new }
+        ensures reads { ReadsWell D.told self.old self.new }
         ensures closed { IsErrOf result SubmitFault.Closed ↔ IsTrue self.old.closed }
         ensures uids { UidsLast self.old.kept self.new.kept }
     {

@@ -1,11 +1,10 @@
 //! The texts of bodies: a notice's is in memory, and any other is read where it lies in the journal.
 ghost use Rattle.std.specs.Prelude.{◌≡◌, length, is_some, IsTrue, IfOk};
 ghost use Rattle.std.specs.List.{list_all};
-ghost use Rattle.verb_core.specs.Items.{text_of};
 ghost use Rattle.seal_log.specs.Causes.{ReadAtCause};
-ghost use Rattle.mail_desk.specs.Timeline.{has_text, texts_of};
 ghost use Rattle.time_desk.specs.Reading.{IsStill};
 ghost use Rattle.time_desk.specs.Stored.{HoldsTexts};
+ghost use Rattle.store_kept.specs.Texts.{has_text_kept, text_kept, texts_kept};
 
 use crate::Desk;
 use seal_log::ReadFault;
@@ -18,8 +17,8 @@ impl<D: Disk> Desk<D> {
     /// The text of a body. None exactly where no item in force has it. It is read where it lies; a notice's is in memory. At
     /// `Disk` the read failed, and a later call may succeed.
     pub fn body(&mut self, alloc: Global, body: Body) -> Result<Option<Text>, ReadFault>
-        ensures there { IfOk result (λ found. is_some found ≡ has_text self.old.kept.timeline body) }
-        ensures found { HoldsTexts D.told self.old → IfOk result (λ found. found ≡ text_of self.old.kept.timeline body) }
+        ensures there { IfOk result (λ found. is_some found ≡ has_text_kept self.old.kept body) }
+        ensures found { HoldsTexts D.told self.old → IfOk result (λ found. found ≡ text_kept self.old.kept body) }
         ensures cause { ReadAtCause (D.told self.old.disk) (D.told self.new.disk) result }
         ensures still { IsStill D.told self.old self.new }
     {
@@ -28,9 +27,9 @@ impl<D: Disk> Desk<D> {
 
     /// The texts of bodies, in order, read as by `body`.
     pub fn texts(&mut self, alloc: Global, bodies: &[Body]) -> Result<Texts, ReadFault>
-        requires { IsTrue (list_all (has_text self.old.kept.timeline) bodies.now) }
+        requires { IsTrue (list_all (has_text_kept self.old.kept) bodies.now) }
         ensures count { IfOk result (λ texts. length texts ≡ length bodies.now) }
-        ensures texts { HoldsTexts D.told self.old → IfOk result (λ texts. texts ≡ texts_of self.old.kept.timeline bodies.now) }
+        ensures texts { HoldsTexts D.told self.old → IfOk result (λ texts. texts ≡ texts_kept self.old.kept bodies.now) }
         ensures cause { ReadAtCause (D.told self.old.disk) (D.told self.new.disk) result }
         ensures still { IsStill D.told self.old self.new }
     {

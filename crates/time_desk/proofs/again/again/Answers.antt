@@ -1,7 +1,7 @@
 use Rattle.std.proofs.Common.{◌≡◌, subst}
-use Rattle.paradox.specs.Kept.{Kept}
-use Rattle.mail_cycle.specs.Asking.{Rewinds, due_anew}
-use Rattle.mail_cycle.specs.Cycles.{cycled_at}
+use Rattle.store_kept.specs.Kept.{Kept}
+use Rattle.cycle_rules.specs.Asking.{Rewinds, due_anew}
+use Rattle.cycle_rules.specs.Cycles.{cycled_at}
 use Rattle.mail_cycle.specs.Refusing.{IsRefusalOf}
 use Rattle.time_desk.proofs.Rewinding.{none_read_for, refused_as}
 use Rattle.time_desk.proofs.again.again.Goals as goal

@@ -1,6 +1,6 @@
 use Rattle.std.proofs.Common.{◌∙◌, ap, subst, sym}
 use Rattle.verb_core.specs.Store.{MailStore}
-use Rattle.paradox.specs.Kept.{Kept}
+use Rattle.store_kept.specs.Kept.{Kept}
 use Rattle.time_desk.specs.Serving.{CanServe}
 use Rattle.time_desk.proofs.beginning.at_first.Goals as goal
 

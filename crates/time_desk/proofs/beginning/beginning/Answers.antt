@@ -1,11 +1,11 @@
-use Rattle.std.proofs.Common.{◌≡◌, ◌∙◌, ◌≤◌, ap, nat_le, subst, sym}
+use Rattle.std.proofs.Common.{◌≡◌, ◌∙◌, ◌≤◌, List, ap, inl, nat_le, subst, sym}
 use Rattle.std.specs.List.{AllByRecursion}
 use Rattle.mail_cycle.specs.declared.beginning.Beginning.{Beginning}
 use Rattle.shelf.specs.Marks.{marks_at_or_before}
-use Rattle.time_desk.specs.Serving.{CanServe}
+use Rattle.time_desk.specs.Serving.{CanServe, FindsNewest, IsLastToServe, NoneServes}
 use Rattle.time_desk.specs.Stored.{MarkLies, MarkedBefore, MarksLie}
 use Rattle.desk_journal.proofs.Marking.{marked_front, marks_passed}
-use Rattle.time_desk.proofs.Servings.{Mark, all_before, found_newest, found_none, serves_first, some_has}
+use Rattle.time_desk.proofs.Servings.{Mark, all_before, begins_first, found_newest, found_none, serves_first, some_has}
 use Rattle.time_desk.proofs.beginning.beginning.Goals as goal
 
 pub newest-requires-clause-marked : goal.newest-requires-clause-marked
@@ -41,3 +41,20 @@ returns-in-Ok-None-clause-newest g c = λ holds.
     (c.in-Ok-None.ensures.newest holds.0 holds.1.held
     (subst (MarksLie holds.0 desk.kept) (sym ms_are) (marks_passed (MarkLies holds.0 desk.kept) (MarkLies holds.0 desk.kept) (λ (m : Mark). nat_le m.0 c.args.place) (λ m e h. h) desk.marks holds.1.marks)))
     c.at_first.result c.at_first.ensures.count c.at_first.ensures.store
+
+pub returns-in-Ok-Some-clause-passes : goal.returns-in-Ok-Some-clause-passes
+returns-in-Ok-Some-clause-passes g c = λ honest.
+    let desk = c.args.desk.now in
+    let disk = g.D.Disk.told c.args.disk.now in
+    let ms_are : c.marks_at_or_before-marks.result.now ≡ marks_at_or_before c.args.place desk.marks = c.marks_at_or_before-marks.ensures.marks ∙ ap (λ n. marks_at_or_before n desk.marks) c.position_of.ensures in
+    inl (subst (λ (ms : List Mark). IsLastToServe disk desk.kept ms c.in-Ok-Some.first) ms_are
+    (subst (FindsNewest disk desk.kept c.marks_at_or_before-marks.result.now) c.in-Ok-Some.field-0-is (c.in-Ok-Some.ensures.passes honest)))
+
+pub returns-in-Ok-None-clause-passes : goal.returns-in-Ok-None-clause-passes
+returns-in-Ok-None-clause-passes g c = λ honest.
+    let desk = c.args.desk.now in
+    let disk = g.D.Disk.told c.args.disk.now in
+    let ms_are : c.marks_at_or_before-marks.result.now ≡ marks_at_or_before c.args.place desk.marks = c.marks_at_or_before-marks.ensures.marks ∙ ap (λ n. marks_at_or_before n desk.marks) c.position_of.ensures in
+    begins_first disk desk c.args.place c.at_first.result
+    (subst (NoneServes disk desk.kept) ms_are (subst (FindsNewest disk desk.kept c.marks_at_or_before-marks.result.now) c.in-Ok-None.field-0-is (c.in-Ok-None.ensures.passes honest)))
+    c.at_first.ensures.count c.at_first.ensures.store

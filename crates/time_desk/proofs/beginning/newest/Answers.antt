@@ -1,9 +1,11 @@
-use Rattle.std.proofs.Common.{◌∙◌, ◌-◌, arith}
-use Rattle.std.specs.Prelude.{slice_index_or}
+use Rattle.std.proofs.Common.{◌∙◌, ◌-◌, None, Option, Some, arith, refl, subst}
+use Rattle.std.specs.Prelude.{option_map, slice_index_or}
 use Rattle.undo_outside.proofs.Moments.{reads_joined}
 use Rattle.box_store.specs.declared.store.Store.{Store}
+use Rattle.verb_core.specs.Store.{MailStore}
+use Rattle.time_desk.specs.Serving.{ServesBy, bytes_at}
 use Rattle.time_desk.specs.Stored.{MarkLies, store_at}
-use Rattle.time_desk.proofs.Servings.{Mark, last_mark, mark_at, none_left, none_stored, some_store}
+use Rattle.time_desk.proofs.Servings.{Mark, last_mark, mark_at, none_left, none_serves, none_stored, passed_on, serves_last, serves_still, some_store}
 use Rattle.desk_journal.proofs.Staying.{holds_on}
 use Rattle.time_desk.proofs.beginning.newest.Goals as goal
 
@@ -31,6 +33,15 @@ loop-i-preserved g c =
     record {
       reads = reads_joined (g.D.Disk.told c.args.disk.now) (g.D.Disk.told c.loop-i.disk) (g.D.Disk.told c.marked_store.new.disk) c.loop-i.invariant.reads c.in-Ok-None.ensures.reads;
       none = c.in-Ok-None.ensures.cause.ok ∙ c.loop-i.invariant.none;
+      within = omega (arith, c.loop-i.invariant.within);
+      passed = λ honest.
+          let old = g.D.Disk.told c.args.disk.now in
+          let mid = g.D.Disk.told c.loop-i.disk in
+          let reads = c.loop-i.invariant.reads in
+          passed_on old kept xs c.loop-i.i d (omega arith) c.loop-i.invariant.within
+          (serves_still kept m old mid None (reads.content honest)
+          (subst (λ (o : Option Store). ServesBy kept m.0 (bytes_at mid m.1) (option_map {T = Store} {U = MailStore} (λ store. store.store) o)) c.in-Ok-None.field-0-is (c.in-Ok-None.ensures.read (reads.honest honest))))
+          (c.loop-i.invariant.passed honest);
       first = λ payloads held lies.
           let at_end = c.loop-i.invariant.first payloads held lies in
           absurd (none_stored (λ (s : Store). s.store) c.in-Ok-None.field-0 (store_at kept m.0) c.in-Ok-None.field-0-is
@@ -39,3 +50,22 @@ loop-i-preserved g c =
 
 pub returns-clause-newest : goal.returns-clause-newest
 returns-clause-newest g c = λ payloads held lies. none_left c.args.marks.now c.loop-i.i (c.loop-i.invariant.first payloads held lies) (omega arith)
+
+-- the one that was found, and those behind it
+pub returns-in-Ok-Some-clause-passes : goal.returns-in-Ok-Some-clause-passes
+returns-in-Ok-Some-clause-passes g c = λ honest.
+    let xs = c.args.marks.now in
+    let d : Mark = (0, record { gate = 0; length = 0 }) in
+    let m : Mark = slice_index_or xs (c.loop-i.i - 1) d in
+    let kept = c.args.desk.now.kept in
+    let old = g.D.Disk.told c.args.disk.now in
+    let mid = g.D.Disk.told c.loop-i.disk in
+    let reads = c.loop-i.invariant.reads in
+    serves_last old kept xs c.loop-i.i d (omega arith) c.loop-i.invariant.within (record { store = c.in-Ok-Some.store; count = m.0 }) refl
+    (serves_still kept m old mid (Some c.in-Ok-Some.store.store) (reads.content honest)
+    (subst (λ (o : Option Store). ServesBy kept m.0 (bytes_at mid m.1) (option_map {T = Store} {U = MailStore} (λ store. store.store) o)) c.in-Ok-Some.field-0-is (c.in-Ok-Some.ensures.read (reads.honest honest))))
+    (c.loop-i.invariant.passed honest)
+
+pub returns-clause-passes : goal.returns-clause-passes
+returns-clause-passes g c = λ honest.
+    none_serves (g.D.Disk.told c.args.disk.now) c.args.desk.now.kept c.args.marks.now c.loop-i.i (omega arith) (c.loop-i.invariant.passed honest)

@@ -1,13 +1,16 @@
-use Rattle.std.proofs.Common.{◌≡◌, ℕ, List, length}
+use Rattle.std.proofs.Common.{◌≡◌, ◌≤◌, ℕ, List, drop, length}
 use Rattle.undo_outside.specs.Moments.{OnlyReads}
 use Rattle.seal_log.specs.Settled.{Holds}
+use Rattle.time_desk.specs.Serving.{NoneServes}
 use Rattle.time_desk.specs.Stored.{MarksLie}
 use Rattle.time_desk.proofs.beginning.newest.Given as goal
 
--- nothing was passed over where each snapshot lies where it is marked
+-- each that was looked at was passed over, and nothing was where each snapshot lies where it is marked
 abbrev pub invariant-loop-i : goal.invariant-loop-i
 invariant-loop-i g l = record {
   reads : OnlyReads (g.D.Disk.told l.initial.disk) (g.D.Disk.told l.disk);
   none : (g.D.Disk.told l.disk).failed_reads ≡ (g.D.Disk.told l.initial.disk).failed_reads;
+  within : l.i ≤ length l.marks;
+  passed : (g.D.Disk.told l.initial.disk).honest → NoneServes (g.D.Disk.told l.initial.disk) l.desk.kept (drop l.i l.marks);
   first : (payloads : List (List ℕ)) → Holds (g.D.Disk.told l.initial.disk) payloads → MarksLie payloads l.desk.kept l.marks → l.i ≡ length l.marks;
 }

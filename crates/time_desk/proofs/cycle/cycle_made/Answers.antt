@@ -1,5 +1,5 @@
 use Rattle.std.proofs.Common.{◌∙◌, ◌++◌, Err, [], length, ap, arith, refl, sym, subst, take}
-use Rattle.paradox.specs.Kept.{Kept}
+use Rattle.store_kept.specs.Kept.{Kept}
 use Rattle.shelf.specs.Marks.{marks_at_or_before}
 use Rattle.mail_cycle.specs.Leaving.{items_left}
 use Rattle.mail_desk.specs.Held.{Held}
@@ -74,14 +74,14 @@ returns-in-Err-clause-marked g c =
     marked_same c.args.journal.now.gate c.args.journal.now.gate c.args.desk.now c.ready_cycle.new.desk refl c.in-Err.ensures.same_marks c.requires.marked
 
 pub returns-in-Err-seal_found-clause-why : goal.returns-in-Err-seal_found-clause-why
-returns-in-Err-seal_found-clause-why g c = λ disk reads red.
+returns-in-Err-seal_found-clause-why g c = λ disk reads well red.
     let found = c.in-Ok.found in
     let done = c.in-Err-seal_found.ensures in
     cycle_unsealed g.D.Disk.told disk c.args.desk.now c.seal_found.new.desk c.args.journal.now c.seal_found.new.journal c.args.at c.args.ask c.args.made found.bytes reads red c.requires.anew c.in-Ok.ensures.bytes c.in-Ok.ensures.spelled
-    c.requires.known c.requires.open c.in-Err-seal_found.fault c.fault_of.result done.sealed (ap (λ (h : Held). h.kept) done.same ∙ c.in-Ok.ensures.kept) (ap (λ (h : Held). h.notes) done.same ∙ c.in-Ok.ensures.same)
+    c.requires.known c.requires.open c.in-Err-seal_found.fault c.fault_of.result done.sealed well (ap (λ (h : Held). h.kept) done.same ∙ c.in-Ok.ensures.kept) (ap (λ (h : Held). h.notes) done.same ∙ c.in-Ok.ensures.same)
     (ap (λ (h : Held). h.marks) done.same ∙ c.in-Ok.ensures.same_marks) c.fault_of.ensures
 
 pub returns-in-Err-clause-why : goal.returns-in-Err-clause-why
-returns-in-Err-clause-why g c = λ disk reads red.
+returns-in-Err-clause-why g c = λ disk reads well red.
     cycle_starved g.D.Disk.told disk c.args.desk.now c.ready_cycle.new.desk c.args.journal.now c.args.journal.now c.args.at c.args.ask c.args.made [] reads red c.requires.anew
-    c.requires.open g.met.D.Disk.tells_truth c.in-Err.ensures.kept c.in-Err.ensures.same c.in-Err.ensures.same_marks
+    c.requires.open g.met.D.Disk.tells_truth well c.in-Err.ensures.kept c.in-Err.ensures.same c.in-Err.ensures.same_marks

@@ -37,7 +37,7 @@ returns-in-Ok-clause-why g c =
     let read = c.rewound_in.new.journal in
     let tried = c.cycle_made in
     subst (λ (l : Lasting g.row.D.Denot). IfErr tried.result (λ fault. CyclesNone g.D.Disk.told c.args.at c.args.ask l (lasting tried.new.desk tried.new.journal) fault)) (read_from g.D.Disk.told c.args.desk.now old read made.still)
-    (tried.ensures.why old.disk made.still.reads (cycles_as g.D.Disk.told c.args.desk.now old read c.args.at c.args.ask c.in-Ok.made made.due made.made))
+    (tried.ensures.why old.disk made.still.reads made.cause (cycles_as g.D.Disk.told c.args.desk.now old read c.args.at c.args.ask c.in-Ok.made made.due made.made))
 
 pub returns-in-Err-clause-noted : goal.returns-in-Err-clause-noted
 returns-in-Err-clause-noted g c = subst (λ (n : ℕ). NotedBefore n c.args.desk.now.notes c.args.desk.now.kept.timeline) (sym c.in-Err.ensures.still.gate) c.requires.noted

@@ -9,3 +9,6 @@ returns-clause-revs c = λ records kept is. (state_holds records kept is).1
 
 pub returns-clause-runs : goal.returns-clause-runs
 returns-clause-runs c = λ records kept is. (state_holds records kept is).0.runs
+
+pub returns-clause-opening : goal.returns-clause-opening
+returns-clause-opening c = λ records kept is. (state_holds records kept is).2

@@ -1,6 +1,6 @@
 use Rattle.std.proofs.Common.{◌≡◌, true, Bool, Result, Ok, Err, ap, subst, sym}
 use Rattle.std.specs.Prelude.{IfOk, OnOk}
-use Rattle.paradox.specs.Kept.{Kept}
+use Rattle.store_kept.specs.Kept.{Kept}
 use Rattle.seal_log.specs.declared.fault.ReadFault.{ReadFault}
 use Rattle.time_desk.specs.Telling.{HoldsHeld}
 use Rattle.time_desk.specs.Stored.{MarkedBefore, MarksLie}

@@ -1,5 +1,5 @@
 use Rattle.std.proofs.Common.{◌≡◌, ◌∙◌, ◌+◌, ◌≤◌, IfErr, IfOk, OnOk, refl, subst, sym}
-use Rattle.mail_cycle.specs.Asking.{Rewinds, cycle_due}
+use Rattle.cycle_rules.specs.Asking.{Rewinds, cycle_due}
 use Rattle.mail_cycle.specs.Permanence.{UidsLast}
 use Rattle.time_desk.specs.Cycling.{Cycles, CyclesNone, most_performed}
 use Rattle.time_desk.specs.Lasting.{Lasting, lasting}

@@ -1,6 +1,6 @@
 use Rattle.std.proofs.Common.{ℕ, ◌∷◌, [], List, ap, refl, sym, subst, ◌∙◌}
 use Rattle.verb_bytes.specs.declared.journal.JournalRecord.TheVariants.{Format}
-use Rattle.paradox.specs.Kept.{IsRun, Kept}
+use Rattle.store_kept.specs.Kept.{IsRun, Kept}
 use Rattle.seal_log.specs.Log.{last_gate}
 use Rattle.seal_log.specs.Settled.{IsSettled}
 use Rattle.time_desk.specs.Records.{payloads_of}

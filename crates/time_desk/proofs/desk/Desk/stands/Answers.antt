@@ -1,5 +1,5 @@
 use Rattle.std.proofs.Common.{subst}
-use Rattle.paradox.specs.Kept.{IsRun}
+use Rattle.store_kept.specs.Kept.{IsRun}
 use Rattle.time_desk.specs.Lasting.{Lasting}
 use Rattle.time_desk.specs.Permanence.{IsSound}
 use Rattle.time_desk.proofs.desk.Desk.stands.Goals as goal

@@ -1,7 +1,7 @@
 use Rattle.std.proofs.Common.{IfErr, refl, subst, sym}
 use Rattle.verb_core.specs.Live.{live}
 use Rattle.verb_bytes.specs.declared.journal.JournalRecord.TheVariants.{Verb}
-use Rattle.paradox.specs.Kept.{store_of}
+use Rattle.store_kept.specs.Kept.{store_of}
 use Rattle.mail_cycle.specs.Permanence.{UidsLast}
 use Rattle.time_desk.specs.Lasting.{Lasting, lasting}
 use Rattle.time_desk.specs.Submitting.{SubmitsNone, WritesNone}
