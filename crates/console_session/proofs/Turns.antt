@@ -17,10 +17,10 @@ use Rattle.verb_bytes.specs.declared.journal.CycleAsk.{CycleAsk}
 use Rattle.verb_bytes.specs.declared.journal.JournalRecord.{JournalRecord}
 use Rattle.verb_bytes.specs.declared.journal.JournalRecord.TheVariants.{Operator, Cycle}
 use Rattle.paradox.specs.declared.reports.Report.{Report}
-use Rattle.paradox.specs.Kept.{performed, report_of, snapshotted, Kept}
+use Rattle.store_kept.specs.Kept.{performed, report_of, snapshotted, Kept}
 use Rattle.repair_desk.specs.Repairs.{position}
-use Rattle.mail_cycle.specs.Asking.{Due, IsRewinds, Repeats, NoPoint, NoNumbers, Rewinds as IsDue, after_cycle, cycle_due, due_anew, due_at, due_by}
-use Rattle.mail_cycle.specs.Cycles.{Cycled, cycled_at, leaves_numbers}
+use Rattle.cycle_rules.specs.Asking.{Due, IsRewinds, Repeats, NoPoint, NoNumbers, Rewinds as IsDue, after_cycle, cycle_due, due_anew, due_at, due_by}
+use Rattle.cycle_rules.specs.Cycles.{Cycled, cycled_at, leaves_numbers}
 use Rattle.desk_journal.specs.declared.fault.ActFault.{ActFault}
 use Rattle.desk_journal.specs.declared.fault.ActFault.TheVariants as fault
 use Rattle.time_desk.specs.declared.fault.CycleFault.{CycleFault}
@@ -28,7 +28,7 @@ use Rattle.time_desk.specs.declared.fault.CycleFault.TheVariants as cycle_fault
 use Rattle.time_desk.specs.Cycling.{Cycles, CyclesBy, CyclesNone, FailsToCycle, FailsToRead, StarvesBy, Tries, TriesNone}
 use Rattle.time_desk.specs.Lasting.{Lasting}
 use Rattle.time_desk.specs.Planning.{Plans, PlansNone, plan_at}
-use Rattle.time_desk.specs.Reading.{HaveRead, IsStill, RoseBy, failed_once, none_read, wrong_once}
+use Rattle.time_desk.specs.Reading.{Counted, HaveRead, IsStill, ReadsWell, failed_once, none_read, wrong_once}
 use Rattle.verb_core.specs.Deeds.{act_item}
 use Rattle.time_desk.specs.Records.{after_record, after_records, is_formed, is_spelled, snapshot_record}
 use Rattle.time_desk.specs.Sealing.{Seals}
@@ -51,7 +51,7 @@ use Rattle.console_session.specs.declared.reply.After.TheVariants.{Closes, Fails
 use Rattle.console_session.specs.declared.reply.Reply.{Reply}
 use Rattle.console_session.specs.Answers.{Answer, answer, answer_text, body_found, plan_answer, planned, refused, told_plainly}
 use Rattle.console_session.specs.Turn.{Turn, chosen, cycled, done, failed, kept_as_it_is, numbered, numberless, rewound, tells}
-use Rattle.console_session.specs.Hindrance.{Hindrance, Clear, Refused, Unheard, Unanswered, Unsealed, Untold, Unread, Misread, acted_under, cycled_under, found_under, hindered, lost, read_under, rewound_under, routed_under, sealed_under, starved, told_under, tried_under, unanswered, unread}
+use Rattle.console_session.specs.Hindrance.{Hindrance, Clear, Refused, Unheard, Unanswered, Unsealed, Untold, Unread, UnreadRefused, UnreadUnheard, Misread, acted_under, behind_a_read, cycled_under, found_under, hindered, lost, read_under, rewound_under, routed_under, sealed_under, starved, told_under, tried_under, unanswered, unread}
 use Rattle.console_session.specs.Hearing.{Hears, AreServed, IsTurn, Serves, Starves, Tells, TellsCycleFault, TellsDiskFault, TellsFault, TellsFound, TellsOnly, TellsRead, TellsReadFault, TellsSealFault, TellsUnread, is_failure, reply}
 use Rattle.console_session.proofs.Deciding.{IsSame, kept_decided, text_decided}
 
@@ -127,25 +127,30 @@ module _ {D : Type 0} (told : D → DiskTold) where
   abbrev pub Truth : Type 0
   Truth = (disk : D) → (told disk).honest → IsHonest (told disk)
 
+  -- a desk of which the disk was only read, and no read failed
+  pub record IsQuiet (old new : Lasting D) : Type 0 where
+    pub still : IsStill told old new
+    pub well : ReadsWell told old new
+
   -- a desk that nothing was done to
-  pub as_it_was : Truth → (old new : Lasting D) → new ≡ old → IsStill told old new
+  pub as_it_was : Truth → (old new : Lasting D) → new ≡ old → IsQuiet old new
   as_it_was truth old new e =
-      subst (λ (n : Lasting D). IsStill told old n) (sym e)
-      (record { kept = refl; notes = refl; marks = refl; room = refl; gate = refl; closed = refl; reads = reads_none (told old.disk) (truth old.disk) })
+      subst (λ (n : Lasting D). IsQuiet old n) (sym e)
+      (record { still = record { kept = refl; notes = refl; marks = refl; room = refl; gate = refl; closed = refl; reads = reads_none (told old.disk) (truth old.disk) }; well = refl })
 
   -- ---- reads
 
-  rose_none : (a b : ℕ) → a ≤ b → RoseBy 0 a b
-  rose_none a b le = record { rises = le; by = omega (arith, le) }
+  counted_none : (a b : ℕ) → b ≡ a → Counted 0 a b
+  counted_none a b e = (e, omega (arith, e))
 
-  reads_well : (old new : Lasting D) → (told old.disk).failed_reads ≤ (told new.disk).failed_reads → HaveRead told old new none_read
-  reads_well old new le = record { failed = rose_none _ _ le; reliable = λ e. refl; honest = λ h. refl }
+  reads_well : (old new : Lasting D) → ReadsWell told old new → HaveRead told old new none_read
+  reads_well old new well = record { failed = counted_none _ _ well; reliable = λ e. refl; honest = λ h. refl }
 
   reads_ill : (old new : Lasting D) → ReadFailed (told old.disk) (told new.disk) → HaveRead told old new failed_once
-  reads_ill old new f = record { failed = record { rises = f.0.0; by = f.0.1 }; reliable = λ e. absurd (true≢false (sym e ∙ f.3)); honest = λ h. refl }
+  reads_ill old new f = record { failed = (f.0, f.1); reliable = λ e. absurd (true≢false (sym e ∙ f.3)); honest = λ h. refl }
 
-  reads_wrong : (old new : Lasting D) → (told old.disk).failed_reads ≤ (told new.disk).failed_reads → (HoldsTexts told old → ⊥) → HaveRead told old new wrong_once
-  reads_wrong old new le not = record { failed = rose_none _ _ le; reliable = λ e. refl; honest = λ h. absurd (not h) }
+  reads_wrong : (old new : Lasting D) → ReadsWell told old new → (HoldsTexts told old → ⊥) → HaveRead told old new wrong_once
+  reads_wrong old new well not = record { failed = counted_none _ _ well; reliable = λ e. refl; honest = λ h. absurd (not h) }
 
   -- ---- turns
 
@@ -155,55 +160,66 @@ module _ {D : Type 0} (told : D → DiskTold) where
   abbrev turn_at : (t s : Turn) (old new : Lasting D) (r : Reply) → t ≡ s → IsTurn told s old new r → IsTurn told t old new r
   turn_at t s old new r e turn = subst (λ (u : Turn). IsTurn told u old new r) (sym e) turn
 
-  same_turn : Still → (said : List ℕ) (after : After) (old new : Lasting D) (r : Reply) → IsStill told old new → r ≡ reply said after
+  same_turn : Still → (said : List ℕ) (after : After) (old new : Lasting D) (r : Reply) → IsQuiet old new → r ≡ reply said after
       → IsTurn told (record { said = said; kept = old.kept; after = after; sealed = []; unsealed = []; reads = none_read }) old new r
-  same_turn still said after old new r same e = record { reply_is = e; kept = same.kept; seals = still old new same; read = reads_well old new same.reads.reads }
+  same_turn still said after old new r same e = record { reply_is = e; kept = same.still.kept; seals = still old new same.still; read = reads_well old new same.well }
 
   -- an answer that changes nothing
-  pub told_turn : Still → (a : Answer) (after : After) (old new : Lasting D) (r : Reply) → IsStill told old new → Tells a after r
+  pub told_turn : Still → (a : Answer) (after : After) (old new : Lasting D) (r : Reply) → IsQuiet old new → Tells a after r
       → Under (λ h. told_under h old.kept (tells a after old.kept)) old new r
   told_turn still a after old new r same (inl e) = (Clear, same_turn still (answer_text a) after old new r same e)
   told_turn still a after old new r same (inr (inl e)) = (Refused, same_turn still (answer_text (refused NoMemory)) Closes old new r same e)
   told_turn still a after old new r same (inr (inr e)) = (Unheard, same_turn still [] Closes old new r same e)
 
   -- an answer that is made of texts: the one that is due, or another over texts that are not those that were stored
-  answer_turn : Still → (due a : Answer) (old new : Lasting D) (r : Reply) → IsStill told old new → (HoldsTexts told old → a ≡ due) → r ≡ reply (answer_text a) Closes
+  answer_turn : Still → (due a : Answer) (old new : Lasting D) (r : Reply) → IsQuiet old new → (HoldsTexts told old → a ≡ due) → r ≡ reply (answer_text a) Closes
       → IsSame (answer_text a) (answer_text due) → Under (λ h. read_under h old.kept (tells due Closes old.kept)) old new r
   answer_turn still due a old new r same holds e (inl is) = (Clear, same_turn still (answer_text due) Closes old new r same (e ∙ ap (λ (t : List ℕ). reply t Closes) is))
   answer_turn still due a old new r same holds e (inr other) = (
     Misread (answer_text a) old.kept,
-    record { reply_is = e; kept = same.kept; seals = still old new same; read = reads_wrong old new same.reads.reads (λ h. other (ap answer_text (holds h))) },
+    record { reply_is = e; kept = same.still.kept; seals = still old new same.still; read = reads_wrong old new same.well (λ h. other (ap answer_text (holds h))) },
   )
 
   unread_turn : Still → (old new : Lasting D) (r : Reply) → IsStill told old new → ReadFailed (told old.disk) (told new.disk) → r ≡ reply (unread old.kept).said Closes
       → IsTurn told (unread old.kept) old new r
   unread_turn still old new r same failed e = record { reply_is = e; kept = same.kept; seals = still old new same; read = reads_ill old new failed }
 
+  -- and no memory was found for telling that, or for telling anything
+  starved_unread : Still → (old new : Lasting D) (r : Reply) → IsStill told old new → ReadFailed (told old.disk) (told new.disk) → r ≡ reply (starved old.kept).said Closes
+      → IsTurn told (behind_a_read (starved old.kept)) old new r
+  starved_unread still old new r same failed e = record { reply_is = e; kept = same.kept; seals = still old new same; read = reads_ill old new failed }
+
+  lost_unread : Still → (old new : Lasting D) (r : Reply) → IsStill told old new → ReadFailed (told old.disk) (told new.disk) → r ≡ reply [] Closes
+      → IsTurn told (behind_a_read (lost old.kept)) old new r
+  lost_unread still old new r same failed e = record { reply_is = e; kept = same.kept; seals = still old new same; read = reads_ill old new failed }
+
   -- an answer that is made of texts, or a text that could not be read
   pub read_turn : Still → (due : Answer) (old new : Lasting D) (r : Reply) → IsStill told old new → TellsRead told due old new r
       → Under (λ h. read_under h old.kept (tells due Closes old.kept)) old new r
-  read_turn still due old new r same (inl (a, holds, inl e)) = answer_turn still due a old new r same holds e (text_decided (answer_text a) (answer_text due))
-  read_turn still due old new r same (inl (a, holds, inr (inl e))) = (Refused, same_turn still (answer_text (refused NoMemory)) Closes old new r same e)
-  read_turn still due old new r same (inl (a, holds, inr (inr e))) = (Unheard, same_turn still [] Closes old new r same e)
+  read_turn still due old new r same (inl (a, holds, well, inl e)) =
+      answer_turn still due a old new r (record { still = same; well = well }) holds e (text_decided (answer_text a) (answer_text due))
+  read_turn still due old new r same (inl (a, holds, well, inr (inl e))) =
+      (Refused, same_turn still (answer_text (refused NoMemory)) Closes old new r (record { still = same; well = well }) e)
+  read_turn still due old new r same (inl (a, holds, well, inr (inr e))) = (Unheard, same_turn still [] Closes old new r (record { still = same; well = well }) e)
   read_turn still due old new r same (inr (failed, inl e)) = (Unread, unread_turn still old new r same failed e)
-  read_turn still due old new r same (inr (failed, inr (inl e))) = (Refused, same_turn still (answer_text (refused NoMemory)) Closes old new r same e)
-  read_turn still due old new r same (inr (failed, inr (inr e))) = (Unheard, same_turn still [] Closes old new r same e)
+  read_turn still due old new r same (inr (failed, inr (inl e))) = (UnreadRefused, starved_unread still old new r same failed e)
+  read_turn still due old new r same (inr (failed, inr (inr e))) = (UnreadUnheard, lost_unread still old new r same failed e)
 
   -- texts are read where there is what they are read for
   pub found_turn : Still → {A : Type 0} → (o : Option A) (due : Answer) (old new : Lasting D) (r : Reply) → IsStill told old new → TellsFound told o due old new r
       → Under (λ h. found_under h old.kept o (tells due Closes old.kept)) old new r
-  found_turn still None due old new r same says = told_turn still due Closes old new r same says
+  found_turn still None due old new r same says = told_turn still due Closes old new r (record { still = same; well = says.0 }) says.1
   found_turn still (Some x) due old new r same says = read_turn still due old new r same says
 
   under_as : (f g : Hindrance → Turn) (old new : Lasting D) (r : Reply) → ((h : Hindrance) → f h ≡ g h) → Under g old new r → Under f old new r
   under_as f g old new r same u = (u.0, turn_at _ _ old new r (same u.0) u.1)
 
   -- what is asked for and is told over the desk as it is
-  pub serves_told : Still → (at : ℕ) (asked : Result Asked HttpRefused) (a : Answer) (after : After) (old new : Lasting D) (r : Reply) → IsStill told old new
+  pub serves_told : Still → (at : ℕ) (asked : Result Asked HttpRefused) (a : Answer) (after : After) (old new : Lasting D) (r : Reply) → IsQuiet old new
       → ((h : Hindrance) → hindered h at old.kept asked ≡ told_under h old.kept (tells a after old.kept)) → Tells a after r → Serves told at asked old new r
   serves_told still at asked a after old new r unchanged same says =
       let u = told_turn still a after old new r unchanged says in
-      record { hindrance = u.0; turn_is = turn_at _ _ old new r (same u.0) u.1; still = λ e. unchanged }
+      record { hindrance = u.0; turn_is = turn_at _ _ old new r (same u.0) u.1; still = λ e. unchanged.still }
 
   -- the same of a route
   pub serves_route : Still → Truth → (at : ℕ) (t s : Taken) (a : Answer) (after : After) (old : Lasting D) (r : Reply) → t ≡ s
@@ -230,27 +246,27 @@ module _ {D : Type 0} (told : D → DiskTold) where
   pub serves_waiting : Still → Truth → (at : ℕ) (asked : Result Asked HttpRefused) (yet : Asked) (old : Lasting D) (r : Reply) → asked ≡ Ok yet → yet ≡ NotYet → r ≡ reply [] Waits
       → Serves told at asked old old r
   serves_waiting still truth at asked yet old r e f says =
-      let same : IsStill told old old = as_it_was truth old old refl in
+      let same : IsQuiet old old = as_it_was truth old old refl in
       subst (λ (v : Result Asked HttpRefused). Serves told at v old old r) (sym (e ∙ ap (λ (y : Asked). Ok y) f))
-      (record { hindrance = Clear; turn_is = same_turn still [] Waits old old r same says; still = λ e. same })
+      (record { hindrance = Clear; turn_is = same_turn still [] Waits old old r same says; still = λ e. same.still })
 
   -- ---- turns that seal a record
 
   -- a record could not be sealed, and that is told or nothing is said
   unsealed_turn : (f : Hindrance → Turn) (what : JournalRecord) (old new : Lasting D) (r : Reply) → f Unsealed ≡ failed old.kept what → f Untold ≡ unanswered (failed old.kept what)
-      → TellsOnly (answer 500 (error_data Disk)) Fails r → new.kept ≡ old.kept → Seals told [] (what ∷ []) old new → Under f old new r
-  unsealed_turn f what old new r told_is untold_is (inl e) kept seals =
-      (Unsealed, turn_at _ _ old new r told_is (record { reply_is = e; kept = kept; seals = seals; read = reads_well old new seals.on_disk.reads }))
-  unsealed_turn f what old new r told_is untold_is (inr e) kept seals =
-      (Untold, turn_at _ _ old new r untold_is (record { reply_is = e; kept = kept; seals = seals; read = reads_well old new seals.on_disk.reads }))
+      → TellsOnly (answer 500 (error_data Disk)) Fails r → new.kept ≡ old.kept → Seals told [] (what ∷ []) old new → ReadsWell told old new → Under f old new r
+  unsealed_turn f what old new r told_is untold_is (inl e) kept seals well =
+      (Unsealed, turn_at _ _ old new r told_is (record { reply_is = e; kept = kept; seals = seals; read = reads_well old new well }))
+  unsealed_turn f what old new r told_is untold_is (inr e) kept seals well =
+      (Untold, turn_at _ _ old new r untold_is (record { reply_is = e; kept = kept; seals = seals; read = reads_well old new well }))
 
   -- no memory was found before anything was sealed
-  starved_turn : (f : Hindrance → Turn) (old new : Lasting D) (r : Reply) → f Refused ≡ starved old.kept → f Unheard ≡ lost old.kept → new.kept ≡ old.kept → Seals told [] [] old new
+  starved_turn : (f : Hindrance → Turn) (old new : Lasting D) (r : Reply) → f Refused ≡ starved old.kept → f Unheard ≡ lost old.kept → new.kept ≡ old.kept → Seals told [] [] old new → ReadsWell told old new
       → Starves r → Under f old new r
-  starved_turn f old new r told_is lost_is kept seals (inl e) =
-      (Refused, turn_at _ _ old new r told_is (record { reply_is = e; kept = kept; seals = seals; read = reads_well old new seals.on_disk.reads }))
-  starved_turn f old new r told_is lost_is kept seals (inr e) =
-      (Unheard, turn_at _ _ old new r lost_is (record { reply_is = e; kept = kept; seals = seals; read = reads_well old new seals.on_disk.reads }))
+  starved_turn f old new r told_is lost_is kept seals well (inl e) =
+      (Refused, turn_at _ _ old new r told_is (record { reply_is = e; kept = kept; seals = seals; read = reads_well old new well }))
+  starved_turn f old new r told_is lost_is kept seals well (inr e) =
+      (Unheard, turn_at _ _ old new r lost_is (record { reply_is = e; kept = kept; seals = seals; read = reads_well old new well }))
 
   -- where nothing was sealed, what was kept is kept
   kept_stays : (old new : Lasting D) → after_records old.kept [] ≡ Some new.kept → new.kept ≡ old.kept
@@ -270,15 +286,15 @@ module _ {D : Type 0} (told : D → DiskTold) where
 
   -- it was sealed, and that is told or nothing is said
   done_turn : (at : ℕ) (act : Act) (old new : Lasting D) (r : Reply) → TellsOnly (answer 200 (number_data old.kept.next)) Closes r
-      → new.kept ≡ performed old.kept (act_item old.kept.next at act) → Seals told (Operator old.kept.next at act ∷ []) [] old new
+      → new.kept ≡ performed old.kept (act_item old.kept.next at act) → Seals told (Operator old.kept.next at act ∷ []) [] old new → ReadsWell told old new
       → Under (λ h. sealed_under h old.kept (done at old.kept act) (failed old.kept (Operator old.kept.next at act))) old new r
-  done_turn at act old new r (inl e) kept seals = (Clear, record { reply_is = e; kept = kept; seals = seals; read = reads_well old new seals.on_disk.reads })
-  done_turn at act old new r (inr e) kept seals = (Unanswered, record { reply_is = e; kept = kept; seals = seals; read = reads_well old new seals.on_disk.reads })
+  done_turn at act old new r (inl e) kept seals well = (Clear, record { reply_is = e; kept = kept; seals = seals; read = reads_well old new well })
+  done_turn at act old new r (inr e) kept seals well = (Unanswered, record { reply_is = e; kept = kept; seals = seals; read = reads_well old new well })
 
   pub act_done : (at : ℕ) (act : Act) (old new : Lasting D) (r : Reply) → TellsOnly (answer 200 (number_data old.kept.next)) Closes r
-      → new.kept ≡ performed old.kept (act_item old.kept.next at act) → Seals told (Operator old.kept.next at act ∷ []) [] old new
+      → new.kept ≡ performed old.kept (act_item old.kept.next at act) → Seals told (Operator old.kept.next at act ∷ []) [] old new → ReadsWell told old new
       → Serves told at (Ok (Whole (route.Act act))) old new r
-  act_done at act old new r says kept seals = acts at act old new r (number_left old.kept new.kept at act (seals.kept (inr refl))) (done_turn at act old new r says kept seals)
+  act_done at act old new r says kept seals well = acts at act old new r (number_left old.kept new.kept at act (seals.kept (inr refl))) (done_turn at act old new r says kept seals well)
 
   none_left : Still → Truth → (at next : ℕ) (act : Act) (old new : Lasting D) (r : Reply) → next ≡ old.kept.next → old.kept.next ≡ 4194304 → new ≡ old
       → Tells (answer 507 (numbers_data next)) Closes r → Serves told at (Ok (Whole (route.Act act))) old new r
@@ -286,14 +302,14 @@ module _ {D : Type 0} (told : D → DiskTold) where
       serves_told still at (Ok (Whole (route.Act act))) (answer 507 (numbers_data old.kept.next)) Closes old new r (as_it_was truth old new same) (λ h. act_without h at old.kept act e)
       (subst (λ (n : ℕ). Tells (answer 507 (numbers_data n)) Closes r) is_next says)
 
-  pub act_not_done : Still → Truth → (at : ℕ) (act : Act) (old new : Lasting D) (f : ActFault) (r : Reply) → ActsNone told at act old new f → new.kept ≡ old.kept → TellsFault f r
+  pub act_not_done : Still → Truth → (at : ℕ) (act : Act) (old new : Lasting D) (f : ActFault) (r : Reply) → ActsNone told at act old new f → new.kept ≡ old.kept → ReadsWell told old new → TellsFault f r
       → Serves told at (Ok (Whole (route.Act act))) old new r
-  act_not_done still truth at act old new (fault.Numbers next) r none kept says = none_left still truth at next act old new r none.1 none.2 none.3 says
-  act_not_done still truth at act old new fault.Disk r none kept says =
-      acts at act old new r (less_is old.kept.next none.1) (unsealed_turn _ (Operator old.kept.next at act) old new r refl refl says kept none.2)
-  act_not_done still truth at act old new fault.NoMemory r none kept says =
-      acts at act old new r (less_is old.kept.next none.1) (starved_turn _ old new r refl refl kept none.2 says)
-  act_not_done still truth at act old new fault.Closed r none kept says = absurd says
+  act_not_done still truth at act old new (fault.Numbers next) r none kept well says = none_left still truth at next act old new r none.1 none.2 none.3 says
+  act_not_done still truth at act old new fault.Disk r none kept well says =
+      acts at act old new r (less_is old.kept.next none.1) (unsealed_turn _ (Operator old.kept.next at act) old new r refl refl says kept none.2 well)
+  act_not_done still truth at act old new fault.NoMemory r none kept well says =
+      acts at act old new r (less_is old.kept.next none.1) (starved_turn _ old new r refl refl kept none.2 well says)
+  act_not_done still truth at act old new fault.Closed r none kept well says = absurd says
 
   -- ---- snapshots
 
@@ -306,22 +322,22 @@ module _ {D : Type 0} (told : D → DiskTold) where
 
   -- it was sealed, and that is told or nothing is said
   kept_turn : (old new : Lasting D) (r : Reply) → TellsOnly (answer 200 (items_data (length old.kept.timeline))) Closes r
-      → new.kept ≡ snapshotted old.kept → Seals told (snapshot_record old.kept ∷ []) [] old new → Snapping old new r
-  kept_turn old new r (inl e) kept seals = (Clear, record { reply_is = e; kept = kept; seals = seals; read = reads_well old new seals.on_disk.reads })
-  kept_turn old new r (inr e) kept seals = (Unanswered, record { reply_is = e; kept = kept; seals = seals; read = reads_well old new seals.on_disk.reads })
+      → new.kept ≡ snapshotted old.kept → Seals told (snapshot_record old.kept ∷ []) [] old new → ReadsWell told old new → Snapping old new r
+  kept_turn old new r (inl e) kept seals well = (Clear, record { reply_is = e; kept = kept; seals = seals; read = reads_well old new well })
+  kept_turn old new r (inr e) kept seals well = (Unanswered, record { reply_is = e; kept = kept; seals = seals; read = reads_well old new well })
 
   pub snapshot_done : (at items : ℕ) (old new : Lasting D) (r : Reply) → TellsOnly (answer 200 (items_data items)) Closes r → items ≡ length old.kept.timeline
-      → new.kept ≡ snapshotted old.kept → Seals told (snapshot_record old.kept ∷ []) [] old new → Serves told at (Ok (Whole route.Snapshot)) old new r
-  snapshot_done at items old new r says count kept seals =
-      snaps at old new r (kept_turn old new r (subst (λ (n : ℕ). TellsOnly (answer 200 (items_data n)) Closes r) count says) kept seals)
+      → new.kept ≡ snapshotted old.kept → Seals told (snapshot_record old.kept ∷ []) [] old new → ReadsWell told old new → Serves told at (Ok (Whole route.Snapshot)) old new r
+  snapshot_done at items old new r says count kept seals well =
+      snaps at old new r (kept_turn old new r (subst (λ (n : ℕ). TellsOnly (answer 200 (items_data n)) Closes r) count says) kept seals well)
 
-  pub snapshot_not_done : (at : ℕ) (old new : Lasting D) (f : SealFault) (r : Reply) → SnapshotsNone told old new f → TellsSealFault f r
+  pub snapshot_not_done : (at : ℕ) (old new : Lasting D) (f : SealFault) (r : Reply) → SnapshotsNone told old new f → ReadsWell told old new → TellsSealFault f r
       → Serves told at (Ok (Whole route.Snapshot)) old new r
-  snapshot_not_done at old new seal_fault.Disk r none says =
-      snaps at old new r (unsealed_turn _ (snapshot_record old.kept) old new r refl refl says (kept_stays old new (none.1.kept (inr refl))) none.1)
-  snapshot_not_done at old new seal_fault.NoMemory r none says =
-      snaps at old new r (starved_turn _ old new r refl refl (kept_stays old new (none.1.kept (inr refl))) none.1 says)
-  snapshot_not_done at old new seal_fault.Closed r none says = absurd says
+  snapshot_not_done at old new seal_fault.Disk r none well says =
+      snaps at old new r (unsealed_turn _ (snapshot_record old.kept) old new r refl refl says (kept_stays old new (none.1.kept (inr refl))) none.1 well)
+  snapshot_not_done at old new seal_fault.NoMemory r none well says =
+      snaps at old new r (starved_turn _ old new r refl refl (kept_stays old new (none.1.kept (inr refl))) none.1 well says)
+  snapshot_not_done at old new seal_fault.Closed r none well says = absurd says
 
   -- ---- cycles
 
@@ -335,9 +351,9 @@ module _ {D : Type 0} (told : D → DiskTold) where
       let t : ServesDue at ask (cycle_due old.kept at ask) old new r = subst (λ (d : Due). ServesDue at ask d old new r) (sym e) s in
       record { hindrance = t.0.0; turn_is = t.0.1; still = t.1 }
 
-  due_told : Still → (at : ℕ) (ask : CycleAsk) (due : Due) (a : Answer) (old new : Lasting D) (r : Reply) → IsStill told old new
+  due_told : Still → (at : ℕ) (ask : CycleAsk) (due : Due) (a : Answer) (old new : Lasting D) (r : Reply) → IsQuiet old new
       → ((h : Hindrance) → cycled_under h at old.kept ask due ≡ told_under h old.kept (tells a Closes old.kept)) → Tells a Closes r → ServesDue at ask due old new r
-  due_told still at ask due a old new r same as_told says = (under_as _ _ old new r as_told (told_turn still a Closes old new r same says), λ e. same)
+  due_told still at ask due a old new r same as_told says = (under_as _ _ old new r as_told (told_turn still a Closes old new r same says), λ e. same.still)
 
   -- a cycle that is due is to be sealed
   due_sealed : (at : ℕ) (ask : CycleAsk) (due : Cycled) (old new : Lasting D) (r : Reply)
@@ -359,44 +375,44 @@ module _ {D : Type 0} (told : D → DiskTold) where
   report_text old report = answer_text (answer 200 (report_data old.kept.house report))
 
   -- a cycle was sealed, over texts that are not those that were stored
-  misread_turn : (at : ℕ) (ask : CycleAsk) (due : Cycled) (said : List ℕ) (old new : Lasting D) (r : Reply) → Seals told (Cycle old.kept.next at ask ∷ []) [] old new
+  misread_turn : (at : ℕ) (ask : CycleAsk) (due : Cycled) (said : List ℕ) (old new : Lasting D) (r : Reply) → Seals told (Cycle old.kept.next at ask ∷ []) [] old new → ReadsWell told old new
       → r ≡ reply said Rewinds → (HoldsTexts told old → ⊥) → Under (λ h. rewound_under h old.kept (rewound at old.kept ask due) (failed old.kept (Cycle old.kept.next at ask))) old new r
-  misread_turn at ask due said old new r seals e not =
-      (Misread said new.kept, record { reply_is = e; kept = refl; seals = seals; read = reads_wrong old new seals.on_disk.reads not })
+  misread_turn at ask due said old new r seals well e not =
+      (Misread said new.kept, record { reply_is = e; kept = refl; seals = seals; read = reads_wrong old new well not })
 
   -- a cycle was sealed, and what is kept is what it leaves: its report is told, or nothing is said
   made_turn : (at : ℕ) (ask : CycleAsk) (due : Cycled) (report : Report) (old new : Lasting D) (r : Reply) → IsMade ask due report old new
-      → Seals told (Cycle old.kept.next at ask ∷ []) [] old new → new.kept ≡ after_cycle old.kept ask due → TellsOnly (answer 200 (report_data old.kept.house report)) Rewinds r
+      → Seals told (Cycle old.kept.next at ask ∷ []) [] old new → ReadsWell told old new → new.kept ≡ after_cycle old.kept ask due → TellsOnly (answer 200 (report_data old.kept.house report)) Rewinds r
       → IsSame (report_text old report) (report_text old due.report)
       → Under (λ h. rewound_under h old.kept (rewound at old.kept ask due) (failed old.kept (Cycle old.kept.next at ask))) old new r
-  made_turn at ask due report old new r made seals kept (inl e) (inl same) =
-      (Clear, record { reply_is = e ∙ ap (λ (t : List ℕ). reply t Rewinds) same; kept = kept; seals = seals; read = reads_well old new seals.on_disk.reads })
-  made_turn at ask due report old new r made seals kept (inl e) (inr other) = misread_turn at ask due (report_text old report) old new r seals e (λ h. other (ap (report_text old) (made h).0))
-  made_turn at ask due report old new r made seals kept (inr e) same = (Unanswered, record { reply_is = e; kept = kept; seals = seals; read = reads_well old new seals.on_disk.reads })
+  made_turn at ask due report old new r made seals well kept (inl e) (inl same) =
+      (Clear, record { reply_is = e ∙ ap (λ (t : List ℕ). reply t Rewinds) same; kept = kept; seals = seals; read = reads_well old new well })
+  made_turn at ask due report old new r made seals well kept (inl e) (inr other) = misread_turn at ask due (report_text old report) old new r seals well e (λ h. other (ap (report_text old) (made h).0))
+  made_turn at ask due report old new r made seals well kept (inr e) same = (Unanswered, record { reply_is = e; kept = kept; seals = seals; read = reads_well old new well })
 
   -- a cycle was sealed
   rewound_turn : (at : ℕ) (ask : CycleAsk) (due : Cycled) (report : Report) (old new : Lasting D) (r : Reply) → IsMade ask due report old new
-      → Seals told (Cycle old.kept.next at ask ∷ []) [] old new → TellsOnly (answer 200 (report_data old.kept.house report)) Rewinds r → IsSame new.kept (after_cycle old.kept ask due)
+      → Seals told (Cycle old.kept.next at ask ∷ []) [] old new → ReadsWell told old new → TellsOnly (answer 200 (report_data old.kept.house report)) Rewinds r → IsSame new.kept (after_cycle old.kept ask due)
       → Under (λ h. rewound_under h old.kept (rewound at old.kept ask due) (failed old.kept (Cycle old.kept.next at ask))) old new r
-  rewound_turn at ask due report old new r made seals says (inl kept) =
-      made_turn at ask due report old new r made seals kept says (text_decided (report_text old report) (report_text old due.report))
-  rewound_turn at ask due report old new r made seals (inl e) (inr other) = misread_turn at ask due (report_text old report) old new r seals e (λ h. other (made h).1)
-  rewound_turn at ask due report old new r made seals (inr e) (inr other) = misread_turn at ask due [] old new r seals e (λ h. other (made h).1)
+  rewound_turn at ask due report old new r made seals well says (inl kept) =
+      made_turn at ask due report old new r made seals well kept says (text_decided (report_text old report) (report_text old due.report))
+  rewound_turn at ask due report old new r made seals well (inl e) (inr other) = misread_turn at ask due (report_text old report) old new r seals well e (λ h. other (made h).1)
+  rewound_turn at ask due report old new r made seals well (inr e) (inr other) = misread_turn at ask due [] old new r seals well e (λ h. other (made h).1)
 
-  cycle_rewinds : (at : ℕ) (ask : CycleAsk) (due : Due) (report : Report) (old new : Lasting D) (r : Reply) → IsNew due → CyclesBy told at ask old new report due
+  cycle_rewinds : (at : ℕ) (ask : CycleAsk) (due : Due) (report : Report) (old new : Lasting D) (r : Reply) → IsNew due → CyclesBy told at ask old new report due → ReadsWell told old new
       → TellsOnly (answer 200 (report_data new.kept.house report)) Rewinds r → ServesDue at ask due old new r
-  cycle_rewinds at ask (Repeats earlier) report old new r is_new by says = absurd is_new
-  cycle_rewinds at ask NoPoint report old new r is_new by says = absurd by
-  cycle_rewinds at ask NoNumbers report old new r is_new by says = absurd by
-  cycle_rewinds at ask (IsDue due) report old new r is_new by says =
+  cycle_rewinds at ask (Repeats earlier) report old new r is_new by well says = absurd is_new
+  cycle_rewinds at ask NoPoint report old new r is_new by well says = absurd by
+  cycle_rewinds at ask NoNumbers report old new r is_new by well says = absurd by
+  cycle_rewinds at ask (IsDue due) report old new r is_new by well says =
       let of_old = subst (λ (h : House). TellsOnly (answer 200 (report_data h report)) Rewinds r) by.2.house says in
-      due_sealed at ask due old new r (rewound_turn at ask due report old new r by.1 by.2 of_old (kept_decided new.kept (after_cycle old.kept ask due)))
+      due_sealed at ask due old new r (rewound_turn at ask due report old new r by.1 by.2 well of_old (kept_decided new.kept (after_cycle old.kept ask due)))
 
   -- a cycle under a new key is done
   pub cycle_done : (at : ℕ) (ask : CycleAsk) (report : Report) (old new : Lasting D) (r : Reply) → report_of old.kept.reports ask.key ≡ None
-      → Cycles told at ask old new report → TellsOnly (answer 200 (report_data new.kept.house report)) Rewinds r → Serves told at (Ok (Whole (route.Cycle ask))) old new r
-  cycle_done at ask report old new r fresh by says =
-      serves_due at ask old new r (cycle_due old.kept at ask) refl (cycle_rewinds at ask (cycle_due old.kept at ask) report old new r (fresh_is_new old.kept at ask fresh) by says)
+      → Cycles told at ask old new report → ReadsWell told old new → TellsOnly (answer 200 (report_data new.kept.house report)) Rewinds r → Serves told at (Ok (Whole (route.Cycle ask))) old new r
+  cycle_done at ask report old new r fresh by well says =
+      serves_due at ask old new r (cycle_due old.kept at ask) refl (cycle_rewinds at ask (cycle_due old.kept at ask) report old new r (fresh_is_new old.kept at ask fresh) by well says)
 
   starved_due : Still → Truth → (at : ℕ) (ask : CycleAsk) (due : Due) (old new : Lasting D) (r : Reply) → StarvesBy told old new due → Starves r → ServesDue at ask due old new r
   starved_due still truth at ask (Repeats report) old new r by says =
@@ -404,7 +420,7 @@ module _ {D : Type 0} (told : D → DiskTold) where
   starved_due still truth at ask NoPoint old new r by says = absurd by
   starved_due still truth at ask NoNumbers old new r by says = absurd by
   starved_due still truth at ask (IsDue due) old new r by says =
-      due_sealed at ask due old new r (starved_turn _ old new r refl refl (kept_stays old new (by.1.kept (inr refl))) by.1 says)
+      due_sealed at ask due old new r (starved_turn _ old new r refl refl (kept_stays old new (by.1.kept (inr refl))) by.1 by.2 says)
 
   -- a cycle that is due
   rewinds_is : (due : Due) → IsRewinds due → (c : Cycled) × (due ≡ IsDue c)
@@ -417,7 +433,8 @@ module _ {D : Type 0} (told : D → DiskTold) where
   unread_due : Still → (at : ℕ) (ask : CycleAsk) (due : Cycled) (old new : Lasting D) (r : Reply) → IsStill told old new → ReadFailed (told old.disk) (told new.disk) → TellsUnread r
       → ServesDue at ask (IsDue due) old new r
   unread_due still at ask due old new r same failed (inl e) = due_sealed at ask due old new r (Unread, unread_turn still old new r same failed e)
-  unread_due still at ask due old new r same failed (inr starves) = due_sealed at ask due old new r (starved_turn _ old new r refl refl same.kept (still old new same) starves)
+  unread_due still at ask due old new r same failed (inr (inl e)) = due_sealed at ask due old new r (UnreadRefused, starved_unread still old new r same failed e)
+  unread_due still at ask due old new r same failed (inr (inr e)) = due_sealed at ask due old new r (UnreadUnheard, lost_unread still old new r same failed e)
 
   -- the disk failed: the record of a cycle that is due could not be sealed, or a text could not be read for it
   failed_due : Still → (at : ℕ) (ask : CycleAsk) (old new : Lasting D) (r : Reply) → old.closed ≡ false → FailsToCycle told at ask old new ⊎ FailsToRead told at ask old new
@@ -426,7 +443,7 @@ module _ {D : Type 0} (told : D → DiskTold) where
       let closed_is : new.closed ≡ true = fails.2.closed ∙ ap (λ (b : Bool). b || true) open_is in
       serves_due at ask old new r (IsDue fails.0) fails.1
       (due_sealed at ask fails.0 old new r
-      (unsealed_turn _ (Cycle old.kept.next at ask) old new r refl refl (subst (λ (b : Bool). TellsDiskFault b r) closed_is says) (kept_stays old new (fails.2.kept (inr refl))) fails.2))
+      (unsealed_turn _ (Cycle old.kept.next at ask) old new r refl refl (subst (λ (b : Bool). TellsDiskFault b r) closed_is says) (kept_stays old new (fails.2.kept (inr refl))) fails.2 fails.3))
   failed_due still at ask old new r open_is (inr fails) says =
       let due = rewinds_is (cycle_due old.kept at ask) fails.0 in
       serves_due at ask old new r (IsDue due.0) due.1
@@ -451,7 +468,7 @@ module _ {D : Type 0} (told : D → DiskTold) where
   -- ---- trials
 
   -- what is tried, by what is due to it
-  tried_told : Still → (at : ℕ) (ask : CycleAsk) (due : Due) (a : Answer) (old new : Lasting D) (r : Reply) → IsStill told old new → due_anew old.kept at ask ≡ due
+  tried_told : Still → (at : ℕ) (ask : CycleAsk) (due : Due) (a : Answer) (old new : Lasting D) (r : Reply) → IsQuiet old new → due_anew old.kept at ask ≡ due
       → ((h : Hindrance) → tried_under h old.kept ask due ≡ told_under h old.kept (tells a Closes old.kept)) → Tells a Closes r → Serves told at (Ok (Whole (route.Try ask))) old new r
   tried_told still at ask due a old new r same e as_told says =
       serves_told still at (Ok (Whole (route.Try ask))) a Closes old new r same (λ h. ap (λ (d : Due). tried_under h old.kept ask d) e ∙ as_told h) says
@@ -463,26 +480,27 @@ module _ {D : Type 0} (told : D → DiskTold) where
       let u = read_turn still (answer 200 (report_data old.kept.house due.report)) old new r same says in
       record { hindrance = u.0; turn_is = turn_at _ _ old new r (ap (λ (d : Due). tried_under u.0 old.kept ask d) e) u.1; still = λ x. same }
 
-  pub try_told : Still → (at : ℕ) (ask : CycleAsk) (report : Report) (old new : Lasting D) (r : Reply) → IsStill told old new → Tries old.kept at ask (HoldsTexts told old) report
+  pub try_told : Still → (at : ℕ) (ask : CycleAsk) (report : Report) (old new : Lasting D) (r : Reply) → IsStill told old new → Tries old.kept at ask (HoldsTexts told old) report → ReadsWell told old new
       → Tells (answer 200 (report_data new.kept.house report)) Closes r → Serves told at (Ok (Whole (route.Try ask))) old new r
-  try_told still at ask report old new r same tries says =
+  try_told still at ask report old new r same tries well says =
       let of_old = subst (λ (k : Kept). Tells (answer 200 (report_data k.house report)) Closes r) same.kept says in
       tried_read still at ask tries.0 old new r same tries.1
-      (inl (answer 200 (report_data old.kept.house report), λ h. ap (λ (p : Report). answer 200 (report_data old.kept.house p)) (tries.2 h), of_old))
+      (inl (answer 200 (report_data old.kept.house report), λ h. ap (λ (p : Report). answer 200 (report_data old.kept.house p)) (tries.2 h), well, of_old))
 
   pub try_not_told : Still → (at : ℕ) (ask : CycleAsk) (old new : Lasting D) (f : CycleFault) (r : Reply) → IsStill told old new
       → TriesNone old.kept at ask (told old.disk) (told new.disk) f → TellsCycleFault false f r → Serves told at (Ok (Whole (route.Try ask))) old new r
   try_not_told still at ask old new (cycle_fault.Point given) r same none says =
-      tried_told still at ask NoPoint (answer 422 (point_data ask.point)) old new r same none.0 (λ h. refl) (subst (λ (n : ℕ). Tells (answer 422 (point_data n)) Closes r) none.1 says)
+      tried_told still at ask NoPoint (answer 422 (point_data ask.point)) old new r (record { still = same; well = none.2 }) none.0 (λ h. refl)
+      (subst (λ (n : ℕ). Tells (answer 422 (point_data n)) Closes r) none.1 says)
   try_not_told still at ask old new (cycle_fault.Numbers next) r same none says =
-      tried_told still at ask NoNumbers (answer 507 (numbers_data old.kept.next)) old new r same none.0 (λ h. refl)
+      tried_told still at ask NoNumbers (answer 507 (numbers_data old.kept.next)) old new r (record { still = same; well = none.2 }) none.0 (λ h. refl)
       (subst (λ (n : ℕ). Tells (answer 507 (numbers_data n)) Closes r) none.1 says)
   try_not_told still at ask old new cycle_fault.Disk r same none says =
       let due = rewinds_is (due_anew old.kept at ask) none.0 in
       tried_read still at ask due.0 old new r same due.1 (inr (none.1, says))
   try_not_told still at ask old new cycle_fault.NoMemory r same none says =
-      let due = rewinds_is (due_anew old.kept at ask) none in
-      tried_read still at ask due.0 old new r same due.1 (inl (answer 200 (report_data old.kept.house due.0.report), λ h. refl, inr says))
+      let due = rewinds_is (due_anew old.kept at ask) none.0 in
+      tried_read still at ask due.0 old new r same due.1 (inl (answer 200 (report_data old.kept.house due.0.report), λ h. refl, none.1, inr says))
   try_not_told still at ask old new cycle_fault.Closed r same none says = absurd none
 
   -- ---- plans
@@ -491,10 +509,10 @@ module _ {D : Type 0} (told : D → DiskTold) where
   PlanFound kept point old new r place = TellsFound told place (planned point (option_map (plan_at kept) place)) old new r
 
   -- a plan that is made is told
-  pub plan_told : (point : ℕ) (text : List ℕ) (old new : Lasting D) (r : Reply) → Plans old.kept point (HoldsTexts told old) text → Tells (told_plainly text) Closes r
+  pub plan_told : (point : ℕ) (text : List ℕ) (old new : Lasting D) (r : Reply) → Plans old.kept point (HoldsTexts told old) text → ReadsWell told old new → Tells (told_plainly text) Closes r
       → TellsFound told (position old.kept.timeline point) (plan_answer old.kept point) old new r
-  plan_told point text old new r plans says =
-      subst (λ (o : Option ℕ). PlanFound old.kept point old new r o) (sym plans.1) (inl (told_plainly text, λ h. ap told_plainly (plans.2 h), says))
+  plan_told point text old new r plans well says =
+      subst (λ (o : Option ℕ). PlanFound old.kept point old new r o) (sym plans.1) (inl (told_plainly text, λ h. ap told_plainly (plans.2 h), well, says))
 
   there_is : {A : Type 0} → (o : Option A) → IsSome o → (x : A) × (o ≡ Some x)
   there_is None is = absurd (true≢false (sym is))
@@ -504,30 +522,30 @@ module _ {D : Type 0} (told : D → DiskTold) where
   pub plan_not_told : (point : ℕ) (f : CycleFault) (old new : Lasting D) (r : Reply) → PlansNone old.kept point (told old.disk) (told new.disk) f → TellsCycleFault false f r
       → TellsFound told (position old.kept.timeline point) (plan_answer old.kept point) old new r
   plan_not_told point (cycle_fault.Point given) old new r none says =
-      subst (λ (o : Option ℕ). PlanFound old.kept point old new r o) (sym none.0) (subst (λ (n : ℕ). Tells (answer 422 (point_data n)) Closes r) none.1 says)
+      subst (λ (o : Option ℕ). PlanFound old.kept point old new r o) (sym none.0) (none.2, subst (λ (n : ℕ). Tells (answer 422 (point_data n)) Closes r) none.1 says)
   plan_not_told point (cycle_fault.Numbers next) old new r none says = absurd none
   plan_not_told point cycle_fault.Disk old new r none says =
       let there = there_is (position old.kept.timeline point) none.0 in
       subst (λ (o : Option ℕ). PlanFound old.kept point old new r o) (sym there.1) (inr (none.1, says))
   plan_not_told point cycle_fault.NoMemory old new r none says =
-      let there = there_is (position old.kept.timeline point) none in
-      subst (λ (o : Option ℕ). PlanFound old.kept point old new r o) (sym there.1) (inl (told_plainly (plan_at old.kept there.0), λ h. refl, inr says))
+      let there = there_is (position old.kept.timeline point) none.0 in
+      subst (λ (o : Option ℕ). PlanFound old.kept point old new r o) (sym there.1) (inl (told_plainly (plan_at old.kept there.0), λ h. refl, none.1, inr says))
   plan_not_told point cycle_fault.Closed old new r none says = absurd none
 
   -- ---- texts
 
   -- a text that was read is told
-  pub text_told : (body : Body) (read : Option (List ℕ)) (old new : Lasting D) (r : Reply) → (HoldsTexts told old → read ≡ text_of old.kept.timeline body)
+  pub text_told : (body : Body) (read : Option (List ℕ)) (old new : Lasting D) (r : Reply) → (HoldsTexts told old → read ≡ text_of old.kept.timeline body) → ReadsWell told old new
       → Tells (answer 200 (body_data (unwrap_or read []) body.rev)) Closes r → (text : List ℕ) → text_of old.kept.timeline body ≡ Some text
       → TellsRead told (answer 200 (body_data text body.rev)) old new r
-  text_told body read old new r holds says text is =
-      inl (answer 200 (body_data (unwrap_or read []) body.rev), λ h. ap (λ (o : Option (List ℕ)). answer 200 (body_data (unwrap_or o []) body.rev)) (holds h ∙ is), says)
+  text_told body read old new r holds well says text is =
+      inl (answer 200 (body_data (unwrap_or read []) body.rev), λ h. ap (λ (o : Option (List ℕ)). answer 200 (body_data (unwrap_or o []) body.rev)) (holds h ∙ is), well, says)
 
   -- why it was not read is told
-  pub text_not_told : (f : ReadFault) (due : Answer) (old new : Lasting D) (r : Reply) → (f ≡ read_fault.Disk → ReadFailed (told old.disk) (told new.disk)) → TellsReadFault f r
-      → TellsRead told due old new r
-  text_not_told read_fault.Disk due old new r failed says = inr (failed refl, says)
-  text_not_told read_fault.NoMemory due old new r failed says = inl (due, λ h. refl, inr says)
+  pub text_not_told : (f : ReadFault) (due : Answer) (old new : Lasting D) (r : Reply) → (f ≡ read_fault.Disk → ReadFailed (told old.disk) (told new.disk)) → (f ≡ read_fault.NoMemory → ReadsWell told old new)
+      → TellsReadFault f r → TellsRead told due old new r
+  text_not_told read_fault.Disk due old new r failed well says = inr (failed refl, says)
+  text_not_told read_fault.NoMemory due old new r failed well says = inl (due, λ h. refl, well refl, inr says)
 
   -- ---- what is asked
 
@@ -615,6 +633,8 @@ module _ {D : Type 0} (told : D → DiskTold) where
   wanting at old new r c Unsealed turn same = as_starved at old new r c turn same
   wanting at old new r c Untold turn same = as_starved at old new r c turn same
   wanting at old new r c Unread turn same = as_starved at old new r c turn same
+  wanting at old new r c UnreadRefused turn same = as_starved at old new r c turn same
+  wanting at old new r c UnreadUnheard turn same = as_starved at old new r c turn same
   wanting at old new r c (Misread said left) turn same = as_starved at old new r c turn same
 
   -- what was asked is served, and so are the bytes that ask it
@@ -642,6 +662,8 @@ module _ {D : Type 0} (told : D → DiskTold) where
   ends_told Unsealed kept t e = e
   ends_told Untold kept t e = e
   ends_told Unread kept t e = e
+  ends_told UnreadRefused kept t e = e
+  ends_told UnreadUnheard kept t e = e
   ends_told (Misread said left) kept t e = e
 
   ends_read : (h : Hindrance) (kept : Kept) (t : Turn) → EndsSo t → EndsSo (read_under h kept t)
@@ -652,6 +674,8 @@ module _ {D : Type 0} (told : D → DiskTold) where
   ends_read Unsealed kept t e = e
   ends_read Untold kept t e = e
   ends_read Unread kept t e = refl
+  ends_read UnreadRefused kept t e = refl
+  ends_read UnreadUnheard kept t e = refl
   ends_read (Misread said left) kept t e = e
 
   ends_found : {A : Type 0} → (h : Hindrance) (kept : Kept) (o : Option A) (t : Turn) → EndsSo t → EndsSo (found_under h kept o t)
@@ -666,6 +690,8 @@ module _ {D : Type 0} (told : D → DiskTold) where
   ends_sealed Unsealed kept t u e f = f
   ends_sealed Untold kept t u e f = f
   ends_sealed Unread kept t u e f = e
+  ends_sealed UnreadRefused kept t u e f = e
+  ends_sealed UnreadUnheard kept t u e f = e
   ends_sealed (Misread said left) kept t u e f = e
 
   ends_rewound : (h : Hindrance) (kept : Kept) (t u : Turn) → EndsSo t → EndsSo u → EndsSo (rewound_under h kept t u)
@@ -676,6 +702,8 @@ module _ {D : Type 0} (told : D → DiskTold) where
   ends_rewound Unsealed kept t u e f = f
   ends_rewound Untold kept t u e f = f
   ends_rewound Unread kept t u e f = refl
+  ends_rewound UnreadRefused kept t u e f = refl
+  ends_rewound UnreadUnheard kept t u e f = refl
   ends_rewound (Misread said left) kept t u e f = e
 
   ends_acted : (h : Hindrance) (at : ℕ) (kept : Kept) (act : Act) → EndsSo (acted_under h at kept act)

@@ -10,7 +10,7 @@ use Rattle.verb_core.specs.Boxes.{box_of, row_at}
 use Rattle.verb_core.specs.Items.{text_in}
 use Rattle.mail_desk.specs.declared.counts.Counts.{Counts as DeskCounts}
 use Rattle.mail_desk.specs.Counting.{counts_of, page}
-use Rattle.paradox.specs.Kept.{store_of, Kept}
+use Rattle.store_kept.specs.Kept.{store_of, Kept}
 use Rattle.mail_desk.specs.Timeline.{item_of}
 use Rattle.time_desk.specs.Planning.{plan_of}
 use Rattle.console_http.specs.declared.request.HttpRefused.{HttpRefused}

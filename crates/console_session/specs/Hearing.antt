@@ -10,7 +10,7 @@ use Rattle.desk_journal.specs.declared.fault.ActFault.TheVariants as fault
 use Rattle.time_desk.specs.declared.fault.CycleFault.{CycleFault}
 use Rattle.time_desk.specs.declared.fault.CycleFault.TheVariants as cycle_fault
 use Rattle.time_desk.specs.Lasting.{Lasting}
-use Rattle.time_desk.specs.Reading.{HaveRead, IsStill}
+use Rattle.time_desk.specs.Reading.{HaveRead, IsStill, ReadsWell}
 use Rattle.time_desk.specs.Sealing.{Seals}
 use Rattle.time_desk.specs.Stored.{HoldsTexts}
 use Rattle.console_head.specs.declared.request.Coming.{Coming}
@@ -95,14 +95,14 @@ is_failure Fails = true
 is_failure Rewinds = false
 
 module _ {D : Type 0} (told : D → DiskTold) where
-  -- What is told of texts that were read: the answer that is due where the disk holds them; or that one could not be read; or want of memory.
+  -- What is told of texts that were read, each of them: the answer that is due where the disk holds them. Or a read failed, and that is told. Or want of memory.
   abbrev pub TellsRead : Answer → Lasting D → Lasting D → Reply → Type 0
   TellsRead due old new r =
-      ((a : Answer) × (HoldsTexts told old → a ≡ due) × Tells a Closes r) ⊎ (ReadFailed (told old.disk) (told new.disk) × TellsUnread r)
+      ((a : Answer) × (HoldsTexts told old → a ≡ due) × ReadsWell told old new × Tells a Closes r) ⊎ (ReadFailed (told old.disk) (told new.disk) × TellsUnread r)
 
-  -- the same where there is what texts are read for; else the answer is told
+  -- the same where there is what texts are read for; else the answer is told, and no read fails
   abbrev pub TellsFound : {A : Type 0} → Option A → Answer → Lasting D → Lasting D → Reply → Type 0
-  TellsFound None due old new r = Tells due Closes r
+  TellsFound None due old new r = ReadsWell told old new × Tells due Closes r
   TellsFound (Some x) due old new r = TellsRead due old new r
 
   -- a turn was said and sealed, and its texts were read

@@ -3,8 +3,8 @@ use Rattle.std.specs.Prelude.{ℕ, List, [], nat_lt, Option, None, Some, Result,
 use Rattle.verb_core.specs.declared.item.Act.{Act}
 use Rattle.verb_bytes.specs.declared.journal.CycleAsk.{CycleAsk}
 use Rattle.verb_bytes.specs.declared.journal.JournalRecord.TheVariants.{Operator, Cycle}
-use Rattle.paradox.specs.Kept.{Kept}
-use Rattle.mail_cycle.specs.Asking.{Due, Repeats, NoPoint, NoNumbers, Rewinds, cycle_due, due_anew}
+use Rattle.store_kept.specs.Kept.{Kept}
+use Rattle.cycle_rules.specs.Asking.{Due, Repeats, NoPoint, NoNumbers, Rewinds, cycle_due, due_anew}
 use Rattle.repair_desk.specs.Repairs.{position}
 use Rattle.time_desk.specs.Reading.{failed_once, none_read, wrong_once}
 use Rattle.time_desk.specs.Records.{snapshot_record}
@@ -36,6 +36,10 @@ pub data Hindrance : Type 0 where
   Untold : Hindrance
   -- a text could not be read, and the operator is told; nothing was sealed
   Unread : Hindrance
+  -- the same, and no memory was found for telling that: the operator is told of want of memory
+  UnreadRefused : Hindrance
+  -- the same, and no memory was found for telling the operator anything
+  UnreadUnheard : Hindrance
   -- A text was read that is not the one that was stored: so this is said, and where a cycle is done this is kept.
   Misread : List ℕ → Kept → Hindrance
 
@@ -47,9 +51,13 @@ lost kept = record { said = []; kept = kept; after = Closes; sealed = []; unseal
 abbrev pub starved : Kept → Turn
 starved kept = tells (refused NoMemory) Closes kept
 
+-- the same turn behind a read that failed
+abbrev pub behind_a_read : Turn → Turn
+behind_a_read t = record t { reads = failed_once }
+
 -- the operator is told that a text could not be read
 abbrev pub unread : Kept → Turn
-unread kept = record (tells (answer 500 (error_data word.Disk)) Closes kept) { reads = failed_once }
+unread kept = behind_a_read (tells (answer 500 (error_data word.Disk)) Closes kept)
 
 -- the same turn without its answer
 abbrev pub unanswered : Turn → Turn
@@ -68,6 +76,8 @@ told_under Unanswered kept t = t
 told_under Unsealed kept t = t
 told_under Untold kept t = t
 told_under Unread kept t = t
+told_under UnreadRefused kept t = t
+told_under UnreadUnheard kept t = t
 told_under (Misread said left) kept t = t
 
 -- one that reads texts, by them too
@@ -79,6 +89,8 @@ read_under Unanswered kept t = t
 read_under Unsealed kept t = t
 read_under Untold kept t = t
 read_under Unread kept t = unread kept
+read_under UnreadRefused kept t = behind_a_read (starved kept)
+read_under UnreadUnheard kept t = behind_a_read (lost kept)
 read_under (Misread said left) kept t = misread said kept t
 
 -- a turn that seals a record: by how it goes where that is done, and where it can't be sealed
@@ -90,6 +102,8 @@ sealed_under Unanswered kept done unsealed = unanswered done
 sealed_under Unsealed kept done unsealed = unsealed
 sealed_under Untold kept done unsealed = unanswered unsealed
 sealed_under Unread kept done unsealed = done
+sealed_under UnreadRefused kept done unsealed = done
+sealed_under UnreadUnheard kept done unsealed = done
 sealed_under (Misread said left) kept done unsealed = done
 
 -- one that reads texts first
@@ -101,6 +115,8 @@ rewound_under Unanswered kept done unsealed = unanswered done
 rewound_under Unsealed kept done unsealed = unsealed
 rewound_under Untold kept done unsealed = unanswered unsealed
 rewound_under Unread kept done unsealed = unread kept
+rewound_under UnreadRefused kept done unsealed = behind_a_read (starved kept)
+rewound_under UnreadUnheard kept done unsealed = behind_a_read (lost kept)
 rewound_under (Misread said left) kept done unsealed = misread said left done
 
 -- a turn that reads texts where there is what it asks for

@@ -6,9 +6,9 @@ use Rattle.verb_bytes.specs.declared.journal.CycleAsk.{CycleAsk}
 use Rattle.verb_bytes.specs.declared.journal.JournalRecord.{JournalRecord}
 use Rattle.verb_bytes.specs.declared.journal.JournalRecord.TheVariants.{Operator, Cycle}
 use Rattle.paradox.specs.declared.reports.Report.{Report}
-use Rattle.paradox.specs.Kept.{performed, snapshotted, Kept}
-use Rattle.mail_cycle.specs.Asking.{Due, Repeats, NoPoint, NoNumbers, Rewinds as IsDue, after_cycle, cycle_due, due_anew}
-use Rattle.mail_cycle.specs.Cycles.{Cycled}
+use Rattle.store_kept.specs.Kept.{performed, snapshotted, Kept}
+use Rattle.cycle_rules.specs.Asking.{Due, Repeats, NoPoint, NoNumbers, Rewinds as IsDue, after_cycle, cycle_due, due_anew}
+use Rattle.cycle_rules.specs.Cycles.{Cycled}
 use Rattle.verb_core.specs.Deeds.{act_item}
 use Rattle.time_desk.specs.Reading.{Reads, none_read}
 use Rattle.time_desk.specs.Records.{snapshot_record}

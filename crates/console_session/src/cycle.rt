@@ -1,8 +1,9 @@
 //! Cycles: sealed, put in place and then answered; or only tried.
-ghost use Rattle.std.specs.Prelude.{◌≡◌, ◌≤◌, ◌<◌, IfOk, IfErr, IsTrue, None, Ok, false};
-ghost use Rattle.paradox.specs.Kept.{report_of};
+ghost use Rattle.std.specs.Prelude.{◌≡◌, ◌≤◌, ◌<◌, IfOk, OnOk, IfErr, IsTrue, None, Ok, false};
+ghost use Rattle.store_kept.specs.Kept.{report_of};
 ghost use Rattle.repair_desk.specs.Repairs.{are_known};
 ghost use Rattle.time_desk.specs.Cycling.{Cycles, CyclesNone};
+ghost use Rattle.time_desk.specs.Reading.{ReadsWell};
 ghost use Rattle.console_replies.specs.Reports.{report_data};
 ghost use Rattle.console_http.specs.declared.request.Asked.TheVariants.{Whole};
 ghost use Rattle.console_http.specs.declared.request.Route.TheVariants as route;
@@ -79,6 +80,7 @@ fn rewind_over<D: Disk, R: Threads + Sync, G: Gate, L: Ledger>(
     requires known { IsTrue (are_known desk.old.kept.house ask.inserts) }
     ensures done { IfOk result (λ report. Cycles D.told at ask desk.old desk.new report) }
     ensures why { IfErr result (λ fault. CyclesNone D.told at ask desk.old desk.new fault) }
+    ensures same { OnOk result (ReadsWell D.told desk.old desk.new) }
 {
     let mut steps: Steps<L> = Steps::new(blank);
     desk.cycle(rt, alloc, at, ask, gate, &mut steps)
@@ -97,6 +99,7 @@ fn rewind_desk<D: Disk, R: Threads + Sync, G: Gate>(
     requires known { IsTrue (are_known desk.old.kept.house ask.inserts) }
     ensures done { IfOk result (λ report. Cycles D.told at ask desk.old desk.new report) }
     ensures why { IfErr result (λ fault. CyclesNone D.told at ask desk.old desk.new fault) }
+    ensures same { OnOk result (ReadsWell D.told desk.old desk.new) }
 {
     rewind_over::<D, R, G, Brand>(rt, alloc, desk, at, ask, gate, Blank::new(1))
 }

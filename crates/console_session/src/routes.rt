@@ -6,13 +6,12 @@ ghost use Rattle.console_replies.specs.Reply.{is_status};
 ghost use Rattle.console_replies.specs.Timeline.{timeline_data};
 ghost use Rattle.verb_core.specs.Boxes.{box_of, row_at};
 ghost use Rattle.mail_desk.specs.Counting.{page};
-ghost use Rattle.mail_desk.specs.Timeline.{has_text};
-ghost use Rattle.verb_core.specs.Items.{text_of};
 ghost use Rattle.repair_desk.specs.Repairs.{position};
 ghost use Rattle.time_desk.specs.Reading.{IsStill};
 ghost use Rattle.console_session.specs.Answers.{answer, body_answer, body_at, body_found, box_answer, conf_answer, counted_as, not_found, plan_answer, refused, status_answer, timeline_answer};
 ghost use Rattle.console_session.specs.Hearing.{Tells, TellsFound, TellsRead, TellsReadFault};
 ghost use Rattle.console_session.specs.declared.reply.After.TheVariants as after;
+ghost use Rattle.store_kept.specs.Texts.{has_text_kept, text_kept};
 
 use crate::cycle::tell_fault;
 use crate::reply::{After, Reply, starve, tell, tell_plainly, tell_unread};
@@ -121,8 +120,8 @@ fn tell_unfound(alloc: Global, fault: ReadFault) -> Reply
 
 /// The text of a body.
 fn tell_text<D: Disk>(alloc: Global, desk: &mut Desk<D>, body: Body) -> Reply
-    requires { IsTrue (has_text desk.old.kept.timeline body) }
-    ensures told { (text : List ℕ) → text_of desk.old.kept.timeline body ≡ Some text → TellsRead D.told (answer 200 (body_data text body.rev)) desk.old desk.new result }
+    requires { IsTrue (has_text_kept desk.old.kept body) }
+    ensures told { (text : List ℕ) → text_kept desk.old.kept body ≡ Some text → TellsRead D.told (answer 200 (body_data text body.rev)) desk.old desk.new result }
     ensures still { IsStill D.told desk.old desk.new }
 {
     match desk.body(alloc, body) {

@@ -13,8 +13,9 @@ use Rattle.imap_session.specs.declared.out.ImapOut.{ImapOut}
 use Rattle.imap_session.specs.declared.out.ImapOut.TheVariants.{Say, Read, Submit, Bye}
 use Rattle.imap_session.specs.Dialog as session
 use Rattle.imap_session.specs.Dialog.{ReadsOf, Took, is_at_home, is_free, is_reading, is_texts}
-use Rattle.paradox.specs.Kept.{Kept, store_of}
-use Rattle.mail_desk.specs.Timeline.{all_bodies, has_text}
+use Rattle.store_kept.specs.Kept.{Kept, store_of}
+use Rattle.mail_desk.specs.Timeline.{has_text}
+use Rattle.store_kept.specs.Texts.{all_bodies}
 use Rattle.mail_loop.specs.ImapTook.{AreThere, IsAwaitedLast}
 
 -- ---- whose texts are wanted

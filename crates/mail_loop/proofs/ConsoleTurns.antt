@@ -3,7 +3,7 @@ use Rattle.std.proofs.Common.{◌≡◌, ℕ, true, false, List, [], ◌∷◌, 
 use Rattle.std.specs.Option.{option_map}
 use Rattle.undo_outside.specs.Disk.{DiskTold}
 use Rattle.verb_bytes.specs.declared.journal.JournalRecord.{JournalRecord}
-use Rattle.paradox.specs.Kept.{Kept}
+use Rattle.store_kept.specs.Kept.{Kept}
 use Rattle.time_desk.specs.Lasting.{Lasting}
 use Rattle.time_desk.specs.Reading.{Reads, none_read}
 use Rattle.console_session.specs.declared.reply.After.{After}
@@ -15,7 +15,7 @@ use Rattle.console_session.specs.Turn.{asked_of}
 use Rattle.mail_loop.specs.State.{State, Http}
 use Rattle.mail_loop.specs.Asked.{HaveSealed}
 use Rattle.mail_loop.specs.ConsoleTurn.{Reading, left_by, of_console, rewinds_by, stops_by}
-use Rattle.mail_loop.specs.Hindrance.{Hindrance, Clear, Refused, Unread, Misled, Unheard, Unanswered, Unsealed, Untold}
+use Rattle.mail_loop.specs.Hindrance.{Hindrance, Clear, Refused, Unread, UnreadRefused, UnreadUnheard, Misled, Unheard, Unanswered, Unsealed, Untold}
 use Rattle.mail_loop.specs.Machine.{Seats, heard}
 use Rattle.mail_loop.specs.Took.{answered_alone, turned_as}
 use Rattle.mail_loop.proofs.Sealed.{Nothing, unsealed}
@@ -30,6 +30,8 @@ as_of console.Unanswered = Unanswered
 as_of console.Unsealed = Unsealed
 as_of console.Untold = Untold
 as_of console.Unread = Unread
+as_of console.UnreadRefused = UnreadRefused
+as_of console.UnreadUnheard = UnreadUnheard
 as_of (console.Misread said left) = Misled said left
 
 as_it_is : (h : console.Hindrance) → of_console (as_of h) ≡ h
@@ -40,6 +42,8 @@ as_it_is console.Unanswered = refl
 as_it_is console.Unsealed = refl
 as_it_is console.Untold = refl
 as_it_is console.Unread = refl
+as_it_is console.UnreadRefused = refl
+as_it_is console.UnreadUnheard = refl
 as_it_is (console.Misread said left) = refl
 
 -- the connection stays open where it waits, and is closed else

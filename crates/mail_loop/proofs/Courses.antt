@@ -10,11 +10,11 @@ use Rattle.seal_log.specs.Settled.{IsSettled}
 use Rattle.verb_bytes.specs.declared.journal.JournalRecord.{JournalRecord}
 use Rattle.verb_bytes.specs.Spelling.{record_bytes}
 use Rattle.verb_core.specs.Names.{is_empty}
-use Rattle.paradox.specs.Kept.{Kept}
+use Rattle.store_kept.specs.Kept.{Kept}
 use Rattle.time_desk.specs.Crashing.{LeavesFront}
 use Rattle.time_desk.specs.Lasting.{Lasting}
 use Rattle.time_desk.specs.Records.{after_record, after_records, first_state, payloads_of, state}
-use Rattle.time_desk.specs.Sealing.{HasNoCycle, Seals}
+use Rattle.time_desk.specs.Sealing.{ReadNoTexts, Seals}
 use Rattle.time_desk.specs.Stored.{HoldsTexts}
 use Rattle.mail_loop.specs.Asked.{HaveSealed}
 use Rattle.mail_loop.specs.Did.{Keeps}
@@ -23,7 +23,7 @@ use Rattle.mail_loop.specs.State.{State}
 use Rattle.mail_loop.specs.Serving.{Step, at_first, ended_as, is_disk, run}
 use Rattle.mail_loop.specs.Acknowledged.{AnswersLast, Course, GoesThrough, Lasts, Stretch, Went, WentThrough, behind, sealed_in, steps_of, turned}
 use Rattle.mail_loop.proofs.Events.{end_ignored}
-use Rattle.mail_loop.proofs.Sealed.{Nothing, Then, unsealed}
+use Rattle.mail_loop.proofs.Sealed.{Nothing, Then, nothing_read, unsealed}
 
 -- ---- what records leave
 
@@ -91,7 +91,7 @@ module _ {D : Type 0} (told : D → DiskTold) where
   went_alone nothing s step old mid open' (added, seals, read) kept = (
     record { step = step; sealed = added; telling = mid; snapshot = []; after = mid },
     refl,
-    record { is_open = open'; turns = seals; telling_is = kept; unkept = []; keeps = same_sealed nothing mid; stays = λ shut. (refl, refl) },
+    record { is_open = open'; turns = seals; telling_is = kept; read = read; unkept = []; keeps = same_sealed nothing mid; unread = nothing_read told mid mid refl; stays = λ shut. (refl, refl) },
     refl,
   )
 
@@ -109,8 +109,10 @@ module _ {D : Type 0} (told : D → DiskTold) where
           is_open = open';
           turns = sealed.1;
           telling_is = kept;
+          read = sealed.2;
           unkept = _;
           keeps = keeps.seals.1;
+          unread = keeps.seals.2;
           stays = λ wrong. absurd (let no : true ≡ false = sym wrong ∙ shut in cc);
         },
         refl,
@@ -220,7 +222,7 @@ module _ {D : Type 0} (told : D → DiskTold) where
   -- what a law of time_desk says of a crash
   abbrev pub Leaving : Type 0
   Leaving = (records added failed : List JournalRecord) (old new : Lasting D) (image : List ℕ) → state records ≡ Some old.kept
-      → HoldsTexts told old ⊎ HasNoCycle added → Seals told added failed old new → StandsForFront (payloads_of records) (payloads_of (added ++ failed)) image
+      → HoldsTexts told old ⊎ ReadNoTexts added → Seals told added failed old new → StandsForFront (payloads_of records) (payloads_of (added ++ failed)) image
       → LeavesFront records (added ++ failed) image
 
   -- a desk that holds the texts, behind these records

@@ -13,7 +13,7 @@ use Rattle.undo_outside.specs.Calls.{LinkTold}
 use Rattle.console_head.specs.Request.{Stage}
 use Rattle.mail_loop.specs.declared.console_turn.Turned.{Turned}
 use Rattle.mail_loop.specs.ConsoleTurn.{AreSaid}
-use Rattle.paradox.specs.Kept.{Kept, snapshotted}
+use Rattle.store_kept.specs.Kept.{Kept, snapshotted}
 use Rattle.verb_bytes.specs.declared.journal.JournalRecord.{JournalRecord}
 use Rattle.time_desk.specs.Reading.{Reads, none_read}
 use Rattle.time_desk.specs.Records.{snapshot_record}

@@ -30,7 +30,7 @@ use Rattle.imap_session.specs.declared.out.ImapOut.TheVariants.{Say, Read, Submi
 use Rattle.imap_session.specs.Dialog as session
 use Rattle.imap_session.specs.Dialog.{Took, is_reading}
 use Rattle.imap_session.specs.Words.{fault_text, unread_text}
-use Rattle.paradox.specs.Kept.{Kept, store_of}
+use Rattle.store_kept.specs.Kept.{Kept, store_of}
 use Rattle.mail_desk.specs.Desk.{Submitted, submitted_as}
 use Rattle.verb_bytes.specs.declared.journal.JournalRecord.{JournalRecord}
 use Rattle.time_desk.specs.Reading.{Reads, failed_once, none_read, wrong_once}
@@ -39,11 +39,11 @@ use Rattle.mail_loop.specs.Asked.{Asked, fails, unsealed_as}
 use Rattle.mail_desk.specs.Timeline.{texts_of}
 use Rattle.mail_loop.specs.declared.reply.Reply.{Reply}
 use Rattle.mail_loop.specs.SmtpTurn.{Turn, says, ends}
-use Rattle.mail_loop.specs.Hindrance.{Hindrance, Clear, Refused as IsToldWant, Textless, Unread, Misread, Misled, Unstored, Unheard, Unanswered, Unsealed, Untold, lost, unanswered}
+use Rattle.mail_loop.specs.Hindrance.{Hindrance, Clear, Refused as IsToldWant, Textless, Unread, UnreadRefused, UnreadUnheard, Misread, Misled, Unstored, Unheard, Unanswered, Unsealed, Untold, lost, unanswered}
 use Rattle.mail_loop.specs.ImapTurn.{Service, changing, done, service, followed, settled, settled_as, size_in, submits, taken_by}
-use Rattle.mail_loop.specs.ImapHindrance.{imap_hindered, misread, refused_command, under, under_or, unread, without_items, without_seals, without_texts}
+use Rattle.mail_loop.specs.ImapHindrance.{imap_hindered, misread, refused_command, under, under_or, unread, unread_unsaid, without_items, without_seals, without_texts}
 use Rattle.mail_loop.specs.Took.{Adds, IsNone, Submits, Takes, asked_as}
-use Rattle.mail_loop.specs.ImapTook.{IsAnswered, IsReaderTold, ReadsNone, Settles, SettlesAgain, TakesTexts, given, obeyed, obeyed_under, reads_of, where_done}
+use Rattle.mail_loop.specs.ImapTook.{IsAnswered, IsReaderTold, ReadsNone, ReadsStarved, Settles, SettlesAgain, TakesTexts, given, obeyed, obeyed_under, reads_of, where_done}
 use Rattle.mail_loop.proofs.Commands.{IsOnlySaid, heard_not}
 use Rattle.mail_loop.proofs.Refusals.{due_or_starved}
 use Rattle.mail_loop.proofs.Turns.{closed, lifted, told_last, told_nothing, told_whole, unsealed_too}
@@ -357,6 +357,10 @@ module _ (S S' : List JournalRecord → Reads → Type 0) (at : ℕ) (kept kept'
       let desk = without_texts (service at kept) in reread S S' wrong_once (f desk) old kept' e new (quiet desk) wrong t
   wrong_turn none wrong Unread f quiet t =
       let desk = unread (service at kept) in reread S S' wrong_once (f desk) old kept' e new (quiet desk) wrong t
+  wrong_turn none wrong UnreadRefused f quiet t =
+      let desk = unread_unsaid (service at kept) in reread S S' wrong_once (f desk) old kept' e new (quiet desk) wrong t
+  wrong_turn none wrong UnreadUnheard f quiet t =
+      let desk = unread (service at kept) in reread S S' wrong_once (unanswered (f desk)) old kept' e new (quiet desk) wrong t
   wrong_turn none wrong (Misread texts h) f quiet t = wrong_turn none wrong h (λ desk. f (misread texts desk)) (λ desk. quiet (misread texts desk)) t
   wrong_turn none wrong (Misled said left) f quiet t = reread S S' wrong_once (f (service at kept)) old kept' e new (quiet (service at kept)) wrong t
   wrong_turn none wrong Unstored f quiet t =
@@ -396,6 +400,10 @@ module _ (S S' : List JournalRecord → Reads → Type 0) (at : ℕ) (kept kept'
       (Clear, right_with bodies d (service at kept) none (subst Before (given_same bodies d (λ _. Err NoneForTexts) none_read (service at kept)) t))
   right_turn bodies d none Unread t =
       (Clear, right_with bodies d (service at kept) none (subst Before (given_same bodies d (λ _. Err NotRead) failed_once (service at kept)) t))
+  right_turn bodies d none UnreadRefused t =
+      (Clear, right_with bodies d (service at kept) none (subst Before (given_same bodies d (λ _. Err NoneForTexts) failed_once (service at kept)) t))
+  right_turn bodies d none UnreadUnheard t =
+      (Unanswered, right_without bodies d (service at kept) none (subst (λ (u : Turn Dialog). Before (unanswered u)) (given_same bodies d (λ _. Err NotRead) failed_once (service at kept)) t))
   right_turn bodies d none (Misread texts h) t =
       right_turn bodies d none h (subst (λ (f : Service → Turn Dialog). Before (under h at kept f)) (λ j desk. given_same bodies d (λ _. Ok texts) wrong_once desk j) t)
   right_turn bodies d none (Misled said left) t = (Clear, right_with bodies d (service at kept) none t)
@@ -433,14 +441,30 @@ pub read_not : (why : ReadFault) (kept : Kept) (d e : Dialog) (out : ImapOut) (o
 read_not why kept d e out old new stays is told = by_told (out_told out kept e old new stays told)
   where
     by_told : Takes IsNone (settled_as out kept e) old kept e new ⊎ Takes IsNone (ends [] kept) old kept e new → ReadsNone why kept d old e new
-    by_told (inl t) = inr (subst (λ (u : Took). Takes IsNone (settled_as u.out kept u.dialog) old kept e new) (sym is) t)
-    by_told (inr t) = inl t
+    by_told (inl t) = inl (subst (λ (u : Took). Takes IsNone (settled_as u.out kept u.dialog) old kept e new) (sym is) t)
+    by_told (inr t) = inr (inr t)
+
+-- it was told of want of memory
+pub read_starved : (kept : Kept) (d e : Dialog) (out : ImapOut) (old new : Reply) → old.closes ≡ false
+    → session.heard d (Err NoneForTexts) ≡ session.took out e → IsReaderTold out old new → ReadsStarved kept d old e new
+read_starved kept d e out old new stays is told = by_told (out_told out kept e old new stays told)
+  where
+    by_told : Takes IsNone (settled_as out kept e) old kept e new ⊎ Takes IsNone (ends [] kept) old kept e new → ReadsStarved kept d old e new
+    by_told (inl t) = inl (subst (λ (u : Took). Takes IsNone (settled_as u.out kept u.dialog) old kept e new) (sym is) t)
+    by_told (inr t) = inr t
 
 only_said : (desk : Service) (kept : Kept) (out : ImapOut) (d : Dialog) → IsOnlySaid out d → settled_as out kept d ≡ submits desk kept out d
 only_said desk kept (Say said) d is = refl
 only_said desk kept (Bye said) d wrong = absurd wrong
 only_said desk kept (Read bodies) d wrong = absurd wrong
 only_said desk kept (Submit ask) d wrong = absurd wrong
+
+-- nothing is said of it, and the connection closes
+only_ended : (desk : Service) (kept : Kept) (out : ImapOut) (d : Dialog) → IsOnlySaid out d → ends [] kept ≡ unanswered (submits desk kept out d)
+only_ended desk kept (Say said) d is = refl
+only_ended desk kept (Bye said) d wrong = absurd wrong
+only_ended desk kept (Read bodies) d wrong = absurd wrong
+only_ended desk kept (Submit ask) d wrong = absurd wrong
 
 -- what is told of it is what comes of a service that has no texts
 told_why : (S : List JournalRecord → Reads → Type 0) (why : ReadFault) (r : Reads) (desk : Service) (kept : Kept) (d e : Dialog) (old new : Reply) → is_reading d ≡ true → S [] r
@@ -453,15 +477,36 @@ told_why S why r desk kept d e old new awaits none t =
     (reread IsNone S r (settled_as u.out kept u.dialog) old kept e new (none_wanted u.out kept u.dialog)
     (λ failed is. subst (λ (f : List JournalRecord). S f r) (sym is.0) none) t)
 
+-- where nothing is told of it the connection closes
+ended_why : (S : List JournalRecord → Reads → Type 0) (why : ReadFault) (r : Reads) (desk : Service) (kept : Kept) (d e : Dialog) (old new : Reply) → is_reading d ≡ true → S [] r
+    → Takes IsNone (ends [] kept) old kept e new
+    → Takes S (let u = session.heard d (Err why) in unanswered (reading r (submits desk kept u.out u.dialog))) old kept e new
+ended_why S why r desk kept d e old new awaits none t =
+    let u = session.heard d (Err why) in
+    subst (λ (v : Turn Dialog). Takes S (reading r v) old kept e new)
+    (only_ended desk kept u.out u.dialog (heard_not d u.dialog why u.out awaits refl))
+    (reread IsNone S r (ends [] kept) old kept e new refl (λ failed is. subst (λ (f : List JournalRecord). S f r) (sym is.0) none) t)
+
+-- no memory was found for the texts of a command
+pub textless_turn : (S : List JournalRecord → Reads → Type 0) (at : ℕ) (kept : Kept) (bodies : List Body) (d e : Dialog) (old new : Reply) → is_reading d ≡ true
+    → S [] none_read → ReadsStarved kept d old e new
+    → (h : Hindrance) × Takes S (under h at kept (λ desk. followed desk kept (Read bodies) d)) old kept e new
+textless_turn S at kept bodies d e old new awaits seals (inl t) =
+    (Textless, told_why S NoneForTexts none_read (without_texts (service at kept)) kept d e old new awaits seals t)
+textless_turn S at kept bodies d e old new awaits seals (inr t) = (Unheard, lifted S (lost kept) old kept e new t seals)
+
 -- the texts of a command were not read
 pub unread_turn : (S : List JournalRecord → Reads → Type 0) (at : ℕ) (kept : Kept) (bodies : List Body) (why : ReadFault) (d e : Dialog) (old new : Reply) → is_reading d ≡ true
-    → S [] none_read → S [] (reads_of why) → ReadsNone why kept d old e new
+    → S [] (reads_of why) → ReadsNone why kept d old e new
     → (h : Hindrance) × Takes S (under h at kept (λ desk. followed desk kept (Read bodies) d)) old kept e new
-unread_turn S at kept bodies why d e old new awaits none seals (inl t) = (Unheard, lifted S (lost kept) old kept e new t none)
-unread_turn S at kept bodies NoneForTexts d e old new awaits none seals (inr t) =
-    (Textless, told_why S NoneForTexts none_read (without_texts (service at kept)) kept d e old new awaits seals t)
-unread_turn S at kept bodies NotRead d e old new awaits none seals (inr t) =
+unread_turn S at kept bodies NoneForTexts d e old new awaits seals (inl t) = textless_turn S at kept bodies d e old new awaits seals (inl t)
+unread_turn S at kept bodies NoneForTexts d e old new awaits seals (inr t) = textless_turn S at kept bodies d e old new awaits seals t
+unread_turn S at kept bodies NotRead d e old new awaits seals (inl t) =
     (Unread, told_why S NotRead failed_once (unread (service at kept)) kept d e old new awaits seals t)
+unread_turn S at kept bodies NotRead d e old new awaits seals (inr (inl t)) =
+    (UnreadRefused, told_why S NoneForTexts failed_once (unread_unsaid (service at kept)) kept d e old new awaits seals t)
+unread_turn S at kept bodies NotRead d e old new awaits seals (inr (inr t)) =
+    (UnreadUnheard, ended_why S NotRead failed_once (unread (service at kept)) kept d e old new awaits seals t)
 
 -- the texts of a command were read, and handed to the session
 pub texts_turn : (S S' : List JournalRecord → Reads → Type 0) (at : ℕ) (kept kept' : Kept) (bodies : List Body) (texts : List (List ℕ)) (d e : Dialog) (old new : Reply) → is_reading d ≡ true
@@ -472,7 +517,7 @@ pub texts_turn : (S S' : List JournalRecord → Reads → Type 0) (at : ℕ) (ke
 texts_turn S S' at kept kept' bodies texts d e old new awaits none which (inl (h, t)) = by_texts S S' at kept kept' e old new bodies texts d none which h t
 texts_turn S S' at kept kept' bodies texts d e old new awaits none which (inr (t, same, seals)) =
     subst (λ (k : Kept). (h : Hindrance) × Takes S' (under h at kept (λ desk. followed desk kept (Read bodies) d)) old k e new) (sym same)
-    (unread_turn S' at kept bodies NoneForTexts d e old new awaits (none [] seals) (none [] seals) t)
+    (textless_turn S' at kept bodies d e old new awaits (none [] seals) t)
 
 -- ---- a command
 
@@ -483,6 +528,8 @@ or_under P told at kept f Clear t = (Clear, t)
 or_under P told at kept f IsToldWant t = (Unheard, t)
 or_under P told at kept f Textless t = (Textless, t)
 or_under P told at kept f Unread t = (Unread, t)
+or_under P told at kept f UnreadRefused t = (UnreadRefused, t)
+or_under P told at kept f UnreadUnheard t = (UnreadUnheard, t)
 or_under P told at kept f (Misread texts h) t = (Misread texts h, t)
 or_under P told at kept f (Misled said left) t = (Misled said left, t)
 or_under P told at kept f Unstored t = (Unstored, t)

@@ -8,7 +8,8 @@ use Rattle.undo_outside.specs.declared.event.LinkNote.TheVariants.{Closed, Sent}
 use Rattle.undo_outside.specs.Calls.{LinkTold, Rose, RoseOnce, Wants, then_told, Sends as LinkSends}
 use Rattle.undo_base.specs.declared.memory.NoMemory.{NoMemory as WantOfMemory}
 use Rattle.mail_loop.specs.Machine.{Seats, Delivery, Arrives, IsMissed, IsLeftOut, Reply, string_notes, close_notes, reply_notes, after_reply, delivered, remains}
-use Rattle.mail_loop.specs.Did.{Goes, Counted, RoseBy, AreLicensed, StopsAtClose, Told, Replied, Did, Sends, left_out_by, left_out_of, missed_by, missed_of, unclosed_by}
+use Rattle.time_desk.specs.Reading.{Counted, RoseBy}
+use Rattle.mail_loop.specs.Did.{Goes, AreLicensed, StopsAtClose, Told, Replied, Did, Sends, left_out_by, left_out_of, missed_by, missed_of, unclosed_by}
 
 -- nothing more is told
 pub then_told-nil : {A : Type 0} (told : Option (List A)) → then_told told [] ≡ told
@@ -43,7 +44,7 @@ pub rose_one : (a b : ℕ) → Rose a b → RoseBy (1 + 0) a b
 rose_one a b (r, q) = (r, q)
 
 -- a count that stood, rose by one, or rose by some and then by more
-counted_none : (a b : ℕ) → b ≡ a → Counted 0 a b
+pub counted_none : (a b : ℕ) → b ≡ a → Counted 0 a b
 counted_none a b e = (e, omega (arith, e))
 
 pub counted_one : (a b : ℕ) → RoseOnce a b → Counted 1 a b

@@ -12,7 +12,7 @@ use Rattle.verb_core.specs.Store.{MailStore}
 use Rattle.verb_core.specs.Live.{is_users, live}
 use Rattle.box_store.specs.Refusing.{IsRefusal}
 use Rattle.smtp_session.specs.Dialog.{is_outcome_of_delivery, is_refusal_of_delivery}
-use Rattle.paradox.specs.Kept.{Kept, store_of}
+use Rattle.store_kept.specs.Kept.{Kept, store_of}
 use Rattle.verb_bytes.specs.declared.journal.JournalRecord.{JournalRecord}
 use Rattle.time_desk.specs.Reading.{Reads}
 use Rattle.mail_loop.specs.Took.{Submits}

@@ -13,10 +13,10 @@ use Rattle.seal_log.specs.declared.fault.SealFault.{SealFault}
 use Rattle.seal_log.specs.declared.fault.SealFault.TheVariants as seal_fault
 use Rattle.verb_bytes.specs.declared.journal.JournalRecord.{JournalRecord}
 use Rattle.verb_bytes.specs.declared.journal.JournalRecord.TheVariants.{Verb}
-use Rattle.paradox.specs.Kept.{Kept, snapshotted, store_of}
+use Rattle.store_kept.specs.Kept.{Kept, snapshotted, store_of}
 use Rattle.mail_desk.specs.Desk.{submitted}
 use Rattle.time_desk.specs.Lasting.{Lasting, IsUnwritten}
-use Rattle.time_desk.specs.Reading.{HaveRead, IsStill, Reads, RoseBy, both_read, failed_once, none_read, wrong_once}
+use Rattle.time_desk.specs.Reading.{HaveRead, IsStill, Reads, ReadsWell, both_read, failed_once, none_read, wrong_once}
 use Rattle.time_desk.specs.Sealing.{Seals}
 use Rattle.time_desk.specs.Stored.{HoldsTexts}
 use Rattle.time_desk.specs.Records.{snapshot_record}
@@ -27,6 +27,7 @@ use Rattle.mail_loop.specs.SmtpTurn.{Turn}
 use Rattle.mail_loop.specs.Machine.{Keeping, IsKept, IsPassed, IsUnkept}
 use Rattle.mail_loop.specs.Did.{Keeps, is_due_on, kept_by, unkept_by}
 use Rattle.mail_loop.specs.Took.{IsNone, Submits, Takes}
+use Rattle.mail_loop.proofs.Links.{counted_add, counted_none}
 
 -- ---- what was read, turn after turn
 
@@ -41,13 +42,6 @@ reads_regroup a b c =
     let failed : (a.failed + b.failed) + c.failed ≡ a.failed + (b.failed + c.failed) = omega arith in
     let wrong : (a.wrong + b.wrong) + c.wrong ≡ a.wrong + (b.wrong + c.wrong) = omega arith in
     λ j. record { failed = failed j; wrong = wrong j }
-
--- a count that rose by some and then by more
-rose_both : (m n a b c : ℕ) → RoseBy m a b → RoseBy n b c → RoseBy (m + n) a c
-rose_both m n a b c first second = record {
-  rises = omega (arith, first.rises, second.rises);
-  by = omega (arith, first.rises, first.by, second.rises, second.by);
-}
 
 module _ {D : Type 0} (told : D → DiskTold) where
   -- a desk that was not written to sealed nothing
@@ -64,18 +58,14 @@ module _ {D : Type 0} (told : D → DiskTold) where
 
   -- ---- reads
 
-  -- where no turn wanted a text
-  none_wanted : (a b : Lasting D) → (told a.disk).failed_reads ≤ (told b.disk).failed_reads → HaveRead told a b none_read
-  none_wanted a b rises = record { failed = record { rises = rises; by = omega (arith, rises) }; reliable = λ _. refl; honest = λ _. refl }
-
-  -- a call that seals wants none
-  pub nothing_read : (added failed : List JournalRecord) (a b : Lasting D) → Seals told added failed a b → HaveRead told a b none_read
-  nothing_read added failed a b seals = none_wanted a b seals.on_disk.reads
+  -- where no read failed
+  pub nothing_read : (a b : Lasting D) → ReadsWell told a b → HaveRead told a b none_read
+  nothing_read a b well = record { failed = counted_none (told a.disk).failed_reads (told b.disk).failed_reads well; reliable = λ _. refl; honest = λ _. refl }
 
   -- turns that read, one after the other
   pub reads_join : (added : List JournalRecord) (a b c : Lasting D) (r s : Reads) → Seals told added [] a b → HaveRead told a b r → HaveRead told b c s → HaveRead told a c (both_read r s)
   reads_join added a b c r s seals first second = record {
-    failed = rose_both r.failed s.failed (told a.disk).failed_reads (told b.disk).failed_reads (told c.disk).failed_reads first.failed second.failed;
+    failed = counted_add r.failed s.failed (told a.disk).failed_reads (told b.disk).failed_reads (told c.disk).failed_reads first.failed second.failed;
     reliable = λ e. let one = first.reliable e in let more = second.reliable (seals.on_disk.reliable ∙ e) in omega (arith, one, more);
     honest = λ e. let one = first.honest e in let more = second.honest (seals.texts e) in omega (arith, one, more);
   }
@@ -86,11 +76,11 @@ module _ {D : Type 0} (told : D → DiskTold) where
   pub unsealed : Nothing → (a : Lasting D) → HaveSealed told a a [] none_read
   unsealed nothing a =
       let seals = nothing a a (record { kept = refl; notes = refl; marks = refl; disk = refl; gate = refl; closed = refl }) in
-      ([], seals, nothing_read [] [] a a seals)
+      ([], seals, nothing_read a a refl)
 
-  -- the desk was read alone
-  pub still_sealed : Still → (a b : Lasting D) → IsStill told a b → HaveSealed told a b [] none_read
-  still_sealed still a b is = ([], still a b is, nothing_read [] [] a b (still a b is))
+  -- the desk was read alone, and no read failed
+  pub still_sealed : Still → (a b : Lasting D) → IsStill told a b → ReadsWell told a b → HaveSealed told a b [] none_read
+  still_sealed still a b is well = ([], still a b is, nothing_read a b well)
 
   -- and a read failed
   pub failed_sealed : Still → (a b : Lasting D) → IsStill told a b → ReadFailed (told a.disk) (told b.disk) → HaveSealed told a b [] failed_once
@@ -98,7 +88,7 @@ module _ {D : Type 0} (told : D → DiskTold) where
     [],
     still a b is,
     record {
-      failed = record { rises = rose.0; by = rose.1 };
+      failed = (rose, once);
       reliable = λ e. absurd (let wrong : true ≡ false = sym e ∙ unreliable in cc);
       honest = λ _. refl;
     },
@@ -184,15 +174,14 @@ module _ {D : Type 0} (told : D → DiskTold) where
   }
 
   -- it was taken
-  pub snapshot_keeps : (a b : Lasting D) → is_due_on a ≡ true → b.kept ≡ snapshotted a.kept → Seals told (snapshot_record a.kept ∷ []) [] a b → Keeps told IsKept a b
-  snapshot_keeps a b e kept seals = due_keeps IsKept a b e (open_due a e) kept (snapshot_record a.kept ∷ [], seals, nothing_read (snapshot_record a.kept ∷ []) [] a b seals)
+  pub snapshot_keeps : (a b : Lasting D) → is_due_on a ≡ true → b.kept ≡ snapshotted a.kept → Seals told (snapshot_record a.kept ∷ []) [] a b → ReadsWell told a b → Keeps told IsKept a b
+  snapshot_keeps a b e kept seals well = due_keeps IsKept a b e (open_due a e) kept (snapshot_record a.kept ∷ [], seals, nothing_read a b well)
 
   -- it was not
-  pub snapshot_passed : (a b : Lasting D) (f : SealFault) → is_due_on a ≡ true → b.kept ≡ a.kept → SnapshotsNone told a b f → (k : Keeping) × Keeps told k a b
-  snapshot_passed a b seal_fault.Disk e kept (open', seals) =
-      (IsUnkept, due_keeps IsUnkept a b e open' kept ([], seals, nothing_read [] (snapshot_record a.kept ∷ []) a b seals))
-  snapshot_passed a b seal_fault.NoMemory e kept (open', seals) = (IsPassed, due_keeps IsPassed a b e open' kept ([], seals, nothing_read [] [] a b seals))
-  snapshot_passed a b seal_fault.Closed e kept (shut, same) = absurd (let wrong : true ≡ false = sym shut ∙ open_due a e in cc)
+  pub snapshot_passed : (a b : Lasting D) (f : SealFault) → is_due_on a ≡ true → b.kept ≡ a.kept → SnapshotsNone told a b f → ReadsWell told a b → (k : Keeping) × Keeps told k a b
+  snapshot_passed a b seal_fault.Disk e kept (open', seals) well = (IsUnkept, due_keeps IsUnkept a b e open' kept ([], seals, nothing_read a b well))
+  snapshot_passed a b seal_fault.NoMemory e kept (open', seals) well = (IsPassed, due_keeps IsPassed a b e open' kept ([], seals, nothing_read a b well))
+  snapshot_passed a b seal_fault.Closed e kept (shut, same) well = absurd (let wrong : true ≡ false = sym shut ∙ open_due a e in cc)
 
 -- where no sealing failed and nothing was read
 pub none_sealed : (S : List JournalRecord → Reads → Type 0) (failed : List JournalRecord) (r : Reads) → IsNone failed r → S [] none_read → S failed r
@@ -206,17 +195,17 @@ none_unsealed {D} S t old kept d new takes stays = subst (λ (failed : List Jour
     by_dialog None shut = absurd (let wrong : true ≡ false = sym shut ∙ stays in cc)
     by_dialog (Some e) goes = goes.2
 
-sealed_of : {D : Type 0} → (told : D → DiskTold) (added failed : List JournalRecord) (a b : Lasting D) → Seals told added failed a b → HaveSealed told a b failed none_read
-sealed_of told added failed a b seals = (added, seals, nothing_read told added failed a b seals)
+sealed_of : {D : Type 0} → (told : D → DiskTold) (added failed : List JournalRecord) (a b : Lasting D) → ReadsWell told a b → Seals told added failed a b → HaveSealed told a b failed none_read
+sealed_of told added failed a b well seals = (added, seals, nothing_read told a b well)
 
 -- what the desk did of an ask
-pub did_submit : {D : Type 0} → (told : D → DiskTold) (at : ℕ) (by : Option User) (ask : Ask) (old new : Lasting D) (result : Result Item SubmitFault) → old.closed ≡ false
+pub did_submit : {D : Type 0} → (told : D → DiskTold) (at : ℕ) (by : Option User) (ask : Ask) (old new : Lasting D) (result : Result Item SubmitFault) → old.closed ≡ false → ReadsWell told old new
     → IfOk result (λ item. submitted old.kept at by ask ≡ record { outcome = Ok item; kept = new.kept })
     → IfOk result (λ item. Seals told (Verb item ∷ []) [] old new)
     → OnErr result (new.kept ≡ old.kept)
     → IfErr result (λ fault. SubmitsNone told (live (store_of old.kept) old.kept.next at by ask) old new fault)
     → Submits (HaveSealed told old new) at old.kept by ask new.kept result
-did_submit told at by ask old new (Ok item) open' ok seals err why = (ok, sealed_of told (Verb item ∷ []) [] old new seals)
-did_submit told at by ask old new (Err (IsRefused r)) open' ok seals err why = (why.1, err, sealed_of told [] [] old new why.2)
-did_submit told at by ask old new (Err Disk) open' ok seals err why = (why.1.0, why.1.1, err, sealed_of told [] (Verb why.1.0 ∷ []) old new why.1.2)
-did_submit told at by ask old new (Err Closed) open' ok seals err why = absurd (let wrong : true ≡ false = sym why.0 ∙ open' in cc)
+did_submit told at by ask old new (Ok item) open' well ok seals err why = (ok, sealed_of told (Verb item ∷ []) [] old new well seals)
+did_submit told at by ask old new (Err (IsRefused r)) open' well ok seals err why = (why.1, err, sealed_of told [] [] old new well why.2)
+did_submit told at by ask old new (Err Disk) open' well ok seals err why = (why.1.0, why.1.1, err, sealed_of told [] (Verb why.1.0 ∷ []) old new well why.1.2)
+did_submit told at by ask old new (Err Closed) open' well ok seals err why = absurd (let wrong : true ≡ false = sym why.0 ∙ open' in cc)

@@ -32,13 +32,13 @@ fewer_left {X} test (e ∷ es) = by_test (test e.0) (fewer_left test es)
         omega (arith, more, left, less)
 
 -- a client joins on a connection that is open, or is not
-pub joins_open : (o : Option Seat) (role : Role) (s : State) (conn : ℕ) → is_some o ≡ true → joins o role s conn ≡ ignored s
-joins_open None role s conn wrong = absurd (let w : false ≡ true = wrong in cc)
-joins_open (Some x) role s conn is = refl
+pub joins_open : (o : Option Seat) (no_memory : Bool) (role : Role) (s : State) (conn : ℕ) → is_some o ≡ true → joins o no_memory role s conn ≡ ignored s
+joins_open None no_memory role s conn wrong = absurd (let w : false ≡ true = wrong in cc)
+joins_open (Some x) no_memory role s conn is = refl
 
-pub joins_shut : (o : Option Seat) (role : Role) (s : State) (conn : ℕ) → is_some o ≡ false → joins o role s conn ≡ admits role s conn
-joins_shut None role s conn is = refl
-joins_shut (Some x) role s conn wrong = absurd (let w : true ≡ false = wrong in cc)
+pub joins_shut : (o : Option Seat) (no_memory : Bool) (role : Role) (s : State) (conn : ℕ) → is_some o ≡ false → joins o no_memory role s conn ≡ admits no_memory role s conn
+joins_shut None no_memory role s conn is = refl
+joins_shut (Some x) no_memory role s conn wrong = absurd (let w : true ≡ false = wrong in cc)
 
 -- a list of none
 pub no_items : {X : Type 0} → (xs : List X) → length xs < 1 → xs ≡ []

@@ -9,10 +9,10 @@ use Rattle.verb_bytes.specs.declared.journal.JournalRecord.{JournalRecord}
 use Rattle.imap_session.specs.declared.dialog.Dialog.{Dialog}
 use Rattle.imap_session.specs.declared.out.ImapOut.TheVariants.{Read}
 use Rattle.imap_session.specs.Dialog.{is_reading}
-use Rattle.paradox.specs.Kept.{Kept}
+use Rattle.store_kept.specs.Kept.{Kept}
 use Rattle.mail_desk.specs.Timeline.{texts_of}
 use Rattle.time_desk.specs.Lasting.{Lasting}
-use Rattle.time_desk.specs.Reading.{IsStill, none_read, wrong_once}
+use Rattle.time_desk.specs.Reading.{IsStill, ReadsWell, none_read, wrong_once}
 use Rattle.time_desk.specs.Stored.{HoldsTexts}
 use Rattle.console_session.proofs.Deciding.{IsSame, decided}
 use Rattle.mail_loop.specs.declared.reply.Reply.{Reply}
@@ -32,15 +32,15 @@ texts_decided x y = decided (Prim.hlevel (codes)) x y
 module _ {D : Type 0} (told : D → DiskTold) where
   -- the texts came, and were handed to the session
   pub texts_given : Still told → Then told → (at : ℕ) (a b c : Lasting D) (bodies : List Body) (texts : List (List ℕ)) (d e : Dialog) (old new : Reply) → is_reading d ≡ true
-      → IsStill told a b → (HoldsTexts told a → texts ≡ texts_of a.kept.timeline bodies)
+      → IsStill told a b → ReadsWell told a b → (HoldsTexts told a → texts ≡ texts_of a.kept.timeline bodies)
       → TakesTexts (HaveSealed told b c) at b.kept texts d old c.kept e new
       → (h : Hindrance) × Takes (HaveSealed told a c) (under h at a.kept (λ desk. followed desk a.kept (Read bodies) d)) old c.kept e new
-  texts_given still then at a b c bodies texts d e old new awaits is given t =
+  texts_given still then at a b c bodies texts d e old new awaits is well given t =
       texts_turn (HaveSealed told b c) (HaveSealed told a c) at a.kept c.kept bodies texts d e old new awaits all (which (texts_decided texts (texts_of a.kept.timeline bodies)))
       (subst (λ (k : Kept). TakesTexts (HaveSealed told b c) at k texts d old c.kept e new) is.kept t)
     where
       all : (failed : List JournalRecord) → HaveSealed told b c failed none_read → HaveSealed told a c failed none_read
-      all failed seals = chained_after told then a b c failed none_read (still_sealed told still a b is) seals
+      all failed seals = chained_after told then a b c failed none_read (still_sealed told still a b is well) seals
 
       which : IsSame texts (texts_of a.kept.timeline bodies)
           → (texts ≡ texts_of a.kept.timeline bodies) ⊎ ((failed : List JournalRecord) → HaveSealed told b c failed none_read → HaveSealed told a c failed wrong_once)
@@ -49,14 +49,14 @@ module _ {D : Type 0} (told : D → DiskTold) where
 
   -- why texts did not come is told to the session
   pub texts_unread : Still told → (at : ℕ) (a b : Lasting D) (bodies : List Body) (why : ReadFault) (d e : Dialog) (old new : Reply) → is_reading d ≡ true
-      → IsStill told a b → (why ≡ Disk → ReadFailed (told a.disk) (told b.disk))
+      → IsStill told a b → (why ≡ Disk → ReadFailed (told a.disk) (told b.disk)) → (why ≡ NoMemory → ReadsWell told a b)
       → ReadsNone why b.kept d old e new
       → (h : Hindrance) × Takes (HaveSealed told a b) (under h at a.kept (λ desk. followed desk a.kept (Read bodies) d)) old b.kept e new
-  texts_unread still at a b bodies why d e old new awaits is cause t =
+  texts_unread still at a b bodies why d e old new awaits is cause well t =
       subst (λ (k : Kept). (h : Hindrance) × Takes (HaveSealed told a b) (under h at a.kept (λ desk. followed desk a.kept (Read bodies) d)) old k e new) (sym is.kept)
-      (unread_turn (HaveSealed told a b) at a.kept bodies why d e old new awaits (still_sealed told still a b is) (counts why cause)
+      (unread_turn (HaveSealed told a b) at a.kept bodies why d e old new awaits (counts why cause well)
       (subst (λ (k : Kept). ReadsNone why k d old e new) is.kept t))
     where
-      counts : (w : ReadFault) → (w ≡ Disk → ReadFailed (told a.disk) (told b.disk)) → HaveSealed told a b [] (reads_of w)
-      counts Disk failed = failed_sealed told still a b is (failed refl)
-      counts NoMemory failed = still_sealed told still a b is
+      counts : (w : ReadFault) → (w ≡ Disk → ReadFailed (told a.disk) (told b.disk)) → (w ≡ NoMemory → ReadsWell told a b) → HaveSealed told a b [] (reads_of w)
+      counts Disk failed stood = failed_sealed told still a b is (failed refl)
+      counts NoMemory failed stood = still_sealed told still a b is (stood refl)

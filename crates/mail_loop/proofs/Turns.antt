@@ -27,14 +27,14 @@ use Rattle.smtp_session.specs.declared.answer.Answer.TheVariants.{Done, Begin, B
 use Rattle.std.specs.Str.{str_to_ascii_lowercase}
 use Rattle.smtp_session.specs.Dialog as session
 use Rattle.mail_loop.specs.declared.reply.Reply.{Reply}
-use Rattle.paradox.specs.Kept.{Kept, store_of}
+use Rattle.store_kept.specs.Kept.{Kept, store_of}
 use Rattle.mail_desk.specs.Desk.{Submitted, submitted_as}
 use Rattle.verb_bytes.specs.declared.journal.JournalRecord.{JournalRecord}
 use Rattle.time_desk.specs.Reading.{Reads, none_read}
 use Rattle.verb_bytes.specs.declared.journal.JournalRecord.TheVariants.{Verb}
 use Rattle.mail_loop.specs.Asked.{Asked, does, fails, unsealed_as}
 use Rattle.mail_loop.specs.SmtpTurn.{Turn, says, ends, settled_as, settled, followed}
-use Rattle.mail_loop.specs.Hindrance.{Hindrance, Clear, Refused as IsTold452, Textless, Unread, Misread, Misled, Unstored, Unheard, Unanswered, Unsealed, Untold, hindered, memory_told, refused_in_text, unanswered}
+use Rattle.mail_loop.specs.Hindrance.{Hindrance, Clear, Refused as IsTold452, Textless, Unread, UnreadRefused, UnreadUnheard, Misread, Misled, Unstored, Unheard, Unanswered, Unsealed, Untold, hindered, memory_told, refused_in_text, unanswered}
 use Rattle.mail_loop.specs.Took.{Adds, IsTold, IsAsked, IsNone, Takes, SettlesAgain, Settles, Submits, asked_as, hindered_after}
 use Rattle.mail_loop.proofs.Refusals.{due_or_starved}
 use Rattle.mail_loop.proofs.Sealed.{none_sealed}
@@ -372,6 +372,10 @@ line_turn S at kept kept' d e e' line out old new is asks (Clear, t) =
 line_turn S at kept kept' d e e' line out old new is asks (Textless, t) =
     (Clear, subst (λ (u : session.Turn). Takes S (followed (does at kept) kept u.out u.dialog) old kept' e' new) (sym is) t)
 line_turn S at kept kept' d e e' line out old new is asks (Unread, t) =
+    (Clear, subst (λ (u : session.Turn). Takes S (followed (does at kept) kept u.out u.dialog) old kept' e' new) (sym is) t)
+line_turn S at kept kept' d e e' line out old new is asks (UnreadRefused, t) =
+    (Clear, subst (λ (u : session.Turn). Takes S (followed (does at kept) kept u.out u.dialog) old kept' e' new) (sym is) t)
+line_turn S at kept kept' d e e' line out old new is asks (UnreadUnheard, t) =
     (Clear, subst (λ (u : session.Turn). Takes S (followed (does at kept) kept u.out u.dialog) old kept' e' new) (sym is) t)
 line_turn S at kept kept' d e e' line out old new is asks (Misread texts h, t) =
     (Clear, subst (λ (u : session.Turn). Takes S (followed (does at kept) kept u.out u.dialog) old kept' e' new) (sym is) t)

@@ -2,9 +2,10 @@
 use Rattle.std.specs.Prelude.{◌≡◌, ℕ, true, false, List, [], ◌∷◌, ◌++◌, map, Some}
 use Rattle.undo_outside.specs.Disk.{DiskTold}
 use Rattle.verb_bytes.specs.declared.journal.JournalRecord.{JournalRecord}
-use Rattle.paradox.specs.Kept.{Kept}
+use Rattle.store_kept.specs.Kept.{Kept}
 use Rattle.time_desk.specs.Crashing.{LeavesFront}
 use Rattle.time_desk.specs.Lasting.{Lasting}
+use Rattle.time_desk.specs.Reading.{HaveRead, none_read}
 use Rattle.time_desk.specs.Records.{state}
 use Rattle.time_desk.specs.Sealing.{Seals}
 use Rattle.mail_loop.specs.State.{State}
@@ -29,14 +30,17 @@ pub record Stretch (D : Type 0) : Type 0 where
   pub after : Lasting D
 
 -- From an open desk on a step went so: its turns sealed these records, in order, but for the one of them whose sealing failed, and what the desk kept
--- when its strings were sent is what the machine keeps then. Behind the strings a snapshot was sealed, or nothing, or its sealing failed. A desk that
--- was closed by then sealed nothing more.
+-- when its strings were sent is what the machine keeps then. In these turns just as many reads failed as the machine says that texts were not read in
+-- them, so that a client is told of a failed read in no step without one. Behind the strings a snapshot was sealed, or nothing, or its sealing failed,
+-- and no read failed. A desk that was closed by then sealed nothing more.
 pub record Went {D : Type 0} (told : D → DiskTold) (s : State) (old : Lasting D) (w : Stretch D) : Type 0 where
   pub is_open : old.closed ≡ false
   pub turns : Seals told w.sealed (turned s w.step).unsealed old w.telling
   pub telling_is : w.telling.kept ≡ (turned s w.step).state.kept
+  pub read : HaveRead told old w.telling (turned s w.step).reads
   pub unkept : List JournalRecord
   pub keeps : Seals told w.snapshot unkept w.telling w.after
+  pub unread : HaveRead told w.telling w.after none_read
   pub stays : w.telling.closed ≡ true → (w.after ≡ w.telling) × (w.snapshot ≡ [])
 
 -- from old to new a desk goes through this step

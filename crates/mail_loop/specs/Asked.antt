@@ -14,7 +14,7 @@ use Rattle.undo_outside.specs.Disk.{DiskTold}
 use Rattle.time_desk.specs.Lasting.{Lasting}
 use Rattle.time_desk.specs.Reading.{HaveRead, Reads}
 use Rattle.time_desk.specs.Sealing.{Seals}
-use Rattle.paradox.specs.Kept.{Kept, store_of}
+use Rattle.store_kept.specs.Kept.{Kept, store_of}
 use Rattle.mail_desk.specs.Desk.{submitted}
 
 -- the item or why there is none, what is kept, and the record whose sealing failed, where one did

@@ -6,8 +6,8 @@ use Rattle.console_session.specs.declared.reply.After.{After}
 use Rattle.console_session.specs.declared.reply.After.TheVariants.{Waits, Closes, Stops, Fails, Rewinds}
 use Rattle.console_session.specs.Hindrance as console
 use Rattle.console_session.specs.Turn.{Turn as ConsoleTurn, asked_of}
-use Rattle.paradox.specs.Kept.{Kept}
-use Rattle.mail_loop.specs.Hindrance.{Hindrance, Clear, Refused, Textless, Unread, Misread, Misled, Unstored, Unheard, Unanswered, Unsealed, Untold}
+use Rattle.store_kept.specs.Kept.{Kept}
+use Rattle.mail_loop.specs.Hindrance.{Hindrance, Clear, Refused, Textless, Unread, UnreadRefused, UnreadUnheard, Misread, Misled, Unstored, Unheard, Unanswered, Unsealed, Untold}
 
 -- the bytes of a console, and what they were read as
 pub record Reading : Type 0 where
@@ -36,6 +36,8 @@ of_console Clear = console.Clear
 of_console Refused = console.Refused
 of_console Textless = console.Clear
 of_console Unread = console.Unread
+of_console UnreadRefused = console.UnreadRefused
+of_console UnreadUnheard = console.UnreadUnheard
 of_console (Misread texts h) = console.Clear
 of_console (Misled said left) = console.Misread said left
 of_console Unstored = console.Clear

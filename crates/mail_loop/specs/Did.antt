@@ -1,5 +1,5 @@
 -- What calls of the serving loop do to the link, in the machine's words.
-use Rattle.std.specs.Prelude.{◌≡◌, ◌⊎◌, ℕ, zero, suc, ◌+◌, ◌-◌, ◌^◌, ◌≤◌, ◌&&◌, min, nat_le, not, Bool, true, List, [], ◌∷◌, ◌++◌, Result, Ok, Err, MatchResult, if◌then◌else◌}
+use Rattle.std.specs.Prelude.{◌≡◌, ◌⊎◌, ℕ, ◌+◌, ◌&&◌, nat_le, not, Bool, true, false, List, [], ◌∷◌, ◌++◌, Result, Ok, Err, MatchResult, if◌then◌else◌}
 use Rattle.undo_base.specs.declared.memory.NoMemory.{NoMemory as WantOfMemory}
 use Rattle.undo_outside.specs.declared.event.LinkNote.{LinkNote}
 use Rattle.undo_outside.specs.declared.event.LinkNote.TheVariants.{Closed}
@@ -7,9 +7,9 @@ use Rattle.undo_outside.specs.Calls.{LinkTold, then_told}
 use Rattle.undo_outside.specs.Disk.{DiskTold}
 use Rattle.verb_bytes.specs.declared.journal.JournalRecord.{JournalRecord}
 use Rattle.time_desk.specs.Lasting.{Lasting}
-use Rattle.time_desk.specs.Reading.{Reads, none_read}
+use Rattle.time_desk.specs.Reading.{Counted, Reads, RoseBy, none_read}
 use Rattle.time_desk.specs.Records.{snapshot_record}
-use Rattle.paradox.specs.Kept.{Kept, snapshotted}
+use Rattle.store_kept.specs.Kept.{Kept, snapshotted}
 use Rattle.mail_loop.specs.Asked.{HaveSealed}
 use Rattle.mail_loop.specs.ConsoleTurn.{AreSaid}
 use Rattle.mail_loop.specs.State.{Seat}
@@ -41,15 +41,6 @@ left_out_by IsLeftOut = 1
 abbrev pub left_out_of : List Delivery → ℕ
 left_out_of [] = 0
 left_out_of (d ∷ ds) = left_out_by d + left_out_of ds
-
--- a count rose by so many at least, or stands at its last value; by none, it is as it was
-abbrev pub RoseBy : ℕ → ℕ → ℕ → Type 0
-RoseBy zero before now = now ≡ before
-RoseBy (suc n) before now = (before ≤ now) × (min (before + suc n) (2 ^ 64 - 1) ≤ now)
-
--- a count rose by just so many, or stands at its last value
-abbrev pub Counted : ℕ → ℕ → ℕ → Type 0
-Counted n before now = RoseBy n before now × (now ≤ before + n)
 
 -- Strings are missed only where the link counted each, and not on a link that misses none. They are left out only where a call found no memory for
 -- each: the link counted these, and so many a `close` that found none, and no other.
@@ -127,6 +118,12 @@ Answers S a kept seats view stops result = AnswersWith a kept seats view stops r
 abbrev pub Opens : {T : Type 0} → ℕ → Seat → List Reply → Seats → Seats → (T → List Reply) → Result T WantOfMemory → Type 0
 Opens conn seat replies old new view (Ok letters) = (new ≡ with_new_seat conn seat old) × (view letters ≡ replies)
 Opens conn seat replies old new view (Err e) = Unit {0}
+
+-- the same; or no memory was found for the greeting: no connection is opened, and that one is to be closed
+abbrev pub Greets : {T : Type 0} → Bool → ℕ → Seat → Reply → Seats → Seats → (T → List Reply) → Result T WantOfMemory → Type 0
+Greets false conn seat greeting old new view result = Opens conn seat (greeting ∷ []) old new view result
+Greets true conn seat greeting old new view (Ok letters) = (new ≡ old) × (view letters ≡ record { conn = conn; said = []; closes = true } ∷ [])
+Greets true conn seat greeting old new view (Err e) = Unit {0}
 
 -- what is kept after the snapshot that is due
 abbrev pub kept_by : Keeping → Kept → Kept

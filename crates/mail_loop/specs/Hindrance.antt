@@ -7,7 +7,7 @@ use Rattle.smtp_session.specs.declared.answer.SmtpOut.TheVariants.{Nothing, Say,
 use Rattle.smtp_session.specs.declared.dialog.Dialog.{Dialog}
 use Rattle.smtp_session.specs.Answer.{answer_text}
 use Rattle.smtp_session.specs.Dialog as session
-use Rattle.paradox.specs.Kept.{Kept, store_of}
+use Rattle.store_kept.specs.Kept.{Kept, store_of}
 use Rattle.mail_loop.specs.Asked.{fails, starves}
 use Rattle.mail_loop.specs.SmtpTurn.{Turn, turn, says, ends, served, settled}
 
@@ -21,6 +21,10 @@ pub data Hindrance : Type 0 where
   Textless : Hindrance
   -- the disk did not read a text that a command or a request wants, and the client is told: nothing is done
   Unread : Hindrance
+  -- the same, and no memory was found for telling that: the client is told of want of memory
+  UnreadRefused : Hindrance
+  -- the same, and no memory was found for telling the client anything
+  UnreadUnheard : Hindrance
   -- the disk gave a mail reader's command these texts, which are not those that were stored; beside that it goes so
   Misread : List (List ℕ) → Hindrance → Hindrance
   -- the disk gave a console's request another text than was stored: so this is said, and where a cycle is done this is kept
@@ -68,6 +72,8 @@ hindered Clear at kept d line = turn at kept d line
 hindered Refused at kept d line = refused at kept d line
 hindered Textless at kept d line = turn at kept d line
 hindered Unread at kept d line = turn at kept d line
+hindered UnreadRefused at kept d line = turn at kept d line
+hindered UnreadUnheard at kept d line = turn at kept d line
 hindered (Misread texts h) at kept d line = turn at kept d line
 hindered (Misled said left) at kept d line = turn at kept d line
 hindered Unstored at kept d line = turn at kept d line

@@ -10,10 +10,10 @@ use Rattle.imap_session.specs.declared.words.Answer.TheVariants.{Refused as IsTo
 use Rattle.imap_session.specs.Dialog.{without_memory}
 use Rattle.imap_session.specs.Words.{tagged}
 use Rattle.time_desk.specs.Reading.{failed_once, wrong_once}
-use Rattle.paradox.specs.Kept.{Kept}
+use Rattle.store_kept.specs.Kept.{Kept}
 use Rattle.mail_loop.specs.Asked.{fails, starves}
 use Rattle.mail_loop.specs.SmtpTurn.{Turn, says}
-use Rattle.mail_loop.specs.Hindrance.{Hindrance, Clear, Refused, Textless, Unread, Misread, Misled, Unstored, Unheard, Unanswered, Unsealed, Untold, lost, unanswered}
+use Rattle.mail_loop.specs.Hindrance.{Hindrance, Clear, Refused, Textless, Unread, UnreadRefused, UnreadUnheard, Misread, Misled, Unstored, Unheard, Unanswered, Unsealed, Untold, lost, unanswered}
 use Rattle.mail_loop.specs.ImapTurn.{Service, service, served}
 
 -- what a command's tag is told of want of memory
@@ -41,6 +41,10 @@ without_texts desk = record desk { texts = λ bodies. Err NoneForTexts }
 abbrev pub unread : Service → Service
 unread desk = record desk { texts = λ bodies. Err Disk; reads = failed_once }
 
+-- the disk does not read the texts, and no memory is found for telling that
+abbrev pub unread_unsaid : Service → Service
+unread_unsaid desk = record desk { texts = λ bodies. Err NoneForTexts; reads = failed_once }
+
 -- the disk gives these texts, which are not those that were stored
 abbrev pub misread : List (List ℕ) → Service → Service
 misread texts desk = record desk { texts = λ bodies. Ok texts; reads = wrong_once }
@@ -59,6 +63,8 @@ under Clear at kept turn = turn (service at kept)
 under Refused at kept turn = lost kept
 under Textless at kept turn = turn (without_texts (service at kept))
 under Unread at kept turn = turn (unread (service at kept))
+under UnreadRefused at kept turn = turn (unread_unsaid (service at kept))
+under UnreadUnheard at kept turn = unanswered (turn (unread (service at kept)))
 under (Misread texts h) at kept turn = under h at kept (λ desk. turn (misread texts desk))
 under (Misled said left) at kept turn = turn (service at kept)
 under Unstored at kept turn = turn (without_items kept (service at kept))

@@ -19,8 +19,8 @@ use Rattle.imap_session.specs.Dialog as session
 use Rattle.imap_session.specs.Dialog.{is_due, is_free}
 use Rattle.verb_bytes.specs.declared.journal.JournalRecord.{JournalRecord}
 use Rattle.time_desk.specs.Reading.{Reads, failed_once, none_read}
-use Rattle.paradox.specs.Kept.{Kept, store_of}
-use Rattle.mail_desk.specs.Timeline.{has_text}
+use Rattle.store_kept.specs.Kept.{Kept, store_of}
+use Rattle.store_kept.specs.Texts.{has_text_kept}
 use Rattle.mail_loop.specs.declared.reply.Reply.{Reply}
 use Rattle.mail_loop.specs.SmtpTurn.{Turn, ends}
 use Rattle.mail_loop.specs.Hindrance.{Hindrance}
@@ -58,7 +58,7 @@ IsAwaitedLast (Submit ask) d = is_due d ≡ true
 abbrev pub AreThere : Kept → ImapOut → Type 0
 AreThere kept (Say said) = Unit {0}
 AreThere kept (Bye said) = Unit {0}
-AreThere kept (Read bodies) = IsTrue (list_all (has_text kept.timeline) bodies)
+AreThere kept (Read bodies) = IsTrue (list_all (has_text_kept kept) bodies)
 AreThere kept (Submit ask) = Unit {0}
 
 -- a command, or what is none
@@ -74,11 +74,17 @@ abbrev pub where_done : Result Item SubmitFault → List BoxId → List BoxId
 where_done (Ok item) boxes = boxes
 where_done (Err fault) boxes = []
 
--- the connection closes with no answer, or the dialog is told why its texts were not read
+-- the dialog is told why its texts were not read, and what it says of that is in the reply
+abbrev pub IsToldWhy : ReadFault → Kept → Dialog → Reply → Dialog → Reply → Type 0
+IsToldWhy why kept d old d' new = Takes IsNone (let t = session.heard d (Err why) in settled_as t.out kept t.dialog) old kept d' new
+
+-- the dialog is told that no memory was found for its texts, or the connection closes with no answer
+abbrev pub ReadsStarved : Kept → Dialog → Reply → Dialog → Reply → Type 0
+ReadsStarved kept d old d' new = IsToldWhy NoneForTexts kept d old d' new ⊎ Takes IsNone (ends [] kept) old kept d' new
+
+-- the dialog is told why its texts were not read, or no memory was found for that
 abbrev pub ReadsNone : ReadFault → Kept → Dialog → Reply → Dialog → Reply → Type 0
-ReadsNone why kept d old d' new =
-    Takes IsNone (ends [] kept) old kept d' new
-    ⊎ Takes IsNone (let t = session.heard d (Err why) in settled_as t.out kept t.dialog) old kept d' new
+ReadsNone why kept d old d' new = IsToldWhy why kept d old d' new ⊎ ReadsStarved kept d old d' new
 
 -- what is counted where texts were not read
 abbrev pub reads_of : ReadFault → Reads
@@ -93,7 +99,7 @@ given kept texts d desk = let t = session.heard d (Ok texts) in submits desk kep
 abbrev pub TakesTexts : (List JournalRecord → Reads → Type 0) → ℕ → Kept → List (List ℕ) → Dialog → Reply → Kept → Dialog → Reply → Type 0
 TakesTexts S at kept texts d old kept' d' new =
     ((h : Hindrance) × Takes S (under h at kept (given kept texts d)) old kept' d' new)
-    ⊎ (ReadsNone NoneForTexts kept d old d' new × (kept' ≡ kept) × S [] none_read)
+    ⊎ (ReadsStarved kept d old d' new × (kept' ≡ kept) × S [] none_read)
 
 -- the connection closes with no answer, or an ask that was refused is settled as one for which no memory was found
 abbrev pub SettlesAgain : Bool → Kept → Dialog → Reply → Dialog → Reply → Type 0

@@ -11,7 +11,6 @@ use Rattle.verb_core.specs.declared.mailbox.Body.{Body}
 use Rattle.verb_core.specs.declared.mailbox.BoxId.{BoxId}
 use Rattle.verb_core.specs.Boxes.{box_of}
 use Rattle.verb_core.specs.Names.{inbox}
-use Rattle.verb_core.specs.Items.{text_of}
 use Rattle.imap_stream.specs.declared.next.Next.{Next}
 use Rattle.imap_stream.specs.declared.next.Next.TheVariants.{Command, Ask as Mark, Bad, NotYet}
 use Rattle.imap_session.specs.declared.dialog.Dialog.{Dialog}
@@ -20,14 +19,14 @@ use Rattle.imap_session.specs.declared.out.ImapOut.TheVariants.{Say, Read, Submi
 use Rattle.imap_session.specs.Dialog as session
 use Rattle.imap_session.specs.Words.{bad_line_text, ready_text}
 use Rattle.time_desk.specs.Reading.{Reads, none_read}
-use Rattle.paradox.specs.Kept.{Kept, store_of}
-use Rattle.mail_desk.specs.Timeline.{texts_of}
+use Rattle.store_kept.specs.Kept.{Kept, store_of}
+use Rattle.store_kept.specs.Texts.{text_kept, texts_kept}
 use Rattle.mail_loop.specs.Asked.{Asked, Asking, does}
 use Rattle.mail_loop.specs.SmtpTurn.{Turn, says, ends}
 
 -- how long a body is that an item in force brought
 abbrev pub size_in : Kept → Body → Option ℕ
-size_in kept body = option_map length (text_of kept.timeline body)
+size_in kept body = option_map length (text_kept kept body)
 
 -- How the desk serves a command: the texts that it gives, whether it could not read them or gave others, and what becomes of an ask.
 pub record Service : Type 0 where
@@ -37,7 +36,7 @@ pub record Service : Type 0 where
 
 -- it gives the texts of the items in force, and does what is asked
 abbrev pub service : ℕ → Kept → Service
-service at kept = record { texts = λ bodies. Ok (texts_of kept.timeline bodies); reads = none_read; asked = does at kept }
+service at kept = record { texts = λ bodies. Ok (texts_kept kept bodies); reads = none_read; asked = does at kept }
 
 -- what an outcome is answered; it leads to no ask
 abbrev pub settled_as : ImapOut → Kept → Dialog → Turn Dialog

@@ -21,7 +21,7 @@ use Rattle.imap_stream.specs.declared.begun.Awaits.TheVariants.{Line}
 use Rattle.imap_session.specs.Dialog as imap
 use Rattle.imap_session.specs.Words.{changed_text, greeting_text, rewound_text}
 use Rattle.verb_bytes.specs.declared.journal.JournalRecord.{JournalRecord}
-use Rattle.paradox.specs.Kept.{snapshotted}
+use Rattle.store_kept.specs.Kept.{snapshotted}
 use Rattle.time_desk.specs.Reading.{Reads, none_read}
 use Rattle.time_desk.specs.Records.{snapshot_record}
 use Rattle.console_head.specs.Request.{Stage}
@@ -46,7 +46,7 @@ pub data Keeping : Type 0 where
   -- it could not be sealed, and serving ends
   IsUnkept : Keeping
 
--- What hinders an event: no memory for its bytes, what hinders its turns, how each string goes, and how the snapshot that is due; and what a
+-- What hinders an event: no memory for its bytes or its greeting, what hinders its turns, how each string goes, and how the snapshot that is due; and what a
 -- console's bytes are read as.
 pub record Hindrances : Type 0 where
   pub unfed : Bool
@@ -194,20 +194,24 @@ greeted s conn seat greeting = record {
 abbrev pub opened : State → ℕ → Seat → Answered
 opened s conn seat = record { state = record { kept = s.kept; seats = with_new_seat conn seat s.seats }; replies = []; unsealed = []; reads = none_read; consoles = no_consoles }
 
--- a mail client or a mail reader is greeted, and a console is not
-abbrev pub admits : Role → State → ℕ → Answered
-admits SmtpRole s conn = greeted s conn fresh (answer_text s.kept.house.host Ready)
-admits ImapRole s conn = greeted s conn fresh_reader (greeting_text s.kept.house)
-admits HttpRole s conn = opened s conn fresh_console
+-- no memory is found for a greeting: it is left out, and the connection is closed
+abbrev pub ungreeted : State → ℕ → Answered
+ungreeted s conn = record { state = s; replies = record { conn = conn; said = []; closes = true } ∷ []; unsealed = []; reads = none_read; consoles = no_consoles }
+
+-- a mail client or a mail reader is greeted, where memory is found for that, and a console is not
+abbrev pub admits : Bool → Role → State → ℕ → Answered
+admits no_memory SmtpRole s conn = if no_memory then ungreeted s conn else greeted s conn fresh (answer_text s.kept.house.host Ready)
+admits no_memory ImapRole s conn = if no_memory then ungreeted s conn else greeted s conn fresh_reader (greeting_text s.kept.house)
+admits no_memory HttpRole s conn = opened s conn fresh_console
 
 -- a client joins; on a connection that is open this is ignored
-abbrev pub joins : Option Seat → Role → State → ℕ → Answered
-joins None role s conn = admits role s conn
-joins (Some seat) role s conn = ignored s
+abbrev pub joins : Option Seat → Bool → Role → State → ℕ → Answered
+joins None no_memory role s conn = admits no_memory role s conn
+joins (Some seat) no_memory role s conn = ignored s
 
 -- what happens on a connection at a moment
 abbrev pub answers : What → Bool → List Hindrance → Stage → ℕ → State → ℕ → Answered
-answers (Joined role) no_memory hs stage at s conn = joins (seat_at conn s.seats) role s conn
+answers (Joined role) no_memory hs stage at s conn = joins (seat_at conn s.seats) no_memory role s conn
 answers (Bytes bytes) no_memory hs stage at s conn = hears_at (seat_at conn s.seats) no_memory hs stage at s conn bytes
 answers Left no_memory hs stage at s conn = ignored (record { kept = s.kept; seats = without_seat conn s.seats })
 answers NoEvent no_memory hs stage at s conn = ignored s

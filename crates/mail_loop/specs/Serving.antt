@@ -7,13 +7,13 @@ use Rattle.undo_outside.specs.declared.event.LinkNote.TheVariants.{Came, Closed}
 use Rattle.undo_outside.specs.Calls.{LinkTold, Rose, then_told}
 use Rattle.mail_loop.specs.declared.serve.ServeFault.{ServeFault}
 use Rattle.mail_loop.specs.declared.serve.ServeFault.TheVariants.{Link, Disk, Turns, NoMemory}
-use Rattle.paradox.specs.Kept.{Kept}
+use Rattle.store_kept.specs.Kept.{Kept}
 use Rattle.verb_bytes.specs.declared.journal.JournalRecord.{JournalRecord}
-use Rattle.time_desk.specs.Reading.{Reads, both_read, none_read}
+use Rattle.time_desk.specs.Reading.{Counted, Reads, RoseBy, both_read, none_read}
 use Rattle.mail_loop.specs.State.{State}
 use Rattle.mail_loop.specs.ConsoleTurn.{AreSaid, Consoles, Reading, both, no_consoles}
 use Rattle.mail_loop.specs.Machine.{Hindrances, IsPassed, Outcome, happens, is_end}
-use Rattle.mail_loop.specs.Did.{Counted, RoseBy, left_out_of, missed_of}
+use Rattle.mail_loop.specs.Did.{left_out_of, missed_of}
 
 -- an event that came, and what hindered it
 pub record Step : Type 0 where

@@ -17,7 +17,7 @@ use Rattle.smtp_session.specs.declared.answer.SmtpOut.{SmtpOut}
 use Rattle.smtp_session.specs.declared.answer.SmtpOut.TheVariants.{Nothing, Say, Mail, Bye}
 use Rattle.smtp_session.specs.declared.dialog.Dialog.{Dialog}
 use Rattle.smtp_session.specs.Dialog.{is_due}
-use Rattle.paradox.specs.Kept.{Kept, store_of}
+use Rattle.store_kept.specs.Kept.{Kept, store_of}
 use Rattle.mail_desk.specs.Desk.{submitted}
 use Rattle.mail_loop.specs.State.{Seat}
 use Rattle.verb_bytes.specs.declared.journal.JournalRecord.{JournalRecord}
@@ -25,7 +25,7 @@ use Rattle.verb_bytes.specs.declared.journal.JournalRecord.TheVariants.{Verb}
 use Rattle.time_desk.specs.Reading.{Reads, none_read}
 use Rattle.mail_loop.specs.Asked.{Asked, does, fails}
 use Rattle.mail_loop.specs.SmtpTurn.{Turn, ends, followed, settled}
-use Rattle.mail_loop.specs.Hindrance.{Hindrance, Clear, Refused, Textless, Unread, Misread, Misled, Unstored, Unheard, Unanswered, Unsealed, Untold, lost, unanswered, refused_in_text}
+use Rattle.mail_loop.specs.Hindrance.{Hindrance, Clear, Refused, Textless, Unread, UnreadRefused, UnreadUnheard, Misread, Misled, Unstored, Unheard, Unanswered, Unsealed, Untold, lost, unanswered, refused_in_text}
 use Rattle.mail_loop.specs.ConsoleTurn.{Reading, no_consoles, rewinds_by, stops_by}
 use Rattle.mail_loop.specs.Turns.{Heard}
 use Rattle.mail_loop.specs.Machine.{Seats, Answered as AnsweredEvent, seated, told_others, with_reply}
@@ -56,6 +56,8 @@ hindered_after Clear at kept out d = followed (does at kept) kept out d
 hindered_after Refused at kept out d = refused_in_text kept out d
 hindered_after Textless at kept out d = followed (does at kept) kept out d
 hindered_after Unread at kept out d = followed (does at kept) kept out d
+hindered_after UnreadRefused at kept out d = followed (does at kept) kept out d
+hindered_after UnreadUnheard at kept out d = followed (does at kept) kept out d
 hindered_after (Misread texts h) at kept out d = followed (does at kept) kept out d
 hindered_after (Misled said left) at kept out d = followed (does at kept) kept out d
 hindered_after Unstored at kept out d = followed (does at kept) kept out d

@@ -5,14 +5,14 @@ ghost use Rattle.verb_core.specs.declared.conf.House.{House as TheHouse};
 ghost use Rattle.verb_core.specs.Store.{MailStore};
 ghost use Rattle.imap_lines.specs.Command.{ReadsCommand, Reading, command_of};
 ghost use Rattle.imap_session.specs.Dialog.{AsksAsUser, IsNext, is_at_home, is_due, is_free, is_reading, is_said, is_view_current, settle, took};
-ghost use Rattle.paradox.specs.Kept.{store_of, Kept};
-ghost use Rattle.mail_desk.specs.Timeline.{has_text};
+ghost use Rattle.store_kept.specs.Kept.{store_of, Kept};
+ghost use Rattle.store_kept.specs.Texts.{has_text_kept};
 ghost use Rattle.mail_loop.specs.Asked.{HaveSealed};
 ghost use Rattle.mail_loop.specs.Hindrance.{Hindrance};
 ghost use Rattle.mail_loop.specs.ImapTurn.{done, followed, submits};
 ghost use Rattle.mail_loop.specs.ImapHindrance.{imap_hindered, under};
 ghost use Rattle.mail_loop.specs.Took.{IsNone, Takes};
-ghost use Rattle.mail_loop.specs.ImapTook.{AreThere, IsAnswered, IsAwaitedLast, IsReaderTold, ReadsNone, Settles, SettlesAgain, TakesTexts, obeyed_under};
+ghost use Rattle.mail_loop.specs.ImapTook.{AreThere, IsAnswered, IsAwaitedLast, IsReaderTold, ReadsNone, ReadsStarved, Settles, SettlesAgain, TakesTexts, obeyed_under};
 
 use crate::asking::{ask_desk, is_refused};
 use crate::reply::{Reply, say};
@@ -202,7 +202,21 @@ fn go_on<D: Disk + Drop>(
     }
 }
 
-/// Tells the session why its texts were not read.
+/// Tells the session that no memory was found for its texts.
+fn read_starved(alloc: Global, session: &mut ImapSession, reply: &mut Reply)
+    requires reading { is_reading session.old ≡ true }
+    requires stays { reply.old.closes ≡ false }
+    ensures free { is_free session.new ≡ true }
+    ensures home { (house : TheHouse) → is_at_home house session.old ≡ true → is_at_home house session.new ≡ true }
+    ensures read { (kept : Kept) → ReadsStarved kept session.old reply.old session.new reply.new }
+{
+    match session.read(alloc, &Err(ReadFault::NoMemory)) {
+        Ok(out) => tell_all(reply, out),
+        Err(NoMemory) => close(session, reply),
+    }
+}
+
+/// Tells the session why its texts were not read, or, where it finds no memory for that, of want of memory.
 fn read_none(alloc: Global, session: &mut ImapSession, why: ReadFault, reply: &mut Reply)
     requires reading { is_reading session.old ≡ true }
     requires stays { reply.old.closes ≡ false }
@@ -212,7 +226,7 @@ fn read_none(alloc: Global, session: &mut ImapSession, why: ReadFault, reply: &m
 {
     match session.read(alloc, &Err(why)) {
         Ok(out) => tell_all(reply, out),
-        Err(NoMemory) => close(session, reply),
+        Err(NoMemory) => read_starved(alloc, session, reply),
     }
 }
 
@@ -237,7 +251,7 @@ fn take_texts<D: Disk + Drop>(
     seals_join::<D>();
     match session.read(alloc, &Ok(texts)) {
         Ok(out) => go_on(alloc, desk, session, at, out, reply),
-        Err(NoMemory) => read_none(alloc, session, ReadFault::NoMemory, reply),
+        Err(NoMemory) => read_starved(alloc, session, reply),
     }
 }
 
@@ -251,7 +265,7 @@ fn read<D: Disk + Drop>(
     reply: &mut Reply,
 )
     requires reading { is_reading session.old ≡ true }
-    requires there { IsTrue (list_all (has_text desk.old.kept.timeline) bodies.now) }
+    requires there { IsTrue (list_all (has_text_kept desk.old.kept) bodies.now) }
     requires stays { reply.old.closes ≡ false }
     requires home { is_at_home desk.old.kept.house session.old ≡ true }
     requires sealed { desk.old.closed ≡ false }

@@ -1,5 +1,5 @@
 //! What a connection is told at the end of an event.
-ghost use Rattle.std.specs.Prelude.{◌≡◌, false, [], IfOk};
+ghost use Rattle.std.specs.Prelude.{◌≡◌, false, true, [], IfOk};
 ghost use Rattle.mail_loop.specs.Stands.{letter_of};
 ghost use Rattle.smtp_session.specs.declared.answer.Answer.TheVariants.{Ready};
 ghost use Rattle.smtp_session.specs.Answer.{answer_text};
@@ -44,6 +44,17 @@ pub fn greet(alloc: Global, house: &House, conn: u32) -> Result<Letter, NoMemory
         said: Said::Answers(said),
         closes: false,
     })
+}
+
+/// No greeting, for which no memory was found: the connection is to be closed.
+pub fn ungreeted(alloc: Global, conn: u32) -> Letter
+    ensures { letter_of result ≡ record { conn = conn; said = []; closes = true } }
+{
+    Letter {
+        conn,
+        said: Said::Answers(Text::new(alloc)),
+        closes: true,
+    }
 }
 
 /// The greeting of a mail reader.

@@ -2,7 +2,7 @@
 ghost use Rattle.std.specs.Prelude.{◌≡◌, ◌≤◌, ◌∷◌, ℕ, Bool, List, Ok, Err, IfOk, IfErr, OnErr, false, [], length};
 ghost use Rattle.console_head.specs.Request.{Stage};
 ghost use Rattle.undo_outside.specs.declared.event.LinkNote.{LinkNote};
-ghost use Rattle.paradox.specs.Kept.{IsRun};
+ghost use Rattle.store_kept.specs.Kept.{IsRun};
 ghost use Rattle.mail_cycle.specs.Permanence.{UidsLast};
 ghost use Rattle.time_desk.specs.Stored.{HoldsTexts};
 ghost use Rattle.mail_loop.specs.Asked.{HaveSealed};
@@ -14,7 +14,7 @@ ghost use Rattle.imap_session.specs.Words.{greeting_text};
 ghost use Rattle.mail_loop.specs.Machine.{Hindrances, Delivery, Keeping, admits, after_reply, answered, delivered, fresh, fresh_console, fresh_reader, happens, hears_at, is_end, joins, seat_at};
 ghost use Rattle.verb_core.specs.declared.conf.House.{House as TheHouse};
 ghost use Rattle.mail_loop.specs.Stands.{AreHome, IsHome, letter_of, replies_of};
-ghost use Rattle.mail_loop.specs.Did.{AreLicensed, Told, Replied, Sends, Leads, Answers, Opens, Keeps, is_due_on, unclosed_by};
+ghost use Rattle.mail_loop.specs.Did.{AreLicensed, Told, Replied, Sends, Leads, Answers, Greets, Opens, Keeps, is_due_on, unclosed_by};
 ghost use Rattle.mail_loop.specs.Serving.{Step, ServedOver, ended_as, is_disk, reads_in, unsealed_in};
 ghost use Rattle.mail_loop.specs.Acknowledged.{GoesThrough, WentThrough};
 
@@ -22,7 +22,7 @@ use crate::letters::{Letter, alone, letters_of, room_for_letters};
 use crate::open_connection::{
     Connection, console_connection, hear, imap_connection, smtp_connection,
 };
-use crate::reply::{greet, greet_reader};
+use crate::reply::{greet, greet_reader, ungreeted};
 use std::alloc::Global;
 use std::collections::BTreeMap;
 use std::thread::Threads;
@@ -130,7 +130,21 @@ fn enter(
     Ok(letters)
 }
 
-/// Opens a mail client's connection, and greets the client.
+/// Opens a mail client's connection, with its greeting.
+fn open_client(
+    alloc: Global,
+    connections: &mut Connections,
+    conn: u32,
+    greeting: Letter,
+) -> Result<Vec<Letter>, NoMemory>
+    ensures home { (house : TheHouse) → AreHome house connections.old.entries → AreHome house connections.new.entries }
+    ensures opens { Opens conn fresh (letter_of greeting ∷ []) connections.old.entries connections.new.entries (λ replies. replies_of replies.items) result }
+{
+    let letters = alone(alloc, greeting)?;
+    enter(connections, conn, smtp_connection(alloc), letters)
+}
+
+/// Opens a mail client's connection, and greets the client. Where no memory is found for the greeting the connection is closed.
 fn admit_client(
     alloc: Global,
     house: &House,
@@ -138,13 +152,29 @@ fn admit_client(
     conn: u32,
 ) -> Result<Vec<Letter>, NoMemory>
     ensures home { (house : TheHouse) → AreHome house connections.old.entries → AreHome house connections.new.entries }
-    ensures opens { Opens conn fresh (record { conn = conn; said = answer_text house.now.host Ready; closes = false } ∷ []) connections.old.entries connections.new.entries (λ replies. replies_of replies.items) result }
+    ensures opens { (no_memory : Bool) × Greets no_memory conn fresh (record { conn = conn; said = answer_text house.now.host Ready; closes = false }) connections.old.entries connections.new.entries (λ replies. replies_of replies.items) result }
 {
-    let letters = alone(alloc, greet(alloc, house, conn)?)?;
-    enter(connections, conn, smtp_connection(alloc), letters)
+    match greet(alloc, house, conn) {
+        Ok(greeting) => open_client(alloc, connections, conn, greeting),
+        Err(NoMemory) => alone(alloc, ungreeted(alloc, conn)),
+    }
 }
 
-/// Opens a mail reader's connection, and greets the reader.
+/// Opens a mail reader's connection, with its greeting.
+fn open_reader(
+    alloc: Global,
+    connections: &mut Connections,
+    conn: u32,
+    greeting: Letter,
+) -> Result<Vec<Letter>, NoMemory>
+    ensures home { (house : TheHouse) → AreHome house connections.old.entries → AreHome house connections.new.entries }
+    ensures opens { Opens conn fresh_reader (letter_of greeting ∷ []) connections.old.entries connections.new.entries (λ replies. replies_of replies.items) result }
+{
+    let letters = alone(alloc, greeting)?;
+    enter(connections, conn, imap_connection(alloc), letters)
+}
+
+/// Opens a mail reader's connection, and greets the reader. Where no memory is found for the greeting the connection is closed.
 fn admit_reader(
     alloc: Global,
     house: &House,
@@ -152,10 +182,12 @@ fn admit_reader(
     conn: u32,
 ) -> Result<Vec<Letter>, NoMemory>
     ensures home { (house : TheHouse) → AreHome house connections.old.entries → AreHome house connections.new.entries }
-    ensures opens { Opens conn fresh_reader (record { conn = conn; said = greeting_text house.now; closes = false } ∷ []) connections.old.entries connections.new.entries (λ replies. replies_of replies.items) result }
+    ensures opens { (no_memory : Bool) × Greets no_memory conn fresh_reader (record { conn = conn; said = greeting_text house.now; closes = false }) connections.old.entries connections.new.entries (λ replies. replies_of replies.items) result }
 {
-    let letters = alone(alloc, greet_reader(alloc, house, conn)?)?;
-    enter(connections, conn, imap_connection(alloc), letters)
+    match greet_reader(alloc, house, conn) {
+        Ok(greeting) => open_reader(alloc, connections, conn, greeting),
+        Err(NoMemory) => alone(alloc, ungreeted(alloc, conn)),
+    }
 }
 
 /// Opens a console's connection, which is not greeted.
@@ -184,7 +216,7 @@ fn admit<D: Disk + Drop>(
     role: Role,
 ) -> Result<Vec<Letter>, NoMemory>
     ensures home { (house : TheHouse) → AreHome house connections.old.entries → AreHome house connections.new.entries }
-    ensures answers { Answers IsNone (admits role (record { kept = desk.now.kept; seats = connections.old.entries }) conn)
+    ensures answers { (no_memory : Bool) × Answers IsNone (admits no_memory role (record { kept = desk.now.kept; seats = connections.old.entries }) conn)
         desk.now.kept connections.new.entries (λ replies. replies_of replies.items) (λ _. false) result }
 {
     match role {
@@ -203,7 +235,7 @@ fn join<D: Disk + Drop>(
     role: Role,
 ) -> Result<Vec<Letter>, NoMemory>
     ensures home { (house : TheHouse) → AreHome house connections.old.entries → AreHome house connections.new.entries }
-    ensures answers { Answers IsNone (joins (seat_at conn connections.old.entries) role (record { kept = desk.now.kept; seats = connections.old.entries }) conn)
+    ensures answers { (no_memory : Bool) × Answers IsNone (joins (seat_at conn connections.old.entries) no_memory role (record { kept = desk.now.kept; seats = connections.old.entries }) conn)
         desk.now.kept connections.new.entries (λ replies. replies_of replies.items) (λ _. false) result }
 {
     if connections.contains_key(&conn) {

@@ -3,7 +3,7 @@ ghost use Rattle.std.specs.Prelude.{◌≡◌, ◌≤◌, ℕ, false, true};
 ghost use Rattle.smtp_lines.specs.declared.line.SmtpLine.{SmtpLine as TheLine};
 ghost use Rattle.smtp_session.specs.Dialog.{is_due, is_outcome_of_delivery};
 ghost use Rattle.verb_core.specs.Live.{is_users};
-ghost use Rattle.paradox.specs.Kept.{Kept};
+ghost use Rattle.store_kept.specs.Kept.{Kept};
 ghost use Rattle.mail_loop.specs.Asked.{HaveSealed};
 ghost use Rattle.mail_loop.specs.Hindrance.{Hindrance, hindered};
 ghost use Rattle.mail_loop.specs.Took.{IsAsked, IsNone, IsTold, Settles, SettlesAgain, Takes, hindered_after};

@@ -1,4 +1,4 @@
-use Rattle.std.proofs.Common.{◌≡◌, Option, Some, sym, subst}
+use Rattle.std.proofs.Common.{◌≡◌, Option, Some, refl, sym, subst}
 use Rattle.std.specs.Prelude.{IsTrue}
 use Rattle.serde_json.specs.Data.{Data}
 use Rattle.console_replies.specs.Bodies.{body_data}
@@ -28,4 +28,4 @@ returns-in-Some-clause-told g c =
 pub returns-in-None-clause-told : goal.returns-in-None-clause-told
 returns-in-None-clause-told g c =
     let old = c.args.desk.now in
-    subst (λ (o : Option Data). TellsFound g.D.Disk.told o (found o) old old c.tell_none.result) (sym (none_there old.kept.timeline c.args.number (sym c.in-None.ensures))) c.tell_none.ensures
+    subst (λ (o : Option Data). TellsFound g.D.Disk.told o (found o) old old c.tell_none.result) (sym (none_there old.kept.timeline c.args.number (sym c.in-None.ensures))) (refl, c.tell_none.ensures)

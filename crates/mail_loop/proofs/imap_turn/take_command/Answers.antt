@@ -1,7 +1,7 @@
 use Rattle.std.proofs.Common.{◌≡◌, Ok, true, refl, sym, subst, ◌∙◌, ◌||◌}
 use Rattle.std.specs.Cmp.{first_so}
 use Rattle.verb_core.specs.Store.{MailStore}
-use Rattle.paradox.specs.Kept.{Kept, store_of}
+use Rattle.store_kept.specs.Kept.{Kept, store_of}
 use Rattle.shelf.specs.Notes.{size_of}
 use Rattle.imap_session.specs.declared.dialog.Dialog.{Dialog}
 use Rattle.imap_session.specs.Dialog.{follows_view, is_said, is_view_current, stays_current, without_memory}

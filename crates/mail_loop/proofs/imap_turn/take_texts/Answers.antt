@@ -1,8 +1,7 @@
 use Rattle.std.proofs.Common.{inr, refl, subst}
 use Rattle.imap_session.specs.declared.dialog.Dialog.{Dialog}
-use Rattle.seal_log.specs.declared.fault.ReadFault.TheVariants.{NoMemory as NoneForTexts}
 use Rattle.mail_loop.specs.Asked.{HaveSealed}
-use Rattle.mail_loop.specs.ImapTook.{ReadsNone}
+use Rattle.mail_loop.specs.ImapTook.{ReadsStarved}
 use Rattle.mail_loop.proofs.ImapTurns.{given_turn}
 use Rattle.mail_loop.proofs.Sealed.{unsealed}
 use Rattle.mail_loop.proofs.imap_turn.take_texts.Goals as goal
@@ -16,9 +15,9 @@ returns-in-Ok-clause-turn g c =
 pub returns-clause-turn : goal.returns-clause-turn
 returns-clause-turn g c =
     let desk = c.args.desk.now in
-    let new = c.read_none.new in
+    let new = c.read_starved.new in
     inr (
-      subst (λ (e : Dialog). ReadsNone NoneForTexts desk.kept e c.args.reply.now new.session new.reply) c.in-Err.ensures.err (c.read_none.ensures.read desk.kept),
+      subst (λ (e : Dialog). ReadsStarved desk.kept e c.args.reply.now new.session new.reply) c.in-Err.ensures.err (c.read_starved.ensures.read desk.kept),
       refl,
       unsealed g.D.Disk.told c.seals_join.ensures.nothing desk,
     )

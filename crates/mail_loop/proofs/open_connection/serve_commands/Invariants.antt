@@ -2,7 +2,7 @@ use Rattle.std.proofs.Common.{◌≡◌, ◌++◌, ◌∷◌, [], false, true, l
 use Rattle.imap_stream.specs.Commands.{emptied}
 use Rattle.imap_stream.specs.declared.next.Next.TheVariants.{NotYet}
 use Rattle.imap_session.specs.Dialog.{is_at_home, is_free, is_view_current}
-use Rattle.paradox.specs.Kept.{store_of}
+use Rattle.store_kept.specs.Kept.{store_of}
 use Rattle.time_desk.specs.Reading.{Reads}
 use Rattle.mail_loop.specs.Asked.{HaveSealed}
 use Rattle.mail_loop.specs.Machine.{Seats}

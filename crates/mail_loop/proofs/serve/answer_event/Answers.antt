@@ -17,13 +17,13 @@ returns-in-Joined-clause-answers g c =
     let es = c.args.connections.now.entries in
     let S = HaveSealed g.D.Disk.told desk desk in
     let s : State = record { kept = desk.kept; seats = es } in
-    let joined = c.join.ensures.answers in (
-      false,
+    let (no_memory, joined) = c.join.ensures.answers in (
+      no_memory,
       [],
       Ok None,
-      going_answers S (answered false [] (Ok None) s event) desk.kept c.join.new.connections.entries (λ replies. replies_of replies.items) (λ (answer : Answer). answer.letters) (λ (answer : Answer). answer.stops)
+      going_answers S (answered no_memory [] (Ok None) s event) desk.kept c.join.new.connections.entries (λ replies. replies_of replies.items) (λ (answer : Answer). answer.letters) (λ (answer : Answer). answer.stops)
           c.join.result c.going_on_with.result c.going_on_with.ensures.ok c.going_on_with.ensures.err
-          (subst (λ (what : What). Answers S (answers what false [] (Ok None) (min event.at 253402300799) s event.conn) desk.kept c.join.new.connections.entries (λ replies. replies_of replies.items) (λ _. false) c.join.result)
+          (subst (λ (what : What). Answers S (answers what no_memory [] (Ok None) (min event.at 253402300799) s event.conn) desk.kept c.join.new.connections.entries (λ replies. replies_of replies.items) (λ _. false) c.join.result)
           (sym c.in-Joined.is) (joined.0, none_sealed S _ _ joined.1 (unsealed g.D.Disk.told c.seals_join.ensures.nothing desk), joined.2)),
     )
 

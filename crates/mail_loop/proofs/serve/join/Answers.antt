@@ -15,14 +15,17 @@ returns-then-contains_key-clause-answers g c =
     let es = c.args.connections.now.entries in
     let kept = c.args.desk.now.kept in
     let s : State = record { kept = kept; seats = es } in
-    let is = joins_open (lookup (is_at (nat_cmp c.args.conn)) es) c.args.role s c.args.conn (sym c.contains_key.ensures ∙ c.if-contains_key.true) in
-    subst (λ (a : Answered). Answers IsNone a kept es (λ replies. replies_of replies.items) (λ _. false) (Ok c.new.result)) (sym is)
-    ((refl, refl, ap replies_of c.new.ensures.items, refl), (refl, refl), tt)
+    let is = joins_open (lookup (is_at (nat_cmp c.args.conn)) es) false c.args.role s c.args.conn (sym c.contains_key.ensures ∙ c.if-contains_key.true) in (
+      false,
+      subst (λ (a : Answered). Answers IsNone a kept es (λ replies. replies_of replies.items) (λ _. false) (Ok c.new.result)) (sym is)
+          ((refl, refl, ap replies_of c.new.ensures.items, refl), (refl, refl), tt),
+    )
 
 pub returns-else-contains_key-clause-answers : goal.returns-else-contains_key-clause-answers
 returns-else-contains_key-clause-answers g c =
     let es = c.args.connections.now.entries in
     let kept = c.args.desk.now.kept in
     let s : State = record { kept = kept; seats = es } in
-    let is = joins_shut (lookup (is_at (nat_cmp c.args.conn)) es) c.args.role s c.args.conn (sym c.contains_key.ensures ∙ c.if-contains_key.false) in
-    subst (λ (a : Answered). Answers IsNone a kept c.admit.new.connections.entries (λ replies. replies_of replies.items) (λ _. false) c.admit.result) (sym is) c.admit.ensures.answers
+    let (no_memory, answers) = c.admit.ensures.answers in
+    let is = joins_shut (lookup (is_at (nat_cmp c.args.conn)) es) no_memory c.args.role s c.args.conn (sym c.contains_key.ensures ∙ c.if-contains_key.false) in
+    (no_memory, subst (λ (a : Answered). Answers IsNone a kept c.admit.new.connections.entries (λ replies. replies_of replies.items) (λ _. false) c.admit.result) (sym is) answers)

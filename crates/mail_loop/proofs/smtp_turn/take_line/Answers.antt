@@ -3,7 +3,7 @@ use Rattle.verb_core.specs.declared.conf.House.{House}
 use Rattle.verb_core.specs.declared.conf.Conf.{Conf}
 use Rattle.smtp_session.specs.declared.dialog.Dialog.{Dialog}
 use Rattle.smtp_session.specs.Dialog.{turn}
-use Rattle.paradox.specs.Kept.{store_of}
+use Rattle.store_kept.specs.Kept.{store_of}
 use Rattle.mail_loop.specs.Asked.{HaveSealed}
 use Rattle.mail_loop.specs.Hindrance.{Hindrance, hindered}
 use Rattle.mail_loop.specs.Took.{IsNone, Takes}
