@@ -9,7 +9,7 @@ use Rattle.undo_outside.specs.Calls.{LinkTold, SourceTold, SinkTold}
 use Rattle.undo_outside.specs.Disk.{DiskTold}
 use Rattle.verb_core.specs.declared.conf.Conf.{Conf}
 use Rattle.verb_core.specs.declared.conf.House.{House}
-use Rattle.paradox.specs.Kept.{Kept}
+use Rattle.store_kept.specs.Kept.{Kept}
 use Rattle.mail_loop.specs.declared.serve.ServeFault.{ServeFault}
 use Rattle.mail_loop.specs.declared.serve.ServeFault.TheVariants as serve
 use Rattle.mail_loop.specs.Serving.{Step}
@@ -24,7 +24,8 @@ use Rattle.command_words.specs.declared.commands.Command.{Command}
 use Rattle.command_words.specs.declared.commands.Command.TheVariants.{Init, Serve, Script, Play, Grow, Check}
 use Rattle.command_words.specs.Usage.{command_of}
 use Rattle.mail_proxy.specs.Answers.{Answers, Does, Shows, first_fault, status_after}
-use Rattle.mail_proxy.specs.Causes.{IsBadText, IsBadFor, IsBadScript, uses_text}
+use Rattle.mail_proxy.specs.Causes.{IsBadText, IsBadFor, IsBadScript}
+use Rattle.mail_proxy.specs.Profiles.{uses_text}
 use Rattle.mail_proxy.specs.Due.{IsDue, IsDueFor, IsDueInit, IsDueStore, IsHindered}
 use Rattle.mail_proxy.specs.Growing.{GrowsBy, TellsGrown}
 use Rattle.mail_proxy.specs.Init.{Configures, Inits, made_status}
@@ -173,7 +174,7 @@ module _ {D : Type 0} (told : D → DiskTold) (disk : D) (end : End D) (text tex
   served (Err serve.NoMemory) first events notes steps last played (inr (eight, is)) due = starved eight
 
   due_grow : (rounds : ℕ) → GrowsBy rounds disk end → k ≡ 0 → (s ≡ k) ⊎ IsHindered s
-  due_grow rounds ((outcome, notes, steps, last, played, no_fault, none_read, tells), disk_is) due = by_outcome outcome refl tells
+  due_grow rounds ((outcome, notes, steps, last, played, no_fault, none_read, keeps, tells), disk_is) due = by_outcome outcome refl tells
     where
       by_outcome : (o : Result (Unit {0}) ServeFault) → outcome ≡ o → TellsGrown rounds o last end.status end.output → (s ≡ k) ⊎ IsHindered s
       by_outcome (Ok x) e (inl (zero, is)) = well zero due
@@ -190,7 +191,7 @@ module _ {D : Type 0} (told : D → DiskTold) (disk : D) (end : End D) (text tex
     where
       by_script : (r : Result (List Event) ℕ) → r ≡ Ok events → PlaysScript r end.status end.output → (s ≡ k) ⊎ IsHindered s
       by_script (Err n) e plays = absurd (let wrong : ◌≡◌ {A = Result (List Event) ℕ} (Err n) (Ok events) = e in cc)
-      by_script (Ok all) e (outcome, notes, steps, last, played, no_fault, none_read, tells) = served outcome _ all notes steps last played tells due
+      by_script (Ok all) e (outcome, notes, steps, last, played, no_fault, none_read, keeps, tells) = served outcome _ all notes steps last played tells due
 
   module _ (one_opening : (image : List ℕ) (one two : Result Kept StartFault) → OpensAs image one → OpensAs image two → one ≡ two) where
     -- a store that opened was to open

@@ -5,7 +5,7 @@ use Rattle.undo_outside.specs.declared.event.LinkNote.{LinkNote}
 use Rattle.undo_outside.specs.Calls.{LinkTold, SourceTold, SinkTold}
 use Rattle.undo_outside.specs.Disk.{DiskTold, WriteFailed}
 use Rattle.seal_log.specs.Loading.{IsNotFormatted}
-use Rattle.paradox.specs.Kept.{Kept}
+use Rattle.store_kept.specs.Kept.{Kept}
 use Rattle.verb_core.specs.declared.conf.Conf.{Conf}
 use Rattle.verb_core.specs.declared.conf.House.{House}
 use Rattle.mail_loop.specs.declared.serve.ServeFault.{ServeFault}
@@ -18,8 +18,8 @@ use Rattle.time_desk.specs.declared.fault.StartFault.TheVariants as start
 use Rattle.time_desk.specs.Making.{Makes}
 use Rattle.time_desk.specs.Opening.{IsDamaged, OpensAs, Starts}
 use Rattle.command_words.specs.declared.commands.Command.{Command}
-use Rattle.command_words.specs.declared.commands.Command.TheVariants.{Init, Serve, Script, Play, Grow, Check}
 use Rattle.mail_proxy.specs.Init.{IsNoConfig}
+use Rattle.mail_proxy.specs.Profiles.{TextUse, DeskUse, NoText, Configuration, EventScript, NoDesk, Formatted, Opened, Begun, profile_of, takes_script, opens, serves, uses_link, uses_text, writes_more}
 use Rattle.mail_proxy.specs.Lines.{usage, too_long, bad_configuration, bad_line, not_empty, not_a_store, link_fault, disk_fault, read_fault, too_many, no_memory, damaged}
 use Rattle.mail_proxy.specs.Reading.{ReadFails, Took, WriteFails, WriteStarves, Wrote}
 use Rattle.mail_proxy.specs.Script.{Played, opening}
@@ -32,107 +32,36 @@ pub record Outside : Type 1 where
   pub disk : DiskTold
   pub out : SinkTold
 
--- ---- the commands
-
--- those that read a script
-abbrev pub takes_script : Option Command → Bool
-takes_script None = false
-takes_script (Some Init) = false
-takes_script (Some (Serve smtp imap http)) = false
-takes_script (Some Script) = true
-takes_script (Some Play) = true
-takes_script (Some (Grow rounds)) = false
-takes_script (Some Check) = false
-
--- those that open a store
-abbrev pub opens : Option Command → Bool
-opens None = false
-opens (Some Init) = false
-opens (Some (Serve smtp imap http)) = true
-opens (Some Script) = true
-opens (Some Play) = false
-opens (Some (Grow rounds)) = false
-opens (Some Check) = true
-
--- those that use the disk
-abbrev pub uses_disk : Option Command → Bool
-uses_disk None = false
-uses_disk (Some Init) = true
-uses_disk (Some (Serve smtp imap http)) = true
-uses_disk (Some Script) = true
-uses_disk (Some Play) = false
-uses_disk (Some (Grow rounds)) = false
-uses_disk (Some Check) = true
-
--- those that serve events over the disk, and so write to it
-abbrev pub serves : Option Command → Bool
-serves None = false
-serves (Some Init) = false
-serves (Some (Serve smtp imap http)) = true
-serves (Some Script) = true
-serves (Some Play) = false
-serves (Some (Grow rounds)) = false
-serves (Some Check) = false
-
--- those that use the link
-abbrev pub uses_link : Option Command → Bool
-uses_link None = false
-uses_link (Some Init) = false
-uses_link (Some (Serve smtp imap http)) = true
-uses_link (Some Script) = false
-uses_link (Some Play) = false
-uses_link (Some (Grow rounds)) = false
-uses_link (Some Check) = false
-
--- those that read a text
-abbrev pub uses_text : Option Command → Bool
-uses_text None = false
-uses_text (Some Init) = true
-uses_text (Some (Serve smtp imap http)) = false
-uses_text (Some Script) = true
-uses_text (Some Play) = true
-uses_text (Some (Grow rounds)) = false
-uses_text (Some Check) = false
-
--- those that write more than a last line
-abbrev pub writes_more : Option Command → Bool
-writes_more None = false
-writes_more (Some Init) = false
-writes_more (Some (Serve smtp imap http)) = false
-writes_more (Some Script) = true
-writes_more (Some Play) = true
-writes_more (Some (Grow rounds)) = true
-writes_more (Some Check) = true
-
 -- ---- causes
 
 abbrev pub IsBadScript : Result (List Event) ℕ → List ℕ → Type 0
 IsBadScript (Ok events) line = ⊥
 IsBadScript (Err n) line = line ≡ bad_line n
 
--- a text that is not too long is in no grammar of the command, and this is said of it
+-- a text of this use that is not too long is in no grammar of it, and this is said of it
+abbrev pub IsBadUse : TextUse → List ℕ → List ℕ → Type 0
+IsBadUse NoText text line = ⊥
+IsBadUse Configuration text line = IsNoConfig text × (line ≡ bad_configuration)
+IsBadUse EventScript text line = IsBadScript (script_of text) line
+
+-- it is bad for the command
 abbrev pub IsBadFor : Option Command → List ℕ → List ℕ → Type 0
-IsBadFor None text line = ⊥
-IsBadFor (Some Init) text line = IsNoConfig text × (line ≡ bad_configuration)
-IsBadFor (Some (Serve smtp imap http)) text line = ⊥
-IsBadFor (Some Script) text line = IsBadScript (script_of text) line
-IsBadFor (Some Play) text line = IsBadScript (script_of text) line
-IsBadFor (Some (Grow rounds)) text line = ⊥
-IsBadFor (Some Check) text line = ⊥
+IsBadFor command = IsBadUse (profile_of command).text
 
 -- the text is in no grammar of the command, and this is said of it: it is too long, or it is bad
 abbrev pub IsBadText : Option Command → List ℕ → List ℕ → Type 0
 IsBadText command text line = MatchBool (nat_lt 67108864 (length text)) ((uses_text command ≡ true) × (line ≡ too_long)) (IsBadFor command text line)
 
--- the disk is not such as the command wants it, and this is said of it
+-- a disk is not such as it is wanted for this use, and this is said of it
+abbrev pub IsWrongFor : DeskUse → DiskTold → List ℕ → Type 0
+IsWrongFor NoDesk disk line = ⊥
+IsWrongFor Formatted disk line = (disk.size ≢ 0) × (line ≡ not_empty)
+IsWrongFor Opened disk line = (disk.honest → IsNotFormatted disk.content) × (line ≡ not_a_store)
+IsWrongFor Begun disk line = ⊥
+
+-- the disk is not such as the command wants it
 abbrev pub IsWrongDisk : Option Command → DiskTold → List ℕ → Type 0
-IsWrongDisk None disk line = ⊥
-IsWrongDisk (Some Init) disk line = (disk.size ≢ 0) × (line ≡ not_empty)
-IsWrongDisk (Some (Serve smtp imap http)) disk line = (disk.honest → IsNotFormatted disk.content) × (line ≡ not_a_store)
-IsWrongDisk (Some Script) disk line = (disk.honest → IsNotFormatted disk.content) × (line ≡ not_a_store)
-IsWrongDisk (Some Play) disk line = ⊥
-IsWrongDisk (Some (Grow rounds)) disk line = ⊥
-IsWrongDisk (Some Check) disk line = (disk.honest → IsNotFormatted disk.content) × (line ≡ not_a_store)
+IsWrongDisk command = IsWrongFor (profile_of command).desk
 
 -- the text, as far as it is told, is a script of these events
 pub record IsScript (told : Option (List ℕ)) (events : List Event) : Type 0 where
@@ -145,15 +74,16 @@ pub record IsScript (told : Option (List ℕ)) (events : List Event) : Type 0 wh
 abbrev pub IsOpened : DiskTold → Kept → Type 0
 IsOpened disk first = (disk.size ≢ 0) × (disk.honest → OpensAs disk.content (Ok first))
 
--- What the desk keeps at first: for `play` and `grow` what their own house begins with, else what the disk opens as.
+-- what a desk of this use keeps at first: what the disk opens as, or what a house of the program's own begins with
+abbrev pub IsFirstOf : DeskUse → DiskTold → Kept → Type 0
+IsFirstOf NoDesk disk first = ⊥
+IsFirstOf Formatted disk first = ⊥
+IsFirstOf Opened disk first = IsOpened disk first
+IsFirstOf Begun disk first = first ≡ opening
+
+-- what the desk of the command keeps at first
 abbrev pub IsFirst : Option Command → DiskTold → Kept → Type 0
-IsFirst None disk first = ⊥
-IsFirst (Some Init) disk first = ⊥
-IsFirst (Some (Serve smtp imap http)) disk first = IsOpened disk first
-IsFirst (Some Script) disk first = IsOpened disk first
-IsFirst (Some Play) disk first = first ≡ opening
-IsFirst (Some (Grow rounds)) disk first = first ≡ opening
-IsFirst (Some Check) disk first = IsOpened disk first
+IsFirst command = IsFirstOf (profile_of command).desk
 
 -- there was a desk
 abbrev pub HasDesk : Option Command → DiskTold → Type 0
@@ -176,15 +106,17 @@ pub record RanTo (command : Option Command) (told : Option (List ℕ)) (disk : D
 abbrev pub IsFront : Option Command → Option (List ℕ) → DiskTold → Result (Unit {0}) ServeFault → List ℕ → Type 0
 IsFront command told disk outcome front = (front ≡ []) ⊎ RanTo command told disk outcome front
 
--- Formatting or opening failed, as these say, and no event of the link came.
+-- formatting or opening failed, as these say
+abbrev pub FailsFor : DeskUse → DiskTold → DiskTold → Type 0
+FailsFor NoDesk old new = ⊥
+FailsFor Formatted old new = (house : House) × (conf : Conf) × Makes house conf old new (Err make.Disk)
+FailsFor Opened old new = Starts old new (Err start.Disk)
+FailsFor Begun old new = ⊥
+
+-- that was so, and no event came of a link that the command uses
 abbrev pub FailsAtFirst : Option Command → Outside → Outside → Type 0
-FailsAtFirst None old new = ⊥
-FailsAtFirst (Some Init) old new = (house : House) × (conf : Conf) × Makes house conf old.disk new.disk (Err make.Disk)
-FailsAtFirst (Some (Serve smtp imap http)) old new = Starts old.disk new.disk (Err start.Disk) × (new.link ≡ old.link)
-FailsAtFirst (Some Script) old new = Starts old.disk new.disk (Err start.Disk)
-FailsAtFirst (Some Play) old new = ⊥
-FailsAtFirst (Some (Grow rounds)) old new = ⊥
-FailsAtFirst (Some Check) old new = Starts old.disk new.disk (Err start.Disk)
+FailsAtFirst command old new =
+    MatchBool (uses_link command) (FailsFor (profile_of command).desk old.disk new.disk × (new.link ≡ old.link)) (FailsFor (profile_of command).desk old.disk new.disk)
 
 -- 2^40 events of the link were served without an end
 pub record RanOn (command : Option Command) (disk : DiskTold) (link link' : LinkTold) : Type 0 where

@@ -4,7 +4,7 @@ use Rattle.undo_outside.specs.Disk.{DiskTold}
 use Rattle.undo_outside.specs.Moments.{LeavesOnly}
 use Rattle.mail_desk.specs.declared.counts.Counts.{Counts}
 use Rattle.mail_desk.specs.Counting.{counts_of}
-use Rattle.paradox.specs.Kept.{Kept, store_of}
+use Rattle.store_kept.specs.Kept.{Kept, store_of}
 use Rattle.store_digest.specs.Snapshots.{digest_of}
 use Rattle.time_desk.specs.Lasting.{Lasting}
 use Rattle.mail_proxy.specs.Lines.{lf, no_memory}

@@ -4,14 +4,14 @@ use Rattle.undo_outside.specs.declared.event.Event.{Event}
 use Rattle.undo_outside.specs.Disk.{DiskTold}
 use Rattle.verb_core.specs.declared.conf.Conf.{Conf}
 use Rattle.verb_core.specs.declared.conf.House.{House}
-use Rattle.paradox.specs.Kept.{Kept}
+use Rattle.store_kept.specs.Kept.{Kept}
 use Rattle.script_link.specs.Script.{script_of}
 use Rattle.time_desk.specs.declared.fault.StartFault.TheVariants.{NotFormatted, Damaged}
 use Rattle.time_desk.specs.Opening.{OpensAs}
 use Rattle.command_words.specs.declared.commands.Command.{Command}
-use Rattle.command_words.specs.declared.commands.Command.TheVariants.{Init, Serve, Script, Play, Grow, Check}
 use Rattle.mail_proxy.specs.Causes.{IsBadText, Outside}
 use Rattle.mail_proxy.specs.Init.{IsConfig}
+use Rattle.mail_proxy.specs.Profiles.{TextUse, DeskUse, NoText, Configuration, EventScript, NoDesk, Formatted, Opened, Begun, profile_of}
 
 -- an empty disk is formatted, and no other
 abbrev pub IsDueInit : DiskTold → ℕ → Type 0
@@ -27,25 +27,32 @@ IsDueStore disk k =
     ⊎ (OpensAs disk.content (Err NotFormatted) × (k ≡ 3))
     ⊎ ((place : ℕ) × OpensAs disk.content (Err (Damaged place)) × (k ≡ 10))))
 
+-- what is due where the disk is used so
+abbrev pub IsDueDesk : DeskUse → DiskTold → ℕ → Type 0
+IsDueDesk NoDesk disk k = ⊥
+IsDueDesk Formatted disk k = IsDueInit disk k
+IsDueDesk Opened disk k = IsDueStore disk k
+IsDueDesk Begun disk k = k ≡ 0
+
+-- what is due for a text in the grammar of its use
+abbrev pub IsDueUse : TextUse → DeskUse → List ℕ → DiskTold → ℕ → Type 0
+IsDueUse NoText desk text disk k = ⊥
+IsDueUse Configuration desk text disk k = (house : House) × (conf : Conf) × IsConfig text house conf × IsDueDesk desk disk k
+IsDueUse EventScript desk text disk k = (events : List Event) × (script_of text ≡ Ok events) × IsDueDesk desk disk k
+
 -- what is due for a text in the grammar of the command
 abbrev pub IsDueFor : Option Command → List ℕ → DiskTold → ℕ → Type 0
-IsDueFor None text disk k = ⊥
-IsDueFor (Some Init) text disk k = (house : House) × (conf : Conf) × IsConfig text house conf × IsDueInit disk k
-IsDueFor (Some (Serve smtp imap http)) text disk k = ⊥
-IsDueFor (Some Script) text disk k = (events : List Event) × (script_of text ≡ Ok events) × IsDueStore disk k
-IsDueFor (Some Play) text disk k = (events : List Event) × (script_of text ≡ Ok events) × (k ≡ 0)
-IsDueFor (Some (Grow rounds)) text disk k = ⊥
-IsDueFor (Some Check) text disk k = ⊥
+IsDueFor command = IsDueUse (profile_of command).text (profile_of command).desk
+
+-- what is due where no text is read
+abbrev pub IsDueUnread : TextUse → DeskUse → DiskTold → ℕ → Type 0
+IsDueUnread NoText desk disk k = IsDueDesk desk disk k
+IsDueUnread Configuration desk disk k = ⊥
+IsDueUnread EventScript desk disk k = ⊥
 
 -- what is due for a command that reads no text
 abbrev pub IsDueAlone : Option Command → DiskTold → ℕ → Type 0
-IsDueAlone None disk k = ⊥
-IsDueAlone (Some Init) disk k = ⊥
-IsDueAlone (Some (Serve smtp imap http)) disk k = IsDueStore disk k
-IsDueAlone (Some Script) disk k = ⊥
-IsDueAlone (Some Play) disk k = ⊥
-IsDueAlone (Some (Grow rounds)) disk k = k ≡ 0
-IsDueAlone (Some Check) disk k = IsDueStore disk k
+IsDueAlone command = IsDueUnread (profile_of command).text (profile_of command).desk
 
 -- The status that is due: 1 for words of no stated shape; 2 for a bad text; else that of the disk.
 abbrev pub IsDue : Option Command → Outside → ℕ → Type 0

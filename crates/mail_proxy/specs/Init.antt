@@ -4,7 +4,7 @@ use Rattle.verb_core.specs.declared.conf.Conf.{Conf}
 use Rattle.verb_core.specs.declared.conf.House.{House}
 use Rattle.undo_outside.specs.Calls.{SourceTold}
 use Rattle.undo_outside.specs.Disk.{DiskTold}
-use Rattle.paradox.specs.Kept.{Kept}
+use Rattle.store_kept.specs.Kept.{Kept}
 use Rattle.house_text.specs.Configuration.{configured}
 use Rattle.desk_journal.specs.declared.fault.MakeFault.{MakeFault}
 use Rattle.desk_journal.specs.declared.fault.MakeFault.TheVariants.{NotEmpty, Disk, NoMemory}

@@ -4,7 +4,7 @@ use Rattle.undo_outside.specs.declared.event.LinkNote.{LinkNote}
 use Rattle.undo_outside.specs.Calls.{LinkTold}
 use Rattle.undo_outside.specs.Disk.{DiskTold, WriteFailed}
 use Rattle.verb_bytes.specs.declared.journal.JournalRecord.{JournalRecord}
-use Rattle.paradox.specs.Kept.{IsRun}
+use Rattle.store_kept.specs.Kept.{IsRun}
 use Rattle.time_desk.specs.Lasting.{Lasting}
 use Rattle.time_desk.specs.Opening.{Starts}
 use Rattle.time_desk.specs.Stored.{HoldsTexts}

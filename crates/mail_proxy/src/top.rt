@@ -2,7 +2,8 @@
 ghost use Rattle.std.specs.Prelude.{◌≡◌, ◌⊎◌, ℕ, false, Some, IfErr, IfOk, map, string_bytes};
 ghost use Rattle.command_words.specs.Usage.{command_of};
 ghost use Rattle.mail_proxy.specs.Answers.{Answers, Does, Shows};
-ghost use Rattle.mail_proxy.specs.Causes.{Comes, uses_disk, uses_link, uses_text};
+ghost use Rattle.mail_proxy.specs.Causes.{Comes};
+ghost use Rattle.mail_proxy.specs.Profiles.{uses_disk, uses_link, uses_text};
 ghost use Rattle.mail_proxy.specs.Completing.{EndsInTime, NoneFailed};
 ghost use Rattle.mail_proxy.specs.Due.{IsDue, IsHindered};
 ghost use Rattle.mail_proxy.specs.Plans.{end_of};
@@ -113,7 +114,7 @@ pub fn run<R: Threads + Sync, S: Source, L: Link, D: Disk + Drop, W: Sink, G: Ga
     (show(alloc, &plan, out), disk)
 }
 
-/// The program's status: does what the words say, where memory was found for them.
+/// The program's status, and the disk: does what the words say, where memory was found for them.
 pub fn status_of_words<R: Threads + Sync, S: Source, L: Link, D: Disk + Drop, W: Sink, G: Gate>(
     rt: &R,
     alloc: Global,
@@ -124,15 +125,19 @@ pub fn status_of_words<R: Threads + Sync, S: Source, L: Link, D: Disk + Drop, W:
     disk: D,
     out: &mut W,
     gate: &G,
-) -> u8
+) -> (u8, D)
     requires { (S.told text.old).ended ≡ false }
-    ensures found { IfOk found (λ _. Runs D.told (map string_bytes words.now.items) disk
+    ensures found { IfOk found (λ _. Runs D.told (map string_bytes words.now.items) disk result.1
         (record { text = S.told text.old; link = L.told link.old; disk = D.told disk; out = W.told out.old })
-        (S.told text.new) (L.told link.new) (W.told out.new) result) }
-    ensures lacked { IfErr found (λ _. (result ≡ 8) × Wrote (W.told out.old) (W.told out.new) no_memory × (text.new ≡ text.old) × (link.new ≡ link.old)) }
+        (S.told text.new) (L.told link.new) (W.told out.new) result.0) }
+    ensures lacked { IfErr found (λ _. (result.0 ≡ 8) × Wrote (W.told out.old) (W.told out.new) no_memory × (text.new ≡ text.old) × (link.new ≡ link.old) × (result.1 ≡ disk)) }
+    // What is not used gets no call.
+    ensures text { uses_text (command_of (map string_bytes words.now.items)) ≡ false → text.new ≡ text.old }
+    ensures link { uses_link (command_of (map string_bytes words.now.items)) ≡ false → link.new ≡ link.old }
+    ensures disk { uses_disk (command_of (map string_bytes words.now.items)) ≡ false → result.1 ≡ disk }
 {
     match found {
-        Ok(()) => run(rt, alloc, words, text, link, disk, out, gate).0,
-        Err(NoMemory) => without_memory(out),
+        Ok(()) => run(rt, alloc, words, text, link, disk, out, gate),
+        Err(NoMemory) => (without_memory(out), disk),
     }
 }

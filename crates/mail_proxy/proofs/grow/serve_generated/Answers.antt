@@ -17,6 +17,7 @@ returns-in-Ok g c =
     c.new-link.ensures.coming c.new-link.ensures.reliable c.new-link.ensures.starved c.outcome_over.ensures c.requires c.serve_events-ended.ensures.closed
     (subst (λ (o : Result (Unit {0}) ServeFault). TellsGrown c.args.rounds o last.kept plan.status (output_of plan)) (sym c.in-Ok.is)
     (subst (λ (n : Counts). TellsText (grown_text c.args.rounds n) plan.status (output_of plan)) c.counts.ensures c.plan_grown.ensures))
+    (λ holds. record { runs = c.serve_events-ended.ensures.runs holds; uids = c.serve_events-ended.ensures.uids holds })
 
 pub returns : goal.returns
 returns g c =
@@ -27,3 +28,4 @@ returns g c =
     c.new-link.ensures.coming c.new-link.ensures.reliable c.new-link.ensures.starved c.outcome_over.ensures c.requires c.serve_events-ended.ensures.closed
     (subst (λ (o : Result (Unit {0}) ServeFault). TellsGrown c.args.rounds o last.kept plan.status (output_of plan)) (sym c.in-Err.is)
     (c.plan_of.ensures.status, ap (λ (l : List ℕ). l ++ line_text plan.last) (c.plan_of.ensures.body ∙ c.new.ensures) ∙ c.plan_of.ensures.last))
+    (λ holds. record { runs = c.serve_events-ended.ensures.runs holds; uids = c.serve_events-ended.ensures.uids holds })
