@@ -15,12 +15,19 @@ import concurrent.futures, os, subprocess, sys, tempfile
 
 PATH, NET, SEATS = 'crates/host_outside/src/path_file.rt', 'crates/host_outside/src/connection.rt', 'crates/host_outside/src/sockets.rt'
 PORTS, MAIN = 'crates/host_outside/src/listeners.rt', 'crates/undomail/src/main.rt'
+LINK, TELLING = 'crates/host_outside/src/loop_link.rt', 'crates/host_outside/src/telling.rt'
 REPLY, CLIENT, READER = 'crates/mail_loop/src/reply.rt', 'crates/mail_loop/src/smtp_turn.rt', 'crates/mail_loop/src/imap_turn.rt'
 CONSOLE, DIALOG = 'crates/console_session/src/reply.rt', 'crates/smtp_session/src/dialog.rt'
-WORDS = '\n        &rt, alloc, &words, found, &mut text, &mut link, disk, &mut out, &OpenGate,\n    '
 WRONG = {
-    'file-is-not-synced': (PATH, '.sync_all().map_err(failed)', '.metadata().map(|_| ()).map_err(failed)'),
-    'bytes-are-not-synced': (PATH, '.sync_data()', '.metadata()\n            .map(|_| ())'),
+    'file-is-not-synced': (PATH, '.ok_or(Failed)?.sync_all()', '.ok_or(Failed)?.metadata().map(|_| ())'),
+    'bytes-are-not-synced': (PATH, '.sync_data()', '.metadata().map(|_| ())'),
+    'room-that-is-not-found-is-a-failure': (PATH, 'if finds_no_room(why) {', 'if finds_no_room(why) && false {'),
+    'what-no-room-was-found-for-stays': (PATH, '.ok_or(Failed)?.set_len(size)', '.ok_or(Failed)?.metadata().map(|_| ())'),
+    'store-may-be-removed': (PATH, 'let named = fs::metadata(files, path)?;', 'let named = file.metadata()?;'),
+    'store-may-be-replaced': (PATH, 'named.dev() != opened.dev() || named.ino() != opened.ino()', 'named.dev() != opened.dev()'),
+    'store-may-be-written-over': (PATH, 'if opened.len() != size {', 'if opened.len() != size && false {'),
+    'failed-calls-are-not-said': (PATH, 'if let Some(path) = self.path {\n            tell_of', 'if let (Some(path), false) = (self.path, true) {\n            tell_of'),
+    'store-that-is-made-is-not-locked': (PATH, '    file.lock_alone()?;\n    Ok(file)\n}\n\nfn read_at', '    Ok(file)\n}\n\nfn read_at'),
     'folder-is-not-synced': (PATH, 'fs::open(files, folder)?.sync_all()', 'fs::open(files, folder)?.metadata().map(|_| ())'),
     'written-at-the-end': (PATH, 'file.seek(SeekFrom::Start(place))?;\n    file.write_all(bytes)', 'file.seek(SeekFrom::End(0))?;\n    file.write_all(bytes)'),
     'read-at-the-start': (PATH, 'file.seek(SeekFrom::Start(place))?;\n    file.read_exact(buf)', 'file.seek(SeekFrom::Start(0))?;\n    file.read_exact(buf)'),
@@ -38,7 +45,24 @@ WRONG = {
     'clock-is-an-hour-off': (SEATS, 'LAST_MOMENT.min(time.as_secs())', 'LAST_MOMENT.min(time.as_secs().saturating_add(3600))'),
     'no-sleep': (SEATS, '        thread::sleep(&self.rt, Duration::from_micros(self.sleep));\n', ''),
     'slow-to-wake': (SEATS, 'let most = longest_sleep(', 'let most = 1000 * longest_sleep('),
-    'status-10-is-3': (MAIN, 'ExitCode::from(status_of_words(' + WORDS + '))', 'let status = status_of_words(' + WORDS + ');\n    ExitCode::from(if status == 10 { 3 } else { status })'),
+    'few-wait-at-a-port': (PORTS, 'libc::net::listen(listener.as_raw_fd(), MOST_WAITING)', 'libc::net::listen(listener.as_raw_fd(), 128)'),
+    'imap-port-is-heard-on-the-smtp-listener': (PORTS, 'Role::Imap => self.imap.accept(),', 'Role::Imap => self.smtp.accept(),'),
+    'closed-connection-stays-open': (LINK, '        self.sockets.close(conn);\n', ''),
+    'ports-listen-before-the-store-is-open': (LINK, 'let sockets = Sockets::open(rt, alloc, ports);', 'let mut sockets = Sockets::open(rt, alloc, ports);\n        let _listens = sockets.listen();'),
+    'end-is-not-said': (LINK, '        self.sockets.tell_end(status);\n', ''),
+    'a-stop-is-answered-at-once': (NET, 'matches!(self.role, Role::Http)', 'matches!(self.role, Role::Http) && false'),
+    'closed-connection-is-over-at-once': (NET, 'self.is_over = self.send_last().is_err();\n        }', 'self.is_over = true;\n        }'),
+    'given-up-after-a-second': (NET, 'const LINGER: u64 = 10;', 'const LINGER: u64 = 1;'),
+    'never-given-up': (NET, 'if self.ends_at.is_some_and(|end| end <= now) {', 'if false {'),
+    'much-waits': (NET, 'const MOST_WAITING: usize = 67_108_864;', 'const MOST_WAITING: usize = 1_067_108_864;'),
+    'seats-are-never-free-again': (SEATS, '        self.free();\n', ''),
+    'past-the-900th-unheard-after-a-silence': (SEATS, 'if seat.connection.is_none() || seat.lively_until.is_some() {', 'if place > 900 || seat.connection.is_none() || seat.lively_until.is_some() {'),
+    'no-seat-is-the-consoles': (SEATS, 'const SEATS_FOR_ALL: usize = 984;', 'const SEATS_FOR_ALL: usize = 1000;'),
+    'wrong-passwords-are-not-said': (SEATS, 'if self.refused(place) > refused {', 'if self.refused(place) < refused {'),
+    'every-wrong-password-is-said': (TELLING, 'Some(last) if last == second => {', 'Some(last) if last == second && false => {'),
+    'closed-streams-are-not-filled': (MAIN, '    fill_streams(&rt);\n    let', '    let'),
+    'smtp-and-imap-ports-are-swapped': (MAIN, 'ports(&words));', 'ports(&words).map(|p| (p.1, p.0, p.2)));'),
+    'status-10-is-3': (MAIN, 'ExitCode::from(status)', 'ExitCode::from(if status == 10 { 3 } else { status })'),
     'words-past-the-fifth-are-dropped': (MAIN, 'args.skip(1)', 'args.skip(1).take(5)'),
 
     # Proved: they give up as for want of memory.

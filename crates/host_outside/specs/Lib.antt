@@ -1,4 +1,6 @@
 pub mod FileDisk
 pub mod Files
+pub mod LoopLink
+pub mod Ports
 pub mod Seats
 pub mod Streams

@@ -1,5 +1,5 @@
 -- What happens at the seats of connections.
-use Rattle.std.specs.Prelude.{◌≡◌, ◌<◌, ℕ, zero, suc, min, Bool, List, length, take, slice_index_or, slice_set, Option, Some, None, is_none, IsSome, IfSome, IsSomeAnd}
+use Rattle.std.specs.Prelude.{◌≡◌, ◌<◌, ◌+◌, nat_lt, nat_le, if◌then◌else◌, ℕ, zero, suc, min, Bool, List, length, take, slice_index_or, slice_set, Option, Some, None, is_none, IsSome, IfSome, IsSomeAnd}
 use Rattle.undo_outside.specs.declared.event.What.{What}
 use Rattle.undo_outside.specs.declared.event.What.TheVariants.{Bytes, Left}
 use Rattle.host_outside.specs.declared.connection.Connection.{Connection}
@@ -30,9 +30,9 @@ pub record Turns {S : Type 0} (place : ℕ) (P : Seat S → Seat S → Type 0) (
   pub changed : new ≡ slice_set old place after
   pub turned : P before after
 
--- a connection sits there now
-abbrev pub Fills : {S : Type 0} → Seat S → Seat S → Type 0
-Fills before after = IsSome after.connection
+-- a connection that came at this port sits there now
+abbrev pub Fills : {S : Type 0} → ℕ → Seat S → Seat S → Type 0
+Fills port before after = IsSomeAnd after.connection (λ connection. connection.port ≡ port)
 
 -- the connection of the seat was sent a string, whole so far
 pub record IsSent {S : Type 0} (contents : S → Option (List ℕ)) (bytes : List ℕ) (before after : Seat S) : Type 0 where
@@ -45,6 +45,14 @@ pub record IsSent {S : Type 0} (contents : S → Option (List ℕ)) (bytes : Lis
 -- the connection of the seat, if there is one, is ended
 abbrev pub Ends : {S : Type 0} → Seat S → Seat S → Type 0
 Ends before after = IfSome before.connection (λ _. IsSomeAnd after.connection (λ new. IsSome new.ends_at))
+
+-- the seat behind this one, by turns
+abbrev pub seat_behind : ℕ → ℕ
+seat_behind place = if nat_lt place 999 then place + 1 else 0
+
+-- the longest sleep so many milliseconds after the last event, in microseconds
+abbrev pub longest_sleep : ℕ → ℕ
+longest_sleep quiet = if nat_le quiet 1000 then 1000 else (if nat_le quiet 60000 then 10000 else 65536)
 
 -- what an event tells of what came into the buffer
 abbrev pub told_of : Received → List ℕ → Option What

@@ -1,5 +1,5 @@
 -- What a connection does with its stream.
-use Rattle.std.specs.Prelude.{◌≡◌, ℕ, ◌<◌, ◌≤◌, false, List, ◌++◌, take, drop, length, Option}
+use Rattle.std.specs.Prelude.{◌≡◌, ◌⊎◌, ℕ, ◌+◌, ◌<◌, ◌≤◌, false, true, List, ◌++◌, take, drop, length, Option, Some, IsSome, IfSome}
 use Rattle.std.specs.Io.KnownBytes.{Appends, Consumes, Keeps}
 use Rattle.host_outside.specs.declared.connection.Connection.{Connection}
 use Rattle.host_outside.specs.declared.connection.Received.{Received}
@@ -17,6 +17,20 @@ pub record IsWhole {S : Type 0} (contents : S → Option (List ℕ)) (bytes : Li
   pub count : ℕ
   pub taken : IsTaken count (old.waiting ++ bytes) new.waiting (contents old.stream) (contents new.stream)
   pub sound : new.is_broken ≡ false
+
+-- What waits was given to the stream, which took its front and did not refuse.
+pub record IsPassedOn {S : Type 0} (contents : S → Option (List ℕ)) (old new : Connection S) : Type 0 where
+  pub count : ℕ
+  pub taken : IsTaken count old.waiting new.waiting (contents old.stream) (contents new.stream)
+  pub sound : new.is_broken ≡ false
+
+-- Why a string is missed: the stream refused it, or the connection has ended, or too much waits already, and then nothing is done.
+abbrev pub IsMissed : {S : Type 0} → Connection S → Connection S → Type 0
+IsMissed old new = (new.is_broken ≡ true) ⊎ ((new ≡ old) × (IsSome old.ends_at ⊎ (67108864 < length old.waiting)))
+
+-- when a connection that has ended is given up is as before, or ten seconds from now at most
+abbrev pub LingersOn : ℕ → Option ℕ → Option ℕ → Type 0
+LingersOn now old new = IfSome new (λ later. (old ≡ Some later) ⊎ (later ≤ now + 10))
 
 -- What came is the front of what the stream had to give. Where nothing came, or the other side left, it gave nothing.
 abbrev pub IsGiven : Option (List ℕ) → Option (List ℕ) → List ℕ → Received → Type 0

@@ -2,10 +2,10 @@
 ghost use Rattle.std.specs.Prelude.{List, Option, length};
 ghost use Rattle.host_outside.specs.Files.{Does};
 ghost use Rattle.host_outside.specs.declared.calls.FileCall.{FileCall as Call};
-ghost use Rattle.host_outside.specs.declared.calls.FileCall.TheVariants.{Made, Read, Wrote, SyncedAll, SyncedBytes, SyncedFolder};
+ghost use Rattle.host_outside.specs.declared.calls.FileCall.TheVariants.{Made, Read, Stood, Wrote, Cut, SyncedAll, SyncedBytes, SyncedFolder};
 
 use undo_base::Text;
-use undo_outside::Failed;
+use undo_outside::{DiskFault, Failed};
 
 /// What was done to a file.
 #[derive(Debug, Drop, PartialEq, Eq)]
@@ -14,8 +14,12 @@ pub enum FileCall {
     Made,
     /// So many bytes were read from a place on.
     Read { place: u64, count: u64 },
+    /// It was found at its path, with this length.
+    Stood { size: u64 },
     /// Bytes were written from a place on.
     Wrote { place: u64, bytes: Text },
+    /// What lay behind its first so many bytes was cut off.
+    Cut { size: u64 },
     /// Its bytes, its length and its times reached the device.
     SyncedAll,
     /// Its bytes reached the device.
@@ -38,9 +42,18 @@ pub trait FileCalls {
     fn read(&mut self, place: u64, buf: &mut [u8]) -> Result<(), Failed>
         ensures { Does (told self.old) (told self.new) (Read place (length buf.old)) result };
 
-    /// Writes all the bytes from a place on.
-    fn write(&mut self, place: u64, bytes: &[u8]) -> Result<(), Failed>
+    /// Looks whether it still stands at its path, with this length.
+    fn stand(&mut self, size: u64) -> Result<(), Failed>
+        ensures { Does (told self.old) (told self.new) (Stood size) result };
+
+    /// Writes all the bytes from a place on. Where no room is found for them some of the first ones may stand there, and want
+    /// of memory is answered.
+    fn write(&mut self, place: u64, bytes: &[u8]) -> Result<(), DiskFault>
         ensures { Does (told self.old) (told self.new) (Wrote place bytes.now) result };
+
+    /// Cuts off what lies behind its first so many bytes.
+    fn cut(&mut self, size: u64) -> Result<(), Failed>
+        ensures { Does (told self.old) (told self.new) (Cut size) result };
 
     /// Syncs the file with its length and its times.
     fn sync_all(&mut self) -> Result<(), Failed>

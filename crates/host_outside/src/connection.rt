@@ -1,14 +1,17 @@
 //! One connection, of which the other side may take its time.
-ghost use Rattle.std.specs.Prelude.{◌≡◌, ◌⊎◌, ℕ, true, false, Ok, IsSome, OnErr, is_err};
+ghost use Rattle.std.specs.Prelude.{◌≡◌, ◌⊎◌, ◌<◌, ◌≤◌, ◌+◌, ℕ, true, false, Ok, IfOk, IsSome, IfSome, OnErr, is_err, length};
 ghost use Rattle.std.specs.Result.{result_unwrap_or};
-ghost use Rattle.host_outside.specs.Streams.{IsExchanged, IsGiven, IsTaken, IsWhole};
+ghost use Rattle.host_outside.specs.Streams.{IsExchanged, IsGiven, IsMissed, IsPassedOn, IsTaken, IsWhole, LingersOn};
 ghost use Rattle.host_outside.specs.declared.connection.Received.TheVariants.{Nothing, Bytes, Left};
 
+use crate::listeners::Arrived;
+use crate::logins::logins_in;
 use crate::waiting::Waiting;
 use std::alloc::Global;
 use std::io::{self, ErrorKind, Read, Write};
-use std::net::{OpenStream, Shutdown};
+use std::net::{OpenStream, Shutdown, SocketAddr};
 use undo_base::NoMemory;
+use undo_outside::Role;
 
 /// Where more bytes than these wait, a connection is sent nothing more.
 const MOST_WAITING: usize = 67_108_864;
@@ -32,6 +35,9 @@ pub(crate) enum Received {
 #[derive(Drop)]
 pub(crate) struct Connection<S> {
     stream: S,
+    /// The port at which it came.
+    port: u16,
+    role: Role,
     waiting: Waiting,
     /// Where it was closed here or the other side left: the second at which it is given up.
     ends_at: Option<u64>,
@@ -41,6 +47,10 @@ pub(crate) struct Connection<S> {
     has_moved: bool,
     /// The stream refused the last bytes that it was given, and will not take what waits.
     is_broken: bool,
+    /// A mail reader has logged in.
+    is_known: bool,
+    /// How many logins were refused before one was done.
+    refused: usize,
 }
 
 impl<S> Connection<S> {
@@ -49,24 +59,58 @@ impl<S> Connection<S> {
     {
         self.is_over
     }
+
+    /// How many logins were refused before one was done.
+    pub(crate) fn refused(&self) -> usize {
+        self.refused
+    }
+
+    /// It is the operator's. What it is told goes out behind the event, with its end: so what answers a stop is read once
+    /// the store is closed.
+    pub(crate) fn is_console(&self) -> bool {
+        matches!(self.role, Role::Http)
+    }
+
+    /// Counts the logins that a string to a mail reader refuses. Nobody is told a text before one is done.
+    fn note_logins(&mut self, bytes: &[u8])
+        ensures { self.new ≡ record self.old { is_known = self.new.is_known; refused = self.new.refused } }
+    {
+        if self.is_known || !matches!(self.role, Role::Imap) {
+            return;
+        }
+        let (refused, is_known) = logins_in(bytes);
+        self.refused = self.refused.saturating_add(refused);
+        self.is_known = is_known;
+    }
 }
 
 impl<S: Read + Write + OpenStream> Connection<S> {
     /// A connection that has just come. From now on no call on it waits.
-    pub(crate) fn new(alloc: Global, stream: S) -> io::Result<Connection<S>>
+    pub(crate) fn new(alloc: Global, arrived: Arrived<S>, role: Role) -> io::Result<Connection<S>>
     where
         S: Drop,
+        ensures { IfOk result (λ it. it.port ≡ arrived.port) }
     {
+        let Arrived { stream, port } = arrived;
         stream.set_nonblocking(true)?;
         stream.set_nodelay(true)?;
         Ok(Connection {
             stream,
+            port,
+            role,
             waiting: Waiting::new(alloc),
             ends_at: None,
             is_over: false,
             has_moved: false,
             is_broken: false,
+            is_known: false,
+            refused: 0,
         })
+    }
+
+    /// Where the other side is.
+    pub(crate) fn peer(&self) -> Option<SocketAddr> {
+        self.stream.peer_addr().ok()
     }
 
     pub(crate) fn has_moved(&self) -> bool {
@@ -78,14 +122,33 @@ impl<S: Read + Write + OpenStream> Connection<S> {
     pub(crate) fn send(&mut self, bytes: &[u8]) -> Result<bool, NoMemory>
         ensures stays { self.new.ends_at ≡ self.old.ends_at }
         ensures whole { result ≡ Ok true → IsWhole S.contents bytes.now self.old self.new }
-        ensures missed { result ≡ Ok false → (self.new.is_broken ≡ true) ⊎ (self.new ≡ self.old) }
+        // It is missed only where the connection has ended, where more than 67,108,864 bytes wait, or where the stream refused.
+        ensures missed { result ≡ Ok false → IsMissed self.old self.new }
         ensures unsent { OnErr result (self.new ≡ self.old) }
     {
-        if self.ends_at.is_some() || self.waiting.len() > MOST_WAITING {
+        let has_ended = self.ends_at.is_some();
+        if has_ended {
+            return Ok(false);
+        }
+        if self.waiting.len() > MOST_WAITING {
             return Ok(false);
         }
         self.waiting.push(bytes)?;
-        Ok(self.flush().is_ok())
+        self.note_logins(bytes);
+        Ok(self.begin())
+    }
+
+    /// Gives the stream what waits; a console's waits for its next visit. Answers whether the stream refused nothing so far.
+    #[tactic(auto, using(crate::proofs::Known::kept, crate::proofs::Known::grown_by_none))]
+    fn begin(&mut self) -> bool
+        ensures stays { self.new.ends_at ≡ self.old.ends_at }
+        ensures taken { result ≡ true → IsPassedOn S.contents self.old self.new }
+        ensures refused { result ≡ false → self.new.is_broken ≡ true }
+    {
+        if self.is_console() {
+            return !self.is_broken;
+        }
+        self.flush().is_ok()
     }
 
     /// A visit: sends what waits, and reads what came. Nothing comes any more of one that has ended, and one that left has
@@ -95,6 +158,11 @@ impl<S: Read + Write + OpenStream> Connection<S> {
         ensures left { result ≡ Left → IsSome self.new.ends_at }
         ensures stays { IsSome self.old.ends_at → IsSome self.new.ends_at }
         ensures came { (count : ℕ) → result ≡ Bytes count → IsExchanged S.contents S.remaining self.old self.new buf.new (Bytes count) }
+        // Nothing comes where more than 1,048,576 bytes wait.
+        ensures unread { 1048576 < length self.new.waiting → (count : ℕ) → result ≡ Bytes count → ⊥ }
+        // One that ends is given up once it has taken nothing for ten seconds.
+        ensures given_up { IfSome self.old.ends_at (λ end. end ≤ now → self.new.has_moved ≡ false → self.new.is_over ≡ true) }
+        ensures lingers { LingersOn now self.old.ends_at self.new.ends_at }
     {
         self.has_moved = false;
         if self.ends_at.is_some() {
@@ -111,21 +179,27 @@ impl<S: Read + Write + OpenStream> Connection<S> {
 
     /// Nothing comes of it any more. It is over as soon as it has taken what waits and the other side has left.
     pub(crate) fn end(&mut self, now: u64)
-        ensures { IsSome self.new.ends_at }
+        ensures { IfSome self.new.ends_at (λ end. end ≤ now + 10) × IsSome self.new.ends_at }
     {
         self.ends_at = Some(now.saturating_add(LINGER));
-        self.is_over = self.send_last().is_err();
+        if !self.is_console() {
+            self.is_over = self.send_last().is_err();
+        }
     }
 
     fn go_on_ending(&mut self, now: u64, buf: &mut [u8])
-        ensures { IsSome self.old.ends_at → IsSome self.new.ends_at }
+        ensures ends { IsSome self.old.ends_at → IsSome self.new.ends_at }
+        ensures given_up { IfSome self.old.ends_at (λ end. end ≤ now → self.new.has_moved ≡ false → self.new.is_over ≡ true) }
+        ensures lingers { LingersOn now self.old.ends_at self.new.ends_at }
     {
         self.is_over = !matches!(self.finish(now, buf), Ok(false));
     }
 
     /// Sends what waits, and reads until the other side leaves. Answers whether it has, or was given up.
     fn finish(&mut self, now: u64, buf: &mut [u8]) -> io::Result<bool>
-        ensures { IsSome self.old.ends_at → IsSome self.new.ends_at }
+        ensures ends { IsSome self.old.ends_at → IsSome self.new.ends_at }
+        ensures given_up { IfSome self.old.ends_at (λ end. end ≤ now → self.new.has_moved ≡ false → result ≡ Ok false → ⊥) }
+        ensures lingers { LingersOn now self.old.ends_at self.new.ends_at }
     {
         if self.send_last()? > 0 {
             self.ends_at = Some(now.saturating_add(LINGER));
@@ -145,7 +219,8 @@ impl<S: Read + Write + OpenStream> Connection<S> {
 
     /// Sends what is taken of what waits, says so once all was sent, and answers how much that was.
     fn send_last(&mut self) -> io::Result<usize>
-        ensures { self.new.ends_at ≡ self.old.ends_at }
+        ensures stays { self.new.ends_at ≡ self.old.ends_at }
+        ensures moved { self.new.has_moved ≡ false → IfOk result (λ count. count ≡ 0) }
     {
         let count = self.flush()?;
         if self.waiting.len() == 0 {
@@ -159,6 +234,7 @@ impl<S: Read + Write + OpenStream> Connection<S> {
     fn exchange(&mut self, buf: &mut [u8]) -> Received
         ensures stays { self.new.ends_at ≡ self.old.ends_at }
         ensures exchanged { IsExchanged S.contents S.remaining self.old self.new buf.new result }
+        ensures unread { 1048576 < length self.new.waiting → (count : ℕ) → result ≡ Bytes count → ⊥ }
     {
         if self.flush().is_err() {
             return Received::Left;
@@ -174,6 +250,7 @@ impl<S: Read + Write + OpenStream> Connection<S> {
         ensures stays { self.new.ends_at ≡ self.old.ends_at }
         ensures sent { IsTaken (result_unwrap_or result 0) self.old.waiting self.new.waiting (S.contents self.old.stream) (S.contents self.new.stream) }
         ensures noted { self.new.is_broken ≡ is_err result }
+        ensures moved { self.new.has_moved ≡ false → IfOk result (λ count. count ≡ 0) }
     {
         let count = self.write_waiting();
         self.is_broken = count.is_err();
@@ -185,6 +262,7 @@ impl<S: Read + Write + OpenStream> Connection<S> {
     fn write_waiting(&mut self) -> io::Result<usize>
         ensures stays { self.new.ends_at ≡ self.old.ends_at }
         ensures sent { IsTaken (result_unwrap_or result 0) self.old.waiting self.new.waiting (S.contents self.old.stream) (S.contents self.new.stream) }
+        ensures moved { self.new.has_moved ≡ false → IfOk result (λ count. count ≡ 0) }
     {
         if self.waiting.len() == 0 {
             return Ok(0);

@@ -1,14 +1,16 @@
 //! A file as a disk, which tells its length and its counts alone, and what each of its calls does to the file.
-ghost use Rattle.std.specs.Prelude.{◌≡◌, ◌≢◌, ◌≤◌, ◌+◌, [], ◌∷◌, length, max, true, false, if◌then◌else◌, IfOk, OnOk, OnErr};
+ghost use Rattle.std.specs.Prelude.{◌≡◌, ◌≢◌, ◌≤◌, ◌+◌, [], ◌∷◌, length, take, drop, max, true, false, if◌then◌else◌, IfOk, IsErrOf, OnOk, OnErr};
 ghost use Rattle.undo_outside.specs.Calls.{Rose, then_told};
-ghost use Rattle.host_outside.specs.Files.{finds, makes, reads, syncs};
-ghost use Rattle.host_outside.specs.declared.calls.FileCall.TheVariants.{SyncedAll, SyncedBytes, SyncedFolder, Wrote};
+ghost use Rattle.undo_outside.specs.declared.fault.Fault.TheVariants.{NoMemory};
+ghost use Rattle.host_outside.specs.Files.{adds, changes, cuts, finds, makes, reads, syncs, writes};
+ghost use Rattle.host_outside.specs.declared.calls.FileCall.TheVariants.{Cut, SyncedAll, SyncedBytes, SyncedFolder};
 ghost use Rattle.host_outside.specs.declared.file_disk.State.TheVariants as states;
 
 use crate::calls::FileCalls;
 use crate::locks::Locks;
 use crate::path_file::{Found, Lock, PathFile};
 use std::rt::Files;
+use std::time::Clock;
 use undo_outside::{Disk, DiskFault, Failed, Fault};
 
 /// Whether a file is there.
@@ -39,7 +41,7 @@ pub struct DiskOver<F: FileCalls> {
 /// The file at a path.
 pub type FileDisk<'a, R> = DiskOver<PathFile<'a, R>>;
 
-impl<'a, R: Files> DiskOver<PathFile<'a, R>>
+impl<'a, R: Files + Eprint + Clock> DiskOver<PathFile<'a, R>>
 where
     R::File: Locks,
 {
@@ -140,9 +142,74 @@ impl<F: FileCalls> DiskOver<F> {
         }
     }
 
+    /// Cuts off what a write for which no room was found has left behind the end.
+    fn cut_off(&mut self) -> DiskFault
+        ensures cut { result ≡ NoMemory → F.told self.new.file ≡ then_told (F.told self.old.file) (Cut self.old.size ∷ []) }
+        ensures told { self.new ≡ record self.old { file = self.new.file } }
+    {
+        match self.file.cut(self.size) {
+            Ok(()) => Fault::NoMemory,
+            Err(Failed) => Fault::Failed,
+        }
+    }
+
+    /// Writes behind the end, to a file that is still at its path.
+    fn write_behind(&mut self, bytes: &[u8]) -> Result<(), DiskFault>
+        ensures calls { OnOk result (F.told self.new.file ≡ adds self.old.size bytes.now (F.told self.old.file)) }
+        ensures cut { IsErrOf result NoMemory → F.told self.new.file ≡ cuts states.There self.old.size (F.told self.old.file) }
+        ensures told { self.new ≡ record self.old { file = self.new.file } }
+    {
+        if bytes.is_empty() {
+            return Ok(());
+        }
+        if self.file.stand(self.size).is_err() {
+            return Err(Fault::Failed);
+        }
+        match self.file.write(self.size, bytes) {
+            Ok(()) => Ok(()),
+            Err(Fault::NoMemory) => Err(self.cut_off()),
+            Err(Fault::Failed) => Err(Fault::Failed),
+        }
+    }
+
+    /// Writes before the end. There no room is wanted: where none is found the write has failed.
+    fn write_before(&mut self, place: u64, bytes: &[u8]) -> Result<(), Failed>
+        ensures calls { OnOk result (F.told self.new.file ≡ changes place bytes.now (F.told self.old.file)) }
+        ensures told { self.new ≡ record self.old { file = self.new.file } }
+    {
+        if bytes.is_empty() {
+            return Ok(());
+        }
+        match self.file.write(place, bytes) {
+            Ok(()) => Ok(()),
+            Err(_) => Err(Failed),
+        }
+    }
+
+    /// Writes to a file that is there. What lies behind the end comes first, so that nothing has changed where no room is found.
+    fn write_parts(&mut self, place: u64, bytes: &[u8]) -> Result<(), DiskFault>
+        requires { place ≤ self.old.size }
+        ensures calls { OnOk result (F.told self.new.file ≡ writes states.There self.old.size place bytes.now (F.told self.old.file)) }
+        ensures cut { IsErrOf result NoMemory → F.told self.new.file ≡ cuts states.There self.old.size (F.told self.old.file) }
+        ensures told { self.new ≡ record self.old { file = self.new.file } }
+    {
+        let (before, behind) = parts(bytes, self.size - place);
+        match self.write_behind(behind) {
+            Ok(()) => {}
+            Err(Fault::NoMemory) => return Err(Fault::NoMemory),
+            Err(Fault::Failed) => return Err(Fault::Failed),
+        }
+        match self.write_before(place, before) {
+            Ok(()) => Ok(()),
+            Err(Failed) => Err(Fault::Failed),
+        }
+    }
+
     /// Writes, and answers the place behind what is written.
-    fn write_there(&mut self, place: u64, bytes: &[u8]) -> Result<u64, Failed>
-        ensures calls { OnOk result (F.told self.new.file ≡ then_told (then_told (F.told self.old.file) (makes self.old.state)) (Wrote place bytes.now ∷ [])) }
+    fn write_there(&mut self, place: u64, bytes: &[u8]) -> Result<u64, DiskFault>
+        requires { place ≤ self.old.size }
+        ensures calls { OnOk result (F.told self.new.file ≡ writes self.old.state self.old.size place bytes.now (F.told self.old.file)) }
+        ensures cut { IsErrOf result NoMemory → F.told self.new.file ≡ cuts self.old.state self.old.size (F.told self.old.file) }
         ensures end { IfOk result (λ end. end ≡ place + length bytes.now) }
         ensures there { OnOk result (self.new.state ≡ states.There) }
         ensures made { OnOk result (self.old.state ≡ states.Missing → self.new.is_new ≡ true) }
@@ -150,11 +217,16 @@ impl<F: FileCalls> DiskOver<F> {
         ensures told { self.new ≡ record self.old { file = self.new.file; state = self.new.state; is_new = self.new.is_new } }
     {
         let Some(end) = place.checked_add(bytes.len() as u64) else {
-            return Err(Failed);
+            return Err(Fault::Failed);
         };
-        self.make_missing()?;
-        self.file.write(place, bytes)?;
-        Ok(end)
+        if self.make_missing().is_err() {
+            return Err(Fault::Failed);
+        }
+        match self.write_parts(place, bytes) {
+            Ok(()) => Ok(end),
+            Err(Fault::NoMemory) => Err(Fault::NoMemory),
+            Err(Fault::Failed) => Err(Fault::Failed),
+        }
     }
 
     /// Reads what is there.
@@ -215,6 +287,18 @@ impl<F: FileCalls> DiskOver<F> {
     }
 }
 
+/// The first so many of the bytes, or all where there are no more, and the rest.
+fn parts(bytes: &[u8], count: u64) -> (&[u8], &[u8])
+    ensures front { result.0.now ≡ take count bytes.now }
+    ensures rest { result.1.now ≡ drop count bytes.now }
+{
+    if count < bytes.len() as u64 {
+        bytes.split_at(count as usize)
+    } else {
+        bytes.split_at(bytes.len())
+    }
+}
+
 impl<F: FileCalls> Disk for DiskOver<F> {
     ghost use Rattle.undo_outside.specs.Disk.{Measures, ReadsAt, Syncs, WritesAt};
     ghost use Rattle.host_outside.specs.FileDisk.{told_by};
@@ -252,7 +336,8 @@ impl<F: FileCalls> Disk for DiskOver<F> {
     fn write_at(&mut self, place: u64, bytes: &[u8]) -> Result<(), DiskFault>
         requires { place ≤ (told_by self.old).size }
         ensures call { WritesAt (told_by self.old) (told_by self.new) place bytes.now result }
-        ensures calls { OnOk result (F.told self.new.file ≡ then_told (then_told (F.told self.old.file) (makes self.old.state)) (Wrote place bytes.now ∷ [])) }
+        ensures calls { OnOk result (F.told self.new.file ≡ writes self.old.state self.old.size place bytes.now (F.told self.old.file)) }
+        ensures cut { IsErrOf result NoMemory → F.told self.new.file ≡ cuts self.old.state self.old.size (F.told self.old.file) }
         ensures size { OnOk result (self.new.size ≡ max self.old.size (place + length bytes.now)) }
         ensures unwritten { OnErr result (self.new.size ≡ self.old.size) }
         ensures there { OnOk result (self.new.state ≡ states.There) }
@@ -262,13 +347,18 @@ impl<F: FileCalls> Disk for DiskOver<F> {
         ensures grown { self.old.has_grown ≡ true → self.new.has_grown ≡ true }
     {
         self.note_growth(place, bytes);
-        let Ok(end) = self.write_there(place, bytes) else {
-            self.fail_write();
-            return Err(Fault::Failed);
-        };
-        self.size = self.size.max(end);
-        self.failed_last = false;
-        Ok(())
+        match self.write_there(place, bytes) {
+            Ok(end) => {
+                self.size = self.size.max(end);
+                self.failed_last = false;
+                Ok(())
+            }
+            Err(Fault::NoMemory) => Err(Fault::NoMemory),
+            Err(Fault::Failed) => {
+                self.fail_write();
+                Err(Fault::Failed)
+            }
+        }
     }
 
     fn sync(&mut self) -> Result<(), Failed>

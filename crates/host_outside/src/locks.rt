@@ -1,6 +1,6 @@
 //! Locks of a whole file, of which each call answers at once.
-use std::fs::File;
-use std::io;
+use std::fs::{File, TryLockError};
+use std::io::{self, ErrorKind};
 
 /// A file that can be locked until it is closed. A lock keeps out programs that ask for one, and nobody else.
 pub trait Locks {
@@ -13,10 +13,20 @@ pub trait Locks {
 
 impl Locks for File {
     fn lock_alone(&self) -> io::Result<()> {
-        Ok(self.try_lock()?)
+        self.try_lock().map_err(unlocked)
     }
 
     fn lock_beside(&self) -> io::Result<()> {
-        Ok(self.try_lock_shared()?)
+        self.try_lock_shared().map_err(unlocked)
+    }
+}
+
+/// Why no lock was had.
+fn unlocked(error: TryLockError) -> io::Error {
+    match error {
+        TryLockError::WouldBlock => {
+            io::Error::new(ErrorKind::WouldBlock, "another program has this store")
+        }
+        TryLockError::Error(error) => error,
     }
 }

@@ -1,8 +1,12 @@
 //! The connections of this machine as a link, which tells its counts alone.
-ghost use Rattle.std.specs.Prelude.{◌≡◌, ◌≤◌, ◌+◌, false, None, is_err, OnOk, OnErr};
-ghost use Rattle.undo_outside.specs.Calls.{Rose};
+ghost use Rattle.std.specs.Prelude.{◌≡◌, ◌≢◌, ◌<◌, ◌≤◌, ◌+◌, ℕ, false, true, None, Some, Ok, IfSome, is_err, length, OnOk, OnErr};
+ghost use Rattle.undo_outside.specs.Calls.{Closes, Rose};
+ghost use Rattle.host_outside.specs.LoopLink.{told_by};
+ghost use Rattle.host_outside.specs.Seats.{Ends, IsSent, Turns};
+ghost use Rattle.host_outside.specs.Seats as spec;
 
 use crate::sockets::Sockets;
+use crate::starting::{OWN, Step, behind, items_in, what_comes};
 use std::alloc::Global;
 use std::net::Net;
 use std::time::Clock;
@@ -14,6 +18,11 @@ use undo_outside::{Event, Fault, Link, LinkFault};
 #[derive(Drop)]
 pub struct LoopLink<R: Net> {
     sockets: Sockets<R>,
+    /// When it was made, in milliseconds of a clock that is not set back.
+    made: u64,
+    /// How far it has got with asking how many items there are, and what it was told.
+    step: Step,
+    items: Option<u64>,
     faults: u64,
     failed_last: bool,
     missed: u64,
@@ -21,12 +30,19 @@ pub struct LoopLink<R: Net> {
     starved_last: bool,
 }
 
-impl<R: Net + Clock> LoopLink<R> {
-    /// Listens on these ports, of SMTP, IMAP and HTTP; for port 0 the system chooses one. Without ports, or where one
-    /// can't be had, each `next` fails.
-    pub fn open(rt: R, alloc: Global, ports: Option<(u16, u16, u16)>) -> LoopLink<R> {
+impl<R: Net + Clock + Eprint> LoopLink<R> {
+    /// For these ports, of SMTP, IMAP and HTTP; for port 0 the system chooses one. It listens from the first `next` on. Without
+    /// ports, or where one can't be had, each `next` fails.
+    pub fn open(rt: R, alloc: Global, ports: Option<(u16, u16, u16)>) -> LoopLink<R>
+        ensures { result.sockets.ports ≡ ports }
+    {
+        let sockets = Sockets::open(rt, alloc, ports);
+        let made = sockets.millis();
         LoopLink {
-            sockets: Sockets::open(rt, alloc, ports),
+            sockets,
+            made,
+            step: Step::Joins,
+            items: None,
             faults: 0,
             failed_last: false,
             missed: 0,
@@ -50,26 +66,53 @@ impl<R: Net + Clock> LoopLink<R> {
         told
     }
 
+    /// Ends serving, which came to that status: a console that was answered gets its answer. What answered a stop goes out here,
+    /// once the store is closed.
+    pub fn finish(&mut self, status: u8) {
+        self.sockets.tell_answered();
+        self.sockets.tell_end(status);
+    }
+
+    /// The next event: the first are those of its own question, over a connection of its own.
+    fn come(&mut self) -> Result<Option<Event>, NoMemory>
+        ensures { self.new ≡ record self.old { sockets = self.new.sockets; step = self.new.step } }
+    {
+        if !self.sockets.listen() {
+            return Ok(None);
+        }
+        match what_comes(self.step, self.sockets.alloc())? {
+            Some(what) => {
+                self.step = behind(self.step);
+                Ok(Some(self.sockets.event(OWN, what)))
+            }
+            None => self.sockets.next(),
+        }
+    }
+
+    /// Sends a string, or takes the answer to its own question. Answers whether it may still arrive whole.
+    fn hand_on(&mut self, conn: u32, bytes: &[u8]) -> Result<bool, NoMemory>
+        ensures sent { conn ≢ 1001 → result ≡ Ok true → (place : ℕ) × (spec.place_of conn ≡ Some place)
+            × Turns place (IsSent R.Stream.contents bytes.now) self.old.sockets.seats.items self.new.sockets.seats.items }
+        ensures others { self.new ≡ record self.old { sockets = self.new.sockets; items = self.new.items } }
+    {
+        if conn == OWN {
+            self.items = items_in(bytes);
+            return Ok(true);
+        }
+        self.sockets.send(conn, bytes)
+    }
+
     /// The ports on which it listens.
     pub fn ports(&self) -> Option<(u16, u16, u16)> {
         self.sockets.ports()
     }
 }
 
-impl<R: Net + Clock> Link for LoopLink<R> {
-    ghost told = { λ l. record {
-      log = None;
-      coming = None;
-      faults = l.faults;
-      failed_last = l.failed_last;
-      missed = l.missed;
-      starved = l.starved;
-      starved_last = l.starved_last;
-      is_reliable = false;
-    } };
+impl<R: Net + Clock + Eprint> Link for LoopLink<R> {
+    ghost told = { told_by };
 
     fn next(&mut self) -> Result<Event, LinkFault> {
-        let came = self.sockets.next();
+        let came = self.come();
         match self.note_want(came)? {
             Some(event) => {
                 self.failed_last = false;
@@ -84,7 +127,7 @@ impl<R: Net + Clock> Link for LoopLink<R> {
     }
 
     fn send(&mut self, conn: u32, bytes: &[u8]) -> Result<(), LinkFault> {
-        let sent = self.sockets.send(conn, bytes);
+        let sent = self.hand_on(conn, bytes);
         if self.note_want(sent)? {
             return Ok(());
         }
@@ -92,7 +135,14 @@ impl<R: Net + Clock> Link for LoopLink<R> {
         Err(Fault::Failed)
     }
 
-    fn close(&mut self, conn: u32) -> Result<(), NoMemory> {
+    fn close(&mut self, conn: u32) -> Result<(), NoMemory>
+        ensures call { Closes (told_by self.old) (told_by self.new) conn result }
+        ensures ends { IfSome (spec.place_of conn) (λ place. place < length self.old.sockets.seats.items
+            → Turns place Ends self.old.sockets.seats.items self.new.sockets.seats.items) }
+    {
+        if conn == OWN {
+            self.sockets.tell_begin(self.made, self.items);
+        }
         self.sockets.close(conn);
         self.starved_last = false;
         Ok(())

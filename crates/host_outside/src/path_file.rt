@@ -1,14 +1,17 @@
-//! The file at a path of this machine. Nothing says what its calls do but std: each is a line or two.
+//! The file at a path of this machine. Nothing says what its calls do but std: each is a line or two. Of a call that failed
+//! a line on standard error says which it was, and why.
 ghost use Rattle.std.specs.Prelude.{None};
 
 use crate::calls::FileCalls;
 use crate::locks::Locks;
+use crate::telling::{Throttle, meaning, second};
 use std::fs::{self, OpenFile, OpenOptions};
 use std::io::{self, ErrorKind, Read, Seek, SeekFrom, Write};
-use std::os::unix::fs::OpenOptionsExt;
+use std::os::unix::fs::{MetadataExt, OpenOptionsExt};
 use std::path::Path;
 use std::rt::Files;
-use undo_outside::Failed;
+use std::time::Clock;
+use undo_outside::{DiskFault, Failed, Fault};
 
 /// A file, or the path where it is made, and what opens it.
 #[derive(Drop)]
@@ -16,6 +19,8 @@ pub struct PathFile<'a, R: Files> {
     files: R,
     path: Option<&'a String>,
     file: Option<R::File>,
+    /// Lets the lines pass that could come often.
+    throttle: Throttle,
 }
 
 /// Which lock is taken on a file that is there.
@@ -38,7 +43,7 @@ pub(crate) enum Found {
     There(u64),
 }
 
-impl<'a, R: Files> PathFile<'a, R>
+impl<'a, R: Files + Eprint + Clock> PathFile<'a, R>
 where
     R::File: Locks,
 {
@@ -48,11 +53,44 @@ where
             Some(path) => find_at(&files, path, lock),
             None => (None, Found::Nothing),
         };
-        (PathFile { files, path, file }, found)
+        let throttle = Throttle::new();
+        let file = PathFile {
+            files,
+            path,
+            file,
+            throttle,
+        };
+        (file, found)
+    }
+
+    /// Says which call failed, and why.
+    fn tell(&self, what: &str, why: &io::Error) -> Failed {
+        if let Some(path) = self.path {
+            tell_of(&self.files, path, what, why);
+        }
+        Failed
+    }
+
+    /// The same of a call that may fail again and again: once a second.
+    fn tell_seldom(&mut self, what: &str, why: &io::Error) -> Failed {
+        if self.throttle.pass(second(&self.files)).is_some() {
+            self.tell(what, why);
+        }
+        Failed
+    }
+
+    /// Says why a write was not done. One that found no room is to be undone.
+    fn unwritten(&mut self, why: &io::Error) -> DiskFault {
+        if finds_no_room(why) {
+            self.tell_seldom("there is no room for more", why);
+            return Fault::NoMemory;
+        }
+        self.tell("it cannot be written", why);
+        Fault::Failed
     }
 }
 
-impl<'a, R: Files> FileCalls for PathFile<'a, R>
+impl<'a, R: Files + Eprint + Clock> FileCalls for PathFile<'a, R>
 where
     R::File: Locks,
 {
@@ -60,61 +98,113 @@ where
 
     fn make(&mut self) -> Result<(), Failed> {
         let path = self.path.ok_or(Failed)?;
-        self.file = Some(make(&self.files, path).map_err(failed)?);
-        Ok(())
+        match make(&self.files, path) {
+            Ok(file) => {
+                self.file = Some(file);
+                Ok(())
+            }
+            Err(error) => Err(self.tell("it cannot be made", &error)),
+        }
     }
 
     fn read(&mut self, place: u64, buf: &mut [u8]) -> Result<(), Failed> {
         let file = self.file.as_mut().ok_or(Failed)?;
-        read_at(file, place, buf).map_err(failed)
+        match read_at(file, place, buf) {
+            Ok(()) => Ok(()),
+            Err(error) => Err(self.tell_seldom("it cannot be read", &error)),
+        }
     }
 
-    fn write(&mut self, place: u64, bytes: &[u8]) -> Result<(), Failed> {
-        let file = self.file.as_mut().ok_or(Failed)?;
-        write_at(file, place, bytes).map_err(failed)
+    fn stand(&mut self, size: u64) -> Result<(), Failed> {
+        let path = self.path.ok_or(Failed)?;
+        let file = self.file.as_ref().ok_or(Failed)?;
+        match stands_at(&self.files, path, file, size) {
+            Ok(()) => Ok(()),
+            Err(error) => Err(self.tell("the store that is served is not there any more", &error)),
+        }
+    }
+
+    fn write(&mut self, place: u64, bytes: &[u8]) -> Result<(), DiskFault> {
+        let Some(file) = self.file.as_mut() else {
+            return Err(Fault::Failed);
+        };
+        match write_at(file, place, bytes) {
+            Ok(()) => Ok(()),
+            Err(error) => Err(self.unwritten(&error)),
+        }
+    }
+
+    fn cut(&mut self, size: u64) -> Result<(), Failed> {
+        match self.file.as_ref().ok_or(Failed)?.set_len(size) {
+            Ok(()) => Ok(()),
+            Err(error) => Err(self.tell("it cannot be cut", &error)),
+        }
     }
 
     fn sync_all(&mut self) -> Result<(), Failed> {
-        self.file.as_ref().ok_or(Failed)?.sync_all().map_err(failed)
+        match self.file.as_ref().ok_or(Failed)?.sync_all() {
+            Ok(()) => Ok(()),
+            Err(error) => Err(self.tell("it cannot be synced", &error)),
+        }
     }
 
     fn sync_bytes(&mut self) -> Result<(), Failed> {
-        self.file
-            .as_ref()
-            .ok_or(Failed)?
-            .sync_data()
-            .map_err(failed)
+        match self.file.as_ref().ok_or(Failed)?.sync_data() {
+            Ok(()) => Ok(()),
+            Err(error) => Err(self.tell("its bytes cannot be synced", &error)),
+        }
     }
 
     fn sync_folder(&mut self) -> Result<(), Failed> {
         let path = self.path.ok_or(Failed)?;
-        sync_folder(&self.files, path).map_err(failed)
+        match sync_folder(&self.files, path) {
+            Ok(()) => Ok(()),
+            Err(error) => Err(self.tell("its folder cannot be synced", &error)),
+        }
     }
 }
 
-fn failed(_error: io::Error) -> Failed {
-    Failed
+/// A line on what went wrong with the file at a path.
+fn tell_of<R: Eprint>(rt: &R, path: &String, what: &str, why: &io::Error) {
+    let path = path.as_str();
+    let meaning = meaning(why);
+    let _told = eprintln!(rt; "undomail: {path}: {what}: {meaning}{why}");
 }
 
-fn find_at<R: Files>(files: &R, path: &String, lock: Lock) -> (Option<R::File>, Found)
+/// Whether a write failed since there is no room: on the device, for the user, or in a file.
+fn finds_no_room(error: &io::Error) -> bool {
+    matches!(
+        error.kind(),
+        ErrorKind::StorageFull | ErrorKind::QuotaExceeded | ErrorKind::FileTooLarge
+    )
+}
+
+fn find_at<R: Files + Eprint>(files: &R, path: &String, lock: Lock) -> (Option<R::File>, Found)
 where
     R::File: Locks,
 {
     match open_there(files, path, lock) {
         Ok((file, size)) => (Some(file), Found::There(size)),
         Err(error) if error.kind() == ErrorKind::NotFound => (None, Found::Missing),
-        Err(_) => (None, Found::Nothing),
+        Err(error) => {
+            tell_of(files, path, "it cannot be opened", &error);
+            (None, Found::Nothing)
+        }
     }
 }
 
 /// Opens the plain file at a path, locks it, and finds its length, which nobody else changes from then on. What is no
 /// plain file is not opened, since that might wait.
-fn open_there<R: Files>(files: &R, path: &String, lock: Lock) -> io::Result<(R::File, u64)>
+fn open_there<R: Files + Eprint>(files: &R, path: &String, lock: Lock) -> io::Result<(R::File, u64)>
 where
     R::File: Locks,
 {
-    if !fs::metadata(files, path)?.is_file() {
-        return Err(io::Error::from(ErrorKind::InvalidInput));
+    let found = fs::metadata(files, path)?;
+    if found.is_dir() {
+        return Err(io::Error::new(ErrorKind::IsADirectory, "this is a folder"));
+    }
+    if !found.is_file() {
+        return Err(io::Error::new(ErrorKind::InvalidInput, "this is no plain file"));
     }
     let file = match lock {
         Lock::Exclusive => open_alone(files, path)?,
@@ -125,13 +215,16 @@ where
 }
 
 /// Opens a file for this program alone; for reading alone where it may not be written.
-fn open_alone<R: Files>(files: &R, path: &String) -> io::Result<R::File>
+fn open_alone<R: Files + Eprint>(files: &R, path: &String) -> io::Result<R::File>
 where
     R::File: Locks,
 {
     let file = match OpenOptions::new().read(true).write(true).open(files, path) {
         Ok(file) => file,
-        Err(_) => fs::open(files, path)?,
+        Err(error) => {
+            tell_of(files, path, "it is opened for reading alone", &error);
+            fs::open(files, path)?
+        }
     };
     file.lock_alone()?;
     Ok(file)
@@ -170,6 +263,22 @@ fn read_at<F: Read + Seek>(file: &mut F, place: u64, buf: &mut [u8]) -> io::Resu
 fn write_at<F: Write + Seek>(file: &mut F, place: u64, bytes: &[u8]) -> io::Result<()> {
     file.seek(SeekFrom::Start(place))?;
     file.write_all(bytes)
+}
+
+/// Whether the open file is the one at its path, and has this length.
+fn stands_at<R: Files>(files: &R, path: &String, file: &R::File, size: u64) -> io::Result<()> {
+    let opened = file.metadata()?;
+    let named = fs::metadata(files, path)?;
+    if named.dev() != opened.dev() || named.ino() != opened.ino() {
+        return Err(io::Error::new(ErrorKind::NotFound, "another file has its name"));
+    }
+    if opened.len() != size {
+        return Err(io::Error::new(
+            ErrorKind::InvalidData,
+            "something else has changed its length",
+        ));
+    }
+    Ok(())
 }
 
 /// Syncs the folder of a file, so that the file is found there after a crash.

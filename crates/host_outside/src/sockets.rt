@@ -1,25 +1,29 @@
 //! The listeners and the connections, visited in rounds: those that were active lately in each, the others by turns.
-ghost use Rattle.std.specs.Prelude.{◌≡◌, ◌<◌, ◌≤◌, ◌+◌, ℕ, true, false, IfSome, IfNone, IsNone, None, Some, Ok, length, min, take, position};
+ghost use Rattle.std.specs.Prelude.{◌≡◌, ◌<◌, ◌≤◌, ◌+◌, ◌-◌, ◌*◌, ◌^◌, ℕ, true, false, IfSome, IfNone, IsNone, None, Some, Ok, length, max, min, take, position};
+ghost use Rattle.std.specs.Option.{option_map};
+ghost use Rattle.host_outside.specs.Ports.{AskedFor, port_of};
+ghost use Rattle.host_outside.specs.Ports as seats;
 ghost use Rattle.host_outside.specs.Seats.{Ends, Fills, Gives, Hears, IsLeft, IsSent, Receives, SatBefore, Turns, is_free, told_of};
 ghost use Rattle.host_outside.specs.declared.connection.Received.TheVariants as came;
 ghost use Rattle.host_outside.specs.Seats as spec;
 ghost use Rattle.undo_outside.specs.declared.event.What.TheVariants.{Joined};
 
 use crate::connection::{Connection, Received};
-use crate::listeners::Listeners;
+use crate::listeners::{Arrived, Listeners};
+use crate::telling::{Throttle, second};
 use std::alloc::Global;
-use std::io::{Read, Write};
-use std::net::{Net, OpenStream};
+use std::io::{self, ErrorKind, Read, Write};
+use std::net::{Net, OpenStream, SocketAddr};
 use std::time::{Clock, Duration};
 use std::{mem, thread};
 use undo_base::{LAST_MOMENT, NoMemory, Text};
 use undo_outside::{Event, Role, What};
 
-/// The listeners.
-const LISTENERS: usize = 3;
-
 /// The seats of the connections, whose numbers are 1 to this.
 const SEATS: usize = 1000;
+
+/// The first so many are for all, the others for the console alone.
+const SEATS_FOR_ALL: usize = 984;
 
 /// The most visits of a round: the listeners, those that were active lately, and a turn through all seats.
 const MOST_VISITS: usize = 2003;
@@ -107,6 +111,26 @@ impl<S: Read + Write + OpenStream + Drop> Seat<S> {
         }
     }
 
+    /// How many logins its connection was refused.
+    fn refused(&self) -> usize {
+        match &self.connection {
+            Some(connection) => connection.refused(),
+            None => 0,
+        }
+    }
+
+    fn is_console(&self) -> bool {
+        match &self.connection {
+            Some(connection) => connection.is_console(),
+            None => false,
+        }
+    }
+
+    /// Where the other side of its connection is.
+    fn peer(&self) -> Option<SocketAddr> {
+        self.connection.as_ref()?.peer()
+    }
+
     /// Its connection was active at a visit in which that came.
     fn is_active(&self, received: &Received) -> bool {
         let has_moved = match &self.connection {
@@ -151,13 +175,20 @@ enum Turn {
 pub(crate) struct Sockets<R: Net> {
     rt: R,
     alloc: Global,
+    /// The ports of SMTP, IMAP and HTTP that are asked for.
+    ports: Option<(u16, u16, u16)>,
+    /// What listens there, from the first event that is asked for on.
     listeners: Option<Listeners<R::Listener>>,
     seats: Vec<Seat<R::Stream>>,
     /// Where the next bytes are read into.
     spare: Vec<u8>,
     /// The seats whose connections were active lately, each once. One that found no room here is among the others.
     lively: Vec<usize>,
-    /// How many listeners and lively seats were visited in this round.
+    /// The listener that is looked at next, the first of three being 0.
+    listener: usize,
+    /// When the listeners were last begun with, in milliseconds of a clock that is not set back.
+    listened: u64,
+    /// How many lively seats were visited in this round.
     visited: usize,
     /// How many seats were gone through in this round.
     passed: usize,
@@ -175,22 +206,30 @@ pub(crate) struct Sockets<R: Net> {
     last: u64,
     /// The moment of the last event.
     at: u64,
+    /// Something came in this round.
+    is_busy: bool,
+    /// The seat of a console whose answer goes out before the next event.
+    answered: Option<usize>,
+    /// Lets the lines pass on logins that were refused, and on connections that can't be taken.
+    refusals: Throttle,
+    lost: Throttle,
 }
 
-impl<R: Net + Clock> Sockets<R> {
-    /// Listens on these ports. Without ports, or where one of them can't be had, there are no listeners.
-    pub(crate) fn open(rt: R, alloc: Global, ports: Option<(u16, u16, u16)>) -> Sockets<R> {
-        let listeners = match ports {
-            Some(ports) => Listeners::open(&rt, ports).ok(),
-            None => None,
-        };
+impl<R: Net + Clock + Eprint> Sockets<R> {
+    /// For these ports, on which nothing listens yet.
+    pub(crate) fn open(rt: R, alloc: Global, ports: Option<(u16, u16, u16)>) -> Sockets<R>
+        ensures { result.ports ≡ ports }
+    {
         Sockets {
             rt,
             alloc,
-            listeners,
+            ports,
+            listeners: None,
             seats: Vec::new(alloc),
             spare: Vec::new(alloc),
             lively: Vec::new(alloc),
+            listener: 0,
+            listened: 0,
             visited: 0,
             passed: 0,
             visited_others: 0,
@@ -200,37 +239,87 @@ impl<R: Net + Clock> Sockets<R> {
             sleep: SHORTEST_SLEEP,
             last: 0,
             at: 0,
+            is_busy: false,
+            answered: None,
+            refusals: Throttle::new(),
+            lost: Throttle::new(),
         }
     }
 
+    /// The ports on which it listens.
     pub(crate) fn ports(&self) -> Option<(u16, u16, u16)> {
-        self.listeners.as_ref().map(|listeners| listeners.ports)
+        match &self.listeners {
+            Some(listeners) => Some(listeners.ports()),
+            None => None,
+        }
     }
 
-    /// The next event, an idle one after about a second without; or none at all where there are no listeners.
-    pub(crate) fn next(&mut self) -> Result<Option<Event>, NoMemory> {
+    /// Listens on its ports, if it does not yet. Answers whether it listens: without ports, or where one can't be had, it does
+    /// not.
+    pub(crate) fn listen(&mut self) -> bool
+        ensures listens { IsNone self.old.listeners → IfSome self.new.listeners (λ it. IfSome self.old.ports (λ ports. AskedFor ports it)) }
+        ensures others { self.new ≡ record self.old { listeners = self.new.listeners } }
+    {
         if self.listeners.is_none() {
+            self.listeners = self.listeners_of();
+        }
+        self.listeners.is_some()
+    }
+
+    fn listeners_of(&self) -> Option<Listeners<R::Listener>>
+        ensures { IfSome result (λ it. IfSome self.now.ports (λ ports. AskedFor ports it)) }
+    {
+        match self.ports {
+            Some(ports) => Listeners::open(&self.rt, ports),
+            None => None,
+        }
+    }
+
+    /// The next event, an idle one after about a second without; or none at all where nothing listens.
+    pub(crate) fn next(&mut self) -> Result<Option<Event>, NoMemory> {
+        if !self.listen() {
             return Ok(None);
         }
         self.make_ready()?;
+        self.tell_answered();
         let begun = self.millis();
         for _ in 0..MOST_ROUNDS {
             let now = self.millis();
             if let Some(event) = self.go_round(now) {
                 self.sleep = SHORTEST_SLEEP;
                 self.last = now;
+                self.is_busy = true;
                 return Ok(Some(event));
             }
             if now.saturating_sub(begun) >= IDLE {
                 break;
             }
-            self.rest(now);
+            self.end_round(now);
         }
         Ok(Some(self.event(0, What::Idle)))
     }
 
+    /// Gives a console that was answered its answer, and ends its connection.
+    pub(crate) fn tell_answered(&mut self) {
+        if let Some(place) = self.answered.take() {
+            let now = self.millis();
+            let _heard = self.visit(place, now);
+        }
+    }
+
+    /// Behind a round in which something came there is no sleep.
+    fn end_round(&mut self, now: u64) {
+        if self.is_busy {
+            self.is_busy = false;
+        } else {
+            self.rest(now);
+        }
+    }
+
     /// Sleeps, the longer the longer nothing came or went.
-    fn rest(&mut self, now: u64) {
+    fn rest(&mut self, now: u64)
+        ensures { self.new ≡ record self.old { sleep = min (spec.longest_sleep (now - self.old.last)) (min (self.old.sleep * 2) (2 ^ 64 - 1)) } }
+    {
         thread::sleep(&self.rt, Duration::from_micros(self.sleep));
         let most = longest_sleep(now.saturating_sub(self.last));
         self.sleep = most.min(self.sleep.saturating_mul(2));
@@ -248,8 +337,17 @@ impl<R: Net + Clock> Sockets<R> {
         Ok(())
     }
 
+    /// In each millisecond the listeners come first, so that whoever comes is taken in before others are heard.
+    fn begin_listeners(&mut self, now: u64) {
+        if now != self.listened {
+            self.listened = now;
+            self.listener = 0;
+        }
+    }
+
     /// Goes on with the round until one has an event, or the round is over.
     fn go_round(&mut self, now: u64) -> Option<Event> {
+        self.begin_listeners(now);
         for _ in 0..MOST_VISITS {
             let event = match self.turn() {
                 Turn::Listener(role) => self.visit_listener(role, now),
@@ -269,11 +367,11 @@ impl<R: Net + Clock> Sockets<R> {
 
     /// In a round come the listeners, then all seats that were active lately, and then some of the others, by turns.
     fn turn(&self) -> Turn {
-        match self.visited {
+        match self.listener {
             0 => Turn::Listener(Role::Smtp),
             1 => Turn::Listener(Role::Imap),
             2 => Turn::Listener(Role::Http),
-            visited if visited - LISTENERS < self.lively.len() => Turn::Lively(visited - LISTENERS),
+            _ if self.visited < self.lively.len() => Turn::Lively(self.visited),
             _ if self.passed < SEATS && self.visited_others < self.share => Turn::Other,
             _ => Turn::Over,
         }
@@ -282,6 +380,7 @@ impl<R: Net + Clock> Sockets<R> {
     fn begin_round(&mut self, now: u64) {
         self.share = share(now.saturating_sub(self.begun));
         self.begun = now;
+        self.listener = 0;
         self.visited = 0;
         self.passed = 0;
         self.visited_others = 0;
@@ -291,7 +390,7 @@ impl<R: Net + Clock> Sockets<R> {
     fn visit_listener(&mut self, role: Role, now: u64) -> Option<Event> {
         let event = self.accept(role, now);
         if event.is_none() {
-            self.visited = self.visited.saturating_add(1);
+            self.listener = self.listener.saturating_add(1);
         }
         event
     }
@@ -309,11 +408,20 @@ impl<R: Net + Clock> Sockets<R> {
         None
     }
 
+    /// Whose seat's turn it is, which is then that of the seat behind.
+    fn go_on(&mut self) -> usize
+        ensures turn { result ≡ self.old.place }
+        ensures next { self.new ≡ record self.old { place = spec.seat_behind self.old.place; passed = self.new.passed } }
+    {
+        let place = self.place;
+        self.place = seat_behind(place);
+        self.passed = self.passed.saturating_add(1);
+        place
+    }
+
     /// Goes to the next seat, and visits it unless it is empty or on the list.
     fn visit_other(&mut self, now: u64) -> Option<Event> {
-        let place = self.place;
-        self.place = if place < SEATS - 1 { place + 1 } else { 0 };
-        self.passed = self.passed.saturating_add(1);
+        let place = self.go_on();
         let seat = self.seats.get(place)?;
         if seat.connection.is_none() || seat.lively_until.is_some() {
             return None;
@@ -322,19 +430,87 @@ impl<R: Net + Clock> Sockets<R> {
         self.receive(place, now)
     }
 
-    /// Takes in a connection that waits, under the lowest free number.
+    /// Takes in a connection that waits at the port of a role, under the lowest free number. The last sixteen are the console's.
     fn accept(&mut self, role: Role, now: u64) -> Option<Event>
         ensures joined { IfSome result (λ event. event.what ≡ Joined role) }
-        ensures seated { IfSome result (λ event. (place : ℕ) × (event.conn ≡ place + 1) × (position is_free self.old.seats.items ≡ Some place) × Turns place Fills self.old.seats.items self.new.seats.items) }
+        ensures seated { IfSome result (λ event. (place : ℕ) × (port : ℕ) × (event.conn ≡ place + 1) × (place < seats.seats_of role)
+            × (position is_free self.old.seats.items ≡ Some place) × (option_map (port_of role) self.old.listeners ≡ Some port)
+            × Turns place (Fills port) self.old.seats.items self.new.seats.items) }
+    {
+        let place = self.free_seat(role)?;
+        let number = number_of(place)?;
+        let arrived = self.arrived(role)?;
+        if !self.seat(place, arrived, role, now) {
+            return None;
+        }
+        Some(self.event(number, What::Joined(role)))
+    }
+
+    /// The lowest free seat, if a connection of the role may sit there.
+    fn free_seat(&self, role: Role) -> Option<usize>
+        ensures { IfSome result (λ place. (place < seats.seats_of role) × (position is_free self.now.seats.items ≡ Some place)) }
     {
         let place = first_free(&self.seats)?;
-        let number = number_of(place)?;
-        let stream = self.listeners.as_ref()?.accept(role)?;
-        let connection = Connection::new(self.alloc, stream).ok()?;
-        let seat = self.seats.get_mut(place)?;
+        if place < seats_of(role) {
+            Some(place)
+        } else {
+            None
+        }
+    }
+
+    /// Gives a connection that came a seat. Answers whether it sits there now.
+    fn seat(&mut self, place: usize, arrived: Arrived<R::Stream>, role: Role, now: u64) -> bool
+        ensures { result ≡ true → Turns place (Fills arrived.port) self.old.seats.items self.new.seats.items }
+    {
+        let Ok(connection) = Connection::new(self.alloc, arrived, role) else {
+            return false;
+        };
+        let Some(seat) = self.seats.get_mut(place) else {
+            return false;
+        };
         seat.connection = Some(connection);
         seat.enliven(&mut self.lively, place, now);
-        Some(self.event(number, What::Joined(role)))
+        true
+    }
+
+    /// The next connection that waits at the port of a role, if one does.
+    fn arrived(&mut self, role: Role) -> Option<Arrived<R::Stream>>
+        ensures port { IfSome result (λ arrived. option_map (port_of role) self.old.listeners ≡ Some arrived.port) }
+        ensures others { self.new ≡ record self.old { lost = self.new.lost } }
+    {
+        match self.listeners.as_ref()?.accept(role) {
+            Ok(arrived) => Some(arrived),
+            Err(error) => {
+                self.tell_lost(&error);
+                None
+            }
+        }
+    }
+
+    /// Says why a connection can't be taken, unless it is that none waits.
+    fn tell_lost(&mut self, why: &io::Error)
+        ensures { self.new ≡ record self.old { lost = self.new.lost } }
+    {
+        if matches!(why.kind(), ErrorKind::WouldBlock) {
+            return;
+        }
+        if self.lost.pass(second(&self.rt)).is_some() {
+            let _told = eprintln!(self.rt; "undomail: a connection cannot be taken: {why}");
+        }
+    }
+
+    /// Says that a login was refused, and to whom: a line a second at most, which counts those that got none.
+    fn tell_refused(&mut self, place: usize)
+        ensures { self.new ≡ record self.old { refusals = self.new.refusals } }
+    {
+        let Some(peer) = self.seats.get(place).and_then(|seat| seat.peer()) else {
+            return;
+        };
+        if let Some(others) = self.refusals.pass(second(&self.rt)) {
+            let _told = eprintln!(self.rt;
+                "undomail: wrong password over IMAP from {peer}, and {others} since the last such line"
+            );
+        }
     }
 
     /// Sends what waits for a seat's connection, and tells what came over it.
@@ -391,8 +567,39 @@ impl<R: Net + Clock> Sockets<R> {
         Text::from_vec(bytes)
     }
 
+    pub(crate) fn alloc(&self) -> Global {
+        self.alloc
+    }
+
+    /// Says where it serves, how many items there are, if that was told, and how long it took since it was made.
+    pub(crate) fn tell_begin(&self, made: u64, items: Option<u64>) {
+        let Some((smtp, imap, http)) = self.ports() else {
+            return;
+        };
+        let took = self.millis().saturating_sub(made);
+        let _told = match items {
+            Some(items) => {
+                eprintln!(self.rt;
+                    "undomail: serves SMTP on port {smtp}, IMAP on port {imap} and the console on port {http}: {items} items, opened in {took} ms"
+                )
+            }
+            None => {
+                eprintln!(self.rt;
+                    "undomail: serves SMTP on port {smtp}, IMAP on port {imap} and the console on port {http}, opened in {took} ms"
+                )
+            }
+        };
+    }
+
+    /// Says that serving ends, if it had begun.
+    pub(crate) fn tell_end(&self, status: u8) {
+        if self.listeners.is_some() {
+            let _told = eprintln!(self.rt; "undomail: ends with status {status}");
+        }
+    }
+
     /// What happened, now. Where the clock can't be read, it happened when the event before did.
-    fn event(&mut self, conn: u32, what: What) -> Event
+    pub(crate) fn event(&mut self, conn: u32, what: What) -> Event
         ensures conn { result.conn ≡ conn }
         ensures what { result.what ≡ what }
         ensures others { self.new ≡ record self.old { at = self.new.at } }
@@ -408,7 +615,7 @@ impl<R: Net + Clock> Sockets<R> {
     }
 
     /// Milliseconds of a clock that is not set back.
-    fn millis(&self) -> u64 {
+    pub(crate) fn millis(&self) -> u64 {
         match self.rt.monotonic() {
             Ok(time) => time
                 .as_secs()
@@ -425,13 +632,33 @@ impl<R: Net + Clock> Sockets<R> {
         let Some(place) = place_of(conn) else {
             return Ok(false);
         };
+        let refused = self.refused(place);
+        let sent = self.send_at(place, bytes);
+        if self.refused(place) > refused {
+            self.tell_refused(place);
+        }
+        sent
+    }
+
+    /// Sends a string over the connection of a seat.
+    fn send_at(&mut self, place: usize, bytes: &[u8]) -> Result<bool, NoMemory>
+        ensures { result ≡ Ok true → Turns place (IsSent R.Stream.contents bytes.now) self.old.seats.items self.new.seats.items }
+    {
         match self.seats.get_mut(place) {
             Some(seat) => seat.send(bytes),
             None => Ok(false),
         }
     }
 
-    /// Ends a connection, if there is one of this number.
+    /// How many logins the connection of a seat was refused.
+    fn refused(&self, place: usize) -> usize {
+        match self.seats.get(place) {
+            Some(seat) => seat.refused(),
+            None => 0,
+        }
+    }
+
+    /// Ends a connection, if there is one of this number. A console's has its answer and its end before the next event.
     pub(crate) fn close(&mut self, conn: u32)
         ensures { IfSome (spec.place_of conn) (λ place. place < length self.old.seats.items → Turns place Ends self.old.seats.items self.new.seats.items) }
     {
@@ -440,8 +667,30 @@ impl<R: Net + Clock> Sockets<R> {
             return;
         };
         if let Some(seat) = self.seats.get_mut(place) {
+            let is_console = seat.is_console();
             seat.end(now);
+            if is_console {
+                self.answered = Some(place);
+            }
         }
+    }
+}
+
+/// The seat whose turn comes behind that of a seat.
+fn seat_behind(place: usize) -> usize
+    ensures { result ≡ spec.seat_behind place }
+{
+    if place < SEATS - 1 { place + 1 } else { 0 }
+}
+
+/// The seats at which a connection of a role may sit are the first so many.
+fn seats_of(role: Role) -> usize
+    ensures { result ≡ seats.seats_of role }
+{
+    match role {
+        Role::Smtp => SEATS_FOR_ALL,
+        Role::Imap => SEATS_FOR_ALL,
+        Role::Http => SEATS,
     }
 }
 
@@ -473,8 +722,7 @@ fn first_free<S>(seats: &[Seat<S>]) -> Option<usize>
 
 /// The longest sleep so many milliseconds after the last event, in microseconds.
 fn longest_sleep(quiet: u64) -> u64
-    ensures within_a_second { quiet ≤ 1000 → result ≡ 1000 }
-    ensures within_a_minute { quiet ≤ 60000 → result ≤ 10000 }
+    ensures { result ≡ spec.longest_sleep quiet }
 {
     match quiet {
         0..=1000 => SLEEP_WITHIN_A_SECOND,
