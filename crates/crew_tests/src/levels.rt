@@ -253,8 +253,18 @@ fn levels_of_sends<R: Threads + Sync, G: Gate>(
 
 #[test]
 fn two_sends_are_worked_out_side_by_side(rt: HostRuntime) -> Result<(), Fail> {
-    let gate = Holding::new();
+    let gate = Holding::new(2, 3);
     assert!(rt; levels_of_sends(&rt, rt.alloc(), 2, &gate)? == 1);
+    assert!(rt; gate.held_and_saw());
+    Ok(())
+}
+
+#[test]
+fn the_first_and_the_last_of_forty_sends_are_worked_out_side_by_side(
+    rt: HostRuntime,
+) -> Result<(), Fail> {
+    let gate = Holding::new(2, 41);
+    assert!(rt; levels_of_sends(&rt, rt.alloc(), USERS, &gate)? == 1);
     assert!(rt; gate.held_and_saw());
     Ok(())
 }

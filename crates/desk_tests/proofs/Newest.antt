@@ -3,7 +3,7 @@ use Rattle.std.proofs.Common.{◌≡◌, ◌∙◌, ℕ, ◌-◌, arith, Bool, c
 use Rattle.std.proofs.lemmas.Bool.Decides.{nat_tests}
 use Rattle.std.proofs.lemmas.List.Elements.{filter-append}
 use Rattle.std.proofs.Math.Seq.{get_or-append_seam}
-use Rattle.paradox.specs.Kept.{newest_at, not_behind, placed}
+use Rattle.store_kept.specs.Kept.{newest_at, not_behind, placed}
 
 abbrev below : ℕ → List ℕ → List ℕ
 below n xs = filter (λ (p : ℕ). nat_lt p n) xs

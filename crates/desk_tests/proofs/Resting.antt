@@ -4,10 +4,10 @@ use Rattle.verb_bytes.specs.declared.journal.CycleAsk.{CycleAsk}
 use Rattle.verb_core.specs.declared.item.Act.{Act}
 use Rattle.verb_core.specs.declared.item.Item.{Item}
 use Rattle.paradox.specs.declared.reports.Report.{Report}
-use Rattle.paradox.specs.Kept.{Kept, newest_at, report_of}
+use Rattle.store_kept.specs.Kept.{Kept, newest_at, report_of}
 use Rattle.repair_desk.specs.Repairs.{position}
-use Rattle.mail_cycle.specs.Asking.{Due, NoNumbers, NoPoint, Repeats, Rewinds, cycle_due, due_at, due_by}
-use Rattle.mail_cycle.specs.Cycles.{Cycled, cycled_at, leaves_numbers, report_at, timeline_at}
+use Rattle.cycle_rules.specs.Asking.{Due, NoNumbers, NoPoint, Repeats, Rewinds, cycle_due, due_at, due_by}
+use Rattle.cycle_rules.specs.Cycles.{Cycled, cycled_at, leaves_numbers, report_at, timeline_at}
 use Rattle.time_desk.specs.Cycling.{CyclesBy, most_performed}
 use Rattle.time_desk.specs.Lasting.{Lasting}
 use Rattle.undo_outside.specs.Disk.{DiskTold}

@@ -1,5 +1,7 @@
 //! Cycles, and trials of them.
-ghost use Rattle.std.specs.Prelude.{◌≡◌, ◌<◌, [], IfOk};
+ghost use Rattle.std.specs.Prelude.{◌≡◌, ◌<◌, IfOk, IsTrue};
+ghost use Rattle.verb_core.specs.declared.conf.House.{House};
+ghost use Rattle.repair_desk.specs.Repairs.{are_known};
 
 use box_store::Steps;
 use paradox::Report;
@@ -12,13 +14,21 @@ use time_desk::{CycleFault, Desk};
 use undo_base::{Name, Numbers};
 use undo_outside::{Gate, MemDisk, OpenGate};
 use verb_bytes::{Acts, CycleAsk, Replaces};
+use verb_core::Act;
 
 /// The moment of each cycle.
 const NOW: u64 = 1105092000;
 
-/// From a point, under a key, without the items of these numbers.
-fn ask(alloc: Global, key: &str, point: u32, drops: &[u32]) -> Result<CycleAsk, Fail>
-    ensures { IfOk result (λ ask. ask.inserts ≡ []) }
+/// From a point, under a key, without the items of these numbers, with acts that each house can do.
+fn ask_with(
+    alloc: Global,
+    key: &str,
+    point: u32,
+    drops: &[u32],
+    inserts: Acts,
+) -> Result<CycleAsk, Fail>
+    requires { (house : House) → IsTrue (are_known house inserts) }
+    ensures { IfOk result (λ ask. (house : House) → IsTrue (are_known house ask.inserts)) }
 {
     let key = Name::read(alloc, key.as_bytes())?;
     let drops = Numbers::from_vec(Vec::from_slice(alloc, drops)?);
@@ -27,8 +37,26 @@ fn ask(alloc: Global, key: &str, point: u32, drops: &[u32]) -> Result<CycleAsk, 
         point,
         drops,
         replaces: Replaces::new(alloc),
-        inserts: Acts::new(alloc),
+        inserts,
     })
+}
+
+/// The same without acts.
+fn ask(alloc: Global, key: &str, point: u32, drops: &[u32]) -> Result<CycleAsk, Fail>
+    ensures { IfOk result (λ ask. (house : House) → IsTrue (are_known house ask.inserts)) }
+{
+    ask_with(alloc, key, point, drops, Acts::new(alloc))
+}
+
+/// An act that drops an alias which is not there.
+fn no_alias(alloc: Global) -> Result<Acts, Fail>
+    ensures { IfOk result (λ acts. (house : House) → IsTrue (are_known house acts)) }
+{
+    let mut acts = Acts::new(alloc);
+    acts.push(Act::DropAlias {
+        local: Name::read(alloc, b"nobody")?,
+    })?;
+    Ok(acts)
 }
 
 /// The number of the cycle that is told, or why there is none.
@@ -54,7 +82,7 @@ fn cycled_by<R: Threads + Sync, G: Gate, L: Ledger>(
     requires name { blank.name ≡ L.name }
     requires parts { blank.parts ≡ L.parts }
     requires some { 0 < blank.parts }
-    requires inserts { ask.inserts ≡ [] }
+    requires known { (house : House) → IsTrue (are_known house ask.inserts) }
 {
     let mut steps: Steps<L> = Steps::new(blank);
     number_of(desk.cycle(rt, alloc, NOW, ask, gate, &mut steps))
@@ -71,6 +99,32 @@ pub(crate) fn cycled_past<R: Threads + Sync, G: Gate>(
 ) -> Result<Result<u32, CycleFault>, Fail> {
     let ask = ask(alloc, key, point, &[])?;
     Ok(cycled_by::<R, G, Brand>(rt, alloc, desk, ask, gate, Blank::new(1)))
+}
+
+/// The same with an act that comes in.
+pub(crate) fn inserted_past<R: Threads + Sync, G: Gate>(
+    rt: &R,
+    alloc: Global,
+    desk: &mut Desk<MemDisk>,
+    key: &str,
+    point: u32,
+    gate: &G,
+) -> Result<Result<u32, CycleFault>, Fail> {
+    let acts = no_alias(alloc)?;
+    let ask = ask_with(alloc, key, point, &[], acts)?;
+    Ok(cycled_by::<R, G, Brand>(rt, alloc, desk, ask, gate, Blank::new(1)))
+}
+
+/// Tries a cycle without repairs from a point, whose workers pass a gate, and tells the number that it would have.
+pub(crate) fn tried_past<R: Threads + Sync, G: Gate>(
+    rt: &R,
+    alloc: Global,
+    desk: &mut Desk<MemDisk>,
+    point: u32,
+    gate: &G,
+) -> Result<Result<u32, CycleFault>, Fail> {
+    let ask = ask(alloc, "-", point, &[])?;
+    Ok(number_of(desk.try_cycle(rt, alloc, NOW, &ask, gate)))
 }
 
 /// Asks for a cycle from the beginning, and tells its number.

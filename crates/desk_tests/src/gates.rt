@@ -19,24 +19,29 @@ fn wait_for(set: &AtomicBool) -> bool {
     false
 }
 
-/// Holds item 2 until item 3 has passed. Item 3 passes once item 2 is held, so that it doesn't come first.
+/// Holds an item until a later one has passed. The later one passes once the first is held, so that it doesn't come first.
 #[derive(Drop)]
 pub(crate) struct Holding {
+    first: u32,
+    later: u32,
     held: AtomicBool,
     passed: AtomicBool,
     seen: AtomicBool,
 }
 
 impl Holding {
-    pub(crate) fn new() -> Holding {
+    /// By their numbers.
+    pub(crate) fn new(first: u32, later: u32) -> Holding {
         Holding {
+            first,
+            later,
             held: AtomicBool::new(false),
             passed: AtomicBool::new(false),
             seen: AtomicBool::new(false),
         }
     }
 
-    /// Item 2 waits, if item 3 hasn't passed yet.
+    /// The first waits, if the later one hasn't passed yet.
     fn hold(&self) {
         if self.passed.load(Ordering::SeqCst) {
             return;
@@ -47,13 +52,13 @@ impl Holding {
         }
     }
 
-    /// Item 3 passes.
+    /// The later one passes.
     fn let_pass(&self) {
         wait_for(&self.held);
         self.passed.store(true, Ordering::SeqCst);
     }
 
-    /// Whether item 2 was held and then saw item 3 pass.
+    /// Whether the first was held and then saw the later one pass.
     pub(crate) fn held_and_saw(&self) -> bool {
         self.held.load(Ordering::SeqCst) && self.seen.load(Ordering::SeqCst)
     }
@@ -61,10 +66,11 @@ impl Holding {
 
 impl Gate for Holding {
     fn pass(&self, number: u32) {
-        match number {
-            2 => self.hold(),
-            3 => self.let_pass(),
-            _ => {}
+        if number == self.first {
+            self.hold();
+        }
+        if number == self.later {
+            self.let_pass();
         }
     }
 }
@@ -85,11 +91,15 @@ impl Noting {
         Ok(Noting { times })
     }
 
-    /// Whether exactly the numbers from the first on passed, once each.
-    pub(crate) fn passed_from(&self, first: usize) -> bool {
+    /// Whether exactly the numbers from the first on and below the end passed, once each.
+    pub(crate) fn passed_within(&self, first: u32, end: u32) -> bool {
         let mut all = true;
         for (number, times) in self.times.iter().enumerate() {
-            let wanted = if number < first { 0 } else { 1 };
+            let wanted = if (first as usize) <= number && number < end as usize {
+                1
+            } else {
+                0
+            };
             all = all && times.load(Ordering::SeqCst) == wanted;
         }
         all

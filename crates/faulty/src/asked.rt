@@ -31,6 +31,7 @@ pub(crate) struct Asked {
     pub(crate) text: Numbers,
     pub(crate) out: Numbers,
     pub(crate) image: Option<(usize, usize)>,
+    pub(crate) gate: u32,
     pub(crate) words: Vec<String>,
 }
 
@@ -43,6 +44,7 @@ impl Asked {
             text: Numbers::new(alloc),
             out: Numbers::new(alloc),
             image: None,
+            gate: 0,
             words: Vec::new(alloc),
         }
     }
@@ -64,6 +66,7 @@ impl Asked {
             b"text" => self.text = numbers_of(alloc, value)?,
             b"out" => self.out = numbers_of(alloc, value)?,
             b"image" => self.image = Some(image_of(value)?),
+            b"gate" => self.gate = number_of(value)?,
             _ => return Ok(false),
         }
         Ok(true)

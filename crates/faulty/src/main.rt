@@ -1,19 +1,21 @@
 //! A program for tests: it runs the top call over a store, a link, a text and an output in memory of which listed calls fail, and
 //! shows what is left. `asked` reads its words, `shown` prints; tests/faults has its cases.
 //!
-//! usage: faulty [store=HEX] [disk=LIST] [link=LIST] [text=LIST] [out=LIST] [image=WRITES+BYTES] WORD ..
+//! usage: faulty [store=HEX] [disk=LIST] [link=LIST] [text=LIST] [out=LIST] [image=WRITES+BYTES] [gate=COUNT] WORD ..
 //!
 //! LISTs are ordinals of calls that fail, from 1, with commas between; `store` has the bytes of the store at the start, none if it
 //! is left out. The WORDs are those of undomail. Standard input is its text, and of `serve` it is a script of the link's events.
 //! What is printed: what was written to the output; the transcript of the link, and `missed N` for each string that was missed;
-//! `status N`; and `store HEX`, the store with all that was written to it, or with `image` what a crash leaves where so many
+//! with `gate`, `passed N TIMES` for each item of a number below the count that passed the gate of a cycle's workers; `status N`; and `store HEX`, the store with all that was written to it, or with `image` what a crash leaves where so many
 //! writes are done, and of the next one so many bytes.
 #![tactic(auto)]
 
 mod asked;
+mod gate;
 mod shown;
 
 use asked::{Asked, Unasked, read_words};
+use gate::Noting;
 use mail_proxy::run;
 use script_link::read_script;
 use shown::Ended;
@@ -24,7 +26,7 @@ use std::process::ExitCode;
 use std::rt::Env;
 use std::thread::Threads;
 use undo_base::{NoMemory, Text};
-use undo_outside::{Events, MemDisk, MemLink, MemSink, MemSource, OpenGate};
+use undo_outside::{Events, MemDisk, MemLink, MemSink, MemSource};
 
 /// The words after the program's name.
 fn take_words<R: Env + AllocGlobal>(rt: &R) -> Result<Vec<String>, Unasked> {
@@ -56,6 +58,7 @@ fn ended<R: Threads + Sync>(
     let mut source = MemSource::new(Text::of(alloc, &bytes)?, asked.text);
     let mut out = MemSink::new(alloc, asked.out);
     let disk = MemDisk::new(alloc, asked.store, asked.disk);
+    let gate = Noting::below(alloc, asked.gate)?;
     let (status, disk) = run(
         rt,
         alloc,
@@ -64,9 +67,9 @@ fn ended<R: Threads + Sync>(
         &mut link,
         disk,
         &mut out,
-        &OpenGate,
+        &gate,
     );
-    Ended::of(alloc, status, &out, &link, &disk, asked.image)
+    Ended::of(alloc, status, &out, &link, &gate, &disk, asked.image)
 }
 
 fn input<R: Read + Drop>(alloc: Global, mut reader: R) -> Result<Vec<u8>, Unasked> {

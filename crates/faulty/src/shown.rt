@@ -1,16 +1,18 @@
 //! What is shown of a run.
+use crate::gate::Noting;
 use hex::encode;
 use script_link::transcript;
 use std::alloc::Global;
 use undo_base::{NoMemory, Text};
 use undo_outside::{LinkNote, MemDisk, MemLink, MemSink};
 
-/// How a run ended: its status, what was written, what its link did, and what a crash leaves on the disk.
+/// How a run ended: its status, what was written, what its link did, which items passed the gate, and what a crash leaves on the disk.
 #[derive(Drop)]
 pub(crate) struct Ended {
     status: u8,
     written: Text,
     link: Text,
+    passed: Text,
     store: Text,
 }
 
@@ -20,6 +22,7 @@ impl Ended {
         status: u8,
         out: &MemSink,
         link: &MemLink,
+        gate: &Noting,
         disk: &MemDisk,
         image: Option<(usize, usize)>,
     ) -> Result<Ended, NoMemory> {
@@ -27,6 +30,7 @@ impl Ended {
             status,
             written: Text::of(alloc, out.bytes())?,
             link: noted(alloc, link)?,
+            passed: gate.lines(alloc)?,
             store: image_of(alloc, disk, image)?,
         })
     }
@@ -35,6 +39,7 @@ impl Ended {
     pub(crate) fn print(self, alloc: Global) -> Result<Text, NoMemory> {
         let mut text = self.written;
         text.extend(self.link.bytes())?;
+        text.extend(self.passed.bytes())?;
         let status = self.status;
         text.extend(format!(in alloc; "status {status}\nstore ")?.as_bytes())?;
         text.extend(encode(alloc, self.store.bytes())?.as_bytes())?;

@@ -1,7 +1,7 @@
 use Rattle.std.proofs.Common.{◌≡◌, length, subst, sym, arith, Some}
 use Rattle.repair_desk.specs.Repairs.{position}
-use Rattle.paradox.specs.Kept.{Kept, newest_at, snapshotted}
-use Rattle.mail_cycle.specs.Asking.{cycle_due}
+use Rattle.store_kept.specs.Kept.{Kept, newest_at, snapshotted}
+use Rattle.cycle_rules.specs.Asking.{cycle_due}
 use Rattle.desk_tests.proofs.Newest.{newest_here}
 use Rattle.desk_tests.proofs.Resting.{has_numbers, has_point, never_rises}
 use Rattle.desk_tests.proofs.counting.snapped_and_cycled.Goals as goal
