@@ -4,7 +4,7 @@
 usage: bench/operating.py PROGRAM             the answers that are others
        bench/operating.py PROGRAM --write     puts the real answers into the page
 
-Stores come from the stories' data cases (tests/cases/cycles/story-of-*), up to their first cycle. Of the names of kept files the moment is not compared.
+Stores come from the stories' data cases (tests/cases/cycles/story-of-*), up to their first cycle. Of the names of kept files and of keys that the tool made the moment is not compared.
 """
 import importlib.machinery, importlib.util, os, re, subprocess, sys, tempfile
 
@@ -30,7 +30,7 @@ def script(case):
 
 def answered(server, command):
     """What a command line answers, with what is typed in the middle of it."""
-    env = {**os.environ, 'UNDO_PORT': str(server.port), 'TZ': 'Europe/Berlin', 'PATH': os.path.dirname(tests.UNDO) + ':' + os.environ['PATH'], 'PYTHONIOENCODING': 'utf-8'}
+    env = {**os.environ, 'UNDO_PORT': str(server.port), 'UNDO_STORE': 'store', 'TZ': 'Europe/Berlin', 'PATH': os.path.dirname(tests.UNDO) + ':' + os.environ['PATH'], 'PYTHONIOENCODING': 'utf-8'}
     said = subprocess.run(['sh', '-c', command], cwd=server.folder, input='yes\n', stdout=subprocess.PIPE, stderr=subprocess.STDOUT, text=True, env=env).stdout
     return said.replace('Write yes: ', 'Write yes: yes\n').rstrip('\n').split('\n') if said else []
 
@@ -43,7 +43,7 @@ def lines_of_the_tool(lines, start, end):
             while lines[until].startswith('    ') and not lines[until].startswith('    $ ') or (not lines[until] and lines[until + 1].startswith('    ') and not lines[until + 1].startswith('    $ ')): until += 1
             yield command[1], place + 1, until
 
-def masked(lines): return [re.sub(r'\d{8}T\d{6}Z', 'T', line) for line in lines]
+def masked(lines): return [re.sub(r'\d{8}T\d{6}Z|undo \d{4}-\d\d-\d\d \d\d:\d\d:\d\dZ [0-9a-f]{6}', 'T', line) for line in lines]
 
 def main():
     if len(sys.argv) not in (2, 3) or sys.argv[2:] not in ([], ['--write']): sys.exit(__doc__)

@@ -1,7 +1,8 @@
 #!/usr/bin/env python3
-"""Drives the page of `operate/undo page` in headless Chromium: the three cases of docs/OPERATING.md by clicks, one by the keyboard alone, texts that would be HTML, a server that stops, and 20,000 items.
+"""Drives the page of `operate/undo page` in headless Chromium: the three cases of docs/OPERATING.md by clicks, one by the keyboard alone, texts that would be HTML or turn the direction of writing, long ones, 3,000 broken answers, 420 pixels, a site that posts a cycle, a store that changes behind the page, a server that stops, and many items.
 
-usage: bench/page.py PROGRAM [FOLDER]      FOLDER: where the screenshots go (docs/page has those of the documents); it must be there
+usage: bench/page.py PROGRAM [FOLDER] [CASE ..]      FOLDER: where the screenshots go (docs/page has those of the documents), or -; it must be there
+                                                   CASE: one of the functions below CASES
 
 Wants Chromium (Debian's package `chromium`). It is no part of the gate. Servers and their stores are those of tests/undo.
 """
@@ -75,6 +76,7 @@ class Browser:
         text = {'Enter': '\r', ' ': ' '}.get(name, text)
         self.ask('Input.dispatchKeyEvent', type='keyDown', key=name, text=text, windowsVirtualKeyCode=codes.get(name, ord(name.upper()[0])))
         self.ask('Input.dispatchKeyEvent', type='keyUp', key=name, windowsVirtualKeyCode=codes.get(name, ord(name.upper()[0])))
+    def wide(self, width, height): self.ask('Emulation.setDeviceMetricsOverride', width=width, height=height, deviceScaleFactor=1, mobile=False)
     def picture(self, folder, name):
         if not folder: return
         time.sleep(.4)
@@ -92,19 +94,21 @@ def opened(browser, page):
     browser.wait('typeof store !== "undefined" && ' + READ)
 
 def a_filter_by_mistake(folder, browser, pictures):
-    with tests.Server(folder, tests.FILTER) as it, tests.Page(it) as page:
+    with tests.Server(folder, tests.FILTER) as it, tests.Page(it, '--store', it.store) as page:
         opened(browser, page)
         browser.write('#text', 'offer')
         browser.click('#find')
         browser.wait('document.querySelectorAll("#rows tr").length === 1')
-        browser.wait('document.querySelector("#text-6").innerText.includes("boss@far.test: the job")')
+        browser.wait('document.querySelector("#text-6").innerText.includes("boss@far.test to ann: the job")')
         browser.click('#text-6 button')
         browser.wait('document.getElementById("message").open')
         has('the text', 'This is our offer.', browser.value('document.getElementById("message-text").innerText'))
+        browser.wait('document.getElementById("who-read").textContent.includes("Nobody ever had it.")')
         browser.picture(pictures, 'text')
         browser.click('#message button')
         browser.click('#clear')
         browser.wait('document.querySelectorAll("#rows tr").length === 6')
+        browser.wait('document.querySelector("#text-5").innerText.includes("filter ads: what holds")')
         browser.click('tr[data-number="4"] input[type=radio]')
         browser.click('tr[data-number="5"] input[type=checkbox]')
         browser.click('#try')
@@ -114,7 +118,8 @@ def a_filter_by_mistake(folder, browser, pictures):
         same('nothing was done', 0, it.get('/status')['cycles'])
         browser.click('#run')
         browser.wait('document.getElementById("confirm").open')
-        has('it asks', 'Nobody will get a notice.', browser.value('document.getElementById("confirm-text").innerText'))
+        has('it asks', ['Nobody will get a notice.', '1 item is dropped', 'filter ads: what holds "offer" is discarded', 'ann gets 1 message, and keeps 2 messages'], browser.value('document.getElementById("confirm-text").innerText'))
+        has('the totals', 'In all: 1 item dropped, no notice, 1 mailbox renewed, 1 user gets 1 message.', browser.value('document.getElementById("totals").innerText'))
         browser.click('#confirm button[value=no]')
         browser.wait('!document.getElementById("confirm").open')
         same('no is no', 0, it.get('/status')['cycles'])
@@ -127,7 +132,7 @@ def a_filter_by_mistake(folder, browser, pictures):
         same('the page has no fault', [], browser.faults())
 
 def an_infected_delivery(folder, browser, pictures):
-    with tests.Server(folder, tests.WORM) as it, tests.Page(it) as page:
+    with tests.Server(folder, tests.WORM) as it, tests.Page(it, '--store', it.store) as page:
         opened(browser, page)
         browser.click('#beginning')
         browser.click('#add summary')
@@ -201,6 +206,83 @@ def texts_that_would_be_html(folder, browser, pictures):
         has('a mailbox', image, browser.value('document.getElementById("rows").innerText'))
         same('the page has no fault', [], browser.faults())
 
+def long_and_turned_texts(folder, browser, pictures):
+    word, turned = 'subject ' * 110, 'Subject: =?utf-8?Q?safe=E2=80=AEfdp.exe?='
+    lines = [*tests.START, *tests.letter('ann', turned), *tests.letter('ann', f'Subject: {word}'), *tests.reads(2, 'ann', 'a1', f'CREATE "{"long " * 39}"'), f'at {253402300799}', *tests.letter('ann', 'Subject: a wrong clock')]
+    with tests.Server(folder, lines) as it, tests.Page(it, '--store', it.store) as page:
+        opened(browser, page)
+        browser.wait('document.querySelector("#text-3").innerText.includes("subject subject")')
+        browser.wait('document.querySelector("#text-2").innerText.includes("safe")')
+        has('no direction is turned', 'safe\\u202efdp.exe', browser.value('document.querySelector("#text-2").innerText'))
+        same('no row is high', True, browser.value('Math.max(...[...document.querySelectorAll("#rows tr")].map(it => it.getBoundingClientRect().height))') < 60)
+        has('a wrong clock stands apart', '1 item with a wrong clock is not in it.', browser.value('document.getElementById("span").innerText'))
+        browser.wide(420, 900)
+        same('nothing runs out of 420 pixels', True, browser.value('document.documentElement.scrollWidth') <= 420)
+        browser.picture(pictures, 'narrow')
+        browser.wide(1500, 1000)
+        same('the page has no fault', [], browser.faults())
+
+def three_thousand_broken_answers(folder, browser, pictures):
+    looks = [line for n in range(1000) for line in (f'line {2 + n % 2} f{n} FETCH 1 FLAGS',)]
+    lines = [*tests.START, *tests.letter('team', 'Subject: invoice', '', 'Open me!', sender='evil@far.test'), *tests.reads(2, 'ann', 'a1', 'SELECT INBOX'), *tests.reads(3, 'bob', 'b2', 'SELECT INBOX'), *looks]
+    with tests.Server(folder, lines) as it, tests.Page(it, '--store', it.store) as page:
+        opened(browser, page)
+        browser.click('#beginning')
+        browser.write('#text', 'Open me')
+        browser.click('#find')
+        browser.wait('document.querySelectorAll("#rows tr").length === 1')
+        browser.click('#drop-found')
+        browser.wait('document.querySelectorAll("#drops li").length === 1')
+        browser.click('#run')
+        browser.wait('document.getElementById("confirm").open')
+        text = browser.value('document.getElementById("confirm-text").innerText')
+        has('folded by user', ['ann, for 501 answers', 'bob, for 501 answers', 'These users will get a notice: ann, bob.'], text)
+        same('no long list is drawn open', True, browser.value('document.getElementById("confirm").getBoundingClientRect().height') <= 1000)
+        same('it begins at its beginning', 0, browser.value('document.getElementById("confirm-text").scrollTop'))
+        has('the totals are in sight', '2 notices for 1002 answers', browser.value('document.getElementById("totals").innerText'))
+        same('beside the answer', True, browser.value('document.getElementById("yes").getBoundingClientRect().bottom') <= browser.value('innerHeight'))
+        browser.picture(pictures, 'many-broken')
+        browser.click('#confirm button[value=no]')
+        same('the page has no fault', [], browser.faults())
+
+def a_store_that_changes_behind_the_page(folder, browser, pictures):
+    with tests.Server(folder, tests.FILTER) as it, tests.Page(it) as page:
+        opened(browser, page)
+        browser.write('#text', 'offer')
+        browser.click('#find')
+        browser.wait('document.querySelectorAll("#rows tr").length === 1')
+        it.talk(b'POST /act HTTP/1.1\r\nContent-Length: 32\r\n\r\n{"act":"unalias","local":"team"}')
+        browser.value('watch()')
+        browser.wait('document.getElementById("behind").innerText.includes("1 item is newer than this page.")')
+        browser.click('#reload')
+        browser.wait('document.querySelectorAll("#rows tr").length === 7')
+        same('the field loses its word with its list', '', browser.value('document.getElementById("text").value'))
+        same('nothing is newer', '', browser.value('document.getElementById("behind").innerText'))
+        browser.click('#add summary')
+        same('a file gets mail\'s line ends', 'a\r\nb\r\nc\r\n', browser.value('new TextDecoder().decode(mailed(new TextEncoder().encode("a\\nb\\r\\nc\\n")))'))
+        same('a click draws no row anew', True, browser.value('(() => { const row = document.querySelector("#rows tr"); row.querySelector("input[type=checkbox]").click(); return row === document.querySelector("#rows tr") && row.className === "dropped"; })()'))
+        same('the page has no fault', [], browser.faults())
+
+def a_site_that_posts_a_cycle(folder, browser, pictures):
+    """A page of another origin: the console does what it posts, as OPERATING says; the page's own server does not."""
+    import http.server, threading
+    class Site(http.server.BaseHTTPRequestHandler):
+        def do_GET(self):
+            self.send_response(200); self.send_header('Content-Type', 'text/html'); self.end_headers(); self.wfile.write(b'<title>site</title>')
+        def log_message(self, *said): pass
+    site = http.server.ThreadingHTTPServer(('127.0.0.1', 0), Site)
+    threading.Thread(target=site.serve_forever, daemon=True).start()
+    with tests.Server(folder, tests.FILTER) as it, tests.Page(it) as page:
+        browser.leave()
+        browser.ask('Page.navigate', url=f'http://localhost:{site.server_address[1]}/')
+        browser.wait('document.title === "site"')
+        def posts(port, path, key): browser.value(f'fetch("http://127.0.0.1:{port}{path}", {{method: "POST", mode: "no-cors", body: JSON.stringify({{drop: [5], key: {key!r}, point: 4}})}}).then(() => 1, () => 0)')
+        posts(page.port, '/api/run', 'page')
+        same('the page\'s server refuses it', 0, it.get('/status')['cycles'])
+        posts(it.port, '/cycle', 'console')
+        same('the console does it: so its port is not for a browser\'s machine', 1, it.get('/status')['cycles'])
+    site.shutdown()
+
 def a_server_that_stops(folder, browser, pictures):
     with tests.Server(folder, tests.FILTER, status=-9) as it, tests.Page(it) as page:
         opened(browser, page)
@@ -240,15 +322,17 @@ def twenty_thousand_items(folder, browser, pictures):
             print(f'undo {" ".join(words)}: {time.monotonic() - began:.2f} s')
         same('the page has no fault', [], browser.faults())
 
-CASES = (a_filter_by_mistake, an_infected_delivery, a_wrong_alias_by_the_keyboard, texts_that_would_be_html, a_server_that_stops, twenty_thousand_items)
+CASES = (a_filter_by_mistake, an_infected_delivery, a_wrong_alias_by_the_keyboard, texts_that_would_be_html, long_and_turned_texts, three_thousand_broken_answers, a_store_that_changes_behind_the_page, a_site_that_posts_a_cycle,
+         a_server_that_stops, twenty_thousand_items)
 
 def main():
-    if len(sys.argv) not in (2, 3): sys.exit(__doc__)
-    tests.PROGRAM, failed = os.path.abspath(sys.argv[1]), 0
+    if len(sys.argv) < 2 or not set(sys.argv[3:]) <= {case.__name__ for case in CASES}: sys.exit(__doc__)
+    tests.PROGRAM, failed, pictures = os.path.abspath(sys.argv[1]), 0, sys.argv[2] if len(sys.argv) > 2 and sys.argv[2] != '-' else None
     with Browser() as browser:
         for case in CASES:
+            if sys.argv[3:] and case.__name__ not in sys.argv[3:]: continue
             folder = tempfile.mkdtemp()
-            try: case(folder, browser, sys.argv[2] if len(sys.argv) == 3 else None); print(f'{case.__name__}: as it should be', flush=True)
+            try: case(folder, browser, pictures); print(f'{case.__name__}: as it should be', flush=True)
             except Exception as it: failed += 1; print(f'{case.__name__}: {type(it).__name__}: {it}', flush=True)
             finally: shutil.rmtree(folder, ignore_errors=True)
     sys.exit(1 if failed else 0)

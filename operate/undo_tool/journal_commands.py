@@ -1,0 +1,189 @@
+"""The commands that read the journal's file: history, who-read, touched-by, to."""
+from __future__ import annotations
+
+import json
+import sys
+from typing import Any, Callable, Optional
+
+from .common import Words, drafted, show, store_of, wanted_of
+from .console import Item as Row
+from .console import Wanted
+from .history import (FLAGS_ALONE, LOOK_WORDS, LOOKED, READ, Delivery, Read, Telling, addressed_to, opened, read, reading, some, touched_by, who_read)
+from .journal import Cycle, Format, Journal, Operator, SetFilter, Verb
+from .mail import Message, text_of
+from .model import NOTHING, Done, Item, Outcome, Past, box_named
+from .moments import local, utc
+from .told import counted, cut, folded, plain, table
+from .troubles import NOTHING_FOUND, Trouble
+
+
+def do_history(words: Words) -> int:
+    path = store_of(words, words.journal)
+    with opened(path) as journal:
+        return counts(words, journal) if words.counts else every(words, journal)
+
+
+def counts(words: Words, journal: Journal) -> int:
+    """What the journal leaves, as `undomail check` tells it, and how far it was read."""
+    past = read(journal, tell=words.progress)
+    data = {**past.counts(), 'digest': past.digest(), 'octets': journal.end + 1, 'snapshots': past.snapshots}
+    show(words, data, '\n'.join(f'{name} {value}' for name, value in data.items()))
+    return 0
+
+
+class Rows:
+    """Each record as it happened, written while the journal is read."""
+
+    def __init__(self, words: Words, past: Past) -> None:
+        self.json, self.item, self.past = words.json, words.item, past
+        self.wanted = wanted_of(words)
+        self.chooses = self.wanted != Wanted() or words.item is not None
+        self.shown = 0
+
+    def seen(self, record: Any, frame: Any, outcome: Any) -> None:
+        kind = type(record)
+        if kind is Format:
+            self.telling, self.width = Telling(self.past.house), max(map(len, self.past.house.users))
+        if kind is Verb or kind is Operator:
+            self.of_item(Item(record.number, record.at, record.by if kind is Verb else None, 0, record.deed), outcome)
+        elif kind is Cycle:
+            if self.has(record.number, record.at, '', 'CYCLE', ''):
+                self.write(self.cycle_data(record, outcome) if self.json else None, record.number, record.at, '', 'CYCLE', lambda: self.telling.cycle(record, outcome))
+        elif not self.chooses:
+            data = self.format_data(record) if kind is Format else {'verb': 'SNAPSHOT', 'items': record.count, 'octets': frame.length}
+            self.write(data, None, None, '', data['verb'], lambda: self.format_text(data) if kind is Format else f'of the store behind {record.count:,} items, {frame.length:,} octets')
+
+    def has(self, number: int, at: int, by: str, verb: str, box: str) -> bool:
+        return not self.chooses or ((self.item is None or self.item == number) and self.wanted.has(Row(number, at, by, verb, box)))
+
+    def of_item(self, item: Item, outcome: Outcome) -> None:
+        by = self.telling.user(item.by)
+        if self.has(item.number, item.at, by, item.verb, box_named(item.deed) or ''):
+            self.write(self.telling.data(item, outcome) if self.json else None, item.number, item.at, by, item.verb, lambda: self.telling.words(item, outcome))
+
+    def write(self, data: Any, number: Optional[int], at: Optional[int], by: str, verb: str, words: Callable[[], str]) -> None:
+        self.shown += 1
+        if self.json:
+            sys.stdout.write(('[' if self.shown == 1 else ',\n') + json.dumps(data, sort_keys=True))
+        else:
+            sys.stdout.write(f'{"" if number is None else number:>8}  {"" if at is None else local(at):<25}  {by:<{self.width}}  {verb:<8}  {plain(words())}\n')
+
+    def cycle_data(self, record: Cycle, done: Done) -> dict[str, Any]:
+        return {'number': record.number, 'at': record.at, 'verb': 'CYCLE', 'by': '', 'key': record.key, 'report': done.report, 'drops': list(record.drops),
+                'replaces': [{'item': it.item, 'octets': len(it.body.octets)} for it in record.replaces], 'made': [self.telling.data(item, NOTHING) for item in done.made]}
+
+    def format_data(self, record: Format) -> dict[str, Any]:
+        users = self.past.house.users
+        return {'verb': 'FORMAT', 'host': record.host, 'domains': list(record.domains), 'first': record.first, 'users': users, 'postmaster': users[record.postmaster],
+                'aliases': {name: [users[user] for user in meant] for name, meant in record.aliases}}
+
+    def format_text(self, data: dict[str, Any]) -> str:
+        aliases = '; '.join(f'{name}: {", ".join(users)}' for name, users in data['aliases'].items())
+        return f'{data["host"]} for {", ".join(data["domains"])}; users {some(data["users"], 30)}; postmaster {data["postmaster"]}; first number {data["first"]}; {f"aliases {aliases}" if aliases else "no alias"}'
+
+
+def every(words: Words, journal: Journal) -> int:
+    past = Past(journal)
+    rows = Rows(words, past)
+    reading(past, rows.seen, words.progress)
+    words.progress.end()
+    if words.json:
+        sys.stdout.write(']\n' if rows.shown else '[]\n')
+    elif not rows.shown:
+        print('No record is as asked.')
+    return 0 if rows.shown else NOTHING_FOUND
+
+
+def do_who_read(words: Words) -> int:
+    with opened(store_of(words)) as journal:
+        past = Past(journal)
+        found = who_read(past, words.number, words.progress)
+        telling, item, looks, without = Telling(past.house), found.item, found.looks(), found.without()
+        data = {'item': telling.data(item, found.outcome), 'in_force': found.in_force, 'given': found.given, 'looks': {user: LOOK_WORDS[look] for user, look in looks.items()}, 'not_shown': without,
+                'shown': [{**row._asdict(), 'look': LOOK_WORDS[row.look]} for row in found.readers],
+                'copies': [{'user': row.user, 'number': row.number, 'at': row.at, 'box': row.box, 'target': row.message} for row in found.copies], 'lies': [row._asdict() for row in found.lies]}
+        show(words, data, who_read_text(telling, found, words.all))
+        if words.draft:
+            if not found.in_force:
+                raise Trouble(NOTHING_FOUND, f'Item {item.number} is not in force: a cycle dropped it, so there is nothing to be drafted.')
+            drafted(words, before(past, {item.number}), [item.number], f'item {item.number}')
+    return 0
+
+
+def who_read_text(telling: Telling, found: Read, everything: bool) -> str:
+    item, looks, without = found.item, found.looks(), found.without()
+    lines = [f'item {item.number}, {local(item.at)}: {item.verb}{f" by {telling.user(item.by)}" if item.by is not None else ""} {plain(telling.words(item, found.outcome))}',
+             'It is in force.' if found.in_force else 'It is not in force: a cycle dropped it.', '']
+    for look in (READ, LOOKED, FLAGS_ALONE):
+        users = [user for user, most in looks.items() if most == look]
+        if users:
+            lines.append(f'{", ".join(users)} {LOOK_WORDS[look]}.')
+    lines.append(f'{", ".join(without)} had it and was shown nothing of it.' if len(without) == 1 else f'{", ".join(without)} had it and were shown nothing of it.' if without else 'Each user who had it was shown something of it.' if looks else 'Nobody ever had it.')
+    lines += folded([f'{row.user} copied it from {plain(row.box)} to {plain(row.message)}, item {row.number}, {local(row.at)}.' for row in found.copies], everything, '')
+    lines.append(f'It lies in {some([f"{row.user} {plain(row.box)}" for row in found.lies])}.' if found.lies else 'It lies in no mailbox.')
+    if found.readers:
+        rows = table(['item', 'local time', 'UTC', 'user', 'mailbox', 'message', 'what was shown'],
+                     ([row.number, local(row.at), utc(row.at), row.user, row.box, row.message, LOOK_WORDS[row.look] + (f' (the text of cycle {row.rev})' if row.rev else '')] for row in found.readers)).split('\n')
+        lines += ['', *folded(rows, everything, '', 41)]
+    return '\n'.join(lines)
+
+
+def before(past: Past, numbers: set[int]) -> int:
+    """The last item in force before the first of these; 0 where there is none."""
+    previous = 0
+    for number in past.timeline:
+        if number in numbers:
+            break
+        previous = number
+    return previous
+
+
+def delivery_data(telling: Telling, it: Delivery) -> dict[str, Any]:
+    head = Message(it.item.deed.body.octets)
+    return {'number': it.item.number, 'at': it.item.at, 'sender': text_of(it.item.deed.sender), 'recipients': list(it.item.deed.recipients), 'subject': head.field('subject'), 'octets': it.octets,
+            'then': telling.places(it.then), 'filter_then': it.then.filter.name if it.then.filter else None, 'in_force': it.now is not None,
+            'now': telling.places(it.now) if it.now else [], 'filter_now': it.now.filter.name if it.now and it.now.filter else None}
+
+
+def deliveries_text(telling: Telling, them: list[Delivery], everything: bool) -> str:
+    rows = []
+    for it in them:
+        now = 'not in force' if it.now is None else 'the same' if it.now == it.then else telling.went(it.now)
+        rows.append([it.item.number, local(it.item.at), cut(text_of(it.item.deed.sender) or '<>', 32), cut(', '.join(it.item.deed.recipients), 32), cut(telling.went(it.then), 48), cut(now, 48),
+                     cut(Message(it.item.deed.body.octets).field('subject'), 60)])
+    return '\n'.join(folded(table(['number', 'local time', 'from', 'recipients', 'went to', 'now', 'subject'], rows).split('\n'), everything, '', 101))
+
+
+def do_touched_by(words: Words) -> int:
+    with opened(store_of(words)) as journal:
+        past = Past(journal)
+        found = touched_by(past, words.name, words.progress)
+        telling = Telling(past.house)
+        sets = [number for number in past.timeline if is_filter(past, number, words.name)]
+        data = {'filter': words.name, 'set_by': sets, 'in_force': [it._asdict() for it in past.store.filters if it.name == words.name], 'deliveries': [delivery_data(telling, it) for it in found]}
+        head = (f'The filter {words.name} was set by {"item" if len(sets) == 1 else "items"} {", ".join(map(str, sets))}, '
+                f'{"which is" if len(sets) == 1 else "which are"} in force.' if sets else f'No item in force sets a filter {words.name}.')
+        show(words, data, f'{head} It decided for {counted(len(found), "delivery", "deliveries")}.' + (f'\n\n{deliveries_text(telling, found, words.all)}' if found else ''))
+        if words.draft:
+            if not sets:
+                raise Trouble(NOTHING_FOUND, f'No item in force sets a filter {words.name}, so there is nothing to be drafted.')
+            drafted(words, before(past, set(sets)), sets, f'what set the filter {words.name}')
+    return 0 if found or sets else NOTHING_FOUND
+
+
+def is_filter(past: Past, number: int, name: str) -> bool:
+    return number in past.acts and type(past.acts[number]) is SetFilter and past.acts[number].filter.name == name
+
+
+def do_to(words: Words) -> int:
+    with opened(store_of(words)) as journal:
+        past = Past(journal)
+        found = [it for it in addressed_to(past, words.user_named, words.progress)
+                 if (words.sender is None or words.sender.casefold() in text_of(it.item.deed.sender).casefold()) and (words.since is None or it.item.at >= words.since) and (words.until is None or it.item.at <= words.until)]
+        telling = Telling(past.house)
+        show(words, [delivery_data(telling, it) for it in found],
+             f'{counted(len(found), "delivery was", "deliveries were")} for {words.user_named}.\n\n{deliveries_text(telling, found, words.all)}' if found else f'No delivery is as asked for {words.user_named}.')
+        there = [it.item.number for it in found if it.now is not None]
+        if words.draft and there:
+            drafted(words, before(past, set(there)), there, f'these {counted(len(there), "delivery", "deliveries")}')
+    return 0 if found else NOTHING_FOUND

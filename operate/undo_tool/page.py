@@ -1,0 +1,208 @@
+"""The page, served on 127.0.0.1 to the browser of this machine."""
+from __future__ import annotations
+
+import http.server
+import json
+import os
+import re
+import secrets
+import threading
+from typing import Any, Callable, Optional
+
+from .asked import idle_parts, is_number, refuse, shape_faults, store_faults
+from .console import Console, Timeline, Wanted, accepted
+from .cycles import naming_of, prepared, run_cycle
+from .formats import LARGEST_REQUEST, MEANINGS, PAGE_OF_ITEMS
+from .history import Telling, opened, read, who_read
+from .journal_commands import who_read_text
+from .mail import Message, message_of
+from .model import NOTHING, Past
+from .search import Sought, find
+from .troubles import NO_SERVER, WRONG_WORDS, Trouble
+
+with open(os.path.join(os.path.dirname(os.path.abspath(__file__)), 'page.html'), encoding='utf-8') as _page:
+    PAGE = _page.read()
+
+
+class PageServer(http.server.ThreadingHTTPServer):
+    """Serves the page on 127.0.0.1, and hands what it asks to the console: these routes and no other."""
+
+    daemon_threads = True
+
+    def __init__(self, port: int, console: Console, keep: str, store: Optional[str]) -> None:
+        super().__init__(('127.0.0.1', port), PageHandler)
+        self.console, self.keep, self.store, self.token = console, keep, store, secrets.token_hex(16)
+        self.one_run, self.one_read = threading.Lock(), threading.Lock()
+        self.known: Optional[tuple[tuple[int, int], Past]] = None
+
+    @property
+    def port(self) -> int:
+        return self.server_address[1]
+
+    def pages(self) -> list[tuple[str, str, Callable[..., Any]]]:
+        """Method, path and what answers it: given the parts of the path, and for POST the JSON that came."""
+        console = self.console
+        return [
+            ('GET', r'/api/status', lambda: Timeline(console).counts()),
+            ('GET', r'/api/timeline/(\d+)', lambda place: accepted(console.get(f'/timeline/{int(place)}'))),
+            ('GET', r'/api/message/(\d+)', lambda number: self.message(int(number))),
+            ('GET', r'/api/who-read/(\d+)', lambda number: self.who_read(int(number))),
+            ('GET', r'/api/conf', lambda: accepted(console.get('/conf'))),
+            ('POST', r'/api/find', self.find),
+            ('POST', r'/api/heads', self.heads),
+            ('POST', r'/api/check', self.check),
+            ('POST', r'/api/try', self.tried),
+            ('POST', r'/api/run', self.run),
+        ]
+
+    def message(self, number: int) -> dict[str, Any]:
+        message = message_of(self.console.get(f'/body/{number}'), number)
+        return {'fields': message.fields(), 'octets': len(message.octets), 'parts': list(message.texts())}
+
+    def find(self, asked: Any) -> Any:
+        if not isinstance(asked, dict) or not isinstance(asked.get('text'), str) or not asked['text']:
+            raise Trouble(WRONG_WORDS, 'Write what the texts are to hold.')
+        found = find(self.console, Wanted(), Sought(text=asked['text']))
+        past = self.past()
+        if past is None:
+            return [{'number': item.number, **head} for item, head in found]
+        there = set(past.timeline)
+        return [self.head(past, past.item(item.number)) for item, _ in found if item.number in there]
+
+    def past(self) -> Optional[Past]:
+        """The journal as it stands, where the page was started with its path; it is read anew only where it is longer or another."""
+        if self.store is None:
+            return None
+        with self.one_read:
+            journal = opened(self.store)
+            its = os.fstat(journal.octets.descriptor)
+            if self.known is None or self.known[0] != (its.st_ino, its.st_size):
+                self.known = (its.st_ino, its.st_size), read(journal)
+            return self.known[1]
+
+    def heads(self, asked: Any) -> Any:
+        """Who sent these items' texts, to whom, and their subjects; of acts what they set, where the journal tells it. Without those that are gone."""
+        asks = asked.get('numbers') if isinstance(asked, dict) else None
+        if not isinstance(asks, list) or len(asks) > PAGE_OF_ITEMS or not all(map(is_number, asks)):
+            raise Trouble(WRONG_WORDS, f'Ask for a list of at most {PAGE_OF_ITEMS} numbers.')
+        past = self.past()
+        if past is not None:
+            there = set(past.timeline)
+            return [self.head(past, past.item(number)) for number in asks if number in there]
+        answers = zip(asks, self.console.get_each(f'/body/{number}' for number in asks))
+        return [{'number': number, **message_of(answer, number).summary()} for number, answer in answers if answer.status != 404]
+
+    def head(self, past: Past, item: Any) -> dict[str, Any]:
+        if item.body is None:
+            return {'number': item.number, 'said': Telling(past.house).words(item, NOTHING)}
+        return {'number': item.number, **Message(item.body.octets).summary(), **({'recipients': list(item.deed.recipients)} if item.verb == 'DELIVER' else {})}
+
+    def who_read(self, number: int) -> dict[str, str]:
+        if self.store is None:
+            raise Trouble(WRONG_WORDS, 'This page was started without the path of the store (--store).')
+        with opened(self.store) as journal:
+            past = Past(journal)
+            found = who_read(past, number, self.console.tell)
+            return {'text': who_read_text(Telling(past.house), found, False)}
+
+    def checked(self, request: Any, wants_key: bool) -> dict[str, Any]:
+        refuse(shape_faults(request, wants_key), 'This is no request that the console would take')
+        return request
+
+    def check(self, request: Any) -> dict[str, Any]:
+        """What the console would refuse, and what would do nothing; a reader of the page is told before the request is sent."""
+        refuse(store_faults(self.console, self.checked(request, False)), 'The console would refuse this request')
+        return {'notes': idle_parts(request, Timeline(self.console).whole())}
+
+    def tried(self, request: Any) -> dict[str, Any]:
+        """The report of a try, what the request names, and what it does to each user."""
+        it = prepared(self.console, self.checked(request, False), self.store, self.console.tell)
+        return {**it.report, 'named': it.naming.as_data(), 'effects': it.effects.as_data() if it.effects is not None else None, 'untold': it.untold}
+
+    def run(self, request: Any) -> dict[str, Any]:
+        with self.one_run:
+            naming = naming_of(self.console, self.checked(request, True), self.store, self.console.tell)
+            outcome = run_cycle(self.console, request, self.keep, naming.kept())
+        return {'report': outcome.report, 'repeated': outcome.repeated, 'kept': outcome.kept, 'fault': outcome.fault}
+
+
+class PageHandler(http.server.BaseHTTPRequestHandler):
+    """One request to the page. Another site cannot ask (Host, Origin and the page's token are looked at), nor read or frame it."""
+
+    server: PageServer
+    server_version, sys_version, protocol_version, timeout = 'undo', '', 'HTTP/1.1', 120
+
+    def do_GET(self) -> None:
+        self.answer('GET')
+
+    def do_POST(self) -> None:
+        self.answer('POST')
+
+    def answer(self, method: str) -> None:
+        # What is refused has a body that is not read, so the connection ends with it.
+        self.close_connection = True
+        refused = self.stranger()
+        if refused:
+            self.reply_json(403, {'error': refused})
+        elif method == 'GET' and self.path == '/':
+            nonce = secrets.token_hex(16)
+            page = PAGE.replace('%NONCE%', nonce).replace('%TOKEN%', self.server.token).replace('%PORT%', self.server.console.where).replace('%MEANINGS%', json.dumps(MEANINGS)).replace('%STORE%', json.dumps(self.server.store is not None))
+            self.reply(200, 'text/html; charset=utf-8', page.encode(), f"script-src 'nonce-{nonce}'; style-src 'nonce-{nonce}'; connect-src 'self'; img-src data:")
+        elif not secrets.compare_digest(self.headers.get('X-Undo-Token', '').encode(), self.server.token.encode()):
+            self.reply_json(403, {'error': 'This page is of an earlier `undo page`. Load it again.'})
+        else:
+            self.answer_page(method)
+
+    def answer_page(self, method: str) -> None:
+        for its_method, path, answers in self.server.pages():
+            parts = re.fullmatch(path, self.path)
+            if parts and its_method == method:
+                try:
+                    self.reply_json(200, answers(*parts.groups(), *([self.body()] if method == 'POST' else [])))
+                except Trouble as trouble:
+                    self.reply_json(502 if trouble.code == NO_SERVER else 409, {'error': str(trouble)})
+                return
+        self.reply_json(404, {'error': 'The page has no such part.'})
+
+    def stranger(self) -> Optional[str]:
+        """Why this request does not come from the page, if it does not."""
+        hosts = {f'127.0.0.1:{self.server.port}', f'localhost:{self.server.port}'}
+        host, origin = self.headers.get_all('Host') or [], self.headers.get('Origin')
+        if len(host) != 1 or host[0].lower() not in hosts:
+            return 'This page is served under 127.0.0.1 and localhost alone.'
+        if origin is not None and origin.lower() != f'http://{host[0].lower()}':
+            return 'Another site may not ask.'
+        if self.command == 'POST' and origin is None:
+            return 'A request that asks for something names its origin.'
+        return None if self.headers.get('Sec-Fetch-Site', 'same-origin') in ('same-origin', 'none') else 'Another site may not ask.'
+
+    def body(self) -> Any:
+        length = self.headers.get('Content-Length', '')
+        if not re.fullmatch(r'\d{1,9}', length) or int(length) > LARGEST_REQUEST:
+            raise Trouble(WRONG_WORDS, f'The request is too large: the console takes {LARGEST_REQUEST:,} octets.')
+        try:
+            return json.loads(self.rfile.read(int(length)))
+        except (ValueError, RecursionError):
+            raise Trouble(WRONG_WORDS, 'The request is no JSON.') from None
+
+    def reply_json(self, status: int, data: Any) -> None:
+        self.reply(status, 'application/json', json.dumps(data).encode('ascii'))
+
+    def reply(self, status: int, kind: str, body: bytes, policy: str = '') -> None:
+        self.send_response(status)
+        headers = {
+            'Content-Type': kind, 'Content-Length': str(len(body)), 'Cache-Control': 'no-store', 'Connection': 'close',
+            'Content-Security-Policy': f"default-src 'none'; base-uri 'none'; form-action 'none'; frame-ancestors 'none'; {policy}".rstrip('; '),
+            'Cross-Origin-Opener-Policy': 'same-origin', 'Cross-Origin-Resource-Policy': 'same-origin',
+            'Referrer-Policy': 'no-referrer', 'X-Content-Type-Options': 'nosniff', 'X-Frame-Options': 'DENY',
+        }
+        for name, value in headers.items():
+            self.send_header(name, value)
+        try:
+            self.end_headers()
+            self.wfile.write(body)
+        except OSError:
+            pass  # the page was left meanwhile
+
+    def log_message(self, *said: Any) -> None:
+        """Nothing is logged: the console's requests stand in no log either."""
