@@ -1,24 +1,34 @@
 #!/usr/bin/env python3
-"""Makes the layers of docs/MAP.md from crates.txt and the crates' heads: the drawing docs/map.svg, and the table between the page's two marks.
+"""Makes the groups of docs/MAP.md from crates.txt and the crates' heads: the drawing docs/map.svg, and the table between the page's two marks.
 
 usage: bench/map.py            writes both
        bench/map.py --check    says whether they are as crates.txt has it, and writes nothing
 
-A crate's layer is one above the highest of those that it uses. A line goes to each crate that it uses, but for those that one of its others uses already.
+A group is what stands in crates.txt behind a line '# NAME: WHAT IT IS'. In the drawing a crate's layer is one above the highest of those that it
+uses, and its colour is its group's. A line goes to each crate that it uses, but for those that one of its others uses already.
 """
 import os, re, sys
 from xml.sax.saxutils import escape
 
 TOP = os.path.dirname(os.path.dirname(os.path.abspath(__file__)))
 PAGE, DRAWING, CRATES = (os.path.join(TOP, *path) for path in (('docs', 'MAP.md'), ('docs', 'map.svg'), ('crates.txt',)))
-PROGRAM = 'undomail'   # all others that no crate uses are tests: they are grey
-BEGINS, ENDS = '<!-- layers, by bench/map.py -->\n', '<!-- end of the layers -->'
+BEGINS, ENDS = '<!-- groups, by bench/map.py -->\n', '<!-- end of the groups -->'
+COLOURS = 'e6e9ee dceefb d9f2e3 fdeccb f6dcdc e9dff5 d3f0ef fbe3f1 eef0c8 dfe3fb f3f5f8'.split()   # a group's, in their order; the last is the tests'
 WIDE, HIGH, ACROSS, DOWN, LEFT = 118, 26, 128, 78, 40   # a box, and the distance from one to the next
 
 def used():
     """For each crate those of this tree that it uses."""
-    rows = {name: uses.split() for name, _, uses in (line.partition(':') for line in open(CRATES) if line.strip())}
+    rows = {name: uses.split() for name, _, uses in (line.partition(':') for line in open(CRATES) if line.strip() and line[0] != '#')}
     return {name: [it for it in uses if it in rows] for name, uses in rows.items()}
+
+def groups():
+    """The groups in their order: the name, what it is, and its crates."""
+    found = []
+    for line in open(CRATES):
+        name, _, rest = line.partition(':')
+        if line.startswith('# '): found.append((name[2:].strip(), rest.strip(), []))
+        elif line.strip(): found[-1][2].append(name)
+    return found
 
 def layers(uses):
     found = {}
@@ -73,17 +83,22 @@ def drawing(uses):
     shapes = [f'<path d="M{x(name) + WIDE / 2:.0f} {y(name) + HIGH} C{x(name) + WIDE / 2:.0f} {y(name) + DOWN - 8:.0f} {x(it) + WIDE / 2:.0f} {y(it) - DOWN + HIGH + 8:.0f} {x(it) + WIDE / 2:.0f} {y(it)}"/>'
               for name in uses for it in lines[name]]
     for n in range(1, highest + 1): shapes.append(f'<text x="8" y="{10 + (highest - n) * DOWN + 17}">{n}</text>')
+    group = {name: place for place, (_, _, names) in enumerate(groups()) for name in names}
     for name in uses:
-        shapes.append(f'<rect x="{x(name):.0f}" y="{y(name)}" width="{WIDE}" height="{HIGH}" rx="4" class="{"crate" if name in under or name == PROGRAM else "tests"}"/>')
+        shapes.append(f'<rect x="{x(name):.0f}" y="{y(name)}" width="{WIDE}" height="{HIGH}" rx="4" class="g{group[name]}"/>')
         shapes.append(f'<text x="{x(name) + WIDE / 2:.0f}" y="{y(name) + 17}" text-anchor="middle">{escape(name)}</text>')
-    style = 'text{font:13px sans-serif;fill:#1c2430}path{fill:none;stroke:#8b94a3;stroke-width:1}.crate{fill:#e4f0ff;stroke:#0b57a4}.tests{fill:#f3f5f8;stroke:#8b94a3}'
+    for place, (name, _, _) in enumerate(groups()):   # the key to the colours, at the lower right where the layers are narrow
+        shapes.append(f'<rect x="{LEFT + 20 + (widest - 2) * ACROSS}" y="{10 + place * 22}" width="14" height="14" rx="3" class="g{place}"/>')
+        shapes.append(f'<text x="{LEFT + 42 + (widest - 2) * ACROSS}" y="{22 + place * 22}">{escape(name)}</text>')
+    style = 'text{font:13px sans-serif;fill:#1c2430}path{fill:none;stroke:#8b94a3;stroke-width:1}rect{stroke:#5a6b80}' + ''.join(f'.g{place}{{fill:#{colour}}}' for place, colour in enumerate(COLOURS))
     size = f'width="{LEFT + 20 + widest * ACROSS}" height="{highest * DOWN}"'
     return '\n'.join([f'<svg xmlns="http://www.w3.org/2000/svg" {size}>', f'<style>{style}</style>', '<rect width="100%" height="100%" fill="#fff"/>', *shapes, '</svg>', ''])
 
 def table(uses):
-    layer, lines = layers(uses), straight(uses)
-    rows = ['| Layer | Crate | What it is | Stands on |', '|---|---|---|---|']
-    for name in sorted(uses, key=lambda name: (-layer[name], list(uses).index(name))): rows.append(f'| {layer[name]} | {name} | {head(name)} | {", ".join(lines[name])} |')
+    lines, rows = straight(uses), ['| Crate | What it is | Stands on |', '|---|---|---|']
+    for group, what, names in groups():
+        rows.append(f'| **{group}** | *{what}* | |')
+        for name in names: rows.append(f'| {name} | {head(name)} | {", ".join(lines[name])} |')
     return '\n'.join(rows) + '\n'
 
 def main():
