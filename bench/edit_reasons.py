@@ -66,7 +66,7 @@ def reason(built, uses, edit):
         try: done = subprocess.run(words, cwd=folder, stdout=subprocess.PIPE, stderr=subprocess.STDOUT, text=True, timeout=900)
         except subprocess.TimeoutExpired: return 'slow: no end within 900 s'
     if done.returncode == 0: return 'PROVED'
-    goals = sorted(set(re.findall(r'goal `([^`\n]+)`', done.stdout)))
+    goals = sorted(set(re.findall(r'it is not proved that [^\n]*\(`([^`\n]+)`\)', done.stdout)))
     if goals: return 'a goal: ' + ', '.join(goals[:4])
     return 'a name: ' + next((line.strip() for line in done.stdout.split('\n') if 'error' in line), done.stdout.strip()[:200])
 
