@@ -29,7 +29,7 @@ same_answer s i text what shown is to h = h ∙ (λ j. (step_with (to j) s (is j
 
 -- the same store
 pub same_store : (s : MailStore) (i : Item) (text : List ℕ) (what : Resolved) (e : Effect) → IsValid s → what.item ≡ i → sought_in what ≡ sought s text i.by i.deed → IsEffect e what s → applied e s ≡ (step_text s i text).0
-same_store s i text what e valid is to does = does.elsewhere s refl valid (λ q _. refl) ∙ (λ j. (step_with (to j) s (is j)).0)
+same_store s i text what e valid is to does = does.elsewhere s refl valid (λ q _. refl) (λ _. refl) ∙ (λ j. (step_with (to j) s (is j)).0)
 
 -- with the item's own text it is the step
 pub own_step : (s : MailStore) (i : Item) (text : List ℕ) → text ≡ unwrap_or (text_in i.deed) [] → step_text s i text ≡ step s i

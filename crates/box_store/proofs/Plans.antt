@@ -21,7 +21,7 @@ use Rattle.verb_core.specs.Names.{lost_found, is_fixed}
 use Rattle.verb_core.specs.Mailboxes.{is_among, with_entries, reflagged, copies, changed, put_all}
 use Rattle.verb_core.specs.Boxes.{box_cmp, box_of, row_at, mail_at, change_row, drop_row, is_rising}
 use Rattle.verb_core.specs.Step.{Boxes, way_of, deleted, new_mail, put_at, rearranged}
-use Rattle.verb_core.specs.Touched.{SameAt, named_boxes}
+use Rattle.verb_core.specs.Touched.{SameAt, deed_touches, is_one}
 use Rattle.verb_core.specs.Aims.{box_aimed}
 use Rattle.verb_core.proofs.BoxLaws.{tied, same_rows, rising-change_row, row_at-change_row, same_box, bytes_eq-refl}
 use Rattle.mail_rows.specs.Mail.{all_flags_set, flags_set}
@@ -35,10 +35,10 @@ itself : (id : BoxId) → eq_by_cmp box_cmp id id ≡ true
 itself id = sym (same_box id id) ∙ rw (eq-eqb id.user.0 id.user.0 refl) (bytes_eq-refl id.name)
 
 -- the first of some mailboxes, and the second
-pub first_same : (id : BoxId) (ids : List BoxId) (rs ss : Boxes) → SameAt (id ∷ ids) rs ss → row_at id rs ≡ row_at id ss
+pub first_same : (id : BoxId) (ids : List BoxId) (rs ss : Boxes) → SameAt (is_one (id ∷ ids)) rs ss → row_at id rs ≡ row_at id ss
 first_same id ids rs ss same = same id (ap (λ b. b || list_any (λ (x : BoxId). eq_by_cmp box_cmp x id) ids) (itself id))
 
-pub second_same : (a id : BoxId) (rs ss : Boxes) → SameAt (a ∷ id ∷ []) rs ss → row_at id rs ≡ row_at id ss
+pub second_same : (a id : BoxId) (rs ss : Boxes) → SameAt (is_one (a ∷ id ∷ [])) rs ss → row_at id rs ≡ row_at id ss
 second_same a id rs ss same = same id (ap (λ b. eq_by_cmp box_cmp a id || (b || false)) (itself id) ∙ or_true (eq_by_cmp box_cmp a id))
   where
     or_true : (a : Bool) → (a || true) ≡ true
@@ -94,7 +94,7 @@ module _ (set keys : List Key) (same : (k : Key) → is_among set k ≡ is_among
   tests : is_among set ≡ is_among keys
   tests j k = same k j
 
-  pub flags_do : (how : How) (given : Flags) (id : BoxId) (rows boxes : Boxes) → is_rising boxes ≡ true → SameAt (id ∷ []) rows boxes
+  pub flags_do : (how : How) (given : Flags) (id : BoxId) (rows boxes : Boxes) → is_rising boxes ≡ true → SameAt (is_one (id ∷ [])) rows boxes
       → change_row id (with_entries (all_flags_set (changes_from 0 set how given (mail_at id rows)))) boxes ≡ change_row id (with_entries (reflagged keys how given)) boxes
   flags_do how given id rows boxes rising here = change_same id _ _ boxes rising (go (row_at id boxes) (first_same id [] rows boxes here))
     where
@@ -111,7 +111,7 @@ module _ (set keys : List Key) (same : (k : Key) → is_among set k ≡ is_among
 
 -- ---- a RENAME goes the same way
 
-pub same_way : (u : User) (source target : List ℕ) (rs ss : Boxes) → SameAt (box_of u source ∷ box_of u target ∷ []) rs ss → way_of u source target rs ≡ way_of u source target ss
+pub same_way : (u : User) (source target : List ℕ) (rs ss : Boxes) → SameAt (is_one (box_of u source ∷ box_of u target ∷ [])) rs ss → way_of u source target rs ≡ way_of u source target ss
 same_way u source target rs ss same = ap₂ (λ (o p : Option Mailbox). cond (bytes_eq source lost_found || is_fixed target || bytes_eq source target || not (is_some o)) NoSource (cond (is_some p) Merged Plain)) (first_same (box_of u source) (box_of u target ∷ []) rs ss same) (second_same (box_of u source) (box_of u target) rs ss same)
 
 -- ---- new mail
@@ -145,8 +145,8 @@ module _ (u : User) (i : Item) where
 
   -- a COPY puts the same, where the same stands
   pub copies_after : (mailbox : List ℕ) (keys : List Key) (target : List ℕ) (mail : List Entry) (rows boxes : Boxes) (aims : List Aim) → i.deed ≡ Copy mailbox keys target
-      → mail ≡ mail_at (box_of u mailbox) rows → SameAt (named_boxes u i.deed) rows boxes → put_at (λ index. copies i.number mail keys) aims boxes ≡ after u i aims boxes
+      → mail ≡ mail_at (box_of u mailbox) rows → SameAt (deed_touches u i.deed) rows boxes → put_at (λ index. copies i.number mail keys) aims boxes ≡ after u i aims boxes
   copies_after mailbox keys target mail rows boxes aims is at same =
-      let here : SameAt (box_of u mailbox ∷ []) rows boxes = subst (λ (d : Deed). SameAt (named_boxes u d) rows boxes) is same in
+      let here : SameAt (is_one (box_of u mailbox ∷ [])) rows boxes = subst (λ (d : Deed). SameAt (deed_touches u d) rows boxes) is same in
       ap (λ (es : List Entry). put_at (λ index. copies i.number es keys) aims boxes) (at ∙ ap (λ (o : Option Mailbox). unwrap_or (option_map (λ (m : Mailbox). m.entries) o) []) (first_same (box_of u mailbox) [] rows boxes here))
       ∙ ap (λ (d : Deed). put_at (λ index. new_mail u i boxes index d) aims (rearranged u d boxes)) (sym is)

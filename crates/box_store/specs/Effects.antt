@@ -4,7 +4,6 @@ use Rattle.std.specs.List.{list_all}
 use Rattle.verb_core.specs.declared.item.Act.{Act}
 use Rattle.verb_core.specs.declared.item.Deed.TheVariants.{Act as Acts}
 use Rattle.verb_core.specs.declared.item.Item.{Item}
-use Rattle.verb_core.specs.declared.item.Shown.{Shown}
 use Rattle.verb_core.specs.declared.item.Way.TheVariants.{Plain, Merged}
 use Rattle.verb_core.specs.declared.item.Resolved.{Resolved}
 use Rattle.verb_core.specs.declared.conf.Conf.{Conf}
@@ -16,7 +15,8 @@ use Rattle.verb_core.specs.Boxes.{box_of, has_row, change_row, mail_at, next_at}
 use Rattle.verb_core.specs.Store.{MailStore, IsValid}
 use Rattle.verb_core.specs.Aims.{sought, box_aimed}
 use Rattle.verb_core.specs.Step.{Boxes, created, after_rename, deleted, step_with, conf_after}
-use Rattle.verb_core.specs.Touched.{touched, SameAt}
+pub use Rattle.verb_core.specs.Step.{step_text}
+use Rattle.verb_core.specs.Touched.{touches_box, SameAt, SameNames}
 use Rattle.mail_rows.specs.declared.change.Put.{Put}
 use Rattle.mail_rows.specs.Mail.{all_flags_set}
 use Rattle.box_store.specs.declared.effect.Effect.{Effect}
@@ -57,14 +57,11 @@ pub record IsAimed (what : Resolved) (s : MailStore) : Type 0 where
   pub there : IsTrue (list_all (λ a. has_row (box_aimed a) s.boxes) what.aims)
   pub missing : IsTrue (list_all (λ a. not (has_row (box_aimed a) s.boxes)) what.missed)
 
--- the effect does, in each store that has the same where the item touches it, what the item does there
+-- the effect does, in each store that has the same mailboxes where the item touches them, and the same names of its user
+-- where it touches these, what the item does there
 pub record IsEffect (e : Effect) (what : Resolved) (s : MailStore) : Type 0 where
   pub shown : e.shown ≡ (step_with (sought_in what) s what.item).1
-  pub elsewhere : (t : MailStore) → t.house ≡ s.house → IsValid t → SameAt (touched (sought_in what) what.item) s.boxes t.boxes → applied e t ≡ (step_with (sought_in what) t what.item).0
-
--- one item whose text is given beside it
-abbrev pub step_text : MailStore → Item → List ℕ → MailStore × Shown
-step_text s i text = step_with (sought s text i.by i.deed) s i
+  pub elsewhere : (t : MailStore) → t.house ≡ s.house → IsValid t → SameAt (touches_box (sought_in what) what.item) s.boxes t.boxes → SameNames what.item s.boxes t.boxes → applied e t ≡ (step_with (sought_in what) t what.item).0
 
 -- ---- what applying it needs
 

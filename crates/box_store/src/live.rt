@@ -10,11 +10,10 @@ ghost use Rattle.box_store.specs.Refusing.{IsDue, by_names, by_keys, by_room, in
 use crate::Store;
 use crate::refusals::{mail_of, marked, refused_by_keys, refused_by_names};
 use crate::room::refused_by_room;
-use mail_rows::aims::who_acts;
 use mail_rows::shown::shown_by;
 use std::alloc::{AllocError, Global};
 use undo_base::{Flags, Key, Keys, Name, NoMemory, Text, User};
-use verb_core::{Ask, Deed, Entry, Item, Refused};
+use verb_core::{Ask, Deed, Entry, Item, Refused, who_acts};
 
 /// The first refusal by keys, by sizes and by what is used up.
 fn refused_later(

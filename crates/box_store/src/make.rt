@@ -1,7 +1,7 @@
 //! Effects, made on a store.
 ghost use Rattle.std.specs.Prelude.{◌≡◌, not, IsTrue, IfOk};
 ghost use Rattle.verb_core.specs.declared.item.Deed.TheVariants.{Act as Acts};
-ghost use Rattle.verb_core.specs.Items.{IsWellFormed, actor};
+ghost use Rattle.verb_core.specs.Items.{IsWellFormed};
 ghost use Rattle.verb_core.specs.Names.{is_empty};
 ghost use Rattle.verb_core.specs.Step.{conf_after, shown};
 ghost use Rattle.verb_core.specs.Boxes.{is_rising};
@@ -10,36 +10,10 @@ ghost use Rattle.box_store.specs.Effects.{conf_by};
 
 use crate::plan::work_of;
 use crate::{Effect, Store, Work};
-use mail_rows::aims::who_acts;
 use mail_rows::shown::shown_by;
 use std::alloc::Global;
 use undo_base::{Copies, NoMemory, User};
-use verb_core::{Act, BoxId, Deed, Item, Mailbox, Resolved, Shown};
-
-/// Whose mailboxes an act is about, where it is about a user's; else whoever acts.
-fn act_actor(by: Option<User>, act: &Act) -> User
-    ensures { result ≡ actor by (Acts act.now) }
-{
-    match act {
-        Act::Remove { user, .. } => *user,
-        Act::Give { user, .. } => *user,
-        Act::SetAlias { .. } => who_acts(by),
-        Act::DropAlias { .. } => who_acts(by),
-        Act::SetFilter(_) => who_acts(by),
-        Act::DropFilter { .. } => who_acts(by),
-    }
-}
-
-/// Whose mailboxes an item acts on.
-fn actor_of(item: &Item) -> User
-    ensures { result ≡ actor item.now.by item.now.deed }
-{
-    match &item.deed {
-        Deed::Act(act) => act_actor(item.by, act),
-        Deed::Notice { user, .. } => *user,
-        _ => who_acts(item.by),
-    }
-}
+use verb_core::{Act, BoxId, Deed, Mailbox, Resolved, Shown, actor_of};
 
 /// The act, if it changes the configuration.
 fn act_kept(alloc: Global, act: &Act) -> Result<Option<Act>, NoMemory>

@@ -8,7 +8,7 @@ ghost use Rattle.verb_core.specs.Boxes.{box_of, change_row, is_rising};
 ghost use Rattle.verb_core.specs.Items.{actor, keys_in};
 ghost use Rattle.verb_core.specs.Mailboxes.{copies, expunged, no_flags, reflagged, with_entries, without};
 ghost use Rattle.verb_core.specs.Step.{after_rename, created, deleted, message, put_at, rearranged, way_of};
-ghost use Rattle.verb_core.specs.Touched.{named_boxes};
+ghost use Rattle.verb_core.specs.Touched.{deed_touches, is_one};
 ghost use Rattle.box_store.specs.Effects.{worked};
 ghost use Rattle.mail_rows.specs.Changes.{copies_by, copy_by, puts_by};
 ghost use Rattle.box_store.specs.Plans.{Does, after};
@@ -44,7 +44,7 @@ fn flags_work(
     given: Flags,
 ) -> Result<Work, NoMemory>
     requires { IsTrue (is_rising rows.now) }
-    ensures { IfOk result (λ w. Does (box_of user mailbox.now ∷ []) rows.now w (change_row (box_of user mailbox.now) (with_entries (reflagged keys.now how given)))) }
+    ensures { IfOk result (λ w. Does (is_one (box_of user mailbox.now ∷ [])) rows.now w (change_row (box_of user mailbox.now) (with_entries (reflagged keys.now how given)))) }
 {
     let keys = KeySet::of(alloc, keys.as_slice())?;
     let flags = changes_of(alloc, &view_of(rows, user, mailbox), &keys, how, given)?;
@@ -62,7 +62,7 @@ fn seen_work(
     sets_seen: bool,
 ) -> Result<Work, NoMemory>
     requires { IsTrue (is_rising rows.now) }
-    ensures { IfOk result (λ w. Does (box_of user mailbox.now ∷ []) rows.now w (λ boxes. if sets_seen then change_row (box_of user mailbox.now) (with_entries (reflagged keys.now Add (record no_flags { seen = true }))) boxes else boxes)) }
+    ensures { IfOk result (λ w. Does (is_one (box_of user mailbox.now ∷ [])) rows.now w (λ boxes. if sets_seen then change_row (box_of user mailbox.now) (with_entries (reflagged keys.now Add (record no_flags { seen = true }))) boxes else boxes)) }
 {
     if !sets_seen {
         return Ok(no_work(alloc));
@@ -104,7 +104,7 @@ fn rename_work(
     target: &Name,
 ) -> Result<Work, NoMemory>
     requires { IsTrue (is_rising rows.now) }
-    ensures { IfOk result (λ w. Does (box_of user source.now ∷ box_of user target.now ∷ []) rows.now w (λ boxes. after_rename (way_of user source.now target.now boxes) user source.now target.now boxes)) }
+    ensures { IfOk result (λ w. Does (is_one (box_of user source.now ∷ box_of user target.now ∷ [])) rows.now w (λ boxes. after_rename (way_of user source.now target.now boxes) user source.now target.now boxes)) }
 {
     let way = way_of(rows, user, source, target);
     let source = source.copy(alloc)?;
@@ -180,7 +180,7 @@ fn plain_work(
     deed: &Deed,
 ) -> Result<Work, NoMemory>
     requires { IsTrue (is_rising rows.now) }
-    ensures { IfOk result (λ w. Does (named_boxes user deed.now) rows.now w (rearranged user deed.now)) }
+    ensures { IfOk result (λ w. Does (deed_touches user deed.now) rows.now w (rearranged user deed.now)) }
 {
     match deed {
         Deed::Fetch {
@@ -221,7 +221,7 @@ pub(crate) fn work_of(
 ) -> Result<Work, NoMemory>
     requires rising { IsTrue (is_rising rows.now) }
     requires few { length (keys_in item.now.deed) ≤ 65536 }
-    ensures { IfOk result (λ w. Does (named_boxes user item.now.deed) rows.now w (after user item.now aims.now)) }
+    ensures { IfOk result (λ w. Does (deed_touches user item.now.deed) rows.now w (after user item.now aims.now)) }
 {
     match own_message(item) {
         Some((flags, at)) => message_work(alloc, item, aims, flags, at),

@@ -7,11 +7,10 @@ ghost use Rattle.box_store.specs.Refusing.{by_names, by_keys};
 
 use crate::Store;
 use crate::asked::{asks_fixed, is_misshapen, named, new_name, target, too_large};
-use mail_rows::aims::who_acts;
 use mail_rows::sights::there_of;
 use std::alloc::{AllocError, Global};
 use undo_base::{Key, Keys, MOST_KEYS, Name, NoMemory, User};
-use verb_core::{Ask, EntriesView, Entry, Refused};
+use verb_core::{Ask, EntriesView, Entry, Refused, who_acts};
 
 /// Whether the asker has a mailbox of that name.
 pub(crate) fn has_box(store: &Store, by: Option<User>, name: &Name) -> bool

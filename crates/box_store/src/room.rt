@@ -14,11 +14,11 @@ ghost use Rattle.box_store.specs.Refusing.{fills_up, outgrows, box_outgrows, aim
 use crate::Store;
 use crate::asked::adds_name;
 use crate::refusals::{mail_of, view_of};
-use mail_rows::aims::{reach_delivery, who_acts};
+use mail_rows::aims::reach_delivery;
 use mail_rows::sights::there_of;
 use std::alloc::Global;
 use undo_base::{Keys, LAST_NUMBER, MOST_BOXES, MOST_UID, Name, Names, NoMemory, Text, User};
-use verb_core::{Aim, Ask, Refused, is_inbox};
+use verb_core::{Aim, Ask, Refused, is_inbox, who_acts};
 
 /// How many mailboxes the user has.
 #[tactic(auto, using(crate::proofs::KeysThere::length_names))]

@@ -1,7 +1,8 @@
 //! Tests of replay_crew on threads: what no clause says is that the items of a level are worked out side by side, and that
 //! each passes the gate. Its exact answers are compared too, met with ample memory.
 //!
-//! `given` has a house, its store and items, `gates` what the items pass, and `levels` the tests.
+//! `given` has a house, its store and items, `gates` what the items pass, `levels` the tests of levels, and
+//! `pairs` those of pairs of items.
 #![tactic(auto)]
 
 #[cfg(test)]
@@ -10,3 +11,5 @@ mod gates;
 mod given;
 #[cfg(test)]
 mod levels;
+#[cfg(test)]
+mod pairs;

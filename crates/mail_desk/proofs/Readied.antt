@@ -63,7 +63,7 @@ number_left (Err why) s number at by ask most is = tt
 pub does_here : {W : Type 0} (r : Result Effect W) (what : Resolved) (s : MailStore) (i : Item) (text : List ℕ) → IsValid s → what.item ≡ stored i → sought_in what ≡ sought s text i.by (stored_deed i.deed)
     → step_text s (stored i) text ≡ step_text s i text → IfOk r (λ e. IsEffect e what s) → IfOk r (λ e. applied e s ≡ (step_text s i text).0)
 does_here (Ok e) what s i text valid is to alike made =
-    made.elsewhere s refl valid (λ q there. refl)
+    made.elsewhere s refl valid (λ q there. refl) (λ _. refl)
     ∙ ap (λ (t : Sought). (step_with t s what.item).0) to
     ∙ ap (λ (j : Item). (step_with (sought s text i.by (stored_deed i.deed)) s j).0) is
     ∙ ap (λ (after : MailStore × Shown). after.0) alike

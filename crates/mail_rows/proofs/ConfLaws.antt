@@ -15,11 +15,11 @@ use Rattle.mail_rows.specs.Confs.{stands_before, stands_here, has_other_id}
 use Rattle.mail_rows.specs.Reaching.{is_among_meanings}
 
 -- how many of the first items pass a test
-abbrev front : {X : Type 0} → (X → Bool) → List X → ℕ
+abbrev pub front : {X : Type 0} → (X → Bool) → List X → ℕ
 front p [] = 0
 front p (x ∷ xs) = cond (p x) (suc (front p xs)) 0
 
-length-front : {X : Type 0} (p : X → Bool) (xs : List X) → length (take_while p xs) ≡ front p xs
+pub length-front : {X : Type 0} (p : X → Bool) (xs : List X) → length (take_while p xs) ≡ front p xs
 length-front p [] = refl
 length-front p (x ∷ xs) =
     ap length (take_while-cons p x xs)

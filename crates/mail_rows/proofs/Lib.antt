@@ -9,4 +9,5 @@ mod Patterns
 mod Reached
 mod Needles
 mod ConfLaws
+mod AliasOrder
 mod UserNames

@@ -1,61 +1,16 @@
 -- Rows by place.
-use Rattle.std.proofs.Common.{◌≡◌, ℕ, zero, suc, ◌<◌, ◌≤◌, true, false, not, cond, List, [], ◌∷◌, Some, None, Result, Ok, Err, IfOk, IfErr, refl, sym, ap, ◌∙◌, subst, arith, rules, true≢false, length, insert, remove, set, Ordering, Less, Equal, Greater, is_eq, is_gt, is_lt, get_or, inl, inr}
+use Rattle.std.proofs.Common.{◌≡◌, ℕ, zero, suc, ◌<◌, ◌≤◌, true, false, not, cond, List, [], ◌∷◌, Some, None, Result, Ok, Err, IfOk, IfErr, refl, sym, ap, ◌∙◌, subst, arith, true≢false, length, insert, remove, set, Ordering, Less, Equal, Greater, is_eq, is_gt, is_lt, get_or}
 use Rattle.std.specs.Cmp.{first_so, second_so}
-use Rattle.std.specs.Ordering.{ordering_index, ordering_reverse}
 use Rattle.std.specs.FinMap.Entries as rows
-use Rattle.std.specs.List.Sorted.{IsSearchInRange, IsBinarySearchResult, IsNonDecreasingBy}
-use Rattle.std.proofs.lemmas.Cmp.{alike_right}
-use Rattle.std.proofs.lemmas.Bool.{cases_order}
+use Rattle.std.specs.List.Sorted.{IsSearchInRange, IsBinarySearchResult}
 use Rattle.std.proofs.lemmas.List.{set-get_or}
 use Rattle.undo_base.specs.declared.keys.User.{User}
 use Rattle.verb_core.specs.declared.mailbox.BoxId.{BoxId}
 use Rattle.verb_core.specs.declared.mailbox.Mailbox.{Mailbox}
 use Rattle.verb_core.specs.Boxes.{box_cmp, box_of, is_rising, row_at, add_row, drop_row, change_row}
 use Rattle.verb_core.proofs.BoxLaws.{exact_boxes, boxes_total}
+use Rattle.verb_core.proofs.Searched.{less_is, turned_over, below_at, comparisons_rise}
 use Rattle.mail_rows.specs.Places.{place_in, stands_at, IsPlace, IsGap}
-
-less_is : (o : Ordering) → is_lt o ≡ true → o ≡ Less
-less_is Less h = refl
-less_is Equal h = absurd (true≢false (sym h))
-less_is Greater h = absurd (true≢false (sym h))
-
-turned_over : (a b : BoxId) (o : Ordering) → box_cmp a b ≡ o → box_cmp b a ≡ ordering_reverse o
-turned_over a b o e = boxes_total.antisymm b a ∙ ap ordering_reverse e
-
--- ---- rows in order, by place
-
-below_at : (id : BoxId) (rs : List (BoxId × Mailbox)) → rows.below_all box_cmp id rs ≡ true → (j : ℕ) (d : BoxId × Mailbox) → j < length rs → box_cmp id (get_or rs j d).0 ≡ Less
-below_at id [] h j d within = absurd (omega arith)
-below_at id (r ∷ rs) h zero d within = less_is (box_cmp id r.0) (first_so _ _ h)
-below_at id (r ∷ rs) h (suc j) d within = below_at id rs (second_so _ _ h) j d (omega arith)
-
-rising_at : (rs : List (BoxId × Mailbox)) → is_rising rs ≡ true → (i j : ℕ) (d : BoxId × Mailbox) → i < j → j < length rs → box_cmp (get_or rs i d).0 (get_or rs j d).0 ≡ Less
-rising_at [] h i j d lt within = absurd (omega arith)
-rising_at (r ∷ rs) h i zero d lt within = absurd (omega arith)
-rising_at (r ∷ rs) h zero (suc j) d lt within = below_at r.0 rs (first_so _ _ h) j d (omega arith)
-rising_at (r ∷ rs) h (suc i) (suc j) d lt within = rising_at rs (second_so _ _ h) i j d (omega arith) (omega arith)
-
-index_at_most : (o : Ordering) → ordering_index o ≤ 2
-index_at_most Less = search rules
-index_at_most Equal = search rules
-index_at_most Greater = search rules
-
--- a mailbox before another one compares no higher with a third
-rises : (a b id : BoxId) → box_cmp a b ≡ Less → ordering_index (box_cmp a id) ≤ ordering_index (box_cmp b id)
-rises a b id less =
-    elim (box_cmp b id) as (λ o. box_cmp b id ≡ o → ordering_index (box_cmp a id) ≤ ordering_index o) [
-      | Less ↦ λ e. let le : box_cmp a id ≡ Less = boxes_total.trans a b id less e in subst (λ o. ordering_index o ≤ ordering_index Less) (sym le) (search rules)
-      | Equal ↦ λ e. let le : box_cmp a id ≡ Less = sym (alike_right boxes_total b id a e) ∙ less in subst (λ o. ordering_index o ≤ ordering_index Equal) (sym le) (search rules)
-      | Greater ↦ λ e. index_at_most (box_cmp a id)
-    ] refl
-
-comparisons_rise : (id : BoxId) (rs : List (BoxId × Mailbox)) → is_rising rs ≡ true → IsNonDecreasingBy (λ (r : BoxId × Mailbox). ordering_index (box_cmp r.0 id)) rs
-comparisons_rise id rs rising i j d le within =
-    elim (cases_order i j) [
-      | inr (inl lt) ↦ rises (get_or rs i d).0 (get_or rs j d).0 id (rising_at rs rising i j d lt within)
-      | inl same ↦ subst (λ (k : ℕ). ordering_index (box_cmp (get_or rs k d).0 id) ≤ ordering_index (box_cmp (get_or rs j d).0 id)) (sym same) (search rules)
-      | inr (inr gt) ↦ absurd (omega arith)
-    ]
 
 place_found : (id : BoxId) (rs : List (BoxId × Mailbox)) → is_rising rs ≡ true → (i : ℕ) → i < length rs → ((d : BoxId × Mailbox) → box_cmp (get_or rs i d).0 id ≡ Equal) → IsPlace id rs i
 place_found id [] rising i within equal = absurd (omega arith)

@@ -1,6 +1,8 @@
 -- The places of aliases and filters, and what an act changes.
-use Rattle.std.specs.Prelude.{ℕ, ◌<◌, Bool, false, not, List, bytes_eq, filter, length, slice_get, Option, Some}
+use Rattle.std.specs.Prelude.{◌≡◌, ℕ, ◌<◌, Bool, true, false, not, List, [], ◌∷◌, bytes_eq, filter, length, slice_get, Option, Some}
+use Rattle.std.specs.declared.cmp.Ordering.TheVariants.{Less}
 use Rattle.std.specs.Ordering.{nat_cmp, is_gt, is_eq}
+use Rattle.std.specs.List.{AllByRecursion}
 use Rattle.std.specs.Option.{option_map_or}
 use Rattle.std.specs.Cmp.Lexicographic.{slice_cmp}
 use Rattle.verb_core.specs.declared.conf.Alias.{Alias}
@@ -17,6 +19,11 @@ stands_before local a = is_gt (slice_cmp nat_cmp local a.local)
 -- whether the alias at a place is that of a local part
 abbrev pub stands_here : List ℕ → ℕ → List Alias → Bool
 stands_here local place all = option_map_or (λ (a : Alias). is_eq (slice_cmp nat_cmp local a.local)) (slice_get all place) false
+
+-- the local parts strictly rise
+abbrev pub Rises : List Alias → Type 0
+Rises [] = Unit {0}
+Rises (a ∷ more) = AllByRecursion (λ (b : Alias). slice_cmp nat_cmp a.local b.local ≡ Less) more × Rises more
 
 -- whether the filter has another name
 abbrev pub has_other_id : List ℕ → Filter → Bool

@@ -1,5 +1,5 @@
 //! Where each kind of item's mail goes.
-ghost use Rattle.std.specs.Prelude.{◌≡◌, ◌++◌, ◌∷◌, [], IsTrue, IfOk, OnOk, option_map, unwrap_or};
+ghost use Rattle.std.specs.Prelude.{◌≡◌, ◌++◌, ◌∷◌, [], IsTrue, IfOk, OnOk, option_map};
 ghost use Rattle.verb_core.specs.declared.conf.Filter.{Filter as TheFilter};
 ghost use Rattle.verb_core.specs.Names.{inbox, lost_found};
 ghost use Rattle.verb_core.specs.Boxes.{is_rising};
@@ -12,7 +12,7 @@ use crate::opening::{inbox_name, lost_found_name};
 use crate::reach::{Reach, aim_at, first_met, meanings, means_nobody, reach_each, recipients};
 use std::alloc::Global;
 use undo_base::{Name, Names, NoMemory, User};
-use verb_core::{Act, Aims, BoxId, Conf, Deed, House, Item, Mailbox};
+use verb_core::{Act, Aims, BoxId, Conf, Deed, House, Item, Mailbox, who_acts};
 
 /// No aims.
 fn reach_nothing(alloc: Global) -> Reach
@@ -116,16 +116,6 @@ pub fn reach_delivery(
             None => Ok(reach_nothing(alloc)),
             Some(name) => reach_recipients(alloc, rows, house, conf, to, name),
         },
-    }
-}
-
-/// Whoever acts; where nobody does, the first user.
-pub fn who_acts(by: Option<User>) -> User
-    ensures { result ≡ unwrap_or by (record { 0 = 0 }) }
-{
-    match by {
-        Some(user) => user,
-        None => User(0),
     }
 }
 

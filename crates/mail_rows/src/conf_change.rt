@@ -1,9 +1,9 @@
 //! What an act of the operator changes in a configuration: made beforehand, then put in without memory.
-ghost use Rattle.std.specs.Prelude.{◌≡◌, ◌≤◌, ◌<◌, [], not, bytes_eq, filter, insert, length, take_while, IsTrue, IfOk, vec_len, vec_capacity};
+ghost use Rattle.std.specs.Prelude.{◌≡◌, ◌≤◌, ◌<◌, [], true, not, bytes_eq, filter, insert, length, take_while, IsTrue, IfOk, vec_len, vec_capacity};
 ghost use Rattle.verb_core.specs.Step.{in_order, with_alias as alias_set, with_filter as filter_set, conf_after};
 ghost use Rattle.verb_core.specs.declared.item.Deed.TheVariants.{Act as Acts};
 ghost use Rattle.mail_rows.specs.declared.conf_change.ConfChange.TheVariants as changes;
-ghost use Rattle.mail_rows.specs.Confs.{changed, has_other_id, stands_before, stands_here};
+ghost use Rattle.mail_rows.specs.Confs.{Rises, changed, has_other_id, stands_before, stands_here};
 
 use crate::mail::move_over;
 use crate::reach::recipients;
@@ -100,14 +100,41 @@ fn is_before(local: &Name, alias: &Alias) -> bool
     local.bytes().cmp(alias.local.bytes()).is_gt()
 }
 
-/// How many aliases stand before the one of a local part.
-fn alias_place(aliases: &[Alias], local: &Name) -> usize
+/// Whether the local parts strictly rise.
+pub(crate) fn do_rise(aliases: &[Alias]) -> bool
+    ensures { result ≡ true → Rises aliases.now }
+{
+    aliases.is_sorted_by(|alias, next| is_before(&next.local, alias))
+}
+
+/// How many aliases stand before the one of a local part, found by halves.
+fn halved_place(aliases: &[Alias], local: &Name) -> usize
+    requires { Rises aliases.now }
+    ensures { result ≡ length (take_while (stands_before local.now) aliases.now) }
+{
+    aliases.partition_point(|alias| is_before(local, alias))
+}
+
+/// The same, whatever their order.
+fn walked_place(aliases: &[Alias], local: &Name) -> usize
     ensures { result ≡ length (take_while (stands_before local.now) aliases.now) }
 {
     aliases
         .iter()
         .take_while(|alias| is_before(local, alias))
         .count()
+}
+
+/// How many aliases stand before the one of a local part.
+fn alias_place(aliases: &[Alias], local: &Name, rising: bool) -> usize
+    requires { rising ≡ true → Rises aliases.now }
+    ensures { result ≡ length (take_while (stands_before local.now) aliases.now) }
+{
+    if rising {
+        halved_place(aliases, local)
+    } else {
+        walked_place(aliases, local)
+    }
 }
 
 /// Whether the alias at a place is that of a local part.
@@ -120,11 +147,12 @@ fn is_here(aliases: &[Alias], place: usize, local: &Name) -> bool
     }
 }
 
-fn set_alias_in(list: &mut Vec<Alias>, alias: Alias)
-    requires { vec_len list.old < vec_capacity list.old }
+fn set_alias_in(list: &mut Vec<Alias>, alias: Alias, rising: bool)
+    requires rising { rising ≡ true → Rises list.old.items }
+    requires room { vec_len list.old < vec_capacity list.old }
     ensures { list.new.items ≡ alias_set alias list.old.items }
 {
-    let place = alias_place(list.as_slice(), &alias.local);
+    let place = alias_place(list.as_slice(), &alias.local, rising);
     if is_here(list.as_slice(), place, &alias.local) {
         list[place] = alias;
     } else {
@@ -132,8 +160,9 @@ fn set_alias_in(list: &mut Vec<Alias>, alias: Alias)
     }
 }
 
-/// Sets an alias. The spare list has room for all.
-pub(crate) fn set_alias(aliases: &mut Aliases, spare: &mut Vec<Alias>, alias: Alias)
+/// Sets an alias. The spare list has room for all. Where the local parts are known to rise, its place is found by halves.
+pub(crate) fn set_alias(aliases: &mut Aliases, spare: &mut Vec<Alias>, alias: Alias, rising: bool)
+    requires rising { rising ≡ true → Rises aliases.old }
     requires empty { spare.old.items ≡ [] }
     requires room { length aliases.old < vec_capacity spare.old }
     ensures aliases { aliases.new ≡ alias_set alias aliases.old }
@@ -143,17 +172,40 @@ pub(crate) fn set_alias(aliases: &mut Aliases, spare: &mut Vec<Alias>, alias: Al
     let list = mem::replace(aliases, Aliases::new(alloc)).into_vec();
     let free = mem::replace(spare, Vec::new(alloc));
     let (mut list, free) = with_room(list, free);
-    set_alias_in(&mut list, alias);
+    set_alias_in(&mut list, alias, rising);
     *aliases = Aliases::from_vec(list);
     *spare = free;
 }
 
-/// The alias of a local part goes.
-pub(crate) fn drop_alias(alloc: Global, aliases: &mut Aliases, local: &Name)
+/// Takes the alias of a local part out, where there is one.
+fn drop_alias_there(list: &mut Vec<Alias>, local: &Name)
+    requires { Rises list.old.items }
+    ensures { list.new.items ≡ filter (λ a. not (bytes_eq local.now a.local)) list.old.items }
+{
+    let place = halved_place(list.as_slice(), local);
+    if is_here(list.as_slice(), place, local) {
+        list.remove(place);
+    }
+}
+
+/// The same, whatever their order.
+fn drop_alias_in(list: &mut Vec<Alias>, local: &Name)
+    ensures { list.new.items ≡ filter (λ a. not (bytes_eq local.now a.local)) list.old.items }
+{
+    list.retain(|alias| local.bytes() != alias.local.bytes());
+}
+
+/// The alias of a local part goes. Where the local parts are known to rise, it is found by halves.
+pub(crate) fn drop_alias(alloc: Global, aliases: &mut Aliases, local: &Name, rising: bool)
+    requires { rising ≡ true → Rises aliases.old }
     ensures { aliases.new ≡ filter (λ a. not (bytes_eq local.now a.local)) aliases.old }
 {
     let mut list = mem::replace(aliases, Aliases::new(alloc)).into_vec();
-    list.retain(|alias| local.bytes() != alias.local.bytes());
+    if rising {
+        drop_alias_there(&mut list, local);
+    } else {
+        drop_alias_in(&mut list, local);
+    }
     *aliases = Aliases::from_vec(list);
 }
 

@@ -1,10 +1,12 @@
 //! The configuration in force, and the change that is ready for it.
-ghost use Rattle.std.specs.Prelude.{◌≡◌, ◌<◌, [], None, Some, IfOk, OnOk, length, unwrap_or, vec_capacity};
+ghost use Rattle.std.specs.Prelude.{◌≡◌, ◌<◌, [], None, Some, true, IfOk, OnOk, length, unwrap_or, vec_capacity};
 ghost use Rattle.verb_core.specs.declared.item.Deed.TheVariants.{Act as Acts};
 ghost use Rattle.verb_core.specs.Step.{conf_after};
-ghost use Rattle.mail_rows.specs.Confs.{changed, IsRoomy};
+ghost use Rattle.mail_rows.specs.Confs.{Rises, changed, IsRoomy};
 
-use crate::conf_change::{ConfChange, conf_change, drop_alias, drop_filter, set_alias, set_filter};
+use crate::conf_change::{
+    ConfChange, conf_change, do_rise, drop_alias, drop_filter, set_alias, set_filter,
+};
 use std::alloc::Global;
 use std::marker::Model;
 use undo_base::NoMemory;
@@ -13,25 +15,27 @@ use verb_core::{Act, Alias, Conf, Filter, House};
 /// How many aliases or filters a configuration has at most.
 const MOST_HELD: usize = 4_294_967_295;
 
-/// The configuration in force; what is to change in it, and empty lists that have room for all, where the configuration's
+/// The configuration in force; whether its aliases' local parts are known to rise, as those of a configuration's text do,
+/// so that one is found by halves; what is to change in it, and empty lists that have room for all, where the configuration's
 /// own have none left.
 #[derive(Drop)]
 pub struct HeldConf {
     conf: Conf,
+    rising: bool,
     ready: Option<ConfChange>,
     aliases: Vec<Alias>,
     filters: Vec<Filter>,
 }
 
 impl Model for HeldConf {
-    ghost use Rattle.std.specs.Prelude.{◌≡◌, [], option_map, vec_capacity};
-    ghost use Rattle.mail_rows.specs.Confs.{Held, changed, IsRoomy};
+    ghost use Rattle.std.specs.Prelude.{◌≡◌, [], true, option_map, vec_capacity};
+    ghost use Rattle.mail_rows.specs.Confs.{Held, Rises, changed, IsRoomy};
 
     ghost Value = { Held };
 
     ghost view = { λ s. record { conf = s.conf; ready = option_map (λ change. changed change s.conf) s.ready } };
 
-    ghost invariant = { λ s. (s.aliases.items ≡ []) × (s.filters.items ≡ []) × IsRoomy s.ready s.conf (vec_capacity s.aliases) (vec_capacity s.filters) };
+    ghost invariant = { λ s. (s.rising ≡ true → Rises s.conf.aliases) × (s.aliases.items ≡ []) × (s.filters.items ≡ []) × IsRoomy s.ready s.conf (vec_capacity s.aliases) (vec_capacity s.filters) };
 }
 
 /// Makes an empty list larger than so many items, and then twice as large as it must be.
@@ -74,23 +78,27 @@ fn make_room(
 }
 
 /// Puts a change into a configuration. There is room for it.
+#[tactic(auto, using(crate::proofs::AliasOrder::rises_with, crate::proofs::AliasOrder::rises_filter))]
 fn put_change(
     alloc: Global,
     conf: &mut Conf,
+    rising: bool,
     aliases: &mut Vec<Alias>,
     filters: &mut Vec<Filter>,
     change: ConfChange,
 )
+    requires rising { rising ≡ true → Rises conf.old.aliases }
     requires aliases { aliases.old.items ≡ [] }
     requires filters { filters.old.items ≡ [] }
     requires room { IsRoomy (Some change) conf.old (vec_capacity aliases.old) (vec_capacity filters.old) }
     ensures conf { conf.new ≡ changed change conf.old }
+    ensures rising { rising ≡ true → Rises conf.new.aliases }
     ensures aliases { aliases.new.items ≡ [] }
     ensures filters { filters.new.items ≡ [] }
 {
     match change {
-        ConfChange::SetAlias(alias) => set_alias(&mut conf.aliases, aliases, alias),
-        ConfChange::DropAlias(local) => drop_alias(alloc, &mut conf.aliases, &local),
+        ConfChange::SetAlias(alias) => set_alias(&mut conf.aliases, aliases, alias, rising),
+        ConfChange::DropAlias(local) => drop_alias(alloc, &mut conf.aliases, &local, rising),
         ConfChange::SetFilter(filter) => set_filter(&mut conf.filters, filters, filter),
         ConfChange::DropFilter(id) => drop_filter(alloc, &mut conf.filters, &id),
         ConfChange::Nothing => {}
@@ -102,8 +110,10 @@ impl HeldConf {
     pub fn new(alloc: Global, conf: Conf) -> HeldConf
         ensures { result ≡ record { conf = conf; ready = None } }
     {
+        let rising = do_rise(conf.aliases.as_slice());
         HeldConf {
             conf,
+            rising,
             ready: None,
             aliases: Vec::new(alloc),
             filters: Vec::new(alloc),
@@ -144,6 +154,7 @@ impl HeldConf {
             put_change(
                 alloc,
                 &mut self.conf,
+                self.rising,
                 &mut self.aliases,
                 &mut self.filters,
                 change,

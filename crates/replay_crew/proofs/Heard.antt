@@ -36,56 +36,17 @@ use Rattle.replay_crew.proofs.OutlineSteps.{aims_on_outline, step_outline}
 -- a delivery's text is not kept
 anew : (text : List ℕ) (d : Deed) → needs_text d ≡ true → stored_deed (with_text text d) ≡ stored_deed d
 anew text (Deliver from to old) needs = refl
-anew text (Append mailbox flags moment old) needs = absurd (true≢false (sym needs))
-anew text (Fetch mailbox keys sets_seen shows_body) needs = absurd (true≢false (sym needs))
-anew text (Store mailbox keys how flags) needs = absurd (true≢false (sym needs))
-anew text (Copy mailbox keys target) needs = absurd (true≢false (sym needs))
-anew text (Names pattern) needs = absurd (true≢false (sym needs))
-anew text (Status mailbox) needs = absurd (true≢false (sym needs))
-anew text (Select mailbox) needs = absurd (true≢false (sym needs))
-anew text (Expunge mailbox keys) needs = absurd (true≢false (sym needs))
-anew text (Close mailbox keys) needs = absurd (true≢false (sym needs))
-anew text (Create mailbox) needs = absurd (true≢false (sym needs))
-anew text (Rename mailbox target) needs = absurd (true≢false (sym needs))
-anew text (Delete mailbox keys) needs = absurd (true≢false (sym needs))
-anew text (Acts act) needs = absurd (true≢false (sym needs))
-anew text (Notice user old) needs = absurd (true≢false (sym needs))
+anew text _ needs = absurd (true≢false (sym needs))
 
 -- a delivery with another text goes where that text leads
 redone : (s : MailStore) (i : Item) (text : List ℕ) (d : Deed) → needs_text d ≡ true → step_text s (record i { deed = d }) text ≡ step s (record i { deed = with_text text d })
 redone s i text (Deliver from to old) needs = refl
-redone s i text (Append mailbox flags moment old) needs = absurd (true≢false (sym needs))
-redone s i text (Fetch mailbox keys sets_seen shows_body) needs = absurd (true≢false (sym needs))
-redone s i text (Store mailbox keys how flags) needs = absurd (true≢false (sym needs))
-redone s i text (Copy mailbox keys target) needs = absurd (true≢false (sym needs))
-redone s i text (Names pattern) needs = absurd (true≢false (sym needs))
-redone s i text (Status mailbox) needs = absurd (true≢false (sym needs))
-redone s i text (Select mailbox) needs = absurd (true≢false (sym needs))
-redone s i text (Expunge mailbox keys) needs = absurd (true≢false (sym needs))
-redone s i text (Close mailbox keys) needs = absurd (true≢false (sym needs))
-redone s i text (Create mailbox) needs = absurd (true≢false (sym needs))
-redone s i text (Rename mailbox target) needs = absurd (true≢false (sym needs))
-redone s i text (Delete mailbox keys) needs = absurd (true≢false (sym needs))
-redone s i text (Acts act) needs = absurd (true≢false (sym needs))
-redone s i text (Notice user old) needs = absurd (true≢false (sym needs))
+redone s i text _ needs = absurd (true≢false (sym needs))
 
 -- a deed with its own text is that deed
 with_own : (text : List ℕ) (d : Deed) → needs_text d ≡ true → text_in d ≡ Some text → with_text text d ≡ d
 with_own text (Deliver from to old) needs is = let same : text ≡ old = cc in ap (λ (t : List ℕ). Deliver from to t) same
-with_own text (Append mailbox flags moment old) needs is = absurd (true≢false (sym needs))
-with_own text (Fetch mailbox keys sets_seen shows_body) needs is = absurd (true≢false (sym needs))
-with_own text (Store mailbox keys how flags) needs is = absurd (true≢false (sym needs))
-with_own text (Copy mailbox keys target) needs is = absurd (true≢false (sym needs))
-with_own text (Names pattern) needs is = absurd (true≢false (sym needs))
-with_own text (Status mailbox) needs is = absurd (true≢false (sym needs))
-with_own text (Select mailbox) needs is = absurd (true≢false (sym needs))
-with_own text (Expunge mailbox keys) needs is = absurd (true≢false (sym needs))
-with_own text (Close mailbox keys) needs is = absurd (true≢false (sym needs))
-with_own text (Create mailbox) needs is = absurd (true≢false (sym needs))
-with_own text (Rename mailbox target) needs is = absurd (true≢false (sym needs))
-with_own text (Delete mailbox keys) needs is = absurd (true≢false (sym needs))
-with_own text (Acts act) needs is = absurd (true≢false (sym needs))
-with_own text (Notice user old) needs is = absurd (true≢false (sym needs))
+with_own text _ needs is = absurd (true≢false (sym needs))
 
 -- one whose text is looked at is no notice
 pub no_notice : (d : Deed) → needs_text d ≡ true → is_notice d ≡ false

@@ -17,7 +17,7 @@ use Rattle.replay_crew.specs.Orders.{Turn, Placed, run_turns, are_apart, all_apa
 use Rattle.replay_crew.specs.Resolving.{turn_of}
 use Rattle.replay_crew.specs.Working.{level_of, CanMake, IsMade, IsLevel, applied_each, shown_at, answers_on}
 use Rattle.replay_crew.proofs.Turning.{append_assoc, after}
-use Rattle.replay_crew.proofs.OneStore.{level_kept}
+use Rattle.replay_crew.proofs.OneStore.{level_kept, level_names}
 use Rattle.replay_crew.proofs.ByLevels.{all_mid}
 use Rattle.replay_crew.proofs.LevelsRun.{run_join, run_house, run_valid}
 
@@ -87,7 +87,7 @@ does_each all s front (m ∷ made) valid within is_made fit_front fit apart =
     let t : MailStore = run_turns s front in
     let effect : IsEffect m.effect e.0 s = subst (λ (q : Resolved). IsEffect m.effect q s) (e.1.1 e.0) (is_made.0 e.0) in
     let one : applied m.effect t ≡ after t p =
-    effect.elsewhere t (run_house s front) (run_valid s front valid fit_front) (level_kept front s p valid (fit'.0, fit_front) (apart_mid front p rest apart')) in
+    effect.elsewhere t (run_house s front) (run_valid s front valid fit_front) (level_kept front s p valid (fit'.0, fit_front) (apart_mid front p rest apart')) (level_names front s p valid (fit'.0, fit_front) (apart_mid front p rest apart')) in
     let later : applied_each made (run_turns s (front ++ p ∷ [])) ≡ run_turns (run_turns s (front ++ p ∷ [])) rest =
     does_each all s (front ++ p ∷ []) made valid within.1 is_made.1 (fit_snoc s.house front p fit_front (fit'.0, tt)) fit'.1 (subst (λ (l : List Placed). all_apart l ≡ true) (sym (append_assoc front (p ∷ []) rest)) apart') in
     ap (applied_each made) one

@@ -10,10 +10,11 @@ use Rattle.verb_core.specs.declared.item.Deed.TheVariants.{Act as Acts}
 use Rattle.verb_core.specs.declared.item.Act.TheVariants.{SetAlias, DropAlias, SetFilter, DropFilter}
 use Rattle.verb_core.specs.declared.mailbox.BoxId.{BoxId}
 use Rattle.verb_core.specs.declared.mailbox.Mailbox.{Mailbox}
-use Rattle.verb_core.specs.Boxes.{box_cmp, box_of, row_at, change_row, same_user}
+use Rattle.verb_core.specs.Boxes.{box_cmp, box_of, row_at, change_row, names_of, same_user}
+use Rattle.verb_core.specs.Items.{actor}
 use Rattle.verb_core.specs.Store.{MailStore, IsValid}
 use Rattle.verb_core.specs.Step.{Boxes, step_with, shown}
-use Rattle.verb_core.specs.Touched.{touched, is_one, SameAt}
+use Rattle.verb_core.specs.Touched.{touches_box, is_one, SameAt, SameNames}
 use Rattle.verb_core.proofs.BoxLaws.{same_box, row_at-change_row}
 use Rattle.verb_core.proofs.Frame.{other_stays}
 use Rattle.verb_core.proofs.Validity.{step_with-IsValid}
@@ -22,10 +23,10 @@ use Rattle.touch_rules.specs.declared.touched.Touch.TheVariants.{Keys, Tail, Who
 use Rattle.touch_rules.specs.Commuting.{user_of, mailbox_of, same_mailbox, does_write, commute}
 use Rattle.touch_rules.specs.Swapping.{sets_conf, Swap}
 use Rattle.touch_rules.proofs.Fitting.{is_free, commute_flip, independent_commute}
-use Rattle.touch_rules.proofs.Changes.{Change, IsAllowed, Allowed, after_changes}
+use Rattle.touch_rules.proofs.Changes.{Change, IsAllowed, Allowed, after_changes, names_kept}
 use Rattle.touch_rules.proofs.Plain.{moves_boxes, row_of, changes, works, allowed, covered}
 use Rattle.touch_rules.proofs.Elsewhere.{Off, touched_off}
-use Rattle.touch_rules.proofs.Orders.{off_named, swap_given}
+use Rattle.touch_rules.proofs.Orders.{off_named, names_for_j, swap_given}
 use Rattle.replay_plan.proofs.Pairs.{all_swap}
 use Rattle.replay_crew.specs.Orders.{Placed, run_turns, are_apart, AllFit}
 use Rattle.replay_crew.proofs.Turning.{after, answer}
@@ -52,7 +53,7 @@ off_changes : (cs : List Change) → AllByRecursion Allowed cs → (v : User) (n
 off_changes [] all v n w h = refl
 off_changes (c ∷ cs) all v n w h = neither _ _ (off_change c.touch c.id c.becomes all.0 v n w (first_so _ _ h)) (off_changes cs all.1 v n w (second_so _ _ h))
 
-offs : (cs : List Change) → AllByRecursion Allowed cs → (ts : List Touch) → list_all (λ t. list_all (λ (c : Change). is_free c.touch t) cs) ts ≡ true → AllByRecursion (Off (map (λ (c : Change). c.id) cs)) ts
+offs : (cs : List Change) → AllByRecursion Allowed cs → (ts : List Touch) → list_all (λ t. list_all (λ (c : Change). is_free c.touch t) cs) ts ≡ true → AllByRecursion (Off (is_one (map (λ (c : Change). c.id) cs))) ts
 offs cs all [] h = tt
 offs cs all (Keys v n ks w ∷ ts) h = (off_changes cs all v n w (first_so _ _ h), offs cs all ts (second_so _ _ h))
 offs cs all (Tail v n number ∷ ts) h = (off_changes cs all v n true (first_so _ _ h), offs cs all ts (second_so _ _ h))
@@ -85,7 +86,7 @@ module _ (s : MailStore) (q p : Placed) (valid : IsValid s) (fit : AllFit s.hous
   turn : commute (row_of q.1.0 i i.by i.deed) (row_of p.1.0 j j.by j.deed) ≡ true
   turn = independent_commute (row_of q.1.0 i i.by i.deed) (row_of p.1.0 j j.by j.deed) apart
 
-  pub kept_behind : SameAt (touched p.1.0 j) s.boxes (after s q).boxes
+  pub kept_behind : SameAt (touches_box p.1.0 j) s.boxes (after s q).boxes
   kept_behind id in_j = elim (moves_boxes i.deed) as (λ b. moves_boxes i.deed ≡ b → row_at id s.boxes ≡ row_at id (after s q).boxes) [
     | true ↦ λ moves. sym (other_stays id q.1.0 s i (off_named q.1.0 p.1.0 s i j valid fit.1.0.0 fit.0.0 moves fit.1.0.1 fit.0.1 (commute_flip (row_of p.1.0 j j.by j.deed) (row_of q.1.0 i i.by i.deed) ∙ turn) id in_j))
     | false ↦ λ still.
@@ -95,7 +96,14 @@ module _ (s : MailStore) (q p : Placed) (valid : IsValid s) (fit : AllFit s.hous
         sym (all_swap (λ (c : Change). is_free c.touch) (changes q.1.0 i i.by i.deed s.boxes) (row_of p.1.0 j j.by j.deed)) ∙ free in
         sym (ap (row_at id) (works q.1.0 i i.by i.deed s.boxes still fit.1.0.1)
         ∙ row_kept (changes q.1.0 i i.by i.deed s.boxes) id s.boxes
-        (touched_off (map (λ (c : Change). c.id) (changes q.1.0 i i.by i.deed s.boxes)) id p.1.0 j j.by j.deed fit.0.1 (offs (changes q.1.0 i i.by i.deed s.boxes) (allowed q.1.0 i i.by i.deed s.boxes) (row_of p.1.0 j j.by j.deed) each) in_j))
+        (touched_off (is_one (map (λ (c : Change). c.id) (changes q.1.0 i i.by i.deed s.boxes))) id p.1.0 j j.by j.deed fit.0.1 (offs (changes q.1.0 i i.by i.deed s.boxes) (allowed q.1.0 i i.by i.deed s.boxes) (row_of p.1.0 j j.by j.deed) each) in_j))
+  ] refl
+
+  -- and the names of its user, where it touches these
+  pub names_behind : SameNames j s.boxes (after s q).boxes
+  names_behind names = elim (moves_boxes i.deed) as (λ b. moves_boxes i.deed ≡ b → names_of (actor j.by j.deed) s.boxes ≡ names_of (actor j.by j.deed) (after s q).boxes) [
+    | true ↦ λ moves. sym (names_for_j q.1.0 p.1.0 s i j valid fit.1.0.0 fit.0.0 moves fit.1.0.1 fit.0.1 (commute_flip (row_of p.1.0 j j.by j.deed) (row_of q.1.0 i i.by i.deed) ∙ turn) names)
+    | false ↦ λ still. sym (ap (names_of (actor j.by j.deed)) (works q.1.0 i i.by i.deed s.boxes still fit.1.0.1) ∙ names_kept (actor j.by j.deed) (changes q.1.0 i i.by i.deed s.boxes) s.boxes)
   ] refl
 
   pub answer_behind : answer (after s q) p ≡ answer s p
@@ -115,11 +123,18 @@ module _ (s : MailStore) (q p : Placed) (valid : IsValid s) (fit : AllFit s.hous
 
 -- ---- behind a level
 
-pub level_kept : (level : List Placed) (s : MailStore) (p : Placed) → IsValid s → AllFit s.house (p ∷ level) → list_all (λ q. are_apart q p) level ≡ true → SameAt (touched p.1.0 p.1.1) s.boxes (run_turns s level).boxes
+pub level_kept : (level : List Placed) (s : MailStore) (p : Placed) → IsValid s → AllFit s.house (p ∷ level) → list_all (λ q. are_apart q p) level ≡ true → SameAt (touches_box p.1.0 p.1.1) s.boxes (run_turns s level).boxes
 level_kept [] s p valid fit apart = λ id _. refl
 level_kept (q ∷ level) s p valid fit apart = λ id in_p.
     kept_behind s q p valid (fit.0, (fit.1.0, tt)) (first_so _ _ apart) id in_p
     ∙ level_kept level (after s q) p (step_with-IsValid q.1.0 s q.1.1 valid fit.1.0.0) (fit.0, fit.1.1) (second_so _ _ apart) id in_p
+
+-- a level leaves the names of each user whose names an item touches that is independent of its items
+pub level_names : (level : List Placed) (s : MailStore) (p : Placed) → IsValid s → AllFit s.house (p ∷ level) → list_all (λ q. are_apart q p) level ≡ true → SameNames p.1.1 s.boxes (run_turns s level).boxes
+level_names [] s p valid fit apart = λ _. refl
+level_names (q ∷ level) s p valid fit apart = λ names.
+    names_behind s q p valid (fit.0, (fit.1.0, tt)) (first_so _ _ apart) names
+    ∙ level_names level (after s q) p (step_with-IsValid q.1.0 s q.1.1 valid fit.1.0.0) (fit.0, fit.1.1) (second_so _ _ apart) names
 
 pub level_answer : (level : List Placed) (s : MailStore) (p : Placed) → IsValid s → AllFit s.house (p ∷ level) → list_all (λ q. are_apart q p) level ≡ true → (step_with p.1.0 (run_turns s level) p.1.1).1 ≡ (step_with p.1.0 s p.1.1).1
 level_answer [] s p valid fit apart = refl

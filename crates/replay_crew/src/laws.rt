@@ -6,7 +6,7 @@ ghost use Rattle.verb_core.specs.declared.item.Item.{Item};
 ghost use Rattle.verb_core.specs.Aims.{sought_by};
 ghost use Rattle.verb_core.specs.Step.{step, step_with, run, answers};
 ghost use Rattle.verb_core.specs.Store.{MailStore, IsValid};
-ghost use Rattle.verb_core.specs.Touched.{touched, SameAt};
+ghost use Rattle.verb_core.specs.Touched.{touches_box, SameAt, SameNames};
 ghost use Rattle.replay_plan.specs.Placing.{levels_of};
 ghost use Rattle.box_store.specs.Outline.{outline};
 ghost use Rattle.replay_crew.specs.Outline.{outline_after};
@@ -27,12 +27,14 @@ pub fn plans_are_orders()
     ensures { (s : MailStore) (items : List Item) → IsOrder (by_levels (levels_of (touches_by_turn (turns s items))) (enumerate_from 0 (turns s items))) (enumerate_from 0 (turns s items)) }
 {}
 
-/// An item finds its mailboxes behind items of which each is independent of it as it finds them before them, gets the same
-/// answer, and where its aims hold behind them they hold before them. So what the items of a level do can be worked out on
+/// An item finds its mailboxes, and where it touches these its user's names, behind items of which each is independent of
+/// it as it finds them before them, gets the same answer, and where its aims hold behind them they hold before them. So what the items of a level do can be worked out on
 /// the store before them.
 pub fn levels_share_a_store()
     ensures mailboxes { (s : MailStore) (level : List Placed) (p : Placed) → IsValid s → AllFit s.house (p ∷ level) → IsTrue (list_all (λ q. are_apart q p) level) →
-        SameAt (touched p.1.0 p.1.1) s.boxes (run_turns s level).boxes }
+        SameAt (touches_box p.1.0 p.1.1) s.boxes (run_turns s level).boxes }
+    ensures names { (s : MailStore) (level : List Placed) (p : Placed) → IsValid s → AllFit s.house (p ∷ level) → IsTrue (list_all (λ q. are_apart q p) level) →
+        SameNames p.1.1 s.boxes (run_turns s level).boxes }
     ensures answer { (s : MailStore) (level : List Placed) (p : Placed) → IsValid s → AllFit s.house (p ∷ level) → IsTrue (list_all (λ q. are_apart q p) level) →
         (step_with p.1.0 (run_turns s level) p.1.1).1 ≡ (step_with p.1.0 s p.1.1).1 }
     ensures aims { (s : MailStore) (level : List Placed) (p : Placed) → IsValid s → AllFit s.house (p ∷ level) → IsTrue (list_all (λ q. are_apart q p) level) →

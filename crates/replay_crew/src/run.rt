@@ -1,5 +1,5 @@
 //! The items of a plan, performed level by level.
-ghost use Rattle.std.specs.Prelude.{◌≡◌, ◌+◌, List, map, length, IfOk, OnOk, slice_set, vec_len};
+ghost use Rattle.std.specs.Prelude.{◌≡◌, ◌≤◌, ◌+◌, List, map, length, IfOk, OnErr, OnOk, slice_set, vec_len};
 ghost use Rattle.std.specs.List.{enumerate_from};
 ghost use Rattle.verb_core.specs.declared.item.Item.{Item};
 ghost use Rattle.verb_core.specs.Step.{answers, run};
@@ -33,6 +33,7 @@ fn apply_one<L: Ledger>(
     ensures store { OnOk result (store.new.store ≡ applied effect store.old.store) }
     ensures shown { IfOk result (λ shown. shown ≡ effect.shown) }
     ensures step { OnOk result (steps.new ≡ steps.old + 1) }
+    ensures no_step { OnErr result (steps.new ≡ steps.old) }
 {
     store.reserve(alloc, &effect)?;
     Ok(store.apply(effect, steps))
@@ -49,6 +50,7 @@ fn apply_made<L: Ledger>(
     ensures store { OnOk result (store.new.store ≡ applied made.effect store.old.store) }
     ensures shows { OnOk result (shows.new.items ≡ slice_set shows.old.items made.place made.effect.shown) }
     ensures step { OnOk result (steps.new ≡ steps.old + 1) }
+    ensures no_step { OnErr result (steps.new ≡ steps.old) }
 {
     let (place, effect) = made.parts();
     let shown = apply_one(alloc, store, effect, steps)?;
@@ -69,6 +71,7 @@ fn apply_each<L: Ledger>(
     ensures store { OnOk result (store.new.store ≡ applied_each made.items store.old.store) }
     ensures shows { OnOk result (shows.new.items ≡ put_each (map shown_at made.items) shows.old.items) }
     ensures steps { OnOk result (steps.new ≡ steps.old + vec_len made) }
+    ensures most { OnErr result (steps.new ≤ steps.old + vec_len made) }
 {
     for one in made {
         apply_made(alloc, store, one, shows, steps)?;
@@ -94,6 +97,7 @@ fn run_level<R: Threads + Sync, G: Gate, L: Ledger>(
     ensures valid { OnOk result (IsValid store.new.store) }
     ensures shows { OnOk result (shows.new.items ≡ put_each (answers_on store.old.store (level_of items.now places.now)) shows.old.items) }
     ensures steps { OnOk result (steps.new ≡ steps.old + length (level_of items.now places.now)) }
+    ensures most { OnErr result (steps.new ≤ steps.old + length (level_of items.now places.now)) }
 {
     let made = make_level(rt, alloc, store, items, gate, places)?;
     apply_each(alloc, store, made, shows, steps)
@@ -116,6 +120,7 @@ fn run_each_level<R: Threads + Sync, G: Gate, L: Ledger>(
     ensures valid { OnOk result (IsValid store.new.store) }
     ensures shows { OnOk result (shows.new.items ≡ put_each (told_by_levels store.old.store (levels_at (enumerate_from 0 (map turn_of items.now)) plan.now)) shows.old.items) }
     ensures steps { OnOk result (steps.new ≡ steps.old + length (told_by_levels store.old.store (levels_at (enumerate_from 0 (map turn_of items.now)) plan.now))) }
+    ensures most { OnErr result (steps.new ≤ steps.old + length (told_by_levels store.old.store (levels_at (enumerate_from 0 (map turn_of items.now)) plan.now))) }
 {
     for places in plan.as_slice() {
         run_level(
@@ -144,7 +149,7 @@ fn blank_shows(alloc: Global, count: usize) -> Result<Vec<Shown>, NoMemory>
 }
 
 /// The store that the items of a plan lead to, and what each of them shows, in their order. They are performed level by level,
-/// each in one step: the items of a level are worked out by at most 16 workers on the one store before it, and what they do is
+/// each in one step, and where memory is wanting no item in more than one: the items of a level are worked out by at most 16 workers on the one store before it, and what they do is
 /// done in order by one thread.
 pub fn run_plan<R: Threads + Sync, G: Gate, L: Ledger>(
     rt: &R,
@@ -162,6 +167,7 @@ pub fn run_plan<R: Threads + Sync, G: Gate, L: Ledger>(
     ensures shows { (timeline : List Item) → AreResolvedFrom store.store timeline items.now → IfOk result (λ made. made.1 ≡ answers store.store timeline) }
     ensures valid { IfOk result (λ made. IsValid made.0.store) }
     ensures steps { OnOk result (steps.new ≡ steps.old + length items.now) }
+    ensures most { OnErr result (steps.new ≤ steps.old + length items.now) }
 {
     let items = items.as_slice();
     let mut store = store;

@@ -5,7 +5,7 @@ ghost use Rattle.touch_rules.specs.Commuting.{does_write};
 ghost use Rattle.replay_plan.specs.Placing.{highest};
 ghost use Rattle.replay_plan.specs.Slots.{spot_of, spot_on, same_spot, level_at, parts_of, asked_by, asked_on, is_at, bound};
 
-use crate::parts::{asked, parts, slot_on, writes};
+use crate::parts::{asked, parts, slot_on};
 use crate::slots::{Part, Slot, Table};
 use std::alloc::Global;
 use touch_rules::Touch;
@@ -45,7 +45,7 @@ fn raise_touch(alloc: Global, last: &mut Table, touch: &Touch, level: u32) -> Re
 {
     let parts = parts(alloc, touch)?;
     raise_parts(alloc, last, touch, false, parts.as_slice(), level)?;
-    if writes(touch) {
+    if touch.writes() {
         raise_parts(alloc, last, touch, true, parts.as_slice(), level)?;
     }
     Ok(())
@@ -78,7 +78,7 @@ fn highest_at(alloc: Global, last: &Table, touch: &Touch, parts: &[Part]) -> Res
 {
     let mut high = 0;
     for part in parts {
-        let slot = slot_on(alloc, touch, !writes(touch), *part)?;
+        let slot = slot_on(alloc, touch, !touch.writes(), *part)?;
         high = higher(high, last.get(&slot));
     }
     Ok(high)

@@ -1,24 +1,13 @@
 //! Which parts of its place a touch is of, and which a later touch must come behind.
 ghost use Rattle.std.specs.Prelude.{◌≡◌, ◌∷◌, ◌++◌, IfOk, OnOk, option_map, Some};
-ghost use Rattle.touch_rules.specs.Commuting.{does_write, mailbox_of, user_of};
+ghost use Rattle.touch_rules.specs.Commuting.{mailbox_of};
 ghost use Rattle.replay_plan.specs.declared.slots.Part.TheVariants.{Anything, Whole};
 ghost use Rattle.replay_plan.specs.Slots.{spot_of, spot_on, parts_of, asked_by, key_parts, key_asked};
 
 use crate::slots::{Part, Slot};
 use std::alloc::Global;
 use touch_rules::Touch;
-use undo_base::{Key, Name, NoMemory, User};
-
-pub(crate) fn writes(touch: &Touch) -> bool
-    ensures { result ≡ does_write touch.now }
-{
-    match touch {
-        Touch::Keys { writes, .. } => *writes,
-        Touch::Tail { .. } => true,
-        Touch::Whole { writes, .. } => *writes,
-        Touch::Names { writes, .. } => *writes,
-    }
-}
+use undo_base::{Key, Name, NoMemory};
 
 /// The parts of messages that a touch is of.
 fn with_keys(parts: &mut Vec<Part>, keys: &[Key]) -> Result<(), NoMemory>
@@ -86,17 +75,6 @@ pub(crate) fn asked(alloc: Global, touch: &Touch) -> Result<Vec<Part>, NoMemory>
     }
 }
 
-fn user(touch: &Touch) -> User
-    ensures { result ≡ user_of touch.now }
-{
-    match touch {
-        Touch::Keys { user, .. } => *user,
-        Touch::Tail { user, .. } => *user,
-        Touch::Whole { user, .. } => *user,
-        Touch::Names { user, .. } => *user,
-    }
-}
-
 fn name_bytes(alloc: Global, name: &Name) -> Result<Option<Vec<u8>>, NoMemory>
     ensures { IfOk result (λ bytes. option_map (λ b. b.items) bytes ≡ Some name.now) }
 {
@@ -108,11 +86,9 @@ fn name_bytes(alloc: Global, name: &Name) -> Result<Option<Vec<u8>>, NoMemory>
 fn mailbox(alloc: Global, touch: &Touch) -> Result<Option<Vec<u8>>, NoMemory>
     ensures { IfOk result (λ bytes. option_map (λ b. b.items) bytes ≡ mailbox_of touch.now) }
 {
-    match touch {
-        Touch::Keys { mailbox, .. } => name_bytes(alloc, mailbox),
-        Touch::Tail { mailbox, .. } => name_bytes(alloc, mailbox),
-        Touch::Whole { mailbox, .. } => name_bytes(alloc, mailbox),
-        Touch::Names { .. } => Ok(None),
+    match touch.mailbox() {
+        Some(name) => name_bytes(alloc, name),
+        None => Ok(None),
     }
 }
 
@@ -127,7 +103,7 @@ pub(crate) fn slot_on(
 {
     let mailbox = mailbox(alloc, touch)?;
     Ok(Slot {
-        user: user(touch),
+        user: touch.user(),
         mailbox,
         written,
         part,

@@ -4,7 +4,7 @@ ghost use Rattle.std.specs.List.{list_any};
 ghost use Rattle.replay_plan.specs.declared.slots.Part.TheVariants.{Level};
 ghost use Rattle.replay_plan.specs.Slots.{spot_on, same_spot, level_at, is_at, Leads, SameTaken, IsNextFree, IsPast, IsUntaken};
 
-use crate::parts::{slot_on, writes};
+use crate::parts::slot_on;
 use crate::slots::{Part, Table};
 use std::alloc::Global;
 use touch_rules::Touch;
@@ -87,7 +87,7 @@ fn past_item(
 {
     let mut free = level;
     for touch in touches {
-        free = first_free(alloc, next, touch, !writes(touch), free, end)?;
+        free = first_free(alloc, next, touch, !touch.writes(), free, end)?;
     }
     Ok(free)
 }
@@ -149,7 +149,7 @@ fn take_touch(
     ensures leads { OnOk result (Leads end next.new) }
 {
     take(alloc, next, touch, false, level, end)?;
-    if writes(touch) {
+    if touch.writes() {
         take(alloc, next, touch, true, level, end)?;
     }
     Ok(())

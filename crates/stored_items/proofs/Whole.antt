@@ -29,21 +29,8 @@ text_let_go (Notice user text) fails = absurd (true≢false fails)
 -- a notice is kept as it is
 pub notice_kept : (d : Deed) → is_notice d ≡ true → d ≡ stored_deed d
 unfolding is_notice
-notice_kept (Deliver from to text) is = absurd (true≢false (sym is))
-notice_kept (Append mailbox flags moment text) is = absurd (true≢false (sym is))
-notice_kept (Fetch mailbox keys sets_seen shows_body) is = absurd (true≢false (sym is))
-notice_kept (Store mailbox keys how flags) is = absurd (true≢false (sym is))
-notice_kept (Copy mailbox keys target) is = absurd (true≢false (sym is))
-notice_kept (Names pattern) is = absurd (true≢false (sym is))
-notice_kept (Status mailbox) is = absurd (true≢false (sym is))
-notice_kept (Select mailbox) is = absurd (true≢false (sym is))
-notice_kept (Expunge mailbox keys) is = absurd (true≢false (sym is))
-notice_kept (Close mailbox keys) is = absurd (true≢false (sym is))
-notice_kept (Create mailbox) is = absurd (true≢false (sym is))
-notice_kept (Rename mailbox target) is = absurd (true≢false (sym is))
-notice_kept (Delete mailbox keys) is = absurd (true≢false (sym is))
-notice_kept (Acts act) is = absurd (true≢false (sym is))
 notice_kept (Notice user text) is = refl
+notice_kept _ is = absurd (true≢false (sym is))
 
 -- of two texts that are given in turn, the last stands
 pub text_anew : (old new : List ℕ) (d : Deed) → with_text new (with_text old d) ≡ with_text new d

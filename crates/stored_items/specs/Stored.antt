@@ -3,11 +3,8 @@ use Rattle.std.specs.Prelude.{◌≡◌, ℕ, Bool, true, false, List, [], ◌�
 use Rattle.verb_core.specs.declared.item.Deed.{Deed}
 use Rattle.verb_core.specs.declared.item.Deed.TheVariants.{Deliver, Notice}
 use Rattle.verb_core.specs.declared.item.Item.{Item}
-use Rattle.verb_core.specs.declared.item.Shown.{Shown}
-use Rattle.verb_core.specs.Aims.{sought}
 use Rattle.verb_core.specs.Deeds.{with_text}
-use Rattle.verb_core.specs.Step.{step_with}
-use Rattle.verb_core.specs.Store.{MailStore}
+pub use Rattle.verb_core.specs.Step.{step_text}
 
 -- a deed as it is kept in memory: without its text, but for a notice's, which no record holds
 abbrev pub stored_deed : Deed → Deed
@@ -20,10 +17,6 @@ stored i = record i { deed = stored_deed i.deed }
 -- an item with a text, where it has one
 abbrev pub whole : Item → List ℕ → Item
 whole i text = record i { deed = with_text text i.deed }
-
--- one item with a text that is looked at in place of its own
-abbrev pub step_text : MailStore → Item → List ℕ → MailStore × Shown
-step_text s i text = step_with (sought s text i.by i.deed) s i
 
 -- whether performing the deed looks at its text: a delivery's filters do, and nothing else
 abbrev pub needs_text : Deed → Bool

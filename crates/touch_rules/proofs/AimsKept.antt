@@ -18,7 +18,7 @@ use Rattle.verb_core.specs.Items.{IsWellFormed, actor, text_in}
 use Rattle.verb_core.specs.Recipients.{recipients, some_unknown, deciding}
 use Rattle.verb_core.specs.Aims.{Sought, aim_at, into_or, and_postmaster, delivered, sought, sought_by}
 use Rattle.verb_core.specs.Step.{Boxes, step, step_with}
-use Rattle.verb_core.specs.Touched.{named_boxes, touched, is_one}
+use Rattle.verb_core.specs.Touched.{deed_touches, touches_box}
 use Rattle.verb_core.proofs.AimNames.{sought_by-same}
 use Rattle.verb_core.proofs.Frame.{other_stays}
 use Rattle.touch_rules.specs.declared.touched.Touch.{Touch}
@@ -138,17 +138,17 @@ can_find s i off = no_aims_by s (unwrap_or (text_in i.deed) []) i.by i.deed off
 
 -- a mailbox that an item with these aims does not touch is there afterwards where it was before
 module _ (to : Sought) (s : MailStore) (i : Item) (moves : moves_boxes i.deed ≡ true) (can : CanHave to i) where
-  has_off : (id : BoxId) → is_one (named_boxes (actor i.by i.deed) i.deed) id ≡ false → has_row id (step_with to s i).0.boxes ≡ has_row id s.boxes
-  has_off id off = ap is_some (other_stays id to s i (ap (λ (t : Sought). is_one (touched t i) id) (can (no_mail_of i.deed moves)) ∙ off))
+  has_off : (id : BoxId) → deed_touches (actor i.by i.deed) i.deed id ≡ false → has_row id (step_with to s i).0.boxes ≡ has_row id s.boxes
+  has_off id off = ap is_some (other_stays id to s i (ap (λ (t : Sought). touches_box t i id) (can (no_mail_of i.deed moves)) ∙ off))
 
-  behind : (ts : List Touch) → AllByRecursion (Off (named_boxes (actor i.by i.deed) i.deed)) ts → AllByRecursion (HasSame (step_with to s i).0.boxes s.boxes) ts
+  behind : (ts : List Touch) → AllByRecursion (Off (deed_touches (actor i.by i.deed) i.deed)) ts → AllByRecursion (HasSame (step_with to s i).0.boxes s.boxes) ts
   behind [] off = tt
   behind (Keys u n keys w ∷ ts) off = (tt, behind ts off.1)
   behind (Tail u n number ∷ ts) off = (has_off (box_of u n) off.0, behind ts off.1)
   behind (Whole u n w ∷ ts) off = (has_off (box_of u n) off.0, behind ts off.1)
   behind (Names u w ∷ ts) off = (tt, behind ts off.1)
 
-  before : (ts : List Touch) → AllByRecursion (Off (named_boxes (actor i.by i.deed) i.deed)) ts → AllByRecursion (HasSame s.boxes (step_with to s i).0.boxes) ts
+  before : (ts : List Touch) → AllByRecursion (Off (deed_touches (actor i.by i.deed) i.deed)) ts → AllByRecursion (HasSame s.boxes (step_with to s i).0.boxes) ts
   before [] off = tt
   before (Keys u n keys w ∷ ts) off = (tt, before ts off.1)
   before (Tail u n number ∷ ts) off = (sym (has_off (box_of u n) off.0), before ts off.1)

@@ -1,5 +1,5 @@
 -- Items that make, rename or delete a mailbox: what commutes with them touches other mailboxes, and other users' names.
-use Rattle.std.proofs.Common.{◌≡◌, ℕ, Bool, true, false, not, ◌&&◌, ◌||◌, ◌==◌, List, [], ◌∷◌, ◌++◌, map, filter, Option, bytes_eq, refl, sym, ap, ◌∙◌, true≢false}
+use Rattle.std.proofs.Common.{◌≡◌, ℕ, Bool, true, false, not, ◌&&◌, ◌||◌, ◌==◌, List, [], ◌∷◌, ◌++◌, map, Option, bytes_eq, refl, sym, ap, ◌∙◌, true≢false}
 use Rattle.std.specs.List.{list_all, AllByRecursion}
 use Rattle.std.specs.Ordering.{eq_by_cmp}
 use Rattle.std.specs.Cmp.{first_so, second_so, eq_by_cmp_equiv}
@@ -8,7 +8,7 @@ use Rattle.verb_core.specs.declared.item.Item.{Item}
 use Rattle.verb_core.specs.declared.item.Aim.{Aim}
 use Rattle.verb_core.specs.declared.item.Deed.{Deed}
 use Rattle.verb_core.specs.declared.item.Deed.TheVariants.{Deliver, Append, Fetch, Store, Copy, List as Lists, Status, Select, Expunge, Close, Create, Rename, Delete, Act as Acts, Notice}
-use Rattle.verb_core.specs.declared.item.Act.TheVariants.{SetAlias, DropAlias, SetFilter, DropFilter, Remove, Give}
+use Rattle.verb_core.specs.declared.item.Act.TheVariants.{Remove, Give}
 use Rattle.verb_core.specs.declared.mailbox.BoxId.{BoxId}
 use Rattle.verb_core.specs.declared.mailbox.Mailbox.{Mailbox}
 use Rattle.verb_core.specs.Names.{lost_found}
@@ -17,7 +17,7 @@ use Rattle.verb_core.specs.Store.{MailStore}
 use Rattle.verb_core.specs.Items.{actor, is_own}
 use Rattle.verb_core.specs.Aims.{Sought, box_aimed, sought, sought_by}
 use Rattle.verb_core.specs.Step.{step_with}
-use Rattle.verb_core.specs.Touched.{named_boxes, touches_names, is_one}
+use Rattle.verb_core.specs.Touched.{deed_touches, touches_names, is_one}
 use Rattle.verb_core.proofs.Apart.{others_kept}
 use Rattle.verb_core.proofs.BoxLaws.{boxes_total, tied, same_box}
 use Rattle.touch_rules.specs.declared.touched.Touch.{Touch}
@@ -28,12 +28,12 @@ use Rattle.touch_rules.proofs.Edits.{neither}
 use Rattle.touch_rules.proofs.Fitting.{fits}
 use Rattle.touch_rules.proofs.Plain.{moves_boxes, row_of}
 
--- a touch is of another mailbox than these
-abbrev pub Off : List BoxId → Touch → Type 0
-Off ids (Keys u n keys writes) = is_one ids (box_of u n) ≡ false
-Off ids (Tail u n number) = is_one ids (box_of u n) ≡ false
-Off ids (Whole u n writes) = is_one ids (box_of u n) ≡ false
-Off ids (Names u writes) = Unit {0}
+-- a touch is of no mailbox of which the test holds
+abbrev pub Off : (BoxId → Bool) → Touch → Type 0
+Off test (Keys u n keys writes) = test (box_of u n) ≡ false
+Off test (Tail u n number) = test (box_of u n) ≡ false
+Off test (Whole u n writes) = test (box_of u n) ≡ false
+Off test (Names u writes) = Unit {0}
 
 -- ---- a touch that fits a whole mailbox that is written
 
@@ -54,7 +54,7 @@ abbrev boxes_named : User → List (List ℕ) → List BoxId
 boxes_named u [] = []
 boxes_named u (n ∷ ns) = box_of u n ∷ boxes_named u ns
 
-off_these : (u : User) (ns : List (List ℕ)) (t : Touch) → list_all (fits t) (wholes u ns) ≡ true → Off (boxes_named u ns) t
+off_these : (u : User) (ns : List (List ℕ)) (t : Touch) → list_all (fits t) (wholes u ns) ≡ true → Off (is_one (boxes_named u ns)) t
 off_these u [] (Keys v n ks w) h = refl
 off_these u [] (Tail v n number) h = refl
 off_these u [] (Whole v n w) h = refl
@@ -63,97 +63,71 @@ off_these u (m ∷ ns) (Keys v n ks w) h = neither _ _ (other_box u v m n w (fir
 off_these u (m ∷ ns) (Tail v n number) h = neither _ _ (other_box u v m n true (first_so _ _ h)) (off_these u ns (Tail v n number) (second_so _ _ h))
 off_these u (m ∷ ns) (Whole v n w) h = neither _ _ (other_box u v m n w (first_so _ _ h)) (off_these u ns (Whole v n w) (second_so _ _ h))
 
-pub off_one : (to : Sought) (i : Item) (by : Option User) (d : Deed) (t : Touch) → moves_boxes d ≡ true → list_all (fits t) (row_of to i by d) ≡ true → Off (named_boxes (actor by d) d) t
+pub off_one : (to : Sought) (i : Item) (by : Option User) (d : Deed) (t : Touch) → moves_boxes d ≡ true → list_all (fits t) (row_of to i by d) ≡ true → Off (deed_touches (actor by d) d) t
 off_one to i by (Create mailbox) t moves h = off_these (actor by (Create mailbox)) (mailbox ∷ []) t h
 off_one to i by (Rename mailbox target) t moves h = off_these (actor by (Rename mailbox target)) (mailbox ∷ target ∷ []) t h
 off_one to i by (Delete mailbox keys) t moves h = off_these (actor by (Delete mailbox keys)) (mailbox ∷ lost_found ∷ []) t h
-off_one to i by (Deliver from names text) t moves h = absurd (true≢false (sym moves))
-off_one to i by (Append mailbox flags moment text) t moves h = absurd (true≢false (sym moves))
-off_one to i by (Fetch mailbox keys sets_seen shows_body) t moves h = absurd (true≢false (sym moves))
-off_one to i by (Store mailbox keys how flags) t moves h = absurd (true≢false (sym moves))
-off_one to i by (Copy mailbox keys target) t moves h = absurd (true≢false (sym moves))
-off_one to i by (Lists pattern) t moves h = absurd (true≢false (sym moves))
-off_one to i by (Status mailbox) t moves h = absurd (true≢false (sym moves))
-off_one to i by (Select mailbox) t moves h = absurd (true≢false (sym moves))
-off_one to i by (Expunge mailbox keys) t moves h = absurd (true≢false (sym moves))
-off_one to i by (Close mailbox keys) t moves h = absurd (true≢false (sym moves))
-off_one to i by (Acts act) t moves h = absurd (true≢false (sym moves))
-off_one to i by (Notice u text) t moves h = absurd (true≢false (sym moves))
+off_one to i by _ t moves h = absurd (true≢false (sym moves))
 
-pub off_all : (to : Sought) (i : Item) (by : Option User) (d : Deed) (ts : List Touch) → moves_boxes d ≡ true → list_all (λ t. list_all (fits t) (row_of to i by d)) ts ≡ true → AllByRecursion (Off (named_boxes (actor by d) d)) ts
+pub off_all : (to : Sought) (i : Item) (by : Option User) (d : Deed) (ts : List Touch) → moves_boxes d ≡ true → list_all (λ t. list_all (fits t) (row_of to i by d)) ts ≡ true → AllByRecursion (Off (deed_touches (actor by d) d)) ts
 off_all to i by d [] moves h = tt
 off_all to i by d (t ∷ ts) moves h = (off_one to i by d t moves (first_so _ _ h), off_all to i by d ts moves (second_so _ _ h))
 
--- ---- what an item touches is off these mailboxes, where each of its touches is
+-- ---- what an item touches is off the mailboxes of a test, where each of its touches is
 
-module _ (ids : List BoxId) (q : BoxId) where
-  off_row : (id : BoxId) (rest : List BoxId) → is_one ids id ≡ false → (is_one rest q ≡ true → is_one ids q ≡ false) → is_one (id ∷ rest) q ≡ true → is_one ids q ≡ false
-  off_row id rest off more = elim (eq_by_cmp box_cmp id q) as (λ b. eq_by_cmp box_cmp id q ≡ b → (b || is_one rest q) ≡ true → is_one ids q ≡ false) [
-    | true ↦ λ tie _. ap (is_one ids) (sym (tied id q tie)) ∙ off
-    | false ↦ λ _ h. more h
-  ] refl
+module _ (test : BoxId → Bool) (q : BoxId) where
+  either : (a b : Bool) → (a ≡ true → test q ≡ false) → (b ≡ true → test q ≡ false) → (a || b) ≡ true → test q ≡ false
+  either true b one other h = one refl
+  either false b one other h = other h
 
-  off_missed : (missed : List Aim) (rest : List BoxId) → AllByRecursion (Off ids) (map looked_for missed) → (is_one rest q ≡ true → is_one ids q ≡ false) → is_one (map box_aimed missed ++ rest) q ≡ true → is_one ids q ≡ false
-  off_missed [] rest off more h = more h
-  off_missed (a ∷ missed) rest off more h = off_row (box_aimed a) (map box_aimed missed ++ rest) off.0 (off_missed missed rest off.1 more) h
+  -- where it is the first mailbox, or it is one of the rest
+  off_row : (id : BoxId) (rest : Bool) → test id ≡ false → (rest ≡ true → test q ≡ false) → (eq_by_cmp box_cmp id q || rest) ≡ true → test q ≡ false
+  off_row id rest off more = either (eq_by_cmp box_cmp id q) rest (λ tie. ap test (sym (tied id q tie)) ∙ off) more
 
-  off_arrivals : (number : ℕ) (aims missed : List Aim) (rest : List BoxId) → AllByRecursion (Off ids) (map (tail_on number) aims ++ map looked_for missed) → (is_one rest q ≡ true → is_one ids q ≡ false)
-      → is_one (map box_aimed aims ++ map box_aimed missed ++ rest) q ≡ true → is_one ids q ≡ false
-  off_arrivals number [] missed rest off more h = off_missed missed rest off more h
-  off_arrivals number (a ∷ aims) missed rest off more h = off_row (box_aimed a) (map box_aimed aims ++ map box_aimed missed ++ rest) off.0 (off_arrivals number aims missed rest off.1 more) h
-
-  nothing : is_one [] q ≡ true → is_one ids q ≡ false
+  nothing : ◌≡◌ {A = Bool} false true → test q ≡ false
   nothing h = absurd (true≢false (sym h))
 
-  named_off : (by : Option User) (d : Deed) (arriving : List Touch) → brings_mail d ≡ false → AllByRecursion (Off ids) (table_row (actor by d) arriving d) → is_one (named_boxes (actor by d) d) q ≡ true → is_one ids q ≡ false
-  named_off by (Fetch mailbox keys sets_seen shows_body) arriving own off h = off_row (box_of (actor by (Fetch mailbox keys sets_seen shows_body)) mailbox) [] off.0 nothing h
-  named_off by (Store mailbox keys how flags) arriving own off h = off_row (box_of (actor by (Store mailbox keys how flags)) mailbox) [] off.0 nothing h
-  named_off by (Expunge mailbox keys) arriving own off h = off_row (box_of (actor by (Expunge mailbox keys)) mailbox) [] off.0 nothing h
-  named_off by (Close mailbox keys) arriving own off h = off_row (box_of (actor by (Close mailbox keys)) mailbox) [] off.0 nothing h
-  named_off by (Status mailbox) arriving own off h = off_row (box_of (actor by (Status mailbox)) mailbox) [] off.0 nothing h
-  named_off by (Select mailbox) arriving own off h = off_row (box_of (actor by (Select mailbox)) mailbox) [] off.0 nothing h
-  named_off by (Create mailbox) arriving own off h = off_row (box_of (actor by (Create mailbox)) mailbox) [] off.0 nothing h
-  named_off by (Acts (Remove v mailbox key)) arriving own off h = off_row (box_of (actor by (Acts (Remove v mailbox key))) mailbox) [] off.0 nothing h
-  named_off by (Rename mailbox target) arriving own off h = off_row (box_of (actor by (Rename mailbox target)) mailbox) (box_of (actor by (Rename mailbox target)) target ∷ []) off.0 (off_row (box_of (actor by (Rename mailbox target)) target) [] off.1.0 nothing) h
-  named_off by (Delete mailbox keys) arriving own off h = off_row (box_of (actor by (Delete mailbox keys)) mailbox) (box_of (actor by (Delete mailbox keys)) lost_found ∷ []) off.0 (off_row (box_of (actor by (Delete mailbox keys)) lost_found) [] off.1.0 nothing) h
-  named_off by (Lists pattern) arriving own off h = nothing h
-  named_off by (Copy mailbox keys target) arriving own off h = absurd (true≢false own)
-  named_off by (Deliver from names text) arriving own off h = nothing h
-  named_off by (Append mailbox flags moment text) arriving own off h = nothing h
-  named_off by (Acts (SetAlias local users)) arriving own off h = nothing h
-  named_off by (Acts (DropAlias local)) arriving own off h = nothing h
-  named_off by (Acts (SetFilter filter)) arriving own off h = nothing h
-  named_off by (Acts (DropFilter id)) arriving own off h = nothing h
-  named_off by (Acts (Give v mailbox text)) arriving own off h = nothing h
-  named_off by (Notice v text) arriving own off h = nothing h
+  off_missed : (missed : List Aim) → AllByRecursion (Off test) (map looked_for missed) → is_one (map box_aimed missed) q ≡ true → test q ≡ false
+  off_missed [] off h = nothing h
+  off_missed (a ∷ missed) off h = off_row (box_aimed a) (is_one (map box_aimed missed) q) off.0 (off_missed missed off.1) h
 
-  own_off : (to : Sought) (i : Item) (by : Option User) (d : Deed) → brings_mail d ≡ false → (brings_mail d ≡ false → to ≡ record { aims = []; missed = [] }) → AllByRecursion (Off ids) (row_of to i by d)
-      → is_one (map box_aimed to.aims ++ map box_aimed to.missed ++ named_boxes (actor by d) d) q ≡ true → is_one ids q ≡ false
-  own_off to i by d own can off h = named_off by d (arrivals (resolved to i)) own off (sym (ap (λ (t : Sought). is_one (map box_aimed t.aims ++ map box_aimed t.missed ++ named_boxes (actor by d) d) q) (can own)) ∙ h)
+  off_arrivals : (number : ℕ) (aims missed : List Aim) → AllByRecursion (Off test) (map (tail_on number) aims ++ map looked_for missed) → is_one (map box_aimed aims ++ map box_aimed missed) q ≡ true → test q ≡ false
+  off_arrivals number [] missed off h = off_missed missed off h
+  off_arrivals number (a ∷ aims) missed off h = off_row (box_aimed a) (is_one (map box_aimed aims ++ map box_aimed missed) q) off.0 (off_arrivals number aims missed off.1) h
+
+  one_off : (u : User) (n : List ℕ) → test (box_of u n) ≡ false → is_one (box_of u n ∷ []) q ≡ true → test q ≡ false
+  one_off u n off h = off_row (box_of u n) false off nothing h
+
+  two_off : (u : User) (m n : List ℕ) → test (box_of u m) ≡ false → test (box_of u n) ≡ false → is_one (box_of u m ∷ box_of u n ∷ []) q ≡ true → test q ≡ false
+  two_off u m n off away h = off_row (box_of u m) (is_one (box_of u n ∷ []) q) off (one_off u n away) h
+
+  deed_off : (by : Option User) (d : Deed) (arriving : List Touch) → brings_mail d ≡ false → AllByRecursion (Off test) (table_row (actor by d) arriving d) → deed_touches (actor by d) d q ≡ true → test q ≡ false
+  deed_off by (Fetch mailbox keys sets_seen shows_body) arriving own off h = one_off (actor by (Fetch mailbox keys sets_seen shows_body)) mailbox off.0 h
+  deed_off by (Store mailbox keys how flags) arriving own off h = one_off (actor by (Store mailbox keys how flags)) mailbox off.0 h
+  deed_off by (Expunge mailbox keys) arriving own off h = one_off (actor by (Expunge mailbox keys)) mailbox off.0 h
+  deed_off by (Close mailbox keys) arriving own off h = one_off (actor by (Close mailbox keys)) mailbox off.0 h
+  deed_off by (Status mailbox) arriving own off h = one_off (actor by (Status mailbox)) mailbox off.0 h
+  deed_off by (Select mailbox) arriving own off h = one_off (actor by (Select mailbox)) mailbox off.0 h
+  deed_off by (Create mailbox) arriving own off h = one_off (actor by (Create mailbox)) mailbox off.0 h
+  deed_off by (Acts (Remove v mailbox key)) arriving own off h = one_off v mailbox off.0 h
+  deed_off by (Rename mailbox target) arriving own off h = two_off (actor by (Rename mailbox target)) mailbox target off.0 off.1.0 h
+  deed_off by (Delete mailbox keys) arriving own off h = two_off (actor by (Delete mailbox keys)) mailbox lost_found off.0 off.1.0 h
+  deed_off by (Copy mailbox keys target) arriving own off h = absurd (true≢false own)
+  deed_off by _ arriving own off h = nothing h
+
+  brings_none : (to : Sought) (i : Item) (by : Option User) (d : Deed) → brings_mail d ≡ false → (brings_mail d ≡ false → to ≡ record { aims = []; missed = [] }) → AllByRecursion (Off test) (row_of to i by d)
+      → (is_one (map box_aimed to.aims ++ map box_aimed to.missed) q || deed_touches (actor by d) d q) ≡ true → test q ≡ false
+  brings_none to i by d own can off h = deed_off by d (arrivals (resolved to i)) own off (sym (ap (λ (t : Sought). is_one (map box_aimed t.aims ++ map box_aimed t.missed) q || deed_touches (actor by d) d q) (can own)) ∙ h)
 
   -- a mailbox that an item touches is none of these
-  pub touched_off : (to : Sought) (i : Item) (by : Option User) (d : Deed) → (brings_mail d ≡ false → to ≡ record { aims = []; missed = [] }) → AllByRecursion (Off ids) (row_of to i by d)
-      → is_one (map box_aimed to.aims ++ map box_aimed to.missed ++ named_boxes (actor by d) d) q ≡ true → is_one ids q ≡ false
-  touched_off to i by (Deliver from names text) can off h = off_arrivals i.number to.aims to.missed [] off nothing h
-  touched_off to i by (Append mailbox flags moment text) can off h = off_arrivals i.number to.aims to.missed [] off nothing h
-  touched_off to i by (Copy mailbox keys target) can off h = off_arrivals i.number to.aims to.missed (box_of (actor by (Copy mailbox keys target)) mailbox ∷ []) off.1 (off_row (box_of (actor by (Copy mailbox keys target)) mailbox) [] off.0 nothing) h
-  touched_off to i by (Acts (Give u mailbox text)) can off h = off_arrivals i.number to.aims to.missed [] off nothing h
-  touched_off to i by (Notice u text) can off h = off_arrivals i.number to.aims to.missed [] off nothing h
-  touched_off to i by (Fetch mailbox keys sets_seen shows_body) can off h = own_off to i by (Fetch mailbox keys sets_seen shows_body) refl can off h
-  touched_off to i by (Store mailbox keys how flags) can off h = own_off to i by (Store mailbox keys how flags) refl can off h
-  touched_off to i by (Expunge mailbox keys) can off h = own_off to i by (Expunge mailbox keys) refl can off h
-  touched_off to i by (Close mailbox keys) can off h = own_off to i by (Close mailbox keys) refl can off h
-  touched_off to i by (Status mailbox) can off h = own_off to i by (Status mailbox) refl can off h
-  touched_off to i by (Select mailbox) can off h = own_off to i by (Select mailbox) refl can off h
-  touched_off to i by (Lists pattern) can off h = own_off to i by (Lists pattern) refl can off h
-  touched_off to i by (Create mailbox) can off h = own_off to i by (Create mailbox) refl can off h
-  touched_off to i by (Rename mailbox target) can off h = own_off to i by (Rename mailbox target) refl can off h
-  touched_off to i by (Delete mailbox keys) can off h = own_off to i by (Delete mailbox keys) refl can off h
-  touched_off to i by (Acts (Remove v mailbox key)) can off h = own_off to i by (Acts (Remove v mailbox key)) refl can off h
-  touched_off to i by (Acts (SetAlias local users)) can off h = own_off to i by (Acts (SetAlias local users)) refl can off h
-  touched_off to i by (Acts (DropAlias local)) can off h = own_off to i by (Acts (DropAlias local)) refl can off h
-  touched_off to i by (Acts (SetFilter filter)) can off h = own_off to i by (Acts (SetFilter filter)) refl can off h
-  touched_off to i by (Acts (DropFilter id)) can off h = own_off to i by (Acts (DropFilter id)) refl can off h
+  pub touched_off : (to : Sought) (i : Item) (by : Option User) (d : Deed) → (brings_mail d ≡ false → to ≡ record { aims = []; missed = [] }) → AllByRecursion (Off test) (row_of to i by d)
+      → (is_one (map box_aimed to.aims ++ map box_aimed to.missed) q || deed_touches (actor by d) d q) ≡ true → test q ≡ false
+  touched_off to i by (Deliver from names text) can off h = either _ false (off_arrivals i.number to.aims to.missed off) nothing h
+  touched_off to i by (Append mailbox flags moment text) can off h = either _ false (off_arrivals i.number to.aims to.missed off) nothing h
+  touched_off to i by (Copy mailbox keys target) can off h = either _ _ (off_arrivals i.number to.aims to.missed off.1) (one_off (actor by (Copy mailbox keys target)) mailbox off.0) h
+  touched_off to i by (Acts (Give u mailbox text)) can off h = either _ false (off_arrivals i.number to.aims to.missed off) nothing h
+  touched_off to i by (Notice u text) can off h = either _ false (off_arrivals i.number to.aims to.missed off) nothing h
+  touched_off to i by d can off h = brings_none to i by d refl can off h
 
 -- ---- names
 
@@ -168,18 +142,7 @@ writes_names : (to : Sought) (i : Item) (by : Option User) (d : Deed) (t : Touch
 writes_names to i by (Create mailbox) t moves h = first_so _ _ (second_so _ _ h)
 writes_names to i by (Rename mailbox target) t moves h = first_so _ _ (second_so _ _ (second_so _ _ h))
 writes_names to i by (Delete mailbox keys) t moves h = first_so _ _ (second_so _ _ (second_so _ _ h))
-writes_names to i by (Deliver from names text) t moves h = absurd (true≢false (sym moves))
-writes_names to i by (Append mailbox flags moment text) t moves h = absurd (true≢false (sym moves))
-writes_names to i by (Fetch mailbox keys sets_seen shows_body) t moves h = absurd (true≢false (sym moves))
-writes_names to i by (Store mailbox keys how flags) t moves h = absurd (true≢false (sym moves))
-writes_names to i by (Copy mailbox keys target) t moves h = absurd (true≢false (sym moves))
-writes_names to i by (Lists pattern) t moves h = absurd (true≢false (sym moves))
-writes_names to i by (Status mailbox) t moves h = absurd (true≢false (sym moves))
-writes_names to i by (Select mailbox) t moves h = absurd (true≢false (sym moves))
-writes_names to i by (Expunge mailbox keys) t moves h = absurd (true≢false (sym moves))
-writes_names to i by (Close mailbox keys) t moves h = absurd (true≢false (sym moves))
-writes_names to i by (Acts act) t moves h = absurd (true≢false (sym moves))
-writes_names to i by (Notice u text) t moves h = absurd (true≢false (sym moves))
+writes_names to i by _ t moves h = absurd (true≢false (sym moves))
 
 -- what commutes with it and touches names is another user's
 pub other_names : (to from : Sought) (i j : Item) → moves_boxes i.deed ≡ true → list_all (λ t. list_all (fits t) (row_of to i i.by i.deed)) (row_of from j j.by j.deed) ≡ true → touches_names j.deed ≡ true
@@ -191,17 +154,7 @@ other_names to from i j moves h names = by_deed j.deed h names
     by_deed (Create mailbox) h names = names_off (actor i.by i.deed) (actor j.by (Create mailbox)) true (writes_names to i i.by i.deed (Names (actor j.by (Create mailbox)) true) moves (first_so _ _ (second_so _ _ h)))
     by_deed (Rename mailbox target) h names = names_off (actor i.by i.deed) (actor j.by (Rename mailbox target)) true (writes_names to i i.by i.deed (Names (actor j.by (Rename mailbox target)) true) moves (first_so _ _ (second_so _ _ (second_so _ _ h))))
     by_deed (Delete mailbox keys) h names = names_off (actor i.by i.deed) (actor j.by (Delete mailbox keys)) true (writes_names to i i.by i.deed (Names (actor j.by (Delete mailbox keys)) true) moves (first_so _ _ (second_so _ _ (second_so _ _ h))))
-    by_deed (Deliver from to_ text) h names = absurd (true≢false (sym names))
-    by_deed (Append mailbox flags moment text) h names = absurd (true≢false (sym names))
-    by_deed (Fetch mailbox keys sets_seen shows_body) h names = absurd (true≢false (sym names))
-    by_deed (Store mailbox keys how flags) h names = absurd (true≢false (sym names))
-    by_deed (Copy mailbox keys target) h names = absurd (true≢false (sym names))
-    by_deed (Status mailbox) h names = absurd (true≢false (sym names))
-    by_deed (Select mailbox) h names = absurd (true≢false (sym names))
-    by_deed (Expunge mailbox keys) h names = absurd (true≢false (sym names))
-    by_deed (Close mailbox keys) h names = absurd (true≢false (sym names))
-    by_deed (Acts act) h names = absurd (true≢false (sym names))
-    by_deed (Notice u text) h names = absurd (true≢false (sym names))
+    by_deed _ h names = absurd (true≢false (sym names))
 
 -- ---- such an item brings no mail, and is its user's own
 

@@ -14,7 +14,7 @@ use Rattle.verb_core.specs.Store.{MailStore, IsValid}
 use Rattle.verb_core.specs.Items.{IsWellFormed, actor}
 use Rattle.verb_core.specs.Aims.{Sought}
 use Rattle.verb_core.specs.Step.{Boxes, step_with, conf_after, shown}
-use Rattle.verb_core.specs.Touched.{named_boxes, touched, touches_names, is_one, Apart}
+use Rattle.verb_core.specs.Touched.{deed_touches, touches_box, touches_names, Apart}
 use Rattle.verb_core.proofs.Frame.{other_stays, shown_elsewhere, apart_commute}
 use Rattle.verb_core.proofs.Validity.{step_with-IsValid}
 use Rattle.touch_rules.specs.declared.touched.Touch.{Touch}
@@ -100,19 +100,19 @@ module _ (to from : Sought) (s : MailStore) (i j : Item) (still : moves_boxes i.
 
 module _ (to from : Sought) (s : MailStore) (i j : Item) (valid : IsValid s) (formed : IsWellFormed s.house i) (formed' : IsWellFormed s.house j) (moves : moves_boxes i.deed ≡ true) (can : CanHave to i) (can' : CanHave from j)
     (fit : commute (row_of from j j.by j.deed) (row_of to i i.by i.deed) ≡ true) where
-  named_only : touched to i ≡ named_boxes (actor i.by i.deed) i.deed
-  named_only = ap (λ (t : Sought). touched t i) (can (no_mail_of i.deed moves))
+  named_only : (q : BoxId) → touches_box to i q ≡ deed_touches (actor i.by i.deed) i.deed q
+  named_only q = ap (λ (t : Sought). touches_box t i q) (can (no_mail_of i.deed moves))
 
-  pub off_named : (q : BoxId) → is_one (touched from j) q ≡ true → is_one (touched to i) q ≡ false
-  off_named q h = ap (λ ids. is_one ids q) named_only ∙ touched_off (named_boxes (actor i.by i.deed) i.deed) q from j j.by j.deed can' (off_all to i i.by i.deed (row_of from j j.by j.deed) moves fit) h
+  pub off_named : (q : BoxId) → touches_box from j q ≡ true → touches_box to i q ≡ false
+  off_named q h = named_only q ∙ touched_off (deed_touches (actor i.by i.deed) i.deed) q from j j.by j.deed can' (off_all to i i.by i.deed (row_of from j j.by j.deed) moves fit) h
 
-  apart : Apart (touched to i) (touched from j)
+  apart : Apart (touches_box to i) (touches_box from j)
   apart q in_i in_j = true≢false (sym in_i ∙ off_named q in_j)
 
-  off_i : (q : BoxId) → is_one (touched to i) q ≡ true → is_one (touched from j) q ≡ false
-  off_i q in_i = elim (is_one (touched from j) q) as (λ b. is_one (touched from j) q ≡ b → b ≡ false) [ true ↦ λ in_j. absurd (apart q in_i in_j) | false ↦ λ off. refl ] refl
+  off_i : (q : BoxId) → touches_box to i q ≡ true → touches_box from j q ≡ false
+  off_i q in_i = elim (touches_box from j q) as (λ b. touches_box from j q ≡ b → b ≡ false) [ true ↦ λ in_j. absurd (apart q in_i in_j) | false ↦ λ off. refl ] refl
 
-  names_for_j : touches_names j.deed ≡ true → names_of (actor j.by j.deed) (step_with to s i).0.boxes ≡ names_of (actor j.by j.deed) s.boxes
+  pub names_for_j : touches_names j.deed ≡ true → names_of (actor j.by j.deed) (step_with to s i).0.boxes ≡ names_of (actor j.by j.deed) s.boxes
   names_for_j names = names_stay to s i (actor j.by j.deed) moves can (other_names to from i j moves fit names)
 
   names_for_i : names_of (actor i.by i.deed) (step_with from s j).0.boxes ≡ names_of (actor i.by i.deed) s.boxes
@@ -129,7 +129,7 @@ module _ (to from : Sought) (s : MailStore) (i j : Item) (valid : IsValid s) (fo
 
   moved_turned : Turned to from s i j
   moved_turned = record {
-    boxes = apart_commute to from s i j apart
+    boxes = apart_commute to from s i j apart (λ _. sym names_for_i) (λ names. sym (names_for_j names))
         (step_with-IsValid from (step_with to s i).0 j (step_with-IsValid to s i valid formed) formed').rising
         (step_with-IsValid to (step_with from s j).0 i (step_with-IsValid from s j valid formed') formed).rising;
     first = sym (shown_elsewhere to s (step_with from s j).0 i (λ q in_i. sym (other_stays q from s j (off_i q in_i))) (λ _. sym names_for_i));

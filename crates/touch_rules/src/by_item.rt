@@ -1,47 +1,14 @@
 //! The touches of an item whose aims are known.
 ghost use Rattle.std.specs.Prelude.{◌≡◌, [], ◌∷◌, ◌++◌, map, is_some, true, false, IfOk};
-ghost use Rattle.verb_core.specs.declared.item.Deed.TheVariants.{Act as Acts};
-ghost use Rattle.verb_core.specs.declared.item.Act.TheVariants.{DropAlias};
 ghost use Rattle.verb_core.specs.Names.{lost_found};
-ghost use Rattle.verb_core.specs.Items.{actor, is_own};
+ghost use Rattle.verb_core.specs.Items.{is_own};
 ghost use Rattle.touch_rules.specs.declared.touched.Touch.TheVariants.{Keys as OnKeys, Whole, Names as OnNames};
 ghost use Rattle.touch_rules.specs.Table.{tail_on, looked_for, arrivals, act_row, table_row, touches_of};
 
 use crate::{Touch, TouchSet};
 use std::alloc::Global;
 use undo_base::{Copies, Key, Keys, Name, NoMemory, Sequence, User};
-use verb_core::{Act, Aim, Deed, Item, Resolved};
-
-/// Who acts, and where nobody does, user 0, whom every house has.
-fn who_acts(by: Option<User>) -> User
-    ensures { result ≡ actor by (Acts (DropAlias [])) }
-{
-    by.unwrap_or(User(0))
-}
-
-fn act_actor(by: Option<User>, act: &Act) -> User
-    ensures { result ≡ actor by (Acts act.now) }
-{
-    match act {
-        Act::Remove { user, .. } => *user,
-        Act::Give { user, .. } => *user,
-        Act::SetAlias { .. } => who_acts(by),
-        Act::DropAlias { .. } => who_acts(by),
-        Act::SetFilter(_) => who_acts(by),
-        Act::DropFilter { .. } => who_acts(by),
-    }
-}
-
-/// Whose mailboxes an item acts on.
-fn actor_of(item: &Item) -> User
-    ensures { result ≡ actor item.now.by item.now.deed }
-{
-    match &item.deed {
-        Deed::Act(act) => act_actor(item.by, act),
-        Deed::Notice { user, .. } => *user,
-        _ => who_acts(item.by),
-    }
-}
+use verb_core::{Act, Aim, Deed, Resolved, actor_of};
 
 fn lost_found_name(alloc: Global) -> Result<Name, NoMemory>
     ensures { IfOk result (λ name. name ≡ lost_found) }

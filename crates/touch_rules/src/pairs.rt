@@ -2,32 +2,10 @@
 ghost use Rattle.std.specs.Prelude.{◌≡◌, ◌||◌, not, nat_lt, option_copied};
 ghost use Rattle.std.specs.List.{list_all};
 ghost use Rattle.verb_core.specs.Mailboxes.{is_among};
-ghost use Rattle.touch_rules.specs.Commuting.{user_of, mailbox_of, same_mailbox, share_place, does_write, both_read, have_common, has_number, others_than, is_none_of, different, are_independent, commute};
+ghost use Rattle.touch_rules.specs.Commuting.{same_mailbox, share_place, both_read, have_common, has_number, others_than, is_none_of, different, are_independent, commute};
 
 use crate::{Touch, TouchSet};
-use undo_base::{Key, Name, User};
-
-fn user(touch: &Touch) -> User
-    ensures { result ≡ user_of touch.now }
-{
-    match touch {
-        Touch::Keys { user, .. } => *user,
-        Touch::Tail { user, .. } => *user,
-        Touch::Whole { user, .. } => *user,
-        Touch::Names { user, .. } => *user,
-    }
-}
-
-fn mailbox(touch: &Touch) -> Option<&Name>
-    ensures { option_copied result ≡ mailbox_of touch.now }
-{
-    match touch {
-        Touch::Keys { mailbox, .. } => Some(mailbox),
-        Touch::Tail { mailbox, .. } => Some(mailbox),
-        Touch::Whole { mailbox, .. } => Some(mailbox),
-        Touch::Names { .. } => None,
-    }
-}
+use undo_base::{Key, Name};
 
 fn is_same_mailbox(a: Option<&Name>, b: Option<&Name>) -> bool
     ensures { result ≡ same_mailbox (option_copied a.entry) (option_copied b.entry) }
@@ -47,24 +25,13 @@ fn is_same_mailbox(a: Option<&Name>, b: Option<&Name>) -> bool
 fn shares_place(a: &Touch, b: &Touch) -> bool
     ensures { result ≡ share_place a.now b.now }
 {
-    user(a) == user(b) && is_same_mailbox(mailbox(a), mailbox(b))
-}
-
-fn writes(touch: &Touch) -> bool
-    ensures { result ≡ does_write touch.now }
-{
-    match touch {
-        Touch::Keys { writes, .. } => *writes,
-        Touch::Tail { .. } => true,
-        Touch::Whole { writes, .. } => *writes,
-        Touch::Names { writes, .. } => *writes,
-    }
+    a.user() == b.user() && is_same_mailbox(a.mailbox(), b.mailbox())
 }
 
 fn only_read(a: &Touch, b: &Touch) -> bool
     ensures { result ≡ both_read a.now b.now }
 {
-    !(writes(a) || writes(b))
+    !(a.writes() || b.writes())
 }
 
 fn is_one_of(key: Key, keys: &[Key]) -> bool

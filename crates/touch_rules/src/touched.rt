@@ -1,4 +1,6 @@
 //! What is touched: a place, which is a mailbox or the names of a user's mailboxes, and how.
+ghost use Rattle.std.specs.Prelude.{◌≡◌, option_copied};
+
 use undo_base::{Keys, Name, User};
 
 /// How an item touches a place.
@@ -28,4 +30,44 @@ pub enum Touch {
         user: User,
         writes: bool,
     },
+}
+
+impl Touch {
+    ghost use Rattle.touch_rules.specs.Commuting.{does_write, mailbox_of, user_of};
+
+    /// Whose place it is.
+    pub fn user(&self) -> User
+        ensures { result ≡ user_of self.now }
+    {
+        match self {
+            Touch::Keys { user, .. } => *user,
+            Touch::Tail { user, .. } => *user,
+            Touch::Whole { user, .. } => *user,
+            Touch::Names { user, .. } => *user,
+        }
+    }
+
+    /// The mailbox; none where the place is a user's names.
+    pub fn mailbox(&self) -> Option<&Name>
+        ensures { option_copied result ≡ mailbox_of self.now }
+    {
+        match self {
+            Touch::Keys { mailbox, .. } => Some(mailbox),
+            Touch::Tail { mailbox, .. } => Some(mailbox),
+            Touch::Whole { mailbox, .. } => Some(mailbox),
+            Touch::Names { .. } => None,
+        }
+    }
+
+    /// Whether the item writes there: one that puts new mail at the end does.
+    pub fn writes(&self) -> bool
+        ensures { result ≡ does_write self.now }
+    {
+        match self {
+            Touch::Keys { writes, .. } => *writes,
+            Touch::Tail { .. } => true,
+            Touch::Whole { writes, .. } => *writes,
+            Touch::Names { writes, .. } => *writes,
+        }
+    }
 }

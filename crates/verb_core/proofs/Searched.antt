@@ -1,14 +1,14 @@
 -- What a binary search needs: comparisons that rise along rows, or along anything with rising numbers.
-use Rattle.std.proofs.Common.{◌≡◌, inl, inr, ℕ, zero, suc, ◌<◌, ◌≤◌, true, List, [], ◌∷◌, length, get_or, refl, sym, ap, ◌∙◌, subst, arith, rules, true≢false, is_lt, Ordering, Less, Equal, Greater}
+use Rattle.std.proofs.Common.{◌≡◌, ◌≢◌, inl, inr, ℕ, zero, suc, ◌<◌, ◌≤◌, true, cond, List, [], ◌∷◌, Some, None, Result, Err, length, get_or, refl, sym, ap, ◌∙◌, subst, arith, rules, true≢false, is_eq, is_lt, Ordering, Less, Equal, Greater}
 use Rattle.std.specs.Cmp.{first_so, second_so, nat_cmp_is}
 use Rattle.std.specs.FinMap.Entries as rows
-use Rattle.std.specs.List.Sorted.{IsNonDecreasingBy}
+use Rattle.std.specs.List.Sorted.{IsBinarySearchResult, IsNonDecreasingBy}
 use Rattle.std.specs.Ordering.{nat_cmp, ordering_index, ordering_reverse}
 use Rattle.std.proofs.lemmas.Bool.{cases_order}
 use Rattle.std.proofs.lemmas.Cmp.{alike_right}
 use Rattle.verb_core.specs.declared.mailbox.BoxId.{BoxId}
-use Rattle.verb_core.specs.Boxes.{box_cmp, is_rising}
-use Rattle.verb_core.proofs.BoxLaws.{boxes_total}
+use Rattle.verb_core.specs.Boxes.{box_cmp, is_rising, row_at}
+use Rattle.verb_core.proofs.BoxLaws.{boxes_total, exact_boxes}
 
 pub index_at_most : (o : Ordering) → ordering_index o ≤ 2
 index_at_most Less = search rules
@@ -54,6 +54,39 @@ module _ {A : Type 0} where
         | inl same ↦ subst (λ (k : ℕ). ordering_index (box_cmp (get_or rs k d).0 id) ≤ ordering_index (box_cmp (get_or rs j d).0 id)) (sym same) (search rules)
         | inr (inr gt) ↦ absurd (omega arith)
       ]
+
+-- ---- what a binary search among rows finds
+
+not_equal : (o p : Ordering) → p ≢ Equal → o ≡ p → o ≢ Equal
+not_equal o p differs is equal = differs (sym is ∙ equal)
+
+module _ {A : Type 0} where
+  -- the row at its place
+  pub row_found : (id : BoxId) (rs : List (BoxId × A)) → is_rising rs ≡ true → (i : ℕ) → i < length rs → ((d : BoxId × A) → box_cmp (get_or rs i d).0 id ≡ Equal) → (d : BoxId × A) → row_at id rs ≡ Some (get_or rs i d).1
+  row_found id [] rising i within equal d = absurd (omega arith)
+  row_found id (r ∷ rs) rising zero within equal d = ap (λ (o : Ordering). cond (is_eq o) (Some r.1) (row_at id rs)) (turned_over r.0 id Equal (equal r))
+  row_found id (r ∷ rs) rising (suc i) within equal d =
+      let is : (get_or rs i r).0 ≡ id = exact_boxes (get_or rs i r).0 id (equal r) in
+      let less : box_cmp r.0 id ≡ Less = subst (λ (q : BoxId). box_cmp r.0 q ≡ Less) is (below_at r.0 rs (first_so _ _ rising) i r (omega arith)) in
+      ap (λ (o : Ordering). cond (is_eq o) (Some r.1) (row_at id rs)) (turned_over r.0 id Less less) ∙ row_found id rs (second_so _ _ rising) i (omega arith) equal d
+
+  none_equal : (id : BoxId) (rs : List (BoxId × A)) → ((j : ℕ) (d : BoxId × A) → j < length rs → box_cmp (get_or rs j d).0 id ≢ Equal) → row_at id rs ≡ None
+  none_equal id [] none = refl
+  none_equal id (r ∷ rs) none =
+      elim (box_cmp id r.0) as (λ o. box_cmp id r.0 ≡ o → cond (is_eq o) (Some r.1) (row_at id rs) ≡ None) [
+        | Less ↦ λ e. none_equal id rs (λ j d within. none (suc j) d (omega arith))
+        | Equal ↦ λ e. absurd (none 0 r (omega arith) (turned_over id r.0 Equal e))
+        | Greater ↦ λ e. none_equal id rs (λ j d within. none (suc j) d (omega arith))
+      ] refl
+
+  -- or there is none
+  pub row_missing : (id : BoxId) (rs : List (BoxId × A)) → is_rising rs ≡ true → (at : ℕ) → IsBinarySearchResult (λ (row : BoxId × A). box_cmp row.0 id) rs (let r : Result ℕ ℕ = Err at in r) → row_at id rs ≡ None
+  row_missing id rs rising at parted =
+      none_equal id rs (λ j d inside. elim (cases_order j at) [
+        | inr (inl lt) ↦ not_equal _ Less (λ e. cc) ((parted (comparisons_rise id rs rising)).0 j d (omega arith) lt)
+        | inl same ↦ not_equal _ Greater (λ e. cc) ((parted (comparisons_rise id rs rising)).1 j d (omega arith) inside)
+        | inr (inr gt) ↦ not_equal _ Greater (λ e. cc) ((parted (comparisons_rise id rs rising)).1 j d (omega arith) inside)
+      ])
 
 -- ---- numbers
 

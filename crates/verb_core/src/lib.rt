@@ -1,11 +1,12 @@
 //! The verbs of the mail store: its parts, its items, and what each item does.
 //!
-//! `mailbox`, `mail` and `conf` are the parts of a store, `item` what is recorded, `deed` what a deed has, `fixed` the names that are
-//! always there, `flags` those that a STORE leaves, `ask` what is asked and refused, `bodies` where texts are read, `copy` and `copy_deeds` the copies,
-//! `recipients` whom a local part means; `threads` says what may cross threads, and `laws` what holds of every store and
-//! item. `specs/` says what each item does to the store, what it answers, and what is kept of a store in use.
+//! `mailbox`, `mail` and `conf` are the parts of a store, `item` what is recorded, `deed` what a deed has, `actor` whose
+//! mailboxes an item acts on, `fixed` the names that are always there, `flags` those that a STORE leaves, `ask` what is
+//! asked and refused, `bodies` where texts are read, `copy` and `copy_deeds` the copies, `recipients` whom a local part
+//! means; `threads` says what may cross threads, and `laws` what holds of every store and item. `specs/` says what each item does to the store, what it answers, and what is kept of a store in use.
 #![tactic(auto)]
 
+mod actor;
 mod ask;
 mod bodies;
 mod conf;
@@ -21,6 +22,7 @@ mod mailbox;
 mod recipients;
 mod threads;
 
+pub use actor::{actor_of, who_acts};
 pub use ask::{Ask, Refused, SubmitFault};
 pub use bodies::{Bodies, BodiesFault};
 pub use conf::{Account, Alias, Conf, Filter, House};

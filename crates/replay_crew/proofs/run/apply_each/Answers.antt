@@ -1,7 +1,7 @@
 use Rattle.std.proofs.Common.{◌≡◌, ◌∷◌, [], length, map, sym, ap, ◌∙◌, arith}
 use Rattle.std.specs.Vec.Iter.{into_iter_items}
 use Rattle.replay_crew.specs.Working.{applied_each, put_each, shown_at}
-use Rattle.replay_crew.proofs.Loops.{nothing_left}
+use Rattle.replay_crew.proofs.Loops.{at_err, nothing_left}
 use Rattle.replay_crew.proofs.run.apply_each.Goals as goal
 
 pub loop-one-preserved : goal.loop-one-preserved
@@ -18,6 +18,13 @@ loop-one-preserved g c =
       steps = omega (arith, done.step, ap length steps, at.invariant.steps);
     }
 
+pub returns-in_err-apply_made-clause-most : goal.returns-in_err-apply_made-clause-most
+returns-in_err-apply_made-clause-most g c =
+    let at = c.loop-one in
+    let steps : into_iter_items at.one-iterator ≡ c.in-Some.one ∷ into_iter_items c.next.new.self = c.in-Some.ensures.steps.0 in
+    let all = c.into_iter-one-iterator.ensures.into_iter_gives.0 in
+    at_err c.from_residual.result (omega (arith, c.in_err-apply_made.ensures.no_step, ap length steps, at.invariant.steps, ap length all))
+
 pub returns : goal.returns
 returns g c =
     let at = c.loop-one in
@@ -28,4 +35,5 @@ returns g c =
       store = sym (ap (λ ms. applied_each ms at.store.store) empty) ∙ at.invariant.store ∙ ap (λ ms. applied_each ms c.args.store.now.store) all;
       shows = sym (ap (λ ms. put_each (map shown_at ms) at.shows.items) empty) ∙ at.invariant.shows ∙ ap (λ ms. put_each (map shown_at ms) c.args.shows.now.items) all;
       steps = omega (arith, at.invariant.steps, ap length empty, ap length all);
+      most = tt;
     }

@@ -5,7 +5,7 @@ use Rattle.replay_crew.specs.Orders.{Placed, run_levels, run_turns, levels_at, t
 use Rattle.replay_crew.specs.Resolving.{turn_of}
 use Rattle.replay_crew.specs.Working.{AreLevels, answers_on, level_of, put_each}
 use Rattle.replay_crew.proofs.LevelDone.{length_map}
-use Rattle.replay_crew.proofs.Loops.{drop_next}
+use Rattle.replay_crew.proofs.Loops.{at_err, drop_next}
 use Rattle.replay_crew.proofs.Placed.{put_join}
 use Rattle.replay_crew.proofs.run.run_each_level.Goals as goal
 
@@ -45,3 +45,23 @@ loop-places-preserved g c =
           ap (λ (p : List (List ℕ)). length (told_by_levels s (levels_at all p))) next ∙ length-append (answers_on s level) told ∙ ap (λ n. n + length told) (length_map _ level) in
           omega (arith, done.steps, new_told, old_told, at.invariant.steps);
     }
+
+pub returns-in_err-run_level-clause-most : goal.returns-in_err-run_level-clause-most
+returns-in_err-run_level-clause-most g c =
+    let at = c.loop-places in
+    let s : MailStore = at.store.store in
+    let items = c.args.items.now in
+    let all : List Placed = enumerate_from 0 (map turn_of items) in
+    let plan = c.args.plan.now in
+    let places : List ℕ = c.as_slice.result.now in
+    let rest : List (List ℕ) = drop (at.places-index + 1) plan in
+    let level : List Placed = level_of items places in
+    let item : c.places-item.result ≡ places = sym c.as_slice.ensures in
+    let shown : List (List ℕ) = c.as_slice-places-items.result.now in
+    let next : drop at.places-index plan ≡ places ∷ rest =
+    subst (λ (p : List (List ℕ)). drop at.places-index p ≡ places ∷ drop (at.places-index + 1) p) c.as_slice-places-items.ensures
+    (drop_next shown at.places-index c.places-item.result c.loop-places-test.true c.places-item.is ∙ ap (λ x. x ∷ drop (at.places-index + 1) shown) item) in
+    let told : List (ℕ × _) = told_by_levels (run_turns s level) (levels_at all rest) in
+    let old_told : length (told_by_levels s (levels_at all (drop at.places-index plan))) ≡ length level + length told =
+    ap (λ (p : List (List ℕ)). length (told_by_levels s (levels_at all p))) next ∙ length-append (answers_on s level) told ∙ ap (λ n. n + length told) (length_map _ level) in
+    at_err c.from_residual.result (omega (arith, c.in_err-run_level.ensures.most, old_told, at.invariant.steps))
