@@ -1,14 +1,16 @@
 -- Sets and numbers are read as they are written.
-use Rattle.std.proofs.Common.{◌≡◌, ℕ, ◌+◌, ◌<◌, ◌≤◌, Bool, true, false, not, ◌==◌, ◌&&◌, List, [], ◌∷◌, ◌++◌, length, get_or, nat_le, nat_lt, Option, None, Some, refl, ap, ◌∙◌, arith, zero, suc}
+use Rattle.std.proofs.Common.{◌≡◌, ℕ, ◌+◌, ◌-◌, ◌*◌, ◌<◌, ◌≤◌, Bool, true, false, not, ◌==◌, ◌&&◌, List, [], ◌∷◌, ◌++◌, length, get_or, nat_le, nat_lt, Option, None, Some, fold, refl, ap, ◌∙◌, arith, rules}
 use Rattle.std.specs.Prelude.{option_map, option_and_then}
+use Rattle.std.specs.Char.{is_ascii_digit}
 use Rattle.std.specs.Fmt.{decimal}
 use Rattle.std.specs.List.{list_all, AllByRecursion}
 use Rattle.std.proofs.lemmas.Bool.{leb-true, le-leb}
 use Rattle.std.proofs.lemmas.Bool.Decides.{Decides-ltb}
-use Rattle.std.proofs.lemmas.Fmt.{decimal_nonempty, digits_decimal, digits_value-decimal, first_decimal, length-decimal-le, decimal_digit}
+use Rattle.std.proofs.lemmas.Fmt.{decimal_nonempty, digits_decimal, digits_value-decimal, first_decimal, length-decimal-le}
 use Rattle.std.proofs.lemmas.List.{length-append}
 use Rattle.std.proofs.lemmas.List.Folds.{list_all-append}
 use Rattle.std.proofs.lemmas.Str.Parse.{IsDigitsTest, FoldsDigits, IsNumeralModel, numerals_by_fold}
+use Rattle.undo_base.specs.Digits.{number_of}
 use Rattle.imap_stream.specs.Marks.{is_digit, all_digits, value_after, value_of}
 use Rattle.imap_stream.specs.declared.picks.SetRange.{SetRange}
 use Rattle.imap_tokens.specs.Words.{is_word, number_in, count_in}
@@ -74,9 +76,14 @@ no_sign w (b ∷ bytes) most some first e =
 number_word : (w n : ℕ) → w ≤ 48 → 1 ≤ n → n ≤ 4294967295 → is_word (w ∷ []) (decimal n) ≡ false
 number_word w n most some fits = no_sign w (decimal n) most (decimal_nonempty n (omega arith)) (first_decimal n some (omega arith)) (digits_of n fits)
 
+-- the same of a number that may begin with zeros
+counts : IsNumeralModel (λ ds. list_all is_ascii_digit ds ≡ true) number_of
+counts = numerals_by_fold (λ ds. list_all is_ascii_digit ds ≡ true) (search rules) (λ n ds. fold (λ n d. 10 * n + (d - 48)) n ds) (search rules)
+
 pub count_is : (n : ℕ) → n ≤ 4294967295 → count_in (decimal n) ≡ Some n
-count_is zero fits = rw (decimal_digit 0 (omega arith)) refl
-count_is (suc n) fits = rw (number_word 48 (suc n) (omega arith) (omega arith) fits) (number_is (suc n) (omega arith) fits)
+count_is n fits =
+    let some : 0 < length (decimal n) = decimal_nonempty n (omega arith) in
+    rw (le-leb 1 (length (decimal n)) (omega arith), digits_decimal counts n (omega arith), digits_value-decimal counts n (omega arith), small_is n fits) refl
 
 end_is : (o : Option ℕ) → IsEnd o → end_in (end_text o) ≡ Some o
 end_is None is = refl

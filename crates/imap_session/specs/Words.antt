@@ -1,5 +1,5 @@
 -- What a client is told besides untagged data (RFC 3501, 7.1).
-use Rattle.std.specs.Prelude.{ℕ, Bool, List, [], ◌∷◌, ◌++◌, codes, Option, None, Some, if◌then◌else◌}
+use Rattle.std.specs.Prelude.{ℕ, Bool, List, [], ◌++◌, codes, Option, None, Some, if◌then◌else◌}
 use Rattle.verb_core.specs.declared.ask.Refused.{Refused}
 use Rattle.verb_core.specs.declared.ask.Refused.TheVariants as refused
 use Rattle.verb_core.specs.declared.conf.House.{House}
@@ -8,13 +8,11 @@ use Rattle.imap_stream.specs.declared.next.LineFault.{LineFault}
 use Rattle.imap_stream.specs.declared.next.LineFault.TheVariants as fault
 use Rattle.imap_lines.specs.declared.command.ImapRefused.{ImapRefused}
 use Rattle.imap_lines.specs.declared.command.ImapRefused.TheVariants as unread
+use Rattle.imap_text.specs.Words.{crlf}
 use Rattle.imap_session.specs.declared.words.Word.{Word}
 use Rattle.imap_session.specs.declared.words.Word.TheVariants as word
 use Rattle.imap_session.specs.declared.words.Answer.{Answer}
 use Rattle.imap_session.specs.declared.words.Answer.TheVariants.{Done, Opened, UnknownCommand, BadArguments, NotOffered, WrongState, LoginFailed, ReadOnly, BadNumber, BadCharset, Refused as IsRefused, DiskFault}
-
-abbrev pub crlf : List ℕ
-crlf = 13 ∷ 10 ∷ []
 
 -- a line and its end
 abbrev pub said : List ℕ → List ℕ

@@ -1,6 +1,8 @@
 -- Words, atoms and numbers (RFC 3501, 9: atom, list-mailbox, nz-number, number).
 use Rattle.std.specs.Prelude.{ℕ, Bool, true, false, not, ◌-◌, ◌==◌, ◌&&◌, ◌||◌, List, [], ◌∷◌, length, nat_le, nat_lt, slice_index, Option, None, Some, if◌then◌else◌}
 use Rattle.std.specs.List.{list_all}
+use Rattle.std.specs.Char.{is_ascii_digit}
+use Rattle.undo_base.specs.Digits.{number_of}
 use Rattle.imap_stream.specs.Marks.{all_digits, value_of}
 
 -- a letter as a capital
@@ -40,6 +42,6 @@ is_pattern_byte b = is_atom_byte b || b == 37 || b == 42
 abbrev pub number_in : List ℕ → Option ℕ
 number_in bytes = if not (all_digits bytes) || slice_index bytes 0 == 48 then None else if nat_lt 4294967295 (value_of bytes) then None else Some (value_of bytes)
 
--- a number from 0 to 4294967295, without leading zeros
+-- a number from 0 to 4294967295: one or more digits, of which the first may be zeros
 abbrev pub count_in : List ℕ → Option ℕ
-count_in bytes = if is_word (48 ∷ []) bytes then Some 0 else number_in bytes
+count_in bytes = if not (nat_le 1 (length bytes) && list_all is_ascii_digit bytes) then None else if nat_lt 4294967295 (number_of bytes) then None else Some (number_of bytes)

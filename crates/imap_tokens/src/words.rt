@@ -1,6 +1,8 @@
 //! Words, atoms and numbers.
-ghost use Rattle.std.specs.Prelude.{◌≡◌, option_map};
+ghost use Rattle.std.specs.Prelude.{◌≡◌, true, min, option_map};
+ghost use Rattle.std.specs.Char.{is_ascii_digit};
 ghost use Rattle.std.specs.List.{list_all};
+ghost use Rattle.undo_base.specs.Digits.{number_of};
 ghost use Rattle.imap_tokens.specs.Words.{upper, is_word, after_word, is_atom_byte, is_atom, is_pattern_byte, number_in, count_in};
 
 use imap_stream::{are_digits, number};
@@ -90,7 +92,7 @@ pub fn only_pattern_chars(bytes: &[u8]) -> bool
     bytes.iter().all(|byte| is_pattern_char(*byte))
 }
 
-/// A number from 1 to 4294967295, without leading zeros.
+/// A number from 1 to 4294967295, without leading zeros (RFC 3501, section 9: nz-number).
 pub fn read_number(bytes: &[u8]) -> Option<u32>
     ensures { result ≡ number_in bytes.now }
 {
@@ -104,12 +106,28 @@ pub fn read_number(bytes: &[u8]) -> Option<u32>
     Some(value as u32)
 }
 
-/// A number from 0 to 4294967295, without leading zeros.
+/// What digits stand for, up to one more than a command may spell.
+fn count_up_to(digits: &[u8]) -> u64
+    requires { list_all is_ascii_digit digits.now ≡ true }
+    ensures { result ≡ min (number_of digits.now) 4294967296 }
+{
+    let mut number = 0;
+    for digit in digits {
+        number = (10 * number + u64::from(*digit - b'0')).min(MOST_NUMBER + 1);
+    }
+    number
+}
+
+/// A number from 0 to 4294967295, in one or more digits, of which the first may be zeros (RFC 3501, section 9: number).
 pub fn read_count(bytes: &[u8]) -> Option<u32>
     ensures { result ≡ count_in bytes.now }
 {
-    if is_same_word(bytes, b"0") {
-        return Some(0);
+    if bytes.is_empty() || !undo_base::are_digits(bytes) {
+        return None;
     }
-    read_number(bytes)
+    let value = count_up_to(bytes);
+    if value > MOST_NUMBER {
+        return None;
+    }
+    Some(value as u32)
 }

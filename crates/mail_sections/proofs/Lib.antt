@@ -1,5 +1,3 @@
-pub mod Cutting
-pub mod Grouping
 pub mod Listing
 pub mod Telling
 pub mod Together

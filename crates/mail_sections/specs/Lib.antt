@@ -1,5 +1,3 @@
-pub mod Lines
-pub mod Fields
 pub mod Listed
 pub mod Sections
 pub mod Laws

@@ -1,26 +1,22 @@
 -- What a FETCH asks of a message's text (RFC 3501, 6.4.5).
-use Rattle.std.specs.Prelude.{ℕ, Bool, not, ◌-◌, List, [], ◌∷◌, ◌++◌, length, take, drop, filter, flat_map, Option, None, Some, if◌then◌else◌}
+use Rattle.std.specs.Prelude.{ℕ, Bool, not, ◌-◌, ◌&&◌, List, ◌++◌, take, drop, filter, Option, None, Some, if◌then◌else◌}
+use Rattle.std.specs.List.{list_any}
+use Rattle.std.specs.Str.{str_eq_ignore_ascii_case}
 use Rattle.undo_base.specs.declared.asks.Section.{Section}
 use Rattle.undo_base.specs.declared.asks.Section.TheVariants.{Whole, Header, Text, Fields, NotFields}
 use Rattle.undo_base.specs.declared.asks.SectionAsk.{SectionAsk}
-use Rattle.mail_sections.specs.Lines.{lines_of}
-use Rattle.mail_sections.specs.Fields.{header_lines, fields_of, has_empty_line, is_listed}
+use Rattle.header_fields.specs.Lines.{joined}
+use Rattle.header_fields.specs.Fields.{fields_of}
+use Rattle.header_fields.specs.Header.{empty_line_of, header_of, behind_header}
+use Rattle.header_fields.specs.Values.{has_name, name_of}
 
--- lists, one behind the other
-abbrev pub joined : List (List ℕ) → List ℕ
-joined pieces = flat_map (λ piece. piece) pieces
+-- whether a field has one of the names, ignoring case; a field without a colon has no name
+abbrev pub is_listed : List (List ℕ) → List ℕ → Bool
+is_listed names field = has_name field && list_any (λ name. str_eq_ignore_ascii_case (name_of field) name) names
 
--- the empty line, where the text has one
-abbrev pub empty_line_of : List ℕ → List ℕ
-empty_line_of text = if has_empty_line text then 13 ∷ 10 ∷ [] else []
-
--- the text through its first empty line, or all of it where it has none
-abbrev pub header_of : List ℕ → List ℕ
-header_of text = joined (header_lines (lines_of text)) ++ empty_line_of text
-
--- what follows the header
-abbrev pub behind_header : List ℕ → List ℕ
-behind_header text = drop (length (header_of text)) text
+-- whether a field is wanted: one with a listed name, or one with none of them
+abbrev pub is_wanted : Bool → List (List ℕ) → List ℕ → Bool
+is_wanted among names field = if among then is_listed names field else not (is_listed names field)
 
 -- the fields for which the test holds, in order, and the empty line
 abbrev pub fields_where : (List ℕ → Bool) → List ℕ → List ℕ

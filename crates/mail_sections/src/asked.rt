@@ -1,33 +1,11 @@
 //! What a FETCH asks of a text.
-ghost use Rattle.std.specs.Prelude.{◌≡◌, ◌≤◌, ◌<◌, ◌++◌, true, false, length, take, drop, IfOk, OnOk};
-ghost use Rattle.mail_sections.specs.Fields.{is_wanted as wanted};
-ghost use Rattle.mail_sections.specs.Sections.{asked_behind, header_of, part_of, fields_where, section_of};
-ghost use Rattle.mail_sections.specs.Lines.{begins_empty as empty_begins};
+ghost use Rattle.std.specs.Prelude.{◌≡◌, ◌++◌, length, IfOk, OnOk};
+ghost use Rattle.mail_sections.specs.Sections.{asked_behind, part_of, fields_where, section_of, is_wanted as wanted};
 
-use crate::fields::{field_len, is_wanted};
-use crate::lines::{begins_empty, is_empty_line, line_len};
-use crate::listed::ListedNames;
+use crate::listed::{ListedNames, is_wanted};
+use header_fields::{begins_field, behind_header, field_len, header_len};
 use std::alloc::Global;
 use undo_base::{Names, NoMemory, Section, SectionAsk, Text, after, before};
-
-/// How long the header is, with its empty line.
-pub(crate) fn header_len(text: &[u8]) -> usize
-    ensures within { result ≤ length text.now }
-    ensures header { take result text.now ≡ header_of text.now }
-{
-    let mut passed = 0;
-    let mut rest = text;
-    while passed < text.len() {
-        let count = line_len(rest);
-        let ends = is_empty_line(before(rest, count));
-        passed += count;
-        rest = after(rest, count);
-        if ends {
-            return passed;
-        }
-    }
-    passed
-}
 
 /// So many bytes from a place on, or what is there.
 fn part(bytes: &[u8], asked: Option<(u32, u32)>) -> &[u8]
@@ -40,15 +18,6 @@ fn part(bytes: &[u8], asked: Option<(u32, u32)>) -> &[u8]
             before(rest, (count as usize).min(rest.len()))
         }
     }
-}
-
-/// Whether a field comes first: neither the end nor an empty line.
-fn begins_field(bytes: &[u8]) -> bool
-    ensures some { result ≡ true → 0 < length bytes.now }
-    ensures header { result ≡ true → empty_begins bytes.now ≡ false }
-    ensures end { result ≡ false → 0 < length bytes.now → empty_begins bytes.now ≡ true }
-{
-    bytes.len() > 0 && !begins_empty(bytes)
 }
 
 /// What is asked of the bytes behind so many, of which so many were told.
@@ -113,7 +82,7 @@ pub fn section(alloc: Global, text: &[u8], ask: &SectionAsk) -> Result<Text, NoM
     match &ask.what {
         Section::Whole => Text::of(alloc, part(text, ask.part)),
         Section::Header => Text::of(alloc, part(before(text, header_len(text)), ask.part)),
-        Section::Text => Text::of(alloc, part(after(text, header_len(text)), ask.part)),
+        Section::Text => Text::of(alloc, part(behind_header(text), ask.part)),
         Section::Fields { names } => fields(alloc, text, true, names, ask.part),
         Section::NotFields { names } => fields(alloc, text, false, names, ask.part),
     }

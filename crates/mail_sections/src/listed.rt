@@ -1,9 +1,11 @@
-//! Listed names: whether a name is one of them, in time that grows as the logarithm of how many there are.
+//! Listed names, and the fields that have one: told in time that grows as the logarithm of how many names there are.
 ghost use Rattle.std.specs.Prelude.{◌≡◌, ◌≤◌, length, take, IfOk, OnOk};
 ghost use Rattle.std.specs.List.{list_any};
 ghost use Rattle.std.specs.Str.{str_eq_ignore_ascii_case, str_to_ascii_lowercase};
 ghost use Rattle.mail_sections.specs.Listed.{AreShort, Holds};
+ghost use Rattle.mail_sections.specs.Sections.{is_listed as listed, is_wanted as wanted};
 
+use header_fields::{has_name, name_in};
 use std::alloc::Global;
 use std::collections::BTreeSet;
 use std::marker::Model;
@@ -71,4 +73,18 @@ impl<'a> ListedNames<'a> {
         write_lower(own, &mut lower);
         listed.contains(before(&lower, own.len()))
     }
+}
+
+/// Whether a field has one of the names.
+fn is_listed(names: &ListedNames<'_>, field: &[u8]) -> bool
+    ensures { result ≡ listed names.now field.now }
+{
+    has_name(field) && names.contains(name_in(field))
+}
+
+/// Whether a field has one of the names, or has none of them where the others are wanted.
+pub(crate) fn is_wanted(among: bool, names: &ListedNames<'_>, field: &[u8]) -> bool
+    ensures { result ≡ wanted among names.now field.now }
+{
+    is_listed(names, field) == among
 }

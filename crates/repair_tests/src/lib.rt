@@ -1,10 +1,12 @@
-//! Tests of box_store, paradox and repair_desk: calls that no conversation shows are called with ample memory, and their
-//! answers compared.
+//! Tests of box_store, paradox, repair_desk and console_http: calls that no conversation shows are called with ample memory, and
+//! their answers compared.
 #![tactic(auto)]
 
 #[cfg(test)]
 mod answers;
 #[cfg(test)]
 mod edits;
+#[cfg(test)]
+mod requests;
 #[cfg(test)]
 mod stores;

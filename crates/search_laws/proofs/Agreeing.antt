@@ -1,92 +1,70 @@
--- The fields and the text that SEARCH looks at are those of FETCH.
-use Rattle.std.proofs.Common.{◌≡◌, ℕ, Bool, true, false, ◌&&◌, ◌||◌, List, [], ◌∷◌, ◌++◌, refl, ap, sym, ◌∙◌, if◌then◌else◌, length, drop, append_assoc}
-use Rattle.std.specs.List.{list_any}
+-- The fields, the text and the sets of SEARCH are those of FETCH.
+use Rattle.std.proofs.Common.{◌≡◌, ℕ, Bool, true, false, cond, ◌&&◌, ◌||◌, ◌-◌, List, [], ◌∷◌, zero, suc, map, filter, length, min, max, nat_le, slice_index, Option, None, Some, refl, ap, ap₂, sym, ◌∙◌}
+use Rattle.std.specs.Prelude.{unwrap_or}
+use Rattle.std.specs.List.{list_any, slice_get}
+use Rattle.std.specs.Option.{option_map_or}
 use Rattle.std.specs.Str.{str_eq_ignore_ascii_case}
-use Rattle.search_verb.specs.Lines as search_lines
-use Rattle.search_verb.specs.Fields as search
-use Rattle.mail_sections.specs.Lines as fetch_lines
-use Rattle.mail_sections.specs.Fields as fetch
-use Rattle.mail_sections.specs.Sections as sections
-use Rattle.search_verb.proofs.Behind.{lines_joined}
-use Rattle.std.proofs.lemmas.Slice.Eq.{bytes_eq-Decides}
+use Rattle.std.proofs.lemmas.List.{length-map}
+use Rattle.header_fields.specs.Values.{has_name, name_of, is_named, value_of}
+use Rattle.imap_session.specs.Searching.{last_uid}
+use Rattle.imap_stream.specs.Sets.{end_at, covers, covered, greatest_of}
+use Rattle.imap_stream.specs.declared.picks.SetRange.{SetRange}
+use Rattle.imap_view.specs.declared.messages.Known.{Known}
+use Rattle.mail_sections.specs.Sections.{is_listed}
+use Rattle.search_lines.specs.Leaves.{range_of}
+use Rattle.search_verb.specs.Meets.{is_within, is_among}
+use Rattle.search_verb.specs.Occurs.{occurs_in}
 
--- ---- lines
+-- ---- names and fields
 
-first_line : (b : ℕ) (lines : List (List ℕ)) → search_lines.onto_first b lines ≡ fetch_lines.onto_first b lines
-first_line b [] = refl
-first_line b (line ∷ lines) = refl
-
-pub same_lines : (text : List ℕ) → search_lines.lines_of text ≡ fetch_lines.lines_of text
-same_lines [] = refl
-same_lines (b ∷ []) = refl
-same_lines (b ∷ c ∷ bytes) =
-    ap (λ x. if fetch_lines.is_end b c then (b ∷ c ∷ []) ∷ x else search_lines.onto_first b (search_lines.lines_of (c ∷ bytes))) (same_lines bytes)
-    ∙ ap (λ x. if fetch_lines.is_end b c then (b ∷ c ∷ []) ∷ fetch_lines.lines_of bytes else x)
-    (ap (search_lines.onto_first b) (same_lines (c ∷ bytes)) ∙ first_line b (fetch_lines.lines_of (c ∷ bytes)))
-
--- ---- fields
-
-goes_on_alike : (lines : List (List ℕ)) → search.goes_on lines ≡ fetch.goes_on lines
-goes_on_alike [] = refl
-goes_on_alike ([] ∷ lines) = refl
-goes_on_alike ((b ∷ bytes) ∷ lines) = refl
-
-onto_alike : (line : List ℕ) (fields : List (List ℕ)) → search.onto_field line fields ≡ fetch.onto_field line fields
-onto_alike line [] = refl
-onto_alike line (field ∷ fields) = refl
-
-fields_alike : (lines : List (List ℕ)) → search.fields_in lines ≡ fetch.fields_in lines
-fields_alike [] = refl
-fields_alike (line ∷ lines) =
-    ap (λ t. if t then search.onto_field line (search.fields_in lines) else line ∷ search.fields_in lines) (goes_on_alike lines)
-    ∙ ap (λ fields. if fetch.goes_on lines then search.onto_field line fields else line ∷ fields) (fields_alike lines)
-    ∙ ap (λ fields. if fetch.goes_on lines then fields else line ∷ fetch.fields_in lines) (onto_alike line (fetch.fields_in lines))
-
-header_alike : (lines : List (List ℕ)) → search.header_lines lines ≡ fetch.header_lines lines
-header_alike [] = refl
-header_alike (line ∷ lines) = ap (λ more. if fetch_lines.is_empty_line line then [] else line ∷ more) (header_alike lines)
-
-pub same_fields : (text : List ℕ) → search.fields_of text ≡ fetch.fields_of text
-same_fields text = fields_alike (search.header_lines (search_lines.lines_of text))
-    ∙ ap fetch.fields_in (header_alike (search_lines.lines_of text) ∙ ap fetch.header_lines (same_lines text))
-
--- ---- what follows the header
-
--- the empty line, where one of the lines is it
-end_in : List (List ℕ) → List ℕ
-end_in lines = if list_any fetch_lines.is_empty_line lines then 13 ∷ 10 ∷ [] else []
-
--- lines are those of the header, the empty one and the later ones
-parts : (lines : List (List ℕ)) → (sections.joined (fetch.header_lines lines) ++ end_in lines) ++ search.joined (search.later_lines lines) ≡ search.joined lines
-unfolding end_in
-parts [] = refl
-parts (line ∷ lines) = by (parts lines) (fetch_lines.is_empty_line line) refl
-  where
-    by : (sections.joined (fetch.header_lines lines) ++ end_in lines) ++ search.joined (search.later_lines lines) ≡ search.joined lines →
-        (t : Bool) → fetch_lines.is_empty_line line ≡ t →
-        (sections.joined (fetch.header_lines (line ∷ lines)) ++ end_in (line ∷ lines)) ++ search.joined (search.later_lines (line ∷ lines)) ≡ search.joined (line ∷ lines)
-    by more true e = rw e (ap (λ x. x ++ search.joined lines) (sym ((bytes_eq-Decides line (13 ∷ 10 ∷ [])).0 e)))
-    by more false e =
-        rw e (ap (λ x. x ++ search.joined (search.later_lines lines)) (append_assoc line (sections.joined (fetch.header_lines lines)) (end_in lines))
-        ∙ append_assoc line (sections.joined (fetch.header_lines lines) ++ end_in lines) (search.joined (search.later_lines lines))
-        ∙ ap (λ x. line ++ x) more)
-
-dropped : (xs ys : List ℕ) → drop (length xs) (xs ++ ys) ≡ ys
-dropped [] ys = refl
-dropped (x ∷ xs) ys = dropped xs ys
-
-pub same_text : (text : List ℕ) → search.behind_header text ≡ sections.behind_header text
-unfolding end_in
-same_text text =
-    ap (λ lines. search.joined (search.later_lines lines)) (same_lines text)
-    ∙ sym (dropped (sections.header_of text) (search.joined (search.later_lines (fetch_lines.lines_of text))))
-    ∙ ap (drop (length (sections.header_of text))) (parts (fetch_lines.lines_of text) ∙ ap search.joined (sym (same_lines text)) ∙ lines_joined text)
-
--- ---- names
-
-pub same_name : (name field : List ℕ) → search.is_named name field ≡ fetch.is_listed (name ∷ []) field
-same_name name field = ap (λ b. list_any search.is_colon field && b) (sym (or_false (str_eq_ignore_ascii_case (search.name_of field) name)))
+pub same_name : (name field : List ℕ) → is_named name field ≡ is_listed (name ∷ []) field
+same_name name field = ap (λ b. has_name field && b) (sym (or_false (str_eq_ignore_ascii_case (name_of field) name)))
   where
     or_false : (b : Bool) → (b || false) ≡ b
     or_false true = refl
     or_false false = refl
+
+-- whether some field of this name has the string, and whether one of those that are shown has it
+abbrev named_has : List ℕ → List ℕ → List (List ℕ) → Bool
+named_has name string fields = list_any (λ field. is_named name field && occurs_in string (value_of field)) fields
+
+abbrev shown_has : List ℕ → List ℕ → List (List ℕ) → Bool
+shown_has name string fields = list_any (λ field. occurs_in string (value_of field)) (filter (is_listed (name ∷ [])) fields)
+
+one_more : (name string field : List ℕ) (fields : List (List ℕ)) (t : Bool) → is_listed (name ∷ []) field ≡ t
+    → named_has name string fields ≡ shown_has name string fields → named_has name string (field ∷ fields) ≡ shown_has name string (field ∷ fields)
+one_more name string field fields true e more =
+    ap (λ b. (b && occurs_in string (value_of field)) || named_has name string fields) (same_name name field ∙ e)
+    ∙ ap (λ b. occurs_in string (value_of field) || b) more
+    ∙ sym (ap (λ b. list_any (λ f. occurs_in string (value_of f)) (cond b (field ∷ filter (is_listed (name ∷ [])) fields) (filter (is_listed (name ∷ [])) fields))) e)
+one_more name string field fields false e more =
+    ap (λ b. (b && occurs_in string (value_of field)) || named_has name string fields) (same_name name field ∙ e)
+    ∙ more
+    ∙ sym (ap (λ b. list_any (λ f. occurs_in string (value_of f)) (cond b (field ∷ filter (is_listed (name ∷ [])) fields) (filter (is_listed (name ∷ [])) fields))) e)
+
+pub same_fields : (name string : List ℕ) (fields : List (List ℕ)) → named_has name string fields ≡ shown_has name string fields
+same_fields name string [] = refl
+same_fields name string (field ∷ fields) = one_more name string field fields (is_listed (name ∷ []) field) refl (same_fields name string fields)
+
+-- ---- sets
+
+same_end : (last : ℕ) (end : Option ℕ) → unwrap_or end last ≡ end_at last end
+same_end last None = refl
+same_end last (Some n) = refl
+
+same_range : (last n : ℕ) (range : SetRange) → is_within last n (range_of range) ≡ covers last range n
+same_range last n range = ap₂ (λ (a b : ℕ). nat_le (min a b) n && nat_le n (max a b)) (same_end last range.from) (same_end last range.to)
+
+pub same_set : (last n : ℕ) (set : List SetRange) → is_among last n (map range_of set) ≡ covered last set n
+same_set last n [] = refl
+same_set last n (range ∷ set) = ap₂ (λ a b. a || b) (same_range last n range) (same_set last n set)
+
+uid_at : (view : List Known) (n : ℕ) → option_map_or (λ (known : Known). known.uid) (slice_get view n) 0 ≡ slice_index (map (λ (known : Known). known.uid) view) n
+uid_at [] n = refl
+uid_at (known ∷ view) zero = refl
+uid_at (known ∷ view) (suc n) = uid_at view n
+
+pub same_last : (view : List Known) → last_uid view ≡ greatest_of true (map (λ (known : Known). known.uid) view)
+same_last view =
+    uid_at view (length view - 1)
+    ∙ ap (λ (n : ℕ). slice_index (map (λ (known : Known). known.uid) view) (n - 1)) (sym (length-map view (λ (known : Known). known.uid)))

@@ -1,6 +1,4 @@
-pub mod Cutting
-pub mod Grouping
-pub mod Behind
+pub mod Seeking
 pub mod Finding
 pub mod Rows
 pub mod Parts

@@ -2,7 +2,8 @@
 use Rattle.std.proofs.Common.{◌≡◌, ℕ, true, false, List, [], ◌∷◌, ◌++◌, codes, pos, negsuc, Some, None, refl}
 use Rattle.search_verb.specs.declared.candidate.Look.TheVariants as look
 use Rattle.search_verb.specs.Asked.{Every, Seen, Flagged, Places, Uids, Before, On, Since, Larger, Smaller, Field, Body, Text, Not, Or, And, all_of}
-use Rattle.search_verb.specs.Fields.{value_of, behind_header}
+use Rattle.header_fields.specs.Header.{behind_header}
+use Rattle.header_fields.specs.Values.{value_of}
 use Rattle.search_verb.specs.Meets.{Facts, meets, needed}
 
 abbrev line : List ℕ

@@ -1,6 +1,4 @@
 pub mod Asked
-pub mod Lines
-pub mod Fields
 pub mod Occurs
 pub mod Meets
 pub mod Codes

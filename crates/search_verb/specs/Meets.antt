@@ -8,7 +8,9 @@ use Rattle.search_verb.specs.declared.candidate.Candidate.{Candidate}
 use Rattle.search_verb.specs.declared.candidate.Look.{Look}
 use Rattle.search_verb.specs.declared.candidate.Look.TheVariants as look
 use Rattle.search_verb.specs.Asked.{Asked, Every, Never, Answered, Deleted, Draft, Flagged, Seen, Places, Uids, Before, On, Since, Larger, Smaller, Field, Body, Text, Not, Or, And, asked_by}
-use Rattle.search_verb.specs.Fields.{fields_of, is_named, value_of, behind_header}
+use Rattle.header_fields.specs.Fields.{fields_of}
+use Rattle.header_fields.specs.Header.{behind_header}
+use Rattle.header_fields.specs.Values.{is_named, value_of}
 use Rattle.search_verb.specs.Occurs.{occurs_in}
 
 -- whether a number stands in a range, either way, where * is the last number of the view

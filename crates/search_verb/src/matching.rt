@@ -4,9 +4,9 @@ ghost use Rattle.std.specs.Ordering.{int_eq};
 ghost use Rattle.search_verb.specs.Asked.{all_of, asked_by};
 ghost use Rattle.search_verb.specs.Meets.{does_match, facts_of, meets, looked_at, needed, is_within as within, is_among as among, day_of as the_day, has_field as field_has, greater as the_greater};
 
-use crate::fields::{begins_field, behind_header, field_len, is_named, value_in};
 use crate::occurs::occurs;
 use crate::{Candidate, Look, SearchKey, SearchRange};
+use header_fields::{begins_field, behind_header, field_len, is_named, value_in};
 use undo_base::{after, before};
 
 /// Whether a number stands in a range.

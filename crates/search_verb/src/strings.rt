@@ -1,14 +1,14 @@
 //! Which messages a key matches, found in time that grows as strings and texts together, whatever repeats in them.
 ghost use Rattle.std.specs.Prelude.{◌≡◌, ◌&&◌, map, IfOk};
 ghost use Rattle.search_verb.specs.Asked.{all_of, asked_by};
-ghost use Rattle.search_verb.specs.Fields.{is_named as named, value_of};
+ghost use Rattle.header_fields.specs.Values.{is_named as named, value_of};
 ghost use Rattle.search_verb.specs.Meets.{does_match, facts_of, meets, has_field as field_has};
 ghost use Rattle.search_verb.specs.Occurs.{occurs_in};
 
-use crate::fields::{begins_field, behind_header, field_len, is_named, value_in};
 use crate::matching::matches;
 use crate::occurs::occurs;
 use crate::{Candidate, SearchKey};
+use header_fields::{begins_field, behind_header, field_len, is_named, value_in};
 use memchr::memmem;
 use std::alloc::Global;
 use undo_base::{NoMemory, after, before};

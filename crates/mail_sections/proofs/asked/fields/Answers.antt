@@ -1,6 +1,5 @@
 use Rattle.std.proofs.Common.{◌≡◌, ◌++◌, ◌∙◌, ℕ, List, Option, length, take, drop, ap, sym}
-use Rattle.mail_sections.specs.Fields.{is_wanted}
-use Rattle.mail_sections.specs.Sections.{asked_behind, fields_where, part_of}
+use Rattle.mail_sections.specs.Sections.{is_wanted, asked_behind, fields_where, part_of}
 use Rattle.mail_sections.proofs.Telling.{passed_field, told_field}
 use Rattle.mail_sections.proofs.asked.fields.Goals.{then-is_wanted+in_ok-left, else-is_wanted}
 use Rattle.mail_sections.proofs.asked.fields.Goals as goal

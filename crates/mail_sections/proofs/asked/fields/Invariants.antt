@@ -1,6 +1,5 @@
 use Rattle.std.proofs.Common.{◌≡◌, ◌++◌, length}
-use Rattle.mail_sections.specs.Fields.{is_wanted}
-use Rattle.mail_sections.specs.Sections.{fields_where, part_of}
+use Rattle.mail_sections.specs.Sections.{is_wanted, fields_where, part_of}
 use Rattle.mail_sections.proofs.asked.fields.Given as goal
 
 -- what is told, and what is asked of the rest, is all that is asked

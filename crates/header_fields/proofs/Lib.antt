@@ -1,0 +1,5 @@
+pub mod Cutting
+pub mod Grouping
+pub mod Heading
+pub mod Together
+pub mod Rows
