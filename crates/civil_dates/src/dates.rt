@@ -46,7 +46,7 @@ fn imap_date_of(alloc: Global, day: Day, second: u32) -> Result<String, AllocErr
     )
 }
 
-/// Adds a moment as mail has it, `7 Jan 2005 10:00:00 +0000`, at the end of a text.
+/// Adds a moment as mail has it, `7 Jan 2005 10:00:00 +0000` (RFC 5322, 3.3), at the end of a text.
 pub fn push_mail_date(alloc: Global, out: &mut Text, at: u64) -> Result<(), NoMemory>
     requires { at ≤ LAST_MOMENT }
     ensures ok { OnOk result (out.new ≡ out.old ++ spec.mail_date at) }
@@ -56,7 +56,7 @@ pub fn push_mail_date(alloc: Global, out: &mut Text, at: u64) -> Result<(), NoMe
     out.extend(date.as_bytes())
 }
 
-/// Adds a moment as IMAP has it, ` 7-Jan-2005 10:00:00 +0000`, without quotes, at the end of a text.
+/// Adds a moment as IMAP has it, ` 7-Jan-2005 10:00:00 +0000`, without quotes (RFC 3501, 9), at the end of a text.
 pub fn push_imap_date(alloc: Global, out: &mut Text, at: u64) -> Result<(), NoMemory>
     requires { at ≤ LAST_MOMENT }
     ensures ok { OnOk result (out.new ≡ out.old ++ spec.imap_date at) }
@@ -64,24 +64,4 @@ pub fn push_imap_date(alloc: Global, out: &mut Text, at: u64) -> Result<(), NoMe
 {
     let date = imap_date_of(alloc, civil_day((at / 86400) as u32), (at % 86400) as u32)?;
     out.extend(date.as_bytes())
-}
-
-/// A moment as mail has it, `7 Jan 2005 10:00:00 +0000` (RFC 5322, 3.3).
-pub fn mail_date(alloc: Global, at: u64) -> Result<Text, NoMemory>
-    requires { at ≤ LAST_MOMENT }
-    ensures { IfOk result (λ text. text ≡ spec.mail_date at) }
-{
-    let mut text = Text::new(alloc);
-    push_mail_date(alloc, &mut text, at)?;
-    Ok(text)
-}
-
-/// A moment as IMAP has it, ` 7-Jan-2005 10:00:00 +0000`, without quotes (RFC 3501, 9).
-pub fn imap_date(alloc: Global, at: u64) -> Result<Text, NoMemory>
-    requires { at ≤ LAST_MOMENT }
-    ensures { IfOk result (λ text. text ≡ spec.imap_date at) }
-{
-    let mut text = Text::new(alloc);
-    push_imap_date(alloc, &mut text, at)?;
-    Ok(text)
 }

@@ -14,4 +14,4 @@ mod lines;
 mod request;
 
 pub use lines::Lines;
-pub use request::{Coming, HeadRefused, MOST_BODY, MOST_FIELDS, MOST_HEAD, Request, read_once};
+pub use request::{Coming, HeadRefused, MOST_BODY, MOST_FIELDS, MOST_HEAD, Request};

@@ -138,10 +138,3 @@ fn read_head<'a>(text: &'a [u8]) -> Result<Announced<'a>, HeadRefused>
         }),
     }
 }
-
-/// What bytes are of which none was read before.
-pub fn read_once(bytes: &[u8]) -> Result<Option<Request<'_>>, HeadRefused>
-    ensures { Says bytes.now (seen result) }
-{
-    Coming::new().read(bytes)
-}

@@ -25,7 +25,8 @@ use Rattle.console_http.specs.Members.{at_most, body_at, box_at, each_of, file_a
 use Rattle.console_http.specs.Acts.{act_by, act_in, act_of, act_sized, alias_of, filter_of, give_of, remove_of, size_of, unalias_of, unfilter_of, word_of}
 use Rattle.console_http.specs.Cycles.{ask_of, cycle_in, cycle_of, drops_at, has_cycle_members, inserts_at, key_at, key_of, replace_of, replaces_at, try_in, try_of}
 use Rattle.console_http.proofs.Each.{Each, Anything, anything, each_then, each_map, each_weaker, each_if, each_when}
-use Rattle.console_http.proofs.Names.{name_is, name_named, box_named, local_named}
+use Rattle.undo_base.proofs.Names.{name_is}
+use Rattle.console_http.proofs.Names.{name_named, box_named, local_named}
 use Rattle.console_http.proofs.Sizes.{size, items_size, got_size, array_size, listed_size, value_size}
 
 -- ---- the parts

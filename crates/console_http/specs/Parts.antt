@@ -4,7 +4,7 @@ use Rattle.std.specs.List.{list_all, list_any}
 use Rattle.std.specs.Char.{is_ascii_digit, is_ascii_hexdigit, is_ascii_lowercase}
 use Rattle.std.specs.Str.{bytes_eq, str_to_ascii_lowercase}
 use Rattle.percent_encoding.specs.Percent.{percent_decode}
-use Rattle.undo_base.specs.Name.{is_printable}
+use Rattle.undo_base.specs.Name.{is_name}
 use Rattle.verb_core.specs.Names.{inbox}
 use Rattle.undo_base.specs.Digits.{number_between}
 
@@ -29,10 +29,6 @@ part_of raw = if not (list_any is_slash raw) && has_good_escapes raw then Some (
 -- a number of 32 bits
 abbrev pub number32 : List ℕ → Option ℕ
 number32 text = number_between 0 4294967295 text
-
--- 1 to 200 printable bytes
-abbrev pub is_name : List ℕ → Bool
-is_name text = nat_le 1 (length text) && nat_le (length text) 200 && list_all is_printable text
 
 abbrev pub name_of : List ℕ → Option (List ℕ)
 name_of text = if is_name text then Some text else None

@@ -10,7 +10,7 @@ use crate::acts::act_from;
 use crate::members::{
     body_at, has_members, list_at, number_at, one_at, read_value, text_at, whole_number,
 };
-use crate::parts::{made_name, read_name};
+use crate::parts::read_name;
 use serde_json::Value;
 use std::alloc::Global;
 use undo_base::{Name, NoMemory, Numbers, Text};
@@ -206,7 +206,7 @@ fn tried_from(alloc: Global, house: &House, value: &Value) -> Result<Option<Cycl
     if !has_cycle_members(value) {
         return Ok(None);
     }
-    let key = made_name(alloc, b"-")?;
+    let key = Name::of(alloc, b"-")?;
     read_ask(alloc, house, key, value)
 }
 

@@ -1,11 +1,11 @@
 //! The parts of paths, and names.
 ghost use Rattle.std.specs.Prelude.{◌≡◌, ◌≤◌, ◌==◌, length, IfOk, option_map, position};
 ghost use Rattle.std.specs.List.{list_all, list_any, position_or_len, before_first, after_first};
-ghost use Rattle.undo_base.specs.Name.{is_printable as printable};
+ghost use Rattle.undo_base.specs.Name.{is_name as name_text, is_printable as printable};
 ghost use Rattle.verb_core.specs.Recipients.{user_named};
 ghost use Rattle.verb_core.specs.Store.{is_house};
 ghost use Rattle.std.specs.Prelude.{IsTrue, bytes_eq};
-ghost use Rattle.console_http.specs.Parts.{begins_with_hex as begins_hex, has_good_escapes as good_escapes, is_slash, part_of, number32, is_name as name_text, name_of, kept, box_name, is_local_byte as local_byte, is_local as local_text, local_of};
+ghost use Rattle.console_http.specs.Parts.{begins_with_hex as begins_hex, has_good_escapes as good_escapes, is_slash, part_of, number32, name_of, kept, box_name, is_local_byte as local_byte, is_local as local_text, local_of};
 
 use percent_encoding::percent_decode;
 use std::alloc::Global;
@@ -110,16 +110,6 @@ fn is_name(text: &[u8]) -> bool
     1 <= text.len() && text.len() <= MOST_NAME && are_printable(text)
 }
 
-/// The name that is spelled.
-pub fn made_name(alloc: Global, text: &[u8]) -> Result<Name, NoMemory>
-    ensures { IfOk result (λ name. name ≡ text.now) }
-{
-    match Name::read(alloc, text) {
-        Ok(name) => Ok(name),
-        Err(_) => Err(NoMemory),
-    }
-}
-
 /// The name that the text spells, where it is one.
 pub fn read_name(alloc: Global, text: &[u8]) -> Result<Option<Name>, NoMemory>
     ensures { IfOk result (λ name. name ≡ name_of text.now) }
@@ -127,17 +117,18 @@ pub fn read_name(alloc: Global, text: &[u8]) -> Result<Option<Name>, NoMemory>
     if !is_name(text) {
         return Ok(None);
     }
-    Ok(Some(made_name(alloc, text)?))
+    Ok(Some(Name::of(alloc, text)?))
 }
 
 /// A name as it is kept: INBOX in any case is INBOX.
 fn kept_name(alloc: Global, text: &[u8]) -> Result<Name, NoMemory>
+    requires { name_text text.now ≡ true }
     ensures { IfOk result (λ name. name ≡ kept text.now) }
 {
     if text.eq_ignore_ascii_case(b"inbox") {
-        made_name(alloc, b"INBOX")
+        Name::of(alloc, b"INBOX")
     } else {
-        made_name(alloc, text)
+        Name::of(alloc, text)
     }
 }
 
@@ -174,13 +165,14 @@ fn is_local(text: &[u8]) -> bool
 }
 
 /// The local part of an alias.
+#[tactic(auto, using(crate::proofs::Names::local_name))]
 pub fn read_local(alloc: Global, text: &[u8]) -> Result<Option<Name>, NoMemory>
     ensures { IfOk result (λ name. name ≡ local_of text.now) }
 {
     if !is_local(text) {
         return Ok(None);
     }
-    Ok(Some(made_name(alloc, text)?))
+    Ok(Some(Name::of(alloc, text)?))
 }
 
 fn is_named(account: &Account, name: &[u8]) -> bool

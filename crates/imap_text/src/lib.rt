@@ -2,6 +2,7 @@
 //!
 //! `facts` has what is told, `write` the words of all answers, and `fetch`, `boxes` and `expunge` the answers.
 //! What carries the crate: each call's bytes are those of a definition over lists, written from RFC 3501, section 7.
+//! `date_text` is asked for by the interface; the program calls `render_fetch`, which writes the same dates.
 #![tactic(auto)]
 
 mod boxes;

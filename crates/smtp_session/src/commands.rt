@@ -9,7 +9,7 @@ ghost use Rattle.smtp_session.specs.Dialog.{begin, greet, has_recipient, receive
 
 use crate::answer::{Answer, SmtpOut, say};
 use crate::dialog::{Dialog, Transaction};
-use crate::recipients::{Recipients, lower};
+use crate::recipients::Recipients;
 use std::alloc::Global;
 use std::mem;
 use undo_base::{MOST_RECIPIENTS, Name, NoMemory, Text};
@@ -100,7 +100,7 @@ fn add_recipient(
     ensures ok { IfOk result (λ out. (out ≡ SmtpOut.Say (answer_text host.now Answer.Done)) × (to.new ≡ put_once (str_to_ascii_lowercase local.now) to.old)) }
     ensures err { OnErr result (to.new ≡ to.old) }
 {
-    let name = lower(alloc, local)?;
+    let name = local.lower(alloc)?;
     let out = say(alloc, host, Answer::Done)?;
     to.put(alloc, name)?;
     Ok(out)

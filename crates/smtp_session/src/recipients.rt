@@ -1,6 +1,5 @@
 //! The recipients of a transaction.
-ghost use Rattle.std.specs.Prelude.{◌≡◌, ◌≤◌, ◌*◌, ◌++◌, [], ◌∷◌, length, bytes_eq, OnOk, OnErr, IfOk};
-ghost use Rattle.std.specs.Str.{str_to_ascii_lowercase};
+ghost use Rattle.std.specs.Prelude.{◌≡◌, ◌≤◌, ◌*◌, ◌++◌, [], ◌∷◌, length, bytes_eq, OnOk, OnErr};
 ghost use Rattle.std.specs.List.{list_any};
 ghost use Rattle.std.specs.Ordering.{nat_cmp};
 ghost use Rattle.std.specs.Cmp.Lexicographic.{slice_cmp};
@@ -91,16 +90,5 @@ impl Recipients {
     {
         let Recipients { names, held: _ } = self;
         Names::from_vec(names)
-    }
-}
-
-/// A name in lower case.
-pub(crate) fn lower(alloc: Global, name: &Name) -> Result<Name, NoMemory>
-    ensures { IfOk result (λ lower. lower ≡ str_to_ascii_lowercase name.now) }
-{
-    let bytes = name.bytes().to_ascii_lowercase(alloc)?;
-    match Name::read(alloc, bytes.as_slice()) {
-        Ok(name) => Ok(name),
-        Err(_) => Err(NoMemory),
     }
 }

@@ -1,1 +1,2 @@
 mod FewDigits
+pub mod Names
