@@ -21,9 +21,10 @@ use Rattle.verb_core.specs.Store.{is_house}
 use Rattle.verb_bytes.specs.declared.journal.CycleAsk.{CycleAsk}
 use Rattle.verb_bytes.specs.declared.journal.JournalRecord.{JournalRecord}
 use Rattle.verb_bytes.specs.declared.journal.JournalRecord.TheVariants.{Format, Verb, Operator, Cycle, Snapshot}
-use Rattle.verb_bytes.specs.Fields.{Field, are_in_range, byte_field, name_field, only_if, u32_field, moment_field, actor_field}
+use Rattle.verb_bytes.specs.Fields.{Field, are_in_range, deed_kind, name_field}
 use Rattle.verb_bytes.specs.Fields as fields
-use Rattle.verb_bytes.specs.Spelling.{deed_fields, item_fields, shown_fields, shown_kind}
+use Rattle.verb_bytes.specs.Spelling.{deed_fields}
+use Rattle.verb_bytes.proofs.Forms.{deed_ranged, no_rev}
 use Rattle.store_kept.specs.Kept.{Kept, new_desk, passed, performed, snapshotted, store_of}
 use Rattle.paradox.specs.Letters.{notices}
 use Rattle.paradox.specs.declared.reports.BrokenItem.{BrokenItem}
@@ -80,42 +81,16 @@ name_ranged : (bytes : List ℕ) → are_in_range (name_field bytes) ≡ true �
 unfolding name_field are_in_range
 name_ranged bytes e = name_of_test bytes (first_so (fields.is_name bytes) true e)
 
-none_ranged : (b : Bool) → are_in_range (only_if b) ≡ true → b ≡ true
-unfolding only_if are_in_range
-none_ranged b e = first_so b true e
-
 names_ranged : (d : Deed) → are_in_range (deed_fields d) ≡ true → AllByRecursion IsName (names_made d)
-names_ranged (Create mailbox) e = (name_ranged mailbox (parts (byte_field 1 13 11) (name_field mailbox) e).1, tt)
-names_ranged (Rename mailbox target) e = (name_ranged target (parts (name_field mailbox) (name_field target) (parts (byte_field 1 13 12) (name_field mailbox ++ name_field target) e).1).1, tt)
-names_ranged (Deliver from to text) e = tt
-names_ranged (Append mailbox flags moment text) e = tt
-names_ranged (Fetch mailbox keys sets_seen shows_body) e = tt
-names_ranged (Store mailbox keys how flags) e = tt
-names_ranged (Copy mailbox keys target) e = tt
-names_ranged (Names pattern) e = tt
-names_ranged (Status mailbox) e = tt
-names_ranged (Select mailbox) e = tt
-names_ranged (Expunge mailbox keys) e = tt
-names_ranged (Close mailbox keys) e = tt
-names_ranged (Delete mailbox keys) e = tt
-names_ranged (Acts act) e = tt
-names_ranged (Notice u text) e = tt
-
--- the deed's fields, and those behind it
-behind_head : (i : Item) → is_spelled (Verb i) ≡ true → are_in_range (deed_fields i.deed ++ (shown_fields (shown_kind i.deed) i.shown ++ only_if (i.rev == 0))) ≡ true
-behind_head i e =
-    (parts (actor_field i.by) (deed_fields i.deed ++ (shown_fields (shown_kind i.deed) i.shown ++ only_if (i.rev == 0)))
-    (parts (moment_field i.at) (actor_field i.by ++ (deed_fields i.deed ++ (shown_fields (shown_kind i.deed) i.shown ++ only_if (i.rev == 0))))
-    (parts (u32_field i.number) (moment_field i.at ++ (actor_field i.by ++ (deed_fields i.deed ++ (shown_fields (shown_kind i.deed) i.shown ++ only_if (i.rev == 0)))))
-    (parts (byte_field 0 4 1) (item_fields i) e).1).1).1).1
+names_ranged (Create mailbox) e = (name_ranged mailbox (parts (deed_kind 11) (name_field mailbox) e).1, tt)
+names_ranged (Rename mailbox target) e = (name_ranged target (parts (name_field mailbox) (name_field target) (parts (deed_kind 12) (name_field mailbox ++ name_field target) e).1).1, tt)
+names_ranged _ e = tt
 
 spelled_names : (i : Item) → is_spelled (Verb i) ≡ true → MakesNames i
-spelled_names i e = names_ranged i.deed (parts (deed_fields i.deed) (shown_fields (shown_kind i.deed) i.shown ++ only_if (i.rev == 0)) (behind_head i e)).0
+spelled_names i e = names_ranged i.deed (deed_ranged i e)
 
 spelled_rev : (i : Item) → is_spelled (Verb i) ≡ true → i.rev ≡ 0
-spelled_rev i e =
-    eqb-true i.rev 0 (none_ranged (i.rev == 0)
-    (parts (shown_fields (shown_kind i.deed) i.shown) (only_if (i.rev == 0)) (parts (deed_fields i.deed) (shown_fields (shown_kind i.deed) i.shown ++ only_if (i.rev == 0)) (behind_head i e)).1).1)
+spelled_rev i e = no_rev i e
 
 -- what is known of an item that can follow
 record Follows (k : Kept) (i : Item) : Type 0 where

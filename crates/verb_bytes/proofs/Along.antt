@@ -5,7 +5,7 @@ use Rattle.std.specs.List.{flat_map}
 use Rattle.std.specs.Option.{option_to_list}
 use Rattle.std.proofs.lemmas.List.{append-nil, drop_all}
 use Rattle.verb_bytes.specs.declared.places.TextPlace.{TextPlace}
-use Rattle.verb_bytes.specs.Fields.{Field, name_field}
+use Rattle.verb_bytes.specs.Fields.{Field, most_of_four, name_field}
 use Rattle.verb_bytes.specs.Places.{places_along, size_of}
 use Rattle.verb_bytes.proofs.Sizes.{size_both, size_name, size_none}
 
@@ -38,17 +38,17 @@ walks_all F P xs i start old at now le w =
 -- ---- names
 
 abbrev pub Counts : List (List ℕ) → ℕ → List (List ℕ) → Type 0
-Counts names size rest = (size ≤ 4294967295) × (min (size + size_of (flat_map name_field rest)) 4294967295 ≡ min (size_of (flat_map name_field names)) 4294967295)
+Counts names size rest = (size ≤ most_of_four) × (min (size + size_of (flat_map name_field rest)) most_of_four ≡ min (size_of (flat_map name_field names)) most_of_four)
 
-counts_step : (names : List (List ℕ)) (size next : ℕ) (x : List ℕ) (rest : List (List ℕ)) → next ≡ min (size + (1 + length x)) 4294967295 → Counts names size (x ∷ rest) → Counts names next rest
+counts_step : (names : List (List ℕ)) (size next : ℕ) (x : List ℕ) (rest : List (List ℕ)) → next ≡ min (size + (1 + length x)) most_of_four → Counts names size (x ∷ rest) → Counts names next rest
 counts_step names size next x rest e w = (omega (arith, e), omega (arith, e, w.1, size_both (name_field x) (flat_map name_field rest), size_name x))
 
-pub counts_next : (names : List (List ℕ)) (i size next : ℕ) (x : List ℕ) → i < length names → x ≡ get_or names i x → next ≡ min (size + (1 + length x)) 4294967295 → Counts names size (drop i names) → Counts names next (drop (i + 1) names)
+pub counts_next : (names : List (List ℕ)) (i size next : ℕ) (x : List ℕ) → i < length names → x ≡ get_or names i x → next ≡ min (size + (1 + length x)) most_of_four → Counts names size (drop i names) → Counts names next (drop (i + 1) names)
 counts_next names i size next x lt is e w =
     let split : drop i names ≡ x ∷ drop (i + 1) names = rest_is names i x lt ∙ ap (λ (y : List ℕ). y ∷ drop (i + 1) names) (sym is) in
     counts_step names size next x (drop (i + 1) names) e (subst (Counts names size) split w)
 
-pub counts_all : (names : List (List ℕ)) (i size : ℕ) → length names ≤ i → Counts names size (drop i names) → size ≡ min (size_of (flat_map name_field names)) 4294967295
+pub counts_all : (names : List (List ℕ)) (i size : ℕ) → length names ≤ i → Counts names size (drop i names) → size ≡ min (size_of (flat_map name_field names)) most_of_four
 counts_all names i size le w =
     let done = subst (Counts names size) (drop_all i names le) w in
     omega (arith, done.0, done.1, size_none)

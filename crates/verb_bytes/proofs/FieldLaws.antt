@@ -9,6 +9,7 @@ use Rattle.std.proofs.lemmas.Nat.{be_bytes_2, be_bytes_4, be_bytes_8, from_be_by
 use Rattle.undo_base.specs.declared.keys.User.{User}
 use Rattle.undo_base.specs.declared.keys.Key.{Key}
 use Rattle.verb_bytes.specs.Fields.{Field, bytes_of, are_in_range, ◌&◌, byte_field, number_field, is_name, name_field, text_field, key_field, option_fields, actor_field}
+use Rattle.verb_bytes.specs.declared.write.TheConstants.{LAST_USER, NOBODY}
 use Rattle.verb_bytes.specs.Decoding.{IsBytes}
 use Rattle.verb_bytes.specs.Readers.{Reader, field_or, cut, when, find_byte, find_number, find_name, find_text, find_key, actor_of, find_actor, byte_at, number_at, name_at, text_at, key_at, actor_at, done, read1, nth_case, choice_at, option_at, user_of}
 use Rattle.verb_bytes.proofs.Exact.{Takes, Again, Only, Exact, again_step, again1, again_done, only_step, only1, only_done, EachCase, only_case, case_shrinks, only_field, again_field, and_true}
@@ -300,26 +301,26 @@ actor_reads : (a : Option User) (rest : List ℕ) → are_in_range (actor_field 
 unfolding actor_at byte_field bytes_of are_in_range
 actor_reads None rest fits = refl
 actor_reads (Some u) rest fits =
-    let h = byte_bounds 0 199 u.0 fits in
-    let other : (u.0 == 255) ≡ false = differs u.0 255 (omega arith) in
-    let small : nat_le u.0 199 ≡ true = le-leb _ _ h.1 in
+    let h = byte_bounds 0 LAST_USER u.0 fits in
+    let other : (u.0 == NOBODY) ≡ false = differs u.0 NOBODY (omega arith) in
+    let small : nat_le u.0 LAST_USER ≡ true = le-leb _ _ h.1 in
     rw (other, small) refl
 
-actor_found : (n : ℕ) (a : Option User) (t : Bool) → (n == 255) ≡ t → cond t (Some None) (when (nat_le n 199) (some (user_of n))) ≡ Some a → (are_in_range (actor_field a) ≡ true) × (bytes_of (actor_field a) ≡ n ∷ [])
+actor_found : (n : ℕ) (a : Option User) (t : Bool) → (n == NOBODY) ≡ t → cond t (Some None) (when (nat_le n LAST_USER) (some (user_of n))) ≡ Some a → (are_in_range (actor_field a) ≡ true) × (bytes_of (actor_field a) ≡ n ∷ [])
 unfolding byte_field bytes_of are_in_range
 actor_found n a true e found =
-    let same : n ≡ 255 = eqb-true _ _ e in
+    let same : n ≡ NOBODY = eqb-true _ _ e in
     subst (λ (b : Option User). (are_in_range (actor_field b) ≡ true) × (bytes_of (actor_field b) ≡ n ∷ [])) (some_is None a found) (refl, ap (λ (k : ℕ). k ∷ []) (sym same))
 actor_found n a false e found =
-    let h = when_some (nat_le n 199) (Some (user_of n)) a found in
-    subst (λ (b : Option User). (are_in_range (actor_field b) ≡ true) × (bytes_of (actor_field b) ≡ n ∷ [])) h.1 (and_from _ _ (and_from (nat_le 0 n) (nat_le n 199) (le-leb 0 n (omega arith)) h.0) refl, refl)
+    let h = when_some (nat_le n LAST_USER) (Some (user_of n)) a found in
+    subst (λ (b : Option User). (are_in_range (actor_field b) ≡ true) × (bytes_of (actor_field b) ≡ n ∷ [])) h.1 (and_from _ _ (and_from (nat_le 0 n) (nat_le n LAST_USER) (le-leb 0 n (omega arith)) h.0) refl, refl)
 
 actor_takes : (bytes rest : List ℕ) (x : Option User) → IsBytes bytes → actor_at bytes ≡ Ok (x, rest) → (fs : List Field) × Takes bytes fs rest × (fs ≡ actor_field x)
 unfolding actor_at byte_field bytes_of are_in_range
 actor_takes [] rest x fits e = absurd cc
 actor_takes (n ∷ more) rest x fits e =
     option_and_then_some (λ (a : Option User). Some (a, more)) (actor_of n) (x, rest) (found_ok _ _ (x, rest) e) (λ a e1 e2.
-    let h = actor_found n a (n == 255) refl e1 in
+    let h = actor_found n a (n == NOBODY) refl e1 in
     subst (λ (y : Option User × List ℕ). (fs : List Field) × Takes (n ∷ more) fs y.1 × (fs ≡ actor_field y.0)) (some_is (a, more) (x, rest) e2) (actor_field a, record { parts = ap (λ (y : List ℕ). y ++ more) (sym h.1); fits = h.0; rest_fits = IsBytes-rest n more fits }, refl))
 
 actor_only : Only actor_at (λ x fs. fs ≡ actor_field x)
@@ -328,8 +329,8 @@ actor_only = only_field find_actor (λ x fs. fs ≡ actor_field x) actor_takes (
 
 actor_again : (a : Option User) → Again actor_at a (actor_field a)
 unfolding byte_field
-actor_again None = again_field None (record { bytes = 255 ∷ []; in_range = nat_le 255 255 && nat_le 255 255 }) actor_only.shrinks (actor_reads None)
-actor_again (Some u) = again_field (Some u) (record { bytes = u.0 ∷ []; in_range = nat_le 0 u.0 && nat_le u.0 199 }) actor_only.shrinks (actor_reads (Some u))
+actor_again None = again_field None (record { bytes = NOBODY ∷ []; in_range = nat_le NOBODY NOBODY && nat_le NOBODY NOBODY }) actor_only.shrinks (actor_reads None)
+actor_again (Some u) = again_field (Some u) (record { bytes = u.0 ∷ []; in_range = nat_le 0 u.0 && nat_le u.0 LAST_USER }) actor_only.shrinks (actor_reads (Some u))
 
 pub actor_exact : Exact actor_at actor_field
 actor_exact = record { again = actor_again; only = actor_only }

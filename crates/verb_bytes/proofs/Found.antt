@@ -12,7 +12,7 @@ use Rattle.verb_core.specs.Items.{text_in}
 use Rattle.verb_bytes.specs.declared.journal.CycleAsk.{CycleAsk}
 use Rattle.verb_bytes.specs.declared.journal.JournalRecord.TheVariants.{Verb, Operator, Cycle}
 use Rattle.verb_bytes.specs.declared.places.TextPlace.{TextPlace}
-use Rattle.verb_bytes.specs.Fields.{◌&◌, number_field, name_field, u32_field, any_list_fields}
+use Rattle.verb_bytes.specs.Fields.{◌&◌, number_field, name_field, u32_field, any_list_fields, most_of_four}
 use Rattle.verb_bytes.specs.Places.{act_place, before_ask, first_from, given_places, given_texts, placed, places_along, replace_place, replaced_places, replaced_texts, size_of, text_places_of, IsTextAt, LiesThere}
 use Rattle.verb_bytes.specs.Spelling.{HasSpelling, act_fields, record_bytes, replace_fields}
 use Rattle.verb_bytes.proofs.Sizes.{before_ask_is, size_both, size_numbers, size_u32}
@@ -33,7 +33,7 @@ one_place_is bytes (Some p) None h = absurd h
 one_place_is bytes (Some p) (Some x) h = ap (λ (n : ℕ). record { from = p.from; length = n } ∷ []) h.0.length_is
 
 -- a number that four bytes can say is the place itself
-pub item_text_lies : (i : Item) (from : ℕ) (text : List ℕ) → from ≡ min (first_from (text_places_of (Verb i))) 4294967295 → HasSpelling (Verb i) → length (record_bytes (Verb i)) ≤ 4294967295 → text_in i.deed ≡ Some text → IsTextAt (record_bytes (Verb i)) from text
+pub item_text_lies : (i : Item) (from : ℕ) (text : List ℕ) → from ≡ min (first_from (text_places_of (Verb i))) most_of_four → HasSpelling (Verb i) → length (record_bytes (Verb i)) ≤ most_of_four → text_in i.deed ≡ Some text → IsTextAt (record_bytes (Verb i)) from text
 item_text_lies i from text is fits short e =
     let lies : IsTextAt (record_bytes (Verb i)) (first_from (text_places_of (Verb i))) text = first_lies (record_bytes (Verb i)) _ (text_in i.deed) text (verb_lies i fits) e in
     subst (λ (n : ℕ). IsTextAt (record_bytes (Verb i)) n text) (omega (arith, lies.within, short, is)) lies
@@ -42,7 +42,7 @@ pub act_text_lies : (number at : ℕ) (a : Act) (from : ℕ) (text : List ℕ) �
 act_text_lies number at a from text is e =
     subst (λ (n : ℕ). IsTextAt (record_bytes (Operator number at a)) n text) (sym is) (first_lies (record_bytes (Operator number at a)) _ (text_in (Acts a)) text (operator_lies number at a) e)
 
-pub item_place_found : (i : Item) (from : ℕ) (places : List TextPlace) → from ≡ min (first_from (text_places_of (Verb i))) 4294967295 → from < 4294967295 → HasSpelling (Verb i) → places ≡ option_to_list (option_map (placed from) (text_in i.deed)) → places ≡ text_places_of (Verb i)
+pub item_place_found : (i : Item) (from : ℕ) (places : List TextPlace) → from ≡ min (first_from (text_places_of (Verb i))) most_of_four → from < most_of_four → HasSpelling (Verb i) → places ≡ option_to_list (option_map (placed from) (text_in i.deed)) → places ≡ text_places_of (Verb i)
 item_place_found i from places is small fits e =
     let same : from ≡ first_from (text_places_of (Verb i)) = omega (arith, is, small) in
     e ∙ ap (λ (n : ℕ). option_to_list (option_map (placed n) (text_in i.deed))) same ∙ sym (one_place_is (record_bytes (Verb i)) _ (text_in i.deed) (verb_lies i fits))
@@ -69,34 +69,34 @@ counted ask a b n first behind_replaces second rs acts none replaced all e1 e2 e
   all_is = e11 ∙ ap (λ (ys : List Act). replaced ++ places_along act_fields act_place second ys) e10;
 }
 
-front_size : (key : List ℕ) (point : ℕ) (drops : List ℕ) (n : ℕ) → size_of (name_field key & u32_field point & any_list_fields u32_field drops & number_field w32 4294967295 n) ≡ size_of (name_field key) + 12 + 4 * length drops
+front_size : (key : List ℕ) (point : ℕ) (drops : List ℕ) (n : ℕ) → size_of (name_field key & u32_field point & any_list_fields u32_field drops & number_field w32 most_of_four n) ≡ size_of (name_field key) + 12 + 4 * length drops
 front_size key point drops n =
     omega (
       arith,
-      size_both (name_field key) (u32_field point & any_list_fields u32_field drops & number_field w32 4294967295 n),
-      size_both (u32_field point) (any_list_fields u32_field drops & number_field w32 4294967295 n),
-      size_both (any_list_fields u32_field drops) (number_field w32 4294967295 n),
-      size_both (number_field w32 4294967295 (length drops)) (flat_map u32_field drops),
-      size_u32 4294967295 point,
-      size_u32 4294967295 (length drops),
-      size_u32 4294967295 n,
+      size_both (name_field key) (u32_field point & any_list_fields u32_field drops & number_field w32 most_of_four n),
+      size_both (u32_field point) (any_list_fields u32_field drops & number_field w32 most_of_four n),
+      size_both (any_list_fields u32_field drops) (number_field w32 most_of_four n),
+      size_both (number_field w32 most_of_four (length drops)) (flat_map u32_field drops),
+      size_u32 most_of_four point,
+      size_u32 most_of_four (length drops),
+      size_u32 most_of_four n,
       size_numbers drops,
     )
 
-fronts_size : (key : List ℕ) (point : ℕ) (drops : List ℕ) (rs : List (ℕ × List ℕ)) (n : ℕ) → size_of (name_field key & u32_field point & any_list_fields u32_field drops & any_list_fields replace_fields rs & number_field w32 4294967295 n) ≡ size_of (name_field key) + 12 + 4 * length drops + size_of (flat_map replace_fields rs) + 4
+fronts_size : (key : List ℕ) (point : ℕ) (drops : List ℕ) (rs : List (ℕ × List ℕ)) (n : ℕ) → size_of (name_field key & u32_field point & any_list_fields u32_field drops & any_list_fields replace_fields rs & number_field w32 most_of_four n) ≡ size_of (name_field key) + 12 + 4 * length drops + size_of (flat_map replace_fields rs) + 4
 fronts_size key point drops rs n =
     omega (
       arith,
-      size_both (name_field key) (u32_field point & any_list_fields u32_field drops & any_list_fields replace_fields rs & number_field w32 4294967295 n),
-      size_both (u32_field point) (any_list_fields u32_field drops & any_list_fields replace_fields rs & number_field w32 4294967295 n),
-      size_both (any_list_fields u32_field drops) (any_list_fields replace_fields rs & number_field w32 4294967295 n),
-      size_both (number_field w32 4294967295 (length drops)) (flat_map u32_field drops),
-      size_both (any_list_fields replace_fields rs) (number_field w32 4294967295 n),
-      size_both (number_field w32 4294967295 (length rs)) (flat_map replace_fields rs),
-      size_u32 4294967295 point,
-      size_u32 4294967295 (length drops),
-      size_u32 4294967295 (length rs),
-      size_u32 4294967295 n,
+      size_both (name_field key) (u32_field point & any_list_fields u32_field drops & any_list_fields replace_fields rs & number_field w32 most_of_four n),
+      size_both (u32_field point) (any_list_fields u32_field drops & any_list_fields replace_fields rs & number_field w32 most_of_four n),
+      size_both (any_list_fields u32_field drops) (any_list_fields replace_fields rs & number_field w32 most_of_four n),
+      size_both (number_field w32 most_of_four (length drops)) (flat_map u32_field drops),
+      size_both (any_list_fields replace_fields rs) (number_field w32 most_of_four n),
+      size_both (number_field w32 most_of_four (length rs)) (flat_map replace_fields rs),
+      size_u32 most_of_four point,
+      size_u32 most_of_four (length drops),
+      size_u32 most_of_four (length rs),
+      size_u32 most_of_four n,
       size_numbers drops,
     )
 

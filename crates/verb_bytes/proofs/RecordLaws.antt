@@ -8,6 +8,7 @@ use Rattle.undo_base.specs.declared.keys.User.{User}
 use Rattle.undo_base.specs.declared.keys.Flags.{Flags}
 use Rattle.undo_base.specs.declared.asks.How.{How}
 use Rattle.undo_base.specs.declared.asks.How.TheVariants.{Replace, Add, Take}
+use Rattle.undo_base.specs.declared.limits.TheConstants.{LAST_MOMENT, MOST_KEYS, MOST_RECIPIENTS, MOST_USERS}
 use Rattle.verb_core.specs.declared.conf.Filter.{Filter}
 use Rattle.verb_core.specs.declared.conf.House.{House}
 use Rattle.verb_core.specs.declared.conf.Conf.{Conf}
@@ -21,10 +22,12 @@ use Rattle.verb_core.specs.declared.item.Deed.TheVariants.{Deliver, Append, Fetc
 use Rattle.verb_core.specs.declared.item.Shown.{Shown}
 use Rattle.verb_core.specs.declared.item.Shown.TheVariants.{Nothing, Seen, Names as Named, Count, Done, Copied, Put, Left, Way as Went, Moved}
 use Rattle.verb_core.specs.Names.{is_empty}
+use Rattle.verb_bytes.specs.declared.kinds.TheConstants.{LAST_RECORD, LAST_ACT, LAST_DEED, LAST_SHOWN}
+use Rattle.verb_bytes.specs.declared.write.TheConstants.{ALL_FLAGS, LAST_USER, MOST_BODY}
 use Rattle.verb_bytes.specs.declared.journal.JournalRecord.{JournalRecord}
 use Rattle.verb_bytes.specs.declared.journal.JournalRecord.TheVariants.{Format, Verb, Operator, Cycle, Snapshot}
-use Rattle.verb_bytes.specs.Fields.{Field, bytes_of, are_in_range, ◌&◌, only_if, byte_field, name_field, list_fields, bool_field, flags_field, flags_code, u32_field, u64_field, moment_field, any_text_field, body_field, user_field, any_list_fields}
-use Rattle.verb_bytes.specs.Spelling.{key_list, account_fields, alias_fields, aliases_fields, filter_fields, entry_fields, row_fields, how_field, deed_fields, sight_fields, way_field, shown_kind, shown_fields, item_fields, act_fields, replace_fields, ask_fields, house_fields, record_fields}
+use Rattle.verb_bytes.specs.Fields.{Field, bytes_of, are_in_range, ◌&◌, only_if, byte_field, name_field, list_fields, bool_field, flags_field, flags_code, u32_field, u64_field, moment_field, any_text_field, body_field, user_field, any_list_fields, most_of_four, most_of_eight, record_kind, act_kind, deed_kind}
+use Rattle.verb_bytes.specs.Spelling.{key_list, account_fields, alias_fields, aliases_fields, filter_fields, entry_fields, row_fields, how_field, deed_fields, deed_fields_within, sight_fields, way_field, shown_kind, shown_fields, shown_fields_within, item_fields, act_fields, replace_fields, ask_fields, house_fields, record_fields}
 use Rattle.verb_bytes.specs.Readers.{Reader, ◌>>=◌, done, read1, read2, read3, read4, read5, list_at, nth_case, byte_at, bool_at, name_at, actor_at, u32_at, moment_at, flags_of, flags_at, user_of, user_at}
 use Rattle.verb_bytes.specs.Reading.{any_list_at, any_text_at, body_at, u64_at, keys_at, account_of, account_at, alias_of, alias_at, aliases_at, filter_of, filter_at, entry_of, entry_at, row_of, row_at, how_at, deed_cases, deed_at, sight_of, sight_at, way_at, shown_cases, shown_at, item_of, item_at, act_cases, act_at, replace_of, replace_at, ask_of, cycle_ask_at, format_of, format_at, snapshot_of, record_cases, record_at}
 use Rattle.verb_bytes.proofs.Exact.{Takes, Shrinks, Again, Only, Exact, and_true, no_front, ok_is, shrinks_done, shrinks_step, shrinks1, shrinks2, shrinks3, shrinks4, shrinks5, again_step, again_done, only_step, only_done, again1, only1, again2, only2, again3, only3, again4, only4, again5, only5, again6, only6, list_exact, EachCase, only_case, case_shrinks}
@@ -33,28 +36,28 @@ use Rattle.verb_bytes.proofs.FieldLaws.{Chosen, again_case, byte_exact, byte_bou
 -- ---- numbers, texts and lists of a range
 
 u32_exact : Exact u32_at u32_field
-u32_exact = number_exact w32 4294967296 4294967295 wide32 (lit< tt)
+u32_exact = number_exact w32 4294967296 most_of_four wide32 (lit< tt)
 
 u64_exact : Exact u64_at u64_field
-u64_exact = number_exact w64 18446744073709551616 18446744073709551615 wide64 (lit< tt)
+u64_exact = number_exact w64 18446744073709551616 most_of_eight wide64 (lit< tt)
 
 moment_exact : Exact moment_at moment_field
-moment_exact = number_exact w64 18446744073709551616 253402300799 wide64 (lit< tt)
+moment_exact = number_exact w64 18446744073709551616 LAST_MOMENT wide64 (lit< tt)
 
 any_text_exact : Exact any_text_at any_text_field
-any_text_exact = text_exact 4294967295 (lit< tt)
+any_text_exact = text_exact most_of_four (lit< tt)
 
 body_exact : Exact body_at body_field
-body_exact = text_exact 1052672 (lit< tt)
+body_exact = text_exact MOST_BODY (lit< tt)
 
 counted : {A : Type 0} {f : Reader A} {F : A → List Field} (most : ℕ) → most < 4294967296 → Exact f F → Exact (list_at most f) (list_fields most F)
 counted most lt e = list_exact (number_exact w32 4294967296 most wide32 lt) e
 
 any_counted : {A : Type 0} {f : Reader A} {F : A → List Field} → Exact f F → Exact (any_list_at f) (any_list_fields F)
-any_counted e = counted 4294967295 (lit< tt) e
+any_counted e = counted most_of_four (lit< tt) e
 
 keys_exact : Exact keys_at key_list
-keys_exact = counted 65536 (lit< tt) key_exact
+keys_exact = counted MOST_KEYS (lit< tt) key_exact
 
 -- ---- small choices
 
@@ -140,20 +143,20 @@ below_is test (suc k) n h lt =
       | inr le ↦ let e : k ≡ n = omega arith in subst (λ (m : ℕ). test m ≡ true) e p.0
     ]
 
-code_again : (n : ℕ) → n ≤ 31 → flags_code (flags_of n) ≡ n
+code_again : (n : ℕ) → n ≤ ALL_FLAGS → flags_code (flags_of n) ≡ n
 unfolding all_below
 code_again n le = eqb-true _ _ (below_is (λ m. flags_code (flags_of m) == m) 32 n refl (omega arith))
 
-five_bits : Exact (byte_at 0 31) (byte_field 0 31)
-five_bits = byte_exact 0 31 (omega arith)
+five_bits : Exact (byte_at 0 ALL_FLAGS) (byte_field 0 ALL_FLAGS)
+five_bits = byte_exact 0 ALL_FLAGS (omega arith)
 
-one_of_users : Exact (byte_at 0 199) (byte_field 0 199)
-one_of_users = byte_exact 0 199 (omega arith)
+one_of_users : Exact (byte_at 0 LAST_USER) (byte_field 0 LAST_USER)
+one_of_users = byte_exact 0 LAST_USER (omega arith)
 
 flags_exact : Exact flags_at flags_field
 flags_exact = record {
   again = λ f. subst (λ (g : Flags). Again flags_at g (flags_field f)) (five f.answered f.flagged f.deleted f.seen f.draft) (again1 five_bits flags_of (flags_code f));
-  only = only_step five_bits (λ n. done (flags_of n)) (λ f fs. fs ≡ flags_field f) (λ n fits. only_done (flags_of n) (λ f fs. byte_field 0 31 n & fs ≡ flags_field f) (append-nil (byte_field 0 31 n) ∙ ap (byte_field 0 31) (sym (code_again n (byte_bounds 0 31 n fits).1))));
+  only = only_step five_bits (λ n. done (flags_of n)) (λ f fs. fs ≡ flags_field f) (λ n fits. only_done (flags_of n) (λ f fs. byte_field 0 ALL_FLAGS n & fs ≡ flags_field f) (append-nil (byte_field 0 ALL_FLAGS n) ∙ ap (byte_field 0 ALL_FLAGS) (sym (code_again n (byte_bounds 0 ALL_FLAGS n fits).1))));
 }
 
 user_exact : Exact user_at user_field
@@ -191,11 +194,11 @@ never : {C : Type 0} (reader : Reader C) (x : C) → Again reader x (only_if fal
 unfolding only_if are_in_range
 never reader x = record { reads = λ rest fits. absurd cc; passes = λ front back bytes rest fit fits cut begins. absurd cc }
 
-deed_each : EachCase 1 deed_cases (Chosen 1 13 deed_fields)
-deed_each = (
-  only3 any_text_exact (counted 1000 (lit< tt) name_exact) body_exact Deliver _ (λ a b c. refl),
+deed_each : (most : ℕ) → most < 4294967296 → EachCase 1 (deed_cases most) (Chosen 1 LAST_DEED (deed_fields_within most))
+deed_each most lt = (
+  only3 any_text_exact (counted MOST_RECIPIENTS (lit< tt) name_exact) (text_exact most lt) Deliver _ (λ a b c. refl),
   (
-    only4 name_exact flags_exact moment_exact body_exact Append _ (λ a b c d. refl),
+    only4 name_exact flags_exact moment_exact (text_exact most lt) Append _ (λ a b c d. refl),
     (
       only4 name_exact keys_exact bool_exact bool_exact Fetch _ (λ a b c d. refl),
       (
@@ -233,56 +236,56 @@ deed_each = (
   ),
 )
 
-deed_case : (n : ℕ) (x : Deed) (fs : List Field) → Again (nth_case (n - 1) deed_cases) x fs → Again deed_at x (byte_field 1 13 n & fs)
-deed_case n x fs h = again_case 1 13 (omega arith) deed_cases (Chosen 1 13 deed_fields) deed_each n x fs h
+deed_case : (most : ℕ) → most < 4294967296 → (n : ℕ) (x : Deed) (fs : List Field) → Again (nth_case (n - 1) (deed_cases most)) x fs → Again (deed_at most) x (deed_kind n & fs)
+deed_case most lt n x fs h = again_case 1 LAST_DEED (omega arith) (deed_cases most) (Chosen 1 LAST_DEED (deed_fields_within most)) (deed_each most lt) n x fs h
 
-deed_again : (x : Deed) → Again deed_at x (deed_fields x)
-deed_again (Deliver a b c) = deed_case 1 (Deliver a b c) _ (again3 any_text_exact (counted 1000 (lit< tt) name_exact) body_exact Deliver a b c)
-deed_again (Append a b c d) = deed_case 2 (Append a b c d) _ (again4 name_exact flags_exact moment_exact body_exact Append a b c d)
-deed_again (Fetch a b c d) = deed_case 3 (Fetch a b c d) _ (again4 name_exact keys_exact bool_exact bool_exact Fetch a b c d)
-deed_again (Store a b c d) = deed_case 4 (Store a b c d) _ (again4 name_exact keys_exact how_exact flags_exact Store a b c d)
-deed_again (Copy a b c) = deed_case 5 (Copy a b c) _ (again3 name_exact keys_exact name_exact Copy a b c)
-deed_again (Names a) = deed_case 6 (Names a) _ (again1 any_text_exact Names a)
-deed_again (Status a) = deed_case 7 (Status a) _ (again1 name_exact Status a)
-deed_again (Select a) = deed_case 8 (Select a) _ (again1 name_exact Select a)
-deed_again (Expunge a b) = deed_case 9 (Expunge a b) _ (again2 name_exact keys_exact Expunge a b)
-deed_again (Close a b) = deed_case 10 (Close a b) _ (again2 name_exact keys_exact Close a b)
-deed_again (Create a) = deed_case 11 (Create a) _ (again1 name_exact Create a)
-deed_again (Rename a b) = deed_case 12 (Rename a b) _ (again2 name_exact name_exact Rename a b)
-deed_again (Delete a b) = deed_case 13 (Delete a b) _ (again2 name_exact keys_exact Delete a b)
-deed_again (Acts a) = never deed_at (Acts a)
-deed_again (Notice a b) = never deed_at (Notice a b)
+deed_again : (most : ℕ) → most < 4294967296 → (x : Deed) → Again (deed_at most) x (deed_fields_within most x)
+deed_again most lt (Deliver a b c) = deed_case most lt 1 (Deliver a b c) _ (again3 any_text_exact (counted MOST_RECIPIENTS (lit< tt) name_exact) (text_exact most lt) Deliver a b c)
+deed_again most lt (Append a b c d) = deed_case most lt 2 (Append a b c d) _ (again4 name_exact flags_exact moment_exact (text_exact most lt) Append a b c d)
+deed_again most lt (Fetch a b c d) = deed_case most lt 3 (Fetch a b c d) _ (again4 name_exact keys_exact bool_exact bool_exact Fetch a b c d)
+deed_again most lt (Store a b c d) = deed_case most lt 4 (Store a b c d) _ (again4 name_exact keys_exact how_exact flags_exact Store a b c d)
+deed_again most lt (Copy a b c) = deed_case most lt 5 (Copy a b c) _ (again3 name_exact keys_exact name_exact Copy a b c)
+deed_again most lt (Names a) = deed_case most lt 6 (Names a) _ (again1 any_text_exact Names a)
+deed_again most lt (Status a) = deed_case most lt 7 (Status a) _ (again1 name_exact Status a)
+deed_again most lt (Select a) = deed_case most lt 8 (Select a) _ (again1 name_exact Select a)
+deed_again most lt (Expunge a b) = deed_case most lt 9 (Expunge a b) _ (again2 name_exact keys_exact Expunge a b)
+deed_again most lt (Close a b) = deed_case most lt 10 (Close a b) _ (again2 name_exact keys_exact Close a b)
+deed_again most lt (Create a) = deed_case most lt 11 (Create a) _ (again1 name_exact Create a)
+deed_again most lt (Rename a b) = deed_case most lt 12 (Rename a b) _ (again2 name_exact name_exact Rename a b)
+deed_again most lt (Delete a b) = deed_case most lt 13 (Delete a b) _ (again2 name_exact keys_exact Delete a b)
+deed_again most lt (Acts a) = never (deed_at most) (Acts a)
+deed_again most lt (Notice a b) = never (deed_at most) (Notice a b)
 
-deed_exact : Exact deed_at deed_fields
-deed_exact = choice_exact 1 13 (omega arith) deed_cases refl deed_fields deed_again deed_each
+deed_exact : (most : ℕ) → most < 4294967296 → Exact (deed_at most) (deed_fields_within most)
+deed_exact most lt = choice_exact 1 LAST_DEED (omega arith) (deed_cases most) refl (deed_fields_within most) (deed_again most lt) (deed_each most lt)
 
 -- ---- what was shown
 
 -- what reads the shown of this kind
-abbrev OfKind : ℕ → ℕ → Shown → List Field → Type 0
-OfKind kind n x fs = byte_field kind kind n & fs ≡ shown_fields kind x
+abbrev OfKind : ℕ → ℕ → ℕ → Shown → List Field → Type 0
+OfKind most kind n x fs = byte_field kind kind n & fs ≡ shown_fields_within most kind x
 
-shown_each : (kind : ℕ) → EachCase 0 shown_cases (OfKind kind)
-shown_each kind = (
+shown_each : (most : ℕ) → most < 4294967296 → (kind : ℕ) → EachCase 0 (shown_cases most) (OfKind most kind)
+shown_each most lt kind = (
   only_done Nothing _ (append-nil (byte_field kind kind 0)),
   (
-    only1 (counted 65536 (lit< tt) sight_exact) Seen _ (λ a. refl),
+    only1 (counted most lt sight_exact) Seen _ (λ a. refl),
     (
       only1 (any_counted name_exact) Named _ (λ a. refl),
       (
         only1 (option_exact u32_exact) Count _ (λ a. refl),
         (
-          only1 keys_exact Done _ (λ a. refl),
+          only1 (counted most lt key_exact) Done _ (λ a. refl),
           (
-            only2 keys_exact bool_exact Copied _ (λ a b. refl),
+            only2 (counted most lt key_exact) bool_exact Copied _ (λ a b. refl),
             (
               only1 bool_exact Put _ (λ a. refl),
               (
-                only1 keys_exact Left _ (λ a. refl),
+                only1 (counted most lt key_exact) Left _ (λ a. refl),
                 (
                   only1 way_exact Went _ (λ a. refl),
                   (
-                    only1 keys_exact Moved _ (λ a. refl),
+                    only1 (counted most lt key_exact) Moved _ (λ a. refl),
                     tt,
                   ),
                 ),
@@ -295,46 +298,33 @@ shown_each kind = (
   ),
 )
 
-shown_case : (kind n : ℕ) (x : Shown) (fs : List Field) → Again (nth_case n shown_cases) x fs → Again (shown_at kind) x (byte_field kind kind n & fs)
-shown_case kind n x fs h = again_step (byte_exact kind kind (omega arith)) (λ n. nth_case n shown_cases) (λ n fits. case_shrinks shown_cases 0 n (OfKind kind) (shown_each kind)) n x fs h
+shown_case : (most : ℕ) → most < 4294967296 → (kind n : ℕ) (x : Shown) (fs : List Field) → Again (nth_case n (shown_cases most)) x fs → Again (shown_at most kind) x (byte_field kind kind n & fs)
+shown_case most lt kind n x fs h = again_step (byte_exact kind kind (omega arith)) (λ n. nth_case n (shown_cases most)) (λ n fits. case_shrinks (shown_cases most) 0 n (OfKind most kind) (shown_each most lt kind)) n x fs h
 
-shown_again : (kind : ℕ) (x : Shown) → Again (shown_at kind) x (shown_fields kind x)
-shown_again kind Nothing = subst (λ (fs : List Field). Again (shown_at kind) Nothing fs) (append-nil (byte_field kind kind 0)) (shown_case kind 0 Nothing [] (again_done Nothing))
-shown_again kind (Seen a) = shown_case kind 1 (Seen a) _ (again1 (counted 65536 (lit< tt) sight_exact) Seen a)
-shown_again kind (Named a) = shown_case kind 2 (Named a) _ (again1 (any_counted name_exact) Named a)
-shown_again kind (Count a) = shown_case kind 3 (Count a) _ (again1 (option_exact u32_exact) Count a)
-shown_again kind (Done a) = shown_case kind 4 (Done a) _ (again1 keys_exact Done a)
-shown_again kind (Copied a b) = shown_case kind 5 (Copied a b) _ (again2 keys_exact bool_exact Copied a b)
-shown_again kind (Put a) = shown_case kind 6 (Put a) _ (again1 bool_exact Put a)
-shown_again kind (Left a) = shown_case kind 7 (Left a) _ (again1 keys_exact Left a)
-shown_again kind (Went a) = shown_case kind 8 (Went a) _ (again1 way_exact Went a)
-shown_again kind (Moved a) = shown_case kind 9 (Moved a) _ (again1 keys_exact Moved a)
+shown_again : (most : ℕ) → most < 4294967296 → (kind : ℕ) (x : Shown) → Again (shown_at most kind) x (shown_fields_within most kind x)
+shown_again most lt kind Nothing = subst (λ (fs : List Field). Again (shown_at most kind) Nothing fs) (append-nil (byte_field kind kind 0)) (shown_case most lt kind 0 Nothing [] (again_done Nothing))
+shown_again most lt kind (Seen a) = shown_case most lt kind 1 (Seen a) _ (again1 (counted most lt sight_exact) Seen a)
+shown_again most lt kind (Named a) = shown_case most lt kind 2 (Named a) _ (again1 (any_counted name_exact) Named a)
+shown_again most lt kind (Count a) = shown_case most lt kind 3 (Count a) _ (again1 (option_exact u32_exact) Count a)
+shown_again most lt kind (Done a) = shown_case most lt kind 4 (Done a) _ (again1 (counted most lt key_exact) Done a)
+shown_again most lt kind (Copied a b) = shown_case most lt kind 5 (Copied a b) _ (again2 (counted most lt key_exact) bool_exact Copied a b)
+shown_again most lt kind (Put a) = shown_case most lt kind 6 (Put a) _ (again1 bool_exact Put a)
+shown_again most lt kind (Left a) = shown_case most lt kind 7 (Left a) _ (again1 (counted most lt key_exact) Left a)
+shown_again most lt kind (Went a) = shown_case most lt kind 8 (Went a) _ (again1 way_exact Went a)
+shown_again most lt kind (Moved a) = shown_case most lt kind 9 (Moved a) _ (again1 (counted most lt key_exact) Moved a)
 
-shown_exact : (kind : ℕ) → kind ≤ 9 → Exact (shown_at kind) (shown_fields kind)
-shown_exact kind le = record {
-  again = shown_again kind;
-  only = only_step (byte_exact kind kind (omega arith)) (λ n. nth_case n shown_cases) (λ x fs. fs ≡ shown_fields kind x) (λ n fits.
+shown_exact : (most : ℕ) → most < 4294967296 → (kind : ℕ) → kind ≤ LAST_SHOWN → Exact (shown_at most kind) (shown_fields_within most kind)
+shown_exact most lt kind le = record {
+  again = shown_again most lt kind;
+  only = only_step (byte_exact kind kind (omega arith)) (λ n. nth_case n (shown_cases most)) (λ x fs. fs ≡ shown_fields_within most kind x) (λ n fits.
       let h = byte_bounds kind kind n fits in
-      let all : length shown_cases ≡ 10 = refl in
-      only_case shown_cases 0 n n (OfKind kind) (shown_each kind) (omega arith) (omega arith));
+      let all : length (shown_cases most) ≡ suc LAST_SHOWN = refl in
+      only_case (shown_cases most) 0 n n (OfKind most kind) (shown_each most lt kind) (omega arith) (omega arith));
 }
 
-kind_fits : (d : Deed) → shown_kind d ≤ 9
-kind_fits (Deliver a b c) = omega arith
-kind_fits (Append a b c d) = omega arith
-kind_fits (Fetch a b c d) = omega arith
-kind_fits (Store a b c d) = omega arith
-kind_fits (Copy a b c) = omega arith
-kind_fits (Names a) = omega arith
-kind_fits (Status a) = omega arith
-kind_fits (Select a) = omega arith
-kind_fits (Expunge a b) = omega arith
-kind_fits (Close a b) = omega arith
-kind_fits (Create a) = omega arith
-kind_fits (Rename a b) = omega arith
-kind_fits (Delete a b) = omega arith
-kind_fits (Acts a) = omega arith
-kind_fits (Notice a b) = omega arith
+kind_fits : (d : Deed) → shown_kind d ≤ LAST_SHOWN
+kind_fits (Fetch mailbox ks sets_seen shows_body) = omega arith
+kind_fits _ = omega arith
 
 -- ---- conditions that no byte stands for
 
@@ -381,12 +371,15 @@ only_only {A} {C} {f} {F} e make Q h = only_step e (λ z. done (make z)) Q (λ a
 no_rev : (n : ℕ) → (n == 0) ≡ true → 0 ≡ n
 no_rev n h = sym (eqb-true _ _ h)
 
-shown_of : (d : Deed) → Exact (shown_at (shown_kind d)) (shown_fields (shown_kind d))
-shown_of d = shown_exact (shown_kind d) (kind_fits d)
+verb_deed : Exact (deed_at MOST_BODY) deed_fields
+verb_deed = deed_exact MOST_BODY (lit< tt)
+
+shown_of : (d : Deed) → Exact (shown_at MOST_KEYS (shown_kind d)) (shown_fields (shown_kind d))
+shown_of d = shown_exact MOST_KEYS (lit< tt) (shown_kind d) (kind_fits d)
 
 -- what is read behind the actor, behind the moment and behind the number
 abbrev from_deed : ℕ → ℕ → Option User → Reader Item
-from_deed n t b = deed_at >>= λ d. read1 (item_of n t b d) (shown_at (shown_kind d))
+from_deed n t b = deed_at MOST_BODY >>= λ d. read1 (item_of n t b d) (shown_at MOST_KEYS (shown_kind d))
 
 abbrev from_actor : ℕ → ℕ → Reader Item
 from_actor n t = actor_at >>= λ b. from_deed n t b
@@ -395,7 +388,7 @@ abbrev from_moment : ℕ → Reader Item
 from_moment n = moment_at >>= λ t. from_actor n t
 
 deed_shrinks : (n t : ℕ) (b : Option User) → Shrinks (from_deed n t b)
-deed_shrinks n t b = shrinks_step deed_exact (λ d. read1 (item_of n t b d) (shown_at (shown_kind d))) (λ d fits. shrinks1 (shown_of d) (item_of n t b d))
+deed_shrinks n t b = shrinks_step verb_deed (λ d. read1 (item_of n t b d) (shown_at MOST_KEYS (shown_kind d))) (λ d fits. shrinks1 (shown_of d) (item_of n t b d))
 
 actor_shrinks : (n t : ℕ) → Shrinks (from_actor n t)
 actor_shrinks n t = shrinks_step actor_exact (from_deed n t) (λ b fits. deed_shrinks n t b)
@@ -408,17 +401,17 @@ item_exact = record {
   again = λ i. again_step u32_exact from_moment (λ n fits. moment_shrinks n) i.number i _
       (again_step moment_exact (from_actor i.number) (λ t fits. actor_shrinks i.number t) i.at i _
       (again_step actor_exact (from_deed i.number i.at) (λ b fits. deed_shrinks i.number i.at b) i.by i _
-      (again_step deed_exact (λ d. read1 (item_of i.number i.at i.by d) (shown_at (shown_kind d))) (λ d fits. shrinks1 (shown_of d) (item_of i.number i.at i.by d)) i.deed i _
+      (again_step verb_deed (λ d. read1 (item_of i.number i.at i.by d) (shown_at MOST_KEYS (shown_kind d))) (λ d fits. shrinks1 (shown_of d) (item_of i.number i.at i.by d)) i.deed i _
       (again_only (shown_of i.deed) (item_of i.number i.at i.by i.deed) i.shown i (i.rev == 0)
       (λ h. ap (λ (r : ℕ). record i { rev = r }) (no_rev i.rev h))))));
   only = only_step u32_exact from_moment (λ i fs. fs ≡ item_fields i) (λ n fits.
       only_step moment_exact (from_actor n) _ (λ t fits.
       only_step actor_exact (from_deed n t) _ (λ b fits.
-      only_step deed_exact (λ d. read1 (item_of n t b d) (shown_at (shown_kind d))) _ (λ d fits.
+      only_step verb_deed (λ d. read1 (item_of n t b d) (shown_at MOST_KEYS (shown_kind d))) _ (λ d fits.
       only_only (shown_of d) (item_of n t b d) _ (λ s. refl)))));
 }
 
-act_each : EachCase 1 act_cases (Chosen 1 6 act_fields)
+act_each : EachCase 1 act_cases (Chosen 1 LAST_ACT act_fields)
 act_each = (
   only2 name_exact (any_counted user_exact) SetAlias _ (λ a b. refl),
   (
@@ -439,8 +432,8 @@ act_each = (
   ),
 )
 
-act_case : (n : ℕ) (x : Act) (fs : List Field) → Again (nth_case (n - 1) act_cases) x fs → Again act_at x (byte_field 1 6 n & fs)
-act_case n x fs h = again_case 1 6 (omega arith) act_cases (Chosen 1 6 act_fields) act_each n x fs h
+act_case : (n : ℕ) (x : Act) (fs : List Field) → Again (nth_case (n - 1) act_cases) x fs → Again act_at x (act_kind n & fs)
+act_case n x fs h = again_case 1 LAST_ACT (omega arith) act_cases (Chosen 1 LAST_ACT act_fields) act_each n x fs h
 
 act_again : (x : Act) → Again act_at x (act_fields x)
 act_again (SetAlias a b) = act_case 1 (SetAlias a b) _ (again2 name_exact (any_counted user_exact) SetAlias a b)
@@ -451,7 +444,7 @@ act_again (Remove a b c) = act_case 5 (Remove a b c) _ (again3 user_exact name_e
 act_again (Give a b c) = act_case 6 (Give a b c) _ (again3 user_exact name_exact body_exact Give a b c)
 
 act_exact : Exact act_at act_fields
-act_exact = choice_exact 1 6 (omega arith) act_cases refl act_fields act_again act_each
+act_exact = choice_exact 1 LAST_ACT (omega arith) act_cases refl act_fields act_again act_each
 
 -- ---- records
 
@@ -465,29 +458,29 @@ empty_is (f ∷ fs) h = absurd cc
 domains_exact : Exact (any_list_at name_at) (any_list_fields name_field)
 domains_exact = any_counted name_exact
 
-accounts_exact : Exact (list_at 200 account_at) (list_fields 200 account_fields)
-accounts_exact = counted 200 (lit< tt) account_exact
+accounts_exact : Exact (list_at MOST_USERS account_at) (list_fields MOST_USERS account_fields)
+accounts_exact = counted MOST_USERS (lit< tt) account_exact
 
 format_again : (h : House) (conf : Conf) → Again format_at (Format h conf) (house_fields h conf)
 format_again h conf =
-    again_step name_exact (λ a. read5 (format_of a) (any_list_at name_at) u32_at (list_at 200 account_at) user_at aliases_at) (λ a fits. shrinks5 domains_exact u32_exact accounts_exact user_exact aliases_exact (format_of a)) h.host (Format h conf) _
-    (again_step domains_exact (λ b. read4 (format_of h.host b) u32_at (list_at 200 account_at) user_at aliases_at) (λ b fits. shrinks4 u32_exact accounts_exact user_exact aliases_exact (format_of h.host b)) h.domains (Format h conf) _
-    (again_step u32_exact (λ c. read3 (format_of h.host h.domains c) (list_at 200 account_at) user_at aliases_at) (λ c fits. shrinks3 accounts_exact user_exact aliases_exact (format_of h.host h.domains c)) h.first (Format h conf) _
+    again_step name_exact (λ a. read5 (format_of a) (any_list_at name_at) u32_at (list_at MOST_USERS account_at) user_at aliases_at) (λ a fits. shrinks5 domains_exact u32_exact accounts_exact user_exact aliases_exact (format_of a)) h.host (Format h conf) _
+    (again_step domains_exact (λ b. read4 (format_of h.host b) u32_at (list_at MOST_USERS account_at) user_at aliases_at) (λ b fits. shrinks4 u32_exact accounts_exact user_exact aliases_exact (format_of h.host b)) h.domains (Format h conf) _
+    (again_step u32_exact (λ c. read3 (format_of h.host h.domains c) (list_at MOST_USERS account_at) user_at aliases_at) (λ c fits. shrinks3 accounts_exact user_exact aliases_exact (format_of h.host h.domains c)) h.first (Format h conf) _
     (again_step accounts_exact (λ d. read2 (format_of h.host h.domains h.first d) user_at aliases_at) (λ d fits. shrinks2 user_exact aliases_exact (format_of h.host h.domains h.first d)) h.accounts (Format h conf) _
     (again_step user_exact (λ e. read1 (format_of h.host h.domains h.first h.accounts e) aliases_at) (λ e fits. shrinks1 aliases_exact (format_of h.host h.domains h.first h.accounts e)) h.postmaster (Format h conf) _
     (again_only aliases_exact (format_of h.host h.domains h.first h.accounts h.postmaster) conf.aliases (Format h conf) (is_empty conf.filters)
     (λ e. ap (λ (fs : List Filter). Format h (record { aliases = conf.aliases; filters = fs })) (empty_is conf.filters e)))))))
 
-format_only : Only format_at (λ r fs. byte_field 0 4 0 & fs ≡ record_fields r)
+format_only : Only format_at (λ r fs. record_kind 0 & fs ≡ record_fields r)
 format_only =
-    only_step name_exact (λ a. read5 (format_of a) (any_list_at name_at) u32_at (list_at 200 account_at) user_at aliases_at) _ (λ a fits.
-    only_step domains_exact (λ b. read4 (format_of a b) u32_at (list_at 200 account_at) user_at aliases_at) _ (λ b fits.
-    only_step u32_exact (λ c. read3 (format_of a b c) (list_at 200 account_at) user_at aliases_at) _ (λ c fits.
+    only_step name_exact (λ a. read5 (format_of a) (any_list_at name_at) u32_at (list_at MOST_USERS account_at) user_at aliases_at) _ (λ a fits.
+    only_step domains_exact (λ b. read4 (format_of a b) u32_at (list_at MOST_USERS account_at) user_at aliases_at) _ (λ b fits.
+    only_step u32_exact (λ c. read3 (format_of a b c) (list_at MOST_USERS account_at) user_at aliases_at) _ (λ c fits.
     only_step accounts_exact (λ d. read2 (format_of a b c d) user_at aliases_at) _ (λ d fits.
     only_step user_exact (λ e. read1 (format_of a b c d e) aliases_at) _ (λ e fits.
     only_only aliases_exact (format_of a b c d e) _ (λ x. refl))))))
 
-record_each : EachCase 0 record_cases (Chosen 0 4 record_fields)
+record_each : EachCase 0 record_cases (Chosen 0 LAST_RECORD record_fields)
 record_each = (
   format_only,
   (
@@ -505,8 +498,8 @@ record_each = (
   ),
 )
 
-record_case : (n : ℕ) (x : JournalRecord) (fs : List Field) → Again (nth_case (n - 0) record_cases) x fs → Again record_at x (byte_field 0 4 n & fs)
-record_case n x fs h = again_case 0 4 (omega arith) record_cases (Chosen 0 4 record_fields) record_each n x fs h
+record_case : (n : ℕ) (x : JournalRecord) (fs : List Field) → Again (nth_case (n - 0) record_cases) x fs → Again record_at x (record_kind n & fs)
+record_case n x fs h = again_case 0 LAST_RECORD (omega arith) record_cases (Chosen 0 LAST_RECORD record_fields) record_each n x fs h
 
 record_again : (x : JournalRecord) → Again record_at x (record_fields x)
 record_again (Format a b) = record_case 0 (Format a b) _ (format_again a b)
@@ -516,4 +509,4 @@ record_again (Cycle a b c) = record_case 3 (Cycle a b c) _ (again3 u32_exact mom
 record_again (Snapshot a b c) = record_case 4 (Snapshot a b c) _ (again4 u32_exact aliases_exact (any_counted filter_exact) (any_counted row_exact) snapshot_of a b.aliases b.filters c)
 
 pub record_exact : Exact record_at record_fields
-record_exact = choice_exact 0 4 (omega arith) record_cases refl record_fields record_again record_each
+record_exact = choice_exact 0 LAST_RECORD (omega arith) record_cases refl record_fields record_again record_each

@@ -6,7 +6,8 @@ use Rattle.std.proofs.lemmas.List.{length-append, append-nil}
 use Rattle.std.proofs.lemmas.List.Concat.{flat_map-append}
 use Rattle.undo_base.specs.declared.keys.Key.{Key}
 use Rattle.undo_base.specs.declared.keys.User.{User}
-use Rattle.verb_bytes.specs.Fields.{Field, bytes_of, byte_field, number_field, name_field, text_field, key_field, user_field, u32_field}
+use Rattle.verb_bytes.specs.declared.write.TheConstants.{LAST_USER}
+use Rattle.verb_bytes.specs.Fields.{Field, most_of_four, bytes_of, byte_field, number_field, name_field, text_field, key_field, user_field, u32_field}
 use Rattle.verb_bytes.specs.Places.{size_of, before_deed, before_act, before_ask}
 use Rattle.verb_bytes.specs.declared.places.TextPlace.{TextPlace}
 
@@ -44,11 +45,11 @@ size_key k = refl
 
 pub size_users : (us : List User) → size_of (flat_map user_field us) ≡ length us
 size_users [] = size_none
-size_users (u ∷ us) = omega (arith, size_both (user_field u) (flat_map user_field us), size_byte 0 199 u.0, size_users us)
+size_users (u ∷ us) = omega (arith, size_both (user_field u) (flat_map user_field us), size_byte 0 LAST_USER u.0, size_users us)
 
 pub size_numbers : (ns : List ℕ) → size_of (flat_map u32_field ns) ≡ 4 * length ns
 size_numbers [] = size_none
-size_numbers (n ∷ ns) = omega (arith, size_both (u32_field n) (flat_map u32_field ns), size_u32 4294967295 n, size_numbers ns)
+size_numbers (n ∷ ns) = omega (arith, size_both (u32_field n) (flat_map u32_field ns), size_u32 most_of_four n, size_numbers ns)
 
 pub ruleset sizes = (size_both, size_none, size_byte, size_u32, size_u64, size_name, size_text, size_key, size_users, size_numbers)
 

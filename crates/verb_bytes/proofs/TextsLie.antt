@@ -6,20 +6,22 @@ use Rattle.std.specs.Int.{w32, to_be_bytes}
 use Rattle.std.specs.Option.{option_to_list}
 use Rattle.std.proofs.lemmas.List.{append-nil, take_at, drop_at, length-append}
 use Rattle.std.proofs.lemmas.List.Concat.{flat_map-append}
+use Rattle.undo_base.specs.declared.limits.TheConstants.{MOST_RECIPIENTS}
 use Rattle.verb_core.specs.declared.item.Act.{Act}
-use Rattle.verb_core.specs.declared.item.Act.TheVariants.{SetAlias, DropAlias, SetFilter, DropFilter, Remove, Give}
+use Rattle.verb_core.specs.declared.item.Act.TheVariants.{Give}
 use Rattle.verb_core.specs.declared.item.Deed.{Deed}
-use Rattle.verb_core.specs.declared.item.Deed.TheVariants.{Deliver, Append, Fetch, Store, Copy, List as Names, Status, Select, Expunge, Close, Create, Rename, Delete, Act as Acts, Notice}
+use Rattle.verb_core.specs.declared.item.Deed.TheVariants.{Deliver, Append, Act as Acts, Notice}
 use Rattle.verb_core.specs.declared.item.Item.{Item}
 use Rattle.verb_core.specs.Items.{text_in}
 use Rattle.verb_bytes.specs.declared.journal.CycleAsk.{CycleAsk}
 use Rattle.verb_bytes.specs.declared.journal.JournalRecord.{JournalRecord}
-use Rattle.verb_bytes.specs.declared.journal.JournalRecord.TheVariants.{Format, Verb, Operator, Cycle, Snapshot}
+use Rattle.verb_bytes.specs.declared.journal.JournalRecord.TheVariants.{Verb, Operator, Cycle}
 use Rattle.verb_bytes.specs.declared.places.TextPlace.{TextPlace}
-use Rattle.verb_bytes.specs.Fields.{Field, bytes_of, are_in_range, ◌&◌, only_if, byte_field, number_field, name_field, text_field, list_fields, flags_field, u32_field, moment_field, any_text_field, body_field, user_field, actor_field, any_list_fields}
+use Rattle.verb_bytes.specs.declared.write.TheConstants.{MOST_BODY}
+use Rattle.verb_bytes.specs.Fields.{Field, bytes_of, are_in_range, ◌&◌, only_if, number_field, name_field, text_field, list_fields, flags_field, u32_field, moment_field, any_text_field, body_field, user_field, actor_field, any_list_fields, most_of_four, record_kind, act_kind, deed_kind}
 use Rattle.verb_bytes.specs.Places.{act_place, before_ask, behind, deed_place, given_places, given_texts, places_along, replace_place, replaced_places, replaced_texts, size_of, text_places_of, texts_in, IsTextAt, LiesThere}
-use Rattle.verb_bytes.specs.Spelling.{HasSpelling, act_fields, deed_fields, item_fields, record_bytes, replace_fields, shown_fields, shown_kind}
-use Rattle.verb_bytes.proofs.Exact.{in_range_parts}
+use Rattle.verb_bytes.specs.Spelling.{HasSpelling, act_fields, deed_fields, record_bytes, replace_fields, shown_fields, shown_kind}
+use Rattle.verb_bytes.proofs.Forms.{deed_ranged}
 use Rattle.verb_bytes.proofs.Sizes.{size_both}
 
 -- ---- a text among bytes
@@ -75,20 +77,16 @@ abbrev pub text_of_act : Act → Option (List ℕ)
 text_of_act a = text_in (Acts a)
 
 pub act_lies : (a : Act) → Lies act_fields act_place text_of_act a
-act_lies (SetAlias local users) pre post = tt
-act_lies (DropAlias local) pre post = tt
-act_lies (SetFilter f) pre post = tt
-act_lies (DropFilter id) pre post = tt
-act_lies (Remove u mailbox k) pre post = tt
 act_lies (Give u mailbox text) pre post =
-    let kind = byte_field 1 6 6 in
-    (one_lies pre (kind & user_field u & name_field mailbox) post _ 1052672 text (behind_three pre kind (user_field u) (name_field mailbox) (body_field text) post), tt)
+    let kind = act_kind 6 in
+    (one_lies pre (kind & user_field u & name_field mailbox) post _ MOST_BODY text (behind_three pre kind (user_field u) (name_field mailbox) (body_field text) post), tt)
+act_lies _ pre post = tt
 
 abbrev pub new_text : ℕ × List ℕ → Option (List ℕ)
 new_text r = Some r.1
 
 pub replace_lies : (r : ℕ × List ℕ) → Lies replace_fields replace_place new_text r
-replace_lies r pre post = (one_lies pre (u32_field r.0) post _ 1052672 r.1 (behind_one pre (u32_field r.0) (body_field r.1) post), tt)
+replace_lies r pre post = (one_lies pre (u32_field r.0) post _ MOST_BODY r.1 (behind_one pre (u32_field r.0) (body_field r.1) post), tt)
 
 -- ---- the elements of a list
 
@@ -130,51 +128,33 @@ each_new (r ∷ rs) = ap (λ (texts : List (List ℕ)). r.1 ∷ texts) (each_new
 pub deed_lies : (d : Deed) → are_in_range (deed_fields d) ≡ true → Lies deed_fields deed_place text_in d
 unfolding are_in_range only_if
 deed_lies (Deliver from to text) fits pre post =
-    let kind = byte_field 1 13 1 in
-    (one_lies pre (kind & any_text_field from & list_fields 1000 name_field to) post _ 1052672 text (behind_three pre kind (any_text_field from) (list_fields 1000 name_field to) (body_field text) post), tt)
+    let kind = deed_kind 1 in
+    (one_lies pre (kind & any_text_field from & list_fields MOST_RECIPIENTS name_field to) post _ MOST_BODY text (behind_three pre kind (any_text_field from) (list_fields MOST_RECIPIENTS name_field to) (body_field text) post), tt)
 deed_lies (Append mailbox given at text) fits pre post =
-    let kind = byte_field 1 13 2 in
-    (one_lies pre (kind & name_field mailbox & flags_field given & moment_field at) post _ 1052672 text (behind_four pre kind (name_field mailbox) (flags_field given) (moment_field at) (body_field text) post), tt)
-deed_lies (Fetch mailbox ks sets_seen shows_body) fits pre post = tt
-deed_lies (Store mailbox ks how given) fits pre post = tt
-deed_lies (Copy mailbox ks target) fits pre post = tt
-deed_lies (Names pattern) fits pre post = tt
-deed_lies (Status mailbox) fits pre post = tt
-deed_lies (Select mailbox) fits pre post = tt
-deed_lies (Expunge mailbox ks) fits pre post = tt
-deed_lies (Close mailbox ks) fits pre post = tt
-deed_lies (Create mailbox) fits pre post = tt
-deed_lies (Rename mailbox target) fits pre post = tt
-deed_lies (Delete mailbox ks) fits pre post = tt
+    let kind = deed_kind 2 in
+    (one_lies pre (kind & name_field mailbox & flags_field given & moment_field at) post _ MOST_BODY text (behind_four pre kind (name_field mailbox) (flags_field given) (moment_field at) (body_field text) post), tt)
 deed_lies (Acts a) fits pre post = absurd cc
 deed_lies (Notice u text) fits pre post = absurd cc
+deed_lies _ fits pre post = tt
 
 deed_parts : (kind number at by deed shown rest : List Field) → kind ++ (number ++ (at ++ (by ++ (deed ++ (shown ++ rest))))) ≡ (kind ++ (number ++ (at ++ by))) ++ (deed ++ (shown ++ rest))
 deed_parts kind number at by deed shown rest = simp append_assoc refl
 
--- where each field of an item is in its range, so is each of its deed
-deed_fits : (i : Item) → HasSpelling (Verb i) → are_in_range (deed_fields i.deed) ≡ true
-deed_fits i fits =
-    let shown = shown_fields (shown_kind i.deed) i.shown in
-    let rest = deed_fields i.deed & shown & only_if (i.rev == 0) in
-    let behind = (in_range_parts (actor_field i.by) rest (in_range_parts (moment_field i.at) (actor_field i.by & rest) (in_range_parts (u32_field i.number) (moment_field i.at & actor_field i.by & rest) (in_range_parts (byte_field 0 4 1) (item_fields i) fits).1).1).1).1 in
-    (in_range_parts (deed_fields i.deed) (shown & only_if (i.rev == 0)) behind).0
-
 pub verb_lies : (i : Item) → HasSpelling (Verb i) → AllZip (LiesThere (record_bytes (Verb i))) (text_places_of (Verb i)) (texts_in (Verb i))
 verb_lies i fits =
-    let kind = byte_field 0 4 1 in
+    let kind = record_kind 1 in
     let pre = kind & u32_field i.number & moment_field i.at & actor_field i.by in
     let shown = shown_fields (shown_kind i.deed) i.shown in
     let post = shown & only_if (i.rev == 0) in
     subst (λ (fs : List Field). AllZip (LiesThere (bytes_of fs)) (text_places_of (Verb i)) (texts_in (Verb i))) (sym (deed_parts kind (u32_field i.number) (moment_field i.at) (actor_field i.by) (deed_fields i.deed) shown (only_if (i.rev == 0))))
-    (deed_lies i.deed (deed_fits i fits) pre post)
+    (deed_lies i.deed (deed_ranged i fits) pre post)
 
 act_parts : (kind number at act : List Field) → kind ++ (number ++ (at ++ act)) ≡ (kind ++ (number ++ at)) ++ (act ++ [])
 act_parts kind number at act = simp (append_assoc, append-nil) refl
 
 pub operator_lies : (number at : ℕ) (a : Act) → AllZip (LiesThere (record_bytes (Operator number at a))) (text_places_of (Operator number at a)) (texts_in (Operator number at a))
 operator_lies number at a =
-    let kind = byte_field 0 4 2 in
+    let kind = record_kind 2 in
     let pre = kind & u32_field number & moment_field at in
     subst (λ (fs : List Field). AllZip (LiesThere (bytes_of fs)) (text_places_of (Operator number at a)) (texts_in (Operator number at a))) (sym (act_parts kind (u32_field number) (moment_field at) (act_fields a)))
     (act_lies a pre [])
@@ -190,14 +170,14 @@ ask_parts kind number at ask = simp append_assoc refl
 
 pub replaced_lie : (number at : ℕ) (ask : CycleAsk) → AllZip (LiesThere (record_bytes (Cycle number at ask))) (replaced_places (before_ask number at) ask) (replaced_texts ask)
 replaced_lie number at ask =
-    let before = byte_field 0 4 3 & u32_field number & moment_field at in
+    let before = record_kind 3 & u32_field number & moment_field at in
     let key = name_field ask.key in
     let point = u32_field ask.point in
     let drops = any_list_fields u32_field ask.drops in
-    let count = number_field w32 4294967295 (length ask.replaces) in
+    let count = number_field w32 most_of_four (length ask.replaces) in
     let front = key & point & drops & count in
     let post = any_list_fields act_fields ask.inserts in
-    let parts = ask_parts (byte_field 0 4 3) (u32_field number) (moment_field at) (key & point & drops & any_list_fields replace_fields ask.replaces & post) ∙ replace_parts before key point drops count (flat_map replace_fields ask.replaces) post in
+    let parts = ask_parts (record_kind 3) (u32_field number) (moment_field at) (key & point & drops & any_list_fields replace_fields ask.replaces & post) ∙ replace_parts before key point drops count (flat_map replace_fields ask.replaces) post in
     let lie = each_lies replace_fields replace_place new_text replace_lies ask.replaces (before & front) post in
     subst (λ (fs : List Field). AllZip (LiesThere (bytes_of fs)) (replaced_places (before_ask number at) ask) (replaced_texts ask)) (sym parts)
     (subst (λ (texts : List (List ℕ)). AllZip (LiesThere (bytes_of ((before & front) & flat_map replace_fields ask.replaces & post))) (replaced_places (before_ask number at) ask) texts) (each_new ask.replaces)
@@ -205,14 +185,14 @@ replaced_lie number at ask =
 
 pub given_lie : (number at : ℕ) (ask : CycleAsk) → AllZip (LiesThere (record_bytes (Cycle number at ask))) (given_places (before_ask number at) ask) (given_texts ask)
 given_lie number at ask =
-    let before = byte_field 0 4 3 & u32_field number & moment_field at in
+    let before = record_kind 3 & u32_field number & moment_field at in
     let key = name_field ask.key in
     let point = u32_field ask.point in
     let drops = any_list_fields u32_field ask.drops in
     let replaces = any_list_fields replace_fields ask.replaces in
-    let count = number_field w32 4294967295 (length ask.inserts) in
+    let count = number_field w32 most_of_four (length ask.inserts) in
     let front = key & point & drops & replaces & count in
-    let parts = ask_parts (byte_field 0 4 3) (u32_field number) (moment_field at) (key & point & drops & replaces & count & flat_map act_fields ask.inserts) ∙ insert_parts before key point drops replaces count (flat_map act_fields ask.inserts) in
+    let parts = ask_parts (record_kind 3) (u32_field number) (moment_field at) (key & point & drops & replaces & count & flat_map act_fields ask.inserts) ∙ insert_parts before key point drops replaces count (flat_map act_fields ask.inserts) in
     let lie = each_lies act_fields act_place text_of_act act_lies ask.inserts (before & front) [] in
     subst (λ (fs : List Field). AllZip (LiesThere (bytes_of fs)) (given_places (before_ask number at) ask) (given_texts ask)) (sym parts)
     (subst (λ (n : ℕ). AllZip (LiesThere (bytes_of ((before & front) & flat_map act_fields ask.inserts & []))) (places_along act_fields act_place n ask.inserts) (given_texts ask)) (size_both before front) lie)
@@ -221,8 +201,7 @@ pub cycle_lies : (number at : ℕ) (ask : CycleAsk) → AllZip (LiesThere (recor
 cycle_lies number at ask = both_zip _ (replaced_places (before_ask number at) ask) (replaced_texts ask) (given_places (before_ask number at) ask) (given_texts ask) (replaced_lie number at ask) (given_lie number at ask)
 
 pub texts_lie : (what : JournalRecord) → HasSpelling what → AllZip (LiesThere (record_bytes what)) (text_places_of what) (texts_in what)
-texts_lie (Format h conf) fits = tt
 texts_lie (Verb i) fits = verb_lies i fits
 texts_lie (Operator number at a) fits = operator_lies number at a
 texts_lie (Cycle number at ask) fits = cycle_lies number at ask
-texts_lie (Snapshot items conf rows) fits = tt
+texts_lie _ fits = tt

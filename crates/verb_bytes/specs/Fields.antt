@@ -6,6 +6,16 @@ use Rattle.undo_base.specs.declared.keys.User.{User}
 use Rattle.undo_base.specs.declared.keys.Key.{Key}
 use Rattle.undo_base.specs.declared.keys.Flags.{Flags}
 use Rattle.undo_base.specs.Name.{first_unprintable}
+use Rattle.undo_base.specs.declared.limits.TheConstants.{LAST_MOMENT, MOST_NAME}
+use Rattle.verb_bytes.specs.declared.kinds.TheConstants.{LAST_RECORD, LAST_ACT, LAST_DEED}
+use Rattle.verb_bytes.specs.declared.write.TheConstants.{ALL_FLAGS, LAST_USER, MOST_BODY, NOBODY}
+
+-- the greatest number of four bytes, and of eight
+abbrev pub most_of_four : ℕ
+most_of_four = 4294967295
+
+abbrev pub most_of_eight : ℕ
+most_of_eight = 18446744073709551615
 
 pub record Field : Type 0 where
   pub bytes : List ℕ
@@ -42,7 +52,7 @@ number_field w most n = field (nat_le n most) (to_be_bytes w n)
 
 -- 1 to 200 printable bytes
 abbrev pub is_name : List ℕ → Bool
-is_name bytes = nat_le 1 (length bytes) && nat_le (length bytes) 200 && is_none (first_unprintable bytes)
+is_name bytes = nat_le 1 (length bytes) && nat_le (length bytes) MOST_NAME && is_none (first_unprintable bytes)
 
 -- its length in one byte, and the bytes of the name
 unfoldable pub name_field : List ℕ → List Field
@@ -79,35 +89,49 @@ abbrev pub flags_code : Flags → ℕ
 flags_code f = worth f.answered 1 + worth f.flagged 2 + worth f.deleted 4 + worth f.seen 8 + worth f.draft 16
 
 abbrev pub flags_field : Flags → List Field
-flags_field f = byte_field 0 31 (flags_code f)
+flags_field f = byte_field 0 ALL_FLAGS (flags_code f)
 
 abbrev pub u32_field : ℕ → List Field
-u32_field n = number_field w32 4294967295 n
+u32_field n = number_field w32 most_of_four n
 
 abbrev pub u64_field : ℕ → List Field
-u64_field n = number_field w64 18446744073709551615 n
+u64_field n = number_field w64 most_of_eight n
 
 -- seconds since 1970, up to the end of the year 9999
 abbrev pub moment_field : ℕ → List Field
-moment_field at = number_field w64 253402300799 at
+moment_field at = number_field w64 LAST_MOMENT at
 
 -- a text whose length has no range but that of its four bytes
 abbrev pub any_text_field : List ℕ → List Field
-any_text_field bytes = text_field 4294967295 bytes
+any_text_field bytes = text_field most_of_four bytes
 
 -- the text of a message as it is stored
 abbrev pub body_field : List ℕ → List Field
-body_field bytes = text_field 1052672 bytes
+body_field bytes = text_field MOST_BODY bytes
 
 -- one of 200 users
 abbrev pub user_field : User → List Field
-user_field u = byte_field 0 199 u.0
+user_field u = byte_field 0 LAST_USER u.0
 
 -- who acted: 255 for nobody
 abbrev pub actor_field : Option User → List Field
-actor_field None = byte_field 255 255 255
+actor_field None = byte_field NOBODY NOBODY NOBODY
 actor_field (Some u) = user_field u
 
 -- a list of any count
 abbrev pub any_list_fields : {A : Type 0} → (A → List Field) → List A → List Field
-any_list_fields fields xs = list_fields 4294967295 fields xs
+any_list_fields fields xs = list_fields most_of_four fields xs
+
+-- ---- the byte that says what follows
+
+-- the kind of a record
+abbrev pub record_kind : ℕ → List Field
+record_kind kind = byte_field 0 LAST_RECORD kind
+
+-- the kind of an act
+abbrev pub act_kind : ℕ → List Field
+act_kind kind = byte_field 1 LAST_ACT kind
+
+-- the kind of a user's deed
+abbrev pub deed_kind : ℕ → List Field
+deed_kind kind = byte_field 1 LAST_DEED kind

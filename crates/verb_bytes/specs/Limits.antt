@@ -1,14 +1,18 @@
--- What gives the first record of a journal, items and acts their spelling, in plain facts.
+-- What gives each record its spelling, in plain facts.
 use Rattle.std.specs.Prelude.{◌≡◌, ℕ, ◌<◌, ◌≤◌, List, [], length, None, IfSome}
 use Rattle.std.specs.List.{AllByRecursion}
 use Rattle.undo_base.specs.declared.keys.User.{User}
 use Rattle.undo_base.specs.declared.keys.Key.{Key}
 use Rattle.undo_base.specs.Name.{IsName}
+use Rattle.undo_base.specs.declared.limits.TheConstants.{LAST_MOMENT, MOST_KEYS, MOST_RECIPIENTS, MOST_USERS}
 use Rattle.verb_core.specs.declared.conf.Account.{Account}
 use Rattle.verb_core.specs.declared.conf.Alias.{Alias}
 use Rattle.verb_core.specs.declared.conf.Filter.{Filter}
 use Rattle.verb_core.specs.declared.conf.House.{House}
 use Rattle.verb_core.specs.declared.conf.Conf.{Conf}
+use Rattle.verb_core.specs.declared.mailbox.Entry.{Entry}
+use Rattle.verb_core.specs.declared.mailbox.Mailbox.{Mailbox}
+use Rattle.verb_core.specs.declared.mailbox.BoxId.{BoxId}
 use Rattle.verb_core.specs.declared.item.Item.{Item}
 use Rattle.verb_core.specs.declared.item.Sight.{Sight}
 use Rattle.verb_core.specs.declared.item.Act.{Act}
@@ -17,16 +21,19 @@ use Rattle.verb_core.specs.declared.item.Deed.{Deed}
 use Rattle.verb_core.specs.declared.item.Deed.TheVariants.{Deliver, Append, Fetch, Store, Copy, List as Names, Status, Select, Expunge, Close, Create, Rename, Delete, Act as Acts, Notice}
 use Rattle.verb_core.specs.declared.item.Shown.{Shown}
 use Rattle.verb_core.specs.declared.item.Shown.TheVariants.{Nothing, Seen, Names as Named, Count, Done, Copied, Put, Left, Way as Went, Moved}
+use Rattle.verb_bytes.specs.declared.journal.CycleAsk.{CycleAsk}
+use Rattle.verb_bytes.specs.declared.write.TheConstants.{LAST_USER, MOST_BODY}
+use Rattle.verb_bytes.specs.Fields.{most_of_four, most_of_eight}
 use Rattle.verb_bytes.specs.Spelling.{shown_kind}
 
 -- as many as four bytes count, each such
 pub record AreMany {A : Type 0} (P : A → Type 0) (xs : List A) : Type 0 where
   pub each : AllByRecursion P xs
-  pub few : length xs ≤ 4294967295
+  pub few : length xs ≤ most_of_four
 
 -- one of 200 users
 abbrev pub IsUser : User → Type 0
-IsUser u = u.0 ≤ 199
+IsUser u = u.0 ≤ LAST_USER
 
 pub record IsAccount (a : Account) : Type 0 where
   pub name : IsName a.name
@@ -40,19 +47,19 @@ pub record IsAlias (a : Alias) : Type 0 where
 pub record IsOpening (h : House) (conf : Conf) : Type 0 where
   pub host : IsName h.host
   pub domains : AreMany IsName h.domains
-  pub first : h.first ≤ 4294967295
+  pub first : h.first ≤ most_of_four
   pub accounts : AllByRecursion IsAccount h.accounts
-  pub few : length h.accounts ≤ 200
+  pub few : length h.accounts ≤ MOST_USERS
   pub postmaster : IsUser h.postmaster
   pub aliases : AreMany IsAlias conf.aliases
   pub filters : conf.filters ≡ []
 
 -- an envelope and a text as they are delivered and stored
 pub record IsMail (from : List ℕ) (to : List (List ℕ)) (text : List ℕ) : Type 0 where
-  pub from_fits : length from ≤ 4294967295
+  pub from_fits : length from ≤ most_of_four
   pub names : AllByRecursion IsName to
-  pub few : length to ≤ 1000
-  pub small : length text ≤ 1052672
+  pub few : length to ≤ MOST_RECIPIENTS
+  pub small : length text ≤ MOST_BODY
 
 -- the item of a delivery
 abbrev pub delivery : ℕ → ℕ → List ℕ → List (List ℕ) → List ℕ → Item
@@ -65,7 +72,7 @@ IsKey k = (k.item < 4294967296) × (k.index < 65536)
 -- as many as an item may hold, each such
 pub record AreFew {A : Type 0} (P : A → Type 0) (xs : List A) : Type 0 where
   pub each : AllByRecursion P xs
-  pub few : length xs ≤ 65536
+  pub few : length xs ≤ MOST_KEYS
 
 abbrev pub AreKeys : List Key → Type 0
 AreKeys ks = AreFew IsKey ks
@@ -80,16 +87,42 @@ IsAct (DropAlias local) = IsName local
 IsAct (SetFilter f) = IsFilter f
 IsAct (DropFilter id) = IsName id
 IsAct (Remove u mailbox k) = IsUser u × IsName mailbox × IsKey k
-IsAct (Give u mailbox text) = IsUser u × IsName mailbox × (length text ≤ 1052672)
+IsAct (Give u mailbox text) = IsUser u × IsName mailbox × (length text ≤ MOST_BODY)
+
+-- an item's number, and a text that can be stored
+abbrev pub IsReplace : ℕ × List ℕ → Type 0
+IsReplace r = (r.0 ≤ most_of_four) × (length r.1 ≤ MOST_BODY)
+
+-- what a cycle is asked to do
+pub record IsCycleAsk (ask : CycleAsk) : Type 0 where
+  pub key : IsName ask.key
+  pub point : ask.point ≤ most_of_four
+  pub drops : AreMany (λ n. n ≤ most_of_four) ask.drops
+  pub replaces : AreMany IsReplace ask.replaces
+  pub inserts : AreMany IsAct ask.inserts
+
+-- what lies in a mailbox
+pub record IsEntry (e : Entry) : Type 0 where
+  pub uid : e.uid ≤ most_of_eight
+  pub key : IsKey e.key
+  pub origin : e.body.origin ≤ most_of_four
+  pub rev : e.body.rev ≤ most_of_four
+  pub at : e.at ≤ LAST_MOMENT
+
+pub record IsRow (r : BoxId × Mailbox) : Type 0 where
+  pub user : IsUser r.0.user
+  pub name : IsName r.0.name
+  pub next : r.1.next ≤ most_of_eight
+  pub entries : AreMany IsEntry r.1.entries
 
 -- a user's own deed: its names are names, its keys are few, and its text can be stored
 abbrev pub IsDeed : Deed → Type 0
 IsDeed (Deliver from to text) = IsMail from to text
-IsDeed (Append mailbox given at text) = IsName mailbox × (at ≤ 253402300799) × (length text ≤ 1052672)
+IsDeed (Append mailbox given at text) = IsName mailbox × (at ≤ LAST_MOMENT) × (length text ≤ MOST_BODY)
 IsDeed (Fetch mailbox ks sets_seen shows_body) = IsName mailbox × AreKeys ks
 IsDeed (Store mailbox ks how given) = IsName mailbox × AreKeys ks
 IsDeed (Copy mailbox ks target) = IsName mailbox × AreKeys ks × IsName target
-IsDeed (Names pattern) = length pattern ≤ 4294967295
+IsDeed (Names pattern) = length pattern ≤ most_of_four
 IsDeed (Status mailbox) = IsName mailbox
 IsDeed (Select mailbox) = IsName mailbox
 IsDeed (Expunge mailbox ks) = IsName mailbox × AreKeys ks
@@ -101,14 +134,14 @@ IsDeed (Acts a) = ⊥
 IsDeed (Notice u text) = ⊥
 
 abbrev pub IsSight : Sight → Type 0
-IsSight s = IsKey s.key × (s.rev ≤ 4294967295)
+IsSight s = IsKey s.key × (s.rev ≤ most_of_four)
 
 -- what was shown, of this kind: its names are names, and its keys are few
 abbrev pub IsShown : ℕ → Shown → Type 0
 IsShown kind Nothing = kind ≡ 0
 IsShown kind (Seen sights) = (kind ≡ 1) × AreFew IsSight sights
 IsShown kind (Named names) = (kind ≡ 2) × AreMany IsName names
-IsShown kind (Count count) = (kind ≡ 3) × IfSome count (λ n. n ≤ 4294967295)
+IsShown kind (Count count) = (kind ≡ 3) × IfSome count (λ n. n ≤ most_of_four)
 IsShown kind (Done ks) = (kind ≡ 4) × AreKeys ks
 IsShown kind (Copied ks redirected) = (kind ≡ 5) × AreKeys ks
 IsShown kind (Put redirected) = kind ≡ 6
@@ -118,8 +151,8 @@ IsShown kind (Moved ks) = (kind ≡ 9) × AreKeys ks
 
 -- an item that a user asked for, and what was shown for it
 pub record IsAsked (i : Item) : Type 0 where
-  pub number : i.number ≤ 4294967295
-  pub at : i.at ≤ 253402300799
+  pub number : i.number ≤ most_of_four
+  pub at : i.at ≤ LAST_MOMENT
   pub by : IfSome i.by IsUser
   pub rev : i.rev ≡ 0
   pub deed : IsDeed i.deed

@@ -4,16 +4,17 @@ use Rattle.std.specs.List.{filter_map}
 use Rattle.std.specs.Int.{w32}
 use Rattle.std.specs.Option.{option_to_list}
 use Rattle.undo_base.specs.declared.keys.User.{User}
+use Rattle.undo_base.specs.declared.limits.TheConstants.{MOST_RECIPIENTS}
 use Rattle.verb_core.specs.declared.item.Act.{Act}
-use Rattle.verb_core.specs.declared.item.Act.TheVariants.{SetAlias, DropAlias, SetFilter, DropFilter, Remove, Give}
+use Rattle.verb_core.specs.declared.item.Act.TheVariants.{Give}
 use Rattle.verb_core.specs.declared.item.Deed.{Deed}
-use Rattle.verb_core.specs.declared.item.Deed.TheVariants.{Deliver, Append, Fetch, Store, Copy, List as Names, Status, Select, Expunge, Close, Create, Rename, Delete, Act as Acts, Notice}
+use Rattle.verb_core.specs.declared.item.Deed.TheVariants.{Deliver, Append, Act as Acts}
 use Rattle.verb_core.specs.Items.{text_in}
 use Rattle.verb_bytes.specs.declared.journal.CycleAsk.{CycleAsk}
 use Rattle.verb_bytes.specs.declared.journal.JournalRecord.{JournalRecord}
-use Rattle.verb_bytes.specs.declared.journal.JournalRecord.TheVariants.{Format, Verb, Operator, Cycle, Snapshot}
+use Rattle.verb_bytes.specs.declared.journal.JournalRecord.TheVariants.{Verb, Operator, Cycle}
 use Rattle.verb_bytes.specs.declared.places.TextPlace.{TextPlace}
-use Rattle.verb_bytes.specs.Fields.{Field, bytes_of, ◌&◌, byte_field, number_field, name_field, list_fields, flags_field, u32_field, moment_field, any_text_field, user_field, actor_field, any_list_fields}
+use Rattle.verb_bytes.specs.Fields.{Field, bytes_of, ◌&◌, number_field, name_field, list_fields, flags_field, u32_field, moment_field, any_text_field, user_field, actor_field, any_list_fields, most_of_four, record_kind, act_kind, deed_kind}
 use Rattle.verb_bytes.specs.Spelling.{act_fields, replace_fields}
 
 -- how many bytes fields take
@@ -32,30 +33,14 @@ behind n text = placed (n + 4) text
 
 -- a delivery and an APPEND have a text
 abbrev pub deed_place : ℕ → Deed → Option TextPlace
-deed_place n (Deliver from to text) = Some (behind (n + size_of (byte_field 1 13 1 & any_text_field from & list_fields 1000 name_field to)) text)
-deed_place n (Append mailbox given at text) = Some (behind (n + size_of (byte_field 1 13 2 & name_field mailbox & flags_field given & moment_field at)) text)
-deed_place n (Fetch mailbox ks sets_seen shows_body) = None
-deed_place n (Store mailbox ks how given) = None
-deed_place n (Copy mailbox ks target) = None
-deed_place n (Names pattern) = None
-deed_place n (Status mailbox) = None
-deed_place n (Select mailbox) = None
-deed_place n (Expunge mailbox ks) = None
-deed_place n (Close mailbox ks) = None
-deed_place n (Create mailbox) = None
-deed_place n (Rename mailbox target) = None
-deed_place n (Delete mailbox ks) = None
-deed_place n (Acts a) = None
-deed_place n (Notice u text) = None
+deed_place n (Deliver from to text) = Some (behind (n + size_of (deed_kind 1 & any_text_field from & list_fields MOST_RECIPIENTS name_field to)) text)
+deed_place n (Append mailbox given at text) = Some (behind (n + size_of (deed_kind 2 & name_field mailbox & flags_field given & moment_field at)) text)
+deed_place n _ = None
 
 -- Give has a text
 abbrev pub act_place : ℕ → Act → Option TextPlace
-act_place n (SetAlias local users) = None
-act_place n (DropAlias local) = None
-act_place n (SetFilter f) = None
-act_place n (DropFilter id) = None
-act_place n (Remove u mailbox k) = None
-act_place n (Give u mailbox text) = Some (behind (n + size_of (byte_field 1 6 6 & user_field u & name_field mailbox)) text)
+act_place n (Give u mailbox text) = Some (behind (n + size_of (act_kind 6 & user_field u & name_field mailbox)) text)
+act_place n _ = None
 
 -- an item's number, and its new text
 abbrev pub replace_place : ℕ → ℕ × List ℕ → Option TextPlace
@@ -70,31 +55,30 @@ places_along fields place n (x ∷ xs) = option_to_list (place n x) ++ places_al
 
 -- the new texts of a cycle, the first in its list
 abbrev pub replaced_places : ℕ → CycleAsk → List TextPlace
-replaced_places n ask = places_along replace_fields replace_place (n + size_of (name_field ask.key & u32_field ask.point & any_list_fields u32_field ask.drops & number_field w32 4294967295 (length ask.replaces))) ask.replaces
+replaced_places n ask = places_along replace_fields replace_place (n + size_of (name_field ask.key & u32_field ask.point & any_list_fields u32_field ask.drops & number_field w32 most_of_four (length ask.replaces))) ask.replaces
 
 -- those that its acts give
 abbrev pub given_places : ℕ → CycleAsk → List TextPlace
-given_places n ask = places_along act_fields act_place (n + size_of (name_field ask.key & u32_field ask.point & any_list_fields u32_field ask.drops & any_list_fields replace_fields ask.replaces & number_field w32 4294967295 (length ask.inserts))) ask.inserts
+given_places n ask = places_along act_fields act_place (n + size_of (name_field ask.key & u32_field ask.point & any_list_fields u32_field ask.drops & any_list_fields replace_fields ask.replaces & number_field w32 most_of_four (length ask.inserts))) ask.inserts
 
 -- ---- the texts of a record
 
 -- the bytes before the deed of an item, before an operator's act, and before what a cycle is asked to do
 abbrev pub before_deed : ℕ → ℕ → Option User → ℕ
-before_deed number at by = size_of (byte_field 0 4 1 & u32_field number & moment_field at & actor_field by)
+before_deed number at by = size_of (record_kind 1 & u32_field number & moment_field at & actor_field by)
 
 abbrev pub before_act : ℕ → ℕ → ℕ
-before_act number at = size_of (byte_field 0 4 2 & u32_field number & moment_field at)
+before_act number at = size_of (record_kind 2 & u32_field number & moment_field at)
 
 abbrev pub before_ask : ℕ → ℕ → ℕ
-before_ask number at = size_of (byte_field 0 4 3 & u32_field number & moment_field at)
+before_ask number at = size_of (record_kind 3 & u32_field number & moment_field at)
 
 -- where the texts lie in the bytes of the record, in order
 abbrev pub text_places_of : JournalRecord → List TextPlace
-text_places_of (Format h conf) = []
 text_places_of (Verb i) = option_to_list (deed_place (before_deed i.number i.at i.by) i.deed)
 text_places_of (Operator number at a) = option_to_list (act_place (before_act number at) a)
 text_places_of (Cycle number at ask) = replaced_places (before_ask number at) ask ++ given_places (before_ask number at) ask
-text_places_of (Snapshot items conf rows) = []
+text_places_of _ = []
 
 -- the texts of messages that are recorded, in order: a delivery's, an APPEND's and a Give's, and those of a cycle's
 -- replaced items
@@ -105,11 +89,10 @@ abbrev pub given_texts : CycleAsk → List (List ℕ)
 given_texts ask = filter_map (λ (a : Act). text_in (Acts a)) ask.inserts
 
 abbrev pub texts_in : JournalRecord → List (List ℕ)
-texts_in (Format h conf) = []
 texts_in (Verb i) = option_to_list (text_in i.deed)
 texts_in (Operator number at a) = option_to_list (text_in (Acts a))
 texts_in (Cycle number at ask) = replaced_texts ask ++ given_texts ask
-texts_in (Snapshot items conf rows) = []
+texts_in _ = []
 
 -- how many bytes lie before the first of them, or 0
 abbrev pub first_from : List TextPlace → ℕ

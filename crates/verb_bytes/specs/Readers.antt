@@ -6,7 +6,10 @@ use Rattle.undo_base.specs.declared.keys.Key.{Key}
 use Rattle.undo_base.specs.declared.keys.Flags.{Flags}
 use Rattle.verb_bytes.specs.declared.cursor.Stop.{Stop}
 use Rattle.verb_bytes.specs.declared.cursor.Stop.TheVariants.{At, NoMemory}
-use Rattle.verb_bytes.specs.Fields.{is_name}
+use Rattle.undo_base.specs.declared.limits.TheConstants.{LAST_MOMENT}
+use Rattle.verb_bytes.specs.declared.kinds.TheConstants.{LAST_RECORD, LAST_ACT, LAST_DEED}
+use Rattle.verb_bytes.specs.declared.write.TheConstants.{ALL_FLAGS, LAST_USER, NOBODY}
+use Rattle.verb_bytes.specs.Fields.{is_name, most_of_four}
 
 -- what is read at the front and the bytes behind it; or how many bytes are left from the first field on that is cut or
 -- out of its range
@@ -52,7 +55,7 @@ user_of n = record { 0 = n }
 
 -- 255 for nobody
 abbrev pub actor_of : ℕ → Option (Option User)
-actor_of n = if n == 255 then Some None else when (nat_le n 199) (Some (user_of n))
+actor_of n = if n == NOBODY then Some None else when (nat_le n LAST_USER) (Some (user_of n))
 
 abbrev pub find_actor : List ℕ → Option (Option User × List ℕ)
 find_actor [] = None
@@ -133,6 +136,15 @@ nth_case (suc n) (c ∷ cs) = nth_case n cs
 abbrev pub choice_at : {A : Type 0} → ℕ → ℕ → List (Reader A) → Reader A
 choice_at least most cases = byte_at least most >>= λ n. nth_case (n - least) cases
 
+abbrev pub record_kind_at : Reader ℕ
+record_kind_at = byte_at 0 LAST_RECORD
+
+abbrev pub act_kind_at : Reader ℕ
+act_kind_at = byte_at 1 LAST_ACT
+
+abbrev pub deed_kind_at : Reader ℕ
+deed_kind_at = byte_at 1 LAST_DEED
+
 abbrev pub option_at : {A : Type 0} → Reader A → Reader (Option A)
 option_at one = choice_at 0 1 (done None ∷ read1 Some one ∷ [])
 
@@ -142,10 +154,10 @@ bool_at = choice_at 0 1 (done false ∷ done true ∷ [])
 -- ---- numbers that mean something
 
 abbrev pub u32_at : Reader ℕ
-u32_at = number_at w32 4294967295
+u32_at = number_at w32 most_of_four
 
 abbrev pub moment_at : Reader ℕ
-moment_at = number_at w64 253402300799
+moment_at = number_at w64 LAST_MOMENT
 
 -- whether a byte has the bit that is worth this much
 abbrev pub has_bit : ℕ → ℕ → Bool
@@ -155,10 +167,10 @@ abbrev pub flags_of : ℕ → Flags
 flags_of n = record { answered = has_bit n 1; flagged = has_bit n 2; deleted = has_bit n 4; seen = has_bit n 8; draft = has_bit n 16 }
 
 abbrev pub flags_at : Reader Flags
-flags_at = read1 flags_of (byte_at 0 31)
+flags_at = read1 flags_of (byte_at 0 ALL_FLAGS)
 
 abbrev pub user_at : Reader User
-user_at = read1 user_of (byte_at 0 199)
+user_at = read1 user_of (byte_at 0 LAST_USER)
 
 -- ---- the code
 

@@ -5,6 +5,7 @@ use Rattle.undo_base.specs.declared.keys.User.{User}
 use Rattle.undo_base.specs.declared.keys.Flags.{Flags}
 use Rattle.undo_base.specs.declared.asks.How.{How}
 use Rattle.undo_base.specs.declared.asks.How.TheVariants.{Replace, Add, Take}
+use Rattle.undo_base.specs.declared.limits.TheConstants.{MOST_KEYS, MOST_RECIPIENTS, MOST_USERS}
 use Rattle.verb_core.specs.declared.conf.Account.{Account}
 use Rattle.verb_core.specs.declared.conf.Alias.{Alias}
 use Rattle.verb_core.specs.declared.conf.Filter.{Filter}
@@ -26,24 +27,27 @@ use Rattle.verb_bytes.specs.declared.journal.JournalRecord.{JournalRecord}
 use Rattle.verb_bytes.specs.declared.journal.JournalRecord.TheVariants.{Format, Verb, Operator, Cycle, Snapshot}
 use Rattle.verb_bytes.specs.declared.decode.BadBytes.{BadBytes}
 use Rattle.verb_bytes.specs.declared.decode.BadBytes.TheVariants.{Place, NoMemory}
+use Rattle.verb_bytes.specs.declared.kinds.TheConstants.{LAST_RECORD, LAST_ACT, LAST_DEED}
+use Rattle.verb_bytes.specs.declared.write.TheConstants.{MOST_BODY}
+use Rattle.verb_bytes.specs.Fields.{most_of_four, most_of_eight}
 use Rattle.verb_bytes.specs.Spelling.{shown_kind}
 use Rattle.std.specs.Int.{w64}
 use Rattle.verb_bytes.specs.Readers.{Reader, done, ◌>>=◌, read1, read2, read3, read4, read5, read6, list_at, nth_case, choice_at, byte_at, option_at, bool_at, name_at, text_at, key_at, actor_at, number_at, u32_at, moment_at, flags_at, user_at}
 
 abbrev pub any_list_at : {A : Type 0} → Reader A → Reader (List A)
-any_list_at one = list_at 4294967295 one
+any_list_at one = list_at most_of_four one
 
 abbrev pub any_text_at : Reader (List ℕ)
-any_text_at = text_at 4294967295
+any_text_at = text_at most_of_four
 
 abbrev pub body_at : Reader (List ℕ)
-body_at = text_at 1052672
+body_at = text_at MOST_BODY
 
 abbrev pub u64_at : Reader ℕ
-u64_at = number_at w64 18446744073709551615
+u64_at = number_at w64 most_of_eight
 
 abbrev pub keys_at : Reader (List Key)
-keys_at = list_at 65536 key_at
+keys_at = list_at MOST_KEYS key_at
 
 -- ---- configurations
 
@@ -87,10 +91,11 @@ row_at = read4 row_of user_at name_at u64_at (any_list_at entry_at)
 abbrev pub how_at : Reader How
 how_at = choice_at 0 2 (done Replace ∷ done Add ∷ done Take ∷ [])
 
-abbrev pub deed_cases : List (Reader Deed)
-deed_cases =
-    read3 Deliver any_text_at (list_at 1000 name_at) body_at
-    ∷ read4 Append name_at flags_at moment_at body_at
+-- the deeds, whose message has a text of at most so many bytes
+abbrev pub deed_cases : ℕ → List (Reader Deed)
+deed_cases most =
+    read3 Deliver any_text_at (list_at MOST_RECIPIENTS name_at) (text_at most)
+    ∷ read4 Append name_at flags_at moment_at (text_at most)
     ∷ read4 Fetch name_at keys_at bool_at bool_at
     ∷ read4 Store name_at keys_at how_at flags_at
     ∷ read3 Copy name_at keys_at name_at
@@ -104,8 +109,8 @@ deed_cases =
     ∷ read2 Delete name_at keys_at
     ∷ []
 
-abbrev pub deed_at : Reader Deed
-deed_at = choice_at 1 13 deed_cases
+abbrev pub deed_at : ℕ → Reader Deed
+deed_at most = choice_at 1 LAST_DEED (deed_cases most)
 
 abbrev pub sight_of : Key → ℕ → Sight
 sight_of k r = record { key = k; rev = r }
@@ -116,29 +121,30 @@ sight_at = read2 sight_of key_at u32_at
 abbrev pub way_at : Reader Way
 way_at = choice_at 0 2 (done Plain ∷ done NoSource ∷ done Merged ∷ [])
 
-abbrev pub shown_cases : List (Reader Shown)
-shown_cases =
+-- what was shown, where at most so many keys are listed
+abbrev pub shown_cases : ℕ → List (Reader Shown)
+shown_cases most =
     done Nothing
-    ∷ read1 Seen (list_at 65536 sight_at)
+    ∷ read1 Seen (list_at most sight_at)
     ∷ read1 Named (any_list_at name_at)
     ∷ read1 Count (option_at u32_at)
-    ∷ read1 Done keys_at
-    ∷ read2 Copied keys_at bool_at
+    ∷ read1 Done (list_at most key_at)
+    ∷ read2 Copied (list_at most key_at) bool_at
     ∷ read1 Put bool_at
-    ∷ read1 Left keys_at
+    ∷ read1 Left (list_at most key_at)
     ∷ read1 Went way_at
-    ∷ read1 Moved keys_at
+    ∷ read1 Moved (list_at most key_at)
     ∷ []
 
 -- the kind is this one alone
-abbrev pub shown_at : ℕ → Reader Shown
-shown_at kind = byte_at kind kind >>= λ n. nth_case n shown_cases
+abbrev pub shown_at : ℕ → ℕ → Reader Shown
+shown_at most kind = byte_at kind kind >>= λ n. nth_case n (shown_cases most)
 
 abbrev pub item_of : ℕ → ℕ → Option User → Deed → Shown → Item
 item_of number at by deed shown = record { number = number; at = at; by = by; rev = 0; deed = deed; shown = shown }
 
 abbrev pub item_at : Reader Item
-item_at = u32_at >>= λ number. moment_at >>= λ at. actor_at >>= λ by. deed_at >>= λ deed. read1 (item_of number at by deed) (shown_at (shown_kind deed))
+item_at = u32_at >>= λ number. moment_at >>= λ at. actor_at >>= λ by. deed_at MOST_BODY >>= λ deed. read1 (item_of number at by deed) (shown_at MOST_KEYS (shown_kind deed))
 
 abbrev pub act_cases : List (Reader Act)
 act_cases =
@@ -151,7 +157,7 @@ act_cases =
     ∷ []
 
 abbrev pub act_at : Reader Act
-act_at = choice_at 1 6 act_cases
+act_at = choice_at 1 LAST_ACT act_cases
 
 -- ---- records
 
@@ -171,7 +177,7 @@ abbrev pub format_of : List ℕ → List (List ℕ) → ℕ → List Account →
 format_of h d f a p s = Format (record { host = h; domains = d; accounts = a; postmaster = p; first = f }) (record { aliases = s; filters = [] })
 
 abbrev pub format_at : Reader JournalRecord
-format_at = read6 format_of name_at (any_list_at name_at) u32_at (list_at 200 account_at) user_at aliases_at
+format_at = read6 format_of name_at (any_list_at name_at) u32_at (list_at MOST_USERS account_at) user_at aliases_at
 
 abbrev pub snapshot_of : ℕ → List Alias → List Filter → List (BoxId × Mailbox) → JournalRecord
 snapshot_of i a f r = Snapshot i (record { aliases = a; filters = f }) r
@@ -189,7 +195,7 @@ record_cases =
     ∷ []
 
 abbrev pub record_at : Reader JournalRecord
-record_at = choice_at 0 4 record_cases
+record_at = choice_at 0 LAST_RECORD record_cases
 
 -- where bytes are left behind the last field, they are what is refused
 abbrev pub refused_behind : {A : Type 0} → Result (A × List ℕ) ℕ → Option ℕ

@@ -3,6 +3,7 @@ use Rattle.std.specs.Prelude.{◌≡◌, ℕ, false, ◌==◌, List, IsTrue}
 use Rattle.undo_base.specs.declared.keys.Key.{Key}
 use Rattle.undo_base.specs.declared.asks.How.{How}
 use Rattle.undo_base.specs.declared.asks.How.TheVariants.{Replace, Add, Take}
+use Rattle.undo_base.specs.declared.limits.TheConstants.{MOST_KEYS, MOST_RECIPIENTS, MOST_USERS}
 use Rattle.verb_core.specs.declared.conf.Account.{Account}
 use Rattle.verb_core.specs.declared.conf.Alias.{Alias}
 use Rattle.verb_core.specs.declared.conf.Filter.{Filter}
@@ -25,11 +26,12 @@ use Rattle.verb_core.specs.Names.{is_empty}
 use Rattle.verb_bytes.specs.declared.journal.CycleAsk.{CycleAsk}
 use Rattle.verb_bytes.specs.declared.journal.JournalRecord.{JournalRecord}
 use Rattle.verb_bytes.specs.declared.journal.JournalRecord.TheVariants.{Format, Verb, Operator, Cycle, Snapshot}
-use Rattle.verb_bytes.specs.Fields.{Field, bytes_of, are_in_range, ◌&◌, only_if, byte_field, name_field, key_field, list_fields, option_fields, bool_field, flags_field, u32_field, u64_field, moment_field, any_text_field, body_field, user_field, actor_field, any_list_fields}
+use Rattle.verb_bytes.specs.declared.write.TheConstants.{MOST_BODY}
+use Rattle.verb_bytes.specs.Fields.{Field, bytes_of, are_in_range, ◌&◌, only_if, byte_field, name_field, text_field, key_field, list_fields, option_fields, bool_field, flags_field, u32_field, u64_field, moment_field, any_text_field, body_field, user_field, actor_field, any_list_fields, record_kind, act_kind, deed_kind}
 
 -- the keys of an item
 abbrev pub key_list : List Key → List Field
-key_list ks = list_fields 65536 key_field ks
+key_list ks = list_fields MOST_KEYS key_field ks
 
 -- ---- configurations
 
@@ -60,23 +62,28 @@ how_field Replace = byte_field 0 2 0
 how_field Add = byte_field 0 2 1
 how_field Take = byte_field 0 2 2
 
--- 13 deeds; an act and a notice are no user's own, and have none of these spellings
+-- a user's deed, whose message has a text of at most so many bytes; an act and a notice are no user's own, and have none
+-- of these spellings
+abbrev pub deed_fields_within : ℕ → Deed → List Field
+deed_fields_within most (Deliver from to text) = deed_kind 1 & any_text_field from & list_fields MOST_RECIPIENTS name_field to & text_field most text
+deed_fields_within most (Append mailbox given at text) = deed_kind 2 & name_field mailbox & flags_field given & moment_field at & text_field most text
+deed_fields_within most (Fetch mailbox ks sets_seen shows_body) = deed_kind 3 & name_field mailbox & key_list ks & bool_field sets_seen & bool_field shows_body
+deed_fields_within most (Store mailbox ks how given) = deed_kind 4 & name_field mailbox & key_list ks & how_field how & flags_field given
+deed_fields_within most (Copy mailbox ks target) = deed_kind 5 & name_field mailbox & key_list ks & name_field target
+deed_fields_within most (Names pattern) = deed_kind 6 & any_text_field pattern
+deed_fields_within most (Status mailbox) = deed_kind 7 & name_field mailbox
+deed_fields_within most (Select mailbox) = deed_kind 8 & name_field mailbox
+deed_fields_within most (Expunge mailbox ks) = deed_kind 9 & name_field mailbox & key_list ks
+deed_fields_within most (Close mailbox ks) = deed_kind 10 & name_field mailbox & key_list ks
+deed_fields_within most (Create mailbox) = deed_kind 11 & name_field mailbox
+deed_fields_within most (Rename mailbox target) = deed_kind 12 & name_field mailbox & name_field target
+deed_fields_within most (Delete mailbox ks) = deed_kind 13 & name_field mailbox & key_list ks
+deed_fields_within most (Acts a) = only_if false
+deed_fields_within most (Notice u text) = only_if false
+
+-- of an item that a user asked for
 abbrev pub deed_fields : Deed → List Field
-deed_fields (Deliver from to text) = byte_field 1 13 1 & any_text_field from & list_fields 1000 name_field to & body_field text
-deed_fields (Append mailbox given at text) = byte_field 1 13 2 & name_field mailbox & flags_field given & moment_field at & body_field text
-deed_fields (Fetch mailbox ks sets_seen shows_body) = byte_field 1 13 3 & name_field mailbox & key_list ks & bool_field sets_seen & bool_field shows_body
-deed_fields (Store mailbox ks how given) = byte_field 1 13 4 & name_field mailbox & key_list ks & how_field how & flags_field given
-deed_fields (Copy mailbox ks target) = byte_field 1 13 5 & name_field mailbox & key_list ks & name_field target
-deed_fields (Names pattern) = byte_field 1 13 6 & any_text_field pattern
-deed_fields (Status mailbox) = byte_field 1 13 7 & name_field mailbox
-deed_fields (Select mailbox) = byte_field 1 13 8 & name_field mailbox
-deed_fields (Expunge mailbox ks) = byte_field 1 13 9 & name_field mailbox & key_list ks
-deed_fields (Close mailbox ks) = byte_field 1 13 10 & name_field mailbox & key_list ks
-deed_fields (Create mailbox) = byte_field 1 13 11 & name_field mailbox
-deed_fields (Rename mailbox target) = byte_field 1 13 12 & name_field mailbox & name_field target
-deed_fields (Delete mailbox ks) = byte_field 1 13 13 & name_field mailbox & key_list ks
-deed_fields (Acts a) = only_if false
-deed_fields (Notice u text) = only_if false
+deed_fields d = deed_fields_within MOST_BODY d
 
 abbrev pub sight_fields : Sight → List Field
 sight_fields s = key_field s.key & u32_field s.rev
@@ -88,46 +95,47 @@ way_field Merged = byte_field 0 2 2
 
 -- the kind of shown that belongs to a deed: the byte's only value
 abbrev pub shown_kind : Deed → ℕ
-shown_kind (Deliver from to text) = 0
-shown_kind (Append mailbox given at text) = 6
 shown_kind (Fetch mailbox ks sets_seen shows_body) = 1
-shown_kind (Store mailbox ks how given) = 4
-shown_kind (Copy mailbox ks target) = 5
 shown_kind (Names pattern) = 2
 shown_kind (Status mailbox) = 3
 shown_kind (Select mailbox) = 3
+shown_kind (Store mailbox ks how given) = 4
+shown_kind (Copy mailbox ks target) = 5
+shown_kind (Append mailbox given at text) = 6
 shown_kind (Expunge mailbox ks) = 7
 shown_kind (Close mailbox ks) = 7
-shown_kind (Create mailbox) = 0
 shown_kind (Rename mailbox target) = 8
 shown_kind (Delete mailbox ks) = 9
-shown_kind (Acts a) = 0
-shown_kind (Notice u text) = 0
+shown_kind _ = 0
 
--- what was shown, with its kind, which is this one alone
+-- what was shown, with its kind, which is this one alone; at most so many keys are listed
+abbrev pub shown_fields_within : ℕ → ℕ → Shown → List Field
+shown_fields_within most kind Nothing = byte_field kind kind 0
+shown_fields_within most kind (Seen sights) = byte_field kind kind 1 & list_fields most sight_fields sights
+shown_fields_within most kind (Named names) = byte_field kind kind 2 & any_list_fields name_field names
+shown_fields_within most kind (Count count) = byte_field kind kind 3 & option_fields u32_field count
+shown_fields_within most kind (Done ks) = byte_field kind kind 4 & list_fields most key_field ks
+shown_fields_within most kind (Copied ks redirected) = byte_field kind kind 5 & list_fields most key_field ks & bool_field redirected
+shown_fields_within most kind (Put redirected) = byte_field kind kind 6 & bool_field redirected
+shown_fields_within most kind (Left ks) = byte_field kind kind 7 & list_fields most key_field ks
+shown_fields_within most kind (Went w) = byte_field kind kind 8 & way_field w
+shown_fields_within most kind (Moved ks) = byte_field kind kind 9 & list_fields most key_field ks
+
+-- of an item that a user asked for
 abbrev pub shown_fields : ℕ → Shown → List Field
-shown_fields kind Nothing = byte_field kind kind 0
-shown_fields kind (Seen sights) = byte_field kind kind 1 & list_fields 65536 sight_fields sights
-shown_fields kind (Named names) = byte_field kind kind 2 & any_list_fields name_field names
-shown_fields kind (Count count) = byte_field kind kind 3 & option_fields u32_field count
-shown_fields kind (Done ks) = byte_field kind kind 4 & key_list ks
-shown_fields kind (Copied ks redirected) = byte_field kind kind 5 & key_list ks & bool_field redirected
-shown_fields kind (Put redirected) = byte_field kind kind 6 & bool_field redirected
-shown_fields kind (Left ks) = byte_field kind kind 7 & key_list ks
-shown_fields kind (Went w) = byte_field kind kind 8 & way_field w
-shown_fields kind (Moved ks) = byte_field kind kind 9 & key_list ks
+shown_fields kind s = shown_fields_within MOST_KEYS kind s
 
 -- a recorded item has no rev yet
 abbrev pub item_fields : Item → List Field
 item_fields i = u32_field i.number & moment_field i.at & actor_field i.by & deed_fields i.deed & shown_fields (shown_kind i.deed) i.shown & only_if (i.rev == 0)
 
 abbrev pub act_fields : Act → List Field
-act_fields (SetAlias local users) = byte_field 1 6 1 & name_field local & any_list_fields user_field users
-act_fields (DropAlias local) = byte_field 1 6 2 & name_field local
-act_fields (SetFilter f) = byte_field 1 6 3 & filter_fields f
-act_fields (DropFilter id) = byte_field 1 6 4 & name_field id
-act_fields (Remove u mailbox k) = byte_field 1 6 5 & user_field u & name_field mailbox & key_field k
-act_fields (Give u mailbox text) = byte_field 1 6 6 & user_field u & name_field mailbox & body_field text
+act_fields (SetAlias local users) = act_kind 1 & name_field local & any_list_fields user_field users
+act_fields (DropAlias local) = act_kind 2 & name_field local
+act_fields (SetFilter f) = act_kind 3 & filter_fields f
+act_fields (DropFilter id) = act_kind 4 & name_field id
+act_fields (Remove u mailbox k) = act_kind 5 & user_field u & name_field mailbox & key_field k
+act_fields (Give u mailbox text) = act_kind 6 & user_field u & name_field mailbox & body_field text
 
 -- ---- records
 
@@ -140,14 +148,14 @@ ask_fields ask = name_field ask.key & u32_field ask.point & any_list_fields u32_
 
 -- a house begins with no filter
 abbrev pub house_fields : House → Conf → List Field
-house_fields h conf = name_field h.host & any_list_fields name_field h.domains & u32_field h.first & list_fields 200 account_fields h.accounts & user_field h.postmaster & aliases_fields conf.aliases & only_if (is_empty conf.filters)
+house_fields h conf = name_field h.host & any_list_fields name_field h.domains & u32_field h.first & list_fields MOST_USERS account_fields h.accounts & user_field h.postmaster & aliases_fields conf.aliases & only_if (is_empty conf.filters)
 
 abbrev pub record_fields : JournalRecord → List Field
-record_fields (Format h conf) = byte_field 0 4 0 & house_fields h conf
-record_fields (Verb i) = byte_field 0 4 1 & item_fields i
-record_fields (Operator number at a) = byte_field 0 4 2 & u32_field number & moment_field at & act_fields a
-record_fields (Cycle number at ask) = byte_field 0 4 3 & u32_field number & moment_field at & ask_fields ask
-record_fields (Snapshot items conf rows) = byte_field 0 4 4 & u32_field items & aliases_fields conf.aliases & any_list_fields filter_fields conf.filters & any_list_fields row_fields rows
+record_fields (Format h conf) = record_kind 0 & house_fields h conf
+record_fields (Verb i) = record_kind 1 & item_fields i
+record_fields (Operator number at a) = record_kind 2 & u32_field number & moment_field at & act_fields a
+record_fields (Cycle number at ask) = record_kind 3 & u32_field number & moment_field at & ask_fields ask
+record_fields (Snapshot items conf rows) = record_kind 4 & u32_field items & aliases_fields conf.aliases & any_list_fields filter_fields conf.filters & any_list_fields row_fields rows
 
 -- each of its fields is in its range
 abbrev pub HasSpelling : JournalRecord → Type 0

@@ -5,8 +5,9 @@ ghost use Rattle.verb_bytes.specs.Readers.{Gives, nth_case, read1, read2, read3,
 ghost use Rattle.verb_bytes.specs.Reading.{act_cases, any_list_at, filter_at, body_at};
 
 use crate::cursor::{Cursor, Stop};
+use crate::kinds::{LAST_ACT, put_act_kind, read_act_kind};
 use crate::part::{Part, put_list, read_list};
-use crate::write::{MOST_BODY, Unwritten, put_byte, put_key, put_name, put_text, put_user};
+use crate::write::{MOST_BODY, Unwritten, put_key, put_name, put_text, put_user};
 use std::alloc::Global;
 use undo_base::Text;
 use verb_core::{Act, Filter};
@@ -23,24 +24,24 @@ impl Part for Act {
     fn put(&self, out: &mut Text) -> Result<(), Unwritten> {
         match self {
             Act::SetAlias { local, users } => {
-                put_byte(out, 1, 6, 1)?;
+                put_act_kind(out, 1)?;
                 put_name(out, local)?;
                 put_list(u32::MAX, users, out)
             }
             Act::DropAlias { local } => {
-                put_byte(out, 1, 6, 2)?;
+                put_act_kind(out, 2)?;
                 put_name(out, local)
             }
             Act::SetFilter(filter) => {
-                put_byte(out, 1, 6, 3)?;
+                put_act_kind(out, 3)?;
                 filter.put(out)
             }
             Act::DropFilter { id } => {
-                put_byte(out, 1, 6, 4)?;
+                put_act_kind(out, 4)?;
                 put_name(out, id)
             }
             Act::Remove { user, mailbox, key } => {
-                put_byte(out, 1, 6, 5)?;
+                put_act_kind(out, 5)?;
                 put_user(out, *user)?;
                 put_name(out, mailbox)?;
                 put_key(out, *key)
@@ -50,7 +51,7 @@ impl Part for Act {
                 mailbox,
                 text,
             } => {
-                put_byte(out, 1, 6, 6)?;
+                put_act_kind(out, 6)?;
                 put_user(out, *user)?;
                 put_name(out, mailbox)?;
                 put_text(out, MOST_BODY, text)
@@ -59,14 +60,14 @@ impl Part for Act {
     }
 
     fn read(alloc: Global, cursor: &mut Cursor<'_>) -> Result<Act, Stop> {
-        let kind = cursor.byte(1, 6)?;
+        let kind = read_act_kind(cursor)?;
         read_case(alloc, kind, cursor)
     }
 }
 
 fn read_case(alloc: Global, kind: u8, cursor: &mut Cursor<'_>) -> Result<Act, Stop>
-    requires low { 1 ≤ kind }
-    requires high { kind ≤ 6 }
+    requires first { 1 ≤ kind }
+    requires last { kind ≤ LAST_ACT }
     ensures { Gives (nth_case (kind - 1) act_cases) cursor.old.rest.now cursor.new.rest.now result }
 {
     match kind {

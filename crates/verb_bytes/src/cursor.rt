@@ -4,6 +4,7 @@ ghost use Rattle.std.specs.Int.{w32, w64};
 ghost use Rattle.verb_bytes.specs.Fields.{is_name};
 ghost use Rattle.verb_bytes.specs.Readers.{Gives, when, byte_at, number_at, name_at, text_at, key_at, actor_at, bool_at, flags_at, user_at, has_bit};
 
+use crate::write::{ALL_FLAGS, LAST_USER, NOBODY};
 use std::alloc::Global;
 use undo_base::{Flags, Key, Name, NameRefused, NoMemory, Text, User};
 
@@ -195,11 +196,11 @@ impl<'a> Cursor<'a> {
             [] => Err(Stop::At { left: 0 }),
             [byte, rest @ ..] => {
                 let byte = *byte;
-                if byte == 255 {
+                if byte == NOBODY {
                     self.rest = rest;
                     return Ok(None);
                 }
-                if 199 < byte {
+                if LAST_USER < byte {
                     return Err(Stop::At {
                         left: self.rest.len(),
                     });
@@ -214,7 +215,7 @@ impl<'a> Cursor<'a> {
     pub(crate) fn user(&mut self) -> Result<User, Stop>
         ensures { Gives user_at self.old.rest.now self.new.rest.now result }
     {
-        let byte = self.byte(0, 199)?;
+        let byte = self.byte(0, LAST_USER)?;
         Ok(User(byte))
     }
 
@@ -233,7 +234,7 @@ impl<'a> Cursor<'a> {
     pub(crate) fn flags(&mut self) -> Result<Flags, Stop>
         ensures { Gives flags_at self.old.rest.now self.new.rest.now result }
     {
-        let bits = self.byte(0, 31)?;
+        let bits = self.byte(0, ALL_FLAGS)?;
         Ok(Flags {
             answered: has_bit_of(bits, 1),
             flagged: has_bit_of(bits, 2),

@@ -8,6 +8,7 @@ ghost use Rattle.verb_bytes.specs.Reading.{record_cases, record_at, snapshot_at,
 ghost use Rattle.verb_bytes.specs.Spelling.{Spells};
 
 use crate::cursor::{Cursor, Stop};
+use crate::kinds::{LAST_RECORD, read_record_kind};
 use crate::part::{Part, read_list};
 use crate::settings::read_house;
 use crate::{CycleAsk, JournalRecord};
@@ -78,7 +79,7 @@ fn read_snapshot(alloc: Global, cursor: &mut Cursor<'_>) -> Result<JournalRecord
 }
 
 fn read_case(alloc: Global, kind: u8, cursor: &mut Cursor<'_>) -> Result<JournalRecord, Stop>
-    requires { kind ≤ 4 }
+    requires { kind ≤ LAST_RECORD }
     ensures { Gives (nth_case (kind - 0) record_cases) cursor.old.rest.now cursor.new.rest.now result }
 {
     match kind {
@@ -93,7 +94,7 @@ fn read_case(alloc: Global, kind: u8, cursor: &mut Cursor<'_>) -> Result<Journal
 fn read_record(alloc: Global, cursor: &mut Cursor<'_>) -> Result<JournalRecord, Stop>
     ensures { Gives record_at cursor.old.rest.now cursor.new.rest.now result }
 {
-    let kind = cursor.byte(0, 4)?;
+    let kind = read_record_kind(cursor)?;
     read_case(alloc, kind, cursor)
 }
 

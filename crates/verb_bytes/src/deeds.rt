@@ -1,16 +1,18 @@
 //! Deeds as parts of records.
 ghost use Rattle.std.specs.Prelude.{◌≤◌, ◌-◌};
 ghost use Rattle.verb_core.specs.declared.item.Deed.TheVariants.{Deliver, Append, Fetch, Store, Copy, List as Names, Status, Select, Expunge, Close, Create, Rename, Delete};
-ghost use Rattle.verb_bytes.specs.Fields.{◌&◌, byte_field, name_field};
-ghost use Rattle.verb_bytes.specs.Readers.{Gives, nth_case, read1, read2, read3, read4, list_at, name_at, flags_at, moment_at, bool_at};
-ghost use Rattle.verb_bytes.specs.Reading.{deed_cases, any_text_at, body_at, keys_at, how_at};
-ghost use Rattle.verb_bytes.specs.Spelling.{deed_fields, how_field, key_list};
+ghost use Rattle.verb_bytes.specs.Fields.{◌&◌, deed_kind, name_field};
+ghost use Rattle.verb_bytes.specs.Readers.{Gives, nth_case, read1, read2, read3, read4, list_at, name_at, text_at, flags_at, moment_at, bool_at};
+ghost use Rattle.verb_bytes.specs.Reading.{deed_at, deed_cases, any_text_at, keys_at, how_at};
+ghost use Rattle.verb_bytes.specs.Spelling.{deed_fields, deed_fields_within, how_field, key_list};
 ghost use Rattle.verb_bytes.specs.Writing.{Puts};
 
 use crate::cursor::{Cursor, Stop};
-use crate::part::{Part, put_list, read_list};
+use crate::kinds::{LAST_DEED, put_deed_kind, read_deed_kind};
+use crate::part::{put_list, read_list};
 use crate::write::{
-    MOST_BODY, Unwritten, put_bool, put_byte, put_condition, put_flags, put_name, put_text, put_u64,
+    MOST_LISTED, MOST_TO, Unwritten, put_bool, put_byte, put_condition, put_flags, put_name,
+    put_text, put_u64,
 };
 use std::alloc::Global;
 use undo_base::{Flags, How, Keys, LAST_MOMENT, Name, Names, Text};
@@ -41,68 +43,65 @@ fn read_how(cursor: &mut Cursor<'_>) -> Result<How, Stop>
     Ok(How::Take)
 }
 
-impl Part for Deed {
-    ghost use Rattle.verb_bytes.specs.Spelling.{deed_fields};
-    ghost use Rattle.verb_bytes.specs.Reading.{deed_at};
-
-    ghost fields = { deed_fields };
-
-    ghost reader = { deed_at };
-
-    #[tactic(auto, using(crate::proofs::Puts::list_steps))]
-    fn put(&self, out: &mut Text) -> Result<(), Unwritten> {
-        match self {
-            Deed::Deliver { from, to, text } => put_deliver(from, to, text, out),
-            Deed::Append {
-                mailbox,
-                flags,
-                moment,
-                text,
-            } => put_append(mailbox, *flags, *moment, text, out),
-            Deed::Fetch {
-                mailbox,
-                keys,
-                sets_seen,
-                shows_body,
-            } => put_fetch(mailbox, keys, *sets_seen, *shows_body, out),
-            Deed::Store {
-                mailbox,
-                keys,
-                how,
-                flags,
-            } => put_store(mailbox, keys, *how, *flags, out),
-            Deed::Copy {
-                mailbox,
-                keys,
-                target,
-            } => put_copy(mailbox, keys, target, out),
-            Deed::List { pattern } => put_listing(pattern, out),
-            Deed::Status { mailbox } => put_mailbox(7, mailbox, out),
-            Deed::Select { mailbox } => put_mailbox(8, mailbox, out),
-            Deed::Expunge { mailbox, keys } => put_keys(9, mailbox, keys, out),
-            Deed::Close { mailbox, keys } => put_keys(10, mailbox, keys, out),
-            Deed::Create { mailbox } => put_mailbox(11, mailbox, out),
-            Deed::Rename { mailbox, target } => put_rename(mailbox, target, out),
-            Deed::Delete { mailbox, keys } => put_keys(13, mailbox, keys, out),
-            Deed::Act(_) => put_condition(out, false),
-            Deed::Notice { .. } => put_condition(out, false),
-        }
-    }
-
-    fn read(alloc: Global, cursor: &mut Cursor<'_>) -> Result<Deed, Stop> {
-        let kind = cursor.byte(1, 13)?;
-        read_case(alloc, kind, cursor)
+/// Writes a deed, whose message has a text of at most so many bytes.
+#[tactic(auto, using(crate::proofs::Puts::list_steps))]
+pub(crate) fn put_deed(most: u32, deed: &Deed, out: &mut Text) -> Result<(), Unwritten>
+    ensures { Puts (deed_fields_within most deed.now) out.old out.new result }
+{
+    match deed {
+        Deed::Deliver { from, to, text } => put_deliver(most, from, to, text, out),
+        Deed::Append {
+            mailbox,
+            flags,
+            moment,
+            text,
+        } => put_append(most, mailbox, *flags, *moment, text, out),
+        Deed::Fetch {
+            mailbox,
+            keys,
+            sets_seen,
+            shows_body,
+        } => put_fetch(mailbox, keys, *sets_seen, *shows_body, out),
+        Deed::Store {
+            mailbox,
+            keys,
+            how,
+            flags,
+        } => put_store(mailbox, keys, *how, *flags, out),
+        Deed::Copy {
+            mailbox,
+            keys,
+            target,
+        } => put_copy(mailbox, keys, target, out),
+        Deed::List { pattern } => put_listing(pattern, out),
+        Deed::Status { mailbox } => put_mailbox(7, mailbox, out),
+        Deed::Select { mailbox } => put_mailbox(8, mailbox, out),
+        Deed::Expunge { mailbox, keys } => put_keys(9, mailbox, keys, out),
+        Deed::Close { mailbox, keys } => put_keys(10, mailbox, keys, out),
+        Deed::Create { mailbox } => put_mailbox(11, mailbox, out),
+        Deed::Rename { mailbox, target } => put_rename(mailbox, target, out),
+        Deed::Delete { mailbox, keys } => put_keys(13, mailbox, keys, out),
+        Deed::Act(_) => put_condition(out, false),
+        Deed::Notice { .. } => put_condition(out, false),
     }
 }
 
-fn read_case(alloc: Global, kind: u8, cursor: &mut Cursor<'_>) -> Result<Deed, Stop>
-    requires low { 1 ≤ kind }
-    requires high { kind ≤ 13 }
-    ensures { Gives (nth_case (kind - 1) deed_cases) cursor.old.rest.now cursor.new.rest.now result }
+/// Reads a deed, whose message has a text of at most so many bytes.
+pub(crate) fn read_deed(alloc: Global, most: u32, cursor: &mut Cursor<'_>) -> Result<Deed, Stop>
+    ensures { Gives (deed_at most) cursor.old.rest.now cursor.new.rest.now result }
+{
+    let kind = read_deed_kind(cursor)?;
+    read_case(alloc, most, kind, cursor)
+}
+
+fn read_case(alloc: Global, most: u32, kind: u8, cursor: &mut Cursor<'_>) -> Result<Deed, Stop>
+    requires first { 1 ≤ kind }
+    requires last { kind ≤ LAST_DEED }
+    ensures { Gives (nth_case (kind - 1) (deed_cases most)) cursor.old.rest.now cursor.new.rest.now result }
 {
     match kind {
-        1 => read_deliver(alloc, cursor),
-        2 => read_append(alloc, cursor),
+        1 => read_deliver(alloc, most, cursor),
+        2 => read_append(alloc, most, cursor),
         3 => read_fetch(alloc, cursor),
         4 => read_store(alloc, cursor),
         5 => read_copy(alloc, cursor),
@@ -117,22 +116,22 @@ fn read_case(alloc: Global, kind: u8, cursor: &mut Cursor<'_>) -> Result<Deed, S
     }
 }
 
-fn read_deliver(alloc: Global, cursor: &mut Cursor<'_>) -> Result<Deed, Stop>
-    ensures { Gives (read3 Deliver any_text_at (list_at 1000 name_at) body_at) cursor.old.rest.now cursor.new.rest.now result }
+fn read_deliver(alloc: Global, most: u32, cursor: &mut Cursor<'_>) -> Result<Deed, Stop>
+    ensures { Gives (read3 Deliver any_text_at (list_at MOST_TO name_at) (text_at most)) cursor.old.rest.now cursor.new.rest.now result }
 {
     let from = cursor.text(alloc, u32::MAX)?;
-    let to = read_list(alloc, 1000, cursor)?;
-    let text = cursor.text(alloc, MOST_BODY)?;
+    let to = read_list(alloc, MOST_TO, cursor)?;
+    let text = cursor.text(alloc, most)?;
     Ok(Deed::Deliver { from, to, text })
 }
 
-fn read_append(alloc: Global, cursor: &mut Cursor<'_>) -> Result<Deed, Stop>
-    ensures { Gives (read4 Append name_at flags_at moment_at body_at) cursor.old.rest.now cursor.new.rest.now result }
+fn read_append(alloc: Global, most: u32, cursor: &mut Cursor<'_>) -> Result<Deed, Stop>
+    ensures { Gives (read4 Append name_at flags_at moment_at (text_at most)) cursor.old.rest.now cursor.new.rest.now result }
 {
     let mailbox = cursor.name(alloc)?;
     let flags = cursor.flags()?;
     let moment = cursor.u64(LAST_MOMENT)?;
-    let text = cursor.text(alloc, MOST_BODY)?;
+    let text = cursor.text(alloc, most)?;
     Ok(Deed::Append {
         mailbox,
         flags,
@@ -145,7 +144,7 @@ fn read_fetch(alloc: Global, cursor: &mut Cursor<'_>) -> Result<Deed, Stop>
     ensures { Gives (read4 Fetch name_at keys_at bool_at bool_at) cursor.old.rest.now cursor.new.rest.now result }
 {
     let mailbox = cursor.name(alloc)?;
-    let keys = read_list(alloc, 65536, cursor)?;
+    let keys = read_list(alloc, MOST_LISTED, cursor)?;
     let sets_seen = cursor.bool()?;
     let shows_body = cursor.bool()?;
     Ok(Deed::Fetch {
@@ -160,7 +159,7 @@ fn read_store(alloc: Global, cursor: &mut Cursor<'_>) -> Result<Deed, Stop>
     ensures { Gives (read4 Store name_at keys_at how_at flags_at) cursor.old.rest.now cursor.new.rest.now result }
 {
     let mailbox = cursor.name(alloc)?;
-    let keys = read_list(alloc, 65536, cursor)?;
+    let keys = read_list(alloc, MOST_LISTED, cursor)?;
     let how = read_how(cursor)?;
     let flags = cursor.flags()?;
     Ok(Deed::Store {
@@ -175,7 +174,7 @@ fn read_copy(alloc: Global, cursor: &mut Cursor<'_>) -> Result<Deed, Stop>
     ensures { Gives (read3 Copy name_at keys_at name_at) cursor.old.rest.now cursor.new.rest.now result }
 {
     let mailbox = cursor.name(alloc)?;
-    let keys = read_list(alloc, 65536, cursor)?;
+    let keys = read_list(alloc, MOST_LISTED, cursor)?;
     let target = cursor.name(alloc)?;
     Ok(Deed::Copy {
         mailbox,
@@ -209,7 +208,7 @@ fn read_expunge(alloc: Global, cursor: &mut Cursor<'_>) -> Result<Deed, Stop>
     ensures { Gives (read2 Expunge name_at keys_at) cursor.old.rest.now cursor.new.rest.now result }
 {
     let mailbox = cursor.name(alloc)?;
-    let keys = read_list(alloc, 65536, cursor)?;
+    let keys = read_list(alloc, MOST_LISTED, cursor)?;
     Ok(Deed::Expunge { mailbox, keys })
 }
 
@@ -217,7 +216,7 @@ fn read_close(alloc: Global, cursor: &mut Cursor<'_>) -> Result<Deed, Stop>
     ensures { Gives (read2 Close name_at keys_at) cursor.old.rest.now cursor.new.rest.now result }
 {
     let mailbox = cursor.name(alloc)?;
-    let keys = read_list(alloc, 65536, cursor)?;
+    let keys = read_list(alloc, MOST_LISTED, cursor)?;
     Ok(Deed::Close { mailbox, keys })
 }
 
@@ -240,35 +239,42 @@ fn read_delete(alloc: Global, cursor: &mut Cursor<'_>) -> Result<Deed, Stop>
     ensures { Gives (read2 Delete name_at keys_at) cursor.old.rest.now cursor.new.rest.now result }
 {
     let mailbox = cursor.name(alloc)?;
-    let keys = read_list(alloc, 65536, cursor)?;
+    let keys = read_list(alloc, MOST_LISTED, cursor)?;
     Ok(Deed::Delete { mailbox, keys })
 }
 
 #[tactic(auto, using(crate::proofs::Puts::list_steps))]
-fn put_deliver(from: &Text, to: &Names, text: &Text, out: &mut Text) -> Result<(), Unwritten>
-    ensures { Puts (deed_fields (Deliver from.now to.now text.now)) out.old out.new result }
+fn put_deliver(
+    most: u32,
+    from: &Text,
+    to: &Names,
+    text: &Text,
+    out: &mut Text,
+) -> Result<(), Unwritten>
+    ensures { Puts (deed_fields_within most (Deliver from.now to.now text.now)) out.old out.new result }
 {
-    put_byte(out, 1, 13, 1)?;
+    put_deed_kind(out, 1)?;
     put_text(out, u32::MAX, from)?;
-    put_list(1000, to, out)?;
-    put_text(out, MOST_BODY, text)
+    put_list(MOST_TO, to, out)?;
+    put_text(out, most, text)
 }
 
 #[tactic(auto, using(crate::proofs::Puts::list_steps))]
 fn put_append(
+    most: u32,
     mailbox: &Name,
     flags: Flags,
     moment: u64,
     text: &Text,
     out: &mut Text,
 ) -> Result<(), Unwritten>
-    ensures { Puts (deed_fields (Append mailbox.now flags moment text.now)) out.old out.new result }
+    ensures { Puts (deed_fields_within most (Append mailbox.now flags moment text.now)) out.old out.new result }
 {
-    put_byte(out, 1, 13, 2)?;
+    put_deed_kind(out, 2)?;
     put_name(out, mailbox)?;
     put_flags(out, flags)?;
     put_u64(out, LAST_MOMENT, moment)?;
-    put_text(out, MOST_BODY, text)
+    put_text(out, most, text)
 }
 
 #[tactic(auto, using(crate::proofs::Puts::list_steps))]
@@ -281,9 +287,9 @@ fn put_fetch(
 ) -> Result<(), Unwritten>
     ensures { Puts (deed_fields (Fetch mailbox.now keys.now sets_seen shows_body)) out.old out.new result }
 {
-    put_byte(out, 1, 13, 3)?;
+    put_deed_kind(out, 3)?;
     put_name(out, mailbox)?;
-    put_list(65536, keys, out)?;
+    put_list(MOST_LISTED, keys, out)?;
     put_bool(out, sets_seen)?;
     put_bool(out, shows_body)
 }
@@ -298,9 +304,9 @@ fn put_store(
 ) -> Result<(), Unwritten>
     ensures { Puts (deed_fields (Store mailbox.now keys.now how flags)) out.old out.new result }
 {
-    put_byte(out, 1, 13, 4)?;
+    put_deed_kind(out, 4)?;
     put_name(out, mailbox)?;
-    put_list(65536, keys, out)?;
+    put_list(MOST_LISTED, keys, out)?;
     put_how(out, how)?;
     put_flags(out, flags)
 }
@@ -309,9 +315,9 @@ fn put_store(
 fn put_copy(mailbox: &Name, keys: &Keys, target: &Name, out: &mut Text) -> Result<(), Unwritten>
     ensures { Puts (deed_fields (Copy mailbox.now keys.now target.now)) out.old out.new result }
 {
-    put_byte(out, 1, 13, 5)?;
+    put_deed_kind(out, 5)?;
     put_name(out, mailbox)?;
-    put_list(65536, keys, out)?;
+    put_list(MOST_LISTED, keys, out)?;
     put_name(out, target)
 }
 
@@ -319,7 +325,7 @@ fn put_copy(mailbox: &Name, keys: &Keys, target: &Name, out: &mut Text) -> Resul
 fn put_listing(pattern: &Text, out: &mut Text) -> Result<(), Unwritten>
     ensures { Puts (deed_fields (Names pattern.now)) out.old out.new result }
 {
-    put_byte(out, 1, 13, 6)?;
+    put_deed_kind(out, 6)?;
     put_text(out, u32::MAX, pattern)
 }
 
@@ -327,7 +333,7 @@ fn put_listing(pattern: &Text, out: &mut Text) -> Result<(), Unwritten>
 fn put_rename(mailbox: &Name, target: &Name, out: &mut Text) -> Result<(), Unwritten>
     ensures { Puts (deed_fields (Rename mailbox.now target.now)) out.old out.new result }
 {
-    put_byte(out, 1, 13, 12)?;
+    put_deed_kind(out, 12)?;
     put_name(out, mailbox)?;
     put_name(out, target)
 }
@@ -335,18 +341,18 @@ fn put_rename(mailbox: &Name, target: &Name, out: &mut Text) -> Result<(), Unwri
 /// Writes a deed of one mailbox.
 #[tactic(auto, using(crate::proofs::Puts::list_steps))]
 fn put_mailbox(kind: u8, mailbox: &Name, out: &mut Text) -> Result<(), Unwritten>
-    ensures { Puts (byte_field 1 13 kind & name_field mailbox.now) out.old out.new result }
+    ensures { Puts (deed_kind kind & name_field mailbox.now) out.old out.new result }
 {
-    put_byte(out, 1, 13, kind)?;
+    put_deed_kind(out, kind)?;
     put_name(out, mailbox)
 }
 
 /// Writes a deed of one mailbox and some of its keys.
 #[tactic(auto, using(crate::proofs::Puts::list_steps))]
 fn put_keys(kind: u8, mailbox: &Name, keys: &Keys, out: &mut Text) -> Result<(), Unwritten>
-    ensures { Puts (byte_field 1 13 kind & name_field mailbox.now & key_list keys.now) out.old out.new result }
+    ensures { Puts (deed_kind kind & name_field mailbox.now & key_list keys.now) out.old out.new result }
 {
-    put_byte(out, 1, 13, kind)?;
+    put_deed_kind(out, kind)?;
     put_name(out, mailbox)?;
-    put_list(65536, keys, out)
+    put_list(MOST_LISTED, keys, out)
 }

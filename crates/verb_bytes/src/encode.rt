@@ -4,9 +4,10 @@ ghost use Rattle.verb_bytes.specs.declared.journal.JournalRecord.TheVariants.{Ve
 ghost use Rattle.verb_bytes.specs.Spelling.{ask_fields, record_fields, record_bytes, HasSpelling};
 ghost use Rattle.verb_bytes.specs.Writing.{Encodes, Puts};
 
+use crate::kinds::put_record_kind;
 use crate::part::{Part, put_list, put_slice};
 use crate::settings::put_house;
-use crate::write::{Unwritten, put_byte, put_name, put_u32, put_u64};
+use crate::write::{Unwritten, put_name, put_u32, put_u64};
 use crate::{CycleAsk, JournalRecord};
 use std::alloc::Global;
 use undo_base::{LAST_MOMENT, NoMemory, Text};
@@ -27,7 +28,7 @@ fn put_ask(ask: &CycleAsk, out: &mut Text) -> Result<(), Unwritten>
 fn put_verb(item: &Item, out: &mut Text) -> Result<(), Unwritten>
     ensures { Puts (record_fields (Verb item.now)) out.old out.new result }
 {
-    put_byte(out, 0, 4, 1)?;
+    put_record_kind(out, 1)?;
     item.put(out)
 }
 
@@ -35,7 +36,7 @@ fn put_verb(item: &Item, out: &mut Text) -> Result<(), Unwritten>
 fn put_operator(number: u32, at: u64, act: &Act, out: &mut Text) -> Result<(), Unwritten>
     ensures { Puts (record_fields (Operator number at act.now)) out.old out.new result }
 {
-    put_byte(out, 0, 4, 2)?;
+    put_record_kind(out, 2)?;
     put_u32(out, u32::MAX, number)?;
     put_u64(out, LAST_MOMENT, at)?;
     act.put(out)
@@ -45,7 +46,7 @@ fn put_operator(number: u32, at: u64, act: &Act, out: &mut Text) -> Result<(), U
 fn put_cycle(number: u32, at: u64, ask: &CycleAsk, out: &mut Text) -> Result<(), Unwritten>
     ensures { Puts (record_fields (Cycle number at ask.now)) out.old out.new result }
 {
-    put_byte(out, 0, 4, 3)?;
+    put_record_kind(out, 3)?;
     put_u32(out, u32::MAX, number)?;
     put_u64(out, LAST_MOMENT, at)?;
     put_ask(ask, out)
@@ -60,7 +61,7 @@ fn put_snapshot(
 ) -> Result<(), Unwritten>
     ensures { Puts (record_fields (Snapshot items conf.now rows.now)) out.old out.new result }
 {
-    put_byte(out, 0, 4, 4)?;
+    put_record_kind(out, 4)?;
     put_u32(out, u32::MAX, items)?;
     put_list(u32::MAX, &conf.aliases, out)?;
     put_list(u32::MAX, &conf.filters, out)?;
@@ -73,7 +74,7 @@ fn put_record(what: &JournalRecord, out: &mut Text) -> Result<(), Unwritten>
 {
     match what {
         JournalRecord::Format(house, conf) => {
-            put_byte(out, 0, 4, 0)?;
+            put_record_kind(out, 0)?;
             put_house(house, conf, out)
         }
         JournalRecord::Verb(item) => put_verb(item, out),

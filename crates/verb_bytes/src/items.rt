@@ -4,9 +4,10 @@ ghost use Rattle.verb_bytes.specs.Reading.{item_of, shown_at};
 ghost use Rattle.verb_bytes.specs.Spelling.{shown_kind};
 
 use crate::cursor::{Cursor, Stop};
+use crate::deeds::{put_deed, read_deed};
 use crate::part::Part;
 use crate::shown::{kind_of, put_shown, read_shown};
-use crate::write::{Unwritten, put_actor, put_condition, put_u32, put_u64};
+use crate::write::{MOST_BODY, MOST_LISTED, Unwritten, put_actor, put_condition, put_u32, put_u64};
 use std::alloc::Global;
 use undo_base::{LAST_MOMENT, Text, User};
 use verb_core::{Deed, Item};
@@ -24,8 +25,8 @@ impl Part for Item {
         put_u32(out, u32::MAX, self.number)?;
         put_u64(out, LAST_MOMENT, self.at)?;
         put_actor(out, self.by)?;
-        self.deed.put(out)?;
-        put_shown(kind_of(&self.deed), &self.shown, out)?;
+        put_deed(MOST_BODY, &self.deed, out)?;
+        put_shown(MOST_LISTED, kind_of(&self.deed), &self.shown, out)?;
         put_condition(out, self.rev == 0)
     }
 
@@ -33,7 +34,7 @@ impl Part for Item {
         let number = cursor.u32(u32::MAX)?;
         let at = cursor.u64(LAST_MOMENT)?;
         let by = cursor.actor()?;
-        let deed = Deed::read(alloc, cursor)?;
+        let deed = read_deed(alloc, MOST_BODY, cursor)?;
         read_rest(alloc, number, at, by, deed, cursor)
     }
 }
@@ -47,9 +48,9 @@ fn read_rest(
     deed: Deed,
     cursor: &mut Cursor<'_>,
 ) -> Result<Item, Stop>
-    ensures { Gives (read1 (item_of number at by deed) (shown_at (shown_kind deed))) cursor.old.rest.now cursor.new.rest.now result }
+    ensures { Gives (read1 (item_of number at by deed) (shown_at MOST_LISTED (shown_kind deed))) cursor.old.rest.now cursor.new.rest.now result }
 {
-    match read_shown(alloc, kind_of(&deed), cursor) {
+    match read_shown(alloc, MOST_LISTED, kind_of(&deed), cursor) {
         Ok(shown) => Ok(Item {
             number,
             at,

@@ -1,16 +1,20 @@
 //! What holds of every record and its bytes. These functions do nothing: their contracts are laws of the definitions.
 ghost use Rattle.std.specs.Prelude.{◌≡◌, ℕ, ◌≤◌, ◌⊎◌, List, IsTrue, length};
 ghost use Rattle.std.specs.List.{AllZip};
+ghost use Rattle.undo_base.specs.declared.limits.TheConstants.{LAST_MOMENT, MOST_KEYS};
 ghost use Rattle.verb_core.specs.declared.conf.Conf.{Conf};
 ghost use Rattle.verb_core.specs.declared.conf.House.{House};
+ghost use Rattle.verb_core.specs.declared.mailbox.BoxId.{BoxId};
+ghost use Rattle.verb_core.specs.declared.mailbox.Mailbox.{Mailbox};
 ghost use Rattle.verb_core.specs.declared.item.Act.{Act};
 ghost use Rattle.verb_core.specs.declared.item.Item.{Item};
 ghost use Rattle.verb_core.specs.Items.{has_form, keys_in};
 ghost use Rattle.verb_bytes.specs.declared.journal.CycleAsk.{CycleAsk};
 ghost use Rattle.verb_bytes.specs.declared.journal.JournalRecord.{JournalRecord};
-ghost use Rattle.verb_bytes.specs.declared.journal.JournalRecord.TheVariants.{Format, Verb, Operator, Cycle};
+ghost use Rattle.verb_bytes.specs.declared.journal.JournalRecord.TheVariants.{Format, Verb, Operator, Cycle, Snapshot};
 ghost use Rattle.verb_bytes.specs.Decoding.{IsBytes, IsRefused, IsRefusedAt, IsSpelled};
-ghost use Rattle.verb_bytes.specs.Limits.{delivery, IsAct, IsAsked, IsMail, IsOpening};
+ghost use Rattle.verb_bytes.specs.Fields.{most_of_four};
+ghost use Rattle.verb_bytes.specs.Limits.{delivery, AreMany, IsAct, IsAlias, IsAsked, IsCycleAsk, IsFilter, IsMail, IsOpening, IsRow};
 ghost use Rattle.verb_bytes.specs.Places.{text_places_of, texts_in, LiesThere};
 ghost use Rattle.verb_bytes.specs.Spelling.{record_bytes, HasSpelling, Spells};
 
@@ -29,7 +33,7 @@ pub fn openings_have_spellings()
 
 /// A delivery of such mail has a spelling.
 pub fn deliveries_have_spellings()
-    ensures { (number at : ℕ) (from : List ℕ) (to : List (List ℕ)) (text : List ℕ) → number ≤ 4294967295 → at ≤ 253402300799 → IsMail from to text → HasSpelling (Verb (delivery number at from to text)) }
+    ensures { (number at : ℕ) (from : List ℕ) (to : List (List ℕ)) (text : List ℕ) → number ≤ most_of_four → at ≤ LAST_MOMENT → IsMail from to text → HasSpelling (Verb (delivery number at from to text)) }
 {}
 
 /// An item that a user asked for has a spelling, with what was shown for it.
@@ -39,18 +43,30 @@ pub fn items_have_spellings()
 
 /// An act of the operator has a spelling.
 pub fn acts_have_spellings()
-    ensures { (number at : ℕ) (act : Act) → number ≤ 4294967295 → at ≤ 253402300799 → IsAct act → HasSpelling (Operator number at act) }
+    ensures { (number at : ℕ) (act : Act) → number ≤ most_of_four → at ≤ LAST_MOMENT → IsAct act → HasSpelling (Operator number at act) }
 {}
 
-/// The item of a record that has a spelling shows what its deed shows, and it has few keys.
+/// A cycle has a spelling.
+pub fn cycles_have_spellings()
+    ensures { (number at : ℕ) (ask : CycleAsk) → number ≤ most_of_four → at ≤ LAST_MOMENT → IsCycleAsk ask → HasSpelling (Cycle number at ask) }
+{}
+
+/// A snapshot has a spelling.
+pub fn snapshots_have_spellings()
+    ensures { (items : ℕ) (conf : Conf) (rows : List (BoxId × Mailbox)) → items ≤ most_of_four → AreMany IsAlias conf.aliases → AreMany IsFilter conf.filters
+        → AreMany IsRow rows → HasSpelling (Snapshot items conf rows) }
+{}
+
+/// The item of a record that has a spelling shows what its deed shows, has few keys and no rev.
 pub fn spelled_items_are_formed()
     ensures form { (item : Item) → HasSpelling (Verb item) → IsTrue (has_form item.deed item.shown) }
-    ensures keys { (item : Item) → HasSpelling (Verb item) → length (keys_in item.deed) ≤ 65536 }
+    ensures keys { (item : Item) → HasSpelling (Verb item) → length (keys_in item.deed) ≤ MOST_KEYS }
+    ensures rev { (item : Item) → HasSpelling (Verb item) → item.rev ≡ 0 }
 {}
 
 /// The moment of a cycle whose record has a spelling is within the years that dates can say.
 pub fn spelled_cycles_have_moments()
-    ensures { (number at : ℕ) (ask : CycleAsk) → HasSpelling (Cycle number at ask) → at ≤ 253402300799 }
+    ensures { (number at : ℕ) (ask : CycleAsk) → HasSpelling (Cycle number at ask) → at ≤ LAST_MOMENT }
 {}
 
 /// Each text of a record lies in its bytes at its place, in order.

@@ -49,14 +49,14 @@ impl Part for Entry {
 
 /// Writes the entries of a mailbox.
 fn put_mail(mail: &Entries, out: &mut Text) -> Result<(), Unwritten>
-    ensures { Puts (list_fields 4294967295 entry_fields mail.now) out.old out.new result }
+    ensures { Puts (list_fields u32.MAX entry_fields mail.now) out.old out.new result }
 {
     put_slice(u32::MAX, mail.as_slice(), out)
 }
 
 /// Reads the entries of a mailbox.
 fn read_mail(alloc: Global, cursor: &mut Cursor<'_>) -> Result<Entries, Stop>
-    ensures { Gives (list_at 4294967295 entry_at) cursor.old.rest.now cursor.new.rest.now result }
+    ensures { Gives (list_at u32.MAX entry_at) cursor.old.rest.now cursor.new.rest.now result }
 {
     match read_list(alloc, u32::MAX, cursor) {
         Ok(entries) => Ok(Entries::from_vec(EntryList::into_vec(entries))),

@@ -8,11 +8,12 @@ ghost use Rattle.verb_core.specs.declared.item.Act.TheVariants.{Give};
 ghost use Rattle.verb_core.specs.declared.item.Deed.TheVariants.{Act as Acts};
 ghost use Rattle.verb_core.specs.Items.{text_in};
 ghost use Rattle.verb_bytes.specs.declared.journal.JournalRecord.TheVariants.{Verb, Operator, Cycle};
-ghost use Rattle.verb_bytes.specs.Fields.{◌&◌, any_text_field, byte_field, flags_field, list_fields, moment_field, name_field, option_fields, user_field};
+ghost use Rattle.verb_bytes.specs.Fields.{◌&◌, act_kind, any_text_field, deed_kind, flags_field, list_fields, moment_field, name_field, option_fields, user_field};
 ghost use Rattle.verb_bytes.specs.Places.{act_place, first_from, given_texts, placed, places_along, replaced_texts, size_of, text_places_of, IsTextAt, LiesThere};
 ghost use Rattle.verb_bytes.specs.Spelling.{act_fields, filter_fields, record_bytes, HasSpelling};
 
 use crate::part::Part;
+use crate::write::MOST_TO;
 use crate::{CycleAsk, JournalRecord};
 use std::alloc::Global;
 use undo_base::{Name, Names, NoMemory, Sequence, Text};
@@ -177,7 +178,7 @@ fn place_each<T: Placed>(from: u32, items: &[T], places: &mut TextPlaces) -> Res
 
 /// So many bytes more, or as many as a number of four bytes can say.
 fn added(from: u32, count: usize) -> u32
-    ensures { result ≡ min (from + count) 4294967295 }
+    ensures { result ≡ min (from + count) u32.MAX }
 {
     if count > (u32::MAX - from) as usize {
         return u32::MAX;
@@ -186,7 +187,7 @@ fn added(from: u32, count: usize) -> u32
 }
 
 fn names_size(names: &[Name]) -> u32
-    ensures { result ≡ min (size_of (flat_map name_field names.now)) 4294967295 }
+    ensures { result ≡ min (size_of (flat_map name_field names.now)) u32.MAX }
 {
     let mut size = 0;
     for name in names {
@@ -198,7 +199,7 @@ fn names_size(names: &[Name]) -> u32
 /// How many bytes lie before the text of a delivery: of the item, who sends, and its recipients.
 #[tactic(auto, using(crate::proofs::Sizes::sizes))]
 fn delivery_text_from(from: &Text, to: &Names) -> u32
-    ensures { result ≡ min (18 + size_of (byte_field 1 13 1 & any_text_field from.now & list_fields 1000 name_field to.now)) 4294967295 }
+    ensures { result ≡ min (18 + size_of (deed_kind 1 & any_text_field from.now & list_fields MOST_TO name_field to.now)) u32.MAX }
 {
     added(names_size(to.as_slice()), 27 + from.bytes().len())
 }
@@ -206,7 +207,7 @@ fn delivery_text_from(from: &Text, to: &Names) -> u32
 /// The same of the text of an APPEND.
 #[tactic(auto, using(crate::proofs::Sizes::sizes))]
 fn append_text_from(mailbox: &Name) -> u32
-    ensures { (flags : Flags) (at : ℕ) → result ≡ 18 + size_of (byte_field 1 13 2 & name_field mailbox.now & flags_field flags & moment_field at) }
+    ensures { (flags : Flags) (at : ℕ) → result ≡ 18 + size_of (deed_kind 2 & name_field mailbox.now & flags_field flags & moment_field at) }
 {
     29 + mailbox.bytes().len() as u32
 }
@@ -214,39 +215,27 @@ fn append_text_from(mailbox: &Name) -> u32
 /// The same of the text of a Give.
 #[tactic(auto, using(crate::proofs::Sizes::sizes))]
 fn give_text_from(mailbox: &Name) -> u32
-    ensures { (user : User) → result ≡ 17 + size_of (byte_field 1 6 6 & user_field user & name_field mailbox.now) }
+    ensures { (user : User) → result ≡ 17 + size_of (act_kind 6 & user_field user & name_field mailbox.now) }
 {
     20 + mailbox.bytes().len() as u32
 }
 
 #[tactic(auto, using(crate::proofs::Sizes::before_deed_is))]
 fn before_item_text(item: &Item) -> u32
-    ensures { result ≡ min (first_from (text_places_of (Verb item.now))) 4294967295 }
+    ensures { result ≡ min (first_from (text_places_of (Verb item.now))) u32.MAX }
 {
     match &item.deed {
         Deed::Deliver { from, to, .. } => delivery_text_from(from, to),
         Deed::Append { mailbox, .. } => append_text_from(mailbox),
-        Deed::Fetch { .. } => 0,
-        Deed::Store { .. } => 0,
-        Deed::Copy { .. } => 0,
-        Deed::List { .. } => 0,
-        Deed::Status { .. } => 0,
-        Deed::Select { .. } => 0,
-        Deed::Expunge { .. } => 0,
-        Deed::Close { .. } => 0,
-        Deed::Create { .. } => 0,
-        Deed::Rename { .. } => 0,
-        Deed::Delete { .. } => 0,
-        Deed::Act(_) => 0,
-        Deed::Notice { .. } => 0,
+        _ => 0,
     }
 }
 
 /// How many bytes lie before the text of a user's item in its record, the four bytes of the text's length among them: 0 for
 /// an item without one.
 pub fn item_text_from(item: &Item) -> u32
-    ensures from { result ≡ min (first_from (text_places_of (Verb item.now))) 4294967295 }
-    ensures lies { (text : List ℕ) → HasSpelling (Verb item.now) → length (record_bytes (Verb item.now)) ≤ 4294967295
+    ensures from { result ≡ min (first_from (text_places_of (Verb item.now))) u32.MAX }
+    ensures lies { (text : List ℕ) → HasSpelling (Verb item.now) → length (record_bytes (Verb item.now)) ≤ u32.MAX
         → text_in item.now.deed ≡ Some text → IsTextAt (record_bytes (Verb item.now)) result text }
 {
     before_item_text(item)
@@ -257,12 +246,8 @@ fn before_act_text(act: &Act) -> u32
     ensures { (number at : ℕ) → result ≡ first_from (text_places_of (Operator number at act.now)) }
 {
     match act {
-        Act::SetAlias { .. } => 0,
-        Act::DropAlias { .. } => 0,
-        Act::SetFilter(_) => 0,
-        Act::DropFilter { .. } => 0,
-        Act::Remove { .. } => 0,
         Act::Give { mailbox, .. } => give_text_from(mailbox),
+        _ => 0,
     }
 }
 
@@ -297,7 +282,7 @@ pub fn ask_text_places(alloc: Global, ask: &CycleAsk) -> Result<TextPlaces, NoMe
 /// The place of a text, where there is one: of the one text of a record.
 fn one_place(alloc: Global, from: u32, text: Option<&Text>) -> Result<TextPlaces, NoMemory>
     ensures place { IfOk result (λ places. places ≡ option_to_list (option_map (placed from) (option_copied text.entry))) }
-    ensures small { OnOk result (from < 4294967295) }
+    ensures small { OnOk result (from < u32.MAX) }
 {
     if from == u32::MAX {
         return Err(NoMemory);
@@ -331,10 +316,9 @@ pub fn text_places(alloc: Global, what: &JournalRecord) -> Result<TextPlaces, No
     ensures { IfOk result (λ places. places ≡ text_places_of what.now) }
 {
     match what {
-        JournalRecord::Format(_, _) => Ok(Sequence::new(alloc)),
         JournalRecord::Verb(item) => item_text_places(alloc, item),
         JournalRecord::Operator { act, .. } => act_text_places(alloc, act),
         JournalRecord::Cycle { ask, .. } => ask_text_places(alloc, ask),
-        JournalRecord::Snapshot { .. } => Ok(Sequence::new(alloc)),
+        _ => Ok(Sequence::new(alloc)),
     }
 }

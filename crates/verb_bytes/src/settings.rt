@@ -7,7 +7,7 @@ ghost use Rattle.verb_bytes.specs.Writing.{Puts};
 use crate::JournalRecord;
 use crate::cursor::{Cursor, Stop};
 use crate::part::{Part, put_list, put_option, read_list, read_option};
-use crate::write::{Unwritten, put_condition, put_name, put_u32, put_user};
+use crate::write::{MOST_ACCOUNTS, Unwritten, put_condition, put_name, put_u32, put_user};
 use std::alloc::Global;
 use undo_base::Text;
 use verb_core::{Account, Alias, Conf, Filter, Filters, House};
@@ -85,7 +85,7 @@ pub(crate) fn put_house(house: &House, conf: &Conf, out: &mut Text) -> Result<()
     put_name(out, &house.host)?;
     put_list(u32::MAX, &house.domains, out)?;
     put_u32(out, u32::MAX, house.first)?;
-    put_list(200, &house.accounts, out)?;
+    put_list(MOST_ACCOUNTS, &house.accounts, out)?;
     put_user(out, house.postmaster)?;
     put_list(u32::MAX, &conf.aliases, out)?;
     put_condition(out, conf.filters.is_empty())
@@ -98,7 +98,7 @@ pub(crate) fn read_house(alloc: Global, cursor: &mut Cursor<'_>) -> Result<Journ
     let host = cursor.name(alloc)?;
     let domains = read_list(alloc, u32::MAX, cursor)?;
     let first = cursor.u32(u32::MAX)?;
-    let accounts = read_list(alloc, 200, cursor)?;
+    let accounts = read_list(alloc, MOST_ACCOUNTS, cursor)?;
     let postmaster = cursor.user()?;
     let aliases = read_list(alloc, u32::MAX, cursor)?;
     let house = House {

@@ -4,10 +4,28 @@ ghost use Rattle.std.specs.Int.{w32, w64};
 ghost use Rattle.verb_bytes.specs.Fields.{field, only_if, byte_field, number_field, name_field, text_field, key_field, user_field, actor_field, bool_field, flags_field, worth};
 ghost use Rattle.verb_bytes.specs.Writing.{Puts};
 
-use undo_base::{Flags, Key, Name, NoMemory, Text, User};
+use undo_base::{Flags, Key, MOST_KEYS, MOST_RECIPIENTS, MOST_USERS, Name, NoMemory, Text, User};
 
 /// The most bytes of a message's text as it is stored.
 pub(crate) const MOST_BODY: u32 = 1052672;
+
+/// The most keys of a list.
+pub(crate) const MOST_LISTED: u32 = MOST_KEYS as u32;
+
+/// The most recipients of a message.
+pub(crate) const MOST_TO: u32 = MOST_RECIPIENTS as u32;
+
+/// The most accounts of a house.
+pub(crate) const MOST_ACCOUNTS: u32 = MOST_USERS as u32;
+
+/// The last user.
+pub(crate) const LAST_USER: u8 = 199;
+
+/// Nobody, in the place of a user.
+pub(crate) const NOBODY: u8 = 255;
+
+/// All flags.
+pub(crate) const ALL_FLAGS: u8 = 31;
 
 /// Why a record is not written.
 #[derive(Clone, Copy, Debug, PartialEq, Eq)]
@@ -135,7 +153,7 @@ pub(crate) fn put_key(out: &mut Text, value: Key) -> Result<(), Unwritten>
 pub(crate) fn put_user(out: &mut Text, value: User) -> Result<(), Unwritten>
     ensures { Puts (user_field value) out.old out.new result }
 {
-    put_byte(out, 0, 199, value.0)
+    put_byte(out, 0, LAST_USER, value.0)
 }
 
 /// Who acted: 255 for nobody.
@@ -143,7 +161,7 @@ pub(crate) fn put_actor(out: &mut Text, by: Option<User>) -> Result<(), Unwritte
     ensures { Puts (actor_field by) out.old out.new result }
 {
     match by {
-        None => put_byte(out, 255, 255, 255),
+        None => put_byte(out, NOBODY, NOBODY, NOBODY),
         Some(user) => put_user(out, user),
     }
 }
@@ -176,5 +194,5 @@ pub(crate) fn put_flags(out: &mut Text, value: Flags) -> Result<(), Unwritten>
         + worth_of(value.deleted, 4)
         + worth_of(value.seen, 8)
         + worth_of(value.draft, 16);
-    put_byte(out, 0, 31, code)
+    put_byte(out, 0, ALL_FLAGS, code)
 }

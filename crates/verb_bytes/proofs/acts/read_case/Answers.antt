@@ -1,4 +1,5 @@
 use Rattle.std.proofs.Common.{◌≡◌, arith}
+use Rattle.verb_bytes.specs.declared.kinds.TheConstants.{LAST_ACT}
 use Rattle.verb_bytes.specs.Reading.{act_cases}
 use Rattle.verb_bytes.proofs.Cases.{this_case}
 use Rattle.verb_bytes.proofs.acts.read_case.Goals as goal
@@ -20,5 +21,5 @@ returns-in-5 c = this_case 1 act_cases c.args.cursor.now.rest.now c.read_remove.
 
 pub returns-in_default : goal.returns-in_default
 returns-in_default c =
-    let last : c.args.kind ≡ 6 = omega arith in
-    this_case 1 act_cases c.args.cursor.now.rest.now c.read_give.new.cursor.rest.now c.args.kind 6 c.read_give.result last c.read_give.ensures
+    let last : c.args.kind ≡ LAST_ACT = omega arith in
+    this_case 1 act_cases c.args.cursor.now.rest.now c.read_give.new.cursor.rest.now c.args.kind LAST_ACT c.read_give.result last c.read_give.ensures

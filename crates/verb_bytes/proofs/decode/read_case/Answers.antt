@@ -1,4 +1,5 @@
 use Rattle.std.proofs.Common.{◌≡◌, arith}
+use Rattle.verb_bytes.specs.declared.kinds.TheConstants.{LAST_RECORD}
 use Rattle.verb_bytes.specs.Reading.{record_cases}
 use Rattle.verb_bytes.proofs.Cases.{this_case}
 use Rattle.verb_bytes.proofs.decode.read_case.Goals as goal
@@ -17,5 +18,5 @@ returns-in-3 c = this_case 0 record_cases c.args.cursor.now.rest.now c.read_cycl
 
 pub returns-in_default : goal.returns-in_default
 returns-in_default c =
-    let last : c.args.kind ≡ 4 = omega arith in
-    this_case 0 record_cases c.args.cursor.now.rest.now c.read_snapshot.new.cursor.rest.now c.args.kind 4 c.read_snapshot.result last c.read_snapshot.ensures
+    let last : c.args.kind ≡ LAST_RECORD = omega arith in
+    this_case 0 record_cases c.args.cursor.now.rest.now c.read_snapshot.new.cursor.rest.now c.args.kind LAST_RECORD c.read_snapshot.result last c.read_snapshot.ensures
