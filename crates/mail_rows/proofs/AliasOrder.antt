@@ -64,9 +64,6 @@ parted local (a ∷ more) rise zero (suc j) d le lt before =
 parted local (a ∷ more) rise (suc i) zero d le lt before = absurd (omega (arith, le))
 parted local (a ∷ more) rise (suc i) (suc j) d le lt before = parted local more rise.1 i j d (omega (arith, le)) (omega (arith, lt)) before
 
-pub all_pub parted : (local : List ℕ) (all : List Alias) → Rises all → IsPartitionedBy (stands_before local) all
-all_parted = parted
-
 counted : (p : Alias → Bool) (all : List Alias) (n : ℕ) → n ≤ length all → IsPartitionPoint (λ a. p a ≡ true) (λ a. p a ≡ false) all n → n ≡ front p all
 counted p [] zero le at = refl
 counted p [] (suc n) le at = absurd (omega (arith, le))
