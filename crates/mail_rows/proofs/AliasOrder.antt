@@ -45,11 +45,14 @@ above_at a (b ∷ more) (suc j) d lt all = above_at a more j d (omega (arith, lt
 
 -- ---- aliases of which each stands before the next
 
+one_later : (k : ℕ) → suc k + 1 ≡ suc (k + 1)
+one_later k = omega arith
+
 pub rises : (all : List Alias) → AllAdjacentBelow (λ (a b : Alias). true ≡ stands_before b.local a) all (length all) → Rises all
 rises [] next = tt
 rises (a ∷ []) next = (tt, tt)
 rises (a ∷ b ∷ more) next =
-    let rest : Rises (b ∷ more) = rises (b ∷ more) (λ k d lt. next (suc k) d (omega (arith, lt))) in
+    let rest : Rises (b ∷ more) = rises (b ∷ more) (λ k d lt. subst (λ (n : ℕ). true ≡ stands_before (get_or (a ∷ b ∷ more) n d).local (get_or (b ∷ more) k d)) (one_later k) (next (suc k) d (omega (arith, lt)))) in
     let less : lie a.local b.local ≡ Less = below_of a.local b.local (next 0 a (omega arith)) in
     ((less, above_more a.local b.local more less rest.0), rest)
 
