@@ -215,7 +215,8 @@ impl Store {
 
     /// All mailboxes, by rising user and name, with no memory taken.
     pub fn boxes(&self) -> &[(BoxId, Mailbox)]
-        ensures { result.now ≡ self.now.store.boxes }
+        ensures boxes { result.now ≡ self.now.store.boxes }
+        ensures rising { IsTrue (is_rising self.now.store.boxes) }
     {
         self.rows.as_slice()
     }
