@@ -2,15 +2,11 @@
 use Rattle.std.proofs.Common.{◌≡◌, ℕ, zero, suc, ◌<◌, Bool, true, false, cond, ◌&&◌, List, [], ◌∷◌, map, Some, None, Result, Err, refl, ap, ap₂, ◌∙◌, subst, arith, length, Ordering, Less, Equal, Greater, is_eq, is_lt, get_or, inl, inr}
 use Rattle.std.specs.Cmp.{first_so, second_so}
 use Rattle.std.specs.FinMap.Entries as rows
-use Rattle.std.specs.List.{list_all}
 use Rattle.std.specs.List.Sorted.{IsBinarySearchResult}
 use Rattle.std.proofs.lemmas.Bool.{cases_order}
 use Rattle.verb_core.specs.declared.mailbox.BoxId.{BoxId}
 use Rattle.verb_core.specs.declared.mailbox.Mailbox.{Mailbox}
-use Rattle.verb_core.specs.declared.conf.House.{House}
 use Rattle.verb_core.specs.Boxes.{box_cmp, is_rising, row_at}
-use Rattle.verb_core.specs.Mailboxes.{is_mailbox}
-use Rattle.verb_core.specs.Store.{is_known, is_row}
 use Rattle.verb_core.proofs.BoxLaws.{exact_boxes}
 use Rattle.verb_core.proofs.Searched.{below_at, comparisons_rise, turned_over}
 
@@ -57,12 +53,3 @@ rising_named (r ∷ rs) (b ∷ boxes) e rise =
     let tail : map (λ (r : BoxId × ℕ). r.0) rs ≡ map (λ (r : BoxId × Mailbox). r.0) boxes = cc in
     rw (ap (λ (q : BoxId). rows.below_all box_cmp q rs) head ∙ below_named b.0 rs boxes tail ∙ first_so (rows.below_all box_cmp b.0 boxes) _ rise)
     (rising_named rs boxes tail (second_so (rows.below_all box_cmp b.0 boxes) _ rise))
-
--- what is found in a valid store is a mailbox whose UIDs rise
-pub found_sound : (house : House) (id : BoxId) (boxes : List (BoxId × Mailbox)) (m : Mailbox) → Some m ≡ row_at id boxes → list_all (is_row house) boxes ≡ true → is_mailbox m ≡ true
-found_sound house id [] m e all = cc
-found_sound house id (r ∷ boxes) m e all = by (is_eq (box_cmp id r.0)) e (λ found. found_sound house id boxes m found (second_so (is_row house r) _ all))
-  where
-    by : (b : Bool) → Some m ≡ cond b (Some r.1) (row_at id boxes) → (Some m ≡ row_at id boxes → is_mailbox m ≡ true) → is_mailbox m ≡ true
-    by true e rest = let same : m ≡ r.1 = cc in ap is_mailbox same ∙ second_so (is_known house r.0.user) (is_mailbox r.1) (first_so (is_row house r) _ all)
-    by false e rest = rest e

@@ -5,7 +5,6 @@ ghost use Rattle.verb_core.specs.declared.mailbox.BoxId.{BoxId as TheBoxId};
 ghost use Rattle.verb_core.specs.declared.mailbox.Mailbox.{Mailbox as TheMailbox};
 ghost use Rattle.verb_core.specs.Boxes.{box_cmp, is_rising, row_at};
 ghost use Rattle.verb_core.specs.Mailboxes.{is_mailbox};
-ghost use Rattle.verb_core.specs.Store.{IsValid};
 ghost use Rattle.repair_desk.specs.Renewals.{UidsRise, extends as is_extended, is_old as is_old_mail, renewed, same_mail as is_same_mail, stamp_after as is_stamp_after};
 
 use box_store::Store;
@@ -21,8 +20,24 @@ fn same_mail(one: &Entry, other: &Entry) -> bool
     one.uid == other.uid && one.key == other.key && one.body.is_same(other.body)
 }
 
+/// Whether the UIDs of a mailbox rise, and stay below the next.
+fn in_order(old: &Mailbox) -> bool
+    ensures { result ≡ is_mailbox old.now }
+{
+    let mut low = 0;
+    let mut rest = old.entries.as_slice();
+    while let [entry, others @ ..] = rest {
+        if entry.uid <= low {
+            return false;
+        }
+        low = entry.uid;
+        rest = others;
+    }
+    low < old.next
+}
+
 /// Whether one of the entries is the same mail, found by its UID.
-fn has_mail(entries: &[Entry], entry: &Entry) -> bool
+fn finds_mail(entries: &[Entry], entry: &Entry) -> bool
     requires { UidsRise entries.now }
     ensures { result ≡ list_any (is_same_mail entry.now) entries.now }
 {
@@ -32,24 +47,37 @@ fn has_mail(entries: &[Entry], entry: &Entry) -> bool
     }
 }
 
+/// Whether one of the entries is the same mail: found by its UID where the UIDs rise, as those of a valid store do.
+fn has_mail(old: &Mailbox, rising: bool, entry: &Entry) -> bool
+    requires { rising ≡ is_mailbox old.now }
+    ensures { result ≡ list_any (is_same_mail entry.now) old.now.entries }
+{
+    let entries = old.entries.as_slice();
+    if rising {
+        finds_mail(entries, entry)
+    } else {
+        entries.iter().any(|other| same_mail(entry, other))
+    }
+}
+
 /// Whether an entry below the old next UID is an old one.
-fn is_old(old: &Mailbox, entry: &Entry) -> bool
-    requires { IsTrue (is_mailbox old.now) }
+fn is_old(old: &Mailbox, rising: bool, entry: &Entry) -> bool
+    requires { rising ≡ is_mailbox old.now }
     ensures { result ≡ is_old_mail old.now entry.now }
 {
-    old.next <= entry.uid || has_mail(old.entries.as_slice(), entry)
+    old.next <= entry.uid || has_mail(old, rising, entry)
 }
 
 /// Whether a mailbox is extended by another.
 fn extends(old: &Mailbox, new: &Mailbox) -> bool
-    requires { IsTrue (is_mailbox old.now) }
     ensures { result ≡ is_extended old.now new.now }
 {
     if new.next < old.next {
         return false;
     }
+    let rising = in_order(old);
     for entry in new.entries.as_slice() {
-        if !is_old(old, entry) {
+        if !is_old(old, rising, entry) {
             return false;
         }
     }
@@ -80,8 +108,7 @@ fn stamp_of(stamps: &[(BoxId, u32)], id: &BoxId) -> Option<u32>
 
 /// The stamp of a row after the cycle `c`.
 fn stamp_after(before: &Store, stamps: &[(BoxId, u32)], row: &(BoxId, Mailbox), c: u32) -> u32
-    requires valid { IsValid before.now.store }
-    requires rising { IsTrue (is_rising stamps.now) }
+    requires { IsTrue (is_rising stamps.now) }
     ensures { result ≡ is_stamp_after before.now.store.boxes stamps.now c row.now }
 {
     match before.mailbox(row.0.user, &row.0.name) {
@@ -103,8 +130,7 @@ fn renewed_stamps(
     stamps: &[(BoxId, u32)],
     c: u32,
 ) -> Result<Stamps, NoMemory>
-    requires valid { IsValid before.now.store }
-    requires rising { IsTrue (is_rising stamps.now) }
+    requires { IsTrue (is_rising stamps.now) }
     ensures { IfOk result (λ new. new ≡ renewed before.now.store.boxes rows.now stamps.now c) }
 {
     let mut new = Stamps::new(alloc);
@@ -116,7 +142,8 @@ fn renewed_stamps(
 }
 
 /// The stamps after the cycle `c`: a mailbox that was there before and is extended keeps its stamp, every other one has
-/// the stamp `c` (RFC 3501, section 2.3.1.1). In time that grows as the entries times the logarithm of a mailbox.
+/// the stamp `c` (RFC 3501, section 2.3.1.1). In time that grows as the entries times the logarithm of a mailbox, where the
+/// store before is valid; no row of a store is copied.
 pub fn renew(
     alloc: Global,
     before: &Store,
@@ -124,10 +151,9 @@ pub fn renew(
     stamps: &Stamps,
     c: u32,
 ) -> Result<Stamps, NoMemory>
-    requires valid { IsValid before.now.store }
     requires named { map (λ (r : TheBoxId × ℕ). r.0) stamps.now ≡ map (λ (r : TheBoxId × TheMailbox). r.0) before.now.store.boxes }
     ensures { IfOk result (λ new. new ≡ renewed before.now.store.boxes after.now.store.boxes stamps.now c) }
 {
-    let rows = after.rows(alloc)?;
-    renewed_stamps(alloc, before, rows.as_slice(), stamps.as_slice(), c)
+    let _named = before.boxes();
+    renewed_stamps(alloc, before, after.boxes(), stamps.as_slice(), c)
 }

@@ -2,7 +2,7 @@ use Rattle.std.proofs.Common.{rules, sym, ◌∙◌}
 use Rattle.std.proofs.lemmas.List.Sorted.{answers_always}
 use Rattle.verb_core.specs.declared.mailbox.Entry.{Entry}
 use Rattle.repair_desk.proofs.Uids.{uid_found, uid_missing}
-use Rattle.repair_desk.proofs.renewing.has_mail.Goals as goal
+use Rattle.repair_desk.proofs.renewing.finds_mail.Goals as goal
 
 pub returns-in-Ok : goal.returns-in-Ok
 returns-in-Ok c =
