@@ -16,7 +16,7 @@ use Rattle.verb_core.proofs.Joins.{run_joined}
 use Rattle.store_kept.specs.Kept.{Kept, store_of}
 use Rattle.paradox.specs.Letters.{notices}
 use Rattle.paradox.specs.declared.reports.BrokenItem.{BrokenItem}
-use Rattle.repair_desk.specs.declared.editing.Edited.{Edited}
+use Rattle.repair_desk.specs.declared.editing.EditedBehind.{EditedBehind}
 use Rattle.repair_desk.specs.Renewals.{renewed}
 use Rattle.repair_desk.specs.Repairs.{are_known, edited_at, edited_behind, is_among, numbers_of, position}
 use Rattle.repair_desk.proofs.Everywhere.{all_formed}
@@ -32,14 +32,14 @@ use Rattle.mail_cycle.proofs.Cycled.{drop_more, few_notices, few_told, judged_sa
 -- ---- the repaired items
 
 -- they are well formed; what is lent of a state is that state
-pub items_formed : (v s : Kept) → v ≡ s → (ask : CycleAsk) (at from place : ℕ) (r : Result Edited NoMemory) → AllByRecursion (IsWellFormed v.house) v.timeline → are_known s.house ask.inserts ≡ true
+pub items_formed : (v s : Kept) → v ≡ s → (ask : CycleAsk) (at from place : ℕ) (r : Result EditedBehind NoMemory) → AllByRecursion (IsWellFormed v.house) v.timeline → are_known s.house ask.inserts ≡ true
     → IfOk r (λ e. e ≡ edited_behind v.timeline ask v.next at from place) → IfOk r (λ e. AllByRecursion (IsWellFormed s.house) e.items)
 items_formed v s same ask at from place (Err e) formed known is = tt
 items_formed v s same ask at from place (Ok e) formed known is =
     let acts : are_known v.house ask.inserts ≡ true = subst (λ (h : House). are_known h ask.inserts ≡ true) (ap (λ (k : Kept). k.house) (sym same)) known in
     let all : AllByRecursion (IsWellFormed v.house) (edited_at v.timeline ask v.next at place).items = all_formed v.house v.timeline ask v.next at place formed acts in
     subst (λ (h : House). AllByRecursion (IsWellFormed h) e.items) (ap (λ (k : Kept). k.house) same)
-    (subst (AllByRecursion (IsWellFormed v.house)) (ap (λ (x : Edited). x.items) (sym is)) (all_dropped (IsWellFormed v.house) from (edited_at v.timeline ask v.next at place).items all))
+    (subst (AllByRecursion (IsWellFormed v.house)) (ap (λ (x : EditedBehind). x.items) (sym is)) (all_dropped (IsWellFormed v.house) from (edited_at v.timeline ask v.next at place).items all))
 
 -- ---- notices
 

@@ -11,7 +11,7 @@ ghost use Rattle.repair_desk.specs.Repairs.{are_known, edited_behind, position};
 
 use box_store::Store;
 use paradox::Report;
-use repair_desk::{Edited, edit_behind, position_of, renew};
+use repair_desk::{EditedBehind, edit_behind, position_of, renew};
 use std::alloc::Global;
 use std::marker::Model;
 use store_kept::Base;
@@ -168,7 +168,7 @@ impl<'a> Before<'a> {
         at: u64,
         from: usize,
         place: usize,
-    ) -> Result<Edited, NoMemory>
+    ) -> Result<EditedBehind, NoMemory>
         requires from { from ≤ place }
         requires place { place ≤ length self.now.timeline }
         requires numbers { self.now.next + length ask.now.inserts ≤ LAST_NUMBER }

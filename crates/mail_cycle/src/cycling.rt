@@ -17,7 +17,7 @@ use crate::running::{Replayed, replay_in_order};
 use crate::settling::{Repairs, Rewound, settle};
 use crate::{Before, Beginning};
 use box_store::{Steps, Store};
-use repair_desk::Edited;
+use repair_desk::EditedBehind;
 use std::alloc::Global;
 use std::sync::ledger::Ledger;
 use std::thread::Threads;
@@ -89,7 +89,7 @@ fn go_to<B: Bodies, L: Ledger>(
     first: Beginning,
     bodies: &mut B,
     place: usize,
-    edited: Edited,
+    edited: EditedBehind,
     steps: &mut Steps<L>,
 ) -> Result<AtPoint, BodiesFault>
     requires valid { IsValid first.store.store }
@@ -109,13 +109,11 @@ fn go_to<B: Bodies, L: Ledger>(
     ensures stays { StaysTold (B.told bodies.old) (B.told bodies.new) }
     ensures leads { B.leads bodies.old bodies.new }
 {
-    let Edited {
+    let EditedBehind {
         items,
         kept,
-        withdrawn,
         unmatched,
     } = edited;
-    drop(withdrawn);
     let repairs = Repairs { kept, unmatched };
     let Beginning { store, count } = first;
     match cut(items, place - count) {

@@ -1,10 +1,12 @@
 //! Items, replayed level by level on workers. It gives the same as one after the other.
-ghost use Rattle.std.specs.Prelude.{◌≡◌, ◌+◌, List, length, IfOk, OnOk};
+ghost use Rattle.std.specs.Prelude.{◌≡◌, ◌+◌, List, length, map, IfOk, OnOk};
 ghost use Rattle.std.specs.List.{AllByRecursion};
 ghost use Rattle.verb_core.specs.declared.item.Item.{Item};
 ghost use Rattle.verb_core.specs.Items.{IsWellFormed};
 ghost use Rattle.verb_core.specs.Step.{answers, run};
-ghost use Rattle.verb_core.specs.Store.{IsValid};
+ghost use Rattle.verb_core.specs.Store.{IsValid, MailStore};
+ghost use Rattle.touch_rules.specs.Table.{touches_of};
+ghost use Rattle.replay_plan.specs.Placing.{levels_of as plan_of};
 ghost use Rattle.verb_core.specs.Texts.{StaysTold};
 ghost use Rattle.stored_items.specs.Stored.{AllHeard};
 ghost use Rattle.replay_crew.specs.Hearing.{Counts, HoldsOf, StoresOf};
@@ -14,7 +16,7 @@ use crate::Shows;
 use crate::running::Replayed;
 use box_store::{Steps, Store};
 use replay_crew::{ResolvedList, resolve, run_plan, touch_all};
-use replay_plan::plan;
+use replay_plan::{Levels, plan};
 use std::alloc::Global;
 use std::sync::ledger::Ledger;
 use std::thread::Threads;
@@ -22,6 +24,15 @@ use stored_items::StoredItems;
 use undo_base::NoMemory;
 use undo_outside::Gate;
 use verb_core::{Bodies, BodiesFault};
+
+/// The levels of resolved items: what each of them touches is let go before the first is performed.
+fn levels_of(alloc: Global, items: &ResolvedList) -> Result<Levels, NoMemory>
+    requires { (s : MailStore) × AreResolved s items.now }
+    ensures { IfOk result (λ levels. levels ≡ plan_of (map touches_of items.now)) }
+{
+    let touches = touch_all(alloc, items)?;
+    plan(alloc, &touches)
+}
 
 /// The store that resolved items lead to, level by level, and what each of them shows, in their order.
 fn run_levels<R: Threads + Sync, G: Gate, L: Ledger>(
@@ -39,8 +50,7 @@ fn run_levels<R: Threads + Sync, G: Gate, L: Ledger>(
     ensures valid { IfOk result (λ made. IsValid made.0.store) }
     ensures steps { OnOk result (steps.new ≡ steps.old + length items.now) }
 {
-    let touches = touch_all(alloc, items)?;
-    let levels = plan(alloc, &touches)?;
+    let levels = levels_of(alloc, items)?;
     run_plan(rt, alloc, store, &levels, items, gate, steps)
 }
 

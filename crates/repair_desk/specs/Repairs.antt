@@ -11,6 +11,7 @@ use Rattle.verb_core.specs.Items.{text_in, users_in}
 use Rattle.verb_core.specs.Store.{is_known}
 use Rattle.verb_bytes.specs.declared.journal.CycleAsk.{CycleAsk}
 use Rattle.repair_desk.specs.declared.editing.Edited.{Edited}
+use Rattle.repair_desk.specs.declared.editing.EditedBehind.{EditedBehind}
 
 -- how many items stand through a point: none through 0, else those through the item of that number, if there is one
 abbrev pub position : List Item → ℕ → Option ℕ
@@ -101,9 +102,13 @@ edited_at t ask c at place = record {
   unmatched = unmatched ask (drop place t);
 }
 
--- the same, with the items behind the first so many alone
-abbrev pub edited_behind : List Item → CycleAsk → ℕ → ℕ → ℕ → ℕ → Edited
-edited_behind t ask c at from place = record (edited_at t ask c at place) { items = drop from (new_timeline t ask c at place) }
+-- the same behind the first so many items, without those that go
+abbrev pub edited_behind : List Item → CycleAsk → ℕ → ℕ → ℕ → ℕ → EditedBehind
+edited_behind t ask c at from place = record {
+  items = drop from (new_timeline t ask c at place);
+  kept = length (kept ask (drop place t));
+  unmatched = unmatched ask (drop place t);
+}
 
 -- the repairs of the cycle c at a moment, where the timeline has the point
 abbrev pub edited : List Item → CycleAsk → ℕ → ℕ → Option Edited

@@ -1,7 +1,7 @@
 //! The timeline after the repairs that are asked for.
-ghost use Rattle.std.specs.Prelude.{◌≡◌, ◌+◌, ◌++◌, ◌≤◌, drop, length, map, Some, IfOk, IfErr};
+ghost use Rattle.std.specs.Prelude.{◌≡◌, ◌+◌, ◌++◌, ◌≤◌, ◌^◌, drop, length, map, Some, IfOk, IfErr, IsErr};
 ghost use Rattle.repair_desk.specs.Refusing.{IsRefusalOf};
-ghost use Rattle.repair_desk.specs.Repairs.{edited as edits, edited_at, edited_behind, inserted, kept as kept_of, repaired};
+ghost use Rattle.repair_desk.specs.Repairs.{edited as edits, edited_at, edited_behind, inserted, kept as kept_of, repaired, unmatched as unmatched_of};
 
 use crate::asked::Asked;
 use crate::inserts::push_inserts;
@@ -21,6 +21,15 @@ pub struct Edited {
     pub items: StoredItems,
     pub kept: u32,
     pub withdrawn: StoredItems,
+    pub unmatched: Numbers,
+}
+
+/// A repaired timeline behind its first so many items: the items there, how many of the later ones stayed, and the asked numbers
+/// that did nothing.
+#[derive(Drop)]
+pub struct EditedBehind {
+    pub items: StoredItems,
+    pub kept: u32,
     pub unmatched: Numbers,
 }
 
@@ -80,7 +89,8 @@ fn count_kept(asked: &Asked<'_>, later: &[StoredItem]) -> usize
 
 /// The same in 32 bits. More than these hold find no memory.
 fn kept_later(asked: &Asked<'_>, later: &[StoredItem]) -> Result<u32, NoMemory>
-    ensures { IfOk result (λ count. count ≡ length (kept_of asked.now later.now)) }
+    ensures count { IfOk result (λ count. count ≡ length (kept_of asked.now later.now)) }
+    ensures more { IsErr result → 2 ^ 32 ≤ length (kept_of asked.now later.now) }
 {
     match u32::try_from(count_kept(asked, later)) {
         Ok(count) => Ok(count),
@@ -88,8 +98,36 @@ fn kept_later(asked: &Asked<'_>, later: &[StoredItem]) -> Result<u32, NoMemory>
     }
 }
 
-/// The same as `edit_at`, but for the first so many items, none of which the repairs touch: of these no copy is made. In time
-/// that grows as the items behind them.
+/// The repaired timeline behind the first so many items, from those through the place and the later ones.
+fn behind(
+    alloc: Global,
+    front: &[StoredItem],
+    later: &[StoredItem],
+    ask: &CycleAsk,
+    asked: &Asked<'_>,
+    c: u32,
+    at: u64,
+    from: usize,
+) -> Result<EditedBehind, NoMemory>
+    requires asked { asked.now ≡ ask.now }
+    requires numbers { c + length ask.now.inserts ≤ LAST_NUMBER }
+    requires from { from ≤ length front.now }
+    ensures items { IfOk result (λ edited. edited.items ≡ drop from (front.now ++ inserted c at ask.now.inserts ++ map (repaired ask.now c) (kept_of ask.now later.now))) }
+    ensures kept { IfOk result (λ edited. edited.kept ≡ length (kept_of ask.now later.now)) }
+    ensures unmatched { IfOk result (λ edited. edited.unmatched ≡ unmatched_of ask.now later.now) }
+{
+    let kept = kept_later(asked, later)?;
+    let unmatched = unmatched(alloc, ask, asked, later)?;
+    let items = new_items(alloc, front, later, ask, asked, c, at, from)?;
+    Ok(EditedBehind {
+        items,
+        kept,
+        unmatched,
+    })
+}
+
+/// The same as `edit_at`, but for the first so many items, none of which the repairs touch, and for those that go: of these no
+/// copy is made. In time that grows as the items behind them.
 pub fn edit_behind(
     alloc: Global,
     timeline: &[StoredItem],
@@ -98,7 +136,7 @@ pub fn edit_behind(
     at: u64,
     from: usize,
     place: usize,
-) -> Result<Edited, NoMemory>
+) -> Result<EditedBehind, NoMemory>
     requires from { from ≤ place }
     requires place { place ≤ length timeline.now }
     requires numbers { c + length ask.now.inserts ≤ LAST_NUMBER }
@@ -106,16 +144,7 @@ pub fn edit_behind(
 {
     let (front, later) = timeline.split_at(place);
     let asked = Asked::of(alloc, ask)?;
-    let kept = kept_later(&asked, later)?;
-    let withdrawn = withdrawn(alloc, &asked, later)?;
-    let unmatched = unmatched(alloc, ask, &asked, later)?;
-    let items = new_items(alloc, front, later, ask, &asked, c, at, from)?;
-    Ok(Edited {
-        items,
-        kept,
-        withdrawn,
-        unmatched,
-    })
+    behind(alloc, front, later, ask, &asked, c, at, from)
 }
 
 /// The timeline after the repairs of the cycle `c` at a moment, cut behind the place of its point, which `position_of` finds.
@@ -131,7 +160,16 @@ pub fn edit_at(
     requires numbers { c + length ask.now.inserts ≤ LAST_NUMBER }
     ensures { IfOk result (λ edited. edited ≡ edited_at timeline.now ask.now c at place) }
 {
-    edit_behind(alloc, timeline, ask, c, at, 0, place)
+    let (front, later) = timeline.split_at(place);
+    let asked = Asked::of(alloc, ask)?;
+    let withdrawn = withdrawn(alloc, &asked, later)?;
+    let whole = behind(alloc, front, later, ask, &asked, c, at, 0)?;
+    Ok(Edited {
+        items: whole.items,
+        kept: whole.kept,
+        withdrawn,
+        unmatched: whole.unmatched,
+    })
 }
 
 /// The timeline after the repairs of the cycle `c` at a moment: the items through the point, the acts that come in with the

@@ -20,7 +20,7 @@ mod point;
 mod renewing;
 mod unmatched;
 
-pub use editing::{EditRefused, Edited, edit, edit_at, edit_behind};
+pub use editing::{EditRefused, Edited, EditedBehind, edit, edit_at, edit_behind};
 pub use numbers::NumberSet;
 pub use point::position_of;
 pub use renewing::renew;

@@ -7,7 +7,7 @@ use Rattle.verb_core.specs.Step.{run}
 use Rattle.verb_core.specs.Store.{MailStore}
 use Rattle.verb_core.proofs.Joins.{run_house}
 use Rattle.stored_items.specs.Stored.{AllHeard}
-use Rattle.repair_desk.specs.declared.editing.Edited.{Edited}
+use Rattle.repair_desk.specs.declared.editing.EditedBehind.{EditedBehind}
 use Rattle.replay_crew.specs.Hearing.{HoldsOf, StoresOf, TellsAll}
 use Rattle.cycle_rules.specs.Cycles.{repaired_items}
 use Rattle.mail_cycle.specs.declared.cycling.AtPoint.{AtPoint}
@@ -23,11 +23,11 @@ go_to-requires-clause-place g c =
     let count = c.args.first.count in
     let items = repaired_items s c.args.at c.args.ask.now c.args.place in
     let many = length_repaired s c.args.at c.args.ask.now c.args.place c.requires.place in
-    let are : length c.in-Ok.edited.items ≡ length items - count = ap (λ (e : Edited). length e.items) c.in-Ok.ensures.edited ∙ length-drop count items in
+    let are : length c.in-Ok.edited.items ≡ length items - count = ap (λ (e : EditedBehind). length e.items) c.in-Ok.ensures.edited ∙ length-drop count items in
     omega (arith, many, are)
 
 pub go_to-requires-clause-texts : goal.go_to-requires-clause-texts
-go_to-requires-clause-texts g c = subst (λ (e : Edited). TellsAll (g.B.Bodies.told c.args.bodies.now) e.items) (sym c.in-Ok.ensures.edited) c.requires.texts
+go_to-requires-clause-texts g c = subst (λ (e : EditedBehind). TellsAll (g.B.Bodies.told c.args.bodies.now) e.items) (sym c.in-Ok.ensures.edited) c.requires.texts
 
 pub returns-in-Ok-clause-heard : goal.returns-in-Ok-clause-heard
 returns-in-Ok-clause-heard g c =
@@ -37,7 +37,7 @@ returns-in-Ok-clause-heard g c =
     let items = repaired_items s c.args.at c.args.ask.now place in
     let rest = c.in-Ok.edited.items in
     if_ok c.go_to.result (λ (there : AtPoint). AllHeard (take (place - count) rest) there.items) (λ (there : AtPoint). AllHeard (take place items) (take count s.timeline ++ there.items))
-    (λ there is. at_heard count place s.timeline items rest there.items c.requires.few (first_stay s c.args.at c.args.ask.now place count c.requires.few c.requires.place) (ap (λ (e : Edited). e.items) c.in-Ok.ensures.edited) is)
+    (λ there is. at_heard count place s.timeline items rest there.items c.requires.few (first_stay s c.args.at c.args.ask.now place count c.requires.few c.requires.place) (ap (λ (e : EditedBehind). e.items) c.in-Ok.ensures.edited) is)
     c.go_to.ensures.heard
 
 pub returns-in-Ok-clause-same : goal.returns-in-Ok-clause-same
@@ -48,7 +48,7 @@ returns-in-Ok-clause-same g c = λ honest.
     let items = repaired_items s c.args.at c.args.ask.now place in
     let rest = c.in-Ok.edited.items in
     if_ok c.go_to.result (λ (there : AtPoint). there.items ≡ take (place - count) rest) (λ (there : AtPoint). take count s.timeline ++ there.items ≡ take place items)
-    (λ there is. at_same count place s.timeline items rest there.items c.requires.few (first_stay s c.args.at c.args.ask.now place count c.requires.few c.requires.place) (ap (λ (e : Edited). e.items) c.in-Ok.ensures.edited) is)
+    (λ there is. at_same count place s.timeline items rest there.items c.requires.few (first_stay s c.args.at c.args.ask.now place count c.requires.few c.requires.place) (ap (λ (e : EditedBehind). e.items) c.in-Ok.ensures.edited) is)
     (c.go_to.ensures.same honest)
 
 pub returns-in-Ok-clause-later : goal.returns-in-Ok-clause-later
@@ -58,7 +58,7 @@ returns-in-Ok-clause-later g c =
     let place = c.args.place in
     let items = repaired_items s c.args.at c.args.ask.now place in
     if_ok c.go_to.result (λ (there : AtPoint). there.later ≡ drop (place - count) c.in-Ok.edited.items) (λ (there : AtPoint). there.later ≡ drop place items)
-    (λ there is. is ∙ ap (λ (e : Edited). drop (place - count) e.items) c.in-Ok.ensures.edited ∙ later_of count place items c.requires.few)
+    (λ there is. is ∙ ap (λ (e : EditedBehind). drop (place - count) e.items) c.in-Ok.ensures.edited ∙ later_of count place items c.requires.few)
     c.go_to.ensures.later
 
 pub returns-in-Ok-clause-house : goal.returns-in-Ok-clause-house
