@@ -109,6 +109,12 @@ def a_filter_by_mistake(folder, browser, pictures):
         browser.click('#clear')
         browser.wait('document.querySelectorAll("#rows tr").length === 6')
         browser.wait('document.querySelector("#text-5").innerText.includes("filter ads: what holds")')
+        browser.click('#text-5 button')
+        browser.wait('document.getElementById("touched-by").textContent.includes("It decided for 1 delivery.")')
+        has('what it threw away', ['6 2005-01-07 11:20:00 from boss@far.test to ann: "the job", was discarded (filter ads), and so now'], browser.value('document.getElementById("touched-by").textContent'))
+        browser.picture(pictures, 'touched')
+        browser.click('#message button')
+        browser.wait('!document.getElementById("message").open')
         browser.click('tr[data-number="4"] input[type=radio]')
         browser.click('tr[data-number="5"] input[type=checkbox]')
         browser.click('#try')
@@ -223,7 +229,7 @@ def long_and_turned_texts(folder, browser, pictures):
         same('the page has no fault', [], browser.faults())
 
 def three_thousand_broken_answers(folder, browser, pictures):
-    looks = [line for n in range(1000) for line in (f'line {2 + n % 2} f{n} FETCH 1 FLAGS',)]
+    looks = [f'line {2 + n % 2} f{n} FETCH 1 FLAGS' for n in range(3000)]
     lines = [*tests.START, *tests.letter('team', 'Subject: invoice', '', 'Open me!', sender='evil@far.test'), *tests.reads(2, 'ann', 'a1', 'SELECT INBOX'), *tests.reads(3, 'bob', 'b2', 'SELECT INBOX'), *looks]
     with tests.Server(folder, lines) as it, tests.Page(it, '--store', it.store) as page:
         opened(browser, page)
@@ -236,12 +242,18 @@ def three_thousand_broken_answers(folder, browser, pictures):
         browser.click('#run')
         browser.wait('document.getElementById("confirm").open')
         text = browser.value('document.getElementById("confirm-text").innerText')
-        has('folded by user', ['ann, for 501 answers', 'bob, for 501 answers', 'These users will get a notice: ann, bob.'], text)
+        has('folded by user', ['ann, for 1501 answers', 'bob, for 1501 answers', 'These users will get a notice: ann, bob.'], text)
         same('no long list is drawn open', True, browser.value('document.getElementById("confirm").getBoundingClientRect().height') <= 1000)
+        same('nor is its text longer than a screen', True, browser.value('document.getElementById("confirm-text").scrollHeight') <= 1000)
         same('it begins at its beginning', 0, browser.value('document.getElementById("confirm-text").scrollTop'))
-        has('the totals are in sight', '2 notices for 1002 answers', browser.value('document.getElementById("totals").innerText'))
+        has('the totals are in sight', '2 notices for 3002 answers', browser.value('document.getElementById("totals").innerText'))
         same('beside the answer', True, browser.value('document.getElementById("yes").getBoundingClientRect().bottom') <= browser.value('innerHeight'))
         browser.picture(pictures, 'many-broken')
+        browser.click('#confirm-text details.broken summary')
+        browser.wait('document.querySelector("#confirm-text details.broken").open')
+        has('unfolded, 20 and then the others', '1481 more', browser.value('document.querySelector("#confirm-text details.broken").innerText'))
+        same('the totals stay in sight', True, browser.value('document.getElementById("yes").getBoundingClientRect().bottom') <= browser.value('innerHeight'))
+        browser.picture(pictures, 'many-broken-unfolded')
         browser.click('#confirm button[value=no]')
         same('the page has no fault', [], browser.faults())
 
@@ -294,28 +306,48 @@ def a_server_that_stops(folder, browser, pictures):
         browser.wait('document.getElementById("said").innerText.includes("No server answers")')
         browser.picture(pictures, 'stopped')
 
-def twenty_thousand_items(folder, browser, pictures):
-    """What the first screen and a find over all texts take; told, not judged."""
-    long = 'name ' * 30
-    lines = [*tests.START, *(line for n in range(19990) for line in tests.letter(('ann', 'bob', 'carl', 'team')[n % 4], f'Subject: m{n} {long}', *(['', 'sought'] if n % 5000 == 7 else []), sender=f'joe{n % 50}@far.test') + ([f'at {tests.NINE + n * 20}'] if n % 10 == 0 else []))]
-    with tests.Server(folder, lines) as it, tests.Page(it) as page:
+def deliveries(path, count):
+    """Puts so many deliveries into a store that `init` has made, spelled by docs/FORMATS.md: some 20 seconds lie between two."""
+    u32, name = lambda n: n.to_bytes(4, 'big'), lambda text: bytes([len(text)]) + text
+    with open(path, 'r+b', 1 << 20) as out:
+        out.seek(-1, 2)
+        for number in range(2, count + 2):
+            user, sender = (b'ann', b'bob', b'carl', b'team')[number % 4], b'joe%d@far.test' % (number % 50)
+            body = b'Return-Path: <%s>\r\nSubject: m%d %s\r\n\r\n%s\r\n' % (sender, number, b'name ' * 30, b'sought' if number % (count // 4) == 7 else b'')
+            record = b'\1' + u32(number) + (tests.NINE + 20 * number).to_bytes(8, 'big') + b'\xff\1' + u32(len(sender)) + sender + u32(1) + name(user) + u32(len(body)) + body + b'\0'
+            out.write(b'\x55' + u32(len(record)) + record)
+        out.write(b'\0')
+
+def a_hundred_thousand_items(folder, browser, pictures):
+    """How long one waits for the first screen, for all items, for a page, a click, a choice and a find over all texts: told. Judged is that nothing that a hand does waits a second."""
+    server = tests.Server(folder)
+    deliveries(server.store, 100000)
+    with server as it, tests.Page(it, '--store', it.store) as page:
         browser.leave()
-        began = time.monotonic()
-        browser.open(page.port)
-        browser.wait('typeof store !== "undefined" && document.querySelectorAll("#rows tr").length')
-        first = time.monotonic() - began
-        browser.wait(READ)
-        whole = time.monotonic() - began
-        browser.write('#text', 'sought')
-        began = time.monotonic()
-        browser.click('#find')
-        browser.wait('document.querySelectorAll("#rows tr").length === 4')
-        found = time.monotonic() - began
-        browser.click('#clear')
-        browser.wait('document.querySelectorAll("#rows tr").length === 100')
-        browser.wait('document.querySelector("#rows tr td:last-child").innerText.includes("m1")')
+        took = {}
+        def timed(what, act, until):
+            began = time.monotonic()
+            act()
+            browser.wait(until)
+            took[what] = time.monotonic() - began
+        timed('the first screen', lambda: browser.open(page.port), 'typeof store !== "undefined" && document.querySelectorAll("#rows tr").length')
+        timed('a subject on it', lambda: None, 'document.querySelector("#rows tr td:last-child").innerText.includes("m100001")')
+        timed('all items behind it', lambda: None, READ)
+        hands = {
+            'the next page': (lambda: browser.click('#older'), 'document.getElementById("place").innerText.startsWith("101 to 200 of")'),
+            'a tick': (lambda: browser.click('#rows input[type=checkbox]'), 'document.querySelectorAll("#drops li").length === 1'),
+            'a point': (lambda: browser.click('#rows input[type=radio]'), 'document.querySelector("#rows tr input[type=radio]").checked'),
+            'a verb': (lambda: browser.choose('#verb', 'DELIVER'), 'document.getElementById("place").innerText.startsWith("1 to 100 of 100000")'),
+            'a mailbox': (lambda: browser.value('(() => { const it = document.getElementById("mailbox"); it.value = "none"; it.onchange(); it.value = ""; it.onchange(); })()'), 'document.getElementById("place").innerText.startsWith("1 to 100 of 100000")'),
+        }
+        for what, (act, until) in hands.items(): timed(what, act, until)
         browser.picture(pictures, 'many')
-        print(f'19,990 deliveries: the first screen after {first:.2f} s, all items after {whole:.2f} s, a find on the page {found:.2f} s')
+        longest = browser.value('(async () => { let most = 0, last = performance.now(); for (let n = 0; n < 40; n++) { at("older").click(); await new Promise(ends => setTimeout(ends)); const now = performance.now(); most = Math.max(most, now - last); last = now; } return most; })()') / 1000
+        browser.write('#text', 'sought')
+        timed('a find over all texts', lambda: browser.click('#find'), 'document.querySelectorAll("#rows tr").length === 4')
+        print(f'100,000 deliveries: {", ".join(f"{what} {seconds:.2f} s" for what, seconds in took.items())}; the slowest of 40 pages {longest:.2f} s')
+        for what in hands: same(f'{what} is not waited for', True, took[what] < 1)
+        same('nor a page', True, longest < 1)
         for words in (['find', 'sought'], ['timeline', '--verb', 'FILTER'], ['show', '15000'], ['timeline', '--last', '20']):
             began = time.monotonic()
             it.undo(*words, status=1 if 'FILTER' in words else 0)
@@ -323,7 +355,7 @@ def twenty_thousand_items(folder, browser, pictures):
         same('the page has no fault', [], browser.faults())
 
 CASES = (a_filter_by_mistake, an_infected_delivery, a_wrong_alias_by_the_keyboard, texts_that_would_be_html, long_and_turned_texts, three_thousand_broken_answers, a_store_that_changes_behind_the_page, a_site_that_posts_a_cycle,
-         a_server_that_stops, twenty_thousand_items)
+         a_server_that_stops, a_hundred_thousand_items)
 
 def main():
     if len(sys.argv) < 2 or not set(sys.argv[3:]) <= {case.__name__ for case in CASES}: sys.exit(__doc__)

@@ -158,17 +158,33 @@ def do_touched_by(words: Words) -> int:
     with opened(store_of(words)) as journal:
         past = Past(journal)
         found = touched_by(past, words.name, words.progress)
-        telling = Telling(past.house)
-        sets = [number for number in past.timeline if is_filter(past, number, words.name)]
+        telling, sets = Telling(past.house), set_by(past, words.name)
         data = {'filter': words.name, 'set_by': sets, 'in_force': [it._asdict() for it in past.store.filters if it.name == words.name], 'deliveries': [delivery_data(telling, it) for it in found]}
-        head = (f'The filter {words.name} was set by {"item" if len(sets) == 1 else "items"} {", ".join(map(str, sets))}, '
-                f'{"which is" if len(sets) == 1 else "which are"} in force.' if sets else f'No item in force sets a filter {words.name}.')
-        show(words, data, f'{head} It decided for {counted(len(found), "delivery", "deliveries")}.' + (f'\n\n{deliveries_text(telling, found, words.all)}' if found else ''))
+        head = touched_by_head(words.name, sets, found)
+        show(words, data, f'{head}\n\n{deliveries_text(telling, found, words.all)}' if found else head)
         if words.draft:
             if not sets:
                 raise Trouble(NOTHING_FOUND, f'No item in force sets a filter {words.name}, so there is nothing to be drafted.')
             drafted(words, before(past, set(sets)), sets, f'what set the filter {words.name}')
     return 0 if found or sets else NOTHING_FOUND
+
+
+def touched_by_head(name: str, sets: list[int], found: list[Delivery]) -> str:
+    head = (f'The filter {plain(name)} was set by {"item" if len(sets) == 1 else "items"} {", ".join(map(str, sets))}, '
+            f'{"which is" if len(sets) == 1 else "which are"} in force.' if sets else f'No item in force sets a filter {plain(name)}.')
+    return f'{head} It decided for {counted(len(found), "delivery", "deliveries")}.'
+
+
+def delivery_text(telling: Telling, it: Delivery) -> str:
+    """Who sent a delivery to whom, where it went when it came, and where it is now."""
+    went = f'went to {telling.went(it.then)}' if it.then.put else f'was {telling.went(it.then)}' if it.then.filter else 'went nowhere'
+    now = 'which a cycle dropped' if it.now is None else 'and so now' if it.now == it.then else f'now {telling.went(it.now)}'
+    return f'from {text_of(it.item.deed.sender) or "<>"} to {some(list(it.item.deed.recipients), 6)}: "{cut(Message(it.item.deed.body.octets).field("subject"), 200)}", {went}, {now}'
+
+
+def set_by(past: Past, name: str) -> list[int]:
+    """The items in force that set a filter of this name."""
+    return [number for number in past.timeline if is_filter(past, number, name)]
 
 
 def is_filter(past: Past, number: int, name: str) -> bool:

@@ -13,8 +13,9 @@ from .asked import idle_parts, is_number, refuse, shape_faults, store_faults
 from .console import Console, Timeline, Wanted, accepted
 from .cycles import naming_of, prepared, run_cycle
 from .formats import LARGEST_REQUEST, MEANINGS, PAGE_OF_ITEMS
-from .history import Telling, opened, read, who_read
-from .journal_commands import who_read_text
+from .history import Telling, opened, read, touched_by, who_read
+from .journal import SetFilter
+from .journal_commands import delivery_text, set_by, touched_by_head, who_read_text
 from .mail import Message, message_of
 from .model import NOTHING, Past
 from .search import Sought, find
@@ -48,6 +49,7 @@ class PageServer(http.server.ThreadingHTTPServer):
             ('GET', r'/api/message/(\d+)', lambda number: self.message(int(number))),
             ('GET', r'/api/who-read/(\d+)', lambda number: self.who_read(int(number))),
             ('GET', r'/api/conf', lambda: accepted(console.get('/conf'))),
+            ('POST', r'/api/touched-by', self.touched_by),
             ('POST', r'/api/find', self.find),
             ('POST', r'/api/heads', self.heads),
             ('POST', r'/api/check', self.check),
@@ -94,7 +96,8 @@ class PageServer(http.server.ThreadingHTTPServer):
 
     def head(self, past: Past, item: Any) -> dict[str, Any]:
         if item.body is None:
-            return {'number': item.number, 'said': Telling(past.house).words(item, NOTHING)}
+            filtered = {'filter': item.deed.filter.name} if type(item.deed) is SetFilter else {}
+            return {'number': item.number, 'said': Telling(past.house).words(item, NOTHING), **filtered}
         return {'number': item.number, **Message(item.body.octets).summary(), **({'recipients': list(item.deed.recipients)} if item.verb == 'DELIVER' else {})}
 
     def who_read(self, number: int) -> dict[str, str]:
@@ -104,6 +107,19 @@ class PageServer(http.server.ThreadingHTTPServer):
             past = Past(journal)
             found = who_read(past, number, self.console.tell)
             return {'text': who_read_text(Telling(past.house), found, False)}
+
+    def touched_by(self, asked: Any) -> dict[str, Any]:
+        """The deliveries for which a filter decided, and what became of them."""
+        name = asked.get('name') if isinstance(asked, dict) else None
+        if not isinstance(name, str):
+            raise Trouble(WRONG_WORDS, 'Say which filter is meant.')
+        if self.store is None:
+            raise Trouble(WRONG_WORDS, 'This page was started without the path of the store (--store).')
+        with opened(self.store) as journal:
+            past = Past(journal)
+            found = touched_by(past, name, self.console.tell)
+            telling = Telling(past.house)
+            return {'text': touched_by_head(name, set_by(past, name), found), 'deliveries': [{'number': it.item.number, 'at': it.item.at, 'said': delivery_text(telling, it)} for it in found]}
 
     def checked(self, request: Any, wants_key: bool) -> dict[str, Any]:
         refuse(shape_faults(request, wants_key), 'This is no request that the console would take')
