@@ -8,10 +8,11 @@ from __future__ import annotations
 import contextlib
 import fcntl
 import hashlib
+import itertools
 import os
 from typing import Any, BinaryIO, Callable, Iterator, Optional
 
-from .files import put_new, sync_folder
+from .files import new_beside, put_new, sync_folder, write_whole
 from .history import damage, opened
 from .journal import OPEN_GATE, Damaged, Journal, NoStore
 from .model import Past
@@ -46,20 +47,9 @@ def copied(store: str, path: str) -> int:
     """A copy of what is sealed by now, as a new file: 0600, and whole or absent. Answers how many octets it has."""
     with opened(store) as journal:
         end = end_of(journal)
-        beside = f'{path}.new'
         try:
-            descriptor = os.open(beside, os.O_WRONLY | os.O_CREAT | os.O_TRUNC | os.O_CLOEXEC, 0o600)
-            with os.fdopen(descriptor, 'wb') as out:
-                for piece in pieces(journal.octets.descriptor, 0, end):
-                    out.write(piece)
-                out.write(b'\0')
-                out.flush()
-                os.fsync(out.fileno())
-            put_new(beside, path)
-            sync_folder(os.path.dirname(path) or '.')
+            write_whole(path, itertools.chain(pieces(journal.octets.descriptor, 0, end), [b'\0']))
         except OSError as fault:
-            with contextlib.suppress(OSError):
-                os.unlink(beside)
             raise Trouble(FILE_FAULT, f'{path} cannot be written: {fault.strerror}.') from None
     return end + 1
 
@@ -101,26 +91,42 @@ def unserved(store: str) -> Iterator[None]:
 
 
 class Copy:
-    """A copy that follows a journal."""
+    """A copy that follows a journal. A new one gets its name once its first records are in it, so what is at the path opens."""
 
     def __init__(self, path: str) -> None:
-        self.path = path
+        self.path, self.end = path, 0
+        self.beside: Optional[str] = None
         try:
-            new = not os.path.exists(path) or os.path.getsize(path) == 0
-            self.descriptor = os.open(path, os.O_RDWR | os.O_CREAT | os.O_CLOEXEC, 0o600)
-            fcntl.flock(self.descriptor, fcntl.LOCK_SH | fcntl.LOCK_NB)  # `check` may look at it, and nobody serve it
-            fcntl.lockf(self.descriptor, fcntl.LOCK_EX | fcntl.LOCK_NB)  # nor another follow into it
+            if os.path.exists(path) and os.path.getsize(path):
+                self.descriptor = os.open(path, os.O_RDWR | os.O_CLOEXEC)
+                os.fchmod(self.descriptor, 0o600)
+                self._find_end()
+            else:
+                self.descriptor, self.beside = new_beside(path)
+                self._lock()
         except BlockingIOError:
             raise Trouble(REFUSED, f'{path} is in use: something serves it, or follows into it.') from None
         except OSError as fault:
             raise Trouble(FILE_FAULT, f'{path} cannot be opened: {fault.strerror}.') from None
-        if new:
-            os.fchmod(self.descriptor, 0o600)
-            self.end = 0
-        else:
-            with opened(path) as journal:
-                first = os.pread(self.descriptor, 1, 0)
-                self.end = 0 if first == b'\0' else end_of(journal)
+
+    def _lock(self) -> None:
+        fcntl.flock(self.descriptor, fcntl.LOCK_SH | fcntl.LOCK_NB)  # `check` may look at it, and nobody serve it
+        fcntl.lockf(self.descriptor, fcntl.LOCK_EX | fcntl.LOCK_NB)  # nor another follow into it
+
+    def _find_end(self) -> None:
+        """Reads to the last gate, and locks then: closing a file that was opened to be read would take the second lock away."""
+        size = os.fstat(self.descriptor).st_size
+        with opened(self.path) as journal:
+            self.end = end_of(journal)
+        self._lock()
+        if os.fstat(self.descriptor).st_size != size:
+            raise BlockingIOError
+
+    def close(self) -> None:
+        """Leaves nothing behind where no record came."""
+        os.close(self.descriptor)
+        if self.beside is not None:
+            os.unlink(self.beside)
 
     def digest(self) -> str:
         found = hashlib.sha256()
@@ -132,16 +138,29 @@ class Copy:
         """Whole records behind the end, the first gate with them; they are there all at once. Answers the new end."""
         if octets[:1] != bytes([OPEN_GATE]):
             raise Trouble(DAMAGED, 'What came is no record.')
-        self._write(self.end + 1, octets[1:] + b'\0')
-        if self.end == 0:
-            self._write(0, b'\0')
-        os.fdatasync(self.descriptor)
-        self._write(self.end, bytes([OPEN_GATE]))
-        os.fdatasync(self.descriptor)
-        if self.end == 0:
-            sync_folder(os.path.dirname(os.path.abspath(self.path)))
+        if self.beside is not None:
+            self._begin(octets + b'\0', self.beside)
+        else:
+            self._write(self.end + 1, octets[1:] + b'\0')
+            os.fdatasync(self.descriptor)
+            self._write(self.end, bytes([OPEN_GATE]))
+            os.fdatasync(self.descriptor)
         self.end += len(octets)
         return self.end
+
+    def _begin(self, octets: bytes, beside: str) -> None:
+        """The first records, and then the copy's name."""
+        self._write(0, octets)
+        os.fsync(self.descriptor)
+        try:
+            if os.path.exists(self.path):
+                os.replace(beside, self.path)  # an empty file
+            else:
+                put_new(beside, self.path)
+            sync_folder(os.path.dirname(os.path.abspath(self.path)))
+        except OSError as fault:
+            raise Trouble(FILE_FAULT, f'{self.path} cannot be made: {fault.strerror}.') from None
+        self.beside = None
 
     def _write(self, place: int, octets: bytes) -> None:
         try:
@@ -176,21 +195,21 @@ def prefix_digest(journal: Journal, end: int) -> str:
 
 def receive(path: str, into: BinaryIO, out: BinaryIO) -> None:
     """The other end of a follower: tells where its copy ends and the digest up to there, and appends what comes."""
-    copy = Copy(path)
-    out.write(f'{copy.end} {copy.digest()}\n'.encode('ascii'))
-    out.flush()
-    while True:
-        head = into.read(16)
-        if len(head) < 16:
-            return
-        place, length = int.from_bytes(head[:8], 'big'), int.from_bytes(head[8:], 'big')
-        octets = into.read(length)
-        if len(octets) < length:
-            return
-        if place != copy.end:
-            raise Trouble(REFUSED, f'{path} ends at {copy.end}, and what came is from {place} on.')
-        out.write(f'{copy.append(octets)}\n'.encode('ascii'))
+    with contextlib.closing(Copy(path)) as copy:
+        out.write(f'{copy.end} {copy.digest()}\n'.encode('ascii'))
         out.flush()
+        while True:
+            head = into.read(16)
+            if len(head) < 16:
+                return
+            place, length = int.from_bytes(head[:8], 'big'), int.from_bytes(head[8:], 'big')
+            octets = into.read(length)
+            if len(octets) < length:
+                return
+            if place != copy.end:
+                raise Trouble(REFUSED, f'{path} ends at {copy.end}, and what came is from {place} on.')
+            out.write(f'{copy.append(octets)}\n'.encode('ascii'))
+            out.flush()
 
 
 class Near:
@@ -205,6 +224,9 @@ class Near:
 
     def append(self, octets: bytes) -> None:
         self.end = self.copy.append(octets)
+
+    def close(self) -> None:
+        self.copy.close()
 
 
 class Far:
@@ -231,6 +253,11 @@ class Far:
             raise Trouble(FILE_FAULT, f'{self.where} ended.')
         self.end = int(said)
 
+    def close(self) -> None:
+        self.link.stdin.close()
+        self.link.wait()
+        self.link.stdout.close()
+
 
 def same_file(journal: Journal) -> bool:
     """Whether the file that is open is still the one of its name."""
@@ -244,12 +271,15 @@ def follow(journal: Journal, copy: Any, wait: Callable[[], None], told: Callable
     """Appends to the copy what is sealed in the journal, over and over."""
     if copy.end and (copy.end > end_of(journal) or prefix_digest(journal, copy.end) != copy.digest()):
         raise Trouble(REFUSED, f'{copy.where} is no copy of the beginning of {journal.path}. Nothing was changed: give another place for the copy.')
-    told(f'{copy.where} has {copy.end:,} octets of {journal.path}')
+    begun = False
     while True:
         found = news(journal, copy.end)
         if found:
             copy.append(found)
             continue
+        if not begun:
+            told(f'{copy.where} has {copy.end:,} octets of {journal.path}')
+            begun = True
         if once:
             return
         if not same_file(journal):

@@ -11,7 +11,7 @@ import re
 import secrets
 import sys
 import time
-from typing import Any, Optional
+from typing import Any, Iterable, Optional
 
 from .asked import refuse, shape_faults
 from .moments import utc
@@ -43,14 +43,19 @@ def mail_from(path: str, as_it_is: bool) -> str:
     return base64.b64encode(octets if as_it_is else re.sub(rb'\r?\n', b'\r\n', octets)).decode()
 
 
-def write_whole(path: str, octets: bytes, over: bool = False) -> None:
+def new_beside(path: str) -> tuple[int, str]:
+    """A new empty file of its owner's alone (0600) beside a path, to be put there once it is whole."""
+    beside = os.path.join(os.path.dirname(path) or '.', f'.{os.path.basename(path)}.{secrets.token_hex(4)}.new')
+    return os.open(beside, os.O_RDWR | os.O_CREAT | os.O_EXCL | os.O_CLOEXEC, 0o600), beside
+
+
+def write_whole(path: str, pieces: Iterable[bytes], over: bool = False) -> None:
     """A file of its owner's alone (0600), whole or absent: written beside, synced, and put in its place. Without `over` none is written over."""
-    folder = os.path.dirname(path) or '.'
-    beside = os.path.join(folder, f'.{os.path.basename(path)}.{secrets.token_hex(4)}.new')
-    descriptor = os.open(beside, os.O_WRONLY | os.O_CREAT | os.O_EXCL | os.O_CLOEXEC, 0o600)
+    descriptor, beside = new_beside(path)
     try:
         with os.fdopen(descriptor, 'wb') as file:
-            file.write(octets)
+            for piece in pieces:
+                file.write(piece)
             file.flush()
             os.fsync(file.fileno())
         if over:
@@ -61,7 +66,7 @@ def write_whole(path: str, octets: bytes, over: bool = False) -> None:
         with contextlib.suppress(OSError):
             os.unlink(beside)
         raise
-    sync_folder(folder)
+    sync_folder(os.path.dirname(path) or '.')
 
 
 def put_new(beside: str, path: str) -> None:
@@ -89,7 +94,7 @@ def sync_folder(folder: str) -> None:
 def write_new(path: str, text: str) -> None:
     """A new file with a request."""
     try:
-        write_whole(path, text.encode('ascii'))
+        write_whole(path, [text.encode('ascii')])
     except OSError as fault:
         raise Trouble(FILE_FAULT, f'{path} cannot be written: {fault.strerror}.') from None
 
@@ -106,7 +111,7 @@ class KeptRun:
             for count in itertools.count(1):
                 self.path = os.path.join(folder, f'cycle-{name}-{stamp}{"" if count == 1 else f"-{count}"}.json')
                 try:
-                    write_whole(self.path, self._octets())
+                    write_whole(self.path, [self._octets()])
                     return
                 except FileExistsError:
                     continue
@@ -117,7 +122,7 @@ class KeptRun:
         """Writes the report beside the request; the fault, where that fails."""
         self.told.update(answered_at=int(time.time()), report=report, repeated=repeated)
         try:
-            write_whole(self.path, self._octets(), over=True)
+            write_whole(self.path, [self._octets()], over=True)
             return None
         except OSError as fault:
             return f'The report could not be kept in {self.path}: {fault.strerror}.'
