@@ -50,4 +50,4 @@ returns-in_err-run_each_level-clause-most g c =
     let all_is = ap (λ (all : List Resolved). length (told_by_levels s (levels_at (enumerate_from 0 (map turn_of all)) c.args.plan.now))) c.as_slice-items.ensures in
     let plan_is = ap (λ (plan : List (List ℕ)). length (told_by_levels s (levels_at (enumerate_from 0 (map turn_of c.args.items.now)) plan))) c.requires.plan in
     let many = all_is ∙ plan_is ∙ plan_steps s from.0 c.args.items.now c.requires.valid from.1 in
-    at_err c.from_residual.result (omega (arith, c.in_err-run_each_level.ensures.most, many))
+    at_err c.from_residual-in_err-run_each_level.result (omega (arith, c.in_err-run_each_level.ensures.most, many))
