@@ -1,7 +1,9 @@
 //! The commands of a mail client (RFC 5321, section 4.1.1).
 ghost use Rattle.std.specs.Prelude.{◌≡◌, true, IfOk, Ok, Err};
+ghost use Rattle.std.specs.List.{list_all};
 ghost use Rattle.std.specs.Option.{option_copied};
-ghost use Rattle.smtp_lines.specs.Parts.{is_short};
+ghost use Rattle.undo_base.specs.Name.{is_name};
+ghost use Rattle.smtp_lines.specs.Parts.{is_short, is_visible};
 ghost use Rattle.smtp_lines.specs.Path.{is_recipient};
 ghost use Rattle.smtp_lines.specs.Command.{ReadsCommand, command_of, is_client, greeting, mail_of, rcpt_of, recipient, alone, noop_of, vrfy_of, spoken, words_of, refused_tail, recipient_path};
 ghost use Rattle.smtp_lines.specs.declared.command.SmtpCommand.TheVariants.{Helo, Ehlo};
@@ -111,35 +113,27 @@ fn is_client_name(bytes: &[u8]) -> bool
     has_length_of_name(bytes) && are_visible(bytes)
 }
 
-/// Bytes as a name, where they are one.
-fn named(alloc: Global, bytes: &[u8]) -> Result<Name, NoMemory>
-    ensures { IfOk result (λ name. name ≡ bytes.now) }
-{
-    match Name::read(alloc, bytes) {
-        Ok(name) => Ok(name),
-        Err(_) => Err(NoMemory),
-    }
-}
-
+#[tactic(auto, using(crate::proofs::Named::client_name))]
 fn read_helo(alloc: Global, argument: &[u8]) -> Result<SmtpCommand, SmtpRefused>
     ensures { ReadsCommand (greeting Helo argument.now) result }
 {
     if !is_client_name(argument) {
         return Err(SmtpRefused::Argument);
     }
-    match named(alloc, argument) {
+    match Name::of(alloc, argument) {
         Ok(client) => Ok(SmtpCommand::Helo { client }),
         Err(_) => Err(SmtpRefused::NoMemory),
     }
 }
 
+#[tactic(auto, using(crate::proofs::Named::client_name))]
 fn read_ehlo(alloc: Global, argument: &[u8]) -> Result<SmtpCommand, SmtpRefused>
     ensures { ReadsCommand (greeting Ehlo argument.now) result }
 {
     if !is_client_name(argument) {
         return Err(SmtpRefused::Argument);
     }
-    match named(alloc, argument) {
+    match Name::of(alloc, argument) {
         Ok(client) => Ok(SmtpCommand::Ehlo { client }),
         Err(_) => Err(SmtpRefused::NoMemory),
     }
@@ -200,9 +194,10 @@ fn read_mail(alloc: Global, argument: &[u8]) -> Result<SmtpCommand, SmtpRefused>
 }
 
 fn make_postmaster(alloc: Global, path: &[u8]) -> Result<SmtpCommand, SmtpRefused>
+    requires { is_name path.now ≡ true }
     ensures { ReadsCommand (Ok (SmtpCommand.Rcpt path.now None)) result }
 {
-    match named(alloc, path) {
+    match Name::of(alloc, path) {
         Ok(local) => Ok(SmtpCommand::Rcpt {
             local,
             domain: None,
@@ -212,17 +207,22 @@ fn make_postmaster(alloc: Global, path: &[u8]) -> Result<SmtpCommand, SmtpRefuse
 }
 
 fn make_names(alloc: Global, local: &[u8], domain: &[u8]) -> Result<SmtpCommand, NoMemory>
+    requires local { is_name local.now ≡ true }
+    requires domain { is_name domain.now ≡ true }
     ensures { IfOk result (λ command. command ≡ SmtpCommand.Rcpt local.now (Some domain.now)) }
 {
-    let local = named(alloc, local)?;
-    let domain = named(alloc, domain)?;
+    let local = Name::of(alloc, local)?;
+    let domain = Name::of(alloc, domain)?;
     Ok(SmtpCommand::Rcpt {
         local,
         domain: Some(domain),
     })
 }
 
+#[tactic(auto, using(crate::proofs::Named::postmaster_name, crate::proofs::Named::local_name, crate::proofs::Named::domain_name))]
 fn make_rcpt(alloc: Global, path: &[u8]) -> Result<SmtpCommand, SmtpRefused>
+    requires is { is_recipient path.now ≡ true }
+    requires shows { list_all is_visible path.now ≡ true }
     ensures { ReadsCommand (Ok (recipient path.now)) result }
 {
     if !has(path, b'@') {
