@@ -3,7 +3,8 @@ use Rattle.std.proofs.Common.{◌≡◌, List, [], ◌∷◌, Bool, true, false,
 use Rattle.std.specs.Prelude.{map, find, option_map, length, nat_le, unwrap_or, if◌then◌else◌}
 use Rattle.std.specs.List.{list_any, list_all}
 use Rattle.std.specs.Char.{is_ascii_digit}
-use Rattle.console_head.specs.Lengths.{Header, is_coding, is_length, number_of, agrees, agreed, body_length}
+use Rattle.undo_base.specs.Digits.{number_of}
+use Rattle.console_head.specs.Lengths.{Header, is_coding, is_length, agrees, agreed, body_length}
 
 some_inj : {A : Type 0} (x y : A) → Some x ≡ Some y → x ≡ y
 some_inj x y e = ap (λ (o : Option _). unwrap_or o x) e

@@ -1,8 +1,9 @@
 -- How many octets of a body the headers announce (RFC 9112, 6).
-use Rattle.std.specs.Prelude.{ℕ, ◌+◌, ◌-◌, ◌*◌, Bool, not, ◌==◌, ◌&&◌, ◌||◌, List, [], length, drop, fold, find, position, codes, nat_le, Option, Some, None, if◌then◌else◌}
+use Rattle.std.specs.Prelude.{ℕ, Bool, not, ◌==◌, ◌&&◌, ◌||◌, List, [], length, drop, find, position, codes, nat_le, Option, Some, None, if◌then◌else◌}
 use Rattle.std.specs.List.{list_all, list_any}
 use Rattle.std.specs.Char.{is_ascii_digit}
 use Rattle.std.specs.Str.{bytes_eq, str_to_ascii_lowercase}
+use Rattle.undo_base.specs.Digits.{number_of}
 
 -- a header is its name, and its value without the white space around it
 abbrev pub Header : Type 0
@@ -21,10 +22,6 @@ is_length header = is_named (codes "content-length") header
 -- one digit or more (RFC 9110, 8.6)
 abbrev pub is_number : List ℕ → Bool
 is_number text = nat_le 1 (length text) && list_all is_ascii_digit text
-
--- what digits stand for
-abbrev pub number_of : List ℕ → ℕ
-number_of digits = fold (λ n d. 10 * n + (d - 48)) 0 digits
 
 abbrev pub from_place : List ℕ → Option ℕ → List ℕ
 from_place digits None = []

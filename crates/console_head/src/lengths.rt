@@ -4,11 +4,12 @@ ghost use Rattle.std.specs.Char.{is_ascii_digit};
 ghost use Rattle.std.specs.List.{list_all, list_any};
 ghost use Rattle.std.specs.Str.{bytes_eq, str_to_ascii_lowercase};
 ghost use Rattle.httparse.specs.Spans.{IsHeaderWithin, header_bytes};
-ghost use Rattle.console_head.specs.Lengths.{is_named as named, is_coding as coding, is_length as length_header, is_number as number, number_of, significant as significant_of, agrees as agrees_with, body_length as announced, from_place};
+ghost use Rattle.undo_base.specs.Digits.{number_of};
+ghost use Rattle.console_head.specs.Lengths.{is_named as named, is_coding as coding, is_length as length_header, is_number as number, significant as significant_of, agrees as agrees_with, body_length as announced, from_place};
 
-use crate::lines::after;
 use crate::request::MOST_BODY;
 use httparse::spans::HeaderSpan;
+use undo_base::{after, are_digits};
 
 fn is_named(name: &[u8], wanted: &[u8]) -> bool
     ensures { result ≡ bytes_eq (str_to_ascii_lowercase name.now) (str_to_ascii_lowercase wanted.now) }
@@ -28,12 +29,6 @@ fn is_length(text: &[u8], header: HeaderSpan) -> bool
     ensures { result ≡ length_header (header_bytes text.now header) }
 {
     is_named(header.name.of(text), b"content-length")
-}
-
-fn are_digits(text: &[u8]) -> bool
-    ensures { result ≡ list_all is_ascii_digit text.now }
-{
-    text.iter().all(|byte| byte.is_ascii_digit())
 }
 
 fn is_number(text: &[u8]) -> bool

@@ -5,6 +5,8 @@ ghost use Rattle.console_head.specs.Coming.{AreFirst};
 ghost use Rattle.console_head.specs.Coming.{looked_at};
 ghost use Rattle.console_head.specs.Steps.{Finds, LooksAtAll, lines_with, shown_by};
 
+use undo_base::{after, before};
+
 const LF: u8 = b'\n';
 
 /// A head by its lines: how many octets it has, and how many header lines.
@@ -47,22 +49,6 @@ fn find_lf(bytes: &[u8], from: usize) -> Option<usize>
         }
     }
     None
-}
-
-/// The first bytes.
-pub fn before(bytes: &[u8], count: usize) -> &[u8]
-    requires { count ≤ length bytes.now }
-    ensures { result.now ≡ take count bytes.now }
-{
-    &bytes[..count]
-}
-
-/// The bytes behind the first ones.
-pub fn after(bytes: &[u8], count: usize) -> &[u8]
-    requires { count ≤ length bytes.now }
-    ensures { result.now ≡ drop count bytes.now }
-{
-    &bytes[count..]
 }
 
 fn is_empty_line(line: &[u8]) -> bool

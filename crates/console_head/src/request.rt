@@ -7,8 +7,9 @@ ghost use Rattle.httparse.specs.Grammar.{RequestHead};
 
 use crate::grammar::read_whole;
 use crate::lengths::body_length;
-use crate::lines::{Head, Lines, after, before};
+use crate::lines::{Head, Lines};
 use httparse::spans::EMPTY_HEADER_SPAN;
+use undo_base::{after, before};
 
 /// How many octets a head has at most.
 pub const MOST_HEAD: usize = 16_384;

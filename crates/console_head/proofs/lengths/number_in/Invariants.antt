@@ -1,5 +1,5 @@
 use Rattle.std.proofs.Common.{◌≡◌, ◌≤◌, min, take}
-use Rattle.console_head.specs.Lengths.{number_of}
+use Rattle.undo_base.specs.Digits.{number_of}
 use Rattle.console_head.proofs.lengths.number_in.Given as goal
 
 abbrev pub invariant-loop-digit : goal.invariant-loop-digit
