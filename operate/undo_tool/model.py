@@ -482,6 +482,7 @@ class Past:
 
     def __init__(self, opened: Journal) -> None:
         self.journal = opened
+        self.records = 0
         self.house: House
         self.timeline = array('I')
         self.places, self.lengths = array('Q'), array('I')
@@ -501,7 +502,7 @@ class Past:
     # reading
 
     def read(self, seen: Optional[Callable[[Any, Frame, Any], None]] = None, tell: Callable[[str], None] = lambda said: None) -> Past:
-        """Reads to the end. `seen` is told each record, its frame and what it did: an Outcome, or a cycle's Done."""
+        """Reads to the end as it stands, from where it was read to before. `seen` is told each record, its frame and what it did: an Outcome, or a cycle's Done."""
         collects = gc.isenabled()
         gc.disable()  # nothing here refers to itself, and there are millions of objects
         try:
@@ -511,12 +512,12 @@ class Past:
                 gc.enable()
 
     def read_records(self, seen: Optional[Callable[[Any, Frame, Any], None]], tell: Callable[[str], None]) -> Past:
-        count = 0
-        for frame in self.journal.frames():
-            count += 1
-            if count & 0x3fff == 0:
-                tell(f'{count:,} records')
-            if count == 1:
+        self.journal.octets.block = b''  # what was read before the last gate was opened is old
+        for frame in self.journal.frames(self.journal.end):
+            self.records += 1
+            if self.records & 0x3fff == 0:
+                tell(f'{self.records:,} records')
+            if self.records == 1:
                 self.begin(frame)
                 if seen:
                     seen(self.format, frame, NOTHING)
@@ -534,8 +535,6 @@ class Past:
                     outcome = self.enter(found, frame)
                     if seen:
                         seen(found, frame, outcome)
-        if not count:
-            raise NoStore
         return self
 
     def begin(self, frame: Frame) -> None:

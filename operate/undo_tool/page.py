@@ -1,6 +1,7 @@
 """The page, served on 127.0.0.1 to the browser of this machine."""
 from __future__ import annotations
 
+import contextlib
 import http.server
 import json
 import os
@@ -11,9 +12,10 @@ from typing import Any, Callable, Optional
 
 from .asked import idle_parts, is_number, refuse, shape_faults, store_faults
 from .console import Console, Timeline, Wanted, accepted
+from .copies import same_file
 from .cycles import naming_of, prepared, run_cycle
 from .formats import LARGEST_REQUEST, MEANINGS, PAGE_OF_ITEMS
-from .history import Telling, opened, read, touched_by, who_read
+from .history import Telling, opened, reading, touched_by, who_read
 from .journal import SetFilter
 from .journal_commands import delivery_text, set_by, touched_by_head, who_read_text
 from .mail import Message, message_of
@@ -34,7 +36,9 @@ class PageServer(http.server.ThreadingHTTPServer):
         super().__init__(('127.0.0.1', port), PageHandler)
         self.console, self.keep, self.store, self.token = console, keep, store, secrets.token_hex(16)
         self.one_run, self.one_read = threading.Lock(), threading.Lock()
-        self.known: Optional[tuple[tuple[int, int], Past]] = None
+        self.known: Optional[Past] = None  # the journal, as far as it was read
+        self.first_read = threading.Thread(target=self.read_first, daemon=True)
+        self.first_read.start()
 
     @property
     def port(self) -> int:
@@ -48,6 +52,7 @@ class PageServer(http.server.ThreadingHTTPServer):
             ('GET', r'/api/timeline/(\d+)', lambda place: accepted(console.get(f'/timeline/{int(place)}'))),
             ('GET', r'/api/message/(\d+)', lambda number: self.message(int(number))),
             ('GET', r'/api/who-read/(\d+)', lambda number: self.who_read(int(number))),
+            ('GET', r'/api/journal', lambda: {'read': not self.first_read.is_alive()}),
             ('GET', r'/api/conf', lambda: accepted(console.get('/conf'))),
             ('POST', r'/api/touched-by', self.touched_by),
             ('POST', r'/api/find', self.find),
@@ -65,32 +70,42 @@ class PageServer(http.server.ThreadingHTTPServer):
         if not isinstance(asked, dict) or not isinstance(asked.get('text'), str) or not asked['text']:
             raise Trouble(WRONG_WORDS, 'Write what the texts are to hold.')
         found = find(self.console, Wanted(), Sought(text=asked['text']))
-        past = self.past()
-        if past is None:
-            return [{'number': item.number, **head} for item, head in found]
-        there = set(past.timeline)
-        return [self.head(past, past.item(item.number)) for item, _ in found if item.number in there]
+        told = self.heads_told([item.number for item, _ in found])
+        return told if told is not None else [{'number': item.number, **head} for item, head in found]
 
-    def past(self) -> Optional[Past]:
-        """The journal as it stands, where the page was started with its path; it is read anew only where it is longer or another."""
-        if self.store is None:
+    def read_first(self) -> None:
+        """Reads the journal while the page is served already. What is wrong with it is told to whoever asks for it."""
+        if self.store is not None:
+            with self.one_read, contextlib.suppress(Trouble):
+                self.read_on()
+
+    def read_on(self) -> Past:
+        """The journal as it stands, of which only what is new is read; all of it where another file has its name. Held by `one_read`."""
+        past, self.known = self.known, None
+        if past is None or not same_file(past.journal):
+            past = Past(opened(self.store or ''))
+        self.known = reading(past, None, self.console.tell)
+        return self.known
+
+    def heads_told(self, numbers: list[int]) -> Optional[list[dict[str, Any]]]:
+        """Heads by the journal; none where the page has no journal, or is still reading it."""
+        if self.store is None or not self.one_read.acquire(blocking=not self.first_read.is_alive()):
             return None
-        with self.one_read:
-            journal = opened(self.store)
-            its = os.fstat(journal.octets.descriptor)
-            if self.known is None or self.known[0] != (its.st_ino, its.st_size):
-                self.known = (its.st_ino, its.st_size), read(journal)
-            return self.known[1]
+        try:
+            past = self.read_on()
+            there = set(past.timeline)
+            return [self.head(past, past.item(number)) for number in numbers if number in there]
+        finally:
+            self.one_read.release()
 
     def heads(self, asked: Any) -> Any:
         """Who sent these items' texts, to whom, and their subjects; of acts what they set, where the journal tells it. Without those that are gone."""
         asks = asked.get('numbers') if isinstance(asked, dict) else None
         if not isinstance(asks, list) or len(asks) > PAGE_OF_ITEMS or not all(map(is_number, asks)):
             raise Trouble(WRONG_WORDS, f'Ask for a list of at most {PAGE_OF_ITEMS} numbers.')
-        past = self.past()
-        if past is not None:
-            there = set(past.timeline)
-            return [self.head(past, past.item(number)) for number in asks if number in there]
+        told = self.heads_told(asks)
+        if told is not None:
+            return told
         answers = zip(asks, self.console.get_each(f'/body/{number}' for number in asks))
         return [{'number': number, **message_of(answer, number).summary()} for number, answer in answers if answer.status != 404]
 
