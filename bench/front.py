@@ -63,11 +63,11 @@ def delivered(front, store, relay, messages, kills):
     for it in senders: it.start()
     for kill in range(kills):
         came = store_length(store)
-        within('something comes between two kills', 60, lambda: store_length(store) > came or not any(it.is_alive() for it in senders) and not front.queued())
+        within('something comes between two kills', 120, lambda: store_length(store) > came or not any(it.is_alive() for it in senders) and not front.queued() or (front.flush(), time.sleep(.3))[0])
         time.sleep(.05 + kill * 37 % 11 * .03)
         if kill == kills // 2:
             relay.armed.set()
-            within('a delivery is struck in its moment', 60, lambda: relay.struck or (front.flush(), time.sleep(.5))[0])
+            within('a delivery is struck in its moment', 120, lambda: relay.struck or (front.flush(), time.sleep(.5))[0])
         store.kill()
         time.sleep(.3)
         store.start()
@@ -104,27 +104,22 @@ def looked(front, store):
     it.logout()
     return dict(zip(('SELECT', 'flags', 'ENVELOPE and BODYSTRUCTURE', 'SORT', 'a text', 'NOOP'), found))
 
-def stale_delete(store, joined, name):
-    """A user has a message open, a cycle drops an earlier one, and the mail program deletes by the UID that it knows, as Claws and Thunderbird do: SELECT, COPY to Trash, STORE, EXPUNGE. What went to Trash."""
-    setup = store.reader('ann', 'a1'); setup.create('Trash')
-    setup.select('INBOX')
+def stale_delete(store, joined, again):
+    """A user has a message open, a cycle drops an earlier one, and the mail program deletes by the UID that it knows: COPY to Trash, STORE, EXPUNGE, in the
+    session from before or, `again`, after it connected anew and was told the new UIDVALIDITY (as Claws and Thunderbird do). What it was told, and what went to Trash."""
+    with contextlib.suppress(imaplib.IMAP4.error): setup = store.reader('ann', 'a1'); setup.create('Trash')
     entries = store.asks('/box/ann/INBOX')['entries']
     open_one, earlier = entries[10], entries[3]
     it = joined('ann', 'a1'); it.select('INBOX')
-    store.asks('/cycle', {'key': f'stale {name}', 'point': 0, 'drop': [earlier['item']]})
     before = {entry['item'] for entry in store.asks('/box/ann/Trash')['entries']}
-    said = 'did it'
-    for attempt in range(2):
-        try:
-            if attempt: it = joined('ann', 'a1'); it.select('INBOX')
-            elif name == 'directly, with a SELECT': it = joined('ann', 'a1'); it.select('INBOX')   # what Claws does: the new UIDVALIDITY is told, and the old UID is used
-            for words in (('COPY', str(open_one['uid']), 'Trash'), ('STORE', str(open_one['uid']), '+FLAGS.SILENT', '(\\Deleted)')):
-                if it.uid(*words)[0] != 'OK': said = f'{words[0]} was refused'
-            it.expunge()
-        except (imaplib.IMAP4.error, OSError) as fault: said = f'the session was dropped ({str(fault)[:60]})'
-        break
-    trash = [entry for entry in store.asks('/box/ann/Trash')['entries'] if entry['item'] not in before]
-    return said, [entry['origin'] == open_one['origin'] for entry in trash]
+    store.asks('/cycle', {'key': f'stale {time.monotonic()}', 'point': 0, 'drop': [earlier['item']]})
+    said = []
+    try:
+        if again: it = joined('ann', 'a1'); it.select('INBOX')
+        for words in (('COPY', str(open_one['uid']), 'Trash'), ('STORE', str(open_one['uid']), '+FLAGS.SILENT', '(\\Deleted)')): said.append(f'{words[0]} {it.uid(*words)[0]}')
+        said.append(f'EXPUNGE {it.expunge()[0]}')
+    except (imaplib.IMAP4.error, OSError) as fault: said.append(f'dropped ({str(fault)[-60:]})')
+    return ', '.join(said), [entry['origin'] == open_one['origin'] for entry in store.asks('/box/ann/Trash')['entries'] if entry['item'] not in before]
 
 def main():
     if not 2 <= len(sys.argv) <= 4: sys.exit(__doc__)
@@ -181,11 +176,10 @@ def run(front, store, relay, messages, kills):
         it.logout()
     count = tests.as_stored(front, store)
     print(f'after it Dovecot serves {count:,} messages as the store has them, byte for byte, under their new UIDVALIDITY, and the notices', flush=True)
-    for name, joined in (('directly, with a SELECT', store.reader), ('through Dovecot', front.reader)):
-        said, right = stale_delete(store, joined, name)
-        what = 'nothing' if not right else 'the message that was meant' if all(right) else 'ANOTHER message'
-        print(f'stale Delete {name}: {said}; {what} went to Trash')
-        if name == 'through Dovecot': true('through Dovecot no other message goes to Trash', all(right))
+    for name, joined, again in (('directly, in the session from before', store.reader, False), ('directly, connected anew', store.reader, True), ('through Dovecot, in the session from before', front.reader, False), ('through Dovecot, connected anew', front.reader, True)):
+        said, right = stale_delete(store, joined, again)
+        print(f'stale Delete {name}: {said}; {"nothing" if not right else "the message that was meant" if all(right) else "ANOTHER message"} went to Trash', flush=True)
+        if not again: true('a session from before a cycle hits no other message', all(right))
     same('stunnel', 'OK', reads_through_stunnel(front))
     print('stunnel: login and SELECT by IMAPS work')
 
