@@ -8,7 +8,7 @@ sealed and not yet answered (a relay before the store keeps that answer back). T
 that wait in IDLE, runs a cycle, compares what Dovecot serves with the store byte for byte, and has a user delete a message that was open before the cycle:
 connected directly, and through Dovecot. Status 0 only where nothing is lost, nothing lies twice that Postfix's log does not tell, and all is served as stored.
 """
-import contextlib, imaplib, importlib.machinery, importlib.util, os, re, shutil, smtplib, socket, subprocess, sys, tempfile, threading, time
+import contextlib, imaplib, importlib.machinery, importlib.util, os, re, shutil, signal, smtplib, socket, subprocess, sys, tempfile, threading, time
 
 TOP = os.path.dirname(os.path.dirname(os.path.abspath(__file__)))
 
@@ -36,30 +36,38 @@ class Relay:
             client, _ = self.socket.accept()
             threading.Thread(target=self.carry, args=(client,), daemon=True).start()
     def carry(self, client):
-        with client, contextlib.suppress(OSError), socket.create_connection(('127.0.0.1', self.store.smtp)) as server:
-            threading.Thread(target=self.forth, args=(client, server), daemon=True).start()
-            while piece := server.recv(1 << 16):
-                if self.armed.is_set() and re.match(rb'250 OK \d+\r\n', piece):   # the delivery is sealed: its sender never hears of it
-                    self.armed.clear(); self.struck.append(int(piece.split()[2])); self.store.kill(); return
-                client.sendall(piece)
-            with contextlib.suppress(OSError): client.shutdown(socket.SHUT_RDWR)
+        with client:
+            try:
+                with socket.create_connection(('127.0.0.1', self.store.smtp)) as server:
+                    threading.Thread(target=self.forth, args=(client, server), daemon=True).start()
+                    while piece := server.recv(1 << 16):
+                        if self.armed.is_set() and re.match(rb'250 OK \d+\r\n', piece):   # the delivery is sealed: its sender never hears of it
+                            self.armed.clear(); self.struck.append(int(piece.split()[2])); self.store.kill(); return
+                        client.sendall(piece)
+            except OSError: pass
+            finally:
+                with contextlib.suppress(OSError): client.shutdown(socket.SHUT_RDWR)   # a close alone would wait for the other thread
     def forth(self, client, server):
         with contextlib.suppress(OSError):
             while piece := client.recv(1 << 16): server.sendall(piece)
             server.shutdown(socket.SHUT_WR)
 
-def posted(front, first, last, refused):
-    """Messages to ann, bob and team by turns, from one sender; what Postfix refuses is noted."""
+def posted(front, first, last, later):
+    """Messages to ann, bob and team by turns, from one sender, who tries again what is refused for a time (an alias, while the store that knows it is away)."""
     with front.client() as it:
         for number in range(first, last):
             to = ('ann', 'bob', 'team')[number % 3]
-            try: it.sendmail('joe@far.test', [f'{to}@mail.test'], tests.letter(number, 'word ' * 60 + '\r\n', to=f'{to}@mail.test'))
-            except smtplib.SMTPException as fault: refused.append((number, str(fault)[:120]))
+            while True:
+                try: it.sendmail('joe@far.test', [f'{to}@mail.test'], tests.letter(number, 'word ' * 60 + '\r\n', to=f'{to}@mail.test')); break
+                except smtplib.SMTPRecipientsRefused as fault:
+                    later.append(number)
+                    if next(iter(fault.recipients.values()))[0] != 450: raise
+                    time.sleep(.5)
 
 def delivered(front, store, relay, messages, kills):
     """Posts all, and kills the store meanwhile; the figures."""
-    refused, began = [], time.monotonic()
-    senders = [threading.Thread(target=posted, args=(front, messages * n // 4, messages * (n + 1) // 4, refused)) for n in range(4)]
+    later, began = [], time.monotonic()
+    senders = [threading.Thread(target=posted, args=(front, messages * n // 4, messages * (n + 1) // 4, later)) for n in range(4)]
     for it in senders: it.start()
     for kill in range(kills):
         came = store_length(store)
@@ -74,7 +82,7 @@ def delivered(front, store, relay, messages, kills):
     for it in senders: it.join()
     accepted = time.monotonic() - began
     front.emptied(600)
-    return refused, accepted, time.monotonic() - began
+    return later, accepted, time.monotonic() - began
 
 def store_length(store): return os.path.getsize(store.path)
 
@@ -135,18 +143,16 @@ def main():
         finally: store.kill()
 
 def run(front, store, relay, messages, kills):
-    refused, accepted, took = delivered(front, store, relay, messages, kills)
+    later, accepted, took = delivered(front, store, relay, messages, kills)
     past = store.past()
     found = tests.numbers(past, ('ann', 'bob'))
     wanted = {str(number): {('ann', 'INBOX')} if number % 3 == 0 else {('bob', 'INBOX')} if number % 3 == 1 else {('ann', 'INBOX'), ('bob', 'INBOX')} for number in range(messages)}
-    for number, _ in refused: wanted.pop(str(number))
     log = front.log()
     lost = [number for number, where in wanted.items() if set(found.get(number, ())) != where]
     twice = sorted((number for number, where in found.items() if len(where) > len(set(where))), key=int)
     told = {row.split()[-2].strip('<>').partition('@')[0] for row in tests.does([tests.FRONT, 'doubles', front.folder], 0).splitlines() if '@far.test' in row}
-    print(f'{messages:,} messages: Postfix took {messages - len(refused):,} within {accepted:.0f} s, {kills} kills and one in a sealed delivery\'s moment; all delivered after {took:.0f} s, {log.count("status=deferred"):,} deferrals, {log.count("status=bounced")} sent back')
-    print(f'lost: {len(lost)}; twice: {len(twice)} ({", ".join(twice)}); in doubt by Postfix\'s log: {len(told)}; refused at the door: {len(refused)}', flush=True)
-    for number, why in refused[:3]: print(f'  refused {number}: {why}')
+    print(f'{messages:,} messages: Postfix took all within {accepted:.0f} s, {kills} kills and one in a sealed delivery\'s moment; all delivered after {took:.0f} s, {log.count("status=deferred"):,} deferrals, {log.count("status=bounced")} sent back')
+    print(f'lost: {len(lost)}; twice: {len(twice)} ({", ".join(twice)}); in doubt by Postfix\'s log: {len(told)}; told to come later (450): {len(later)} times', flush=True)
     same('nothing is lost', [], lost)
     same('nothing was sent back', 0, log.count('status=bounced'))
     true('the struck delivery lies twice', len(relay.struck) == 1 and len(twice) >= 1)
@@ -191,5 +197,6 @@ def reads_through_stunnel(front):
     return said
 
 if __name__ == '__main__':
+    signal.signal(signal.SIGTERM, lambda *_: sys.exit(143))   # so that what was started is stopped
     try: main()
     except tests.Wrong as fault: sys.exit(f'WRONG: {fault}')
