@@ -59,7 +59,7 @@ class Browser:
         done = self.ask('Runtime.evaluate', expression=code, awaitPromise=True, returnByValue=True)
         if 'exceptionDetails' in done: raise tests.Wrong(f'{code}: {done["exceptionDetails"]}')
         return done['result'].get('value')
-    def wait(self, code, seconds=60):
+    def wait(self, code, seconds=600):
         until = time.monotonic() + seconds
         while not self.value(f'Boolean({code})'):
             if time.monotonic() > until: raise tests.Wrong(f'it never comes: {code}; the page says {self.value("document.body.innerText")[:3000]}')
@@ -109,6 +109,14 @@ def a_filter_by_mistake(folder, browser, pictures):
         browser.click('#clear')
         browser.wait('document.querySelectorAll("#rows tr").length === 6')
         browser.wait('document.querySelector("#text-5").innerText.includes("filter ads: what holds")')
+        browser.choose('#to', 'bob')
+        browser.click('#find')
+        browser.wait('document.getElementById("said").innerText === "No texts that were for bob."')
+        browser.choose('#to', 'ann')
+        browser.click('#find')
+        browser.wait('document.querySelectorAll("#rows tr").length === 3')
+        browser.click('#clear')
+        browser.wait('document.querySelectorAll("#rows tr").length === 6')
         browser.click('#text-5 button')
         browser.wait('document.getElementById("touched-by").textContent.includes("It decided for 1 delivery.")')
         has('what it threw away', ['6 2005-01-07 11:20:00 from boss@far.test to ann: "the job", was discarded (filter ads), and so now'], browser.value('document.getElementById("touched-by").textContent'))

@@ -15,7 +15,7 @@ from .console import Console, Timeline, Wanted, accepted
 from .copies import same_file
 from .cycles import naming_of, prepared, run_cycle
 from .formats import LARGEST_REQUEST, MEANINGS, PAGE_OF_ITEMS
-from .history import Telling, opened, reading, touched_by, who_read
+from .history import Telling, addressed_to, opened, reading, touched_by, who_read
 from .journal import SetFilter
 from .journal_commands import delivery_text, set_by, touched_by_head, who_read_text
 from .mail import Message, message_of
@@ -52,7 +52,7 @@ class PageServer(http.server.ThreadingHTTPServer):
             ('GET', r'/api/timeline/(\d+)', lambda place: accepted(console.get(f'/timeline/{int(place)}'))),
             ('GET', r'/api/message/(\d+)', lambda number: self.message(int(number))),
             ('GET', r'/api/who-read/(\d+)', lambda number: self.who_read(int(number))),
-            ('GET', r'/api/journal', lambda: {'read': not self.first_read.is_alive()}),
+            ('GET', r'/api/journal', self.journal),
             ('GET', r'/api/conf', lambda: accepted(console.get('/conf'))),
             ('POST', r'/api/touched-by', self.touched_by),
             ('POST', r'/api/find', self.find),
@@ -66,12 +66,31 @@ class PageServer(http.server.ThreadingHTTPServer):
         message = message_of(self.console.get(f'/body/{number}'), number)
         return {'fields': message.fields(), 'octets': len(message.octets), 'parts': list(message.texts())}
 
+    def journal(self) -> dict[str, Any]:
+        """Whether the journal was read, and then the users of the house."""
+        past = None if self.first_read.is_alive() else self.known
+        return {'read': not self.first_read.is_alive(), 'users': past.house.users if past else []}
+
     def find(self, asked: Any) -> Any:
-        if not isinstance(asked, dict) or not isinstance(asked.get('text'), str) or not asked['text']:
-            raise Trouble(WRONG_WORDS, 'Write what the texts are to hold.')
-        found = find(self.console, Wanted(), Sought(text=asked['text']))
-        told = self.heads_told([item.number for item, _ in found])
-        return told if told is not None else [{'number': item.number, **head} for item, head in found]
+        """Items whose texts hold a word, or that were for a user by the envelope, or both."""
+        text, user = (asked.get(name, '') for name in ('text', 'to')) if isinstance(asked, dict) else (None, None)
+        if not isinstance(text, str) or not isinstance(user, str) or not (text or user):
+            raise Trouble(WRONG_WORDS, 'Write what the texts are to hold, or choose for whom they were.')
+        heads = {item.number: head for item, head in find(self.console, Wanted(), Sought(text=text))} if text else None
+        if user:
+            heads = {number: heads[number] if heads else {} for number in self.were_for(user) if heads is None or number in heads}
+        told = self.heads_told(list(heads or {}))
+        return told if told is not None else [{'number': number, **head} for number, head in (heads or {}).items()]
+
+    def were_for(self, user: str) -> list[int]:
+        """The deliveries in force that were for a user when they came, or are now."""
+        with opened(self.path()) as journal:
+            return [it.item.number for it in addressed_to(Past(journal), user, self.console.tell) if it.now is not None]
+
+    def path(self) -> str:
+        if self.store is None:
+            raise Trouble(WRONG_WORDS, 'This page was started without the path of the store (--store).')
+        return self.store
 
     def read_first(self) -> None:
         """Reads the journal while the page is served already. What is wrong with it is told to whoever asks for it."""
@@ -83,7 +102,7 @@ class PageServer(http.server.ThreadingHTTPServer):
         """The journal as it stands, of which only what is new is read; all of it where another file has its name. Held by `one_read`."""
         past, self.known = self.known, None
         if past is None or not same_file(past.journal):
-            past = Past(opened(self.store or ''))
+            past = Past(opened(self.path()))
         self.known = reading(past, None, self.console.tell)
         return self.known
 
@@ -116,9 +135,7 @@ class PageServer(http.server.ThreadingHTTPServer):
         return {'number': item.number, **Message(item.body.octets).summary(), **({'recipients': list(item.deed.recipients)} if item.verb == 'DELIVER' else {})}
 
     def who_read(self, number: int) -> dict[str, str]:
-        if self.store is None:
-            raise Trouble(WRONG_WORDS, 'This page was started without the path of the store (--store).')
-        with opened(self.store) as journal:
+        with opened(self.path()) as journal:
             past = Past(journal)
             found = who_read(past, number, self.console.tell)
             return {'text': who_read_text(Telling(past.house), found, False)}
@@ -128,9 +145,7 @@ class PageServer(http.server.ThreadingHTTPServer):
         name = asked.get('name') if isinstance(asked, dict) else None
         if not isinstance(name, str):
             raise Trouble(WRONG_WORDS, 'Say which filter is meant.')
-        if self.store is None:
-            raise Trouble(WRONG_WORDS, 'This page was started without the path of the store (--store).')
-        with opened(self.store) as journal:
+        with opened(self.path()) as journal:
             past = Past(journal)
             found = touched_by(past, name, self.console.tell)
             telling = Telling(past.house)
