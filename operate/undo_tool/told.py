@@ -141,7 +141,7 @@ def totals_text(naming: Naming, effects: Optional[Effects], report: dict[str, An
     parts = [f'{counted(drops, "item")} dropped'] if drops else []
     parts += [f'{counted(replaced, "item")} with another text'] if replaced else []
     parts += [f'{counted(acts, "act")} that {"comes" if acts == 1 else "come"} in'] if acts else []
-    parts += [f'{counted(len(users), "notice")} for {counted(len(report["broken"]), "answer")}' if users else 'no notice', f'{counted(len(report["renewed"]), "mailbox", "mailboxes")} renewed']
+    parts += [f'{counted(len(users), "notice")} for {counted(len(report["broken"]), "answer")}' if users else 'no notice', f'{counted(len(report["renewed"]), "mailbox", "mailboxes")} renewed' if report['renewed'] else 'no mailbox renewed']
     lines = [f'In all: {", ".join(parts)}.']
     if effects is not None:
         sums = [f'{counted(len({change.user for change in effects.changes if change.what == what}), one, more)} {counted(sum(1 for change in effects.changes if change.what == what), "message")}'
