@@ -11,5 +11,7 @@ model       what items and cycles do to a store (docs/MODEL.md), so that a journ
 history     what a journal tells: who got, saw, copied and lost what, and what a cycle would do to each
 told        what a person reads
 page        the page and its server
+served      the file that names several stores and where each is served (`--stores`, operate/front)
+many        a command over several stores, one key for all
 commands    the words of the command line
 """

@@ -14,6 +14,7 @@ from .console import Console
 from .cycle_commands import do_draft, do_give_back, do_run, do_try
 from .formats import LARGEST_NUMBER
 from .journal_commands import do_history, do_to, do_touched_by, do_who_read
+from .many import spread
 from .moments import moment
 from .told import Progress
 from .troubles import FILE_FAULT, Trouble
@@ -100,6 +101,7 @@ def common_words(it: argparse.ArgumentParser, usual_port: Any, usual: Callable[[
     it.add_argument('--port', type=port, default=usual_port, help='the console\'s port on 127.0.0.1 (else the variable UNDO_PORT, else 8080)')
     it.add_argument('--socket', metavar='PATH', default=usual(os.environ.get('UNDO_SOCKET')), help='the console\'s Unix socket, in place of a port (else the variable UNDO_SOCKET)')
     it.add_argument('--store', metavar='STORE', default=usual(os.environ.get('UNDO_STORE')), help='the journal\'s file, which is read alone (else the variable UNDO_STORE)')
+    it.add_argument('--stores', metavar='FILE', default=usual(os.environ.get('UNDO_STORES')), help='several stores, a line for each, NAME STORE SMTP IMAP CONSOLE: looks, find, try and run go over all (else the variable UNDO_STORES)')
     it.add_argument('--json', action='store_true', default=usual(False), help='answers as JSON, for scripts')
     it.add_argument('--all', action='store_true', default=usual(False), help='long lists and texts whole')
     return it
@@ -147,7 +149,7 @@ def parser(said: str) -> argparse.ArgumentParser:
 
     def command(name: str, does: Callable[[Words], int], says: str) -> argparse.ArgumentParser:
         it = common_words(commands.add_parser(name, help=says, description=says), argparse.SUPPRESS, lambda _: argparse.SUPPRESS)
-        it.set_defaults(does=does)
+        it.set_defaults(does=does, command=name)
         return it
 
     look_words(command)
@@ -231,7 +233,7 @@ def main(about: str) -> int:
     words.progress = Progress()
     words.console = Console(words.port, tell=words.progress, path=words.socket)
     try:
-        status = words.does(words)
+        status = spread(words) if words.stores else words.does(words)
         sys.stdout.flush()
         return status
     except Trouble as trouble:
