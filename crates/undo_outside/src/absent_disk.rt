@@ -13,7 +13,10 @@ pub struct AbsentDisk {
 
 impl AbsentDisk {
     /// No disk, of which no call was made.
-    pub fn new() -> AbsentDisk {
+    pub fn new() -> AbsentDisk
+        ensures reads { (⟦<AbsentDisk as Disk>⟧.told result).failed_reads ≡ 0 }
+        ensures writes { (⟦<AbsentDisk as Disk>⟧.told result).failed_writes ≡ 0 }
+    {
         AbsentDisk {
             failed_reads: 0,
             failed_writes: 0,
