@@ -2,9 +2,11 @@
 ghost use Rattle.std.specs.Prelude.{◌≡◌, ◌<◌, [], ◌∷◌, ◌++◌, length, option_map, Some, None, IfOk, OnOk, if◌then◌else◌};
 ghost use Rattle.std.specs.List.{AllByRecursion};
 ghost use Rattle.std.specs.List.Sorted.{IsPermutation};
+ghost use Rattle.std.specs.Result.{IsOk};
 ghost use Rattle.verb_core.specs.declared.mailbox.Body.{Body as TheBody};
 ghost use Rattle.verb_core.specs.Deeds.{is_notice as is_of_notice};
 ghost use Rattle.verb_core.specs.Items.{NumbersApart, text_in};
+ghost use Rattle.shelf.specs.declared.note.Note.{Note as TheNote};
 ghost use Rattle.shelf.specs.Notes.{note_of, same_body};
 ghost use Rattle.mail_desk.specs.Noting.{IsNotedBy, Knows, note_by, renoted, rows_by};
 ghost use Rattle.mail_desk.specs.Timeline.{NotesText, SizesOf, body_of};
@@ -79,10 +81,11 @@ fn found_note(old: &Shelf, fresh: &Fresh, item: &StoredItem, size: u32) -> Optio
         .or(notice_note(item, fresh.place, size))
 }
 
-/// A note that was found, if it has a length; else no memory.
+/// A note that was found, if it has a length; else no memory, which is never wanted where the note has it.
 fn of_length(note: Option<Note>, size: u32) -> Result<Note, NoMemory>
     ensures found { IfOk result (λ found. note ≡ Some found) }
     ensures length { IfOk result (λ found. found.length ≡ size) }
+    ensures only { (found : TheNote) → note ≡ Some found → found.length ≡ size → IsOk result }
 {
     match note {
         Some(note) => {
