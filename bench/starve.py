@@ -7,7 +7,8 @@ For each of three stories of tests/cases/cycles (a filter by mistake, an infecte
 the cycle is done over a store; then, for each N until none is refused, a copy of that store gets the cycle while the Nth
 allocation of the run is refused, and is looked at in the same run and in the next, where none is. What is seen must be the
 store without the cycle or with all of it: with it where the operator was told the report, without it where want of memory
-was told, and either where the connection closed without a word or the run ended for want of memory.
+was told, and either where the connection closed without a word or the run ended for want of memory. At least one of them must be
+told of want of memory, in each story, and in a fourth: a mail client's greeting and envelope, and a mail reader's login and look at a mailbox.
 """
 import collections, os, re, shutil, subprocess, sys, tempfile
 
@@ -93,7 +94,24 @@ def main():
             if not fits:
                 bad += 1
                 print(f'{name}: allocation {at}: {kind}, {left}, in the run {"the same" if same else "another"}, status {status}')
+        if not any(kind == 'refused' for kind, _ in count):
+            bad += 1
+            print(f'{name}: want of memory is never told')
         print(f'{name}: {at - 1} allocations; ' + ', '.join(f'{kind} and {left}: {n}' for (kind, left), n in sorted(count.items())))
+    client = 'open 1 smtp\nline 1 HELO c\nline 1 MAIL FROM:<joe@far.test>\nline 1 RCPT TO:<ann@mail.test>\nline 1 NOOP\n'
+    reader = 'open 2 imap\nline 2 a LOGIN ann a1\nline 2 b SELECT INBOX\nline 2 c NOOP\n'
+    for name, text, memory in (('a mail client', client, '452 No memory'), ('a mail reader', reader, 'NO No memory')):
+        count, at = collections.Counter(), 0
+        while True:
+            at += 1
+            if os.path.exists(mark): os.remove(mark)
+            status, out = run(['play'], text, at)
+            if not os.path.exists(mark): break
+            count['told' if memory in out else 'status 8' if status == 8 else 'closed' if ' closed' in out else 'not seen'] += 1
+        if not count['told']:
+            bad += 1
+            print(f'{name}: want of memory is never told')
+        print(f'{name}: {at - 1} allocations; ' + ', '.join(f'{what}: {n}' for what, n in sorted(count.items())))
     shutil.rmtree(work)
     print('each left the store as it was, or with the whole cycle' if not bad else f'{bad} did not')
     sys.exit(1 if bad else 0)
