@@ -59,7 +59,6 @@ WRONG = {
     'never-given-up': (NET, 'if self.ends_at.is_some_and(|end| end <= now) {', 'if false {'),
     'much-waits': (NET, 'const MOST_WAITING: usize = 67_108_864;', 'const MOST_WAITING: usize = 1_067_108_864;'),
     'listeners-wait-for-the-end-of-a-round': (SEATS, '        if now != self.listened {\n', '        if false {\n'),
-    'one-is-taken-in-a-turn': (SEATS, '        if event.is_none() {\n            self.listener', '        if true {\n            self.listener'),
     'seats-are-never-free-again': (SEATS, '        self.free();\n', ''),
     'past-the-900th-unheard-after-a-silence': (SEATS, 'if seat.connection.is_none() || seat.lively_until.is_some() {', 'if place > 900 || seat.connection.is_none() || seat.lively_until.is_some() {'),
     'no-seat-is-the-consoles': (SEATS, 'const SEATS_FOR_ALL: usize = 984;', 'const SEATS_FOR_ALL: usize = 1000;'),
