@@ -1,5 +1,5 @@
 //! The parts of paths, and names.
-ghost use Rattle.std.specs.Prelude.{◌≡◌, ◌≤◌, ◌==◌, length, IfOk, option_map, position};
+ghost use Rattle.std.specs.Prelude.{◌≡◌, ◌≤◌, ◌==◌, length, IfOk, option_map, position, true};
 ghost use Rattle.std.specs.List.{list_all, list_any, position_or_len, before_first, after_first};
 ghost use Rattle.undo_base.specs.Name.{is_name as name_text, is_printable as printable};
 ghost use Rattle.verb_core.specs.Recipients.{user_named};
