@@ -327,7 +327,7 @@ def deliveries(path, count):
         out.write(b'\0')
 
 def a_hundred_thousand_items(folder, browser, pictures):
-    """How long one waits for the first screen, for all items, for a page, a click, a choice and a find over all texts: told. Judged is that nothing that a hand does waits a second."""
+    """How long one waits for the first screen, for all items, for a page, a click, a choice and a find over all texts: told. Judged is that nothing that a hand does waits a second, that a find by the journal ends within a minute, and that one by the console stops and says so."""
     server = tests.Server(folder)
     deliveries(server.store, 100000)
     with server as it, tests.Page(it, '--store', it.store) as page:
@@ -353,10 +353,28 @@ def a_hundred_thousand_items(folder, browser, pictures):
         longest = browser.value('(async () => { let most = 0, last = performance.now(); for (let n = 0; n < 40; n++) { at("older").click(); await new Promise(ends => setTimeout(ends)); const now = performance.now(); most = Math.max(most, now - last); last = now; } return most; })()') / 1000
         browser.write('#text', 'sought')
         timed('a find over all texts', lambda: browser.click('#find'), 'document.querySelectorAll("#rows tr").length === 4')
-        print(f'100,000 deliveries: {", ".join(f"{what} {seconds:.2f} s" for what, seconds in took.items())}; the slowest of 40 pages {longest:.2f} s')
+        has('it says so', '4 texts that hold it.', browser.value('document.getElementById("said").innerText'))
+        browser.picture(pictures, 'many-found')
+        print(f'100,000 deliveries, load {os.getloadavg()[0]:.0f}: {", ".join(f"{what} {seconds:.2f} s" for what, seconds in took.items())}; the slowest of 40 pages {longest:.2f} s')
         for what in hands: same(f'{what} is not waited for', True, took[what] < 1)
         same('nor a page', True, longest < 1)
-        for words in (['find', 'sought'], ['timeline', '--verb', 'FILTER'], ['show', '15000'], ['timeline', '--last', '20']):
+        same('nor the find a minute', True, took['a find over all texts'] < 60)
+        same('the page has no fault', [], browser.faults())
+        with tests.Page(it) as other:
+            opened(browser, other)
+            browser.write('#text', 'sought')
+            timed('a find by the console', lambda: browser.click('#find'), '!document.getElementById("find").disabled && document.getElementById("said").innerText.includes("were looked through")')
+            said = browser.value('document.getElementById("said").innerText')
+            has('it says where it stopped', ['Of 100000 texts the latest ', 'and not those before them.', '--store'], said)
+            browser.picture(pictures, 'many-by-the-console')
+            looked = browser.value('store.looked')
+            timed('and further', lambda: browser.click('#further'), f'!document.getElementById("find").disabled && store.looked > {looked}')
+            print(f'by the console: {took["a find by the console"]:.1f} s, "{said}", and {browser.value("store.looked") - looked} more in {took["and further"]:.1f} s')
+            browser.click('#drop-found')
+            has('what would be dropped', 'were looked through', browser.value('document.getElementById("said").innerText'))
+            browser.click('#clear')
+            browser.wait('document.getElementById("further").hidden')
+        for words in (['find', 'sought', '--store', it.store], ['timeline', '--verb', 'FILTER'], ['show', '15000'], ['timeline', '--last', '20']):
             began = time.monotonic()
             it.undo(*words, status=1 if 'FILTER' in words else 0)
             print(f'undo {" ".join(words)}: {time.monotonic() - began:.2f} s')

@@ -9,6 +9,7 @@ from __future__ import annotations
 
 import os
 import struct
+from copy import copy as shallow_copy
 from typing import Any, Callable, Iterator, NamedTuple, Optional, Union
 
 OPEN_GATE = 0x55
@@ -556,6 +557,12 @@ class Octets:
     def close(self) -> None:
         self.file.close()
 
+    def beside(self) -> Octets:
+        """The same file for another thread: what is at hand of it is its own."""
+        found = shallow_copy(self)
+        found.start, found.block = 0, b''
+        return found
+
     def length(self) -> int:
         return os.fstat(self.descriptor).st_size
 
@@ -590,6 +597,12 @@ class Journal:
 
     def __exit__(self, *_: Any) -> None:
         self.octets.close()
+
+    def beside(self) -> Journal:
+        """The same file for another thread."""
+        found = shallow_copy(self)
+        found.octets = self.octets.beside()
+        return found
 
     def frames(self, gate: int = 0) -> Iterator[Frame]:
         """The payloads behind the open gates, in order, up to the first gate that is not open."""

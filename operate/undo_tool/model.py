@@ -11,6 +11,7 @@ import gc
 import hashlib
 import re
 from array import array
+from copy import copy as shallow_copy
 from typing import Any, Callable, Iterable, Iterator, NamedTuple, Optional
 
 from . import journal
@@ -610,6 +611,12 @@ class Past:
         self.stamps = {(user, name): self.stamps.get((user, name), number) for user, boxes in enumerate(self.store.boxes) for name in boxes}
 
     # items
+
+    def beside(self) -> Past:
+        """The items in force as they are by now, for another thread: whoever reads on meanwhile changes nothing of them."""
+        found = shallow_copy(self)
+        found.journal, found.timeline, found.replaced = self.journal.beside(), array('I', self.timeline), dict(self.replaced)
+        return found
 
     def has(self, number: int) -> bool:
         return self.house.first <= number < self.following and (number in self.made or self.places[number - self.house.first] != 0)

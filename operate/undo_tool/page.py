@@ -11,7 +11,7 @@ import threading
 from typing import Any, Callable, Optional
 
 from .asked import idle_parts, is_number, refuse, shape_faults, store_faults
-from .console import Console, Timeline, Wanted, accepted
+from .console import Console, Timeline, accepted
 from .copies import same_file
 from .cycles import naming_of, prepared, run_cycle
 from .formats import LARGEST_REQUEST, MEANINGS, PAGE_OF_ITEMS
@@ -20,11 +20,14 @@ from .journal import SetFilter
 from .journal_commands import delivery_text, set_by, touched_by_head, who_read_text
 from .mail import Message, message_of
 from .model import NOTHING, Past
-from .search import Sought, find
 from .troubles import NO_SERVER, WRONG_WORDS, Trouble
 
 with open(os.path.join(os.path.dirname(os.path.abspath(__file__)), 'page.html'), encoding='utf-8') as _page:
     PAGE = _page.read()
+
+
+def holds(item: Any, text: str) -> bool:
+    return item.body is not None and Message(item.body.octets).holds(text, False)
 
 
 class PageServer(http.server.ThreadingHTTPServer):
@@ -72,15 +75,35 @@ class PageServer(http.server.ThreadingHTTPServer):
         return {'read': not self.first_read.is_alive(), 'users': past.house.users if past else []}
 
     def find(self, asked: Any) -> Any:
-        """Items whose texts hold a word, or that were for a user by the envelope, or both."""
-        text, user = (asked.get(name, '') for name in ('text', 'to')) if isinstance(asked, dict) else (None, None)
+        """Items whose texts hold a word, or that were for a user by the envelope, or both: by the journal; else, among those that are named, by the console."""
+        text, user, numbers = (asked.get(name, usual) for name, usual in (('text', ''), ('to', ''), ('numbers', None))) if isinstance(asked, dict) else (None, None, None)
         if not isinstance(text, str) or not isinstance(user, str) or not (text or user):
             raise Trouble(WRONG_WORDS, 'Write what the texts are to hold, or choose for whom they were.')
-        heads = {item.number: head for item, head in find(self.console, Wanted(), Sought(text=text))} if text else None
+        return self.find_all(text, user) if numbers is None else self.find_among(text, self.numbers_in(numbers))
+
+    def find_all(self, text: str, user: str) -> list[dict[str, Any]]:
+        """By the journal. Of many the heads of the latest alone: the page asks for those that it shows."""
+        with self.one_read:
+            past = self.read_on().beside()
+        there = past.timeline
         if user:
-            heads = {number: heads[number] if heads else {} for number in self.were_for(user) if heads is None or number in heads}
-        told = self.heads_told(list(heads or {}))
-        return told if told is not None else [{'number': number, **head} for number, head in (heads or {}).items()]
+            were_for = set(self.were_for(user))
+            there = [number for number in there if number in were_for]
+        found = [number for number in there if not text or holds(past.item(number, False), text)]
+        early = max(0, len(found) - PAGE_OF_ITEMS)
+        return [{'number': number} for number in found[:early]] + [self.head(past, past.item(number)) for number in found[early:]]
+
+    def find_among(self, text: str, numbers: list[int]) -> list[dict[str, Any]]:
+        """By the console, which is asked for each text: so the page asks for a few, and stops early."""
+        answers = zip(numbers, self.console.get_each(f'/body/{number}' for number in numbers))
+        messages = ((number, message_of(answer, number)) for number, answer in answers if answer.status != 404)
+        return [{'number': number, **message.summary()} for number, message in messages if message.holds(text, False)]
+
+    @staticmethod
+    def numbers_in(asked: Any) -> list[int]:
+        if not isinstance(asked, list) or len(asked) > PAGE_OF_ITEMS or not all(map(is_number, asked)):
+            raise Trouble(WRONG_WORDS, f'Ask for a list of at most {PAGE_OF_ITEMS} numbers.')
+        return asked
 
     def were_for(self, user: str) -> list[int]:
         """The deliveries in force that were for a user when they came, or are now."""
@@ -119,9 +142,7 @@ class PageServer(http.server.ThreadingHTTPServer):
 
     def heads(self, asked: Any) -> Any:
         """Who sent these items' texts, to whom, and their subjects; of acts what they set, where the journal tells it. Without those that are gone."""
-        asks = asked.get('numbers') if isinstance(asked, dict) else None
-        if not isinstance(asks, list) or len(asks) > PAGE_OF_ITEMS or not all(map(is_number, asks)):
-            raise Trouble(WRONG_WORDS, f'Ask for a list of at most {PAGE_OF_ITEMS} numbers.')
+        asks = self.numbers_in(asked.get('numbers') if isinstance(asked, dict) else None)
         told = self.heads_told(asks)
         if told is not None:
             return told
