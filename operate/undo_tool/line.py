@@ -226,6 +226,13 @@ def run_words(run: argparse.ArgumentParser, page: argparse.ArgumentParser) -> No
     page.add_argument('--listen', type=port, default=8090, metavar='PORT', help='the page\'s port (8090; 0 for a free one)')
 
 
+def over_all(words: Words) -> bool:
+    """Whether a command is for all stores: --stores, or its variable where no one store is named beside it by --socket or --store."""
+    by_variable = words.stores == os.environ.get('UNDO_STORES')
+    one = words.socket != os.environ.get('UNDO_SOCKET') or words.store != os.environ.get('UNDO_STORE')
+    return bool(words.stores) and not (by_variable and one)
+
+
 def main(about: str) -> int:
     words = parser(about).parse_args()
     for stream in (sys.stdout, sys.stderr):
@@ -233,7 +240,7 @@ def main(about: str) -> int:
     words.progress = Progress()
     words.console = Console(words.port, tell=words.progress, path=words.socket)
     try:
-        status = spread(words) if words.stores else words.does(words)
+        status = spread(words) if over_all(words) else words.does(words)
         sys.stdout.flush()
         return status
     except Trouble as trouble:

@@ -187,7 +187,7 @@ def spread(words: Words) -> int:
     if words.command == 'run':
         return run_all(words, stores)
     if words.command not in LOOKS:
-        raise Trouble(WRONG_WORDS, f'--stores goes with {", ".join((*LOOKS, "try", "run"))}, not with {words.command}: give one store by --store and --port or --socket.')
+        raise Trouble(WRONG_WORDS, f'--stores goes with {", ".join((*LOOKS, "try", "run"))}, not with {words.command}: give one store by --socket, and --store where its journal is read.')
     if getattr(words, 'draft', None):
         if words.command != 'find':
             raise Trouble(WRONG_WORDS, f'--draft with --stores is of find alone, not of {words.command}.')
