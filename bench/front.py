@@ -73,7 +73,7 @@ def delivered(front, store, relay, messages, kills):
         came = store_length(store)
         within('something comes between two kills', 120, lambda: store_length(store) > came or not any(it.is_alive() for it in senders) and not front.queued() or (front.flush(), time.sleep(.3))[0])
         time.sleep(.05 + kill * 37 % 11 * .03)
-        if kill == kills // 2:
+        if not kill:                                       # while most are still to come, however fast they go
             relay.armed.set()
             within('a delivery is struck in its moment', 120, lambda: relay.struck or (front.flush(), time.sleep(.5))[0])
         store.kill()

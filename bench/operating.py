@@ -43,7 +43,7 @@ def lines_of_the_tool(lines, start, end):
             while lines[until].startswith('    ') and not lines[until].startswith('    $ ') or (not lines[until] and lines[until + 1].startswith('    ') and not lines[until + 1].startswith('    $ ')): until += 1
             yield command[1], place + 1, until
 
-def masked(lines): return [re.sub(r'\d{8}T\d{6}Z|undo \d{4}-\d\d-\d\d \d\d:\d\d:\d\dZ [0-9a-f]{6}', 'T', line) for line in lines]
+def masked(lines): return [re.sub(r'\d{8}T\d{6}Z(-\d+)?|undo \d{4}-\d\d-\d\d \d\d:\d\d:\d\dZ [0-9a-f]{6}', 'T', line) for line in lines]
 
 def main():
     if len(sys.argv) not in (2, 3) or sys.argv[2:] not in ([], ['--write']): sys.exit(__doc__)
