@@ -374,7 +374,8 @@ def a_hundred_thousand_items(folder, browser, pictures):
             timed('and further', lambda: browser.click('#further'), f'!document.getElementById("find").disabled && store.looked > {looked}')
             print(f'by the console: {took["a find by the console"]:.1f} s, "{said}", and {browser.value("store.looked") - looked} more in {took["and further"]:.1f} s')
             browser.click('#drop-found')
-            has('what would be dropped', 'were looked through', browser.value('document.getElementById("said").innerText'))
+            partly = browser.value('store.looked < 100000')     # a machine that is fast enough has looked through all by then
+            has('what would be dropped', 'were looked through' if partly else '4 items to drop.', browser.value('document.getElementById("said").innerText'))
             browser.click('#clear')
             browser.wait('document.getElementById("further").hidden')
         for words in (['find', 'sought', '--store', it.store], ['timeline', '--verb', 'FILTER'], ['show', '15000'], ['timeline', '--last', '20']):
