@@ -1,5 +1,5 @@
 -- What a disk over a file tells.
-use Rattle.std.specs.Prelude.{false, []}
+use Rattle.std.specs.Prelude.{◌≡◌, false, []}
 use Rattle.undo_outside.specs.Disk.{DiskTold}
 use Rattle.host_outside.specs.declared.file_disk.DiskOver.{DiskOver}
 
@@ -15,5 +15,15 @@ told_by disk = record {
   failed_reads = disk.failed_reads;
   failed_writes = disk.failed_writes;
   failed_last = disk.failed_last;
+  starved = disk.starved;
+  starved_last = disk.starved_last;
   is_reliable = false;
 }
+
+-- no call of a disk is counted as failed yet, and no write as one that found no memory
+pub record NoneFailed (disk : DiskTold) : Type 0 where
+  pub failed_reads : disk.failed_reads ≡ 0
+  pub failed_writes : disk.failed_writes ≡ 0
+  pub failed_last : disk.failed_last ≡ false
+  pub starved : disk.starved ≡ 0
+  pub starved_last : disk.starved_last ≡ false

@@ -1,7 +1,8 @@
 //! A file as a disk, which tells its length and its counts alone, and what each of its calls does to the file.
 ghost use Rattle.std.specs.Prelude.{◌≡◌, ◌≢◌, ◌≤◌, ◌+◌, [], ◌∷◌, length, take, drop, max, true, false, if◌then◌else◌, IfOk, IsErrOf, OnOk, OnErr};
-ghost use Rattle.undo_outside.specs.Calls.{Rose, then_told};
+ghost use Rattle.undo_outside.specs.Calls.{Rose, RoseOnce, then_told};
 ghost use Rattle.undo_outside.specs.declared.fault.Fault.TheVariants.{NoMemory};
+ghost use Rattle.host_outside.specs.FileDisk.{told_by, NoneFailed};
 ghost use Rattle.host_outside.specs.Files.{adds, changes, cuts, finds, makes, reads, syncs, writes};
 ghost use Rattle.host_outside.specs.declared.calls.FileCall.TheVariants.{Cut, SyncedAll, SyncedBytes, SyncedFolder};
 ghost use Rattle.host_outside.specs.declared.file_disk.State.TheVariants as states;
@@ -36,6 +37,9 @@ pub struct DiskOver<F: FileCalls> {
     failed_reads: u64,
     failed_writes: u64,
     failed_last: bool,
+    /// How many writes found no room, and whether the last one did.
+    starved: u64,
+    starved_last: bool,
 }
 
 /// The file at a path.
@@ -48,19 +52,25 @@ where
     /// The file at this path, locked for this program alone as long as the disk is there; a missing one has length 0, and is
     /// made at the first write. Without a path, or where another program has locked the file or no length was found, each
     /// call fails.
-    pub fn open(files: R, path: Option<&'a String>) -> DiskOver<PathFile<'a, R>> {
+    pub fn open(files: R, path: Option<&'a String>) -> DiskOver<PathFile<'a, R>>
+        ensures { NoneFailed (told_by result) }
+    {
         let (file, found) = PathFile::find(files, path, Lock::Exclusive);
         DiskOver::found(file, found)
     }
 
     /// The file at this path to be read alone, beside others that read it. Where a program has opened it for itself, each
     /// call fails.
-    pub fn open_to_read(files: R, path: Option<&'a String>) -> DiskOver<PathFile<'a, R>> {
+    pub fn open_to_read(files: R, path: Option<&'a String>) -> DiskOver<PathFile<'a, R>>
+        ensures { NoneFailed (told_by result) }
+    {
         let (file, found) = PathFile::find(files, path, Lock::Shared);
         DiskOver::found(file, found)
     }
 
-    fn found(file: PathFile<'a, R>, found: Found) -> DiskOver<PathFile<'a, R>> {
+    fn found(file: PathFile<'a, R>, found: Found) -> DiskOver<PathFile<'a, R>>
+        ensures { NoneFailed (told_by result) }
+    {
         match found {
             Found::Nothing => DiskOver::over(file, State::Nothing, 0),
             Found::Missing => DiskOver::over(file, State::Missing, 0),
@@ -77,6 +87,7 @@ impl<F: FileCalls> DiskOver<F> {
         ensures size { result.size ≡ size }
         ensures grown { result.has_grown ≡ true }
         ensures new { size ≡ 0 → result.is_new ≡ true }
+        ensures fresh { NoneFailed (told_by result) }
     {
         DiskOver {
             file,
@@ -87,6 +98,8 @@ impl<F: FileCalls> DiskOver<F> {
             failed_reads: 0,
             failed_writes: 0,
             failed_last: false,
+            starved: 0,
+            starved_last: false,
         }
     }
 
@@ -120,6 +133,15 @@ impl<F: FileCalls> DiskOver<F> {
         self.failed_writes = self.failed_writes.saturating_add(1);
         self.failed_last = true;
         Failed
+    }
+
+    /// Counts a write that found no room.
+    fn starve(&mut self)
+        ensures counted { RoseOnce self.old.starved self.new.starved }
+        ensures told { self.new ≡ record self.old { starved = self.new.starved; starved_last = true } }
+    {
+        self.starved = self.starved.saturating_add(1);
+        self.starved_last = true;
     }
 
     /// Makes the file where it is missing.
@@ -351,11 +373,16 @@ impl<F: FileCalls> Disk for DiskOver<F> {
             Ok(end) => {
                 self.size = self.size.max(end);
                 self.failed_last = false;
+                self.starved_last = false;
                 Ok(())
             }
-            Err(Fault::NoMemory) => Err(Fault::NoMemory),
+            Err(Fault::NoMemory) => {
+                self.starve();
+                Err(Fault::NoMemory)
+            }
             Err(Fault::Failed) => {
                 self.fail_write();
+                self.starved_last = false;
                 Err(Fault::Failed)
             }
         }

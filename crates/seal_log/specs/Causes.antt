@@ -1,6 +1,8 @@
 -- Why calls on a journal fail, by the disk's counts of failures.
 use Rattle.std.specs.Prelude.{◌≡◌, ◌⊎◌, ℕ, Result, OnOk, IsErrOf}
-use Rattle.undo_outside.specs.Disk.{DiskTold, ReadFailed, WriteFailed}
+use Rattle.undo_outside.specs.declared.fault.Fault.{Fault}
+use Rattle.undo_outside.specs.declared.fault.Fault.TheVariants.{Failed, NoMemory}
+use Rattle.undo_outside.specs.Disk.{DiskTold, ReadFailed, WriteFailed, WriteStarved}
 use Rattle.seal_log.specs.declared.fault.SealFault.{SealFault}
 use Rattle.seal_log.specs.declared.fault.SealFault.TheVariants.{Disk as seal_disk, NoMemory as seal_no_memory, Closed}
 use Rattle.seal_log.specs.declared.fault.ReadFault.{ReadFault}
@@ -21,6 +23,23 @@ pub record SealCause {T : Type 0} (old new : DiskTold) (result : Result T SealFa
   pub closed : IsErrOf result Closed → new.failed_writes ≡ old.failed_writes
   pub reads : new.failed_reads ≡ old.failed_reads
   pub reliable : new.is_reliable ≡ old.is_reliable
+
+-- no memory was found: nothing was done, or the last write that was made found none, and no other
+abbrev pub Starves : {D : Type 0} → (D → DiskTold) → D → D → Type 0
+Starves told old new = (new ≡ old) ⊎ WriteStarved (told old) (told new)
+
+-- writes find memory, but for the last one where the call says that it found none
+pub record PutWants {D T : Type 0} (told : D → DiskTold) (old new : D) (result : Result T Fault) : Type 0 where
+  pub ok : OnOk result ((told new).starved ≡ (told old).starved)
+  pub failed : IsErrOf result Failed → (told new).starved ≡ (told old).starved
+  pub no_memory : IsErrOf result NoMemory → Starves told old new
+
+-- the same of a seal
+pub record SealWants {D T : Type 0} (told : D → DiskTold) (old new : D) (result : Result T SealFault) : Type 0 where
+  pub ok : OnOk result ((told new).starved ≡ (told old).starved)
+  pub disk : IsErrOf result seal_disk → (told new).starved ≡ (told old).starved
+  pub closed : IsErrOf result Closed → (told new).starved ≡ (told old).starved
+  pub no_memory : IsErrOf result seal_no_memory → Starves told old new
 
 -- a read of a payload answers `Disk` exactly where a read failed
 pub record ReadAtCause {T : Type 0} (old new : DiskTold) (result : Result T ReadFault) : Type 0 where

@@ -1,6 +1,6 @@
 //! A write that is on the disk when it returns.
 ghost use Rattle.std.specs.Prelude.{◌≡◌, ◌+◌, ◌≤◌, ℕ, List, length, OnOk, IsErrOf};
-ghost use Rattle.undo_outside.specs.Disk.{IsOverwritten, Only, WriteCause};
+ghost use Rattle.undo_outside.specs.Disk.{IsOverwritten, Only, WriteCause, WriteWants};
 ghost use Rattle.undo_outside.specs.Moments.{IsTornOf, LeavesOnly};
 
 use undo_outside::{Disk, DiskFault, Fault};
@@ -18,6 +18,7 @@ pub fn write_synced<D: Disk>(disk: &mut D, place: u64, bytes: &[u8]) -> Result<(
     ensures any_moment { (D.told disk.old).honest → LeavesOnly (D.told disk.old) (D.told disk.new) (IsTornOf place (length bytes.now) (D.told disk.old).size (D.told disk.old).images) }
     ensures never_torn { (D.told disk.old).honest → IsErrOf result Fault.NoMemory → LeavesOnly (D.told disk.old) (D.told disk.new) (D.told disk.old).images }
     ensures cause { WriteCause (D.told disk.old) (D.told disk.new) result }
+    ensures wants { WriteWants (D.told disk.old) (D.told disk.new) result }
 {
     disk.write_at(place, bytes)?;
     match disk.sync() {

@@ -2,7 +2,7 @@
 ghost use Rattle.std.specs.Prelude.{◌≡◌, ◌<◌, ◌≤◌, ◌+◌, ◌^◌, ◌↔◌, ◌++◌, ◌∷◌, [], List, ℕ, true, IsTrue, IfOk, OnOk, IsErrOf, OnErr, ◌⊎◌, length, slice_range};
 ghost use Rattle.undo_outside.specs.Disk.{IsOverwritten, WriteCause};
 ghost use Rattle.undo_outside.specs.Moments.{LeavesOnly, OnlyReads};
-ghost use Rattle.seal_log.specs.Causes.{ReadAtCause, SealCause};
+ghost use Rattle.seal_log.specs.Causes.{PutWants, ReadAtCause, SealCause, SealWants};
 ghost use Rattle.seal_log.specs.Journal.{frame, LiesAt, StandsFor, StandsForFront};
 ghost use Rattle.seal_log.specs.Settled.{Holds, IsFrameFirst, IsSettled};
 ghost use Rattle.seal_log.specs.Log.{IsClosed, last_gate};
@@ -42,6 +42,7 @@ fn put<D: Disk>(alloc: Global, disk: &mut D, gate: u64, payload: &[u8]) -> Resul
     ensures never_there { (payloads : List (List ℕ)) → IsSettled (D.told disk.old) gate payloads
         → IsErrOf result Fault.NoMemory → LeavesOnly (D.told disk.old) (D.told disk.new) (λ image. StandsFor image payloads) }
     ensures cause { WriteCause (D.told disk.old) (D.told disk.new) result }
+    ensures wants { PutWants D.told disk.old disk.new result }
 {
     let frame = closed_frame(alloc, payload)?;
     write_synced(disk, gate + 1, &frame)?;
@@ -97,6 +98,8 @@ impl Log {
         ensures untouched { IsClosed self.old → (disk.new ≡ disk.old) × (self.new ≡ self.old) }
         ensures unchanged { IsErrOf result SealFault.NoMemory → self.new ≡ self.old }
         ensures cause { SealCause (D.told disk.old) (D.told disk.new) result }
+        // Memory is taken before the first write: later only a write may find none, and then the call says so.
+        ensures wants { SealWants D.told disk.old disk.new result }
 
         // What the disk holds then: an open gate, the frame, and a closed gate over what was there.
         ensures written { (D.told disk.old).honest
@@ -182,6 +185,7 @@ pub fn format<D: Disk>(alloc: Global, disk: &mut D, head: &[u8]) -> Result<Log, 
     // The frame is on the disk before its gate is opened.
     ensures frame_first { (D.told disk.old).honest → OnOk result (IsFrameFirst head.now (D.told disk.old) (D.told disk.new)) }
     ensures cause { SealCause (D.told disk.old) (D.told disk.new) result }
+    ensures wants { SealWants D.told disk.old disk.new result }
     ensures not_closed { IsErrOf result SealFault.Closed → ⊥ }
 
     ensures within { IfOk result (λ log. last_gate log < (D.told disk.new).size) }
@@ -203,6 +207,7 @@ fn put_first<D: Disk>(alloc: Global, disk: &mut D, head: &[u8]) -> Result<(), Di
     ensures written { (D.told disk.old).honest → OnOk result ((D.told disk.new).content ≡ 85 ∷ (frame head.now ++ 0 ∷ [])) }
     ensures frame_first { (D.told disk.old).honest → OnOk result (IsFrameFirst head.now (D.told disk.old) (D.told disk.new)) }
     ensures cause { WriteCause (D.told disk.old) (D.told disk.new) result }
+    ensures wants { PutWants D.told disk.old disk.new result }
     ensures grown { OnOk result (5 + length head.now < (D.told disk.new).size) }
     ensures honest { (D.told disk.old).honest → (D.told disk.new).honest }
 {

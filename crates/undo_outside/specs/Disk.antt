@@ -5,12 +5,12 @@ use Rattle.std.specs.List.{slice_range}
 use Rattle.undo_outside.specs.declared.fault.Failed.{Failed as Failure}
 use Rattle.undo_outside.specs.declared.fault.Fault.{Fault}
 use Rattle.undo_outside.specs.declared.fault.Fault.TheVariants.{Failed, NoMemory}
-use Rattle.undo_outside.specs.Calls.{Rose}
+use Rattle.undo_outside.specs.Calls.{Rose, RoseOnce}
 
 -- What a disk tells: whether what it tells of its bytes is true; its length; what reads give; which images a crash now
 -- may leave; the moment, a number that doesn't fall, and which images a crash at some moment since that one may have
 -- left; how many reads and calls of `len` have failed, and how many writes and syncs; whether the last call did that found
--- memory; and whether no call will fail.
+-- memory; how many writes found no memory, and whether the last one did; and whether no call will fail.
 pub record DiskTold : Type 1 where
   pub honest : Type 0
   pub size : ℕ
@@ -21,6 +21,8 @@ pub record DiskTold : Type 1 where
   pub failed_reads : ℕ
   pub failed_writes : ℕ
   pub failed_last : Bool
+  pub starved : ℕ
+  pub starved_last : Bool
   pub is_reliable : Bool
 
 -- What an honest disk tells fits together: the length is that of what reads give, which is one of the images of now,
@@ -86,6 +88,23 @@ ReadFailed old new = Rose old.failed_reads new.failed_reads × (new.failed_reads
 abbrev pub WriteFailed : DiskTold → DiskTold → Type 0
 WriteFailed old new = Rose old.failed_writes new.failed_writes × (new.failed_writes ≤ old.failed_writes + 1) × (new.failed_last ≡ true) × (old.is_reliable ≡ false)
 
+-- a write found no memory: the count of these rose by one, and no write came after it
+abbrev pub WriteStarved : DiskTold → DiskTold → Type 0
+WriteStarved old new = RoseOnce old.starved new.starved × (new.starved_last ≡ true)
+
+-- a write found no memory exactly where it says so
+pub record WriteWants {T : Type 0} (old new : DiskTold) (result : Result T Fault) : Type 0 where
+  pub ok : OnOk result (new.starved ≡ old.starved)
+  pub ok_last : OnOk result (new.starved_last ≡ false)
+  pub failed : IsErrOf result Failed → new.starved ≡ old.starved
+  pub failed_last : IsErrOf result Failed → new.starved_last ≡ false
+  pub no_memory : IsErrOf result NoMemory → WriteStarved old new
+
+-- no write was made: what is told of those that found no memory is as before
+pub record WantsNone (old new : DiskTold) : Type 0 where
+  pub count : new.starved ≡ old.starved
+  pub last : new.starved_last ≡ old.starved_last
+
 -- a read answers `Failed` exactly where it failed, and no other count changes
 pub record ReadCause {T : Type 0} (old new : DiskTold) (result : Result T Failure) : Type 0 where
   pub ok : OnOk result (new.failed_reads ≡ old.failed_reads)
@@ -116,12 +135,14 @@ pub record Measures (old new : DiskTold) (result : Result ℕ Failure) : Type 0 
   pub length : IfOk result (λ n. n ≡ old.size)
   pub look : IsLook old new
   pub cause : ReadCause old new result
+  pub wants : WantsNone old new
 
 -- `read` gives so many bytes from a place on
 pub record ReadsAt (old new : DiskTold) (place count : ℕ) (buffer : List ℕ) (result : Result (Unit {0}) Failure) : Type 0 where
   pub bytes : old.honest → OnOk result (buffer ≡ slice_range old.content place (place + count))
   pub look : IsLook old new
   pub cause : ReadCause old new result
+  pub wants : WantsNone old new
 
 -- `write_at` writes over what is there, and past the end
 pub record WritesAt (old new : DiskTold) (place : ℕ) (bytes : List ℕ) (result : Result (Unit {0}) Fault) : Type 0 where
@@ -133,6 +154,7 @@ pub record WritesAt (old new : DiskTold) (place : ℕ) (bytes : List ℕ) (resul
   pub no_memory : IsErrOf result NoMemory → IsLook old new
   pub time : old.honest → CallTime old new
   pub cause : WriteCause old new result
+  pub wants : WriteWants old new result
 
 -- `sync` leaves one image, what reads give; one that failed adds none
 pub record Syncs (old new : DiskTold) (result : Result (Unit {0}) Failure) : Type 0 where
@@ -143,3 +165,4 @@ pub record Syncs (old new : DiskTold) (result : Result (Unit {0}) Failure) : Typ
   pub images : old.honest → (c : List ℕ) → new.images c → old.images c
   pub time : old.honest → CallTime old new
   pub cause : SyncCause old new result
+  pub wants : WantsNone old new

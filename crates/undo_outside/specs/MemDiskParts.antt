@@ -1,5 +1,6 @@
 -- What a disk in memory tells and keeps.
-use Rattle.std.specs.Prelude.{◌≡◌, ◌==◌, ℕ, ◌+◌, ◌-◌, ◌^◌, List, Contains, length, min}
+use Rattle.std.specs.Prelude.{◌≡◌, ◌==◌, ℕ, false, List, length}
+use Rattle.undo_outside.specs.declared.failing.Failing.{Failing}
 use Rattle.undo_outside.specs.declared.mem_disk.MemDisk.{MemDisk}
 use Rattle.undo_outside.specs.declared.mem_disk.Write.{Write}
 use Rattle.undo_outside.specs.Disk.{DiskTold}
@@ -18,7 +19,9 @@ told_by disk = record {
   failed_reads = disk.failed_reads;
   failed_writes = disk.failed_writes;
   failed_last = disk.failed_last;
-  is_reliable = length disk.failing == 0;
+  starved = disk.starving.calls;
+  starved_last = disk.starving.last;
+  is_reliable = length disk.failing.ordinals == 0;
 }
 
 -- the bytes that it was made with
@@ -29,19 +32,9 @@ start_of disk = disk.start
 abbrev pub writes_of : MemDisk → List Write
 writes_of disk = disk.writes.items
 
--- the next call is one of those that are to fail
-abbrev pub IsNextDue : MemDisk → Type 0
-IsNextDue disk = Contains disk.failing (min (disk.calls + 1) (2 ^ 32 - 1))
-
--- one call more, and the same that are to fail
-pub record IsCounted (old new : MemDisk) : Type 0 where
-  pub calls : new.calls ≡ min (old.calls + 1) (2 ^ 32 - 1)
-  pub failing : new.failing ≡ old.failing
-
--- no call more
-pub record IsNotCounted (old new : MemDisk) : Type 0 where
-  pub calls : new.calls ≡ old.calls
-  pub failing : new.failing ≡ old.failing
+-- the ordinals of its calls that are to fail, and how many of its calls were made
+abbrev pub disk_calls : MemDisk → Failing
+disk_calls disk = disk.failing
 
 -- a new disk: no call was made, none failed, these are to fail, and a crash leaves these bytes and nothing else
 pub record IsNew (disk : MemDisk) (bytes failing : List ℕ) : Type 0 where
@@ -52,5 +45,5 @@ pub record IsNew (disk : MemDisk) (bytes failing : List ℕ) : Type 0 where
   pub since : (t : ℕ) (c : List ℕ) → (told_by disk).since t c → c ≡ bytes
   pub reads : disk.failed_reads ≡ 0
   pub writes : disk.failed_writes ≡ 0
-  pub calls : disk.calls ≡ 0
-  pub failing_are : disk.failing ≡ failing
+  pub starved : disk.starving ≡ record { calls = 0; last = false }
+  pub listed : disk_calls disk ≡ record { ordinals = failing; calls = 0 }

@@ -1,10 +1,12 @@
 //! A disk in memory, which keeps a record of what was written.
-ghost use Rattle.std.specs.Prelude.{◌≡◌, ◌⊎◌, ◌+◌, ◌-◌, ◌<◌, ◌≤◌, ◌↔◌, ◌^◌, ◌∷◌, [], true, Contains, IsErr, IsErrOf, IsTrue, OnOk, OnErr, IfOk, length, min, take, drop};
+ghost use Rattle.std.specs.Prelude.{◌≡◌, ◌+◌, ◌≤◌, ◌↔◌, ◌∷◌, [], true, IsErr, IsErrOf, OnOk, OnErr, IfOk, length, take, drop};
 ghost use Rattle.std.proofs.Common.{refl, subst, sym};
 ghost use Rattle.undo_outside.specs.Calls.{Rose};
 ghost use Rattle.undo_outside.specs.History.{IsMarked, Wrote, content_after, content_is_image, image_after, image_counts, image_is_now, image_since, overwritten};
 ghost use Rattle.undo_outside.specs.MemDisk.{content_with, held, history, torn_after};
 
+use crate::failing::Failing;
+use crate::starving::Starving;
 use crate::{Disk, DiskFault, Failed, Fault};
 use std::alloc::Global;
 use undo_base::{NoMemory, Numbers, Text};
@@ -25,11 +27,11 @@ pub struct MemDisk {
     start: Text,
     latest: Option<Vec<u8>>,
     writes: Vec<Write>,
-    calls: u32,
-    failing: Numbers,
+    failing: Failing,
     failed_reads: u64,
     failed_writes: u64,
     failed_last: bool,
+    starving: Starving,
     ghost kept: { held start latest ≡ content_after start (history writes.items) },
 }
 
@@ -45,11 +47,11 @@ impl MemDisk {
             start: bytes,
             latest: None,
             writes: Vec::new(alloc),
-            calls: 0,
-            failing,
+            failing: Failing::new(failing),
             failed_reads: 0,
             failed_writes: 0,
             failed_last: false,
+            starving: Starving::new(),
         }
     }
 
@@ -139,15 +141,6 @@ fn current<'a>(start: &'a Text, latest: &'a Option<Vec<u8>>) -> &'a [u8]
         Some(bytes) => bytes,
         None => start.bytes(),
     }
-}
-
-/// Counts one call more, and answers whether it is to fail.
-fn is_due(calls: &mut u32, failing: &Numbers) -> bool
-    ensures count { calls.new ≡ min (calls.old + 1) (2 ^ 32 - 1) }
-    ensures due { IsTrue result ↔ Contains failing.now calls.new }
-{
-    *calls = calls.saturating_add(1);
-    failing.as_slice().contains(calls)
 }
 
 /// Counts one failure more.
@@ -241,7 +234,8 @@ fn mark(writes: &mut Vec<Write>)
 
 impl Disk for MemDisk {
     ghost use Rattle.undo_outside.specs.Disk.{Measures, ReadsAt, Syncs, WritesAt};
-    ghost use Rattle.undo_outside.specs.MemDiskParts.{IsCounted, IsNextDue, IsNotCounted, told_by};
+    ghost use Rattle.undo_outside.specs.Listed.{IsDue, one_more};
+    ghost use Rattle.undo_outside.specs.MemDiskParts.{disk_calls, told_by};
 
     ghost told = { told_by };
 
@@ -254,10 +248,10 @@ impl Disk for MemDisk {
 
     fn len(&mut self) -> Result<u64, Failed>
         ensures call { Measures (told_by self.old) (told_by self.new) result }
-        ensures due { IsErr result ↔ IsNextDue self.old }
-        ensures count { IsCounted self.old self.new }
+        ensures due { IsErr result ↔ IsDue (disk_calls self.old) }
+        ensures counted { disk_calls self.new ≡ one_more (disk_calls self.old) }
     {
-        if is_due(&mut self.calls, &self.failing) {
+        if self.failing.counts_a_failure() {
             count_failure(&mut self.failed_reads);
             self.failed_last = true;
             return Err(Failed);
@@ -269,10 +263,10 @@ impl Disk for MemDisk {
     fn read(&mut self, place: u64, buf: &mut [u8]) -> Result<(), Failed>
         requires { place + length buf.old ≤ (told_by self.old).size }
         ensures call { ReadsAt (told_by self.old) (told_by self.new) place (length buf.old) buf.new result }
-        ensures due { IsErr result ↔ IsNextDue self.old }
-        ensures count { IsCounted self.old self.new }
+        ensures due { IsErr result ↔ IsDue (disk_calls self.old) }
+        ensures counted { disk_calls self.new ≡ one_more (disk_calls self.old) }
     {
-        if is_due(&mut self.calls, &self.failing) {
+        if self.failing.counts_a_failure() {
             count_failure(&mut self.failed_reads);
             self.failed_last = true;
             return Err(Failed);
@@ -286,38 +280,50 @@ impl Disk for MemDisk {
     fn write_at(&mut self, place: u64, bytes: &[u8]) -> Result<(), DiskFault>
         requires { place ≤ (told_by self.old).size }
         ensures call { WritesAt (told_by self.old) (told_by self.new) place bytes.now result }
-        ensures due { IsNextDue self.old → IsErr result }
-        ensures only_due { IsErrOf result Fault.Failed → IsNextDue self.old }
-        ensures count { IsErrOf result Fault.NoMemory ⊎ IsCounted self.old self.new }
-        ensures no_memory { IsErrOf result Fault.NoMemory → IsNotCounted self.old self.new }
+        ensures due { IsDue (disk_calls self.old) → IsErr result }
+        ensures only_due { IsErrOf result Fault.Failed → IsDue (disk_calls self.old) }
+        ensures counted { disk_calls self.new ≡ one_more (disk_calls self.old) }
     {
-        let mut calls = self.calls;
-        if is_due(&mut calls, &self.failing) {
-            write_down(self.alloc, &mut self.writes, place, bytes, false)?;
-            self.calls = calls;
-            count_failure(&mut self.failed_writes);
-            self.failed_last = true;
-            return Err(Fault::Failed);
+        if self.failing.counts_a_failure() {
+            return match write_down(self.alloc, &mut self.writes, place, bytes, false) {
+                Ok(()) => {
+                    count_failure(&mut self.failed_writes);
+                    self.failed_last = true;
+                    self.starving.pass();
+                    Err(Fault::Failed)
+                }
+                Err(NoMemory) => {
+                    self.starving.count();
+                    Err(Fault::NoMemory)
+                }
+            };
         }
-        write_through(
+        match write_through(
             self.alloc,
             &self.start,
             &mut self.latest,
             &mut self.writes,
             place,
             bytes,
-        )?;
-        self.calls = calls;
-        self.failed_last = false;
-        Ok(())
+        ) {
+            Ok(()) => {
+                self.failed_last = false;
+                self.starving.pass();
+                Ok(())
+            }
+            Err(NoMemory) => {
+                self.starving.count();
+                Err(Fault::NoMemory)
+            }
+        }
     }
 
     fn sync(&mut self) -> Result<(), Failed>
         ensures call { Syncs (told_by self.old) (told_by self.new) result }
-        ensures due { IsErr result ↔ IsNextDue self.old }
-        ensures count { IsCounted self.old self.new }
+        ensures due { IsErr result ↔ IsDue (disk_calls self.old) }
+        ensures counted { disk_calls self.new ≡ one_more (disk_calls self.old) }
     {
-        if is_due(&mut self.calls, &self.failing) {
+        if self.failing.counts_a_failure() {
             count_failure(&mut self.failed_writes);
             self.failed_last = true;
             return Err(Failed);
