@@ -4,8 +4,8 @@ use Rattle.std.specs.List.{list_all}
 use Rattle.std.specs.Char.{is_ascii_digit}
 use Rattle.std.specs.Fmt.{decimal}
 use Rattle.std.proofs.lemmas.Bool.{and_parts, and_from, or_cases, or_right, leb-true, le-leb, eqb-true, eq-eqb, ne_eqb, not-true, not_from_false, false≢true, true≢false}
-use Rattle.std.proofs.lemmas.Fmt.{decimal-digits_value, digits_decimal, digits_value-decimal, decimal_nonempty, first_decimal}
-use Rattle.command_words.specs.Numbers.{is_decimal, number_of, number_between}
+use Rattle.std.proofs.lemmas.Fmt.{decimal-digits_value, digits_decimal, digits_value-decimal, decimal_nonempty, first_decimal, length-decimal-le}
+use Rattle.undo_base.specs.Digits.{is_decimal, number_of, number_between}
 use Rattle.command_words.specs.Usage.{is_word}
 use Rattle.command_words.proofs.Digits.{own, digits_in}
 
@@ -21,11 +21,12 @@ zero_alone text h z =
 
 -- what is read is written so
 pub number_to : (low high n : ℕ) (text : List ℕ) → high < 2 ^ 32 → number_between low high text ≡ Some n → (low ≤ n) × (n ≤ high) × (text ≡ decimal n)
-number_to low high n text small = go (is_decimal text && nat_le low (number_of text) && nat_le (number_of text) high) refl where
-  go : (b : Bool) → (is_decimal text && nat_le low (number_of text) && nat_le (number_of text) high) ≡ b → cond b (Some (number_of text)) None ≡ Some n → (low ≤ n) × (n ≤ high) × (text ≡ decimal n)
+number_to low high n text small = go (is_decimal text && nat_le (length text) 12 && nat_le low (number_of text) && nat_le (number_of text) high) refl where
+  go : (b : Bool) → (is_decimal text && nat_le (length text) 12 && nat_le low (number_of text) && nat_le (number_of text) high) ≡ b → cond b (Some (number_of text)) None ≡ Some n → (low ≤ n) × (n ≤ high) × (text ≡ decimal n)
   go true t e =
-      let (front, below) = and_parts (is_decimal text && nat_le low (number_of text)) (nat_le (number_of text) high) t in
-      let (is, above) = and_parts (is_decimal text) (nat_le low (number_of text)) front in
+      let (front, below) = and_parts (is_decimal text && nat_le (length text) 12 && nat_le low (number_of text)) (nat_le (number_of text) high) t in
+      let (short, above) = and_parts (is_decimal text && nat_le (length text) 12) (nat_le low (number_of text)) front in
+      let (is, few) = and_parts (is_decimal text) (nat_le (length text) 12) short in
       let same : number_of text ≡ n = ap (λ o. unwrap_or o 0) e in
       let (some, digits) = digits_in text is in
       let most : number_of text ≤ high = leb-true (number_of text) high below in
@@ -47,7 +48,8 @@ pub number_from : (low high n : ℕ) → 1 ≤ low → high < 2 ^ 32 → low ≤
 number_from low high n one small above below =
     let fits : n < 2 ^ 64 = omega (arith, small, below) in
     let same : number_of (decimal n) ≡ n = digits_value-decimal own n fits in
-    rw (decimal_is_decimal n (omega (arith, one, above)) fits, same, le-leb low n above, le-leb n high below) refl
+    let few : length (decimal n) ≤ 10 = length-decimal-le 10 n (omega arith) (omega arith) (omega arith) in
+    rw (decimal_is_decimal n (omega (arith, one, above)) fits, le-leb (length (decimal n)) 12 (omega arith), same, le-leb low n above, le-leb n high below) refl
 
 -- what is written is a word
 pub word_decimal : (n : ℕ) → 1 ≤ n → n < 2 ^ 64 → is_word (decimal n) ≡ true

@@ -5,3 +5,4 @@ pub mod Sound
 pub mod Played
 pub mod Beginnings
 pub mod Begins
+pub mod Named

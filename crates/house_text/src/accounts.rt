@@ -1,6 +1,7 @@
 //! The users of a house.
-ghost use Rattle.std.specs.Prelude.{◌≡◌, IfOk, IfSome, ◌<◌, map, option_map, position, bytes_eq, ◌≤◌, length};
+ghost use Rattle.std.specs.Prelude.{◌≡◌, true, IfOk, IfSome, ◌<◌, map, option_map, position, bytes_eq, ◌≤◌, length};
 ghost use Rattle.toml.specs.View.{view, table_view};
+ghost use Rattle.undo_base.specs.Name.{is_name};
 ghost use Rattle.house_text.specs.Documents.{each_of};
 ghost use Rattle.house_text.specs.Configuration as spec;
 
@@ -11,19 +12,11 @@ use toml::{Table, Value};
 use undo_base::{Name, Names, NoMemory, User};
 use verb_core::{Account, Accounts};
 
-/// A name of bytes that are one.
-pub fn named(alloc: Global, bytes: &[u8]) -> Result<Name, NoMemory>
-    ensures { IfOk result (λ name. name ≡ bytes.now) }
-{
-    match Name::read(alloc, bytes) {
-        Ok(name) => Ok(name),
-        Err(_) => Err(NoMemory),
-    }
-}
-
 /// The user's name in a table.
+#[tactic(auto, using(crate::proofs::Named::user_name))]
 fn name_in(table: &Table) -> Option<&[u8]>
-    ensures { option_map (λ s. s.now) result ≡ spec.name_in (table_view table.now) }
+    ensures value { option_map (λ s. s.now) result ≡ spec.name_in (table_view table.now) }
+    ensures name { IfSome result (λ s. is_name s.now ≡ true) }
 {
     let text = text_at(table, "name")?;
     if is_user_name(text) { Some(text) } else { None }
@@ -31,7 +24,8 @@ fn name_in(table: &Table) -> Option<&[u8]>
 
 /// The password in a table.
 fn password_in(table: &Table) -> Option<&[u8]>
-    ensures { option_map (λ s. s.now) result ≡ spec.password_in (table_view table.now) }
+    ensures value { option_map (λ s. s.now) result ≡ spec.password_in (table_view table.now) }
+    ensures name { IfSome result (λ s. is_name s.now ≡ true) }
 {
     let text = text_at(table, "password")?;
     if is_password(text) { Some(text) } else { None }
@@ -49,8 +43,8 @@ fn account_in(alloc: Global, table: &Table) -> Result<Option<Account>, NoMemory>
     let Some(password) = password_in(table) else {
         return Ok(None);
     };
-    let name = named(alloc, name)?;
-    let password = named(alloc, password)?;
+    let name = Name::of(alloc, name)?;
+    let password = Name::of(alloc, password)?;
     Ok(Some(Account { name, password }))
 }
 

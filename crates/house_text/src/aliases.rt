@@ -6,12 +6,12 @@ ghost use Rattle.house_text.specs.Documents.{each_of, entries_list};
 ghost use Rattle.house_text.specs.Beginning.{aliases_rise};
 ghost use Rattle.house_text.specs.Configuration as spec;
 
-use crate::accounts::{is_named, named};
+use crate::accounts::is_named;
 use crate::tables::{list_of, text_of, value_at};
 use crate::words::is_user_name;
 use std::alloc::Global;
 use toml::{Table, Value};
-use undo_base::{NoMemory, User, Users};
+use undo_base::{Name, NoMemory, User, Users};
 use verb_core::{Account, Alias, Aliases, Conf, Filters};
 
 /// Whether a value is the name of a user.
@@ -82,6 +82,7 @@ fn is_alias(accounts: &[Account], local: &[u8]) -> bool
 }
 
 /// An alias.
+#[tactic(auto, using(crate::proofs::Named::alias_name))]
 fn alias_of(
     alloc: Global,
     accounts: &[Account],
@@ -100,7 +101,7 @@ fn alias_of(
     if !are_users(accounts, values) {
         return Ok(None);
     }
-    let local = named(alloc, local)?;
+    let local = Name::of(alloc, local)?;
     let users = listed_users(alloc, accounts, values)?;
     Ok(Some(Alias { local, users }))
 }

@@ -1,12 +1,13 @@
 //! The house of a document.
-ghost use Rattle.std.specs.Prelude.{◌≡◌, ◌≤◌, IfOk, IfSome, IsTrue, length, map, option_map};
+ghost use Rattle.std.specs.Prelude.{◌≡◌, ◌≤◌, true, IfOk, IfSome, IsTrue, length, map, option_map};
 ghost use Rattle.std.specs.Str.{str_to_ascii_lowercase};
 ghost use Rattle.toml.specs.View.{view, table_view};
+ghost use Rattle.undo_base.specs.Name.{is_name};
 ghost use Rattle.verb_core.specs.Store.{is_house};
 ghost use Rattle.house_text.specs.Documents.{each_of};
 ghost use Rattle.house_text.specs.Configuration as spec;
 
-use crate::accounts::{accounts_in, named, postmaster_in};
+use crate::accounts::{accounts_in, postmaster_in};
 use crate::tables::{list_at, text_at, text_of, value_at};
 use crate::words::{are_distinct, is_host};
 use std::alloc::Global;
@@ -14,6 +15,7 @@ use toml::{Table, Value};
 use undo_base::{Name, Names, NoMemory};
 use verb_core::House;
 
+#[tactic(auto, using(crate::proofs::Named::host_name))]
 fn host_in(alloc: Global, table: &Table) -> Result<Option<Name>, NoMemory>
     ensures { IfOk result (λ r. r ≡ spec.host_of (table_view table.now)) }
 {
@@ -23,17 +25,19 @@ fn host_in(alloc: Global, table: &Table) -> Result<Option<Name>, NoMemory>
     if !is_host(text) {
         return Ok(None);
     }
-    Ok(Some(named(alloc, text)?))
+    Ok(Some(Name::of(alloc, text)?))
 }
 
 /// A name of bytes that are one, in lower case.
 fn lowered(alloc: Global, text: &[u8]) -> Result<Name, NoMemory>
+    requires { is_name text.now ≡ true }
     ensures { IfOk result (λ name. name ≡ str_to_ascii_lowercase text.now) }
 {
-    let lower = text.to_ascii_lowercase(alloc)?;
-    named(alloc, lower.as_slice())
+    let name = Name::of(alloc, text)?;
+    name.lower(alloc)
 }
 
+#[tactic(auto, using(crate::proofs::Named::host_name))]
 fn domain_of(alloc: Global, value: &Value) -> Result<Option<Name>, NoMemory>
     ensures { IfOk result (λ r. r ≡ spec.domain_of (view value.now)) }
 {

@@ -8,7 +8,7 @@ use Rattle.civil_dates.specs.Months.{month_of}
 use Rattle.imap_tokens.specs.Dates.{two_below, day_number, year_number, day_of, day_in, second_of, clock_in, sign_in, ahead_of, zone_in, is_punctuated, is_real, real_moment, parts_in, date_in}
 use Rattle.imap_lines.specs.DateText.{SpellsDate}
 use Rattle.imap_lines.proofs.WrittenTokens.{and_true}
-use Rattle.imap_lines.proofs.Steps.{stepped, mapped}
+use Rattle.imap_tokens.proofs.Steps.{stepped, mapped}
 
 three_day : (day month year : Option ℕ) (d m y : ℕ) → day ≡ Some d → month ≡ Some m → year ≡ Some y
     → option_and_then (λ (d : ℕ). option_and_then (λ (m : ℕ). option_map (λ (y : ℕ). day_of y m d) year) month) day ≡ Some (day_of y m d)

@@ -19,7 +19,7 @@ use Rattle.imap_lines.specs.declared.verbs.Verb.{Verb}
 use Rattle.imap_lines.specs.declared.verbs.Verb.TheVariants as verb
 use Rattle.imap_lines.proofs.WrittenTokens.{and_true}
 use Rattle.imap_lines.proofs.WrittenHeads.{tag_is, after_is, tag_word}
-use Rattle.imap_lines.proofs.Steps.{stepped, mapped}
+use Rattle.imap_tokens.proofs.Steps.{stepped, mapped}
 
 -- no space stands among the bytes
 abbrev spaceless : List ℕ → Bool

@@ -12,9 +12,9 @@ pub mod WrittenStreams
 pub mod Attributes
 pub mod Asked
 pub mod Items
-pub mod Steps
 pub mod DateLetters
 pub mod Headed
 pub mod SpelledArguments
 pub mod SpelledWhat
 pub mod Spoken
+pub mod FieldNames

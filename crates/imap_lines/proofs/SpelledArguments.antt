@@ -10,72 +10,19 @@ use Rattle.imap_tokens.specs.Lists.{SpellsFlags, SpellsList}
 use Rattle.imap_tokens.specs.Ranges.{SpellsSet}
 use Rattle.imap_tokens.specs.Sets.{set_in}
 use Rattle.imap_tokens.specs.SpelledLines.{SpellsLines}
-use Rattle.imap_tokens.specs.Tokens.{word_of, string_of, pattern_of, quoted_of, literal_of, tokens_with}
+use Rattle.imap_tokens.specs.Tokens.{string_of, pattern_of, quoted_of, literal_of, tokens_with}
 use Rattle.imap_tokens.specs.declared.tokens.Token.{Token}
 use Rattle.imap_tokens.specs.declared.tokens.Token.TheVariants.{Space, Open, Close, Word, Quoted, Literal}
 use Rattle.search_lines.specs.Grammar.{SpellsSought}
 use Rattle.search_lines.specs.Sought.{sought_in}
 use Rattle.search_lines.specs.declared.sought.Sought.{Sought}
 use Rattle.imap_lines.specs.Append.{spaced_flags, first_flags, date_by, first_date, only_literal}
-use Rattle.imap_lines.specs.Arguments.{behind_space, first_string, next_string, first_word, next_word, last_by, last_string, two_strings, first_pattern, string_and_pattern, in_list, string_and_list}
+use Rattle.imap_tokens.specs.Arguments.{behind_space, next_string}
+use Rattle.imap_lines.specs.Arguments.{last_by, last_string, two_strings, first_pattern, string_and_pattern, in_list, string_and_list}
 use Rattle.imap_lines.specs.Grammar.{SpellsString, SpellsStrings, SpellsPattern, SpellsFirstFlags, SpellsFirstDate}
+use Rattle.imap_tokens.proofs.Steps.{stepped, mapped}
+use Rattle.imap_tokens.proofs.Behind.{Next, space_sound, next_sound}
 use Rattle.imap_lines.proofs.DateLetters.{read_date, spelled_date}
-use Rattle.imap_lines.proofs.Steps.{stepped, mapped}
-
--- what stands behind a space
-pub space_sound : (tokens rest : List Token) → behind_space tokens ≡ Some rest → tokens ≡ Space ∷ rest
-space_sound [] rest e = absurd (let wrong : None ≡ Some rest = e in cc)
-space_sound (Space ∷ tokens) rest e = ap (λ l. Space ∷ l) (same_Some _ _ e)
-space_sound (Open ∷ tokens) rest e = absurd (let wrong : None ≡ Some rest = e in cc)
-space_sound (Close ∷ tokens) rest e = absurd (let wrong : None ≡ Some rest = e in cc)
-space_sound (Word text ∷ tokens) rest e = absurd (let wrong : None ≡ Some rest = e in cc)
-space_sound (Quoted text ∷ tokens) rest e = absurd (let wrong : None ≡ Some rest = e in cc)
-space_sound (Literal text ∷ tokens) rest e = absurd (let wrong : None ≡ Some rest = e in cc)
-
--- a token, whose text is given by a reading of tokens, and what follows
-pub record First (read : Token → Option (List ℕ)) (tokens : List Token) (r : List ℕ × List Token) : Type 0 where
-  pub token : Token
-  pub whole : tokens ≡ token ∷ r.1
-  pub is : read token ≡ Some r.0
-
-first_by : (read : Token → Option (List ℕ)) (token : Token) (tokens : List Token) (r : List ℕ × List Token) → option_map (λ (text : List ℕ). (text, tokens)) (read token) ≡ Some r → First read (token ∷ tokens) r
-first_by read token tokens r e =
-    let m = mapped (read token) (λ (text : List ℕ). (text, tokens)) r e in
-    subst (First read (token ∷ tokens)) m.is (record { token = token; whole = refl; is = m.was })
-
-first_string_sound : (tokens : List Token) (r : List ℕ × List Token) → first_string tokens ≡ Some r → First string_of tokens r
-first_string_sound [] r e = absurd (let wrong : None ≡ Some r = e in cc)
-first_string_sound (token ∷ tokens) r e = first_by string_of token tokens r e
-
-first_word_sound : (tokens : List Token) (r : List ℕ × List Token) → first_word tokens ≡ Some r → First word_of tokens r
-first_word_sound [] r e = absurd (let wrong : None ≡ Some r = e in cc)
-first_word_sound (token ∷ tokens) r e = first_by word_of token tokens r e
-
--- the same behind a space
-pub record Next (read : Token → Option (List ℕ)) (tokens : List Token) (r : List ℕ × List Token) : Type 0 where
-  pub token : Token
-  pub whole : tokens ≡ Space ∷ token ∷ r.1
-  pub is : read token ≡ Some r.0
-
-pub string_sound : (tokens : List Token) (r : List ℕ × List Token) → next_string tokens ≡ Some r → Next string_of tokens r
-string_sound tokens r e =
-    let s = stepped (behind_space tokens) first_string r e in
-    let f = first_string_sound s.value r s.gives in
-    record { token = f.token; whole = space_sound tokens s.value s.was ∙ ap (λ l. Space ∷ l) f.whole; is = f.is }
-
-next_word_sound : (tokens : List Token) (r : List ℕ × List Token) → next_word tokens ≡ Some r → Next word_of tokens r
-next_word_sound tokens r e =
-    let s = stepped (behind_space tokens) first_word r e in
-    let f = first_word_sound s.value r s.gives in
-    record { token = f.token; whole = space_sound tokens s.value s.was ∙ ap (λ l. Space ∷ l) f.whole; is = f.is }
-
-word_is : (token : Token) (text : List ℕ) → word_of token ≡ Some text → token ≡ Word text
-word_is Space text e = absurd (let wrong : None ≡ Some text = e in cc)
-word_is Open text e = absurd (let wrong : None ≡ Some text = e in cc)
-word_is Close text e = absurd (let wrong : None ≡ Some text = e in cc)
-word_is (Word word) text e = ap Word (same_Some _ _ e)
-word_is (Quoted word) text e = absurd (let wrong : None ≡ Some text = e in cc)
-word_is (Literal word) text e = absurd (let wrong : None ≡ Some text = e in cc)
 
 quoted_is : (token : Token) (text : List ℕ) → quoted_of token ≡ Some text → token ≡ Quoted text
 quoted_is Space text e = absurd (let wrong : None ≡ Some text = e in cc)
@@ -93,10 +40,6 @@ literal_is (Word word) text e = absurd (let wrong : None ≡ Some text = e in cc
 literal_is (Quoted word) text e = absurd (let wrong : None ≡ Some text = e in cc)
 literal_is (Literal word) text e = ap Literal (same_Some _ _ e)
 
--- a word behind a space
-pub word_sound : (tokens : List Token) (r : List ℕ × List Token) → next_word tokens ≡ Some r → tokens ≡ Space ∷ Word r.0 ∷ r.1
-word_sound tokens r e = let n = next_word_sound tokens r e in n.whole ∙ ap (λ t. Space ∷ t ∷ r.1) (word_is n.token r.0 n.is)
-
 pub string_complete : (tokens rest : List Token) (token : Token) (text : List ℕ) → tokens ≡ Space ∷ token ∷ rest → string_of token ≡ Some text → next_string tokens ≡ Some (text, rest)
 string_complete tokens rest token text whole is = ap next_string whole ∙ ap (option_map (λ (t : List ℕ). (t, rest))) is
 
@@ -112,7 +55,7 @@ none_by (token ∷ tokens) o x e = by_test (length (token ∷ tokens) == 0) refl
 pub last_sound : (tokens : List Token) (text : List ℕ) → last_string tokens ≡ Some text → SpellsString text tokens
 last_sound tokens text e =
     let s = stepped (next_string tokens) last_by text e in
-    let n = string_sound tokens s.value s.was in
+    let n = next_sound string_of tokens s.value s.was in
     let b = none_by s.value.1 (Some s.value.0) text s.gives in
     record { token = n.token; whole = n.whole ∙ ap (λ l. Space ∷ n.token ∷ l) b.0; is = n.is ∙ b.1 }
 
@@ -122,7 +65,7 @@ last_complete tokens text s = ap (option_and_then last_by) (string_complete toke
 pub two_sound : (tokens : List Token) (r : List ℕ × List ℕ) → two_strings tokens ≡ Some r → SpellsStrings r.0 r.1 tokens
 two_sound tokens r e =
     let s = stepped (next_string tokens) (λ (a : List ℕ × List Token). option_map (λ (second : List ℕ). (a.0, second)) (last_string a.1)) r e in
-    let n = string_sound tokens s.value s.was in
+    let n = next_sound string_of tokens s.value s.was in
     let m = mapped (last_string s.value.1) (λ (second : List ℕ). (s.value.0, second)) r s.gives in
     let l = last_sound s.value.1 m.value m.was in
     subst (λ (p : List ℕ × List ℕ). SpellsStrings p.0 p.1 tokens) m.is
@@ -133,15 +76,16 @@ two_complete tokens first second s =
     ap (option_and_then (λ (a : List ℕ × List Token). option_map (λ (b : List ℕ). (a.0, b)) (last_string a.1))) (string_complete tokens (Space ∷ s.two ∷ []) s.one first s.whole s.is_first)
     ∙ ap (option_map (λ (b : List ℕ). (first, b))) (last_complete (Space ∷ s.two ∷ []) second (record { token = s.two; whole = refl; is = s.is_second }))
 
-pattern_first : (tokens : List Token) (text : List ℕ) → first_pattern tokens ≡ Some text → First pattern_of tokens (text, [])
+-- a pattern that is the last token, behind a space
+pattern_first : (tokens : List Token) (text : List ℕ) → first_pattern tokens ≡ Some text → Next pattern_of (Space ∷ tokens) (text, [])
 pattern_first [] text e = absurd (let wrong : None ≡ Some text = e in cc)
 pattern_first (token ∷ tokens) text e =
-    let b = none_by tokens (pattern_of token) text e in record { token = token; whole = ap (λ l. token ∷ l) b.0; is = b.1 }
+    let b = none_by tokens (pattern_of token) text e in record { token = token; whole = ap (λ l. Space ∷ token ∷ l) b.0; is = b.1 }
 
 pub pattern_sound : (tokens : List Token) (r : List ℕ × List ℕ) → string_and_pattern tokens ≡ Some r → SpellsPattern r.0 r.1 tokens
 pattern_sound tokens r e =
     let s = stepped (next_string tokens) (λ (a : List ℕ × List Token). option_and_then (λ (rest : List Token). option_map (λ (p : List ℕ). (a.0, p)) (first_pattern rest)) (behind_space a.1)) r e in
-    let n = string_sound tokens s.value s.was in
+    let n = next_sound string_of tokens s.value s.was in
     let b = stepped (behind_space s.value.1) (λ (rest : List Token). option_map (λ (p : List ℕ). (s.value.0, p)) (first_pattern rest)) r s.gives in
     let m = mapped (first_pattern b.value) (λ (p : List ℕ). (s.value.0, p)) r b.gives in
     let f = pattern_first b.value m.value m.was in
@@ -149,7 +93,7 @@ pattern_sound tokens r e =
     (record {
       one = n.token;
       two = f.token;
-      whole = n.whole ∙ ap (λ t. Space ∷ n.token ∷ t) (space_sound s.value.1 b.value b.was ∙ ap (λ t. Space ∷ t) f.whole);
+      whole = n.whole ∙ ap (λ t. Space ∷ n.token ∷ t) (space_sound s.value.1 b.value b.was ∙ f.whole);
       is_first = n.is;
       is_second = f.is;
     })
@@ -178,7 +122,7 @@ pub record Listed (tokens : List Token) (r : List ℕ × List Token) : Type 0 wh
 pub listed_sound : (tokens : List Token) (r : List ℕ × List Token) → string_and_list tokens ≡ Some r → Listed tokens r
 listed_sound tokens r e =
     let s = stepped (next_string tokens) (λ (a : List ℕ × List Token). option_and_then (λ (rest : List Token). option_map (λ (list : List Token). (a.0, list)) (in_list rest)) (behind_space a.1)) r e in
-    let n = string_sound tokens s.value s.was in
+    let n = next_sound string_of tokens s.value s.was in
     let b = stepped (behind_space s.value.1) (λ (rest : List Token). option_map (λ (list : List Token). (s.value.0, list)) (in_list rest)) r s.gives in
     let m = mapped (in_list b.value) (λ (list : List Token). (s.value.0, list)) r b.gives in
     subst (Listed tokens) m.is (record {

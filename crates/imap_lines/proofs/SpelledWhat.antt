@@ -13,12 +13,13 @@ use Rattle.imap_tokens.specs.Flags.{no_flags, flags_in, bare_from}
 use Rattle.imap_tokens.specs.Lists.{SpellsFlag, SpellsList}
 use Rattle.imap_tokens.specs.Sets.{set_in}
 use Rattle.imap_tokens.specs.Spelling.{Spaced}
-use Rattle.imap_tokens.specs.Tokens.{is_close, word_of, tokens_with}
+use Rattle.imap_tokens.specs.Tokens.{is_close, word_of, string_of, tokens_with}
 use Rattle.imap_tokens.specs.Words.{upper, is_word, after_word}
 use Rattle.imap_tokens.specs.declared.tokens.Token.{Token}
 use Rattle.imap_tokens.specs.declared.tokens.Token.TheVariants.{Space, Open, Close, Word, Quoted, Literal}
 use Rattle.imap_lines.specs.Append.{first_flags, first_date, only_literal, message_in, append_in}
-use Rattle.imap_lines.specs.Arguments.{behind_space, next_string, next_word, last_string, two_strings, string_and_pattern, string_and_list}
+use Rattle.imap_tokens.specs.Arguments.{behind_space, next_string, next_word}
+use Rattle.imap_lines.specs.Arguments.{last_string, two_strings, string_and_pattern, string_and_list}
 use Rattle.imap_lines.specs.Asks.{statuses_from}
 use Rattle.imap_lines.specs.Attributes.{SpellsAttribute}
 use Rattle.imap_lines.specs.Command.{takes_all, spoken}
@@ -42,9 +43,10 @@ use Rattle.imap_lines.proofs.Attributes.{read_attributes}
 use Rattle.imap_lines.proofs.Items.{read_items, items}
 use Rattle.imap_lines.proofs.Headed.{same_row}
 use Rattle.imap_lines.proofs.WrittenTokens.{and_true}
-use Rattle.imap_lines.proofs.Steps.{stepped, mapped}
+use Rattle.imap_tokens.proofs.Steps.{stepped, mapped}
+use Rattle.imap_tokens.proofs.Behind.{space_sound, next_sound, word_sound}
 use Rattle.search_lines.specs.Sought.{sought_in}
-use Rattle.imap_lines.proofs.SpelledArguments.{TokenLaws, space_sound, string_sound, word_sound, string_complete, none_by, last_sound, last_complete, two_sound, two_complete, pattern_sound, pattern_complete, listed_sound, listed_complete, first_flags_sound, spaced_complete, first_date_sound, literal_sound, first_date_complete}
+use Rattle.imap_lines.proofs.SpelledArguments.{TokenLaws, string_complete, none_by, last_sound, last_complete, two_sound, two_complete, pattern_sound, pattern_complete, listed_sound, listed_complete, first_flags_sound, spaced_complete, first_date_sound, literal_sound, first_date_complete}
 
 -- a list is closed by its last token
 close_is : (token : Token) → is_close token ≡ true → token ≡ Close
@@ -308,7 +310,7 @@ module _ (laws : TokenLaws) where
   append_sound : (by_uid : Bool) (tokens : List Token) (asked : ImapWhat) → append_in tokens ≡ Some asked → Sound verb.Append by_uid tokens asked
   append_sound by_uid tokens asked e =
       let s = stepped (next_string tokens) (λ (r : List ℕ × List Token). option_and_then (λ (rest : List Token). option_map (λ (m : Flags × Option ℕ × List ℕ). what.Append r.0 m.0 m.1 m.2) (message_in rest)) (behind_space r.1)) asked e in
-      let n = string_sound tokens s.value s.was in
+      let n = next_sound string_of tokens s.value s.was in
       let b = stepped (behind_space s.value.1) (λ (rest : List Token). option_map (λ (m : Flags × Option ℕ × List ℕ). what.Append s.value.0 m.0 m.1 m.2) (message_in rest)) asked s.gives in
       let m = mapped (message_in b.value) (λ (m : Flags × Option ℕ × List ℕ). what.Append s.value.0 m.0 m.1 m.2) asked b.gives in
       let f = stepped (first_flags b.value) (λ (f : Flags × List Token). option_and_then (λ (d : Option ℕ × List Token). option_map (λ (text : List ℕ). (f.0, d.0, text)) (only_literal d.1)) (first_date f.1)) m.value m.was in

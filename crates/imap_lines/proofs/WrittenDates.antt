@@ -11,17 +11,18 @@ use Rattle.civil_dates.specs.declared.days.Day.{Day}
 use Rattle.civil_dates.specs.Days.{IsDay, day_from_month, day_from_year, civil_day, kept, seconds_of}
 use Rattle.civil_dates.specs.Months.{month_name, month_of}
 use Rattle.civil_dates.specs.Dates.{two_places, imap_date_of, imap_date}
-use Rattle.imap_stream.specs.Marks.{is_digit}
+use Rattle.std.specs.Char.{is_ascii_digit}
 use Rattle.imap_tokens.specs.Dates.{two_digits, two_below, day_number, year_number, day_of, second_of, is_real, date_in}
 use Rattle.imap_tokens.specs.Tokens.{is_quoted_byte}
-use Rattle.imap_lines.proofs.WrittenTokens.{and_true, apart}
+use Rattle.imap_stream.proofs.LineMarks.{apart}
+use Rattle.imap_lines.proofs.WrittenTokens.{and_true}
 use Rattle.imap_lines.proofs.WrittenFlags.{IsDated}
 
 differ : (a b : ℕ) → (a == b) ≡ false → a ≡ b → ⊥
 differ a b e is = absurd (let same = (Decides-eqb a b).1 is in let wrong : false ≡ true = sym e ∙ same in cc)
 
 -- a digit of a number
-pub digit_is : (n : ℕ) → n < 10 → is_digit (48 + n) ≡ true
+pub digit_is : (n : ℕ) → n < 10 → is_ascii_digit (48 + n) ≡ true
 digit_is n one = rw (le-leb 48 (48 + n) (omega arith), le-leb (48 + n) 57 (omega arith)) refl
 
 two_are : (n : ℕ) → n < 100 → two_digits (48 + n / 10) (48 + n % 10) ≡ Some n

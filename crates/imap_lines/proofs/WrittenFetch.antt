@@ -24,7 +24,9 @@ use Rattle.imap_lines.specs.declared.verbs.Verb.TheVariants as verb
 use Rattle.imap_tokens.specs.declared.tokens.Token.{Token}
 use Rattle.imap_tokens.specs.declared.tokens.Token.TheVariants.{Space, Open, Close, Word}
 use Rattle.imap_lines.specs.declared.command.ImapWhat.TheVariants as what
-use Rattle.imap_lines.proofs.WrittenTokens.{plain_byte, apart, IsWhole, AreWhole, EndsWell, is_word_token, starts_word}
+use Rattle.imap_stream.proofs.LineMarks.{apart}
+use Rattle.imap_tokens.specs.Spelling.{is_word_token}
+use Rattle.imap_lines.proofs.WrittenTokens.{plain_byte, IsWhole, AreWhole, EndsWell, starts_word}
 use Rattle.imap_lines.proofs.WrittenHeads.{IsRead, read_by}
 use Rattle.imap_lines.proofs.WrittenNumbers.{set_is, number_is, count_is, cut_is, digit_apart, decimal_word, both_true}
 use Rattle.imap_lines.proofs.WrittenStrings.{AreItems, string_argument, spaced_whole, ends_after}

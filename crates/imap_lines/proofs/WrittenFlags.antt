@@ -9,7 +9,7 @@ use Rattle.undo_base.specs.declared.asks.How.{How}
 use Rattle.undo_base.specs.declared.asks.How.TheVariants.{Replace, Add, Take}
 use Rattle.undo_base.specs.declared.keys.Flags.{Flags}
 use Rattle.imap_lines.specs.Append.{spaced_flags, first_date, only_literal, message_in, append_in}
-use Rattle.imap_lines.specs.Arguments.{behind_space}
+use Rattle.imap_tokens.specs.Arguments.{behind_space}
 use Rattle.imap_tokens.specs.Dates.{date_in}
 use Rattle.imap_tokens.specs.Flags.{flags_in}
 use Rattle.imap_lines.specs.Messages.{how_in, listed_flags, change_in}
@@ -21,7 +21,8 @@ use Rattle.imap_lines.specs.declared.verbs.Verb.TheVariants as verb
 use Rattle.imap_tokens.specs.declared.tokens.Token.{Token}
 use Rattle.imap_tokens.specs.declared.tokens.Token.TheVariants.{Space, Open, Close, Word, Literal}
 use Rattle.imap_lines.specs.declared.command.ImapWhat.TheVariants as what
-use Rattle.imap_lines.proofs.WrittenTokens.{plain_byte, IsWhole, AreWhole, EndsWell, is_word_token}
+use Rattle.imap_tokens.specs.Spelling.{is_word_token}
+use Rattle.imap_lines.proofs.WrittenTokens.{plain_byte, IsWhole, AreWhole, EndsWell}
 use Rattle.imap_lines.proofs.WrittenHeads.{IsRead, read_by}
 use Rattle.imap_lines.proofs.WrittenNumbers.{set_is, set_is_word}
 use Rattle.imap_lines.proofs.WrittenStrings.{AreItems, string_argument, and_none, one_string, last_is, next_is, spaced_whole, ends_after}

@@ -4,7 +4,7 @@ use Rattle.std.specs.Prelude.{option_and_then, Ok}
 use Rattle.std.specs.List.{list_all, before_first, after_first, position_or_len}
 use Rattle.std.proofs.lemmas.Bool.Decides.{Decides-ltb}
 use Rattle.std.proofs.lemmas.List.{append_assoc, length-append, take_at, drop_at}
-use Rattle.imap_stream.specs.Marks.{is_tag, is_tag_byte, tag_of, before_space}
+use Rattle.imap_stream.specs.Marks.{is_tag, is_atom_byte, is_tag_byte, tag_of, before_space}
 use Rattle.imap_tokens.specs.Parts.{is_space, from_space}
 use Rattle.imap_tokens.specs.Words.{is_word}
 use Rattle.imap_lines.specs.Verbs.{verb_in, message_verb}
@@ -55,19 +55,22 @@ after_is word line e =
     ap (λ n. drop (n + 1) (word ++ 32 ∷ line)) (space_at word (32 ∷ line) e refl)
     ∙ ap (drop (length word + 1)) (sym (append_assoc word (32 ∷ []) line)) ∙ drop_at (word ++ 32 ∷ []) line (length word + 1) size
 
--- a byte of a tag is one of a word
-tag_byte : (b : ℕ) → is_tag_byte b ≡ true → plain_byte b ≡ true
-tag_byte b e =
-    let first = and_true (nat_le 33 b && nat_le b 126) (not (b == 40 || b == 41 || b == 123 || b == 37 || b == 42 || b == 34 || b == 92 || b == 43)) e in
-    let none = not_false (b == 40 || b == 41 || b == 123 || b == 37 || b == 42 || b == 34 || b == 92 || b == 43) first.1 in
-    let a = or_false (b == 40 || b == 41 || b == 123 || b == 37 || b == 42 || b == 34 || b == 92) (b == 43) none in
-    let c = or_false (b == 40 || b == 41 || b == 123 || b == 37 || b == 42 || b == 34) (b == 92) a.0 in
+-- a byte of an atom is one of a word
+pub atom_byte : (b : ℕ) → is_atom_byte b ≡ true → plain_byte b ≡ true
+atom_byte b e =
+    let first = and_true (nat_le 33 b && nat_le b 126) (not (b == 40 || b == 41 || b == 123 || b == 37 || b == 42 || b == 34 || b == 92)) e in
+    let none = not_false (b == 40 || b == 41 || b == 123 || b == 37 || b == 42 || b == 34 || b == 92) first.1 in
+    let c = or_false (b == 40 || b == 41 || b == 123 || b == 37 || b == 42 || b == 34) (b == 92) none in
     let d = or_false (b == 40 || b == 41 || b == 123 || b == 37 || b == 42) (b == 34) c.0 in
     let f = or_false (b == 40 || b == 41 || b == 123 || b == 37) (b == 42) d.0 in
     let g = or_false (b == 40 || b == 41 || b == 123) (b == 37) f.0 in
     let h = or_false (b == 40 || b == 41) (b == 123) g.0 in
     let k = or_false (b == 40) (b == 41) h.0 in
     rw (first.0, k.0, k.1, d.1, h.1) refl
+
+-- and so is one of a tag
+tag_byte : (b : ℕ) → is_tag_byte b ≡ true → plain_byte b ≡ true
+tag_byte b e = atom_byte b (and_true (is_atom_byte b) (not (b == 43)) e).0
 
 tag_bytes : (tag : List ℕ) → list_all is_tag_byte tag ≡ true → list_all plain_byte tag ≡ true
 tag_bytes [] e = refl

@@ -4,38 +4,30 @@ use Rattle.std.specs.Prelude.{option_map, option_and_then}
 use Rattle.std.specs.Char.{is_ascii_digit}
 use Rattle.std.specs.Fmt.{decimal}
 use Rattle.std.specs.List.{list_all, AllByRecursion}
+use Rattle.std.proofs.Math.Bool.{or-true}
 use Rattle.std.proofs.lemmas.Bool.{leb-true, le-leb}
 use Rattle.std.proofs.lemmas.Bool.Decides.{Decides-ltb}
 use Rattle.std.proofs.lemmas.Fmt.{decimal_nonempty, digits_decimal, digits_value-decimal, first_decimal, length-decimal-le}
 use Rattle.std.proofs.lemmas.List.{length-append}
 use Rattle.std.proofs.lemmas.List.Folds.{list_all-append}
-use Rattle.std.proofs.lemmas.Str.Parse.{IsDigitsTest, FoldsDigits, IsNumeralModel, numerals_by_fold}
+use Rattle.std.proofs.lemmas.Str.Parse.{IsNumeralModel, numerals_by_fold}
 use Rattle.undo_base.specs.Digits.{number_of}
-use Rattle.imap_stream.specs.Marks.{is_digit, all_digits, value_after, value_of}
+use Rattle.imap_stream.specs.Marks.{all_digits}
 use Rattle.imap_stream.specs.declared.picks.SetRange.{SetRange}
 use Rattle.imap_tokens.specs.Words.{is_word, number_in, count_in}
 use Rattle.imap_tokens.specs.Sets.{cut_at, end_in, range_by, range_in, between_commas, ranges_in, set_in}
 use Rattle.imap_lines.specs.PlainCommands.{end_text, range_text, set_text, IsEnd, IsSet}
-use Rattle.imap_lines.proofs.WrittenTokens.{plain_byte, and_true, apart, not_false}
+use Rattle.imap_stream.proofs.LineMarks.{apart}
+use Rattle.imap_lines.proofs.WrittenTokens.{plain_byte, and_true, not_false}
 
 -- the digits of a number and its value, as std has them
-digits_test : IsDigitsTest (λ ds. list_all is_digit ds ≡ true)
-digits_test = record {
-  empty = refl;
-  parts = λ c cs e. let both = and_true (is_digit c) (list_all is_digit cs) e in let ends = and_true (nat_le 48 c) (nat_le c 57) both.0 in ((leb-true 48 c ends.0, leb-true c 57 ends.1), both.1);
-  more = λ c cs range e. rw (le-leb 48 c range.0, le-leb c 57 range.1, e) refl;
-}
+numerals : IsNumeralModel (λ ds. list_all is_ascii_digit ds ≡ true) number_of
+numerals = numerals_by_fold (λ ds. list_all is_ascii_digit ds ≡ true) (search rules) (λ n ds. fold (λ n d. 10 * n + (d - 48)) n ds) (search rules)
 
-folds : FoldsDigits value_after
-folds = record { empty = λ n. refl; more = λ n c cs range. refl }
-
-numerals : IsNumeralModel (λ ds. list_all is_digit ds ≡ true) (value_after 0)
-numerals = numerals_by_fold (λ ds. list_all is_digit ds ≡ true) digits_test value_after folds
-
-digits_of : (n : ℕ) → n ≤ 4294967295 → list_all is_digit (decimal n) ≡ true
+digits_of : (n : ℕ) → n ≤ 4294967295 → list_all is_ascii_digit (decimal n) ≡ true
 digits_of n fits = digits_decimal numerals n (omega arith)
 
-pub value_is : (n : ℕ) → n ≤ 4294967295 → value_of (decimal n) ≡ n
+pub value_is : (n : ℕ) → n ≤ 4294967295 → number_of (decimal n) ≡ n
 value_is n fits = digits_value-decimal numerals n (omega arith)
 
 pub all_digits_of : (n : ℕ) → n ≤ 4294967295 → all_digits (decimal n) ≡ true
@@ -54,8 +46,10 @@ small_is n fits = by_test (nat_lt 4294967295 n) refl
 -- a number is read as it is written
 pub number_is : (n : ℕ) → 1 ≤ n → n ≤ 4294967295 → number_in (decimal n) ≡ Some n
 number_is n some fits =
+    let long : 0 < length (decimal n) = decimal_nonempty n (omega arith) in
+    let few : length (decimal n) ≤ 10 = length-decimal-le 10 n (omega arith) (omega arith) (omega arith) in
     let first : 48 < get_or (decimal n) 0 0 = first_decimal n some (omega arith) in
-    rw (all_digits_of n fits, apart (get_or (decimal n) 0 0) 48 (λ is. omega arith), value_is n fits, small_is n fits) refl
+    rw (le-leb 1 (length (decimal n)) (omega arith), apart (get_or (decimal n) 0 0) 48 (λ is. omega arith), or-true (length (decimal n) == 1), digits_of n fits, le-leb (length (decimal n)) 12 (omega arith), value_is n fits, le-leb 1 n some, le-leb n 4294967295 fits) refl
 
 -- bytes that begin with a digit from 1 on are no single 0 and no *
 first_digit : (b w : ℕ) (bytes : List ℕ) → 48 < b → b ≤ 57 → w ≤ 48 → is_word (w ∷ []) (b ∷ bytes) ≡ false
@@ -67,23 +61,20 @@ first_digit b w bytes low high most =
     by_test true is = absurd (let le = leb-true 97 b is in omega arith)
     by_test false is = refl
 
-no_sign : (w : ℕ) (bytes : List ℕ) → w ≤ 48 → 0 < length bytes → 48 < get_or bytes 0 0 → list_all is_digit bytes ≡ true → is_word (w ∷ []) bytes ≡ false
+no_sign : (w : ℕ) (bytes : List ℕ) → w ≤ 48 → 0 < length bytes → 48 < get_or bytes 0 0 → list_all is_ascii_digit bytes ≡ true → is_word (w ∷ []) bytes ≡ false
 no_sign w [] most some first e = absurd (omega arith)
 no_sign w (b ∷ bytes) most some first e =
-    let both = and_true (is_digit b) (list_all is_digit bytes) e in
+    let both = and_true (is_ascii_digit b) (list_all is_ascii_digit bytes) e in
     first_digit b w bytes first (leb-true b 57 (and_true (nat_le 48 b) (nat_le b 57) both.0).1) most
 
 number_word : (w n : ℕ) → w ≤ 48 → 1 ≤ n → n ≤ 4294967295 → is_word (w ∷ []) (decimal n) ≡ false
 number_word w n most some fits = no_sign w (decimal n) most (decimal_nonempty n (omega arith)) (first_decimal n some (omega arith)) (digits_of n fits)
 
 -- the same of a number that may begin with zeros
-counts : IsNumeralModel (λ ds. list_all is_ascii_digit ds ≡ true) number_of
-counts = numerals_by_fold (λ ds. list_all is_ascii_digit ds ≡ true) (search rules) (λ n ds. fold (λ n d. 10 * n + (d - 48)) n ds) (search rules)
-
 pub count_is : (n : ℕ) → n ≤ 4294967295 → count_in (decimal n) ≡ Some n
 count_is n fits =
     let some : 0 < length (decimal n) = decimal_nonempty n (omega arith) in
-    rw (le-leb 1 (length (decimal n)) (omega arith), digits_decimal counts n (omega arith), digits_value-decimal counts n (omega arith), small_is n fits) refl
+    rw (le-leb 1 (length (decimal n)) (omega arith), digits_of n fits, value_is n fits, small_is n fits) refl
 
 end_is : (o : Option ℕ) → IsEnd o → end_in (end_text o) ≡ Some o
 end_is None is = refl
@@ -108,7 +99,7 @@ both_true a b e f = ap (λ t. t && b) e ∙ f
 pub not_is : (t : Bool) → t ≡ false → not t ≡ true
 not_is t e = ap not e
 
-digit_end : (b : ℕ) → is_digit b ≡ true → end_byte b ≡ true
+digit_end : (b : ℕ) → is_ascii_digit b ≡ true → end_byte b ≡ true
 digit_end b e =
     let low = leb-true 48 b (and_true (nat_le 48 b) (nat_le b 57) e).0 in
     let high = leb-true b 57 (and_true (nat_le 48 b) (nat_le b 57) e).1 in
@@ -130,7 +121,7 @@ set_word b e =
 
 end_bytes : (o : Option ℕ) → IsEnd o → list_all end_byte (end_text o) ≡ true
 end_bytes None is = refl
-end_bytes (Some n) is = all_imply is_digit end_byte digit_end (decimal n) (digits_of n is.1)
+end_bytes (Some n) is = all_imply is_ascii_digit end_byte digit_end (decimal n) (digits_of n is.1)
 
 -- what stands before the first such byte
 pub cut_is : (c : ℕ) (front rest : List ℕ) → list_all (λ b. not (b == c)) front ≡ true → (c == c) ≡ true → cut_at c (front ++ c ∷ rest) ≡ Some (front, rest)
@@ -214,9 +205,9 @@ set_is_word (range ∷ ranges) is =
 
 -- digits are bytes of a word
 pub decimal_word : (n : ℕ) → n ≤ 4294967295 → list_all plain_byte (decimal n) ≡ true
-decimal_word n fits = all_imply is_digit plain_byte (λ b e. set_word b (range_set b (end_range b (digit_end b e)))) (decimal n) (digits_of n fits)
+decimal_word n fits = all_imply is_ascii_digit plain_byte (λ b e. set_word b (range_set b (end_range b (digit_end b e)))) (decimal n) (digits_of n fits)
 
 -- digits are not such a byte
 pub digit_apart : (c n : ℕ) → c < 48 → n ≤ 4294967295 → list_all (λ b. not (b == c)) (decimal n) ≡ true
 digit_apart c n low fits =
-    all_imply is_digit (λ b. not (b == c)) (λ b e. let range = leb-true 48 b (and_true (nat_le 48 b) (nat_le b 57) e).0 in not_is (b == c) (apart b c (λ is. omega arith))) (decimal n) (digits_of n fits)
+    all_imply is_ascii_digit (λ b. not (b == c)) (λ b e. let range = leb-true 48 b (and_true (nat_le 48 b) (nat_le b 57) e).0 in not_is (b == c) (apart b c (λ is. omega arith))) (decimal n) (digits_of n fits)

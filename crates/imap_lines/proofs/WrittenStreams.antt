@@ -1,12 +1,13 @@
 -- What is written of a command is cut out of the stream on which it is sent.
 use Rattle.std.proofs.Common.{◌≡◌, ℕ, ◌+◌, ◌≤◌, Bool, true, false, cond, not, ◌==◌, ◌&&◌, ◌||◌, List, [], ◌∷◌, ◌++◌, length, map, nat_le, None, refl, ap, sym, ◌∙◌, arith, subst, suc}
 use Rattle.std.specs.Fmt.{decimal}
+use Rattle.std.specs.Char.{is_ascii_digit}
 use Rattle.std.specs.List.{list_all, list_any, AllByRecursion, flat_map}
 use Rattle.std.proofs.lemmas.Bool.{leb-true}
 use Rattle.std.proofs.lemmas.List.{append_assoc, append-nil}
 use Rattle.std.proofs.lemmas.List.Folds.{list_all-append, list_any-append}
 use Rattle.std.proofs.lemmas.List.Sums.{sum_by-cons}
-use Rattle.imap_stream.specs.Marks.{is_tag, is_digit, all_digits}
+use Rattle.imap_stream.specs.Marks.{is_tag, all_digits}
 use Rattle.imap_stream.specs.Commands.{end_of, said_of}
 use Rattle.imap_stream.specs.Streams.{Part, Entry, Line as OpenLine, Rest, marked_line, ended_line, part_bytes, entry_bytes, octets_of as octets_of_parts, HasMark, IsPart, AreParts, told_part, IsReading}
 use Rattle.imap_stream.specs.declared.next.Next.{Next}
@@ -17,7 +18,8 @@ use Rattle.imap_lines.specs.Writing.{Written, raw_of, escaped_text, with_token, 
 use Rattle.imap_lines.specs.PlainCommands.{plain_of, what_tokens, write}
 use Rattle.imap_tokens.specs.declared.tokens.Token.{Token}
 use Rattle.imap_tokens.specs.declared.tokens.Token.TheVariants.{Space, Open, Close, Word, Quoted, Literal}
-use Rattle.imap_lines.proofs.WrittenTokens.{plain_byte, and_true, apart, not_false, or_false, IsWhole, AreWhole, word_byte}
+use Rattle.imap_stream.proofs.LineMarks.{apart}
+use Rattle.imap_lines.proofs.WrittenTokens.{plain_byte, and_true, not_false, or_false, IsWhole, AreWhole, word_byte}
 use Rattle.imap_lines.specs.declared.command.ImapCommand.{ImapCommand}
 use Rattle.imap_lines.proofs.WrittenHeads.{IsRead, command_whole}
 use Rattle.imap_lines.proofs.WrittenNumbers.{both_true, all_digits_of, value_is}
@@ -111,15 +113,15 @@ behind_brace : (front back : List ℕ) → guarded (front ++ 123 ∷ back) ≡ t
 behind_brace [] back e = (and_true (has_quote back) (guarded back) e).0
 behind_brace (b ∷ front) back e = behind_brace front back (and_true (not (b == 123) || has_quote (front ++ 123 ∷ back)) (guarded (front ++ 123 ∷ back)) e).1
 
-no_quote : (digits : List ℕ) → list_all is_digit digits ≡ true → has_quote (digits ++ 125 ∷ []) ≡ false
+no_quote : (digits : List ℕ) → list_all is_ascii_digit digits ≡ true → has_quote (digits ++ 125 ∷ []) ≡ false
 no_quote [] e = refl
 no_quote (b ∷ digits) e =
-    let both = and_true (is_digit b) (list_all is_digit digits) e in
+    let both = and_true (is_ascii_digit b) (list_all is_ascii_digit digits) e in
     let low = leb-true 48 b (and_true (nat_le 48 b) (nat_le b 57) both.0).0 in
     rw (apart b 34 (λ same. omega arith)) (no_quote digits both.1)
 
-digits_of_all : (digits : List ℕ) → all_digits digits ≡ true → list_all is_digit digits ≡ true
-digits_of_all digits e = (and_true (not (length digits == 0) && nat_le (length digits) 10) (list_all is_digit digits) e).1
+digits_of_all : (digits : List ℕ) → all_digits digits ≡ true → list_all is_ascii_digit digits ≡ true
+digits_of_all digits e = (and_true (not (length digits == 0) && nat_le (length digits) 10) (list_all is_ascii_digit digits) e).1
 
 -- such a line has no mark
 no_mark : (line : List ℕ) → guarded line ≡ true → (n : ℕ) → HasMark line n → ⊥
@@ -128,14 +130,14 @@ no_mark line e n mark =
     let none = no_quote mark.digits (digits_of_all mark.digits mark.announces.are_digits) in
     absurd (let wrong : true ≡ false = sym some ∙ none in cc)
 
-digits_unbroken : (digits : List ℕ) → list_all is_digit digits ≡ true → unbroken (digits ++ 125 ∷ []) ≡ true
+digits_unbroken : (digits : List ℕ) → list_all is_ascii_digit digits ≡ true → unbroken (digits ++ 125 ∷ []) ≡ true
 digits_unbroken [] e = refl
 digits_unbroken (b ∷ digits) e =
-    let both = and_true (is_digit b) (list_all is_digit digits) e in
+    let both = and_true (is_ascii_digit b) (list_all is_ascii_digit digits) e in
     let low = leb-true 48 b (and_true (nat_le 48 b) (nat_le b 57) both.0).0 in
     rw (apart b 13 (λ same. omega arith)) (digits_unbroken digits both.1)
 
-marked_unbroken : (text digits : List ℕ) → unbroken text ≡ true → list_all is_digit digits ≡ true → unbroken (marked_line text digits) ≡ true
+marked_unbroken : (text digits : List ℕ) → unbroken text ≡ true → list_all is_ascii_digit digits ≡ true → unbroken (marked_line text digits) ≡ true
 marked_unbroken text digits e d =
     list_all-append (λ b. not (b == 13)) text (123 ∷ digits ++ 125 ∷ [])
     ∙ both_true (unbroken text) (unbroken (123 ∷ digits ++ 125 ∷ [])) e (digits_unbroken digits d)

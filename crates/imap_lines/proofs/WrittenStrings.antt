@@ -1,14 +1,16 @@
 -- Commands whose arguments are strings, and STATUS, are read as they are written.
-use Rattle.std.proofs.Common.{◌≡◌, ℕ, ◌<◌, Bool, true, false, cond, not, ◌==◌, ◌&&◌, ◌||◌, List, [], ◌∷◌, ◌++◌, length, map, nat_le, Option, Some, refl, ap, sym, ◌∙◌, arith, subst}
+use Rattle.std.proofs.Common.{◌≡◌, ℕ, ◌<◌, Bool, true, false, cond, not, ◌==◌, ◌&&◌, ◌||◌, List, [], ◌∷◌, ◌++◌, length, map, Option, Some, refl, ap, sym, ◌∙◌, arith, subst}
 use Rattle.std.specs.Prelude.{option_map, option_and_then}
 use Rattle.std.specs.List.{list_all, AllByRecursion}
 use Rattle.std.proofs.lemmas.Bool.Decides.{Decides-eqb}
 use Rattle.std.proofs.lemmas.List.{append_assoc}
 use Rattle.undo_base.specs.declared.asks.StatusAsk.{StatusAsk}
 use Rattle.undo_base.specs.declared.asks.StatusAsk.TheVariants.{Messages, Recent, UidNext, UidValidity, Unseen}
-use Rattle.imap_lines.specs.Arguments.{behind_space, next_string, last_by, last_string, two_strings, first_pattern, string_and_pattern, in_list, string_and_list}
+use Rattle.imap_tokens.specs.Arguments.{behind_space, next_string}
+use Rattle.imap_lines.specs.Arguments.{last_by, last_string, two_strings, first_pattern, string_and_pattern, in_list, string_and_list}
 use Rattle.imap_lines.specs.Asks.{status_in as status_in_word, statuses_from}
-use Rattle.imap_tokens.specs.Words.{is_atom, is_atom_byte, is_pattern_byte}
+use Rattle.imap_stream.specs.Marks.{is_atom_byte}
+use Rattle.imap_tokens.specs.Words.{is_atom, is_pattern_byte}
 use Rattle.imap_tokens.specs.Tokens.{is_quoted_byte, string_of, pattern_of}
 use Rattle.imap_lines.specs.What.{bare, with_mailbox, what_in}
 use Rattle.imap_lines.specs.PlainCommands.{spaced, listed, string_token, pattern_token, status_word}
@@ -20,22 +22,11 @@ use Rattle.imap_lines.specs.declared.verbs.Verb.TheVariants as verb
 use Rattle.imap_tokens.specs.declared.tokens.Token.{Token}
 use Rattle.imap_tokens.specs.declared.tokens.Token.TheVariants.{Space, Open, Close, Word, Quoted, Literal}
 use Rattle.imap_lines.specs.declared.command.ImapWhat.TheVariants as what
-use Rattle.imap_lines.proofs.WrittenTokens.{plain_byte, and_true, not_false, or_false, IsWhole, AreWhole, EndsWell, is_word_token, is_space_token}
-use Rattle.imap_lines.proofs.WrittenHeads.{IsRead, read_by}
+use Rattle.imap_tokens.specs.Spelling.{is_word_token}
+use Rattle.imap_lines.proofs.WrittenTokens.{plain_byte, and_true, IsWhole, AreWhole, EndsWell, is_space_token}
+use Rattle.imap_lines.proofs.WrittenHeads.{IsRead, read_by, atom_byte}
 
--- a byte of an atom is one of a word
-atom_byte : (b : ℕ) → is_atom_byte b ≡ true → plain_byte b ≡ true
-atom_byte b e =
-    let first = and_true (nat_le 33 b && nat_le b 126) (not (b == 40 || b == 41 || b == 123 || b == 37 || b == 42 || b == 34 || b == 92)) e in
-    let none = not_false (b == 40 || b == 41 || b == 123 || b == 37 || b == 42 || b == 34 || b == 92) first.1 in
-    let c = or_false (b == 40 || b == 41 || b == 123 || b == 37 || b == 42 || b == 34) (b == 92) none in
-    let d = or_false (b == 40 || b == 41 || b == 123 || b == 37 || b == 42) (b == 34) c.0 in
-    let f = or_false (b == 40 || b == 41 || b == 123 || b == 37) (b == 42) d.0 in
-    let g = or_false (b == 40 || b == 41 || b == 123) (b == 37) f.0 in
-    let h = or_false (b == 40 || b == 41) (b == 123) g.0 in
-    let k = or_false (b == 40) (b == 41) h.0 in
-    rw (first.0, k.0, k.1, d.1, h.1) refl
-
+-- bytes of an atom are bytes of a word
 pub atom_bytes : (text : List ℕ) → list_all is_atom_byte text ≡ true → list_all plain_byte text ≡ true
 atom_bytes [] e = refl
 atom_bytes (b ∷ text) e =

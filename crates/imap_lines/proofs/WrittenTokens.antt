@@ -4,8 +4,9 @@ use Rattle.std.specs.Prelude.{reverse}
 use Rattle.std.specs.Prelude.{option_and_then}
 use Rattle.std.specs.List.{list_all, prefix_len, suffix_len}
 use Rattle.std.proofs.lemmas.Bool.{leb-true}
-use Rattle.std.proofs.lemmas.Bool.Decides.{Decides-eqb}
 use Rattle.std.proofs.lemmas.List.{append_assoc, append-nil, take_all, reverse-append}
+use Rattle.imap_stream.proofs.LineMarks.{apart}
+use Rattle.imap_tokens.specs.Spelling.{is_word_token}
 use Rattle.imap_tokens.specs.Parts.{trimmed, line_before}
 use Rattle.imap_tokens.specs.Parts as parts
 use Rattle.imap_tokens.specs.Tokens.{is_word_byte, is_quoted_byte, tokens_from, tokens_in, with_first, tokens_of}
@@ -17,13 +18,6 @@ use Rattle.imap_tokens.specs.declared.tokens.Part.TheVariants.{Between, Word as 
 pub and_true : (a b : Bool) → (a && b) ≡ true → (a ≡ true) × (b ≡ true)
 and_true true b e = (refl, e)
 and_true false b e = absurd (let wrong : false ≡ true = e in cc)
-
-pub apart : (a b : ℕ) → (a ≡ b → ⊥) → (a == b) ≡ false
-apart a b differ = by_test (a == b) refl
-  where
-    by_test : (t : Bool) → (a == b) ≡ t → t ≡ false
-    by_test true is = absurd (differ ((Decides-eqb a b).0 is))
-    by_test false is = refl
 
 pub not_false : (t : Bool) → not t ≡ true → t ≡ false
 not_false true e = absurd (let wrong : false ≡ true = e in cc)
@@ -45,14 +39,6 @@ IsWhole Close = Unit {0}
 IsWhole (Word text) = (0 < length text) × (list_all plain_byte text ≡ true)
 IsWhole (Quoted text) = list_all is_quoted_byte text ≡ true
 IsWhole (Literal text) = Unit {0}
-
-abbrev pub is_word_token : Token → Bool
-is_word_token Space = false
-is_word_token Open = false
-is_word_token Close = false
-is_word_token (Word text) = true
-is_word_token (Quoted text) = false
-is_word_token (Literal text) = false
 
 abbrev pub starts_word : List Token → Bool
 starts_word [] = false

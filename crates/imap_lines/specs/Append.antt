@@ -1,7 +1,7 @@
 -- The arguments of APPEND (RFC 3501, 6.3.11 and 9: append).
 use Rattle.std.specs.Prelude.{ℕ, ◌==◌, List, [], ◌∷◌, length, Option, None, Some, option_map, option_and_then, if◌then◌else◌}
 use Rattle.undo_base.specs.declared.keys.Flags.{Flags}
-use Rattle.imap_lines.specs.Arguments.{behind_space, next_string}
+use Rattle.imap_tokens.specs.Arguments.{behind_space, next_string}
 use Rattle.imap_tokens.specs.Dates.{date_in}
 use Rattle.imap_tokens.specs.Flags.{no_flags, flags_in}
 use Rattle.imap_tokens.specs.Tokens.{is_open, quoted_of, literal_of}

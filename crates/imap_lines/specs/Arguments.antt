@@ -1,27 +1,8 @@
--- Arguments, each behind a space.
+-- The last arguments of commands.
 use Rattle.std.specs.Prelude.{ℕ, ◌==◌, List, [], ◌∷◌, length, Option, None, Some, option_map, option_and_then, if◌then◌else◌}
-use Rattle.imap_tokens.specs.Tokens.{is_space, is_open, word_of, string_of, pattern_of}
+use Rattle.imap_tokens.specs.Arguments.{behind_space, next_string}
+use Rattle.imap_tokens.specs.Tokens.{is_open, pattern_of}
 use Rattle.imap_tokens.specs.declared.tokens.Token.{Token}
-
--- what follows a space
-abbrev pub behind_space : List Token → Option (List Token)
-behind_space [] = None
-behind_space (token ∷ tokens) = if is_space token then Some tokens else None
-
-abbrev pub first_string : List Token → Option (List ℕ × List Token)
-first_string [] = None
-first_string (token ∷ tokens) = option_map (λ text. (text, tokens)) (string_of token)
-
--- an astring, and what follows it
-abbrev pub next_string : List Token → Option (List ℕ × List Token)
-next_string tokens = option_and_then first_string (behind_space tokens)
-
-abbrev pub first_word : List Token → Option (List ℕ × List Token)
-first_word [] = None
-first_word (token ∷ tokens) = option_map (λ text. (text, tokens)) (word_of token)
-
-abbrev pub next_word : List Token → Option (List ℕ × List Token)
-next_word tokens = option_and_then first_word (behind_space tokens)
 
 abbrev pub last_by : List ℕ × List Token → Option (List ℕ)
 last_by r = if length r.1 == 0 then Some r.0 else None

@@ -3,7 +3,8 @@ use Rattle.std.specs.Prelude.{codes, ℕ, Bool, true, false, ◌==◌, List, [],
 use Rattle.undo_base.specs.declared.asks.How.{How}
 use Rattle.undo_base.specs.declared.asks.How.TheVariants.{Replace, Add, Take}
 use Rattle.undo_base.specs.declared.keys.Flags.{Flags}
-use Rattle.imap_lines.specs.Arguments.{behind_space, next_word, last_string}
+use Rattle.imap_tokens.specs.Arguments.{behind_space, next_word}
+use Rattle.imap_lines.specs.Arguments.{last_string}
 use Rattle.imap_lines.specs.Fetch.{fetch_in}
 use Rattle.imap_tokens.specs.Flags.{no_flags, flags_in, bare_from}
 use Rattle.imap_tokens.specs.Sets.{set_in}

@@ -4,8 +4,10 @@ ghost use Rattle.imap_lines.specs.Append.{append_in};
 ghost use Rattle.imap_lines.specs.Append as spec;
 
 use crate::ImapWhat;
-use crate::arguments::{behind_space, next_string};
-use imap_tokens::{Token, is_open_token, literal_in, no_flag, quoted_in, read_date, read_flags};
+use imap_tokens::{
+    Token, behind_space_token, is_open_token, literal_in, next_string, no_flag, quoted_in,
+    read_date, read_flags,
+};
 use std::alloc::Global;
 use undo_base::{Flags, NoMemory, Text};
 
@@ -14,7 +16,7 @@ fn spaced_flags(tokens: &[Token]) -> Option<(Flags, &[Token])>
     ensures { option_map (λ r. (r.0, r.1.now)) result ≡ spec.spaced_flags tokens.now }
 {
     let (flags, rest) = read_flags(tokens)?;
-    let rest = behind_space(rest)?;
+    let rest = behind_space_token(rest)?;
     Some((flags, rest))
 }
 
@@ -39,7 +41,7 @@ fn spaced_date<'a>(text: &[u8], tokens: &'a [Token]) -> Option<(Option<u64>, &'a
     ensures { option_map (λ r. (r.0, r.1.now)) result ≡ spec.spaced_date text.entry.now tokens.entry.now }
 {
     let moment = read_date(text)?;
-    let rest = behind_space(tokens)?;
+    let rest = behind_space_token(tokens)?;
     Some((Some(moment), rest))
 }
 
@@ -89,7 +91,7 @@ pub fn read_append(alloc: Global, tokens: &[Token]) -> Result<Option<ImapWhat>, 
     let Some((mailbox, rest)) = next_string(tokens) else {
         return Ok(None);
     };
-    let Some(rest) = behind_space(rest) else {
+    let Some(rest) = behind_space_token(rest) else {
         return Ok(None);
     };
     let Some((flags, moment, text)) = read_message(rest) else {

@@ -103,16 +103,14 @@ fn is_field_name(bytes: &[u8]) -> bool
 }
 
 /// A field's name as a name, which it always is.
+#[tactic(auto, using(crate::proofs::FieldNames::field_name))]
 pub fn field_name(alloc: Global, bytes: &[u8]) -> Result<Option<Name>, NoMemory>
     ensures { IfOk result (λ name. name ≡ spec.field_in bytes.now) }
 {
     if !is_field_name(bytes) {
         return Ok(None);
     }
-    match Name::read(alloc, bytes) {
-        Ok(name) => Ok(Some(name)),
-        Err(_) => Err(NoMemory),
-    }
+    Ok(Some(Name::of(alloc, bytes)?))
 }
 
 /// Two numbers of a part: `o.n`.

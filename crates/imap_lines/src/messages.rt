@@ -3,9 +3,12 @@ ghost use Rattle.std.specs.Prelude.{◌≡◌, [], option_map, IfOk};
 ghost use Rattle.imap_lines.specs.Messages.{how_in, listed_flags, store_flags, change_in, fetch_of, store_of, copy_of, search_of, with_sought};
 
 use crate::ImapWhat;
-use crate::arguments::{behind_space, last_string, next_word};
+use crate::arguments::last_string;
 use crate::fetch::read_fetch;
-use imap_tokens::{Token, is_open_token, is_same_word, read_bare_flags, read_flags, read_set};
+use imap_tokens::{
+    Token, behind_space_token, is_open_token, is_same_word, next_word, read_bare_flags, read_flags,
+    read_set,
+};
 use search_lines::{Sought, read_sought};
 use std::alloc::Global;
 use undo_base::{Flags, How, NoMemory, Text};
@@ -65,7 +68,7 @@ fn read_change(tokens: &[Token]) -> Option<(How, bool, Flags)>
 {
     let (word, rest) = next_word(tokens)?;
     let (how, silent) = read_how(word)?;
-    let flags = read_store_flags(behind_space(rest)?)?;
+    let flags = read_store_flags(behind_space_token(rest)?)?;
     Some((how, silent, flags))
 }
 
@@ -106,7 +109,7 @@ pub fn read_fetch_of(
     let Some((word, rest)) = next_word(tokens) else {
         return Ok(None);
     };
-    let Some(rest) = behind_space(rest) else {
+    let Some(rest) = behind_space_token(rest) else {
         return Ok(None);
     };
     let Some(set) = read_set(alloc, word)? else {

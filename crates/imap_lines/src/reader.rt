@@ -1,5 +1,6 @@
 //! Commands as they stand in a stream.
-ghost use Rattle.std.specs.Prelude.{◌≡◌, option_map, IfOk, Ok, Err};
+ghost use Rattle.std.specs.Prelude.{◌≡◌, true, option_map, IfOk, Ok, Err};
+ghost use Rattle.undo_base.specs.Name.{is_name};
 ghost use Rattle.imap_lines.specs.Command.{ReadsCommand, command_of, heading_of, uid_heading_of, spoken};
 ghost use Rattle.imap_lines.specs.Command as spec;
 
@@ -10,16 +11,6 @@ use imap_stream::{RawCommand, read_tag};
 use imap_tokens::{at_space, before_space, behind_space, is_same_word, line_before, read_tokens};
 use std::alloc::Global;
 use undo_base::{Name, NoMemory, Text};
-
-/// Bytes as a name, where they are one.
-fn named(alloc: Global, bytes: &[u8]) -> Result<Name, NoMemory>
-    ensures { IfOk result (λ name. name ≡ bytes.now) }
-{
-    match Name::read(alloc, bytes) {
-        Ok(name) => Ok(name),
-        Err(_) => Err(NoMemory),
-    }
-}
 
 /// The verb behind `UID`, and what stands from the space behind it on.
 fn read_uid_heading(line: &[u8]) -> Option<(Verb, bool, &[u8])>
@@ -97,9 +88,10 @@ fn read_named(
     lines: &[Text],
     literals: &[Text],
 ) -> Result<ImapCommand, ImapRefused>
+    requires { is_name tag.now ≡ true }
     ensures { ReadsCommand (spec.tagged tag.now line.now lines.now literals.now) result }
 {
-    match named(alloc, tag) {
+    match Name::of(alloc, tag) {
         Ok(tag) => read_tagged(alloc, tag, line, lines, literals),
         Err(_) => Err(ImapRefused::NoMemory),
     }

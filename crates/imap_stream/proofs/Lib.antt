@@ -10,5 +10,6 @@ pub mod Within
 pub mod Readings
 pub mod Settled
 pub mod Splitting
+pub mod TagNames
 pub mod Tags
 pub mod Telling

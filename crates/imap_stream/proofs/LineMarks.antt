@@ -4,9 +4,11 @@ use Rattle.std.proofs.lemmas.Bool.{leb-true}
 use Rattle.std.proofs.lemmas.Bool.Decides.{Decides-eqb}
 use Rattle.std.proofs.lemmas.List.{append_assoc, length-append, take_at, drop_at, take_more, take_all, get_or_push}
 use Rattle.std.proofs.lemmas.Option.{option_and_then_some}
+use Rattle.std.specs.Char.{is_ascii_digit}
 use Rattle.std.specs.List.{list_all}
 use Rattle.std.specs.Option.{option_or}
-use Rattle.imap_stream.specs.Marks.{is_digit, all_digits, value_of, last_brace, size_in, mark_at, mark_of}
+use Rattle.undo_base.specs.Digits.{number_of}
+use Rattle.imap_stream.specs.Marks.{all_digits, last_brace, size_in, mark_at, mark_of}
 use Rattle.imap_stream.specs.Streams.{marked_line}
 use Rattle.imap_stream.specs.declared.marks.Mark.{Mark}
 use Rattle.imap_stream.proofs.Lines.{and_true}
@@ -19,10 +21,10 @@ apart a b differ = by_test (a == b) refl
     by_test false is = refl
 
 -- digits hold no {
-digits_plain : (s tail : List ℕ) → list_all is_digit s ≡ true → last_brace tail ≡ None → last_brace (s ++ tail) ≡ None
+digits_plain : (s tail : List ℕ) → list_all is_ascii_digit s ≡ true → last_brace tail ≡ None → last_brace (s ++ tail) ≡ None
 digits_plain [] tail e none = none
 digits_plain (b ∷ s) tail e none =
-    let both = and_true (is_digit b) (list_all is_digit s) e in
+    let both = and_true (is_ascii_digit b) (list_all is_ascii_digit s) e in
     let low : b ≤ 57 = leb-true b 57 (and_true (nat_le 48 b) (nat_le b 57) both.0).1 in
     rw (digits_plain s tail both.1 none, apart b 123 (λ is. omega arith)) refl
 
@@ -31,7 +33,7 @@ last_brace-at [] tail k e = e ∙ ap Some (let zero_more : k ≡ 0 + k = omega a
 last_brace-at (b ∷ text) tail k e =
     rw (last_brace-at text tail k e) (ap Some (let more : length text + k + 1 ≡ suc (length text) + k = omega arith in more))
 
-size_in-digits : (digits : List ℕ) → all_digits digits ≡ true → size_in (digits ++ 125 ∷ []) ≡ Some (value_of digits)
+size_in-digits : (digits : List ℕ) → all_digits digits ≡ true → size_in (digits ++ 125 ∷ []) ≡ Some (number_of digits)
 size_in-digits digits e =
     let size : length (digits ++ 125 ∷ []) ≡ suc (length digits) = simp length-append (omega arith) in
     let less : suc (length digits) - 1 ≡ length digits = omega arith in
@@ -39,9 +41,9 @@ size_in-digits digits e =
     let last : get_or (digits ++ 125 ∷ []) (length digits) 0 ≡ 125 = get_or_push digits 125 0 (length digits) refl in
     rw (size, less, last, front, e, apart (suc (length digits)) 0 (λ is. omega arith)) refl
 
-all_of : (digits : List ℕ) → all_digits digits ≡ true → list_all is_digit digits ≡ true
+all_of : (digits : List ℕ) → all_digits digits ≡ true → list_all is_ascii_digit digits ≡ true
 all_of digits e =
-    (and_true (not (length digits == 0) && nat_le (length digits) 10) (list_all is_digit digits) e).1
+    (and_true (not (length digits == 0) && nat_le (length digits) 10) (list_all is_ascii_digit digits) e).1
 
 brace_at : (text digits : List ℕ) → all_digits digits ≡ true → last_brace (marked_line text digits) ≡ Some (length text)
 brace_at text digits e =
@@ -54,7 +56,7 @@ tail_at text tail =
     ap (drop (length text + 1)) (sym (append_assoc text (123 ∷ []) tail)) ∙ drop_at (text ++ 123 ∷ []) tail (length text + 1) size
 
 -- what a line with a mark announces
-pub mark_of-marked : (text digits : List ℕ) → all_digits digits ≡ true → mark_of (marked_line text digits) ≡ Some (mark_at (length text) (value_of digits))
+pub mark_of-marked : (text digits : List ℕ) → all_digits digits ≡ true → mark_of (marked_line text digits) ≡ Some (mark_at (length text) (number_of digits))
 mark_of-marked text digits e =
     let tail = digits ++ 125 ∷ [] in
     rw (brace_at text digits e, tail_at text tail, size_in-digits digits e) refl
@@ -112,12 +114,12 @@ pub record Marked (line : List ℕ) (m : Mark) : Type 0 where
   pub digits : List ℕ
   pub is : line ≡ marked_line (take m.place line) digits
   pub are_digits : all_digits digits ≡ true
-  pub size : value_of digits ≡ m.size
+  pub size : number_of digits ≡ m.size
 
-size_splits : (tail : List ℕ) (v : ℕ) → size_in tail ≡ Some v → (tail ≡ take (length tail - 1) tail ++ 125 ∷ []) × (all_digits (take (length tail - 1) tail) ≡ true) × (value_of (take (length tail - 1) tail) ≡ v)
+size_splits : (tail : List ℕ) (v : ℕ) → size_in tail ≡ Some v → (tail ≡ take (length tail - 1) tail ++ 125 ∷ []) × (all_digits (take (length tail - 1) tail) ≡ true) × (number_of (take (length tail - 1) tail) ≡ v)
 size_splits tail v e =
     let digits = take (length tail - 1) tail in
-    let first = cond_some (not (length tail == 0) && (get_or tail (length tail - 1) 0 == 125) && all_digits digits) (value_of digits) v e in
+    let first = cond_some (not (length tail == 0) && (get_or tail (length tail - 1) 0 == 125) && all_digits digits) (number_of digits) v e in
     let two = and_true (not (length tail == 0) && (get_or tail (length tail - 1) 0 == 125)) (all_digits digits) first.0 in
     let three = and_true (not (length tail == 0)) (get_or tail (length tail - 1) 0 == 125) two.0 in
     (last_splits tail 125 (not_true (length tail == 0) three.0) ((Decides-eqb (get_or tail (length tail - 1) 0) 125).0 three.1), two.1, first.1)

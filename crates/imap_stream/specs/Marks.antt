@@ -1,28 +1,22 @@
--- Tags of lines and marks of literals (RFC 3501, 9: tag, literal).
-use Rattle.std.specs.Prelude.{ℕ, Bool, not, ◌+◌, ◌-◌, ◌*◌, ◌==◌, ◌&&◌, ◌||◌, List, [], ◌∷◌, length, take, drop, nat_le, slice_index, Option, None, Some, option_map, option_and_then, if◌then◌else◌}
+-- Tags of lines and marks of literals (RFC 3501, 9: atom, tag, literal).
+use Rattle.std.specs.Prelude.{ℕ, Bool, not, ◌+◌, ◌-◌, ◌==◌, ◌&&◌, ◌||◌, List, [], ◌∷◌, length, take, drop, nat_le, slice_index, Option, None, Some, option_map, option_and_then, if◌then◌else◌}
+use Rattle.std.specs.Char.{is_ascii_digit}
 use Rattle.std.specs.List.{list_all}
 use Rattle.std.specs.Option.{option_or}
+use Rattle.undo_base.specs.Digits.{number_of}
 use Rattle.imap_stream.specs.declared.marks.Mark.{Mark}
-
-abbrev pub is_digit : ℕ → Bool
-is_digit b = nat_le 48 b && nat_le b 57
 
 -- 1 to 10 digits
 abbrev pub all_digits : List ℕ → Bool
-all_digits bytes = not (length bytes == 0) && nat_le (length bytes) 10 && list_all is_digit bytes
+all_digits bytes = not (length bytes == 0) && nat_le (length bytes) 10 && list_all is_ascii_digit bytes
 
--- the number that digits spell, after one that stands before them
-abbrev pub value_after : ℕ → List ℕ → ℕ
-value_after n [] = n
-value_after n (digit ∷ digits) = value_after (n * 10 + (digit - 48)) digits
+-- a byte of an atom: it shows, and is none of ( ) { % * " \
+abbrev pub is_atom_byte : ℕ → Bool
+is_atom_byte b = nat_le 33 b && nat_le b 126 && not (b == 40 || b == 41 || b == 123 || b == 37 || b == 42 || b == 34 || b == 92)
 
--- the number that digits spell
-abbrev pub value_of : List ℕ → ℕ
-value_of digits = value_after 0 digits
-
--- a byte of a tag: printable, and none of ( ) { % * " \ +
+-- a byte of a tag: one of an atom, and no +
 abbrev pub is_tag_byte : ℕ → Bool
-is_tag_byte b = nat_le 33 b && nat_le b 126 && not (b == 40 || b == 41 || b == 123 || b == 37 || b == 42 || b == 34 || b == 92 || b == 43)
+is_tag_byte b = is_atom_byte b && not (b == 43)
 
 -- 1 to 64 bytes of a tag
 abbrev pub is_tag : List ℕ → Bool
@@ -46,7 +40,7 @@ last_brace (b ∷ line) = option_or (option_map (λ n. n + 1) (last_brace line))
 abbrev pub size_in : List ℕ → Option ℕ
 size_in tail =
     if not (length tail == 0) && (slice_index tail (length tail - 1) == 125) && all_digits (take (length tail - 1) tail)
-    then Some (value_of (take (length tail - 1) tail)) else None
+    then Some (number_of (take (length tail - 1) tail)) else None
 
 abbrev pub mark_at : ℕ → ℕ → Mark
 mark_at place size = record { place = place; size = size }

@@ -1,7 +1,8 @@
 -- A stream as its commands (RFC 3501, 2.2.1, 4.3 and 9): lines, each followed by CRLF, and the literals that they announce, each behind the CRLF of its line.
 use Rattle.std.specs.Prelude.{◌≡◌, ℕ, true, ◌+◌, ◌<◌, ◌≤◌, List, [], ◌∷◌, ◌++◌, length, map, sum_by, Option, None, Some}
 use Rattle.std.specs.List.{AllByRecursion, flat_map}
-use Rattle.imap_stream.specs.Marks.{tag_of, all_digits, value_of}
+use Rattle.undo_base.specs.Digits.{number_of}
+use Rattle.imap_stream.specs.Marks.{tag_of, all_digits}
 use Rattle.imap_stream.specs.Commands.{end_of}
 use Rattle.imap_stream.specs.declared.next.Next.{Next}
 use Rattle.imap_stream.specs.declared.next.Next.TheVariants.{Command, Ask, Bad}
@@ -64,7 +65,7 @@ IsLine line = end_of line ≡ None
 pub record Announces (text digits : List ℕ) (n : ℕ) : Type 0 where
   pub one_line : IsLine (marked_line text digits)
   pub are_digits : all_digits digits ≡ true
-  pub size : value_of digits ≡ n
+  pub size : number_of digits ≡ n
 
 -- a line with a mark that announces so many octets
 pub record HasMark (line : List ℕ) (n : ℕ) : Type 0 where
@@ -131,7 +132,7 @@ told_entry e = map told_part e.parts ++ told_end e.parts e.last e.fault ∷ []
 
 abbrev pub told_open : Open → List Next
 told_open (Line line) = []
-told_open (Octets text digits octets) = Ask (value_of digits) ∷ []
+told_open (Octets text digits octets) = Ask (number_of digits) ∷ []
 
 -- what commands, bad lines and a rest give
 abbrev pub told_of : List Entry → Rest → List Next

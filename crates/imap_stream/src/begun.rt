@@ -1,5 +1,5 @@
 //! What is read of a command.
-ghost use Rattle.std.specs.Prelude.{◌≡◌, ◌≢◌, ◌+◌, ◌≤◌, length, None, IfOk, OnOk, OnErr, option_map};
+ghost use Rattle.std.specs.Prelude.{◌≡◌, ◌≢◌, ◌+◌, ◌≤◌, length, None, IfOk, OnOk, OnErr};
 ghost use Rattle.imap_stream.specs.Commands.{first_line, tag_of_command, nothing, with_literal, awaited, ended, marked, told};
 ghost use Rattle.imap_stream.specs.Commands as spec;
 
@@ -77,26 +77,15 @@ pub fn opening<'a>(begun: &'a Begun, line: &'a [u8]) -> &'a [u8]
     }
 }
 
-/// A tag as a name, which it always is.
-fn named(alloc: Global, word: Option<&[u8]>) -> Result<Option<Name>, NoMemory>
-    ensures ok { IfOk result (λ tag. tag ≡ option_map (λ w. w.now) word.entry) }
-    ensures err { OnErr result (option_map (λ w. w.now) word.entry ≢ None) }
-{
-    let Some(word) = word else {
-        return Ok(None);
-    };
-    match Name::read(alloc, word) {
-        Ok(name) => Ok(Some(name)),
-        Err(_) => Err(NoMemory),
-    }
-}
-
 /// The tag of the command, of which this line is the next.
 pub fn command_tag(alloc: Global, begun: &Begun, line: &[u8]) -> Result<Option<Name>, NoMemory>
     ensures ok { IfOk result (λ tag. tag ≡ tag_of_command begun.now line.now) }
     ensures err { OnErr result (tag_of_command begun.now line.now ≢ None) }
 {
-    named(alloc, read_tag(opening(begun, line)))
+    match read_tag(opening(begun, line)) {
+        None => Ok(None),
+        Some(tag) => Ok(Some(Name::of(alloc, tag)?)),
+    }
 }
 
 /// A line that ends the command.

@@ -1,7 +1,11 @@
 //! The tags of lines, and the marks of literals.
-ghost use Rattle.std.specs.Prelude.{◌≡◌, ◌≤◌, ◌<◌, length, IsTrue, IfSome, option_map};
+ghost use Rattle.std.specs.Prelude.{◌≡◌, ◌≤◌, ◌<◌, true, length, IsTrue, IfSome, option_map};
 ghost use Rattle.std.specs.List.{list_all};
-ghost use Rattle.imap_stream.specs.Marks.{is_digit, is_tag_byte, is_tag, before_space, tag_of, all_digits, value_of, last_brace, size_in, mark_of};
+ghost use Rattle.undo_base.specs.Digits.{number_of};
+ghost use Rattle.undo_base.specs.Name.{is_name};
+ghost use Rattle.imap_stream.specs.Marks.{is_atom_byte, is_tag_byte, is_tag, before_space, tag_of, all_digits, last_brace, size_in, mark_of};
+
+use undo_base::are_digits;
 
 /// A literal mark in a line.
 #[derive(Clone, Copy, Debug, PartialEq, Eq)]
@@ -15,39 +19,28 @@ pub struct Mark {
 /// The most digits of a number.
 const MOST_DIGITS: usize = 10;
 
-fn is_digit_byte(byte: u8) -> bool
-    ensures { result ≡ is_digit byte }
-{
-    48 <= byte && byte <= 57
-}
-
-fn only_digits(bytes: &[u8]) -> bool
-    ensures { result ≡ list_all is_digit bytes.now }
-{
-    bytes.iter().all(|byte| is_digit_byte(*byte))
-}
-
 /// Whether the bytes are 1 to 10 digits.
-pub fn are_digits(bytes: &[u8]) -> bool
+pub fn are_few_digits(bytes: &[u8]) -> bool
     ensures { result ≡ all_digits bytes.now }
 {
-    !bytes.is_empty() && bytes.len() <= MOST_DIGITS && only_digits(bytes)
+    !bytes.is_empty() && bytes.len() <= MOST_DIGITS && are_digits(bytes)
 }
 
 /// The number that 1 to 10 digits spell.
 pub fn number(digits: &[u8]) -> u64
     requires { IsTrue (all_digits digits.now) }
-    ensures { result ≡ value_of digits.now }
+    ensures { result ≡ number_of digits.now }
 {
     let mut value = 0;
     for digit in digits {
-        value = value * 10 + u64::from(*digit - b'0');
+        value = 10 * value + u64::from(*digit - b'0');
     }
     value
 }
 
-fn is_tag_char(byte: u8) -> bool
-    ensures { result ≡ is_tag_byte byte }
+/// Whether the byte may stand in an atom.
+pub fn is_atom_char(byte: u8) -> bool
+    ensures { result ≡ is_atom_byte byte }
 {
     33 <= byte
         && byte <= 126
@@ -57,8 +50,13 @@ fn is_tag_char(byte: u8) -> bool
             || byte == b'%'
             || byte == b'*'
             || byte == b'"'
-            || byte == b'\\'
-            || byte == b'+')
+            || byte == b'\\')
+}
+
+fn is_tag_char(byte: u8) -> bool
+    ensures { result ≡ is_tag_byte byte }
+{
+    is_atom_char(byte) && byte != b'+'
 }
 
 fn only_tag_chars(word: &[u8]) -> bool
@@ -85,9 +83,11 @@ pub fn first_word(line: &[u8]) -> Option<&[u8]>
     None
 }
 
-/// The tag of a line.
+/// The tag of a line, which is a name.
+#[tactic(auto, using(crate::proofs::TagNames::tag_name))]
 pub fn read_tag(line: &[u8]) -> Option<&[u8]>
-    ensures { option_map (λ word. word.now) result ≡ tag_of line.now }
+    ensures value { option_map (λ word. word.now) result ≡ tag_of line.now }
+    ensures name { IfSome result (λ word. is_name word.now ≡ true) }
 {
     let word = first_word(line)?;
     if is_tag_word(word) { Some(word) } else { None }
@@ -113,7 +113,7 @@ fn size(tail: &[u8]) -> Option<u64>
     let [digits @ .., close] = tail else {
         return None;
     };
-    if *close == b'}' && are_digits(digits) {
+    if *close == b'}' && are_few_digits(digits) {
         Some(number(digits))
     } else {
         None

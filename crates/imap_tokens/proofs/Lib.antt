@@ -1,5 +1,7 @@
 pub mod Lining
 pub mod Commas
+pub mod Steps
+pub mod Behind
 pub mod Ranges
 pub mod Spelling
 pub mod Spelt

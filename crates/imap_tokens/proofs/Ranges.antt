@@ -1,34 +1,18 @@
 -- Sets, and what spells them.
-use Rattle.std.proofs.Common.{◌≡◌, ◌≢◌, ℕ, Bool, true, false, cond, not, ◌==◌, ◌&&◌, List, [], ◌∷◌, ◌++◌, length, nat_le, Option, None, Some, option_map, option_and_then, refl, ap, sym, ◌∙◌, subst, inl, inr, arith, ◌≤◌, ◌-◌}
+use Rattle.std.proofs.Common.{◌≡◌, ◌≢◌, ℕ, Bool, true, false, cond, not, ◌==◌, ◌&&◌, ◌||◌, List, [], ◌∷◌, ◌++◌, length, nat_le, Option, None, Some, option_map, refl, ap, sym, ◌∙◌, subst, inl, inr, arith, ◌≤◌, ◌-◌}
+use Rattle.std.specs.Prelude.{slice_index}
 use Rattle.std.specs.List.{list_all}
 use Rattle.std.proofs.lemmas.Bool.{eqb-true, leb-true}
 use Rattle.std.proofs.lemmas.Bool.Decides.{Decides-eqb}
 use Rattle.std.proofs.lemmas.Option.{same_Some}
-use Rattle.imap_stream.specs.Marks.{is_digit, all_digits}
+use Rattle.std.specs.Char.{is_ascii_digit}
+use Rattle.undo_base.specs.Digits.{is_decimal}
 use Rattle.imap_stream.specs.declared.picks.SetRange.{SetRange}
 use Rattle.imap_tokens.specs.Ranges.{SpellsEnd, SpellsRange, SpellsSet}
 use Rattle.imap_tokens.specs.Sets.{cut_at, end_in, range_of, two_in, range_by, range_in, onto_first, between_commas, ranges_in, set_in}
 use Rattle.imap_tokens.specs.Words.{upper, is_word, number_in}
 use Rattle.imap_tokens.proofs.Spelling.{and_true}
-
--- what an optional step gave
-pub record Stepped {X Y : Type 0} (o : Option X) (f : X → Option Y) (y : Y) : Type 0 where
-  pub value : X
-  pub was : o ≡ Some value
-  pub gives : f value ≡ Some y
-
-pub stepped : {X Y : Type 0} (o : Option X) (f : X → Option Y) (y : Y) → option_and_then f o ≡ Some y → Stepped o f y
-stepped None f y e = absurd (let wrong : None ≡ Some y = e in cc)
-stepped (Some x) f y e = record { value = x; was = refl; gives = e }
-
-pub record Mapped {X Y : Type 0} (o : Option X) (f : X → Y) (y : Y) : Type 0 where
-  pub value : X
-  pub was : o ≡ Some value
-  pub is : f value ≡ y
-
-pub mapped : {X Y : Type 0} (o : Option X) (f : X → Y) (y : Y) → option_map f o ≡ Some y → Mapped o f y
-mapped None f y e = absurd (let wrong : None ≡ Some y = e in cc)
-mapped (Some x) f y e = record { value = x; was = refl; is = same_Some _ _ e }
+use Rattle.imap_tokens.proofs.Steps.{stepped, mapped}
 
 -- no such byte stands among the bytes
 abbrev lacks : ℕ → List ℕ → Bool
@@ -69,24 +53,24 @@ cut_is c (b ∷ bytes) parts e = by_test (b == c) refl (cut_is c bytes)
         ap (λ l. b ∷ l) (more m.value m.was) ∙ ap (λ p. p.0 ++ c ∷ p.1) m.is
 
 -- a number is digits
-number_digits : (bytes : List ℕ) (n : ℕ) → number_in bytes ≡ Some n → list_all is_digit bytes ≡ true
-number_digits bytes n e = by_test (all_digits bytes) refl
+number_digits : (bytes : List ℕ) (n : ℕ) → number_in bytes ≡ Some n → list_all is_ascii_digit bytes ≡ true
+number_digits bytes n e = by_test (is_decimal bytes) refl
   where
-    by_test : (t : Bool) → all_digits bytes ≡ t → list_all is_digit bytes ≡ true
-    by_test true is = (and_true (not (length bytes == 0) && nat_le (length bytes) 10) (list_all is_digit bytes) is).1
+    by_test : (t : Bool) → is_decimal bytes ≡ t → list_all is_ascii_digit bytes ≡ true
+    by_test true is = (and_true (nat_le 1 (length bytes) && ((length bytes == 1) || not (slice_index bytes 0 == 48))) (list_all is_ascii_digit bytes) is).1
     by_test false is = absurd (let wrong : None ≡ Some n = rw is at e in cc)
 
-digits_lack : (c : ℕ) (bytes : List ℕ) → is_digit c ≡ false → list_all is_digit bytes ≡ true → lacks c bytes ≡ true
+digits_lack : (c : ℕ) (bytes : List ℕ) → is_ascii_digit c ≡ false → list_all is_ascii_digit bytes ≡ true → lacks c bytes ≡ true
 digits_lack c [] other e = refl
 digits_lack c (b ∷ bytes) other e =
-    let both = and_true (is_digit b) (list_all is_digit bytes) e in
+    let both = and_true (is_ascii_digit b) (list_all is_ascii_digit bytes) e in
     rw (by_test (b == c) refl both.0, digits_lack c bytes other both.1) refl
   where
-    by_test : (t : Bool) → (b == c) ≡ t → is_digit b ≡ true → (b == c) ≡ false
-    by_test true is digit = absurd (let wrong : false ≡ true = sym other ∙ ap is_digit (sym (eqb-true b c is)) ∙ digit in cc)
+    by_test : (t : Bool) → (b == c) ≡ t → is_ascii_digit b ≡ true → (b == c) ≡ false
+    by_test true is digit = absurd (let wrong : false ≡ true = sym other ∙ ap is_ascii_digit (sym (eqb-true b c is)) ∙ digit in cc)
     by_test false is digit = is
 
-end_lacks : (c : ℕ) (end : Option ℕ) (bytes : List ℕ) → is_digit c ≡ false → (42 == c) ≡ false → SpellsEnd end bytes → lacks c bytes ≡ true
+end_lacks : (c : ℕ) (end : Option ℕ) (bytes : List ℕ) → is_ascii_digit c ≡ false → (42 == c) ≡ false → SpellsEnd end bytes → lacks c bytes ≡ true
 end_lacks c None bytes digit star e = rw (e, star) refl
 end_lacks c (Some n) bytes digit star e = digits_lack c bytes digit (number_digits bytes n e)
 

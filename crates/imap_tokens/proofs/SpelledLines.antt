@@ -11,7 +11,7 @@ use Rattle.imap_tokens.specs.declared.tokens.Part.{Part}
 use Rattle.imap_tokens.specs.declared.tokens.Part.TheVariants.{Between, Word as PartWord, Quoted as PartQuoted, Escape}
 use Rattle.imap_tokens.proofs.Spelling.{read_spelled}
 use Rattle.imap_tokens.proofs.Spelt.{spelt}
-use Rattle.imap_tokens.proofs.Ranges.{stepped, mapped}
+use Rattle.imap_tokens.proofs.Steps.{stepped, mapped}
 
 -- tokens before others
 abbrev front : List Token → List Token × Part → List Token × Part

@@ -1,14 +1,14 @@
 -- Dates as they are written (RFC 3501, 9: date-time), "dd-Mon-yyyy hh:mm:ss +zzzz" without the quotes.
 use Rattle.std.specs.Prelude.{ℕ, ℤ, pos, ◌-ℤ◌, Bool, true, false, ◌+◌, ◌-◌, ◌*◌, ◌==◌, ◌&&◌, List, length, take, drop, nat_le, nat_lt, slice_index, Option, None, Some, option_map, option_and_then, if◌then◌else◌}
+use Rattle.std.specs.Char.{is_ascii_digit}
 use Rattle.jiff_core.specs.Calendar.{days_in_month}
 use Rattle.civil_dates.specs.declared.days.Day.{Day}
 use Rattle.civil_dates.specs.Days.{kept, seconds_of}
 use Rattle.civil_dates.specs.Months.{month_of}
-use Rattle.imap_stream.specs.Marks.{is_digit}
 
 -- the number that two digits spell
 abbrev pub two_digits : ℕ → ℕ → Option ℕ
-two_digits tens ones = if is_digit tens && is_digit ones then Some ((tens - 48) * 10 + (ones - 48)) else None
+two_digits tens ones = if is_ascii_digit tens && is_ascii_digit ones then Some ((tens - 48) * 10 + (ones - 48)) else None
 
 abbrev pub two_below : ℕ → ℕ → ℕ → Option ℕ
 two_below limit tens ones = option_and_then (λ n. if nat_lt n limit then Some n else None) (two_digits tens ones)

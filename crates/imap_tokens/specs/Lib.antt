@@ -1,6 +1,7 @@
 pub mod Words
 pub mod Parts
 pub mod Tokens
+pub mod Arguments
 pub mod Spelling
 pub mod Sets
 pub mod Ranges

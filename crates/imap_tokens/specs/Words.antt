@@ -1,9 +1,9 @@
 -- Words, atoms and numbers (RFC 3501, 9: atom, list-mailbox, nz-number, number).
-use Rattle.std.specs.Prelude.{ℕ, Bool, true, false, not, ◌-◌, ◌==◌, ◌&&◌, ◌||◌, List, [], ◌∷◌, length, nat_le, nat_lt, slice_index, Option, None, Some, if◌then◌else◌}
+use Rattle.std.specs.Prelude.{ℕ, Bool, true, false, not, ◌-◌, ◌==◌, ◌&&◌, ◌||◌, List, [], ◌∷◌, length, nat_le, nat_lt, Option, None, Some, if◌then◌else◌}
 use Rattle.std.specs.List.{list_all}
 use Rattle.std.specs.Char.{is_ascii_digit}
-use Rattle.undo_base.specs.Digits.{number_of}
-use Rattle.imap_stream.specs.Marks.{all_digits, value_of}
+use Rattle.undo_base.specs.Digits.{number_of, number_between}
+use Rattle.imap_stream.specs.Marks.{is_atom_byte}
 
 -- a letter as a capital
 abbrev pub upper : ℕ → ℕ
@@ -27,10 +27,6 @@ after_word [] bytes = Some bytes
 after_word (w ∷ word) [] = None
 after_word (w ∷ word) (b ∷ bytes) = if upper b == w then after_word word bytes else None
 
--- a byte of an atom: printable, and none of ( ) { % * " \
-abbrev pub is_atom_byte : ℕ → Bool
-is_atom_byte b = nat_le 33 b && nat_le b 126 && not (b == 40 || b == 41 || b == 123 || b == 37 || b == 42 || b == 34 || b == 92)
-
 abbrev pub is_atom : List ℕ → Bool
 is_atom bytes = not (length bytes == 0) && list_all is_atom_byte bytes
 
@@ -40,7 +36,7 @@ is_pattern_byte b = is_atom_byte b || b == 37 || b == 42
 
 -- a number from 1 to 4294967295, without leading zeros
 abbrev pub number_in : List ℕ → Option ℕ
-number_in bytes = if not (all_digits bytes) || slice_index bytes 0 == 48 then None else if nat_lt 4294967295 (value_of bytes) then None else Some (value_of bytes)
+number_in bytes = number_between 1 4294967295 bytes
 
 -- a number from 0 to 4294967295: one or more digits, of which the first may be zeros
 abbrev pub count_in : List ℕ → Option ℕ

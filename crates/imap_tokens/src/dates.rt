@@ -1,6 +1,5 @@
 //! Dates as they are written (RFC 3501, section 9: date-time).
 ghost use Rattle.std.specs.Prelude.{◌≡◌, ◌≤◌, ◌<◌, length, negsuc, pos, ◌≤ℤ◌, IfSome};
-ghost use Rattle.imap_stream.specs.Marks.{is_digit};
 ghost use Rattle.imap_tokens.specs.Dates.{day_number, year_number, sign_in, ahead_of, is_punctuated, day_in, clock_in, zone_in, date_in};
 ghost use Rattle.imap_tokens.specs.Dates as spec;
 
@@ -9,18 +8,12 @@ use civil_dates::{Day, moment_of, month_of};
 /// How many bytes a date has.
 const DATE_LENGTH: usize = 26;
 
-fn is_decimal(byte: u8) -> bool
-    ensures { result ≡ is_digit byte }
-{
-    48 <= byte && byte <= 57
-}
-
 /// The number that two digits spell.
 fn two_digits(tens: u8, ones: u8) -> Option<u8>
     ensures value { result ≡ spec.two_digits tens ones }
     ensures most { IfSome result (λ n. n < 100) }
 {
-    if is_decimal(tens) && is_decimal(ones) {
+    if tens.is_ascii_digit() && ones.is_ascii_digit() {
         Some((tens - b'0') * 10 + (ones - b'0'))
     } else {
         None

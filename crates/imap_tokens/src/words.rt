@@ -3,9 +3,11 @@ ghost use Rattle.std.specs.Prelude.{◌≡◌, true, min, option_map};
 ghost use Rattle.std.specs.Char.{is_ascii_digit};
 ghost use Rattle.std.specs.List.{list_all};
 ghost use Rattle.undo_base.specs.Digits.{number_of};
-ghost use Rattle.imap_tokens.specs.Words.{upper, is_word, after_word, is_atom_byte, is_atom, is_pattern_byte, number_in, count_in};
+ghost use Rattle.imap_stream.specs.Marks.{is_atom_byte};
+ghost use Rattle.imap_tokens.specs.Words.{upper, is_word, after_word, is_atom, is_pattern_byte, number_in, count_in};
 
-use imap_stream::{are_digits, number};
+use imap_stream::is_atom_char;
+use undo_base::are_digits;
 
 /// The greatest number that a command may spell.
 const MOST_NUMBER: u64 = 4294967295;
@@ -52,20 +54,6 @@ pub fn behind_word<'a>(bytes: &'a [u8], word: &[u8]) -> Option<&'a [u8]>
     }
 }
 
-fn is_atom_char(byte: u8) -> bool
-    ensures { result ≡ is_atom_byte byte }
-{
-    33 <= byte
-        && byte <= 126
-        && !(byte == b'('
-            || byte == b')'
-            || byte == b'{'
-            || byte == b'%'
-            || byte == b'*'
-            || byte == b'"'
-            || byte == b'\\')
-}
-
 fn only_atom_chars(bytes: &[u8]) -> bool
     ensures { result ≡ list_all is_atom_byte bytes.now }
 {
@@ -96,14 +84,7 @@ pub fn only_pattern_chars(bytes: &[u8]) -> bool
 pub fn read_number(bytes: &[u8]) -> Option<u32>
     ensures { result ≡ number_in bytes.now }
 {
-    if !are_digits(bytes) || bytes[0] == b'0' {
-        return None;
-    }
-    let value = number(bytes);
-    if value > MOST_NUMBER {
-        return None;
-    }
-    Some(value as u32)
+    undo_base::read_number(1, MOST_NUMBER, bytes).map(|number| number as u32)
 }
 
 /// What digits stand for, up to one more than a command may spell.
@@ -122,7 +103,7 @@ fn count_up_to(digits: &[u8]) -> u64
 pub fn read_count(bytes: &[u8]) -> Option<u32>
     ensures { result ≡ count_in bytes.now }
 {
-    if bytes.is_empty() || !undo_base::are_digits(bytes) {
+    if bytes.is_empty() || !are_digits(bytes) {
         return None;
     }
     let value = count_up_to(bytes);

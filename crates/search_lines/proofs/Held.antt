@@ -7,16 +7,17 @@ use Rattle.imap_tokens.specs.Sets.{set_in}
 use Rattle.imap_tokens.specs.Spelling.{Spaced}
 use Rattle.imap_tokens.specs.declared.tokens.Token.{Token}
 use Rattle.imap_tokens.specs.declared.tokens.Token.TheVariants.{Space, Open, Close, Word, Quoted, Literal}
-use Rattle.imap_tokens.proofs.Ranges.{Stepped, stepped, mapped}
+use Rattle.imap_tokens.proofs.Steps.{Stepped, stepped, mapped}
+use Rattle.imap_tokens.proofs.Behind.{space_sound}
 use Rattle.search_verb.specs.Asked.{Asked, Places, Not, Or, all_of}
 use Rattle.search_lines.specs.Grammar.{SpellsArgument, SpellsLeaf, SpellsPlaces, SpellsNot, SpellsOr, SpellsListed, SpellsKey}
 use Rattle.search_lines.specs.Keys.{at_end, next_key, not_in, or_in, with_key, keys_in, listed_in, key_by, known_by, opened_in, key_in}
 use Rattle.search_lines.specs.Leaves.{Found, leaf_in, places_in, range_of}
-use Rattle.search_lines.specs.Strings.{behind_space}
+use Rattle.imap_tokens.specs.Arguments.{behind_space}
 use Rattle.search_lines.specs.Words.{key_word}
 use Rattle.search_lines.specs.declared.words.KeyWord.{KeyWord}
 use Rattle.search_lines.specs.declared.words.KeyWord.TheVariants as word
-use Rattle.search_lines.proofs.Arguments.{SetLaws, Spelled, space_sound, leaf_sound, leaf_complete}
+use Rattle.search_lines.proofs.Arguments.{SetLaws, Spelled, leaf_sound, leaf_complete}
 
 -- what is read is spelled, what is spelled is read, and it has a token
 abbrev pub Sound : (List Token → Found) → (Asked → List Token → Type 0) → Type 0

@@ -7,14 +7,15 @@ use Rattle.imap_tokens.specs.Tokens.{string_of}
 use Rattle.imap_tokens.specs.Words.{is_word}
 use Rattle.imap_tokens.specs.declared.tokens.Token.{Token}
 use Rattle.imap_tokens.specs.declared.tokens.Token.TheVariants.{Space, Open, Close, Word, Quoted, Literal}
-use Rattle.imap_tokens.proofs.Ranges.{stepped, mapped}
+use Rattle.imap_tokens.proofs.Steps.{stepped, mapped}
+use Rattle.imap_tokens.proofs.Behind.{space_sound, next_sound, string_complete}
 use Rattle.search_verb.specs.Asked.{Asked, all_of}
 use Rattle.search_lines.specs.Grammar.{SpellsKey, SpellsKeys, SpellsPlain, SpellsCharset, SpellsSought}
 use Rattle.search_lines.specs.Keys.{keys_in, key_in, whole_keys}
 use Rattle.search_lines.specs.Sought.{sought, is_charset, behind_charset, charset_in, sought_by, sought_in}
-use Rattle.search_lines.specs.Strings.{behind_space, next_string}
+use Rattle.imap_tokens.specs.Arguments.{behind_space, next_string}
 use Rattle.search_lines.specs.declared.sought.Sought.{Sought}
-use Rattle.search_lines.proofs.Arguments.{SetLaws, space_sound, next_sound, string_complete}
+use Rattle.search_lines.proofs.Arguments.{SetLaws}
 use Rattle.search_lines.proofs.Held.{end_none, keys_sound, keys_complete, spaced_size, key_sound, key_has, key_complete}
 
 module _ (laws : SetLaws) where

@@ -4,7 +4,7 @@ use Rattle.std.proofs.lemmas.List.{append_assoc}
 use Rattle.imap_tokens.specs.declared.tokens.Token.{Token}
 use Rattle.search_verb.specs.Asked.{Asked}
 use Rattle.search_lines.specs.Keys.{at_end, with_key, keys_in, opened_in, key_in}
-use Rattle.search_lines.specs.Strings.{behind_space}
+use Rattle.imap_tokens.specs.Arguments.{behind_space}
 
 -- keys, and those behind them
 abbrev pub onto : List Asked → Option (List Asked × List Token) → Option (List Asked × List Token)

@@ -3,13 +3,14 @@ use Rattle.std.specs.Prelude.{ℕ, ℤ, pos, not, ◌==◌, ◌||◌, List, leng
 use Rattle.jiff_core.specs.Calendar.{days_from_civil}
 use Rattle.civil_dates.specs.declared.days.Day.{Day}
 use Rattle.civil_dates.specs.Months.{month_of}
-use Rattle.imap_stream.specs.Marks.{all_digits, value_of}
+use Rattle.undo_base.specs.Digits.{number_of}
+use Rattle.imap_stream.specs.Marks.{all_digits}
 use Rattle.imap_tokens.specs.Dates.{day_of, is_real}
 use Rattle.imap_tokens.specs.Sets.{cut_at}
 
 -- what digits spell, so many at most, if it is no more than a number
 abbrev pub up_to : ℕ → List ℕ → Option ℕ
-up_to most bytes = if nat_lt most (value_of bytes) then None else Some (value_of bytes)
+up_to most bytes = if nat_lt most (number_of bytes) then None else Some (number_of bytes)
 
 -- one digit or two
 abbrev pub day_number : List ℕ → Option ℕ

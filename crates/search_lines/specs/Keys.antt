@@ -4,7 +4,7 @@ use Rattle.imap_tokens.specs.Tokens.{is_open, is_close, word_of}
 use Rattle.imap_tokens.specs.declared.tokens.Token.{Token}
 use Rattle.search_verb.specs.Asked.{Asked, Not, Or, all_of}
 use Rattle.search_lines.specs.Leaves.{Found, leaf_in, places_in}
-use Rattle.search_lines.specs.Strings.{behind_space}
+use Rattle.imap_tokens.specs.Arguments.{behind_space}
 use Rattle.search_lines.specs.Words.{key_word}
 use Rattle.search_lines.specs.declared.words.KeyWord.{KeyWord}
 use Rattle.search_lines.specs.declared.words.KeyWord.TheVariants as word

@@ -5,7 +5,8 @@ use Rattle.imap_tokens.specs.Sets.{set_in}
 use Rattle.imap_tokens.specs.declared.tokens.Token.{Token}
 use Rattle.search_verb.specs.declared.keys.SearchRange.{SearchRange}
 use Rattle.search_verb.specs.Asked.{Asked, Every, Never, Answered, Deleted, Draft, Flagged, Seen, Places, Uids, Before, On, Since, Larger, Smaller, Field, Body, Text, Not}
-use Rattle.search_lines.specs.Strings.{behind_atom, next_string, next_word, next_day, next_count}
+use Rattle.imap_tokens.specs.Arguments.{next_string, next_word}
+use Rattle.search_lines.specs.Strings.{behind_atom, next_day, next_count}
 use Rattle.search_lines.specs.declared.words.Sign.{Sign}
 use Rattle.search_lines.specs.declared.words.Sign.TheVariants as sign
 use Rattle.search_lines.specs.declared.words.Place.{Place}

@@ -6,7 +6,7 @@ use Rattle.imap_tokens.specs.Words.{is_word}
 use Rattle.imap_tokens.specs.declared.tokens.Token.{Token}
 use Rattle.search_verb.specs.Asked.{Asked}
 use Rattle.search_lines.specs.Keys.{whole_keys}
-use Rattle.search_lines.specs.Strings.{behind_space, next_string}
+use Rattle.imap_tokens.specs.Arguments.{behind_space, next_string}
 use Rattle.search_lines.specs.declared.sought.Sought.{Sought}
 
 abbrev pub sought : Option (List ℕ) → Asked → Sought

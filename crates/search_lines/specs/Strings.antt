@@ -1,32 +1,10 @@
 -- The arguments of keys, each behind a space (RFC 3501, 9: astring, date, number).
 use Rattle.std.specs.Prelude.{ℕ, ℤ, Bool, ◌&&◌, is_some, List, [], ◌∷◌, Option, None, Some, option_map, option_and_then, if◌then◌else◌}
-use Rattle.imap_tokens.specs.Tokens.{is_space, word_of, string_of, quoted_of}
+use Rattle.imap_tokens.specs.Arguments.{behind_space, first_by, next_word}
+use Rattle.imap_tokens.specs.Tokens.{word_of, string_of, quoted_of}
 use Rattle.imap_tokens.specs.Words.{count_in}
 use Rattle.imap_tokens.specs.declared.tokens.Token.{Token}
 use Rattle.search_lines.specs.Days.{day_in}
-
--- what follows a space
-abbrev pub behind_space : List Token → Option (List Token)
-behind_space [] = None
-behind_space (token ∷ tokens) = if is_space token then Some tokens else None
-
--- the first token's part, and what follows it
-abbrev pub first_by : {X : Type 0} → (Token → Option X) → List Token → Option (X × List Token)
-first_by read [] = None
-first_by read (token ∷ tokens) = option_map (λ x. (x, tokens)) (read token)
-
-abbrev pub first_string : List Token → Option (List ℕ × List Token)
-first_string tokens = first_by string_of tokens
-
--- an astring behind a space, and what follows it
-abbrev pub next_string : List Token → Option (List ℕ × List Token)
-next_string tokens = option_and_then first_string (behind_space tokens)
-
-abbrev pub first_word : List Token → Option (List ℕ × List Token)
-first_word tokens = first_by word_of tokens
-
-abbrev pub next_word : List Token → Option (List ℕ × List Token)
-next_word tokens = option_and_then first_word (behind_space tokens)
 
 abbrev pub dated_by : Option (List ℕ) → Token → Option ℤ
 dated_by None token = option_and_then day_in (quoted_of token)

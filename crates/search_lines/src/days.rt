@@ -3,7 +3,7 @@ ghost use Rattle.std.specs.Prelude.{◌≡◌, ◌≤◌, ◌<◌, IfSome};
 ghost use Rattle.search_lines.specs.Days as spec;
 
 use civil_dates::{Day, month_of};
-use imap_stream::{are_digits, number};
+use imap_stream::{are_few_digits, number};
 use imap_tokens::find_byte;
 use jiff_core::civil::Date;
 
@@ -11,7 +11,7 @@ use jiff_core::civil::Date;
 fn read_day_number(bytes: &[u8]) -> Option<u8>
     ensures { result ≡ spec.day_number bytes.now }
 {
-    if !are_digits(bytes) || bytes.len() > 2 {
+    if !are_few_digits(bytes) || bytes.len() > 2 {
         return None;
     }
     let value = number(bytes);
@@ -26,7 +26,7 @@ fn read_year(bytes: &[u8]) -> Option<u16>
     ensures value { result ≡ spec.year_number bytes.now }
     ensures most { IfSome result (λ year. year ≤ 9999) }
 {
-    if !are_digits(bytes) || bytes.len() != 4 {
+    if !are_few_digits(bytes) || bytes.len() != 4 {
         return None;
     }
     let value = number(bytes);

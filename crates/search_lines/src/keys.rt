@@ -3,9 +3,8 @@ ghost use Rattle.std.specs.Prelude.{◌≡◌, length, option_map, IfOk};
 ghost use Rattle.search_lines.specs.Keys as spec;
 
 use crate::leaves::{read_leaf, read_places};
-use crate::strings::behind_space;
 use crate::words::{KeyWord, key_word};
-use imap_tokens::{Token, is_close_token, is_open_token, word_in};
+use imap_tokens::{Token, behind_space_token, is_close_token, is_open_token, word_in};
 use search_verb::{Search, Searches};
 use std::alloc::Global;
 use undo_base::NoMemory;
@@ -49,7 +48,7 @@ fn next_key(
 ) -> Result<Option<(Search, &[Token])>, NoMemory>
     ensures { IfOk result (λ found. option_map (λ r. (r.0, r.1.now)) found ≡ spec.next_key (spec.key_in depth) tokens.now) }
 {
-    match behind_space(tokens) {
+    match behind_space_token(tokens) {
         None => Ok(None),
         Some(rest) => read_key(alloc, depth, rest),
     }
@@ -110,7 +109,7 @@ fn read_keys(
         if let Some(after) = at_end(closed, behind) {
             return Ok(Some((keys, after)));
         }
-        let Some(more) = behind_space(behind) else {
+        let Some(more) = behind_space_token(behind) else {
             return Ok(None);
         };
         rest = more;

@@ -2,10 +2,10 @@
 ghost use Rattle.std.specs.Prelude.{◌≡◌, map, option_map, IfOk};
 ghost use Rattle.search_lines.specs.Leaves as spec;
 
-use crate::strings::{behind_atom, next_count, next_day, next_string, next_word};
+use crate::strings::{behind_atom, next_count, next_day};
 use crate::words::{KeyWord, Place, Sign, When};
 use imap_stream::{SetRange, SetText};
-use imap_tokens::{Token, read_set};
+use imap_tokens::{Token, next_string, next_word, read_set};
 use search_verb::{Search, SearchRange, SearchRanges};
 use std::alloc::{AllocError, Global};
 use undo_base::{NoMemory, Text};

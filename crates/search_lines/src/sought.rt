@@ -3,8 +3,7 @@ ghost use Rattle.std.specs.Prelude.{◌≡◌, option_map, IfOk};
 ghost use Rattle.search_lines.specs.Sought as spec;
 
 use crate::keys::read_whole;
-use crate::strings::{behind_space, next_string};
-use imap_tokens::{Token, is_same_word, word_in};
+use imap_tokens::{Token, behind_space_token, is_same_word, next_string, word_in};
 use search_verb::Search;
 use std::alloc::Global;
 use undo_base::{NoMemory, Text};
@@ -40,7 +39,7 @@ fn read_charset(tokens: &[Token]) -> Option<(&[u8], &[Token])>
     ensures { option_map (λ r. (r.0.now, r.1.now)) result ≡ spec.charset_in tokens.now }
 {
     let (name, rest) = next_string(tokens)?;
-    Some((name, behind_space(rest)?))
+    Some((name, behind_space_token(rest)?))
 }
 
 /// The keys behind the word `CHARSET`, with the charset.
@@ -74,7 +73,7 @@ fn read_plain(alloc: Global, tokens: &[Token]) -> Result<Option<Sought>, NoMemor
 pub fn read_sought(alloc: Global, tokens: &[Token]) -> Result<Option<Sought>, NoMemory>
     ensures { IfOk result (λ sought. sought ≡ spec.sought_in tokens.now) }
 {
-    let Some(rest) = behind_space(tokens) else {
+    let Some(rest) = behind_space_token(tokens) else {
         return Ok(None);
     };
     match behind_charset(rest) {

@@ -3,61 +3,9 @@ ghost use Rattle.std.specs.Prelude.{◌≡◌, option_map};
 ghost use Rattle.search_lines.specs.Strings as spec;
 
 use crate::days::read_day;
-use imap_tokens::{Token, is_space_token, quoted_in, read_count, string_in, word_in};
-
-/// What follows a space.
-pub(crate) fn behind_space(tokens: &[Token]) -> Option<&[Token]>
-    ensures { option_map (λ rest. rest.now) result ≡ spec.behind_space tokens.now }
-{
-    match tokens {
-        [] => None,
-        [first, rest @ ..] => {
-            if is_space_token(first) {
-                Some(rest)
-            } else {
-                None
-            }
-        }
-    }
-}
-
-fn first_string(tokens: &[Token]) -> Option<(&[u8], &[Token])>
-    ensures { option_map (λ r. (r.0.now, r.1.now)) result ≡ spec.first_string tokens.now }
-{
-    match tokens {
-        [] => None,
-        [first, rest @ ..] => {
-            let text = string_in(first)?;
-            Some((text, rest))
-        }
-    }
-}
-
-/// An astring, and what follows it.
-pub(crate) fn next_string(tokens: &[Token]) -> Option<(&[u8], &[Token])>
-    ensures { option_map (λ r. (r.0.now, r.1.now)) result ≡ spec.next_string tokens.now }
-{
-    first_string(behind_space(tokens)?)
-}
-
-fn first_word(tokens: &[Token]) -> Option<(&[u8], &[Token])>
-    ensures { option_map (λ r. (r.0.now, r.1.now)) result ≡ spec.first_word tokens.now }
-{
-    match tokens {
-        [] => None,
-        [first, rest @ ..] => {
-            let text = word_in(first)?;
-            Some((text, rest))
-        }
-    }
-}
-
-/// A word, and what follows it.
-pub(crate) fn next_word(tokens: &[Token]) -> Option<(&[u8], &[Token])>
-    ensures { option_map (λ r. (r.0.now, r.1.now)) result ≡ spec.next_word tokens.now }
-{
-    first_word(behind_space(tokens)?)
-}
+use imap_tokens::{
+    Token, behind_space_token, next_word, quoted_in, read_count, string_in, word_in,
+};
 
 /// A date, with its quotes or without them.
 fn dated(token: &Token) -> Option<i64>
@@ -85,7 +33,7 @@ fn first_day(tokens: &[Token]) -> Option<(i64, &[Token])>
 pub(crate) fn next_day(tokens: &[Token]) -> Option<(i64, &[Token])>
     ensures { option_map (λ r. (r.0, r.1.now)) result ≡ spec.next_day tokens.now }
 {
-    first_day(behind_space(tokens)?)
+    first_day(behind_space_token(tokens)?)
 }
 
 /// A number from 0 on, and what follows it.
@@ -116,5 +64,5 @@ fn behind_first_atom(tokens: &[Token]) -> Option<&[Token]>
 pub(crate) fn behind_atom(tokens: &[Token]) -> Option<&[Token]>
     ensures { option_map (λ rest. rest.now) result ≡ spec.behind_atom tokens.now }
 {
-    behind_first_atom(behind_space(tokens)?)
+    behind_first_atom(behind_space_token(tokens)?)
 }

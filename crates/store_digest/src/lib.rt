@@ -26,8 +26,8 @@ fn digits(alloc: Global, bytes: &[u8]) -> Result<Text, NoMemory>
     Text::of(alloc, digits.as_bytes())
 }
 
-/// The record of a store's snapshot, that so many items have made. No store in use has a snapshot without a spelling; one
-/// that had would find no memory.
+/// The record of a store's snapshot, that so many items have made. Where it has no spelling, as more mailboxes than a count of
+/// four bytes would have none, that is told as want of memory.
 pub fn snapshot_text(alloc: Global, store: &Store, items: u32) -> Result<Text, NoMemory>
     ensures text { IfOk result (λ text. text ≡ snapshot_bytes store.now.store items) }
     ensures spelled { OnOk result (HasSpelling (Snapshot items store.now.store.conf store.now.store.boxes)) }
