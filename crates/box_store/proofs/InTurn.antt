@@ -30,7 +30,7 @@ use Rattle.verb_core.specs.Store.{MailStore}
 use Rattle.verb_core.specs.Items.{actor}
 use Rattle.verb_core.specs.Aims.{sought, sought_by, aim_at}
 use Rattle.verb_core.specs.Step.{Boxes, way_of, left, renamed, after_rename, rearranged, saved, new_mail, step, shown}
-use Rattle.verb_core.specs.Live.{asker, mail_of, marked, deed_of, asked_item, is_misshapen, asks_fixed, named, targets, new_names, is_missing, is_there, is_gone, key_count, too_large, overfills, is_uid_wide, if_so, first_of, refusal, answered}
+use Rattle.verb_core.specs.Live.{asker, mail_of, marked, marked_in, deed_of, asked_item, is_misshapen, asks_fixed, named, targets, new_names, is_missing, is_there, is_gone, key_count, too_large, overfills, is_uid_wide, if_so, first_of, refusal, answered}
 use Rattle.verb_core.proofs.BoxLaws.{boxes_total, row_at-add_row, row_at-drop_row}
 use Rattle.verb_core.proofs.Validity.{has_row-change_row}
 use Rattle.box_store.specs.Refusing.{by_names, by_keys, by_room, in_turn, fills_up, uses_up, outgrows, box_outgrows}
@@ -189,7 +189,7 @@ module _ (s : MailStore) (by : Option User) where
     fills (Names pattern) ok = quiet (Names pattern) same
     fills (Status mailbox) ok = quiet (Status mailbox) same
     fills (Select mailbox) ok = quiet (Select mailbox) same
-    fills (Expunge mailbox) ok = quiet (Expunge mailbox) (changed (box_of (asker by) mailbox) (with_entries (expunged (marked (mail_of s by mailbox)))))
+    fills (Expunge mailbox only) ok = quiet (Expunge mailbox only) (changed (box_of (asker by) mailbox) (with_entries (expunged (marked_in only (mail_of s by mailbox)))))
     fills (Close mailbox removes) ok = quiet (Close mailbox removes) (changed (box_of (asker by) mailbox) (with_entries (expunged (cond removes (marked (mail_of s by mailbox)) []))))
     fills (Create mailbox) ok =
         let free : has_row (box_of (asker by) mailbox) s.boxes ≡ false = one_there (has_row (box_of (asker by) mailbox) s.boxes) ok.free in

@@ -38,7 +38,7 @@ pub(crate) fn named(ask: &Ask) -> Option<&Name>
         Ask::Copy { mailbox, .. } => Some(mailbox),
         Ask::Status { mailbox } => Some(mailbox),
         Ask::Select { mailbox } => Some(mailbox),
-        Ask::Expunge { mailbox } => Some(mailbox),
+        Ask::Expunge { mailbox, .. } => Some(mailbox),
         Ask::Close { mailbox, .. } => Some(mailbox),
         Ask::Rename { mailbox, .. } => Some(mailbox),
         Ask::Delete { mailbox } => Some(mailbox),

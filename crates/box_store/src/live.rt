@@ -4,11 +4,11 @@ ghost use Rattle.verb_core.specs.declared.item.Deed.TheVariants as deeds;
 ghost use Rattle.verb_core.specs.Mailboxes.{keys_of};
 ghost use Rattle.verb_core.specs.Store.{is_house};
 ghost use Rattle.verb_core.specs.Step.{shown};
-ghost use Rattle.verb_core.specs.Live.{mail_of, marked, deed_of, asked_item, answered, asker, first_of};
+ghost use Rattle.verb_core.specs.Live.{mail_of, marked, marked_in, deed_of, asked_item, answered, asker, first_of};
 ghost use Rattle.box_store.specs.Refusing.{IsDue, by_names, by_keys, by_room, in_turn};
 
 use crate::Store;
-use crate::refusals::{mail_of, marked, refused_by_keys, refused_by_names};
+use crate::refusals::{mail_of, marked, marked_in, refused_by_keys, refused_by_names};
 use crate::room::refused_by_room;
 use mail_rows::shown::shown_by;
 use std::alloc::{AllocError, Global};
@@ -70,16 +70,17 @@ fn why_not(
     }
 }
 
-/// EXPUNGE of the messages that have `\Deleted` now (RFC 3501, section 6.4.3).
+/// EXPUNGE of the messages that have `\Deleted` now (RFC 3501, section 6.4.3), or of those of them that are in `only`.
 fn expunge_of(
     alloc: Global,
     store: &Store,
     by: Option<User>,
     mailbox: Name,
+    only: Option<Keys>,
 ) -> Result<Deed, NoMemory>
-    ensures { IfOk result (λ deed. deed ≡ deeds.Expunge mailbox (marked (mail_of store.now.store by mailbox))) }
+    ensures { IfOk result (λ deed. deed ≡ deeds.Expunge mailbox (marked_in only (mail_of store.now.store by mailbox))) }
 {
-    let keys = marked(alloc, mail_of(store, by, &mailbox))?;
+    let keys = marked_in(alloc, mail_of(store, by, &mailbox), only.as_ref())?;
     Ok(Deed::Expunge { mailbox, keys })
 }
 
@@ -193,7 +194,7 @@ fn deed_of(
         Ask::List { pattern } => Ok(Deed::List { pattern }),
         Ask::Status { mailbox } => Ok(Deed::Status { mailbox }),
         Ask::Select { mailbox } => Ok(Deed::Select { mailbox }),
-        Ask::Expunge { mailbox } => expunge_of(alloc, store, by, mailbox),
+        Ask::Expunge { mailbox, only } => expunge_of(alloc, store, by, mailbox, only),
         Ask::Close { mailbox, removes } => close_of(alloc, store, by, mailbox, removes),
         Ask::Create { mailbox } => Ok(Deed::Create { mailbox }),
         Ask::Rename { mailbox, target } => Ok(Deed::Rename { mailbox, target }),

@@ -2,12 +2,12 @@
 ghost use Rattle.std.specs.Prelude.{◌≡◌, ◌&&◌, [], IfOk, option_copied, length, count_by, map, filter, if◌then◌else◌};
 ghost use Rattle.std.specs.List.{cons_option};
 ghost use Rattle.verb_core.specs.Boxes.{box_of, has_row};
-ghost use Rattle.verb_core.specs.Live.{asker, mail_of, marked, lacks, is_missing, is_there, is_gone, key_count};
+ghost use Rattle.verb_core.specs.Live.{asker, mail_of, marked, marked_in, lacks, is_missing, is_there, is_gone, key_count};
 ghost use Rattle.box_store.specs.Refusing.{by_names, by_keys};
 
 use crate::Store;
 use crate::asked::{asks_fixed, is_misshapen, named, new_name, target, too_large};
-use mail_rows::sights::there_of;
+use mail_rows::sights::{marked_among, there_of};
 use std::alloc::{AllocError, Global};
 use undo_base::{Key, Keys, MOST_KEYS, Name, NoMemory, User};
 use verb_core::{Ask, EntriesView, Entry, Refused, who_acts};
@@ -95,6 +95,20 @@ pub(crate) fn marked(alloc: Global, entries: &[Entry]) -> Result<Keys, NoMemory>
     Ok(Keys::from_vec(marked_keys(alloc, entries)?))
 }
 
+/// The keys of the entries that an EXPUNGE removes: of all that have `\Deleted`, or of those of them that are in `only`.
+pub(crate) fn marked_in(
+    alloc: Global,
+    entries: &[Entry],
+    only: Option<&Keys>,
+) -> Result<Keys, NoMemory>
+    ensures { IfOk result (λ keys. keys ≡ marked_in (option_copied only.entry) entries.now) }
+{
+    match only {
+        None => marked(alloc, entries),
+        Some(only) => marked_among(alloc, entries, only.as_slice()),
+    }
+}
+
 /// How many entries have `\Deleted`.
 fn count_marked(entries: &[Entry]) -> usize
     ensures { result ≡ count_by (λ e. e.flags.deleted) entries.now }
@@ -102,25 +116,37 @@ fn count_marked(entries: &[Entry]) -> usize
     entries.iter().filter(|entry| entry.flags.deleted).count()
 }
 
-/// How many keys the item would hold.
+/// How many entries an EXPUNGE removes.
 #[tactic(auto, using(crate::proofs::KeysThere::length_marked))]
-fn key_count(store: &Store, by: Option<User>, ask: &Ask) -> usize
-    ensures { result ≡ key_count store.now.store by ask.now }
+fn expunge_count(alloc: Global, entries: &[Entry], only: Option<&Keys>) -> Result<usize, NoMemory>
+    ensures { IfOk result (λ count. count ≡ length (marked_in (option_copied only.entry) entries.now)) }
+{
+    match only {
+        None => Ok(count_marked(entries)),
+        Some(only) => Ok(marked_among(alloc, entries, only.as_slice())?.len()),
+    }
+}
+
+/// How many keys the item would hold.
+fn key_count(alloc: Global, store: &Store, by: Option<User>, ask: &Ask) -> Result<usize, NoMemory>
+    ensures { IfOk result (λ count. count ≡ key_count store.now.store by ask.now) }
 {
     match ask {
-        Ask::Fetch { keys, .. } => keys.len(),
-        Ask::Store { keys, .. } => keys.len(),
-        Ask::Copy { keys, .. } => keys.len(),
-        Ask::Expunge { mailbox } => count_marked(mail_of(store, by, mailbox)),
-        Ask::Close { mailbox, removes } => close_count(*removes, mail_of(store, by, mailbox)),
-        Ask::Delete { mailbox } => mail_of(store, by, mailbox).len(),
-        Ask::Deliver { .. } => 0,
-        Ask::Append { .. } => 0,
-        Ask::List { .. } => 0,
-        Ask::Status { .. } => 0,
-        Ask::Select { .. } => 0,
-        Ask::Create { .. } => 0,
-        Ask::Rename { .. } => 0,
+        Ask::Fetch { keys, .. } => Ok(keys.len()),
+        Ask::Store { keys, .. } => Ok(keys.len()),
+        Ask::Copy { keys, .. } => Ok(keys.len()),
+        Ask::Expunge { mailbox, only } => {
+            expunge_count(alloc, mail_of(store, by, mailbox), only.as_ref())
+        }
+        Ask::Close { mailbox, removes } => Ok(close_count(*removes, mail_of(store, by, mailbox))),
+        Ask::Delete { mailbox } => Ok(mail_of(store, by, mailbox).len()),
+        Ask::Deliver { .. } => Ok(0),
+        Ask::Append { .. } => Ok(0),
+        Ask::List { .. } => Ok(0),
+        Ask::Status { .. } => Ok(0),
+        Ask::Select { .. } => Ok(0),
+        Ask::Create { .. } => Ok(0),
+        Ask::Rename { .. } => Ok(0),
     }
 }
 
@@ -204,7 +230,7 @@ pub(crate) fn refused_by_keys(
     if is_gone(alloc, store, by, ask)? {
         return Ok(Some(Refused::Gone));
     }
-    let count = key_count(store, by, ask);
+    let count = key_count(alloc, store, by, ask)?;
     if count > MOST_KEYS {
         return Ok(Some(Refused::TooMany {
             asked: count as u64,

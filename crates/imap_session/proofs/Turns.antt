@@ -116,7 +116,7 @@ module _ (house : House) (s : MailStore) (d : Dialog) (sound : IsSound d) (free 
 
   fine_expunge : (tag : List ℕ) (selected : Option Selected) → (is_some selected ≡ true → is_some d.user ≡ true) → IsFine house s d (expunge tag d selected)
   fine_expunge tag None user = fine_say _
-  fine_expunge tag (Some selected) user = fine_if selected.writes (asks (ask.Expunge selected.mailbox) tag (on.Follow word.Expunge) d) (says tag ReadOnly d) (fine_asks _ tag _ refl (user refl)) (fine_say _)
+  fine_expunge tag (Some selected) user = fine_if selected.writes (asks (ask.Expunge selected.mailbox None) tag (on.Follow word.Expunge) d) (says tag ReadOnly d) (fine_asks _ tag _ refl (user refl)) (fine_say _)
 
   fine_begin : (tag : List ℕ) (f : Fetching) (bodies : List Body) → is_some d.user ≡ true → ((test : Body → Bool) → holds_all test s.boxes ≡ true → list_all test bodies ≡ true)
       → IsFine house s d (begin_fetch tag d f bodies)

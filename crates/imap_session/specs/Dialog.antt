@@ -201,7 +201,7 @@ close tag d (Some selected) = asks (ask.Close selected.mailbox selected.writes) 
 abbrev pub expunge : List ℕ → Dialog → Option Selected → Took
 expunge tag d None = says tag WrongState d
 expunge tag d (Some selected) =
-    if selected.writes then asks (ask.Expunge selected.mailbox) tag (on.Follow word.Expunge) d else says tag ReadOnly d
+    if selected.writes then asks (ask.Expunge selected.mailbox None) tag (on.Follow word.Expunge) d else says tag ReadOnly d
 
 -- a FETCH of messages at these places of the view
 abbrev pub fetching : MailStore → (Body → Option ℕ) → Dialog → Selected → List Attribute → Bool → List ℕ → Fetching

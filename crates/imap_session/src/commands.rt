@@ -209,7 +209,7 @@ pub(crate) fn select(
 
 /// Asks that the mailbox's messages with `\Deleted` go.
 fn submit_expunge(dialog: &mut Dialog, tag: Name, mailbox: Name) -> ImapOut
-    ensures { spec.asks (Ask.Expunge mailbox) tag (Pending.Follow Word.Expunge) dialog.old ≡ took result dialog.new }
+    ensures { spec.asks (Ask.Expunge mailbox None) tag (Pending.Follow Word.Expunge) dialog.old ≡ took result dialog.new }
 {
     dialog.awaits = Awaits::Outcome {
         tag,
@@ -217,7 +217,10 @@ fn submit_expunge(dialog: &mut Dialog, tag: Name, mailbox: Name) -> ImapOut
             word: Word::Expunge,
         },
     };
-    ImapOut::Submit(Ask::Expunge { mailbox })
+    ImapOut::Submit(Ask::Expunge {
+        mailbox,
+        only: None,
+    })
 }
 
 /// EXPUNGE.

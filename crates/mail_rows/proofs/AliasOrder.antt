@@ -12,14 +12,14 @@ use Rattle.verb_core.specs.declared.conf.Conf.{Conf}
 use Rattle.verb_core.specs.Step.{with_alias}
 use Rattle.mail_rows.specs.declared.conf_change.ConfChange.{ConfChange}
 use Rattle.mail_rows.specs.declared.conf_change.ConfChange.TheVariants.{SetAlias, DropAlias, SetFilter, DropFilter, Nothing}
-use Rattle.mail_rows.specs.Confs.{Rises, changed, stands_before, stands_here}
+use Rattle.mail_rows.specs.Confs.{RiseBy, Rises, changed, stands_before, stands_here}
 use Rattle.mail_rows.proofs.ConfLaws.{front, length-front}
 
 -- how two local parts lie
-abbrev lie : List ℕ → List ℕ → Ordering
+abbrev pub lie : List ℕ → List ℕ → Ordering
 lie = slice_cmp nat_cmp
 
-turned : (a b : List ℕ) (o : Ordering) → lie a b ≡ o → lie b a ≡ ordering_reverse o
+pub turned : (a b : List ℕ) (o : Ordering) → lie a b ≡ o → lie b a ≡ ordering_reverse o
 turned a b o e = nat_list_cmp_total.antisymm b a ∙ ap ordering_reverse e
 
 greater_of : (o : Ordering) → true ≡ is_gt o → o ≡ Greater
@@ -31,17 +31,25 @@ greater_of Greater h = refl
 below_of : (a b : List ℕ) → true ≡ is_gt (lie b a) → lie a b ≡ Less
 below_of a b h = turned b a Greater (greater_of (lie b a) h)
 
+-- each of these lies above a name
+abbrev pub AboveBy : {X : Type 0} → (X → List ℕ) → List ℕ → List X → Type 0
+AboveBy name low = AllByRecursion (λ x. lie low (name x) ≡ Less)
+
 abbrev Above : List ℕ → List Alias → Type 0
-Above local = AllByRecursion (λ (b : Alias). lie local b.local ≡ Less)
+Above = AboveBy (λ (a : Alias). a.local)
+
+module _ {X : Type 0} (name : X → List ℕ) where
+  pub still_above : (a b : List ℕ) (more : List X) → lie a b ≡ Less → AboveBy name b more → AboveBy name a more
+  still_above a b [] less all = tt
+  still_above a b (x ∷ more) less all = (nat_list_cmp_total.trans a b (name x) less all.0, still_above a b more less all.1)
+
+  above_at : (a : List ℕ) (more : List X) (j : ℕ) (d : X) → j < length more → AboveBy name a more → lie a (name (get_or more j d)) ≡ Less
+  above_at a [] j d lt all = absurd (omega (arith, lt))
+  above_at a (x ∷ more) zero d lt all = all.0
+  above_at a (x ∷ more) (suc j) d lt all = above_at a more j d (omega (arith, lt)) all.1
 
 above_more : (a b : List ℕ) (more : List Alias) → lie a b ≡ Less → Above b more → Above a more
-above_more a b [] less all = tt
-above_more a b (c ∷ more) less all = (nat_list_cmp_total.trans a b c.local less all.0, above_more a b more less all.1)
-
-above_at : (a : List ℕ) (more : List Alias) (j : ℕ) (d : Alias) → j < length more → Above a more → lie a (get_or more j d).local ≡ Less
-above_at a [] j d lt all = absurd (omega (arith, lt))
-above_at a (b ∷ more) zero d lt all = all.0
-above_at a (b ∷ more) (suc j) d lt all = above_at a more j d (omega (arith, lt)) all.1
+above_more = still_above (λ (x : Alias). x.local)
 
 -- ---- aliases of which each stands before the next
 
@@ -58,24 +66,24 @@ rises (a ∷ b ∷ more) next =
 
 -- ---- places by halves
 
-pub parted : (local : List ℕ) (all : List Alias) → Rises all → IsPartitionedBy (stands_before local) all
-parted local [] rise i j d le lt before = absurd (omega (arith, lt))
-parted local (a ∷ more) rise zero zero d le lt before = before
-parted local (a ∷ more) rise zero (suc j) d le lt before =
-    let less : lie (get_or more j d).local local ≡ Less = turned local (get_or more j d).local Greater (greater_of (lie local (get_or more j d).local) (sym before)) in
-    ap is_gt (turned a.local local Less (nat_list_cmp_total.trans a.local (get_or more j d).local local (above_at a.local more j d (omega (arith, lt)) rise.0) less))
-parted local (a ∷ more) rise (suc i) zero d le lt before = absurd (omega (arith, le))
-parted local (a ∷ more) rise (suc i) (suc j) d le lt before = parted local more rise.1 i j d (omega (arith, le)) (omega (arith, lt)) before
+pub parted : {X : Type 0} (name : X → List ℕ) (id : List ℕ) (all : List X) → RiseBy name all → IsPartitionedBy (λ x. is_gt (lie id (name x))) all
+parted name id [] rise i j d le lt before = absurd (omega (arith, lt))
+parted name id (x ∷ more) rise zero zero d le lt before = before
+parted name id (x ∷ more) rise zero (suc j) d le lt before =
+    let less : lie (name (get_or more j d)) id ≡ Less = turned id (name (get_or more j d)) Greater (greater_of (lie id (name (get_or more j d))) (sym before)) in
+    ap is_gt (turned (name x) id Less (nat_list_cmp_total.trans (name x) (name (get_or more j d)) id (above_at name (name x) more j d (omega (arith, lt)) rise.0) less))
+parted name id (x ∷ more) rise (suc i) zero d le lt before = absurd (omega (arith, le))
+parted name id (x ∷ more) rise (suc i) (suc j) d le lt before = parted name id more rise.1 i j d (omega (arith, le)) (omega (arith, lt)) before
 
-counted : (p : Alias → Bool) (all : List Alias) (n : ℕ) → n ≤ length all → IsPartitionPoint (λ a. p a ≡ true) (λ a. p a ≡ false) all n → n ≡ front p all
+counted : {X : Type 0} (p : X → Bool) (all : List X) (n : ℕ) → n ≤ length all → IsPartitionPoint (λ x. p x ≡ true) (λ x. p x ≡ false) all n → n ≡ front p all
 counted p [] zero le at = refl
 counted p [] (suc n) le at = absurd (omega (arith, le))
-counted p (a ∷ more) zero le at = sym (ap {B = ℕ} (λ b. cond b (suc (front p more)) 0) (at.1 0 a (omega arith) (omega arith)))
-counted p (a ∷ more) (suc n) le at =
+counted p (x ∷ more) zero le at = sym (ap {B = ℕ} (λ b. cond b (suc (front p more)) 0) (at.1 0 x (omega arith) (omega arith)))
+counted p (x ∷ more) (suc n) le at =
     ap suc (counted p more n (omega (arith, le)) ((λ k d low high. at.0 (suc k) d (omega arith) (omega (arith, high))), (λ k d low high. at.1 (suc k) d (omega (arith, low)) (omega (arith, high)))))
-    ∙ sym (ap {B = ℕ} (λ b. cond b (suc (front p more)) 0) (at.0 0 a (omega arith) (omega arith)))
+    ∙ sym (ap {B = ℕ} (λ b. cond b (suc (front p more)) 0) (at.0 0 x (omega arith) (omega arith)))
 
-pub place_counted : (p : Alias → Bool) (all : List Alias) (n : ℕ) → n ≤ length all → IsPartitionPoint (λ a. p a ≡ true) (λ a. p a ≡ false) all n → n ≡ length (take_while p all)
+pub place_counted : {X : Type 0} (p : X → Bool) (all : List X) (n : ℕ) → n ≤ length all → IsPartitionPoint (λ x. p x ≡ true) (λ x. p x ≡ false) all n → n ≡ length (take_while p all)
 place_counted p all n le at = counted p all n le at ∙ sym (length-front p all)
 
 -- ---- what is set or dropped goes on rising

@@ -25,7 +25,7 @@ length-front p (x ∷ xs) =
     ap length (take_while-cons p x xs)
     ∙ elim (p x) as (λ b. length (cond b (x ∷ take_while p xs) []) ≡ cond b (suc (front p xs)) 0) [ true ↦ ap suc (length-front p xs) | false ↦ refl ]
 
-front_within : {X : Type 0} (p : X → Bool) (xs : List X) → front p xs ≤ length xs
+pub front_within : {X : Type 0} (p : X → Bool) (xs : List X) → front p xs ≤ length xs
 front_within p [] = omega arith
 front_within p (x ∷ xs) =
     let rest : front p xs ≤ length xs = front_within p xs in

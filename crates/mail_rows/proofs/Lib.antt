@@ -10,4 +10,5 @@ mod Reached
 mod Needles
 mod ConfLaws
 mod AliasOrder
+mod FilterOrder
 mod UserNames

@@ -3,8 +3,9 @@ ghost use Rattle.std.specs.Prelude.{◌≡◌, ◌≤◌, ◌<◌, [], true, not
 ghost use Rattle.verb_core.specs.Step.{in_order, with_alias as alias_set, with_filter as filter_set, conf_after};
 ghost use Rattle.verb_core.specs.declared.item.Deed.TheVariants.{Act as Acts};
 ghost use Rattle.mail_rows.specs.declared.conf_change.ConfChange.TheVariants as changes;
-ghost use Rattle.mail_rows.specs.Confs.{Rises, changed, has_other_id, stands_before, stands_here};
+ghost use Rattle.mail_rows.specs.Confs.{IsOrder, Rises, changed, has_other_id, stands_before, stands_here};
 
+use crate::filter_order::{drop_ordered, ordered_place};
 use crate::mail::move_over;
 use crate::reach::recipients;
 use std::alloc::Global;
@@ -215,8 +216,8 @@ fn is_other(id: &Name, filter: &Filter) -> bool
     id.bytes() != filter.id.bytes()
 }
 
-/// How many filters stand before the one of that name.
-fn filter_place(filters: &[Filter], id: &Name) -> usize
+/// How many filters stand before the one of that name, whatever the order has.
+fn walked_filter_place(filters: &[Filter], id: &Name) -> usize
     ensures { result ≡ length (take_while (has_other_id id.now) filters.now) }
 {
     filters
@@ -225,11 +226,24 @@ fn filter_place(filters: &[Filter], id: &Name) -> usize
         .count()
 }
 
-fn set_filter_in(list: &mut Vec<Filter>, filter: Filter)
-    requires { vec_len list.old < vec_capacity list.old }
+/// How many filters stand before the one of that name.
+fn filter_place(filters: &[Filter], order: &[u32], id: &Name) -> usize
+    requires { IsOrder order.now filters.now }
+    ensures { result ≡ length (take_while (has_other_id id.now) filters.now) }
+{
+    if order.len() == filters.len() {
+        ordered_place(order, filters, id.bytes())
+    } else {
+        walked_filter_place(filters, id)
+    }
+}
+
+fn set_filter_in(list: &mut Vec<Filter>, order: &[u32], filter: Filter)
+    requires order { IsOrder order.now list.old.items }
+    requires room { vec_len list.old < vec_capacity list.old }
     ensures { list.new.items ≡ filter_set filter list.old.items }
 {
-    let place = filter_place(list.as_slice(), &filter.id);
+    let place = filter_place(list.as_slice(), order, &filter.id);
     if place < list.len() {
         list[place] = filter;
     } else {
@@ -237,8 +251,14 @@ fn set_filter_in(list: &mut Vec<Filter>, filter: Filter)
     }
 }
 
-/// Sets a filter. The spare list has room for all.
-pub(crate) fn set_filter(filters: &mut Filters, spare: &mut Vec<Filter>, filter: Filter)
+/// Sets a filter. The spare list has room for all. Where the order has all filters, its place is found by halves.
+pub(crate) fn set_filter(
+    filters: &mut Filters,
+    spare: &mut Vec<Filter>,
+    order: &[u32],
+    filter: Filter,
+)
+    requires order { IsOrder order.now filters.old }
     requires empty { spare.old.items ≡ [] }
     requires room { length filters.old < vec_capacity spare.old }
     ensures filters { filters.new ≡ filter_set filter filters.old }
@@ -248,16 +268,40 @@ pub(crate) fn set_filter(filters: &mut Filters, spare: &mut Vec<Filter>, filter:
     let list = mem::replace(filters, Filters::new(alloc)).into_vec();
     let free = mem::replace(spare, Vec::new(alloc));
     let (mut list, free) = with_room(list, free);
-    set_filter_in(&mut list, filter);
+    set_filter_in(&mut list, order, filter);
     *filters = Filters::from_vec(list);
     *spare = free;
 }
 
-/// The filters of a name go.
-pub(crate) fn drop_filter(alloc: Global, filters: &mut Filters, id: &Name)
-    ensures { filters.new ≡ filter (has_other_id id.now) filters.old }
+/// The filters of a name go, and no order is left.
+fn drop_walked(list: &mut Vec<Filter>, order: &mut Vec<u32>, id: &Name)
+    ensures list { list.new.items ≡ filter (has_other_id id.now) list.old.items }
+    ensures order { order.new.items ≡ [] }
+{
+    list.retain(|filter| is_other(id, filter));
+    order.clear();
+}
+
+#[tactic(auto, using(crate::proofs::FilterOrder::none_ordered))]
+fn drop_filter_in(list: &mut Vec<Filter>, order: &mut Vec<u32>, id: &Name)
+    requires { IsOrder order.old.items list.old.items }
+    ensures list { list.new.items ≡ filter (has_other_id id.now) list.old.items }
+    ensures order { IsOrder order.new.items list.new.items }
+{
+    if order.len() == list.len() {
+        drop_ordered(list, order, id.bytes());
+    } else {
+        drop_walked(list, order, id);
+    }
+}
+
+/// The filters of a name go. Where the order has all filters, the one is found by halves.
+pub(crate) fn drop_filter(alloc: Global, filters: &mut Filters, order: &mut Vec<u32>, id: &Name)
+    requires { IsOrder order.old.items filters.old }
+    ensures filters { filters.new ≡ filter (has_other_id id.now) filters.old }
+    ensures order { IsOrder order.new.items filters.new }
 {
     let mut list = mem::replace(filters, Filters::new(alloc)).into_vec();
-    list.retain(|filter| is_other(id, filter));
+    drop_filter_in(&mut list, order, id);
     *filters = Filters::from_vec(list);
 }

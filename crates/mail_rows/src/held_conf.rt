@@ -2,11 +2,12 @@
 ghost use Rattle.std.specs.Prelude.{◌≡◌, ◌<◌, [], None, Some, true, IfOk, OnOk, length, unwrap_or, vec_capacity};
 ghost use Rattle.verb_core.specs.declared.item.Deed.TheVariants.{Act as Acts};
 ghost use Rattle.verb_core.specs.Step.{conf_after};
-ghost use Rattle.mail_rows.specs.Confs.{Rises, changed, IsRoomy};
+ghost use Rattle.mail_rows.specs.Confs.{IsOrder, Rises, changed, IsRoomy};
 
 use crate::conf_change::{
     ConfChange, conf_change, do_rise, drop_alias, drop_filter, set_alias, set_filter,
 };
+use crate::filter_order::note_all;
 use std::alloc::Global;
 use std::marker::Model;
 use undo_base::NoMemory;
@@ -16,12 +17,14 @@ use verb_core::{Act, Alias, Conf, Filter, House};
 const MOST_HELD: usize = 4_294_967_295;
 
 /// The configuration in force; whether its aliases' local parts are known to rise, as those of a configuration's text do,
-/// so that one is found by halves; what is to change in it, and empty lists that have room for all, where the configuration's
-/// own have none left.
+/// so that one is found by halves; the places of its first filters by rising name, all of them once a change of filters is
+/// ready, unless two have one name; what is to change in it, and empty lists that have room for all, where the
+/// configuration's own have none left.
 #[derive(Drop)]
 pub struct HeldConf {
     conf: Conf,
     rising: bool,
+    order: Vec<u32>,
     ready: Option<ConfChange>,
     aliases: Vec<Alias>,
     filters: Vec<Filter>,
@@ -29,13 +32,13 @@ pub struct HeldConf {
 
 impl Model for HeldConf {
     ghost use Rattle.std.specs.Prelude.{◌≡◌, [], true, option_map, vec_capacity};
-    ghost use Rattle.mail_rows.specs.Confs.{Held, Rises, changed, IsRoomy};
+    ghost use Rattle.mail_rows.specs.Confs.{Held, IsOrder, Rises, changed, IsRoomy};
 
     ghost Value = { Held };
 
     ghost view = { λ s. record { conf = s.conf; ready = option_map (λ change. changed change s.conf) s.ready } };
 
-    ghost invariant = { λ s. (s.rising ≡ true → Rises s.conf.aliases) × (s.aliases.items ≡ []) × (s.filters.items ≡ []) × IsRoomy s.ready s.conf (vec_capacity s.aliases) (vec_capacity s.filters) };
+    ghost invariant = { λ s. (s.rising ≡ true → Rises s.conf.aliases) × IsOrder s.order.items s.conf.filters × (s.aliases.items ≡ []) × (s.filters.items ≡ []) × IsRoomy s.ready s.conf (vec_capacity s.aliases) (vec_capacity s.filters) };
 }
 
 /// Makes an empty list larger than so many items, and then twice as large as it must be.
@@ -77,36 +80,56 @@ fn make_room(
     }
 }
 
+/// Takes into the order the filters that it lacks, where a change needs it.
+fn make_order(order: &mut Vec<u32>, conf: &Conf, change: &ConfChange) -> Result<(), NoMemory>
+    requires { IsOrder order.old.items conf.now.filters }
+    ensures { IsOrder order.new.items conf.now.filters }
+{
+    match change {
+        ConfChange::SetFilter(_) => note_all(order, conf.filters.as_slice()),
+        ConfChange::DropFilter(_) => note_all(order, conf.filters.as_slice()),
+        ConfChange::SetAlias(_) => Ok(()),
+        ConfChange::DropAlias(_) => Ok(()),
+        ConfChange::Nothing => Ok(()),
+    }
+}
+
 /// Puts a change into a configuration. There is room for it.
 #[tactic(auto, using(crate::proofs::AliasOrder::rises_with, crate::proofs::AliasOrder::rises_filter))]
 fn put_change(
     alloc: Global,
     conf: &mut Conf,
     rising: bool,
+    order: &mut Vec<u32>,
     aliases: &mut Vec<Alias>,
     filters: &mut Vec<Filter>,
     change: ConfChange,
 )
     requires rising { rising ≡ true → Rises conf.old.aliases }
+    requires order { IsOrder order.old.items conf.old.filters }
     requires aliases { aliases.old.items ≡ [] }
     requires filters { filters.old.items ≡ [] }
     requires room { IsRoomy (Some change) conf.old (vec_capacity aliases.old) (vec_capacity filters.old) }
     ensures conf { conf.new ≡ changed change conf.old }
     ensures rising { rising ≡ true → Rises conf.new.aliases }
+    ensures order { IsOrder order.new.items conf.new.filters }
     ensures aliases { aliases.new.items ≡ [] }
     ensures filters { filters.new.items ≡ [] }
 {
     match change {
         ConfChange::SetAlias(alias) => set_alias(&mut conf.aliases, aliases, alias, rising),
         ConfChange::DropAlias(local) => drop_alias(alloc, &mut conf.aliases, &local, rising),
-        ConfChange::SetFilter(filter) => set_filter(&mut conf.filters, filters, filter),
-        ConfChange::DropFilter(id) => drop_filter(alloc, &mut conf.filters, &id),
+        ConfChange::SetFilter(filter) => {
+            set_filter(&mut conf.filters, filters, order.as_slice(), filter)
+        }
+        ConfChange::DropFilter(id) => drop_filter(alloc, &mut conf.filters, order, &id),
         ConfChange::Nothing => {}
     }
 }
 
 impl HeldConf {
     /// A configuration for which nothing is ready.
+    #[tactic(auto, using(crate::proofs::FilterOrder::none_ordered))]
     pub fn new(alloc: Global, conf: Conf) -> HeldConf
         ensures { result ≡ record { conf = conf; ready = None } }
     {
@@ -114,6 +137,7 @@ impl HeldConf {
         HeldConf {
             conf,
             rising,
+            order: Vec::new(alloc),
             ready: None,
             aliases: Vec::new(alloc),
             filters: Vec::new(alloc),
@@ -134,6 +158,7 @@ impl HeldConf {
     {
         let change = conf_change(alloc, house, act)?;
         self.ready = None;
+        make_order(&mut self.order, &self.conf, &change)?;
         make_room(
             alloc,
             &self.conf,
@@ -155,6 +180,7 @@ impl HeldConf {
                 alloc,
                 &mut self.conf,
                 self.rising,
+                &mut self.order,
                 &mut self.aliases,
                 &mut self.filters,
                 change,

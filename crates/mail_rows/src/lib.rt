@@ -4,7 +4,8 @@
 //! makes the first rows. `mail` is what comes to a mailbox, changes and goes; `change` is what is to come and to change,
 //! `new_mail` and `flags` say which of it an item brings. `sights` and `shown` are what a user is shown, with entries
 //! looked up by `key_set`, `key_index` and `places`; `pattern` has the names of LIST. `reach` and `aims` find where an item's mail
-//! goes, `held_conf` holds the configuration, and `conf_change` makes what an act changes in it.
+//! goes, `held_conf` holds the configuration, `conf_change` makes what an act changes in it, and `filter_order` finds its
+//! filters by halves.
 //! What carries the crate: `shown_by` is what the model shows, `reach_of` is `sought`, `HeldConf` is changed as the model's
 //! configuration is.
 #![tactic(auto)]
@@ -12,6 +13,7 @@
 pub mod aims;
 mod change;
 mod conf_change;
+mod filter_order;
 pub mod flags;
 mod held_conf;
 mod key_index;

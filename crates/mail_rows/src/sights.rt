@@ -1,5 +1,5 @@
 //! Entries and keys as deeds show them.
-ghost use Rattle.std.specs.Prelude.{◌≡◌, ◌++◌, ◌∷◌, [], not, IfOk, OnOk, Option, option_map, is_some, filter, filter_map, if◌then◌else◌};
+ghost use Rattle.std.specs.Prelude.{◌≡◌, ◌&&◌, ◌++◌, ◌∷◌, [], not, IfOk, OnOk, Option, option_map, is_some, filter, filter_map, if◌then◌else◌};
 ghost use Rattle.std.specs.List.{cons_option};
 ghost use Rattle.verb_core.specs.declared.mailbox.Entry.{Entry as TheEntry};
 ghost use Rattle.verb_core.specs.Mailboxes.{expunged, is_among, keys_of, sights, there, without};
@@ -104,4 +104,26 @@ pub(crate) fn others_of(alloc: Global, entries: &[Entry], keys: &[Key]) -> Resul
         push_other(&mut others, &keys, entry)?;
     }
     Ok(others)
+}
+
+/// Adds the entry's key, where it has `\Deleted` and is one of the keys.
+fn push_marked(marked: &mut Keys, only: &KeySet, entry: &Entry) -> Result<(), NoMemory>
+    ensures { OnOk result (marked.new ≡ marked.old ++ (if entry.now.flags.deleted && is_among only.now entry.now.key then entry.now.key ∷ [] else [])) }
+{
+    if entry.flags.deleted && only.contains(entry.key) {
+        marked.push(entry.key)?;
+    }
+    Ok(())
+}
+
+/// The keys of the entries that have `\Deleted` and are among the keys.
+pub fn marked_among(alloc: Global, entries: &[Entry], only: &[Key]) -> Result<Keys, NoMemory>
+    ensures { IfOk result (λ keys. keys ≡ keys_of (filter (λ e. e.flags.deleted && is_among only.now e.key) entries.now)) }
+{
+    let only = KeySet::of(alloc, only)?;
+    let mut marked = Keys::new(alloc);
+    for entry in entries {
+        push_marked(&mut marked, &only, entry)?;
+    }
+    Ok(marked)
 }

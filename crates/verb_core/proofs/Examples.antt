@@ -191,8 +191,12 @@ asks number a = live one_message number 1105092000 (Some ann) a
 a_fetch_by_number_of_a_gone_message : live (run start (send 2 (codes "ann" ∷ []) (codes "x") ∷ own 3 ann (Store inbox (key 2 ∷ []) Add deleted_flag) ∷ own 4 ann (Expunge inbox (key 2 ∷ [])) ∷ [])) 5 1105092000 (Some ann) (ask.Fetch inbox (key 2 ∷ []) false false true 0) ≡ Err Gone
 a_fetch_by_number_of_a_gone_message = refl
 
-an_expunge_records_the_marked : live (run start (send 2 (codes "ann" ∷ []) (codes "x") ∷ own 3 ann (Store inbox (key 2 ∷ []) Add deleted_flag) ∷ [])) 4 1105092000 (Some ann) (ask.Expunge inbox) ≡ Ok (record (own 4 ann (Expunge inbox (key 2 ∷ []))) { shown = Left [] })
+an_expunge_records_the_marked : live (run start (send 2 (codes "ann" ∷ []) (codes "x") ∷ own 3 ann (Store inbox (key 2 ∷ []) Add deleted_flag) ∷ [])) 4 1105092000 (Some ann) (ask.Expunge inbox None) ≡ Ok (record (own 4 ann (Expunge inbox (key 2 ∷ []))) { shown = Left [] })
 an_expunge_records_the_marked = refl
+
+-- of three messages, of which the first and the last are marked, an EXPUNGE of no others than the two last records the last alone
+an_expunge_of_some_leaves_the_others : live (run start (send 2 (codes "ann" ∷ []) (codes "x") ∷ send 3 (codes "ann" ∷ []) (codes "y") ∷ send 4 (codes "ann" ∷ []) (codes "z") ∷ own 5 ann (Store inbox (key 2 ∷ key 4 ∷ []) Add deleted_flag) ∷ [])) 6 1105092000 (Some ann) (ask.Expunge inbox (Some (key 3 ∷ key 4 ∷ []))) ≡ Ok (record (own 6 ann (Expunge inbox (key 4 ∷ []))) { shown = Left [] })
+an_expunge_of_some_leaves_the_others = refl
 
 inbox_is_renamed : asks 3 (ask.Rename inbox (codes "Old")) ≡ Ok (record (own 3 ann (Rename inbox (codes "Old"))) { shown = Went Plain })
 inbox_is_renamed = refl

@@ -1,7 +1,7 @@
 //! What users ask of the store, and why it is refused.
 use undo_base::{Flags, How, Keys, Name, Names, Text};
 
-/// What is asked of the store. `strict` is true where the messages were named by sequence number.
+/// What is asked of the store. `strict` is true where the messages were named by sequence number. An EXPUNGE with `only` removes no others than these.
 #[derive(Debug, Drop, PartialEq, Eq)]
 pub enum Ask {
     Deliver {
@@ -47,6 +47,7 @@ pub enum Ask {
     },
     Expunge {
         mailbox: Name,
+        only: Option<Keys>,
     },
     Close {
         mailbox: Name,
