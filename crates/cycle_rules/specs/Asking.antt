@@ -1,9 +1,9 @@
 -- What becomes of a request for a cycle.
-use Rattle.std.specs.Prelude.{ℕ, [], ◌∷◌, ◌++◌, Option, Some, None, if◌then◌else◌}
+use Rattle.std.specs.Prelude.{ℕ, Option, Some, None, if◌then◌else◌}
 use Rattle.verb_bytes.specs.declared.journal.CycleAsk.{CycleAsk}
 use Rattle.paradox.specs.declared.reports.Report.{Report}
 use Rattle.verb_core.specs.Step.{run}
-use Rattle.store_kept.specs.Kept.{Kept, report_of, rewound}
+use Rattle.store_kept.specs.Kept.{Kept, report_of, rewound, with_report}
 use Rattle.repair_desk.specs.Repairs.{position}
 use Rattle.cycle_rules.specs.Cycles.{Cycled, cycled_at, leaves_numbers}
 
@@ -43,14 +43,14 @@ due_by (Some report) due = Repeats report
 abbrev pub cycle_due : Kept → ℕ → CycleAsk → Due
 cycle_due s at ask = due_by (report_of s.reports ask.key) (due_anew s at ask)
 
--- what is kept after the cycle: the store that its timeline leads to, its report as the last, under the key of the request, and
--- no snapshot behind its point
+-- what is kept after the cycle: the store that its timeline leads to, its report under the key of the request, and no snapshot
+-- behind its point
 abbrev pub after_cycle : Kept → CycleAsk → Cycled → Kept
 after_cycle s ask due = record s {
   store = run s.base due.timeline;
   timeline = due.timeline;
   stamps = due.stamps;
   next = due.next;
-  reports = s.reports ++ (ask.key, due.report) ∷ [];
+  reports = with_report ask.key due.report s.reports;
   marks = rewound due.place due.entered s.marks;
 }

@@ -2,6 +2,7 @@
 -- shown now, and each user whose answers no longer hold gets a notice.
 use Rattle.std.specs.Prelude.{ℕ, ◌+◌, Bool, ◌==◌, nat_le, List, [], ◌∷◌, ◌++◌, drop, filter, length, None}
 use Rattle.undo_base.specs.declared.keys.User.{User}
+use Rattle.undo_base.specs.declared.limits.TheConstants.{LAST_NUMBER}
 use Rattle.verb_bytes.specs.declared.journal.CycleAsk.{CycleAsk}
 use Rattle.verb_core.specs.declared.item.Deed.TheVariants.{Notice}
 use Rattle.verb_core.specs.declared.item.Item.{Item}
@@ -108,4 +109,4 @@ cycled_at s at ask place = record {
 
 -- whether numbers are left for the cycle, its acts and a notice to each user
 abbrev pub leaves_numbers : Kept → CycleAsk → Bool
-leaves_numbers s ask = nat_le (s.next + 1 + length ask.inserts + length s.house.accounts) 4194303
+leaves_numbers s ask = nat_le (s.next + 1 + length ask.inserts + length s.house.accounts) LAST_NUMBER

@@ -1,5 +1,6 @@
 pub mod Beginnings
 pub mod Payloads
+pub mod Looking
 pub mod Staying
 pub mod Telling
 pub mod EachText

@@ -71,7 +71,7 @@ none_read old new gate reads =
 
 -- ---- one after the other
 
-write_failed_later : (old mid new : DiskTold) → mid.failed_writes ≡ old.failed_writes → mid.is_reliable ≡ old.is_reliable → WriteFailed mid new → WriteFailed old new
+pub write_failed_later : (old mid new : DiskTold) → mid.failed_writes ≡ old.failed_writes → mid.is_reliable ≡ old.is_reliable → WriteFailed mid new → WriteFailed old new
 write_failed_later old mid new writes reliable (rose, few, last, may_fail) =
     (subst (λ (n : ℕ). Rose n new.failed_writes) writes rose, subst (λ (n : ℕ). new.failed_writes ≤ n + 1) writes few, last, sym reliable ∙ may_fail)
 

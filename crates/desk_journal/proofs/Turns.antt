@@ -1,5 +1,5 @@
 -- What turns that read texts leave.
-use Rattle.std.proofs.Common.{◌≡◌, ◌≤◌, ◌+◌, ℕ, zero, suc, List, true, false, Bool, arith, refl, sym, subst, ◌∙◌, add-zero, zero-add}
+use Rattle.std.proofs.Common.{◌≡◌, ◌+◌, ℕ, zero, suc, List, true, false, Bool, arith, refl, sym, subst, ◌∙◌, add-zero, zero-add}
 use Rattle.undo_outside.specs.Disk.{DiskTold, ReadFailed}
 use Rattle.verb_bytes.specs.declared.journal.JournalRecord.{JournalRecord}
 use Rattle.desk_journal.specs.Lasting.{Lasting}

@@ -1,6 +1,6 @@
 -- What becomes of a disk on which a journal is to be made.
 use Rattle.std.specs.Prelude.{◌≡◌, ◌≢◌, ◌⊎◌, ◌<◌, ℕ, false, List, [], ◌∷◌, ◌++◌, Some, Result, Ok, Err}
-use Rattle.undo_outside.specs.Disk.{DiskTold, IsLook, ReadFailed, WriteFailed}
+use Rattle.undo_outside.specs.Disk.{DiskTold, IsLook, ReadFailed, WriteFailed, WriteStarved}
 use Rattle.verb_core.specs.declared.conf.Conf.{Conf}
 use Rattle.verb_core.specs.declared.conf.House.{House}
 use Rattle.verb_bytes.specs.declared.journal.JournalRecord.TheVariants.{Format}
@@ -19,6 +19,14 @@ use Rattle.desk_journal.specs.Records.{payloads_of, state}
 abbrev pub SameFaults : DiskTold → DiskTold → Type 0
 SameFaults old new = SameCounts old new × (new.is_reliable ≡ old.is_reliable)
 
+-- each write found memory
+abbrev pub Fed : DiskTold → DiskTold → Type 0
+Fed old new = new.starved ≡ old.starved
+
+-- no memory was found: the disk was only looked at; or the last write that was made found none, and no other
+abbrev pub FindsNone : DiskTold → DiskTold → Type 0
+FindsNone old new = (IsLook old new × Fed old new) ⊎ WriteStarved old new
+
 -- The disk was empty. It has one record and the gates around it, and the record leaves what is kept.
 pub record IsMade (house : House) (conf : Conf) (old new : DiskTold) (kept : Kept) (gate : ℕ) : Type 0 where
   pub empty : old.size ≡ 0
@@ -26,22 +34,23 @@ pub record IsMade (house : House) (conf : Conf) (old new : DiskTold) (kept : Kep
   pub written : old.honest → new.content ≡ 85 ∷ (frame (record_bytes (Format house conf)) ++ 0 ∷ [])
   pub settled : old.honest → IsSettled new gate (payloads_of (Format house conf ∷ []))
   pub faults : SameFaults old new
+  pub fed : Fed old new
 
--- what is made, with its last gate; or the disk is not empty, and it is as it was; or a call failed; or an empty disk found
--- no memory
+-- what is made, with its last gate; or the disk is not empty, and it is as it was; or a call failed; or no memory was found
+-- for an empty disk
 abbrev pub Makes : House → Conf → DiskTold → DiskTold → Result (Kept × ℕ) MakeFault → Type 0
 Makes house conf old new (Ok made) = IsMade house conf old new made.0 made.1
-Makes house conf old new (Err NotEmpty) = (old.size ≢ 0) × IsLook old new × SameFaults old new
-Makes house conf old new (Err Disk) = (ReadFailed old new × IsLook old new) ⊎ ((old.size ≡ 0) × WriteFailed old new)
-Makes house conf old new (Err NoMemory) = (old.size ≡ 0) × SameFaults old new
+Makes house conf old new (Err NotEmpty) = (old.size ≢ 0) × IsLook old new × (SameFaults old new × Fed old new)
+Makes house conf old new (Err Disk) = ((ReadFailed old new × IsLook old new) ⊎ ((old.size ≡ 0) × WriteFailed old new)) × Fed old new
+Makes house conf old new (Err NoMemory) = (old.size ≡ 0) × SameFaults old new × FindsNone old new
 
 -- ---- its parts
 
 -- a look at the length: whether it is 0, or the call failed
 abbrev pub LooksEmpty : DiskTold → DiskTold → Result (Unit {0}) MakeFault → Type 0
-LooksEmpty old new (Ok x) = (old.size ≡ 0) × IsLook old new × SameFaults old new
-LooksEmpty old new (Err NotEmpty) = (old.size ≢ 0) × IsLook old new × SameFaults old new
-LooksEmpty old new (Err Disk) = ReadFailed old new × IsLook old new
+LooksEmpty old new (Ok x) = (old.size ≡ 0) × IsLook old new × (SameFaults old new × Fed old new)
+LooksEmpty old new (Err NotEmpty) = (old.size ≢ 0) × IsLook old new × (SameFaults old new × Fed old new)
+LooksEmpty old new (Err Disk) = (ReadFailed old new × IsLook old new) × Fed old new
 LooksEmpty old new (Err NoMemory) = ⊥
 
 -- formatted with a first payload
@@ -50,11 +59,12 @@ pub record IsBegun (head : List ℕ) (old new : DiskTold) (log : Log) : Type 0 w
   pub written : old.honest → new.content ≡ 85 ∷ (frame head ++ 0 ∷ [])
   pub settled : old.honest → IsSettled new (last_gate log) (head ∷ [])
   pub faults : SameFaults old new
+  pub fed : Fed old new
   pub within : last_gate log < new.size
 
 -- an empty disk, formatted with a first payload, with its last gate; or a call failed; or it found no memory
 abbrev pub Begins : List ℕ → DiskTold → DiskTold → Result Log MakeFault → Type 0
 Begins head old new (Ok log) = IsBegun head old new log
 Begins head old new (Err NotEmpty) = ⊥
-Begins head old new (Err Disk) = WriteFailed old new
-Begins head old new (Err NoMemory) = SameFaults old new
+Begins head old new (Err Disk) = WriteFailed old new × Fed old new
+Begins head old new (Err NoMemory) = SameFaults old new × FindsNone old new

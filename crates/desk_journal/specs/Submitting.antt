@@ -10,6 +10,7 @@ use Rattle.verb_core.specs.declared.item.Item.{Item}
 use Rattle.verb_bytes.specs.declared.journal.JournalRecord.{JournalRecord}
 use Rattle.verb_bytes.specs.declared.journal.JournalRecord.TheVariants.{Verb, Operator}
 use Rattle.box_store.specs.Refusing.{IsRefusal}
+use Rattle.seal_log.specs.Causes.{SealWants}
 use Rattle.seal_log.specs.declared.fault.SealFault.{SealFault}
 use Rattle.seal_log.specs.declared.fault.SealFault.TheVariants as log_faults
 use Rattle.desk_journal.specs.declared.fault.ActFault.{ActFault}
@@ -47,7 +48,7 @@ WritesNone (Err Disk) old new = Unit {0}
 WritesNone (Err Closed) old new = Unit {0}
 
 -- what a call made of a payload that it was to seal behind a journal: it was sealed; or a write or a sync failed, and the journal
--- is closed; or no memory was found. It reads nothing.
+-- is closed; or no memory was found. It reads nothing, and after a write that found no memory it makes none.
 pub record SealsBytes {D X : Type 0} (told : D → DiskTold) (bytes : List ℕ) (old new : JournalTold D) (result : Result X SealFault) : Type 0 where
   pub ok : OnOk result (SealsPayloads (bytes ∷ []) [] (told old.disk) (told new.disk) old.gate new.gate)
   pub failed : IsErrOf result log_faults.Disk → SealsPayloads [] (bytes ∷ []) (told old.disk) (told new.disk) old.gate new.gate
@@ -60,6 +61,7 @@ pub record SealsBytes {D X : Type 0} (told : D → DiskTold) (bytes : List ℕ) 
   pub err : OnErr result (new.gate ≡ old.gate)
   pub held : (payloads : List (List ℕ)) → IsSettled (told old.disk) old.gate payloads → Holds (told new.disk) payloads
   pub reads : (told new.disk).failed_reads ≡ (told old.disk).failed_reads
+  pub wants : SealWants told old.disk new.disk result
 
 module _ {D : Type 0} (told : D → DiskTold) where
   -- nothing was sealed, and nothing is lost

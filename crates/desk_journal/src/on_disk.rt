@@ -1,5 +1,6 @@
 //! The journal on a disk.
 ghost use Rattle.std.specs.Prelude.{◌≡◌, ◌<◌, ◌+◌, ℕ, List, [], ◌∷◌, true, false, length, OnOk, OnErr, IsErrOf};
+ghost use Rattle.seal_log.specs.Causes.{SealWants};
 ghost use Rattle.seal_log.specs.Log.{last_gate};
 ghost use Rattle.seal_log.specs.Settled.{Holds, IsSettled};
 ghost use Rattle.desk_journal.specs.Sealing.{SealsPayloads};
@@ -46,6 +47,7 @@ fn seal_payload<D: Disk>(
     ensures no_memory { IsErrOf result SealFault.NoMemory
         → SealsPayloads [] [] (D.told disk.old) (D.told disk.new) (last_gate log.old) (last_gate log.new) }
     ensures reads { (D.told disk.new).failed_reads ≡ (D.told disk.old).failed_reads }
+    ensures wants { SealWants D.told disk.old disk.new result }
     ensures not_closed { IsErrOf result SealFault.Closed → ⊥ }
     ensures still_open { OnOk result (log.new.closed ≡ false) }
     ensures open_again { IsErrOf result SealFault.NoMemory → log.new.closed ≡ false }
@@ -105,6 +107,7 @@ impl<D: Disk> Journal<D> {
         ensures no_memory { IsErrOf result SealFault.NoMemory
             → SealsPayloads [] [] (D.told self.old.disk) (D.told self.new.disk) self.old.gate self.new.gate }
         ensures reads { (D.told self.new.disk).failed_reads ≡ (D.told self.old.disk).failed_reads }
+        ensures wants { SealWants D.told self.old.disk self.new.disk result }
         ensures not_closed { IsErrOf result SealFault.Closed → ⊥ }
         ensures still_open { OnOk result (self.new.closed ≡ false) }
         ensures open_again { IsErrOf result SealFault.NoMemory → self.new.closed ≡ false }

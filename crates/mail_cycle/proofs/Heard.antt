@@ -1,115 +1,24 @@
 -- Items as they were read: what they do, and what they have as before.
-use Rattle.std.proofs.Common.{◌≡◌, ℕ, zero, suc, ◌+◌, ◌-◌, ◌<◌, ◌==◌, Ok, Err, OnOk, Result, eqb-true, get_or, slice_get, slice_set, take, Bool, cond, true, false, true≢false, Option, Some, option_and_then, option_map, arith, refl, sym, ◌∙◌, ap, ap₂, subst, List, [], ◌∷◌, ◌++◌, drop, length}
+use Rattle.std.proofs.Common.{◌≡◌, ℕ, zero, suc, ◌+◌, ◌-◌, ◌<◌, ◌==◌, eqb-true, get_or, slice_get, slice_set, take, Bool, cond, true, false, Option, Some, option_and_then, option_map, arith, refl, sym, ◌∙◌, ap, ap₂, subst, List, [], ◌∷◌, ◌++◌, drop, length}
 use Rattle.std.specs.List.{AllByRecursion}
 use Rattle.std.proofs.lemmas.List.{drop-drop, length-take-le}
-use Rattle.verb_core.specs.declared.conf.House.{House}
 use Rattle.verb_core.specs.declared.item.Deed.{Deed}
 use Rattle.verb_core.specs.declared.item.Deed.TheVariants.{Deliver, Append, Fetch, Store, Copy, List as Names, Status, Select, Expunge, Close, Create, Rename, Delete, Act as Acts, Notice}
 use Rattle.verb_core.specs.declared.item.Item.{Item}
 use Rattle.verb_core.specs.declared.item.Shown.{Shown}
-use Rattle.verb_core.specs.Deeds.{with_text}
-use Rattle.verb_core.specs.Items.{IsWellFormed, text_in}
 use Rattle.verb_core.specs.Step.{answers, run, step}
-use Rattle.verb_core.specs.Store.{IsValid, MailStore}
-use Rattle.verb_core.proofs.Joins.{answers_joined, run_joined}
-use Rattle.stored_items.specs.Stored.{AllHeard, IsHeard, needs_text, step_text, stored, stored_deed, whole}
-use Rattle.stored_items.proofs.Alike.{does_with_any, does_with_text, formed_heard as one_formed, mailbox as mailbox_stored}
+use Rattle.verb_core.specs.Store.{MailStore}
+use Rattle.verb_core.proofs.Joins.{answers_joined}
+use Rattle.stored_items.specs.Stored.{AllHeard, IsHeard, stored, stored_deed}
+use Rattle.stored_items.proofs.Alike.{mailbox as mailbox_stored}
 use Rattle.stored_items.proofs.Heard.{handed_on, heard_longer}
 use Rattle.undo_base.specs.declared.keys.User.{User}
-use Rattle.undo_base.specs.declared.memory.NoMemory.{NoMemory}
 use Rattle.paradox.specs.Answers.{amiss, broken, looks_at_texts}
 use Rattle.paradox.specs.Words.{told_of, verb_of}
 use Rattle.paradox.specs.declared.words.Reason.{Reason}
 use Rattle.paradox.specs.declared.words.Verb.{Verb}
 use Rattle.verb_core.specs.declared.item.Act.TheVariants.{SetAlias, DropAlias, SetFilter, DropFilter, Remove, Give}
-use Rattle.replay_crew.specs.Hearing.{heard_as}
-
--- ---- one item
-
--- a delivery's text is not kept
-anew : (text : List ℕ) (d : Deed) → needs_text d ≡ true → stored_deed (with_text text d) ≡ stored_deed d
-anew text (Deliver from to old) needs = refl
-anew text (Append mailbox flags moment old) needs = absurd (true≢false (sym needs))
-anew text (Fetch mailbox keys sets_seen shows_body) needs = absurd (true≢false (sym needs))
-anew text (Store mailbox keys how flags) needs = absurd (true≢false (sym needs))
-anew text (Copy mailbox keys target) needs = absurd (true≢false (sym needs))
-anew text (Names pattern) needs = absurd (true≢false (sym needs))
-anew text (Status mailbox) needs = absurd (true≢false (sym needs))
-anew text (Select mailbox) needs = absurd (true≢false (sym needs))
-anew text (Expunge mailbox keys) needs = absurd (true≢false (sym needs))
-anew text (Close mailbox keys) needs = absurd (true≢false (sym needs))
-anew text (Create mailbox) needs = absurd (true≢false (sym needs))
-anew text (Rename mailbox target) needs = absurd (true≢false (sym needs))
-anew text (Delete mailbox keys) needs = absurd (true≢false (sym needs))
-anew text (Acts act) needs = absurd (true≢false (sym needs))
-anew text (Notice user old) needs = absurd (true≢false (sym needs))
-
--- a delivery with another text goes where that text leads
-redone : (s : MailStore) (i : Item) (text : List ℕ) (d : Deed) → needs_text d ≡ true → step_text s (record i { deed = d }) text ≡ step s (record i { deed = with_text text d })
-redone s i text (Deliver from to old) needs = refl
-redone s i text (Append mailbox flags moment old) needs = absurd (true≢false (sym needs))
-redone s i text (Fetch mailbox keys sets_seen shows_body) needs = absurd (true≢false (sym needs))
-redone s i text (Store mailbox keys how flags) needs = absurd (true≢false (sym needs))
-redone s i text (Copy mailbox keys target) needs = absurd (true≢false (sym needs))
-redone s i text (Names pattern) needs = absurd (true≢false (sym needs))
-redone s i text (Status mailbox) needs = absurd (true≢false (sym needs))
-redone s i text (Select mailbox) needs = absurd (true≢false (sym needs))
-redone s i text (Expunge mailbox keys) needs = absurd (true≢false (sym needs))
-redone s i text (Close mailbox keys) needs = absurd (true≢false (sym needs))
-redone s i text (Create mailbox) needs = absurd (true≢false (sym needs))
-redone s i text (Rename mailbox target) needs = absurd (true≢false (sym needs))
-redone s i text (Delete mailbox keys) needs = absurd (true≢false (sym needs))
-redone s i text (Acts act) needs = absurd (true≢false (sym needs))
-redone s i text (Notice user old) needs = absurd (true≢false (sym needs))
-
--- a deed with its own text is that deed
-with_own : (text : List ℕ) (d : Deed) → needs_text d ≡ true → text_in d ≡ Some text → with_text text d ≡ d
-with_own text (Deliver from to old) needs is = let same : text ≡ old = cc in ap (λ (t : List ℕ). Deliver from to t) same
-with_own text (Append mailbox flags moment old) needs is = absurd (true≢false (sym needs))
-with_own text (Fetch mailbox keys sets_seen shows_body) needs is = absurd (true≢false (sym needs))
-with_own text (Store mailbox keys how flags) needs is = absurd (true≢false (sym needs))
-with_own text (Copy mailbox keys target) needs is = absurd (true≢false (sym needs))
-with_own text (Names pattern) needs is = absurd (true≢false (sym needs))
-with_own text (Status mailbox) needs is = absurd (true≢false (sym needs))
-with_own text (Select mailbox) needs is = absurd (true≢false (sym needs))
-with_own text (Expunge mailbox keys) needs is = absurd (true≢false (sym needs))
-with_own text (Close mailbox keys) needs is = absurd (true≢false (sym needs))
-with_own text (Create mailbox) needs is = absurd (true≢false (sym needs))
-with_own text (Rename mailbox target) needs is = absurd (true≢false (sym needs))
-with_own text (Delete mailbox keys) needs is = absurd (true≢false (sym needs))
-with_own text (Acts act) needs is = absurd (true≢false (sym needs))
-with_own text (Notice user old) needs is = absurd (true≢false (sym needs))
-
-pub is_heard : (i : Item) (text : List ℕ) → IsHeard i (heard_as i text)
-is_heard i text = by (needs_text i.deed) refl
-  where
-    by : (b : Bool) → needs_text i.deed ≡ b → IsHeard i (cond b (whole i text) i)
-    by true needs = record { stored_is = ap (λ (d : Deed). record i { deed = d }) (anew text i.deed needs); same = λ none. absurd (true≢false (sym needs ∙ none)) }
-    by false none = record { stored_is = refl; same = λ _. refl }
-
--- performing an item as it is kept, with a text beside it, does what the item does with that text
-pub step_heard : (s : MailStore) (i : Item) (text : List ℕ) → step_text s (stored i) text ≡ step s (heard_as i text)
-step_heard s i text = does_with_text s i text ∙ by (needs_text i.deed) refl
-  where
-    by : (b : Bool) → needs_text i.deed ≡ b → step_text s i text ≡ step s (cond b (whole i text) i)
-    by true needs = redone s i text i.deed needs
-    by false none = does_with_any s i text none
-
--- what it leaves is valid
-pub valid_heard : ((s : MailStore) (i : Item) → IsValid s → IsWellFormed s.house i → IsValid (step s i).0) → (s after : MailStore) (i lent : Item) (text : List ℕ) (r : Result Shown NoMemory)
-    → IsValid s → IsWellFormed s.house i → lent ≡ stored i → OnOk r (after ≡ (step_text s lent text).0) → OnOk r (IsValid after)
-valid_heard law s after i lent text (Err e) valid formed lends is = tt
-valid_heard law s after i lent text (Ok shown) valid formed lends is =
-    subst IsValid (sym (is ∙ ap (λ (j : Item). (step_text s j text).0) lends ∙ ap (λ (r : MailStore × Shown). r.0) (step_heard s i text)))
-    (law s (heard_as i text) valid (one_formed s.house i (heard_as i text) (is_heard i text) formed))
-
--- an item with its own text is that item
-pub heard_own : (i : Item) (text : List ℕ) → (needs_text i.deed ≡ true → text_in i.deed ≡ Some text) → heard_as i text ≡ i
-heard_own i text is = by (needs_text i.deed) refl
-  where
-    by : (b : Bool) → needs_text i.deed ≡ b → cond b (whole i text) i ≡ i
-    by true needs = ap (λ (d : Deed). record i { deed = d }) (with_own text i.deed needs (is needs))
-    by false none = refl
+use Rattle.replay_crew.proofs.Heard.{all_at, drop_set, get_behind, get_within, run_more, take_next, take_set}
 
 -- ---- items in order
 
@@ -119,13 +28,7 @@ numbers_heard P = handed_on (λ (i : Item). P i.number) (λ i h is p. subst P (a
 pub revs_heard : (P : ℕ → Type 0) (items heard : List Item) → AllHeard items heard → AllByRecursion (λ (i : Item). P i.rev) items → AllByRecursion (λ (i : Item). P i.rev) heard
 revs_heard P = handed_on (λ (i : Item). P i.rev) (λ i h is p. subst P (ap (λ (j : Item). j.rev) (sym is.stored_is)) p)
 
-pub formed_heard : (house : House) (items heard : List Item) → AllHeard items heard → AllByRecursion (IsWellFormed house) items → AllByRecursion (IsWellFormed house) heard
-formed_heard house = handed_on (IsWellFormed house) (one_formed house)
-
 -- ---- items performed one after the other
-
-pub run_more : (base s : MailStore) (t : List Item) (i : Item) → s ≡ run base t → (step s i).0 ≡ run base (t ++ i ∷ [])
-run_more base s t i is = ap (λ (m : MailStore). (step m i).0) is ∙ sym (run_joined base t (i ∷ []))
 
 none_left : {X : Type 0} (n : ℕ) (xs : List X) → xs ≡ [] → drop n xs ≡ []
 none_left zero xs none = none
@@ -142,41 +45,7 @@ drop_last {X} (suc front) left [] x is = none_left front [] refl ∙ by (left ==
     by false differs = refl
 drop_last (suc front) left (y ∷ xs) x is = drop_last front left xs x (omega arith)
 
--- ---- one more of a list, whose last is put in the place of another
-
-take_set : {X : Type 0} (k n : ℕ) (xs : List X) (x : X) → n ≡ k + 1 → k < length xs → take n (slice_set xs k x) ≡ take k xs ++ x ∷ []
-take_set k n [] x is lt = absurd (omega arith)
-take_set k zero (y ∷ xs) x is lt = absurd (omega arith)
-take_set zero (suc n) (y ∷ xs) x is lt = let none : n ≡ 0 = omega arith in ap (λ (m : ℕ). x ∷ take m xs) none
-take_set (suc k) (suc n) (y ∷ xs) x is lt = ap (λ (rest : List _). y ∷ rest) (take_set k n xs x (omega arith) (omega arith))
-
-drop_set : {X : Type 0} (k n : ℕ) (xs : List X) (x : X) → n ≡ k + 1 → drop n (slice_set xs k x) ≡ drop n xs
-drop_set k n [] x is = refl
-drop_set k zero (y ∷ xs) x is = absurd (omega arith)
-drop_set zero (suc n) (y ∷ xs) x is = refl
-drop_set (suc k) (suc n) (y ∷ xs) x is = drop_set k n xs x (omega arith)
-
-take_next : {X : Type 0} (k n : ℕ) (xs : List X) (x : X) → n ≡ k + 1 → slice_get xs k ≡ Some x → take n xs ≡ take k xs ++ x ∷ []
-take_next k n [] x is got = cc
-take_next k zero (y ∷ xs) x is got = absurd (omega arith)
-take_next zero (suc n) (y ∷ xs) x is got = let none : n ≡ 0 = omega arith in let same : y ≡ x = cc in ap₂ (λ (z : _) (m : ℕ). z ∷ take m xs) same none
-take_next (suc k) (suc n) (y ∷ xs) x is got = ap (λ (rest : List _). y ∷ rest) (take_next k n xs x (omega arith) got)
-
--- what stands at a place of a list that is the same from there
-get_behind : {X : Type 0} (k : ℕ) (xs : List X) → slice_get (drop k xs) 0 ≡ slice_get xs k
-get_behind zero xs = refl
-get_behind (suc k) [] = refl
-get_behind (suc k) (x ∷ xs) = get_behind k xs
-
-get_within : {X : Type 0} (k : ℕ) (xs : List X) (x : X) → k < length xs → slice_get xs k ≡ Some (get_or xs k x)
-get_within k [] x lt = absurd (omega arith)
-get_within zero (y ∷ xs) x lt = refl
-get_within (suc k) (y ∷ xs) x lt = get_within k xs x (omega arith)
-
-all_at : (P : Item → Type 0) (k : ℕ) (xs : List Item) (x : Item) → slice_get xs k ≡ Some x → AllByRecursion P xs → P x
-all_at P k [] x got all = cc
-all_at P zero (y ∷ xs) x got all = let same : y ≡ x = cc in subst P same all.0
-all_at P (suc k) (y ∷ xs) x got all = all_at P k xs x got all.1
+-- ---- one more of a list
 
 length_answers : (base : MailStore) (t : List Item) → length (answers base t) ≡ length t
 length_answers base [] = refl

@@ -38,7 +38,8 @@ use Rattle.store_kept.specs.Bases.{HasBase}
 use Rattle.store_kept.specs.Kept.{Kept, store_of}
 use Rattle.stored_items.specs.Stored.{AllHeard}
 use Rattle.stored_items.proofs.Heard.{apart_heard}
-use Rattle.mail_cycle.proofs.Heard.{formed_heard, numbers_heard, revs_heard}
+use Rattle.replay_crew.proofs.Heard.{formed_heard}
+use Rattle.mail_cycle.proofs.Heard.{numbers_heard, revs_heard}
 use Rattle.mail_cycle.proofs.Cycled.{few_told, length_acts, length_map, length_shown, told_formed}
 
 -- ---- answers

@@ -1,23 +1,10 @@
 -- What is told of the texts of items.
-use Rattle.std.proofs.Common.{◌∙◌, ℕ, zero, suc, ◌≤◌, arith, Bool, Option, ap, List, [], ◌∷◌, take, drop}
+use Rattle.std.proofs.Common.{ℕ, zero, suc, ◌≤◌, arith, List, [], ◌∷◌, take, drop}
 use Rattle.std.specs.List.{AllByRecursion}
 use Rattle.verb_core.specs.declared.item.Item.{Item}
-use Rattle.verb_core.specs.declared.mailbox.Body.{Body}
 use Rattle.verb_core.specs.Texts.{BodiesTold, StaysTold}
-use Rattle.replay_crew.specs.Hearing.{HoldsOf, StoresOf, TellsAll, body_of}
-
--- ---- while texts are read
-
-pub stays_on : (a b c : BodiesTold) → StaysTold a b → StaysTold b c → StaysTold a c
-stays_on a b c one two = record { holds = two.holds ∙ one.holds; texts = two.texts ∙ one.texts; honest = λ is. two.honest (one.honest is) }
-
-pub holds_on : (old new : BodiesTold) (i : Item) → StaysTold old new → HoldsOf old i → HoldsOf new i
-holds_on old new i stays holds needs = ap (λ (holds : Body → Bool). holds (body_of i)) stays.holds ∙ holds needs
-
-pub stores_on : (old new : BodiesTold) (i : Item) → StaysTold old new → StoresOf old i → StoresOf new i
-stores_on old new i stays stores needs = ap (λ (texts : Body → Option (List ℕ)). texts (body_of i)) stays.texts ∙ stores needs
-
--- ---- of all items
+use Rattle.replay_crew.specs.Hearing.{HoldsOf, StoresOf, TellsAll}
+use Rattle.replay_crew.proofs.Heard.{holds_on, stores_on}
 
 pub all_held : (told : BodiesTold) (items : List Item) → TellsAll told items → AllByRecursion (HoldsOf told) items
 all_held told [] all = tt
@@ -35,13 +22,13 @@ front_told told (suc n) (i ∷ items) all = (all.0, front_told told n items all.
 
 pub later_held : (old new : BodiesTold) (items : List Item) (n : ℕ) → StaysTold old new → TellsAll old items → AllByRecursion (HoldsOf new) (drop n items)
 later_held old new [] zero stays all = tt
-later_held old new (i ∷ items) zero stays all = (holds_on old new i stays (λ needs. (all.0 needs).0), later_held old new items zero stays all.1)
+later_held old new (i ∷ items) zero stays all = (holds_on old new i stays all.0, later_held old new items zero stays all.1)
 later_held old new [] (suc n) stays all = tt
 later_held old new (i ∷ items) (suc n) stays all = later_held old new items n stays all.1
 
 pub later_stored : (old new : BodiesTold) (items : List Item) (n : ℕ) → StaysTold old new → old.honest → TellsAll old items → AllByRecursion (StoresOf new) (drop n items)
 later_stored old new [] zero stays honest all = tt
-later_stored old new (i ∷ items) zero stays honest all = (stores_on old new i stays (λ needs. (all.0 needs).1 honest), later_stored old new items zero stays honest all.1)
+later_stored old new (i ∷ items) zero stays honest all = (stores_on old new i stays all.0 honest, later_stored old new items zero stays honest all.1)
 later_stored old new [] (suc n) stays honest all = tt
 later_stored old new (i ∷ items) (suc n) stays honest all = later_stored old new items n stays honest all.1
 

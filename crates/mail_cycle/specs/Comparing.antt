@@ -14,7 +14,7 @@ use Rattle.paradox.specs.declared.reports.Report.{Report}
 use Rattle.store_kept.specs.Kept.{Kept, store_of}
 use Rattle.repair_desk.specs.Repairs.{edited_at, numbers_of}
 use Rattle.repair_desk.specs.Renewals.{renewed}
-use Rattle.cycle_rules.specs.Cycles.{Cycled, front_of, notice_items, renewed_by, repaired_items}
+use Rattle.cycle_rules.specs.Cycles.{Cycled, front_of, notice_items, renewed_by}
 use Rattle.cycle_rules.specs.Judging.{judged, shown_after}
 
 -- ---- by what each later item that stays shows now, and the store behind the notices

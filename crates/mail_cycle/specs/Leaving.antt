@@ -1,6 +1,7 @@
 -- What a cycle leaves in memory, and what holds of it.
 use Rattle.std.specs.Prelude.{◌≡◌, ℕ, ◌<◌, ◌≤◌, ◌++◌, List, map, take, Some, IsTrue}
 use Rattle.std.specs.List.{AllByRecursion}
+use Rattle.undo_base.specs.declared.limits.TheConstants.{LAST_NUMBER}
 use Rattle.verb_core.specs.declared.item.Item.{Item}
 use Rattle.verb_core.specs.declared.mailbox.BoxId.{BoxId}
 use Rattle.verb_core.specs.declared.mailbox.Mailbox.{Mailbox}
@@ -69,7 +70,7 @@ pub record GoesOnAt (s : Kept) (after : MailStore) (due : Cycled) : Type 0 where
   pub named : map (λ (r : BoxId × ℕ). r.0) due.stamps ≡ map (λ (r : BoxId × Mailbox). r.0) after.boxes
   pub fresh : AllByRecursion (λ (r : BoxId × ℕ). r.1 < due.next) due.stamps
   pub rises : s.next < due.next
-  pub next : due.next ≤ 4194303
+  pub next : due.next ≤ LAST_NUMBER
   pub base : HasBase s → IsBase due.timeline s.base
 
 -- the same, where the store is what the whole timeline leads to

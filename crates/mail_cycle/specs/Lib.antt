@@ -1,5 +1,4 @@
 pub mod Begun
-pub mod Leading
 pub mod Comparing
 pub mod Places
 pub mod Refusing

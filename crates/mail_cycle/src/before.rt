@@ -1,5 +1,5 @@
 //! What a cycle begins with.
-ghost use Rattle.std.specs.Prelude.{◌≡◌, ℕ, ◌+◌, ◌≤◌, drop, map, take, length, IfOk, IfSome, IsTrue};
+ghost use Rattle.std.specs.Prelude.{◌≡◌, ℕ, ◌+◌, ◌≤◌, drop, map, length, IfOk, IfSome, IsTrue};
 ghost use Rattle.std.specs.List.{AllByRecursion};
 ghost use Rattle.verb_core.specs.declared.mailbox.BoxId.{BoxId as TheBoxId};
 ghost use Rattle.verb_core.specs.declared.mailbox.Mailbox.{Mailbox as TheMailbox};
@@ -15,8 +15,8 @@ use repair_desk::{EditedBehind, edit_behind, position_of, renew};
 use std::alloc::Global;
 use std::marker::Model;
 use store_kept::Base;
-use stored_items::{StoredItem, StoredItems};
-use undo_base::{Copies, LAST_NUMBER, Name, NoMemory};
+use stored_items::StoredItem;
+use undo_base::{LAST_NUMBER, Name, NoMemory};
 use verb_bytes::CycleAsk;
 use verb_core::{House, Stamps};
 
@@ -41,17 +41,6 @@ impl<'a> Model for Before<'a> {
     ghost view = { λ b. kept_from b.base.now b.store.now.store b.timeline.now b.stamps.now b.next b.reports.now no_marks };
 
     ghost invariant = { λ b. IsBegun (kept_from b.base.now b.store.now.store b.timeline.now b.stamps.now b.next b.reports.now no_marks) };
-}
-
-/// Copies of items.
-fn copies(alloc: Global, items: &[StoredItem]) -> Result<StoredItems, NoMemory>
-    ensures { IfOk result (λ copies. copies ≡ items.now) }
-{
-    let mut copies = StoredItems::new(alloc);
-    for item in items {
-        copies.push(item.copy(alloc)?)?;
-    }
-    Ok(copies)
 }
 
 impl<'a> Before<'a> {
@@ -105,15 +94,6 @@ impl<'a> Before<'a> {
         position_of(self.timeline, point)
     }
 
-    /// Copies of the items through a place.
-    pub(crate) fn front(&self, alloc: Global, place: usize) -> Result<StoredItems, NoMemory>
-        requires { place ≤ length self.now.timeline }
-        ensures front { IfOk result (λ items. items ≡ take place self.now.timeline) }
-        ensures formed { IfOk result (λ items. AllByRecursion (IsWellFormed self.now.house) items) }
-    {
-        copies(alloc, self.timeline.split_at(place).0)
-    }
-
     /// How many items stand through a place and the acts behind it.
     pub(crate) fn front_with(&self, place: usize, inserts: usize) -> usize
         requires place { place ≤ length self.now.timeline }
@@ -138,26 +118,6 @@ impl<'a> Before<'a> {
         ensures house { IfOk result (λ store. store.store.house ≡ self.now.house) }
     {
         self.base.store(alloc)
-    }
-
-    /// The store before the first item, and copies of the items through a place.
-    pub(crate) fn opened_with(
-        &self,
-        alloc: Global,
-        place: usize,
-    ) -> Result<(Store, StoredItems), NoMemory>
-        requires { place ≤ length self.now.timeline }
-        ensures store { IfOk result (λ made. made.0.store ≡ self.now.base) }
-        ensures valid { IfOk result (λ made. IsValid made.0.store) }
-        ensures house { IfOk result (λ made. made.0.store.house ≡ self.now.house) }
-        ensures items { IfOk result (λ made. made.1 ≡ take place self.now.timeline) }
-        ensures formed { IfOk result (λ made. AllByRecursion (IsWellFormed self.now.house) made.1) }
-    {
-        let items = self.front(alloc, place)?;
-        match self.opened(alloc) {
-            Ok(store) => Ok((store, items)),
-            Err(NoMemory) => Err(NoMemory),
-        }
     }
 
     /// The timeline after the repairs that are asked for, behind the first so many items, of which no copy is made.

@@ -1,6 +1,7 @@
 //! What holds of every cycle. These functions do nothing: their contracts are laws of the definitions.
 ghost use Rattle.std.specs.Prelude.{◌≡◌, ◌≢◌, ℕ, ◌+◌, ◌<◌, ◌≤◌, ◌==◌, List, [], ◌∷◌, ◌++◌, false, true, find, map, drop, take, length, option_and_then, slice_get, IsTrue, Some};
 ghost use Rattle.std.specs.List.{AllByRecursion};
+ghost use Rattle.undo_base.specs.declared.limits.TheConstants.{LAST_NUMBER};
 ghost use Rattle.verb_core.specs.declared.item.Item.{Item};
 ghost use Rattle.verb_core.specs.declared.mailbox.Body.{Body};
 ghost use Rattle.verb_core.specs.declared.mailbox.BoxId.{BoxId};
@@ -37,7 +38,7 @@ pub fn cycles_leave_states()
         map (λ (r : BoxId × ℕ). r.0) (stamps_at s at ask place) ≡ map (λ (r : BoxId × Mailbox). r.0) (run s.base (timeline_at s at ask place)).boxes }
     ensures fresh { (s : Kept) (at : ℕ) (ask : CycleAsk) (place : ℕ) → AllByRecursion (λ (r : BoxId × ℕ). r.1 < s.next) s.stamps →
         AllByRecursion (λ (r : BoxId × ℕ). r.1 < (cycled_at s at ask place).next) (stamps_at s at ask place) }
-    ensures next { (s : Kept) (at : ℕ) (ask : CycleAsk) (place : ℕ) → leaves_numbers s ask ≡ true → (cycled_at s at ask place).next ≤ 4194303 }
+    ensures next { (s : Kept) (at : ℕ) (ask : CycleAsk) (place : ℕ) → leaves_numbers s ask ≡ true → (cycled_at s at ask place).next ≤ LAST_NUMBER }
     ensures due { (s : Kept) (at : ℕ) (ask : CycleAsk) (due : Cycled) → IsTimeline s.house s.timeline →
         AllByRecursion (λ (i : Item). i.number < s.next) s.timeline → AllByRecursion (λ (r : BoxId × ℕ). r.1 < s.next) s.stamps →
         IsTrue (are_known s.house ask.inserts) → due_anew s at ask ≡ Rewinds due → GoesOn s due }

@@ -1,6 +1,6 @@
 //! Items, performed one after the other, each delivery with its text, which is read: those through a point for the store that
-//! they lead to, those behind it for what they show too, where there are no workers.
-ghost use Rattle.std.specs.Prelude.{◌≡◌, ◌+◌, ◌-◌, ◌≤◌, ◌==◌, if◌then◌else◌, [], ◌∷◌, ◌++◌, drop, length, take, IfErr, IfOk, OnOk};
+//! they lead to, and, where there are no workers, those behind it for what they show too.
+ghost use Rattle.std.specs.Prelude.{◌≡◌, ◌+◌, ◌-◌, ◌==◌, if◌then◌else◌, [], ◌∷◌, ◌++◌, drop, length, IfErr, IfOk, OnOk};
 ghost use Rattle.std.specs.List.{AllByRecursion};
 ghost use Rattle.verb_core.specs.Items.{IsWellFormed};
 ghost use Rattle.verb_core.specs.Step.{answers, run, step};
@@ -8,10 +8,9 @@ ghost use Rattle.verb_core.specs.Store.{IsValid};
 ghost use Rattle.verb_core.specs.Texts.{StaysTold};
 ghost use Rattle.stored_items.specs.Stored.{AllHeard, IsHeard};
 ghost use Rattle.verb_core.specs.declared.bodies.BodiesFault.TheVariants.{NoMemory as no_memory};
-ghost use Rattle.mail_cycle.specs.Leading.{IsLedTo};
-ghost use Rattle.replay_crew.specs.Hearing.{Counts, HoldsOf, StoresOf, TellsAll, heard_as};
+ghost use Rattle.replay_crew.specs.Hearing.{Counts, HoldsOf, StoresOf, heard_as};
 
-use crate::{Before, Shows};
+use crate::Shows;
 use box_store::{Steps, Store};
 use replay_crew::{hear, text_for};
 use std::alloc::Global;
@@ -158,34 +157,5 @@ pub(crate) fn replay_in_order<B: Bodies, L: Ledger>(
             shows,
         }),
         Err(fault) => Err(fault),
-    }
-}
-
-/// The store that the items through a place of the timeline lead to. Each of them is performed once, and each delivery's text is
-/// read, once; what they show is not kept. In time that grows as these items and texts.
-pub fn rewind<B: Bodies, L: Ledger>(
-    alloc: Global,
-    before: &Before<'_>,
-    bodies: &mut B,
-    place: usize,
-    steps: &mut Steps<L>,
-) -> Result<Store, BodiesFault>
-    requires place { place ≤ length before.now.timeline }
-    requires texts { TellsAll (B.told bodies.old) (take place before.now.timeline) }
-    ensures led { IfOk result (λ store. IsLedTo before.now.base (take place before.now.timeline) (B.told bodies.old).honest store.store) }
-    ensures store { (B.told bodies.old).honest → IfOk result (λ store. store.store ≡ run before.now.base (take place before.now.timeline)) }
-    ensures valid { IfOk result (λ store. IsValid store.store) }
-    ensures house { IfOk result (λ store. store.store.house ≡ before.now.house) }
-    ensures steps { OnOk result (steps.new ≤ steps.old + place) }
-    ensures reads { Counts (B.told bodies.old) (B.told bodies.new) result }
-    ensures stays { StaysTold (B.told bodies.old) (B.told bodies.new) }
-    ensures leads { B.leads bodies.old bodies.new }
-{
-    match before.opened_with(alloc, place) {
-        Ok((store, items)) => match replay_in_order(alloc, store, bodies, items, place, steps) {
-            Ok(made) => Ok(made.store),
-            Err(fault) => Err(fault),
-        },
-        Err(NoMemory) => Err(BodiesFault::NoMemory),
     }
 }

@@ -84,7 +84,7 @@ new_desk_holds house conf sound aliases filters valid named =
       formed = tt;
       apart = tt;
       below = tt;
-      few = omega arith;
+      reports = refl;
       texts = empty_boxes (has_text []) (users_of house);
     }
 

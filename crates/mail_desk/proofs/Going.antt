@@ -1,5 +1,5 @@
 -- A desk goes on by an item.
-use Rattle.std.proofs.Common.{◌≡◌, ℕ, ◌+◌, ◌<◌, ◌≤◌, Bool, true, false, not, ◌&&◌, cond, List, [], ◌∷◌, ◌++◌, length, map, filter_map, Option, None, Some, is_some, option_map, unwrap_or, sum_by, refl, ap, sym, subst, ◌∙◌, arith, true≢false, zero-add}
+use Rattle.std.proofs.Common.{◌≡◌, ℕ, ◌+◌, ◌<◌, ◌≤◌, Bool, true, false, not, ◌&&◌, cond, List, [], ◌∷◌, ◌++◌, map, filter_map, Option, None, Some, is_some, option_map, unwrap_or, sum_by, refl, ap, sym, subst, ◌∙◌, arith, true≢false, zero-add}
 use Rattle.std.proofs.lemmas.List.Sums.{sum_by-cons}
 use Rattle.std.specs.List.{list_all, cons_option, enumerate_from, AllByRecursion}
 use Rattle.std.specs.Cmp.{first_so, second_so}
@@ -223,7 +223,6 @@ pub desk_goes_on : MailIsKept → StepsKeep → StampsAreNamed → (kept : Kept)
 desk_goes_on keeps stays named kept item is in_house number left =
     let formed : IsWellFormed kept.store.house item = subst (λ (h : House). IsWellFormed h item) (sym is.house_is) in_house in
     let since : kept.marks.since ≤ kept.next = is.since in
-    let few : length kept.reports ≤ kept.next = is.few in
     record {
       house = is.house;
       aliases = is.aliases;
@@ -238,7 +237,7 @@ desk_goes_on keeps stays named kept item is in_house number left =
       formed = all_on (IsWellFormed kept.house) kept.timeline item is.formed in_house;
       apart = apart_on kept.timeline item is.apart (others_below kept.next kept.timeline item is.below number);
       below = below_on kept.next kept.timeline item is.below number;
-      few = omega arith;
+      reports = is.reports;
       texts = step_known keeps (has_text (kept.timeline ++ item ∷ [])) kept.store item is.valid formed (more_known kept.timeline item kept.store.boxes is.texts) (text_added kept.timeline item);
     }
 

@@ -4,7 +4,6 @@ pub mod BodyTexts
 pub mod Renoted
 pub mod Desks
 pub mod Stampings
-pub mod Searched
 pub mod Bases
 pub mod Going
 pub mod Readied

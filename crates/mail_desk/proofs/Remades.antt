@@ -1,7 +1,6 @@
 -- The outcome of a cycle is a desk.
-use Rattle.std.proofs.Common.{◌≡◌, ℕ, ◌+◌, ◌-◌, ◌<◌, ◌≤◌, List, [], ◌∷◌, ◌++◌, length, map, take, option_map, Result, Ok, Err, IfOk, OnOk, IsTrue, sym, subst, ◌∙◌, arith}
+use Rattle.std.proofs.Common.{◌≡◌, ℕ, ◌+◌, ◌-◌, ◌<◌, ◌≤◌, List, ◌++◌, length, map, take, option_map, Result, Ok, Err, IfOk, OnOk, IsTrue, sym, subst, ◌∙◌, arith}
 use Rattle.std.specs.List.{AllByRecursion}
-use Rattle.std.proofs.lemmas.List.{length_push}
 use Rattle.undo_base.specs.declared.memory.NoMemory.{NoMemory as MemoryWant}
 use Rattle.verb_core.specs.declared.item.Item.{Item}
 use Rattle.verb_core.specs.declared.mailbox.BoxId.{BoxId}
@@ -9,7 +8,8 @@ use Rattle.verb_core.specs.declared.mailbox.Mailbox.{Mailbox}
 use Rattle.verb_core.specs.Items.{IsTimeline, text_of}
 use Rattle.verb_core.specs.Store.{MailStore, IsValid}
 use Rattle.box_store.specs.Kept.{Kept as StoreHeld}
-use Rattle.store_kept.specs.Kept.{Kept, rewound}
+use Rattle.store_kept.specs.Kept.{Kept, rewound, with_report}
+use Rattle.store_kept.proofs.Rows.{placed_rises}
 use Rattle.paradox.specs.declared.reports.Report.{Report}
 use Rattle.mail_desk.specs.declared.remake.Remade.{Remade}
 use Rattle.mail_desk.specs.Desk.{IsDesk}
@@ -23,7 +23,7 @@ use Rattle.store_kept.specs.Texts.{all_bodies}
 -- what is kept with these parts, one report more, and the snapshots that can serve still
 abbrev pub with_parts : Kept → MailStore → List Item → List (BoxId × ℕ) → ℕ → List ℕ × Report → ℕ → ℕ → Kept
 with_parts kept store timeline stamps next reported place more =
-    record kept { store = store; timeline = timeline; stamps = stamps; next = next; reports = kept.reports ++ reported ∷ []; marks = rewound place more kept.marks }
+    record kept { store = store; timeline = timeline; stamps = stamps; next = next; reports = with_report reported.0 reported.1 kept.reports; marks = rewound place more kept.marks }
 
 -- it is a desk, if each body in the store has a text
 pub desk_remade : (kept : Kept) (store : MailStore) (timeline : List Item) (stamps : List (BoxId × ℕ)) (next : ℕ) (reported : List ℕ × Report) (place more : ℕ) → IsDesk kept
@@ -31,7 +31,6 @@ pub desk_remade : (kept : Kept) (store : MailStore) (timeline : List Item) (stam
     → map (λ (r : BoxId × ℕ). r.0) stamps ≡ map (λ (r : BoxId × Mailbox). r.0) store.boxes → AllByRecursion (λ (r : BoxId × ℕ). r.1 < next) stamps
     → kept.next + more < next → next ≤ 4194304 → IsBase timeline kept.base → IsDesk (with_parts kept store timeline stamps next reported place more)
 desk_remade kept store timeline stamps next reported place more is house valid texts items below named fresh rises most stands =
-    let few : length kept.reports ≤ kept.next = is.few in
     let since : kept.marks.since ≤ kept.next = is.since in
     record {
       house = is.house;
@@ -47,7 +46,7 @@ desk_remade kept store timeline stamps next reported place more is house valid t
       formed = items.formed;
       apart = items.apart;
       below = below;
-      few = omega (arith, length_push kept.reports reported);
+      reports = placed_rises reported.0 reported.1 kept.reports is.reports;
       texts = texts;
     }
 

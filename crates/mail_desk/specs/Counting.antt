@@ -13,14 +13,18 @@ use Rattle.mail_desk.specs.declared.counts.Counts.{Counts}
 abbrev pub most : ℕ
 most = 2 ^ 64 - 1
 
+-- the most that 32 bits hold
+abbrev pub most_cycles : ℕ
+most_cycles = 2 ^ 32 - 1
+
 -- how many entries the mailboxes have
 abbrev pub messages_in : List (BoxId × Mailbox) → ℕ
 messages_in boxes = sum_by (λ (r : BoxId × Mailbox). length r.1.entries) boxes
 
--- the counts; more messages than 64 bits hold are told as the most that they hold
+-- the counts; more cycles than 32 bits hold, or messages than 64 bits hold, are told as the most that these hold
 abbrev pub counts_of : Kept → Counts
 counts_of kept = record {
-  cycles = length kept.reports;
+  cycles = min (length kept.reports) most_cycles;
   items = length kept.timeline;
   messages = min (messages_in (store_of kept).boxes) most;
   next = kept.next;

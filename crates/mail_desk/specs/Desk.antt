@@ -1,5 +1,5 @@
 -- The desk: a store and the items in force, and each item that is performed is one of them from then on.
-use Rattle.std.specs.Prelude.{◌≡◌, ℕ, ◌<◌, ◌≤◌, [], length, map, Option, Result, Ok, Err, IsTrue}
+use Rattle.std.specs.Prelude.{◌≡◌, ℕ, ◌<◌, ◌≤◌, [], map, Option, Result, Ok, Err, IsTrue}
 use Rattle.std.specs.List.{AllByRecursion, list_all}
 use Rattle.undo_base.specs.declared.keys.User.{User}
 use Rattle.verb_core.specs.declared.ask.Ask.{Ask}
@@ -12,7 +12,7 @@ use Rattle.verb_core.specs.declared.mailbox.Mailbox.{Mailbox}
 use Rattle.verb_core.specs.Items.{IsWellFormed, NumbersApart}
 use Rattle.verb_core.specs.Store.{IsValid, is_house, is_known}
 use Rattle.store_kept.specs.Bases.{HasBase}
-use Rattle.store_kept.specs.Kept.{Kept, performed, store_of}
+use Rattle.store_kept.specs.Kept.{Kept, is_by_key, performed, store_of}
 use Rattle.store_kept.specs.Texts.{all_bodies, has_text_kept}
 use Rattle.verb_core.specs.Live.{live}
 
@@ -31,7 +31,7 @@ pub record IsDesk (kept : Kept) : Type 0 where
   pub formed : AllByRecursion (IsWellFormed kept.house) kept.timeline
   pub apart : NumbersApart kept.timeline
   pub below : AllByRecursion (λ (i : Item). i.number < kept.next) kept.timeline
-  pub few : length kept.reports ≤ kept.next
+  pub reports : IsTrue (is_by_key kept.reports)
   pub texts : IsTrue (all_bodies (has_text_kept kept) kept.store.boxes)
 
 -- what became of an ask: the item or why there is none, and what is kept

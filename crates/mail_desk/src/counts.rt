@@ -4,13 +4,14 @@ ghost use Rattle.verb_core.specs.declared.item.Item.{Item as TheItem};
 ghost use Rattle.verb_core.specs.declared.mailbox.BoxId.{BoxId as TheBoxId};
 ghost use Rattle.verb_core.specs.Boxes.{mail_at};
 ghost use Rattle.verb_core.specs.Deeds.{is_notice as is_of_notice};
-ghost use Rattle.mail_desk.specs.Counting.{bare_item, counts_of, listed, most, page};
+ghost use Rattle.mail_desk.specs.Counting.{bare_item, counts_of, listed, most, most_cycles, page};
 
 use crate::Desk;
 use box_store::Store;
+use paradox::Report;
 use std::alloc::Global;
 use stored_items::StoredItem;
-use undo_base::{Copies, NoMemory, Text};
+use undo_base::{Copies, Name, NoMemory, Text};
 use verb_core::{BoxId, Item, Items};
 
 /// How many cycles there were, items in the timeline, messages in all mailboxes, the next number, notices among the items,
@@ -23,6 +24,18 @@ pub struct Counts {
     pub next: u32,
     pub notices: u32,
     pub users: u32,
+}
+
+/// How many reports there are, or the most that 32 bits hold.
+fn cycles_in(reports: &[(Name, Report)]) -> u32
+    ensures { result ≡ min (length reports.now) most_cycles }
+{
+    let count = reports.len();
+    if count < u32::MAX as usize {
+        count as u32
+    } else {
+        u32::MAX
+    }
 }
 
 /// How many entries a mailbox has: none where it is missing.
@@ -134,7 +147,7 @@ impl Desk {
         ensures { result ≡ counts_of self.now.kept }
     {
         Counts {
-            cycles: self.reports.len() as u32,
+            cycles: cycles_in(self.reports.as_slice()),
             items: self.timeline.len(self.next) as u32,
             messages: messages_in(&self.store, self.stamps.as_slice()),
             next: self.next,

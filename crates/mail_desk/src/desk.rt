@@ -1,5 +1,5 @@
 //! The desk, and what it tells of itself.
-ghost use Rattle.std.specs.Prelude.{◌≡◌, ℕ, ◌<◌, ◌≤◌, ◌-◌, [], ◌++◌, map, length, option_copied, IsTrue, IfOk, OnOk};
+ghost use Rattle.std.specs.Prelude.{◌≡◌, ℕ, ◌<◌, ◌≤◌, ◌-◌, [], ◌++◌, map, option_copied, IsTrue, IfOk, OnOk};
 ghost use Rattle.std.specs.List.{AllByRecursion, list_all};
 ghost use Rattle.verb_core.specs.declared.item.Item.{Item as TheItem};
 ghost use Rattle.verb_core.specs.declared.mailbox.BoxId.{BoxId as TheBoxId};
@@ -7,7 +7,7 @@ ghost use Rattle.verb_core.specs.declared.mailbox.Mailbox.{Mailbox as TheMailbox
 ghost use Rattle.verb_core.specs.Boxes.{box_of, row_at};
 ghost use Rattle.seal_log.specs.declared.place.Place.{Place as ThePlace};
 ghost use Rattle.verb_core.specs.Items.{IsTimeline};
-ghost use Rattle.store_kept.specs.Kept.{new_desk, opening_origin, origin_of, report_of as report_in, store_of};
+ghost use Rattle.store_kept.specs.Kept.{is_by_key, new_desk, opening_origin, origin_of, report_of as report_in, store_of};
 ghost use Rattle.store_kept.specs.Bases.{HasBase};
 ghost use Rattle.store_kept.specs.Texts.{all_bodies, has_text_kept};
 ghost use Rattle.verb_core.specs.Stamps.{opening_stamps};
@@ -248,14 +248,14 @@ impl Desk {
         self.next
     }
 
-    /// Each cycle's report by the key of its request, in the order of the cycles. It takes no memory.
+    /// Each cycle's report by the key of its request, by rising key. It takes no memory.
     pub fn reports(&self) -> &[(Name, Report)]
         ensures { result.now ≡ self.now.kept.reports }
     {
         self.reports.as_slice()
     }
 
-    /// The report of the cycle that was asked for under a key. It takes no memory.
+    /// The report of the cycle that was asked for under a key, found by halves. It takes no memory.
     pub fn report(&self, key: &Name) -> Option<&Report>
         ensures { option_copied result ≡ report_in self.now.kept.reports key.now }
     {
@@ -275,7 +275,7 @@ impl Desk {
         ensures named { map (λ (r : TheBoxId × ℕ). r.0) self.now.kept.stamps ≡ map (λ (r : TheBoxId × TheMailbox). r.0) (store_of self.now.kept).boxes }
         ensures fresh { AllByRecursion (λ (r : TheBoxId × ℕ). r.1 < self.now.kept.next) self.now.kept.stamps }
         ensures next { self.now.kept.next ≤ 4194304 }
-        ensures reports { length self.now.kept.reports ≤ self.now.kept.next }
+        ensures reports { IsTrue (is_by_key self.now.kept.reports) }
         ensures texts { IsTrue (all_bodies (has_text_kept self.now.kept) (store_of self.now.kept).boxes) }
         ensures sizes { SizesOf self.now.notes self.now.kept.timeline }
         ensures since { self.now.kept.marks.since ≤ self.now.kept.next }

@@ -1,5 +1,5 @@
 //! The outcome of a cycle: made ready, and put in place.
-ghost use Rattle.std.specs.Prelude.{◌≡◌, ℕ, ◌+◌, ◌<◌, ◌≤◌, [], ◌∷◌, ◌++◌, length, map, take, IfOk, OnOk, IsTrue, Ok, vec_len, vec_capacity};
+ghost use Rattle.std.specs.Prelude.{◌≡◌, ℕ, ◌+◌, ◌<◌, ◌≤◌, ◌++◌, length, map, take, IfOk, OnOk, IsTrue, Ok, vec_len, vec_capacity};
 ghost use Rattle.std.specs.List.{AllByRecursion};
 ghost use Rattle.verb_core.specs.declared.item.Item.{Item as TheItem};
 ghost use Rattle.verb_core.specs.declared.mailbox.Body.{Body as TheBody};
@@ -10,7 +10,7 @@ ghost use Rattle.verb_core.specs.Items.{IsTimeline, NumbersApart};
 ghost use Rattle.verb_core.specs.Store.{IsValid};
 ghost use Rattle.shelf.specs.Marks.{marks_at_or_before};
 ghost use Rattle.shelf.specs.Notes.{note_of};
-ghost use Rattle.store_kept.specs.Kept.{rewound};
+ghost use Rattle.store_kept.specs.Kept.{rewound, with_report};
 ghost use Rattle.store_kept.specs.Texts.{all_bodies, has_text_among};
 ghost use Rattle.mail_desk.specs.Noting.{renoted};
 ghost use Rattle.mail_desk.specs.Remaking.{CanReplace, remade_as};
@@ -18,11 +18,12 @@ ghost use Rattle.mail_desk.specs.Timeline.{SizesOf};
 
 use crate::Desk;
 use crate::noting::{Fresh, noted_anew};
-use crate::numbered::{Numbered, push_within};
+use crate::numbered::Numbered;
 use box_store::Store;
 use paradox::Report;
 use shelf::Shelf;
 use std::alloc::Global;
+use store_kept::put_report;
 use stored_items::StoredItems;
 use undo_base::{Name, NoMemory};
 use verb_core::Stamps;
@@ -171,7 +172,7 @@ impl Desk {
         ensures kept { self.new.kept ≡ self.old.kept }
         ensures same { self.new.notes ≡ self.old.notes }
         ensures marks { self.new.marks ≡ self.old.marks }
-        ensures made { IfOk result (λ made. remade_as self.old.kept made ≡ record self.old.kept { store = store.store; timeline = take from self.old.kept.timeline ++ behind; stamps = stamps; next = next; reports = self.old.kept.reports ++ (key, report) ∷ []; marks = rewound place entered self.old.kept.marks }) }
+        ensures made { IfOk result (λ made. remade_as self.old.kept made ≡ record self.old.kept { store = store.store; timeline = take from self.old.kept.timeline ++ behind; stamps = stamps; next = next; reports = with_report key report self.old.kept.reports; marks = rewound place entered self.old.kept.marks }) }
         ensures place { IfOk result (λ made. made.place ≡ place) }
         ensures report { IfOk result (λ made. made.report ≡ report) }
         ensures notes { IfOk result (λ made. (body : TheBody) → note_of made.shelf.notes body ≡ renoted self.old.notes fresh.now (take from self.old.kept.timeline ++ behind) body) }
@@ -218,6 +219,6 @@ impl Desk {
         self.shelf.forget_after(place);
         self.next = next;
         self.since += entered;
-        push_within(&mut self.reports, (key, report));
+        put_report(&mut self.reports, key, report);
     }
 }

@@ -1,5 +1,9 @@
 -- What is kept of a store in use: all that is needed to have it again, and to go on.
-use Rattle.std.specs.Prelude.{◌≡◌, ℕ, ◌+◌, ◌-◌, nat_le, nat_lt, List, [], ◌∷◌, ◌++◌, length, get_or, filter, bytes_eq, find, Option, option_map}
+use Rattle.std.specs.Prelude.{◌≡◌, ℕ, ◌+◌, ◌-◌, nat_le, nat_lt, Bool, List, [], ◌∷◌, ◌++◌, length, get_or, filter, Option}
+use Rattle.std.specs.declared.cmp.Ordering.{Ordering}
+use Rattle.std.specs.Ordering.{nat_cmp}
+use Rattle.std.specs.Cmp.Lexicographic.{slice_cmp}
+use Rattle.std.specs.FinMap.Entries as rows
 use Rattle.verb_core.specs.declared.conf.Conf.{Conf}
 use Rattle.verb_core.specs.declared.conf.House.{House}
 use Rattle.verb_core.specs.declared.item.Item.{Item}
@@ -13,13 +17,25 @@ use Rattle.paradox.specs.declared.reports.Report.{Report}
 
 -- ---- the reports of cycles
 
--- each cycle's report by the key of its request, in the order of the cycles
+-- each cycle's report by the key of its request
 abbrev pub Reports : Type 0
 Reports = List (List ℕ × Report)
 
+-- keys in byte order
+abbrev pub key_cmp : List ℕ → List ℕ → Ordering
+key_cmp a b = slice_cmp nat_cmp a b
+
+-- whether the keys strictly rise
+abbrev pub is_by_key : Reports → Bool
+is_by_key reports = rows.is_sorted key_cmp reports
+
 -- the report of the cycle that was asked for under a key
 abbrev pub report_of : Reports → List ℕ → Option Report
-report_of reports key = option_map (λ (r : List ℕ × Report). r.1) (find (λ (r : List ℕ × Report). bytes_eq r.0 key) reports)
+report_of reports key = rows.find key_cmp key reports
+
+-- with a report in the place of its key, where one that the key had before is no more
+abbrev pub with_report : List ℕ → Report → Reports → Reports
+with_report key report reports = rows.put key_cmp key report reports
 
 -- ---- the snapshots
 

@@ -2,13 +2,15 @@
 //!
 //! In specs/, `Kept` is the house, the base, the store, the items in force, the stamps, the next number, the reports of
 //! cycles and the marks of the snapshots, with what an item and a snapshot make of it; `Texts` says where a text comes from,
-//! and `Bases` what holds of the base, the store before the first item. `base` holds what makes the base, and `reports` finds
-//! a report by the key of its request. What carries the crate: `Base::store` and `report_of`, whose clauses name the
-//! definitions.
+//! `Bases` what holds of the base, the store before the first item, and `Places` where a report stands among others. `base`
+//! holds what makes the base, `reports` finds a report by the key of its request and puts one in its place, and `laws` says
+//! that a report which is kept is found from then on. What carries the crate: `Base::store`, `report_of` and `put_report`,
+//! whose clauses name the definitions.
 #![tactic(auto)]
 
 mod base;
+pub mod laws;
 mod reports;
 
 pub use base::Base;
-pub use reports::{Reports, report_of};
+pub use reports::{Reports, put_report, report_of};

@@ -13,4 +13,5 @@ returns g c = record {
   err = c.seal.ensures.err;
   held = c.seal.ensures.held;
   reads = c.seal.ensures.reads;
+  wants = c.seal.ensures.wants;
 }

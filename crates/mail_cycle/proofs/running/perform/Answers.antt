@@ -1,4 +1,4 @@
-use Rattle.mail_cycle.proofs.Heard.{valid_heard}
+use Rattle.replay_crew.proofs.Heard.{valid_heard}
 use Rattle.mail_cycle.proofs.running.perform.Goals as goal
 
 pub returns-clause-valid : goal.returns-clause-valid

@@ -2,7 +2,7 @@ use Rattle.std.proofs.Common.{◌∙◌, ap, arith, get_or}
 use Rattle.verb_core.specs.Store.{MailStore}
 use Rattle.replay_crew.specs.Hearing.{StoresOf}
 use Rattle.mail_cycle.proofs.Heard.{next_heard, next_later, next_same, next_shows, next_store, next_tells}
-use Rattle.mail_cycle.proofs.Told.{stays_on, stores_on}
+use Rattle.replay_crew.proofs.Heard.{stays_on, stores_still}
 use Rattle.mail_cycle.proofs.running.perform_each.Goals as goal
 
 pub loop-item-preserved : goal.loop-item-preserved
@@ -20,7 +20,7 @@ loop-item-preserved g c =
       later = next_later old items k other new (omega arith) so_far.later;
       heard = next_heard old items k other new (omega arith) so_far.later so_far.heard done.heard;
       same = λ is stored. next_same old items k other new (omega arith) so_far.later (so_far.same is stored)
-          (done.same (so_far.stays.honest is) (stores_on first told (get_or items k other) so_far.stays (next_tells old items k other new (omega arith) so_far.later (StoresOf first) stored)));
+          (done.same (so_far.stays.honest is) (stores_still first told (get_or items k other) so_far.stays (next_tells old items k other new (omega arith) so_far.later (StoresOf first) stored)));
       store = next_store old items k other new (omega arith) so_far.later c.args.store.now.store c.loop-item.store.store _ so_far.store done.store;
       valid = done.valid;
       house = ap (λ (m : MailStore). m.house) done.store ∙ so_far.house;

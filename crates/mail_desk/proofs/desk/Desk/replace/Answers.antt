@@ -12,16 +12,16 @@ use Rattle.mail_desk.specs.Remaking.{CanReplace, remade_as}
 use Rattle.mail_desk.proofs.desk.Desk.replace.Goals as goal
 
 -- what is kept is the outcome
-left_is : (c : goal.After-push_within) →
+left_is : (c : goal.After-put_report) →
     let d = c.self.inside in
-    kept_from d.base c.put.new.place.store c.go_on.new.self.items c.put-2.new.place c.args.remade.next c.push_within.new.list.items
+    kept_from d.base c.put.new.place.store c.go_on.new.self.items c.put-2.new.place c.args.remade.next c.put_report.new.reports.items
     (marks_kept (d.since + c.args.remade.entered) d.taken c.forget_after.new.self.marks)
     ≡ remade_as (kept_from d.base d.store.store d.timeline.items d.stamps d.next d.reports.items (marks_kept d.since d.taken d.shelf.marks)) c.args.remade
 left_is c =
     let d = c.self.inside in
     let made = c.args.remade in
     let places = c.forget_after.ensures.positions ∙ ap (λ (ms : List (ℕ × Place)). not_behind made.place (map (λ (m : ℕ × Place). m.0) ms)) c.take_notes.ensures.marks in
-    λ j. kept_from d.base (c.put.ensures j).store (c.go_on.ensures j) (c.put-2.ensures j) made.next (c.push_within.ensures j)
+    λ j. kept_from d.base (c.put.ensures j).store (c.go_on.ensures j) (c.put-2.ensures j) made.next (c.put_report.ensures j)
     (record { since = d.since + made.entered; taken = d.taken; places = places j })
 
 pub go_on-requires-clause-from : goal.go_on-requires-clause-from
