@@ -1,5 +1,5 @@
 -- Replies as turns.
-use Rattle.std.proofs.Common.{◌≡◌, ◌&&◌, ◌||◌, ℕ, ◌<◌, ◌≤◌, Bool, true, false, not, ◌==◌, List, [], ◌∷◌, ◌++◌, Option, Some, None, refl, sym, ap, ◌∙◌, subst, arith, inl, inr, true≢false}
+use Rattle.std.proofs.Common.{◌≡◌, ◌&&◌, ◌||◌, ℕ, ◌<◌, Bool, true, false, not, ◌==◌, List, [], ◌∷◌, ◌++◌, Option, Some, None, refl, sym, ap, ◌∙◌, subst, arith, inl, inr, true≢false}
 use Rattle.std.specs.Prelude.{◌⊎◌, IsSome, length, nat_lt, option_and_then, option_map, unwrap_or, Result, Ok, Err, if◌then◌else◌}
 use Rattle.std.proofs.lemmas.Bool.Decides.{nat_tests}
 use Rattle.undo_outside.specs.Disk.{DiskTold, IsHonest, ReadFailed}
@@ -26,14 +26,14 @@ use Rattle.desk_journal.specs.declared.fault.ActFault.TheVariants as fault
 use Rattle.time_desk.specs.declared.fault.CycleFault.{CycleFault}
 use Rattle.time_desk.specs.declared.fault.CycleFault.TheVariants as cycle_fault
 use Rattle.time_desk.specs.Cycling.{Cycles, CyclesBy, CyclesNone, FailsToCycle, FailsToRead, StarvesBy, Tries, TriesNone}
-use Rattle.time_desk.specs.Lasting.{Lasting}
+use Rattle.desk_journal.specs.Lasting.{Lasting}
 use Rattle.time_desk.specs.Planning.{Plans, PlansNone, plan_at}
-use Rattle.time_desk.specs.Reading.{Counted, HaveRead, IsStill, ReadsWell, failed_once, none_read, wrong_once}
+use Rattle.desk_journal.specs.Reading.{Counted, HaveRead, IsStill, ReadsWell, failed_once, none_read, wrong_once}
 use Rattle.verb_core.specs.Deeds.{act_item}
-use Rattle.time_desk.specs.Records.{after_record, after_records, is_formed, is_spelled, snapshot_record}
-use Rattle.time_desk.specs.Sealing.{Seals}
-use Rattle.time_desk.specs.Stored.{HoldsTexts}
-use Rattle.time_desk.specs.Submitting.{ActsNone, SnapshotsNone}
+use Rattle.desk_journal.specs.Records.{after_record, after_records, is_formed, is_spelled, snapshot_record}
+use Rattle.desk_journal.specs.Sealing.{Seals}
+use Rattle.desk_journal.specs.Stored.{HoldsTexts}
+use Rattle.desk_journal.specs.Submitting.{ActsNone, SnapshotsNone}
 use Rattle.console_head.specs.declared.request.HeadRefused.TheVariants.{Head as BadHead, Size as TooLarge}
 use Rattle.console_http.specs.declared.request.Asked.{Asked}
 use Rattle.console_http.specs.declared.request.Asked.TheVariants.{NotYet, Whole}

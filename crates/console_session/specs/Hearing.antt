@@ -9,10 +9,10 @@ use Rattle.desk_journal.specs.declared.fault.ActFault.{ActFault}
 use Rattle.desk_journal.specs.declared.fault.ActFault.TheVariants as fault
 use Rattle.time_desk.specs.declared.fault.CycleFault.{CycleFault}
 use Rattle.time_desk.specs.declared.fault.CycleFault.TheVariants as cycle_fault
-use Rattle.time_desk.specs.Lasting.{Lasting}
-use Rattle.time_desk.specs.Reading.{HaveRead, IsStill, ReadsWell}
-use Rattle.time_desk.specs.Sealing.{Seals}
-use Rattle.time_desk.specs.Stored.{HoldsTexts}
+use Rattle.desk_journal.specs.Lasting.{Lasting}
+use Rattle.desk_journal.specs.Reading.{HaveRead, IsStill, ReadsWell}
+use Rattle.desk_journal.specs.Sealing.{Seals}
+use Rattle.desk_journal.specs.Stored.{HoldsTexts}
 use Rattle.console_head.specs.declared.request.Coming.{Coming}
 use Rattle.console_head.specs.Coming.{IsKnown}
 use Rattle.console_head.specs.Request.{Stage, Says}

@@ -6,8 +6,8 @@ use Rattle.verb_bytes.specs.declared.journal.JournalRecord.TheVariants.{Operator
 use Rattle.store_kept.specs.Kept.{Kept}
 use Rattle.cycle_rules.specs.Asking.{Due, Repeats, NoPoint, NoNumbers, Rewinds, cycle_due, due_anew}
 use Rattle.repair_desk.specs.Repairs.{position}
-use Rattle.time_desk.specs.Reading.{failed_once, none_read, wrong_once}
-use Rattle.time_desk.specs.Records.{snapshot_record}
+use Rattle.desk_journal.specs.Reading.{failed_once, none_read, wrong_once}
+use Rattle.desk_journal.specs.Records.{snapshot_record}
 use Rattle.console_http.specs.declared.request.Asked.{Asked}
 use Rattle.console_http.specs.declared.request.Asked.TheVariants.{NotYet, Whole}
 use Rattle.console_http.specs.declared.request.HttpRefused.{HttpRefused}

@@ -10,8 +10,8 @@ use Rattle.store_kept.specs.Kept.{performed, snapshotted, Kept}
 use Rattle.cycle_rules.specs.Asking.{Due, Repeats, NoPoint, NoNumbers, Rewinds as IsDue, after_cycle, cycle_due, due_anew}
 use Rattle.cycle_rules.specs.Cycles.{Cycled}
 use Rattle.verb_core.specs.Deeds.{act_item}
-use Rattle.time_desk.specs.Reading.{Reads, none_read}
-use Rattle.time_desk.specs.Records.{snapshot_record}
+use Rattle.desk_journal.specs.Reading.{Reads, none_read}
+use Rattle.desk_journal.specs.Records.{snapshot_record}
 use Rattle.console_head.specs.Request.{Stage}
 use Rattle.console_http.specs.declared.request.Asked.{Asked}
 use Rattle.console_http.specs.declared.request.Asked.TheVariants.{NotYet, Whole}

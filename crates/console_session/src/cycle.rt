@@ -3,7 +3,7 @@ ghost use Rattle.std.specs.Prelude.{◌≡◌, ◌≤◌, ◌<◌, IfOk, OnOk, I
 ghost use Rattle.store_kept.specs.Kept.{report_of};
 ghost use Rattle.repair_desk.specs.Repairs.{are_known};
 ghost use Rattle.time_desk.specs.Cycling.{Cycles, CyclesNone};
-ghost use Rattle.time_desk.specs.Reading.{ReadsWell};
+ghost use Rattle.desk_journal.specs.Reading.{ReadsWell};
 ghost use Rattle.console_replies.specs.Reports.{report_data};
 ghost use Rattle.console_http.specs.declared.request.Asked.TheVariants.{Whole};
 ghost use Rattle.console_http.specs.declared.request.Route.TheVariants as route;

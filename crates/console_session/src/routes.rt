@@ -7,7 +7,7 @@ ghost use Rattle.console_replies.specs.Timeline.{timeline_data};
 ghost use Rattle.verb_core.specs.Boxes.{box_of, row_at};
 ghost use Rattle.mail_desk.specs.Counting.{page};
 ghost use Rattle.repair_desk.specs.Repairs.{position};
-ghost use Rattle.time_desk.specs.Reading.{IsStill};
+ghost use Rattle.desk_journal.specs.Reading.{IsStill};
 ghost use Rattle.console_session.specs.Answers.{answer, body_answer, body_at, body_found, box_answer, conf_answer, counted_as, not_found, plan_answer, refused, status_answer, timeline_answer};
 ghost use Rattle.console_session.specs.Hearing.{Tells, TellsFound, TellsRead, TellsReadFault};
 ghost use Rattle.console_session.specs.declared.reply.After.TheVariants as after;

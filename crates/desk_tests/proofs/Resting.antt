@@ -9,7 +9,7 @@ use Rattle.repair_desk.specs.Repairs.{position}
 use Rattle.cycle_rules.specs.Asking.{Due, NoNumbers, NoPoint, Repeats, Rewinds, cycle_due, due_at, due_by}
 use Rattle.cycle_rules.specs.Cycles.{Cycled, cycled_at, leaves_numbers, report_at, timeline_at}
 use Rattle.time_desk.specs.Cycling.{CyclesBy, most_performed}
-use Rattle.time_desk.specs.Lasting.{Lasting}
+use Rattle.desk_journal.specs.Lasting.{Lasting}
 use Rattle.undo_outside.specs.Disk.{DiskTold}
 use Rattle.time_desk.specs.declared.fault.CycleFault.{CycleFault}
 

@@ -1,7 +1,7 @@
 //! What a cycle from a snapshot leaves of the step counter.
 ghost use Rattle.std.specs.Prelude.{◌≡◌, ◌≤◌, [], Some, length, IfOk, OnOk};
 ghost use Rattle.repair_desk.specs.Repairs.{position};
-ghost use Rattle.time_desk.specs.Stored.{HoldsTexts};
+ghost use Rattle.desk_journal.specs.Stored.{HoldsTexts};
 
 use box_store::Steps;
 use mail_cycle::laws::{nothing_asked_changes_nothing, timelines_have_their_length};

@@ -1,5 +1,5 @@
 -- The item that a store makes of an ask is in the ranges of its record.
-use Rattle.std.proofs.Common.{◌≡◌, ℕ, ◌+◌, ◌≤◌, ◌<◌, Bool, true, false, not, cond, List, [], ◌∷◌, length, filter, Option, None, Some, option_map, unwrap_or, Ok, nat_lt, refl, sym, subst, arith, ltb-false}
+use Rattle.std.proofs.Common.{◌≡◌, ℕ, ◌+◌, ◌≤◌, ◌<◌, Bool, true, false, not, ◌&&◌, cond, List, [], ◌∷◌, length, filter, Option, None, Some, option_map, unwrap_or, Ok, nat_lt, refl, sym, subst, arith, ltb-false}
 use Rattle.std.specs.Prelude.{IfSome}
 use Rattle.std.specs.List.{list_all, list_any}
 use Rattle.std.specs.Ordering.{eq_by_cmp}
@@ -24,7 +24,7 @@ use Rattle.verb_core.specs.Store.{IsValid, MailStore, is_row}
 use Rattle.verb_core.specs.Items.{actor}
 use Rattle.verb_core.specs.Aims.{sought_by}
 use Rattle.verb_core.specs.Step.{Boxes, shown}
-use Rattle.verb_core.specs.Live.{answered, asked_item, asker, asks_fixed, deed_of, first_of, if_so, is_gone, is_misshapen, is_missing, is_there, is_uid_wide, is_wide, key_count, live, mail_of, marked, named, new_names, or_item, overfills, targets, too_large}
+use Rattle.verb_core.specs.Live.{answered, asked_item, asker, asks_fixed, deed_of, first_of, if_so, is_gone, is_misshapen, is_missing, is_there, is_uid_wide, is_wide, key_count, live, mail_of, marked, marked_in, named, new_names, or_item, overfills, targets, too_large}
 use Rattle.verb_bytes.specs.Limits.{AreKeys, IsAsked, IsDeed, IsKey, IsShown, IsUser, delivery}
 use Rattle.verb_bytes.specs.Spelling.{shown_kind}
 use Rattle.dialog_laws.specs.Ranges.{AreAllKeys, IsRecordable, IsStored, IsStoredEntry}
@@ -104,6 +104,10 @@ module _ (s : MailStore) (at : ℕ) (by : Option User) (stored : IsStored s) (ti
   marked_keys : (name : List ℕ) → AreAllKeys (marked (mail_of s by name))
   marked_keys name = keys_stored (filter (λ (e : Entry). e.flags.deleted) (mail_of s by name)) (all_filtered IsStoredEntry (λ (e : Entry). e.flags.deleted) (mail_of s by name) (mail_is name))
 
+  marked_in_keys : (only : Option (List Key)) (name : List ℕ) → AreAllKeys (marked_in only (mail_of s by name))
+  marked_in_keys None name = marked_keys name
+  marked_in_keys (Some only) name = keys_stored (filter (λ (e : Entry). e.flags.deleted && is_among only e.key) (mail_of s by name)) (all_filtered IsStoredEntry (λ (e : Entry). e.flags.deleted && is_among only e.key) (mail_of s by name) (mail_is name))
+
   deed_is : (ask : Ask) → IsRecordable ask → key_count s by ask ≤ 65536 → too_large ask ≡ None → IsDeed (deed_of s by at ask)
   deed_is (Deliver from to text) h few large = h
   deed_is (Append mailbox flags moment text) h few large = (h.0, moment_is moment at h.1 timely, small_text text large)
@@ -113,7 +117,7 @@ module _ (s : MailStore) (at : ℕ) (by : Option User) (stored : IsStored s) (ti
   deed_is (Names pattern) h few large = h
   deed_is (Status mailbox) h few large = h
   deed_is (Select mailbox) h few large = h
-  deed_is (Expunge mailbox) h few large = (h, few_keys _ (marked_keys mailbox) few)
+  deed_is (Expunge mailbox only) h few large = (h, few_keys _ (marked_in_keys only mailbox) few)
   deed_is (Close mailbox removes) h few large = (h, chosen_few removes (marked (mail_of s by mailbox)) (marked_keys mailbox) few)
   deed_is (Create mailbox) h few large = h
   deed_is (Rename mailbox target) h few large = h
@@ -173,7 +177,7 @@ module _ (s : MailStore) (number at : ℕ) (by : Option User) (valid : IsValid s
   )
   shown_is (Status mailbox) missed i h few wide = (refl, count_is mailbox wide)
   shown_is (Select mailbox) missed i h few wide = (refl, count_is mailbox wide)
-  shown_is (Expunge mailbox) missed i h few wide = (refl, there_few (expunged (marked (mail_of s by mailbox)) (mail_of s by mailbox)) (marked (mail_of s by mailbox)) h.1)
+  shown_is (Expunge mailbox only) missed i h few wide = (refl, there_few (expunged (marked_in only (mail_of s by mailbox)) (mail_of s by mailbox)) (marked_in only (mail_of s by mailbox)) h.1)
   shown_is (Close mailbox removes) missed i h few wide =
       (refl, there_few (expunged (cond removes (marked (mail_of s by mailbox)) []) (mail_of s by mailbox)) (cond removes (marked (mail_of s by mailbox)) []) h.1)
   shown_is (Create mailbox) missed i h few wide = refl

@@ -201,7 +201,7 @@ module _ (house : House) (s : MailStore) (d : Dialog) (h : IsReading d) where
   fine_expunge : (tag : List ℕ) (selected : Option Selected) → IfSome selected IsViewed → IsFine (expunge tag d selected)
   fine_expunge tag None v = fine_say _
   fine_expunge tag (Some selected) v =
-      fine_either selected.writes (asks (ask.Expunge selected.mailbox) tag (on.Follow word.Expunge) d) (says tag ReadOnly d) (fine_asks _ tag _ v.mailbox tt) (fine_say _)
+      fine_either selected.writes (asks (ask.Expunge selected.mailbox None) tag (on.Follow word.Expunge) d) (says tag ReadOnly d) (fine_asks _ tag _ v.mailbox tt) (fine_say _)
 
   fine_begin : (tag : List ℕ) (f : Fetching) (bodies : List Body) → IsWanted (wanted.Fetch f) → IsFine (begin_fetch tag d f bodies)
   fine_begin tag f [] w = fine_asks (ask_of f) tag (on.Fetch f.form f.rows []) w tt

@@ -5,7 +5,6 @@ use Rattle.imap_lines.specs.What.{what_in}
 use Rattle.verb_core.specs.declared.ask.Ask.TheVariants.{Select}
 use Rattle.verb_core.specs.declared.conf.Conf.{Conf}
 use Rattle.verb_core.specs.declared.conf.House.{House}
-use Rattle.verb_core.specs.Store.{MailStore}
 use Rattle.verb_core.specs.Store as store
 use Rattle.smtp_session.specs.Dialog as client
 use Rattle.imap_session.specs.Dialog as reader

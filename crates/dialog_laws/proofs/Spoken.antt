@@ -25,7 +25,8 @@ use Rattle.imap_tokens.specs.Words.{is_atom, is_word}
 use Rattle.imap_tokens.specs.declared.tokens.Token.{Token}
 use Rattle.imap_tokens.specs.declared.tokens.Token.TheVariants.{Space, Open as Opens, Close, Word, Quoted, Literal}
 use Rattle.imap_lines.specs.Append.{append_in, date_by, first_date, first_flags, message_in, only_literal}
-use Rattle.imap_lines.specs.Arguments.{behind_space, first_pattern, first_string, next_string, next_word, string_and_list, string_and_pattern, two_strings, last_string}
+use Rattle.imap_tokens.specs.Arguments.{behind_space, first_string, next_string, next_word}
+use Rattle.imap_lines.specs.Arguments.{first_pattern, string_and_list, string_and_pattern, two_strings, last_string}
 use Rattle.imap_lines.specs.Asks.{statuses_from}
 use Rattle.imap_lines.specs.Command.{Reading, command_in, command_of, heading_of, if_asked, if_headed, if_tagged, spoken, takes_all, uid_heading_of}
 use Rattle.imap_lines.specs.Fetch.{fetch_in}

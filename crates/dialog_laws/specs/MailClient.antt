@@ -1,6 +1,7 @@
 -- The whole dialog with a mail client, and what is asked in it.
 use Rattle.std.specs.Prelude.{ℕ, ◌≤◌, List, [], ◌∷◌, ◌++◌, Result}
 use Rattle.std.specs.List.{AllByRecursion}
+use Rattle.undo_base.specs.declared.limits.TheConstants.{LAST_MOMENT}
 use Rattle.undo_base.specs.Name.{IsName}
 use Rattle.smtp_lines.specs.declared.line.SmtpLine.{SmtpLine}
 use Rattle.verb_core.specs.declared.ask.Ask.{Ask}
@@ -53,7 +54,7 @@ pub data Taken : Type 0 where
 
 -- the moment of a line lies within the years that dates can say
 abbrev pub IsTimely : Taken → Type 0
-IsTimely (Line conf at line) = at ≤ 253402300799
+IsTimely (Line conf at line) = at ≤ LAST_MOMENT
 IsTimely (Outcome outcome) = Unit {0}
 
 abbrev pub turn_of : House → Dialog → Taken → Turn

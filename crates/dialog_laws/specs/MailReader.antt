@@ -2,6 +2,7 @@
 use Rattle.std.specs.Prelude.{ℕ, ◌≤◌, ◌+◌, List, [], ◌∷◌, ◌++◌, length, Option, IfSome, Result}
 use Rattle.std.specs.List.{AllByRecursion}
 use Rattle.undo_base.specs.declared.keys.User.{User}
+use Rattle.undo_base.specs.declared.limits.TheConstants.{LAST_MOMENT}
 use Rattle.undo_base.specs.Name.{IsName}
 use Rattle.seal_log.specs.declared.fault.ReadFault.{ReadFault}
 use Rattle.imap_stream.specs.declared.next.RawCommand.{RawCommand}
@@ -39,7 +40,7 @@ IsShort raw = octets_in raw.lines + octets_in raw.literals ≤ 4294967295
 
 -- the moment of an APPEND, and the pattern of a LIST or an LSUB behind its reference, are in their ranges
 abbrev pub IsSpoken : ImapWhat → Type 0
-IsSpoken (what.Append mailbox flags moment text) = IfSome moment (λ at. at ≤ 253402300799)
+IsSpoken (what.Append mailbox flags moment text) = IfSome moment (λ at. at ≤ LAST_MOMENT)
 IsSpoken (what.List reference pattern) = length reference + length pattern ≤ 4294967295
 IsSpoken (what.Lsub reference pattern) = length reference + length pattern ≤ 4294967295
 IsSpoken _ = Unit {0}

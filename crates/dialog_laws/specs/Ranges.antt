@@ -2,6 +2,7 @@
 use Rattle.std.specs.Prelude.{ℕ, ◌≤◌, List, [], ◌∷◌, length, IfSome}
 use Rattle.std.specs.List.{AllByRecursion}
 use Rattle.undo_base.specs.declared.keys.Key.{Key}
+use Rattle.undo_base.specs.declared.limits.TheConstants.{LAST_MOMENT}
 use Rattle.undo_base.specs.Name.{IsName}
 use Rattle.verb_core.specs.declared.ask.Ask.{Ask}
 use Rattle.verb_core.specs.declared.ask.Ask.TheVariants.{Deliver, Append, Fetch, Store, Copy, List as Names, Status, Select, Expunge, Close, Create, Rename, Delete}
@@ -25,14 +26,14 @@ AreAllKeys keys = AllByRecursion IsKey keys
 -- an APPEND may have any length, since the store refuses one that is too large.
 abbrev pub IsRecordable : Ask → Type 0
 IsRecordable (Deliver from to text) = IsMail from to text
-IsRecordable (Append mailbox flags moment text) = IsName mailbox × IfSome moment (λ at. at ≤ 253402300799)
+IsRecordable (Append mailbox flags moment text) = IsName mailbox × IfSome moment (λ at. at ≤ LAST_MOMENT)
 IsRecordable (Fetch mailbox keys sets_seen shows_body strict asked) = IsName mailbox × AreAllKeys keys
 IsRecordable (Store mailbox keys how flags strict) = IsName mailbox × AreAllKeys keys
 IsRecordable (Copy mailbox keys target strict) = IsName mailbox × AreAllKeys keys × IsName target
 IsRecordable (Names pattern) = length pattern ≤ 4294967295
 IsRecordable (Status mailbox) = IsName mailbox
 IsRecordable (Select mailbox) = IsName mailbox
-IsRecordable (Expunge mailbox) = IsName mailbox
+IsRecordable (Expunge mailbox only) = IsName mailbox
 IsRecordable (Close mailbox removes) = IsName mailbox
 IsRecordable (Create mailbox) = IsName mailbox
 IsRecordable (Rename mailbox target) = IsName mailbox × IsName target

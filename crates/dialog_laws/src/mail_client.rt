@@ -1,6 +1,7 @@
 //! What a mail client's dialog asks. These functions do nothing but name a law: their contracts are laws of the definitions.
 ghost use Rattle.std.specs.Prelude.{◌≡◌, ℕ, ◌≤◌, List, Result};
 ghost use Rattle.std.specs.List.{AllByRecursion, Contains};
+ghost use Rattle.undo_base.specs.declared.limits.TheConstants.{LAST_MOMENT};
 ghost use Rattle.undo_base.specs.Name.{IsName};
 ghost use Rattle.smtp_lines.specs.declared.line.SmtpLine.{SmtpLine};
 ghost use Rattle.verb_core.specs.declared.ask.Ask.TheVariants.{Deliver};
@@ -24,7 +25,7 @@ pub fn mail_dialogs_have_names()
     ensures opening { IsMailing opening }
     ensures turn { (house : House) (conf : Conf) (at : ℕ) (d : TheDialog) (line : SmtpLine) → IsMailing d → IsMailing (turn house conf at d line).dialog }
     ensures settled { (d : TheDialog) (outcome : Result Item SubmitFault) → IsMailing d → IsMailing (settle d outcome).dialog }
-    ensures mail { (house : House) (conf : Conf) (at : ℕ) (d : TheDialog) (line : SmtpLine) (from : List ℕ) (to : List (List ℕ)) (text : List ℕ) → IsName house.host → at ≤ 253402300799 →
+    ensures mail { (house : House) (conf : Conf) (at : ℕ) (d : TheDialog) (line : SmtpLine) (from : List ℕ) (to : List (List ℕ)) (text : List ℕ) → IsName house.host → at ≤ LAST_MOMENT →
         IsMailing d → (turn house conf at d line).out ≡ Asks (Deliver from to text) → IsMail from to text }
 {
     one_command();
@@ -35,7 +36,7 @@ pub fn mail_dialogs_have_names()
 pub fn mail_clients_ask_for_deliveries()
     ensures deliveries { (house : House) (takes : List Taken) → IsName house.host → AllByRecursion IsTimely takes → AllByRecursion IsDelivery (asked_in house opening takes) }
     ensures spelled { (house : House) (takes : List Taken) (from : List ℕ) (to : List (List ℕ)) (text : List ℕ) (number at : ℕ) → IsName house.host → AllByRecursion IsTimely takes →
-        Contains (asked_in house opening takes) (Deliver from to text) → number ≤ 4294967295 → at ≤ 253402300799 → HasSpelling (Verb (delivery number at from to text)) }
+        Contains (asked_in house opening takes) (Deliver from to text) → number ≤ 4294967295 → at ≤ LAST_MOMENT → HasSpelling (Verb (delivery number at from to text)) }
 {
     one_command();
 }

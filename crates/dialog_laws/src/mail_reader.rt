@@ -1,6 +1,7 @@
 //! What a mail reader's dialog asks. These functions do nothing: their contracts are laws of the definitions.
 ghost use Rattle.std.specs.Prelude.{◌≡◌, ℕ, ◌≤◌, IsTrue, List, Ok, Option, Result};
 ghost use Rattle.std.specs.List.{AllByRecursion, Contains};
+ghost use Rattle.undo_base.specs.declared.limits.TheConstants.{LAST_MOMENT};
 ghost use Rattle.seal_log.specs.declared.fault.ReadFault.{ReadFault};
 ghost use Rattle.imap_stream.specs.declared.next.Next.TheVariants.{Command as Said};
 ghost use Rattle.imap_stream.specs.declared.next.RawCommand.{RawCommand};
@@ -16,7 +17,7 @@ ghost use Rattle.verb_core.specs.declared.mailbox.BoxId.{BoxId};
 ghost use Rattle.verb_core.specs.Live.{live};
 ghost use Rattle.verb_core.specs.Store.{IsValid, MailStore, is_house};
 ghost use Rattle.imap_session.specs.declared.dialog.Dialog.{Dialog as TheDialog};
-ghost use Rattle.imap_session.specs.Dialog.{heard, hears, opening, settle, turn, without_memory};
+ghost use Rattle.imap_session.specs.Dialog.{heard, opening, settle, turn, without_memory};
 ghost use Rattle.verb_bytes.specs.declared.journal.JournalRecord.TheVariants.{Verb};
 ghost use Rattle.verb_bytes.specs.Spelling.{HasSpelling};
 ghost use Rattle.dialog_laws.specs.Ranges.{IsStored};
@@ -48,5 +49,5 @@ pub fn reading_dialogs_have_names()
 /// Whatever a mail reader says and is answered, the store makes of each ask an item that has a spelling, if it does not refuse it.
 pub fn mail_readers_ask_what_can_be_recorded()
     ensures { (house : House) (takes : List Taken) (asked : AskedBy) (s : MailStore) (number at : ℕ) (item : Item) → IsTrue (is_house house) → AllByRecursion IsPlain takes →
-        Contains (asked_in house opening takes) asked → IsValid s → IsStored s → number ≤ 4294967295 → at ≤ 253402300799 → live s number at asked.user asked.ask ≡ Ok item → HasSpelling (Verb item) }
+        Contains (asked_in house opening takes) asked → IsValid s → IsStored s → number ≤ 4294967295 → at ≤ LAST_MOMENT → live s number at asked.user asked.ask ≡ Ok item → HasSpelling (Verb item) }
 {}

@@ -1,6 +1,7 @@
 //! What the store makes of an ask, and what items leave of it. These functions do nothing: their contracts are laws of the definitions.
 ghost use Rattle.std.specs.Prelude.{◌≡◌, ℕ, ◌+◌, ◌≤◌, IsTrue, IfSome, List, length, None, Ok, Option, Some};
 ghost use Rattle.std.specs.List.{AllByRecursion};
+ghost use Rattle.undo_base.specs.declared.limits.TheConstants.{LAST_MOMENT};
 ghost use Rattle.undo_base.specs.declared.keys.User.{User};
 ghost use Rattle.verb_core.specs.declared.ask.Ask.{Ask};
 ghost use Rattle.verb_core.specs.declared.ask.Ask.TheVariants.{Deliver};
@@ -21,9 +22,9 @@ ghost use Rattle.dialog_laws.specs.Ranges.{IsKeeping, IsRecordable, IsStored};
 /// The item that a store makes of an ask that can be recorded has a spelling, with what is shown for it.
 pub fn live_items_have_spellings()
     ensures asked { (s : MailStore) (number at : ℕ) (by : Option User) (ask : Ask) (item : Item) → IsValid s → IsStored s → IsRecordable ask → IfSome by IsUser →
-        number ≤ 4294967295 → at ≤ 253402300799 → live s number at by ask ≡ Ok item → IsAsked item }
+        number ≤ 4294967295 → at ≤ LAST_MOMENT → live s number at by ask ≡ Ok item → IsAsked item }
     ensures spelled { (s : MailStore) (number at : ℕ) (by : Option User) (ask : Ask) (item : Item) → IsValid s → IsStored s → IsRecordable ask → IfSome by IsUser →
-        number ≤ 4294967295 → at ≤ 253402300799 → live s number at by ask ≡ Ok item → HasSpelling (Verb item) }
+        number ≤ 4294967295 → at ≤ LAST_MOMENT → live s number at by ask ≡ Ok item → HasSpelling (Verb item) }
     ensures delivered { (s : MailStore) (number at : ℕ) (from : List ℕ) (to : List (List ℕ)) (text : List ℕ) (item : Item) →
         live s number at None (Deliver from to text) ≡ Ok item → item ≡ delivery number at from to text }
 {}

@@ -11,11 +11,11 @@ use Rattle.verb_bytes.specs.declared.journal.JournalRecord.{JournalRecord}
 use Rattle.verb_bytes.specs.Spelling.{record_bytes}
 use Rattle.verb_core.specs.Names.{is_empty}
 use Rattle.store_kept.specs.Kept.{Kept}
-use Rattle.time_desk.specs.Crashing.{LeavesFront}
-use Rattle.time_desk.specs.Lasting.{Lasting}
-use Rattle.time_desk.specs.Records.{after_record, after_records, first_state, payloads_of, state}
-use Rattle.time_desk.specs.Sealing.{ReadNoTexts, Seals}
-use Rattle.time_desk.specs.Stored.{HoldsTexts}
+use Rattle.desk_journal.specs.Crashing.{LeavesFront}
+use Rattle.desk_journal.specs.Lasting.{Lasting}
+use Rattle.desk_journal.specs.Records.{after_record, after_records, first_state, payloads_of, state}
+use Rattle.desk_journal.specs.Sealing.{ReadNoTexts, Seals}
+use Rattle.desk_journal.specs.Stored.{HoldsTexts}
 use Rattle.mail_loop.specs.Asked.{HaveSealed}
 use Rattle.mail_loop.specs.Did.{Keeps}
 use Rattle.mail_loop.specs.Machine.{Answered, Hindrances, Keeping, answered, happens, ignored, is_end}

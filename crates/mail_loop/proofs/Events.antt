@@ -15,8 +15,8 @@ use Rattle.mail_loop.specs.declared.console_turn.Turned.{Turned}
 use Rattle.mail_loop.specs.ConsoleTurn.{AreSaid}
 use Rattle.store_kept.specs.Kept.{Kept, snapshotted}
 use Rattle.verb_bytes.specs.declared.journal.JournalRecord.{JournalRecord}
-use Rattle.time_desk.specs.Reading.{Reads, none_read}
-use Rattle.time_desk.specs.Records.{snapshot_record}
+use Rattle.desk_journal.specs.Reading.{Reads, none_read}
+use Rattle.desk_journal.specs.Records.{snapshot_record}
 use Rattle.mail_loop.specs.State.{Seat, State}
 use Rattle.mail_loop.specs.Hindrance.{Hindrance}
 use Rattle.mail_loop.specs.Machine.{Seats, Delivery, Keeping, IsKept, IsPassed, IsUnkept, Outcome, told_others, ignored, unfed, with_reply, Hindrances, Reply, Answered, answered, answers, hears_at, seat_at, seated, after_reply, delivered, happens, is_end, is_snapshot_due, outcome, with_snapshot}

@@ -33,7 +33,7 @@ use Rattle.imap_session.specs.Words.{fault_text, unread_text}
 use Rattle.store_kept.specs.Kept.{Kept, store_of}
 use Rattle.mail_desk.specs.Desk.{Submitted, submitted_as}
 use Rattle.verb_bytes.specs.declared.journal.JournalRecord.{JournalRecord}
-use Rattle.time_desk.specs.Reading.{Reads, failed_once, none_read, wrong_once}
+use Rattle.desk_journal.specs.Reading.{Reads, failed_once, none_read, wrong_once}
 use Rattle.verb_bytes.specs.declared.journal.JournalRecord.TheVariants.{Verb}
 use Rattle.mail_loop.specs.Asked.{Asked, fails, unsealed_as}
 use Rattle.mail_desk.specs.Timeline.{texts_of}

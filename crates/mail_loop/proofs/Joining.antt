@@ -6,7 +6,7 @@ use Rattle.std.specs.Ordering.{nat_cmp}
 use Rattle.undo_base.specs.declared.memory.NoMemory.{NoMemory as WantOfMemory}
 use Rattle.verb_core.specs.declared.conf.House.{House}
 use Rattle.store_kept.specs.Kept.{Kept}
-use Rattle.time_desk.specs.Reading.{none_read}
+use Rattle.desk_journal.specs.Reading.{none_read}
 use Rattle.mail_loop.specs.State.{Seat}
 use Rattle.mail_loop.specs.ConsoleTurn.{no_consoles}
 use Rattle.mail_loop.specs.Machine.{Answered, Reply, Seats, ungreeted, with_new_seat}

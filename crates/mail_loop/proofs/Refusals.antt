@@ -14,7 +14,7 @@ use Rattle.box_store.specs.Refusing.{IsRefusal}
 use Rattle.smtp_session.specs.Dialog.{is_outcome_of_delivery, is_refusal_of_delivery}
 use Rattle.store_kept.specs.Kept.{Kept, store_of}
 use Rattle.verb_bytes.specs.declared.journal.JournalRecord.{JournalRecord}
-use Rattle.time_desk.specs.Reading.{Reads}
+use Rattle.desk_journal.specs.Reading.{Reads}
 use Rattle.mail_loop.specs.Took.{Submits}
 
 not_users : {A : Type 0} → true ≡ false → A
@@ -58,7 +58,7 @@ delivery_refused seldom s number at (Copy mailbox keys target strict) why by is 
 delivery_refused seldom s number at (Names pattern) why by is = not_users by
 delivery_refused seldom s number at (Status mailbox) why by is = not_users by
 delivery_refused seldom s number at (Select mailbox) why by is = not_users by
-delivery_refused seldom s number at (Expunge mailbox) why by is = not_users by
+delivery_refused seldom s number at (Expunge mailbox only) why by is = not_users by
 delivery_refused seldom s number at (Close mailbox removes) why by is = not_users by
 delivery_refused seldom s number at (Create mailbox) why by is = not_users by
 delivery_refused seldom s number at (Rename mailbox target) why by is = not_users by

@@ -15,12 +15,12 @@ use Rattle.verb_bytes.specs.declared.journal.JournalRecord.{JournalRecord}
 use Rattle.verb_bytes.specs.declared.journal.JournalRecord.TheVariants.{Verb}
 use Rattle.store_kept.specs.Kept.{Kept, snapshotted, store_of}
 use Rattle.mail_desk.specs.Desk.{submitted}
-use Rattle.time_desk.specs.Lasting.{Lasting, IsUnwritten}
-use Rattle.time_desk.specs.Reading.{HaveRead, IsStill, Reads, ReadsWell, both_read, failed_once, none_read, wrong_once}
-use Rattle.time_desk.specs.Sealing.{Seals}
-use Rattle.time_desk.specs.Stored.{HoldsTexts}
-use Rattle.time_desk.specs.Records.{snapshot_record}
-use Rattle.time_desk.specs.Submitting.{SnapshotsNone, SubmitsNone}
+use Rattle.desk_journal.specs.Lasting.{Lasting, IsUnwritten}
+use Rattle.desk_journal.specs.Reading.{HaveRead, IsStill, Reads, ReadsWell, both_read, failed_once, none_read, wrong_once}
+use Rattle.desk_journal.specs.Sealing.{Seals}
+use Rattle.desk_journal.specs.Stored.{HoldsTexts}
+use Rattle.desk_journal.specs.Records.{snapshot_record}
+use Rattle.desk_journal.specs.Submitting.{SnapshotsNone, SubmitsNone}
 use Rattle.mail_loop.specs.declared.reply.Reply.{Reply}
 use Rattle.mail_loop.specs.Asked.{HaveSealed}
 use Rattle.mail_loop.specs.SmtpTurn.{Turn}

@@ -11,9 +11,9 @@ use Rattle.imap_session.specs.declared.out.ImapOut.TheVariants.{Read}
 use Rattle.imap_session.specs.Dialog.{is_reading}
 use Rattle.store_kept.specs.Kept.{Kept}
 use Rattle.mail_desk.specs.Timeline.{texts_of}
-use Rattle.time_desk.specs.Lasting.{Lasting}
-use Rattle.time_desk.specs.Reading.{IsStill, ReadsWell, none_read, wrong_once}
-use Rattle.time_desk.specs.Stored.{HoldsTexts}
+use Rattle.desk_journal.specs.Lasting.{Lasting}
+use Rattle.desk_journal.specs.Reading.{IsStill, ReadsWell, none_read, wrong_once}
+use Rattle.desk_journal.specs.Stored.{HoldsTexts}
 use Rattle.console_session.proofs.Deciding.{IsSame, decided}
 use Rattle.mail_loop.specs.declared.reply.Reply.{Reply}
 use Rattle.mail_loop.specs.Asked.{HaveSealed}

@@ -30,7 +30,7 @@ use Rattle.mail_loop.specs.declared.reply.Reply.{Reply}
 use Rattle.store_kept.specs.Kept.{Kept, store_of}
 use Rattle.mail_desk.specs.Desk.{Submitted, submitted_as}
 use Rattle.verb_bytes.specs.declared.journal.JournalRecord.{JournalRecord}
-use Rattle.time_desk.specs.Reading.{Reads, none_read}
+use Rattle.desk_journal.specs.Reading.{Reads, none_read}
 use Rattle.verb_bytes.specs.declared.journal.JournalRecord.TheVariants.{Verb}
 use Rattle.mail_loop.specs.Asked.{Asked, does, fails, unsealed_as}
 use Rattle.mail_loop.specs.SmtpTurn.{Turn, says, ends, settled_as, settled, followed}

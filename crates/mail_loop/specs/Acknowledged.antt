@@ -3,11 +3,11 @@ use Rattle.std.specs.Prelude.{◌≡◌, ℕ, true, false, List, [], ◌∷◌, 
 use Rattle.undo_outside.specs.Disk.{DiskTold}
 use Rattle.verb_bytes.specs.declared.journal.JournalRecord.{JournalRecord}
 use Rattle.store_kept.specs.Kept.{Kept}
-use Rattle.time_desk.specs.Crashing.{LeavesFront}
-use Rattle.time_desk.specs.Lasting.{Lasting}
-use Rattle.time_desk.specs.Reading.{HaveRead, none_read}
-use Rattle.time_desk.specs.Records.{state}
-use Rattle.time_desk.specs.Sealing.{Seals}
+use Rattle.desk_journal.specs.Crashing.{LeavesFront}
+use Rattle.desk_journal.specs.Lasting.{Lasting}
+use Rattle.desk_journal.specs.Reading.{HaveRead, none_read}
+use Rattle.desk_journal.specs.Records.{state}
+use Rattle.desk_journal.specs.Sealing.{Seals}
 use Rattle.mail_loop.specs.State.{State}
 use Rattle.mail_loop.specs.Machine.{Answered, answered, happens}
 use Rattle.mail_loop.specs.Serving.{Step, at_first, run}

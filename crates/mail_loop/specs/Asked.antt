@@ -11,9 +11,9 @@ use Rattle.verb_core.specs.Live.{live}
 use Rattle.verb_bytes.specs.declared.journal.JournalRecord.{JournalRecord}
 use Rattle.verb_bytes.specs.declared.journal.JournalRecord.TheVariants.{Verb}
 use Rattle.undo_outside.specs.Disk.{DiskTold}
-use Rattle.time_desk.specs.Lasting.{Lasting}
-use Rattle.time_desk.specs.Reading.{HaveRead, Reads}
-use Rattle.time_desk.specs.Sealing.{Seals}
+use Rattle.desk_journal.specs.Lasting.{Lasting}
+use Rattle.desk_journal.specs.Reading.{HaveRead, Reads}
+use Rattle.desk_journal.specs.Sealing.{Seals}
 use Rattle.store_kept.specs.Kept.{Kept, store_of}
 use Rattle.mail_desk.specs.Desk.{submitted}
 

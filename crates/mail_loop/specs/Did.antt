@@ -6,9 +6,9 @@ use Rattle.undo_outside.specs.declared.event.LinkNote.TheVariants.{Closed}
 use Rattle.undo_outside.specs.Calls.{LinkTold, then_told}
 use Rattle.undo_outside.specs.Disk.{DiskTold}
 use Rattle.verb_bytes.specs.declared.journal.JournalRecord.{JournalRecord}
-use Rattle.time_desk.specs.Lasting.{Lasting}
-use Rattle.time_desk.specs.Reading.{Counted, Reads, RoseBy, none_read}
-use Rattle.time_desk.specs.Records.{snapshot_record}
+use Rattle.desk_journal.specs.Lasting.{Lasting}
+use Rattle.desk_journal.specs.Reading.{Counted, Reads, RoseBy, none_read}
+use Rattle.desk_journal.specs.Records.{snapshot_record}
 use Rattle.store_kept.specs.Kept.{Kept, snapshotted}
 use Rattle.mail_loop.specs.Asked.{HaveSealed}
 use Rattle.mail_loop.specs.ConsoleTurn.{AreSaid}

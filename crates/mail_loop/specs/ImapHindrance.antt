@@ -9,7 +9,7 @@ use Rattle.imap_session.specs.declared.dialog.Dialog.{Dialog}
 use Rattle.imap_session.specs.declared.words.Answer.TheVariants.{Refused as IsToldRefused}
 use Rattle.imap_session.specs.Dialog.{without_memory}
 use Rattle.imap_session.specs.Words.{tagged}
-use Rattle.time_desk.specs.Reading.{failed_once, wrong_once}
+use Rattle.desk_journal.specs.Reading.{failed_once, wrong_once}
 use Rattle.store_kept.specs.Kept.{Kept}
 use Rattle.mail_loop.specs.Asked.{fails, starves}
 use Rattle.mail_loop.specs.SmtpTurn.{Turn, says}

@@ -18,7 +18,7 @@ use Rattle.imap_session.specs.declared.out.ImapOut.TheVariants.{Say, Read, Submi
 use Rattle.imap_session.specs.Dialog as session
 use Rattle.imap_session.specs.Dialog.{is_due, is_free}
 use Rattle.verb_bytes.specs.declared.journal.JournalRecord.{JournalRecord}
-use Rattle.time_desk.specs.Reading.{Reads, failed_once, none_read}
+use Rattle.desk_journal.specs.Reading.{Reads, failed_once, none_read}
 use Rattle.store_kept.specs.Kept.{Kept, store_of}
 use Rattle.store_kept.specs.Texts.{has_text_kept}
 use Rattle.mail_loop.specs.declared.reply.Reply.{Reply}

@@ -18,7 +18,7 @@ use Rattle.imap_session.specs.declared.out.ImapOut.{ImapOut}
 use Rattle.imap_session.specs.declared.out.ImapOut.TheVariants.{Say, Read, Submit, Bye}
 use Rattle.imap_session.specs.Dialog as session
 use Rattle.imap_session.specs.Words.{bad_line_text, ready_text}
-use Rattle.time_desk.specs.Reading.{Reads, none_read}
+use Rattle.desk_journal.specs.Reading.{Reads, none_read}
 use Rattle.store_kept.specs.Kept.{Kept, store_of}
 use Rattle.store_kept.specs.Texts.{text_kept, texts_kept}
 use Rattle.mail_loop.specs.Asked.{Asked, Asking, does}

@@ -22,8 +22,8 @@ use Rattle.imap_session.specs.Dialog as imap
 use Rattle.imap_session.specs.Words.{changed_text, greeting_text, rewound_text}
 use Rattle.verb_bytes.specs.declared.journal.JournalRecord.{JournalRecord}
 use Rattle.store_kept.specs.Kept.{snapshotted}
-use Rattle.time_desk.specs.Reading.{Reads, none_read}
-use Rattle.time_desk.specs.Records.{snapshot_record}
+use Rattle.desk_journal.specs.Reading.{Reads, none_read}
+use Rattle.desk_journal.specs.Records.{snapshot_record}
 use Rattle.console_head.specs.Request.{Stage}
 use Rattle.mail_loop.specs.State.{Seat, Smtp, Imap, Http, State}
 use Rattle.mail_loop.specs.Hindrance.{Hindrance}

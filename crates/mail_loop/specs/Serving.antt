@@ -9,7 +9,7 @@ use Rattle.mail_loop.specs.declared.serve.ServeFault.{ServeFault}
 use Rattle.mail_loop.specs.declared.serve.ServeFault.TheVariants.{Link, Disk, Turns, NoMemory}
 use Rattle.store_kept.specs.Kept.{Kept}
 use Rattle.verb_bytes.specs.declared.journal.JournalRecord.{JournalRecord}
-use Rattle.time_desk.specs.Reading.{Counted, Reads, RoseBy, both_read, none_read}
+use Rattle.desk_journal.specs.Reading.{Counted, Reads, RoseBy, both_read, none_read}
 use Rattle.mail_loop.specs.State.{State}
 use Rattle.mail_loop.specs.ConsoleTurn.{AreSaid, Consoles, Reading, both, no_consoles}
 use Rattle.mail_loop.specs.Machine.{Hindrances, IsPassed, Outcome, happens, is_end}

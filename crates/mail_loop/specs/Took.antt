@@ -22,7 +22,7 @@ use Rattle.mail_desk.specs.Desk.{submitted}
 use Rattle.mail_loop.specs.State.{Seat}
 use Rattle.verb_bytes.specs.declared.journal.JournalRecord.{JournalRecord}
 use Rattle.verb_bytes.specs.declared.journal.JournalRecord.TheVariants.{Verb}
-use Rattle.time_desk.specs.Reading.{Reads, none_read}
+use Rattle.desk_journal.specs.Reading.{Reads, none_read}
 use Rattle.mail_loop.specs.Asked.{Asked, does, fails}
 use Rattle.mail_loop.specs.SmtpTurn.{Turn, ends, followed, settled}
 use Rattle.mail_loop.specs.Hindrance.{Hindrance, Clear, Refused, Textless, Unread, UnreadRefused, UnreadUnheard, Misread, Misled, Unstored, Unheard, Unanswered, Unsealed, Untold, lost, unanswered, refused_in_text}

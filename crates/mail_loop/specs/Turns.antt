@@ -13,7 +13,7 @@ use Rattle.imap_stream.specs.declared.next.Next.{Next}
 use Rattle.imap_stream.specs.declared.next.Next.TheVariants.{NotYet}
 use Rattle.imap_session.specs.declared.dialog.Dialog.{Dialog as ImapDialog}
 use Rattle.verb_bytes.specs.declared.journal.JournalRecord.{JournalRecord}
-use Rattle.time_desk.specs.Reading.{Reads, both_read, none_read}
+use Rattle.desk_journal.specs.Reading.{Reads, both_read, none_read}
 use Rattle.console_head.specs.Request.{Stage}
 use Rattle.mail_loop.specs.State.{Seat, Smtp, Imap, Http, State}
 use Rattle.mail_loop.specs.SmtpTurn.{Turn}

@@ -1,7 +1,7 @@
 //! The turn of a console: its session answers one request over the desk.
 ghost use Rattle.std.specs.Prelude.{◌≡◌, ◌≤◌, Bool, List, false};
 ghost use Rattle.verb_bytes.specs.declared.journal.JournalRecord.{JournalRecord};
-ghost use Rattle.time_desk.specs.Reading.{Reads};
+ghost use Rattle.desk_journal.specs.Reading.{Reads};
 ghost use Rattle.console_head.specs.Request.{Stage};
 ghost use Rattle.mail_loop.specs.State.{Http as HttpSeat};
 ghost use Rattle.mail_loop.specs.Asked.{HaveSealed};

@@ -5,7 +5,7 @@ ghost use Rattle.verb_core.specs.declared.mailbox.BoxId.{BoxId as TheBoxId};
 ghost use Rattle.smtp_session.specs.Dialog.{is_due};
 ghost use Rattle.imap_session.specs.Dialog.{holds, is_at_home, is_free};
 ghost use Rattle.verb_bytes.specs.declared.journal.JournalRecord.{JournalRecord};
-ghost use Rattle.time_desk.specs.Reading.{Reads};
+ghost use Rattle.desk_journal.specs.Reading.{Reads};
 ghost use Rattle.mail_loop.specs.State.{Smtp as SmtpSeat, Imap as ImapSeat};
 ghost use Rattle.mail_loop.specs.Asked.{HaveSealed};
 ghost use Rattle.mail_loop.specs.Hindrance.{Hindrance};

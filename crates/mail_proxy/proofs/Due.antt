@@ -18,7 +18,7 @@ use Rattle.desk_journal.specs.declared.fault.MakeFault.{MakeFault}
 use Rattle.desk_journal.specs.declared.fault.MakeFault.TheVariants as make
 use Rattle.time_desk.specs.declared.fault.StartFault.{StartFault}
 use Rattle.time_desk.specs.declared.fault.StartFault.TheVariants as start
-use Rattle.time_desk.specs.Making.{Makes}
+use Rattle.desk_journal.specs.Making.{Makes}
 use Rattle.time_desk.specs.Opening.{OpensAs, Starts}
 use Rattle.command_words.specs.declared.commands.Command.{Command}
 use Rattle.command_words.specs.declared.commands.Command.TheVariants.{Init, Serve, Script, Play, Grow, Check}

@@ -8,11 +8,11 @@ use Rattle.seal_log.specs.Journal.{StandsFor, StandsForFront}
 use Rattle.seal_log.specs.Settled.{IsSettled}
 use Rattle.verb_bytes.specs.declared.journal.JournalRecord.{JournalRecord}
 use Rattle.verb_bytes.specs.Spelling.{record_bytes}
-use Rattle.time_desk.specs.Lasting.{Lasting}
+use Rattle.desk_journal.specs.Lasting.{Lasting}
 use Rattle.time_desk.specs.Opening.{Starts}
-use Rattle.time_desk.specs.Records.{payloads_of, state}
-use Rattle.time_desk.specs.Sealing.{Seals}
-use Rattle.time_desk.specs.Stored.{HoldsTexts}
+use Rattle.desk_journal.specs.Records.{payloads_of, state}
+use Rattle.desk_journal.specs.Sealing.{Seals}
+use Rattle.desk_journal.specs.Stored.{HoldsTexts}
 use Rattle.mail_loop.specs.Acknowledged.{AnswersLast, Course, Stretch}
 use Rattle.mail_loop.specs.Serving.{at_first}
 use Rattle.mail_proxy.specs.Script.{Journals}

@@ -3,7 +3,7 @@ use Rattle.std.proofs.Common.{◌≡◌, ◌≢◌, ◌<◌, ℕ, ◌+◌, zero,
 use Rattle.std.proofs.lemmas.Bool.Decides.{nat_tests}
 use Rattle.mail_loop.specs.declared.serve.ServeFault.{ServeFault}
 use Rattle.mail_loop.specs.declared.serve.ServeFault.TheVariants.{NoMemory}
-use Rattle.time_desk.specs.Reading.{Counted}
+use Rattle.desk_journal.specs.Reading.{Counted}
 use Rattle.mail_proxy.specs.Script.{or_no_memory, unless_left_out}
 
 -- what came out well ended well, and nothing was left out

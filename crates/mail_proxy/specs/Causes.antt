@@ -15,7 +15,7 @@ use Rattle.script_link.specs.Script.{script_of}
 use Rattle.script_link.specs.Transcript.{transcript_of}
 use Rattle.desk_journal.specs.declared.fault.MakeFault.TheVariants as make
 use Rattle.time_desk.specs.declared.fault.StartFault.TheVariants as start
-use Rattle.time_desk.specs.Making.{Makes}
+use Rattle.desk_journal.specs.Making.{Makes}
 use Rattle.time_desk.specs.Opening.{IsDamaged, OpensAs, Starts}
 use Rattle.command_words.specs.declared.commands.Command.{Command}
 use Rattle.mail_proxy.specs.Init.{IsNoConfig}

@@ -6,7 +6,7 @@ use Rattle.mail_desk.specs.declared.counts.Counts.{Counts}
 use Rattle.mail_desk.specs.Counting.{counts_of}
 use Rattle.store_kept.specs.Kept.{Kept, store_of}
 use Rattle.store_digest.specs.Snapshots.{digest_of}
-use Rattle.time_desk.specs.Lasting.{Lasting}
+use Rattle.desk_journal.specs.Lasting.{Lasting}
 use Rattle.mail_proxy.specs.Lines.{lf, no_memory}
 use Rattle.mail_proxy.specs.Opening.{Opens}
 use Rattle.mail_proxy.specs.Texts.{End}

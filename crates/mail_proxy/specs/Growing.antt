@@ -6,9 +6,9 @@ use Rattle.undo_outside.specs.Disk.{DiskTold, WriteFailed}
 use Rattle.mail_desk.specs.declared.counts.Counts.{Counts}
 use Rattle.mail_desk.specs.Counting.{counts_of}
 use Rattle.store_kept.specs.Kept.{Kept}
-use Rattle.time_desk.specs.Lasting.{Lasting}
-use Rattle.time_desk.specs.Reading.{HaveRead, none_read}
-use Rattle.time_desk.specs.Stored.{HoldsTexts}
+use Rattle.desk_journal.specs.Lasting.{Lasting}
+use Rattle.desk_journal.specs.Reading.{HaveRead, none_read}
+use Rattle.desk_journal.specs.Stored.{HoldsTexts}
 use Rattle.mail_loop.specs.declared.serve.ServeFault.{ServeFault}
 use Rattle.mail_loop.specs.declared.serve.ServeFault.TheVariants.{Disk}
 use Rattle.mail_loop.specs.Serving.{Step, reads_in}

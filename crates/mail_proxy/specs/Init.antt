@@ -8,7 +8,7 @@ use Rattle.store_kept.specs.Kept.{Kept}
 use Rattle.house_text.specs.Configuration.{configured}
 use Rattle.desk_journal.specs.declared.fault.MakeFault.{MakeFault}
 use Rattle.desk_journal.specs.declared.fault.MakeFault.TheVariants.{NotEmpty, Disk, NoMemory}
-use Rattle.time_desk.specs.Making.{Makes}
+use Rattle.desk_journal.specs.Making.{Makes}
 use Rattle.mail_proxy.specs.Lines.{bad_configuration, not_empty, disk_fault, no_memory}
 use Rattle.mail_proxy.specs.Texts.{End, ending, FromText}
 

@@ -3,7 +3,7 @@ use Rattle.std.specs.Prelude.{◌≡◌, ◌⊎◌, ℕ, List, Ok, Err}
 use Rattle.undo_outside.specs.Disk.{DiskTold}
 use Rattle.time_desk.specs.declared.fault.StartFault.{StartFault}
 use Rattle.time_desk.specs.declared.fault.StartFault.TheVariants.{NotFormatted, Damaged, Disk, NoMemory}
-use Rattle.time_desk.specs.Lasting.{Lasting}
+use Rattle.desk_journal.specs.Lasting.{Lasting}
 use Rattle.time_desk.specs.Opening.{Starts}
 use Rattle.mail_proxy.specs.Lines.{not_a_store, damaged, disk_fault, no_memory}
 use Rattle.mail_proxy.specs.Texts.{End}

@@ -14,7 +14,7 @@ use Rattle.verb_bytes.specs.declared.journal.JournalRecord.TheVariants.{Format, 
 use Rattle.store_kept.specs.Kept.{Kept, passed, performed, snapshotted}
 use Rattle.cycle_rules.specs.Asking.{after_cycle}
 use Rattle.cycle_rules.specs.Cycles.{cycled_at, told_at}
-use Rattle.time_desk.specs.Records.{after_kept, after_record, after_records, after_snapshot, first_state, is_cycle, is_snapshot, is_true, state}
+use Rattle.desk_journal.specs.Records.{after_kept, after_record, after_records, after_snapshot, first_state, is_cycle, is_snapshot, is_true, state}
 use Rattle.desk_journal.proofs.Runs.{state_append}
 use Rattle.snapshot_laws.specs.Usable.{cycles_in, snapshots_in}
 use Rattle.snapshot_laws.proofs.Runs.{IsLasting, along}

@@ -3,7 +3,7 @@ use Rattle.std.proofs.Common.{◌≡◌, List, [], ◌∷◌, ◌++◌, Option, 
 use Rattle.std.specs.Prelude.{option_and_then}
 use Rattle.verb_bytes.specs.declared.journal.JournalRecord.{JournalRecord}
 use Rattle.store_kept.specs.Kept.{Kept}
-use Rattle.time_desk.specs.Records.{after_record, after_records, first_state, state}
+use Rattle.desk_journal.specs.Records.{after_record, after_records, first_state, state}
 use Rattle.desk_journal.proofs.Runs.{state_append}
 
 -- one more record

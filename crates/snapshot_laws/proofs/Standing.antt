@@ -10,7 +10,7 @@ use Rattle.verb_bytes.specs.declared.journal.JournalRecord.{JournalRecord}
 use Rattle.verb_bytes.specs.declared.journal.JournalRecord.TheVariants.{Verb, Operator, Cycle, Snapshot}
 use Rattle.store_kept.specs.Kept.{Kept, new_desk, not_behind, passed, performed, placed, snapshotted}
 use Rattle.cycle_rules.specs.Cycles.{cycled_at}
-use Rattle.time_desk.specs.Records.{first_state, is_true, place_rewound_to, state}
+use Rattle.desk_journal.specs.Records.{first_state, is_true, place_rewound_to, state}
 use Rattle.snapshot_laws.specs.Usable.{GoesNoLower, IsUsable}
 use Rattle.snapshot_laws.proofs.Members.{In, Rises, placed_is, placed_itself, placed_others, rises_not_behind, rises_placed, stayed, stays}
 use Rattle.snapshot_laws.proofs.Runs.{IsLasting, along}

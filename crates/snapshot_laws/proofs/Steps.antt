@@ -19,7 +19,7 @@ use Rattle.cycle_rules.specs.Asking.{NoNumbers, Rewinds, after_cycle, cycle_due,
 use Rattle.cycle_rules.specs.Cycles.{compared_at, cycled_at, front_of, leaves_numbers, timeline_at, told_at}
 use Rattle.cycle_rules.specs.Judging.{shown_after}
 use Rattle.mail_cycle.proofs.Cycled.{length_shown}
-use Rattle.time_desk.specs.Records.{after_cycle_record, after_due, after_item, after_kept, after_snapshot, can_follow, can_rewind, first_state, is_spelled}
+use Rattle.desk_journal.specs.Records.{after_cycle_record, after_due, after_item, after_kept, after_snapshot, can_follow, can_rewind, first_state, is_spelled}
 
 -- ---- the first
 

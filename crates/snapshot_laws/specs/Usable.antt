@@ -6,7 +6,7 @@ use Rattle.verb_core.specs.declared.mailbox.Mailbox.{Mailbox}
 use Rattle.verb_bytes.specs.declared.journal.JournalRecord.{JournalRecord}
 use Rattle.verb_bytes.specs.declared.journal.JournalRecord.TheVariants.{Snapshot}
 use Rattle.store_kept.specs.Kept.{Kept}
-use Rattle.time_desk.specs.Records.{is_cycle, is_snapshot, is_true, place_rewound_to, state}
+use Rattle.desk_journal.specs.Records.{is_cycle, is_snapshot, is_true, place_rewound_to, state}
 
 -- ---- which can be used
 

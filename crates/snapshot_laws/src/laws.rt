@@ -8,7 +8,7 @@ ghost use Rattle.verb_core.specs.declared.mailbox.Mailbox.{Mailbox};
 ghost use Rattle.verb_bytes.specs.declared.journal.JournalRecord.{JournalRecord};
 ghost use Rattle.verb_bytes.specs.declared.journal.JournalRecord.TheVariants.{Snapshot};
 ghost use Rattle.store_kept.specs.Kept.{Kept, newest_at};
-ghost use Rattle.time_desk.specs.Records.{state};
+ghost use Rattle.desk_journal.specs.Records.{state};
 ghost use Rattle.snapshot_laws.specs.Usable.{IsUsable, cycles_in, snapshots_in};
 
 /// Of places that rise, `newest_at` is the last that is not behind the given one, or 0.

@@ -23,7 +23,7 @@ use Rattle.verb_core.proofs.BoxLaws.{same_user-refl}
 use Rattle.verb_core.proofs.NoTwice.{given_at, message_once, times_given-le}
 use Rattle.verb_core.proofs.Runs.{one_fate-run, valid-run}
 use Rattle.store_kept.specs.Kept.{Kept, store_of}
-use Rattle.time_desk.specs.Permanence.{IsSound}
+use Rattle.desk_journal.specs.Permanence.{IsSound}
 
 -- ---- fates
 

@@ -18,9 +18,9 @@ use Rattle.store_kept.specs.Kept.{Kept}
 use Rattle.verb_bytes.specs.declared.journal.JournalRecord.TheVariants.{Snapshot}
 use Rattle.verb_bytes.specs.Places.{IsTextAt}
 use Rattle.verb_bytes.specs.Spelling.{HasSpelling, record_bytes}
-use Rattle.time_desk.specs.Records.{is_formed, is_true, snapshot_record}
+use Rattle.desk_journal.specs.Records.{is_formed, is_true, snapshot_record}
 use Rattle.time_desk.specs.Standing.{Enters, kept_as, marked_as}
-use Rattle.time_desk.specs.Stored.{KeepsMarks, MarkedBefore, MarksLie, NotesTexts}
+use Rattle.desk_journal.specs.Stored.{KeepsMarks, MarkedBefore, MarksLie, NotesTexts}
 use Rattle.desk_journal.proofs.Marking.{marks_entered, marks_kept, marks_snapshotted, marks_with}
 use Rattle.desk_journal.proofs.Truth.{true_is}
 use Rattle.desk_journal.proofs.Noting.{recorded_is}

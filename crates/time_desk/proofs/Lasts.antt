@@ -12,10 +12,10 @@ use Rattle.verb_bytes.specs.declared.journal.JournalRecord.TheVariants.{Verb, Op
 use Rattle.store_kept.specs.Kept.{Kept, Marks, passed, performed, snapshotted, store_of}
 use Rattle.mail_cycle.specs.Permanence.{UidsLast}
 use Rattle.mail_cycle.proofs.Lasting.{lasts_itself, lasts_performed}
-use Rattle.time_desk.specs.Lasting.{Lasting}
-use Rattle.time_desk.specs.Records.{after_item, after_kept, after_record, can_follow, can_keep, is_cycle, is_formed, is_spelled, is_true}
-use Rattle.time_desk.specs.Sealing.{Seals}
-use Rattle.time_desk.specs.Submitting.{Snapshots}
+use Rattle.desk_journal.specs.Lasting.{Lasting}
+use Rattle.desk_journal.specs.Records.{after_item, after_kept, after_record, can_follow, can_keep, is_cycle, is_formed, is_spelled, is_true}
+use Rattle.desk_journal.specs.Sealing.{Seals}
+use Rattle.desk_journal.specs.Submitting.{Snapshots}
 
 -- the stamps name the mailboxes
 abbrev pub IsNamed : Kept → Type 0

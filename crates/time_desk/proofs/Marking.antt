@@ -13,7 +13,7 @@ use Rattle.mail_cycle.specs.Comparing.{timeline_by, told_by}
 use Rattle.cycle_rules.specs.Judging.{shown_after}
 use Rattle.mail_cycle.specs.Leaving.{IsMade, items_left}
 use Rattle.mail_cycle.specs.declared.settling.Rewound.{Rewound}
-use Rattle.time_desk.specs.Stored.{MarksLie}
+use Rattle.desk_journal.specs.Stored.{MarksLie}
 use Rattle.time_desk.proofs.Renoting.{made_timeline_of, shown_made}
 use Rattle.desk_journal.proofs.Marking.{Mark, marks_rewound}
 

@@ -21,7 +21,7 @@ use Rattle.repair_desk.specs.Renewals.{extends, extends_one, is_old, same_mail}
 use Rattle.mail_cycle.specs.Permanence.{UidsLast}
 use Rattle.mail_desk.specs.Timeline.{has_text}
 use Rattle.store_kept.specs.Texts.{all_bodies}
-use Rattle.time_desk.specs.Permanence.{IsSound, Message, RevsBelow, entry_at, message_at, message_of}
+use Rattle.desk_journal.specs.Permanence.{IsSound, Message, RevsBelow, entry_at, message_at, message_of}
 
 -- ---- rows
 

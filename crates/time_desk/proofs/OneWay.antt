@@ -20,7 +20,7 @@ use Rattle.house_text.specs.Beginning.{can_begin}
 use Rattle.time_desk.specs.declared.fault.StartFault.{StartFault}
 use Rattle.time_desk.specs.declared.fault.StartFault.TheVariants.{NotFormatted, Damaged, Disk, NoMemory}
 use Rattle.time_desk.specs.Opening.{BeginsBroken, IsDamaged, OpensAs}
-use Rattle.time_desk.specs.Records.{Leaves, after_cycle_record, after_due, after_item, after_kept, after_record, after_records, after_snapshot, can_follow, can_keep, can_rewind, first_state, is_spelled, payloads_of, state}
+use Rattle.desk_journal.specs.Records.{Leaves, after_cycle_record, after_due, after_item, after_kept, after_record, after_records, after_snapshot, can_follow, can_keep, can_rewind, first_state, is_spelled, payloads_of, state}
 use Rattle.time_desk.proofs.Standings.{state_push}
 
 -- each of the records can stand: they leave something, or there are none

@@ -37,9 +37,9 @@ use Rattle.mail_desk.specs.Noting.{notice_note}
 use Rattle.store_kept.specs.Kept.{Kept, report_of}
 use Rattle.paradox.specs.declared.reports.Report.{Report}
 use Rattle.cycle_rules.specs.Asking.{cycle_due, due_anew, due_by}
-use Rattle.time_desk.specs.Records.{after_cycle_record, after_due, can_rewind, is_spelled}
-use Rattle.time_desk.specs.Permanence.{RevsBelow}
-use Rattle.time_desk.specs.Stored.{HasNote, IsBefore, IsFresh, IsStored, LiesIn, NotedBefore, NotesCycle, Renotes, TextsLie, recorded_in}
+use Rattle.desk_journal.specs.Records.{after_cycle_record, after_due, can_rewind, is_spelled}
+use Rattle.desk_journal.specs.Permanence.{RevsBelow}
+use Rattle.desk_journal.specs.Stored.{HasNote, IsBefore, IsFresh, IsStored, LiesIn, NotedBefore, NotesCycle, Renotes, TextsLie, recorded_in}
 use Rattle.desk_journal.proofs.Noting.{Moves, has_note_moves, recorded_is}
 
 -- ---- the text of a body

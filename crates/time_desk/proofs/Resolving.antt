@@ -23,7 +23,7 @@ use Rattle.replay_plan.specs.Placing.{levels_of}
 use Rattle.mail_cycle.proofs.Parted.{later_of, through_of}
 use Rattle.store_kept.specs.Kept.{Kept}
 use Rattle.time_desk.specs.Planning.{plan_at, plan_from, resolved, resolved_on}
-use Rattle.time_desk.specs.Stored.{store_at}
+use Rattle.desk_journal.specs.Stored.{store_at}
 
 -- an item is resolved on the store that those before it lead to
 pub resolved_in_turn : (s : MailStore) (before later : List Item) (i : Item)

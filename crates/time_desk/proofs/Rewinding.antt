@@ -27,7 +27,7 @@ use Rattle.verb_bytes.specs.declared.journal.JournalRecord.TheVariants.{Cycle}
 use Rattle.verb_bytes.specs.Spelling.{record_bytes}
 use Rattle.paradox.specs.declared.reports.Report.{Report}
 use Rattle.store_kept.specs.Bases.{HasBase}
-use Rattle.store_kept.specs.Kept.{IsRun, Kept, newest_at, report_of, rewound}
+use Rattle.store_kept.specs.Kept.{IsRun, Kept, newest_at, report_of, rewound, with_report}
 use Rattle.shelf.specs.Marks.{marks_at_or_before}
 use Rattle.stored_items.specs.Stored.{AllHeard}
 use Rattle.repair_desk.specs.Repairs.{are_known, inserted, kept as stays, numbers_of, position, repaired}
@@ -46,16 +46,16 @@ use Rattle.time_desk.specs.Cycling.{Cycles, CyclesAs, CyclesBy, CyclesNone, IsCy
 use Rattle.mail_desk.specs.Held.{Held}
 use Rattle.mail_desk.specs.Timeline.{SizesOf, has_text}
 use Rattle.store_kept.specs.Texts.{all_bodies}
-use Rattle.time_desk.specs.Lasting.{JournalTold, Lasting, lasting}
-use Rattle.time_desk.specs.Permanence.{IsSound}
-use Rattle.time_desk.specs.Reading.{IsStill, ReadsWell}
-use Rattle.time_desk.specs.Records.{after_cycle_record, after_due, after_record, can_rewind, is_spelled}
-use Rattle.time_desk.specs.Sealing.{ReadNoTexts, IsRecordTo, Seals, SealsPayloads}
-use Rattle.time_desk.specs.Stored.{HoldsTexts, IsFresh, MarksLie, NotedBefore, Renotes, TextsLie, store_at}
+use Rattle.desk_journal.specs.Lasting.{JournalTold, Lasting, lasting}
+use Rattle.desk_journal.specs.Permanence.{IsSound}
+use Rattle.desk_journal.specs.Reading.{IsStill, ReadsWell}
+use Rattle.desk_journal.specs.Records.{after_cycle_record, after_due, after_record, can_rewind, is_spelled}
+use Rattle.desk_journal.specs.Sealing.{ReadNoTexts, IsRecordTo, Seals, SealsPayloads}
+use Rattle.desk_journal.specs.Stored.{HoldsTexts, IsFresh, MarksLie, NotedBefore, Renotes, TextsLie, store_at}
 use Rattle.mail_cycle.specs.declared.beginning.Beginning.{Beginning}
 use Rattle.time_desk.specs.Serving.{CanServe, Serves, unmarked}
-use Rattle.time_desk.specs.Submitting.{SealsBytes, SealsNone, SealsNothing}
-use Rattle.time_desk.specs.Telling.{HoldsHeld, IsOnlyRead}
+use Rattle.desk_journal.specs.Submitting.{SealsBytes, SealsNone, SealsNothing}
+use Rattle.desk_journal.specs.Telling.{HoldsHeld, IsOnlyRead}
 use Rattle.desk_journal.proofs.Holding.{holds_sealed, noted_later}
 use Rattle.desk_journal.proofs.Payloads.{none_read, payloads_then}
 use Rattle.time_desk.proofs.Marking.{length_shown, made_marks}
@@ -278,7 +278,7 @@ after_is kept ask due made leaves = λ j. record kept {
   timeline = sym leaves.timeline j;
   stamps = sym leaves.stamps j;
   next = sym leaves.next j;
-  reports = kept.reports ++ (ask.key, sym leaves.report j) ∷ [];
+  reports = with_report ask.key (sym leaves.report j) kept.reports;
   marks = rewound (sym leaves.place j) (sym leaves.entered j) kept.marks;
 }
 

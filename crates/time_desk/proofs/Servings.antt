@@ -1,5 +1,5 @@
 -- What a cycle begins with.
-use Rattle.std.proofs.Common.{◌≡◌, inl, inr, ℕ, zero, suc, ◌+◌, ◌-◌, ◌<◌, ◌≤◌, ◌&&◌, Bool, true, false, cond, nat_le, List, [], ◌∷◌, ◌++◌, length, map, take, drop, get_or, Option, Some, None, Result, Ok, Err, IfOk, arith, refl, sym, ap, ap₂, subst, ◌∙◌, slice_get}
+use Rattle.std.proofs.Common.{◌≡◌, inr, ℕ, zero, suc, ◌+◌, ◌-◌, ◌<◌, ◌≤◌, ◌&&◌, Bool, true, false, cond, nat_le, List, [], ◌∷◌, ◌++◌, length, map, take, drop, get_or, Option, Some, None, Result, Ok, Err, IfOk, arith, refl, sym, ap, ap₂, subst, ◌∙◌, slice_get}
 use Rattle.std.specs.Prelude.{IfSome, IsTrue, option_and_then, option_map, slice_index_or}
 use Rattle.std.specs.List.{AllByRecursion, slice_range}
 use Rattle.std.proofs.lemmas.Bool.{eq-eqb}
@@ -27,7 +27,7 @@ use Rattle.store_kept.specs.Texts.{all_bodies, has_text_among}
 use Rattle.store_kept.specs.Kept.{Kept, not_behind}
 use Rattle.repair_desk.proofs.Everywhere.{taken}
 use Rattle.time_desk.specs.Serving.{BeginsBy, CanServe, FindsLast, IsLastToServe, IsNewest, NoneServes, Serves, ServesBy, bytes_at, can_serve, store_from, store_in}
-use Rattle.time_desk.specs.Stored.{snapshot_at, store_at}
+use Rattle.desk_journal.specs.Stored.{snapshot_at, store_at}
 
 abbrev pub Mark : Type 0
 Mark = ℕ × Place

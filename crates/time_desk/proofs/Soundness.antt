@@ -30,8 +30,8 @@ use Rattle.mail_desk.proofs.Bases.{base_goes_on, base_stays}
 use Rattle.mail_desk.proofs.Desks.{base_opening}
 use Rattle.mail_desk.proofs.Timelines.{all_on, apart_on, below_on, others_below}
 use Rattle.house_text.specs.Beginning.{can_begin}
-use Rattle.time_desk.specs.Records.{after_cycle_record, after_due, after_item, after_record, after_records, after_snapshot, agree, can_follow, can_keep, can_rewind, first_state, is_formed, is_spelled, is_true, state}
-use Rattle.time_desk.specs.Permanence.{IsSound, RevsBelow}
+use Rattle.desk_journal.specs.Records.{after_cycle_record, after_due, after_item, after_record, after_records, after_snapshot, agree, can_follow, can_keep, can_rewind, first_state, is_formed, is_spelled, is_true, state}
+use Rattle.desk_journal.specs.Permanence.{IsSound, RevsBelow}
 use Rattle.desk_journal.proofs.Beginnings.{begins_known}
 use Rattle.desk_journal.proofs.Entering.{item_runs, item_revs, no_rev}
 

@@ -1,5 +1,5 @@
 -- Records that are read and performed one after the other.
-use Rattle.std.proofs.Common.{◌≡◌, inl, inr, ℕ, zero, suc, ◌+◌, ◌-◌, ◌<◌, ◌≤◌, ◌∷◌, ◌++◌, ◌∙◌, ◌&&◌, List, Bool, true, false, Option, Some, None, Result, Ok, Err, length, take, drop, get_or, is_some, refl, sym, ap, subst, arith, append_assoc, append-nil, length-append, []}
+use Rattle.std.proofs.Common.{◌≡◌, inl, inr, ℕ, zero, suc, ◌+◌, ◌-◌, ◌<◌, ◌≤◌, ◌∷◌, ◌++◌, ◌∙◌, ◌&&◌, List, Bool, true, false, Option, Some, None, Result, Ok, Err, length, take, drop, get_or, refl, sym, ap, subst, arith, append_assoc, append-nil, length-append, []}
 use Rattle.std.proofs.lemmas.List.{map-append, take_all}
 use Rattle.std.proofs.lemmas.List.Concat.{flat_map-append}
 use Rattle.std.specs.Prelude.{bytes_eq, option_and_then, if◌then◌else◌, IfOk, IfErr, slice_get}
@@ -21,7 +21,7 @@ use Rattle.store_kept.specs.Kept.{Kept, passed, performed, snapshotted}
 use Rattle.desk_journal.proofs.Truth.{true_as, true_is}
 use Rattle.time_desk.specs.declared.fault.StartFault.{StartFault}
 use Rattle.time_desk.specs.declared.fault.StartFault.TheVariants.{NotFormatted, Damaged, Disk, NoMemory}
-use Rattle.time_desk.specs.Records.{after_item, after_kept, after_record, after_records, behind, can_follow, can_keep, first_state, is_true, opening_state, payloads_of, snapshot_record, state}
+use Rattle.desk_journal.specs.Records.{after_item, after_kept, after_record, after_records, behind, can_follow, can_keep, first_state, is_true, opening_state, payloads_of, snapshot_record, state}
 use Rattle.time_desk.specs.Standing.{BreaksFor, Enters, Fails, FailsPayload, FailsReading, FrontBreaksFor, LeadsTo, Opens, Performed, Performs, SpellsAll, SpellsNothing, StopsFor, kept_as}
 
 -- ---- one record more

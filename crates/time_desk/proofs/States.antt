@@ -28,12 +28,12 @@ use Rattle.mail_cycle.specs.Permanence.{UidsLast}
 use Rattle.mail_desk.specs.Timeline.{has_text}
 use Rattle.store_kept.specs.Texts.{all_bodies}
 use Rattle.time_desk.specs.Cycling.{Cycles, CyclesBy}
-use Rattle.time_desk.specs.Lasting.{Lasting}
-use Rattle.time_desk.specs.Sealing.{ReadNoTexts, Seals}
-use Rattle.time_desk.specs.Stored.{HoldsTexts}
+use Rattle.desk_journal.specs.Lasting.{Lasting}
+use Rattle.desk_journal.specs.Sealing.{ReadNoTexts, Seals}
+use Rattle.desk_journal.specs.Stored.{HoldsTexts}
 use Rattle.std.proofs.Common.{inl, inr}
-use Rattle.time_desk.specs.Permanence.{Arrives, IsAccounted, IsSound, Message, RevsBelow, message_at}
-use Rattle.time_desk.specs.Records.{after_records, state}
+use Rattle.desk_journal.specs.Permanence.{Arrives, IsAccounted, IsSound, Message, RevsBelow, message_at}
+use Rattle.desk_journal.specs.Records.{after_records, state}
 use Rattle.time_desk.proofs.Accounts.{once_some, one_fate, sound_valid, stray_given}
 use Rattle.time_desk.proofs.Messages.{one_message, stamp_below, stamped_there, text_there, there}
 use Rattle.desk_journal.proofs.Runs.{state_append}

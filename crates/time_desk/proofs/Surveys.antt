@@ -16,11 +16,11 @@ use Rattle.store_kept.specs.Kept.{Kept}
 use Rattle.time_desk.specs.declared.fault.StartFault.{StartFault}
 use Rattle.time_desk.specs.declared.fault.StartFault.TheVariants.{NotFormatted, Damaged, Disk, NoMemory}
 use Rattle.time_desk.specs.Opening.{IsDamaged, IsStarted, Refuses, Starts}
-use Rattle.time_desk.specs.Records.{payloads_of}
+use Rattle.desk_journal.specs.Records.{payloads_of}
 use Rattle.time_desk.specs.Standing.{BreaksAt, BreaksFor, Fails, SpellsAll}
 use Rattle.verb_core.specs.declared.mailbox.Body.{Body}
 use Rattle.shelf.specs.declared.note.Note.{Note}
-use Rattle.time_desk.specs.Stored.{SettledTexts, TextsHeld}
+use Rattle.desk_journal.specs.Stored.{SettledTexts, TextsHeld}
 use Rattle.time_desk.proofs.OneWay.{payload_at, sealed_opens, some_closed}
 use Rattle.desk_journal.proofs.Staying.{settled_on}
 

@@ -27,10 +27,10 @@ use Rattle.time_desk.specs.Planning.{BodiesCause}
 use Rattle.mail_desk.specs.Held.{Held}
 use Rattle.mail_desk.specs.Timeline.{body_of, item_of, noted_of, notice_told_by, told_by}
 use Rattle.mail_desk.proofs.BodyTexts.{text_by_item}
-use Rattle.time_desk.specs.Stored.{HasNote, IsBefore, NotedBefore}
+use Rattle.desk_journal.specs.Stored.{HasNote, IsBefore, NotedBefore}
 use Rattle.time_desk.specs.Serving.{unmarked}
 use Rattle.desk_journal.specs.declared.read_texts.Reading.{Reading}
-use Rattle.time_desk.specs.Telling.{HoldsHeld, LeadsOn, reading_told, asked_of, is_readable, is_told, text_told}
+use Rattle.desk_journal.specs.Telling.{HoldsHeld, LeadsOn, reading_told, asked_of, is_readable, is_told, text_told}
 use Rattle.desk_journal.proofs.Telling.{item_has, readable}
 
 -- ---- items of a timeline

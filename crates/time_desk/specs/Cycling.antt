@@ -1,5 +1,5 @@
 -- What becomes of a request for a cycle.
-use Rattle.std.specs.Prelude.{◌≡◌, ◌⊎◌, ◌<◌, ◌≤◌, ◌+◌, ◌-◌, ℕ, false, [], ◌∷◌, ◌++◌, List, length, map, None, Result, Ok, Err, IsTrue}
+use Rattle.std.specs.Prelude.{◌≡◌, ◌⊎◌, ◌<◌, ◌≤◌, ◌+◌, ◌-◌, ℕ, false, [], ◌∷◌, List, length, map, None, Result, Ok, Err, IsTrue}
 use Rattle.std.specs.List.{AllByRecursion}
 use Rattle.undo_outside.specs.Disk.{DiskTold, ReadFailed}
 use Rattle.verb_core.specs.declared.item.Item.{Item}
@@ -13,7 +13,7 @@ use Rattle.verb_bytes.specs.declared.journal.CycleAsk.{CycleAsk}
 use Rattle.verb_bytes.specs.declared.journal.JournalRecord.TheVariants.{Cycle}
 use Rattle.verb_bytes.specs.Spelling.{record_bytes}
 use Rattle.paradox.specs.declared.reports.Report.{Report}
-use Rattle.store_kept.specs.Kept.{Kept, newest_at, report_of, rewound}
+use Rattle.store_kept.specs.Kept.{Kept, newest_at, report_of, rewound, with_report}
 use Rattle.store_kept.specs.Texts.{all_bodies, has_text_among}
 use Rattle.cycle_rules.specs.Asking.{Due, IsRewinds, Repeats, NoPoint, NoNumbers, Rewinds, after_cycle, cycle_due, due_anew}
 use Rattle.cycle_rules.specs.Cycles.{Cycled}
@@ -29,11 +29,11 @@ use Rattle.seal_log.specs.declared.fault.SealFault.{SealFault}
 use Rattle.seal_log.specs.declared.fault.SealFault.TheVariants as log_faults
 use Rattle.time_desk.specs.declared.fault.CycleFault.{CycleFault}
 use Rattle.time_desk.specs.declared.fault.CycleFault.TheVariants.{Point, Numbers, Disk, NoMemory, Closed}
-use Rattle.time_desk.specs.Lasting.{Lasting}
-use Rattle.time_desk.specs.Reading.{IsStill, ReadsWell}
-use Rattle.time_desk.specs.Sealing.{Seals}
-use Rattle.time_desk.specs.Stored.{HoldsTexts, IsFresh, Renotes}
-use Rattle.time_desk.specs.Submitting.{SealsNothing}
+use Rattle.desk_journal.specs.Lasting.{Lasting}
+use Rattle.desk_journal.specs.Reading.{IsStill, ReadsWell}
+use Rattle.desk_journal.specs.Sealing.{Seals}
+use Rattle.desk_journal.specs.Stored.{HoldsTexts, IsFresh, Renotes}
+use Rattle.desk_journal.specs.Submitting.{SealsNothing}
 
 -- ---- a cycle in memory
 
@@ -72,7 +72,7 @@ after_rewound kept key made = record kept {
   timeline = items_left kept.timeline made;
   stamps = made.stamps;
   next = made.next;
-  reports = kept.reports ++ (key, made.report) ∷ [];
+  reports = with_report key made.report kept.reports;
   marks = rewound made.place made.entered kept.marks;
 }
 

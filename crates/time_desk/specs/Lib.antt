@@ -1,15 +1,5 @@
-pub mod Lasting
-pub mod Stored
-pub mod Records
-pub mod Reading
-pub mod Sealing
-pub mod Crashing
-pub mod Making
-pub mod Telling
-pub mod Submitting
 pub mod Cycling
 pub mod Serving
 pub mod Planning
 pub mod Opening
 pub mod Standing
-pub mod Permanence

@@ -12,7 +12,7 @@ use Rattle.seal_log.specs.Settled.{IsSettled}
 use Rattle.store_kept.specs.Kept.{Kept}
 use Rattle.time_desk.specs.declared.fault.StartFault.{StartFault}
 use Rattle.time_desk.specs.declared.fault.StartFault.TheVariants.{NotFormatted, Damaged, Disk, NoMemory}
-use Rattle.time_desk.specs.Records.{Leaves, StandsForRecords, after_record, opening_state, payloads_of, state}
+use Rattle.desk_journal.specs.Records.{Leaves, StandsForRecords, after_record, opening_state, payloads_of, state}
 
 -- ---- damage
 

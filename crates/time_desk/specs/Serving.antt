@@ -15,8 +15,8 @@ use Rattle.mail_cycle.specs.declared.beginning.Beginning.{Beginning}
 use Rattle.mail_desk.specs.Held.{Held}
 use Rattle.store_kept.specs.Kept.{Kept, newest_at, no_marks}
 use Rattle.store_kept.specs.Texts.{all_bodies, has_text_among}
-use Rattle.time_desk.specs.Records.{snapshot_in}
-use Rattle.time_desk.specs.Stored.{store_at}
+use Rattle.desk_journal.specs.Records.{snapshot_in}
+use Rattle.desk_journal.specs.Stored.{store_at}
 
 -- A store can stand for what so many of the first items in force left: it is valid, and of the house, and each body in it has
 -- a text among them. Whether it is what they left is not said.

@@ -21,7 +21,7 @@ use Rattle.house_text.specs.Beginning.{can_begin}
 use Rattle.time_desk.specs.declared.fault.StartFault.{StartFault}
 use Rattle.time_desk.specs.declared.fault.StartFault.TheVariants.{NotFormatted, Damaged, Disk, NoMemory}
 use Rattle.time_desk.specs.Opening.{SpellsNone, opened_by}
-use Rattle.time_desk.specs.Records.{after_record, after_records, behind, can_follow, front, opening_state, payloads_of, state}
+use Rattle.desk_journal.specs.Records.{after_record, after_records, behind, can_follow, front, opening_state, payloads_of, state}
 
 -- ---- one record
 

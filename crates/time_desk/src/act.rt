@@ -8,9 +8,9 @@ ghost use Rattle.verb_core.specs.Store.{is_known};
 ghost use Rattle.verb_bytes.specs.declared.journal.JournalRecord.TheVariants.{Operator};
 ghost use Rattle.store_kept.specs.Kept.{performed};
 ghost use Rattle.mail_cycle.specs.Permanence.{UidsLast};
-ghost use Rattle.time_desk.specs.Reading.{ReadsWell};
-ghost use Rattle.time_desk.specs.Sealing.{Seals};
-ghost use Rattle.time_desk.specs.Submitting.{ActsNone};
+ghost use Rattle.desk_journal.specs.Reading.{ReadsWell};
+ghost use Rattle.desk_journal.specs.Sealing.{Seals};
+ghost use Rattle.desk_journal.specs.Submitting.{ActsNone};
 
 use crate::{ActFault, Desk};
 use desk_journal::act_open;

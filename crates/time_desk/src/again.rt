@@ -10,8 +10,8 @@ ghost use Rattle.mail_cycle.specs.Refusing.{IsRefusalOf};
 ghost use Rattle.time_desk.specs.Cycling.{IsFit, Redoes, RedoesCause};
 ghost use Rattle.time_desk.specs.Planning.{BodiesCause};
 ghost use Rattle.time_desk.specs.Serving.{Serves};
-ghost use Rattle.time_desk.specs.Stored.{MarkedBefore, TextsNoted, store_at};
-ghost use Rattle.time_desk.specs.Telling.{HoldsHeld};
+ghost use Rattle.desk_journal.specs.Stored.{MarkedBefore, TextsNoted, store_at};
+ghost use Rattle.desk_journal.specs.Telling.{HoldsHeld};
 
 use crate::beginning::beginning;
 use crate::redo::{begun, new_texts};

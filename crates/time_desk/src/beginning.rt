@@ -9,8 +9,8 @@ ghost use Rattle.seal_log.specs.Causes.{ReadAtCause};
 ghost use Rattle.seal_log.specs.Journal.{LiesAt};
 ghost use Rattle.seal_log.specs.Settled.{Holds};
 ghost use Rattle.time_desk.specs.Serving.{BeginsBy, CanServe, FindsLast, FindsNewest, IsNewest, Serves, ServesBy, SpelledBy, bytes_at, can_serve as serves, rows_in, store_from, store_in};
-ghost use Rattle.time_desk.specs.Stored.{MarkLies, MarkedBefore, MarksLie, store_at};
-ghost use Rattle.time_desk.specs.Telling.{HoldsHeld};
+ghost use Rattle.desk_journal.specs.Stored.{MarkLies, MarkedBefore, MarksLie, store_at};
+ghost use Rattle.desk_journal.specs.Telling.{HoldsHeld};
 ghost use Rattle.store_kept.specs.Texts.{all_bodies, has_text_among};
 
 use crate::redo::begun;

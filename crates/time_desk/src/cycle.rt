@@ -14,12 +14,12 @@ ghost use Rattle.mail_cycle.specs.Permanence.{UidsLast};
 ghost use Rattle.mail_cycle.specs.Refusing.{IsRefusalOf};
 ghost use Rattle.mail_desk.specs.Remaking.{CanReplace, remade_as};
 ghost use Rattle.time_desk.specs.Cycling.{Cycles, CyclesAs, CyclesNone, IsCycleOutcomeOf, IsFit, IsTold, Redoes, RedoesCause, RenotesAs, Tries, TriesNone, after_rewound, most_performed};
-ghost use Rattle.time_desk.specs.Lasting.{lasting};
-ghost use Rattle.time_desk.specs.Reading.{IsStill, ReadsWell};
-ghost use Rattle.time_desk.specs.Records.{is_spelled};
-ghost use Rattle.time_desk.specs.Stored.{HoldsTexts, MarkedBefore, TextsNoted, Renotes};
-ghost use Rattle.time_desk.specs.Submitting.{SealsBytes};
-ghost use Rattle.time_desk.specs.Telling.{HoldsHeld, IsOnlyRead};
+ghost use Rattle.desk_journal.specs.Lasting.{lasting};
+ghost use Rattle.desk_journal.specs.Reading.{IsStill, ReadsWell};
+ghost use Rattle.desk_journal.specs.Records.{is_spelled};
+ghost use Rattle.desk_journal.specs.Stored.{HoldsTexts, MarkedBefore, TextsNoted, Renotes};
+ghost use Rattle.desk_journal.specs.Submitting.{SealsBytes};
+ghost use Rattle.desk_journal.specs.Telling.{HoldsHeld, IsOnlyRead};
 
 use crate::permanence::records_let_uids_last;
 use crate::redo::{key_in, remade, rewound, rewound_alone};

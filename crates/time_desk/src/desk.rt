@@ -13,11 +13,11 @@ ghost use Rattle.seal_log.specs.declared.place.Place.{Place as ThePlace};
 ghost use Rattle.shelf.specs.Notes.{size_of};
 ghost use Rattle.store_digest.specs.Snapshots.{digest_of};
 ghost use Rattle.mail_desk.specs.Counting.{counts_of, listed, page};
-ghost use Rattle.store_kept.specs.Kept.{IsRun, store_of};
+ghost use Rattle.store_kept.specs.Kept.{IsRun, is_by_key, store_of};
 ghost use Rattle.store_kept.specs.Texts.{all_bodies, has_text_kept, text_kept};
 ghost use Rattle.mail_desk.specs.Timeline.{has_sizes, has_text, rev_of};
-ghost use Rattle.time_desk.specs.Permanence.{IsSound};
-ghost use Rattle.time_desk.specs.Stored.{MarkedBefore, TextsNoted};
+ghost use Rattle.desk_journal.specs.Permanence.{IsSound};
+ghost use Rattle.desk_journal.specs.Stored.{MarkedBefore, TextsNoted};
 
 use box_store::Store;
 use desk_journal::Journal;
@@ -39,8 +39,8 @@ pub struct Desk<D: Disk> {
 }
 
 impl<D: Disk> Model for Desk<D> {
-    ghost use Rattle.time_desk.specs.Lasting.{Lasting, lasting};
-    ghost use Rattle.time_desk.specs.Stored.{MarkedBefore, TextsNoted};
+    ghost use Rattle.desk_journal.specs.Lasting.{Lasting, lasting};
+    ghost use Rattle.desk_journal.specs.Stored.{MarkedBefore, TextsNoted};
 
     ghost Value = { Lasting D };
 
@@ -178,7 +178,7 @@ impl<D: Disk> Desk<D> {
         ensures named { map (λ (r : TheBoxId × ℕ). r.0) self.now.kept.stamps ≡ map (λ (r : TheBoxId × TheMailbox). r.0) (store_of self.now.kept).boxes }
         ensures fresh { AllByRecursion (λ (r : TheBoxId × ℕ). r.1 < self.now.kept.next) self.now.kept.stamps }
         ensures next { self.now.kept.next ≤ 4194304 }
-        ensures reports { length self.now.kept.reports ≤ self.now.kept.next }
+        ensures reports { IsTrue (is_by_key self.now.kept.reports) }
         ensures texts { IsTrue (all_bodies (has_text_kept self.now.kept) (store_of self.now.kept).boxes) }
         ensures sound { IsRun self.now.kept → IsSound self.now.kept }
         ensures within { self.now.gate < (D.told self.now.disk).size }

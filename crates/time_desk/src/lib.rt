@@ -8,7 +8,7 @@
 //! `permanence` has the laws that no UID ever names two messages, and that each message is accounted for; `laws` passes on what
 //! desk_journal says of runs of calls. In specs/, `Opening` says what an image opens as, `Standing` how its records are read,
 //! `Cycling` what becomes of a request for a cycle and `Serving` what that begins with, and `Planning` what the plan of later
-//! items is; the others are those of desk_journal, passed on.
+//! items is; all else is said in desk_journal.
 //! What carries the crate: `Desk::submit` and `Desk::act`, by `Seals`, `Desk::cycle`, by `Cycles`, `Desk::start`, by `Starts`,
 //! and the laws of `permanence`.
 #![tactic(auto)]

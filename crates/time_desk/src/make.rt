@@ -2,8 +2,8 @@
 ghost use Rattle.std.specs.Prelude.{◌≡◌, false, Ok, Err, IsTrue, IfOk, IfErr};
 ghost use Rattle.store_kept.specs.Kept.{new_desk};
 ghost use Rattle.house_text.specs.Beginning.{can_begin};
-ghost use Rattle.time_desk.specs.Making.{Makes};
-ghost use Rattle.time_desk.specs.Stored.{HoldsTexts};
+ghost use Rattle.desk_journal.specs.Making.{Makes};
+ghost use Rattle.desk_journal.specs.Stored.{HoldsTexts};
 
 use crate::{Desk, MakeFault};
 use desk_journal::{Journal, make_parts};

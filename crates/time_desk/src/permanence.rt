@@ -16,8 +16,8 @@ ghost use Rattle.verb_core.specs.Store.{opening};
 ghost use Rattle.verb_bytes.specs.declared.journal.JournalRecord.{JournalRecord};
 ghost use Rattle.mail_cycle.specs.Permanence.{UidsLast};
 ghost use Rattle.store_kept.specs.Kept.{IsRun, Kept, stamp_at};
-ghost use Rattle.time_desk.specs.Permanence.{Arrives, IsAccounted, IsSound, Message, RevsBelow, message_at};
-ghost use Rattle.time_desk.specs.Records.{after_records, state};
+ghost use Rattle.desk_journal.specs.Permanence.{Arrives, IsAccounted, IsSound, Message, RevsBelow, message_at};
+ghost use Rattle.desk_journal.specs.Records.{after_records, state};
 
 use mail_desk::laws::bodies_have_texts;
 

@@ -13,10 +13,10 @@ ghost use Rattle.replay_plan.specs.Placing.{levels_of};
 ghost use Rattle.replay_crew.specs.Hearing.{Counts, HoldsOf, StoresOf, TellsAll};
 ghost use Rattle.replay_crew.specs.Resolving.{AreResolvedFrom};
 ghost use Rattle.time_desk.specs.Planning.{BodiesCause, Plans, PlansNone, plan_at, plan_from, resolved, resolved_on};
-ghost use Rattle.time_desk.specs.Reading.{IsStill};
+ghost use Rattle.desk_journal.specs.Reading.{IsStill};
 ghost use Rattle.time_desk.specs.Serving.{Serves};
-ghost use Rattle.time_desk.specs.Stored.{HoldsTexts, MarkedBefore, TextsNoted, store_at};
-ghost use Rattle.time_desk.specs.Telling.{HoldsHeld, IsOnlyRead};
+ghost use Rattle.desk_journal.specs.Stored.{HoldsTexts, MarkedBefore, TextsNoted, store_at};
+ghost use Rattle.desk_journal.specs.Telling.{HoldsHeld, IsOnlyRead};
 
 use crate::beginning::beginning;
 use crate::redo::new_texts;

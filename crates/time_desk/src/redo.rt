@@ -10,8 +10,8 @@ ghost use Rattle.mail_desk.specs.Remaking.{CanReplace, remade_as};
 ghost use Rattle.time_desk.specs.Cycling.{IsFit, Redoes, RedoesCause, after_rewound, most_performed};
 ghost use Rattle.time_desk.specs.Planning.{BodiesCause};
 ghost use Rattle.time_desk.specs.Serving.{Serves, unmarked};
-ghost use Rattle.time_desk.specs.Stored.{MarkedBefore, TextsNoted, Renotes, store_at};
-ghost use Rattle.time_desk.specs.Telling.{HoldsHeld};
+ghost use Rattle.desk_journal.specs.Stored.{MarkedBefore, TextsNoted, Renotes, store_at};
+ghost use Rattle.desk_journal.specs.Telling.{HoldsHeld};
 
 use crate::beginning::beginning;
 use box_store::Steps;

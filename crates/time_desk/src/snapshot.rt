@@ -2,10 +2,10 @@
 ghost use Rattle.std.specs.Prelude.{◌≡◌, ◌↔◌, [], ◌∷◌, length, IsTrue, IfOk, OnOk, IfErr, OnErr, IsErrOf};
 ghost use Rattle.store_kept.specs.Kept.{snapshotted};
 ghost use Rattle.mail_cycle.specs.Permanence.{UidsLast};
-ghost use Rattle.time_desk.specs.Records.{snapshot_record};
-ghost use Rattle.time_desk.specs.Reading.{ReadsWell};
-ghost use Rattle.time_desk.specs.Sealing.{Seals};
-ghost use Rattle.time_desk.specs.Submitting.{SnapshotsNone};
+ghost use Rattle.desk_journal.specs.Records.{snapshot_record};
+ghost use Rattle.desk_journal.specs.Reading.{ReadsWell};
+ghost use Rattle.desk_journal.specs.Sealing.{Seals};
+ghost use Rattle.desk_journal.specs.Submitting.{SnapshotsNone};
 
 use crate::Desk;
 use desk_journal::snapshot_open;

@@ -15,9 +15,9 @@ ghost use Rattle.cycle_rules.specs.Asking.{due_anew};
 ghost use Rattle.mail_cycle.specs.Leaving.{items_left};
 ghost use Rattle.mail_desk.specs.Timeline.{NotesText, SizesOf, body_of};
 ghost use Rattle.time_desk.specs.Cycling.{IsFit, after_rewound};
-ghost use Rattle.time_desk.specs.Records.{format_of, after_cycle_record, after_due, after_record, can_follow as follows, can_keep as keeps, can_rewind as rewinds, first_state, is_true as tells_all, snapshot_record};
+ghost use Rattle.desk_journal.specs.Records.{format_of, after_cycle_record, after_due, after_record, can_follow as follows, can_keep as keeps, can_rewind as rewinds, first_state, is_true as tells_all, snapshot_record};
 ghost use Rattle.time_desk.specs.Standing.{Enters, IsFormed, Performs, begun, has_users as uses, is_actor, kept_as, marked_as};
-ghost use Rattle.time_desk.specs.Stored.{KeepsMarks, MarkedBefore, MarksLie, TextsNoted, NotesCycle, NotesTexts, Renotes, TextsHeld, TextsStored};
+ghost use Rattle.desk_journal.specs.Stored.{KeepsMarks, MarkedBefore, MarksLie, TextsNoted, NotesCycle, NotesTexts, Renotes, TextsHeld, TextsStored};
 
 use crate::again::performed_again;
 use crate::redo::{key_in, remade};

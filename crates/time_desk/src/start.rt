@@ -10,11 +10,11 @@ ghost use Rattle.seal_log.specs.Loads.{IsSurveyed};
 ghost use Rattle.seal_log.specs.Log.{end_gate, is_cut, last_gate, leaves_open};
 ghost use Rattle.seal_log.specs.Settled.{Holds};
 ghost use Rattle.store_kept.specs.Kept.{IsRun, Kept};
-ghost use Rattle.time_desk.specs.Permanence.{RevsBelow};
+ghost use Rattle.desk_journal.specs.Permanence.{RevsBelow};
 ghost use Rattle.time_desk.specs.Opening.{IsStarted, Refuses, Starts};
-ghost use Rattle.time_desk.specs.Records.{after_record, first_state};
+ghost use Rattle.desk_journal.specs.Records.{after_record, first_state};
 ghost use Rattle.time_desk.specs.Standing.{BreaksFor, Fails, FailsPayload, FailsReading, FrontBreaksFor, LeadsTo, Opens, Performed, ReadCounts, SpellsAll, SpellsNothing, StopsFor};
-ghost use Rattle.time_desk.specs.Stored.{HoldsTexts, MarkedBefore, TextsNoted, SettledTexts, TextsHeld};
+ghost use Rattle.desk_journal.specs.Stored.{HoldsTexts, MarkedBefore, TextsNoted, SettledTexts, TextsHeld};
 
 use crate::permanence::records_let_uids_last;
 use crate::standing::{begin, follow};

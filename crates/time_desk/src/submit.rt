@@ -7,9 +7,9 @@ ghost use Rattle.verb_bytes.specs.declared.journal.JournalRecord.TheVariants.{Ve
 ghost use Rattle.store_kept.specs.Kept.{store_of};
 ghost use Rattle.mail_desk.specs.Desk.{submitted};
 ghost use Rattle.mail_cycle.specs.Permanence.{UidsLast};
-ghost use Rattle.time_desk.specs.Reading.{ReadsWell};
-ghost use Rattle.time_desk.specs.Sealing.{Seals};
-ghost use Rattle.time_desk.specs.Submitting.{SubmitsNone, WritesNone};
+ghost use Rattle.desk_journal.specs.Reading.{ReadsWell};
+ghost use Rattle.desk_journal.specs.Sealing.{Seals};
+ghost use Rattle.desk_journal.specs.Submitting.{SubmitsNone, WritesNone};
 
 use crate::Desk;
 use desk_journal::submit_open;

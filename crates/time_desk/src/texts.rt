@@ -2,8 +2,8 @@
 ghost use Rattle.std.specs.Prelude.{◌≡◌, length, is_some, IsTrue, IfOk};
 ghost use Rattle.std.specs.List.{list_all};
 ghost use Rattle.seal_log.specs.Causes.{ReadAtCause};
-ghost use Rattle.time_desk.specs.Reading.{IsStill};
-ghost use Rattle.time_desk.specs.Stored.{HoldsTexts};
+ghost use Rattle.desk_journal.specs.Reading.{IsStill};
+ghost use Rattle.desk_journal.specs.Stored.{HoldsTexts};
 ghost use Rattle.store_kept.specs.Texts.{has_text_kept, text_kept, texts_kept};
 
 use crate::Desk;

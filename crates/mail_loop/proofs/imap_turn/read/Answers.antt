@@ -1,7 +1,7 @@
 use Rattle.std.proofs.Common.{◌≡◌, List, Err, ap, subst}
 use Rattle.verb_core.specs.declared.mailbox.Body.{Body}
 use Rattle.mail_desk.specs.Timeline.{texts_of}
-use Rattle.time_desk.specs.Stored.{HoldsTexts}
+use Rattle.desk_journal.specs.Stored.{HoldsTexts}
 use Rattle.mail_loop.proofs.TextsRead.{texts_given, texts_unread}
 use Rattle.mail_loop.proofs.imap_turn.read.Goals as goal
 

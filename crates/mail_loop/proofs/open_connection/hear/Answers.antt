@@ -1,5 +1,5 @@
 use Rattle.std.proofs.Common.{ap, subst, sym, ◌∙◌}
-use Rattle.time_desk.specs.Lasting.{Lasting}
+use Rattle.desk_journal.specs.Lasting.{Lasting}
 use Rattle.mail_loop.specs.Asked.{HaveSealed}
 use Rattle.mail_loop.specs.State.{Imap, Smtp, Http}
 use Rattle.mail_loop.specs.Stands.{seat_of}

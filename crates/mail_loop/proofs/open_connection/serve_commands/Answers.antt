@@ -5,7 +5,7 @@ use Rattle.imap_stream.specs.declared.next.Next.TheVariants.{NotYet}
 use Rattle.mail_loop.specs.declared.reply.Reply.{Reply}
 use Rattle.imap_session.specs.Dialog.{is_view_current}
 use Rattle.store_kept.specs.Kept.{store_of}
-use Rattle.time_desk.specs.Reading.{both_read, none_read}
+use Rattle.desk_journal.specs.Reading.{both_read, none_read}
 use Rattle.mail_loop.specs.Asked.{HaveSealed}
 use Rattle.mail_loop.specs.State.{Imap}
 use Rattle.mail_loop.proofs.Nexts.{is_emptied, none_taken, some_last, taken}

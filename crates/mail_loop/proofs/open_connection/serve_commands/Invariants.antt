@@ -3,7 +3,7 @@ use Rattle.imap_stream.specs.Commands.{emptied}
 use Rattle.imap_stream.specs.declared.next.Next.TheVariants.{NotYet}
 use Rattle.imap_session.specs.Dialog.{is_at_home, is_free, is_view_current}
 use Rattle.store_kept.specs.Kept.{store_of}
-use Rattle.time_desk.specs.Reading.{Reads}
+use Rattle.desk_journal.specs.Reading.{Reads}
 use Rattle.mail_loop.specs.Asked.{HaveSealed}
 use Rattle.mail_loop.specs.Machine.{Seats}
 use Rattle.mail_loop.proofs.Stretch.{SoFar}

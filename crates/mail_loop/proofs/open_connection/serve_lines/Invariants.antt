@@ -2,7 +2,7 @@ use Rattle.std.proofs.Common.{◌≡◌, [], false, length}
 use Rattle.smtp_lines.specs.Lines.{rest_of}
 use Rattle.smtp_lines.specs.Line.{smtp_lines_of}
 use Rattle.smtp_session.specs.Dialog.{is_due}
-use Rattle.time_desk.specs.Reading.{Reads}
+use Rattle.desk_journal.specs.Reading.{Reads}
 use Rattle.mail_loop.specs.Asked.{HaveSealed}
 use Rattle.mail_loop.specs.Machine.{Seats}
 use Rattle.mail_loop.proofs.Stretch.{SoFar}

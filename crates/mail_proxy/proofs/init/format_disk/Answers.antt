@@ -1,7 +1,7 @@
 use Rattle.std.proofs.Common.{Ok, ap, subst, sym}
 use Rattle.mail_proxy.specs.declared.plan.Plan.{Plan}
 use Rattle.mail_proxy.specs.Plans.{output_of}
-use Rattle.time_desk.specs.Making.{Makes}
+use Rattle.desk_journal.specs.Making.{Makes}
 use Rattle.mail_proxy.proofs.init.format_disk.Goals as goal
 
 pub returns-in-Ok : goal.returns-in-Ok

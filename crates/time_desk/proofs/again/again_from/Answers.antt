@@ -1,6 +1,6 @@
 use Rattle.std.proofs.Common.{◌∙◌, ap}
 use Rattle.verb_core.specs.Texts.{BodiesTold}
-use Rattle.time_desk.specs.Telling.{HoldsHeld}
+use Rattle.desk_journal.specs.Telling.{HoldsHeld}
 use Rattle.time_desk.proofs.Rewinding.{done_as, fits_made, made_as}
 use Rattle.time_desk.proofs.Telling.{honest_as, tells_repaired_items, told_as}
 use Rattle.time_desk.proofs.again.again_from.Goals as goal

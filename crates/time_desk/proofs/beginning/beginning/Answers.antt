@@ -3,7 +3,7 @@ use Rattle.std.specs.List.{AllByRecursion}
 use Rattle.mail_cycle.specs.declared.beginning.Beginning.{Beginning}
 use Rattle.shelf.specs.Marks.{marks_at_or_before}
 use Rattle.time_desk.specs.Serving.{CanServe, FindsNewest, IsLastToServe, NoneServes}
-use Rattle.time_desk.specs.Stored.{MarkLies, MarkedBefore, MarksLie}
+use Rattle.desk_journal.specs.Stored.{MarkLies, MarkedBefore, MarksLie}
 use Rattle.desk_journal.proofs.Marking.{marked_front, marks_passed}
 use Rattle.time_desk.proofs.Servings.{Mark, all_before, begins_first, found_newest, found_none, serves_first, some_has}
 use Rattle.time_desk.proofs.beginning.beginning.Goals as goal

@@ -3,8 +3,8 @@ use Rattle.std.specs.Prelude.{option_map}
 use Rattle.box_store.specs.declared.store.Store.{Store}
 use Rattle.verb_bytes.specs.declared.journal.JournalRecord.{JournalRecord}
 use Rattle.verb_core.specs.Store.{MailStore}
-use Rattle.time_desk.specs.Serving.{ServesBy, SpelledBy, bytes_at, store_in}
-use Rattle.time_desk.specs.Stored.{snapshot_at}
+use Rattle.time_desk.specs.Serving.{SpelledBy, bytes_at, store_in}
+use Rattle.desk_journal.specs.Stored.{snapshot_at}
 use Rattle.time_desk.proofs.Servings.{own_store, serves_by}
 use Rattle.time_desk.proofs.Standings.{if_ok}
 use Rattle.time_desk.proofs.beginning.marked_store.Goals as goal

@@ -4,7 +4,7 @@ use Rattle.undo_outside.proofs.Moments.{reads_joined}
 use Rattle.box_store.specs.declared.store.Store.{Store}
 use Rattle.verb_core.specs.Store.{MailStore}
 use Rattle.time_desk.specs.Serving.{ServesBy, bytes_at}
-use Rattle.time_desk.specs.Stored.{MarkLies, store_at}
+use Rattle.desk_journal.specs.Stored.{MarkLies, store_at}
 use Rattle.time_desk.proofs.Servings.{Mark, last_mark, mark_at, none_left, none_serves, none_stored, passed_on, serves_last, serves_still, some_store}
 use Rattle.desk_journal.proofs.Staying.{holds_on}
 use Rattle.time_desk.proofs.beginning.newest.Goals as goal

@@ -2,7 +2,7 @@ use Rattle.std.proofs.Common.{◌≡◌, ◌≤◌, ℕ, List, drop, length}
 use Rattle.undo_outside.specs.Moments.{OnlyReads}
 use Rattle.seal_log.specs.Settled.{Holds}
 use Rattle.time_desk.specs.Serving.{NoneServes}
-use Rattle.time_desk.specs.Stored.{MarksLie}
+use Rattle.desk_journal.specs.Stored.{MarksLie}
 use Rattle.time_desk.proofs.beginning.newest.Given as goal
 
 -- each that was looked at was passed over, and nothing was where each snapshot lies where it is marked

@@ -6,8 +6,8 @@ use Rattle.mail_desk.specs.Held.{Held}
 use Rattle.mail_desk.specs.Remaking.{remade_as}
 use Rattle.mail_desk.specs.Timeline.{SizesOf}
 use Rattle.time_desk.specs.Cycling.{RenotesAs}
-use Rattle.time_desk.specs.Lasting.{lasting}
-use Rattle.time_desk.specs.Stored.{MarkedBefore, NotedBefore}
+use Rattle.desk_journal.specs.Lasting.{lasting}
+use Rattle.desk_journal.specs.Stored.{MarkedBefore, NotedBefore}
 use Rattle.time_desk.proofs.Rewinding.{cycle_notes, cycle_sealed, cycle_starved, cycle_unsealed, cycled}
 use Rattle.desk_journal.proofs.Sealed.{marked_same, noted_same}
 use Rattle.desk_journal.proofs.Marking.{marked_front, marked_later}

@@ -1,8 +1,8 @@
 use Rattle.std.proofs.Common.{IfErr, IfOk, ap, subst, sym, ℕ}
 use Rattle.time_desk.specs.Cycling.{Cycles, CyclesNone}
-use Rattle.time_desk.specs.Lasting.{Lasting, lasting}
-use Rattle.time_desk.specs.Stored.{MarkedBefore, NotedBefore}
-use Rattle.time_desk.specs.Telling.{HoldsHeld}
+use Rattle.desk_journal.specs.Lasting.{Lasting, lasting}
+use Rattle.desk_journal.specs.Stored.{MarkedBefore, NotedBefore}
+use Rattle.desk_journal.specs.Telling.{HoldsHeld}
 use Rattle.time_desk.proofs.Rewinding.{any_ok, cycles_as, made_unread, read_from, refused}
 use Rattle.desk_journal.proofs.Runs.{seals_still}
 use Rattle.desk_journal.proofs.Sealed.{still_read}

@@ -1,8 +1,8 @@
 use Rattle.std.proofs.Common.{IfOk, subst}
 use Rattle.mail_cycle.specs.Leaving.{IsMade}
 use Rattle.time_desk.specs.Cycling.{Redoes}
-use Rattle.time_desk.specs.Lasting.{JournalTold}
-use Rattle.time_desk.specs.Telling.{HoldsHeld}
+use Rattle.desk_journal.specs.Lasting.{JournalTold}
+use Rattle.desk_journal.specs.Telling.{HoldsHeld}
 use Rattle.time_desk.proofs.cycle.rewound_in.Goals as goal
 
 pub returns-clause-due : goal.returns-clause-due

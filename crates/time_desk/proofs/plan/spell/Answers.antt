@@ -1,8 +1,7 @@
-use Rattle.std.proofs.Common.{rules, ◌≡◌, ◌∙◌, ◌-◌, ◌≤◌, ℕ, List, true, length, ap, drop, map, subst, sym}
+use Rattle.std.proofs.Common.{rules, ◌≡◌, ◌∙◌, ◌-◌, ◌≤◌, ℕ, List, true, length, ap, drop, subst, sym}
 use Rattle.std.specs.List.{list_all}
 use Rattle.std.proofs.lemmas.List.{drop-map, length-drop, length-map}
 use Rattle.verb_core.specs.declared.item.Item.{Item}
-use Rattle.repair_desk.specs.Repairs.{numbers_of}
 use Rattle.touch_rules.specs.declared.touched.Touch.{Touch}
 use Rattle.touch_rules.specs.Table.{touches_of}
 use Rattle.replay_plan.specs.Lines.{are_places}

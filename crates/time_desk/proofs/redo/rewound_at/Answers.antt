@@ -1,4 +1,4 @@
-use Rattle.time_desk.specs.Telling.{HoldsHeld}
+use Rattle.desk_journal.specs.Telling.{HoldsHeld}
 use Rattle.time_desk.proofs.Rewinding.{all_made, few_steps, most_steps}
 use Rattle.desk_journal.proofs.Telling.{held_on}
 use Rattle.time_desk.proofs.redo.rewound_at.Goals as goal

@@ -8,8 +8,8 @@ use Rattle.seal_log.specs.declared.fault.ReadFault.{ReadFault}
 use Rattle.verb_core.specs.declared.item.Item.{Item}
 use Rattle.verb_core.specs.declared.mailbox.Body.{Body}
 use Rattle.shelf.specs.declared.note.Note.{Note}
-use Rattle.time_desk.specs.Records.{after_record}
-use Rattle.time_desk.specs.Stored.{NotedBefore, TextsLie}
+use Rattle.desk_journal.specs.Records.{after_record}
+use Rattle.desk_journal.specs.Stored.{NotedBefore, TextsLie}
 use Rattle.time_desk.specs.Standing.{Performs}
 use Rattle.time_desk.proofs.Standings.{if_ok}
 use Rattle.time_desk.proofs.standing.follow.Goals as goal

@@ -2,7 +2,7 @@ use Rattle.std.proofs.Common.{◌≡◌, ◌∙◌, ap, subst}
 use Rattle.std.specs.Prelude.{bytes_eq}
 use Rattle.verb_bytes.specs.declared.journal.JournalRecord.TheVariants.{Snapshot}
 use Rattle.verb_bytes.specs.Spelling.{HasSpelling, record_bytes}
-use Rattle.time_desk.specs.Records.{snapshot_record}
+use Rattle.desk_journal.specs.Records.{snapshot_record}
 use Rattle.time_desk.proofs.Standings.{if_ok, true_by_bytes}
 use Rattle.time_desk.proofs.standing.is_true.Goals as goal
 

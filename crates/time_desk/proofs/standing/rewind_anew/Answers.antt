@@ -2,8 +2,8 @@ use Rattle.std.proofs.Common.{◌≡◌, true, Bool, Result, Ok, Err, ap, subst,
 use Rattle.std.specs.Prelude.{IfOk, OnOk}
 use Rattle.store_kept.specs.Kept.{Kept}
 use Rattle.seal_log.specs.declared.fault.ReadFault.{ReadFault}
-use Rattle.time_desk.specs.Telling.{HoldsHeld}
-use Rattle.time_desk.specs.Stored.{MarkedBefore, MarksLie}
+use Rattle.desk_journal.specs.Telling.{HoldsHeld}
+use Rattle.desk_journal.specs.Stored.{MarkedBefore, MarksLie}
 use Rattle.desk_journal.proofs.Marking.{marked_front}
 use Rattle.time_desk.proofs.Marking.{made_marks}
 use Rattle.time_desk.proofs.Renoting.{put_lies, put_noted}

@@ -1,4 +1,3 @@
-use Rattle.std.proofs.Common.{List, ℕ}
 use Rattle.time_desk.proofs.Standings.{breaks_first, has_first, lies_first, opens_first}
 use Rattle.time_desk.proofs.start.begin_at.Goals as goal
 

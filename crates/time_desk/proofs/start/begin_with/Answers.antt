@@ -1,5 +1,5 @@
 use Rattle.std.proofs.Common.{◌≡◌, None}
-use Rattle.time_desk.specs.Records.{first_state}
+use Rattle.desk_journal.specs.Records.{first_state}
 use Rattle.time_desk.specs.Standing.{Fails, FailsPayload}
 use Rattle.time_desk.proofs.Standings.{fails_spelled, fails_unspelled, if_err, if_ok}
 use Rattle.time_desk.proofs.start.begin_with.Goals as goal

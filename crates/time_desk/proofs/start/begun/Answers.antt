@@ -2,7 +2,7 @@ use Rattle.std.proofs.Common.{◌≡◌, sym, ap, ◌∙◌}
 use Rattle.std.specs.Prelude.{Some, option_map}
 use Rattle.mail_desk.specs.Held.{Held}
 use Rattle.store_kept.specs.Kept.{Kept}
-use Rattle.time_desk.specs.Records.{first_state}
+use Rattle.desk_journal.specs.Records.{first_state}
 use Rattle.desk_journal.proofs.Holding.{first_none, first_unmarked, none_marked}
 use Rattle.time_desk.proofs.start.begun.Goals as goal
 

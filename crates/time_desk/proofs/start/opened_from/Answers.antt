@@ -3,7 +3,7 @@ use Rattle.seal_log.specs.Log.{end_gate, is_cut, last_gate}
 use Rattle.mail_desk.specs.Held.{Held}
 use Rattle.time_desk.specs.Opening.{IsDamaged, IsStarted, Refuses}
 use Rattle.time_desk.specs.Standing.{Fails}
-use Rattle.time_desk.specs.Stored.{MarkedBefore, NotedBefore, SettledTexts}
+use Rattle.desk_journal.specs.Stored.{MarkedBefore, NotedBefore, SettledTexts}
 use Rattle.time_desk.proofs.Standings.{if_err, if_ok}
 use Rattle.time_desk.proofs.Surveys.{breaks, cut_first, cut_told, whole, whole_texts}
 use Rattle.time_desk.proofs.start.opened_from.Goals as goal

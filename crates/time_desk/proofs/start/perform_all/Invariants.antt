@@ -3,7 +3,7 @@ use Rattle.undo_outside.specs.Moments.{OnlyReads}
 use Rattle.seal_log.specs.Journal.{sealed}
 use Rattle.seal_log.specs.Loading.{places_from}
 use Rattle.time_desk.specs.Standing.{LeadsTo}
-use Rattle.time_desk.specs.Stored.{MarkedBefore, NotedBefore, TextsHeld}
+use Rattle.desk_journal.specs.Stored.{MarkedBefore, NotedBefore, TextsHeld}
 use Rattle.time_desk.proofs.start.perform_all.Given as goal
 
 abbrev pub invariant-loop-place : goal.invariant-loop-place

@@ -1,6 +1,6 @@
 use Rattle.std.proofs.Common.{◌≡◌, List, None, ℕ, subst}
 use Rattle.seal_log.specs.Journal.{LiesAt}
-use Rattle.time_desk.specs.Records.{after_record}
+use Rattle.desk_journal.specs.Records.{after_record}
 use Rattle.time_desk.specs.Standing.{FailsPayload, FailsReading}
 use Rattle.desk_journal.proofs.Holding.{texts_read}
 use Rattle.time_desk.proofs.Standings.{fails_reading, fails_unspelled, if_err, if_ok}

@@ -1,5 +1,5 @@
 use Rattle.std.proofs.Common.{◌≡◌, Bool, Some, refl, subst}
-use Rattle.time_desk.specs.Records.{after_record}
+use Rattle.desk_journal.specs.Records.{after_record}
 use Rattle.time_desk.specs.Standing.{Performs}
 use Rattle.desk_journal.proofs.Staying.{holds_on}
 use Rattle.time_desk.proofs.start.performed.Goals as goal

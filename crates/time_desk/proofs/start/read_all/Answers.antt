@@ -1,9 +1,9 @@
-use Rattle.std.proofs.Common.{◌++◌, ◌∙◌, List, ℕ, length, sym, subst}
-use Rattle.std.specs.Prelude.{IfOk, IfErr}
+use Rattle.std.proofs.Common.{◌∙◌, List, ℕ, length, sym, subst}
+use Rattle.std.specs.Prelude.{IfOk}
 use Rattle.seal_log.specs.Journal.{sealed}
-use Rattle.time_desk.specs.Records.{payloads_of}
+use Rattle.desk_journal.specs.Records.{payloads_of}
 use Rattle.time_desk.specs.Standing.{BreaksFor, LeadsTo, SpellsAll, StopsFor}
-use Rattle.time_desk.specs.Stored.{MarkedBefore, TextsHeld}
+use Rattle.desk_journal.specs.Stored.{MarkedBefore, TextsHeld}
 use Rattle.desk_journal.proofs.Holding.{held_none, noted_none}
 use Rattle.desk_journal.proofs.Staying.{holds_on}
 use Rattle.time_desk.proofs.Standings.{all_spelled, breaks_front, breaks_later, if_err, if_ok}

@@ -1,7 +1,7 @@
 use Rattle.std.proofs.Common.{[], ◌∷◌, ap}
 use Rattle.std.specs.Prelude.{option_and_then}
 use Rattle.store_kept.specs.Kept.{Kept}
-use Rattle.time_desk.specs.Records.{after_records}
+use Rattle.desk_journal.specs.Records.{after_records}
 use Rattle.time_desk.proofs.start.revs_stay.Goals as goal
 
 pub returns-clause-revs : goal.returns-clause-revs

@@ -1,7 +1,7 @@
 use Rattle.std.proofs.Common.{refl, subst, sym}
 use Rattle.verb_bytes.specs.declared.journal.JournalRecord.TheVariants.{Operator}
 use Rattle.mail_cycle.specs.Permanence.{UidsLast}
-use Rattle.time_desk.specs.Lasting.{Lasting, lasting}
+use Rattle.desk_journal.specs.Lasting.{Lasting, lasting}
 use Rattle.time_desk.proofs.Lasts.{IsNamed, calls_last, lasts_kept}
 use Rattle.time_desk.proofs.desk.Desk.act.Goals as goal
 

@@ -2,9 +2,9 @@ use Rattle.std.proofs.Common.{◌≡◌, ◌∙◌, ◌+◌, ◌≤◌, IfErr, I
 use Rattle.cycle_rules.specs.Asking.{Rewinds, cycle_due}
 use Rattle.mail_cycle.specs.Permanence.{UidsLast}
 use Rattle.time_desk.specs.Cycling.{Cycles, CyclesNone, most_performed}
-use Rattle.time_desk.specs.Lasting.{Lasting, lasting}
-use Rattle.time_desk.specs.Permanence.{IsSound}
-use Rattle.time_desk.specs.Stored.{HoldsTexts}
+use Rattle.desk_journal.specs.Lasting.{Lasting, lasting}
+use Rattle.desk_journal.specs.Permanence.{IsSound}
+use Rattle.desk_journal.specs.Stored.{HoldsTexts}
 use Rattle.time_desk.proofs.Lasts.{lasts_kept}
 use Rattle.time_desk.proofs.Rewinding.{due_new}
 use Rattle.time_desk.proofs.States.{lasts_rewound}

@@ -3,8 +3,8 @@ use Rattle.verb_bytes.specs.declared.journal.JournalRecord.TheVariants.{Format}
 use Rattle.store_kept.specs.Kept.{IsRun, Kept}
 use Rattle.seal_log.specs.Log.{last_gate}
 use Rattle.seal_log.specs.Settled.{IsSettled}
-use Rattle.time_desk.specs.Records.{payloads_of}
-use Rattle.time_desk.specs.Stored.{MarkedBefore}
+use Rattle.desk_journal.specs.Records.{payloads_of}
+use Rattle.desk_journal.specs.Stored.{MarkedBefore}
 use Rattle.desk_journal.proofs.Holding.{holds_first, none_marked, noted_none}
 use Rattle.time_desk.proofs.desk.Desk.make.Goals as goal
 

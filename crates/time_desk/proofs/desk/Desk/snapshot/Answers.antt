@@ -1,6 +1,6 @@
 use Rattle.std.proofs.Common.{length, refl, subst}
 use Rattle.mail_cycle.specs.Permanence.{UidsLast}
-use Rattle.time_desk.specs.Lasting.{Lasting, lasting}
+use Rattle.desk_journal.specs.Lasting.{Lasting, lasting}
 use Rattle.time_desk.proofs.Lasts.{lasts_kept, snapshots_last}
 use Rattle.time_desk.proofs.desk.Desk.snapshot.Goals as goal
 

@@ -1,7 +1,7 @@
 use Rattle.std.proofs.Common.{subst}
 use Rattle.store_kept.specs.Kept.{IsRun}
-use Rattle.time_desk.specs.Lasting.{Lasting}
-use Rattle.time_desk.specs.Permanence.{IsSound}
+use Rattle.desk_journal.specs.Lasting.{Lasting}
+use Rattle.desk_journal.specs.Permanence.{IsSound}
 use Rattle.time_desk.proofs.desk.Desk.stands.Goals as goal
 
 pub returns-clause-sound : goal.returns-clause-sound

@@ -3,8 +3,8 @@ use Rattle.verb_core.specs.Live.{live}
 use Rattle.verb_bytes.specs.declared.journal.JournalRecord.TheVariants.{Verb}
 use Rattle.store_kept.specs.Kept.{store_of}
 use Rattle.mail_cycle.specs.Permanence.{UidsLast}
-use Rattle.time_desk.specs.Lasting.{Lasting, lasting}
-use Rattle.time_desk.specs.Submitting.{SubmitsNone, WritesNone}
+use Rattle.desk_journal.specs.Lasting.{Lasting, lasting}
+use Rattle.desk_journal.specs.Submitting.{SubmitsNone, WritesNone}
 use Rattle.time_desk.proofs.Lasts.{IsNamed, call_lasts, lasts_kept}
 use Rattle.time_desk.proofs.desk.Desk.submit.Goals as goal
 

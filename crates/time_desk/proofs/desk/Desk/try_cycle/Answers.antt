@@ -2,8 +2,8 @@ use Rattle.std.proofs.Common.{Result, IfOk, sym, subst, ◌∙◌}
 use Rattle.paradox.specs.declared.reports.Report.{Report}
 use Rattle.time_desk.specs.declared.fault.CycleFault.{CycleFault}
 use Rattle.time_desk.specs.Cycling.{Tries}
-use Rattle.time_desk.specs.Lasting.{Lasting, lasting}
-use Rattle.time_desk.specs.Stored.{HoldsTexts}
+use Rattle.desk_journal.specs.Lasting.{Lasting, lasting}
+use Rattle.desk_journal.specs.Stored.{HoldsTexts}
 use Rattle.time_desk.proofs.desk.Desk.try_cycle.Goals.{in-Ok, in-Err}
 use Rattle.time_desk.proofs.desk.Desk.try_cycle.Goals as goal
 
