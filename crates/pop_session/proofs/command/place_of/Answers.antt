@@ -1,0 +1,11 @@
+use Rattle.std.proofs.Common.{◌==◌, length, sym, arith, eq-eqb}
+use Rattle.std.proofs.lemmas.List.Sums.{position_or_len_is}
+use Rattle.pop_session.proofs.command.place_of.Goals as goal
+
+pub returns-then-b-byte-clause-value : goal.returns-then-b-byte-clause-value
+returns-then-b-byte-clause-value c =
+    sym (position_or_len_is (λ b. b == c.args.byte) c.args.bytes.now c.loop-place.place 0 (omega arith) c.loop-place.invariant (λ _. eq-eqb _ _ c.if-b-byte.true))
+
+pub returns-clause-value : goal.returns-clause-value
+returns-clause-value c =
+    sym (position_or_len_is (λ b. b == c.args.byte) c.args.bytes.now (length c.args.bytes.now) 0 (omega arith) (λ k lt. c.loop-place.invariant k (omega arith)) (λ lt. absurd (omega arith)))
