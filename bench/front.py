@@ -131,7 +131,7 @@ def stale_delete(store, joined, again):
 
 def main():
     if not 2 <= len(sys.argv) <= 4: sys.exit(__doc__)
-    tests.PROGRAM = os.path.abspath(sys.argv[1])
+    tests.stores.PROGRAM = os.path.abspath(sys.argv[1])
     messages, kills = (int(it) for it in (*sys.argv[2:], *('1000', '12')[len(sys.argv) - 2:]))
     missing = [name for name in ('postfix', 'dovecot', 'stunnel') if not shutil.which(name)] + (['root'] if os.geteuid() else [])
     if missing: sys.exit(f'bench/front.py wants {", ".join(missing)}. On Debian: apt-get install postfix dovecot-imapd stunnel4')
