@@ -22,22 +22,22 @@ use Rattle.dialog_laws.specs.Joined.{hears_then, joined}
 
 module _ {D : Type 0} where
   after_none : (o : Outcome D) → after [] [] [] none_read o ≡ o
-  after_none o = λ j. record { said = o.said; state = o.state; dialog = o.dialog; changed = o.changed; unsealed = o.unsealed; reads = no_more o.reads j }
+  after_none o = λ j. record { said = o.said; state = o.state; dialog = o.dialog; gone = o.gone; unsealed = o.unsealed; reads = no_more o.reads j }
 
-  after_twice : (o p q : Outcome D) → after o.said o.changed o.unsealed o.reads (after p.said p.changed p.unsealed p.reads q)
-      ≡ after (o.said ++ p.said) (o.changed ++ p.changed) (o.unsealed ++ p.unsealed) (both_read o.reads p.reads) q
+  after_twice : (o p q : Outcome D) → after o.said o.gone o.unsealed o.reads (after p.said p.gone p.unsealed p.reads q)
+      ≡ after (o.said ++ p.said) (o.gone ++ p.gone) (o.unsealed ++ p.unsealed) (both_read o.reads p.reads) q
   after_twice o p q = λ j. record {
     said = sym (append_assoc o.said p.said q.said) j;
     state = q.state;
     dialog = q.dialog;
-    changed = sym (append_assoc o.changed p.changed q.changed) j;
+    gone = sym (append_assoc o.gone p.gone q.gone) j;
     unsealed = sym (append_assoc o.unsealed p.unsealed q.unsealed) j;
     reads = sym (reads_regroup o.reads p.reads q.reads) j;
   }
 
   -- turns go on behind those of an open connection as behind any
   goes_twice : (o p : Outcome D) (e : Option D) (more : State → D → Outcome D)
-      → after o.said o.changed o.unsealed o.reads (goes_on p e more) ≡ goes_on (after o.said o.changed o.unsealed o.reads p) e more
+      → after o.said o.gone o.unsealed o.reads (goes_on p e more) ≡ goes_on (after o.said o.gone o.unsealed o.reads p) e more
   goes_twice o p None more = refl
   goes_twice o p (Some d) more = after_twice o p (more p.state d)
 
@@ -56,9 +56,9 @@ module _ {D U : Type 0} (one : Hindrance → State → D → U → Outcome D) wh
   turns_more hs o None us vs more = refl
   turns_more hs o (Some d) us vs more =
       let p : Outcome D = turns one (other_hindrances hs) o.state d us in
-      ap (after o.said o.changed o.unsealed o.reads) (more o.state d)
+      ap (after o.said o.gone o.unsealed o.reads) (more o.state d)
       ∙ goes_twice o p p.dialog (λ t f. turns one (drop (length us) (other_hindrances hs)) t f vs)
-      ∙ ap (λ (ks : List Hindrance). goes_on (after o.said o.changed o.unsealed o.reads p) p.dialog (λ t f. turns one ks t f vs)) (drop_more hs (length us))
+      ∙ ap (λ (ks : List Hindrance). goes_on (after o.said o.gone o.unsealed o.reads p) p.dialog (λ t f. turns one ks t f vs)) (drop_more hs (length us))
 
   -- the turns of all are those of some, and then those of the others where they left the connection
   pub turns_join : (hs : List Hindrance) (s : State) (d : D) (us vs : List U)
@@ -79,10 +79,10 @@ module _ {D U : Type 0} (one : Hindrance → State → D → U → Outcome D) (u
       ∙ ap (λ (o : Outcome D). goes_on o o.dialog (λ t e. none_yet t e)) (quiet s d) ∙ after_none (none_yet s d)
 
   behind_quiet : (o : Outcome D) (e : Option D) (n : ℕ) → o.dialog ≡ e → goes_on o e (λ t f. turns one (drop n []) t f (u ∷ [])) ≡ o
-  behind_quiet o None n is = λ j. record { said = o.said; state = o.state; dialog = sym is j; changed = o.changed; unsealed = o.unsealed; reads = o.reads }
+  behind_quiet o None n is = λ j. record { said = o.said; state = o.state; dialog = sym is j; gone = o.gone; unsealed = o.unsealed; reads = o.reads }
   behind_quiet o (Some d) n is =
-      ap (after o.said o.changed o.unsealed o.reads) (alone_quiet n o.state d)
-      ∙ (λ j. record { said = append-nil o.said j; state = o.state; dialog = sym is j; changed = append-nil o.changed j; unsealed = append-nil o.unsealed j; reads = none_before o.reads j })
+      ap (after o.said o.gone o.unsealed o.reads) (alone_quiet n o.state d)
+      ∙ (λ j. record { said = append-nil o.said j; state = o.state; dialog = sym is j; gone = append-nil o.gone j; unsealed = append-nil o.unsealed j; reads = none_before o.reads j })
 
   -- what says nothing changes nothing behind turns that nothing hinders
   pub quiet_last : (s : State) (d : D) (us : List U) → turns one [] s d (us ++ u ∷ []) ≡ turns one [] s d us
@@ -96,7 +96,7 @@ heard_on kept unserved o None more later is same = λ j. record {
   said = o.said;
   state = o.state;
   seat = option_map (Smtp kept) (sym is j);
-  changed = o.changed;
+  gone = o.gone;
   rewound = false;
   unsealed = o.unsealed;
   reads = o.reads;
@@ -129,7 +129,7 @@ reader_on mid last o None more later is same = λ j. record {
   said = o.said;
   state = o.state;
   seat = option_map (Imap mid) (sym is j);
-  changed = o.changed;
+  gone = o.gone;
   rewound = false;
   unsealed = o.unsealed;
   reads = o.reads;

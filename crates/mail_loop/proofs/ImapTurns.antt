@@ -145,13 +145,13 @@ house_stays S kept kept' at by ask (Err (IsRefused why)) (due, same, seals) = ap
 house_stays S kept kept' at by ask (Err Disk) (item, is, same, seals) = ap (λ (k : Kept). k.house) same
 house_stays S kept kept' at by ask (Err Closed) wrong = absurd wrong
 
-none_told : (out : ImapOut) (kept : Kept) (d : Dialog) → (settled_as out kept d).changed ≡ []
+none_told : (out : ImapOut) (kept : Kept) (d : Dialog) → (settled_as out kept d).gone ≡ []
 none_told (Say said) kept d = refl
 none_told (Bye said) kept d = refl
 none_told (Read bodies) kept d = refl
 none_told (Submit ask) kept d = refl
 
-none_changed : (d : Dialog) (a : Asked) → (settled d a).changed ≡ []
+none_changed : (d : Dialog) (a : Asked) → (settled d a).gone ≡ []
 none_changed d a =
     let t = session.settle (store_of a.kept) a.kept.stamps d a.outcome in
     none_told t.out a.kept t.dialog
@@ -169,20 +169,20 @@ quiet_settled d a =
     none_wanted t.out a.kept t.dialog
 
 -- the mailboxes were noted before
-noted : (S : List JournalRecord → Reads → Type 0) (t : Turn Dialog) (ids : List BoxId) (old old' : Reply) (kept : Kept) (e : Dialog) (new : Reply) → old' ≡ record old { changed = old.changed ++ ids }
-    → t.changed ≡ [] → Takes S t old' kept e new → Takes S (record t { changed = ids }) old kept e new
+noted : (S : List JournalRecord → Reads → Type 0) (t : Turn Dialog) (ids : List BoxId) (old old' : Reply) (kept : Kept) (e : Dialog) (new : Reply) → old' ≡ record old { gone = old.gone ++ ids }
+    → t.gone ≡ [] → Takes S t old' kept e new → Takes S (record t { gone = ids }) old kept e new
 noted S t ids old old' kept e new is none takes = record {
   conn = takes.conn ∙ ap (λ (r : Reply). r.conn) is;
   said = takes.said ∙ ap (λ (r : Reply). r.said ++ t.said) is;
   kept_is = takes.kept_is;
   dialog_is = takes.dialog_is;
-  changed = takes.changed ∙ ap (λ (l : List BoxId). old'.changed ++ l) none ∙ append-nil old'.changed ∙ ap (λ (r : Reply). r.changed) is;
+  gone = takes.gone ∙ ap (λ (l : List BoxId). old'.gone ++ l) none ∙ append-nil old'.gone ∙ ap (λ (r : Reply). r.gone) is;
   seals = takes.seals;
 }
 
 -- the connection closes with no answer to what is kept, of which the mailboxes were noted before
 closed_on : (S : List JournalRecord → Reads → Type 0) (d : Dialog) (ask : Ask) (item : Item) (k : Kept) (old old' : Reply) (kept : Kept) (e : Dialog) (new : Reply)
-    → old' ≡ record old { changed = old.changed ++ taken_by d.user ask } → Takes IsNone (ends [] k) old' kept e new → S [] none_read
+    → old' ≡ record old { gone = old.gone ++ taken_by d.user ask } → Takes IsNone (ends [] k) old' kept e new → S [] none_read
     → Takes S (unanswered (done d ask (asked_as (Ok item) k))) old kept e new
 closed_on S d ask item k old old' kept e new is takes none =
     let t = noted IsNone (ends [] k) (taken_by d.user ask) old old' kept e new is refl takes in
@@ -191,7 +191,7 @@ closed_on S d ask item k old old' kept e new is takes none =
       said = t.said;
       kept_is = t.kept_is ∙ sym (kept_settled d (asked_as (Ok item) k));
       dialog_is = t.dialog_is;
-      changed = t.changed;
+      gone = t.gone;
       seals = subst (λ (r : Reads). S [] r) (sym (quiet_settled d (asked_as (Ok item) k))) none;
     }
 
@@ -206,12 +206,12 @@ settled_unsealed : (d : Dialog) (kept : Kept) (failed : List JournalRecord) → 
 settled_unsealed d kept failed due =
     ap (λ (t : Took). record (settled_as t.out kept t.dialog) { unsealed = failed }) (fault_told (store_of kept) kept.stamps d d.awaits due)
 
-none_more : (old old' : Reply) → old' ≡ record old { changed = old.changed ++ [] } → old' ≡ old
-none_more old old' is = is ∙ ap (λ (ids : List BoxId). record old { changed = ids }) (append-nil old.changed)
+none_more : (old old' : Reply) → old' ≡ record old { gone = old.gone ++ [] } → old' ≡ old
+none_more old old' is = is ∙ ap (λ (ids : List BoxId). record old { gone = ids }) (append-nil old.gone)
 
 -- what is asked of the desk is a turn, hindered or not
 pub asked_turn : (S : List JournalRecord → Reads → Type 0) (at : ℕ) (kept kept' : Kept) (ask : Ask) (d e : Dialog) (outcome : Result Item SubmitFault) (old old' new : Reply) → session.is_due d ≡ true
-    → old' ≡ record old { changed = old.changed ++ where_done outcome (taken_by d.user ask) }
+    → old' ≡ record old { gone = old.gone ++ where_done outcome (taken_by d.user ask) }
     → Submits S at kept d.user ask kept' outcome
     → Settles outcome kept' d old' e new
     → (h : Hindrance) × Takes S (under h at kept (λ desk. done d ask (desk.asked d.user ask))) old kept' e new
@@ -335,7 +335,7 @@ reread S S' r t old kept d new quiet then takes = record {
   said = takes.said;
   kept_is = takes.kept_is;
   dialog_is = takes.dialog_is;
-  changed = takes.changed;
+  gone = takes.gone;
   seals = then t.unsealed (subst (λ (q : Reads). S t.unsealed q) quiet takes.seals);
 }
 
@@ -563,13 +563,13 @@ raw_turn S at kept kept' next raw d d' old new is t = subst (λ (n : Next). (h :
 -- what a user asks of the desk is a turn, hindered or not
 pub asked_turn_by : (S : List JournalRecord → Reads → Type 0) (at : ℕ) (kept kept' : Kept) (by : Option User) (ask : Ask) (d e : Dialog) (outcome : Result Item SubmitFault) (old old' new : Reply) → by ≡ d.user
     → session.is_due d ≡ true
-    → old' ≡ record old { changed = old.changed ++ where_done outcome (taken_by by ask) }
+    → old' ≡ record old { gone = old.gone ++ where_done outcome (taken_by by ask) }
     → Submits S at kept by ask kept' outcome
     → Settles outcome kept' d old' e new
     → (h : Hindrance) × Takes S (under h at kept (λ desk. done d ask (desk.asked d.user ask))) old kept' e new
 asked_turn_by S at kept kept' by ask d e outcome old old' new same due is did s =
     asked_turn S at kept kept' ask d e outcome old old' new due
-    (subst (λ (u : Option User). old' ≡ record old { changed = old.changed ++ where_done outcome (taken_by u ask) }) same is)
+    (subst (λ (u : Option User). old' ≡ record old { gone = old.gone ++ where_done outcome (taken_by u ask) }) same is)
     (subst (λ (u : Option User). Submits S at kept u ask kept' outcome) same did)
     s
 

@@ -33,19 +33,19 @@ all_turns one seats hs kept d us = turns (alone one) hs (beside seats kept) d us
 -- an outcome of such turns
 abbrev leaving : {D : Type 0} → Seats → List ℕ → List BoxId → List JournalRecord → Reads → Kept → Option D → Outcome D
 leaving seats said boxes failed reads kept o =
-    record { said = said; state = record { kept = kept; seats = seats }; dialog = o; changed = boxes; unsealed = failed; reads = reads }
+    record { said = said; state = record { kept = kept; seats = seats }; dialog = o; gone = boxes; unsealed = failed; reads = reads }
 
 -- an outcome of such turns, whose answers are a reply's
 abbrev pub left : {D : Type 0} → Seats → Reply → Kept → List JournalRecord → Reads → Option D → Outcome D
-left seats reply kept failed reads o = leaving seats reply.said reply.changed failed reads kept o
+left seats reply kept failed reads o = leaving seats reply.said reply.gone failed reads kept o
 
 nothing_more : {D : Type 0} → (seats : Seats) (reply : Reply) (reads : Reads) (kept : Kept) (o : Option D)
-    → leaving seats (reply.said ++ []) (reply.changed ++ []) [] (both_read reads none_read) kept o ≡ left seats reply kept [] reads o
-nothing_more seats reply reads kept o = λ j. leaving seats (append-nil reply.said j) (append-nil reply.changed j) [] (none_before reads j) kept o
+    → leaving seats (reply.said ++ []) (reply.gone ++ []) [] (both_read reads none_read) kept o ≡ left seats reply kept [] reads o
+nothing_more seats reply reads kept o = λ j. leaving seats (append-nil reply.said j) (append-nil reply.gone j) [] (none_before reads j) kept o
 
 -- what is to come after a reply's answers, and after what was read for them
 abbrev pub behind : {D : Type 0} → Reply → Reads → Outcome D → Outcome D
-behind reply reads o = after reply.said reply.changed [] reads o
+behind reply reads o = after reply.said reply.gone [] reads o
 
 -- the turns of all leave what is in the reply, of which so many could not read, and then what the turns of those to come leave
 pub record SoFar {D U : Type 0} (one : Hindrance → Kept → D → U → Turn D) (seats : Seats) (kept : Kept) (d : D) (all : List U) (reply : Reply) (reads : Reads) (kept' : Kept) (d' : D) (us : List U) : Type 0 where
@@ -54,7 +54,7 @@ pub record SoFar {D U : Type 0} (one : Hindrance → Kept → D → U → Turn D
       ≡ behind reply reads (turns (alone one) more (record { kept = kept'; seats = seats }) d' us)
 
 pub so_far_none : {D U : Type 0} → (one : Hindrance → Kept → D → U → Turn D) (seats : Seats) (kept : Kept) (d : D) (us : List U) (conn : ℕ) (reply : Reply)
-    → reply ≡ record { conn = conn; said = []; closes = false; changed = [] } → SoFar one seats kept d us reply none_read kept d us
+    → reply ≡ record { conn = conn; said = []; closes = false; gone = [] } → SoFar one seats kept d us reply none_read kept d us
 so_far_none one seats kept d us conn reply empty =
     subst (λ (r : Reply). SoFar one seats kept d us r none_read kept d us) (sym empty) (record {
       before = [];
@@ -86,17 +86,17 @@ so_far_more {D} {U} S one seats kept d all kept' d' u us new e old reply reads s
       split = λ more.
           let turn = one h kept' d' u in
           up_to one seats kept d all old reads kept' d' u us s h more (Some f) is
-          ∙ ap (λ (failed : List JournalRecord). behind old reads (after turn.said turn.changed failed turn.reads (all_turns one seats more turn.kept f us))) goes.2
+          ∙ ap (λ (failed : List JournalRecord). behind old reads (after turn.said turn.gone failed turn.reads (all_turns one seats more turn.kept f us))) goes.2
           ∙ regroup more f
-          ∙ ap (λ said. after said (old.changed ++ turn.changed) [] (both_read reads turn.reads) (all_turns one seats more turn.kept f us)) (sym took.said)
-          ∙ ap (λ boxes. after reply.said boxes [] (both_read reads turn.reads) (all_turns one seats more turn.kept f us)) (sym took.changed)
+          ∙ ap (λ said. after said (old.gone ++ turn.gone) [] (both_read reads turn.reads) (all_turns one seats more turn.kept f us)) (sym took.said)
+          ∙ ap (λ boxes. after reply.said boxes [] (both_read reads turn.reads) (all_turns one seats more turn.kept f us)) (sym took.gone)
           ∙ ap (λ k. behind reply (both_read reads turn.reads) (all_turns one seats more k f us)) (sym took.kept_is)
           ∙ ap (λ g. behind reply (both_read reads turn.reads) (all_turns one seats more new g us)) (sym goes.0);
     }
       where
         regroup : (more : List Hindrance) (f : D)
-            → behind old reads (after (one h kept' d' u).said (one h kept' d' u).changed [] (one h kept' d' u).reads (all_turns one seats more (one h kept' d' u).kept f us))
-            ≡ after (old.said ++ (one h kept' d' u).said) (old.changed ++ (one h kept' d' u).changed) [] (both_read reads (one h kept' d' u).reads)
+            → behind old reads (after (one h kept' d' u).said (one h kept' d' u).gone [] (one h kept' d' u).reads (all_turns one seats more (one h kept' d' u).kept f us))
+            ≡ after (old.said ++ (one h kept' d' u).said) (old.gone ++ (one h kept' d' u).gone) [] (both_read reads (one h kept' d' u).reads)
             (all_turns one seats more (one h kept' d' u).kept f us)
         regroup more f =
             let t = all_turns one seats more (one h kept' d' u).kept f us in
@@ -104,7 +104,7 @@ so_far_more {D} {U} S one seats kept d all kept' d' u us new e old reply reads s
               said = sym (append_assoc old.said (one h kept' d' u).said t.said) j;
               state = t.state;
               dialog = t.dialog;
-              changed = sym (append_assoc old.changed (one h kept' d' u).changed t.changed) j;
+              gone = sym (append_assoc old.gone (one h kept' d' u).gone t.gone) j;
               unsealed = t.unsealed;
               reads = sym (reads_regroup reads (one h kept' d' u).reads t.reads) j;
             }
@@ -121,8 +121,8 @@ closed_after {D} {U} S one seats kept d all kept' d' u us new e old reply reads 
     by_dialog None is shuts = (
       (s.before ++ h ∷ []) ++ [],
       up_to one seats kept d all old reads kept' d' u us s h [] None is
-          ∙ ap (λ (said : List ℕ). leaving seats said (old.changed ++ (one h kept' d' u).changed) (one h kept' d' u).unsealed (both_read reads (one h kept' d' u).reads) (one h kept' d' u).kept None) (sym took.said)
-          ∙ ap (λ (boxes : List BoxId). leaving seats reply.said boxes (one h kept' d' u).unsealed (both_read reads (one h kept' d' u).reads) (one h kept' d' u).kept None) (sym took.changed)
+          ∙ ap (λ (said : List ℕ). leaving seats said (old.gone ++ (one h kept' d' u).gone) (one h kept' d' u).unsealed (both_read reads (one h kept' d' u).reads) (one h kept' d' u).kept None) (sym took.said)
+          ∙ ap (λ (boxes : List BoxId). leaving seats reply.said boxes (one h kept' d' u).unsealed (both_read reads (one h kept' d' u).reads) (one h kept' d' u).kept None) (sym took.gone)
           ∙ ap (λ (k : Kept). left seats reply k (one h kept' d' u).unsealed (both_read reads (one h kept' d' u).reads) None) (sym took.kept_is),
     )
     by_dialog (Some f) is goes = absurd (let wrong : true ≡ false = sym shut ∙ goes.1 in cc)
@@ -130,7 +130,7 @@ closed_after {D} {U} S one seats kept d all kept' d' u us new e old reply reads 
 -- a turn for which no memory is found, and which is lost
 pub unheard : {D U : Type 0} → (one : Hindrance → Kept → D → U → Turn D) (seats : Seats) (kept : Kept) (d : D) (all : List U) (reply : Reply) (reads : Reads) (kept' : Kept) (d' : D) (us : List U)
     → SoFar one seats kept d all reply reads kept' d' us → (us ≡ [] → ⊥)
-    → ((u : U) → one Unheard kept' d' u ≡ record { said = []; kept = kept'; dialog = None; changed = []; unsealed = []; reads = none_read })
+    → ((u : U) → one Unheard kept' d' u ≡ record { said = []; kept = kept'; dialog = None; gone = []; unsealed = []; reads = none_read })
     → (hs : List Hindrance) × (turns (alone one) hs (record { kept = kept; seats = seats }) d all ≡ left seats reply kept' [] reads None)
 unheard one seats kept d all reply reads kept' d' [] s some lost = absurd (some refl)
 unheard {D} one seats kept d all reply reads kept' d' (u ∷ us) s some lost = (
@@ -152,7 +152,7 @@ all_heard one seats kept d all reply reads kept' d' us s none = (
 
 -- the last turn is to come, which says nothing
 pub last_heard : {D U : Type 0} → (one : Hindrance → Kept → D → U → Turn D) (seats : Seats) (kept : Kept) (d : D) (all : List U) (reply : Reply) (reads : Reads) (kept' : Kept) (d' : D) (us : List U) (u : U)
-    → SoFar one seats kept d all reply reads kept' d' us → us ≡ u ∷ [] → one Clear kept' d' u ≡ record { said = []; kept = kept'; dialog = Some d'; changed = []; unsealed = []; reads = none_read }
+    → SoFar one seats kept d all reply reads kept' d' us → us ≡ u ∷ [] → one Clear kept' d' u ≡ record { said = []; kept = kept'; dialog = Some d'; gone = []; unsealed = []; reads = none_read }
     → (hs : List Hindrance) × (turns (alone one) hs (record { kept = kept; seats = seats }) d all ≡ left seats reply kept' [] reads (Some d'))
 last_heard {D} one seats kept d all reply reads kept' d' us u s last quiet = (
   s.before ++ [],
@@ -177,7 +177,7 @@ told_by one seat_of seats kept d all conn reply kept' failed reads seat o S same
   record {
     conn_is = same;
     heard_is = ap (heard_by seat_of) is
-        ∙ ap (λ (s : Option Seat). record { said = reply.said; state = record { kept = kept'; seats = seats }; seat = s; changed = reply.changed; rewound = false; unsealed = failed; reads = reads; consoles = no_consoles }) left_is;
+        ∙ ap (λ (s : Option Seat). record { said = reply.said; state = record { kept = kept'; seats = seats }; seat = s; gone = reply.gone; rewound = false; unsealed = failed; reads = reads; consoles = no_consoles }) left_is;
   },
 )
 
@@ -193,14 +193,14 @@ heard_alone h seats conn reply kept failed reads seat t =
     ap (heard conn) t.heard_is
     ∙ ap (λ (b : Bool). record {
       state = record { kept = kept; seats = seated conn (seat_left reply.closes seat) seats };
-      replies = with_reply (record { conn = conn; said = reply.said; closes = b }) (closed_others conn reply.changed (seated conn (seat_left reply.closes seat) seats));
+      replies = with_reply (record { conn = conn; said = reply.said; closes = b }) (closed_others conn reply.gone (seated conn (seat_left reply.closes seat) seats));
       unsealed = failed;
       reads = reads;
       consoles = no_consoles;
     }) (none_left reply.closes seat)
     ∙ ap (λ (n : ℕ). record {
       state = record { kept = kept; seats = seated conn (seat_left reply.closes seat) seats };
-      replies = with_reply (record { conn = n; said = reply.said; closes = reply.closes }) (closed_others conn reply.changed (seated conn (seat_left reply.closes seat) seats));
+      replies = with_reply (record { conn = n; said = reply.said; closes = reply.closes }) (closed_others conn reply.gone (seated conn (seat_left reply.closes seat) seats));
       unsealed = failed;
       reads = reads;
       consoles = no_consoles;
@@ -208,7 +208,7 @@ heard_alone h seats conn reply kept failed reads seat t =
 
 -- no memory was found for the bytes
 pub unfed_alone : (hs : List Hindrance) (stage : Stage) (at : ℕ) (kept : Kept) (seats : Seats) (conn : ℕ) (seat seat' : Seat) (bytes : List ℕ) (reply : Reply)
-    → reply ≡ record { conn = conn; said = []; closes = true; changed = [] }
+    → reply ≡ record { conn = conn; said = []; closes = true; gone = [] }
     → hears true hs stage at (record { kept = kept; seats = seats }) conn seat bytes ≡ answered_alone conn (going_on_with reply) kept [] none_read [] seat' seats
 unfed_alone hs stage at kept seats conn seat seat' bytes reply e =
     sym (ap (λ (r : Reply). answered_alone conn (going_on_with r) kept [] none_read [] seat' seats) e)

@@ -47,22 +47,22 @@ line_at at h kept d line = hindered h at kept d line
 
 pub told_whole : {D : Type 0} → (said : List ℕ) (kept : Kept) (d : D) (old new : Reply) → new ≡ record old { said = old.said ++ said; closes = false } → Takes IsNone (says said kept d) old kept d new
 told_whole said kept d old new e =
-    subst (λ (r : Reply). Takes IsNone (says said kept d) old kept d r) (sym e) (record { conn = refl; said = refl; kept_is = refl; dialog_is = (refl, refl, refl); changed = sym (append-nil old.changed); seals = (refl, refl) })
+    subst (λ (r : Reply). Takes IsNone (says said kept d) old kept d r) (sym e) (record { conn = refl; said = refl; kept_is = refl; dialog_is = (refl, refl, refl); gone = sym (append-nil old.gone); seals = (refl, refl) })
 
 pub told_last : {D : Type 0} → (said : List ℕ) (kept : Kept) (d : D) (old new : Reply) → new ≡ record old { said = old.said ++ said; closes = true } → Takes IsNone (ends said kept) old kept d new
 told_last said kept d old new e =
-    subst (λ (r : Reply). Takes IsNone (ends said kept) old kept d r) (sym e) (record { conn = refl; said = refl; kept_is = refl; dialog_is = refl; changed = sym (append-nil old.changed); seals = (refl, refl) })
+    subst (λ (r : Reply). Takes IsNone (ends said kept) old kept d r) (sym e) (record { conn = refl; said = refl; kept_is = refl; dialog_is = refl; gone = sym (append-nil old.gone); seals = (refl, refl) })
 
 pub told_nothing : {D : Type 0} → (kept : Kept) (d : D) (old new : Reply) → old.closes ≡ false → new ≡ old → Takes IsNone (says [] kept d) old kept d new
 told_nothing kept d old new stays e =
     subst (λ (r : Reply). Takes IsNone (says [] kept d) old kept d r) (sym e)
-    (record { conn = refl; said = sym (append-nil old.said); kept_is = refl; dialog_is = (refl, stays, refl); changed = sym (append-nil old.changed); seals = (refl, refl) })
+    (record { conn = refl; said = sym (append-nil old.said); kept_is = refl; dialog_is = (refl, stays, refl); gone = sym (append-nil old.gone); seals = (refl, refl) })
 
 -- a connection that closes with no answer
 pub closed : {D : Type 0} → (kept kept' : Kept) (d : D) (old new : Reply) → kept' ≡ kept → new ≡ record old { closes = true } → Takes IsNone (ends [] kept) old kept' d new
 closed kept kept' d old new same e =
     subst (λ (r : Reply). Takes IsNone (ends [] kept) old kept' d r) (sym e)
-    (record { conn = refl; said = sym (append-nil old.said); kept_is = same; dialog_is = refl; changed = sym (append-nil old.changed); seals = (refl, refl) })
+    (record { conn = refl; said = sym (append-nil old.said); kept_is = same; dialog_is = refl; gone = sym (append-nil old.gone); seals = (refl, refl) })
 
 -- no sealing failed in this turn, and what was sealed is known
 pub lifted : {D : Type 0} → (S : List JournalRecord → Reads → Type 0) (t : Turn D) (old : Reply) (kept : Kept) (d : D) (new : Reply) → Takes IsNone t old kept d new → S [] none_read → Takes S t old kept d new
@@ -71,7 +71,7 @@ lifted S t old kept d new takes none = record {
   said = takes.said;
   kept_is = takes.kept_is;
   dialog_is = takes.dialog_is;
-  changed = takes.changed;
+  gone = takes.gone;
   seals = none_sealed S t.unsealed t.reads takes.seals none;
 }
 
@@ -87,7 +87,7 @@ unsealed_too S said k failed old kept d new takes seals = record {
   said = takes.said;
   kept_is = takes.kept_is;
   dialog_is = takes.dialog_is;
-  changed = takes.changed;
+  gone = takes.gone;
   seals = seals;
 }
 
@@ -148,13 +148,13 @@ kept_told (Asks ask) kept d = refl
 kept_settled : (d : Dialog) (a : Asked) → (settled d a).kept ≡ a.kept
 kept_settled d a = kept_told (session.settle d a.outcome).out a.kept (session.settle d a.outcome).dialog
 
-none_told : (out : SmtpOut) (kept : Kept) (d : Dialog) → (settled_as out kept d).changed ≡ []
+none_told : (out : SmtpOut) (kept : Kept) (d : Dialog) → (settled_as out kept d).gone ≡ []
 none_told Nothing kept d = refl
 none_told (Say said) kept d = refl
 none_told (Bye said) kept d = refl
 none_told (Asks ask) kept d = refl
 
-none_changed : (d : Dialog) (a : Asked) → (settled d a).changed ≡ []
+none_changed : (d : Dialog) (a : Asked) → (settled d a).gone ≡ []
 none_changed d a = none_told (session.settle d a.outcome).out a.kept (session.settle d a.outcome).dialog
 
 none_wanted : (out : SmtpOut) (kept : Kept) (d : Dialog) → (settled_as out kept d).reads ≡ none_read
@@ -175,7 +175,7 @@ closed_on S d a old kept e new takes seals = record {
   said = takes.said;
   kept_is = takes.kept_is ∙ sym (kept_settled d a);
   dialog_is = takes.dialog_is;
-  changed = takes.changed ∙ ap (λ (l : List BoxId). old.changed ++ l) (sym (none_changed d a));
+  gone = takes.gone ∙ ap (λ (l : List BoxId). old.gone ++ l) (sym (none_changed d a));
   seals = subst (λ (r : Reads). S a.unsealed r) (sym (quiet_settled d a)) seals;
 }
 

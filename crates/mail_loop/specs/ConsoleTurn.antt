@@ -1,5 +1,5 @@
 -- A turn of a console: the answer to its request, over the desk.
-use Rattle.std.specs.Prelude.{ℕ, Bool, true, false, ◌||◌, List, [], ◌++◌, Option, None, Some}
+use Rattle.std.specs.Prelude.{ℕ, Bool, true, false, ◌||◌, List, [], ◌++◌, Option, None, Some, if◌then◌else◌}
 use Rattle.std.specs.List.{AllByRecursion}
 use Rattle.console_head.specs.Request.{Says, Stage}
 use Rattle.console_session.specs.declared.reply.After.{After}
@@ -7,6 +7,8 @@ use Rattle.console_session.specs.declared.reply.After.TheVariants.{Waits, Closes
 use Rattle.console_session.specs.Hindrance as console
 use Rattle.console_session.specs.Turn.{Turn as ConsoleTurn, asked_of}
 use Rattle.store_kept.specs.Kept.{Kept}
+use Rattle.mail_loop.specs.declared.aftermath.Aftermath.TheVariants.{Quiet, Rewound}
+use Rattle.mail_loop.specs.declared.console_turn.Sequel.{Sequel}
 use Rattle.mail_loop.specs.Hindrance.{Hindrance, Clear, Refused, Textless, Unread, UnreadRefused, UnreadUnheard, Misread, Misled, Unstored, Unheard, Unanswered, Unsealed, Untold}
 
 -- the bytes of a console, and what they were read as
@@ -50,26 +52,14 @@ of_console Untold = console.Untold
 abbrev pub console_turn : Hindrance → ℕ → Kept → Stage → ConsoleTurn
 console_turn h at kept stage = console.hindered (of_console h) at kept (asked_of kept.house stage)
 
+-- what follows a console's answer: whether its connection is closed, whether serving is asked to stop, and what follows for the other connections
+abbrev pub sequel_of : After → Sequel
+sequel_of Waits = record { closes = false; stops = false; aftermath = Quiet }
+sequel_of Closes = record { closes = true; stops = false; aftermath = Quiet }
+sequel_of Stops = record { closes = true; stops = true; aftermath = Quiet }
+sequel_of Fails = record { closes = true; stops = false; aftermath = Quiet }
+sequel_of Rewinds = record { closes = true; stops = false; aftermath = Rewound }
+
 -- the bytes that are kept of a console, where it stays open
 abbrev pub left_by : After → List ℕ → Option (List ℕ)
-left_by Waits bytes = Some bytes
-left_by Closes bytes = None
-left_by Stops bytes = None
-left_by Fails bytes = None
-left_by Rewinds bytes = None
-
--- whether serving is asked to stop
-abbrev pub stops_by : After → Bool
-stops_by Waits = false
-stops_by Closes = false
-stops_by Stops = true
-stops_by Fails = false
-stops_by Rewinds = false
-
--- whether the store was rewound, so that each mail reader is closed
-abbrev pub rewinds_by : After → Bool
-rewinds_by Waits = false
-rewinds_by Closes = false
-rewinds_by Stops = false
-rewinds_by Fails = false
-rewinds_by Rewinds = true
+left_by after bytes = if (sequel_of after).closes then None else Some bytes

@@ -1,14 +1,19 @@
 -- What the code's answers to a mail reader are in the machine.
-use Rattle.std.specs.Prelude.{◌≡◌, ◌⊎◌, ℕ, Bool, true, false, List, [], Result, Ok, Err, IsTrue}
-use Rattle.std.specs.List.{list_all}
+use Rattle.std.specs.Prelude.{◌≡◌, ◌⊎◌, ℕ, Bool, true, false, bytes_eq, if◌then◌else◌, List, [], map, Option, None, Some, Result, Ok, Err, IsTrue}
+use Rattle.std.specs.List.{cons_option, list_all}
+use Rattle.undo_base.specs.declared.keys.User.{User}
 use Rattle.undo_base.specs.declared.memory.NoMemory.{NoMemory as WantOfMemory}
 use Rattle.seal_log.specs.declared.fault.ReadFault.{ReadFault}
 use Rattle.seal_log.specs.declared.fault.ReadFault.TheVariants.{Disk, NoMemory as NoneForTexts}
+use Rattle.verb_core.specs.declared.ask.Ask.{Ask}
+use Rattle.verb_core.specs.declared.ask.Ask.TheVariants as ask
 use Rattle.verb_core.specs.declared.ask.Refused.TheVariants.{NoMemory}
 use Rattle.verb_core.specs.declared.ask.SubmitFault.{SubmitFault}
 use Rattle.verb_core.specs.declared.ask.SubmitFault.TheVariants.{Refused as IsRefused}
 use Rattle.verb_core.specs.declared.item.Item.{Item}
 use Rattle.verb_core.specs.declared.mailbox.BoxId.{BoxId}
+use Rattle.verb_core.specs.Boxes.{box_of}
+use Rattle.verb_core.specs.Names.{inbox}
 use Rattle.imap_lines.specs.Command.{Reading}
 use Rattle.imap_stream.specs.declared.next.Next.{Next}
 use Rattle.imap_stream.specs.declared.next.Next.TheVariants.{Command, Ask as Mark, Bad, NotYet}
@@ -69,10 +74,16 @@ obeyed desk kept d reading = let t = session.hears_reading kept.house (store_of 
 abbrev pub obeyed_under : Hindrance → ℕ → Kept → Dialog → Reading → Turn Dialog
 obeyed_under h at kept d reading = under_or h (refused_command kept d reading) at kept (λ desk. obeyed desk kept d reading)
 
--- the mailboxes that an ask takes away, where it was done
-abbrev pub where_done : Result Item SubmitFault → List BoxId → List BoxId
-where_done (Ok item) boxes = boxes
-where_done (Err fault) boxes = []
+-- the name of the mailbox that an ask takes away where it is done: the one that is deleted or renamed; that of INBOX is there again
+abbrev pub name_taken : Ask → Option (List ℕ)
+name_taken (ask.Rename mailbox target) = if bytes_eq mailbox inbox then None else Some mailbox
+name_taken (ask.Delete mailbox) = Some mailbox
+name_taken _ = None
+
+-- the mailbox that an ask takes away, where there is one
+abbrev pub taken_by : Option User → Ask → List BoxId
+taken_by None asked = []
+taken_by (Some user) asked = map (box_of user) (cons_option (name_taken asked) [])
 
 -- the dialog is told why its texts were not read, and what it says of that is in the reply
 abbrev pub IsToldWhy : ReadFault → Kept → Dialog → Reply → Dialog → Reply → Type 0

@@ -1,16 +1,7 @@
 -- A turn of a mail reader: a command, a literal mark or a bad line of its stream, what the dialog makes of it, and what it asks of the desk.
-use Rattle.std.specs.Prelude.{ℕ, List, [], bytes_eq, if◌then◌else◌, length, map, option_map, Option, None, Some, Result, Ok, Err}
-use Rattle.std.specs.List.{cons_option}
-use Rattle.undo_base.specs.declared.keys.User.{User}
+use Rattle.std.specs.Prelude.{ℕ, List, [], length, option_map, Option, None, Some, Result, Ok, Err}
 use Rattle.seal_log.specs.declared.fault.ReadFault.{ReadFault}
-use Rattle.verb_core.specs.declared.ask.Ask.{Ask}
-use Rattle.verb_core.specs.declared.ask.Ask.TheVariants as ask
-use Rattle.verb_core.specs.declared.ask.SubmitFault.{SubmitFault}
-use Rattle.verb_core.specs.declared.item.Item.{Item}
 use Rattle.verb_core.specs.declared.mailbox.Body.{Body}
-use Rattle.verb_core.specs.declared.mailbox.BoxId.{BoxId}
-use Rattle.verb_core.specs.Boxes.{box_of}
-use Rattle.verb_core.specs.Names.{inbox}
 use Rattle.imap_stream.specs.declared.next.Next.{Next}
 use Rattle.imap_stream.specs.declared.next.Next.TheVariants.{Command, Ask as Mark, Bad, NotYet}
 use Rattle.imap_session.specs.declared.dialog.Dialog.{Dialog}
@@ -22,6 +13,7 @@ use Rattle.desk_journal.specs.Reading.{Reads, none_read}
 use Rattle.store_kept.specs.Kept.{Kept, store_of}
 use Rattle.store_kept.specs.Texts.{text_kept, texts_kept}
 use Rattle.mail_loop.specs.Asked.{Asked, Asking, does}
+use Rattle.mail_loop.specs.Afterwards.{gone_between}
 use Rattle.mail_loop.specs.SmtpTurn.{Turn, says, ends}
 
 -- how long a body is that an item in force brought
@@ -50,39 +42,23 @@ abbrev pub settled : Dialog → Asked → Turn Dialog
 settled d a =
     let t = session.settle (store_of a.kept) a.kept.stamps d a.outcome in record (settled_as t.out a.kept t.dialog) { unsealed = a.unsealed }
 
--- the name of the mailbox that an ask takes away: the one that is deleted or renamed; that of INBOX is there again
-abbrev pub name_taken : Ask → Option (List ℕ)
-name_taken (ask.Rename mailbox target) = if bytes_eq mailbox inbox then None else Some mailbox
-name_taken (ask.Delete mailbox) = Some mailbox
-name_taken _ = None
-
--- the mailbox that an ask takes away, where there is one
-abbrev pub taken_by : Option User → Ask → List BoxId
-taken_by None asked = []
-taken_by (Some user) asked = map (box_of user) (cons_option (name_taken asked) [])
-
--- where it was done, other sessions are told of these mailboxes
-abbrev pub changing : Result Item SubmitFault → List BoxId → Turn Dialog → Turn Dialog
-changing (Ok item) boxes t = record t { changed = boxes }
-changing (Err fault) boxes t = t
-
--- the dialog is told what became of its ask, and so are others, where it took a mailbox away
-abbrev pub done : Dialog → Ask → Asked → Turn Dialog
-done d asked a = changing a.outcome (taken_by d.user asked) (settled d a)
+-- the dialog is told what became of its ask, and so are others of the mailboxes that are gone then
+abbrev pub done : Kept → Dialog → Asked → Turn Dialog
+done kept d a = record (settled d a) { gone = gone_between kept a.kept }
 
 -- what the dialog gives once it has its texts; it wants none again
 abbrev pub submits : Service → Kept → ImapOut → Dialog → Turn Dialog
 submits desk kept (Say said) d = says said kept d
 submits desk kept (Bye said) d = ends said kept
 submits desk kept (Read bodies) d = says [] kept d
-submits desk kept (Submit asked) d = done d asked (desk.asked d.user asked)
+submits desk kept (Submit asked) d = done kept d (desk.asked d.user asked)
 
 -- what the dialog gives, and what is read for it and asked by it of the desk
 abbrev pub followed : Service → Kept → ImapOut → Dialog → Turn Dialog
 followed desk kept (Say said) d = says said kept d
 followed desk kept (Bye said) d = ends said kept
 followed desk kept (Read bodies) d = let t = session.heard d (desk.texts bodies) in record (submits desk kept t.out t.dialog) { reads = desk.reads }
-followed desk kept (Submit asked) d = done d asked (desk.asked d.user asked)
+followed desk kept (Submit asked) d = done kept d (desk.asked d.user asked)
 
 -- a command, or what is none; a literal is invited, and a bad line is refused
 abbrev pub served : Service → Kept → Dialog → Next → Turn Dialog

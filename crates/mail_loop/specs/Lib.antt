@@ -1,4 +1,5 @@
 pub mod State
+pub mod Afterwards
 pub mod Asked
 pub mod SmtpTurn
 pub mod Hindrance

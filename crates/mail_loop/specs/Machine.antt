@@ -1,10 +1,8 @@
 -- The machine: what an event does to the state, and what the link does for it.
-use Rattle.std.specs.Prelude.{ℕ, ◌==◌, ◌&&◌, filter, Bool, true, false, not, min, List, [], ◌∷◌, ◌++◌, map, is_none, nat_le, nat_lt, if◌then◌else◌, Option, None, Some}
-use Rattle.std.specs.List.{list_any}
+use Rattle.std.specs.Prelude.{ℕ, ◌==◌, ◌&&◌, filter_map, Bool, true, false, not, min, List, [], ◌∷◌, ◌++◌, is_none, option_map, nat_le, nat_lt, if◌then◌else◌, Option, None, Some}
 use Rattle.std.specs.Ordering.{nat_cmp}
 use Rattle.std.specs.Map.{lookup, remove_entry, set_value}
 use Rattle.std.specs.BTreeMap.{insert_entry, is_at}
-use Rattle.verb_core.specs.declared.mailbox.BoxId.{BoxId}
 use Rattle.verb_core.specs.Names.{is_empty}
 use Rattle.undo_outside.specs.declared.event.Event.{Event}
 use Rattle.undo_outside.specs.declared.event.What.{What}
@@ -19,13 +17,16 @@ use Rattle.smtp_session.specs.Dialog.{opening}
 use Rattle.imap_stream.specs.Commands.{before, nothing}
 use Rattle.imap_stream.specs.declared.begun.Awaits.TheVariants.{Line}
 use Rattle.imap_session.specs.Dialog as imap
-use Rattle.imap_session.specs.Words.{changed_text, greeting_text, rewound_text}
+use Rattle.imap_session.specs.Words.{greeting_text}
 use Rattle.verb_bytes.specs.declared.journal.JournalRecord.{JournalRecord}
 use Rattle.store_kept.specs.Kept.{snapshotted}
 use Rattle.desk_journal.specs.Reading.{Reads, none_read}
 use Rattle.desk_journal.specs.Records.{snapshot_record}
 use Rattle.console_head.specs.Request.{Stage}
+use Rattle.mail_loop.specs.declared.aftermath.Aftermath.{Aftermath}
+use Rattle.mail_loop.specs.declared.aftermath.Aftermath.TheVariants.{Quiet}
 use Rattle.mail_loop.specs.State.{Seat, Smtp, Imap, Http, State}
+use Rattle.mail_loop.specs.Afterwards.{last_words}
 use Rattle.mail_loop.specs.Hindrance.{Hindrance}
 use Rattle.mail_loop.specs.ConsoleTurn.{Consoles, no_consoles}
 use Rattle.mail_loop.specs.Turns.{Heard, hears_seat}
@@ -98,57 +99,30 @@ abbrev pub with_reply : Reply → List Reply → List Reply
 with_reply r [] = r ∷ []
 with_reply r (q ∷ qs) = if nat_lt r.conn q.conn then r ∷ q ∷ qs else q ∷ with_reply r qs
 
--- whether a session has one of these mailboxes selected
-abbrev pub holds_one : List BoxId → Seat → Bool
-holds_one boxes (Smtp unserved d) = false
-holds_one boxes (Http came) = false
-holds_one boxes (Imap stream d) = list_any (λ (box : BoxId). imap.holds d box.user box.name) boxes
+-- a connection's last words, behind which it is closed
+abbrev pub parting : ℕ → List ℕ → Reply
+parting conn said = record { conn = conn; said = said; closes = true }
 
--- the other sessions that have one of these mailboxes selected
-abbrev pub others_with : ℕ → List BoxId → Seats → Seats
-others_with conn boxes seats = filter (λ (e : ℕ × Seat). not (e.0 == conn) && holds_one boxes e.1) seats
+-- what another connection is told of what follows, and whether it is told
+abbrev pub told_other : ℕ → Aftermath → ℕ × Seat → Option Reply
+told_other conn aftermath e = if e.0 == conn then None else option_map (parting e.0) (last_words aftermath e.1)
 
--- another is told that its mailbox changed, and closed
-abbrev pub closing : ℕ → Reply
-closing conn = record { conn = conn; said = changed_text; closes = true }
-
--- each other session that has one of these mailboxes selected is told, and closed
-abbrev pub closed_others : ℕ → List BoxId → Seats → List Reply
-closed_others conn boxes seats = map (λ (e : ℕ × Seat). closing e.0) (others_with conn boxes seats)
-
--- whether a session is a mail reader's
-abbrev pub is_reader : Seat → Bool
-is_reader (Smtp unserved d) = false
-is_reader (Http came) = false
-is_reader (Imap stream d) = true
-
--- a mail reader is told that the store was rewound, and closed
-abbrev pub rewinding : ℕ → Reply
-rewinding conn = record { conn = conn; said = rewound_text; closes = true }
-
--- each mail reader is told that the store was rewound, and closed; mail clients and consoles go on
-abbrev pub closed_readers : Seats → List Reply
-closed_readers seats = map (λ (e : ℕ × Seat). rewinding e.0) (filter (λ (e : ℕ × Seat). is_reader e.1) seats)
-
--- who is told and closed beside a connection: each mail reader where the store was rewound, and else each other session that has one of
--- these mailboxes selected
-abbrev pub told_others : ℕ → Bool → List BoxId → Seats → List Reply
-told_others conn true boxes seats = closed_readers seats
-told_others conn false boxes seats = closed_others conn boxes seats
+-- the other connections that are told of what follows, and closed
+abbrev pub told_others : ℕ → Aftermath → Seats → List Reply
+told_others conn aftermath seats = filter_map (told_other conn aftermath) seats
 
 -- a connection's seat after its turns, or none where it is to be closed
 abbrev pub seated : ℕ → Option Seat → Seats → Seats
 seated conn None seats = without_seat conn seats
 seated conn (Some seat) seats = with_seat conn seat seats
 
--- a connection has its turns' answers, and others whose mailbox they took away, or whose store they rewound, are told; the replies stand by
--- rising connection
+-- a connection has its turns' answers, and others are told of what follows; the replies stand by rising connection
 abbrev pub heard : ℕ → Heard → Answered
 heard conn h =
     let seats = seated conn h.seat h.state.seats in
     record {
       state = record { kept = h.state.kept; seats = seats };
-      replies = with_reply (record { conn = conn; said = h.said; closes = is_none h.seat }) (told_others conn h.rewound h.changed seats);
+      replies = with_reply (record { conn = conn; said = h.said; closes = is_none h.seat }) (told_others conn h.aftermath seats);
       unsealed = h.unsealed;
       reads = h.reads;
       consoles = h.consoles;
@@ -156,7 +130,7 @@ heard conn h =
 
 -- no memory was found for the bytes that came: the connection is closed without an answer
 abbrev pub unfed : ℕ → State → Answered
-unfed conn s = heard conn (record { said = []; state = s; seat = None; changed = []; rewound = false; unsealed = []; reads = none_read; consoles = no_consoles })
+unfed conn s = heard conn (record { said = []; state = s; seat = None; aftermath = Quiet; unsealed = []; reads = none_read; consoles = no_consoles })
 
 -- bytes come over an open connection, and find memory or none
 abbrev pub hears : Bool → List Hindrance → Stage → ℕ → State → ℕ → Seat → List ℕ → Answered

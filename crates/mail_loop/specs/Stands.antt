@@ -4,7 +4,7 @@ use Rattle.std.specs.List.{All}
 use Rattle.std.specs.Map.{values_of}
 use Rattle.verb_core.specs.declared.conf.House.{House}
 use Rattle.mail_loop.specs.declared.letters.Letter.{Letter}
-use Rattle.mail_loop.specs.declared.reply.Reply.{Reply as CodeReply}
+use Rattle.mail_loop.specs.declared.reply.Turned.{Turned}
 use Rattle.mail_loop.specs.declared.letters.Said.{Said}
 use Rattle.mail_loop.specs.declared.letters.Said.TheVariants.{Answers, Changed, Rewound}
 use Rattle.mail_loop.specs.declared.open_connection.Kind.{Kind}
@@ -15,8 +15,9 @@ use Rattle.imap_session.specs.Words.{changed_text, rewound_text}
 use Rattle.mail_loop.specs.State.{Seat, Smtp, Imap, Http}
 use Rattle.mail_loop.specs.Machine.{Reply, Seats}
 
-abbrev pub reply_of : CodeReply → Reply
-reply_of r = record { conn = r.conn; said = r.said; closes = r.closes }
+-- what a connection is told of its own turns
+abbrev pub reply_of : Turned → Reply
+reply_of t = record { conn = t.conn; said = t.said; closes = t.closes }
 
 -- the bytes of a string
 abbrev pub said_of : Said → List ℕ

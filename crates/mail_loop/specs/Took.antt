@@ -1,11 +1,9 @@
 -- What the code's answers and replies are in the machine.
 use Rattle.std.specs.Prelude.{◌≡◌, ◌⊎◌, ℕ, Bool, true, false, List, [], ◌∷◌, ◌++◌, Option, None, Some, MatchOption, Result, Ok, Err}
 use Rattle.undo_base.specs.declared.keys.User.{User}
-use Rattle.console_session.specs.declared.reply.After.{After}
-use Rattle.console_session.specs.declared.reply.After.TheVariants.{Waits, Closes, Stops, Fails, Rewinds}
 use Rattle.console_session.specs.declared.reply.Reply.{Reply as ConsoleReply}
-use Rattle.mail_loop.specs.declared.console_turn.Turned.{Turned}
 use Rattle.mail_loop.specs.declared.reply.Reply.{Reply}
+use Rattle.mail_loop.specs.declared.reply.Turned.{Turned}
 use Rattle.verb_core.specs.declared.ask.Ask.{Ask}
 use Rattle.verb_core.specs.declared.ask.Refused.TheVariants.{NoMemory}
 use Rattle.verb_core.specs.declared.ask.SubmitFault.{SubmitFault}
@@ -26,7 +24,8 @@ use Rattle.desk_journal.specs.Reading.{Reads, none_read}
 use Rattle.mail_loop.specs.Asked.{Asked, does, fails}
 use Rattle.mail_loop.specs.SmtpTurn.{Turn, ends, followed, settled}
 use Rattle.mail_loop.specs.Hindrance.{Hindrance, Clear, Refused, Textless, Unread, UnreadRefused, UnreadUnheard, Misread, Misled, Unstored, Unheard, Unanswered, Unsealed, Untold, lost, unanswered, refused_in_text}
-use Rattle.mail_loop.specs.ConsoleTurn.{Reading, no_consoles, rewinds_by, stops_by}
+use Rattle.mail_loop.specs.Afterwards.{taking}
+use Rattle.mail_loop.specs.ConsoleTurn.{Reading, no_consoles, sequel_of}
 use Rattle.mail_loop.specs.Turns.{Heard}
 use Rattle.mail_loop.specs.Machine.{Seats, Answered as AnsweredEvent, seated, told_others, with_reply}
 use Rattle.mail_loop.specs.Stands.{reply_of}
@@ -77,7 +76,7 @@ pub record Takes {D : Type 0} (S : List JournalRecord → Reads → Type 0) (t :
   pub said : new.said ≡ old.said ++ t.said
   pub kept_is : kept ≡ t.kept
   pub dialog_is : MatchOption t.dialog (new.closes ≡ true) (λ e. (d ≡ e) × (new.closes ≡ false) × (t.unsealed ≡ []))
-  pub changed : new.changed ≡ old.changed ++ t.changed
+  pub gone : new.gone ≡ old.gone ++ t.gone
   pub seals : S t.unsealed t.reads
 
 -- whether an ask was refused
@@ -109,25 +108,15 @@ abbrev pub Settles : Result Item SubmitFault → Kept → Dialog → Reply → D
 Settles outcome kept d old d' new =
     Takes IsNone (settled d (asked_as outcome kept)) old kept d' new ⊎ SettlesAgain (is_refused outcome) kept d old d' new
 
--- whether a console's connection is closed
-abbrev pub closes_by : After → Bool
-closes_by Waits = false
-closes_by Closes = true
-closes_by Stops = true
-closes_by Fails = true
-closes_by Rewinds = true
-
--- a console's answer as a connection's reply
+-- a console's answer, and what follows it
 abbrev pub turned_as : ℕ → ConsoleReply → Turned
-turned_as conn r = record {
-  reply = record { conn = conn; said = r.said; closes = closes_by r.after; changed = [] };
-  stops = stops_by r.after;
-  rewound = rewinds_by r.after;
-}
+turned_as conn r =
+    let sequel = sequel_of r.after in
+    record { conn = conn; said = r.said; closes = sequel.closes; stops = sequel.stops; aftermath = sequel.aftermath }
 
--- turns after which serving goes on, over a store that was not rewound
+-- what is told of turns after which serving goes on, and what follows where they took mailboxes away
 abbrev pub going_on_with : Reply → Turned
-going_on_with reply = record { reply = reply; stops = false; rewound = false }
+going_on_with reply = record { conn = reply.conn; said = reply.said; closes = reply.closes; stops = false; aftermath = taking reply.gone }
 
 -- the seat of a connection that stays open
 abbrev pub seat_left : Bool → Seat → Option Seat
@@ -138,13 +127,13 @@ seat_left false seat = Some seat
 -- they could not read, and its seat then.
 pub record Tells (h : Heard) (seats : Seats) (conn : ℕ) (reply : Reply) (kept : Kept) (failed : List JournalRecord) (reads : Reads) (seat : Seat) : Type 0 where
   pub conn_is : reply.conn ≡ conn
-  pub heard_is : h ≡ record { said = reply.said; state = record { kept = kept; seats = seats }; seat = seat_left reply.closes seat; changed = reply.changed; rewound = false; unsealed = failed; reads = reads; consoles = no_consoles }
+  pub heard_is : h ≡ record { said = reply.said; state = record { kept = kept; seats = seats }; seat = seat_left reply.closes seat; aftermath = taking reply.gone; unsealed = failed; reads = reads; consoles = no_consoles }
 
--- a connection has the reply of its turns; others whose mailbox they took away, or whose store they rewound, are told
+-- a connection is told of its turns, and others of what follows
 abbrev pub answered_with : ℕ → Turned → Kept → List JournalRecord → Reads → List Reading → Seats → AnsweredEvent
 answered_with conn turned kept failed reads readings seats = record {
   state = record { kept = kept; seats = seats };
-  replies = with_reply (reply_of turned.reply) (told_others conn turned.rewound turned.reply.changed seats);
+  replies = with_reply (reply_of turned) (told_others conn turned.aftermath seats);
   unsealed = failed;
   reads = reads;
   consoles = record { readings = readings; stops = turned.stops };
@@ -153,4 +142,4 @@ answered_with conn turned kept failed reads readings seats = record {
 -- the same, and its seat is now this one, or none where it is closed
 abbrev pub answered_alone : ℕ → Turned → Kept → List JournalRecord → Reads → List Reading → Seat → Seats → AnsweredEvent
 answered_alone conn turned kept failed reads readings seat seats =
-    answered_with conn turned kept failed reads readings (seated conn (seat_left turned.reply.closes seat) seats)
+    answered_with conn turned kept failed reads readings (seated conn (seat_left turned.closes seat) seats)

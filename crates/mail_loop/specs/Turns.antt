@@ -19,29 +19,31 @@ use Rattle.mail_loop.specs.State.{Seat, Smtp, Imap, Http, State}
 use Rattle.mail_loop.specs.SmtpTurn.{Turn}
 use Rattle.mail_loop.specs.Hindrance.{Hindrance, hindered, first_hindrance, other_hindrances}
 use Rattle.mail_loop.specs.ImapHindrance.{imap_hindered}
-use Rattle.mail_loop.specs.ConsoleTurn.{Consoles, console_turn, left_by, no_consoles, rewinds_by, stops_by}
+use Rattle.mail_loop.specs.ConsoleTurn.{Consoles, console_turn, left_by, no_consoles, sequel_of}
+use Rattle.mail_loop.specs.declared.aftermath.Aftermath.{Aftermath}
+use Rattle.mail_loop.specs.Afterwards.{taking}
 
--- What turns leave: what they say, the state, the dialog after them or none where the connection is closed, the mailboxes whose other sessions
--- are told and closed, the record whose sealing failed, where one did, and how many could not read a text or were given another.
+-- What turns leave: what they say, the state, the dialog after them or none where the connection is closed, the mailboxes that they took away, the
+-- record whose sealing failed, where one did, and how many could not read a text or were given another.
 pub record Outcome (D : Type 0) : Type 0 where
   pub said : List ℕ
   pub state : State
   pub dialog : Option D
-  pub changed : List BoxId
+  pub gone : List BoxId
   pub unsealed : List JournalRecord
   pub reads : Reads
 
 -- no turn yet
 abbrev pub none_yet : {D : Type 0} → State → D → Outcome D
-none_yet s d = record { said = []; state = s; dialog = Some d; changed = []; unsealed = []; reads = none_read }
+none_yet s d = record { said = []; state = s; dialog = Some d; gone = []; unsealed = []; reads = none_read }
 
 -- what turns leave after what earlier ones said
 abbrev pub after : {D : Type 0} → List ℕ → List BoxId → List JournalRecord → Reads → Outcome D → Outcome D
-after said changed unsealed reads o = record {
+after said gone unsealed reads o = record {
   said = said ++ o.said;
   state = o.state;
   dialog = o.dialog;
-  changed = changed ++ o.changed;
+  gone = gone ++ o.gone;
   unsealed = unsealed ++ o.unsealed;
   reads = both_read reads o.reads;
 }
@@ -49,7 +51,7 @@ after said changed unsealed reads o = record {
 -- the turns after a turn, while the connection is open
 abbrev pub goes_on : {D : Type 0} → Outcome D → Option D → (State → D → Outcome D) → Outcome D
 goes_on o None more = record o { dialog = None }
-goes_on o (Some d) more = after o.said o.changed o.unsealed o.reads (more o.state d)
+goes_on o (Some d) more = after o.said o.gone o.unsealed o.reads (more o.state d)
 
 -- Turns, one after the other, each hindered or not. `one` is a turn of this kind of session.
 abbrev pub turns : {D U : Type 0} → (Hindrance → State → D → U → Outcome D) → List Hindrance → State → D → List U → Outcome D
@@ -60,7 +62,7 @@ turns one hs s d (u ∷ us) =
 
 -- a turn touches no other connection; those that it changes are told at the event's end
 abbrev pub outcome_of : {D : Type 0} → State → Turn D → Outcome D
-outcome_of s t = record { said = t.said; state = record { kept = t.kept; seats = s.seats }; dialog = t.dialog; changed = t.changed; unsealed = t.unsealed; reads = t.reads }
+outcome_of s t = record { said = t.said; state = record { kept = t.kept; seats = s.seats }; dialog = t.dialog; gone = t.gone; unsealed = t.unsealed; reads = t.reads }
 
 -- a turn of a mail client: a line of its stream
 abbrev pub smtp_turn : ℕ → Hindrance → State → Dialog → SmtpLine → Outcome Dialog
@@ -70,21 +72,19 @@ smtp_turn at h s d line = outcome_of s (hindered h at s.kept d line)
 abbrev pub imap_turn : ℕ → Hindrance → State → ImapDialog → Next → Outcome ImapDialog
 imap_turn at h s d next = outcome_of s (imap_hindered h at s.kept d next)
 
--- what comes of a connection's stream: what it is told, the state, its seat after that or none where it is closed, the mailboxes
--- whose other sessions are told and closed, whether the store was rewound, so that each mail reader is told and closed, the record
--- whose sealing failed, where one did, how many could not read a text or were given another, and what came of consoles
+-- what comes of a connection's stream: what it is told, the state, its seat after that or none where it is closed, what follows for the other
+-- connections, the record whose sealing failed, where one did, how many could not read a text or were given another, and what came of consoles
 pub record Heard : Type 0 where
   pub said : List ℕ
   pub state : State
   pub seat : Option Seat
-  pub changed : List BoxId
-  pub rewound : Bool
+  pub aftermath : Aftermath
   pub unsealed : List JournalRecord
   pub reads : Reads
   pub consoles : Consoles
 
 abbrev pub heard_by : {D : Type 0} → (D → Seat) → Outcome D → Heard
-heard_by seat o = record { said = o.said; state = o.state; seat = option_map seat o.dialog; changed = o.changed; rewound = false; unsealed = o.unsealed; reads = o.reads; consoles = no_consoles }
+heard_by seat o = record { said = o.said; state = o.state; seat = option_map seat o.dialog; aftermath = taking o.gone; unsealed = o.unsealed; reads = o.reads; consoles = no_consoles }
 
 -- the turns of a mail client's lines; what follows the last line stays unserved
 abbrev pub hears_lines : List Hindrance → ℕ → State → Dialog → List ℕ → Heard
@@ -102,11 +102,10 @@ hears_console hs stage at s bytes =
       said = t.said;
       state = record { kept = t.kept; seats = s.seats };
       seat = option_map Http (left_by t.after bytes);
-      changed = [];
-      rewound = rewinds_by t.after;
+      aftermath = (sequel_of t.after).aftermath;
       unsealed = t.unsealed;
       reads = t.reads;
-      consoles = record { readings = record { bytes = bytes; stage = stage } ∷ []; stops = stops_by t.after };
+      consoles = record { readings = record { bytes = bytes; stage = stage } ∷ []; stops = (sequel_of t.after).stops };
     }
 
 -- bytes more come onto a connection's stream; those of a console are read so

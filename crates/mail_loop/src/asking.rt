@@ -4,9 +4,9 @@ ghost use Rattle.std.specs.List.{cons_option, list_all};
 ghost use Rattle.verb_core.specs.Live.{is_users};
 ghost use Rattle.verb_core.specs.Names.{inbox};
 ghost use Rattle.verb_core.specs.Store.{is_known};
-ghost use Rattle.mail_loop.specs.ImapTurn.{name_taken, taken_by};
+ghost use Rattle.mail_loop.specs.Afterwards.{gone_between};
 ghost use Rattle.mail_loop.specs.Asked.{HaveSealed};
-ghost use Rattle.mail_loop.specs.ImapTook.{where_done};
+ghost use Rattle.mail_loop.specs.ImapTook.{name_taken, taken_by};
 ghost use Rattle.mail_loop.specs.Took.{Submits, is_refused};
 
 use crate::gone::Gone;
@@ -49,17 +49,7 @@ fn name_taken(ask: &Ask) -> Option<&Name>
                 Some(mailbox)
             }
         }
-        Ask::Deliver { .. } => None,
-        Ask::Append { .. } => None,
-        Ask::Fetch { .. } => None,
-        Ask::Store { .. } => None,
-        Ask::Copy { .. } => None,
-        Ask::List { .. } => None,
-        Ask::Status { .. } => None,
-        Ask::Select { .. } => None,
-        Ask::Expunge { .. } => None,
-        Ask::Close { .. } => None,
-        Ask::Create { .. } => None,
+        _ => None,
     }
 }
 
@@ -106,16 +96,16 @@ pub fn ask_desk<D: Disk + Drop>(
     requires known { IsTrue (list_all (is_known desk.old.kept.house) (cons_option by [])) }
     requires sealed { desk.old.closed ≡ false }
     ensures did { Submits (HaveSealed D.told desk.old desk.new) at desk.old.kept by ask desk.new.kept result }
-    ensures noted { reply.new ≡ record reply.old { changed = reply.old.changed ++ where_done result (taken_by by ask) } }
+    ensures noted { reply.new ≡ record reply.old { gone = reply.old.gone ++ gone_between desk.old.kept desk.new.kept } }
 {
     seals_join::<D>();
-    let before = reply.changed.len();
-    if let Err(NoMemory) = note(alloc, &mut reply.changed, by, &ask) {
+    let before = reply.gone.len();
+    if let Err(NoMemory) = note(alloc, &mut reply.gone, by, &ask) {
         return Err(SubmitFault::Refused(Refused::NoMemory));
     }
     let outcome = submit_alone(alloc, desk, at, by, ask);
     if outcome.is_err() {
-        reply.changed.keep_first(before);
+        reply.gone.keep_first(before);
     }
     outcome
 }

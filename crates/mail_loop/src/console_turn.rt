@@ -5,13 +5,13 @@ ghost use Rattle.desk_journal.specs.Reading.{Reads};
 ghost use Rattle.console_head.specs.Request.{Stage};
 ghost use Rattle.mail_loop.specs.State.{Http as HttpSeat};
 ghost use Rattle.mail_loop.specs.Asked.{HaveSealed};
-ghost use Rattle.mail_loop.specs.ConsoleTurn.{AreSaid, Reading, rewinds_by, stops_by};
+ghost use Rattle.mail_loop.specs.ConsoleTurn.{AreSaid, Reading, sequel_of};
 ghost use Rattle.mail_loop.specs.Hindrance.{Hindrance};
 ghost use Rattle.mail_loop.specs.Machine.{Seats, hears};
-ghost use Rattle.mail_loop.specs.Took.{answered_alone, closes_by, going_on_with, turned_as};
+ghost use Rattle.mail_loop.specs.Took.{answered_alone, turned_as};
 
-use crate::gone::Gone;
-use crate::reply::Reply;
+use crate::aftermath::Aftermath;
+use crate::reply::Turned;
 use console_session::{After, ConsoleSession};
 use std::alloc::Global;
 use std::thread::Threads;
@@ -19,75 +19,48 @@ use time_desk::Desk;
 use time_desk::laws::seals_join;
 use undo_outside::{Disk, Gate};
 
-/// What a connection is told of its turns, whether one of them asked serving to stop, and whether one rewound the store.
+/// What follows a console's answer: whether its connection is closed, whether serving is asked to stop, and what follows for the
+/// other connections.
 #[derive(Drop)]
-pub struct Turned {
-    pub reply: Reply,
-    pub stops: bool,
-    pub rewound: bool,
+struct Sequel {
+    closes: bool,
+    stops: bool,
+    aftermath: Aftermath,
 }
 
-/// Turns after which serving goes on, over a store that was not rewound.
-pub fn going_on(reply: Reply) -> Turned
-    ensures { result ≡ going_on_with reply }
+fn sequel_of(after: After) -> Sequel
+    ensures { result ≡ sequel_of after }
 {
-    Turned {
-        reply,
-        stops: false,
-        rewound: false,
+    let (closes, stops, aftermath) = match after {
+        After::Waits => (false, false, Aftermath::Quiet),
+        After::Closes => (true, false, Aftermath::Quiet),
+        After::Stops => (true, true, Aftermath::Quiet),
+        After::Fails => (true, false, Aftermath::Quiet),
+        After::Rewinds => (true, false, Aftermath::Rewound),
+    };
+    Sequel {
+        closes,
+        stops,
+        aftermath,
     }
 }
 
-fn closes(after: After) -> bool
-    ensures { result ≡ closes_by after }
-{
-    match after {
-        After::Waits => false,
-        After::Closes => true,
-        After::Stops => true,
-        After::Fails => true,
-        After::Rewinds => true,
-    }
-}
-
-fn stops(after: After) -> bool
-    ensures { result ≡ stops_by after }
-{
-    match after {
-        After::Waits => false,
-        After::Closes => false,
-        After::Stops => true,
-        After::Fails => false,
-        After::Rewinds => false,
-    }
-}
-
-fn rewinds(after: After) -> bool
-    ensures { result ≡ rewinds_by after }
-{
-    match after {
-        After::Waits => false,
-        After::Closes => false,
-        After::Stops => false,
-        After::Fails => false,
-        After::Rewinds => true,
-    }
-}
-
-/// The answer of a console as a connection's reply.
-fn reply_of(alloc: Global, conn: u32, answer: console_session::Reply) -> Turned
+/// What a connection is told of a console's answer, and what follows it.
+fn turned_of(conn: u32, answer: console_session::Reply) -> Turned
     ensures { result ≡ turned_as conn answer }
 {
     let console_session::Reply { said, after } = answer;
+    let Sequel {
+        closes,
+        stops,
+        aftermath,
+    } = sequel_of(after);
     Turned {
-        reply: Reply {
-            conn,
-            said,
-            closes: closes(after),
-            changed: Gone::new(alloc),
-        },
-        stops: stops(after),
-        rewound: rewinds(after),
+        conn,
+        said,
+        closes,
+        stops,
+        aftermath,
     }
 }
 
@@ -112,5 +85,5 @@ pub fn hear_console<R: Threads + Sync, D: Disk + Drop, G: Gate>(
 {
     seals_join::<D>();
     let answer = console.hear(rt, alloc, desk, at, gate, bytes);
-    reply_of(alloc, conn, answer)
+    turned_of(conn, answer)
 }

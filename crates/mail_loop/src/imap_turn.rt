@@ -167,7 +167,7 @@ fn submit<D: Disk + Drop>(
     ensures home { is_at_home desk.new.kept.house session.new ≡ true }
     ensures house { desk.new.kept.house ≡ desk.old.kept.house }
     ensures turn { (h : Hindrance) ×
-        Takes (HaveSealed D.told desk.old desk.new) (under h at desk.old.kept (λ service. done session.old ask (service.asked session.old.user ask))) reply.old desk.new.kept session.new reply.new }
+        Takes (HaveSealed D.told desk.old desk.new) (under h at desk.old.kept (λ service. done desk.old.kept session.old (service.asked session.old.user ask))) reply.old desk.new.kept session.new reply.new }
 {
     let outcome = ask_desk(alloc, desk, at, session.user(), ask, reply);
     settle(alloc, desk, session, &outcome, reply);

@@ -1,18 +1,16 @@
 //! The strings of an event: that of the connection that it is about, and those of others whose mailbox changed.
-ghost use Rattle.std.specs.Prelude.{◌≡◌, ◌<◌, ◌≤◌, ◌∷◌, [], length, nat_lt, position, true, vec_capacity, vec_len, IfOk};
+ghost use Rattle.std.specs.Prelude.{◌≡◌, ◌<◌, ◌≤◌, ◌∷◌, [], length, nat_lt, option_map, position, vec_capacity, vec_len, IfOk};
 ghost use Rattle.std.specs.List.{insert, position_or_len};
-ghost use Rattle.mail_loop.specs.Machine.{closed_others, closed_readers, told_others, with_reply};
+ghost use Rattle.mail_loop.specs.Machine.{parting, told_other, told_others, with_reply};
 ghost use Rattle.mail_loop.specs.Stands.{letter_of, replies_of, reply_of, said_of};
 
-use crate::console_turn::Turned;
-use crate::gone::Gone;
+use crate::aftermath::Aftermath;
 use crate::open_connection::Connection;
-use crate::reply::Reply;
+use crate::reply::Turned;
 use imap_session::{changed, rewound};
 use std::alloc::Global;
 use std::collections::BTreeMap;
 use undo_base::{NoMemory, Text};
-use verb_core::BoxId;
 
 /// The string of a connection: its turns' answers, that its mailbox changed, or that the store was rewound.
 #[derive(Debug, Drop)]
@@ -44,15 +42,12 @@ impl Letter {
 }
 
 /// The letter of a connection's own turns.
-fn own_letter(reply: Reply) -> Letter
-    ensures { letter_of result ≡ reply_of reply }
+fn own_letter(turned: Turned) -> Letter
+    ensures { letter_of result ≡ reply_of turned }
 {
-    let Reply {
-        conn,
-        said,
-        closes,
-        changed: _,
-    } = reply;
+    let Turned {
+        conn, said, closes, ..
+    } = turned;
     Letter {
         conn,
         said: Said::Answers(said),
@@ -88,7 +83,7 @@ fn place_of(conn: u32, letters: &[Letter]) -> usize
 
 /// The last letter to a connection.
 fn last_letter(conn: u32, said: Said) -> Letter
-    ensures { letter_of result ≡ record { conn = conn; said = said_of said; closes = true } }
+    ensures { letter_of result ≡ parting conn (said_of said) }
 {
     Letter {
         conn,
@@ -111,63 +106,61 @@ pub fn room_for_letters(
     }
 }
 
-/// The letters to other connections that have one of these mailboxes selected. There is room for them.
+/// The letter to another connection, where it is told of what follows.
+fn letter_to(
+    number: u32,
+    connection: &Connection,
+    conn: u32,
+    aftermath: &Aftermath,
+) -> Option<Letter>
+    ensures { option_map letter_of result ≡ told_other conn aftermath.now (number, connection.now) }
+{
+    if number == conn {
+        return None;
+    }
+    match connection.last_words(aftermath) {
+        Some(said) => Some(last_letter(number, said)),
+        None => None,
+    }
+}
+
+/// The letters to the other connections that are told of what follows. There is room for them.
 fn letters_to_others(
     room: Vec<Letter>,
     connections: &BTreeMap<u32, Connection>,
     conn: u32,
-    boxes: &[BoxId],
+    aftermath: &Aftermath,
 ) -> Vec<Letter>
     requires none { room.items ≡ [] }
     requires room { length connections.now.entries < vec_capacity room }
-    ensures letters { replies_of result.items ≡ closed_others conn boxes.now connections.now.entries }
+    ensures letters { replies_of result.items ≡ told_others conn aftermath.now connections.now.entries }
     ensures room { vec_len result < vec_capacity result }
 {
     let mut letters = room;
     for (number, connection) in connections {
-        if *number != conn && connection.holds_one(boxes) {
-            letters.push_reserved(last_letter(*number, Said::Changed));
+        if let Some(letter) = letter_to(*number, connection, conn, aftermath) {
+            letters.push_reserved(letter);
         }
     }
     letters
 }
 
-/// The letters to mail readers. There is room for them.
-fn letters_to_readers(room: Vec<Letter>, connections: &BTreeMap<u32, Connection>) -> Vec<Letter>
-    requires none { room.items ≡ [] }
-    requires room { length connections.now.entries < vec_capacity room }
-    ensures letters { replies_of result.items ≡ closed_readers connections.now.entries }
-    ensures room { vec_len result < vec_capacity result }
-{
-    let mut letters = room;
-    for (number, connection) in connections {
-        if connection.is_reader() {
-            letters.push_reserved(last_letter(*number, Said::Rewound));
-        }
-    }
-    letters
-}
-
-/// The letters to others, by rising connection. They are looked at only where the store was rewound or a mailbox was taken away.
+/// The letters to others, by rising connection. They are looked at only where something follows.
 fn letters_beside(
     room: Vec<Letter>,
     connections: &BTreeMap<u32, Connection>,
     conn: u32,
-    boxes: &Gone,
-    rewound: bool,
+    aftermath: &Aftermath,
 ) -> Vec<Letter>
     requires none { room.items ≡ [] }
     requires room { length connections.now.entries < vec_capacity room }
-    ensures letters { replies_of result.items ≡ told_others conn rewound boxes.now connections.now.entries }
+    ensures letters { replies_of result.items ≡ told_others conn aftermath.now connections.now.entries }
     ensures room { vec_len result < vec_capacity result }
 {
-    if rewound {
-        return letters_to_readers(room, connections);
-    }
-    if boxes.is_empty() {
+    if aftermath.is_quiet() {
         return room;
     }
-    letters_to_others(room, connections, conn, boxes.as_slice())
+    letters_to_others(room, connections, conn, aftermath)
 }
 
 /// A letter at a place among others. There is room for it.
@@ -185,12 +178,12 @@ fn with_letter(letters: Vec<Letter>, place: usize, letter: Letter) -> Vec<Letter
 }
 
 /// A connection's letter in its place among those of others, which are by rising connection. There is room for it.
-fn with_own(letters: Vec<Letter>, reply: Reply) -> Vec<Letter>
+fn with_own(letters: Vec<Letter>, turned: Turned) -> Vec<Letter>
     requires room { vec_len letters < vec_capacity letters }
-    ensures { replies_of result.items ≡ with_reply (reply_of reply) (replies_of letters.items) }
+    ensures { replies_of result.items ≡ with_reply (reply_of turned) (replies_of letters.items) }
 {
-    let place = place_of(reply.conn, letters.as_slice());
-    with_letter(letters, place, own_letter(reply))
+    let place = place_of(turned.conn, letters.as_slice());
+    with_letter(letters, place, own_letter(turned))
 }
 
 /// The letters of an event, by rising connection, which take no memory.
@@ -202,13 +195,8 @@ pub fn letters_of(
 ) -> Vec<Letter>
     requires none { room.items ≡ [] }
     requires room { length connections.now.entries < vec_capacity room }
-    ensures { replies_of result.items ≡ with_reply (reply_of turned.reply) (told_others conn turned.rewound turned.reply.changed connections.now.entries) }
+    ensures { replies_of result.items ≡ with_reply (reply_of turned) (told_others conn turned.aftermath connections.now.entries) }
 {
-    let Turned {
-        reply,
-        stops: _,
-        rewound,
-    } = turned;
-    let letters = letters_beside(room, connections, conn, &reply.changed, rewound);
-    with_own(letters, reply)
+    let letters = letters_beside(room, connections, conn, &turned.aftermath);
+    with_own(letters, turned)
 }

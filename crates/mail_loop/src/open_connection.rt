@@ -1,5 +1,5 @@
 //! An open connection: what it speaks, its stream and its dialog, and what it makes of the bytes that come.
-ghost use Rattle.std.specs.Prelude.{◌≡◌, ◌≤◌, Bool, List, false, true};
+ghost use Rattle.std.specs.Prelude.{◌≡◌, ◌≤◌, Bool, List, false, option_map, true};
 ghost use Rattle.std.specs.List.{list_any};
 ghost use Rattle.verb_core.specs.declared.mailbox.BoxId.{BoxId as TheBoxId};
 ghost use Rattle.smtp_session.specs.Dialog.{is_due};
@@ -12,14 +12,17 @@ ghost use Rattle.mail_loop.specs.Hindrance.{Hindrance};
 ghost use Rattle.mail_loop.specs.Turns.{hears_lines, hears_commands};
 ghost use Rattle.console_head.specs.Request.{Stage};
 ghost use Rattle.mail_loop.specs.ConsoleTurn.{AreSaid, Reading};
-ghost use Rattle.mail_loop.specs.Machine.{Seats, fresh, fresh_console, fresh_reader, hears, holds_one, is_reader};
+ghost use Rattle.mail_loop.specs.Machine.{Seats, fresh, fresh_console, fresh_reader, hears};
+ghost use Rattle.mail_loop.specs.Afterwards.{at_rewind, holds_one, last_words};
 ghost use Rattle.mail_loop.specs.ImapTook.{is_not_yet};
-ghost use Rattle.mail_loop.specs.Stands.{IsHome};
+ghost use Rattle.mail_loop.specs.Stands.{IsHome, said_of};
 ghost use Rattle.mail_loop.specs.Took.{Tells, answered_alone};
 
-use crate::console_turn::{Turned, going_on, hear_console};
+use crate::aftermath::Aftermath;
+use crate::console_turn::hear_console;
 use crate::imap_turn::take_next;
-use crate::reply::{Reply, empty_reply};
+use crate::letters::Said;
+use crate::reply::{Reply, Turned, empty_reply, going_on};
 use crate::smtp_turn::take_line;
 use console_session::ConsoleSession;
 use imap_session::ImapSession;
@@ -104,34 +107,36 @@ pub fn console_connection(alloc: Global) -> Connection
 }
 
 impl Connection {
-    /// Whether it is a mail reader's.
-    pub fn is_reader(&self) -> bool
-        ensures { result ≡ is_reader self.now }
+    /// Its last words, behind which it is closed, where something followed turns of another; none where it goes on.
+    pub fn last_words(&self, aftermath: &Aftermath) -> Option<Said>
+        ensures { option_map said_of result ≡ last_words aftermath.now self.now }
     {
-        match &self.kind {
-            Kind::Smtp {
-                unserved: _,
-                dialog: _,
-            } => false,
-            Kind::Imap {
-                stream: _,
-                dialog: _,
-            } => true,
-            Kind::Http(_) => false,
+        match aftermath {
+            Aftermath::Quiet => None,
+            Aftermath::TookAway(gone) => self.holds_one(gone.as_slice()).then_some(Said::Changed),
+            Aftermath::Rewound => self.at_rewind(),
         }
     }
 
     /// Whether it has one of these mailboxes selected.
-    pub fn holds_one(&self, boxes: &[BoxId]) -> bool
+    fn holds_one(&self, boxes: &[BoxId]) -> bool
         ensures { result ≡ holds_one boxes.now self.now }
     {
         match &self.kind {
-            Kind::Smtp {
-                unserved: _,
-                dialog: _,
-            } => false,
-            Kind::Imap { stream: _, dialog } => dialog_holds(dialog, boxes),
+            Kind::Smtp { .. } => false,
+            Kind::Imap { dialog, .. } => dialog_holds(dialog, boxes),
             Kind::Http(_) => false,
+        }
+    }
+
+    /// The last words to a mail reader whose store was rewound.
+    fn at_rewind(&self) -> Option<Said>
+        ensures { option_map said_of result ≡ at_rewind self.now }
+    {
+        match &self.kind {
+            Kind::Smtp { .. } => None,
+            Kind::Imap { .. } => Some(Said::Rewound),
+            Kind::Http(_) => None,
         }
     }
 }

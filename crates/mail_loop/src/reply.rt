@@ -4,8 +4,9 @@ ghost use Rattle.mail_loop.specs.Stands.{letter_of};
 ghost use Rattle.smtp_session.specs.declared.answer.Answer.TheVariants.{Ready};
 ghost use Rattle.smtp_session.specs.Answer.{answer_text};
 ghost use Rattle.imap_session.specs.Words.{greeting_text};
-ghost use Rattle.mail_loop.specs.Took.{Adds};
+ghost use Rattle.mail_loop.specs.Took.{Adds, going_on_with};
 
+use crate::aftermath::Aftermath;
 use crate::gone::Gone;
 use crate::letters::{Letter, Said};
 use smtp_session::greeting;
@@ -19,18 +20,48 @@ pub struct Reply {
     pub conn: u32,
     pub said: Text,
     pub closes: bool,
-    pub changed: Gone,
+    pub gone: Gone,
+}
+
+/// What a connection is told of its turns, whether it is closed then, whether one of them asked serving to stop, and what follows
+/// for the other connections.
+#[derive(Drop)]
+pub struct Turned {
+    pub conn: u32,
+    pub said: Text,
+    pub closes: bool,
+    pub stops: bool,
+    pub aftermath: Aftermath,
+}
+
+/// Turns after which serving goes on.
+pub fn going_on(reply: Reply) -> Turned
+    ensures { result ≡ going_on_with reply }
+{
+    let Reply {
+        conn,
+        said,
+        closes,
+        gone,
+    } = reply;
+    Turned {
+        conn,
+        said,
+        closes,
+        stops: false,
+        aftermath: Aftermath::taking(gone),
+    }
 }
 
 /// A reply that says nothing yet.
 pub fn empty_reply(alloc: Global, conn: u32, closes: bool) -> Reply
-    ensures { result ≡ record { conn = conn; said = []; closes = closes; changed = [] } }
+    ensures { result ≡ record { conn = conn; said = []; closes = closes; gone = [] } }
 {
     Reply {
         conn,
         said: Text::new(alloc),
         closes,
-        changed: Gone::new(alloc),
+        gone: Gone::new(alloc),
     }
 }
 

@@ -296,7 +296,7 @@ fn hear_at<R: Threads + Sync, D: Disk + Drop, G: Gate>(
         None => return Ok(nothing(alloc)),
         Some(connection) => hear(rt, alloc, desk, connection, conn, at, gate, bytes),
     };
-    keep_if(connections, conn, !turned.reply.closes);
+    keep_if(connections, conn, !turned.closes);
     let stops = turned.stops;
     let letters = letters_of(room, connections, conn, turned);
     Ok(Answer { letters, stops })

@@ -52,7 +52,7 @@ returns-in-Err-clause-turns g c seats =
     let kept = c.args.desk.now.kept in
     let d = c.args.dialog.now in
     let all = stream.said ++ NotYet ∷ [] in
-    told_by (next_at c.args.at) (Imap (emptied stream)) seats kept d all c.args.conn (record { conn = l.reply.conn; said = l.reply.said; closes = true; changed = l.reply.changed }) l.desk.kept [] l.invariant.far.0
+    told_by (next_at c.args.at) (Imap (emptied stream)) seats kept d all c.args.conn (record { conn = l.reply.conn; said = l.reply.said; closes = true; gone = l.reply.gone }) l.desk.kept [] l.invariant.far.0
     (Imap c.next.new.self l.dialog) None (HaveSealed g.D.Disk.told c.args.desk.now l.desk) l.invariant.conn
     (unheard (next_at c.args.at) seats kept d all l.reply l.invariant.far.0 l.desk.kept l.dialog (l.stream.said ++ NotYet ∷ [])
     (l.invariant.far.2 seats) (some_last l.stream.said) (λ u. refl))

@@ -44,7 +44,7 @@ returns-in-Err-clause-turns g c seats =
     let stream = c.args.unserved.now in
     let kept = c.args.desk.now.kept in
     let d = c.args.dialog.now in
-    told_by (line_at c.args.at) (Smtp (rest_of stream)) seats kept d (smtp_lines_of stream) c.args.conn (record { conn = l.reply.conn; said = l.reply.said; closes = true; changed = l.reply.changed }) l.desk.kept [] l.invariant.far.0
+    told_by (line_at c.args.at) (Smtp (rest_of stream)) seats kept d (smtp_lines_of stream) c.args.conn (record { conn = l.reply.conn; said = l.reply.said; closes = true; gone = l.reply.gone }) l.desk.kept [] l.invariant.far.0
     (Smtp c.next.new.self l.dialog) None (HaveSealed g.D.Disk.told c.args.desk.now l.desk) l.invariant.conn
     (unheard (line_at c.args.at) seats kept d (smtp_lines_of stream) l.reply l.invariant.far.0 l.desk.kept l.dialog (smtp_lines_of l.unserved)
     (l.invariant.far.2 seats) c.in-Err.ensures.err.1 (λ u. refl))

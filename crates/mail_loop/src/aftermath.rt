@@ -1,0 +1,34 @@
+//! What follows an event's turns for the other connections.
+ghost use Rattle.std.specs.Prelude.{◌≡◌};
+ghost use Rattle.mail_loop.specs.Afterwards.{is_quiet, taking};
+
+use crate::gone::Gone;
+
+/// What follows an event's turns for the other connections: nothing; mailboxes were taken away, and who has one of them selected is
+/// told and closed; or the store was rewound, which is told to each mail reader, and closes it.
+#[derive(Drop)]
+pub enum Aftermath {
+    Quiet,
+    TookAway(Gone),
+    Rewound,
+}
+
+impl Aftermath {
+    /// What follows where these mailboxes were taken away.
+    pub fn taking(gone: Gone) -> Aftermath
+        ensures { result ≡ taking gone }
+    {
+        if gone.is_empty() {
+            Aftermath::Quiet
+        } else {
+            Aftermath::TookAway(gone)
+        }
+    }
+
+    /// Whether nothing follows.
+    pub fn is_quiet(&self) -> bool
+        ensures { result ≡ is_quiet self.now }
+    {
+        matches!(self, Aftermath::Quiet)
+    }
+}
