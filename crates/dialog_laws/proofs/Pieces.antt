@@ -20,19 +20,19 @@ abbrev all_of : List (List ℕ) → List ℕ
 all_of more = flat_map (λ (piece : List ℕ). piece) more
 
 -- of seats of one kind, of which two events join, and which events leave of that kind, any number of events join
-module _ (stage : Stage) (at : ℕ) (P : Seat → Type 0)
-    (two : (s : State) (seat : Seat) → P seat → (first second : List ℕ) → hears_seat [] stage at s seat (first ++ second) ≡ joined (hears_seat [] stage at s seat first) (λ t left. hears_seat [] stage at t left second))
-    (leaves : (s : State) (seat : Seat) → P seat → (first : List ℕ) → IfSome (hears_seat [] stage at s seat first).seat P) where
+module _ (stage : Stage) (at conn : ℕ) (P : Seat → Type 0)
+    (two : (s : State) (seat : Seat) → P seat → (first second : List ℕ) → hears_seat [] stage at s conn seat (first ++ second) ≡ joined (hears_seat [] stage at s conn seat first) (λ t left. hears_seat [] stage at t conn left second))
+    (leaves : (s : State) (seat : Seat) → P seat → (first : List ℕ) → IfSome (hears_seat [] stage at s conn seat first).seat P) where
   on_seat : (h : Heard) (o : Option Seat) (next : List ℕ) (more : List (List ℕ)) → IfSome o P
-      → ((t : State) (left : Seat) → P left → hears_all stage at t left next more ≡ hears_seat [] stage at t left (next ++ all_of more))
-      → hears_then h o (λ t left. hears_all stage at t left next more) ≡ hears_then h o (λ t left. hears_seat [] stage at t left (next ++ all_of more))
+      → ((t : State) (left : Seat) → P left → hears_all stage at t conn left next more ≡ hears_seat [] stage at t conn left (next ++ all_of more))
+      → hears_then h o (λ t left. hears_all stage at t conn left next more) ≡ hears_then h o (λ t left. hears_seat [] stage at t conn left (next ++ all_of more))
   on_seat h None next more p same = refl
   on_seat h (Some left) next more p same = ap (both_heard h) (same h.state left p)
 
-  all_join : (s : State) (seat : Seat) → P seat → (first : List ℕ) (more : List (List ℕ)) → hears_all stage at s seat first more ≡ hears_seat [] stage at s seat (first ++ all_of more)
-  all_join s seat p first [] = ap (hears_seat [] stage at s seat) (sym (append-nil first))
+  all_join : (s : State) (seat : Seat) → P seat → (first : List ℕ) (more : List (List ℕ)) → hears_all stage at s conn seat first more ≡ hears_seat [] stage at s conn seat (first ++ all_of more)
+  all_join s seat p first [] = ap (hears_seat [] stage at s conn seat) (sym (append-nil first))
   all_join s seat p first (next ∷ more) =
-      on_seat (hears_seat [] stage at s seat first) (hears_seat [] stage at s seat first).seat next more (leaves s seat p first) (λ t left q. all_join t left q next more)
+      on_seat (hears_seat [] stage at s conn seat first) (hears_seat [] stage at s conn seat first).seat next more (leaves s seat p first) (λ t left q. all_join t left q next more)
       ∙ sym (two s seat p first (next ++ all_of more))
 
 -- ---- a mail client's, and a mail reader's
@@ -56,16 +56,16 @@ reader_left : (stream : Stream) (o : Option ImapDialog) → IfSome (option_map (
 reader_left stream None = tt
 reader_left stream (Some d) = refl
 
-client_leaves : (stage : Stage) (at : ℕ) (s : State) (seat : Seat) → IsClient seat → (first : List ℕ) → IfSome (hears_seat [] stage at s seat first).seat IsClient
-client_leaves stage at s (Smtp unserved d) p first = client_left (rest_of (unserved ++ first)) (turns (smtp_turn at) [] s d (smtp_lines_of (unserved ++ first))).dialog
-client_leaves stage at s (Imap stream d) p first = absurd p
-client_leaves stage at s (Http came) p first = absurd p
+client_leaves : (stage : Stage) (at conn : ℕ) (s : State) (seat : Seat) → IsClient seat → (first : List ℕ) → IfSome (hears_seat [] stage at s conn seat first).seat IsClient
+client_leaves stage at conn s (Smtp unserved d) p first = client_left (rest_of (unserved ++ first)) (turns (smtp_turn at conn) [] s d (smtp_lines_of (unserved ++ first))).dialog
+client_leaves stage at conn s (Imap stream d) p first = absurd p
+client_leaves stage at conn s (Http came) p first = absurd p
 
-reader_leaves : (stage : Stage) (at : ℕ) (s : State) (seat : Seat) → IsReader seat → (first : List ℕ) → IfSome (hears_seat [] stage at s seat first).seat IsReader
-reader_leaves stage at s (Imap stream d) p first =
-    reader_left (imap_stream.heard stream first) (turns (imap_turn at) [] s d ((imap_stream.heard stream first).said ++ NotYet ∷ [])).dialog
-reader_leaves stage at s (Smtp unserved d) p first = absurd p
-reader_leaves stage at s (Http came) p first = absurd p
+reader_leaves : (stage : Stage) (at conn : ℕ) (s : State) (seat : Seat) → IsReader seat → (first : List ℕ) → IfSome (hears_seat [] stage at s conn seat first).seat IsReader
+reader_leaves stage at conn s (Imap stream d) p first =
+    reader_left (imap_stream.heard stream first) (turns (imap_turn at conn) [] s d ((imap_stream.heard stream first).said ++ NotYet ∷ [])).dialog
+reader_leaves stage at conn s (Smtp unserved d) p first = absurd p
+reader_leaves stage at conn s (Http came) p first = absurd p
 
 abbrev pub LinesGoOn : Type 0
 LinesGoOn = (stream more : List ℕ) → smtp_lines_of (stream ++ more) ≡ smtp_lines_of stream ++ smtp_lines_of (rest_of stream ++ more)
@@ -73,26 +73,26 @@ LinesGoOn = (stream more : List ℕ) → smtp_lines_of (stream ++ more) ≡ smtp
 abbrev pub RestGoesOn : Type 0
 RestGoesOn = (stream more : List ℕ) → rest_of (stream ++ more) ≡ rest_of (rest_of stream ++ more)
 
-client_two : LinesGoOn → RestGoesOn → (stage : Stage) (at : ℕ) (s : State) (seat : Seat) → IsClient seat → (first second : List ℕ)
-    → hears_seat [] stage at s seat (first ++ second) ≡ joined (hears_seat [] stage at s seat first) (λ t left. hears_seat [] stage at t left second)
-client_two lines rest stage at s (Smtp unserved d) p first second =
-    events_join lines rest [] stage at s unserved d first second
-    ∙ ap (λ (hs : List Hindrance). joined (hears_seat [] stage at s (Smtp unserved d) first) (λ t left. hears_seat hs stage at t left second)) (drop_none (length (smtp_lines_of (unserved ++ first))))
-client_two lines rest stage at s (Imap stream d) p first second = absurd p
-client_two lines rest stage at s (Http came) p first second = absurd p
+client_two : LinesGoOn → RestGoesOn → (stage : Stage) (at conn : ℕ) (s : State) (seat : Seat) → IsClient seat → (first second : List ℕ)
+    → hears_seat [] stage at s conn seat (first ++ second) ≡ joined (hears_seat [] stage at s conn seat first) (λ t left. hears_seat [] stage at t conn left second)
+client_two lines rest stage at conn s (Smtp unserved d) p first second =
+    events_join lines rest [] stage at conn s unserved d first second
+    ∙ ap (λ (hs : List Hindrance). joined (hears_seat [] stage at s conn (Smtp unserved d) first) (λ t left. hears_seat hs stage at t conn left second)) (drop_none (length (smtp_lines_of (unserved ++ first))))
+client_two lines rest stage at conn s (Imap stream d) p first second = absurd p
+client_two lines rest stage at conn s (Http came) p first second = absurd p
 
-reader_two : (stage : Stage) (at : ℕ) (s : State) (seat : Seat) → IsReader seat → (first second : List ℕ)
-    → hears_seat [] stage at s seat (first ++ second) ≡ joined (hears_seat [] stage at s seat first) (λ t left. hears_seat [] stage at t left second)
-reader_two stage at s (Imap stream d) p first second =
-    subst (λ (q : Stream). hears_seat [] stage at s (Imap q d) (first ++ second) ≡ joined (hears_seat [] stage at s (Imap q d) first) (λ t left. hears_seat [] stage at t left second)) (sym p)
-    (reader_events_join stage at s stream d first second)
-reader_two stage at s (Smtp unserved d) p first second = absurd p
-reader_two stage at s (Http came) p first second = absurd p
+reader_two : (stage : Stage) (at conn : ℕ) (s : State) (seat : Seat) → IsReader seat → (first second : List ℕ)
+    → hears_seat [] stage at s conn seat (first ++ second) ≡ joined (hears_seat [] stage at s conn seat first) (λ t left. hears_seat [] stage at t conn left second)
+reader_two stage at conn s (Imap stream d) p first second =
+    subst (λ (q : Stream). hears_seat [] stage at s conn (Imap q d) (first ++ second) ≡ joined (hears_seat [] stage at s conn (Imap q d) first) (λ t left. hears_seat [] stage at t conn left second)) (sym p)
+    (reader_events_join stage at conn s stream d first second)
+reader_two stage at conn s (Smtp unserved d) p first second = absurd p
+reader_two stage at conn s (Http came) p first second = absurd p
 
-pub client_pieces : LinesGoOn → RestGoesOn → (stage : Stage) (at : ℕ) (s : State) (unserved : List ℕ) (d : Dialog) (first : List ℕ) (more : List (List ℕ))
-    → hears_all stage at s (Smtp unserved d) first more ≡ hears_seat [] stage at s (Smtp unserved d) (first ++ flat_map (λ piece. piece) more)
-client_pieces lines rest stage at s unserved d first more = all_join stage at IsClient (client_two lines rest stage at) (client_leaves stage at) s (Smtp unserved d) tt first more
+pub client_pieces : LinesGoOn → RestGoesOn → (stage : Stage) (at conn : ℕ) (s : State) (unserved : List ℕ) (d : Dialog) (first : List ℕ) (more : List (List ℕ))
+    → hears_all stage at s conn (Smtp unserved d) first more ≡ hears_seat [] stage at s conn (Smtp unserved d) (first ++ flat_map (λ piece. piece) more)
+client_pieces lines rest stage at conn s unserved d first more = all_join stage at conn IsClient (client_two lines rest stage at conn) (client_leaves stage at conn) s (Smtp unserved d) tt first more
 
-pub reader_pieces : (stage : Stage) (at : ℕ) (s : State) (stream : Stream) (d : ImapDialog) (first : List ℕ) (more : List (List ℕ))
-    → hears_all stage at s (Imap (emptied stream) d) first more ≡ hears_seat [] stage at s (Imap (emptied stream) d) (first ++ flat_map (λ piece. piece) more)
-reader_pieces stage at s stream d first more = all_join stage at IsReader (reader_two stage at) (reader_leaves stage at) s (Imap (emptied stream) d) refl first more
+pub reader_pieces : (stage : Stage) (at conn : ℕ) (s : State) (stream : Stream) (d : ImapDialog) (first : List ℕ) (more : List (List ℕ))
+    → hears_all stage at s conn (Imap (emptied stream) d) first more ≡ hears_seat [] stage at s conn (Imap (emptied stream) d) (first ++ flat_map (λ piece. piece) more)
+reader_pieces stage at conn s stream d first more = all_join stage at conn IsReader (reader_two stage at conn) (reader_leaves stage at conn) s (Imap (emptied stream) d) refl first more

@@ -1,5 +1,5 @@
 -- The turns of some lines, and then of more, are the turns of all of them.
-use Rattle.std.proofs.Common.{◌≡◌, ℕ, zero, suc, false, List, [], ◌∷◌, ◌++◌, length, drop, Option, None, Some, option_map, refl, sym, ap, ◌∙◌}
+use Rattle.std.proofs.Common.{◌≡◌, ℕ, zero, suc, List, [], ◌∷◌, ◌++◌, length, drop, Option, None, Some, option_map, refl, sym, ap, ◌∙◌}
 use Rattle.std.proofs.lemmas.List.{append-nil, append_assoc}
 use Rattle.smtp_lines.specs.declared.line.SmtpLine.{SmtpLine}
 use Rattle.smtp_lines.specs.Line.{smtp_lines_of}
@@ -13,6 +13,9 @@ use Rattle.imap_stream.specs.declared.next.Next.TheVariants.{NotYet}
 use Rattle.imap_stream.proofs.Hearing.{heard-append, heard-saying}
 use Rattle.imap_session.specs.declared.dialog.Dialog.{Dialog as ImapDialog}
 use Rattle.console_head.specs.Request.{Stage}
+use Rattle.verb_core.specs.declared.mailbox.BoxId.{BoxId}
+use Rattle.mail_loop.specs.declared.aftermath.Aftermath.TheVariants.{TookAway}
+use Rattle.mail_loop.specs.Afterwards.{both_follow, taking}
 use Rattle.mail_loop.specs.ConsoleTurn.{no_consoles}
 use Rattle.mail_loop.specs.Hindrance.{Clear, Hindrance, first_hindrance, other_hindrances}
 use Rattle.mail_loop.specs.State.{Imap, Seat, Smtp, State}
@@ -88,6 +91,12 @@ module _ {D U : Type 0} (one : Hindrance → State → D → U → Outcome D) (u
   pub quiet_last : (s : State) (d : D) (us : List U) → turns one [] s d (us ++ u ∷ []) ≡ turns one [] s d us
   quiet_last s d us = turns_join one [] s d us (u ∷ []) ∙ behind_quiet (turns one [] s d us) (turns one [] s d us).dialog (length us) refl
 
+-- what follows where mailboxes were taken away, and then others
+taking_both : (boxes more : List BoxId) → taking (boxes ++ more) ≡ both_follow (taking boxes) (taking more)
+taking_both [] more = refl
+taking_both (box ∷ boxes) [] = ap (λ (ids : List BoxId). TookAway (box ∷ ids)) (append-nil boxes)
+taking_both (box ∷ boxes) (next ∷ more) = refl
+
 -- what an outcome is heard as, over two events
 heard_on : (kept unserved : List ℕ) (o : Outcome Dialog) (e : Option Dialog) (more : State → Dialog → Outcome Dialog) (later : State → Seat → Heard) → o.dialog ≡ e
     → ((s : State) (d : Dialog) → later s (Smtp kept d) ≡ heard_by (Smtp unserved) (more s d))
@@ -96,29 +105,29 @@ heard_on kept unserved o None more later is same = λ j. record {
   said = o.said;
   state = o.state;
   seat = option_map (Smtp kept) (sym is j);
-  gone = o.gone;
-  rewound = false;
+  aftermath = taking o.gone;
   unsealed = o.unsealed;
   reads = o.reads;
   consoles = no_consoles;
 }
 heard_on kept unserved o (Some d) more later is same =
-    ap (λ (h : Heard). hears_then (heard_by (Smtp kept) o) (Some (Smtp kept d)) (λ s seat. h)) (sym (same o.state d))
+    (λ j. record (heard_by (Smtp unserved) (after o.said o.gone o.unsealed o.reads (more o.state d))) { aftermath = taking_both o.gone (more o.state d).gone j })
+    ∙ ap (λ (h : Heard). hears_then (heard_by (Smtp kept) o) (Some (Smtp kept d)) (λ s seat. h)) (sym (same o.state d))
 
 pub events_join : ((stream more : List ℕ) → smtp_lines_of (stream ++ more) ≡ smtp_lines_of stream ++ smtp_lines_of (rest_of stream ++ more))
     → ((stream more : List ℕ) → rest_of (stream ++ more) ≡ rest_of (rest_of stream ++ more))
-    → (hs : List Hindrance) (stage : Stage) (at : ℕ) (s : State) (unserved : List ℕ) (d : Dialog) (first second : List ℕ)
-    → hears_seat hs stage at s (Smtp unserved d) (first ++ second)
-    ≡ joined (hears_seat hs stage at s (Smtp unserved d) first) (λ t seat. hears_seat (drop (length (smtp_lines_of (unserved ++ first))) hs) stage at t seat second)
-events_join lines rest hs stage at s unserved d first second =
+    → (hs : List Hindrance) (stage : Stage) (at conn : ℕ) (s : State) (unserved : List ℕ) (d : Dialog) (first second : List ℕ)
+    → hears_seat hs stage at s conn (Smtp unserved d) (first ++ second)
+    ≡ joined (hears_seat hs stage at s conn (Smtp unserved d) first) (λ t seat. hears_seat (drop (length (smtp_lines_of (unserved ++ first))) hs) stage at t conn seat second)
+events_join lines rest hs stage at conn s unserved d first second =
     let stream : List ℕ = unserved ++ first in
     let us : List SmtpLine = smtp_lines_of stream in
-    let o : Outcome Dialog = turns (smtp_turn at) hs s d us in
-    ap (hears_lines hs at s d) (sym (append_assoc unserved first second))
-    ∙ (λ j. heard_by (Smtp (rest stream second j)) (turns (smtp_turn at) hs s d (lines stream second j)))
-    ∙ ap (heard_by (Smtp (rest_of (rest_of stream ++ second)))) (turns_join (smtp_turn at) hs s d us (smtp_lines_of (rest_of stream ++ second)))
-    ∙ heard_on (rest_of stream) (rest_of (rest_of stream ++ second)) o o.dialog (λ t e. turns (smtp_turn at) (drop (length us) hs) t e (smtp_lines_of (rest_of stream ++ second)))
-    (λ t seat. hears_seat (drop (length us) hs) stage at t seat second) refl (λ t e. refl)
+    let o : Outcome Dialog = turns (smtp_turn at conn) hs s d us in
+    ap (hears_lines hs at s conn d) (sym (append_assoc unserved first second))
+    ∙ (λ j. heard_by (Smtp (rest stream second j)) (turns (smtp_turn at conn) hs s d (lines stream second j)))
+    ∙ ap (heard_by (Smtp (rest_of (rest_of stream ++ second)))) (turns_join (smtp_turn at conn) hs s d us (smtp_lines_of (rest_of stream ++ second)))
+    ∙ heard_on (rest_of stream) (rest_of (rest_of stream ++ second)) o o.dialog (λ t e. turns (smtp_turn at conn) (drop (length us) hs) t e (smtp_lines_of (rest_of stream ++ second)))
+    (λ t seat. hears_seat (drop (length us) hs) stage at t conn seat second) refl (λ t e. refl)
 
 -- ---- a mail reader's
 
@@ -129,18 +138,18 @@ reader_on mid last o None more later is same = λ j. record {
   said = o.said;
   state = o.state;
   seat = option_map (Imap mid) (sym is j);
-  gone = o.gone;
-  rewound = false;
+  aftermath = taking o.gone;
   unsealed = o.unsealed;
   reads = o.reads;
   consoles = no_consoles;
 }
 reader_on mid last o (Some d) more later is same =
-    ap (λ (h : Heard). hears_then (heard_by (Imap mid) o) (Some (Imap mid d)) (λ s seat. h)) (sym (same o.state d))
+    (λ j. record (heard_by (Imap last) (after o.said o.gone o.unsealed o.reads (more o.state d))) { aftermath = taking_both o.gone (more o.state d).gone j })
+    ∙ ap (λ (h : Heard). hears_then (heard_by (Imap mid) o) (Some (Imap mid d)) (λ s seat. h)) (sym (same o.state d))
 
 -- a reader's turns, but for the one of what is not whole yet
-reader_heard : (at : ℕ) (s : State) (d : ImapDialog) (stream : Stream) → hears_commands [] at s d stream ≡ heard_by (Imap (emptied stream)) (turns (imap_turn at) [] s d stream.said)
-reader_heard at s d stream = ap (heard_by (Imap (emptied stream))) (quiet_last (imap_turn at) NotYet (λ t e. refl) s d stream.said)
+reader_heard : (at conn : ℕ) (s : State) (d : ImapDialog) (stream : Stream) → hears_commands [] at s conn d stream ≡ heard_by (Imap (emptied stream)) (turns (imap_turn at conn) [] s d stream.said)
+reader_heard at conn s d stream = ap (heard_by (Imap (emptied stream))) (quiet_last (imap_turn at conn) NotYet (λ t e. refl) s d stream.said)
 
 split : (stream : Stream) (first second : List ℕ) → imap_stream.heard (emptied stream) (first ++ second)
     ≡ saying (imap_stream.heard (emptied stream) first).said (imap_stream.heard (emptied (imap_stream.heard (emptied stream) first)) second)
@@ -151,16 +160,16 @@ split stream first second =
     whole_said : (h : Stream) → h ≡ saying h.said (emptied h)
     whole_said h = ap (λ (said : List Next). record { said = said; begun = h.begun; awaits = h.awaits; rest = h.rest }) (sym (append-nil h.said))
 
-pub reader_events_join : (stage : Stage) (at : ℕ) (s : State) (stream : Stream) (d : ImapDialog) (first second : List ℕ)
-    → hears_seat [] stage at s (Imap (emptied stream) d) (first ++ second)
-    ≡ joined (hears_seat [] stage at s (Imap (emptied stream) d) first) (λ t seat. hears_seat [] stage at t seat second)
-reader_events_join stage at s stream d first second =
+pub reader_events_join : (stage : Stage) (at conn : ℕ) (s : State) (stream : Stream) (d : ImapDialog) (first second : List ℕ)
+    → hears_seat [] stage at s conn (Imap (emptied stream) d) (first ++ second)
+    ≡ joined (hears_seat [] stage at s conn (Imap (emptied stream) d) first) (λ t seat. hears_seat [] stage at t conn seat second)
+reader_events_join stage at conn s stream d first second =
     let h : Stream = imap_stream.heard (emptied stream) first in
     let g : Stream = imap_stream.heard (emptied h) second in
-    let o : Outcome ImapDialog = turns (imap_turn at) [] s d h.said in
-    reader_heard at s d (imap_stream.heard (emptied stream) (first ++ second))
-    ∙ ap (λ (k : Stream). heard_by (Imap (emptied k)) (turns (imap_turn at) [] s d k.said)) (split stream first second)
-    ∙ ap (heard_by (Imap (emptied g))) (turns_join (imap_turn at) [] s d h.said g.said)
-    ∙ ap (λ (hs : List Hindrance). heard_by (Imap (emptied g)) (goes_on o o.dialog (λ t e. turns (imap_turn at) hs t e g.said))) (drop_none (length h.said))
-    ∙ reader_on (emptied h) (emptied g) o o.dialog (λ t e. turns (imap_turn at) [] t e g.said) (λ t seat. hears_seat [] stage at t seat second) refl (λ t e. reader_heard at t e g)
-    ∙ ap (λ (x : Heard). joined x (λ t seat. hears_seat [] stage at t seat second)) (sym (reader_heard at s d h))
+    let o : Outcome ImapDialog = turns (imap_turn at conn) [] s d h.said in
+    reader_heard at conn s d (imap_stream.heard (emptied stream) (first ++ second))
+    ∙ ap (λ (k : Stream). heard_by (Imap (emptied k)) (turns (imap_turn at conn) [] s d k.said)) (split stream first second)
+    ∙ ap (heard_by (Imap (emptied g))) (turns_join (imap_turn at conn) [] s d h.said g.said)
+    ∙ ap (λ (hs : List Hindrance). heard_by (Imap (emptied g)) (goes_on o o.dialog (λ t e. turns (imap_turn at conn) hs t e g.said))) (drop_none (length h.said))
+    ∙ reader_on (emptied h) (emptied g) o o.dialog (λ t e. turns (imap_turn at conn) [] t e g.said) (λ t seat. hears_seat [] stage at t conn seat second) refl (λ t e. reader_heard at conn t e g)
+    ∙ ap (λ (x : Heard). joined x (λ t seat. hears_seat [] stage at t conn seat second)) (sym (reader_heard at conn s d h))

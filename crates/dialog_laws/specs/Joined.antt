@@ -1,8 +1,9 @@
 -- Events of one connection, one behind the other.
-use Rattle.std.specs.Prelude.{ℕ, List, [], ◌∷◌, ◌++◌, ◌||◌, Option, None, Some}
+use Rattle.std.specs.Prelude.{ℕ, List, [], ◌∷◌, ◌++◌, Option, None, Some}
 use Rattle.desk_journal.specs.Reading.{both_read}
 use Rattle.console_head.specs.Request.{Stage}
 use Rattle.mail_loop.specs.State.{Seat, State}
+use Rattle.mail_loop.specs.Afterwards.{both_follow}
 use Rattle.mail_loop.specs.ConsoleTurn.{both}
 use Rattle.mail_loop.specs.Turns.{Heard, hears_seat}
 
@@ -12,8 +13,7 @@ both_heard first next = record {
   said = first.said ++ next.said;
   state = next.state;
   seat = next.seat;
-  gone = first.gone ++ next.gone;
-  rewound = first.rewound || next.rewound;
+  aftermath = both_follow first.aftermath next.aftermath;
   unsealed = first.unsealed ++ next.unsealed;
   reads = both_read first.reads next.reads;
   consoles = both first.consoles next.consoles;
@@ -28,6 +28,6 @@ abbrev pub joined : Heard → (State → Seat → Heard) → Heard
 joined first more = hears_then first first.seat more
 
 -- what comes of several events of a connection at a moment, one behind the other, that nothing hinders: a first, and more
-abbrev pub hears_all : Stage → ℕ → State → Seat → List ℕ → List (List ℕ) → Heard
-hears_all stage at s seat first [] = hears_seat [] stage at s seat first
-hears_all stage at s seat first (next ∷ more) = joined (hears_seat [] stage at s seat first) (λ t left. hears_all stage at t left next more)
+abbrev pub hears_all : Stage → ℕ → State → ℕ → Seat → List ℕ → List (List ℕ) → Heard
+hears_all stage at s conn seat first [] = hears_seat [] stage at s conn seat first
+hears_all stage at s conn seat first (next ∷ more) = joined (hears_seat [] stage at s conn seat first) (λ t left. hears_all stage at t conn left next more)

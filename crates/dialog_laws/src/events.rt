@@ -17,26 +17,26 @@ use smtp_lines::what_is_kept_goes_on;
 /// where the first closes it, by QUIT or by a fault, it is what the first does alone. The turns of the second are hindered by what is left of the
 /// hindrances behind those of the first's lines.
 pub fn mail_client_events_join()
-    ensures { (hindrances : List Hindrance) (stage : Stage) (at : ℕ) (s : State) (unserved : List ℕ) (d : TheDialog) (first second : List ℕ) →
-        hears_seat hindrances stage at s (Smtp unserved d) (first ++ second)
-        ≡ joined (hears_seat hindrances stage at s (Smtp unserved d) first) (λ t seat. hears_seat (drop (length (smtp_lines_of (unserved ++ first))) hindrances) stage at t seat second) }
+    ensures { (hindrances : List Hindrance) (stage : Stage) (at conn : ℕ) (s : State) (unserved : List ℕ) (d : TheDialog) (first second : List ℕ) →
+        hears_seat hindrances stage at s conn (Smtp unserved d) (first ++ second)
+        ≡ joined (hears_seat hindrances stage at s conn (Smtp unserved d) first) (λ t seat. hears_seat (drop (length (smtp_lines_of (unserved ++ first))) hindrances) stage at t conn seat second) }
 {
     what_is_kept_goes_on();
 }
 
 /// So are two events of a mail reader, where nothing hinders them: its commands may come in one event or in two, cut anywhere.
 pub fn mail_reader_events_join()
-    ensures { (stage : Stage) (at : ℕ) (s : State) (stream : Stream) (d : TheReader) (first second : List ℕ) →
-        hears_seat [] stage at s (Imap (emptied stream) d) (first ++ second)
-        ≡ joined (hears_seat [] stage at s (Imap (emptied stream) d) first) (λ t seat. hears_seat [] stage at t seat second) }
+    ensures { (stage : Stage) (at conn : ℕ) (s : State) (stream : Stream) (d : TheReader) (first second : List ℕ) →
+        hears_seat [] stage at s conn (Imap (emptied stream) d) (first ++ second)
+        ≡ joined (hears_seat [] stage at s conn (Imap (emptied stream) d) first) (λ t seat. hears_seat [] stage at t conn seat second) }
 {}
 
 /// So may the bytes of a mail client, or of a mail reader, come in any number of events, where nothing hinders them.
 pub fn events_of_a_stream_join()
-    ensures client { (stage : Stage) (at : ℕ) (s : State) (unserved : List ℕ) (d : TheDialog) (first : List ℕ) (more : List (List ℕ)) →
-        hears_all stage at s (Smtp unserved d) first more ≡ hears_seat [] stage at s (Smtp unserved d) (first ++ flat_map (λ piece. piece) more) }
-    ensures reader { (stage : Stage) (at : ℕ) (s : State) (stream : Stream) (d : TheReader) (first : List ℕ) (more : List (List ℕ)) →
-        hears_all stage at s (Imap (emptied stream) d) first more ≡ hears_seat [] stage at s (Imap (emptied stream) d) (first ++ flat_map (λ piece. piece) more) }
+    ensures client { (stage : Stage) (at conn : ℕ) (s : State) (unserved : List ℕ) (d : TheDialog) (first : List ℕ) (more : List (List ℕ)) →
+        hears_all stage at s conn (Smtp unserved d) first more ≡ hears_seat [] stage at s conn (Smtp unserved d) (first ++ flat_map (λ piece. piece) more) }
+    ensures reader { (stage : Stage) (at conn : ℕ) (s : State) (stream : Stream) (d : TheReader) (first : List ℕ) (more : List (List ℕ)) →
+        hears_all stage at s conn (Imap (emptied stream) d) first more ≡ hears_seat [] stage at s conn (Imap (emptied stream) d) (first ++ flat_map (λ piece. piece) more) }
 {
     what_is_kept_goes_on();
 }

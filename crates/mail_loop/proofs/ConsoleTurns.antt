@@ -12,11 +12,12 @@ use Rattle.console_session.specs.declared.reply.Reply.{Reply}
 use Rattle.console_session.specs.Hearing.{Hears, IsUnfed, AreServed}
 use Rattle.console_session.specs.Hindrance as console
 use Rattle.console_session.specs.Turn.{asked_of}
-use Rattle.mail_loop.specs.State.{State, Http}
+use Rattle.mail_loop.specs.declared.aftermath.Aftermath.TheVariants.{Quiet}
+use Rattle.mail_loop.specs.State.{Seats, State, Http}
 use Rattle.mail_loop.specs.Asked.{HaveSealed}
-use Rattle.mail_loop.specs.ConsoleTurn.{Reading, left_by, of_console, rewinds_by, stops_by}
+use Rattle.mail_loop.specs.ConsoleTurn.{Reading, left_by, of_console, sequel_of}
 use Rattle.mail_loop.specs.Hindrance.{Hindrance, Clear, Refused, Unread, UnreadRefused, UnreadUnheard, Misled, Unheard, Unanswered, Unsealed, Untold}
-use Rattle.mail_loop.specs.Machine.{Seats, heard}
+use Rattle.mail_loop.specs.Machine.{heard}
 use Rattle.mail_loop.specs.Took.{answered_alone, turned_as}
 use Rattle.mail_loop.proofs.Sealed.{Nothing, unsealed}
 use Rattle.mail_loop.proofs.Stretch.{HeardAlone}
@@ -53,19 +54,17 @@ by_after : (conn : ℕ) (said : List ℕ) (after : After) (kept : Kept) (seats :
       said = said;
       state = record { kept = kept; seats = seats };
       seat = option_map Http (left_by after all);
-      changed = [];
-      rewound = rewinds_by after;
+      aftermath = (sequel_of after).aftermath;
       unsealed = failed;
       reads = reads;
-      consoles = record { readings = readings; stops = stops_by after };
+      consoles = record { readings = readings; stops = (sequel_of after).stops };
     }) ≡ answered_alone conn (turned_as conn (record { said = said; after = after })) kept failed reads readings (Http came) seats
 by_after conn said Waits kept seats failed reads readings all came waits =
     ap (λ (b : List ℕ). heard conn (record {
       said = said;
       state = record { kept = kept; seats = seats };
       seat = Some (Http b);
-      changed = [];
-      rewound = false;
+      aftermath = Quiet;
       unsealed = failed;
       reads = reads;
       consoles = record { readings = readings; stops = false };
@@ -103,11 +102,10 @@ console_heard {D} told nothing at came came' bytes conn seats old new r (AreServ
             said = u.said;
             state = record { kept = u.kept; seats = seats };
             seat = option_map Http (left_by u.after (came ++ bytes));
-            changed = [];
-            rewound = rewinds_by u.after;
+            aftermath = (sequel_of u.after).aftermath;
             unsealed = u.unsealed;
             reads = u.reads;
-            consoles = record { readings = readings; stops = stops_by u.after };
+            consoles = record { readings = readings; stops = (sequel_of u.after).stops };
           })) (as_it_is serves.hindrance)
           ∙ by_after conn t.said t.after t.kept seats t.unsealed t.reads readings (came ++ bytes) came' (λ e. waits (ap (λ (q : Reply). q.after) turn.reply_is ∙ e))
           ∙ ap (λ (q : Reply). answered_alone conn (turned_as conn q) t.kept t.unsealed t.reads readings (Http came') seats) (sym turn.reply_is)

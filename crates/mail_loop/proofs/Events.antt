@@ -11,15 +11,15 @@ use Rattle.undo_outside.specs.declared.event.What.TheVariants.{Joined, Bytes, Le
 use Rattle.verb_core.specs.Names.{is_empty}
 use Rattle.undo_outside.specs.Calls.{LinkTold}
 use Rattle.console_head.specs.Request.{Stage}
-use Rattle.mail_loop.specs.declared.console_turn.Turned.{Turned}
+use Rattle.mail_loop.specs.declared.reply.Turned.{Turned}
 use Rattle.mail_loop.specs.ConsoleTurn.{AreSaid}
 use Rattle.store_kept.specs.Kept.{Kept, snapshotted}
 use Rattle.verb_bytes.specs.declared.journal.JournalRecord.{JournalRecord}
 use Rattle.desk_journal.specs.Reading.{Reads, none_read}
 use Rattle.desk_journal.specs.Records.{snapshot_record}
-use Rattle.mail_loop.specs.State.{Seat, State}
+use Rattle.mail_loop.specs.State.{Seat, Seats, State}
 use Rattle.mail_loop.specs.Hindrance.{Hindrance}
-use Rattle.mail_loop.specs.Machine.{Seats, Delivery, Keeping, IsKept, IsPassed, IsUnkept, Outcome, told_others, ignored, unfed, with_reply, Hindrances, Reply, Answered, answered, answers, hears_at, seat_at, seated, after_reply, delivered, happens, is_end, is_snapshot_due, outcome, with_snapshot}
+use Rattle.mail_loop.specs.Machine.{Delivery, Keeping, IsKept, IsPassed, IsUnkept, Outcome, told_others, ignored, unfed, with_reply, Hindrances, Reply, Answered, answered, answers, hears_at, seat_at, seated, after_reply, delivered, happens, is_end, is_snapshot_due, outcome, with_snapshot}
 use Rattle.mail_loop.specs.Stands.{reply_of}
 use Rattle.mail_loop.specs.Took.{seat_left}
 use Rattle.mail_loop.specs.Did.{AreLicensed, Sends, Leads, Answers, kept_by, unclosed_by, unkept_by}
@@ -64,21 +64,21 @@ pub bytes_heard : {T : Type 0} → (S : List JournalRecord → Reads → Type 0)
     (view : T → List Reply) (stops : T → Bool) (answer : T)
     → Some s ≡ lookup (is_at (nat_cmp conn)) es
     → lent ≡ set_value (is_at (nat_cmp conn)) es s'
-    → es' ≡ after_reply (not turned.reply.closes) conn lent
-    → ((seats : Seats) → HeardAlone S at kept seats conn s bytes turned kept' s')
-    → view answer ≡ with_reply (reply_of turned.reply) (told_others conn turned.rewound turned.reply.changed es')
+    → es' ≡ after_reply (not turned.closes) conn lent
+    → ((seats : Seats) → seat_at conn seats ≡ Some s → HeardAlone S at kept seats conn s bytes turned kept' s')
+    → view answer ≡ with_reply (reply_of turned) (told_others conn turned.aftermath es')
     → stops answer ≡ turned.stops
     → (b : Bool) × (hs : List Hindrance) × (stage : Stage)
     × Answers S (hears_at (seat_at conn es) b hs stage at (record { kept = kept; seats = es }) conn bytes) kept' es' view stops (Ok answer)
 bytes_heard S conn at kept kept' es lent es' s s' bytes turned view stops answer present wrote stays heard those stop =
-    let (b, hs, stage, failed, reads, seals, readings, said, e) = heard es in
+    let (b, hs, stage, failed, reads, seals, readings, said, e) = heard es (sym present) in
     let whole = ap (λ (o : Option Seat). hears_at o b hs stage at (record { kept = kept; seats = es }) conn bytes) (sym present) ∙ e in
-    let left_is = seats_after conn es lent es' s' turned.reply.closes wrote stays in (
+    let left_is = seats_after conn es lent es' s' turned.closes wrote stays in (
       b,
       hs,
       stage,
       subst (λ (a : Answered). Answers S a kept' es' view stops (Ok answer)) (sym whole) (
-        (refl, left_is, those ∙ ap (λ (l : Seats). with_reply (reply_of turned.reply) (told_others conn turned.rewound turned.reply.changed l)) left_is, stop),
+        (refl, left_is, those ∙ ap (λ (l : Seats). with_reply (reply_of turned) (told_others conn turned.aftermath l)) left_is, stop),
         seals,
         said,
       ),

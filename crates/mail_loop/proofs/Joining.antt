@@ -1,16 +1,19 @@
 -- What a client that joins leaves.
-use Rattle.std.specs.Prelude.{IfOk, if◌then◌else◌}
-use Rattle.std.proofs.Common.{◌≡◌, ℕ, Bool, true, false, List, [], ◌∷◌, Ok, Err, Result, refl, ap, subst, sym, ◌∙◌}
+use Rattle.std.specs.Prelude.{IfOk}
+use Rattle.std.proofs.Common.{◌≡◌, ℕ, true, false, List, [], ◌∷◌, Option, None, Some, is_some, Ok, Err, Result, refl, ap, subst, sym, ◌∙◌}
 use Rattle.std.proofs.lemmas.Map.Views.{All-values-insert_entry}
 use Rattle.std.specs.Ordering.{nat_cmp}
 use Rattle.undo_base.specs.declared.memory.NoMemory.{NoMemory as WantOfMemory}
 use Rattle.verb_core.specs.declared.conf.House.{House}
 use Rattle.store_kept.specs.Kept.{Kept}
 use Rattle.desk_journal.specs.Reading.{none_read}
-use Rattle.mail_loop.specs.State.{Seat}
+use Rattle.undo_outside.specs.declared.event.Role.{Role}
+use Rattle.undo_outside.specs.declared.event.Role.TheVariants as role
+use Rattle.mail_loop.specs.State.{Seat, Seats, State}
+use Rattle.mail_loop.specs.Roles.{row_of}
 use Rattle.mail_loop.specs.ConsoleTurn.{no_consoles}
-use Rattle.mail_loop.specs.Machine.{Answered, Reply, Seats, ungreeted, with_new_seat}
-use Rattle.mail_loop.specs.Did.{Answers, Greets, Opens}
+use Rattle.mail_loop.specs.Machine.{Answered, Reply, admitted, ungreeted, with_new_seat}
+use Rattle.mail_loop.specs.Did.{Answers, Opens}
 use Rattle.mail_loop.specs.Stands.{AreHome, IsHome}
 use Rattle.mail_loop.specs.Took.{IsNone}
 
@@ -20,12 +23,12 @@ with_replies kept es conn seat replies =
     record { state = record { kept = kept; seats = with_new_seat conn seat es }; replies = replies; unsealed = []; reads = none_read; consoles = no_consoles }
 
 -- a client was admitted, and this is said; or memory was wanted
-pub admitted : {T : Type 0} (a : Answered) (kept : Kept) (es es' : Seats) (conn : ℕ) (seat : Seat) (replies : List Reply) (view : T → List Reply) (result : Result T WantOfMemory)
+pub opened_with : {T : Type 0} (a : Answered) (kept : Kept) (es es' : Seats) (conn : ℕ) (seat : Seat) (replies : List Reply) (view : T → List Reply) (result : Result T WantOfMemory)
     → a ≡ with_replies kept es conn seat replies → Opens conn seat replies es es' view result
     → Answers IsNone a kept es' view (λ _. false) result
-admitted a kept es es' conn seat replies view (Ok letters) is opens =
+opened_with a kept es es' conn seat replies view (Ok letters) is opens =
     subst (λ (x : Answered). Answers IsNone x kept es' view (λ _. false) (Ok letters)) (sym is) ((refl, opens.0, opens.1, refl), (refl, refl), tt)
-admitted {T} a kept es es' conn seat replies view (Err e) is opens =
+opened_with {T} a kept es es' conn seat replies view (Err e) is opens =
     subst (λ (x : Answered). Answers IsNone x kept es' view (λ _. false) (Err e)) (sym is) ((refl, refl), (refl, refl), tt)
 
 -- the seat and the replies, as they are
@@ -40,23 +43,22 @@ pub home_opened : (house : House) (conn : ℕ) (seat : Seat) (es es' : Seats) �
 home_opened house conn seat es es' entered home held =
     subst (λ (l : Seats). AreHome house l) (sym entered) (All-values-insert_entry nat_cmp conn seat (IsHome house) es held home)
 
--- a client was greeted so
-pub greeted_as : {T : Type 0} (conn : ℕ) (seat : Seat) (reply greeting : Reply) (es es' : Seats) (view : T → List Reply) (result : Result T WantOfMemory)
-    → reply ≡ greeting → Opens conn seat (reply ∷ []) es es' view result → Greets false conn seat greeting es es' view result
-greeted_as conn seat reply greeting es es' view result is opens = subst (λ (r : Reply). Opens conn seat (r ∷ []) es es' view result) is opens
+-- at first nobody is logged in
+pub fresh_home : (house : House) (role : Role) → IsHome house (row_of role).fresh
+fresh_home house role.Smtp = tt
+fresh_home house role.Imap = refl
+fresh_home house role.Http = tt
 
--- no memory was found for its greeting
-pub left_ungreeted : {T : Type 0} (conn : ℕ) (seat : Seat) (greeting reply : Reply) (es : Seats) (view : T → List Reply) (result : Result T WantOfMemory)
-    → reply ≡ record { conn = conn; said = []; closes = true } → IfOk result (λ letters. view letters ≡ reply ∷ []) → Greets true conn seat greeting es es view result
-left_ungreeted conn seat greeting reply es view (Ok letters) is one = (refl, one ∙ ap (λ (r : Reply). r ∷ []) is)
-left_ungreeted conn seat greeting reply es view (Err e) is one = tt
+-- no memory was found for a greeting: it is left out, and the connection is to be closed
+pub left_ungreeted : {T : Type 0} (a : Answered) (kept : Kept) (es : Seats) (conn : ℕ) (reply : Reply) (view : T → List Reply) (result : Result T WantOfMemory)
+    → a ≡ ungreeted (record { kept = kept; seats = es }) conn → reply ≡ record { conn = conn; said = []; closes = true } → IfOk result (λ letters. view letters ≡ reply ∷ [])
+    → Answers IsNone a kept es view (λ _. false) result
+left_ungreeted a kept es conn reply view (Ok letters) is none one =
+    subst (λ (x : Answered). Answers IsNone x kept es view (λ _. false) (Ok letters)) (sym is) ((refl, refl, one ∙ ap (λ (r : Reply). r ∷ []) none, refl), (refl, refl), tt)
+left_ungreeted {T} a kept es conn reply view (Err e) is none one =
+    subst (λ (x : Answered). Answers IsNone x kept es view (λ _. false) (Err e)) (sym is) ((refl, refl), (refl, refl), tt)
 
--- a client was greeted, or no memory was found for its greeting
-pub admitted_or : {T : Type 0} (greets starved : Answered) (no_memory : Bool) (kept : Kept) (es es' : Seats) (conn : ℕ) (seat : Seat) (greeting : Reply) (view : T → List Reply) (result : Result T WantOfMemory)
-    → greets ≡ with_replies kept es conn seat (greeting ∷ []) → starved ≡ ungreeted (record { kept = kept; seats = es }) conn → Greets no_memory conn seat greeting es es' view result
-    → Answers IsNone (if no_memory then starved else greets) kept es' view (λ _. false) result
-admitted_or greets starved false kept es es' conn seat greeting view result is none opens = admitted greets kept es es' conn seat (greeting ∷ []) view result is opens
-admitted_or greets starved true kept es es' conn seat greeting view (Ok letters) is none opens =
-    subst (λ (x : Answered). Answers IsNone x kept es' view (λ _. false) (Ok letters)) (sym none) ((refl, opens.0, opens.1, refl), (refl, refl), tt)
-admitted_or greets starved true kept es es' conn seat greeting view (Err e) is none opens =
-    subst (λ (x : Answered). Answers IsNone x kept es' view (λ _. false) (Err e)) (sym none) ((refl, refl), (refl, refl), tt)
+-- of a role that greets
+pub starved_greeting : (s : State) (conn : ℕ) (seat : Seat) (greeting : Option (List ℕ)) → is_some greeting ≡ true → admitted true s conn seat greeting ≡ ungreeted s conn
+starved_greeting s conn seat (Some text) is = refl
+starved_greeting s conn seat None wrong = absurd (let w : false ≡ true = wrong in cc)

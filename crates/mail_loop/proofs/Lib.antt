@@ -1,6 +1,8 @@
 pub mod Links
 pub mod Refusals
-pub mod Turns
+pub mod Telling
+pub mod Dialogs
+pub mod SmtpTurns
 pub mod Commands
 pub mod ImapTurns
 pub mod TextsRead
@@ -12,5 +14,7 @@ pub mod Events
 pub mod Runs
 pub mod Courses
 pub mod Placing
+pub mod Taken
+pub mod Licences
 pub mod Sealed
 pub mod Joining

@@ -7,7 +7,8 @@ use Rattle.undo_outside.specs.declared.event.LinkNote.{LinkNote}
 use Rattle.undo_outside.specs.declared.event.LinkNote.TheVariants.{Closed, Sent}
 use Rattle.undo_outside.specs.Calls.{LinkTold, Rose, RoseOnce, Wants, then_told, Sends as LinkSends}
 use Rattle.undo_base.specs.declared.memory.NoMemory.{NoMemory as WantOfMemory}
-use Rattle.mail_loop.specs.Machine.{Seats, Delivery, Arrives, IsMissed, IsLeftOut, Reply, string_notes, close_notes, reply_notes, after_reply, delivered, remains}
+use Rattle.mail_loop.specs.Machine.{Delivery, Arrives, IsMissed, IsLeftOut, Reply, string_notes, close_notes, reply_notes, after_reply, delivered, remains}
+use Rattle.mail_loop.specs.State.{Seats}
 use Rattle.desk_journal.specs.Reading.{Counted, RoseBy}
 use Rattle.mail_loop.specs.Did.{Goes, AreLicensed, StopsAtClose, Told, Replied, Did, Sends, left_out_by, left_out_of, missed_by, missed_of, unclosed_by}
 

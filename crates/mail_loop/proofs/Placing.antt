@@ -1,11 +1,14 @@
 -- The letters of an event, by rising connection.
-use Rattle.std.proofs.Common.{◌≡◌, ℕ, suc, ◌+◌, ◌==◌, ◌&&◌, Bool, true, false, not, cond, nat_lt, List, [], ◌∷◌, map, length, None, Some, refl, ap, sym, ◌∙◌, arith}
-use Rattle.std.specs.List.{insert, position, position_or_len}
+use Rattle.std.proofs.Common.{◌≡◌, ℕ, suc, ◌+◌, ◌==◌, Bool, true, false, not, cond, nat_lt, List, [], ◌∷◌, length, None, Some, option_map, refl, ap, sym, ◌∙◌, arith}
+use Rattle.std.specs.List.{cons_option, insert, position, position_or_len}
 use Rattle.std.proofs.lemmas.Bool.{ltb-false}
 use Rattle.std.proofs.lemmas.List.Sums.{prefix_len-le-length}
 use Rattle.mail_loop.specs.declared.letters.Letter.{Letter}
-use Rattle.mail_loop.specs.Machine.{Reply, Seats, closed_others, closing, holds_one, others_with, with_reply}
-use Rattle.mail_loop.specs.State.{Seat, Smtp, Imap, Http}
+use Rattle.mail_loop.specs.declared.aftermath.Aftermath.{Aftermath}
+use Rattle.mail_loop.specs.declared.aftermath.Aftermath.TheVariants.{Quiet, TookAway, Rewound}
+use Rattle.mail_loop.specs.Afterwards.{is_quiet}
+use Rattle.mail_loop.specs.State.{Seats}
+use Rattle.mail_loop.specs.Machine.{Reply, parting, told_others, with_reply}
 use Rattle.mail_loop.specs.Stands.{letter_of, replies_of}
 
 one_more : (n : ℕ) → 1 + n ≡ suc n
@@ -22,22 +25,19 @@ none_passes {X} p xs none = by_test (nat_lt (position_or_len p xs) (length xs)) 
         let past = ltb-false (position_or_len p xs) (length xs) is in
         omega arith
 
-holds_none : (seat : Seat) → holds_one [] seat ≡ false
-holds_none (Smtp unserved d) = refl
-holds_none (Imap stream d) = refl
-holds_none (Http came) = refl
+pub quiet_is : (a : Aftermath) → is_quiet a ≡ true → a ≡ Quiet
+quiet_is Quiet is = refl
+quiet_is (TookAway boxes) wrong = absurd (let w : false ≡ true = wrong in cc)
+quiet_is Rewound wrong = absurd (let w : false ≡ true = wrong in cc)
 
--- where no mailbox was taken away no other connection is told
-pub none_told : (conn : ℕ) (seats : Seats) → closed_others conn [] seats ≡ []
+-- where nothing follows no other connection is told
+pub none_told : (conn : ℕ) (seats : Seats) → told_others conn Quiet seats ≡ []
 none_told conn [] = refl
-none_told conn (e ∷ es) = by_test (not (e.0 == conn)) (holds_one [] e.1) (holds_none e.1) (none_told conn es)
+none_told conn (e ∷ es) = by_test (e.0 == conn) (none_told conn es)
   where
-    by_test : (a b : Bool) → b ≡ false → closed_others conn [] es ≡ []
-        → map (λ (f : ℕ × Seat). closing f.0) (cond (a && b) (e ∷ others_with conn [] es) (others_with conn [] es)) ≡ []
-    by_test true true is more = absurd (let wrong : true ≡ false = is in cc)
-    by_test false true is more = more
-    by_test true false is more = more
-    by_test false false is more = more
+    by_test : (b : Bool) → told_others conn Quiet es ≡ [] → cons_option (cond b None (option_map (parting e.0) None)) (told_others conn Quiet es) ≡ []
+    by_test true more = more
+    by_test false more = more
 
 -- a letter in its place among others
 pub with_placed : (l : Letter) (conn : ℕ) (letters : List Letter) → l.conn ≡ conn

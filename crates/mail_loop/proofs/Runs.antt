@@ -13,9 +13,9 @@ use Rattle.mail_loop.specs.declared.serve.ServeFault.TheVariants.{Link, Disk, Tu
 use Rattle.verb_bytes.specs.declared.journal.JournalRecord.{JournalRecord}
 use Rattle.desk_journal.specs.Reading.{Counted, Reads, RoseBy, both_read, none_read}
 use Rattle.store_kept.specs.Kept.{Kept}
-use Rattle.mail_loop.specs.State.{State}
+use Rattle.mail_loop.specs.State.{State, Seats}
 use Rattle.mail_loop.specs.ConsoleTurn.{AreSaid, Reading, both, no_consoles}
-use Rattle.mail_loop.specs.Machine.{Seats, Hindrances, Keeping, IsPassed, Outcome, happens, is_end}
+use Rattle.mail_loop.specs.Machine.{Hindrances, Keeping, IsPassed, Outcome, happens, is_end}
 use Rattle.mail_loop.specs.Did.{AreLicensed, Goes, Leads, StopsAtClose, WantsIn, left_out_of, missed_of}
 use Rattle.mail_loop.specs.Serving.{Step, after_notes, run, at_first, NoEnd, missed_in, ComeInOrder, events_of, readings_in, reads_in, stopped_in, unsealed_in, left_out_in, CountsFaults, IsCutAtClose, IsLeftStarved, IsLeftUnsealed, Serves, Served, ServedOver, ended_as}
 use Rattle.mail_loop.proofs.Sealed.{no_more, none_before, reads_regroup}

@@ -1,6 +1,6 @@
 -- What the desk sealed, call after call.
 use Rattle.std.specs.Prelude.{if◌then◌else◌}
-use Rattle.std.proofs.Common.{◌≡◌, ◌≢◌, ℕ, ◌+◌, ◌≤◌, arith, add-zero, zero-add, Bool, true, false, not, nat_le, ◌||◌, ◌&&◌, List, [], ◌∷◌, ◌++◌, None, Some, Option, MatchOption, Result, Ok, Err, IfOk, IfErr, OnErr, refl, ap, sym, subst, ◌∙◌}
+use Rattle.std.proofs.Common.{◌≡◌, ◌≢◌, ℕ, ◌+◌, arith, add-zero, zero-add, Bool, true, false, not, nat_le, ◌||◌, ◌&&◌, List, [], ◌∷◌, ◌++◌, None, Some, Option, MatchOption, Result, Ok, Err, IfOk, IfErr, OnErr, refl, ap, sym, subst, ◌∙◌}
 use Rattle.undo_base.specs.declared.keys.User.{User}
 use Rattle.undo_outside.specs.Disk.{DiskTold, ReadFailed}
 use Rattle.verb_core.specs.declared.ask.Ask.{Ask}
@@ -23,7 +23,7 @@ use Rattle.desk_journal.specs.Records.{snapshot_record}
 use Rattle.desk_journal.specs.Submitting.{SnapshotsNone, SubmitsNone}
 use Rattle.mail_loop.specs.declared.reply.Reply.{Reply}
 use Rattle.mail_loop.specs.Asked.{HaveSealed}
-use Rattle.mail_loop.specs.SmtpTurn.{Turn}
+use Rattle.mail_loop.specs.Turn.{Turn}
 use Rattle.mail_loop.specs.Machine.{Keeping, IsKept, IsPassed, IsUnkept}
 use Rattle.mail_loop.specs.Did.{Keeps, is_due_on, kept_by, unkept_by}
 use Rattle.mail_loop.specs.Took.{IsNone, Submits, Takes}

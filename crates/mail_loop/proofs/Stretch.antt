@@ -7,14 +7,15 @@ use Rattle.mail_loop.specs.declared.reply.Reply.{Reply}
 use Rattle.store_kept.specs.Kept.{Kept}
 use Rattle.verb_bytes.specs.declared.journal.JournalRecord.{JournalRecord}
 use Rattle.desk_journal.specs.Reading.{Reads, both_read, none_read}
-use Rattle.mail_loop.specs.State.{Seat, State}
-use Rattle.mail_loop.specs.SmtpTurn.{Turn}
+use Rattle.mail_loop.specs.State.{Seat, Seats, State}
+use Rattle.mail_loop.specs.Turn.{Turn}
 use Rattle.mail_loop.specs.Hindrance.{Hindrance, Clear, Unheard}
 use Rattle.mail_loop.specs.Turns.{Outcome, Heard, after, goes_on, turns, outcome_of, heard_by}
 use Rattle.console_head.specs.Request.{Stage}
-use Rattle.mail_loop.specs.declared.console_turn.Turned.{Turned}
+use Rattle.mail_loop.specs.declared.reply.Turned.{Turned}
 use Rattle.mail_loop.specs.ConsoleTurn.{AreSaid, Reading, no_consoles}
-use Rattle.mail_loop.specs.Machine.{Seats, closed_others, heard, hears, seated, with_reply}
+use Rattle.mail_loop.specs.Afterwards.{taking}
+use Rattle.mail_loop.specs.Machine.{heard, hears, seated, told_others, with_reply}
 use Rattle.mail_loop.proofs.Sealed.{no_more, none_before, reads_regroup}
 use Rattle.mail_loop.specs.Took.{Takes, Tells, seat_left, answered_alone, going_on_with}
 
@@ -22,12 +23,12 @@ use Rattle.mail_loop.specs.Took.{Takes, Tells, seat_left, answered_alone, going_
 abbrev beside : Seats → Kept → State
 beside seats kept = record { kept = kept; seats = seats }
 
--- a turn of a kind of session that touches no other connection
-abbrev pub alone : {D U : Type 0} → (Hindrance → Kept → D → U → Turn D) → Hindrance → State → D → U → Outcome D
-alone one h s d u = outcome_of s (one h s.kept d u)
+-- a turn of a kind of session that touches no other connection; it may see them
+abbrev pub alone : {D U : Type 0} → (Seats → Hindrance → Kept → D → U → Turn D) → Hindrance → State → D → U → Outcome D
+alone one h s d u = outcome_of s (one s.seats h s.kept d u)
 
 -- what the turns of all leave
-abbrev all_turns : {D U : Type 0} → (Hindrance → Kept → D → U → Turn D) → Seats → List Hindrance → Kept → D → List U → Outcome D
+abbrev all_turns : {D U : Type 0} → (Seats → Hindrance → Kept → D → U → Turn D) → Seats → List Hindrance → Kept → D → List U → Outcome D
 all_turns one seats hs kept d us = turns (alone one) hs (beside seats kept) d us
 
 -- an outcome of such turns
@@ -48,12 +49,12 @@ abbrev pub behind : {D : Type 0} → Reply → Reads → Outcome D → Outcome D
 behind reply reads o = after reply.said reply.gone [] reads o
 
 -- the turns of all leave what is in the reply, of which so many could not read, and then what the turns of those to come leave
-pub record SoFar {D U : Type 0} (one : Hindrance → Kept → D → U → Turn D) (seats : Seats) (kept : Kept) (d : D) (all : List U) (reply : Reply) (reads : Reads) (kept' : Kept) (d' : D) (us : List U) : Type 0 where
+pub record SoFar {D U : Type 0} (one : Seats → Hindrance → Kept → D → U → Turn D) (seats : Seats) (kept : Kept) (d : D) (all : List U) (reply : Reply) (reads : Reads) (kept' : Kept) (d' : D) (us : List U) : Type 0 where
   pub before : List Hindrance
   pub split : (more : List Hindrance) → turns (alone one) (before ++ more) (record { kept = kept; seats = seats }) d all
       ≡ behind reply reads (turns (alone one) more (record { kept = kept'; seats = seats }) d' us)
 
-pub so_far_none : {D U : Type 0} → (one : Hindrance → Kept → D → U → Turn D) (seats : Seats) (kept : Kept) (d : D) (us : List U) (conn : ℕ) (reply : Reply)
+pub so_far_none : {D U : Type 0} → (one : Seats → Hindrance → Kept → D → U → Turn D) (seats : Seats) (kept : Kept) (d : D) (us : List U) (conn : ℕ) (reply : Reply)
     → reply ≡ record { conn = conn; said = []; closes = false; gone = [] } → SoFar one seats kept d us reply none_read kept d us
 so_far_none one seats kept d us conn reply empty =
     subst (λ (r : Reply). SoFar one seats kept d us r none_read kept d us) (sym empty) (record {
@@ -62,9 +63,9 @@ so_far_none one seats kept d us conn reply empty =
     })
 
 -- all turns, up to the next, which leaves the dialog o
-up_to : {D U : Type 0} → (one : Hindrance → Kept → D → U → Turn D) (seats : Seats) (kept : Kept) (d : D) (all : List U) (reply : Reply) (reads : Reads) (kept' : Kept) (d' : D) (u : U) (us : List U)
+up_to : {D U : Type 0} → (one : Seats → Hindrance → Kept → D → U → Turn D) (seats : Seats) (kept : Kept) (d : D) (all : List U) (reply : Reply) (reads : Reads) (kept' : Kept) (d' : D) (u : U) (us : List U)
     → (s : SoFar one seats kept d all reply reads kept' d' (u ∷ us)) → (h : Hindrance) (more : List Hindrance) (o : Option D)
-    → (one h kept' d' u).dialog ≡ o
+    → (one seats h kept' d' u).dialog ≡ o
     → all_turns one seats ((s.before ++ h ∷ []) ++ more) kept d all
     ≡ behind reply reads (goes_on (alone one h (beside seats kept') d' u) o (λ s e. turns (alone one) more s e us))
 up_to one seats kept d all reply reads kept' d' u us s h more o e =
@@ -72,19 +73,19 @@ up_to one seats kept d all reply reads kept' d' u us s h more o e =
     ∙ ap (λ p. behind reply reads (goes_on (alone one h (beside seats kept') d' u) p (λ s e. turns (alone one) more s e us))) e
 
 -- one turn more, after which the connection is open
-pub so_far_more : {D U : Type 0} → (S : List JournalRecord → Reads → Type 0) (one : Hindrance → Kept → D → U → Turn D) (seats : Seats) (kept : Kept) (d : D) (all : List U) (kept' : Kept) (d' : D) (u : U) (us : List U)
+pub so_far_more : {D U : Type 0} → (S : List JournalRecord → Reads → Type 0) (one : Seats → Hindrance → Kept → D → U → Turn D) (seats : Seats) (kept : Kept) (d : D) (all : List U) (kept' : Kept) (d' : D) (u : U) (us : List U)
     (new : Kept) (e : D) (old reply : Reply) (reads : Reads)
-    → SoFar one seats kept d all old reads kept' d' (u ∷ us) → (h : Hindrance) → Takes S (one h kept' d' u) old new e reply → reply.closes ≡ false
-    → SoFar one seats kept d all reply (both_read reads (one h kept' d' u).reads) new e us
-so_far_more {D} {U} S one seats kept d all kept' d' u us new e old reply reads s h took stays = by_dialog (one h kept' d' u).dialog refl took.dialog_is
+    → SoFar one seats kept d all old reads kept' d' (u ∷ us) → (h : Hindrance) → Takes S (one seats h kept' d' u) old new e reply → reply.closes ≡ false
+    → SoFar one seats kept d all reply (both_read reads (one seats h kept' d' u).reads) new e us
+so_far_more {D} {U} S one seats kept d all kept' d' u us new e old reply reads s h took stays = by_dialog (one seats h kept' d' u).dialog refl took.dialog_is
   where
-    by_dialog : (o : Option D) → (one h kept' d' u).dialog ≡ o → MatchOption o (reply.closes ≡ true) (λ f. (e ≡ f) × (reply.closes ≡ false) × ((one h kept' d' u).unsealed ≡ []))
-        → SoFar one seats kept d all reply (both_read reads (one h kept' d' u).reads) new e us
+    by_dialog : (o : Option D) → (one seats h kept' d' u).dialog ≡ o → MatchOption o (reply.closes ≡ true) (λ f. (e ≡ f) × (reply.closes ≡ false) × ((one seats h kept' d' u).unsealed ≡ []))
+        → SoFar one seats kept d all reply (both_read reads (one seats h kept' d' u).reads) new e us
     by_dialog None is shut = absurd (let wrong : true ≡ false = sym shut ∙ stays in cc)
     by_dialog (Some f) is goes = record {
       before = s.before ++ h ∷ [];
       split = λ more.
-          let turn = one h kept' d' u in
+          let turn = one seats h kept' d' u in
           up_to one seats kept d all old reads kept' d' u us s h more (Some f) is
           ∙ ap (λ (failed : List JournalRecord). behind old reads (after turn.said turn.gone failed turn.reads (all_turns one seats more turn.kept f us))) goes.2
           ∙ regroup more f
@@ -95,42 +96,42 @@ so_far_more {D} {U} S one seats kept d all kept' d' u us new e old reply reads s
     }
       where
         regroup : (more : List Hindrance) (f : D)
-            → behind old reads (after (one h kept' d' u).said (one h kept' d' u).gone [] (one h kept' d' u).reads (all_turns one seats more (one h kept' d' u).kept f us))
-            ≡ after (old.said ++ (one h kept' d' u).said) (old.gone ++ (one h kept' d' u).gone) [] (both_read reads (one h kept' d' u).reads)
-            (all_turns one seats more (one h kept' d' u).kept f us)
+            → behind old reads (after (one seats h kept' d' u).said (one seats h kept' d' u).gone [] (one seats h kept' d' u).reads (all_turns one seats more (one seats h kept' d' u).kept f us))
+            ≡ after (old.said ++ (one seats h kept' d' u).said) (old.gone ++ (one seats h kept' d' u).gone) [] (both_read reads (one seats h kept' d' u).reads)
+            (all_turns one seats more (one seats h kept' d' u).kept f us)
         regroup more f =
-            let t = all_turns one seats more (one h kept' d' u).kept f us in
+            let t = all_turns one seats more (one seats h kept' d' u).kept f us in
             λ j. record {
-              said = sym (append_assoc old.said (one h kept' d' u).said t.said) j;
+              said = sym (append_assoc old.said (one seats h kept' d' u).said t.said) j;
               state = t.state;
               dialog = t.dialog;
-              gone = sym (append_assoc old.gone (one h kept' d' u).gone t.gone) j;
+              gone = sym (append_assoc old.gone (one seats h kept' d' u).gone t.gone) j;
               unsealed = t.unsealed;
-              reads = sym (reads_regroup reads (one h kept' d' u).reads t.reads) j;
+              reads = sym (reads_regroup reads (one seats h kept' d' u).reads t.reads) j;
             }
 
 -- the last turn, after which the connection is closed
-pub closed_after : {D U : Type 0} → (S : List JournalRecord → Reads → Type 0) (one : Hindrance → Kept → D → U → Turn D) (seats : Seats) (kept : Kept) (d : D) (all : List U) (kept' : Kept) (d' : D) (u : U) (us : List U)
+pub closed_after : {D U : Type 0} → (S : List JournalRecord → Reads → Type 0) (one : Seats → Hindrance → Kept → D → U → Turn D) (seats : Seats) (kept : Kept) (d : D) (all : List U) (kept' : Kept) (d' : D) (u : U) (us : List U)
     (new : Kept) (e : D) (old reply : Reply) (reads : Reads)
-    → SoFar one seats kept d all old reads kept' d' (u ∷ us) → (h : Hindrance) → Takes S (one h kept' d' u) old new e reply → reply.closes ≡ true
-    → (hs : List Hindrance) × (turns (alone one) hs (record { kept = kept; seats = seats }) d all ≡ left seats reply new (one h kept' d' u).unsealed (both_read reads (one h kept' d' u).reads) None)
-closed_after {D} {U} S one seats kept d all kept' d' u us new e old reply reads s h took shut = by_dialog (one h kept' d' u).dialog refl took.dialog_is
+    → SoFar one seats kept d all old reads kept' d' (u ∷ us) → (h : Hindrance) → Takes S (one seats h kept' d' u) old new e reply → reply.closes ≡ true
+    → (hs : List Hindrance) × (turns (alone one) hs (record { kept = kept; seats = seats }) d all ≡ left seats reply new (one seats h kept' d' u).unsealed (both_read reads (one seats h kept' d' u).reads) None)
+closed_after {D} {U} S one seats kept d all kept' d' u us new e old reply reads s h took shut = by_dialog (one seats h kept' d' u).dialog refl took.dialog_is
   where
-    by_dialog : (o : Option D) → (one h kept' d' u).dialog ≡ o → MatchOption o (reply.closes ≡ true) (λ f. (e ≡ f) × (reply.closes ≡ false) × ((one h kept' d' u).unsealed ≡ []))
-        → (hs : List Hindrance) × (turns (alone one) hs (record { kept = kept; seats = seats }) d all ≡ left seats reply new (one h kept' d' u).unsealed (both_read reads (one h kept' d' u).reads) None)
+    by_dialog : (o : Option D) → (one seats h kept' d' u).dialog ≡ o → MatchOption o (reply.closes ≡ true) (λ f. (e ≡ f) × (reply.closes ≡ false) × ((one seats h kept' d' u).unsealed ≡ []))
+        → (hs : List Hindrance) × (turns (alone one) hs (record { kept = kept; seats = seats }) d all ≡ left seats reply new (one seats h kept' d' u).unsealed (both_read reads (one seats h kept' d' u).reads) None)
     by_dialog None is shuts = (
       (s.before ++ h ∷ []) ++ [],
       up_to one seats kept d all old reads kept' d' u us s h [] None is
-          ∙ ap (λ (said : List ℕ). leaving seats said (old.gone ++ (one h kept' d' u).gone) (one h kept' d' u).unsealed (both_read reads (one h kept' d' u).reads) (one h kept' d' u).kept None) (sym took.said)
-          ∙ ap (λ (boxes : List BoxId). leaving seats reply.said boxes (one h kept' d' u).unsealed (both_read reads (one h kept' d' u).reads) (one h kept' d' u).kept None) (sym took.gone)
-          ∙ ap (λ (k : Kept). left seats reply k (one h kept' d' u).unsealed (both_read reads (one h kept' d' u).reads) None) (sym took.kept_is),
+          ∙ ap (λ (said : List ℕ). leaving seats said (old.gone ++ (one seats h kept' d' u).gone) (one seats h kept' d' u).unsealed (both_read reads (one seats h kept' d' u).reads) (one seats h kept' d' u).kept None) (sym took.said)
+          ∙ ap (λ (boxes : List BoxId). leaving seats reply.said boxes (one seats h kept' d' u).unsealed (both_read reads (one seats h kept' d' u).reads) (one seats h kept' d' u).kept None) (sym took.gone)
+          ∙ ap (λ (k : Kept). left seats reply k (one seats h kept' d' u).unsealed (both_read reads (one seats h kept' d' u).reads) None) (sym took.kept_is),
     )
     by_dialog (Some f) is goes = absurd (let wrong : true ≡ false = sym shut ∙ goes.1 in cc)
 
 -- a turn for which no memory is found, and which is lost
-pub unheard : {D U : Type 0} → (one : Hindrance → Kept → D → U → Turn D) (seats : Seats) (kept : Kept) (d : D) (all : List U) (reply : Reply) (reads : Reads) (kept' : Kept) (d' : D) (us : List U)
+pub unheard : {D U : Type 0} → (one : Seats → Hindrance → Kept → D → U → Turn D) (seats : Seats) (kept : Kept) (d : D) (all : List U) (reply : Reply) (reads : Reads) (kept' : Kept) (d' : D) (us : List U)
     → SoFar one seats kept d all reply reads kept' d' us → (us ≡ [] → ⊥)
-    → ((u : U) → one Unheard kept' d' u ≡ record { said = []; kept = kept'; dialog = None; gone = []; unsealed = []; reads = none_read })
+    → ((u : U) → one seats Unheard kept' d' u ≡ record { said = []; kept = kept'; dialog = None; gone = []; unsealed = []; reads = none_read })
     → (hs : List Hindrance) × (turns (alone one) hs (record { kept = kept; seats = seats }) d all ≡ left seats reply kept' [] reads None)
 unheard one seats kept d all reply reads kept' d' [] s some lost = absurd (some refl)
 unheard {D} one seats kept d all reply reads kept' d' (u ∷ us) s some lost = (
@@ -141,7 +142,7 @@ unheard {D} one seats kept d all reply reads kept' d' (u ∷ us) s some lost = (
 )
 
 -- no turn is to come
-pub all_heard : {D U : Type 0} → (one : Hindrance → Kept → D → U → Turn D) (seats : Seats) (kept : Kept) (d : D) (all : List U) (reply : Reply) (reads : Reads) (kept' : Kept) (d' : D) (us : List U)
+pub all_heard : {D U : Type 0} → (one : Seats → Hindrance → Kept → D → U → Turn D) (seats : Seats) (kept : Kept) (d : D) (all : List U) (reply : Reply) (reads : Reads) (kept' : Kept) (d' : D) (us : List U)
     → SoFar one seats kept d all reply reads kept' d' us → us ≡ []
     → (hs : List Hindrance) × (turns (alone one) hs (record { kept = kept; seats = seats }) d all ≡ left seats reply kept' [] reads (Some d'))
 all_heard one seats kept d all reply reads kept' d' us s none = (
@@ -151,8 +152,8 @@ all_heard one seats kept d all reply reads kept' d' us s none = (
 )
 
 -- the last turn is to come, which says nothing
-pub last_heard : {D U : Type 0} → (one : Hindrance → Kept → D → U → Turn D) (seats : Seats) (kept : Kept) (d : D) (all : List U) (reply : Reply) (reads : Reads) (kept' : Kept) (d' : D) (us : List U) (u : U)
-    → SoFar one seats kept d all reply reads kept' d' us → us ≡ u ∷ [] → one Clear kept' d' u ≡ record { said = []; kept = kept'; dialog = Some d'; gone = []; unsealed = []; reads = none_read }
+pub last_heard : {D U : Type 0} → (one : Seats → Hindrance → Kept → D → U → Turn D) (seats : Seats) (kept : Kept) (d : D) (all : List U) (reply : Reply) (reads : Reads) (kept' : Kept) (d' : D) (us : List U) (u : U)
+    → SoFar one seats kept d all reply reads kept' d' us → us ≡ u ∷ [] → one seats Clear kept' d' u ≡ record { said = []; kept = kept'; dialog = Some d'; gone = []; unsealed = []; reads = none_read }
     → (hs : List Hindrance) × (turns (alone one) hs (record { kept = kept; seats = seats }) d all ≡ left seats reply kept' [] reads (Some d'))
 last_heard {D} one seats kept d all reply reads kept' d' us u s last quiet = (
   s.before ++ [],
@@ -162,7 +163,7 @@ last_heard {D} one seats kept d all reply reads kept' d' us u s last quiet = (
 )
 
 -- what the turns say is what the connection is told
-pub told_by : {D U : Type 0} → (one : Hindrance → Kept → D → U → Turn D) (seat_of : D → Seat) (seats : Seats) (kept : Kept) (d : D) (all : List U) (conn : ℕ) (reply : Reply)
+pub told_by : {D U : Type 0} → (one : Seats → Hindrance → Kept → D → U → Turn D) (seat_of : D → Seat) (seats : Seats) (kept : Kept) (d : D) (all : List U) (conn : ℕ) (reply : Reply)
     (kept' : Kept) (failed : List JournalRecord) (reads : Reads) (seat : Seat) (o : Option D) (S : List JournalRecord → Reads → Type 0)
     → reply.conn ≡ conn
     → (hs : List Hindrance) × (turns (alone one) hs (record { kept = kept; seats = seats }) d all ≡ left seats reply kept' failed reads o)
@@ -177,7 +178,7 @@ told_by one seat_of seats kept d all conn reply kept' failed reads seat o S same
   record {
     conn_is = same;
     heard_is = ap (heard_by seat_of) is
-        ∙ ap (λ (s : Option Seat). record { said = reply.said; state = record { kept = kept'; seats = seats }; seat = s; gone = reply.gone; rewound = false; unsealed = failed; reads = reads; consoles = no_consoles }) left_is;
+        ∙ ap (λ (s : Option Seat). record { said = reply.said; state = record { kept = kept'; seats = seats }; seat = s; aftermath = taking reply.gone; unsealed = failed; reads = reads; consoles = no_consoles }) left_is;
   },
 )
 
@@ -193,14 +194,14 @@ heard_alone h seats conn reply kept failed reads seat t =
     ap (heard conn) t.heard_is
     ∙ ap (λ (b : Bool). record {
       state = record { kept = kept; seats = seated conn (seat_left reply.closes seat) seats };
-      replies = with_reply (record { conn = conn; said = reply.said; closes = b }) (closed_others conn reply.gone (seated conn (seat_left reply.closes seat) seats));
+      replies = with_reply (record { conn = conn; said = reply.said; closes = b }) (told_others conn (taking reply.gone) (seated conn (seat_left reply.closes seat) seats));
       unsealed = failed;
       reads = reads;
       consoles = no_consoles;
     }) (none_left reply.closes seat)
     ∙ ap (λ (n : ℕ). record {
       state = record { kept = kept; seats = seated conn (seat_left reply.closes seat) seats };
-      replies = with_reply (record { conn = n; said = reply.said; closes = reply.closes }) (closed_others conn reply.gone (seated conn (seat_left reply.closes seat) seats));
+      replies = with_reply (record { conn = n; said = reply.said; closes = reply.closes }) (told_others conn (taking reply.gone) (seated conn (seat_left reply.closes seat) seats));
       unsealed = failed;
       reads = reads;
       consoles = no_consoles;

@@ -1,4 +1,4 @@
--- A command that wants texts: they were read, or not.
+-- A unit that wants texts: they were read, or not.
 use Rattle.std.proofs.Common.{◌≡◌, ◌⊎◌, ℕ, true, List, [], refl, subst, sym, inl, inr}
 use Rattle.std.specs.Coded.{codes}
 use Rattle.undo_outside.specs.Disk.{DiskTold, ReadFailed}
@@ -6,56 +6,52 @@ use Rattle.seal_log.specs.declared.fault.ReadFault.{ReadFault}
 use Rattle.seal_log.specs.declared.fault.ReadFault.TheVariants.{Disk, NoMemory}
 use Rattle.verb_core.specs.declared.mailbox.Body.{Body}
 use Rattle.verb_bytes.specs.declared.journal.JournalRecord.{JournalRecord}
-use Rattle.imap_session.specs.declared.dialog.Dialog.{Dialog}
-use Rattle.imap_session.specs.declared.out.ImapOut.TheVariants.{Read}
-use Rattle.imap_session.specs.Dialog.{is_reading}
+use Rattle.mail_loop.specs.declared.out.Out.TheVariants.{Read}
 use Rattle.store_kept.specs.Kept.{Kept}
-use Rattle.mail_desk.specs.Timeline.{texts_of}
+use Rattle.store_kept.specs.Texts.{texts_kept}
 use Rattle.desk_journal.specs.Lasting.{Lasting}
 use Rattle.desk_journal.specs.Reading.{IsStill, ReadsWell, none_read, wrong_once}
 use Rattle.desk_journal.specs.Stored.{HoldsTexts}
 use Rattle.console_session.proofs.Deciding.{IsSame, decided}
 use Rattle.mail_loop.specs.declared.reply.Reply.{Reply}
 use Rattle.mail_loop.specs.Asked.{HaveSealed}
-use Rattle.mail_loop.specs.Hindrance.{Hindrance}
-use Rattle.mail_loop.specs.ImapTurn.{followed}
-use Rattle.mail_loop.specs.ImapHindrance.{under}
-use Rattle.mail_loop.specs.Took.{Takes}
-use Rattle.mail_loop.specs.ImapTook.{ReadsNone, TakesTexts, reads_of}
-use Rattle.mail_loop.proofs.ImapTurns.{texts_turn, unread_turn}
+use Rattle.mail_loop.specs.Session.{Speech, followed}
+use Rattle.mail_loop.specs.Hindrance.{Hindrance, under}
+use Rattle.mail_loop.specs.Took.{ReadsNone, Takes, TakesTexts, reads_of}
+use Rattle.mail_loop.proofs.Dialogs.{texts_turn, unread_turn}
 use Rattle.mail_loop.proofs.Sealed.{Still, Then, chained_after, failed_sealed, still_sealed, wrong_sealed}
 
 -- two lists of texts are the same, or they are not
 texts_decided : (x y : List (List ℕ)) → IsSame x y
 texts_decided x y = decided (Prim.hlevel (codes)) x y
 
-module _ {D : Type 0} (told : D → DiskTold) where
+module _ {D Dialog : Type 0} (told : D → DiskTold) (speech : Speech Dialog) where
   -- the texts came, and were handed to the session
-  pub texts_given : Still told → Then told → (at : ℕ) (a b c : Lasting D) (bodies : List Body) (texts : List (List ℕ)) (d e : Dialog) (old new : Reply) → is_reading d ≡ true
-      → IsStill told a b → ReadsWell told a b → (HoldsTexts told a → texts ≡ texts_of a.kept.timeline bodies)
-      → TakesTexts (HaveSealed told b c) at b.kept texts d old c.kept e new
-      → (h : Hindrance) × Takes (HaveSealed told a c) (under h at a.kept (λ desk. followed desk a.kept (Read bodies) d)) old c.kept e new
+  pub texts_given : Still told → Then told → (at : ℕ) (a b c : Lasting D) (bodies : List Body) (texts : List (List ℕ)) (d e : Dialog) (old new : Reply) → speech.takes_texts d ≡ true
+      → IsStill told a b → ReadsWell told a b → (HoldsTexts told a → texts ≡ texts_kept a.kept bodies)
+      → TakesTexts speech (HaveSealed told b c) at b.kept texts d old c.kept e new
+      → (h : Hindrance) × Takes (HaveSealed told a c) (under h at a.kept (λ desk. followed speech desk a.kept (Read bodies) d)) old c.kept e new
   texts_given still then at a b c bodies texts d e old new awaits is well given t =
-      texts_turn (HaveSealed told b c) (HaveSealed told a c) at a.kept c.kept bodies texts d e old new awaits all (which (texts_decided texts (texts_of a.kept.timeline bodies)))
-      (subst (λ (k : Kept). TakesTexts (HaveSealed told b c) at k texts d old c.kept e new) is.kept t)
+      texts_turn speech (HaveSealed told b c) (HaveSealed told a c) at a.kept c.kept bodies texts d e old new awaits all (which (texts_decided texts (texts_kept a.kept bodies)))
+      (subst (λ (k : Kept). TakesTexts speech (HaveSealed told b c) at k texts d old c.kept e new) is.kept t)
     where
       all : (failed : List JournalRecord) → HaveSealed told b c failed none_read → HaveSealed told a c failed none_read
       all failed seals = chained_after told then a b c failed none_read (still_sealed told still a b is well) seals
 
-      which : IsSame texts (texts_of a.kept.timeline bodies)
-          → (texts ≡ texts_of a.kept.timeline bodies) ⊎ ((failed : List JournalRecord) → HaveSealed told b c failed none_read → HaveSealed told a c failed wrong_once)
+      which : IsSame texts (texts_kept a.kept bodies)
+          → (texts ≡ texts_kept a.kept bodies) ⊎ ((failed : List JournalRecord) → HaveSealed told b c failed none_read → HaveSealed told a c failed wrong_once)
       which (inl same) = inl same
       which (inr other) = inr (λ failed seals. wrong_sealed told a c failed (λ holds. other (given holds)) (all failed seals))
 
   -- why texts did not come is told to the session
-  pub texts_unread : Still told → (at : ℕ) (a b : Lasting D) (bodies : List Body) (why : ReadFault) (d e : Dialog) (old new : Reply) → is_reading d ≡ true
+  pub texts_unread : Still told → (at : ℕ) (a b : Lasting D) (bodies : List Body) (why : ReadFault) (d e : Dialog) (old new : Reply) → speech.takes_texts d ≡ true
       → IsStill told a b → (why ≡ Disk → ReadFailed (told a.disk) (told b.disk)) → (why ≡ NoMemory → ReadsWell told a b)
-      → ReadsNone why b.kept d old e new
-      → (h : Hindrance) × Takes (HaveSealed told a b) (under h at a.kept (λ desk. followed desk a.kept (Read bodies) d)) old b.kept e new
+      → ReadsNone speech why b.kept d old e new
+      → (h : Hindrance) × Takes (HaveSealed told a b) (under h at a.kept (λ desk. followed speech desk a.kept (Read bodies) d)) old b.kept e new
   texts_unread still at a b bodies why d e old new awaits is cause well t =
-      subst (λ (k : Kept). (h : Hindrance) × Takes (HaveSealed told a b) (under h at a.kept (λ desk. followed desk a.kept (Read bodies) d)) old k e new) (sym is.kept)
-      (unread_turn (HaveSealed told a b) at a.kept bodies why d e old new awaits (counts why cause well)
-      (subst (λ (k : Kept). ReadsNone why k d old e new) is.kept t))
+      subst (λ (k : Kept). (h : Hindrance) × Takes (HaveSealed told a b) (under h at a.kept (λ desk. followed speech desk a.kept (Read bodies) d)) old k e new) (sym is.kept)
+      (unread_turn speech (HaveSealed told a b) at a.kept bodies why d e old new awaits (counts why cause well)
+      (subst (λ (k : Kept). ReadsNone speech why k d old e new) is.kept t))
     where
       counts : (w : ReadFault) → (w ≡ Disk → ReadFailed (told a.disk) (told b.disk)) → (w ≡ NoMemory → ReadsWell told a b) → HaveSealed told a b [] (reads_of w)
       counts Disk failed stood = failed_sealed told still a b is (failed refl)

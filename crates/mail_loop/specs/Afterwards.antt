@@ -1,15 +1,16 @@
 -- What follows an event's turns for the other connections: who is told, and closed.
-use Rattle.std.specs.Prelude.{ℕ, ◌==◌, filter, filter_map, Bool, true, false, not, List, [], ◌∷◌, ◌++◌, map, option_map, Option, None, Some, if◌then◌else◌}
+use Rattle.std.specs.Prelude.{ℕ, filter, Bool, true, false, not, List, [], ◌∷◌, ◌++◌, map, Option, None, Some, if◌then◌else◌}
 use Rattle.std.specs.List.{list_any}
 use Rattle.verb_core.specs.declared.mailbox.BoxId.{BoxId}
 use Rattle.verb_core.specs.declared.mailbox.Mailbox.{Mailbox}
 use Rattle.verb_core.specs.Boxes.{has_row}
 use Rattle.imap_session.specs.Dialog as imap
-use Rattle.imap_session.specs.Words.{changed_text, rewound_text}
+use Rattle.imap_session.specs.Words.{changed_text}
 use Rattle.store_kept.specs.Kept.{Kept, store_of}
 use Rattle.mail_loop.specs.declared.aftermath.Aftermath.{Aftermath}
 use Rattle.mail_loop.specs.declared.aftermath.Aftermath.TheVariants.{Quiet, TookAway, Rewound}
-use Rattle.mail_loop.specs.State.{Seat, Smtp, Imap, Http}
+use Rattle.mail_loop.specs.State.{Seat, Smtp, Imap, Http, role_of}
+use Rattle.mail_loop.specs.Roles.{row_of}
 
 -- the mailboxes that are taken away between two stores: those of the first that have none of their name in the second
 abbrev pub taken_away : List (BoxId × Mailbox) → List (BoxId × Mailbox) → List BoxId
@@ -43,14 +44,8 @@ holds_one boxes (Smtp unserved d) = false
 holds_one boxes (Http came) = false
 holds_one boxes (Imap stream d) = list_any (λ (box : BoxId). imap.holds d box.user box.name) boxes
 
--- the last words to a mail reader whose store was rewound; mail clients and consoles go on
-abbrev pub at_rewind : Seat → Option (List ℕ)
-at_rewind (Smtp unserved d) = None
-at_rewind (Imap stream d) = Some rewound_text
-at_rewind (Http came) = None
-
 -- the last words to another connection, behind which it is closed; none where it goes on
 abbrev pub last_words : Aftermath → Seat → Option (List ℕ)
 last_words Quiet seat = None
 last_words (TookAway boxes) seat = if holds_one boxes seat then Some changed_text else None
-last_words Rewound seat = at_rewind seat
+last_words Rewound seat = (row_of (role_of seat)).at_rewind

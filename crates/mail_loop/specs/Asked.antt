@@ -27,18 +27,22 @@ pub record Asked : Type 0 where
 abbrev pub Asking : Type 0
 Asking = Option User → Ask → Asked
 
+-- what became of an ask whose record was sealed, or that has none
+abbrev pub asked_as : Result Item SubmitFault → Kept → Asked
+asked_as outcome kept = record { outcome = outcome; kept = kept; unsealed = [] }
+
 -- it is done, or refused
 abbrev pub does : ℕ → Kept → Asking
-does at kept by ask = let s = submitted kept at by ask in record { outcome = s.outcome; kept = s.kept; unsealed = [] }
+does at kept by ask = let s = submitted kept at by ask in asked_as s.outcome s.kept
 
 -- no memory is found for it, and nothing changes
 abbrev pub starves : Kept → Asking
-starves kept by ask = record { outcome = Err (IsRefused NoMemory); kept = kept; unsealed = [] }
+starves kept by ask = asked_as (Err (IsRefused NoMemory)) kept
 
 -- the item's record is not sealed, and nothing is kept of it
 abbrev pub unsealed_as : Kept → Result Item Refused → Asked
 unsealed_as kept (Ok item) = record { outcome = Err Disk; kept = kept; unsealed = Verb item ∷ [] }
-unsealed_as kept (Err why) = record { outcome = Err (IsRefused why); kept = kept; unsealed = [] }
+unsealed_as kept (Err why) = asked_as (Err (IsRefused why)) kept
 
 -- its sealing fails, unless it is refused
 abbrev pub fails : ℕ → Kept → Asking

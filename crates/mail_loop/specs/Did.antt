@@ -1,5 +1,5 @@
 -- What calls of the serving loop do to the link, in the machine's words.
-use Rattle.std.specs.Prelude.{◌≡◌, ◌⊎◌, ℕ, ◌+◌, ◌&&◌, nat_le, not, Bool, true, false, List, [], ◌∷◌, ◌++◌, Result, Ok, Err, MatchResult, if◌then◌else◌}
+use Rattle.std.specs.Prelude.{◌≡◌, ◌⊎◌, ℕ, ◌+◌, ◌&&◌, nat_le, not, Bool, true, List, [], ◌∷◌, ◌++◌, Result, Ok, Err, MatchResult, if◌then◌else◌}
 use Rattle.undo_base.specs.declared.memory.NoMemory.{NoMemory as WantOfMemory}
 use Rattle.undo_outside.specs.declared.event.LinkNote.{LinkNote}
 use Rattle.undo_outside.specs.declared.event.LinkNote.TheVariants.{Closed}
@@ -12,8 +12,8 @@ use Rattle.desk_journal.specs.Records.{snapshot_record}
 use Rattle.store_kept.specs.Kept.{Kept, snapshotted}
 use Rattle.mail_loop.specs.Asked.{HaveSealed}
 use Rattle.mail_loop.specs.ConsoleTurn.{AreSaid}
-use Rattle.mail_loop.specs.State.{Seat}
-use Rattle.mail_loop.specs.Machine.{Seats, Delivery, Arrives, IsMissed, IsLeftOut, Keeping, IsKept, IsPassed, IsUnkept, Reply, Answered, Delivered, Outcome, string_notes, reply_notes, remains, with_new_seat}
+use Rattle.mail_loop.specs.State.{Seat, Seats}
+use Rattle.mail_loop.specs.Machine.{Delivery, Arrives, IsMissed, IsLeftOut, Keeping, IsKept, IsPassed, IsUnkept, Reply, Answered, Delivered, Outcome, string_notes, reply_notes, remains, with_new_seat}
 
 -- the link did this, and gave no event
 pub record Goes (old new : LinkTold) (notes : List LinkNote) : Type 0 where
@@ -118,12 +118,6 @@ Answers S a kept seats view stops result = AnswersWith a kept seats view stops r
 abbrev pub Opens : {T : Type 0} → ℕ → Seat → List Reply → Seats → Seats → (T → List Reply) → Result T WantOfMemory → Type 0
 Opens conn seat replies old new view (Ok letters) = (new ≡ with_new_seat conn seat old) × (view letters ≡ replies)
 Opens conn seat replies old new view (Err e) = Unit {0}
-
--- the same; or no memory was found for the greeting: no connection is opened, and that one is to be closed
-abbrev pub Greets : {T : Type 0} → Bool → ℕ → Seat → Reply → Seats → Seats → (T → List Reply) → Result T WantOfMemory → Type 0
-Greets false conn seat greeting old new view result = Opens conn seat (greeting ∷ []) old new view result
-Greets true conn seat greeting old new view (Ok letters) = (new ≡ old) × (view letters ≡ record { conn = conn; said = []; closes = true } ∷ [])
-Greets true conn seat greeting old new view (Err e) = Unit {0}
 
 -- what is kept after the snapshot that is due
 abbrev pub kept_by : Keeping → Kept → Kept

@@ -1,37 +1,35 @@
--- How a turn may go otherwise, and what follows for a mail client.
-use Rattle.std.specs.Prelude.{ℕ, List, [], ◌∷◌, None, if◌then◌else◌}
-use Rattle.smtp_lines.specs.declared.line.SmtpLine.{SmtpLine}
-use Rattle.smtp_session.specs.declared.answer.Answer.TheVariants.{NoMemory as WantOfMemory}
-use Rattle.smtp_session.specs.declared.answer.SmtpOut.{SmtpOut}
-use Rattle.smtp_session.specs.declared.answer.SmtpOut.TheVariants.{Nothing, Say, Mail, Bye}
-use Rattle.smtp_session.specs.declared.dialog.Dialog.{Dialog}
-use Rattle.smtp_session.specs.Answer.{answer_text}
-use Rattle.smtp_session.specs.Dialog as session
-use Rattle.store_kept.specs.Kept.{Kept, store_of}
+-- How a turn may go otherwise: one table, with what licenses each hindrance and what follows.
+use Rattle.std.specs.Prelude.{◌≡◌, ℕ, Bool, true, false, List, [], ◌∷◌, Ok, Err}
+use Rattle.std.specs.List.{list_any}
+use Rattle.seal_log.specs.declared.fault.ReadFault.TheVariants.{Disk, NoMemory as NoneForTexts}
+use Rattle.desk_journal.specs.Reading.{failed_once, wrong_once}
+use Rattle.store_kept.specs.Kept.{Kept}
 use Rattle.mail_loop.specs.Asked.{fails, starves}
-use Rattle.mail_loop.specs.SmtpTurn.{Turn, turn, says, ends, served, settled}
+use Rattle.mail_loop.specs.Session.{Service, Session, served, service}
+use Rattle.mail_loop.specs.State.{Seats}
+use Rattle.mail_loop.specs.Turn.{Turn, lost, unanswered}
 
 -- How a turn may go otherwise.
 pub data Hindrance : Type 0 where
   -- it goes as it should
   Clear : Hindrance
-  -- no memory was found before anything was stored, and the client is told
+  -- the session found no memory for a unit of its stream, and the client is told where that can be
   Refused : Hindrance
-  -- no memory was found for the texts that a mail reader's command wants, and the client is told
+  -- no memory was found for the texts that a unit wants, and the client is told
   Textless : Hindrance
-  -- the disk did not read a text that a command or a request wants, and the client is told: nothing is done
+  -- the disk did not read a text that a unit wants, and the client is told: nothing is done
   Unread : Hindrance
   -- the same, and no memory was found for telling that: the client is told of want of memory
   UnreadRefused : Hindrance
   -- the same, and no memory was found for telling the client anything
   UnreadUnheard : Hindrance
-  -- the disk gave a mail reader's command these texts, which are not those that were stored; beside that it goes so
+  -- the disk gave these texts, which are not those that were stored; beside that it goes so
   Misread : List (List ℕ) → Hindrance → Hindrance
   -- the disk gave a console's request another text than was stored: so this is said, and where a cycle is done this is kept
   Misled : List ℕ → Kept → Hindrance
-  -- no memory was found for what a mail reader's command asks of the desk, or for telling why that is refused, and the client is told
+  -- no memory was found for what is asked of the desk, or for telling why that is refused, and the client is told
   Unstored : Hindrance
-  -- no memory was found for the line, for a line of a text, or for telling the client of want of memory
+  -- no memory was found for a unit, or for telling the client of want of memory
   Unheard : Hindrance
   -- no memory was found for the answer to what is stored
   Unanswered : Hindrance
@@ -40,47 +38,104 @@ pub data Hindrance : Type 0 where
   -- the same, and no memory was found for telling the client
   Untold : Hindrance
 
--- no memory was found for a line: it is lost, and the connection closes
-abbrev pub lost : {D : Type 0} → Kept → Turn D
-lost kept = ends [] kept
+-- What licenses a hindrance. Want of memory is free; the others are counted in the turn.
+pub data Licence : Type 0 where
+  Free : Licence
+  -- the count of failed reads rose
+  FailedRead : Licence
+  -- the count of failed writes rose
+  FailedWrite : Licence
+  -- a disk that is not honest gave another text than was stored
+  WrongRead : Licence
 
--- no memory was found for the answer to what was asked: the connection closes without it
-abbrev pub unanswered : {D : Type 0} → Turn D → Turn D
-unanswered t = record t { said = []; dialog = None }
+-- a row of the table: what licenses a hindrance, and the turn that follows
+pub record Row (D : Type 0) : Type 0 where
+  pub licence : List Licence
+  pub follows : Turn D
 
--- what is told of want of memory
-abbrev pub memory_told : List ℕ
-memory_told = answer_text [] WantOfMemory
+abbrev pub is_failed_read : Licence → Bool
+is_failed_read Free = false
+is_failed_read FailedRead = true
+is_failed_read FailedWrite = false
+is_failed_read WrongRead = false
 
--- in a text only its end, which asks the desk, is answered so, and it ends the transaction
-abbrev pub refused_in_text : Kept → SmtpOut → Dialog → Turn Dialog
-refused_in_text kept (Mail ask) d = settled d (starves kept None ask)
-refused_in_text kept Nothing d = lost kept
-refused_in_text kept (Say said) d = lost kept
-refused_in_text kept (Bye said) d = lost kept
+abbrev pub is_failed_write : Licence → Bool
+is_failed_write Free = false
+is_failed_write FailedRead = false
+is_failed_write FailedWrite = true
+is_failed_write WrongRead = false
 
--- no memory was found before anything was stored
-abbrev pub refused : ℕ → Kept → Dialog → SmtpLine → Turn Dialog
-refused at kept d line =
-    if session.is_writing d
-    then (let t = session.turn kept.house (store_of kept).conf at d line in refused_in_text kept t.out t.dialog)
-    else says memory_told kept d
+abbrev pub is_wrong_read : Licence → Bool
+is_wrong_read Free = false
+is_wrong_read FailedRead = false
+is_wrong_read FailedWrite = false
+is_wrong_read WrongRead = true
 
--- a turn, hindered or not; a mail client's reads no text
-abbrev pub hindered : Hindrance → ℕ → Kept → Dialog → SmtpLine → Turn Dialog
-hindered Clear at kept d line = turn at kept d line
-hindered Refused at kept d line = refused at kept d line
-hindered Textless at kept d line = turn at kept d line
-hindered Unread at kept d line = turn at kept d line
-hindered UnreadRefused at kept d line = turn at kept d line
-hindered UnreadUnheard at kept d line = turn at kept d line
-hindered (Misread texts h) at kept d line = turn at kept d line
-hindered (Misled said left) at kept d line = turn at kept d line
-hindered Unstored at kept d line = turn at kept d line
-hindered Unheard at kept d line = lost kept
-hindered Unanswered at kept d line = unanswered (turn at kept d line)
-hindered Unsealed at kept d line = served (fails at kept) at kept d line
-hindered Untold at kept d line = unanswered (served (fails at kept) at kept d line)
+-- A row says nothing that its licence does not let it say: with none it is the turn as it should be; a record was not sealed, a text was not read or was
+-- another, only where that is licensed.
+pub record IsLicensed {D : Type 0} (clear : Turn D) (r : Row D) : Type 0 where
+  pub goes : r.licence ≡ [] → r.follows ≡ clear
+  pub writes : list_any is_failed_write r.licence ≡ false → r.follows.unsealed ≡ []
+  pub reads : list_any is_failed_read r.licence ≡ false → r.follows.reads.failed ≡ 0
+  pub wrong : list_any is_wrong_read r.licence ≡ false → r.follows.reads.wrong ≡ 0
+
+-- ---- what the desk does otherwise
+
+-- it finds no memory for texts
+abbrev pub without_texts : Service → Service
+without_texts desk = record desk { texts = λ bodies. Err NoneForTexts }
+
+-- the disk does not read the texts
+abbrev pub unread : Service → Service
+unread desk = record desk { texts = λ bodies. Err Disk; reads = failed_once }
+
+-- the disk does not read the texts, and no memory is found for telling that
+abbrev pub unread_unsaid : Service → Service
+unread_unsaid desk = record desk { texts = λ bodies. Err NoneForTexts; reads = failed_once }
+
+-- the disk gives these texts, which are not those that were stored
+abbrev pub misread : List (List ℕ) → Service → Service
+misread texts desk = record desk { texts = λ bodies. Ok texts; reads = wrong_once }
+
+-- it finds no memory for what is asked, and nothing changes
+abbrev pub without_items : Kept → Service → Service
+without_items kept desk = record desk { asked = starves kept }
+
+-- it seals nothing of what is asked
+abbrev pub without_seals : ℕ → Kept → Service → Service
+without_seals at kept desk = record desk { asked = fails at kept }
+
+-- ---- the table
+
+-- A turn over what the desk serves, hindered or not, where `told` comes of want of memory that the session finds. A hindrance that a turn does not meet,
+-- as one of texts where none are wanted, hinders nothing.
+abbrev pub row : {D : Type 0} → Hindrance → ℕ → Kept → Turn D → (Service → Turn D) → Row D
+row Clear at kept told turn = record { licence = []; follows = turn (service at kept) }
+row Refused at kept told turn = record { licence = Free ∷ []; follows = told }
+row Textless at kept told turn = record { licence = Free ∷ []; follows = turn (without_texts (service at kept)) }
+row Unread at kept told turn = record { licence = FailedRead ∷ []; follows = turn (unread (service at kept)) }
+row UnreadRefused at kept told turn = record { licence = FailedRead ∷ Free ∷ []; follows = turn (unread_unsaid (service at kept)) }
+row UnreadUnheard at kept told turn = record { licence = FailedRead ∷ Free ∷ []; follows = unanswered (turn (unread (service at kept))) }
+row (Misread texts h) at kept told turn =
+    let other = row h at kept (lost kept) (λ desk. turn (misread texts desk)) in record { licence = WrongRead ∷ other.licence; follows = other.follows }
+row (Misled said left) at kept told turn = record { licence = WrongRead ∷ []; follows = turn (service at kept) }
+row Unstored at kept told turn = record { licence = Free ∷ []; follows = turn (without_items kept (service at kept)) }
+row Unheard at kept told turn = record { licence = Free ∷ []; follows = lost kept }
+row Unanswered at kept told turn = record { licence = Free ∷ []; follows = unanswered (turn (service at kept)) }
+row Unsealed at kept told turn = record { licence = FailedWrite ∷ []; follows = turn (without_seals at kept (service at kept)) }
+row Untold at kept told turn = record { licence = FailedWrite ∷ Free ∷ []; follows = unanswered (turn (without_seals at kept (service at kept))) }
+
+-- the row of a unit
+abbrev pub row_of_unit : {D U : Type 0} → Session D U → Hindrance → ℕ → Kept → Seats → D → U → Row D
+row_of_unit session h at kept others d unit = row h at kept (session.starves kept d unit) (λ desk. served session desk at kept others d unit)
+
+-- a turn that began, hindered or not: the session has found its memory
+abbrev pub under : {D : Type 0} → Hindrance → ℕ → Kept → (Service → Turn D) → Turn D
+under h at kept turn = (row h at kept (lost kept) turn).follows
+
+-- a turn, hindered or not
+abbrev pub hindered : {D U : Type 0} → Session D U → Hindrance → ℕ → Kept → Seats → D → U → Turn D
+hindered session h at kept others d unit = (row_of_unit session h at kept others d unit).follows
 
 abbrev pub first_hindrance : List Hindrance → Hindrance
 first_hindrance [] = Clear
@@ -89,3 +144,7 @@ first_hindrance (h ∷ hs) = h
 abbrev pub other_hindrances : List Hindrance → List Hindrance
 other_hindrances [] = []
 other_hindrances (h ∷ hs) = hs
+
+-- the row of a unit is licensed
+abbrev pub IsLicensedRow : {D U : Type 0} → Session D U → Hindrance → ℕ → Kept → Seats → D → U → Type 0
+IsLicensedRow session h at kept others d unit = IsLicensed (served session (service at kept) at kept others d unit) (row_of_unit session h at kept others d unit)

@@ -1,72 +1,95 @@
--- A turn of a mail reader: a command, a literal mark or a bad line of its stream, what the dialog makes of it, and what it asks of the desk.
-use Rattle.std.specs.Prelude.{ℕ, List, [], length, option_map, Option, None, Some, Result, Ok, Err}
+-- The session of a mail reader: a command, a literal mark or a bad line of its stream is a unit, and what is not whole yet is the last one.
+use Rattle.std.specs.Prelude.{◌≡◌, ℕ, true, List, [], Ok, Err}
+use Rattle.std.proofs.Common.{refl, sym, true≢false}
 use Rattle.seal_log.specs.declared.fault.ReadFault.{ReadFault}
-use Rattle.verb_core.specs.declared.mailbox.Body.{Body}
+use Rattle.seal_log.specs.declared.fault.ReadFault.TheVariants as read_fault
+use Rattle.verb_core.specs.declared.ask.Refused.TheVariants.{NoMemory}
+use Rattle.verb_core.specs.declared.ask.SubmitFault.TheVariants.{Disk}
+use Rattle.verb_core.specs.declared.mailbox.BoxId.{BoxId}
+use Rattle.verb_core.specs.Store.{MailStore}
+use Rattle.imap_lines.specs.Command.{Reading, command_of}
 use Rattle.imap_stream.specs.declared.next.Next.{Next}
 use Rattle.imap_stream.specs.declared.next.Next.TheVariants.{Command, Ask as Mark, Bad, NotYet}
+use Rattle.imap_session.specs.declared.dialog.Awaits.{Awaits}
+use Rattle.imap_session.specs.declared.dialog.Awaits.TheVariants.{Nothing, Texts, Outcome}
 use Rattle.imap_session.specs.declared.dialog.Dialog.{Dialog}
 use Rattle.imap_session.specs.declared.out.ImapOut.{ImapOut}
-use Rattle.imap_session.specs.declared.out.ImapOut.TheVariants.{Say, Read, Submit, Bye}
+use Rattle.imap_session.specs.declared.out.ImapOut.TheVariants.{Say as Says, Read as Reads, Submit as Submits, Bye as Ends}
+use Rattle.imap_session.specs.declared.words.Answer.TheVariants.{Refused as IsToldRefused}
 use Rattle.imap_session.specs.Dialog as session
-use Rattle.imap_session.specs.Words.{bad_line_text, ready_text}
-use Rattle.desk_journal.specs.Reading.{Reads, none_read}
+use Rattle.imap_session.specs.Words.{bad_line_text, ready_text, tagged}
 use Rattle.store_kept.specs.Kept.{Kept, store_of}
-use Rattle.store_kept.specs.Texts.{text_kept, texts_kept}
-use Rattle.mail_loop.specs.Asked.{Asked, Asking, does}
-use Rattle.mail_loop.specs.Afterwards.{gone_between}
-use Rattle.mail_loop.specs.SmtpTurn.{Turn, says, ends}
+use Rattle.mail_loop.specs.declared.out.Out.{Out}
+use Rattle.mail_loop.specs.declared.out.Out.TheVariants.{Say, Read, Submit, Bye}
+use Rattle.mail_loop.specs.Session.{IsBye, Session, Speech, Took, is_said, size_in, took}
+use Rattle.mail_loop.specs.Turn.{Turn, lost, says}
 
--- how long a body is that an item in force brought
-abbrev pub size_in : Kept → Body → Option ℕ
-size_in kept body = option_map length (text_kept kept body)
+-- what its session answers
+abbrev pub of_imap : ImapOut → Out
+of_imap (Says said) = Say said
+of_imap (Reads bodies) = Read bodies
+of_imap (Submits asked) = Submit asked
+of_imap (Ends said) = Bye said
 
--- How the desk serves a command: the texts that it gives, whether it could not read them or gave others, and what becomes of an ask.
-pub record Service : Type 0 where
-  pub texts : List Body → Result (List (List ℕ)) ReadFault
-  pub reads : Reads
-  pub asked : Asking
+abbrev pub took_by : session.Took → Took Dialog
+took_by t = took (of_imap t.out) t.dialog
 
--- it gives the texts of the items in force, and does what is asked
-abbrev pub service : ℕ → Kept → Service
-service at kept = record { texts = λ bodies. Ok (texts_kept kept bodies); reads = none_read; asked = does at kept }
+-- an ask whose sealing failed ends the dialog
+pub ends_awaited : (s : MailStore) (stamps : List (BoxId × ℕ)) (d : Dialog) (a : Awaits) → session.is_outcome a ≡ true → IsBye (of_imap (session.settle_in s stamps d a (Err Disk)).out)
+ends_awaited s stamps d Nothing wrong = absurd (true≢false (sym wrong))
+ends_awaited s stamps d (Texts tag wanted) wrong = absurd (true≢false (sym wrong))
+ends_awaited s stamps d (Outcome tag pending) due = tt
 
--- what an outcome is answered; it leads to no ask
-abbrev pub settled_as : ImapOut → Kept → Dialog → Turn Dialog
-settled_as (Say said) kept d = says said kept d
-settled_as (Bye said) kept d = ends said kept
-settled_as (Read bodies) kept d = says [] kept d
-settled_as (Submit asked) kept d = says [] kept d
+-- without its texts it says why
+pub says_awaited : (d : Dialog) (a : Awaits) (why : ReadFault) → session.is_texts a ≡ true → is_said (of_imap (session.heard_in d a (Err why)).out) ≡ true
+says_awaited d Nothing why wrong = absurd (true≢false (sym wrong))
+says_awaited d (Texts tag wanted) read_fault.Disk is = refl
+says_awaited d (Texts tag wanted) read_fault.NoMemory is = refl
+says_awaited d (Outcome tag pending) why wrong = absurd (true≢false (sym wrong))
 
--- the dialog is told what became of its ask, with the store and the stamps after it
-abbrev pub settled : Dialog → Asked → Turn Dialog
-settled d a =
-    let t = session.settle (store_of a.kept) a.kept.stamps d a.outcome in record (settled_as t.out a.kept t.dialog) { unsealed = a.unsealed }
+-- it asks for who is logged in
+abbrev pub imap_speech : Speech Dialog
+imap_speech = record {
+  opening = session.opening;
+  user = λ d. d.user;
+  heard = λ d texts. took_by (session.heard d texts);
+  settle = λ s stamps d outcome. took_by (session.settle s stamps d outcome);
+  is_free = session.is_free;
+  takes_texts = session.is_reading;
+  is_due = session.is_due;
+  opens_free = refl;
+  opens_alone = refl;
+  says_why = λ d why reading. says_awaited d d.awaits why reading;
+  ends_at_fault = λ s stamps d due. ends_awaited s stamps d d.awaits due;
+}
 
--- the dialog is told what became of its ask, and so are others of the mailboxes that are gone then
-abbrev pub done : Kept → Dialog → Asked → Turn Dialog
-done kept d a = record (settled d a) { gone = gone_between kept a.kept }
+-- a command, or what is none
+abbrev pub obeys : Kept → Dialog → Reading → Took Dialog
+obeys kept d reading = took_by (session.hears_reading kept.house (store_of kept) (size_in kept) d reading)
 
--- what the dialog gives once it has its texts; it wants none again
-abbrev pub submits : Service → Kept → ImapOut → Dialog → Turn Dialog
-submits desk kept (Say said) d = says said kept d
-submits desk kept (Bye said) d = ends said kept
-submits desk kept (Read bodies) d = says [] kept d
-submits desk kept (Submit asked) d = done kept d (desk.asked d.user asked)
+-- a literal is invited, and a bad line is refused
+abbrev pub takes : Kept → Dialog → Next → Took Dialog
+takes kept d (Command raw) = obeys kept d (command_of raw)
+takes kept d (Mark length) = took (Say ready_text) d
+takes kept d (Bad line) = took (Say (bad_line_text line)) d
+takes kept d NotYet = took (Say []) d
 
--- what the dialog gives, and what is read for it and asked by it of the desk
-abbrev pub followed : Service → Kept → ImapOut → Dialog → Turn Dialog
-followed desk kept (Say said) d = says said kept d
-followed desk kept (Bye said) d = ends said kept
-followed desk kept (Read bodies) d = let t = session.heard d (desk.texts bodies) in record (submits desk kept t.out t.dialog) { reads = desk.reads }
-followed desk kept (Submit asked) d = done kept d (desk.asked d.user asked)
+-- what a command's tag is told of want of memory
+abbrev pub memory_told : List ℕ → List ℕ
+memory_told tag = tagged tag (IsToldRefused NoMemory)
 
--- a command, or what is none; a literal is invited, and a bad line is refused
-abbrev pub served : Service → Kept → Dialog → Next → Turn Dialog
-served desk kept d (Command raw) = let t = session.hears kept.house (store_of kept) (size_in kept) d raw in followed desk kept t.out t.dialog
-served desk kept d (Mark length) = says ready_text kept d
-served desk kept d (Bad line) = says (bad_line_text line) kept d
-served desk kept d NotYet = says [] kept d
+-- the session found no memory for a command: the client is told, and after a SELECT or EXAMINE no mailbox is selected, so that what
+-- stands behind it in the stream is not done to the mailbox before; else the session is as it was
+abbrev pub starved_command : Kept → Dialog → Reading → Turn Dialog
+starved_command kept d (Ok command) = says (memory_told command.tag) kept (session.without_memory command.what d)
+starved_command kept d (Err why) = lost kept
 
--- one command, literal mark or bad line at a moment
-abbrev pub turn : ℕ → Kept → Dialog → Next → Turn Dialog
-turn at kept d next = served (service at kept) kept d next
+-- only a command is told of want of memory
+abbrev pub starved : Kept → Dialog → Next → Turn Dialog
+starved kept d (Command raw) = starved_command kept d (command_of raw)
+starved kept d (Mark length) = lost kept
+starved kept d (Bad line) = lost kept
+starved kept d NotYet = lost kept
+
+abbrev pub imap_session : Session Dialog Next
+imap_session = record { speech = imap_speech; takes = λ at kept others d next. takes kept d next; starves = starved }

@@ -1,10 +1,12 @@
 pub mod State
+pub mod Roles
 pub mod Afterwards
 pub mod Asked
-pub mod SmtpTurn
+pub mod Turn
+pub mod Session
 pub mod Hindrance
+pub mod SmtpTurn
 pub mod ImapTurn
-pub mod ImapHindrance
 pub mod ConsoleTurn
 pub mod Turns
 pub mod Machine

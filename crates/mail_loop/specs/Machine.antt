@@ -1,23 +1,15 @@
 -- The machine: what an event does to the state, and what the link does for it.
 use Rattle.std.specs.Prelude.{ℕ, ◌==◌, ◌&&◌, filter_map, Bool, true, false, not, min, List, [], ◌∷◌, ◌++◌, is_none, option_map, nat_le, nat_lt, if◌then◌else◌, Option, None, Some}
 use Rattle.std.specs.Ordering.{nat_cmp}
-use Rattle.std.specs.Map.{lookup, remove_entry, set_value}
+use Rattle.std.specs.Map.{lookup, set_value}
 use Rattle.std.specs.BTreeMap.{insert_entry, is_at}
 use Rattle.verb_core.specs.Names.{is_empty}
 use Rattle.undo_outside.specs.declared.event.Event.{Event}
 use Rattle.undo_outside.specs.declared.event.What.{What}
 use Rattle.undo_outside.specs.declared.event.What.TheVariants.{Joined, Bytes, Left, Idle as NoEvent, End}
 use Rattle.undo_outside.specs.declared.event.Role.{Role}
-use Rattle.undo_outside.specs.declared.event.Role.TheVariants.{Smtp as SmtpRole, Imap as ImapRole, Http as HttpRole}
 use Rattle.undo_outside.specs.declared.event.LinkNote.{LinkNote}
 use Rattle.undo_outside.specs.declared.event.LinkNote.TheVariants.{Sent, Missed, Closed}
-use Rattle.smtp_session.specs.declared.answer.Answer.TheVariants.{Ready}
-use Rattle.smtp_session.specs.Answer.{answer_text}
-use Rattle.smtp_session.specs.Dialog.{opening}
-use Rattle.imap_stream.specs.Commands.{before, nothing}
-use Rattle.imap_stream.specs.declared.begun.Awaits.TheVariants.{Line}
-use Rattle.imap_session.specs.Dialog as imap
-use Rattle.imap_session.specs.Words.{greeting_text}
 use Rattle.verb_bytes.specs.declared.journal.JournalRecord.{JournalRecord}
 use Rattle.store_kept.specs.Kept.{snapshotted}
 use Rattle.desk_journal.specs.Reading.{Reads, none_read}
@@ -25,7 +17,8 @@ use Rattle.desk_journal.specs.Records.{snapshot_record}
 use Rattle.console_head.specs.Request.{Stage}
 use Rattle.mail_loop.specs.declared.aftermath.Aftermath.{Aftermath}
 use Rattle.mail_loop.specs.declared.aftermath.Aftermath.TheVariants.{Quiet}
-use Rattle.mail_loop.specs.State.{Seat, Smtp, Imap, Http, State}
+use Rattle.mail_loop.specs.State.{Seat, Seats, State, without_seat}
+use Rattle.mail_loop.specs.Roles.{row_of}
 use Rattle.mail_loop.specs.Afterwards.{last_words}
 use Rattle.mail_loop.specs.Hindrance.{Hindrance}
 use Rattle.mail_loop.specs.ConsoleTurn.{Consoles, no_consoles}
@@ -56,10 +49,6 @@ pub record Hindrances : Type 0 where
   pub deliveries : List Delivery
   pub keeping : Keeping
 
--- the open connections, by rising number
-abbrev pub Seats : Type 0
-Seats = List (ℕ × Seat)
-
 -- the seat of a connection, where it is open
 abbrev pub seat_at : ℕ → Seats → Option Seat
 seat_at conn seats = lookup (is_at (nat_cmp conn)) seats
@@ -71,10 +60,6 @@ with_new_seat conn seat seats = insert_entry nat_cmp seats conn seat
 -- an open connection as it is now
 abbrev pub with_seat : ℕ → Seat → Seats → Seats
 with_seat conn seat seats = set_value (is_at (nat_cmp conn)) seats seat
-
--- a connection is no longer open
-abbrev pub without_seat : ℕ → Seats → Seats
-without_seat conn seats = remove_entry (is_at (nat_cmp conn)) seats
 
 -- What a connection is told at the end of an event, and whether it is closed then.
 pub record Reply : Type 0 where
@@ -135,24 +120,12 @@ unfed conn s = heard conn (record { said = []; state = s; seat = None; aftermath
 -- bytes come over an open connection, and find memory or none
 abbrev pub hears : Bool → List Hindrance → Stage → ℕ → State → ℕ → Seat → List ℕ → Answered
 hears true hs stage at s conn seat bytes = unfed conn s
-hears false hs stage at s conn seat bytes = heard conn (hears_seat hs stage at s seat bytes)
+hears false hs stage at s conn seat bytes = heard conn (hears_seat hs stage at s conn seat bytes)
 
 -- bytes for a connection that is not open are ignored
 abbrev pub hears_at : Option Seat → Bool → List Hindrance → Stage → ℕ → State → ℕ → List ℕ → Answered
 hears_at None no_memory hs stage at s conn bytes = ignored s
 hears_at (Some seat) no_memory hs stage at s conn bytes = hears no_memory hs stage at s conn seat bytes
-
--- a mail client's connection that was just opened
-abbrev pub fresh : Seat
-fresh = Smtp [] opening
-
--- a mail reader's connection that was just opened
-abbrev pub fresh_reader : Seat
-fresh_reader = Imap (before nothing Line) imap.opening
-
--- a console's connection that was just opened
-abbrev pub fresh_console : Seat
-fresh_console = Http []
 
 -- a connection is opened, and its client is greeted
 abbrev pub greeted : State → ℕ → Seat → List ℕ → Answered
@@ -172,11 +145,13 @@ opened s conn seat = record { state = record { kept = s.kept; seats = with_new_s
 abbrev pub ungreeted : State → ℕ → Answered
 ungreeted s conn = record { state = s; replies = record { conn = conn; said = []; closes = true } ∷ []; unsealed = []; reads = none_read; consoles = no_consoles }
 
--- a mail client or a mail reader is greeted, where memory is found for that, and a console is not
+-- a connection is opened, and its client is greeted where its role has a greeting and memory is found for that
+abbrev pub admitted : Bool → State → ℕ → Seat → Option (List ℕ) → Answered
+admitted no_memory s conn seat None = opened s conn seat
+admitted no_memory s conn seat (Some greeting) = if no_memory then ungreeted s conn else greeted s conn seat greeting
+
 abbrev pub admits : Bool → Role → State → ℕ → Answered
-admits no_memory SmtpRole s conn = if no_memory then ungreeted s conn else greeted s conn fresh (answer_text s.kept.house.host Ready)
-admits no_memory ImapRole s conn = if no_memory then ungreeted s conn else greeted s conn fresh_reader (greeting_text s.kept.house)
-admits no_memory HttpRole s conn = opened s conn fresh_console
+admits no_memory role s conn = admitted no_memory s conn (row_of role).fresh ((row_of role).greeting s.kept.house)
 
 -- a client joins; on a connection that is open this is ignored
 abbrev pub joins : Option Seat → Bool → Role → State → ℕ → Answered

@@ -1,5 +1,5 @@
 -- What the code's replies and sessions are in the machine. A desk is seen as what is kept.
-use Rattle.std.specs.Prelude.{◌≡◌, ℕ, List, map, false, true}
+use Rattle.std.specs.Prelude.{◌≡◌, ℕ, List, map, true}
 use Rattle.std.specs.List.{All}
 use Rattle.std.specs.Map.{values_of}
 use Rattle.verb_core.specs.declared.conf.House.{House}
@@ -9,11 +9,11 @@ use Rattle.mail_loop.specs.declared.letters.Said.{Said}
 use Rattle.mail_loop.specs.declared.letters.Said.TheVariants.{Answers, Changed, Rewound}
 use Rattle.mail_loop.specs.declared.open_connection.Kind.{Kind}
 use Rattle.mail_loop.specs.declared.open_connection.Kind.TheVariants as kind
-use Rattle.smtp_session.specs.Dialog.{is_due}
 use Rattle.imap_session.specs.Dialog.{is_at_home, is_free}
 use Rattle.imap_session.specs.Words.{changed_text, rewound_text}
-use Rattle.mail_loop.specs.State.{Seat, Smtp, Imap, Http}
-use Rattle.mail_loop.specs.Machine.{Reply, Seats}
+use Rattle.mail_loop.specs.State.{Seat, Seats, Smtp, Imap, Http}
+use Rattle.mail_loop.specs.Machine.{Reply}
+use Rattle.mail_loop.specs.SmtpTurn as smtp
 
 -- what a connection is told of its own turns
 abbrev pub reply_of : Turned → Reply
@@ -39,7 +39,7 @@ seat_of (kind.Http came) = Http came
 
 -- between two turns nothing is awaited
 abbrev pub IsFree : Kind → Type 0
-IsFree (kind.Smtp unserved d) = is_due d ≡ false
+IsFree (kind.Smtp unserved d) = smtp.is_free d ≡ true
 IsFree (kind.Imap stream d) = is_free d ≡ true
 IsFree (kind.Http came) = Unit {0}
 

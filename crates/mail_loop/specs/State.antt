@@ -1,5 +1,10 @@
 -- The machine's own records: what is kept, and the open connections.
 use Rattle.std.specs.Prelude.{ℕ, List}
+use Rattle.std.specs.BTreeMap.{is_at}
+use Rattle.std.specs.Map.{remove_entry}
+use Rattle.std.specs.Ordering.{nat_cmp}
+use Rattle.undo_outside.specs.declared.event.Role.{Role}
+use Rattle.undo_outside.specs.declared.event.Role.TheVariants as role
 use Rattle.smtp_session.specs.declared.dialog.Dialog.{Dialog}
 use Rattle.imap_stream.specs.Commands.{Heard}
 use Rattle.imap_session.specs.declared.dialog.Dialog.{Dialog as ImapDialog}
@@ -12,7 +17,21 @@ pub data Seat : Type 0 where
   Imap : Heard → ImapDialog → Seat
   Http : List ℕ → Seat
 
--- the state: what is kept, and the open connections by rising number
+-- the role of a connection
+abbrev pub role_of : Seat → Role
+role_of (Smtp unserved d) = role.Smtp
+role_of (Imap stream d) = role.Imap
+role_of (Http came) = role.Http
+
+-- the open connections, by rising number
+abbrev pub Seats : Type 0
+Seats = List (ℕ × Seat)
+
+-- the state: what is kept, and the open connections
 pub record State : Type 0 where
   pub kept : Kept
-  pub seats : List (ℕ × Seat)
+  pub seats : Seats
+
+-- all open connections but one
+abbrev pub without_seat : ℕ → Seats → Seats
+without_seat conn seats = remove_entry (is_at (nat_cmp conn)) seats

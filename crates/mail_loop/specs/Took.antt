@@ -1,34 +1,85 @@
 -- What the code's answers and replies are in the machine.
-use Rattle.std.specs.Prelude.{◌≡◌, ◌⊎◌, ℕ, Bool, true, false, List, [], ◌∷◌, ◌++◌, Option, None, Some, MatchOption, Result, Ok, Err}
+use Rattle.std.specs.Prelude.{◌≡◌, ◌⊎◌, ℕ, Bool, true, false, is_some, bytes_eq, if◌then◌else◌, List, [], ◌∷◌, ◌++◌, map, Option, None, Some, MatchOption, Result, Ok, Err, IsTrue}
+use Rattle.std.specs.List.{cons_option, list_all}
 use Rattle.undo_base.specs.declared.keys.User.{User}
+use Rattle.seal_log.specs.declared.fault.ReadFault.{ReadFault}
+use Rattle.seal_log.specs.declared.fault.ReadFault.TheVariants.{Disk as NotRead, NoMemory as NoneForTexts}
 use Rattle.console_session.specs.declared.reply.Reply.{Reply as ConsoleReply}
+use Rattle.mail_loop.specs.declared.out.Out.{Out}
+use Rattle.mail_loop.specs.declared.out.Out.TheVariants.{Say, Read, Submit, Bye}
 use Rattle.mail_loop.specs.declared.reply.Reply.{Reply}
 use Rattle.mail_loop.specs.declared.reply.Turned.{Turned}
 use Rattle.verb_core.specs.declared.ask.Ask.{Ask}
+use Rattle.verb_core.specs.declared.ask.Ask.TheVariants as asks
 use Rattle.verb_core.specs.declared.ask.Refused.TheVariants.{NoMemory}
 use Rattle.verb_core.specs.declared.ask.SubmitFault.{SubmitFault}
 use Rattle.verb_core.specs.declared.ask.SubmitFault.TheVariants.{Refused as IsRefused, Disk, Closed}
 use Rattle.verb_core.specs.declared.item.Item.{Item}
+use Rattle.verb_core.specs.declared.mailbox.BoxId.{BoxId}
+use Rattle.verb_core.specs.Boxes.{box_of}
 use Rattle.verb_core.specs.Live.{is_users, live}
+use Rattle.verb_core.specs.Names.{inbox}
 use Rattle.box_store.specs.Refusing.{IsRefusal}
-use Rattle.smtp_session.specs.declared.answer.SmtpOut.{SmtpOut}
-use Rattle.smtp_session.specs.declared.answer.SmtpOut.TheVariants.{Nothing, Say, Mail, Bye}
-use Rattle.smtp_session.specs.declared.dialog.Dialog.{Dialog}
-use Rattle.smtp_session.specs.Dialog.{is_due}
 use Rattle.store_kept.specs.Kept.{Kept, store_of}
+use Rattle.store_kept.specs.Texts.{has_text_kept}
 use Rattle.mail_desk.specs.Desk.{submitted}
-use Rattle.mail_loop.specs.State.{Seat}
 use Rattle.verb_bytes.specs.declared.journal.JournalRecord.{JournalRecord}
 use Rattle.verb_bytes.specs.declared.journal.JournalRecord.TheVariants.{Verb}
-use Rattle.desk_journal.specs.Reading.{Reads, none_read}
-use Rattle.mail_loop.specs.Asked.{Asked, does, fails}
-use Rattle.mail_loop.specs.SmtpTurn.{Turn, ends, followed, settled}
-use Rattle.mail_loop.specs.Hindrance.{Hindrance, Clear, Refused, Textless, Unread, UnreadRefused, UnreadUnheard, Misread, Misled, Unstored, Unheard, Unanswered, Unsealed, Untold, lost, unanswered, refused_in_text}
+use Rattle.desk_journal.specs.Reading.{Reads, failed_once, none_read}
+use Rattle.mail_loop.specs.State.{Seat, Seats}
 use Rattle.mail_loop.specs.Afterwards.{taking}
+use Rattle.mail_loop.specs.Asked.{asked_as}
+use Rattle.mail_loop.specs.Turn.{Turn, lost}
+use Rattle.mail_loop.specs.Session.{Service, Speech, settled, settled_as, submits}
+use Rattle.mail_loop.specs.Hindrance.{Hindrance, under}
 use Rattle.mail_loop.specs.ConsoleTurn.{Reading, no_consoles, sequel_of}
 use Rattle.mail_loop.specs.Turns.{Heard}
-use Rattle.mail_loop.specs.Machine.{Seats, Answered as AnsweredEvent, seated, told_others, with_reply}
+use Rattle.mail_loop.specs.Machine.{Answered as AnsweredEvent, seated, told_others, with_reply}
 use Rattle.mail_loop.specs.Stands.{reply_of}
+
+-- ---- what a session gives
+
+-- which call is due then
+abbrev pub IsNext : {D : Type 0} → Speech D → Out → D → Type 0
+IsNext speech (Say said) d = speech.is_free d ≡ true
+IsNext speech (Read bodies) d = speech.takes_texts d ≡ true
+IsNext speech (Submit asked) d = speech.is_due d ≡ true
+IsNext speech (Bye said) d = speech.is_free d ≡ true
+
+-- a user's ask is asked by who is logged in, and any other by nobody
+abbrev pub AsksAs : {D : Type 0} → Speech D → Out → D → Type 0
+AsksAs speech (Say said) d = Unit {0}
+AsksAs speech (Read bodies) d = Unit {0}
+AsksAs speech (Submit asked) d = is_users asked ≡ is_some (speech.user d)
+AsksAs speech (Bye said) d = Unit {0}
+
+-- the items in force have the texts that are wanted
+abbrev pub AreThere : Kept → Out → Type 0
+AreThere kept (Say said) = Unit {0}
+AreThere kept (Read bodies) = IsTrue (list_all (has_text_kept kept) bodies)
+AreThere kept (Submit asked) = Unit {0}
+AreThere kept (Bye said) = Unit {0}
+
+-- what is awaited once no texts are wanted any more
+abbrev pub IsAwaitedLast : {D : Type 0} → Speech D → Out → D → Type 0
+IsAwaitedLast speech (Say said) d = speech.is_free d ≡ true
+IsAwaitedLast speech (Read bodies) d = ⊥
+IsAwaitedLast speech (Submit asked) d = speech.is_due d ≡ true
+IsAwaitedLast speech (Bye said) d = speech.is_free d ≡ true
+
+-- something is said, and no more
+abbrev pub IsOnlySaid : {D : Type 0} → Speech D → Out → D → Type 0
+IsOnlySaid speech (Say said) d = speech.is_free d ≡ true
+IsOnlySaid speech (Read bodies) d = ⊥
+IsOnlySaid speech (Submit asked) d = ⊥
+IsOnlySaid speech (Bye said) d = ⊥
+
+-- with its texts a session wants none again, and without them it says something
+abbrev pub GoesOn : {D : Type 0} → Speech D → Result (List (List ℕ)) ReadFault → Out → D → Type 0
+GoesOn speech (Ok texts) out d = IsAwaitedLast speech out d
+GoesOn speech (Err why) out d = IsOnlySaid speech out d
+
+-- ---- what is told
 
 -- A string is added, whole, and the connection closes after the last one; or no memory is found for it, and the connection closes.
 abbrev pub Adds : List ℕ → Bool → Reply → Reply → Type 0
@@ -36,34 +87,11 @@ Adds said last old new =
     ((new ≡ record old { said = old.said ++ said; closes = last }) ⊎ (new ≡ record old { closes = true }))
 
 -- what is said is in the reply, or no memory was found for it
-abbrev pub IsTold : SmtpOut → Reply → Reply → Type 0
-IsTold Nothing old new = new ≡ old
+abbrev pub IsTold : Out → Reply → Reply → Type 0
 IsTold (Say said) old new = Adds said false old new
 IsTold (Bye said) old new = Adds said true old new
-IsTold (Mail ask) old new = new ≡ old
-
--- something is asked that is no user's ask, and its outcome is due; or no outcome is due
-abbrev pub IsAsked : SmtpOut → Dialog → Type 0
-IsAsked Nothing d = is_due d ≡ false
-IsAsked (Say said) d = is_due d ≡ false
-IsAsked (Bye said) d = is_due d ≡ false
-IsAsked (Mail ask) d = (is_due d ≡ true) × (is_users ask ≡ false)
-
--- what follows from what the dialog gives, hindered or not
-abbrev pub hindered_after : Hindrance → ℕ → Kept → SmtpOut → Dialog → Turn Dialog
-hindered_after Clear at kept out d = followed (does at kept) kept out d
-hindered_after Refused at kept out d = refused_in_text kept out d
-hindered_after Textless at kept out d = followed (does at kept) kept out d
-hindered_after Unread at kept out d = followed (does at kept) kept out d
-hindered_after UnreadRefused at kept out d = followed (does at kept) kept out d
-hindered_after UnreadUnheard at kept out d = followed (does at kept) kept out d
-hindered_after (Misread texts h) at kept out d = followed (does at kept) kept out d
-hindered_after (Misled said left) at kept out d = followed (does at kept) kept out d
-hindered_after Unstored at kept out d = followed (does at kept) kept out d
-hindered_after Unheard at kept out d = lost kept
-hindered_after Unanswered at kept out d = unanswered (followed (does at kept) kept out d)
-hindered_after Unsealed at kept out d = followed (fails at kept) kept out d
-hindered_after Untold at kept out d = unanswered (followed (fails at kept) kept out d)
+IsTold (Read bodies) old new = new ≡ old
+IsTold (Submit asked) old new = new ≡ old
 
 -- no sealing failed, and nothing was read
 abbrev pub IsNone : List JournalRecord → Reads → Type 0
@@ -93,20 +121,58 @@ Submits S at kept by ask kept' (Err (IsRefused why)) = IsRefusal why (live (stor
 Submits S at kept by ask kept' (Err Disk) = (item : Item) × (live (store_of kept) kept.next at by ask ≡ Ok item) × (kept' ≡ kept) × S (Verb item ∷ []) none_read
 Submits S at kept by ask kept' (Err Closed) = ⊥
 
--- what became of an ask, but for what was sealed
-abbrev pub asked_as : Result Item SubmitFault → Kept → Asked
-asked_as outcome kept = record { outcome = outcome; kept = kept; unsealed = [] }
-
 -- the connection closes with no answer, or an ask that was refused is settled as one for which no memory was found
-abbrev pub SettlesAgain : Bool → Kept → Dialog → Reply → Dialog → Reply → Type 0
-SettlesAgain was_refused kept d old d' new =
-    Takes IsNone (ends [] kept) old kept d' new
-    ⊎ ((was_refused ≡ true) × Takes IsNone (settled d (asked_as (Err (IsRefused NoMemory)) kept)) old kept d' new)
+abbrev pub SettlesAgain : {D : Type 0} → Speech D → Bool → Kept → D → Reply → D → Reply → Type 0
+SettlesAgain speech was_refused kept d old d' new =
+    Takes IsNone (lost kept) old kept d' new
+    ⊎ ((was_refused ≡ true) × Takes IsNone (settled speech d (asked_as (Err (IsRefused NoMemory)) kept)) old kept d' new)
 
 -- the dialog is told what became of its ask, or that in its place
-abbrev pub Settles : Result Item SubmitFault → Kept → Dialog → Reply → Dialog → Reply → Type 0
-Settles outcome kept d old d' new =
-    Takes IsNone (settled d (asked_as outcome kept)) old kept d' new ⊎ SettlesAgain (is_refused outcome) kept d old d' new
+abbrev pub Settles : {D : Type 0} → Speech D → Result Item SubmitFault → Kept → D → Reply → D → Reply → Type 0
+Settles speech outcome kept d old d' new =
+    Takes IsNone (settled speech d (asked_as outcome kept)) old kept d' new ⊎ SettlesAgain speech (is_refused outcome) kept d old d' new
+
+-- the name of the mailbox that an ask takes away where it is done: the one that is deleted or renamed; that of INBOX is there again
+abbrev pub name_taken : Ask → Option (List ℕ)
+name_taken (asks.Rename mailbox target) = if bytes_eq mailbox inbox then None else Some mailbox
+name_taken (asks.Delete mailbox) = Some mailbox
+name_taken _ = None
+
+-- the mailbox that an ask takes away, where there is one
+abbrev pub taken_by : Option User → Ask → List BoxId
+taken_by None asked = []
+taken_by (Some user) asked = map (box_of user) (cons_option (name_taken asked) [])
+
+-- ---- texts
+
+-- the dialog is told why its texts were not read, and what it says of that is in the reply
+abbrev pub IsToldWhy : {D : Type 0} → Speech D → ReadFault → Kept → D → Reply → D → Reply → Type 0
+IsToldWhy speech why kept d old d' new = Takes IsNone (let t = speech.heard d (Err why) in settled_as t.out kept t.dialog) old kept d' new
+
+-- the dialog is told that no memory was found for its texts, or the connection closes with no answer
+abbrev pub ReadsStarved : {D : Type 0} → Speech D → Kept → D → Reply → D → Reply → Type 0
+ReadsStarved speech kept d old d' new = IsToldWhy speech NoneForTexts kept d old d' new ⊎ Takes IsNone (lost kept) old kept d' new
+
+-- the dialog is told why its texts were not read, or no memory was found for that
+abbrev pub ReadsNone : {D : Type 0} → Speech D → ReadFault → Kept → D → Reply → D → Reply → Type 0
+ReadsNone speech why kept d old d' new = IsToldWhy speech why kept d old d' new ⊎ ReadsStarved speech kept d old d' new
+
+-- what is counted where texts were not read
+abbrev pub reads_of : ReadFault → Reads
+reads_of NotRead = failed_once
+reads_of NoneForTexts = none_read
+
+-- what comes of a unit whose dialog is given these texts
+abbrev pub given : {D : Type 0} → Speech D → Kept → List (List ℕ) → D → Service → Turn D
+given speech kept texts d desk = let t = speech.heard d (Ok texts) in submits speech desk kept t.out t.dialog
+
+-- the dialog was given these texts; or no memory was found for that, and nothing was done
+abbrev pub TakesTexts : {D : Type 0} → Speech D → (List JournalRecord → Reads → Type 0) → ℕ → Kept → List (List ℕ) → D → Reply → Kept → D → Reply → Type 0
+TakesTexts speech S at kept texts d old kept' d' new =
+    ((h : Hindrance) × Takes S (under h at kept (given speech kept texts d)) old kept' d' new)
+    ⊎ (ReadsStarved speech kept d old d' new × (kept' ≡ kept) × S [] none_read)
+
+-- ---- replies and letters
 
 -- a console's answer, and what follows it
 abbrev pub turned_as : ℕ → ConsoleReply → Turned

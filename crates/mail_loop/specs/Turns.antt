@@ -1,6 +1,6 @@
 -- The turns of an event, one after the other: one for each whole line of a mail client's stream, and for each command, literal mark and bad line of a
 -- mail reader's.
-use Rattle.std.specs.Prelude.{ℕ, Bool, false, List, [], ◌∷◌, ◌++◌, Option, None, Some}
+use Rattle.std.specs.Prelude.{ℕ, List, [], ◌∷◌, ◌++◌, Option, None, Some}
 use Rattle.std.specs.Option.{option_map}
 use Rattle.verb_core.specs.declared.mailbox.BoxId.{BoxId}
 use Rattle.smtp_lines.specs.declared.line.SmtpLine.{SmtpLine}
@@ -15,10 +15,12 @@ use Rattle.imap_session.specs.declared.dialog.Dialog.{Dialog as ImapDialog}
 use Rattle.verb_bytes.specs.declared.journal.JournalRecord.{JournalRecord}
 use Rattle.desk_journal.specs.Reading.{Reads, both_read, none_read}
 use Rattle.console_head.specs.Request.{Stage}
-use Rattle.mail_loop.specs.State.{Seat, Smtp, Imap, Http, State}
-use Rattle.mail_loop.specs.SmtpTurn.{Turn}
+use Rattle.mail_loop.specs.State.{Seat, Smtp, Imap, Http, State, without_seat}
+use Rattle.mail_loop.specs.Turn.{Turn}
+use Rattle.mail_loop.specs.Session.{Session}
 use Rattle.mail_loop.specs.Hindrance.{Hindrance, hindered, first_hindrance, other_hindrances}
-use Rattle.mail_loop.specs.ImapHindrance.{imap_hindered}
+use Rattle.mail_loop.specs.SmtpTurn.{smtp_session}
+use Rattle.mail_loop.specs.ImapTurn.{imap_session}
 use Rattle.mail_loop.specs.ConsoleTurn.{Consoles, console_turn, left_by, no_consoles, sequel_of}
 use Rattle.mail_loop.specs.declared.aftermath.Aftermath.{Aftermath}
 use Rattle.mail_loop.specs.Afterwards.{taking}
@@ -64,13 +66,17 @@ turns one hs s d (u ∷ us) =
 abbrev pub outcome_of : {D : Type 0} → State → Turn D → Outcome D
 outcome_of s t = record { said = t.said; state = record { kept = t.kept; seats = s.seats }; dialog = t.dialog; gone = t.gone; unsealed = t.unsealed; reads = t.reads }
 
+-- a turn of a connection's session, at a moment: a unit of its stream, beside the other connections
+abbrev pub turn_of : {D U : Type 0} → Session D U → ℕ → ℕ → Hindrance → State → D → U → Outcome D
+turn_of session at conn h s d unit = outcome_of s (hindered session h at s.kept (without_seat conn s.seats) d unit)
+
 -- a turn of a mail client: a line of its stream
-abbrev pub smtp_turn : ℕ → Hindrance → State → Dialog → SmtpLine → Outcome Dialog
-smtp_turn at h s d line = outcome_of s (hindered h at s.kept d line)
+abbrev pub smtp_turn : ℕ → ℕ → Hindrance → State → Dialog → SmtpLine → Outcome Dialog
+smtp_turn at conn h s d line = turn_of smtp_session at conn h s d line
 
 -- a turn of a mail reader: a command, a literal mark or a bad line of its stream
-abbrev pub imap_turn : ℕ → Hindrance → State → ImapDialog → Next → Outcome ImapDialog
-imap_turn at h s d next = outcome_of s (imap_hindered h at s.kept d next)
+abbrev pub imap_turn : ℕ → ℕ → Hindrance → State → ImapDialog → Next → Outcome ImapDialog
+imap_turn at conn h s d next = turn_of imap_session at conn h s d next
 
 -- what comes of a connection's stream: what it is told, the state, its seat after that or none where it is closed, what follows for the other
 -- connections, the record whose sealing failed, where one did, how many could not read a text or were given another, and what came of consoles
@@ -87,12 +93,12 @@ abbrev pub heard_by : {D : Type 0} → (D → Seat) → Outcome D → Heard
 heard_by seat o = record { said = o.said; state = o.state; seat = option_map seat o.dialog; aftermath = taking o.gone; unsealed = o.unsealed; reads = o.reads; consoles = no_consoles }
 
 -- the turns of a mail client's lines; what follows the last line stays unserved
-abbrev pub hears_lines : List Hindrance → ℕ → State → Dialog → List ℕ → Heard
-hears_lines hs at s d stream = heard_by (Smtp (rest_of stream)) (turns (smtp_turn at) hs s d (smtp_lines_of stream))
+abbrev pub hears_lines : List Hindrance → ℕ → State → ℕ → Dialog → List ℕ → Heard
+hears_lines hs at s conn d stream = heard_by (Smtp (rest_of stream)) (turns (smtp_turn at conn) hs s d (smtp_lines_of stream))
 
 -- the turns of what a mail reader's stream has given; the last is that of what is not whole yet, which says nothing
-abbrev pub hears_commands : List Hindrance → ℕ → State → ImapDialog → Stream → Heard
-hears_commands hs at s d stream = heard_by (Imap (emptied stream)) (turns (imap_turn at) hs s d (stream.said ++ NotYet ∷ []))
+abbrev pub hears_commands : List Hindrance → ℕ → State → ℕ → ImapDialog → Stream → Heard
+hears_commands hs at s conn d stream = heard_by (Imap (emptied stream)) (turns (imap_turn at conn) hs s d (stream.said ++ NotYet ∷ []))
 
 -- the one turn of a console's bytes, which are read so
 abbrev pub hears_console : List Hindrance → Stage → ℕ → State → List ℕ → Heard
@@ -108,8 +114,8 @@ hears_console hs stage at s bytes =
       consoles = record { readings = record { bytes = bytes; stage = stage } ∷ []; stops = (sequel_of t.after).stops };
     }
 
--- bytes more come onto a connection's stream; those of a console are read so
-abbrev pub hears_seat : List Hindrance → Stage → ℕ → State → Seat → List ℕ → Heard
-hears_seat hs stage at s (Smtp unserved d) bytes = hears_lines hs at s d (unserved ++ bytes)
-hears_seat hs stage at s (Imap stream d) bytes = hears_commands hs at s d (imap_stream.heard stream bytes)
-hears_seat hs stage at s (Http came) bytes = hears_console hs stage at s (came ++ bytes)
+-- bytes more come onto the stream of a connection, which may see the others; those of a console are read so
+abbrev pub hears_seat : List Hindrance → Stage → ℕ → State → ℕ → Seat → List ℕ → Heard
+hears_seat hs stage at s conn (Smtp unserved d) bytes = hears_lines hs at s conn d (unserved ++ bytes)
+hears_seat hs stage at s conn (Imap stream d) bytes = hears_commands hs at s conn d (imap_stream.heard stream bytes)
+hears_seat hs stage at s conn (Http came) bytes = hears_console hs stage at s (came ++ bytes)

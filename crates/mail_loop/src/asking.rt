@@ -1,4 +1,4 @@
-//! What a mail reader asks of the desk, and the mailboxes that this takes away.
+//! What a session asks of the desk, and the mailboxes that this takes away.
 ghost use Rattle.std.specs.Prelude.{◌≡◌, ◌↔◌, ◌++◌, [], false, bytes_eq, option_copied, IsSome, IsTrue, OnErr, OnOk};
 ghost use Rattle.std.specs.List.{cons_option, list_all};
 ghost use Rattle.verb_core.specs.Live.{is_users};
@@ -6,8 +6,7 @@ ghost use Rattle.verb_core.specs.Names.{inbox};
 ghost use Rattle.verb_core.specs.Store.{is_known};
 ghost use Rattle.mail_loop.specs.Afterwards.{gone_between};
 ghost use Rattle.mail_loop.specs.Asked.{HaveSealed};
-ghost use Rattle.mail_loop.specs.ImapTook.{name_taken, taken_by};
-ghost use Rattle.mail_loop.specs.Took.{Submits, is_refused};
+ghost use Rattle.mail_loop.specs.Took.{Submits, is_refused, name_taken, taken_by};
 
 use crate::gone::Gone;
 use crate::reply::Reply;
@@ -67,22 +66,6 @@ fn note(alloc: Global, gone: &mut Gone, by: Option<User>, ask: &Ask) -> Result<(
     }
 }
 
-/// Asks the desk.
-pub fn submit_alone<D: Disk + Drop>(
-    alloc: Global,
-    desk: &mut Desk<D>,
-    at: u64,
-    by: Option<User>,
-    ask: Ask,
-) -> Result<Item, SubmitFault>
-    requires by { IsSome by ↔ IsTrue (is_users ask) }
-    requires known { IsTrue (list_all (is_known desk.old.kept.house) (cons_option by [])) }
-    requires sealed { desk.old.closed ≡ false }
-    ensures { Submits (HaveSealed D.told desk.old desk.new) at desk.old.kept by ask desk.new.kept result }
-{
-    desk.submit(alloc, at, by, ask)
-}
-
 /// Asks the desk, with memory for what is to be told to others taken before.
 pub fn ask_desk<D: Disk + Drop>(
     alloc: Global,
@@ -99,11 +82,12 @@ pub fn ask_desk<D: Disk + Drop>(
     ensures noted { reply.new ≡ record reply.old { gone = reply.old.gone ++ gone_between desk.old.kept desk.new.kept } }
 {
     seals_join::<D>();
+    desk.stands();
     let before = reply.gone.len();
     if let Err(NoMemory) = note(alloc, &mut reply.gone, by, &ask) {
         return Err(SubmitFault::Refused(Refused::NoMemory));
     }
-    let outcome = submit_alone(alloc, desk, at, by, ask);
+    let outcome = desk.submit(alloc, at, by, ask);
     if outcome.is_err() {
         reply.gone.keep_first(before);
     }

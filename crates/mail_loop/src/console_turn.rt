@@ -3,11 +3,11 @@ ghost use Rattle.std.specs.Prelude.{◌≡◌, ◌≤◌, Bool, List, false};
 ghost use Rattle.verb_bytes.specs.declared.journal.JournalRecord.{JournalRecord};
 ghost use Rattle.desk_journal.specs.Reading.{Reads};
 ghost use Rattle.console_head.specs.Request.{Stage};
-ghost use Rattle.mail_loop.specs.State.{Http as HttpSeat};
+ghost use Rattle.mail_loop.specs.State.{Http as HttpSeat, Seats};
 ghost use Rattle.mail_loop.specs.Asked.{HaveSealed};
 ghost use Rattle.mail_loop.specs.ConsoleTurn.{AreSaid, Reading, sequel_of};
 ghost use Rattle.mail_loop.specs.Hindrance.{Hindrance};
-ghost use Rattle.mail_loop.specs.Machine.{Seats, hears};
+ghost use Rattle.mail_loop.specs.Machine.{hears};
 ghost use Rattle.mail_loop.specs.Took.{answered_alone, turned_as};
 
 use crate::aftermath::Aftermath;

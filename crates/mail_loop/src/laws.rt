@@ -1,5 +1,11 @@
-//! What a mail reader's turns are turns of, and that what was answered stays.
-ghost use Rattle.std.specs.Prelude.{◌≡◌, ◌++◌, ◌∷◌, ℕ, List, Some};
+//! What a mail reader's turns are turns of, what licenses a hindrance, which mailbox an ask takes away, and that what was answered stays.
+ghost use Rattle.std.specs.Prelude.{◌≡◌, ◌++◌, ◌∷◌, [], ℕ, is_some, Err, IsTrue, List, Ok, Option, Some};
+ghost use Rattle.undo_base.specs.declared.keys.User.{User as TheUser};
+ghost use Rattle.verb_core.specs.declared.ask.Ask.{Ask as TheAsk};
+ghost use Rattle.verb_core.specs.declared.ask.Refused.{Refused};
+ghost use Rattle.verb_core.specs.declared.item.Item.{Item as TheItem};
+ghost use Rattle.verb_core.specs.Boxes.{is_rising};
+ghost use Rattle.verb_core.specs.Live.{is_users, live};
 ghost use Rattle.imap_stream.specs.Commands.{emptied, heard, heard_of, said_of};
 ghost use Rattle.undo_outside.specs.declared.event.LinkNote.TheVariants.{Came};
 ghost use Rattle.seal_log.specs.Settled.{IsSettled};
@@ -7,7 +13,18 @@ ghost use Rattle.verb_bytes.specs.declared.journal.JournalRecord.{JournalRecord}
 ghost use Rattle.desk_journal.specs.Lasting.{Lasting};
 ghost use Rattle.desk_journal.specs.Records.{payloads_of, state};
 ghost use Rattle.desk_journal.specs.Stored.{HoldsTexts};
-ghost use Rattle.mail_loop.specs.State.{State};
+ghost use Rattle.smtp_lines.specs.declared.line.SmtpLine.{SmtpLine as TheLine};
+ghost use Rattle.smtp_session.specs.declared.dialog.Dialog.{Dialog as TheDialog};
+ghost use Rattle.imap_stream.specs.declared.next.Next.{Next as TheNext};
+ghost use Rattle.imap_session.specs.declared.dialog.Dialog.{Dialog as TheReader};
+ghost use Rattle.store_kept.specs.Kept.{Kept, store_of};
+ghost use Rattle.mail_desk.specs.Desk.{submitted};
+ghost use Rattle.mail_loop.specs.Afterwards.{gone_between};
+ghost use Rattle.mail_loop.specs.Took.{taken_by};
+ghost use Rattle.mail_loop.specs.Hindrance.{Hindrance, IsLicensedRow};
+ghost use Rattle.mail_loop.specs.SmtpTurn.{smtp_session};
+ghost use Rattle.mail_loop.specs.ImapTurn.{imap_session};
+ghost use Rattle.mail_loop.specs.State.{Seats, State};
 ghost use Rattle.mail_loop.specs.Machine.{happens};
 ghost use Rattle.mail_loop.specs.Serving.{Step, at_first, run};
 ghost use Rattle.mail_loop.specs.Acknowledged.{AnswersLast, Course, Stretch, behind};
@@ -20,6 +37,22 @@ use undo_outside::Disk;
 pub fn turns_are_of_the_whole_stream()
     ensures said { (stream bytes : List ℕ) → said_of (stream ++ bytes) ≡ said_of stream ++ (heard (emptied (heard_of stream)) bytes).said }
     ensures rest { (stream bytes : List ℕ) → emptied (heard_of (stream ++ bytes)) ≡ emptied (heard (emptied (heard_of stream)) bytes) }
+{}
+
+/// What a hindered turn of a mail client or a mail reader says is licensed: what nothing licenses is the turn as it should be; a record was not sealed only under a hindrance that a failed
+/// write licenses, a text was not read only under one that a failed read licenses, and was another than was stored only where the disk gave
+/// it. How many there are in a turn the desk's counts tell (`HaveSealed`).
+pub fn hindrances_are_licensed()
+    ensures client { (h : Hindrance) (at : ℕ) (kept : Kept) (others : Seats) (d : TheDialog) (line : TheLine) → IsLicensedRow smtp_session h at kept others d line }
+    ensures reader { (h : Hindrance) (at : ℕ) (kept : Kept) (others : Seats) (d : TheReader) (next : TheNext) → IsLicensedRow imap_session h at kept others d next }
+{}
+
+/// An ask that is done takes the mailbox away that a DELETE names, or a RENAME but of INBOX, and no other; one that is refused takes none.
+pub fn asks_take_away()
+    ensures done { (kept : Kept) (at : ℕ) (by : Option TheUser) (ask : TheAsk) (item : TheItem) → IsTrue (is_rising (store_of kept).boxes) → is_users ask ≡ is_some by
+        → live (store_of kept) kept.next at by ask ≡ Ok item → gone_between kept (submitted kept at by ask).kept ≡ taken_by by ask }
+    ensures refused { (kept : Kept) (at : ℕ) (by : Option TheUser) (ask : TheAsk) (why : Refused) → live (store_of kept) kept.next at by ask ≡ Err why
+        → gone_between kept (submitted kept at by ask).kept ≡ [] }
 {}
 
 /// What was answered before a moment is in every image of that moment and of each later one. Serving went through a course, from a desk that

@@ -46,7 +46,11 @@ fn own_letter(turned: Turned) -> Letter
     ensures { letter_of result ≡ reply_of turned }
 {
     let Turned {
-        conn, said, closes, ..
+        conn,
+        said,
+        closes,
+        stops: _,
+        aftermath: _,
     } = turned;
     Letter {
         conn,

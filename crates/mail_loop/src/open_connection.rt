@@ -1,21 +1,22 @@
 //! An open connection: what it speaks, its stream and its dialog, and what it makes of the bytes that come.
-ghost use Rattle.std.specs.Prelude.{◌≡◌, ◌≤◌, Bool, List, false, option_map, true};
+ghost use Rattle.std.specs.Prelude.{◌≡◌, ◌≤◌, Bool, List, Some, false, option_map, true};
 ghost use Rattle.std.specs.List.{list_any};
 ghost use Rattle.verb_core.specs.declared.mailbox.BoxId.{BoxId as TheBoxId};
-ghost use Rattle.smtp_session.specs.Dialog.{is_due};
 ghost use Rattle.imap_session.specs.Dialog.{holds, is_at_home, is_free};
 ghost use Rattle.verb_bytes.specs.declared.journal.JournalRecord.{JournalRecord};
 ghost use Rattle.desk_journal.specs.Reading.{Reads};
-ghost use Rattle.mail_loop.specs.State.{Smtp as SmtpSeat, Imap as ImapSeat};
+ghost use Rattle.mail_loop.specs.State.{Seats, Smtp as SmtpSeat, Imap as ImapSeat, role_of};
+ghost use Rattle.mail_loop.specs.Roles.{row_of};
+ghost use Rattle.mail_loop.specs.SmtpTurn as smtp;
 ghost use Rattle.mail_loop.specs.Asked.{HaveSealed};
 ghost use Rattle.mail_loop.specs.Hindrance.{Hindrance};
 ghost use Rattle.mail_loop.specs.Turns.{hears_lines, hears_commands};
 ghost use Rattle.console_head.specs.Request.{Stage};
 ghost use Rattle.mail_loop.specs.ConsoleTurn.{AreSaid, Reading};
-ghost use Rattle.mail_loop.specs.Machine.{Seats, fresh, fresh_console, fresh_reader, hears};
-ghost use Rattle.mail_loop.specs.Afterwards.{at_rewind, holds_one, last_words};
+ghost use Rattle.mail_loop.specs.Machine.{hears, seat_at};
+ghost use Rattle.mail_loop.specs.Afterwards.{holds_one, last_words};
 ghost use Rattle.mail_loop.specs.ImapTook.{is_not_yet};
-ghost use Rattle.mail_loop.specs.Stands.{IsHome, said_of};
+ghost use Rattle.mail_loop.specs.Stands.{IsFree, IsHome, said_of, seat_of};
 ghost use Rattle.mail_loop.specs.Took.{Tells, answered_alone};
 
 use crate::aftermath::Aftermath;
@@ -23,6 +24,7 @@ use crate::console_turn::hear_console;
 use crate::imap_turn::take_next;
 use crate::letters::Said;
 use crate::reply::{Reply, Turned, empty_reply, going_on};
+use crate::roles::at_rewind;
 use crate::smtp_turn::take_line;
 use console_session::ConsoleSession;
 use imap_session::ImapSession;
@@ -35,7 +37,7 @@ use std::thread::Threads;
 use time_desk::Desk;
 use time_desk::laws::seals_join;
 use undo_base::NoMemory;
-use undo_outside::{Disk, Gate};
+use undo_outside::{Disk, Gate, Role};
 use verb_core::BoxId;
 
 /// What a connection speaks, with its stream as far as it was not served, and its dialog.
@@ -73,40 +75,47 @@ impl Model for Connection {
     ghost invariant = { λ s. IsFree s.kind };
 }
 
-/// A mail client's connection at first.
-pub fn smtp_connection(alloc: Global) -> Connection
-    ensures { result ≡ fresh }
-{
-    Connection {
-        kind: Kind::Smtp {
-            unserved: Cutter::new(alloc),
-            dialog: SmtpSession::new(),
-        },
-    }
-}
-
-/// A mail reader's connection at first.
-pub fn imap_connection(alloc: Global) -> Connection
-    ensures { result ≡ fresh_reader }
-{
-    Connection {
-        kind: Kind::Imap {
-            stream: Pieces::new(alloc),
-            dialog: ImapSession::new(),
-        },
-    }
-}
-
-/// A console's connection at first.
-pub fn console_connection(alloc: Global) -> Connection
-    ensures { result ≡ fresh_console }
-{
-    Connection {
-        kind: Kind::Http(ConsoleSession::new(alloc)),
+impl Kind {
+    /// What a connection of a role is at first.
+    fn fresh(alloc: Global, role: Role) -> Kind
+        ensures seat { seat_of result ≡ (row_of role).fresh }
+        ensures free { IsFree result }
+    {
+        match role {
+            Role::Smtp => Kind::Smtp {
+                unserved: Cutter::new(alloc),
+                dialog: SmtpSession::new(),
+            },
+            Role::Imap => Kind::Imap {
+                stream: Pieces::new(alloc),
+                dialog: ImapSession::new(),
+            },
+            Role::Http => Kind::Http(ConsoleSession::new(alloc)),
+        }
     }
 }
 
 impl Connection {
+    /// A connection of a role at first.
+    pub fn fresh(alloc: Global, role: Role) -> Connection
+        ensures { result ≡ (row_of role).fresh }
+    {
+        Connection {
+            kind: Kind::fresh(alloc, role),
+        }
+    }
+
+    /// Its role.
+    fn role(&self) -> Role
+        ensures { result ≡ role_of self.now }
+    {
+        match &self.kind {
+            Kind::Smtp { .. } => Role::Smtp,
+            Kind::Imap { .. } => Role::Imap,
+            Kind::Http(_) => Role::Http,
+        }
+    }
+
     /// Its last words, behind which it is closed, where something followed turns of another; none where it goes on.
     pub fn last_words(&self, aftermath: &Aftermath) -> Option<Said>
         ensures { option_map said_of result ≡ last_words aftermath.now self.now }
@@ -114,7 +123,7 @@ impl Connection {
         match aftermath {
             Aftermath::Quiet => None,
             Aftermath::TookAway(gone) => self.holds_one(gone.as_slice()).then_some(Said::Changed),
-            Aftermath::Rewound => self.at_rewind(),
+            Aftermath::Rewound => at_rewind(self.role()),
         }
     }
 
@@ -126,17 +135,6 @@ impl Connection {
             Kind::Smtp { .. } => false,
             Kind::Imap { dialog, .. } => dialog_holds(dialog, boxes),
             Kind::Http(_) => false,
-        }
-    }
-
-    /// The last words to a mail reader whose store was rewound.
-    fn at_rewind(&self) -> Option<Said>
-        ensures { option_map said_of result ≡ at_rewind self.now }
-    {
-        match &self.kind {
-            Kind::Smtp { .. } => None,
-            Kind::Imap { .. } => Some(Said::Rewound),
-            Kind::Http(_) => None,
         }
     }
 }
@@ -159,11 +157,11 @@ fn serve_lines<D: Disk + Drop>(
 ) -> Reply
     requires moment { at ≤ 253402300799 }
     requires sealed { desk.old.closed ≡ false }
-    requires free { is_due dialog.old ≡ false }
-    ensures free { is_due dialog.new ≡ false }
+    requires free { smtp.is_free dialog.old ≡ true }
+    ensures free { smtp.is_free dialog.new ≡ true }
     ensures house { desk.new.kept.house ≡ desk.old.kept.house }
     ensures turns { (seats : Seats) → (hs : List Hindrance) × (failed : List JournalRecord) × (reads : Reads) × HaveSealed D.told desk.old desk.new failed reads ×
-        Tells (hears_lines hs at (record { kept = desk.old.kept; seats = seats }) dialog.old unserved.old) seats conn result desk.new.kept failed reads (SmtpSeat unserved.new dialog.new) }
+        Tells (hears_lines hs at (record { kept = desk.old.kept; seats = seats }) conn dialog.old unserved.old) seats conn result desk.new.kept failed reads (SmtpSeat unserved.new dialog.new) }
 {
     seals_join::<D>();
     let mut reply = empty_reply(alloc, conn, false);
@@ -195,8 +193,8 @@ fn hear_smtp<D: Disk + Drop>(
 ) -> Turned
     requires moment { at ≤ 253402300799 }
     requires sealed { desk.old.closed ≡ false }
-    requires free { is_due dialog.old ≡ false }
-    ensures free { is_due dialog.new ≡ false }
+    requires free { smtp.is_free dialog.old ≡ true }
+    ensures free { smtp.is_free dialog.new ≡ true }
     ensures house { desk.new.kept.house ≡ desk.old.kept.house }
     ensures heard { (seats : Seats) → (no_memory : Bool) × (hs : List Hindrance) × (stage : Stage) × (failed : List JournalRecord) × (reads : Reads) ×
         HaveSealed D.told desk.old desk.new failed reads × (readings : List Reading) × AreSaid readings ×
@@ -234,7 +232,7 @@ fn serve_commands<D: Disk + Drop>(
     ensures home { is_at_home desk.new.kept.house dialog.new ≡ true }
     ensures house { desk.new.kept.house ≡ desk.old.kept.house }
     ensures turns { (seats : Seats) → (hs : List Hindrance) × (failed : List JournalRecord) × (reads : Reads) × HaveSealed D.told desk.old desk.new failed reads ×
-        Tells (hears_commands hs at (record { kept = desk.old.kept; seats = seats }) dialog.old stream.old) seats conn result desk.new.kept failed reads (ImapSeat stream.new dialog.new) }
+        Tells (hears_commands hs at (record { kept = desk.old.kept; seats = seats }) conn dialog.old stream.old) seats conn result desk.new.kept failed reads (ImapSeat stream.new dialog.new) }
 {
     seals_join::<D>();
     let mut reply = empty_reply(alloc, conn, false);
@@ -286,7 +284,8 @@ fn hear_imap<D: Disk + Drop>(
     }
 }
 
-/// Serves the bytes that came over a connection.
+/// Serves the bytes that came over a connection. What it makes of them is told of any table of connections in which it stands: a session
+/// may see the others.
 pub fn hear<R: Threads + Sync, D: Disk + Drop, G: Gate>(
     rt: &R,
     alloc: Global,
@@ -302,7 +301,7 @@ pub fn hear<R: Threads + Sync, D: Disk + Drop, G: Gate>(
     requires home { IsHome desk.old.kept.house connection.old }
     ensures home { IsHome desk.new.kept.house connection.new }
     ensures house { desk.new.kept.house ≡ desk.old.kept.house }
-    ensures heard { (seats : Seats) → (no_memory : Bool) × (hs : List Hindrance) × (stage : Stage) × (failed : List JournalRecord) × (reads : Reads) ×
+    ensures heard { (seats : Seats) → seat_at conn seats ≡ Some connection.old → (no_memory : Bool) × (hs : List Hindrance) × (stage : Stage) × (failed : List JournalRecord) × (reads : Reads) ×
         HaveSealed D.told desk.old desk.new failed reads × (readings : List Reading) × AreSaid readings ×
         (hears no_memory hs stage at (record { kept = desk.old.kept; seats = seats }) conn connection.old bytes.now
         ≡ answered_alone conn result desk.new.kept failed reads readings connection.new seats) }

@@ -1,18 +1,13 @@
 //! What a connection is told at the end of an event.
-ghost use Rattle.std.specs.Prelude.{◌≡◌, false, true, [], IfOk};
+ghost use Rattle.std.specs.Prelude.{◌≡◌, false, true, []};
 ghost use Rattle.mail_loop.specs.Stands.{letter_of};
-ghost use Rattle.smtp_session.specs.declared.answer.Answer.TheVariants.{Ready};
-ghost use Rattle.smtp_session.specs.Answer.{answer_text};
-ghost use Rattle.imap_session.specs.Words.{greeting_text};
 ghost use Rattle.mail_loop.specs.Took.{Adds, going_on_with};
 
 use crate::aftermath::Aftermath;
 use crate::gone::Gone;
 use crate::letters::{Letter, Said};
-use smtp_session::greeting;
 use std::alloc::Global;
 use undo_base::{NoMemory, Text};
-use verb_core::House;
 
 /// What a connection's turns say, whether it is closed then, and the mailboxes that they took away.
 #[derive(Debug, Drop)]
@@ -65,16 +60,15 @@ pub fn empty_reply(alloc: Global, conn: u32, closes: bool) -> Reply
     }
 }
 
-/// The greeting of a mail client.
-pub fn greet(alloc: Global, house: &House, conn: u32) -> Result<Letter, NoMemory>
-    ensures { IfOk result (λ letter. letter_of letter ≡ record { conn = conn; said = answer_text house.now.host Ready; closes = false }) }
+/// The letter with a greeting.
+pub fn greeting_to(conn: u32, greeting: Text) -> Letter
+    ensures { letter_of result ≡ record { conn = conn; said = greeting; closes = false } }
 {
-    let said = greeting(alloc, house)?;
-    Ok(Letter {
+    Letter {
         conn,
-        said: Said::Answers(said),
+        said: Said::Answers(greeting),
         closes: false,
-    })
+    }
 }
 
 /// No greeting, for which no memory was found: the connection is to be closed.
@@ -86,18 +80,6 @@ pub fn ungreeted(alloc: Global, conn: u32) -> Letter
         said: Said::Answers(Text::new(alloc)),
         closes: true,
     }
-}
-
-/// The greeting of a mail reader.
-pub fn greet_reader(alloc: Global, house: &House, conn: u32) -> Result<Letter, NoMemory>
-    ensures { IfOk result (λ letter. letter_of letter ≡ record { conn = conn; said = greeting_text house.now; closes = false }) }
-{
-    let said = imap_session::greeting(alloc, house)?;
-    Ok(Letter {
-        conn,
-        said: Said::Answers(said),
-        closes: false,
-    })
 }
 
 /// Adds a string, whole. The connection closes after the last one, and where no memory is found for it.

@@ -8,21 +8,18 @@ ghost use Rattle.desk_journal.specs.Stored.{HoldsTexts};
 ghost use Rattle.mail_loop.specs.Asked.{HaveSealed};
 ghost use Rattle.mail_loop.specs.Hindrance.{Hindrance};
 ghost use Rattle.mail_loop.specs.Took.{IsNone};
-ghost use Rattle.smtp_session.specs.declared.answer.Answer.TheVariants.{Ready};
-ghost use Rattle.smtp_session.specs.Answer.{answer_text};
-ghost use Rattle.imap_session.specs.Words.{greeting_text};
-ghost use Rattle.mail_loop.specs.Machine.{Hindrances, Delivery, Keeping, admits, after_reply, answered, delivered, fresh, fresh_console, fresh_reader, happens, hears_at, is_end, joins, seat_at};
+ghost use Rattle.mail_loop.specs.Machine.{Hindrances, Delivery, Keeping, admits, after_reply, answered, delivered, happens, hears_at, is_end, joins, seat_at};
 ghost use Rattle.verb_core.specs.declared.conf.House.{House as TheHouse};
+ghost use Rattle.mail_loop.specs.Roles.{row_of};
 ghost use Rattle.mail_loop.specs.Stands.{AreHome, IsHome, letter_of, replies_of};
-ghost use Rattle.mail_loop.specs.Did.{AreLicensed, Told, Replied, Sends, Leads, Answers, Greets, Opens, Keeps, is_due_on, unclosed_by};
+ghost use Rattle.mail_loop.specs.Did.{AreLicensed, Told, Replied, Sends, Leads, Answers, Opens, Keeps, is_due_on, unclosed_by};
 ghost use Rattle.mail_loop.specs.Serving.{Step, ServedOver, ended_as, is_disk, reads_in, unsealed_in};
 ghost use Rattle.mail_loop.specs.Acknowledged.{GoesThrough, WentThrough};
 
 use crate::letters::{Letter, alone, letters_of, room_for_letters};
-use crate::open_connection::{
-    Connection, console_connection, hear, imap_connection, smtp_connection,
-};
-use crate::reply::{greet, greet_reader, ungreeted};
+use crate::open_connection::{Connection, hear};
+use crate::reply::{greeting_to, ungreeted};
+use crate::roles::greeting;
 use std::alloc::Global;
 use std::collections::BTreeMap;
 use std::thread::Threads;
@@ -30,9 +27,8 @@ use thiserror::Error;
 use time_desk::Desk;
 use time_desk::laws::seals_join;
 use time_desk::permanence::records_let_uids_last;
-use undo_base::{LAST_MOMENT, NoMemory};
+use undo_base::{LAST_MOMENT, NoMemory, Text};
 use undo_outside::{Disk, Event, Fault, Gate, Link, Role, What};
-use verb_core::House;
 
 /// Why serving ended before the end.
 #[derive(Clone, Copy, Debug, PartialEq, Eq, Error)]
@@ -130,84 +126,41 @@ fn enter(
     Ok(letters)
 }
 
-/// Opens a mail client's connection, with its greeting.
-fn open_client(
+/// Opens a connection of a role, with its greeting.
+fn open_greeted(
     alloc: Global,
     connections: &mut Connections,
     conn: u32,
-    greeting: Letter,
+    role: Role,
+    greeting: Text,
 ) -> Result<Vec<Letter>, NoMemory>
     ensures home { (house : TheHouse) → AreHome house connections.old.entries → AreHome house connections.new.entries }
-    ensures opens { Opens conn fresh (letter_of greeting ∷ []) connections.old.entries connections.new.entries (λ replies. replies_of replies.items) result }
+    ensures opens { Opens conn (row_of role).fresh (record { conn = conn; said = greeting; closes = false } ∷ []) connections.old.entries connections.new.entries (λ replies. replies_of replies.items) result }
 {
-    let letters = alone(alloc, greeting)?;
-    enter(connections, conn, smtp_connection(alloc), letters)
+    let letters = alone(alloc, greeting_to(conn, greeting))?;
+    enter(connections, conn, Connection::fresh(alloc, role), letters)
 }
 
-/// Opens a mail client's connection, and greets the client. Where no memory is found for the greeting the connection is closed.
-fn admit_client(
-    alloc: Global,
-    house: &House,
-    connections: &mut Connections,
-    conn: u32,
-) -> Result<Vec<Letter>, NoMemory>
-    ensures home { (house : TheHouse) → AreHome house connections.old.entries → AreHome house connections.new.entries }
-    ensures opens { (no_memory : Bool) × Greets no_memory conn fresh (record { conn = conn; said = answer_text house.now.host Ready; closes = false }) connections.old.entries connections.new.entries (λ replies. replies_of replies.items) result }
-{
-    match greet(alloc, house, conn) {
-        Ok(greeting) => open_client(alloc, connections, conn, greeting),
-        Err(NoMemory) => alone(alloc, ungreeted(alloc, conn)),
-    }
-}
-
-/// Opens a mail reader's connection, with its greeting.
-fn open_reader(
+/// Opens a connection of a role that is not greeted.
+fn open_silent(
     alloc: Global,
     connections: &mut Connections,
     conn: u32,
-    greeting: Letter,
+    role: Role,
 ) -> Result<Vec<Letter>, NoMemory>
     ensures home { (house : TheHouse) → AreHome house connections.old.entries → AreHome house connections.new.entries }
-    ensures opens { Opens conn fresh_reader (letter_of greeting ∷ []) connections.old.entries connections.new.entries (λ replies. replies_of replies.items) result }
-{
-    let letters = alone(alloc, greeting)?;
-    enter(connections, conn, imap_connection(alloc), letters)
-}
-
-/// Opens a mail reader's connection, and greets the reader. Where no memory is found for the greeting the connection is closed.
-fn admit_reader(
-    alloc: Global,
-    house: &House,
-    connections: &mut Connections,
-    conn: u32,
-) -> Result<Vec<Letter>, NoMemory>
-    ensures home { (house : TheHouse) → AreHome house connections.old.entries → AreHome house connections.new.entries }
-    ensures opens { (no_memory : Bool) × Greets no_memory conn fresh_reader (record { conn = conn; said = greeting_text house.now; closes = false }) connections.old.entries connections.new.entries (λ replies. replies_of replies.items) result }
-{
-    match greet_reader(alloc, house, conn) {
-        Ok(greeting) => open_reader(alloc, connections, conn, greeting),
-        Err(NoMemory) => alone(alloc, ungreeted(alloc, conn)),
-    }
-}
-
-/// Opens a console's connection, which is not greeted.
-fn admit_console(
-    alloc: Global,
-    connections: &mut Connections,
-    conn: u32,
-) -> Result<Vec<Letter>, NoMemory>
-    ensures home { (house : TheHouse) → AreHome house connections.old.entries → AreHome house connections.new.entries }
-    ensures opens { Opens conn fresh_console [] connections.old.entries connections.new.entries (λ replies. replies_of replies.items) result }
+    ensures opens { Opens conn (row_of role).fresh [] connections.old.entries connections.new.entries (λ replies. replies_of replies.items) result }
 {
     enter(
         connections,
         conn,
-        console_connection(alloc),
+        Connection::fresh(alloc, role),
         Vec::new(alloc),
     )
 }
 
-/// Opens a connection of a kind that is served, and greets the client.
+/// Opens a connection of a role, and greets the client where the role has a greeting. Where no memory is found for that the
+/// connection is closed.
 fn admit<D: Disk + Drop>(
     alloc: Global,
     desk: &Desk<D>,
@@ -219,10 +172,10 @@ fn admit<D: Disk + Drop>(
     ensures answers { (no_memory : Bool) × Answers IsNone (admits no_memory role (record { kept = desk.now.kept; seats = connections.old.entries }) conn)
         desk.now.kept connections.new.entries (λ replies. replies_of replies.items) (λ _. false) result }
 {
-    match role {
-        Role::Smtp => admit_client(alloc, desk.house(), connections, conn),
-        Role::Imap => admit_reader(alloc, desk.house(), connections, conn),
-        Role::Http => admit_console(alloc, connections, conn),
+    match greeting(alloc, desk.house(), role) {
+        Ok(Some(greeting)) => open_greeted(alloc, connections, conn, role, greeting),
+        Ok(None) => open_silent(alloc, connections, conn, role),
+        Err(NoMemory) => alone(alloc, ungreeted(alloc, conn)),
     }
 }
 

@@ -2,7 +2,7 @@
 ghost use Rattle.std.specs.Prelude.{◌≡◌, ℕ, List, Option, IfOk, OnErr, true, Some, None};
 ghost use Rattle.smtp_session.specs.Answer.{answer_text};
 ghost use Rattle.smtp_session.specs.Ending.{Ends};
-ghost use Rattle.smtp_session.specs.Dialog.{host_due, is_due_in, is_outcome_of_delivery, is_writing_in, settle, told, told_fault, turns};
+ghost use Rattle.smtp_session.specs.Dialog.{host_due, is_due_in, is_writing_in, settle, told, told_fault, turns};
 
 use crate::answer::{Answer, SmtpOut, answer_to_delivery, say, say_bye};
 use crate::dialog::{Dialog, Transaction};

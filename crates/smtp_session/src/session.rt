@@ -1,7 +1,7 @@
 //! The session of a mail client.
 ghost use Rattle.std.specs.Prelude.{◌≡◌, ◌≤◌, IsTrue, IfOk, OnErr, false, true};
 ghost use Rattle.verb_core.specs.Store.{is_house};
-ghost use Rattle.smtp_session.specs.Dialog.{is_due, is_outcome_of_delivery, is_writing, opening, settle, turn, turns};
+ghost use Rattle.smtp_session.specs.Dialog.{is_due, is_writing, opening, settle, turn, turns};
 ghost use Rattle.smtp_session.specs.Limits.{AsksWithin, held_of, kept_of};
 
 use crate::answer::SmtpOut;
@@ -77,7 +77,6 @@ impl SmtpSession {
         outcome: &Result<Item, SubmitFault>,
     ) -> Result<SmtpOut, NoMemory>
         requires due { is_due self.old ≡ true }
-        requires outcome { is_outcome_of_delivery outcome.now ≡ true }
         ensures ok { IfOk result (λ out. settle self.old outcome.now ≡ turns out self.new) }
         ensures err { OnErr result (self.new ≡ self.old) }
     {

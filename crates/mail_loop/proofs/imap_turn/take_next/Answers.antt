@@ -1,16 +1,17 @@
-use Rattle.std.proofs.Common.{refl, ap, sym, subst}
+use Rattle.std.proofs.Common.{[], refl, ap, sym, subst}
 use Rattle.imap_stream.specs.declared.next.Next.{Next}
 use Rattle.imap_session.specs.declared.dialog.Dialog.{Dialog}
 use Rattle.imap_session.specs.Words.{bad_line_text, ready_text}
 use Rattle.mail_loop.specs.Asked.{HaveSealed}
-use Rattle.mail_loop.specs.SmtpTurn.{Turn}
+use Rattle.mail_loop.specs.Turn.{Turn}
 use Rattle.mail_loop.specs.Hindrance.{Hindrance, Clear}
-use Rattle.mail_loop.specs.ImapTurn.{turn}
-use Rattle.mail_loop.specs.ImapHindrance.{imap_hindered}
 use Rattle.mail_loop.specs.Took.{IsNone, Takes}
-use Rattle.mail_loop.proofs.ImapTurns.{answered_turn, raw_turn, said_turn}
+use Rattle.mail_loop.specs.Hindrance.{hindered}
+use Rattle.mail_loop.specs.ImapTurn.{imap_session}
+use Rattle.mail_loop.proofs.Dialogs.{said_turn}
+use Rattle.mail_loop.proofs.ImapTurns.{answered_turn, raw_turn, whatever_others}
 use Rattle.mail_loop.proofs.Sealed.{unsealed}
-use Rattle.mail_loop.proofs.Turns.{lifted_turn, told_nothing}
+use Rattle.mail_loop.proofs.Telling.{lifted_turn, told_nothing}
 use Rattle.mail_loop.proofs.imap_turn.take_next.Goals as goal
 
 pub returns-in-Ask-clause-turn : goal.returns-in-Ask-clause-turn
@@ -19,9 +20,11 @@ returns-in-Ask-clause-turn g c =
     let d = c.args.session.now in
     let old = c.args.reply.now in
     let new = c.say.new.reply in
-    let f : Hindrance → Turn Dialog = λ h. imap_hindered h c.args.at desk.kept d c.args.next in
-    lifted_turn (HaveSealed g.D.Disk.told desk desk) f old desk.kept d new (unsealed g.D.Disk.told c.seals_join.ensures.nothing desk)
-    (said_turn ready_text c.ready.result.now desk.kept d old new f c.ready.ensures (ap (λ (n : Next). turn c.args.at desk.kept d n) c.in-Ask.is) refl c.say.ensures)
+    let S = HaveSealed g.D.Disk.told desk desk in
+    let f : Hindrance → Turn Dialog = λ h. hindered imap_session h c.args.at desk.kept [] d c.args.next in
+    whatever_others S c.args.at desk.kept desk.kept c.args.next d d old new
+    (lifted_turn S f old desk.kept d new (unsealed g.D.Disk.told c.seals_join.ensures.nothing desk)
+    (said_turn ready_text c.ready.result.now desk.kept d old new f c.ready.ensures (ap (λ (n : Next). hindered imap_session Clear c.args.at desk.kept [] d n) c.in-Ask.is) refl c.say.ensures))
 
 pub returns-in-Bad-clause-turn : goal.returns-in-Bad-clause-turn
 returns-in-Bad-clause-turn g c =
@@ -29,21 +32,25 @@ returns-in-Bad-clause-turn g c =
     let d = c.args.session.now in
     let old = c.args.reply.now in
     let new = c.answer.new in
-    let f : Hindrance → Turn Dialog = λ h. imap_hindered h c.args.at desk.kept d c.args.next in
-    lifted_turn (HaveSealed g.D.Disk.told desk desk) f old desk.kept new.session new.reply (unsealed g.D.Disk.told c.seals_join.ensures.nothing desk)
+    let S = HaveSealed g.D.Disk.told desk desk in
+    let f : Hindrance → Turn Dialog = λ h. hindered imap_session h c.args.at desk.kept [] d c.args.next in
+    whatever_others S c.args.at desk.kept desk.kept c.args.next d new.session old new.reply
+    (lifted_turn S f old desk.kept new.session new.reply (unsealed g.D.Disk.told c.seals_join.ensures.nothing desk)
     (answered_turn (bad_line_text c.in-Bad.line) c.bad_line.result desk.kept d new.session old new.reply f Clear c.bad_line.ensures
-    (ap (λ (n : Next). turn c.args.at desk.kept d n) c.in-Bad.is) refl c.answer.ensures.answered)
+    (ap (λ (n : Next). hindered imap_session Clear c.args.at desk.kept [] d n) c.in-Bad.is) refl c.answer.ensures.answered))
 
 pub returns-in-NotYet-clause-turn : goal.returns-in-NotYet-clause-turn
 returns-in-NotYet-clause-turn g c =
     let desk = c.args.desk.now in
     let d = c.args.session.now in
     let reply = c.args.reply.now in
-    let f : Hindrance → Turn Dialog = λ h. imap_hindered h c.args.at desk.kept d c.args.next in
-    lifted_turn (HaveSealed g.D.Disk.told desk desk) f reply desk.kept d reply (unsealed g.D.Disk.told c.seals_join.ensures.nothing desk) (
+    let S = HaveSealed g.D.Disk.told desk desk in
+    let f : Hindrance → Turn Dialog = λ h. hindered imap_session h c.args.at desk.kept [] d c.args.next in
+    whatever_others S c.args.at desk.kept desk.kept c.args.next d d reply reply
+    (lifted_turn S f reply desk.kept d reply (unsealed g.D.Disk.told c.seals_join.ensures.nothing desk) (
       Clear,
-      subst (λ (n : Next). Takes IsNone (turn c.args.at desk.kept d n) reply desk.kept d reply) (sym c.in-NotYet.is) (told_nothing desk.kept d reply reply c.requires.stays refl),
-    )
+      subst (λ (n : Next). Takes IsNone (hindered imap_session Clear c.args.at desk.kept [] d n) reply desk.kept d reply) (sym c.in-NotYet.is) (told_nothing desk.kept d reply reply c.requires.stays refl),
+    ))
 
 pub returns-in-Command-clause-turn : goal.returns-in-Command-clause-turn
 returns-in-Command-clause-turn g c =

@@ -1,11 +1,11 @@
 use Rattle.mail_loop.specs.Asked.{HaveSealed}
 use Rattle.imap_lines.specs.Command.{command_of}
 use Rattle.imap_session.specs.declared.dialog.Dialog.{Dialog}
-use Rattle.mail_loop.specs.SmtpTurn.{Turn}
+use Rattle.mail_loop.specs.Turn.{Turn}
 use Rattle.mail_loop.specs.Hindrance.{Hindrance}
 use Rattle.mail_loop.specs.ImapTook.{obeyed_under}
 use Rattle.mail_loop.proofs.Sealed.{unsealed}
-use Rattle.mail_loop.proofs.Turns.{lifted_turn}
+use Rattle.mail_loop.proofs.Telling.{lifted_turn}
 use Rattle.mail_loop.proofs.imap_turn.take_raw.Goals as goal
 
 pub returns-in-Err-clause-turn : goal.returns-in-Err-clause-turn

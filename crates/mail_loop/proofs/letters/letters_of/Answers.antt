@@ -5,4 +5,4 @@ use Rattle.mail_loop.proofs.letters.letters_of.Goals as goal
 
 pub returns : goal.returns
 returns c =
-    c.with_own.ensures ∙ ap (λ (rs : List Reply). with_reply (reply_of c.args.turned.reply) rs) c.letters_beside-letters.ensures.letters
+    c.with_own.ensures ∙ ap (λ (rs : List Reply). with_reply (reply_of c.args.turned) rs) c.letters_beside-letters.ensures.letters

@@ -8,7 +8,7 @@ use Rattle.mail_loop.proofs.open_connection.hear.Goals.{in-Smtp, in-Imap, in-Htt
 use Rattle.mail_loop.proofs.open_connection.hear.Goals as goal
 
 pub returns-clause-heard : goal.returns-clause-heard
-returns-clause-heard g c seats = elim c.match-connection.branch [
+returns-clause-heard g c seats there = elim c.match-connection.branch [
   | in-Smtp w ↦
       heard_same (HaveSealed g.D.Disk.told c.args.desk.now w.hear_smtp.new.desk) (HaveSealed g.D.Disk.told c.args.desk.now c.match-connection.desk) c.args.at c.args.desk.now.kept seats c.args.conn (Smtp w.in-Smtp.unserved w.in-Smtp.dialog) c.args.connection.now c.args.bytes.now w.hear_smtp.result c.match-connection.result
       w.hear_smtp.new.desk.kept c.match-connection.desk.kept (Smtp w.hear_smtp.new.unserved w.hear_smtp.new.dialog) (seat_of c.match-connection.connection-inside.kind)

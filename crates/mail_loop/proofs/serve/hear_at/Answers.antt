@@ -7,7 +7,7 @@ use Rattle.std.specs.Ordering.{nat_cmp}
 use Rattle.verb_core.specs.declared.conf.House.{House}
 use Rattle.mail_loop.specs.declared.serve.Answer.{Answer}
 use Rattle.mail_loop.specs.Asked.{HaveSealed}
-use Rattle.mail_loop.specs.Machine.{Seats}
+use Rattle.mail_loop.specs.State.{Seats}
 use Rattle.mail_loop.specs.Stands.{AreHome, IsHome, replies_of}
 use Rattle.mail_loop.proofs.Sealed.{unsealed}
 use Rattle.mail_loop.proofs.Events.{bytes_ignored, bytes_heard, bytes_unserved}

@@ -2,7 +2,8 @@ use Rattle.std.proofs.Common.{◌≤◌, length, ap, sym, ◌∙◌, subst}
 use Rattle.std.proofs.lemmas.Map.Views.{All-map-remove_entry}
 use Rattle.std.specs.BTreeMap.{is_at}
 use Rattle.std.specs.Ordering.{nat_cmp}
-use Rattle.mail_loop.specs.Machine.{Seats, after_reply}
+use Rattle.mail_loop.specs.Machine.{after_reply}
+use Rattle.mail_loop.specs.State.{Seats}
 use Rattle.mail_loop.specs.Stands.{AreHome, IsHome}
 use Rattle.mail_loop.proofs.Seats.{fewer_left}
 use Rattle.mail_loop.proofs.serve.keep_if.Goals as goal

@@ -2,11 +2,11 @@ use Rattle.std.proofs.Common.{Err, Ok, List, [], None, false, inr, refl, ap, sym
 use Rattle.undo_outside.specs.declared.fault.Fault.{Fault}
 use Rattle.undo_outside.specs.Calls.{Comes}
 use Rattle.mail_loop.specs.Asked.{HaveSealed}
-use Rattle.mail_loop.specs.State.{State}
+use Rattle.mail_loop.specs.State.{State, Seats}
 use Rattle.mail_loop.specs.Serving.{Step, is_disk}
 use Rattle.mail_loop.specs.Acknowledged.{GoesThrough, WentThrough}
 use Rattle.mail_loop.specs.Did.{is_due_on}
-use Rattle.mail_loop.specs.Machine.{Hindrances, Seats}
+use Rattle.mail_loop.specs.Machine.{Hindrances}
 use Rattle.mail_loop.specs.Stands.{AreHome}
 use Rattle.mail_loop.proofs.Courses.{ends_disk, none_through, one_more, went_end}
 use Rattle.mail_loop.proofs.Events.{leads_end}

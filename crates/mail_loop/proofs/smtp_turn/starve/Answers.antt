@@ -1,5 +1,5 @@
 use Rattle.std.proofs.Common.{[], sym, ◌∙◌}
-use Rattle.mail_loop.proofs.Turns.{starved_outside, starved_writing}
+use Rattle.mail_loop.proofs.SmtpTurns.{starved_outside, starved_writing}
 use Rattle.mail_loop.proofs.smtp_turn.starve.Goals as goal
 
 pub returns-else-is_in_text-clause-turn : goal.returns-else-is_in_text-clause-turn

@@ -1,21 +1,43 @@
-use Rattle.std.proofs.Common.{sym, ap, subst, ◌∙◌}
+use Rattle.std.proofs.Common.{sym, ap, refl, subst, ◌∙◌}
 use Rattle.verb_core.specs.declared.conf.House.{House}
 use Rattle.verb_core.specs.declared.conf.Conf.{Conf}
 use Rattle.smtp_session.specs.declared.dialog.Dialog.{Dialog}
 use Rattle.smtp_session.specs.Dialog.{turn}
 use Rattle.store_kept.specs.Kept.{store_of}
+use Rattle.mail_loop.specs.declared.out.Out.{Out}
 use Rattle.mail_loop.specs.Asked.{HaveSealed}
-use Rattle.mail_loop.specs.Hindrance.{Hindrance, hindered}
-use Rattle.mail_loop.specs.Took.{IsNone, Takes}
+use Rattle.mail_loop.specs.State.{Seats}
+use Rattle.mail_loop.specs.Session.{followed}
+use Rattle.mail_loop.specs.Hindrance.{Hindrance, hindered, under}
+use Rattle.mail_loop.specs.SmtpTurn.{smtp_session, smtp_speech}
+use Rattle.mail_loop.specs.Took.{AreThere, AsksAs, IsNext, IsNone, Takes}
 use Rattle.mail_loop.proofs.Sealed.{unsealed}
-use Rattle.mail_loop.proofs.Turns.{asked_of, lifted_turn, line_gives, line_turn}
+use Rattle.mail_loop.proofs.SmtpTurns.{asks_as_of, line_gives, line_turn, next_of, none_due, none_wanted}
+use Rattle.mail_loop.proofs.Telling.{lifted}
 use Rattle.mail_loop.proofs.smtp_turn.take_line.Goals as goal
 
-pub follow-requires-clause-asked : goal.follow-requires-clause-asked
-follow-requires-clause-asked g c =
+pub take-requires-clause-free : goal.take-requires-clause-free
+take-requires-clause-free g c = none_due c.args.session.now c.requires.free
+
+pub follow-requires-clause-awaited : goal.follow-requires-clause-awaited
+follow-requires-clause-awaited g c =
     let d = c.args.session.now in
     let e = c.take.new.self in
-    asked_of d c.in-Ok.out e (line_gives c.house.result.now c.conf.result.now c.args.at d e c.args.line.now c.in-Ok.out c.requires.free c.in-Ok.ensures.ok)
+    subst (λ (o : Out). IsNext smtp_speech o e) (sym c.of_smtp.ensures)
+    (next_of d c.in-Ok.out e (line_gives c.house.result.now c.conf.result.now c.args.at d e c.args.line.now c.in-Ok.out (none_due d c.requires.free) c.in-Ok.ensures.ok))
+
+pub follow-requires-clause-user : goal.follow-requires-clause-user
+follow-requires-clause-user g c =
+    let d = c.args.session.now in
+    let e = c.take.new.self in
+    subst (λ (o : Out). AsksAs smtp_speech o e) (sym c.of_smtp.ensures)
+    (asks_as_of d c.in-Ok.out e (line_gives c.house.result.now c.conf.result.now c.args.at d e c.args.line.now c.in-Ok.out (none_due d c.requires.free) c.in-Ok.ensures.ok))
+
+pub follow-requires-clause-home : goal.follow-requires-clause-home
+follow-requires-clause-home g c = refl
+
+pub follow-requires-clause-there : goal.follow-requires-clause-there
+follow-requires-clause-there g c = subst (λ (o : Out). AreThere c.args.desk.now.kept o) (sym c.of_smtp.ensures) (none_wanted c.args.desk.now.kept c.in-Ok.out)
 
 pub returns-in-Ok-clause-turn : goal.returns-in-Ok-clause-turn
 returns-in-Ok-clause-turn g c =
@@ -24,17 +46,21 @@ returns-in-Ok-clause-turn g c =
     let e = c.take.new.self in
     let line = c.args.line.now in
     let house = c.house.result.now in
-    let conf = c.conf.result.now in
-    let is = c.in-Ok.ensures.ok in
-    line_turn (HaveSealed g.D.Disk.told c.args.desk.now c.follow.new.desk) c.args.at kept c.follow.new.desk.kept d e c.follow.new.session line c.in-Ok.out c.args.reply.now c.follow.new.reply
-    (ap (λ (h : House). turn h (store_of kept).conf c.args.at d line) (sym c.house.ensures.value) ∙ ap (λ (k : Conf). turn house k c.args.at d line) (sym c.conf.ensures) ∙ is)
-    (line_gives house conf c.args.at d e line c.in-Ok.out c.requires.free is) c.follow.ensures.turn
+    let new = c.follow.new in
+    let S = HaveSealed g.D.Disk.told c.args.desk.now new.desk in
+    line_turn S c.args.at kept new.desk.kept d e new.session line c.in-Ok.out c.args.reply.now new.reply
+    (ap (λ (h : House). turn h (store_of kept).conf c.args.at d line) (sym c.house.ensures.value) ∙ ap (λ (k : Conf). turn house k c.args.at d line) (sym c.conf.ensures) ∙ c.in-Ok.ensures.ok)
+    (subst (λ (o : Out). (h : Hindrance) × Takes S (under h c.args.at kept (λ desk. followed smtp_speech desk kept o e)) c.args.reply.now new.desk.kept new.session new.reply) c.of_smtp.ensures c.follow.ensures.turn)
 
 pub returns-in-Err-clause-turn : goal.returns-in-Err-clause-turn
 returns-in-Err-clause-turn g c =
     let desk = c.args.desk.now in
     let new = c.starve.new in
-    lifted_turn (HaveSealed g.D.Disk.told desk desk) (λ (h : Hindrance). hindered h c.args.at desk.kept c.args.session.now c.args.line.now) c.args.reply.now desk.kept new.session new.reply
-    (unsealed g.D.Disk.told c.seals_join.ensures.nothing desk)
-    (subst (λ (d : Dialog). (h : Hindrance) × Takes IsNone (hindered h c.args.at desk.kept d c.args.line.now) c.args.reply.now desk.kept new.session new.reply) c.in-Err.ensures.err
-    (c.starve.ensures.turn c.args.at desk.kept c.args.line.now))
+    let (h, takes) =
+    subst (λ (d : Dialog). (h : Hindrance) × ((others : Seats) → Takes IsNone (hindered smtp_session h c.args.at desk.kept others d c.args.line.now) c.args.reply.now desk.kept new.session new.reply)) c.in-Err.ensures.err
+    (c.starve.ensures.turn c.args.at desk.kept c.args.line.now) in (
+      h,
+      λ others.
+          lifted (HaveSealed g.D.Disk.told desk desk) (hindered smtp_session h c.args.at desk.kept others c.args.session.now c.args.line.now) c.args.reply.now desk.kept new.session new.reply (takes others)
+          (unsealed g.D.Disk.told c.seals_join.ensures.nothing desk),
+    )

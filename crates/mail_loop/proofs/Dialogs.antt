@@ -1,0 +1,555 @@
+-- Turns of a session, whatever it speaks: what it gives, what is asked of the desk, and the texts that are read for it.
+use Rattle.std.proofs.lemmas.List.{append-nil}
+use Rattle.std.proofs.Common.{◌≡◌, ◌⊎◌, ℕ, Bool, [], true, false, true≢false, List, ◌∷◌, ◌++◌, Option, option_map, unwrap_or, Result, Ok, Err, refl, ap, subst, sym, ◌∙◌, inl, inr}
+use Rattle.undo_base.specs.declared.keys.User.{User}
+use Rattle.seal_log.specs.declared.fault.ReadFault.{ReadFault}
+use Rattle.seal_log.specs.declared.fault.ReadFault.TheVariants.{Disk as NotRead, NoMemory as NoneForTexts}
+use Rattle.verb_core.specs.declared.ask.Ask.{Ask}
+use Rattle.verb_core.specs.declared.ask.Refused.{Refused}
+use Rattle.verb_core.specs.declared.ask.Refused.TheVariants.{NoMemory}
+use Rattle.verb_core.specs.declared.ask.SubmitFault.{SubmitFault}
+use Rattle.verb_core.specs.declared.ask.SubmitFault.TheVariants.{Refused as IsRefused, Disk, Closed}
+use Rattle.verb_core.specs.declared.conf.House.{House}
+use Rattle.verb_core.specs.declared.item.Item.{Item}
+use Rattle.verb_core.specs.declared.mailbox.Body.{Body}
+use Rattle.verb_core.specs.declared.mailbox.BoxId.{BoxId}
+use Rattle.verb_core.specs.Live.{live}
+use Rattle.verb_core.specs.Store.{is_known}
+use Rattle.store_kept.specs.Kept.{Kept, store_of}
+use Rattle.store_kept.specs.Texts.{texts_kept}
+use Rattle.mail_desk.specs.Desk.{Submitted, submitted_as}
+use Rattle.verb_bytes.specs.declared.journal.JournalRecord.{JournalRecord}
+use Rattle.verb_bytes.specs.declared.journal.JournalRecord.TheVariants.{Verb}
+use Rattle.desk_journal.specs.Reading.{Reads, failed_once, none_read, wrong_once}
+use Rattle.mail_loop.specs.declared.out.Out.{Out}
+use Rattle.mail_loop.specs.declared.out.Out.TheVariants.{Say, Read, Submit, Bye}
+use Rattle.mail_loop.specs.declared.reply.Reply.{Reply}
+use Rattle.mail_loop.specs.Afterwards.{gone_between}
+use Rattle.mail_loop.specs.Asked.{Asked, asked_as, fails, unsealed_as}
+use Rattle.mail_loop.specs.State.{Seats}
+use Rattle.mail_loop.specs.Turn.{Turn, ends, lost, says, unanswered}
+use Rattle.mail_loop.specs.Session.{IsBye, Service, Session, Speech, Took, done, followed, is_home, is_said, served, service, settled, settled_as, submits, took}
+use Rattle.mail_loop.specs.Hindrance.{Hindrance, Clear, Refused as IsToldWant, Textless, Unread, UnreadRefused, UnreadUnheard, Misread, Misled, Unstored, Unheard, Unanswered, Unsealed, Untold, hindered, misread, row, under, unread, unread_unsaid, without_items, without_seals, without_texts}
+use Rattle.mail_loop.specs.Took.{Adds, IsNone, IsOnlySaid, IsTold, ReadsNone, ReadsStarved, Settles, SettlesAgain, Submits, Takes, TakesTexts, given, reads_of}
+use Rattle.mail_loop.proofs.Refusals.{due_or_starved}
+use Rattle.mail_loop.proofs.Telling.{closed, lifted, told_last, told_nothing, told_whole, unsealed_too}
+
+house_as : (kept : Kept) (due : Result Item Refused) → (submitted_as kept due).kept.house ≡ kept.house
+house_as kept (Ok item) = refl
+house_as kept (Err why) = refl
+
+-- what is asked leaves the house as it is
+pub house_stays : (S : List JournalRecord → Reads → Type 0) (kept kept' : Kept) (at : ℕ) (by : Option User) (ask : Ask) (outcome : Result Item SubmitFault)
+    → Submits S at kept by ask kept' outcome → kept'.house ≡ kept.house
+house_stays S kept kept' at by ask (Ok item) (is, seals) =
+    sym (ap (λ (s : Submitted). s.kept.house) is) ∙ house_as kept (live (store_of kept) kept.next at by ask)
+house_stays S kept kept' at by ask (Err (IsRefused why)) (due, same, seals) = ap (λ (k : Kept). k.house) same
+house_stays S kept kept' at by ask (Err Disk) (item, is, same, seals) = ap (λ (k : Kept). k.house) same
+house_stays S kept kept' at by ask (Err Closed) wrong = absurd wrong
+
+-- ---- what is said
+
+-- the last words
+abbrev words : Out → List ℕ
+words (Say said) = []
+words (Bye said) = said
+words (Read bodies) = []
+words (Submit ask) = []
+
+module _ {D : Type 0} where
+  out_told : (out : Out) (kept : Kept) (d : D) (old new : Reply) → old.closes ≡ false → IsTold out old new
+      → Takes IsNone (settled_as out kept d) old kept d new ⊎ Takes IsNone (ends {D = D} [] kept) old kept d new
+  out_told (Say said) kept d old new stays (inl e) = inl (told_whole said kept d old new e)
+  out_told (Say said) kept d old new stays (inr e) = inr (closed kept kept d old new refl e)
+  out_told (Bye said) kept d old new stays (inl e) = inl (told_last said kept d old new e)
+  out_told (Bye said) kept d old new stays (inr e) = inr (closed kept kept d old new refl e)
+  out_told (Read bodies) kept d old new stays is = inl (told_nothing kept d old new stays is)
+  out_told (Submit ask) kept d old new stays is = inl (told_nothing kept d old new stays is)
+
+  -- an answer that changes nothing, or the connection closes
+  pub said_turn : (said text : List ℕ) (kept : Kept) (d : D) (old new : Reply) (f : Hindrance → Turn D)
+      → text ≡ said → f Clear ≡ says said kept d → f Unheard ≡ ends [] kept → Adds text false old new → (h : Hindrance) × Takes IsNone (f h) old kept d new
+  said_turn said text kept d old new f same clear lost (inl e) =
+      (Clear, subst (λ (t : Turn D). Takes IsNone t old kept d new) (sym clear) (told_whole said kept d old new (e ∙ ap (λ (s : List ℕ). record old { said = old.said ++ s; closes = false }) same)))
+  said_turn said text kept d old new f same clear lost (inr e) =
+      (Unheard, subst (λ (t : Turn D). Takes IsNone t old kept d new) (sym lost) (closed kept kept d old new refl e))
+
+  -- what is said last
+  pub bye_turn : (said text : List ℕ) (kept : Kept) (d : D) (old new : Reply) (f : Hindrance → Turn D)
+      → text ≡ said → f Clear ≡ ends said kept → f Unheard ≡ ends [] kept → Adds text true old new → (h : Hindrance) × Takes IsNone (f h) old kept d new
+  bye_turn said text kept d old new f same clear lost (inl e) =
+      (Clear, subst (λ (t : Turn D). Takes IsNone t old kept d new) (sym clear) (told_last said kept d old new (e ∙ ap (λ (s : List ℕ). record old { said = old.said ++ s; closes = true }) same)))
+  bye_turn said text kept d old new f same clear lost (inr e) =
+      (Unheard, subst (λ (t : Turn D). Takes IsNone t old kept d new) (sym lost) (closed kept kept d old new refl e))
+
+  -- what is said of an outcome seals nothing, takes no mailbox away, wants no text and keeps what is kept
+  none_failed : (out : Out) (kept : Kept) (d : D) → settled_as out kept d ≡ record (settled_as out kept d) { unsealed = [] }
+  none_failed (Say said) kept d = refl
+  none_failed (Bye said) kept d = refl
+  none_failed (Read bodies) kept d = refl
+  none_failed (Submit ask) kept d = refl
+
+  none_left : (out : Out) (kept : Kept) (d : D) → (settled_as out kept d).gone ≡ []
+  none_left (Say said) kept d = refl
+  none_left (Bye said) kept d = refl
+  none_left (Read bodies) kept d = refl
+  none_left (Submit ask) kept d = refl
+
+  none_wanted : (out : Out) (kept : Kept) (d : D) → (settled_as out kept d).reads ≡ none_read
+  none_wanted (Say said) kept d = refl
+  none_wanted (Bye said) kept d = refl
+  none_wanted (Read bodies) kept d = refl
+  none_wanted (Submit ask) kept d = refl
+
+  kept_told : (out : Out) (kept : Kept) (d : D) → (settled_as out kept d).kept ≡ kept
+  kept_told (Say said) kept d = refl
+  kept_told (Bye said) kept d = refl
+  kept_told (Read bodies) kept d = refl
+  kept_told (Submit ask) kept d = refl
+
+  ended : (out : Out) (kept : Kept) (d : D) (failed : List JournalRecord) → IsBye out
+      → record (settled_as out kept d) { unsealed = failed } ≡ record (ends {D = D} (words out) kept) { unsealed = failed }
+  ended (Bye said) kept d failed bye = refl
+  ended (Say said) kept d failed wrong = absurd wrong
+  ended (Read bodies) kept d failed wrong = absurd wrong
+  ended (Submit ask) kept d failed wrong = absurd wrong
+
+  -- mailboxes were noted before
+  noted : (S : List JournalRecord → Reads → Type 0) (t : Turn D) (ids : List BoxId) (old old' : Reply) (kept : Kept) (e : D) (new : Reply) → old' ≡ record old { gone = old.gone ++ ids }
+      → t.gone ≡ [] → Takes S t old' kept e new → Takes S (record t { gone = ids }) old kept e new
+  noted S t ids old old' kept e new is none takes = record {
+    conn = takes.conn ∙ ap (λ (r : Reply). r.conn) is;
+    said = takes.said ∙ ap (λ (r : Reply). r.said ++ t.said) is;
+    kept_is = takes.kept_is;
+    dialog_is = takes.dialog_is;
+    gone = takes.gone ∙ ap (λ (l : List BoxId). old'.gone ++ l) none ∙ append-nil old'.gone ∙ ap (λ (r : Reply). r.gone) is;
+    seals = takes.seals;
+  }
+
+  -- the same turn, for which texts were read so
+  abbrev reading : Reads → Turn D → Turn D
+  reading r t = record t { reads = r }
+
+  reread : (S S' : List JournalRecord → Reads → Type 0) (r : Reads) (t : Turn D) (old : Reply) (kept : Kept) (d : D) (new : Reply) → t.reads ≡ none_read
+      → ((failed : List JournalRecord) → S failed none_read → S' failed r) → Takes S t old kept d new → Takes S' (reading r t) old kept d new
+  reread S S' r t old kept d new quiet then takes = record {
+    conn = takes.conn;
+    said = takes.said;
+    kept_is = takes.kept_is;
+    dialog_is = takes.dialog_is;
+    gone = takes.gone;
+    seals = then t.unsealed (subst (λ (q : Reads). S t.unsealed q) quiet takes.seals);
+  }
+
+-- no mailbox is gone between a store and itself
+abbrev pub NoneGone : Kept → Type 0
+NoneGone kept = gone_between kept kept ≡ []
+
+none_more : (kept kept' : Kept) (old old' : Reply) → NoneGone kept → kept' ≡ kept → old' ≡ record old { gone = old.gone ++ gone_between kept kept' } → old' ≡ old
+none_more kept kept' old old' none same is =
+    is ∙ ap (λ (k : Kept). record old { gone = old.gone ++ gone_between kept k }) same
+    ∙ ap (λ (ids : List BoxId). record old { gone = old.gone ++ ids }) none
+    ∙ ap (λ (ids : List BoxId). record old { gone = ids }) (append-nil old.gone)
+
+module _ {D : Type 0} (speech : Speech D) where
+  -- nobody is logged in at first
+  pub opening_home : (house : House) → is_home speech house speech.opening ≡ true
+  opening_home house = ap (λ (u : Option User). unwrap_or (option_map (is_known house) u) true) speech.opens_alone
+
+  -- what only says something awaits nothing
+  pub said_is_free : (out : Out) (d : D) → IsOnlySaid speech out d → speech.is_free d ≡ true
+  said_is_free (Say said) d is = is
+  said_is_free (Bye said) d wrong = absurd wrong
+  said_is_free (Read bodies) d wrong = absurd wrong
+  said_is_free (Submit ask) d wrong = absurd wrong
+
+  -- ---- what became of an ask
+
+  settled_told : (outcome : Result Item SubmitFault) (kept : Kept) (d e : D) (out : Out) (old new : Reply) → old.closes ≡ false
+      → speech.settle (store_of kept) kept.stamps d outcome ≡ took out e → IsTold out old new
+      → Takes IsNone (settled speech d (asked_as outcome kept)) old kept e new ⊎ Takes IsNone (ends {D = D} [] kept) old kept e new
+  settled_told outcome kept d e out old new stays is told =
+      subst (λ (t : Took D). Takes IsNone (record (settled_as t.out kept t.dialog) { unsealed = [] }) old kept e new ⊎ Takes IsNone (ends {D = D} [] kept) old kept e new) (sym is)
+      (subst (λ (t : Turn D). Takes IsNone t old kept e new ⊎ Takes IsNone (ends {D = D} [] kept) old kept e new) (none_failed out kept e) (out_told out kept e old new stays told))
+
+  -- the session was told of its ask's outcome
+  pub settles_told : (outcome : Result Item SubmitFault) (kept : Kept) (d e : D) (out : Out) (old new : Reply) → old.closes ≡ false
+      → speech.settle (store_of kept) kept.stamps d outcome ≡ took out e → IsTold out old new → Settles speech outcome kept d old e new
+  settles_told outcome kept d e out old new stays is told = by_told (settled_told outcome kept d e out old new stays is told)
+    where
+      by_told : Takes IsNone (settled speech d (asked_as outcome kept)) old kept e new ⊎ Takes IsNone (ends {D = D} [] kept) old kept e new → Settles speech outcome kept d old e new
+      by_told (inl t) = inl t
+      by_told (inr t) = inr (inl t)
+
+  -- the session was told of want of memory in the place of a refusal
+  pub again_told : (was_refused : Bool) (kept : Kept) (d e : D) (out : Out) (old new : Reply) → old.closes ≡ false → was_refused ≡ true
+      → speech.settle (store_of kept) kept.stamps d (Err (IsRefused NoMemory)) ≡ took out e → IsTold out old new → SettlesAgain speech was_refused kept d old e new
+  again_told was_refused kept d e out old new stays refused is told = by_told (settled_told (Err (IsRefused NoMemory)) kept d e out old new stays is told)
+    where
+      by_told : Takes IsNone (settled speech d (asked_as (Err (IsRefused NoMemory)) kept)) old kept e new ⊎ Takes IsNone (ends {D = D} [] kept) old kept e new
+          → SettlesAgain speech was_refused kept d old e new
+      by_told (inl t) = inr (refused, t)
+      by_told (inr t) = inl t
+
+  kept_settled : (d : D) (a : Asked) → (settled speech d a).kept ≡ a.kept
+  kept_settled d a = let t = speech.settle (store_of a.kept) a.kept.stamps d a.outcome in kept_told t.out a.kept t.dialog
+
+  none_gone : (d : D) (a : Asked) → (settled speech d a).gone ≡ []
+  none_gone d a = let t = speech.settle (store_of a.kept) a.kept.stamps d a.outcome in none_left t.out a.kept t.dialog
+
+  -- what is said of an outcome wants no text
+  quiet_settled : (d : D) (a : Asked) → (settled speech d a).reads ≡ none_read
+  quiet_settled d a = let t = speech.settle (store_of a.kept) a.kept.stamps d a.outcome in none_wanted t.out a.kept t.dialog
+
+  -- where no mailbox is gone the turn is that of the outcome alone
+  as_settled : (kept : Kept) (d : D) (a : Asked) → gone_between kept a.kept ≡ [] → done speech kept d a ≡ settled speech d a
+  as_settled kept d a none = λ j. record (settled speech d a) { gone = (none ∙ sym (none_gone d a)) j }
+
+  -- the connection closes with no answer to what is kept, whose mailboxes were noted before
+  closed_on : (S : List JournalRecord → Reads → Type 0) (before : Kept) (d : D) (item : Item) (k : Kept) (old old' : Reply) (kept : Kept) (e : D) (new : Reply)
+      → old' ≡ record old { gone = old.gone ++ gone_between before k } → Takes IsNone (ends {D = D} [] k) old' kept e new → S [] none_read
+      → Takes S (unanswered (done speech before d (asked_as (Ok item) k))) old kept e new
+  closed_on S before d item k old old' kept e new is takes none =
+      let t = noted IsNone (ends {D = D} [] k) (gone_between before k) old old' kept e new is refl takes in
+      record {
+        conn = t.conn;
+        said = t.said;
+        kept_is = t.kept_is ∙ sym (kept_settled d (asked_as (Ok item) k));
+        dialog_is = t.dialog_is;
+        gone = t.gone;
+        seals = subst (λ (r : Reads). S [] r) (sym (quiet_settled d (asked_as (Ok item) k))) none;
+      }
+
+  -- where an ask could not be sealed the client is told, and its connection closes
+  settled_unsealed : (d : D) (kept : Kept) (failed : List JournalRecord) → speech.is_due d ≡ true
+      → settled speech d (record { outcome = Err Disk; kept = kept; unsealed = failed })
+      ≡ record (ends {D = D} (words (speech.settle (store_of kept) kept.stamps d (Err Disk)).out) kept) { unsealed = failed }
+  settled_unsealed d kept failed due =
+      let t = speech.settle (store_of kept) kept.stamps d (Err Disk) in
+      ended t.out kept t.dialog failed (speech.ends_at_fault (store_of kept) kept.stamps d due)
+
+  -- what is asked of the desk is a turn, hindered or not
+  pub asked_turn : (S : List JournalRecord → Reads → Type 0) (at : ℕ) (kept kept' : Kept) (ask : Ask) (d e : D) (outcome : Result Item SubmitFault) (old old' new : Reply) → speech.is_due d ≡ true
+      → NoneGone kept
+      → old' ≡ record old { gone = old.gone ++ gone_between kept kept' }
+      → Submits S at kept (speech.user d) ask kept' outcome
+      → Settles speech outcome kept' d old' e new
+      → (h : Hindrance) × Takes S (under h at kept (λ desk. done speech kept d (desk.asked (speech.user d) ask))) old kept' e new
+  asked_turn S at kept kept' ask d e (Ok item) old old' new due none is (does, seals) (inl t) = (
+    Clear,
+    subst (λ (s : Submitted). Takes S (done speech kept d (asked_as s.outcome s.kept)) old kept' e new) (sym does)
+        (noted S (settled speech d (asked_as (Ok item) kept')) (gone_between kept kept') old old' kept' e new is (none_gone d (asked_as (Ok item) kept'))
+        (lifted S (settled speech d (asked_as (Ok item) kept')) old' kept' e new t seals)),
+  )
+  asked_turn S at kept kept' ask d e (Ok item) old old' new due none is (does, seals) (inr (inl t)) = (
+    Unanswered,
+    subst (λ (s : Submitted). Takes S (unanswered (done speech kept d (asked_as s.outcome s.kept))) old kept' e new) (sym does)
+        (closed_on S kept d item kept' old old' kept' e new is t seals),
+  )
+  asked_turn S at kept kept' ask d e (Ok item) old old' new due none is did (inr (inr t)) = absurd (let wrong : false ≡ true = t.0 in cc)
+  asked_turn S at kept kept' ask d e (Err Closed) old old' new due none is wrong s = absurd wrong
+  asked_turn S at kept kept' ask d e (Err Disk) old old' new due none is (item, due_is, same, seals) s =
+      by_way (subst (λ (r : Reply). Settles speech (Err Disk) kept' d r e new) (none_more kept kept' old old' none same is) s)
+    where
+      text : List ℕ
+      text = words (speech.settle (store_of kept') kept'.stamps d (Err Disk)).out
+
+      told : settled speech d (unsealed_as kept' (Ok item)) ≡ record (ends {D = D} text kept') { unsealed = Verb item ∷ [] }
+      told = settled_unsealed d kept' (Verb item ∷ []) due
+
+      by_due : (f : Turn D → Turn D) → Takes S (f (settled speech d (unsealed_as kept' (Ok item)))) old kept' e new → Takes S (f (done speech kept d (fails at kept (speech.user d) ask))) old kept' e new
+      by_due f t =
+          subst (λ (r : Result Item Refused). Takes S (f (done speech kept d (unsealed_as kept r))) old kept' e new) (sym due_is)
+          (subst (λ (u : Turn D). Takes S (f u) old kept' e new) (sym (as_settled kept d (unsealed_as kept (Ok item)) none))
+          (subst (λ (k : Kept). Takes S (f (settled speech d (unsealed_as k (Ok item)))) old kept' e new) same t))
+
+      by_way : Settles speech (Err Disk) kept' d old e new → (h : Hindrance) × Takes S (under h at kept (λ desk. done speech kept d (desk.asked (speech.user d) ask))) old kept' e new
+      by_way (inl t) = (
+        Unsealed,
+        by_due (λ u. u) (subst (λ (u : Turn D). Takes S u old kept' e new) (sym told)
+            (unsealed_too S text kept' (Verb item ∷ []) old kept' e new
+            (subst (λ (u : Turn D). Takes IsNone u old kept' e new) (settled_unsealed d kept' [] due) t) seals)),
+      )
+      by_way (inr (inl t)) = (
+        Untold,
+        by_due unanswered (subst (λ (u : Turn D). Takes S (unanswered u) old kept' e new) (sym told)
+            (unsealed_too S [] kept' (Verb item ∷ []) old kept' e new t seals)),
+      )
+      by_way (inr (inr t)) = absurd (let wrong : false ≡ true = t.0 in cc)
+  asked_turn S at kept kept' ask d e (Err (IsRefused why)) old old' new due none is (refusal, same, seals) s =
+      by_way (subst (λ (r : Reply). Settles speech (Err (IsRefused why)) kept' d r e new) (none_more kept kept' old old' none same is) s)
+    where
+      whole : (t : Turn D) → Takes IsNone t old kept' e new → Takes S t old kept' e new
+      whole t took = lifted S t old kept' e new took seals
+
+      -- a refusal that is told takes no mailbox away
+      refused : (r : Refused) → Takes IsNone (settled speech d (asked_as (Err (IsRefused r)) kept')) old kept' e new
+          → Takes S (done speech kept d (asked_as (Err (IsRefused r)) kept)) old kept' e new
+      refused r t =
+          subst (λ (u : Turn D). Takes S u old kept' e new) (sym (as_settled kept d (asked_as (Err (IsRefused r)) kept) none))
+          (subst (λ (k : Kept). Takes S (settled speech d (asked_as (Err (IsRefused r)) k)) old kept' e new) same
+          (whole (settled speech d (asked_as (Err (IsRefused r)) kept')) t))
+
+      by_cause : (why ≡ NoMemory) ⊎ (live (store_of kept) kept.next at (speech.user d) ask ≡ Err why) → Takes IsNone (settled speech d (asked_as (Err (IsRefused why)) kept')) old kept' e new
+          → (h : Hindrance) × Takes S (under h at kept (λ desk. done speech kept d (desk.asked (speech.user d) ask))) old kept' e new
+      by_cause (inl is) t = (Unstored, refused NoMemory (subst (λ (r : Refused). Takes IsNone (settled speech d (asked_as (Err (IsRefused r)) kept')) old kept' e new) is t))
+      by_cause (inr is) t = (
+        Clear,
+        subst (λ (r : Result Item Refused). let s = submitted_as kept r in Takes S (done speech kept d (asked_as s.outcome s.kept)) old kept' e new) (sym is) (refused why t),
+      )
+
+      by_way : Settles speech (Err (IsRefused why)) kept' d old e new → (h : Hindrance) × Takes S (under h at kept (λ desk. done speech kept d (desk.asked (speech.user d) ask))) old kept' e new
+      by_way (inl t) = by_cause (due_or_starved why (live (store_of kept) kept.next at (speech.user d) ask) refusal) t
+      by_way (inr (inl t)) = (Unheard, subst (λ (k : Kept). Takes S (ends {D = D} [] k) old kept' e new) same (whole (ends {D = D} [] kept') t))
+      by_way (inr (inr t)) = (Unstored, refused NoMemory t.1)
+
+  -- the same, of an ask whose asker was told
+  pub asked_turn_by : (S : List JournalRecord → Reads → Type 0) (at : ℕ) (kept kept' : Kept) (by : Option User) (ask : Ask) (d e : D) (outcome : Result Item SubmitFault) (old old' new : Reply) → by ≡ speech.user d
+      → speech.is_due d ≡ true
+      → NoneGone kept
+      → old' ≡ record old { gone = old.gone ++ gone_between kept kept' }
+      → Submits S at kept by ask kept' outcome
+      → Settles speech outcome kept' d old' e new
+      → (h : Hindrance) × Takes S (under h at kept (λ desk. done speech kept d (desk.asked (speech.user d) ask))) old kept' e new
+  asked_turn_by S at kept kept' by ask d e outcome old old' new same due none is did s =
+      asked_turn S at kept kept' ask d e outcome old old' new due none is (subst (λ (u : Option User). Submits S at kept u ask kept' outcome) same did) s
+
+  -- ---- what a session gives
+
+  -- an ask of a unit that has its texts
+  pub submits_turn : (S : List JournalRecord → Reads → Type 0) (at : ℕ) (kept kept' : Kept) (out gives : Out) (d e : D) (old new : Reply) → out ≡ gives
+      → (h : Hindrance) × Takes S (under h at kept (λ desk. submits speech desk kept gives d)) old kept' e new
+      → (h : Hindrance) × Takes S (under h at kept (λ desk. submits speech desk kept out d)) old kept' e new
+  submits_turn S at kept kept' out gives d e old new is t =
+      subst (λ (o : Out). (h : Hindrance) × Takes S (under h at kept (λ desk. submits speech desk kept o d)) old kept' e new) (sym is) t
+
+  -- what comes of what the session gives
+  pub out_turn : (S : List JournalRecord → Reads → Type 0) (at : ℕ) (kept kept' : Kept) (out gives : Out) (d e : D) (old new : Reply) → out ≡ gives
+      → (h : Hindrance) × Takes S (under h at kept (λ desk. followed speech desk kept gives d)) old kept' e new
+      → (h : Hindrance) × Takes S (under h at kept (λ desk. followed speech desk kept out d)) old kept' e new
+  out_turn S at kept kept' out gives d e old new is t =
+      subst (λ (o : Out). (h : Hindrance) × Takes S (under h at kept (λ desk. followed speech desk kept o d)) old kept' e new) (sym is) t
+
+  -- ---- texts
+
+  -- what is asked has nothing to do with texts
+  submits_same : (desk : Service) (texts : List Body → Result (List (List ℕ)) ReadFault) (r : Reads) (kept : Kept) (out : Out) (d : D)
+      → submits speech (record desk { texts = texts; reads = r }) kept out d ≡ submits speech desk kept out d
+  submits_same desk texts r kept (Say said) d = refl
+  submits_same desk texts r kept (Bye said) d = refl
+  submits_same desk texts r kept (Read bodies) d = refl
+  submits_same desk texts r kept (Submit ask) d = refl
+
+  pub quiet_submits : (desk : Service) (kept : Kept) (out : Out) (d : D) → (submits speech desk kept out d).reads ≡ none_read
+  quiet_submits desk kept (Say said) d = refl
+  quiet_submits desk kept (Bye said) d = refl
+  quiet_submits desk kept (Read bodies) d = refl
+  quiet_submits desk kept (Submit ask) d = quiet_settled d (desk.asked (speech.user d) ask)
+
+  -- turns before which texts were read, of which S is known behind that, and S' with it
+  module _ (S S' : List JournalRecord → Reads → Type 0) (at : ℕ) (kept kept' : Kept) (e : D) (old new : Reply) where
+    abbrev Before : Turn D → Type 0
+    Before t = Takes S t old kept' e new
+
+    abbrev With : Turn D → Type 0
+    With t = Takes S' t old kept' e new
+
+    -- the texts were others
+    wrong_turn : ((failed : List JournalRecord) → S failed none_read → S' failed none_read) → ((failed : List JournalRecord) → S failed none_read → S' failed wrong_once)
+        → (h : Hindrance) (f : Service → Turn D) → ((desk : Service) → (f desk).reads ≡ none_read)
+        → Before (under h at kept f) → With (under h at kept (λ desk. reading wrong_once (f desk)))
+    wrong_turn none wrong Clear f quiet t = reread S S' wrong_once (f (service at kept)) old kept' e new (quiet (service at kept)) wrong t
+    wrong_turn none wrong IsToldWant f quiet t = reread S S' none_read (lost {D = D} kept) old kept' e new refl none t
+    wrong_turn none wrong Textless f quiet t =
+        let desk = without_texts (service at kept) in reread S S' wrong_once (f desk) old kept' e new (quiet desk) wrong t
+    wrong_turn none wrong Unread f quiet t =
+        let desk = unread (service at kept) in reread S S' wrong_once (f desk) old kept' e new (quiet desk) wrong t
+    wrong_turn none wrong UnreadRefused f quiet t =
+        let desk = unread_unsaid (service at kept) in reread S S' wrong_once (f desk) old kept' e new (quiet desk) wrong t
+    wrong_turn none wrong UnreadUnheard f quiet t =
+        let desk = unread (service at kept) in reread S S' wrong_once (unanswered (f desk)) old kept' e new (quiet desk) wrong t
+    wrong_turn none wrong (Misread texts h) f quiet t = wrong_turn none wrong h (λ desk. f (misread texts desk)) (λ desk. quiet (misread texts desk)) t
+    wrong_turn none wrong (Misled said left) f quiet t = reread S S' wrong_once (f (service at kept)) old kept' e new (quiet (service at kept)) wrong t
+    wrong_turn none wrong Unstored f quiet t =
+        let desk = without_items kept (service at kept) in reread S S' wrong_once (f desk) old kept' e new (quiet desk) wrong t
+    wrong_turn none wrong Unheard f quiet t = reread S S' none_read (lost {D = D} kept) old kept' e new refl none t
+    wrong_turn none wrong Unanswered f quiet t = reread S S' wrong_once (unanswered (f (service at kept))) old kept' e new (quiet (service at kept)) wrong t
+    wrong_turn none wrong Unsealed f quiet t =
+        let desk = without_seals at kept (service at kept) in reread S S' wrong_once (f desk) old kept' e new (quiet desk) wrong t
+    wrong_turn none wrong Untold f quiet t =
+        let desk = without_seals at kept (service at kept) in reread S S' wrong_once (unanswered (f desk)) old kept' e new (quiet desk) wrong t
+
+    -- the texts were those of the items in force
+    right_with : (bodies : List Body) (d : D) (desk : Service) → ((failed : List JournalRecord) → S failed none_read → S' failed none_read)
+        → Before (given speech kept (texts_kept kept bodies) d desk) → With (reading none_read (given speech kept (texts_kept kept bodies) d desk))
+    right_with bodies d desk none t =
+        let u = speech.heard d (Ok (texts_kept kept bodies)) in
+        reread S S' none_read (submits speech desk kept u.out u.dialog) old kept' e new (quiet_submits desk kept u.out u.dialog) none t
+
+    right_without : (bodies : List Body) (d : D) (desk : Service) → ((failed : List JournalRecord) → S failed none_read → S' failed none_read)
+        → Before (unanswered (given speech kept (texts_kept kept bodies) d desk)) → With (unanswered (reading none_read (given speech kept (texts_kept kept bodies) d desk)))
+    right_without bodies d desk none t =
+        let u = speech.heard d (Ok (texts_kept kept bodies)) in
+        reread S S' none_read (unanswered (submits speech desk kept u.out u.dialog)) old kept' e new (quiet_submits desk kept u.out u.dialog) none t
+
+    -- whatever texts a service has
+    given_same : (bodies : List Body) (d : D) (texts : List Body → Result (List (List ℕ)) ReadFault) (r : Reads) (desk : Service)
+        → given speech kept (texts_kept kept bodies) d (record desk { texts = texts; reads = r }) ≡ given speech kept (texts_kept kept bodies) d desk
+    given_same bodies d texts r desk =
+        let u = speech.heard d (Ok (texts_kept kept bodies)) in submits_same desk texts r kept u.out u.dialog
+
+    right_turn : (bodies : List Body) (d : D) → ((failed : List JournalRecord) → S failed none_read → S' failed none_read)
+        → (h : Hindrance) → Before (under h at kept (given speech kept (texts_kept kept bodies) d))
+        → (h' : Hindrance) × With (under h' at kept (λ desk. followed speech desk kept (Read bodies) d))
+    right_turn bodies d none Clear t = (Clear, right_with bodies d (service at kept) none t)
+    right_turn bodies d none IsToldWant t = (Unheard, reread S S' none_read (lost {D = D} kept) old kept' e new refl none t)
+    right_turn bodies d none Textless t =
+        (Clear, right_with bodies d (service at kept) none (subst Before (given_same bodies d (λ _. Err NoneForTexts) none_read (service at kept)) t))
+    right_turn bodies d none Unread t =
+        (Clear, right_with bodies d (service at kept) none (subst Before (given_same bodies d (λ _. Err NotRead) failed_once (service at kept)) t))
+    right_turn bodies d none UnreadRefused t =
+        (Clear, right_with bodies d (service at kept) none (subst Before (given_same bodies d (λ _. Err NoneForTexts) failed_once (service at kept)) t))
+    right_turn bodies d none UnreadUnheard t =
+        (Unanswered, right_without bodies d (service at kept) none (subst (λ (u : Turn D). Before (unanswered u)) (given_same bodies d (λ _. Err NotRead) failed_once (service at kept)) t))
+    right_turn bodies d none (Misread texts h) t =
+        right_turn bodies d none h (subst (λ (f : Service → Turn D). Before (under h at kept f)) (λ j desk. given_same bodies d (λ _. Ok texts) wrong_once desk j) t)
+    right_turn bodies d none (Misled said left) t = (Clear, right_with bodies d (service at kept) none t)
+    right_turn bodies d none Unstored t = (Unstored, right_with bodies d (without_items kept (service at kept)) none t)
+    right_turn bodies d none Unheard t = (Unheard, reread S S' none_read (lost {D = D} kept) old kept' e new refl none t)
+    right_turn bodies d none Unanswered t = (Unanswered, right_without bodies d (service at kept) none t)
+    right_turn bodies d none Unsealed t = (Unsealed, right_with bodies d (without_seals at kept (service at kept)) none t)
+    right_turn bodies d none Untold t = (Untold, right_without bodies d (without_seals at kept (service at kept)) none t)
+
+    -- one or the other
+    by_texts : (bodies : List Body) (texts : List (List ℕ)) (d : D) → ((failed : List JournalRecord) → S failed none_read → S' failed none_read)
+        → (texts ≡ texts_kept kept bodies) ⊎ ((failed : List JournalRecord) → S failed none_read → S' failed wrong_once)
+        → (h : Hindrance) → Before (under h at kept (given speech kept texts d))
+        → (h' : Hindrance) × With (under h' at kept (λ desk. followed speech desk kept (Read bodies) d))
+    by_texts bodies texts d none (inl right) h t =
+        right_turn bodies d none h (subst (λ (x : List (List ℕ)). Before (under h at kept (given speech kept x d))) right t)
+    by_texts bodies texts d none (inr wrong) h t =
+        let u = speech.heard d (Ok texts) in (
+          Misread texts h,
+          subst (λ (f : Service → Turn D). With (under h at kept f)) (λ j desk. reading wrong_once (sym (submits_same desk (λ _. Ok texts) wrong_once kept u.out u.dialog) j))
+              (wrong_turn none wrong h (given speech kept texts d) (λ desk. quiet_submits desk kept u.out u.dialog) t),
+        )
+
+  -- an ask of a unit that has its texts
+  pub given_turn : (S : List JournalRecord → Reads → Type 0) (at : ℕ) (kept kept' : Kept) (texts : List (List ℕ)) (out : Out) (d e e' : D) (old new : Reply)
+      → speech.heard d (Ok texts) ≡ took out e
+      → (h : Hindrance) × Takes S (under h at kept (λ desk. submits speech desk kept out e)) old kept' e' new
+      → TakesTexts speech S at kept texts d old kept' e' new
+  given_turn S at kept kept' texts out d e e' old new is (h, t) =
+      inl (h, subst (λ (u : Took D). Takes S (under h at kept (λ desk. submits speech desk kept u.out u.dialog)) old kept' e' new) (sym is) t)
+
+  -- the session was told why its texts were not read
+  pub read_not : (why : ReadFault) (kept : Kept) (d e : D) (out : Out) (old new : Reply) → old.closes ≡ false
+      → speech.heard d (Err why) ≡ took out e → IsTold out old new → ReadsNone speech why kept d old e new
+  read_not why kept d e out old new stays is told = by_told (out_told out kept e old new stays told)
+    where
+      by_told : Takes IsNone (settled_as out kept e) old kept e new ⊎ Takes IsNone (ends {D = D} [] kept) old kept e new → ReadsNone speech why kept d old e new
+      by_told (inl t) = inl (subst (λ (u : Took D). Takes IsNone (settled_as u.out kept u.dialog) old kept e new) (sym is) t)
+      by_told (inr t) = inr (inr t)
+
+  -- it was told of want of memory
+  pub read_starved : (kept : Kept) (d e : D) (out : Out) (old new : Reply) → old.closes ≡ false
+      → speech.heard d (Err NoneForTexts) ≡ took out e → IsTold out old new → ReadsStarved speech kept d old e new
+  read_starved kept d e out old new stays is told = by_told (out_told out kept e old new stays told)
+    where
+      by_told : Takes IsNone (settled_as out kept e) old kept e new ⊎ Takes IsNone (ends {D = D} [] kept) old kept e new → ReadsStarved speech kept d old e new
+      by_told (inl t) = inl (subst (λ (u : Took D). Takes IsNone (settled_as u.out kept u.dialog) old kept e new) (sym is) t)
+      by_told (inr t) = inr t
+
+  only_said : (desk : Service) (kept : Kept) (out : Out) (d : D) → is_said out ≡ true → settled_as out kept d ≡ submits speech desk kept out d
+  only_said desk kept (Say said) d is = refl
+  only_said desk kept (Bye said) d wrong = absurd (true≢false (sym wrong))
+  only_said desk kept (Read bodies) d wrong = absurd (true≢false (sym wrong))
+  only_said desk kept (Submit ask) d wrong = absurd (true≢false (sym wrong))
+
+  -- nothing is said of it, and the connection closes
+  only_ended : (desk : Service) (kept : Kept) (out : Out) (d : D) → is_said out ≡ true → ends {D = D} [] kept ≡ unanswered (submits speech desk kept out d)
+  only_ended desk kept (Say said) d is = refl
+  only_ended desk kept (Bye said) d wrong = absurd (true≢false (sym wrong))
+  only_ended desk kept (Read bodies) d wrong = absurd (true≢false (sym wrong))
+  only_ended desk kept (Submit ask) d wrong = absurd (true≢false (sym wrong))
+
+  -- what is told of it is what comes of a service that has no texts
+  told_why : (S : List JournalRecord → Reads → Type 0) (why : ReadFault) (r : Reads) (desk : Service) (kept : Kept) (d e : D) (old new : Reply) → speech.takes_texts d ≡ true → S [] r
+      → Takes IsNone (let u = speech.heard d (Err why) in settled_as u.out kept u.dialog) old kept e new
+      → Takes S (let u = speech.heard d (Err why) in reading r (submits speech desk kept u.out u.dialog)) old kept e new
+  told_why S why r desk kept d e old new awaits none t =
+      let u = speech.heard d (Err why) in
+      subst (λ (v : Turn D). Takes S (reading r v) old kept e new)
+      (only_said desk kept u.out u.dialog (speech.says_why d why awaits))
+      (reread IsNone S r (settled_as u.out kept u.dialog) old kept e new (none_wanted u.out kept u.dialog)
+      (λ failed is. subst (λ (f : List JournalRecord). S f r) (sym is.0) none) t)
+
+  -- where nothing is told of it the connection closes
+  ended_why : (S : List JournalRecord → Reads → Type 0) (why : ReadFault) (r : Reads) (desk : Service) (kept : Kept) (d e : D) (old new : Reply) → speech.takes_texts d ≡ true → S [] r
+      → Takes IsNone (ends {D = D} [] kept) old kept e new
+      → Takes S (let u = speech.heard d (Err why) in unanswered (reading r (submits speech desk kept u.out u.dialog))) old kept e new
+  ended_why S why r desk kept d e old new awaits none t =
+      let u = speech.heard d (Err why) in
+      subst (λ (v : Turn D). Takes S (reading r v) old kept e new)
+      (only_ended desk kept u.out u.dialog (speech.says_why d why awaits))
+      (reread IsNone S r (ends {D = D} [] kept) old kept e new refl (λ failed is. subst (λ (f : List JournalRecord). S f r) (sym is.0) none) t)
+
+  -- no memory was found for the texts of a unit
+  pub textless_turn : (S : List JournalRecord → Reads → Type 0) (at : ℕ) (kept : Kept) (bodies : List Body) (d e : D) (old new : Reply) → speech.takes_texts d ≡ true
+      → S [] none_read → ReadsStarved speech kept d old e new
+      → (h : Hindrance) × Takes S (under h at kept (λ desk. followed speech desk kept (Read bodies) d)) old kept e new
+  textless_turn S at kept bodies d e old new awaits seals (inl t) =
+      (Textless, told_why S NoneForTexts none_read (without_texts (service at kept)) kept d e old new awaits seals t)
+  textless_turn S at kept bodies d e old new awaits seals (inr t) = (Unheard, lifted S (lost {D = D} kept) old kept e new t seals)
+
+  -- the texts of a unit were not read
+  pub unread_turn : (S : List JournalRecord → Reads → Type 0) (at : ℕ) (kept : Kept) (bodies : List Body) (why : ReadFault) (d e : D) (old new : Reply) → speech.takes_texts d ≡ true
+      → S [] (reads_of why) → ReadsNone speech why kept d old e new
+      → (h : Hindrance) × Takes S (under h at kept (λ desk. followed speech desk kept (Read bodies) d)) old kept e new
+  unread_turn S at kept bodies NoneForTexts d e old new awaits seals (inl t) = textless_turn S at kept bodies d e old new awaits seals (inl t)
+  unread_turn S at kept bodies NoneForTexts d e old new awaits seals (inr t) = textless_turn S at kept bodies d e old new awaits seals t
+  unread_turn S at kept bodies NotRead d e old new awaits seals (inl t) =
+      (Unread, told_why S NotRead failed_once (unread (service at kept)) kept d e old new awaits seals t)
+  unread_turn S at kept bodies NotRead d e old new awaits seals (inr (inl t)) =
+      (UnreadRefused, told_why S NoneForTexts failed_once (unread_unsaid (service at kept)) kept d e old new awaits seals t)
+  unread_turn S at kept bodies NotRead d e old new awaits seals (inr (inr t)) =
+      (UnreadUnheard, ended_why S NotRead failed_once (unread (service at kept)) kept d e old new awaits seals t)
+
+  -- the texts of a unit were read, and handed to the session
+  pub texts_turn : (S S' : List JournalRecord → Reads → Type 0) (at : ℕ) (kept kept' : Kept) (bodies : List Body) (texts : List (List ℕ)) (d e : D) (old new : Reply) → speech.takes_texts d ≡ true
+      → ((failed : List JournalRecord) → S failed none_read → S' failed none_read)
+      → (texts ≡ texts_kept kept bodies) ⊎ ((failed : List JournalRecord) → S failed none_read → S' failed wrong_once)
+      → TakesTexts speech S at kept texts d old kept' e new
+      → (h : Hindrance) × Takes S' (under h at kept (λ desk. followed speech desk kept (Read bodies) d)) old kept' e new
+  texts_turn S S' at kept kept' bodies texts d e old new awaits none which (inl (h, t)) = by_texts S S' at kept kept' e old new bodies texts d none which h t
+  texts_turn S S' at kept kept' bodies texts d e old new awaits none which (inr (t, same, seals)) =
+      subst (λ (k : Kept). (h : Hindrance) × Takes S' (under h at kept (λ desk. followed speech desk kept (Read bodies) d)) old k e new) (sym same)
+      (textless_turn S' at kept bodies d e old new awaits (none [] seals) t)
+
+-- ---- a unit of the stream
+
+-- what the desk serves, hindered or not, where want of memory of the session may be told
+pub or_told : {D : Type 0} → (P : Turn D → Type 0) (told : Turn D) (at : ℕ) (kept : Kept) (f : Service → Turn D) (h : Hindrance) → P (under h at kept f)
+    → (h' : Hindrance) × P (row h' at kept told f).follows
+or_told P told at kept f Clear t = (Clear, t)
+or_told P told at kept f IsToldWant t = (Unheard, t)
+or_told P told at kept f Textless t = (Textless, t)
+or_told P told at kept f Unread t = (Unread, t)
+or_told P told at kept f UnreadRefused t = (UnreadRefused, t)
+or_told P told at kept f UnreadUnheard t = (UnreadUnheard, t)
+or_told P told at kept f (Misread texts h) t = (Misread texts h, t)
+or_told P told at kept f (Misled said left) t = (Misled said left, t)
+or_told P told at kept f Unstored t = (Unstored, t)
+or_told P told at kept f Unheard t = (Unheard, t)
+or_told P told at kept f Unanswered t = (Unanswered, t)
+or_told P told at kept f Unsealed t = (Unsealed, t)
+or_told P told at kept f Untold t = (Untold, t)
+
+-- what follows from what a unit gives is its turn
+pub begun_turn : {D U : Type 0} → (session : Session D U) (S : List JournalRecord → Reads → Type 0) (at : ℕ) (kept kept' : Kept) (others : Seats) (d e e' : D) (unit : U) (out : Out) (old new : Reply)
+    → session.takes at kept others d unit ≡ took out e
+    → (h : Hindrance) × Takes S (under h at kept (λ desk. followed session.speech desk kept out e)) old kept' e' new
+    → (h : Hindrance) × Takes S (hindered session h at kept others d unit) old kept' e' new
+begun_turn {D} session S at kept kept' others d e e' unit out old new is (h, t) =
+    or_told (λ (u : Turn D). Takes S u old kept' e' new) (session.starves kept d unit) at kept (λ desk. served session desk at kept others d unit) h
+    (subst (λ (u : Took D). Takes S (under h at kept (λ desk. followed session.speech desk kept u.out u.dialog)) old kept' e' new) (sym is) t)

@@ -1,0 +1,193 @@
+-- What licenses a hindrance.
+use Rattle.std.proofs.Common.{◌≡◌, ◌⊎◌, inl, inr, ℕ, Bool, cond, true, false, true≢false, List, [], ◌∷◌, Option, Ok, Err, refl, ap}
+use Rattle.std.specs.List.{list_any}
+use Rattle.undo_base.specs.declared.keys.User.{User}
+use Rattle.verb_core.specs.declared.ask.Ask.{Ask}
+use Rattle.smtp_lines.specs.declared.line.SmtpLine.{SmtpLine}
+use Rattle.smtp_session.specs.declared.dialog.Dialog.{Dialog}
+use Rattle.smtp_session.specs.Dialog as smtp
+use Rattle.imap_lines.specs.Command.{Reading, command_of}
+use Rattle.imap_stream.specs.declared.next.Next.{Next}
+use Rattle.imap_stream.specs.declared.next.Next.TheVariants.{Command, Ask as Mark, Bad, NotYet}
+use Rattle.imap_session.specs.declared.dialog.Dialog.{Dialog as ImapDialog}
+use Rattle.store_kept.specs.Kept.{Kept}
+use Rattle.desk_journal.specs.Reading.{Reads, failed_once, none_read, wrong_once}
+use Rattle.mail_loop.specs.declared.out.Out.{Out}
+use Rattle.mail_loop.specs.declared.out.Out.TheVariants.{Say, Read, Submit, Bye}
+use Rattle.mail_loop.specs.State.{Seats}
+use Rattle.mail_loop.specs.Turn.{Turn, lost, says}
+use Rattle.mail_loop.specs.Session.{Service, Session, Speech, followed, served, service, submits}
+use Rattle.mail_loop.specs.Hindrance.{Hindrance, Clear, Refused, Textless, Unread, UnreadRefused, UnreadUnheard, Misread, Misled, Unstored, Unheard, Unanswered, Unsealed, Untold, IsLicensed, IsLicensedRow, Licence, Row, is_failed_write, misread, row, unread, unread_unsaid, without_items, without_seals, without_texts}
+use Rattle.mail_loop.specs.SmtpTurn.{memory_told, smtp_session}
+use Rattle.mail_loop.specs.ImapTurn.{imap_session}
+use Rattle.mail_loop.specs.ImapTurn as reader
+use Rattle.mail_loop.proofs.Dialogs.{quiet_submits}
+
+-- a desk that leaves nothing unsealed
+abbrev Seals : Service → Type 0
+Seals desk = (by : Option User) (ask : Ask) → (desk.asked by ask).unsealed ≡ []
+
+-- A turn over a service leaves nothing unsealed where the service does not, and reads nothing, or as the service says.
+record IsFair {D : Type 0} (turn : Service → Turn D) : Type 0 where
+  seals : (desk : Service) → Seals desk → (turn desk).unsealed ≡ []
+  reads : (desk : Service) → ((turn desk).reads ≡ none_read) ⊎ ((turn desk).reads ≡ desk.reads)
+
+-- The same of a turn that was given another text, or read none.
+record IsGiven {D : Type 0} (turn : Service → Turn D) : Type 0 where
+  seals : (desk : Service) → Seals desk → (turn desk).unsealed ≡ []
+  reads : (desk : Service) → ((turn desk).reads ≡ none_read) ⊎ ((turn desk).reads ≡ wrong_once)
+
+-- what such a turn says is licensed but for the other text
+record IsGivenRow {D : Type 0} (r : Row D) : Type 0 where
+  writes : list_any is_failed_write r.licence ≡ false → r.follows.unsealed ≡ []
+  reads : r.follows.reads.failed ≡ 0
+
+either_none : (r : Reads) → (r ≡ none_read) ⊎ (r ≡ none_read) → r ≡ none_read
+either_none r (inl is) = is
+either_none r (inr is) = is
+
+none_failed : (r : Reads) → (r ≡ none_read) ⊎ (r ≡ wrong_once) → r.failed ≡ 0
+none_failed r (inl is) = ap (λ (q : Reads). q.failed) is
+none_failed r (inr is) = ap (λ (q : Reads). q.failed) is
+
+none_wrong : (r : Reads) → (r ≡ none_read) ⊎ (r ≡ failed_once) → r.wrong ≡ 0
+none_wrong r (inl is) = ap (λ (q : Reads). q.wrong) is
+none_wrong r (inr is) = ap (λ (q : Reads). q.wrong) is
+
+-- whether there is a licence
+abbrev some : List Licence → Bool
+some [] = false
+some (x ∷ xs) = true
+
+-- nothing is said of a disk
+quiet_row : {D : Type 0} → (clear : Turn D) (r : Row D) → (r.licence ≡ [] → r.follows ≡ clear) → r.follows.unsealed ≡ [] → r.follows.reads ≡ none_read → IsLicensed clear r
+quiet_row clear r goes sealed read =
+    record { goes = goes; writes = λ none. sealed; reads = λ none. ap (λ (q : Reads). q.failed) read; wrong = λ none. ap (λ (q : Reads). q.wrong) read }
+
+module _ {D : Type 0} (speech : Speech D) (kept : Kept) where
+  submits_sealed : (desk : Service) (out : Out) (d : D) → Seals desk → (submits speech desk kept out d).unsealed ≡ []
+  submits_sealed desk (Say said) d seals = refl
+  submits_sealed desk (Bye said) d seals = refl
+  submits_sealed desk (Read bodies) d seals = refl
+  submits_sealed desk (Submit asked) d seals = seals (speech.user d) asked
+
+  followed_sealed : (desk : Service) (out : Out) (d : D) → Seals desk → (followed speech desk kept out d).unsealed ≡ []
+  followed_sealed desk (Say said) d seals = refl
+  followed_sealed desk (Bye said) d seals = refl
+  followed_sealed desk (Read bodies) d seals = let t = speech.heard d (desk.texts bodies) in submits_sealed desk t.out t.dialog seals
+  followed_sealed desk (Submit asked) d seals = seals (speech.user d) asked
+
+  followed_reads : (desk : Service) (out : Out) (d : D) → ((followed speech desk kept out d).reads ≡ none_read) ⊎ ((followed speech desk kept out d).reads ≡ desk.reads)
+  followed_reads desk (Say said) d = inl refl
+  followed_reads desk (Bye said) d = inl refl
+  followed_reads desk (Read bodies) d = inr refl
+  followed_reads desk (Submit asked) d = inl (quiet_submits speech desk kept (Submit asked) d)
+
+-- the desk as it is, without memory for texts or for items, and with texts that are not read, seals what it is asked
+seals_all : (at : ℕ) (kept : Kept) → Seals (service at kept)
+seals_all at kept by ask = refl
+
+module _ {D : Type 0} (at : ℕ) (kept : Kept) where
+  given_row : (h : Hindrance) (told : Turn D) (turn : Service → Turn D) → told.unsealed ≡ [] → told.reads ≡ none_read → IsGiven turn → IsGivenRow (row h at kept told turn)
+  given_row Clear told turn sealed read fair =
+      record { writes = λ none. fair.seals (service at kept) (seals_all at kept); reads = none_failed (turn (service at kept)).reads (fair.reads (service at kept)) }
+  given_row Refused told turn sealed read fair = record { writes = λ none. sealed; reads = ap (λ (q : Reads). q.failed) read }
+  given_row Textless told turn sealed read fair =
+      let desk = without_texts (service at kept) in record { writes = λ none. fair.seals desk (seals_all at kept); reads = none_failed (turn desk).reads (fair.reads desk) }
+  given_row Unread told turn sealed read fair =
+      let desk = unread (service at kept) in record { writes = λ none. fair.seals desk (seals_all at kept); reads = none_failed (turn desk).reads (fair.reads desk) }
+  given_row UnreadRefused told turn sealed read fair =
+      let desk = unread_unsaid (service at kept) in record { writes = λ none. fair.seals desk (seals_all at kept); reads = none_failed (turn desk).reads (fair.reads desk) }
+  given_row UnreadUnheard told turn sealed read fair =
+      let desk = unread (service at kept) in record { writes = λ none. fair.seals desk (seals_all at kept); reads = none_failed (turn desk).reads (fair.reads desk) }
+  given_row (Misread texts h) told turn sealed read fair =
+      let other = given_row h (lost kept) (λ desk. turn (misread texts desk)) refl refl (record { seals = λ desk all. fair.seals (misread texts desk) all; reads = λ desk. fair.reads (misread texts desk) }) in
+      record { writes = other.writes; reads = other.reads }
+  given_row (Misled said left) told turn sealed read fair =
+      record { writes = λ none. fair.seals (service at kept) (seals_all at kept); reads = none_failed (turn (service at kept)).reads (fair.reads (service at kept)) }
+  given_row Unstored told turn sealed read fair =
+      let desk = without_items kept (service at kept) in record { writes = λ none. fair.seals desk (λ by ask. refl); reads = none_failed (turn desk).reads (fair.reads desk) }
+  given_row Unheard told turn sealed read fair = record { writes = λ none. refl; reads = refl }
+  given_row Unanswered told turn sealed read fair =
+      record { writes = λ none. fair.seals (service at kept) (seals_all at kept); reads = none_failed (turn (service at kept)).reads (fair.reads (service at kept)) }
+  given_row Unsealed told turn sealed read fair =
+      let desk = without_seals at kept (service at kept) in record { writes = λ wrong. absurd (true≢false wrong); reads = none_failed (turn desk).reads (fair.reads desk) }
+  given_row Untold told turn sealed read fair =
+      let desk = without_seals at kept (service at kept) in record { writes = λ wrong. absurd (true≢false wrong); reads = none_failed (turn desk).reads (fair.reads desk) }
+
+  licensed : (h : Hindrance) (told : Turn D) (turn : Service → Turn D) → told.unsealed ≡ [] → told.reads ≡ none_read → IsFair turn
+      → ((texts : List (List ℕ)) → IsGiven (λ desk. turn (misread texts desk))) → IsLicensed (turn (service at kept)) (row h at kept told turn)
+  licensed Clear told turn sealed read fair given =
+      quiet_row (turn (service at kept)) (row Clear at kept told turn) (λ e. refl) (fair.seals (service at kept) (seals_all at kept)) (either_none (turn (service at kept)).reads (fair.reads (service at kept)))
+  licensed Refused told turn sealed read fair given = quiet_row (turn (service at kept)) (row Refused at kept told turn) (λ e. absurd (true≢false (ap some e))) sealed read
+  licensed Textless told turn sealed read fair given =
+      let desk = without_texts (service at kept) in quiet_row (turn (service at kept)) (row Textless at kept told turn) (λ e. absurd (true≢false (ap some e))) (fair.seals desk (seals_all at kept)) (either_none (turn desk).reads (fair.reads desk))
+  licensed Unread told turn sealed read fair given =
+      let desk = unread (service at kept) in
+      record { goes = λ e. absurd (true≢false (ap some e)); writes = λ none. fair.seals desk (seals_all at kept); reads = λ wrong. absurd (true≢false wrong); wrong = λ none. none_wrong (turn desk).reads (fair.reads desk) }
+  licensed UnreadRefused told turn sealed read fair given =
+      let desk = unread_unsaid (service at kept) in
+      record { goes = λ e. absurd (true≢false (ap some e)); writes = λ none. fair.seals desk (seals_all at kept); reads = λ wrong. absurd (true≢false wrong); wrong = λ none. none_wrong (turn desk).reads (fair.reads desk) }
+  licensed UnreadUnheard told turn sealed read fair given =
+      let desk = unread (service at kept) in
+      record { goes = λ e. absurd (true≢false (ap some e)); writes = λ none. fair.seals desk (seals_all at kept); reads = λ wrong. absurd (true≢false wrong); wrong = λ none. none_wrong (turn desk).reads (fair.reads desk) }
+  licensed (Misread texts h) told turn sealed read fair given =
+      let other = given_row h (lost kept) (λ desk. turn (misread texts desk)) refl refl (given texts) in
+      record { goes = λ e. absurd (true≢false (ap some e)); writes = other.writes; reads = λ none. other.reads; wrong = λ wrong. absurd (true≢false wrong) }
+  licensed (Misled said left) told turn sealed read fair given =
+      record {
+        goes = λ e. absurd (true≢false (ap some e));
+        writes = λ none. fair.seals (service at kept) (seals_all at kept);
+        reads = λ none. ap (λ (q : Reads). q.failed) (either_none (turn (service at kept)).reads (fair.reads (service at kept)));
+        wrong = λ wrong. absurd (true≢false wrong);
+      }
+  licensed Unstored told turn sealed read fair given =
+      let desk = without_items kept (service at kept) in quiet_row (turn (service at kept)) (row Unstored at kept told turn) (λ e. absurd (true≢false (ap some e))) (fair.seals desk (λ by ask. refl)) (either_none (turn desk).reads (fair.reads desk))
+  licensed Unheard told turn sealed read fair given = quiet_row (turn (service at kept)) (row Unheard at kept told turn) (λ e. absurd (true≢false (ap some e))) refl refl
+  licensed Unanswered told turn sealed read fair given =
+      quiet_row (turn (service at kept)) (row Unanswered at kept told turn) (λ e. absurd (true≢false (ap some e))) (fair.seals (service at kept) (seals_all at kept)) (either_none (turn (service at kept)).reads (fair.reads (service at kept)))
+  licensed Unsealed told turn sealed read fair given =
+      let desk = without_seals at kept (service at kept) in
+      let none = either_none (turn desk).reads (fair.reads desk) in
+      record { goes = λ e. absurd (true≢false (ap some e)); writes = λ wrong. absurd (true≢false wrong); reads = λ _. ap (λ (q : Reads). q.failed) none; wrong = λ _. ap (λ (q : Reads). q.wrong) none }
+  licensed Untold told turn sealed read fair given =
+      let desk = without_seals at kept (service at kept) in
+      let none = either_none (turn desk).reads (fair.reads desk) in
+      record { goes = λ e. absurd (true≢false (ap some e)); writes = λ wrong. absurd (true≢false wrong); reads = λ _. ap (λ (q : Reads). q.failed) none; wrong = λ _. ap (λ (q : Reads). q.wrong) none }
+
+-- a session's row
+pub session_licensed : {D U : Type 0} → (session : Session D U) (h : Hindrance) (at : ℕ) (kept : Kept) (others : Seats) (d : D) (unit : U)
+    → (session.starves kept d unit).unsealed ≡ [] → (session.starves kept d unit).reads ≡ none_read → IsLicensedRow session h at kept others d unit
+session_licensed {D} session h at kept others d unit sealed read =
+    let t = session.takes at kept others d unit in
+    licensed {D = D} at kept h (session.starves kept d unit) (λ desk. served session desk at kept others d unit) sealed read
+    (record { seals = λ desk all. followed_sealed session.speech kept desk t.out t.dialog all; reads = λ desk. followed_reads session.speech kept desk t.out t.dialog })
+    (λ texts. record { seals = λ desk all. followed_sealed session.speech kept (misread texts desk) t.out t.dialog all; reads = λ desk. followed_reads session.speech kept (misread texts desk) t.out t.dialog })
+
+-- what a session says of want of memory for a unit
+client_sealed : (kept : Kept) (d : Dialog) (b : Bool) → (cond b (lost kept) (says memory_told kept d)).unsealed ≡ []
+client_sealed kept d true = refl
+client_sealed kept d false = refl
+
+client_read : (kept : Kept) (d : Dialog) (b : Bool) → (cond b (lost kept) (says memory_told kept d)).reads ≡ none_read
+client_read kept d true = refl
+client_read kept d false = refl
+
+pub client_licensed : (h : Hindrance) (at : ℕ) (kept : Kept) (others : Seats) (d : Dialog) (line : SmtpLine) → IsLicensedRow smtp_session h at kept others d line
+client_licensed h at kept others d line =
+    session_licensed smtp_session h at kept others d line (client_sealed kept d (smtp.is_writing d)) (client_read kept d (smtp.is_writing d))
+
+command_sealed : (kept : Kept) (d : ImapDialog) (r : Reading) → (reader.starved_command kept d r).unsealed ≡ []
+command_sealed kept d (Ok command) = refl
+command_sealed kept d (Err why) = refl
+
+command_read : (kept : Kept) (d : ImapDialog) (r : Reading) → (reader.starved_command kept d r).reads ≡ none_read
+command_read kept d (Ok command) = refl
+command_read kept d (Err why) = refl
+
+pub reader_licensed : (h : Hindrance) (at : ℕ) (kept : Kept) (others : Seats) (d : ImapDialog) (next : Next) → IsLicensedRow imap_session h at kept others d next
+reader_licensed h at kept others d (Command raw) =
+    session_licensed imap_session h at kept others d (Command raw) (command_sealed kept d (command_of raw)) (command_read kept d (command_of raw))
+reader_licensed h at kept others d (Mark length) = session_licensed imap_session h at kept others d (Mark length) refl refl
+reader_licensed h at kept others d (Bad line) = session_licensed imap_session h at kept others d (Bad line) refl refl
+reader_licensed h at kept others d NotYet = session_licensed imap_session h at kept others d NotYet refl refl

@@ -1,7 +1,0 @@
-use Rattle.mail_loop.proofs.ImapTurns.{again_told}
-use Rattle.mail_loop.proofs.imap_turn.settle_again.Goals as goal
-
-pub returns-in-Ok-clause-settled : goal.returns-in-Ok-clause-settled
-returns-in-Ok-clause-settled g c =
-    again_told c.args.was_refused c.args.desk.now.kept c.args.session.now c.done_without.new.session c.in-Ok.out c.args.reply.now c.tell_all.new.reply
-    c.requires.stays c.if-not-was_refused.false c.in-Ok.ensures.ok c.tell_all.ensures

@@ -1,0 +1,7 @@
+use Rattle.mail_loop.proofs.Dialogs.{again_told}
+use Rattle.mail_loop.proofs.turn.settle_again.Goals as goal
+
+pub returns-in-Ok-clause-settled : goal.returns-in-Ok-clause-settled
+returns-in-Ok-clause-settled g c =
+    again_told g.S.Speaks.speech c.args.was_refused c.args.desk.now.kept c.args.session.now c.settle_with.new.session c.in-Ok.out c.args.reply.now c.tell.new.reply
+    c.requires.stays c.if-not-was_refused.false c.in-Ok.ensures.ok c.tell.ensures

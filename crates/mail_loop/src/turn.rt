@@ -1,0 +1,274 @@
+//! What follows in a turn once the session took a unit of its stream: what is said, the texts that are read for it, and what it asks
+//! of the desk.
+ghost use Rattle.std.specs.Prelude.{◌≡◌, is_some, true, false, IfOk, IsTrue, OnErr, OnOk};
+ghost use Rattle.std.specs.List.{list_all};
+ghost use Rattle.verb_core.specs.declared.conf.House.{House as TheHouse};
+ghost use Rattle.verb_core.specs.Live.{is_users};
+ghost use Rattle.store_kept.specs.Kept.{store_of, Kept};
+ghost use Rattle.store_kept.specs.Texts.{has_text_kept};
+ghost use Rattle.mail_loop.specs.Asked.{HaveSealed};
+ghost use Rattle.mail_loop.specs.Session.{done, followed, is_home, is_said, submits, took};
+ghost use Rattle.mail_loop.specs.Hindrance.{Hindrance, under};
+ghost use Rattle.mail_loop.specs.Took.{AreThere, AsksAs, IsAwaitedLast, IsNext, IsTold, ReadsNone, ReadsStarved, Settles, SettlesAgain, Takes, TakesTexts};
+
+use crate::asking::{ask_desk, is_refused};
+use crate::out::Out;
+use crate::reply::{Reply, say};
+use crate::speaks::Speaks;
+use imap_session::Bodies0;
+use seal_log::ReadFault;
+use std::alloc::Global;
+use time_desk::Desk;
+use time_desk::laws::seals_join;
+use undo_base::{NoMemory, Texts};
+use undo_outside::Disk;
+use verb_core::{Ask, Item, Refused, SubmitFault};
+
+/// The connection closes, with no answer, and the session is over.
+pub fn close<S: Speaks>(session: &mut S, reply: &mut Reply)
+    ensures over { session.new ≡ S.speech.opening }
+    ensures free { S.speech.is_free session.new ≡ true }
+    ensures home { (house : TheHouse) → is_home S.speech house session.new ≡ true }
+    ensures closed { reply.new ≡ record reply.old { closes = true } }
+{
+    session.end();
+    reply.closes = true;
+}
+
+/// What is said goes into the reply.
+fn tell(reply: &mut Reply, out: Out)
+    ensures { IsTold out reply.old reply.new }
+{
+    match out {
+        Out::Say(text) => say(reply, text.bytes(), false),
+        Out::Bye(text) => say(reply, text.bytes(), true),
+        Out::Read(_) => {}
+        Out::Submit(_) => {}
+    }
+}
+
+/// The session takes an outcome over what the desk keeps.
+fn settle_with<S: Speaks, D: Disk + Drop>(
+    alloc: Global,
+    desk: &Desk<D>,
+    session: &mut S,
+    outcome: &Result<Item, SubmitFault>,
+) -> Result<Out, NoMemory>
+    requires due { S.speech.is_due session.old ≡ true }
+    ensures ok { IfOk result (λ out. S.speech.settle (store_of desk.now.kept) desk.now.kept.stamps session.old outcome.now ≡ took out session.new) }
+    ensures free { OnOk result (S.speech.is_free session.new ≡ true) }
+    ensures home { (house : TheHouse) → is_home S.speech house session.old ≡ true → is_home S.speech house session.new ≡ true }
+    ensures err { OnErr result (session.new ≡ session.old) }
+{
+    session.take_outcome(alloc, desk.store(), desk.stamps(), outcome)
+}
+
+/// Tells the session of want of memory, where its ask was refused. An item that is kept is left unanswered.
+fn settle_again<S: Speaks, D: Disk + Drop>(
+    alloc: Global,
+    desk: &Desk<D>,
+    session: &mut S,
+    was_refused: bool,
+    reply: &mut Reply,
+)
+    requires due { S.speech.is_due session.old ≡ true }
+    requires stays { reply.old.closes ≡ false }
+    requires home { is_home S.speech desk.now.kept.house session.old ≡ true }
+    ensures free { S.speech.is_free session.new ≡ true }
+    ensures home { is_home S.speech desk.now.kept.house session.new ≡ true }
+    ensures settled { SettlesAgain S.speech was_refused desk.now.kept session.old reply.old session.new reply.new }
+{
+    if !was_refused {
+        return close(session, reply);
+    }
+    let starved = Err(SubmitFault::Refused(Refused::NoMemory));
+    match settle_with(alloc, desk, session, &starved) {
+        Ok(out) => tell(reply, out),
+        Err(NoMemory) => close(session, reply),
+    }
+}
+
+/// Tells the session what became of its ask.
+fn settle<S: Speaks, D: Disk + Drop>(
+    alloc: Global,
+    desk: &Desk<D>,
+    session: &mut S,
+    outcome: &Result<Item, SubmitFault>,
+    reply: &mut Reply,
+)
+    requires due { S.speech.is_due session.old ≡ true }
+    requires stays { reply.old.closes ≡ false }
+    requires home { is_home S.speech desk.now.kept.house session.old ≡ true }
+    ensures free { S.speech.is_free session.new ≡ true }
+    ensures home { is_home S.speech desk.now.kept.house session.new ≡ true }
+    ensures settled { Settles S.speech outcome.now desk.now.kept session.old reply.old session.new reply.new }
+{
+    match settle_with(alloc, desk, session, outcome) {
+        Ok(out) => tell(reply, out),
+        Err(NoMemory) => settle_again(alloc, desk, session, is_refused(outcome), reply),
+    }
+}
+
+/// Asks the desk for who is logged in, and tells the session what became of that.
+fn submit<S: Speaks, D: Disk + Drop>(
+    alloc: Global,
+    desk: &mut Desk<D>,
+    session: &mut S,
+    at: u64,
+    ask: Ask,
+    reply: &mut Reply,
+)
+    requires due { S.speech.is_due session.old ≡ true }
+    requires user { is_users ask ≡ is_some (S.speech.user session.old) }
+    requires stays { reply.old.closes ≡ false }
+    requires home { is_home S.speech desk.old.kept.house session.old ≡ true }
+    requires sealed { desk.old.closed ≡ false }
+    ensures free { S.speech.is_free session.new ≡ true }
+    ensures home { is_home S.speech desk.new.kept.house session.new ≡ true }
+    ensures house { desk.new.kept.house ≡ desk.old.kept.house }
+    ensures turn { (h : Hindrance) ×
+        Takes (HaveSealed D.told desk.old desk.new) (under h at desk.old.kept (λ service. done S.speech desk.old.kept session.old (service.asked (S.speech.user session.old) ask))) reply.old desk.new.kept session.new reply.new }
+{
+    let outcome = ask_desk(alloc, desk, at, session.asker(), ask, reply);
+    settle(alloc, desk, session, &outcome, reply);
+}
+
+/// Does what comes of a unit whose session has its texts.
+fn go_on<S: Speaks, D: Disk + Drop>(
+    alloc: Global,
+    desk: &mut Desk<D>,
+    session: &mut S,
+    at: u64,
+    out: Out,
+    reply: &mut Reply,
+)
+    requires awaited { IsAwaitedLast S.speech out session.old }
+    requires user { AsksAs S.speech out session.old }
+    requires stays { reply.old.closes ≡ false }
+    requires home { is_home S.speech desk.old.kept.house session.old ≡ true }
+    requires sealed { desk.old.closed ≡ false }
+    ensures free { S.speech.is_free session.new ≡ true }
+    ensures home { is_home S.speech desk.new.kept.house session.new ≡ true }
+    ensures house { desk.new.kept.house ≡ desk.old.kept.house }
+    ensures turn { (h : Hindrance) ×
+        Takes (HaveSealed D.told desk.old desk.new) (under h at desk.old.kept (λ service. submits S.speech service desk.old.kept out session.old)) reply.old desk.new.kept session.new reply.new }
+{
+    seals_join::<D>();
+    match out {
+        Out::Say(text) => say(reply, text.bytes(), false),
+        Out::Bye(text) => say(reply, text.bytes(), true),
+        Out::Read(_) => unreachable!(),
+        Out::Submit(ask) => submit(alloc, desk, session, at, ask, reply),
+    }
+}
+
+/// Tells the session that no memory was found for its texts.
+fn read_starved<S: Speaks>(alloc: Global, session: &mut S, reply: &mut Reply)
+    requires reading { S.speech.takes_texts session.old ≡ true }
+    requires stays { reply.old.closes ≡ false }
+    ensures free { S.speech.is_free session.new ≡ true }
+    ensures home { (house : TheHouse) → is_home S.speech house session.old ≡ true → is_home S.speech house session.new ≡ true }
+    ensures read { (kept : Kept) → ReadsStarved S.speech kept session.old reply.old session.new reply.new }
+{
+    match session.take_texts(alloc, &Err(ReadFault::NoMemory)) {
+        Ok(out) => tell(reply, out),
+        Err(NoMemory) => close(session, reply),
+    }
+}
+
+/// Tells the session why its texts were not read, or, where it finds no memory for that, of want of memory.
+fn read_none<S: Speaks>(alloc: Global, session: &mut S, why: ReadFault, reply: &mut Reply)
+    requires reading { S.speech.takes_texts session.old ≡ true }
+    requires stays { reply.old.closes ≡ false }
+    ensures free { S.speech.is_free session.new ≡ true }
+    ensures home { (house : TheHouse) → is_home S.speech house session.old ≡ true → is_home S.speech house session.new ≡ true }
+    ensures read { (kept : Kept) → ReadsNone S.speech why kept session.old reply.old session.new reply.new }
+{
+    match session.take_texts(alloc, &Err(why)) {
+        Ok(out) => tell(reply, out),
+        Err(NoMemory) => read_starved(alloc, session, reply),
+    }
+}
+
+/// Hands the session texts.
+fn hand_texts<S: Speaks, D: Disk + Drop>(
+    alloc: Global,
+    desk: &mut Desk<D>,
+    session: &mut S,
+    at: u64,
+    texts: Texts,
+    reply: &mut Reply,
+)
+    requires reading { S.speech.takes_texts session.old ≡ true }
+    requires stays { reply.old.closes ≡ false }
+    requires home { is_home S.speech desk.old.kept.house session.old ≡ true }
+    requires sealed { desk.old.closed ≡ false }
+    ensures free { S.speech.is_free session.new ≡ true }
+    ensures home { is_home S.speech desk.new.kept.house session.new ≡ true }
+    ensures house { desk.new.kept.house ≡ desk.old.kept.house }
+    ensures turn { TakesTexts S.speech (HaveSealed D.told desk.old desk.new) at desk.old.kept texts session.old reply.old desk.new.kept session.new reply.new }
+{
+    seals_join::<D>();
+    match session.take_texts(alloc, &Ok(texts)) {
+        Ok(out) => go_on(alloc, desk, session, at, out, reply),
+        Err(NoMemory) => read_starved(alloc, session, reply),
+    }
+}
+
+/// Reads the texts that the session wants, and hands them to it. Where one is not read the session is told, and goes on.
+fn read<S: Speaks, D: Disk + Drop>(
+    alloc: Global,
+    desk: &mut Desk<D>,
+    session: &mut S,
+    at: u64,
+    bodies: &Bodies0,
+    reply: &mut Reply,
+)
+    requires reading { S.speech.takes_texts session.old ≡ true }
+    requires there { IsTrue (list_all (has_text_kept desk.old.kept) bodies.now) }
+    requires stays { reply.old.closes ≡ false }
+    requires home { is_home S.speech desk.old.kept.house session.old ≡ true }
+    requires sealed { desk.old.closed ≡ false }
+    ensures free { S.speech.is_free session.new ≡ true }
+    ensures home { is_home S.speech desk.new.kept.house session.new ≡ true }
+    ensures house { desk.new.kept.house ≡ desk.old.kept.house }
+    ensures turn { (h : Hindrance) ×
+        Takes (HaveSealed D.told desk.old desk.new) (under h at desk.old.kept (λ service. followed S.speech service desk.old.kept (Out.Read bodies.now) session.old)) reply.old desk.new.kept session.new reply.new }
+{
+    seals_join::<D>();
+    match desk.texts(alloc, bodies.as_slice()) {
+        Ok(texts) => hand_texts(alloc, desk, session, at, texts, reply),
+        Err(why) => read_none(alloc, session, why, reply),
+    }
+}
+
+/// Does what comes of a unit of the stream.
+pub fn follow<S: Speaks, D: Disk + Drop>(
+    alloc: Global,
+    desk: &mut Desk<D>,
+    session: &mut S,
+    at: u64,
+    out: Out,
+    reply: &mut Reply,
+)
+    requires awaited { IsNext S.speech out session.old }
+    requires user { AsksAs S.speech out session.old }
+    requires there { AreThere desk.old.kept out }
+    requires stays { reply.old.closes ≡ false }
+    requires home { is_home S.speech desk.old.kept.house session.old ≡ true }
+    requires sealed { desk.old.closed ≡ false }
+    ensures free { S.speech.is_free session.new ≡ true }
+    ensures home { is_home S.speech desk.new.kept.house session.new ≡ true }
+    ensures house { desk.new.kept.house ≡ desk.old.kept.house }
+    ensures turn { (h : Hindrance) ×
+        Takes (HaveSealed D.told desk.old desk.new) (under h at desk.old.kept (λ service. followed S.speech service desk.old.kept out session.old)) reply.old desk.new.kept session.new reply.new }
+    ensures still { is_said out ≡ true → (desk.new.kept ≡ desk.old.kept) × (session.new ≡ session.old) }
+{
+    seals_join::<D>();
+    match out {
+        Out::Say(text) => say(reply, text.bytes(), false),
+        Out::Bye(text) => say(reply, text.bytes(), true),
+        Out::Read(bodies) => read(alloc, desk, session, at, &bodies, reply),
+        Out::Submit(ask) => submit(alloc, desk, session, at, ask, reply),
+    }
+}
