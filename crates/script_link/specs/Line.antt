@@ -6,7 +6,7 @@ use Rattle.undo_outside.specs.declared.event.Event.{Event}
 use Rattle.undo_outside.specs.declared.event.What.{What}
 use Rattle.undo_outside.specs.declared.event.What.TheVariants.{Joined, Bytes, Left, Idle}
 use Rattle.undo_outside.specs.declared.event.Role.{Role}
-use Rattle.undo_outside.specs.declared.event.Role.TheVariants.{Smtp, Imap, Http}
+use Rattle.undo_outside.specs.declared.event.Role.TheVariants.{Smtp, Imap, Http, Pop}
 use Rattle.script_link.specs.declared.line.ScriptLine.{ScriptLine}
 use Rattle.script_link.specs.declared.line.ScriptLine.TheVariants.{Skipped, Moment, Happens, Bad}
 use Rattle.undo_base.specs.Digits.{number_between}
@@ -46,12 +46,13 @@ at_line None = Bad
 at_line (Some at) = Moment at
 
 -- what a connection speaks
-abbrev pub role_of : List ℕ → Option Role
+unfoldable pub role_of : List ℕ → Option Role
 role_of word =
     if bytes_eq word (codes "smtp") then Some Smtp
     else (if bytes_eq word (codes "imap") then Some Imap
     else (if bytes_eq word (codes "http") then Some Http
-    else None))
+    else (if bytes_eq word (codes "pop") then Some Pop
+    else None)))
 
 -- what follows 'open ': a connection and what it speaks
 unfoldable pub open_line : ℕ → List ℕ → ScriptLine

@@ -72,6 +72,7 @@ fn event_at(at: u64, conn: &[u8], what: Option<What>) -> ScriptLine
     }
 }
 
+#[tactic(auto, unfolding(crate::specs::Line::role_of))]
 fn read_role(word: &[u8]) -> Option<Role>
     ensures { result ≡ role_of word.now }
 {
@@ -81,6 +82,8 @@ fn read_role(word: &[u8]) -> Option<Role>
         Some(Role::Imap)
     } else if is_text(word, b"http") {
         Some(Role::Http)
+    } else if is_text(word, b"pop") {
+        Some(Role::Pop)
     } else {
         None
     }
