@@ -24,21 +24,25 @@ pub record SealCause {T : Type 0} (old new : DiskTold) (result : Result T SealFa
   pub reads : new.failed_reads ≡ old.failed_reads
   pub reliable : new.is_reliable ≡ old.is_reliable
 
+-- each write found memory
+abbrev pub Fed : DiskTold → DiskTold → Type 0
+Fed old new = new.starved ≡ old.starved
+
 -- no memory was found: nothing was done, or the last write that was made found none, and no other
 abbrev pub Starves : {D : Type 0} → (D → DiskTold) → D → D → Type 0
 Starves told old new = (new ≡ old) ⊎ WriteStarved (told old) (told new)
 
 -- writes find memory, but for the last one where the call says that it found none
 pub record PutWants {D T : Type 0} (told : D → DiskTold) (old new : D) (result : Result T Fault) : Type 0 where
-  pub ok : OnOk result ((told new).starved ≡ (told old).starved)
-  pub failed : IsErrOf result Failed → (told new).starved ≡ (told old).starved
+  pub ok : OnOk result (Fed (told old) (told new))
+  pub failed : IsErrOf result Failed → Fed (told old) (told new)
   pub no_memory : IsErrOf result NoMemory → Starves told old new
 
 -- the same of a seal
 pub record SealWants {D T : Type 0} (told : D → DiskTold) (old new : D) (result : Result T SealFault) : Type 0 where
-  pub ok : OnOk result ((told new).starved ≡ (told old).starved)
-  pub disk : IsErrOf result seal_disk → (told new).starved ≡ (told old).starved
-  pub closed : IsErrOf result Closed → (told new).starved ≡ (told old).starved
+  pub ok : OnOk result (Fed (told old) (told new))
+  pub disk : IsErrOf result seal_disk → Fed (told old) (told new)
+  pub closed : IsErrOf result Closed → Fed (told old) (told new)
   pub no_memory : IsErrOf result seal_no_memory → Starves told old new
 
 -- a read of a payload answers `Disk` exactly where a read failed

@@ -1,7 +1,10 @@
 -- A disk that a journal lies on.
-use Rattle.std.specs.Prelude.{◌≡◌, ◌≤◌, ℕ, List, [], ◌∷◌, ◌++◌, length}
+use Rattle.std.specs.Prelude.{◌≡◌, ◌⊎◌, ◌≤◌, ℕ, List, [], ◌∷◌, ◌++◌, length}
 use Rattle.undo_outside.specs.Disk.{DiskTold}
+use Rattle.undo_outside.specs.Moments.{OnlyReads}
+use Rattle.seal_log.specs.Causes.{Fed}
 use Rattle.seal_log.specs.Journal.{frame, sealed, StandsFor}
+use Rattle.seal_log.specs.Loading.{IsNotFormatted}
 
 -- The images of now all stand for these payloads, and right behind them stands the last gate, not open.
 pub record IsSettled (disk : DiskTold) (gate : ℕ) (payloads : List (List ℕ)) : Type 0 where
@@ -21,3 +24,12 @@ pub record IsFrameFirst (payload : List ℕ) (old new : DiskTold) : Type 0 where
   pub later : old.moment ≤ moment
   pub shut : new.since moment (0 ∷ (frame payload ++ 0 ∷ []))
   pub behind : (c : List ℕ) → new.since moment c → (gate : ℕ) × (c ≡ gate ∷ (frame payload ++ 0 ∷ []))
+
+-- each image of now is one of before, or no journal
+abbrev pub LeavesNoJournal : DiskTold → DiskTold → Type 0
+LeavesNoJournal old new = (c : List ℕ) → new.images c → old.images c ⊎ IsNotFormatted c
+
+-- From old to new the disk was only read. No write was made, so none found no memory.
+pub record ReadsAlone (old new : DiskTold) : Type 0 where
+  pub reads : OnlyReads old new
+  pub fed : Fed old new

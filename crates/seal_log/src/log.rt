@@ -1,10 +1,10 @@
 //! The journal.
 ghost use Rattle.std.specs.Prelude.{◌≡◌, ◌<◌, ◌≤◌, ◌+◌, ◌^◌, ◌↔◌, ◌++◌, ◌∷◌, [], List, ℕ, true, IsTrue, IfOk, OnOk, IsErrOf, OnErr, ◌⊎◌, length, slice_range};
 ghost use Rattle.undo_outside.specs.Disk.{IsOverwritten, WriteCause};
-ghost use Rattle.undo_outside.specs.Moments.{LeavesOnly, OnlyReads};
+ghost use Rattle.undo_outside.specs.Moments.{LeavesOnly};
 ghost use Rattle.seal_log.specs.Causes.{PutWants, ReadAtCause, SealCause, SealWants};
 ghost use Rattle.seal_log.specs.Journal.{frame, LiesAt, StandsFor, StandsForFront};
-ghost use Rattle.seal_log.specs.Settled.{Holds, IsFrameFirst, IsSettled};
+ghost use Rattle.seal_log.specs.Settled.{Holds, IsFrameFirst, IsSettled, LeavesNoJournal, ReadsAlone};
 ghost use Rattle.seal_log.specs.Log.{IsClosed, last_gate};
 
 use crate::durable::write_synced;
@@ -168,7 +168,7 @@ impl Log {
         ensures settled { (gate : ℕ) (payloads : List (List ℕ)) → IsSettled (D.told disk.old) gate payloads
             → IsSettled (D.told disk.new) gate payloads }
         ensures held { (payloads : List (List ℕ)) → Holds (D.told disk.old) payloads → Holds (D.told disk.new) payloads }
-        ensures only_reads { OnlyReads (D.told disk.old) (D.told disk.new) }
+        ensures only_reads { ReadsAlone (D.told disk.old) (D.told disk.new) }
     {
         read_before(alloc, disk, self.gate, place, from, length)
     }
@@ -184,6 +184,8 @@ pub fn format<D: Disk>(alloc: Global, disk: &mut D, head: &[u8]) -> Result<Log, 
     ensures written { (D.told disk.old).honest → OnOk result ((D.told disk.new).content ≡ 85 ∷ (frame head.now ++ 0 ∷ [])) }
     // The frame is on the disk before its gate is opened.
     ensures frame_first { (D.told disk.old).honest → OnOk result (IsFrameFirst head.now (D.told disk.old) (D.told disk.new)) }
+    // Where no memory was found, there is no journal that was not there before.
+    ensures no_journal { (D.told disk.old).honest → IsErrOf result SealFault.NoMemory → LeavesNoJournal (D.told disk.old) (D.told disk.new) }
     ensures cause { SealCause (D.told disk.old) (D.told disk.new) result }
     ensures wants { SealWants D.told disk.old disk.new result }
     ensures not_closed { IsErrOf result SealFault.Closed → ⊥ }
@@ -206,6 +208,7 @@ fn put_first<D: Disk>(alloc: Global, disk: &mut D, head: &[u8]) -> Result<(), Di
     ensures settled { (D.told disk.old).honest → OnOk result (IsSettled (D.told disk.new) (5 + length head.now) (head.now ∷ [])) }
     ensures written { (D.told disk.old).honest → OnOk result ((D.told disk.new).content ≡ 85 ∷ (frame head.now ++ 0 ∷ [])) }
     ensures frame_first { (D.told disk.old).honest → OnOk result (IsFrameFirst head.now (D.told disk.old) (D.told disk.new)) }
+    ensures no_journal { (D.told disk.old).honest → IsErrOf result Fault.NoMemory → LeavesNoJournal (D.told disk.old) (D.told disk.new) }
     ensures cause { WriteCause (D.told disk.old) (D.told disk.new) result }
     ensures wants { PutWants D.told disk.old disk.new result }
     ensures grown { OnOk result (5 + length head.now < (D.told disk.new).size) }

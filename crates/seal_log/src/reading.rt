@@ -1,9 +1,8 @@
 //! Reading a payload.
 ghost use Rattle.std.specs.Prelude.{◌≡◌, ◌<◌, ◌≤◌, ◌+◌, List, ℕ, IfOk, length, slice_range};
-ghost use Rattle.undo_outside.specs.Moments.{OnlyReads};
 ghost use Rattle.seal_log.specs.Causes.{ReadAtCause};
 ghost use Rattle.seal_log.specs.Journal.{LiesAt};
-ghost use Rattle.seal_log.specs.Settled.{Holds, IsSettled};
+ghost use Rattle.seal_log.specs.Settled.{Holds, IsSettled, ReadsAlone};
 
 use crate::{Place, ReadFault};
 use std::alloc::Global;
@@ -39,7 +38,7 @@ pub fn read_before<D: Disk>(
     ensures settled { (gate : ℕ) (payloads : List (List ℕ)) → IsSettled (D.told disk.old) gate payloads
         → IsSettled (D.told disk.new) gate payloads }
     ensures held { (payloads : List (List ℕ)) → Holds (D.told disk.old) payloads → Holds (D.told disk.new) payloads }
-    ensures only_reads { OnlyReads (D.told disk.old) (D.told disk.new) }
+    ensures only_reads { ReadsAlone (D.told disk.old) (D.told disk.new) }
 {
     let mut bytes = blank(alloc, length)?;
     match disk.read(place.gate + 5 + u64::from(from), &mut bytes) {

@@ -1,8 +1,12 @@
 use Rattle.std.proofs.Common.{inl, inr, ◌∷◌, ◌++◌, ◌∙◌, ◌≡◌, ◌+◌, [], List, ℕ, length, refl, sym, ap, subst, arith}
+use Rattle.std.specs.Prelude.{IsErrOf}
 use Rattle.std.proofs.lemmas.List.{append-nil, drop_all}
+use Rattle.std.proofs.lemmas.Result.{err_from_is_err_and}
+use Rattle.undo_outside.specs.declared.fault.Fault.TheVariants.{NoMemory}
 use Rattle.undo_outside.specs.Disk.{DiskTold, IsOverwritten, IsTorn, Only}
 use Rattle.undo_outside.specs.Moments.{IsTornOf}
 use Rattle.seal_log.specs.Journal.{frame, StandsFor}
+use Rattle.seal_log.specs.Loading.{IsNotFormatted}
 use Rattle.seal_log.proofs.Frames.{length-sealed-push}
 use Rattle.seal_log.proofs.Steps.{IsStaged, opened}
 use Rattle.seal_log.proofs.Torn.{torn_first, written_byte}
@@ -69,3 +73,17 @@ returns-clause-frame_first g c honest =
       shut = subst (new.since mid.moment) first (c.write_synced-2.ensures.kept kept mid.content truth.content_is_image);
       behind = λ f left. gate_torn mid rest f truth.size_of_content first (c.in_ok-write_synced.ensures.durable honest) (torn f left);
     }
+
+-- the gate before the frame was never opened
+pub returns-in_err-write_synced-2-clause-no_journal : goal.returns-in_err-write_synced-2-clause-no_journal
+returns-in_err-write_synced-2-clause-no_journal g c honest refused = λ f now.
+    let rest = frame c.args.head.now ++ 0 ∷ [] in
+    let old = (g.D.Disk.told c.args.disk.now).content in
+    let mid = g.D.Disk.told c.write_synced.new.disk in
+    let none : length old ≡ 0 = sym (g.met.D.Disk.tells_truth c.args.disk.now honest).size_of_content ∙ c.requires.empty in
+    let first : mid.content ≡ 0 ∷ rest = written_first old c.deref.result.now mid.content none (c.in_ok-write_synced.ensures.written honest) ∙ (c.deref.ensures.value ∙ c.in_ok-bytes.ensures) in
+    let told = err_from_is_err_and c.from_residual-in_err-write_synced-2.result c.from_residual-in_err-write_synced-2.ensures.1 in
+    let no_memory : IsErrOf c.write_synced-2.result NoMemory = cc (told.1, told.2, refused, c.in_err-write_synced-2.was) in
+    let was = c.write_synced-2.ensures.no_memory (c.write_synced.ensures.honest honest) no_memory f now in
+    let shut : IsNotFormatted (0 ∷ rest) = λ same. absurd (omega arith) in
+    inr (subst IsNotFormatted (sym (c.in_ok-write_synced.ensures.durable honest f was ∙ first)) shut)
