@@ -1,10 +1,9 @@
 //! The texts of bodies, read where they lie.
 ghost use Rattle.std.specs.Prelude.{◌≡◌, ◌<◌, ◌+◌, List, ℕ, Some, IfOk, slice_range};
-ghost use Rattle.undo_outside.specs.Moments.{OnlyReads};
 ghost use Rattle.seal_log.specs.Causes.{ReadAtCause};
 ghost use Rattle.seal_log.specs.Journal.{LiesAt};
 ghost use Rattle.seal_log.specs.Log.{last_gate};
-ghost use Rattle.seal_log.specs.Settled.{Holds, IsSettled};
+ghost use Rattle.seal_log.specs.Settled.{Holds, IsSettled, ReadsAlone};
 ghost use Rattle.shelf.specs.declared.note.Note.{Note as TheNote};
 ghost use Rattle.shelf.specs.Notes.{note_of, IsNotedBefore, noted_text};
 
@@ -37,7 +36,7 @@ impl Shelf {
         ensures settled { (gate : ℕ) (payloads : List (List ℕ)) → IsSettled (D.told disk.old) gate payloads
             → IsSettled (D.told disk.new) gate payloads }
         ensures held { (payloads : List (List ℕ)) → Holds (D.told disk.old) payloads → Holds (D.told disk.new) payloads }
-        ensures only_reads { OnlyReads (D.told disk.old) (D.told disk.new) }
+        ensures only_reads { ReadsAlone (D.told disk.old) (D.told disk.new) }
     {
         match self.find(body) {
             Some(note) => log.read_at(alloc, disk, note.place, note.from, note.length),
