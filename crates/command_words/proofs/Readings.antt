@@ -10,8 +10,8 @@ use Rattle.command_words.specs.declared.commands.WordsRefused.{WordsRefused}
 use Rattle.command_words.specs.declared.commands.WordsRefused.TheVariants.{NoMemory}
 use Rattle.command_words.specs.Numbers.{port_of, rounds_of}
 use Rattle.command_words.specs.Program.{program}
-use Rattle.command_words.specs.Usage.{is_word, alone, with_one, at_ports, with_ports, by_number, command_of}
-use Rattle.command_words.proofs.Takes.{IsWord, takes-play, takes-init, takes-script, takes-check, takes-grow, takes-serve}
+use Rattle.command_words.specs.Usage.{is_word, alone, with_one, at_ports, with_ports, some_port, by_number, command_of}
+use Rattle.command_words.proofs.Takes.{IsWord, takes-play, takes-init, takes-script, takes-check, takes-grow, takes-serve, takes-serve_pop}
 
 abbrev Takes : List Text → Type 0
 Takes words = takes program words ≡ true
@@ -57,10 +57,10 @@ takes_one name a c h e =
     (one_of P (bytes_eq name (codes "check")) (Some Check) fourth c (is (codes "check") (takes-check a h))
     (one_of P (bytes_eq name (codes "grow")) grown None c (is (codes "grow") (takes-grow a h)) (no_command P c)))) e
 
-takes_ports : (name store smtp imap http : List ℕ) (c : Command) → IsWord store → IsWord smtp → IsWord imap → IsWord http → with_ports name smtp imap http ≡ Some c → Takes (name ∷ store ∷ smtp ∷ imap ∷ http ∷ [])
-takes_ports name store smtp imap http c h i j k e =
-    one_of (Takes (name ∷ store ∷ smtp ∷ imap ∷ http ∷ [])) (bytes_eq name (codes "serve")) (at_ports (port_of smtp) (port_of imap) (port_of http)) None c
-    (λ t. subst (λ n. Takes (n ∷ store ∷ smtp ∷ imap ∷ http ∷ [])) (named name (codes "serve") t) (takes-serve store smtp imap http h i j k))
+takes_ports : (name smtp imap http : List ℕ) (behind : List Text) (pop : Option (Option ℕ)) (c : Command) → Takes (codes "serve" ∷ behind) → with_ports name smtp imap http pop ≡ Some c → Takes (name ∷ behind)
+takes_ports name smtp imap http behind pop c takes e =
+    one_of (Takes (name ∷ behind)) (bytes_eq name (codes "serve")) (at_ports (port_of smtp) (port_of imap) (port_of http) pop) None c
+    (λ t. subst (λ n. Takes (n ∷ behind)) (named name (codes "serve") t) takes)
     (no_command _ c) e
 
 takes_words : (words : List (List ℕ)) (c : Command) → list_all is_word words ≡ true → by_number words ≡ Some c → Takes words
@@ -78,8 +78,17 @@ takes_words (name ∷ store ∷ smtp ∷ imap ∷ http ∷ []) c all e =
     let (t, u) = and_parts _ _ s in
     let (v, w) = and_parts _ _ u in
     let (x, y) = and_parts _ _ w in
-    takes_ports name store smtp imap http c (word store r) (word smtp t) (word imap v) (word http x) e
-takes_words (name ∷ a ∷ b ∷ d ∷ f ∷ g ∷ rest) c all e = no_command _ c e
+    takes_ports name smtp imap http (store ∷ smtp ∷ imap ∷ http ∷ []) (Some None) c (takes-serve store smtp imap http (word store r) (word smtp t) (word imap v) (word http x)) e
+takes_words (name ∷ store ∷ smtp ∷ imap ∷ http ∷ pop ∷ []) c all e =
+    let (p, q) = and_parts _ _ all in
+    let (r, s) = and_parts _ _ q in
+    let (t, u) = and_parts _ _ s in
+    let (v, w) = and_parts _ _ u in
+    let (x, y) = and_parts _ _ w in
+    let (k, l) = and_parts _ _ y in
+    takes_ports name smtp imap http (store ∷ smtp ∷ imap ∷ http ∷ pop ∷ []) (some_port pop) c
+    (takes-serve_pop store smtp imap http pop (word store r) (word smtp t) (word imap v) (word http x) (word pop k)) e
+takes_words (name ∷ a ∷ b ∷ d ∷ f ∷ g ∷ h ∷ rest) c all e = no_command _ c e
 
 -- ---- any words
 

@@ -1,13 +1,13 @@
 -- Words are a command exactly where they say it.
-use Rattle.std.proofs.Common.{◌≡◌, ℕ, List, [], ◌∷◌, Bool, true, false, cond, refl, codes, bytes_eq, arith, Option, Some, None, option_map, unwrap_or, sym, ap, subst}
+use Rattle.std.proofs.Common.{◌≡◌, ℕ, List, [], ◌∷◌, Bool, true, false, cond, refl, codes, bytes_eq, arith, Option, Some, None, IfSome, is_some, option_map, unwrap_or, sym, ap, subst}
 use Rattle.std.specs.List.{list_all}
 use Rattle.std.specs.Fmt.{decimal}
-use Rattle.std.proofs.lemmas.Bool.{and_parts}
+use Rattle.std.proofs.lemmas.Bool.{and_parts, false≢true}
 use Rattle.command_words.specs.declared.commands.Command.{Command}
 use Rattle.command_words.specs.declared.commands.Command.TheVariants.{Init, Serve, Script, Play, Grow, Check}
 use Rattle.command_words.specs.Numbers.{port_of, rounds_of}
-use Rattle.command_words.specs.Spelling.{SaysStore, IsPort, Says}
-use Rattle.command_words.specs.Usage.{is_word, alone, with_one, at_ports, with_ports, by_number, command_of}
+use Rattle.command_words.specs.Spelling.{SaysStore, IsPort, Says, words_of}
+use Rattle.command_words.specs.Usage.{is_word, alone, with_one, at_ports, with_ports, some_port, by_number, command_of}
 use Rattle.command_words.proofs.Readings.{named, no_command}
 use Rattle.command_words.proofs.Written.{number_to, number_from, word_decimal}
 
@@ -53,21 +53,43 @@ port_to n text e =
     let (low, high, is) = number_to 1 65535 n text (omega arith) e in
     ((low, high), is)
 
-says_ports : (name store smtp imap http : List ℕ) (c : Command) (s i h : Option ℕ) → is_word store ≡ true → name ≡ codes "serve"
-    → port_of smtp ≡ s → port_of imap ≡ i → port_of http ≡ h → at_ports s i h ≡ Some c → Says (name ∷ store ∷ smtp ∷ imap ∷ http ∷ []) c
-says_ports name store smtp imap http c None i h w n p q r e = no_command _ c e
-says_ports name store smtp imap http c (Some s) None h w n p q r e = no_command _ c e
-says_ports name store smtp imap http c (Some s) (Some i) None w n p q r e = no_command _ c e
-says_ports name store smtp imap http c (Some s) (Some i) (Some h) w n p q r e =
+-- what a port of POP3 is that was told so, and how it is written
+abbrev Told : List (List ℕ) → Option (Option ℕ) → Type 0
+Told words pop = (p : Option ℕ) → pop ≡ Some p → IfSome p IsPort × (words ≡ words_of p)
+
+-- some port is this one
+same_port : (p q : Option ℕ) → Some p ≡ Some q → p ≡ q
+same_port p q e = ap (λ o. unwrap_or o None) e
+
+told_none : Told [] (Some None)
+told_none p e = subst (λ q. IfSome q IsPort × ([] ≡ words_of q)) (same_port None p e) (tt, refl)
+
+told_some : (word : List ℕ) → Told (word ∷ []) (some_port word)
+told_some word = go (port_of word) refl where
+  go : (o : Option ℕ) → port_of word ≡ o → Told (word ∷ []) (option_map (λ port. Some port) o)
+  go None h p e = absurd (false≢true (ap is_some e))
+  go (Some n) h p e =
+      let (is, text) = port_to n word h in
+      subst (λ q. IfSome q IsPort × (word ∷ [] ≡ words_of q)) (same_port (Some n) p e) (is, ap (λ w. w ∷ []) text)
+
+says_ports : (name store smtp imap http : List ℕ) (rest : List (List ℕ)) (pop : Option (Option ℕ)) (c : Command) (s i h : Option ℕ) → is_word store ≡ true → name ≡ codes "serve"
+    → Told rest pop → port_of smtp ≡ s → port_of imap ≡ i → port_of http ≡ h → at_ports s i h pop ≡ Some c → Says (name ∷ store ∷ smtp ∷ imap ∷ http ∷ rest) c
+says_ports name store smtp imap http rest pop c None i h w n t p q r e = no_command _ c e
+says_ports name store smtp imap http rest pop c (Some s) None h w n t p q r e = no_command _ c e
+says_ports name store smtp imap http rest pop c (Some s) (Some i) None w n t p q r e = no_command _ c e
+says_ports name store smtp imap http rest None c (Some s) (Some i) (Some h) w n t p q r e = no_command _ c e
+says_ports name store smtp imap http rest (Some pop) c (Some s) (Some i) (Some h) w n t p q r e =
     let (ps, es) = port_to s smtp p in
     let (pi, ei) = port_to i imap q in
     let (ph, eh) = port_to h http r in
-    subst (Says (name ∷ store ∷ smtp ∷ imap ∷ http ∷ [])) (same_command (Serve s i h) c e) (store, w, ps, pi, ph, rw (n, es, ei, eh) refl)
+    let (pp, ep) = t pop refl in
+    subst (Says (name ∷ store ∷ smtp ∷ imap ∷ http ∷ rest)) (same_command (Serve s i h pop) c e) (store, w, ps, pi, ph, pp, rw (n, es, ei, eh, ep) refl)
 
-says_five : (name store smtp imap http : List ℕ) (c : Command) → is_word store ≡ true → with_ports name smtp imap http ≡ Some c → Says (name ∷ store ∷ smtp ∷ imap ∷ http ∷ []) c
-says_five name store smtp imap http c w e =
-    either (Says (name ∷ store ∷ smtp ∷ imap ∷ http ∷ []) c) (bytes_eq name (codes "serve")) (at_ports (port_of smtp) (port_of imap) (port_of http)) None c
-    (λ t is. says_ports name store smtp imap http c (port_of smtp) (port_of imap) (port_of http) w (sym (named name (codes "serve") t)) refl refl refl is)
+says_serve : (name store smtp imap http : List ℕ) (rest : List (List ℕ)) (pop : Option (Option ℕ)) (c : Command) → is_word store ≡ true → Told rest pop
+    → with_ports name smtp imap http pop ≡ Some c → Says (name ∷ store ∷ smtp ∷ imap ∷ http ∷ rest) c
+says_serve name store smtp imap http rest pop c w told e =
+    either (Says (name ∷ store ∷ smtp ∷ imap ∷ http ∷ rest) c) (bytes_eq name (codes "serve")) (at_ports (port_of smtp) (port_of imap) (port_of http) pop) None c
+    (λ t is. says_ports name store smtp imap http rest pop c (port_of smtp) (port_of imap) (port_of http) w (sym (named name (codes "serve") t)) told refl refl refl is)
     (no_command _ c) e
 
 says_words : (words : List (List ℕ)) (c : Command) → list_all is_word words ≡ true → by_number words ≡ Some c → Says words c
@@ -82,8 +104,12 @@ says_words (name ∷ a ∷ b ∷ d ∷ []) c all e = no_command _ c e
 says_words (name ∷ store ∷ smtp ∷ imap ∷ http ∷ []) c all e =
     let (p, q) = and_parts _ _ all in
     let (r, s) = and_parts _ _ q in
-    says_five name store smtp imap http c r e
-says_words (name ∷ a ∷ b ∷ d ∷ f ∷ g ∷ rest) c all e = no_command _ c e
+    says_serve name store smtp imap http [] (Some None) c r told_none e
+says_words (name ∷ store ∷ smtp ∷ imap ∷ http ∷ pop ∷ []) c all e =
+    let (p, q) = and_parts _ _ all in
+    let (r, s) = and_parts _ _ q in
+    says_serve name store smtp imap http (pop ∷ []) (some_port pop) c r (told_some pop) e
+says_words (name ∷ a ∷ b ∷ d ∷ f ∷ g ∷ h ∷ rest) c all e = no_command _ c e
 
 pub read_is_said : (words : List (List ℕ)) (c : Command) → command_of words ≡ Some c → Says words c
 read_is_said words c = go (list_all is_word words) refl where
@@ -96,15 +122,25 @@ read_is_said words c = go (list_all is_word words) refl where
 abbrev Reads : List (List ℕ) → Command → Type 0
 Reads words c = command_of words ≡ Some c
 
-five_words : (a b c d : List ℕ) → is_word a ≡ true → is_word b ≡ true → is_word c ≡ true → is_word d ≡ true → list_all is_word (codes "serve" ∷ a ∷ b ∷ c ∷ d ∷ []) ≡ true
-five_words a b c d h i j k = rw (h, i, j, k) refl
+some_words : (a b c d : List ℕ) (rest : List (List ℕ)) → is_word a ≡ true → is_word b ≡ true → is_word c ≡ true → is_word d ≡ true → list_all is_word rest ≡ true
+    → list_all is_word (codes "serve" ∷ a ∷ b ∷ c ∷ d ∷ rest) ≡ true
+some_words a b c d rest h i j k l = rw (h, i, j, k, l) refl
+
+-- a port that is written
+word_port : (n : ℕ) → IsPort n → is_word (decimal n) ≡ true
+word_port n p = word_decimal n p.0 (omega (arith, p.1))
+
+port_from : (n : ℕ) → IsPort n → port_of (decimal n) ≡ Some n
+port_from n p = number_from 1 65535 n (omega arith) (omega arith) p.0 p.1
 
 pub said_is_read : (words : List (List ℕ)) (c : Command) → Says words c → command_of words ≡ Some c
 said_is_read words Init (store, w, e) = subst (λ ws. Reads ws Init) (sym e) (rw w refl)
-said_is_read words (Serve s i h) (store, w, ps, pi, ph, e) =
-    let word : (n : ℕ) → IsPort n → is_word (decimal n) ≡ true = λ n p. word_decimal n p.0 (omega (arith, p.1)) in
-    let port : (n : ℕ) → IsPort n → port_of (decimal n) ≡ Some n = λ n p. number_from 1 65535 n (omega arith) (omega arith) p.0 p.1 in
-    subst (λ ws. Reads ws (Serve s i h)) (sym e) (rw (five_words store (decimal s) (decimal i) (decimal h) w (word s ps) (word i pi) (word h ph), port s ps, port i pi, port h ph) refl)
+said_is_read words (Serve s i h None) (store, w, ps, pi, ph, pp, e) =
+    subst (λ ws. Reads ws (Serve s i h None)) (sym e)
+    (rw (some_words store (decimal s) (decimal i) (decimal h) [] w (word_port s ps) (word_port i pi) (word_port h ph) refl, port_from s ps, port_from i pi, port_from h ph) refl)
+said_is_read words (Serve s i h (Some p)) (store, w, ps, pi, ph, pp, e) =
+    subst (λ ws. Reads ws (Serve s i h (Some p))) (sym e)
+    (rw (some_words store (decimal s) (decimal i) (decimal h) (decimal p ∷ []) w (word_port s ps) (word_port i pi) (word_port h ph) (rw (word_port p pp) refl), port_from s ps, port_from i pi, port_from h ph, port_from p pp) refl)
 said_is_read words Script (store, w, e) = subst (λ ws. Reads ws Script) (sym e) (rw w refl)
 said_is_read words Play e = subst (λ ws. Reads ws Play) (sym e) refl
 said_is_read words (Grow n) (low, high, e) =

@@ -8,7 +8,7 @@ use Rattle.std.specs.List.{list_all}
 use Rattle.clap.specs.Simple.{built_leaf, inherited, on_top, with_leaf_noted, marked_built}
 use Rattle.clap.specs.declared.parser.matches.ValueSource.TheVariants.{CommandLine}
 use Rattle.clap.proofs.OnLiterals.{clap_on_literals}
-use Rattle.command_words.specs.Program.{program, taking, word_rule}
+use Rattle.command_words.specs.Program.{program, serve_shape, word_rule}
 
 -- a word that is not empty and begins with no hyphen
 abbrev pub IsWord : Text → Type 0
@@ -41,14 +41,11 @@ unfolding clap_on_literals
 takes-check [] h = absurd h
 takes-check (b ∷ t) h = simp h
 
--- ---- `serve`, which takes four words: one step of the walk after the other
-
-abbrev serve_ids : List Text
-serve_ids = codes "STORE" ∷ codes "SMTP" ∷ codes "IMAP" ∷ codes "HTTP" ∷ []
+-- ---- `serve`, which takes four words or five: one step of the walk after the other
 
 -- the command `serve` as it is built
 abbrev leaf : Shape
-leaf = built_leaf (inherited (on_top with_leaf_noted (on_top marked_built program)).top (taking (codes "serve") serve_ids))
+leaf = built_leaf (inherited (on_top with_leaf_noted (on_top marked_built program)).top serve_shape)
 
 abbrev given : Text → Text → Row
 given id word = record { id = id; values = word ∷ []; count = None; source = Some CommandLine; reading = reading_by (word_rule id) }
@@ -75,6 +72,9 @@ w3 a b c = at 4 (given (codes "STORE") a ∷ given (codes "SMTP") b ∷ []) (cod
 abbrev w4 : Text → Text → Text → Text → Walk
 w4 a b c d = at 5 (given (codes "STORE") a ∷ given (codes "SMTP") b ∷ given (codes "IMAP") c ∷ []) (codes "HTTP") d
 
+abbrev w5 : Text → Text → Text → Text → Text → Walk
+w5 a b c d e = at 6 (given (codes "STORE") a ∷ given (codes "SMTP") b ∷ given (codes "IMAP") c ∷ given (codes "HTTP") d ∷ []) (codes "POP") e
+
 -- a word, and the walk after it
 step-1 : (a : Text) → IsWord a → walked leaf.rules [] (walk_from nothing_held) a ≡ w1 a
 unfolding clap_on_literals
@@ -96,7 +96,12 @@ unfolding clap_on_literals
 step-4 a b c [] h = absurd h
 step-4 a b c (w ∷ d) h = simp h
 
--- each of the four words passes
+step-5 : (a b c d e : Text) → IsWord e → walked leaf.rules [] (w4 a b c d) e ≡ w5 a b c d e
+unfolding clap_on_literals
+step-5 a b c d [] h = absurd h
+step-5 a b c d (w ∷ e) h = simp h
+
+-- each of the words passes
 turn-1 : (a : Text) → IsWord a → turn_passes leaf [] (walk_from nothing_held) a ≡ true
 unfolding clap_on_literals
 turn-1 [] h = absurd h
@@ -117,6 +122,11 @@ unfolding clap_on_literals
 turn-4 a b c [] h = absurd h
 turn-4 a b c (w ∷ d) h = simp h
 
+turn-5 : (a b c d e : Text) → IsWord e → turn_passes leaf [] (w4 a b c d) e ≡ true
+unfolding clap_on_literals
+turn-5 a b c d [] h = absurd h
+turn-5 a b c d (w ∷ e) h = simp h
+
 both : (p q : Bool) → p ≡ true → q ≡ true → (p && q) ≡ true
 both p q e f = rw (e, f) refl
 
@@ -124,19 +134,32 @@ both p q e f = rw (e, f) refl
 abbrev Passes : List Text → Walk → Type 0
 Passes words w = walk_passes leaf [] w words ≡ true
 
-passes : (a b c d : Text) → IsWord a → IsWord b → IsWord c → IsWord d → Passes (a ∷ b ∷ c ∷ d ∷ []) (walk_from nothing_held)
+passes_four : (a b c d : Text) (rest : List Text) → IsWord a → IsWord b → IsWord c → IsWord d → Passes rest (w4 a b c d) → Passes (a ∷ b ∷ c ∷ d ∷ rest) (walk_from nothing_held)
 unfolding walk_passes
-passes a b c d h i j k =
-    both _ _ (turn-1 a h) (subst (Passes (b ∷ c ∷ d ∷ [])) (sym (step-1 a h))
-    (both _ _ (turn-2 a b i) (subst (Passes (c ∷ d ∷ [])) (sym (step-2 a b i))
-    (both _ _ (turn-3 a b c j) (subst (Passes (d ∷ [])) (sym (step-3 a b c j))
-    (both _ _ (turn-4 a b c d k) (subst (Passes []) (sym (step-4 a b c d k)) refl)))))))
+passes_four a b c d rest h i j k ok =
+    both _ _ (turn-1 a h) (subst (Passes (b ∷ c ∷ d ∷ rest)) (sym (step-1 a h))
+    (both _ _ (turn-2 a b i) (subst (Passes (c ∷ d ∷ rest)) (sym (step-2 a b i))
+    (both _ _ (turn-3 a b c j) (subst (Passes (d ∷ rest)) (sym (step-3 a b c j))
+    (both _ _ (turn-4 a b c d k) (subst (Passes rest) (sym (step-4 a b c d k)) ok)))))))
+
+passes_last : (a b c d e : Text) → IsWord e → Passes (e ∷ []) (w4 a b c d)
+unfolding walk_passes
+passes_last a b c d e h = both _ _ (turn-5 a b c d e h) (subst (Passes []) (sym (step-5 a b c d e h)) refl)
+
+passes_none : (w : Walk) → Passes [] w
+unfolding walk_passes
+passes_none w = refl
 
 -- where the walk ends
+abbrev next : Text → Walk → Walk
+next t w = walked leaf.rules [] w t
+
 ends : (a b c d : Text) → IsWord a → IsWord b → IsWord c → IsWord d → walk leaf.rules [] nothing_held (a ∷ b ∷ c ∷ d ∷ []) ≡ w4 a b c d
 ends a b c d h i j k =
-    let next : Text → Walk → Walk = λ t w. walked leaf.rules [] w t in
     ap (λ w. next d (next c (next b w))) (step-1 a h) ∙ (ap (λ w. next d (next c w)) (step-2 a b i) ∙ (ap (λ w. next d w) (step-3 a b c j) ∙ step-4 a b c d k))
+
+ends_later : (a b c d e : Text) → IsWord a → IsWord b → IsWord c → IsWord d → IsWord e → walk leaf.rules [] nothing_held (a ∷ b ∷ c ∷ d ∷ e ∷ []) ≡ w5 a b c d e
+ends_later a b c d e h i j k l = ap (λ w. next e w) (ends a b c d h i j k) ∙ step-5 a b c d e l
 
 abbrev EndsWell : Walk → Type 0
 EndsWell end = (settle_passes leaf.rules leaf.args_override_self end.held && (list_all default_passes leaf.rules && is_valid leaf (finished leaf.rules end.held) false)) ≡ true
@@ -144,10 +167,22 @@ EndsWell end = (settle_passes leaf.rules leaf.args_override_self end.held && (li
 end_well : (a b c d : Text) → EndsWell (w4 a b c d)
 end_well a b c d = refl
 
+end_well_later : (a b c d e : Text) → EndsWell (w5 a b c d e)
+end_well_later a b c d e = refl
+
 level : (a b c d : Text) → IsWord a → IsWord b → IsWord c → IsWord d → level_passes leaf [] nothing_held (a ∷ b ∷ c ∷ d ∷ []) false ≡ true
-level a b c d h i j k = both _ _ (passes a b c d h i j k) (subst EndsWell (sym (ends a b c d h i j k)) (end_well a b c d))
+level a b c d h i j k = both _ _ (passes_four a b c d [] h i j k (passes_none (w4 a b c d))) (subst EndsWell (sym (ends a b c d h i j k)) (end_well a b c d))
+
+level_later : (a b c d e : Text) → IsWord a → IsWord b → IsWord c → IsWord d → IsWord e → level_passes leaf [] nothing_held (a ∷ b ∷ c ∷ d ∷ e ∷ []) false ≡ true
+level_later a b c d e h i j k l =
+    both _ _ (passes_four a b c d (e ∷ []) h i j k (passes_last a b c d e l)) (subst EndsWell (sym (ends_later a b c d e h i j k l)) (end_well_later a b c d e))
 
 -- `serve` with four words is taken
 pub takes-serve : (a b c d : Text) → IsWord a → IsWord b → IsWord c → IsWord d → takes program (codes "serve" ∷ a ∷ b ∷ c ∷ d ∷ []) ≡ true
 unfolding clap_on_literals
 takes-serve a b c d h i j k = both _ _ (level a b c d h i j k) refl
+
+-- and with five
+pub takes-serve_pop : (a b c d e : Text) → IsWord a → IsWord b → IsWord c → IsWord d → IsWord e → takes program (codes "serve" ∷ a ∷ b ∷ c ∷ d ∷ e ∷ []) ≡ true
+unfolding clap_on_literals
+takes-serve_pop a b c d e h i j k l = both _ _ (level_later a b c d e h i j k l) refl

@@ -8,6 +8,10 @@ use Rattle.clap.specs.declared.builder.action.ArgAction.TheVariants.{Set}
 abbrev pub word_rule : Text → Rule
 word_rule id = record (new_rule id) { required = true; action = Some Set }
 
+-- a word that may be left out
+abbrev pub last_rule : Text → Rule
+last_rule id = record (new_rule id) { action = Some Set }
+
 -- a command that takes so many words
 abbrev pub with_words : App → List Text → App
 with_words a [] = a
@@ -30,7 +34,7 @@ bare_program = record (new_app (codes "undomail")) {
 
 -- the command `serve`
 abbrev pub serve_shape : Shape
-serve_shape = taking (codes "serve") (codes "STORE" ∷ codes "SMTP" ∷ codes "IMAP" ∷ codes "HTTP" ∷ [])
+serve_shape = (with_rule (with_words (new_app (codes "serve")) (codes "STORE" ∷ codes "SMTP" ∷ codes "IMAP" ∷ codes "HTTP" ∷ [])) (last_rule (codes "POP"))).top
 
 -- the first three subcommands
 abbrev pub first_half : App

@@ -1,5 +1,5 @@
 -- What words say a command, apart from how they are read: its name, its store, and its numbers as they are written.
-use Rattle.std.specs.Prelude.{◌≡◌, ◌≤◌, ℕ, true, List, [], ◌∷◌, codes}
+use Rattle.std.specs.Prelude.{◌≡◌, ◌≤◌, ℕ, true, List, [], ◌∷◌, codes, Option, Some, None, IfSome}
 use Rattle.std.specs.Fmt.{decimal}
 use Rattle.command_words.specs.declared.commands.Command.{Command}
 use Rattle.command_words.specs.declared.commands.Command.TheVariants.{Init, Serve, Script, Play, Grow, Check}
@@ -13,11 +13,17 @@ SaysStore words name = (store : List ℕ) × (is_word store ≡ true) × (words 
 abbrev pub IsPort : ℕ → Type 0
 IsPort n = (1 ≤ n) × (n ≤ 65535)
 
+-- the words of a port that may be left out
+abbrev pub words_of : Option ℕ → List (List ℕ)
+words_of None = []
+words_of (Some port) = decimal port ∷ []
+
 -- words say a command
 abbrev pub Says : List (List ℕ) → Command → Type 0
 Says words Init = SaysStore words (codes "init")
-Says words (Serve smtp imap http) =
-    (store : List ℕ) × (is_word store ≡ true) × IsPort smtp × IsPort imap × IsPort http × (words ≡ codes "serve" ∷ store ∷ decimal smtp ∷ decimal imap ∷ decimal http ∷ [])
+Says words (Serve smtp imap http pop) =
+    (store : List ℕ) × (is_word store ≡ true) × IsPort smtp × IsPort imap × IsPort http × IfSome pop IsPort
+    × (words ≡ codes "serve" ∷ store ∷ decimal smtp ∷ decimal imap ∷ decimal http ∷ words_of pop)
 Says words Script = SaysStore words (codes "script")
 Says words Play = words ≡ codes "play" ∷ []
 Says words (Grow rounds) = (3 ≤ rounds) × (rounds ≤ 100000) × (words ≡ codes "grow" ∷ decimal rounds ∷ [])

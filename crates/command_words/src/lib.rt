@@ -1,4 +1,4 @@
-//! The words of the program: `init STORE`, `serve STORE SMTP IMAP HTTP`, `script STORE`, `play`, `grow ROUNDS`, `check STORE`.
+//! The words of the program: `init STORE`, `serve STORE SMTP IMAP HTTP [POP]`, `script STORE`, `play`, `grow ROUNDS`, `check STORE`.
 //!
 //! `commands` has the command that words are; `program` is the same for `clap`, which reads the words first; `shapes` finds
 //! the command by the words themselves; `numbers` reads ports and rounds; `reading` puts them together.
@@ -15,4 +15,4 @@ mod shapes;
 
 pub use commands::{Command, WordsRefused};
 pub use laws::one_reading;
-pub use reading::{ports, read_words, store_path};
+pub use reading::{pop_port, ports, read_words, store_path};

@@ -5,7 +5,7 @@ ghost use Rattle.clap.specs.Words.{app_of, shape_of, takes, with_rule, with_subc
 ghost use Rattle.clap.specs.declared.error.kind.ErrorKind.TheVariants.{OutOfMemory};
 ghost use Rattle.clap.specs.declared.builder.command.Command.TheViews.{out-Command};
 ghost use Rattle.command_words.specs.declared.commands.WordsRefused.TheVariants.{Usage};
-ghost use Rattle.command_words.specs.Program.{word_rule, taking, bare_program, serve_shape, second_half};
+ghost use Rattle.command_words.specs.Program.{word_rule, last_rule, taking, bare_program, serve_shape, second_half};
 ghost use Rattle.command_words.specs.Program as spec;
 
 use crate::commands::WordsRefused;
@@ -24,6 +24,20 @@ fn with_word<'a>(
     ensures plain { IfOk result (λ c. (out-Command c).has_globals ≡ false) }
 {
     let word = Arg::new(alloc, id).required(true).action(ArgAction::Set);
+    command.arg(word)
+}
+
+/// A command with one more word that may be left out.
+fn with_last<'a>(
+    alloc: Global,
+    command: Command<'a>,
+    id: &'a str,
+) -> Result<Command<'a>, AllocError>
+    requires { (out-Command command).has_globals ≡ false }
+    ensures shape { IfOk result (λ c. app_of c ≡ with_rule (app_of command.entry) (last_rule id.entry.now)) }
+    ensures plain { IfOk result (λ c. (out-Command c).has_globals ≡ false) }
+{
+    let word = Arg::new(alloc, id).action(ArgAction::Set);
     command.arg(word)
 }
 
@@ -61,7 +75,8 @@ fn serve<'a>(alloc: Global) -> Result<Command<'a>, AllocError>
     let command = with_word(alloc, alone(alloc, "serve"), "STORE")?;
     let command = with_word(alloc, command, "SMTP")?;
     let command = with_word(alloc, command, "IMAP")?;
-    with_word(alloc, command, "HTTP")
+    let command = with_word(alloc, command, "HTTP")?;
+    with_last(alloc, command, "POP")
 }
 
 /// The program, before its subcommands.

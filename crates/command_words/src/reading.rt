@@ -1,6 +1,6 @@
 //! Reading the words of the program.
 ghost use Rattle.std.specs.Prelude.{◌≡◌, None, Some, Err, IfOk, map, option_map, string_bytes};
-ghost use Rattle.command_words.specs.Usage.{command_of, second, store_in, store_of, ports_in, ports_of};
+ghost use Rattle.command_words.specs.Usage.{command_of, second, store_in, store_of, ports_in, ports_of, pop_in, pop_of};
 ghost use Rattle.command_words.specs.declared.commands.WordsRefused.TheVariants.{Usage};
 
 use crate::commands::{Command, WordsRefused};
@@ -45,6 +45,7 @@ fn store_in(words: &[String], command: Command) -> Option<&String>
             smtp: _,
             imap: _,
             http: _,
+            pop: _,
         } => second(words),
         Command::Script => second(words),
         Command::Play => None,
@@ -69,7 +70,12 @@ fn ports_in(command: Command) -> Option<(u16, u16, u16)>
 {
     match command {
         Command::Init => None,
-        Command::Serve { smtp, imap, http } => Some((smtp, imap, http)),
+        Command::Serve {
+            smtp,
+            imap,
+            http,
+            pop: _,
+        } => Some((smtp, imap, http)),
         Command::Script => None,
         Command::Play => None,
         Command::Grow { rounds: _ } => None,
@@ -82,4 +88,29 @@ pub fn ports(words: &Vec<String>) -> Option<(u16, u16, u16)>
     ensures { result ≡ ports_of (map string_bytes words.now.items) }
 {
     ports_in(command_in(words.as_slice())?)
+}
+
+fn pop_in(command: Command) -> Option<u16>
+    ensures { result ≡ pop_in command }
+{
+    match command {
+        Command::Init => None,
+        Command::Serve {
+            smtp: _,
+            imap: _,
+            http: _,
+            pop,
+        } => pop,
+        Command::Script => None,
+        Command::Play => None,
+        Command::Grow { rounds: _ } => None,
+        Command::Check => None,
+    }
+}
+
+/// The port for POP3 of `serve`, where the words are of its shape and have one; this takes no memory.
+pub fn pop_port(words: &Vec<String>) -> Option<u16>
+    ensures { result ≡ pop_of (map string_bytes words.now.items) }
+{
+    pop_in(command_in(words.as_slice())?)
 }

@@ -1,7 +1,7 @@
 //! The command that words are, by the words themselves.
 ghost use Rattle.std.specs.Prelude.{◌≡◌, Option, map, string_bytes};
 ghost use Rattle.std.specs.List.{list_all};
-ghost use Rattle.command_words.specs.Usage.{is_word, alone, with_one, at_ports, with_ports, by_number, command_of};
+ghost use Rattle.command_words.specs.Usage.{is_word, alone, with_one, at_ports, with_ports, some_port, by_number, command_of};
 
 use crate::commands::Command;
 use crate::numbers::{read_port, read_rounds};
@@ -55,24 +55,44 @@ fn with_one(name: &str, word: &str) -> Option<Command>
     }
 }
 
-fn at_ports(smtp: Option<u16>, imap: Option<u16>, http: Option<u16>) -> Option<Command>
-    ensures { result ≡ at_ports smtp imap http }
+/// The command `serve` at its ports, if all are some. That of POP3 may be none that was asked for.
+fn at_ports(
+    smtp: Option<u16>,
+    imap: Option<u16>,
+    http: Option<u16>,
+    pop: Option<Option<u16>>,
+) -> Option<Command>
+    ensures { result ≡ at_ports smtp imap http pop }
 {
     Some(Command::Serve {
         smtp: smtp?,
         imap: imap?,
         http: http?,
+        pop: pop?,
     })
 }
 
-fn with_ports(name: &str, smtp: &str, imap: &str, http: &str) -> Option<Command>
-    ensures { result ≡ with_ports name.now smtp.now imap.now http.now }
+fn with_ports(
+    name: &str,
+    smtp: &str,
+    imap: &str,
+    http: &str,
+    pop: Option<Option<u16>>,
+) -> Option<Command>
+    ensures { result ≡ with_ports name.now smtp.now imap.now http.now pop }
 {
     if name == "serve" {
-        at_ports(read_port(smtp), read_port(imap), read_port(http))
+        at_ports(read_port(smtp), read_port(imap), read_port(http), pop)
     } else {
         None
     }
+}
+
+/// A port of POP3 that is asked for.
+fn some_port(word: &str) -> Option<Option<u16>>
+    ensures { result ≡ some_port word.now }
+{
+    read_port(word).map(|port| Some(port))
 }
 
 /// The command that so many words are, if each may stand.
@@ -82,7 +102,8 @@ fn by_number(words: &[String]) -> Option<Command>
     match words {
         [name] => alone(name),
         [name, word] => with_one(name, word),
-        [name, _, smtp, imap, http] => with_ports(name, smtp, imap, http),
+        [name, _, smtp, imap, http] => with_ports(name, smtp, imap, http, Some(None)),
+        [name, _, smtp, imap, http, pop] => with_ports(name, smtp, imap, http, some_port(pop)),
         _ => None,
     }
 }

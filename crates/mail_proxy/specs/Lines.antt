@@ -7,7 +7,7 @@ abbrev pub lf : List ℕ
 lf = 10 ∷ []
 
 abbrev pub usage : List ℕ
-usage = codes "undomail: usage: undomail init STORE, serve STORE SMTP IMAP HTTP, script STORE, play, grow ROUNDS, check STORE" ++ lf
+usage = codes "undomail: usage: undomail init STORE, serve STORE SMTP IMAP HTTP [POP], script STORE, play, grow ROUNDS, check STORE" ++ lf
 
 abbrev pub too_long : List ℕ
 too_long = codes "undomail: text too long" ++ lf

@@ -68,7 +68,7 @@ fn fixed_line(last: LastLine) -> &'static [u8]
     match last {
         LastLine::Nothing => b"",
         LastLine::Usage =>
-            b"undomail: usage: undomail init STORE, serve STORE SMTP IMAP HTTP, script STORE, play, grow ROUNDS, check STORE\n",
+            b"undomail: usage: undomail init STORE, serve STORE SMTP IMAP HTTP [POP], script STORE, play, grow ROUNDS, check STORE\n",
         LastLine::TooLong => b"undomail: text too long\n",
         LastLine::BadConfiguration => b"undomail: bad configuration\n",
         LastLine::BadLine(_) => unreachable!(),
