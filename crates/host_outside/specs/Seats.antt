@@ -6,6 +6,7 @@ use Rattle.host_outside.specs.declared.connection.Connection.{Connection}
 use Rattle.host_outside.specs.declared.connection.Received.{Received}
 use Rattle.host_outside.specs.declared.connection.Received.TheVariants as came
 use Rattle.host_outside.specs.declared.sockets.Seat.{Seat}
+use Rattle.host_outside.specs.Ports.{Row}
 use Rattle.host_outside.specs.Streams.{IsExchanged, IsWhole}
 
 -- the seat of the connection of a number: they are counted from 1
@@ -31,8 +32,8 @@ pub record Turns {S : Type 0} (place : ℕ) (P : Seat S → Seat S → Type 0) (
   pub turned : P before after
 
 -- a connection that came at this port sits there now
-abbrev pub Fills : {S : Type 0} → ℕ → Seat S → Seat S → Type 0
-Fills port before after = IsSomeAnd after.connection (λ connection. connection.port ≡ port)
+abbrev pub Fills : {S : Type 0} → Row → Seat S → Seat S → Type 0
+Fills (role, port) before after = IsSomeAnd after.connection (λ connection. (connection.role ≡ role) × (connection.port ≡ port))
 
 -- the connection of the seat was sent a string, whole so far
 pub record IsSent {S : Type 0} (contents : S → Option (List ℕ)) (bytes : List ℕ) (before after : Seat S) : Type 0 where

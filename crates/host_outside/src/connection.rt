@@ -65,6 +65,10 @@ impl<S> Connection<S> {
         self.refused
     }
 
+    pub(crate) fn role(&self) -> Role {
+        self.role
+    }
+
     /// It is the operator's. What it is told goes out behind the event, with its end: so what answers a stop is read once
     /// the store is closed.
     pub(crate) fn is_console(&self) -> bool {
@@ -75,10 +79,10 @@ impl<S> Connection<S> {
     fn note_logins(&mut self, bytes: &[u8])
         ensures { self.new ≡ record self.old { is_known = self.new.is_known; refused = self.new.refused } }
     {
-        if self.is_known || !matches!(self.role, Role::Imap) {
+        if self.is_known {
             return;
         }
-        let (refused, is_known) = logins_in(bytes);
+        let (refused, is_known) = logins_in(self.role, bytes);
         self.refused = self.refused.saturating_add(refused);
         self.is_known = is_known;
     }
@@ -86,12 +90,12 @@ impl<S> Connection<S> {
 
 impl<S: Read + Write + OpenStream> Connection<S> {
     /// A connection that has just come. From now on no call on it waits.
-    pub(crate) fn new(alloc: Global, arrived: Arrived<S>, role: Role) -> io::Result<Connection<S>>
+    pub(crate) fn new(alloc: Global, arrived: Arrived<S>) -> io::Result<Connection<S>>
     where
         S: Drop,
-        ensures { IfOk result (λ it. it.port ≡ arrived.port) }
+        ensures { IfOk result (λ it. (it.role ≡ arrived.role) × (it.port ≡ arrived.port)) }
     {
-        let Arrived { stream, port } = arrived;
+        let Arrived { stream, role, port } = arrived;
         stream.set_nonblocking(true)?;
         stream.set_nodelay(true)?;
         Ok(Connection {

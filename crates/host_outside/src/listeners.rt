@@ -1,92 +1,154 @@
-//! The three ports on which connections come, of this machine alone.
-ghost use Rattle.std.specs.Prelude.{◌≡◌, IfOk, IfSome};
-ghost use Rattle.host_outside.specs.Ports.{AskedFor, port_of};
+//! The ports on which connections come, of this machine alone.
+ghost use Rattle.std.specs.Prelude.{◌≡◌, ◌∷◌, [], ◌++◌, true, Ok, IfOk, IfSome, map, slice_get};
+ghost use Rattle.std.specs.Option.{option_map};
+ghost use Rattle.undo_outside.specs.declared.event.Role.TheVariants.{Pop};
+ghost use Rattle.host_outside.specs.Ports.{AskedFor, Row, row_of, rows_of, row_at};
 
-use crate::telling::meaning;
-use std::io;
+use crate::telling::{meaning, name_of};
+use std::alloc::Global;
 use std::net::{Ipv4Addr, Net, OpenListener, TcpListener};
 use std::os::fd::AsRawFd;
+use std::{fmt, io};
+use undo_base::NoMemory;
 use undo_outside::Role;
 
 /// So many connections may wait at a port until they are taken, or as many as the system lets: std asks for 128.
 const MOST_WAITING: i32 = 4096;
 
-/// A port, and what listens there.
+/// A port, what is spoken there, and what listens.
 #[derive(Drop)]
 pub(crate) struct Port<L> {
+    role: Role,
     listener: L,
     /// The number that was asked for, 0 where the system was to choose one.
     asked: u16,
     number: u16,
 }
 
-/// A connection, and the number of the port at which it came, as that was asked for.
+/// A connection, and at which port it came: what is spoken there, and its number as that was asked for.
 #[derive(Drop)]
 pub(crate) struct Arrived<S> {
     pub(crate) stream: S,
+    pub(crate) role: Role,
     pub(crate) port: u16,
 }
 
+/// The ports on which it listens, in the order in which they are looked at.
 #[derive(Drop)]
 pub(crate) struct Listeners<L> {
-    smtp: Port<L>,
-    imap: Port<L>,
-    http: Port<L>,
+    ports: Vec<Port<L>>,
 }
 
 impl<L: OpenListener> Port<L> {
+    pub(crate) fn role(&self) -> Role
+        ensures { result ≡ self.now.role }
+    {
+        self.role
+    }
+
     /// The next connection that waits there. Where none does, this fails.
-    fn accept(&self) -> io::Result<Arrived<L::Stream>>
-        ensures { IfOk result (λ arrived. arrived.port ≡ self.now.asked) }
+    pub(crate) fn accept(&self) -> io::Result<Arrived<L::Stream>>
+        ensures { IfOk result (λ arrived. (arrived.role ≡ self.now.role) × (arrived.port ≡ self.now.asked)) }
     {
         let (stream, _) = self.listener.accept()?;
         Ok(Arrived {
             stream,
+            role: self.role,
             port: self.asked,
         })
     }
 }
 
 impl<L: OpenListener> Listeners<L> {
-    /// Listens on these ports, of SMTP, IMAP and HTTP. For port 0 the system chooses one. Where one can't be had a line on
-    /// standard error says which, and why.
+    /// Listens on these ports, of SMTP, IMAP and HTTP, and on one of POP3 where that is given. For port 0 the system chooses
+    /// one. Where one can't be had a line on standard error says which, and why.
     pub(crate) fn open<R: Net<Listener = L> + Eprint>(
         net: &R,
+        alloc: Global,
         ports: (u16, u16, u16),
-    ) -> Option<Listeners<L>>
+        pop: Option<u16>,
+    ) -> Result<Option<Listeners<L>>, NoMemory>
     where
         L: Drop,
-        ensures { IfSome result (AskedFor ports) }
+        ensures { IfOk result (λ listeners. IfSome listeners (AskedFor ports pop)) }
     {
-        let smtp = listen(net, "SMTP", ports.0)?;
-        let imap = listen(net, "IMAP", ports.1)?;
-        let http = listen(net, "the console", ports.2)?;
-        Some(Listeners { smtp, imap, http })
+        let (smtp, imap, http) = ports;
+        let mut them = Listeners {
+            ports: Vec::new(alloc),
+        };
+        let all = them.add(net, Role::Smtp, smtp)?
+            && them.add(net, Role::Imap, imap)?
+            && them.add(net, Role::Http, http)?
+            && them.add_some(net, pop)?;
+        Ok(if all { Some(them) } else { None })
     }
 
-    /// The next connection that waits at the port of a role. Where none does, this fails.
-    pub(crate) fn accept(&self, role: Role) -> io::Result<Arrived<L::Stream>>
-        ensures { IfOk result (λ arrived. arrived.port ≡ port_of role self.now) }
+    /// Listens on one more port. Answers whether it does.
+    fn add<R: Net<Listener = L> + Eprint>(
+        &mut self,
+        net: &R,
+        role: Role,
+        asked: u16,
+    ) -> Result<bool, NoMemory>
+    where
+        L: Drop,
+        ensures { result ≡ Ok true → map row_of self.new.ports.items ≡ map row_of self.old.ports.items ++ (role, asked) ∷ [] }
     {
-        match role {
-            Role::Smtp => self.smtp.accept(),
-            Role::Imap => self.imap.accept(),
-            Role::Http => self.http.accept(),
+        match listen(net, role, asked) {
+            Some(port) => {
+                self.ports.push(port)?;
+                Ok(true)
+            }
+            None => Ok(false),
         }
     }
 
-    /// The ports on which it listens.
-    pub(crate) fn ports(&self) -> (u16, u16, u16) {
-        (self.smtp.number, self.imap.number, self.http.number)
+    /// Listens on a port of POP3 too, where one is asked for. Answers whether nothing is left to be had.
+    fn add_some<R: Net<Listener = L> + Eprint>(
+        &mut self,
+        net: &R,
+        asked: Option<u16>,
+    ) -> Result<bool, NoMemory>
+    where
+        L: Drop,
+        ensures { result ≡ Ok true → map row_of self.new.ports.items ≡ map row_of self.old.ports.items ++ rows_of Pop asked }
+    {
+        match asked {
+            Some(asked) => self.add(net, Role::Pop, asked),
+            None => Ok(true),
+        }
+    }
+
+    /// The port whose turn it is, if it is that of one.
+    pub(crate) fn at(&self, place: usize) -> Option<&Port<L>>
+        ensures { option_map (λ port. row_of port.now) result ≡ row_at place self.now }
+    {
+        self.ports.get(place)
     }
 }
 
-fn listen<R: Net + Eprint>(net: &R, whose: &str, asked: u16) -> Option<Port<R::Listener>>
-    ensures { IfSome result (λ port. port.asked ≡ asked) }
+impl<L> fmt::Display for Listeners<L> {
+    fn fmt<W: fmt::Write>(&self, f: &mut fmt::Formatter<W>) -> fmt::Result {
+        let last = self.ports.len().saturating_sub(1);
+        for (place, port) in self.ports.iter().enumerate() {
+            let front = match place {
+                0 => "",
+                _ if place == last => " and ",
+                _ => ", ",
+            };
+            write!(f, "{front}{} on port {}", name_of(port.role), port.number)?;
+        }
+        Ok(())
+    }
+}
+
+fn listen<R: Net + Eprint>(net: &R, role: Role, asked: u16) -> Option<Port<R::Listener>>
+    ensures { IfSome result (λ port. row_of port ≡ (role, asked)) }
 {
-    match try_listen(net, asked) {
+    match try_listen(net, role, asked) {
         Ok(port) => Some(port),
         Err(error) => {
+            let whose = name_of(role);
             let meaning = meaning(&error);
             let _told = eprintln!(net;
                 "undomail: port {asked} of {whose} cannot be had: {meaning}{error}"
@@ -96,14 +158,15 @@ fn listen<R: Net + Eprint>(net: &R, whose: &str, asked: u16) -> Option<Port<R::L
     }
 }
 
-fn try_listen<R: Net>(net: &R, asked: u16) -> io::Result<Port<R::Listener>>
-    ensures { IfOk result (λ port. port.asked ≡ asked) }
+fn try_listen<R: Net>(net: &R, role: Role, asked: u16) -> io::Result<Port<R::Listener>>
+    ensures { IfOk result (λ port. row_of port ≡ (role, asked)) }
 {
     let listener = TcpListener::bind(net, (Ipv4Addr::LOCALHOST, asked))?;
     listener.set_nonblocking(true)?;
     let _lengthened = libc::net::listen(listener.as_raw_fd(), MOST_WAITING);
     let number = listener.local_addr()?.port();
     Ok(Port {
+        role,
         listener,
         asked,
         number,

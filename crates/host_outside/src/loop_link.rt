@@ -13,7 +13,7 @@ use std::time::Clock;
 use undo_base::NoMemory;
 use undo_outside::{Event, Fault, Link, LinkFault};
 
-/// Three ports on 127.0.0.1, and at most 1,000 connections, numbered from 1 on. The lowest number that no connection
+/// Three ports on 127.0.0.1, or four, and at most 1,000 connections, numbered from 1 on. The lowest number that no connection
 /// has is given to the next one.
 #[derive(Drop)]
 pub struct LoopLink<R: Net> {
@@ -31,12 +31,17 @@ pub struct LoopLink<R: Net> {
 }
 
 impl<R: Net + Clock + Eprint> LoopLink<R> {
-    /// For these ports, of SMTP, IMAP and HTTP; for port 0 the system chooses one. It listens from the first `next` on. Without
-    /// ports, or where one can't be had, each `next` fails.
-    pub fn open(rt: R, alloc: Global, ports: Option<(u16, u16, u16)>) -> LoopLink<R>
-        ensures { result.sockets.ports ≡ ports }
+    /// For these ports, of SMTP, IMAP and HTTP, and for one of POP3 where that is to be served; for port 0 the system chooses one.
+    /// It listens from the first `next` on. Without the three, or where one can't be had, each `next` fails.
+    pub fn open(
+        rt: R,
+        alloc: Global,
+        ports: Option<(u16, u16, u16)>,
+        pop: Option<u16>,
+    ) -> LoopLink<R>
+        ensures { (result.sockets.ports ≡ ports) × (result.sockets.pop ≡ pop) }
     {
-        let sockets = Sockets::open(rt, alloc, ports);
+        let sockets = Sockets::open(rt, alloc, ports, pop);
         let made = sockets.millis();
         LoopLink {
             sockets,
@@ -77,7 +82,7 @@ impl<R: Net + Clock + Eprint> LoopLink<R> {
     fn come(&mut self) -> Result<Option<Event>, NoMemory>
         ensures { self.new ≡ record self.old { sockets = self.new.sockets; step = self.new.step } }
     {
-        if !self.sockets.listen() {
+        if !self.sockets.listen()? {
             return Ok(None);
         }
         match what_comes(self.step, self.sockets.alloc())? {
@@ -100,11 +105,6 @@ impl<R: Net + Clock + Eprint> LoopLink<R> {
             return Ok(true);
         }
         self.sockets.send(conn, bytes)
-    }
-
-    /// The ports on which it listens.
-    pub fn ports(&self) -> Option<(u16, u16, u16)> {
-        self.sockets.ports()
     }
 }
 

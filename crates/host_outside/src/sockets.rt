@@ -1,7 +1,7 @@
 //! The listeners and the connections, visited in rounds: those that were active lately in each, the others by turns.
-ghost use Rattle.std.specs.Prelude.{◌≡◌, ◌<◌, ◌≤◌, ◌+◌, ◌-◌, ◌*◌, ◌^◌, ℕ, true, false, IfSome, IfNone, IsNone, None, Some, Ok, length, max, min, take, position};
-ghost use Rattle.std.specs.Option.{option_map};
-ghost use Rattle.host_outside.specs.Ports.{AskedFor, port_of};
+ghost use Rattle.std.specs.Prelude.{◌≡◌, ◌<◌, ◌≤◌, ◌+◌, ◌-◌, ◌*◌, ◌^◌, ℕ, true, false, IfOk, IfSome, IfNone, IsNone, None, Some, Ok, length, max, min, take, position};
+ghost use Rattle.std.specs.Option.{option_map, option_and_then};
+ghost use Rattle.host_outside.specs.Ports.{AskedFor, Row, row_at};
 ghost use Rattle.host_outside.specs.Ports as seats;
 ghost use Rattle.host_outside.specs.Seats.{Ends, Fills, Gives, Hears, IsLeft, IsSent, Receives, SatBefore, Turns, is_free, told_of};
 ghost use Rattle.host_outside.specs.declared.connection.Received.TheVariants as came;
@@ -10,7 +10,7 @@ ghost use Rattle.undo_outside.specs.declared.event.What.TheVariants.{Joined};
 
 use crate::connection::{Connection, Received};
 use crate::listeners::{Arrived, Listeners};
-use crate::telling::{Throttle, second};
+use crate::telling::{Throttle, name_of, second};
 use std::alloc::Global;
 use std::io::{self, ErrorKind, Read, Write};
 use std::net::{Net, OpenStream, SocketAddr};
@@ -126,9 +126,10 @@ impl<S: Read + Write + OpenStream + Drop> Seat<S> {
         }
     }
 
-    /// Where the other side of its connection is.
-    fn peer(&self) -> Option<SocketAddr> {
-        self.connection.as_ref()?.peer()
+    /// What is spoken over its connection, and where the other side is.
+    fn reader(&self) -> Option<(&'static str, SocketAddr)> {
+        let connection = self.connection.as_ref()?;
+        Some((name_of(connection.role()), connection.peer()?))
     }
 
     /// Its connection was active at a visit in which that came.
@@ -162,7 +163,8 @@ impl<S: Read + Write + OpenStream + Drop> Seat<S> {
 
 /// Whose turn it is in a round.
 enum Turn {
-    Listener(Role),
+    /// That of the listener at a place.
+    Listener(usize),
     /// A place in the list of those that were active lately.
     Lively(usize),
     /// The next of the other seats.
@@ -175,8 +177,9 @@ enum Turn {
 pub(crate) struct Sockets<R: Net> {
     rt: R,
     alloc: Global,
-    /// The ports of SMTP, IMAP and HTTP that are asked for.
+    /// The ports of SMTP, IMAP and HTTP that are asked for, and that of POP3.
     ports: Option<(u16, u16, u16)>,
+    pop: Option<u16>,
     /// What listens there, from the first event that is asked for on.
     listeners: Option<Listeners<R::Listener>>,
     seats: Vec<Seat<R::Stream>>,
@@ -184,7 +187,7 @@ pub(crate) struct Sockets<R: Net> {
     spare: Vec<u8>,
     /// The seats whose connections were active lately, each once. One that found no room here is among the others.
     lively: Vec<usize>,
-    /// The listener that is looked at next, the first of three being 0.
+    /// The listener that is looked at next, the first being 0.
     listener: usize,
     /// When the listeners were last begun with, in milliseconds of a clock that is not set back.
     listened: u64,
@@ -217,13 +220,19 @@ pub(crate) struct Sockets<R: Net> {
 
 impl<R: Net + Clock + Eprint> Sockets<R> {
     /// For these ports, on which nothing listens yet.
-    pub(crate) fn open(rt: R, alloc: Global, ports: Option<(u16, u16, u16)>) -> Sockets<R>
-        ensures { result.ports ≡ ports }
+    pub(crate) fn open(
+        rt: R,
+        alloc: Global,
+        ports: Option<(u16, u16, u16)>,
+        pop: Option<u16>,
+    ) -> Sockets<R>
+        ensures { (result.ports ≡ ports) × (result.pop ≡ pop) }
     {
         Sockets {
             rt,
             alloc,
             ports,
+            pop,
             listeners: None,
             seats: Vec::new(alloc),
             spare: Vec::new(alloc),
@@ -246,38 +255,30 @@ impl<R: Net + Clock + Eprint> Sockets<R> {
         }
     }
 
-    /// The ports on which it listens.
-    pub(crate) fn ports(&self) -> Option<(u16, u16, u16)> {
-        match &self.listeners {
-            Some(listeners) => Some(listeners.ports()),
-            None => None,
-        }
-    }
-
     /// Listens on its ports, if it does not yet. Answers whether it listens: without ports, or where one can't be had, it does
     /// not.
-    pub(crate) fn listen(&mut self) -> bool
-        ensures listens { IsNone self.old.listeners → IfSome self.new.listeners (λ it. IfSome self.old.ports (λ ports. AskedFor ports it)) }
+    pub(crate) fn listen(&mut self) -> Result<bool, NoMemory>
+        ensures listens { IsNone self.old.listeners → IfSome self.new.listeners (λ it. IfSome self.old.ports (λ ports. AskedFor ports self.old.pop it)) }
         ensures others { self.new ≡ record self.old { listeners = self.new.listeners } }
     {
         if self.listeners.is_none() {
-            self.listeners = self.listeners_of();
+            self.listeners = self.listeners_of()?;
         }
-        self.listeners.is_some()
+        Ok(self.listeners.is_some())
     }
 
-    fn listeners_of(&self) -> Option<Listeners<R::Listener>>
-        ensures { IfSome result (λ it. IfSome self.now.ports (λ ports. AskedFor ports it)) }
+    fn listeners_of(&self) -> Result<Option<Listeners<R::Listener>>, NoMemory>
+        ensures { IfOk result (λ it. IfSome it (λ it. IfSome self.now.ports (λ ports. AskedFor ports self.now.pop it))) }
     {
         match self.ports {
-            Some(ports) => Listeners::open(&self.rt, ports),
-            None => None,
+            Some(ports) => Listeners::open(&self.rt, self.alloc, ports, self.pop),
+            None => Ok(None),
         }
     }
 
     /// The next event, an idle one after about a second without; or none at all where nothing listens.
     pub(crate) fn next(&mut self) -> Result<Option<Event>, NoMemory> {
-        if !self.listen() {
+        if !self.listen()? {
             return Ok(None);
         }
         self.make_ready()?;
@@ -350,7 +351,7 @@ impl<R: Net + Clock + Eprint> Sockets<R> {
         self.begin_listeners(now);
         for _ in 0..MOST_VISITS {
             let event = match self.turn() {
-                Turn::Listener(role) => self.visit_listener(role, now),
+                Turn::Listener(index) => self.visit_listener(index, now),
                 Turn::Lively(index) => self.visit_lively(index, now),
                 Turn::Other => self.visit_other(now),
                 Turn::Over => {
@@ -368,9 +369,7 @@ impl<R: Net + Clock + Eprint> Sockets<R> {
     /// In a round come the listeners, then all seats that were active lately, and then some of the others, by turns.
     fn turn(&self) -> Turn {
         match self.listener {
-            0 => Turn::Listener(Role::Smtp),
-            1 => Turn::Listener(Role::Imap),
-            2 => Turn::Listener(Role::Http),
+            index if self.role_at(index).is_some() => Turn::Listener(index),
             _ if self.visited < self.lively.len() => Turn::Lively(self.visited),
             _ if self.passed < SEATS && self.visited_others < self.share => Turn::Other,
             _ => Turn::Over,
@@ -387,8 +386,8 @@ impl<R: Net + Clock + Eprint> Sockets<R> {
     }
 
     /// A listener stays next until nobody waits there.
-    fn visit_listener(&mut self, role: Role, now: u64) -> Option<Event> {
-        let event = self.accept(role, now);
+    fn visit_listener(&mut self, index: usize, now: u64) -> Option<Event> {
+        let event = self.accept(index, now);
         if event.is_none() {
             self.listener = self.listener.saturating_add(1);
         }
@@ -430,17 +429,24 @@ impl<R: Net + Clock + Eprint> Sockets<R> {
         self.receive(place, now)
     }
 
-    /// Takes in a connection that waits at the port of a role, under the lowest free number. The last sixteen are the console's.
-    fn accept(&mut self, role: Role, now: u64) -> Option<Event>
-        ensures joined { IfSome result (λ event. event.what ≡ Joined role) }
-        ensures seated { IfSome result (λ event. (place : ℕ) × (port : ℕ) × (event.conn ≡ place + 1) × (place < seats.seats_of role)
-            × (position is_free self.old.seats.items ≡ Some place) × (option_map (port_of role) self.old.listeners ≡ Some port)
-            × Turns place (Fills port) self.old.seats.items self.new.seats.items) }
+    /// What is spoken at the port of a listener, if it is that of one.
+    fn role_at(&self, index: usize) -> Option<Role>
+        ensures { result ≡ option_map (λ row. row.0) (option_and_then (row_at index) self.now.listeners) }
     {
+        Some(self.listeners.as_ref()?.at(index)?.role())
+    }
+
+    /// Takes in a connection that waits at a port, under the lowest free number. The last sixteen are the console's.
+    fn accept(&mut self, index: usize, now: u64) -> Option<Event>
+        ensures { IfSome result (λ event. (row : Row) × (place : ℕ) × (option_and_then (row_at index) self.old.listeners ≡ Some row)
+            × (event.what ≡ Joined row.0) × (event.conn ≡ place + 1) × (place < seats.seats_of row.0)
+            × (position is_free self.old.seats.items ≡ Some place) × Turns place (Fills row) self.old.seats.items self.new.seats.items) }
+    {
+        let role = self.role_at(index)?;
         let place = self.free_seat(role)?;
         let number = number_of(place)?;
-        let arrived = self.arrived(role)?;
-        if !self.seat(place, arrived, role, now) {
+        let arrived = self.arrived(index)?;
+        if !self.seat(place, arrived, now) {
             return None;
         }
         Some(self.event(number, What::Joined(role)))
@@ -459,10 +465,10 @@ impl<R: Net + Clock + Eprint> Sockets<R> {
     }
 
     /// Gives a connection that came a seat. Answers whether it sits there now.
-    fn seat(&mut self, place: usize, arrived: Arrived<R::Stream>, role: Role, now: u64) -> bool
-        ensures { result ≡ true → Turns place (Fills arrived.port) self.old.seats.items self.new.seats.items }
+    fn seat(&mut self, place: usize, arrived: Arrived<R::Stream>, now: u64) -> bool
+        ensures { result ≡ true → Turns place (Fills (arrived.role, arrived.port)) self.old.seats.items self.new.seats.items }
     {
-        let Ok(connection) = Connection::new(self.alloc, arrived, role) else {
+        let Ok(connection) = Connection::new(self.alloc, arrived) else {
             return false;
         };
         let Some(seat) = self.seats.get_mut(place) else {
@@ -473,12 +479,12 @@ impl<R: Net + Clock + Eprint> Sockets<R> {
         true
     }
 
-    /// The next connection that waits at the port of a role, if one does.
-    fn arrived(&mut self, role: Role) -> Option<Arrived<R::Stream>>
-        ensures port { IfSome result (λ arrived. option_map (port_of role) self.old.listeners ≡ Some arrived.port) }
+    /// The next connection that waits at the port of a listener, if one does.
+    fn arrived(&mut self, index: usize) -> Option<Arrived<R::Stream>>
+        ensures row { IfSome result (λ arrived. option_and_then (row_at index) self.old.listeners ≡ Some (arrived.role, arrived.port)) }
         ensures others { self.new ≡ record self.old { lost = self.new.lost } }
     {
-        match self.listeners.as_ref()?.accept(role) {
+        match self.listeners.as_ref()?.at(index)?.accept() {
             Ok(arrived) => Some(arrived),
             Err(error) => {
                 self.tell_lost(&error);
@@ -503,12 +509,12 @@ impl<R: Net + Clock + Eprint> Sockets<R> {
     fn tell_refused(&mut self, place: usize)
         ensures { self.new ≡ record self.old { refusals = self.new.refusals } }
     {
-        let Some(peer) = self.seats.get(place).and_then(|seat| seat.peer()) else {
+        let Some((whose, peer)) = self.seats.get(place).and_then(|seat| seat.reader()) else {
             return;
         };
         if let Some(others) = self.refusals.pass(second(&self.rt)) {
             let _told = eprintln!(self.rt;
-                "undomail: wrong password over IMAP from {peer}, and {others} since the last such line"
+                "undomail: wrong password over {whose} from {peer}, and {others} since the last such line"
             );
         }
     }
@@ -573,21 +579,17 @@ impl<R: Net + Clock + Eprint> Sockets<R> {
 
     /// Says where it serves, how many items there are, if that was told, and how long it took since it was made.
     pub(crate) fn tell_begin(&self, made: u64, items: Option<u64>) {
-        let Some((smtp, imap, http)) = self.ports() else {
+        let Some(listeners) = &self.listeners else {
             return;
         };
         let took = self.millis().saturating_sub(made);
         let _told = match items {
             Some(items) => {
                 eprintln!(self.rt;
-                    "undomail: serves SMTP on port {smtp}, IMAP on port {imap} and the console on port {http}: {items} items, opened in {took} ms"
+                    "undomail: serves {listeners}: {items} items, opened in {took} ms"
                 )
             }
-            None => {
-                eprintln!(self.rt;
-                    "undomail: serves SMTP on port {smtp}, IMAP on port {imap} and the console on port {http}, opened in {took} ms"
-                )
-            }
+            None => eprintln!(self.rt; "undomail: serves {listeners}, opened in {took} ms"),
         };
     }
 
@@ -691,6 +693,7 @@ fn seats_of(role: Role) -> usize
         Role::Smtp => SEATS_FOR_ALL,
         Role::Imap => SEATS_FOR_ALL,
         Role::Http => SEATS,
+        Role::Pop => SEATS_FOR_ALL,
     }
 }
 
