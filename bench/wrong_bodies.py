@@ -15,7 +15,7 @@ import concurrent.futures, os, subprocess, sys, tempfile
 
 PATH, NET, SEATS = 'crates/host_outside/src/path_file.rt', 'crates/host_outside/src/connection.rt', 'crates/host_outside/src/sockets.rt'
 PORTS, MAIN = 'crates/host_outside/src/listeners.rt', 'crates/undomail/src/main.rt'
-LINK, TELLING = 'crates/host_outside/src/loop_link.rt', 'crates/host_outside/src/telling.rt'
+LINK, TELLING, LOGINS = 'crates/host_outside/src/loop_link.rt', 'crates/host_outside/src/telling.rt', 'crates/host_outside/src/logins.rt'
 REPLY, CLIENT, READER = 'crates/mail_loop/src/reply.rt', 'crates/mail_loop/src/smtp_turn.rt', 'crates/mail_loop/src/imap_turn.rt'
 CONSOLE, DIALOG = 'crates/console_session/src/reply.rt', 'crates/smtp_session/src/dialog.rt'
 WRONG = {
@@ -47,9 +47,9 @@ WRONG = {
     'no-sleep': (SEATS, '        thread::sleep(&self.rt, Duration::from_micros(self.sleep));\n', ''),
     'slow-to-wake': (SEATS, 'let most = longest_sleep(', 'let most = 1000 * longest_sleep('),
     'few-wait-at-a-port': (PORTS, 'libc::net::listen(listener.as_raw_fd(), MOST_WAITING)', 'libc::net::listen(listener.as_raw_fd(), 128)'),
-    'imap-port-is-heard-on-the-smtp-listener': (PORTS, 'Role::Imap => self.imap.accept(),', 'Role::Imap => self.smtp.accept(),'),
+    'imap-port-is-heard-on-the-smtp-listener': (PORTS, 'self.ports.get(place)', 'self.ports.get(if place == 1 { 0 } else { place })'),
     'closed-connection-stays-open': (LINK, '        self.sockets.close(conn);\n', ''),
-    'ports-listen-before-the-store-is-open': (LINK, 'let sockets = Sockets::open(rt, alloc, ports);', 'let mut sockets = Sockets::open(rt, alloc, ports);\n        let _listens = sockets.listen();'),
+    'ports-listen-before-the-store-is-open': (LINK, 'let sockets = Sockets::open(rt, alloc, ports, pop);', 'let mut sockets = Sockets::open(rt, alloc, ports, pop);\n        let _listens = sockets.listen();'),
     'beginning-is-not-said': (LINK, '            self.sockets.tell_begin(self.made, self.items);\n', ''),
     'end-is-not-said': (LINK, '        self.sockets.tell_end(status);\n', ''),
     'a-stop-is-answered-at-once': (NET, 'matches!(self.role, Role::Http)', 'matches!(self.role, Role::Http) && false'),
@@ -65,7 +65,10 @@ WRONG = {
     'wrong-passwords-are-not-said': (SEATS, 'if self.refused(place) > refused {', 'if self.refused(place) < refused {'),
     'every-wrong-password-is-said': (TELLING, 'Some(last) if last == second => {', 'Some(last) if last == second && false => {'),
     'closed-streams-are-not-filled': (MAIN, '    fill_streams(&rt);\n    let', '    let'),
-    'smtp-and-imap-ports-are-swapped': (MAIN, 'ports(&words));', 'ports(&words).map(|p| (p.1, p.0, p.2)));'),
+    'smtp-and-imap-ports-are-swapped': (MAIN, 'alloc, ports(&words), ', 'alloc, ports(&words).map(|p| (p.1, p.0, p.2)), '),
+    'pop3-is-not-served': (MAIN, 'pop_port(&words));', 'pop_port(&words).filter(|port| *port == 0));'),
+    'wrong-passwords-of-pop3-are-not-said': (LOGINS, 'b"-ERR Login failed.\\r\\n"', 'b"-ERR Login refused.\\r\\n"'),
+    'texts-of-pop3-are-taken-for-refusals': (LOGINS, 'b" messages\\r\\n"', 'b" letters\\r\\n"'),
     'what-is-wrong-with-a-configuration-is-not-said': (MAIN, '        tell_fault(&rt, alloc, text.kept());\n', ''),
     'status-10-is-3': (MAIN, 'ExitCode::from(status)', 'ExitCode::from(if status == 10 { 3 } else { status })'),
     'words-past-the-fifth-are-dropped': (MAIN, 'args.skip(1)', 'args.skip(1).take(5)'),

@@ -71,18 +71,21 @@ FIVE = lambda n, users=200: f'host = "mail.test"\ndomains = ["mail.test"]\npostm
 
 class Store:
     """A store that is served, can be killed, and is served again at the same ports."""
-    def __init__(self, folder, name='office', text=None):
-        self.name, self.path, self.log, self.process, self.served = name, os.path.join(folder, name), os.path.join(folder, name + '.log'), None, False
-        self.smtp, self.imap, self.http = free_ports(3)
+    def __init__(self, folder, name='office', text=None, pop=False):
+        self.name, self.path, self.log, self.process, self.served, self.count = name, os.path.join(folder, name), os.path.join(folder, name + '.log'), None, False, 4 if pop else 3
+        self.takes_ports()
         subprocess.run([PROGRAM, 'init', self.path], input=(text or house()).encode(), check=True)
-    def line(self, smtp=None): return f'{self.name} {self.path} {smtp or self.smtp} {self.imap} {self.http}\n'
+    def takes_ports(self):
+        self.ports = free_ports(self.count)
+        self.smtp, self.imap, self.http, self.pop = [*self.ports, None][:4]
+    def line(self, smtp=None): return f'{self.name} {self.path} {smtp or self.smtp} {self.imap} {self.http}{f" {self.pop}" if self.pop else ""}\n'
     def start(self, tries=5):
         with open(self.log, 'ab') as log:
             began = log.tell()
-            self.process = subprocess.Popen([PROGRAM, 'serve', self.path, *map(str, (self.smtp, self.imap, self.http))], stdin=subprocess.DEVNULL, stdout=log, stderr=log)
+            self.process = subprocess.Popen([PROGRAM, 'serve', self.path, *map(str, self.ports)], stdin=subprocess.DEVNULL, stdout=log, stderr=log)
         within('the store is served', 60, lambda: b'serves SMTP' in open(self.log, 'rb').read()[began:] or self.process.poll() is not None)
         if self.process.poll() == 4 and not self.served and tries:   # another took a port meanwhile
-            self.smtp, self.imap, self.http = free_ports(3)
+            self.takes_ports()
             return self.start(tries - 1)
         if self.process.poll() is not None: raise Wrong(f'the store ended with {self.process.poll()}: {open(self.log).read()[-300:]}')
         self.served = True

@@ -101,7 +101,7 @@ def common_words(it: argparse.ArgumentParser, usual_port: Any, usual: Callable[[
     it.add_argument('--port', type=port, default=usual_port, help='the console\'s port on 127.0.0.1 (else the variable UNDO_PORT, else 8080)')
     it.add_argument('--socket', metavar='PATH', default=usual(os.environ.get('UNDO_SOCKET')), help='the console\'s Unix socket, in place of a port (else the variable UNDO_SOCKET)')
     it.add_argument('--store', metavar='STORE', default=usual(os.environ.get('UNDO_STORE')), help='the journal\'s file, which is read alone (else the variable UNDO_STORE)')
-    it.add_argument('--stores', metavar='FILE', default=usual(os.environ.get('UNDO_STORES')), help='several stores, a line for each, NAME STORE SMTP IMAP CONSOLE: looks, find, try and run go over all (else the variable UNDO_STORES)')
+    it.add_argument('--stores', metavar='FILE', default=usual(os.environ.get('UNDO_STORES')), help='several stores, a line for each, NAME STORE SMTP IMAP CONSOLE [POP]: looks, find, try and run go over all (else the variable UNDO_STORES)')
     it.add_argument('--json', action='store_true', default=usual(False), help='answers as JSON, for scripts')
     it.add_argument('--all', action='store_true', default=usual(False), help='long lists and texts whole')
     return it

@@ -1,4 +1,4 @@
-"""The file that says which stores there are (`undo --stores`, operate/front): a line for each, its name, its file, its ports of SMTP and IMAP, its console."""
+"""The file that says which stores there are (`undo --stores`, operate/front): a line for each, its name, its file, its ports of SMTP and IMAP, its console, and its port of POP3 where it has one."""
 from __future__ import annotations
 
 import re
@@ -9,7 +9,7 @@ from .files import octets_from
 from .journal import Format, Journal
 from .troubles import DAMAGED, WRONG_WORDS, Trouble
 
-SHAPE = 'a line is NAME STORE SMTP IMAP CONSOLE: a name of a to z, 0 to 9, "-" and "_", the store\'s file, two ports, and the console\'s port or the path of its Unix socket'
+SHAPE = 'a line is NAME STORE SMTP IMAP CONSOLE [POP]: a name of a to z, 0 to 9, "-" and "_", the store\'s file, two ports, the console\'s port or the path of its Unix socket, and a port of POP3 where it has one'
 
 
 class Served(NamedTuple):
@@ -20,6 +20,11 @@ class Served(NamedTuple):
     smtp: int
     imap: int
     console: str
+    pop: Optional[int] = None
+
+    def ports(self) -> list[int]:
+        """Those that others may not have too."""
+        return [self.smtp, self.imap, *([self.pop] if self.pop else [])]
 
     def asks(self, tell: Callable[[str], None] = lambda said: None) -> Console:
         return Console(int(self.console), tell=tell) if self.console.isdecimal() else Console(0, tell=tell, path=self.console)
@@ -60,12 +65,12 @@ def served_from(path: str) -> list[Served]:
         words = line.partition('#')[0].split()
         if not words:
             continue
-        if len(words) != 5 or not re.fullmatch(r'[a-z0-9_-]{1,32}', words[0]) or not all(map(is_port, words[2:4])) or not (is_port(words[4]) or words[4].startswith('/')):
+        if len(words) not in (5, 6) or not re.fullmatch(r'[a-z0-9_-]{1,32}', words[0]) or not all(map(is_port, words[2:4] + words[5:])) or not (is_port(words[4]) or words[4].startswith('/')):
             raise Trouble(WRONG_WORDS, f'{path}, line {number}: {SHAPE}.')
-        found.append(Served(words[0], words[1], int(words[2]), int(words[3]), words[4]))
+        found.append(Served(words[0], words[1], int(words[2]), int(words[3]), words[4], *map(int, words[5:])))
     if not found:
         raise Trouble(WRONG_WORDS, f'{path} names no store: {SHAPE}.')
-    for what, values in (('name', [it.name for it in found]), ('file', [it.store for it in found]), ('port', [port for it in found for port in (it.smtp, it.imap)]), ('console', [it.console for it in found])):
+    for what, values in (('name', [it.name for it in found]), ('file', [it.store for it in found]), ('port', [port for it in found for port in it.ports()]), ('console', [it.console for it in found])):
         twice = sorted({str(it) for it in values if values.count(it) > 1})
         if twice:
             raise Trouble(WRONG_WORDS, f'{path}: the {what} {twice[0]} stands twice; each store has its own.')
