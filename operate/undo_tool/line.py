@@ -171,7 +171,7 @@ def parser(said: str) -> argparse.ArgumentParser:
 def look_words(command: Callable[..., argparse.ArgumentParser]) -> None:
     for name, does, says in (('status', do_status, 'what the store holds, and what runs out, in numbers; status 10 where it warns'), ('metrics', do_metrics, 'the same as Prometheus reads it')):
         it = command(name, does, says)
-        it.add_argument('--ports', type=ports, metavar='P,P', help='the ports of SMTP, IMAP and console, whose connections are counted')
+        it.add_argument('--ports', type=ports, metavar='P,P', help='the ports of SMTP, IMAP, console and POP3, whose connections are counted')
     it = command('timeline', do_timeline, 'the items in force, in order')
     item_words(it)
     it.add_argument('--last', type=number, metavar='N', help='of the last N items alone')
