@@ -3,7 +3,7 @@ use Rattle.std.proofs.Common.{◌≡◌, ◌&&◌, ◌||◌, ℕ, ◌<◌, Bool,
 use Rattle.std.specs.Prelude.{◌⊎◌, IsSome, length, nat_lt, option_and_then, option_map, unwrap_or, Result, Ok, Err, if◌then◌else◌}
 use Rattle.std.proofs.lemmas.Bool.Decides.{nat_tests}
 use Rattle.undo_outside.specs.Disk.{DiskTold, IsHonest, ReadFailed}
-use Rattle.undo_outside.proofs.Moments.{reads_none}
+use Rattle.seal_log.proofs.Uses.{reads_none}
 use Rattle.verb_core.specs.declared.item.Act.{Act}
 use Rattle.verb_core.specs.declared.conf.House.{House}
 use Rattle.verb_core.specs.declared.mailbox.Body.{Body}

@@ -2,13 +2,12 @@
 use Rattle.std.proofs.Common.{◌≡◌, ℕ, ◌+◌, ◌<◌, ◌≤◌, Bool, true, false, cond, List, ◌∷◌, ◌++◌, length, map, None, Some, ◌&&◌, refl, ap, sym, subst, ◌∙◌, arith, []}
 use Rattle.std.specs.List.{AllByRecursion, slice_range}
 use Rattle.undo_outside.specs.Disk.{DiskTold}
-use Rattle.undo_outside.specs.Moments.{OnlyReads}
 use Rattle.verb_core.specs.declared.item.Item.{Item}
 use Rattle.verb_core.specs.declared.mailbox.Body.{Body}
 use Rattle.verb_core.specs.Items.{text_in}
 use Rattle.seal_log.specs.declared.place.Place.{Place}
 use Rattle.seal_log.specs.Journal.{LiesAt}
-use Rattle.seal_log.specs.Settled.{Holds, IsSettled}
+use Rattle.seal_log.specs.Settled.{Holds, IsSettled, ReadsAlone}
 use Rattle.shelf.specs.declared.note.Note.{Note}
 use Rattle.mail_desk.specs.Held.{Held}
 use Rattle.mail_desk.specs.Timeline.{NotesText, body_of}
@@ -71,10 +70,10 @@ entered_notes gate place bytes from old new i within long stands below is noted 
 
 -- ---- a disk that was read
 
-pub texts_read : (old new : DiskTold) (payloads : List (List ℕ)) (kept : Kept) (notes : List (Body × Note)) (marks : List (ℕ × Place)) → OnlyReads old new → TextsHeld old payloads kept notes marks
+pub texts_read : (old new : DiskTold) (payloads : List (List ℕ)) (kept : Kept) (notes : List (Body × Note)) (marks : List (ℕ × Place)) → ReadsAlone old new → TextsHeld old payloads kept notes marks
     → TextsHeld new payloads kept notes marks
 texts_read old new payloads kept notes marks reads texts = record {
-  held = record { honest = reads.honest texts.held.honest; front = λ c now. texts.held.front c (reads.images texts.held.honest c now) };
+  held = record { honest = reads.reads.honest texts.held.honest; front = λ c now. texts.held.front c (reads.reads.images texts.held.honest c now) };
   lie = texts.lie;
   revs = texts.revs;
   runs = texts.runs;

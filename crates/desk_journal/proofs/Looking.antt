@@ -6,7 +6,8 @@ use Rattle.verb_core.specs.declared.conf.Conf.{Conf}
 use Rattle.verb_core.specs.declared.conf.House.{House}
 use Rattle.desk_journal.specs.declared.fault.MakeFault.{MakeFault}
 use Rattle.desk_journal.specs.declared.fault.MakeFault.TheVariants.{NotEmpty, Disk, NoMemory}
-use Rattle.desk_journal.specs.Making.{Fed, FindsNone, LooksEmpty, Makes, SameFaults}
+use Rattle.seal_log.specs.Causes.{Fed}
+use Rattle.desk_journal.specs.Making.{FindsNone, LooksEmpty, Makes, SameFaults}
 use Rattle.desk_journal.proofs.Payloads.{write_failed_later}
 
 -- no call was made
@@ -43,7 +44,10 @@ looks_twice old mid new first second = record {
 -- no memory was found behind a look that wanted none
 pub finds_none_later : (old mid new : DiskTold) → IsLook old mid → Fed old mid → FindsNone mid new → FindsNone old new
 finds_none_later old mid new look fed (inl (next, same)) = inl (looks_twice old mid new look next, same ∙ fed)
-finds_none_later old mid new look fed (inr (rose, last)) = inr (subst (λ (n : ℕ). RoseOnce n new.starved) fed rose, last)
+finds_none_later old mid new look fed (inr ((rose, last), none)) = inr (
+  (subst (λ (n : ℕ). RoseOnce n new.starved) fed rose, last),
+  λ h c now. ⊎_elim (λ was. inl ((look.images h c).0 was)) (λ shut. inr shut) (none (look.honest h) c now),
+)
 
 -- a failed read, behind a look that failed nowhere
 read_failed_later : (old mid new : DiskTold) → SameFaults old mid → ReadFailed mid new → ReadFailed old new

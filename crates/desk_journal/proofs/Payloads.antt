@@ -2,10 +2,10 @@
 use Rattle.std.proofs.Common.{◌≡◌, ◌≤◌, ◌+◌, ℕ, arith, List, [], ◌∷◌, ◌++◌, subst, sym, ap, refl, ◌∙◌, append_assoc, append-nil}
 use Rattle.undo_outside.specs.Calls.{Rose}
 use Rattle.undo_outside.specs.Disk.{DiskTold, IsHonest, WriteFailed}
-use Rattle.undo_outside.specs.Moments.{LeavesOnly, OnlyReads}
+use Rattle.undo_outside.specs.Moments.{LeavesOnly}
 use Rattle.undo_outside.proofs.Moments.{images_now, joined, started, weaker}
 use Rattle.seal_log.specs.Journal.{StandsFor, StandsForFront}
-use Rattle.seal_log.specs.Settled.{IsSettled}
+use Rattle.seal_log.specs.Settled.{IsSettled, ReadsAlone}
 use Rattle.seal_log.proofs.Frames.{front_before, front_within}
 use Rattle.desk_journal.specs.Sealing.{FailsFor, SealsPayloads}
 
@@ -62,12 +62,12 @@ none_sealed old new gate next settled moments writes reads reliable honest = rec
 }
 
 -- a disk was read
-pub none_read : (old new : DiskTold) (gate : ℕ) → OnlyReads old new → SealsPayloads [] [] old new gate gate
+pub none_read : (old new : DiskTold) (gate : ℕ) → ReadsAlone old new → SealsPayloads [] [] old new gate gate
 none_read old new gate reads =
     none_sealed old new gate gate
-    (λ payloads s. record { honest = reads.honest s.honest; gate_is = s.gate_is; images = λ c now. s.images c (reads.images s.honest c now) })
-    (λ payloads s. weaker old new old.images (λ image. StandsFor image payloads) (reads.any_moment s.honest) s.images)
-    reads.writes reads.reads reads.reliable reads.honest
+    (λ payloads s. record { honest = reads.reads.honest s.honest; gate_is = s.gate_is; images = λ c now. s.images c (reads.reads.images s.honest c now) })
+    (λ payloads s. weaker old new old.images (λ image. StandsFor image payloads) (reads.reads.any_moment s.honest) s.images)
+    reads.reads.writes reads.reads.reads reads.reads.reliable reads.reads.honest
 
 -- ---- one after the other
 

@@ -5,10 +5,9 @@ use Rattle.std.specs.List.{list_any}
 use Rattle.std.proofs.Math.Bool.{or-false}
 use Rattle.std.proofs.lemmas.List.{length-map, map-append, take-map}
 use Rattle.undo_outside.specs.Disk.{DiskTold, IsHonest}
-use Rattle.undo_outside.specs.Moments.{OnlyReads}
-use Rattle.undo_outside.proofs.Moments.{reads_none}
+use Rattle.seal_log.proofs.Uses.{reads_none}
 use Rattle.seal_log.specs.Journal.{StandsFor, StandsForFront}
-use Rattle.seal_log.specs.Settled.{IsSettled}
+use Rattle.seal_log.specs.Settled.{IsSettled, ReadsAlone}
 use Rattle.verb_core.specs.Names.{is_empty}
 use Rattle.verb_bytes.specs.declared.journal.JournalRecord.{JournalRecord}
 use Rattle.verb_bytes.specs.Spelling.{record_bytes}
@@ -88,7 +87,7 @@ module _ {D : Type 0} (told : D → DiskTold) where
   -- a desk that was not written to sealed nothing
   pub seals_nothing : ((d : D) → (told d).honest → IsHonest (told d)) → (a b : Lasting D) → IsUnwritten a b → Seals told [] [] a b
   seals_nothing truth a b same =
-      let reads : OnlyReads (told a.disk) (told b.disk) = subst (λ (d : D). OnlyReads (told a.disk) (told d)) (sym same.disk) (reads_none (told a.disk) (truth a.disk)) in
+      let reads : ReadsAlone (told a.disk) (told b.disk) = subst (λ (d : D). ReadsAlone (told a.disk) (told d)) (sym same.disk) (reads_none (told a.disk) (truth a.disk)) in
       record {
         kept = λ h. ap Some (sym same.kept);
         house = ap (λ (k : Kept). k.house) same.kept;

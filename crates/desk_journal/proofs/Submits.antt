@@ -1,7 +1,8 @@
 -- What becomes of asks and acts, from what became of sealing them.
-use Rattle.std.proofs.Common.{◌≡◌, ◌<◌, ℕ, false, List, [], ◌∷◌, Result, Ok, Err, IfOk, OnOk, IfErr, subst, sym, ap, refl, ◌∙◌}
+use Rattle.std.proofs.Common.{inl, inr, ⊎_elim, ◌≡◌, ◌<◌, ℕ, false, List, [], ◌∷◌, Result, Ok, Err, IfOk, OnOk, IfErr, subst, sym, ap, refl, ◌∙◌}
 use Rattle.std.specs.Prelude.{IsSome}
 use Rattle.undo_outside.specs.Disk.{DiskTold}
+use Rattle.seal_log.specs.Causes.{SealWants}
 use Rattle.seal_log.specs.declared.fault.SealFault.{SealFault}
 use Rattle.seal_log.specs.declared.fault.SealFault.TheVariants as log_faults
 use Rattle.verb_core.specs.declared.ask.Refused.{Refused}
@@ -19,7 +20,7 @@ use Rattle.desk_journal.specs.declared.fault.ActFault.{ActFault}
 use Rattle.desk_journal.specs.Lasting.{JournalTold, Lasting, lasting}
 use Rattle.desk_journal.specs.Records.{after_record}
 use Rattle.desk_journal.specs.Sealing.{IsRecordOf, IsRecordTo}
-use Rattle.desk_journal.specs.Submitting.{ActsNone, IsActOutcomeOf, IsOutcomeOf, RefusesNone, SealsBytes, SealsNone, SubmitsNone, WritesNone}
+use Rattle.desk_journal.specs.Submitting.{ActWants, ActsNone, IsActOutcomeOf, IsOutcomeOf, RefusesNone, SealsBytes, SealsNone, SubmitWants, SubmitsNone, WritesNone}
 use Rattle.desk_journal.proofs.Sealed.{seals_failed, seals_from, seals_none}
 
 -- the record of an item that is kept elsewhere as the same
@@ -68,6 +69,19 @@ module _ {D X : Type 0} (told : D → DiskTold) where
   not_sealed what bytes next before after old new log_faults.Closed made kept notes marks open_ sealed = sealed.never refl
 
 module _ {D : Type 0} (told : D → DiskTold) where
+  -- ---- which writes found memory
+
+  pub submit_wants : {X : Type 0} (old new : D) (fault : SealFault) (out : SubmitFault) → IsOutcomeOf fault out → SealWants {T = X} told old new (Err fault) → SubmitWants told old new out
+  submit_wants old new log_faults.Disk out is wants = subst (SubmitWants told old new) (sym is) (wants.disk refl)
+  submit_wants old new log_faults.NoMemory out is wants =
+      subst (SubmitWants told old new) (sym is) (⊎_elim (λ same. inl same) (λ starved. inr (refl, starved)) (wants.no_memory refl))
+  submit_wants old new log_faults.Closed out is wants = absurd is
+
+  pub act_wants : {X : Type 0} (old new : D) (fault : SealFault) (out : ActFault) → IsActOutcomeOf fault out → SealWants {T = X} told old new (Err fault) → ActWants told old new out
+  act_wants old new log_faults.Disk out is wants = subst (ActWants told old new) (sym is) (wants.disk refl)
+  act_wants old new log_faults.NoMemory out is wants = subst (ActWants told old new) (sym is) (wants.no_memory refl)
+  act_wants old new log_faults.Closed out is wants = absurd is
+
   -- ---- asks
 
   pub submits_none : (item : Item) (old new : Lasting D) (fault : SealFault) (out : SubmitFault) → old.closed ≡ false → IsOutcomeOf fault out

@@ -4,7 +4,7 @@ use Rattle.std.specs.List.{AllByRecursion}
 use Rattle.std.specs.Option.{option_map_or}
 use Rattle.std.proofs.lemmas.Bool.Decides.{nat_tests}
 use Rattle.undo_outside.specs.Disk.{DiskTold}
-use Rattle.undo_outside.specs.Moments.{OnlyReads}
+use Rattle.seal_log.specs.Settled.{ReadsAlone}
 use Rattle.verb_core.specs.declared.item.Item.{Item}
 use Rattle.verb_core.specs.declared.mailbox.Body.{Body}
 use Rattle.verb_core.specs.Deeds.{is_notice}
@@ -126,11 +126,11 @@ can_read gate size held body apart sizes end_is noted none has = by_note (note_o
 -- ---- reading goes on
 
 -- what is held stays held while the disk is read
-pub held_on : (old new : DiskTold) (held : Held) → OnlyReads old new → HoldsHeld old held → HoldsHeld new held
+pub held_on : (old new : DiskTold) (held : Held) → ReadsAlone old new → HoldsHeld old held → HoldsHeld new held
 held_on old new held reads holds = (
   holds.0,
   record {
-    held = record { honest = reads.honest holds.1.held.honest; front = λ c image. holds.1.held.front c (reads.images holds.1.held.honest c image) };
+    held = record { honest = reads.reads.honest holds.1.held.honest; front = λ c image. holds.1.held.front c (reads.reads.images holds.1.held.honest c image) };
     lie = holds.1.lie;
     revs = holds.1.revs;
     runs = holds.1.runs;

@@ -2,7 +2,7 @@
 use Rattle.std.proofs.Common.{◌≡◌, ◌+◌, ◌<◌, ◌≤◌, ℕ, zero, suc, refl, sym, subst, ◌∙◌, arith}
 use Rattle.undo_outside.specs.Calls.{Rose}
 use Rattle.undo_outside.specs.Disk.{DiskTold, IsHonest, ReadFailed}
-use Rattle.undo_outside.proofs.Moments.{reads_joined, reads_none}
+use Rattle.seal_log.proofs.Uses.{reads_joined, reads_none}
 use Rattle.desk_journal.specs.declared.read_texts.Reading.{Reading}
 use Rattle.desk_journal.specs.Telling.{LeadsOn, ReadsOn}
 
@@ -22,7 +22,7 @@ module _ {D : Type 0} (told : D → DiskTold) where
     fails = λ none some.
         let failed = second.fails refl some in
         let same : (told mid).failed_reads ≡ (told old).failed_reads = (first.well refl).1 in
-        (subst (λ n. Rose n (told new).failed_reads) same failed.0, subst (λ n. (told new).failed_reads ≤ n + 1) same failed.1, failed.2, sym first.reads.reliable ∙ failed.3);
+        (subst (λ n. Rose n (told new).failed_reads) same failed.0, subst (λ n. (told new).failed_reads ≤ n + 1) same failed.1, failed.2, sym first.reads.reads.reliable ∙ failed.3);
     still = λ some. let wrong : before ≡ 0 = (first.well refl).0 in absurd (omega arith);
   }
   reads_then old mid new before (suc between) after first second =

@@ -5,11 +5,11 @@ use Rattle.verb_core.specs.declared.conf.Conf.{Conf}
 use Rattle.verb_core.specs.declared.conf.House.{House}
 use Rattle.verb_bytes.specs.declared.journal.JournalRecord.TheVariants.{Format}
 use Rattle.verb_bytes.specs.Spelling.{record_bytes}
-use Rattle.seal_log.specs.Causes.{SameCounts}
+use Rattle.seal_log.specs.Causes.{Fed, SameCounts}
 use Rattle.seal_log.specs.Journal.{frame}
 use Rattle.seal_log.specs.declared.log.Log.{Log}
 use Rattle.seal_log.specs.Log.{last_gate}
-use Rattle.seal_log.specs.Settled.{IsSettled}
+use Rattle.seal_log.specs.Settled.{IsSettled, LeavesNoJournal}
 use Rattle.store_kept.specs.Kept.{Kept}
 use Rattle.desk_journal.specs.declared.fault.MakeFault.{MakeFault}
 use Rattle.desk_journal.specs.declared.fault.MakeFault.TheVariants.{NotEmpty, Disk, NoMemory}
@@ -19,13 +19,10 @@ use Rattle.desk_journal.specs.Records.{payloads_of, state}
 abbrev pub SameFaults : DiskTold → DiskTold → Type 0
 SameFaults old new = SameCounts old new × (new.is_reliable ≡ old.is_reliable)
 
--- each write found memory
-abbrev pub Fed : DiskTold → DiskTold → Type 0
-Fed old new = new.starved ≡ old.starved
-
--- no memory was found: the disk was only looked at; or the last write that was made found none, and no other
+-- no memory was found: the disk was only looked at; or the last write that was made found none, and no other, and there is no
+-- journal that was not there before
 abbrev pub FindsNone : DiskTold → DiskTold → Type 0
-FindsNone old new = (IsLook old new × Fed old new) ⊎ WriteStarved old new
+FindsNone old new = (IsLook old new × Fed old new) ⊎ (WriteStarved old new × (old.honest → LeavesNoJournal old new))
 
 -- The disk was empty. It has one record and the gates around it, and the record leaves what is kept.
 pub record IsMade (house : House) (conf : Conf) (old new : DiskTold) (kept : Kept) (gate : ℕ) : Type 0 where

@@ -1,7 +1,7 @@
 -- What a turn leaves that reads texts from the disk.
 use Rattle.std.specs.Prelude.{◌≡◌, ℕ, zero, suc, ◌+◌, ◌-◌, ◌^◌, ◌≤◌, min, true}
 use Rattle.undo_outside.specs.Disk.{DiskTold}
-use Rattle.undo_outside.specs.Moments.{OnlyReads}
+use Rattle.seal_log.specs.Settled.{ReadsAlone}
 use Rattle.desk_journal.specs.Lasting.{Lasting}
 use Rattle.desk_journal.specs.Stored.{HoldsTexts}
 
@@ -51,4 +51,4 @@ pub record IsStill {D : Type 0} (told : D → DiskTold) (old new : Lasting D) : 
   pub room : new.room ≡ old.room
   pub gate : new.gate ≡ old.gate
   pub closed : new.closed ≡ old.closed
-  pub reads : OnlyReads (told old.disk) (told new.disk)
+  pub reads : ReadsAlone (told old.disk) (told new.disk)

@@ -1,6 +1,6 @@
 -- What becomes of an ask, of an act and of a snapshot.
-use Rattle.std.specs.Prelude.{◌≡◌, ◌≢◌, ℕ, ◌+◌, ◌<◌, true, false, List, [], ◌∷◌, length, Result, Ok, Err, OnOk, OnErr, IsErrOf, IsTrue}
-use Rattle.undo_outside.specs.Disk.{DiskTold}
+use Rattle.std.specs.Prelude.{◌≡◌, ◌≢◌, ◌⊎◌, ℕ, ◌+◌, ◌<◌, true, false, List, [], ◌∷◌, length, Result, Ok, Err, OnOk, OnErr, IsErrOf, IsTrue}
+use Rattle.undo_outside.specs.Disk.{DiskTold, WriteStarved}
 use Rattle.verb_core.specs.declared.ask.Refused.{Refused}
 use Rattle.verb_core.specs.declared.ask.SubmitFault.{SubmitFault}
 use Rattle.verb_core.specs.declared.ask.SubmitFault.TheVariants.{Refused as IsRefused, Disk, Closed}
@@ -10,7 +10,7 @@ use Rattle.verb_core.specs.declared.item.Item.{Item}
 use Rattle.verb_bytes.specs.declared.journal.JournalRecord.{JournalRecord}
 use Rattle.verb_bytes.specs.declared.journal.JournalRecord.TheVariants.{Verb, Operator}
 use Rattle.box_store.specs.Refusing.{IsRefusal}
-use Rattle.seal_log.specs.Causes.{SealWants}
+use Rattle.seal_log.specs.Causes.{Fed, SealWants, Starves}
 use Rattle.seal_log.specs.declared.fault.SealFault.{SealFault}
 use Rattle.seal_log.specs.declared.fault.SealFault.TheVariants as log_faults
 use Rattle.desk_journal.specs.declared.fault.ActFault.{ActFault}
@@ -64,6 +64,20 @@ pub record SealsBytes {D X : Type 0} (told : D → DiskTold) (bytes : List ℕ) 
   pub wants : SealWants told old.disk new.disk result
 
 module _ {D : Type 0} (told : D → DiskTold) where
+  -- Which writes found memory where an ask has no item: all, where its sealing failed; none was made, where it is refused; but
+  -- for want of memory the last write that was made may be the one that found none.
+  abbrev pub SubmitWants : D → D → SubmitFault → Type 0
+  SubmitWants old new (IsRefused why) = (new ≡ old) ⊎ ((why ≡ NoMemory) × WriteStarved (told old) (told new))
+  SubmitWants old new Disk = Fed (told old) (told new)
+  SubmitWants old new Closed = new ≡ old
+
+  -- the same of an act
+  abbrev pub ActWants : D → D → ActFault → Type 0
+  ActWants old new (act_faults.Numbers next) = new ≡ old
+  ActWants old new act_faults.Disk = Fed (told old) (told new)
+  ActWants old new act_faults.NoMemory = Starves told old new
+  ActWants old new act_faults.Closed = new ≡ old
+
   -- nothing was sealed, and nothing is lost
   abbrev pub SealsNothing : Lasting D → Lasting D → Type 0
   SealsNothing old new = Seals told [] [] old new

@@ -2,7 +2,7 @@
 use Rattle.std.specs.Prelude.{◌≡◌, ℕ, ◌+◌, ◌<◌, ◌==◌, Bool, false, nat_lt, nat_le, ◌&&◌, ◌||◌, is_some, List, Option, None, if◌then◌else◌}
 use Rattle.std.specs.Option.{option_map_or, option_or}
 use Rattle.undo_outside.specs.Disk.{DiskTold, ReadFailed}
-use Rattle.undo_outside.specs.Moments.{OnlyReads}
+use Rattle.seal_log.specs.Settled.{ReadsAlone}
 use Rattle.verb_core.specs.declared.mailbox.Body.{Body}
 use Rattle.verb_core.specs.Texts.{BodiesTold}
 use Rattle.shelf.specs.declared.note.Note.{Note}
@@ -37,7 +37,7 @@ HoldsHeld disk held = (payloads : List (List ℕ)) × TextsHeld disk payloads he
 
 -- The disk was only read, and no more once a read failed: so many failed before, and so many after.
 pub record ReadsOn {D : Type 0} (told : D → DiskTold) (old new : D) (before after : ℕ) : Type 0 where
-  pub reads : OnlyReads (told old) (told new)
+  pub reads : ReadsAlone (told old) (told new)
   pub well : after ≡ 0 → (before ≡ 0) × ((told new).failed_reads ≡ (told old).failed_reads)
   pub fails : before ≡ 0 → 0 < after → ReadFailed (told old) (told new)
   pub still : 0 < before → (0 < after) × (new ≡ old)
@@ -46,7 +46,7 @@ pub record ReadsOn {D : Type 0} (told : D → DiskTold) (old new : D) (before af
 pub record IsOnlyRead {D : Type 0} (told : D → DiskTold) (old new : JournalTold D) : Type 0 where
   pub gate : new.gate ≡ old.gate
   pub closed : new.closed ≡ old.closed
-  pub reads : OnlyReads (told old.disk) (told new.disk)
+  pub reads : ReadsAlone (told old.disk) (told new.disk)
 
 -- ---- the texts of a desk that is read
 

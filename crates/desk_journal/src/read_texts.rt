@@ -1,9 +1,9 @@
 //! The texts of a desk, read where they lie in its journal.
 ghost use Rattle.std.specs.Prelude.{◌≡◌, ◌+◌, ◌≤◌, Some, true, false, option_copied, IfOk, OnOk, IfErr, IsErrOf};
 ghost use Rattle.std.specs.Option.{option_map_or};
-ghost use Rattle.undo_outside.specs.Moments.{OnlyReads};
 ghost use Rattle.verb_core.specs.Texts.{Rose};
 ghost use Rattle.seal_log.specs.Causes.{ReadAtCause};
+ghost use Rattle.seal_log.specs.Settled.{ReadsAlone};
 ghost use Rattle.mail_desk.specs.Timeline.{noted_of};
 ghost use Rattle.desk_journal.specs.Telling.{HoldsHeld, LeadsOn, ReadsOn, asked_of, is_readable, reading_told};
 ghost use Rattle.desk_journal.specs.Going.{leads_on, leads_to_itself};
@@ -57,7 +57,7 @@ pub fn read_noted<D: Disk>(
     requires { option_map_or (is_readable end (D.told disk.old).size) (noted_of desk.now.kept.timeline desk.now.notes body) false ≡ true }
     ensures text { HoldsHeld (D.told disk.old) desk.now → IfOk result (λ text. text_kept desk.now.kept body ≡ Some text) }
     ensures cause { ReadAtCause (D.told disk.old) (D.told disk.new) result }
-    ensures reads { OnlyReads (D.told disk.old) (D.told disk.new) }
+    ensures reads { ReadsAlone (D.told disk.old) (D.told disk.new) }
 {
     desk.stands();
     match desk.note(body) {

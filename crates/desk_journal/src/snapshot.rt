@@ -1,6 +1,7 @@
 //! What the operator keeps of a moment: the store as it is, in a record of the journal, from which a later cycle can begin.
 ghost use Rattle.std.specs.Prelude.{◌≡◌, false, length, IsTrue, IfOk, OnOk, IfErr, OnErr, IsErrOf};
 ghost use Rattle.verb_bytes.specs.Spelling.{record_bytes};
+ghost use Rattle.seal_log.specs.Causes.{SealWants};
 ghost use Rattle.shelf.specs.Marks.{with_mark};
 ghost use Rattle.store_kept.specs.Kept.{snapshotted};
 ghost use Rattle.mail_desk.specs.Held.{CanMark};
@@ -72,6 +73,7 @@ pub fn snapshot_open<D: Disk>(
     ensures marks { OnErr result (desk.new.marks ≡ desk.old.marks) }
     ensures why { IfErr result (λ fault. SnapshotsNone D.told (lasting desk.old journal.old) (lasting desk.new journal.new) fault) }
     ensures reads { (D.told journal.new.disk).failed_reads ≡ (D.told journal.old.disk).failed_reads }
+    ensures wants { SealWants D.told journal.old.disk journal.new.disk result }
     ensures not_closed { IsErrOf result SealFault.Closed → ⊥ }
 {
     desk.stands();

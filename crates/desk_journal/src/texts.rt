@@ -1,8 +1,8 @@
 //! The texts of bodies: a notice's is in memory, and any other is read where it lies in the journal.
 ghost use Rattle.std.specs.Prelude.{◌≡◌, ◌<◌, ◌+◌, ◌++◌, ◌∷◌, [], length, is_some, Some, IsTrue, IfOk, OnOk, IsErrOf};
 ghost use Rattle.std.specs.List.{list_all};
-ghost use Rattle.undo_outside.specs.Moments.{OnlyReads};
 ghost use Rattle.seal_log.specs.Causes.{ReadAtCause};
+ghost use Rattle.seal_log.specs.Settled.{ReadsAlone};
 ghost use Rattle.mail_desk.specs.Timeline.{has_text};
 ghost use Rattle.desk_journal.specs.Stored.{TextsNoted};
 ghost use Rattle.desk_journal.specs.Telling.{HoldsHeld, IsOnlyRead};
@@ -40,7 +40,7 @@ fn text_at<D: Disk>(
     requires there { IsTrue (has_text_kept desk.now.kept body) }
     ensures text { HoldsHeld (D.told disk.old) desk.now → IfOk result (λ text. text_kept desk.now.kept body ≡ Some text) }
     ensures cause { ReadAtCause (D.told disk.old) (D.told disk.new) result }
-    ensures reads { OnlyReads (D.told disk.old) (D.told disk.new) }
+    ensures reads { ReadsAlone (D.told disk.old) (D.told disk.new) }
 {
     desk.stands();
     match desk.notice(body) {
@@ -62,7 +62,7 @@ fn found_at<D: Disk>(
     ensures there { IfOk result (λ found. is_some found ≡ has_text_kept desk.now.kept body) }
     ensures found { HoldsHeld (D.told disk.old) desk.now → IfOk result (λ found. found ≡ text_kept desk.now.kept body) }
     ensures cause { ReadAtCause (D.told disk.old) (D.told disk.new) result }
-    ensures reads { OnlyReads (D.told disk.old) (D.told disk.new) }
+    ensures reads { ReadsAlone (D.told disk.old) (D.told disk.new) }
 {
     if !desk.has_text(body) {
         return Ok(None);
@@ -88,7 +88,7 @@ fn push_at<D: Disk>(
     ensures count { OnOk result (length texts.new ≡ length texts.old + 1) }
     ensures texts { HoldsHeld (D.told disk.old) desk.now → OnOk result (texts.new ≡ texts.old ++ texts_kept desk.now.kept (body ∷ [])) }
     ensures cause { ReadAtCause (D.told disk.old) (D.told disk.new) result }
-    ensures reads { OnlyReads (D.told disk.old) (D.told disk.new) }
+    ensures reads { ReadsAlone (D.told disk.old) (D.told disk.new) }
 {
     let text = text_at(alloc, disk, end, desk, body)?;
     match texts.push(text) {
@@ -111,7 +111,7 @@ fn texts_at<D: Disk>(
     ensures count { IfOk result (λ texts. length texts ≡ length bodies.now) }
     ensures texts { HoldsHeld (D.told disk.old) desk.now → IfOk result (λ texts. texts ≡ texts_kept desk.now.kept bodies.now) }
     ensures cause { ReadAtCause (D.told disk.old) (D.told disk.new) result }
-    ensures reads { OnlyReads (D.told disk.old) (D.told disk.new) }
+    ensures reads { ReadsAlone (D.told disk.old) (D.told disk.new) }
 {
     let mut texts = Texts::new(alloc);
     for body in bodies {

@@ -1,4 +1,5 @@
 pub mod Telling
+pub mod Wants
 pub mod Holding
 pub mod Renoting
 pub mod Standings

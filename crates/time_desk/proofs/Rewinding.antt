@@ -6,12 +6,12 @@ use Rattle.cycle_rules.specs.Judging.{shown_after}
 use Rattle.std.proofs.lemmas.Bool.{eq-eqb}
 use Rattle.std.specs.List.{AllByRecursion}
 use Rattle.undo_outside.specs.Disk.{DiskTold, IsHonest}
-use Rattle.undo_outside.specs.Moments.{OnlyReads}
 use Rattle.seal_log.specs.declared.place.Place.{Place}
 use Rattle.seal_log.specs.Journal.{LiesAt}
 use Rattle.shelf.specs.declared.note.Note.{Note}
 use Rattle.seal_log.specs.declared.fault.SealFault.{SealFault}
 use Rattle.seal_log.specs.declared.fault.SealFault.TheVariants as log_faults
+use Rattle.seal_log.specs.Settled.{ReadsAlone}
 use Rattle.verb_core.specs.declared.item.Act.{Act}
 use Rattle.verb_core.specs.declared.item.Item.{Item}
 use Rattle.verb_core.specs.declared.mailbox.BoxId.{BoxId}
@@ -397,7 +397,7 @@ module _ {D : Type 0} (told : D → DiskTold) where
 
 -- ---- a cycle that is sealed
 
-module _ {D : Type 0} (told : D → DiskTold) (disk : D) (before after : Held) (old new : JournalTold D) (at : ℕ) (ask : CycleAsk) (made : Rewound) (bytes : List ℕ) (reads : OnlyReads (told disk) (told old.disk)) where
+module _ {D : Type 0} (told : D → DiskTold) (disk : D) (before after : Held) (old new : JournalTold D) (at : ℕ) (ask : CycleAsk) (made : Rewound) (bytes : List ℕ) (reads : ReadsAlone (told disk) (told old.disk)) where
   -- the desk before texts were read
   abbrev First : Lasting D
   First = lasting before (record old { disk = disk })

@@ -4,14 +4,14 @@ use Rattle.std.proofs.lemmas.List.Concat.{flat_map-append}
 use Rattle.std.specs.List.{AllByRecursion}
 use Rattle.std.specs.Prelude.{IfOk, OnOk}
 use Rattle.undo_outside.specs.Disk.{DiskTold, IsHonest}
-use Rattle.undo_outside.specs.Moments.{LeavesOnly, OnlyReads}
+use Rattle.undo_outside.specs.Moments.{LeavesOnly}
 use Rattle.undo_outside.proofs.Moments.{images_now, joined}
 use Rattle.seal_log.specs.Causes.{SameCounts}
 use Rattle.seal_log.specs.declared.place.Place.{Place}
 use Rattle.seal_log.specs.Journal.{frame, sealed, IsPayload, StandsFor}
 use Rattle.seal_log.specs.Loading.{BeginsCut, places_from}
 use Rattle.seal_log.specs.Loads.{Ends, IsSurveyed}
-use Rattle.seal_log.specs.Settled.{IsSettled}
+use Rattle.seal_log.specs.Settled.{IsSettled, ReadsAlone}
 use Rattle.store_kept.specs.Kept.{Kept}
 use Rattle.time_desk.specs.declared.fault.StartFault.{StartFault}
 use Rattle.time_desk.specs.declared.fault.StartFault.TheVariants.{NotFormatted, Damaged, Disk, NoMemory}
@@ -114,7 +114,7 @@ module _ (image : List ℕ) (disk : DiskTold) (gate : ℕ) (places : List Place)
       by_cases false [] split none gate_is ends = absurd (omega (arith, ends.1))
 
   -- records that all can stand, and a gate that is not open behind them
-  pub whole : (new : DiskTold) (is_cut : Bool) (seen : IsSurveyed image disk gate places is_cut) (kept : Kept) → OnlyReads disk new → is_cut ≡ false → SpellsAll seen.payloads kept → IsStarted image new kept gate
+  pub whole : (new : DiskTold) (is_cut : Bool) (seen : IsSurveyed image disk gate places is_cut) (kept : Kept) → ReadsAlone disk new → is_cut ≡ false → SpellsAll seen.payloads kept → IsStarted image new kept gate
   whole new true seen kept reads shut all = absurd (cc shut)
   whole new false seen kept reads shut all = record {
     records = all.records;
@@ -124,7 +124,7 @@ module _ (image : List ℕ) (disk : DiskTold) (gate : ℕ) (places : List Place)
   }
 
   -- the texts that were noted lie in them
-  pub whole_texts : (new : DiskTold) (is_cut : Bool) (seen : IsSurveyed image disk gate places is_cut) (kept : Kept) (notes : List (Body × Note)) (marks : List (ℕ × Place)) → OnlyReads disk new → is_cut ≡ false → TextsHeld new seen.payloads kept notes marks
+  pub whole_texts : (new : DiskTold) (is_cut : Bool) (seen : IsSurveyed image disk gate places is_cut) (kept : Kept) (notes : List (Body × Note)) (marks : List (ℕ × Place)) → ReadsAlone disk new → is_cut ≡ false → TextsHeld new seen.payloads kept notes marks
       → SettledTexts new gate kept notes marks
   whole_texts new true seen kept notes marks reads shut all = absurd (cc shut)
   whole_texts new false seen kept notes marks reads shut all = record { payloads = seen.payloads; texts = all; settled = settled_on disk new gate seen.payloads reads seen.ends.2 }
@@ -133,17 +133,17 @@ module _ (image : List ℕ) (disk : DiskTold) (gate : ℕ) (places : List Place)
 
 pub starts_when : {T : Type 0} (kept : T → Kept) (gate : T → ℕ) (old mid new : DiskTold) (r : Result T StartFault) → (mid.honest → IsHonest mid)
     → (old.honest → IfOk r (λ t. IsStarted old.content new (kept t) (gate t))) → OnOk r (new.failed_reads ≡ mid.failed_reads)
-    → SameCounts old mid → OnlyReads mid new → mid.is_reliable ≡ old.is_reliable → (old.honest → LeavesOnly old mid old.images)
+    → SameCounts old mid → ReadsAlone mid new → mid.is_reliable ≡ old.is_reliable → (old.honest → LeavesOnly old mid old.images)
     → mid.size ≡ old.size → (old.honest → mid.honest) → (old.honest → mid.content ≡ old.content) → (old.size ≡ 0 → ⊥)
     → IfOk r (λ t. Starts old new (Ok (kept t, gate t)))
 starts_when kept gate old mid new (Err e) truth found ok counts reads reliable moment size honest content some = tt
 starts_when kept gate old mid new (Ok t) truth found ok counts reads reliable moment size honest content some = record {
   found = found;
-  counts = record { reads = ok ∙ counts.reads; writes = reads.writes ∙ counts.writes };
-  reliable = reads.reliable ∙ reliable;
-  any_moment = λ is. joined old mid new old.images mid.images old.images (moment is) (reads.any_moment (honest is)) (λ c now. now) (images_now old mid old.images (moment is) (truth (honest is)));
-  size = reads.size ∙ size;
-  honest = λ is. reads.honest (honest is);
-  content = λ is _. reads.content (honest is) ∙ content is;
+  counts = record { reads = ok ∙ counts.reads; writes = reads.reads.writes ∙ counts.writes };
+  reliable = reads.reads.reliable ∙ reliable;
+  any_moment = λ is. joined old mid new old.images mid.images old.images (moment is) (reads.reads.any_moment (honest is)) (λ c now. now) (images_now old mid old.images (moment is) (truth (honest is)));
+  size = reads.reads.size ∙ size;
+  honest = λ is. reads.reads.honest (honest is);
+  content = λ is _. reads.reads.content (honest is) ∙ content is;
   empty = λ none. absurd (some none);
 }

@@ -1,7 +1,7 @@
 -- What becomes of a request for a cycle.
 use Rattle.std.specs.Prelude.{◌≡◌, ◌⊎◌, ◌<◌, ◌≤◌, ◌+◌, ◌-◌, ℕ, false, [], ◌∷◌, List, length, map, None, Result, Ok, Err, IsTrue}
 use Rattle.std.specs.List.{AllByRecursion}
-use Rattle.undo_outside.specs.Disk.{DiskTold, ReadFailed}
+use Rattle.undo_outside.specs.Disk.{DiskTold, ReadFailed, WriteStarved}
 use Rattle.verb_core.specs.declared.item.Item.{Item}
 use Rattle.verb_core.specs.declared.mailbox.Body.{Body}
 use Rattle.verb_core.specs.declared.mailbox.BoxId.{BoxId}
@@ -22,6 +22,8 @@ use Rattle.mail_cycle.specs.declared.settling.Rewound.{Rewound}
 use Rattle.mail_cycle.specs.declared.refused.CycleRefused.{CycleRefused}
 use Rattle.mail_cycle.specs.declared.refused.CycleRefused.TheVariants as refusals
 use Rattle.seal_log.specs.declared.place.Place.{Place}
+use Rattle.seal_log.specs.Causes.{Fed}
+use Rattle.seal_log.specs.Settled.{ReadsAlone}
 use Rattle.shelf.specs.declared.note.Note.{Note}
 use Rattle.mail_desk.specs.declared.noting.Fresh.{Fresh}
 use Rattle.mail_desk.specs.Held.{Held}
@@ -164,3 +166,12 @@ module _ {D : Type 0} (told : D → DiskTold) where
   CyclesNone at ask old new Disk = (old.closed ≡ false) × (FailsToCycle at ask old new ⊎ FailsToRead at ask old new)
   CyclesNone at ask old new NoMemory = StarvesBy old new (cycle_due old.kept at ask)
   CyclesNone at ask old new Closed = IsTrue old.closed × (report_of old.kept.reports ask.key ≡ None) × (new ≡ old)
+
+  -- Which writes found memory where a request has no report: all; but for want of memory none was made, or the last one that was
+  -- made may be the one that found none.
+  abbrev pub CycleWants : D → D → CycleFault → Type 0
+  CycleWants old new (Point given) = Fed (told old) (told new)
+  CycleWants old new (Numbers next) = Fed (told old) (told new)
+  CycleWants old new Disk = Fed (told old) (told new)
+  CycleWants old new NoMemory = ReadsAlone (told old) (told new) ⊎ WriteStarved (told old) (told new)
+  CycleWants old new Closed = Fed (told old) (told new)

@@ -1,7 +1,7 @@
 //! A cycle of the journal, performed again where a desk is started: one item after the other, since there are no workers, and
 //! with nothing counted.
 ghost use Rattle.std.specs.Prelude.{◌≡◌, ◌<◌, ◌≤◌, Some, length, IsTrue, IfOk, IfErr};
-ghost use Rattle.undo_outside.specs.Moments.{OnlyReads};
+ghost use Rattle.seal_log.specs.Settled.{ReadsAlone};
 ghost use Rattle.repair_desk.specs.Repairs.{are_known, position};
 ghost use Rattle.cycle_rules.specs.Asking.{due_anew};
 ghost use Rattle.cycle_rules.specs.Cycles.{cycled_at, leaves_numbers};
@@ -54,7 +54,7 @@ fn again_from<D: Disk, L: Ledger>(
     ensures done { HoldsHeld (D.told disk.old) desk.now → first.store.store ≡ store_at desk.now.kept first.count → IfOk result (Leaves desk.now.kept (cycled_at desk.now.kept at ask.now place)) }
     ensures fit { IfOk result (IsFit desk.now.kept) }
     ensures cause { BodiesCause (D.told disk.old) (D.told disk.new) result }
-    ensures reads { OnlyReads (D.told disk.old) (D.told disk.new) }
+    ensures reads { ReadsAlone (D.told disk.old) (D.told disk.new) }
 {
     desk.stands();
     cycles_leave_states();
@@ -97,7 +97,7 @@ fn again_at<D: Disk, L: Ledger>(
     ensures made { IfOk result (IsMade desk.now.kept at ask.now (HoldsHeld (D.told disk.old) desk.now)) }
     ensures fit { IfOk result (IsFit desk.now.kept) }
     ensures cause { BodiesCause (D.told disk.old) (D.told disk.new) result }
-    ensures reads { OnlyReads (D.told disk.old) (D.told disk.new) }
+    ensures reads { ReadsAlone (D.told disk.old) (D.told disk.new) }
 {
     desk.stands();
     match beginning(alloc, disk, end, desk, place) {
@@ -127,7 +127,7 @@ fn again<D: Disk, L: Ledger>(
     ensures fit { IfOk result (IsFit desk.now.kept) }
     ensures refused { IfErr result (IsRefusalOf desk.now.kept ask.now (due_anew desk.now.kept at ask.now)) }
     ensures cause { RedoesCause (D.told disk.old) (D.told disk.new) result }
-    ensures reads { OnlyReads (D.told disk.old) (D.told disk.new) }
+    ensures reads { ReadsAlone (D.told disk.old) (D.told disk.new) }
 {
     match due_place(&begun(desk), ask) {
         Ok(place) => match again_at(alloc, disk, end, desk, at, ask, place, steps) {
@@ -162,7 +162,7 @@ fn again_over<D: Disk, L: Ledger>(
     ensures fit { IfOk result (IsFit desk.now.kept) }
     ensures refused { IfErr result (IsRefusalOf desk.now.kept ask.now (due_anew desk.now.kept at ask.now)) }
     ensures cause { RedoesCause (D.told disk.old) (D.told disk.new) result }
-    ensures reads { OnlyReads (D.told disk.old) (D.told disk.new) }
+    ensures reads { ReadsAlone (D.told disk.old) (D.told disk.new) }
 {
     let mut steps: Steps<L> = Steps::new(blank);
     again(alloc, disk, end, desk, at, ask, &mut steps)
@@ -187,7 +187,7 @@ pub(crate) fn performed_again<D: Disk>(
     ensures fit { IfOk result (IsFit desk.now.kept) }
     ensures refused { IfErr result (IsRefusalOf desk.now.kept ask.now (due_anew desk.now.kept at ask.now)) }
     ensures cause { RedoesCause (D.told disk.old) (D.told disk.new) result }
-    ensures reads { OnlyReads (D.told disk.old) (D.told disk.new) }
+    ensures reads { ReadsAlone (D.told disk.old) (D.told disk.new) }
 {
     again_over::<D, Brand>(alloc, disk, end, desk, at, ask, Blank::new(1))
 }

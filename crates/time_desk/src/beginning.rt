@@ -1,13 +1,12 @@
 //! What a cycle begins with: the newest snapshot in the journal that can serve, or else the store before the first item.
 ghost use Rattle.std.specs.Prelude.{◌≡◌, ◌<◌, ◌≤◌, ◌+◌, ℕ, List, Some, take, length, option_map, IfOk, IfSome, IsErrOf};
 ghost use Rattle.std.specs.List.{AllByRecursion, list_all};
-ghost use Rattle.undo_outside.specs.Moments.{OnlyReads};
 ghost use Rattle.verb_core.specs.declared.mailbox.Entry.{Entry as TheEntry};
 ghost use Rattle.verb_bytes.specs.declared.journal.JournalRecord.{JournalRecord as TheRecord};
 ghost use Rattle.verb_bytes.specs.Spelling.{HasSpelling, Spells, record_bytes};
 ghost use Rattle.seal_log.specs.Causes.{ReadAtCause};
 ghost use Rattle.seal_log.specs.Journal.{LiesAt};
-ghost use Rattle.seal_log.specs.Settled.{Holds};
+ghost use Rattle.seal_log.specs.Settled.{Holds, ReadsAlone};
 ghost use Rattle.time_desk.specs.Serving.{BeginsBy, CanServe, FindsLast, FindsNewest, IsNewest, Serves, ServesBy, SpelledBy, bytes_at, can_serve as serves, rows_in, store_from, store_in};
 ghost use Rattle.desk_journal.specs.Stored.{MarkLies, MarkedBefore, MarksLie, store_at};
 ghost use Rattle.desk_journal.specs.Telling.{HoldsHeld};
@@ -53,7 +52,7 @@ fn record_at<D: Disk>(
         → LiesAt payloads place.gate place.length (record_bytes what) → IfOk result (λ found. found ≡ Some what) }
     ensures read { (D.told disk.old).honest → IfOk result (SpelledBy (bytes_at (D.told disk.old) place)) }
     ensures cause { ReadAtCause (D.told disk.old) (D.told disk.new) result }
-    ensures reads { OnlyReads (D.told disk.old) (D.told disk.new) }
+    ensures reads { ReadsAlone (D.told disk.old) (D.told disk.new) }
 {
     match read_before(alloc, disk, end, place, 0, place.length) {
         Ok(payload) => record_of(alloc, &payload),
@@ -174,7 +173,7 @@ fn marked_store<D: Disk>(
     ensures read { (D.told disk.old).honest
         → IfOk result (λ found. ServesBy desk.now.kept count (bytes_at (D.told disk.old) place) (option_map (λ store. store.store) found)) }
     ensures cause { ReadAtCause (D.told disk.old) (D.told disk.new) result }
-    ensures reads { OnlyReads (D.told disk.old) (D.told disk.new) }
+    ensures reads { ReadsAlone (D.told disk.old) (D.told disk.new) }
 {
     fronts_serve(desk);
     rows_make_valid_stores();
@@ -202,7 +201,7 @@ fn newest<D: Disk>(
         → IfOk result (FindsLast desk.now.kept marks.now) }
     ensures passes { (D.told disk.old).honest → IfOk result (FindsNewest (D.told disk.old) desk.now.kept marks.now) }
     ensures cause { ReadAtCause (D.told disk.old) (D.told disk.new) result }
-    ensures reads { OnlyReads (D.told disk.old) (D.told disk.new) }
+    ensures reads { ReadsAlone (D.told disk.old) (D.told disk.new) }
 {
     for i in (0..marks.len()).rev() {
         let (count, place) = marks[i];
@@ -259,7 +258,7 @@ pub(crate) fn beginning<D: Disk>(
     ensures newest { HoldsHeld (D.told disk.old) desk.now → IfOk result (IsNewest desk.now.kept place) }
     ensures passes { (D.told disk.old).honest → IfOk result (BeginsBy (D.told disk.old) desk.now place) }
     ensures cause { ReadAtCause (D.told disk.old) (D.told disk.new) result }
-    ensures reads { OnlyReads (D.told disk.old) (D.told disk.new) }
+    ensures reads { ReadsAlone (D.told disk.old) (D.told disk.new) }
 {
     desk.stands();
     let marks = desk.marks_at_or_before(position_of(desk, place));

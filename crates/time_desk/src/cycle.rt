@@ -1,6 +1,7 @@
 //! What the operator asks of the past: a cycle, and a trial of one.
 ghost use Rattle.std.specs.Prelude.{◌≡◌, ◌+◌, ◌≤◌, ℕ, false, None, length, option_copied, IsTrue, IsSome, IfOk, OnOk, IfErr, OnErr};
-ghost use Rattle.undo_outside.specs.Moments.{OnlyReads};
+ghost use Rattle.seal_log.specs.Causes.{Fed};
+ghost use Rattle.seal_log.specs.Settled.{ReadsAlone};
 ghost use Rattle.verb_bytes.specs.declared.journal.JournalRecord.TheVariants.{Cycle};
 ghost use Rattle.verb_bytes.specs.Spelling.{record_bytes};
 ghost use Rattle.shelf.specs.Marks.{marks_at_or_before};
@@ -13,7 +14,7 @@ ghost use Rattle.mail_cycle.specs.Leaving.{IsMade, items_left};
 ghost use Rattle.mail_cycle.specs.Permanence.{UidsLast};
 ghost use Rattle.mail_cycle.specs.Refusing.{IsRefusalOf};
 ghost use Rattle.mail_desk.specs.Remaking.{CanReplace, remade_as};
-ghost use Rattle.time_desk.specs.Cycling.{Cycles, CyclesAs, CyclesNone, IsCycleOutcomeOf, IsFit, IsTold, Redoes, RedoesCause, RenotesAs, Tries, TriesNone, after_rewound, most_performed};
+ghost use Rattle.time_desk.specs.Cycling.{CycleWants, Cycles, CyclesAs, CyclesNone, IsCycleOutcomeOf, IsFit, IsTold, Redoes, RedoesCause, RenotesAs, Tries, TriesNone, after_rewound, most_performed};
 ghost use Rattle.desk_journal.specs.Lasting.{lasting};
 ghost use Rattle.desk_journal.specs.Reading.{IsStill, ReadsWell};
 ghost use Rattle.desk_journal.specs.Records.{is_spelled};
@@ -291,7 +292,7 @@ fn cycle_made<D: Disk>(
     requires fit { IsFit desk.old.kept made }
     requires noted { TextsNoted journal.old.gate desk.old.notes desk.old.kept }
     requires marked { MarkedBefore journal.old.gate desk.old.marks }
-    ensures done { (disk : D) → OnlyReads (D.told disk) (D.told journal.old.disk) → CyclesAs D.told (lasting desk.old (record journal.old { disk = disk })) at ask made
+    ensures done { (disk : D) → ReadsAlone (D.told disk) (D.told journal.old.disk) → CyclesAs D.told (lasting desk.old (record journal.old { disk = disk })) at ask made
         → IfOk result (λ report. Cycles D.told at ask (lasting desk.old (record journal.old { disk = disk })) (lasting desk.new journal.new) report) }
     ensures noted { IsMade desk.old.kept at ask ⊥ made → TextsNoted journal.new.gate desk.new.notes desk.new.kept }
     ensures marked { MarkedBefore journal.new.gate desk.new.marks }
@@ -300,7 +301,9 @@ fn cycle_made<D: Disk>(
     ensures notes { OnErr result (desk.new.notes ≡ desk.old.notes) }
     ensures marks { OnErr result (desk.new.marks ≡ desk.old.marks) }
     ensures reads { (D.told journal.new.disk).failed_reads ≡ (D.told journal.old.disk).failed_reads }
-    ensures why { (disk : D) → OnlyReads (D.told disk) (D.told journal.old.disk) → (D.told journal.old.disk).failed_reads ≡ (D.told disk).failed_reads
+    ensures fed { OnOk result (Fed (D.told journal.old.disk) (D.told journal.new.disk)) }
+    ensures wants { IfErr result (λ fault. CycleWants D.told journal.old.disk journal.new.disk fault) }
+    ensures why { (disk : D) → ReadsAlone (D.told disk) (D.told journal.old.disk) → (D.told journal.old.disk).failed_reads ≡ (D.told disk).failed_reads
         → CyclesAs D.told (lasting desk.old (record journal.old { disk = disk })) at ask made
         → IfErr result (λ fault. CyclesNone D.told at ask (lasting desk.old (record journal.old { disk = disk })) (lasting desk.new journal.new) fault) }
 {
@@ -411,6 +414,8 @@ fn cycle_open<R: Threads + Sync, G: Gate, D: Disk, L: Ledger>(
     ensures rewinds { (due : Cycled) → due_anew desk.old.kept at ask ≡ Rewinds due → HoldsTexts D.told (lasting desk.old journal.old)
         → OnOk result (steps.new ≤ steps.old + most_performed desk.old.kept ask due) }
     ensures same { OnOk result ((D.told journal.new.disk).failed_reads ≡ (D.told journal.old.disk).failed_reads) }
+    ensures fed { OnOk result (Fed (D.told journal.old.disk) (D.told journal.new.disk)) }
+    ensures wants { IfErr result (λ fault. CycleWants D.told journal.old.disk journal.new.disk fault) }
     ensures steps { OnOk result (steps.new ≤ steps.old + length desk.new.kept.timeline) }
 {
     match rewound_in(rt, alloc, journal, desk, at, &ask, gate, steps) {
@@ -448,6 +453,8 @@ fn cycle_anew<R: Threads + Sync, G: Gate, D: Disk, L: Ledger>(
     ensures rewinds { (due : Cycled) → due_anew desk.old.kept at ask ≡ Rewinds due → HoldsTexts D.told (lasting desk.old journal.old)
         → OnOk result (steps.new ≤ steps.old + most_performed desk.old.kept ask due) }
     ensures same { OnOk result ((D.told journal.new.disk).failed_reads ≡ (D.told journal.old.disk).failed_reads) }
+    ensures fed { OnOk result (Fed (D.told journal.old.disk) (D.told journal.new.disk)) }
+    ensures wants { IfErr result (λ fault. CycleWants D.told journal.old.disk journal.new.disk fault) }
     ensures steps { OnOk result (steps.new ≤ steps.old + length desk.new.kept.timeline) }
 {
     if journal.is_closed() {
@@ -491,6 +498,9 @@ impl<D: Disk> Desk<D> {
         ensures rewinds { (due : Cycled) → cycle_due self.old.kept at ask ≡ Rewinds due → HoldsTexts D.told self.old
             → OnOk result (steps.new ≤ steps.old + most_performed self.old.kept ask due) }
         ensures same { OnOk result (ReadsWell D.told self.old self.new) }
+        // A write finds no memory only where the answer is want of memory, and none comes after it.
+        ensures fed { OnOk result (Fed (D.told self.old.disk) (D.told self.new.disk)) }
+        ensures wants { IfErr result (λ fault. CycleWants D.told self.old.disk self.new.disk fault) }
         ensures steps { OnOk result (steps.new ≤ steps.old + length self.new.kept.timeline) }
         ensures once { (earlier : TheReport) → cycle_due self.old.kept at ask ≡ Repeats earlier → steps.new ≡ steps.old }
         ensures uids { HoldsTexts D.told self.old → UidsLast self.old.kept self.new.kept }

@@ -1,7 +1,7 @@
 //! What the operator asks of the items later than a point: which of them could be done side by side.
 ghost use Rattle.std.specs.Prelude.{◌≡◌, ◌++◌, ◌∷◌, [], List, ◌<◌, ◌≤◌, length, map, take, drop, IfErr, IfOk, OnOk};
 ghost use Rattle.std.specs.List.{AllByRecursion};
-ghost use Rattle.undo_outside.specs.Moments.{OnlyReads};
+ghost use Rattle.seal_log.specs.Settled.{ReadsAlone};
 ghost use Rattle.verb_core.specs.Items.{IsWellFormed};
 ghost use Rattle.verb_core.specs.Step.{run};
 ghost use Rattle.verb_core.specs.declared.item.Item.{Item as TheItem};
@@ -172,7 +172,7 @@ fn plan_reading<D: Disk>(
     requires serves { Serves desk.now.kept place first.now }
     ensures text { HoldsHeld (D.told disk.old) desk.now → first.now.store.store ≡ store_at desk.now.kept first.now.count → IfOk result (λ text. text ≡ plan_at desk.now.kept place) }
     ensures cause { BodiesCause (D.told disk.old) (D.told disk.new) result }
-    ensures reads { OnlyReads (D.told disk.old) (D.told disk.new) }
+    ensures reads { ReadsAlone (D.told disk.old) (D.told disk.new) }
 {
     desk.stands();
     let none = Replaces::new(alloc);
@@ -195,7 +195,7 @@ fn plan_from_newest<D: Disk>(
     requires place { place ≤ length desk.now.kept.timeline }
     ensures text { HoldsHeld (D.told disk.old) desk.now → IfOk result (λ text. text ≡ plan_at desk.now.kept place) }
     ensures cause { BodiesCause (D.told disk.old) (D.told disk.new) result }
-    ensures reads { OnlyReads (D.told disk.old) (D.told disk.new) }
+    ensures reads { ReadsAlone (D.told disk.old) (D.told disk.new) }
 {
     match beginning(alloc, disk, end, desk, place) {
         Ok(first) => plan_reading(alloc, disk, end, desk, &first, place),
@@ -218,7 +218,7 @@ fn plan_of_point<D: Disk>(
     ensures text { IfOk result (Plans desk.now.kept point (HoldsHeld (D.told disk.old) desk.now)) }
     ensures why { IfErr result (PlansNone desk.now.kept point (D.told disk.old) (D.told disk.new)) }
     ensures ok { OnOk result ((D.told disk.new).failed_reads ≡ (D.told disk.old).failed_reads) }
-    ensures reads { OnlyReads (D.told disk.old) (D.told disk.new) }
+    ensures reads { ReadsAlone (D.told disk.old) (D.told disk.new) }
 {
     let Some(place) = position_of(desk.all_items(), point) else {
         return Err(CycleFault::Point { given: point });

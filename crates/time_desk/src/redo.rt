@@ -1,6 +1,6 @@
 //! A cycle in memory, beside the desk.
 ghost use Rattle.std.specs.Prelude.{◌≡◌, ◌<◌, ◌+◌, ◌-◌, ◌≤◌, Some, length, IsTrue, IfOk, IfErr, OnOk};
-ghost use Rattle.undo_outside.specs.Moments.{OnlyReads};
+ghost use Rattle.seal_log.specs.Settled.{ReadsAlone};
 ghost use Rattle.repair_desk.specs.Repairs.{are_known, position};
 ghost use Rattle.cycle_rules.specs.Asking.{IsRewinds, Rewinds, due_anew};
 ghost use Rattle.cycle_rules.specs.Cycles.{Cycled, cycled_at, leaves_numbers};
@@ -85,7 +85,7 @@ fn rewound_from<R: Threads + Sync, G: Gate, D: Disk, L: Ledger>(
     ensures done { HoldsHeld (D.told disk.old) desk.now → first.store.store ≡ store_at desk.now.kept first.count → IfOk result (Leaves desk.now.kept (cycled_at desk.now.kept at ask.now place)) }
     ensures fit { IfOk result (IsFit desk.now.kept) }
     ensures cause { BodiesCause (D.told disk.old) (D.told disk.new) result }
-    ensures reads { OnlyReads (D.told disk.old) (D.told disk.new) }
+    ensures reads { ReadsAlone (D.told disk.old) (D.told disk.new) }
     ensures steps { IfOk result (λ made. steps.new ≤ steps.old + (place - first.count) + length ask.now.inserts + made.report.kept + length made.report.notices) }
 {
     desk.stands();
@@ -133,7 +133,7 @@ fn rewound_at<R: Threads + Sync, G: Gate, D: Disk, L: Ledger>(
     ensures made { IfOk result (IsMade desk.now.kept at ask.now (HoldsHeld (D.told disk.old) desk.now)) }
     ensures fit { IfOk result (IsFit desk.now.kept) }
     ensures cause { BodiesCause (D.told disk.old) (D.told disk.new) result }
-    ensures reads { OnlyReads (D.told disk.old) (D.told disk.new) }
+    ensures reads { ReadsAlone (D.told disk.old) (D.told disk.new) }
     ensures rewinds { HoldsHeld (D.told disk.old) desk.now
         → OnOk result (steps.new ≤ steps.old + most_performed desk.now.kept ask.now (cycled_at desk.now.kept at ask.now place)) }
     ensures steps { IfOk result (λ made. steps.new ≤ steps.old + length (items_left desk.now.kept.timeline made)) }
@@ -171,7 +171,7 @@ pub(crate) fn rewound<R: Threads + Sync, G: Gate, D: Disk, L: Ledger>(
     ensures refused { IfErr result (IsRefusalOf desk.now.kept ask.now (due_anew desk.now.kept at ask.now)) }
     ensures untouched { IfErr result (λ refused. (IsRewinds (due_anew desk.now.kept at ask.now) → ⊥) → disk.new ≡ disk.old) }
     ensures cause { RedoesCause (D.told disk.old) (D.told disk.new) result }
-    ensures reads { OnlyReads (D.told disk.old) (D.told disk.new) }
+    ensures reads { ReadsAlone (D.told disk.old) (D.told disk.new) }
     ensures rewinds { (due : Cycled) → due_anew desk.now.kept at ask.now ≡ Rewinds due → HoldsHeld (D.told disk.old) desk.now
         → OnOk result (steps.new ≤ steps.old + most_performed desk.now.kept ask.now due) }
     ensures steps { IfOk result (λ made. steps.new ≤ steps.old + length (items_left desk.now.kept.timeline made)) }
@@ -211,7 +211,7 @@ fn rewound_over<R: Threads + Sync, G: Gate, D: Disk, L: Ledger>(
     ensures fit { IfOk result (IsFit desk.now.kept) }
     ensures refused { IfErr result (IsRefusalOf desk.now.kept ask.now (due_anew desk.now.kept at ask.now)) }
     ensures cause { RedoesCause (D.told disk.old) (D.told disk.new) result }
-    ensures reads { OnlyReads (D.told disk.old) (D.told disk.new) }
+    ensures reads { ReadsAlone (D.told disk.old) (D.told disk.new) }
 {
     let mut steps: Steps<L> = Steps::new(blank);
     rewound(rt, alloc, disk, end, desk, at, ask, gate, &mut steps)
@@ -238,7 +238,7 @@ pub(crate) fn rewound_alone<R: Threads + Sync, G: Gate, D: Disk>(
     ensures fit { IfOk result (IsFit desk.now.kept) }
     ensures refused { IfErr result (IsRefusalOf desk.now.kept ask.now (due_anew desk.now.kept at ask.now)) }
     ensures cause { RedoesCause (D.told disk.old) (D.told disk.new) result }
-    ensures reads { OnlyReads (D.told disk.old) (D.told disk.new) }
+    ensures reads { ReadsAlone (D.told disk.old) (D.told disk.new) }
 {
     rewound_over::<R, G, D, Brand>(rt, alloc, disk, end, desk, at, ask, gate, Blank::new(1))
 }

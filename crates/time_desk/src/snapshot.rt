@@ -1,5 +1,6 @@
 //! What the operator keeps of a moment: the store as it is, in a record of the journal, from which a later cycle can begin.
 ghost use Rattle.std.specs.Prelude.{◌≡◌, ◌↔◌, [], ◌∷◌, length, IsTrue, IfOk, OnOk, IfErr, OnErr, IsErrOf};
+ghost use Rattle.seal_log.specs.Causes.{SealWants};
 ghost use Rattle.store_kept.specs.Kept.{snapshotted};
 ghost use Rattle.mail_cycle.specs.Permanence.{UidsLast};
 ghost use Rattle.desk_journal.specs.Records.{snapshot_record};
@@ -32,6 +33,7 @@ impl<D: Disk> Desk<D> {
         ensures marks { OnErr result (self.new.marks ≡ self.old.marks) }
         ensures why { IfErr result (λ fault. SnapshotsNone D.told self.old self.new fault) }
         ensures reads { ReadsWell D.told self.old self.new }
+        ensures wants { SealWants D.told self.old.disk self.new.disk result }
         ensures closed { IsErrOf result SealFault.Closed ↔ IsTrue self.old.closed }
         ensures uids { UidsLast self.old.kept self.new.kept }
     {

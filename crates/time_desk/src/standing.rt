@@ -1,13 +1,13 @@
 //! Records that can stand: the first of a journal, and each behind it, performed. Where the texts of a record lie is noted.
 ghost use Rattle.std.specs.Prelude.{◌≡◌, ◌≤◌, ◌<◌, ◌+◌, List, ℕ, true, false, bytes_eq, is_none, length, IsTrue, IfOk, OnOk, IsErrOf, option_map};
 ghost use Rattle.std.specs.List.{list_all};
-ghost use Rattle.undo_outside.specs.Moments.{OnlyReads};
 ghost use Rattle.verb_core.specs.Items.{text_in, users_in};
 ghost use Rattle.verb_core.specs.Store.{is_known as knows};
 ghost use Rattle.verb_bytes.specs.declared.journal.JournalRecord.TheVariants.{Cycle, Operator, Snapshot, Verb};
 ghost use Rattle.verb_bytes.specs.Spelling.{HasSpelling, record_bytes};
 ghost use Rattle.seal_log.specs.Causes.{ReadAtCause};
 ghost use Rattle.seal_log.specs.Journal.{LiesAt};
+ghost use Rattle.seal_log.specs.Settled.{ReadsAlone};
 ghost use Rattle.store_kept.specs.Kept.{report_of};
 ghost use Rattle.shelf.specs.Marks.{marks_at_or_before};
 ghost use Rattle.repair_desk.specs.Repairs.{are_known as acts_name_known};
@@ -347,7 +347,7 @@ fn rewind_anew<D: Disk>(
         → IfOk result (λ stood. stood ≡ true → MarksLie payloads desk.new.kept desk.new.marks) }
     ensures noted { IfOk result (λ stood. stood ≡ true → TextsNoted end desk.new.notes desk.new.kept) }
     ensures marked { IfOk result (λ stood. stood ≡ true → MarkedBefore end desk.new.marks) }
-    ensures reads { OnlyReads (D.told disk.old) (D.told disk.new) }
+    ensures reads { ReadsAlone (D.told disk.old) (D.told disk.new) }
     ensures cause { ReadAtCause (D.told disk.old) (D.told disk.new) result }
 {
     desk.stands();
@@ -388,7 +388,7 @@ fn rewind<D: Disk>(
         → IfOk result (λ stood. stood ≡ true → MarksLie payloads desk.new.kept desk.new.marks) }
     ensures noted { IfOk result (λ stood. stood ≡ true → TextsNoted end desk.new.notes desk.new.kept) }
     ensures marked { IfOk result (λ stood. stood ≡ true → MarkedBefore end desk.new.marks) }
-    ensures reads { OnlyReads (D.told disk.old) (D.told disk.new) }
+    ensures reads { ReadsAlone (D.told disk.old) (D.told disk.new) }
     ensures cause { ReadAtCause (D.told disk.old) (D.told disk.new) result }
 {
     spelled_cycles_have_moments();
@@ -551,7 +551,7 @@ pub(crate) fn follow<D: Disk>(
         → IfOk result (λ stood. stood ≡ true → MarksLie payloads desk.new.kept desk.new.marks) }
     ensures noted { IfOk result (λ stood. stood ≡ true → TextsNoted end desk.new.notes desk.new.kept) }
     ensures marked { IfOk result (λ stood. stood ≡ true → MarkedBefore end desk.new.marks) }
-    ensures reads { OnlyReads (D.told disk.old) (D.told disk.new) }
+    ensures reads { ReadsAlone (D.told disk.old) (D.told disk.new) }
     ensures cause { ReadAtCause (D.told disk.old) (D.told disk.new) result }
 {
     match what {

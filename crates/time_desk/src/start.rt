@@ -1,14 +1,13 @@
 //! A desk from the journal on a disk.
 ghost use Rattle.std.specs.Prelude.{◌≡◌, ◌<◌, ◌≤◌, ◌+◌, ◌++◌, ℕ, List, [], true, false, Some, None, Ok, Err, OnOk, IfOk, IfErr, length, drop, slice_get};
 ghost use Rattle.std.specs.List.{All};
-ghost use Rattle.undo_outside.specs.Moments.{OnlyReads};
 ghost use Rattle.verb_bytes.specs.declared.journal.JournalRecord.{JournalRecord as TheRecord};
 ghost use Rattle.verb_bytes.specs.Spelling.{HasSpelling, Spells, record_bytes};
 ghost use Rattle.seal_log.specs.Journal.{sealed, LiesAt};
 ghost use Rattle.seal_log.specs.Loading.{places_from};
 ghost use Rattle.seal_log.specs.Loads.{IsSurveyed};
 ghost use Rattle.seal_log.specs.Log.{end_gate, is_cut, last_gate, leaves_open};
-ghost use Rattle.seal_log.specs.Settled.{Holds};
+ghost use Rattle.seal_log.specs.Settled.{Holds, ReadsAlone};
 ghost use Rattle.store_kept.specs.Kept.{IsRun, Kept};
 ghost use Rattle.desk_journal.specs.Permanence.{RevsBelow};
 ghost use Rattle.time_desk.specs.Opening.{IsStarted, Refuses, Starts};
@@ -70,7 +69,7 @@ fn record_at<D: Disk>(
         → LiesAt payloads place.gate place.length payload → IfOk result (λ what. Spells what payload) }
     ensures bad { (payloads : List (List ℕ)) (payload : List ℕ) → Holds (D.told disk.old) payloads
         → LiesAt payloads place.gate place.length payload → IfErr result (SpellsNothing payload place.gate) }
-    ensures reads { OnlyReads (D.told disk.old) (D.told disk.new) }
+    ensures reads { ReadsAlone (D.told disk.old) (D.told disk.new) }
     ensures ok { OnOk result ((D.told disk.new).failed_reads ≡ (D.told disk.old).failed_reads) }
     ensures fault { IfErr result (ReadCounts (D.told disk.old) (D.told disk.new)) }
 {
@@ -114,7 +113,7 @@ fn begin_with<D: Disk>(
     ensures runs { IfOk result (λ desk. IsRun desk.kept) }
     ensures bad { (payloads : List (List ℕ)) (payload : List ℕ) → Holds (D.told disk.old) payloads
         → LiesAt payloads place.gate place.length payload → IfErr result (FailsPayload first_state payload place.gate) }
-    ensures reads { OnlyReads (D.told disk.old) (D.told disk.new) }
+    ensures reads { ReadsAlone (D.told disk.old) (D.told disk.new) }
     ensures ok { OnOk result ((D.told disk.new).failed_reads ≡ (D.told disk.old).failed_reads) }
     ensures fault { IfErr result (ReadCounts (D.told disk.old) (D.told disk.new)) }
 {
@@ -149,7 +148,7 @@ fn begin_at<D: Disk>(
     ensures runs { IfOk result (λ front. IsRun front.0.kept) }
     ensures bad { (payloads : List (List ℕ)) → Holds (D.told disk.old) payloads → places.now ≡ places_from 0 payloads
         → IfErr result (FrontBreaksFor payloads) }
-    ensures reads { OnlyReads (D.told disk.old) (D.told disk.new) }
+    ensures reads { ReadsAlone (D.told disk.old) (D.told disk.new) }
     ensures ok { OnOk result ((D.told disk.new).failed_reads ≡ (D.told disk.old).failed_reads) }
     ensures fault { IfErr result (ReadCounts (D.told disk.old) (D.told disk.new)) }
 {
@@ -192,7 +191,7 @@ fn performed<D: Disk>(
         → OnOk result (TextsHeld (D.told disk.new) payloads desk.new.kept desk.new.notes desk.new.marks) }
     ensures noted { OnOk result (TextsNoted end desk.new.notes desk.new.kept) }
     ensures marked { OnOk result (MarkedBefore end desk.new.marks) }
-    ensures reads { OnlyReads (D.told disk.old) (D.told disk.new) }
+    ensures reads { ReadsAlone (D.told disk.old) (D.told disk.new) }
     ensures ok { OnOk result ((D.told disk.new).failed_reads ≡ (D.told disk.old).failed_reads) }
     ensures fault { IfErr result (ReadCounts (D.told disk.old) (D.told disk.new)) }
 {
@@ -232,7 +231,7 @@ fn perform_at<D: Disk>(
         → OnOk result (TextsHeld (D.told disk.new) payloads desk.new.kept desk.new.notes desk.new.marks) }
     ensures noted { OnOk result (TextsNoted end desk.new.notes desk.new.kept) }
     ensures marked { OnOk result (MarkedBefore end desk.new.marks) }
-    ensures reads { OnlyReads (D.told disk.old) (D.told disk.new) }
+    ensures reads { ReadsAlone (D.told disk.old) (D.told disk.new) }
     ensures ok { OnOk result ((D.told disk.new).failed_reads ≡ (D.told disk.old).failed_reads) }
     ensures fault { IfErr result (ReadCounts (D.told disk.old) (D.told disk.new)) }
 {
@@ -267,7 +266,7 @@ fn perform_all<D: Disk>(
     ensures bad { (before payloads : List (List ℕ)) → TextsHeld (D.told disk.old) (before ++ payloads) desk.old.kept desk.old.notes desk.old.marks
         → places.now ≡ places_from (length (sealed before)) payloads
         → IfErr result (StopsFor desk.old.kept (length (sealed before)) payloads) }
-    ensures reads { OnlyReads (D.told disk.old) (D.told disk.new) }
+    ensures reads { ReadsAlone (D.told disk.old) (D.told disk.new) }
     ensures ok { OnOk result ((D.told disk.new).failed_reads ≡ (D.told disk.old).failed_reads) }
     ensures fault { IfErr result (ReadCounts (D.told disk.old) (D.told disk.new)) }
 {
@@ -302,7 +301,7 @@ fn followed_by<D: Disk>(
     ensures bad { (before payloads : List (List ℕ)) → TextsHeld (D.told disk.old) (before ++ payloads) desk.kept desk.notes desk.marks
         → places.now ≡ places_from (length (sealed before)) payloads
         → IfErr result (StopsFor desk.kept (length (sealed before)) payloads) }
-    ensures reads { OnlyReads (D.told disk.old) (D.told disk.new) }
+    ensures reads { ReadsAlone (D.told disk.old) (D.told disk.new) }
     ensures ok { OnOk result ((D.told disk.new).failed_reads ≡ (D.told disk.old).failed_reads) }
     ensures fault { IfErr result (ReadCounts (D.told disk.old) (D.told disk.new)) }
 {
@@ -334,7 +333,7 @@ fn read_all<D: Disk>(
     ensures marked { IfOk result (λ desk. MarkedBefore end desk.marks) }
     ensures bad { (payloads : List (List ℕ)) → Holds (D.told disk.old) payloads → places.now ≡ places_from 0 payloads
         → IfErr result (BreaksFor payloads) }
-    ensures reads { OnlyReads (D.told disk.old) (D.told disk.new) }
+    ensures reads { ReadsAlone (D.told disk.old) (D.told disk.new) }
     ensures ok { OnOk result ((D.told disk.new).failed_reads ≡ (D.told disk.old).failed_reads) }
     ensures fault { IfErr result (ReadCounts (D.told disk.old) (D.told disk.new)) }
 {
@@ -390,7 +389,7 @@ fn opened_from<D: Disk>(
     ensures marked { IfOk result (λ parts. MarkedBefore (last_gate parts.0) parts.1.marks) }
     ensures bad { (image : List ℕ) → IsSurveyed image (D.told disk.old) (end_gate seen.end) seen.places (is_cut seen.end)
         → IfErr result (Refuses image) }
-    ensures reads { OnlyReads (D.told disk.old) (D.told disk.new) }
+    ensures reads { ReadsAlone (D.told disk.old) (D.told disk.new) }
     ensures ok { OnOk result ((D.told disk.new).failed_reads ≡ (D.told disk.old).failed_reads) }
     ensures fault { IfErr result (ReadCounts (D.told disk.old) (D.told disk.new)) }
     ensures open { IfOk result (λ parts. parts.0.closed ≡ false) }

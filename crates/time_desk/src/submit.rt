@@ -1,15 +1,16 @@
 //! What users ask.
-ghost use Rattle.std.specs.Prelude.{◌≡◌, ◌↔◌, [], ◌∷◌, Ok, IsTrue, IsSome, IfOk, IfErr, OnErr, IsErrOf};
+ghost use Rattle.std.specs.Prelude.{◌≡◌, ◌↔◌, [], ◌∷◌, Ok, IsTrue, IsSome, IfOk, OnOk, IfErr, OnErr, IsErrOf};
 ghost use Rattle.std.specs.List.{list_all, cons_option};
 ghost use Rattle.verb_core.specs.Live.{is_users, live};
 ghost use Rattle.verb_core.specs.Store.{is_known};
 ghost use Rattle.verb_bytes.specs.declared.journal.JournalRecord.TheVariants.{Verb};
+ghost use Rattle.seal_log.specs.Causes.{Fed};
 ghost use Rattle.store_kept.specs.Kept.{store_of};
 ghost use Rattle.mail_desk.specs.Desk.{submitted};
 ghost use Rattle.mail_cycle.specs.Permanence.{UidsLast};
 ghost use Rattle.desk_journal.specs.Reading.{ReadsWell};
 ghost use Rattle.desk_journal.specs.Sealing.{Seals};
-ghost use Rattle.desk_journal.specs.Submitting.{SubmitsNone, WritesNone};
+ghost use Rattle.desk_journal.specs.Submitting.{SubmitWants, SubmitsNone, WritesNone};
 
 use crate::Desk;
 use desk_journal::submit_open;
@@ -39,6 +40,8 @@ impl<D: Disk> Desk<D> {
         ensures why { IfErr result (λ fault. SubmitsNone D.told (live (store_of self.old.kept) self.old.kept.next at by ask) self.old self.new fault) }
         ensures writes_none { WritesNone result self.old self.new }
         ensures reads { ReadsWell D.told self.old self.new }
+        ensures fed { OnOk result (Fed (D.told self.old.disk) (D.told self.new.disk)) }
+        ensures wants { IfErr result (λ fault. SubmitWants D.told self.old.disk self.new.disk fault) }
         ensures closed { IsErrOf result SubmitFault.Closed ↔ IsTrue self.old.closed }
         ensures uids { UidsLast self.old.kept self.new.kept }
     {

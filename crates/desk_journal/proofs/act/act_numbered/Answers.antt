@@ -5,7 +5,7 @@ use Rattle.verb_core.specs.declared.item.Item.{Item}
 use Rattle.store_kept.specs.Kept.{performed}
 use Rattle.mail_desk.specs.Held.{Held}
 use Rattle.desk_journal.specs.Lasting.{lasting}
-use Rattle.desk_journal.proofs.Submits.{acts_none, not_sealed, record_as}
+use Rattle.desk_journal.proofs.Submits.{act_wants, acts_none, not_sealed, record_as}
 use Rattle.desk_journal.proofs.Sealed.{item_sealed, marked_on, marked_same, noted_on, noted_same, seals_from}
 use Rattle.desk_journal.proofs.act.act_numbered.Goals as goal
 
@@ -56,3 +56,7 @@ returns-in-Err-seal_found-clause-err g c =
     (not_sealed g.D.Disk.told what found.bytes (performed mid.kept found.ready.item) mid new.desk c.args.journal.now new.journal c.in-Err-seal_found.fault
     (record_as what found.bytes c.args.desk.now.kept mid.kept (act_item c.args.desk.now.kept.next c.args.at c.args.act) found.ready.item c.in-Ok.ensures.kept c.in-Ok.ensures.item c.in-Ok.ensures.record)
     (ap (λ (h : Held). h.kept) c.in-Err-seal_found.ensures.same) (ap (λ (h : Held). h.notes) c.in-Err-seal_found.ensures.same) (ap (λ (h : Held). h.marks) c.in-Err-seal_found.ensures.same) c.requires.open c.in-Err-seal_found.ensures.sealed)
+
+pub returns-in-Err-seal_found-clause-wants : goal.returns-in-Err-seal_found-clause-wants
+returns-in-Err-seal_found-clause-wants g c =
+    act_wants g.D.Disk.told c.args.journal.now.disk c.seal_found.new.journal.disk c.in-Err-seal_found.fault c.fault_of.result c.fault_of.ensures c.in-Err-seal_found.ensures.sealed.wants

@@ -5,7 +5,7 @@ use Rattle.mail_desk.specs.Held.{Held}
 use Rattle.desk_journal.specs.Lasting.{lasting}
 use Rattle.desk_journal.proofs.Entering.{stood_rev}
 use Rattle.desk_journal.proofs.Sealed.{item_sealed, marked_on, marked_same, noted_on, noted_same}
-use Rattle.desk_journal.proofs.Submits.{not_sealed, outcome_refuses_none, submits_none}
+use Rattle.desk_journal.proofs.Submits.{not_sealed, outcome_refuses_none, submit_wants, submits_none}
 use Rattle.desk_journal.proofs.submit.seal_found.Goals as goal
 
 pub fault_of-requires : goal.fault_of-requires
@@ -44,3 +44,6 @@ returns-clause-err g c =
 
 pub returns-clause-refuses_none : goal.returns-clause-refuses_none
 returns-clause-refuses_none g c = outcome_refuses_none c.in-Err.fault c.fault_of.result c.fault_of.ensures
+
+pub returns-clause-wants : goal.returns-clause-wants
+returns-clause-wants g c = submit_wants g.D.Disk.told c.args.journal.now.disk c.seal_ready.new.journal.disk c.in-Err.fault c.fault_of.result c.fault_of.ensures c.in-Err.ensures.sealed.wants

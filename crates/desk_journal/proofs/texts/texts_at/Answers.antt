@@ -1,5 +1,5 @@
 use Rattle.std.proofs.Common.{◌∙◌, arith}
-use Rattle.undo_outside.proofs.Moments.{reads_joined}
+use Rattle.seal_log.proofs.Uses.{reads_joined}
 use Rattle.desk_journal.proofs.EachText.{texts_next}
 use Rattle.desk_journal.proofs.Telling.{held_on}
 use Rattle.desk_journal.proofs.texts.texts_at.Goals as goal

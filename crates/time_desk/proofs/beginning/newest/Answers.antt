@@ -1,6 +1,6 @@
 use Rattle.std.proofs.Common.{◌∙◌, ◌-◌, None, Option, Some, arith, refl, subst}
 use Rattle.std.specs.Prelude.{option_map, slice_index_or}
-use Rattle.undo_outside.proofs.Moments.{reads_joined}
+use Rattle.seal_log.proofs.Uses.{reads_joined}
 use Rattle.box_store.specs.declared.store.Store.{Store}
 use Rattle.verb_core.specs.Store.{MailStore}
 use Rattle.time_desk.specs.Serving.{ServesBy, bytes_at}
@@ -39,8 +39,8 @@ loop-i-preserved g c =
           let mid = g.D.Disk.told c.loop-i.disk in
           let reads = c.loop-i.invariant.reads in
           passed_on old kept xs c.loop-i.i d (omega arith) c.loop-i.invariant.within
-          (serves_still kept m old mid None (reads.content honest)
-          (subst (λ (o : Option Store). ServesBy kept m.0 (bytes_at mid m.1) (option_map {T = Store} {U = MailStore} (λ store. store.store) o)) c.in-Ok-None.field-0-is (c.in-Ok-None.ensures.read (reads.honest honest))))
+          (serves_still kept m old mid None (reads.reads.content honest)
+          (subst (λ (o : Option Store). ServesBy kept m.0 (bytes_at mid m.1) (option_map {T = Store} {U = MailStore} (λ store. store.store) o)) c.in-Ok-None.field-0-is (c.in-Ok-None.ensures.read (reads.reads.honest honest))))
           (c.loop-i.invariant.passed honest);
       first = λ payloads held lies.
           let at_end = c.loop-i.invariant.first payloads held lies in
@@ -62,8 +62,8 @@ returns-in-Ok-Some-clause-passes g c = λ honest.
     let mid = g.D.Disk.told c.loop-i.disk in
     let reads = c.loop-i.invariant.reads in
     serves_last old kept xs c.loop-i.i d (omega arith) c.loop-i.invariant.within (record { store = c.in-Ok-Some.store; count = m.0 }) refl
-    (serves_still kept m old mid (Some c.in-Ok-Some.store.store) (reads.content honest)
-    (subst (λ (o : Option Store). ServesBy kept m.0 (bytes_at mid m.1) (option_map {T = Store} {U = MailStore} (λ store. store.store) o)) c.in-Ok-Some.field-0-is (c.in-Ok-Some.ensures.read (reads.honest honest))))
+    (serves_still kept m old mid (Some c.in-Ok-Some.store.store) (reads.reads.content honest)
+    (subst (λ (o : Option Store). ServesBy kept m.0 (bytes_at mid m.1) (option_map {T = Store} {U = MailStore} (λ store. store.store) o)) c.in-Ok-Some.field-0-is (c.in-Ok-Some.ensures.read (reads.reads.honest honest))))
     (c.loop-i.invariant.passed honest)
 
 pub returns-clause-passes : goal.returns-clause-passes

@@ -1,4 +1,4 @@
-use Rattle.std.proofs.Common.{◌∙◌, ◌++◌, Err, [], length, ap, arith, refl, sym, subst, take}
+use Rattle.std.proofs.Common.{◌∙◌, ◌++◌, Err, [], length, ap, inl, arith, refl, sym, subst, take}
 use Rattle.store_kept.specs.Kept.{Kept}
 use Rattle.shelf.specs.Marks.{marks_at_or_before}
 use Rattle.mail_cycle.specs.Leaving.{items_left}
@@ -9,7 +9,9 @@ use Rattle.time_desk.specs.Cycling.{RenotesAs}
 use Rattle.desk_journal.specs.Lasting.{lasting}
 use Rattle.desk_journal.specs.Stored.{MarkedBefore, NotedBefore}
 use Rattle.time_desk.proofs.Rewinding.{cycle_notes, cycle_sealed, cycle_starved, cycle_unsealed, cycled}
+use Rattle.seal_log.proofs.Uses.{reads_none}
 use Rattle.desk_journal.proofs.Sealed.{marked_same, noted_same}
+use Rattle.time_desk.proofs.Wants.{sealing_wants}
 use Rattle.desk_journal.proofs.Marking.{marked_front, marked_later}
 use Rattle.time_desk.proofs.cycle.cycle_made.Goals as goal
 
@@ -85,3 +87,10 @@ pub returns-in-Err-clause-why : goal.returns-in-Err-clause-why
 returns-in-Err-clause-why g c = λ disk reads well red.
     cycle_starved g.D.Disk.told disk c.args.desk.now c.ready_cycle.new.desk c.args.journal.now c.args.journal.now c.args.at c.args.ask c.args.made [] reads red c.requires.anew
     c.requires.open g.met.D.Disk.tells_truth well c.in-Err.ensures.kept c.in-Err.ensures.same c.in-Err.ensures.same_marks
+
+pub returns-in-Err-seal_found-clause-wants : goal.returns-in-Err-seal_found-clause-wants
+returns-in-Err-seal_found-clause-wants g c =
+    sealing_wants g.D.Disk.told g.met.D.Disk.tells_truth c.args.journal.now.disk c.seal_found.new.journal.disk c.in-Err-seal_found.fault c.fault_of.result c.fault_of.ensures c.in-Err-seal_found.ensures.sealed.wants
+
+pub returns-in-Err-clause-wants : goal.returns-in-Err-clause-wants
+returns-in-Err-clause-wants g c = inl (reads_none (g.D.Disk.told c.args.journal.now.disk) (g.met.D.Disk.tells_truth c.args.journal.now.disk))

@@ -6,6 +6,7 @@ use Rattle.desk_journal.specs.Telling.{HoldsHeld}
 use Rattle.time_desk.proofs.Rewinding.{any_ok, cycles_as, made_unread, read_from, refused}
 use Rattle.desk_journal.proofs.Runs.{seals_still}
 use Rattle.desk_journal.proofs.Sealed.{still_read}
+use Rattle.time_desk.proofs.Wants.{fed_later, reading_wants, wants_later}
 use Rattle.time_desk.proofs.cycle.cycle_open.Goals as goal
 
 pub cycle_made-requires-clause-noted : goal.cycle_made-requires-clause-noted
@@ -53,3 +54,14 @@ returns-in-Err-clause-why g c =
 
 pub returns-in-Ok-clause-rewinds : goal.returns-in-Ok-clause-rewinds
 returns-in-Ok-clause-rewinds g c = λ due is holds. any_ok c.cycle_made.result (c.in-Ok.ensures.rewinds due is (holds.payloads, holds.texts))
+
+pub returns-in-Ok-clause-fed : goal.returns-in-Ok-clause-fed
+returns-in-Ok-clause-fed g c =
+    fed_later g.D.Disk.told c.args.journal.now.disk c.rewound_in.new.journal.disk c.cycle_made.new.journal.disk c.cycle_made.result c.in-Ok.ensures.still.reads c.cycle_made.ensures.fed
+
+pub returns-in-Ok-clause-wants : goal.returns-in-Ok-clause-wants
+returns-in-Ok-clause-wants g c =
+    wants_later g.D.Disk.told c.args.journal.now.disk c.rewound_in.new.journal.disk c.cycle_made.new.journal.disk c.cycle_made.result c.in-Ok.ensures.still.reads c.cycle_made.ensures.wants
+
+pub returns-in-Err-clause-wants : goal.returns-in-Err-clause-wants
+returns-in-Err-clause-wants g c = reading_wants g.D.Disk.told c.args.journal.now.disk c.rewound_in.new.journal.disk c.refused_as.result c.in-Err.ensures.still.reads

@@ -1,5 +1,5 @@
 use Rattle.std.proofs.Common.{◌++◌, ◌∙◌, length, get_or}
-use Rattle.undo_outside.proofs.Moments.{reads_joined}
+use Rattle.seal_log.proofs.Uses.{reads_joined}
 use Rattle.seal_log.specs.Journal.{sealed}
 use Rattle.time_desk.proofs.Standings.{leads_all, leads_step, lies_behind, nth_of, stops_step}
 use Rattle.time_desk.proofs.start.perform_all.Goals as goal

@@ -1,14 +1,14 @@
 use Rattle.std.proofs.Common.{◌≡◌, ◌++◌, List, ℕ, length, take}
-use Rattle.undo_outside.specs.Moments.{OnlyReads}
 use Rattle.seal_log.specs.Journal.{sealed}
 use Rattle.seal_log.specs.Loading.{places_from}
+use Rattle.seal_log.specs.Settled.{ReadsAlone}
 use Rattle.time_desk.specs.Standing.{LeadsTo}
 use Rattle.desk_journal.specs.Stored.{MarkedBefore, NotedBefore, TextsHeld}
 use Rattle.time_desk.proofs.start.perform_all.Given as goal
 
 abbrev pub invariant-loop-place : goal.invariant-loop-place
 invariant-loop-place g l = record {
-  reads : OnlyReads (g.D.Disk.told l.fn.disk) (g.D.Disk.told l.disk);
+  reads : ReadsAlone (g.D.Disk.told l.fn.disk) (g.D.Disk.told l.disk);
   none_failed : (g.D.Disk.told l.disk).failed_reads ≡ (g.D.Disk.told l.fn.disk).failed_reads;
   led : (before payloads : List (List ℕ)) → TextsHeld (g.D.Disk.told l.fn.disk) (before ++ payloads) l.fn.desk.kept l.fn.desk.notes l.fn.desk.marks → l.places ≡ places_from (length (sealed before)) payloads
       → LeadsTo l.fn.desk.kept (take l.place-index payloads) l.desk.kept;

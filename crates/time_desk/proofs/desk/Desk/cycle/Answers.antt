@@ -1,10 +1,11 @@
-use Rattle.std.proofs.Common.{◌≡◌, ◌∙◌, ◌+◌, ◌≤◌, IfErr, IfOk, OnOk, refl, subst, sym}
+use Rattle.std.proofs.Common.{◌≡◌, ◌∙◌, ◌+◌, ◌≤◌, IfErr, IfOk, OnOk, inl, refl, subst, sym}
 use Rattle.cycle_rules.specs.Asking.{Rewinds, cycle_due}
 use Rattle.mail_cycle.specs.Permanence.{UidsLast}
-use Rattle.time_desk.specs.Cycling.{Cycles, CyclesNone, most_performed}
+use Rattle.time_desk.specs.Cycling.{CycleWants, Cycles, CyclesNone, most_performed}
 use Rattle.desk_journal.specs.Lasting.{Lasting, lasting}
 use Rattle.desk_journal.specs.Permanence.{IsSound}
 use Rattle.desk_journal.specs.Stored.{HoldsTexts}
+use Rattle.seal_log.proofs.Uses.{reads_none}
 use Rattle.time_desk.proofs.Lasts.{lasts_kept}
 use Rattle.time_desk.proofs.Rewinding.{due_new}
 use Rattle.time_desk.proofs.States.{lasts_rewound}
@@ -43,3 +44,11 @@ returns-in-Ok-None-clause-rewinds g c = λ due is holds.
     subst (λ (l : Lasting g.row.D.Denot). OnOk tried.result (tried.new.steps ≤ c.args.steps.now + most_performed l.kept c.args.ask due)) c.self.view_is
     (tried.ensures.rewinds due (sym (due_new inside.desk.kept c.args.at c.args.ask (sym c.in-Ok-None.ensures.found ∙ c.in-Ok-None.field-0-is)) ∙ subst (λ (l : Lasting g.row.D.Denot). cycle_due l.kept c.args.at c.args.ask ≡ Rewinds due) (sym c.self.view_is) is)
     (subst (HoldsTexts g.D.Disk.told) (sym c.self.view_is) holds))
+
+pub returns-in-Ok-None-clause-wants : goal.returns-in-Ok-None-clause-wants
+returns-in-Ok-None-clause-wants g c =
+    let tried = c.cycle_anew in
+    subst (λ (l : Lasting g.row.D.Denot). IfErr tried.result (λ fault. CycleWants g.D.Disk.told l.disk tried.new.journal.disk fault)) c.self.view_is tried.ensures.wants
+
+pub returns-in-Err-clause-wants : goal.returns-in-Err-clause-wants
+returns-in-Err-clause-wants g c = inl (reads_none (g.D.Disk.told c.args.self.now.disk) (g.met.D.Disk.tells_truth c.args.self.now.disk))

@@ -4,7 +4,7 @@ use Rattle.verb_bytes.specs.declared.journal.JournalRecord.TheVariants.{Verb}
 use Rattle.store_kept.specs.Kept.{store_of}
 use Rattle.mail_cycle.specs.Permanence.{UidsLast}
 use Rattle.desk_journal.specs.Lasting.{Lasting, lasting}
-use Rattle.desk_journal.specs.Submitting.{SubmitsNone, WritesNone}
+use Rattle.desk_journal.specs.Submitting.{SubmitWants, SubmitsNone, WritesNone}
 use Rattle.time_desk.proofs.Lasts.{IsNamed, call_lasts, lasts_kept}
 use Rattle.time_desk.proofs.desk.Desk.submit.Goals as goal
 
@@ -30,3 +30,8 @@ returns-clause-uids g c =
     subst (λ (l : Lasting g.row.D.Denot). UidsLast l.kept tried.new.desk.kept) c.self.view_is
     (call_lasts g.D.Disk.told tried.result (λ item. Verb item) (lasting c.self.inside.desk c.self.inside.journal) (lasting tried.new.desk tried.new.journal) (λ item. refl)
     named tried.ensures.sealed tried.ensures.err)
+
+pub returns-clause-wants : goal.returns-clause-wants
+returns-clause-wants g c =
+    let tried = c.submit_open in
+    subst (λ (l : Lasting g.row.D.Denot). IfErr tried.result (λ fault. SubmitWants g.D.Disk.told l.disk tried.new.journal.disk fault)) c.self.view_is tried.ensures.wants
