@@ -1,5 +1,5 @@
 -- Which port is whose.
-use Rattle.std.specs.Prelude.{◌≡◌, ℕ, List, [], ◌∷◌, ◌++◌, map, slice_get, Option, Some, None, option_map}
+use Rattle.std.specs.Prelude.{◌≡◌, ℕ, List, [], ◌∷◌, map, slice_get, Option, Some, None, option_map}
 use Rattle.undo_outside.specs.declared.event.Role.{Role}
 use Rattle.undo_outside.specs.declared.event.Role.TheVariants.{Smtp, Imap, Http, Pop}
 use Rattle.host_outside.specs.declared.listeners.Listeners.{Listeners}
