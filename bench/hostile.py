@@ -3,7 +3,7 @@
 
 usage: bench/hostile.py PROGRAM [INPUTS [SEED]]      INPUTS: 1000000 where it isn't given
 
-An input is what one client sends: bytes at random, or a conversation of SMTP, IMAP or the console that is cut, doubled, spliced or of which bytes are
+An input is what one client sends: bytes at random, or a conversation of SMTP, IMAP, POP3 or the console that is cut, doubled, spliced or of which bytes are
 changed, sent in pieces; then the client reads for a moment, or leaves, or stays until the end of the round. None logs in with a password that is right and none names a
 recipient who is here, so the store must be as before. Each round a client of each kind is asked whether it is still served. Memory is VmRSS, at the start and the most after a round.
 """
@@ -16,7 +16,8 @@ IMAP = [b'a LOGIN {3}\r\nann {2}\r\na2\r\nb SELECT INBOX\r\nc FETCH 1:* (FLAGS B
         b'a SEARCH OR (SUBJECT "x" NOT FROM "y") 1:*,4294967295\r\n', b'a LIST "" "*%"\r\nb STATUS INBOX (MESSAGES UIDNEXT)\r\nc UID STORE 1 +FLAGS (\\Deleted)\r\n']
 HTTP = [b'GET /status HTTP/1.1\r\nHost: x\r\n\r\n', b'POST /act HTTP/1.1\r\nContent-Length: 40\r\n\r\n{"act":"alias","local":"x","users":[7]}  ', b'POST /cycle HTTP/1.1\r\nContent-Length: 33\r\n\r\n{"drop":[4],"key":"k1","point":3}',
         b'POST /try HTTP/1.1\r\nContent-Length: 4194305\r\n\r\n', b'GET /body/4294967296 HTTP/1.1\r\nContent-Length: 1\r\nContent-Length: 2\r\n\r\n', b'GET /box/ann/%zz HTTP/1.1\r\n\r\n']
-KINDS = {'smtp': SMTP, 'imap': IMAP, 'http': HTTP}
+POP = [b'USER ann\r\nPASS a2\r\nSTAT\r\nLIST 1\r\nUIDL\r\nRETR 65536\r\nTOP 1 65535\r\nDELE 1\r\nRSET\r\nNOOP\r\nQUIT\r\n', b'CAPA\r\nAUTH PLAIN\r\nUSER a b\r\nPASS\r\nTOP 01 0\r\nuSeR ann   \r\npass  x \r\n']
+KINDS = {'smtp': SMTP, 'imap': IMAP, 'http': HTTP, 'pop': POP}
 
 def mutated(rng, text, others):
     """The text after a few changes."""
@@ -49,9 +50,9 @@ class Server:
     def __init__(self, program, store): self.program, self.store = program, store
     def __enter__(self):
         ports = []
-        for _ in range(3):
+        for _ in KINDS:
             with socket.socket() as it: it.bind(('127.0.0.1', 0)); ports.append(it.getsockname()[1])
-        self.ports = dict(zip(('smtp', 'imap', 'http'), ports))
+        self.ports = dict(zip(KINDS, ports))
         self.process = subprocess.Popen([self.program, 'serve', self.store, *map(str, ports)], stdin=subprocess.DEVNULL, stdout=subprocess.PIPE)
         for _ in range(400):
             try: self.join('http').close(); return self
@@ -87,6 +88,7 @@ def throws(server, rng, open_):
 def is_served(server):
     if not server.talk('smtp', b'QUIT\r\n').endswith(b'221 mail.test closing\r\n'): sys.exit('SMTP is not served')
     if not server.talk('imap', b'a LOGOUT\r\n').endswith(b'a OK LOGOUT done.\r\n'): sys.exit('IMAP is not served')
+    if server.talk('pop', b'QUIT\r\n') != b'+OK undomail\r\n+OK Bye.\r\n': sys.exit('POP3 is not served')
     if b'200 OK' not in server.talk('http', b'GET /status HTTP/1.1\r\n\r\n'): sys.exit('the console is not served')
 
 def main():
