@@ -8,7 +8,9 @@ the cycle is done over a store; then, for each N until none is refused, a copy o
 allocation of the run is refused, and is looked at in the same run and in the next, where none is. What is seen must be the
 store without the cycle or with all of it: with it where the operator was told the report, without it where want of memory
 was told, and either where the connection closed without a word or the run ended for want of memory. At least one of them must be
-told of want of memory, in each story, and in a fourth: a mail client's greeting and envelope, and a mail reader's login and look at a mailbox.
+told of want of memory, in each story, and in a fourth: a mail client's greeting and envelope, a mail reader's login and look at a mailbox, and a
+fetching client's session. Of that one's QUIT what is left is looked at too: the store before it, with its STORE alone, or with its EXPUNGE too, this only where it
+was answered `+OK Bye.` or its connection closed, and the first not where it was answered so. STORE alone must come about, as must want of memory that is told.
 """
 import collections, os, re, shutil, subprocess, sys, tempfile
 
@@ -112,6 +114,32 @@ def main():
             bad += 1
             print(f'{name}: want of memory is never told')
         print(f'{name}: {at - 1} allocations; ' + ', '.join(f'{what}: {n}' for what, n in sorted(count.items())))
+    # A fetching client's QUIT of one of two messages: what lies in INBOX then, and which flags it has.
+    mail = 'at 1105092000\nopen 2 smtp\nline 2 HELO c\n' + 'line 2 MAIL FROM:<joe@far.test>\nline 2 RCPT TO:<ann@mail.test>\nline 2 DATA\nline 2 Subject: hi\nline 2\nline 2 .\n' * 2
+    session = 'at 1105092000\nopen 1 pop\nline 1 USER ann\nline 1 PASS a1\nline 1 RETR 1\nline 1 DELE 2\nline 1 QUIT\n'
+    look = 'open 3 http\nline 3 GET /box/ann/INBOX HTTP/1.1\nline 3\n'
+    for path in (base, store):
+        if os.path.exists(path): os.remove(path)
+    run(['init', base], open(os.path.join(TOP, 'examples', 'house.toml')).read())
+    run(['script', base], mail)
+    count, at = collections.Counter(), 0
+    while True:
+        at += 1
+        shutil.copy(base, store)
+        if os.path.exists(mark): os.remove(mark)
+        status, out = run(['script', store], session, at)
+        if not os.path.exists(mark): break
+        kind = 'done' if '+OK Marked.' in out and '+OK Bye.' in out else 'told' if '-ERR No memory.' in out else 'closed' if '1 closed' in out else 'status 8' if status == 8 else 'not seen'
+        flags = re.findall(r'"flags":"([^"]*)"', run(['script', store], look)[1])
+        left = {('', ''): 'before', ('', 'D'): 'marked', ('',): 'after'}.get(tuple(flags), 'NEITHER')
+        count[(kind, left)] += 1
+        if left == 'NEITHER' or (kind == 'done') != (left == 'after') and kind not in ('closed', 'status 8'):
+            bad += 1
+            print(f'a fetching client: allocation {at}: {kind}, {left}, status {status}')
+    if not any(kind == 'told' for kind, _ in count) or not any(left == 'marked' for _, left in count):
+        bad += 1
+        print('a fetching client: want of memory is never told, or never comes between the STORE and the EXPUNGE')
+    print(f'a fetching client: {at - 1} allocations; ' + ', '.join(f'{kind} and {left}: {n}' for (kind, left), n in sorted(count.items())))
     shutil.rmtree(work)
     print('each left the store as it was, or with the whole cycle' if not bad else f'{bad} did not')
     sys.exit(1 if bad else 0)

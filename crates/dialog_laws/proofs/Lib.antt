@@ -11,4 +11,5 @@ pub mod Reading
 pub mod Standing
 pub mod Stretches
 pub mod Pieces
+pub mod Quitting
 pub mod Rows

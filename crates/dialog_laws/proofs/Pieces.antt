@@ -9,12 +9,13 @@ use Rattle.imap_stream.specs.Commands as imap_stream
 use Rattle.imap_stream.specs.Commands.{Heard as Stream, emptied}
 use Rattle.imap_stream.specs.declared.next.Next.TheVariants.{NotYet}
 use Rattle.imap_session.specs.declared.dialog.Dialog.{Dialog as ImapDialog}
+use Rattle.pop_session.specs.declared.dialog.Dialog.{Dialog as PopDialog}
 use Rattle.console_head.specs.Request.{Stage}
 use Rattle.mail_loop.specs.Hindrance.{Hindrance}
-use Rattle.mail_loop.specs.State.{Seat, Http, Imap, Smtp, State}
-use Rattle.mail_loop.specs.Turns.{Heard, hears_seat, imap_turn, smtp_turn, turns}
+use Rattle.mail_loop.specs.State.{Seat, Http, Imap, Pop, Smtp, State}
+use Rattle.mail_loop.specs.Turns.{Heard, hears_seat, imap_turn, pop_turn, smtp_turn, turns}
 use Rattle.dialog_laws.specs.Joined.{both_heard, hears_all, hears_then, joined}
-use Rattle.dialog_laws.proofs.Stretches.{drop_none, events_join, reader_events_join}
+use Rattle.dialog_laws.proofs.Stretches.{LinesGoOn, RestGoesOn, drop_none, events_join, fetching_events_join, reader_events_join}
 
 abbrev all_of : List (List ℕ) → List ℕ
 all_of more = flat_map (λ (piece : List ℕ). piece) more
@@ -35,22 +36,35 @@ module _ (stage : Stage) (at conn : ℕ) (P : Seat → Type 0)
       on_seat (hears_seat [] stage at s conn seat first) (hears_seat [] stage at s conn seat first).seat next more (leaves s seat p first) (λ t left q. all_join t left q next more)
       ∙ sym (two s seat p first (next ++ all_of more))
 
--- ---- a mail client's, and a mail reader's
+-- ---- a mail client's, a mail reader's, and a fetching client's
 
 abbrev IsClient : Seat → Type 0
 IsClient (Smtp unserved d) = Unit {0}
 IsClient (Imap stream d) = ⊥
 IsClient (Http came) = ⊥
+IsClient (Pop unserved d) = ⊥
+
+-- a fetching client's
+abbrev IsFetcher : Seat → Type 0
+IsFetcher (Smtp unserved d) = ⊥
+IsFetcher (Imap stream d) = ⊥
+IsFetcher (Http came) = ⊥
+IsFetcher (Pop unserved d) = Unit {0}
 
 -- what was said is taken
 abbrev IsReader : Seat → Type 0
 IsReader (Smtp unserved d) = ⊥
 IsReader (Imap stream d) = stream ≡ emptied stream
 IsReader (Http came) = ⊥
+IsReader (Pop unserved d) = ⊥
 
 client_left : (rest : List ℕ) (o : Option Dialog) → IfSome (option_map (Smtp rest) o) IsClient
 client_left rest None = tt
 client_left rest (Some d) = tt
+
+fetcher_left : (rest : List ℕ) (o : Option PopDialog) → IfSome (option_map (Pop rest) o) IsFetcher
+fetcher_left rest None = tt
+fetcher_left rest (Some d) = tt
 
 reader_left : (stream : Stream) (o : Option ImapDialog) → IfSome (option_map (Imap (emptied stream)) o) IsReader
 reader_left stream None = tt
@@ -60,18 +74,20 @@ client_leaves : (stage : Stage) (at conn : ℕ) (s : State) (seat : Seat) → Is
 client_leaves stage at conn s (Smtp unserved d) p first = client_left (rest_of (unserved ++ first)) (turns (smtp_turn at conn) [] s d (smtp_lines_of (unserved ++ first))).dialog
 client_leaves stage at conn s (Imap stream d) p first = absurd p
 client_leaves stage at conn s (Http came) p first = absurd p
+client_leaves stage at conn s (Pop unserved d) p first = absurd p
+
+fetcher_leaves : (stage : Stage) (at conn : ℕ) (s : State) (seat : Seat) → IsFetcher seat → (first : List ℕ) → IfSome (hears_seat [] stage at s conn seat first).seat IsFetcher
+fetcher_leaves stage at conn s (Pop unserved d) p first = fetcher_left (rest_of (unserved ++ first)) (turns (pop_turn at conn) [] s d (smtp_lines_of (unserved ++ first))).dialog
+fetcher_leaves stage at conn s (Smtp unserved d) p first = absurd p
+fetcher_leaves stage at conn s (Imap stream d) p first = absurd p
+fetcher_leaves stage at conn s (Http came) p first = absurd p
 
 reader_leaves : (stage : Stage) (at conn : ℕ) (s : State) (seat : Seat) → IsReader seat → (first : List ℕ) → IfSome (hears_seat [] stage at s conn seat first).seat IsReader
 reader_leaves stage at conn s (Imap stream d) p first =
     reader_left (imap_stream.heard stream first) (turns (imap_turn at conn) [] s d ((imap_stream.heard stream first).said ++ NotYet ∷ [])).dialog
 reader_leaves stage at conn s (Smtp unserved d) p first = absurd p
 reader_leaves stage at conn s (Http came) p first = absurd p
-
-abbrev pub LinesGoOn : Type 0
-LinesGoOn = (stream more : List ℕ) → smtp_lines_of (stream ++ more) ≡ smtp_lines_of stream ++ smtp_lines_of (rest_of stream ++ more)
-
-abbrev pub RestGoesOn : Type 0
-RestGoesOn = (stream more : List ℕ) → rest_of (stream ++ more) ≡ rest_of (rest_of stream ++ more)
+reader_leaves stage at conn s (Pop unserved d) p first = absurd p
 
 client_two : LinesGoOn → RestGoesOn → (stage : Stage) (at conn : ℕ) (s : State) (seat : Seat) → IsClient seat → (first second : List ℕ)
     → hears_seat [] stage at s conn seat (first ++ second) ≡ joined (hears_seat [] stage at s conn seat first) (λ t left. hears_seat [] stage at t conn left second)
@@ -80,6 +96,16 @@ client_two lines rest stage at conn s (Smtp unserved d) p first second =
     ∙ ap (λ (hs : List Hindrance). joined (hears_seat [] stage at s conn (Smtp unserved d) first) (λ t left. hears_seat hs stage at t conn left second)) (drop_none (length (smtp_lines_of (unserved ++ first))))
 client_two lines rest stage at conn s (Imap stream d) p first second = absurd p
 client_two lines rest stage at conn s (Http came) p first second = absurd p
+client_two lines rest stage at conn s (Pop unserved d) p first second = absurd p
+
+fetcher_two : LinesGoOn → RestGoesOn → (stage : Stage) (at conn : ℕ) (s : State) (seat : Seat) → IsFetcher seat → (first second : List ℕ)
+    → hears_seat [] stage at s conn seat (first ++ second) ≡ joined (hears_seat [] stage at s conn seat first) (λ t left. hears_seat [] stage at t conn left second)
+fetcher_two lines rest stage at conn s (Pop unserved d) p first second =
+    fetching_events_join lines rest [] stage at conn s unserved d first second
+    ∙ ap (λ (hs : List Hindrance). joined (hears_seat [] stage at s conn (Pop unserved d) first) (λ t left. hears_seat hs stage at t conn left second)) (drop_none (length (smtp_lines_of (unserved ++ first))))
+fetcher_two lines rest stage at conn s (Smtp unserved d) p first second = absurd p
+fetcher_two lines rest stage at conn s (Imap stream d) p first second = absurd p
+fetcher_two lines rest stage at conn s (Http came) p first second = absurd p
 
 reader_two : (stage : Stage) (at conn : ℕ) (s : State) (seat : Seat) → IsReader seat → (first second : List ℕ)
     → hears_seat [] stage at s conn seat (first ++ second) ≡ joined (hears_seat [] stage at s conn seat first) (λ t left. hears_seat [] stage at t conn left second)
@@ -88,6 +114,7 @@ reader_two stage at conn s (Imap stream d) p first second =
     (reader_events_join stage at conn s stream d first second)
 reader_two stage at conn s (Smtp unserved d) p first second = absurd p
 reader_two stage at conn s (Http came) p first second = absurd p
+reader_two stage at conn s (Pop unserved d) p first second = absurd p
 
 pub client_pieces : LinesGoOn → RestGoesOn → (stage : Stage) (at conn : ℕ) (s : State) (unserved : List ℕ) (d : Dialog) (first : List ℕ) (more : List (List ℕ))
     → hears_all stage at s conn (Smtp unserved d) first more ≡ hears_seat [] stage at s conn (Smtp unserved d) (first ++ flat_map (λ piece. piece) more)
@@ -96,3 +123,7 @@ client_pieces lines rest stage at conn s unserved d first more = all_join stage 
 pub reader_pieces : (stage : Stage) (at conn : ℕ) (s : State) (stream : Stream) (d : ImapDialog) (first : List ℕ) (more : List (List ℕ))
     → hears_all stage at s conn (Imap (emptied stream) d) first more ≡ hears_seat [] stage at s conn (Imap (emptied stream) d) (first ++ flat_map (λ piece. piece) more)
 reader_pieces stage at conn s stream d first more = all_join stage at conn IsReader (reader_two stage at conn) (reader_leaves stage at conn) s (Imap (emptied stream) d) refl first more
+
+pub fetcher_pieces : LinesGoOn → RestGoesOn → (stage : Stage) (at conn : ℕ) (s : State) (unserved : List ℕ) (d : PopDialog) (first : List ℕ) (more : List (List ℕ))
+    → hears_all stage at s conn (Pop unserved d) first more ≡ hears_seat [] stage at s conn (Pop unserved d) (first ++ flat_map (λ piece. piece) more)
+fetcher_pieces lines rest stage at conn s unserved d first more = all_join stage at conn IsFetcher (fetcher_two lines rest stage at conn) (fetcher_leaves stage at conn) s (Pop unserved d) tt first more

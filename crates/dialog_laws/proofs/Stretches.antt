@@ -12,14 +12,16 @@ use Rattle.imap_stream.specs.declared.next.Next.{Next}
 use Rattle.imap_stream.specs.declared.next.Next.TheVariants.{NotYet}
 use Rattle.imap_stream.proofs.Hearing.{heard-append, heard-saying}
 use Rattle.imap_session.specs.declared.dialog.Dialog.{Dialog as ImapDialog}
+use Rattle.pop_session.specs.declared.dialog.Dialog.{Dialog as PopDialog}
 use Rattle.console_head.specs.Request.{Stage}
 use Rattle.verb_core.specs.declared.mailbox.BoxId.{BoxId}
 use Rattle.mail_loop.specs.declared.aftermath.Aftermath.TheVariants.{TookAway}
 use Rattle.mail_loop.specs.Afterwards.{both_follow, taking}
 use Rattle.mail_loop.specs.ConsoleTurn.{no_consoles}
 use Rattle.mail_loop.specs.Hindrance.{Clear, Hindrance, first_hindrance, other_hindrances}
-use Rattle.mail_loop.specs.State.{Imap, Seat, Smtp, State}
-use Rattle.mail_loop.specs.Turns.{Heard, Outcome, after, goes_on, heard_by, hears_commands, hears_lines, hears_seat, imap_turn, none_yet, smtp_turn, turns}
+use Rattle.mail_loop.specs.PopTurn.{pop_session}
+use Rattle.mail_loop.specs.State.{Imap, Pop, Seat, Smtp, State}
+use Rattle.mail_loop.specs.Turns.{Heard, Outcome, after, goes_on, heard_by, hears_commands, hears_seat, imap_turn, none_yet, smtp_turn, turn_of, turns}
 use Rattle.mail_loop.proofs.Sealed.{no_more, none_before, reads_regroup}
 use Rattle.dialog_laws.specs.Joined.{hears_then, joined}
 
@@ -98,54 +100,64 @@ taking_both (box ∷ boxes) [] = ap (λ (ids : List BoxId). TookAway (box ∷ id
 taking_both (box ∷ boxes) (next ∷ more) = refl
 
 -- what an outcome is heard as, over two events
-heard_on : (kept unserved : List ℕ) (o : Outcome Dialog) (e : Option Dialog) (more : State → Dialog → Outcome Dialog) (later : State → Seat → Heard) → o.dialog ≡ e
-    → ((s : State) (d : Dialog) → later s (Smtp kept d) ≡ heard_by (Smtp unserved) (more s d))
-    → heard_by (Smtp unserved) (goes_on o e more) ≡ hears_then (heard_by (Smtp kept) o) (option_map (Smtp kept) e) later
-heard_on kept unserved o None more later is same = λ j. record {
+heard_on : {D : Type 0} → (mid last : D → Seat) (o : Outcome D) (e : Option D) (more : State → D → Outcome D) (later : State → Seat → Heard) → o.dialog ≡ e
+    → ((s : State) (d : D) → later s (mid d) ≡ heard_by last (more s d))
+    → heard_by last (goes_on o e more) ≡ hears_then (heard_by mid o) (option_map mid e) later
+heard_on mid last o None more later is same = λ j. record {
   said = o.said;
   state = o.state;
-  seat = option_map (Smtp kept) (sym is j);
+  seat = option_map mid (sym is j);
   aftermath = taking o.gone;
   unsealed = o.unsealed;
   reads = o.reads;
   consoles = no_consoles;
 }
-heard_on kept unserved o (Some d) more later is same =
-    (λ j. record (heard_by (Smtp unserved) (after o.said o.gone o.unsealed o.reads (more o.state d))) { aftermath = taking_both o.gone (more o.state d).gone j })
-    ∙ ap (λ (h : Heard). hears_then (heard_by (Smtp kept) o) (Some (Smtp kept d)) (λ s seat. h)) (sym (same o.state d))
+heard_on mid last o (Some d) more later is same =
+    (λ j. record (heard_by last (after o.said o.gone o.unsealed o.reads (more o.state d))) { aftermath = taking_both o.gone (more o.state d).gone j })
+    ∙ ap (λ (h : Heard). hears_then (heard_by mid o) (Some (mid d)) (λ s seat. h)) (sym (same o.state d))
 
-pub events_join : ((stream more : List ℕ) → smtp_lines_of (stream ++ more) ≡ smtp_lines_of stream ++ smtp_lines_of (rest_of stream ++ more))
-    → ((stream more : List ℕ) → rest_of (stream ++ more) ≡ rest_of (rest_of stream ++ more))
-    → (hs : List Hindrance) (stage : Stage) (at conn : ℕ) (s : State) (unserved : List ℕ) (d : Dialog) (first second : List ℕ)
+-- ---- a stream of lines
+
+abbrev pub LinesGoOn : Type 0
+LinesGoOn = (stream more : List ℕ) → smtp_lines_of (stream ++ more) ≡ smtp_lines_of stream ++ smtp_lines_of (rest_of stream ++ more)
+
+abbrev pub RestGoesOn : Type 0
+RestGoesOn = (stream more : List ℕ) → rest_of (stream ++ more) ≡ rest_of (rest_of stream ++ more)
+
+-- the turns of a stream's lines; what follows the last line stays unserved
+abbrev of_lines : {D : Type 0} → (List ℕ → D → Seat) → (Hindrance → State → D → SmtpLine → Outcome D) → List Hindrance → State → D → List ℕ → Heard
+of_lines seat one hs s d stream = heard_by (seat (rest_of stream)) (turns one hs s d (smtp_lines_of stream))
+
+lines_join : {D : Type 0} → LinesGoOn → RestGoesOn → (seat : List ℕ → D → Seat) (one : Hindrance → State → D → SmtpLine → Outcome D) (hs : List Hindrance) (s : State) (unserved : List ℕ) (d : D) (first second : List ℕ)
+    (later : State → Seat → Heard)
+    → ((t : State) (e : D) → later t (seat (rest_of (unserved ++ first)) e) ≡ of_lines seat one (drop (length (smtp_lines_of (unserved ++ first))) hs) t e (rest_of (unserved ++ first) ++ second))
+    → of_lines seat one hs s d (unserved ++ (first ++ second)) ≡ joined (of_lines seat one hs s d (unserved ++ first)) later
+lines_join {D} lines rest seat one hs s unserved d first second later same =
+    let stream : List ℕ = unserved ++ first in
+    let us : List SmtpLine = smtp_lines_of stream in
+    let o : Outcome D = turns one hs s d us in
+    ap (of_lines seat one hs s d) (sym (append_assoc unserved first second))
+    ∙ (λ j. heard_by (seat (rest stream second j)) (turns one hs s d (lines stream second j)))
+    ∙ ap (heard_by (seat (rest_of (rest_of stream ++ second)))) (turns_join one hs s d us (smtp_lines_of (rest_of stream ++ second)))
+    ∙ heard_on (seat (rest_of stream)) (seat (rest_of (rest_of stream ++ second))) o o.dialog (λ t e. turns one (drop (length us) hs) t e (smtp_lines_of (rest_of stream ++ second)))
+    later refl same
+
+pub events_join : LinesGoOn → RestGoesOn → (hs : List Hindrance) (stage : Stage) (at conn : ℕ) (s : State) (unserved : List ℕ) (d : Dialog) (first second : List ℕ)
     → hears_seat hs stage at s conn (Smtp unserved d) (first ++ second)
     ≡ joined (hears_seat hs stage at s conn (Smtp unserved d) first) (λ t seat. hears_seat (drop (length (smtp_lines_of (unserved ++ first))) hs) stage at t conn seat second)
 events_join lines rest hs stage at conn s unserved d first second =
-    let stream : List ℕ = unserved ++ first in
-    let us : List SmtpLine = smtp_lines_of stream in
-    let o : Outcome Dialog = turns (smtp_turn at conn) hs s d us in
-    ap (hears_lines hs at s conn d) (sym (append_assoc unserved first second))
-    ∙ (λ j. heard_by (Smtp (rest stream second j)) (turns (smtp_turn at conn) hs s d (lines stream second j)))
-    ∙ ap (heard_by (Smtp (rest_of (rest_of stream ++ second)))) (turns_join (smtp_turn at conn) hs s d us (smtp_lines_of (rest_of stream ++ second)))
-    ∙ heard_on (rest_of stream) (rest_of (rest_of stream ++ second)) o o.dialog (λ t e. turns (smtp_turn at conn) (drop (length us) hs) t e (smtp_lines_of (rest_of stream ++ second)))
-    (λ t seat. hears_seat (drop (length us) hs) stage at t conn seat second) refl (λ t e. refl)
+    lines_join lines rest Smtp (smtp_turn at conn) hs s unserved d first second
+    (λ t seat. hears_seat (drop (length (smtp_lines_of (unserved ++ first))) hs) stage at t conn seat second) (λ t e. refl)
+
+-- a fetching client's
+pub fetching_events_join : LinesGoOn → RestGoesOn → (hs : List Hindrance) (stage : Stage) (at conn : ℕ) (s : State) (unserved : List ℕ) (d : PopDialog) (first second : List ℕ)
+    → hears_seat hs stage at s conn (Pop unserved d) (first ++ second)
+    ≡ joined (hears_seat hs stage at s conn (Pop unserved d) first) (λ t seat. hears_seat (drop (length (smtp_lines_of (unserved ++ first))) hs) stage at t conn seat second)
+fetching_events_join lines rest hs stage at conn s unserved d first second =
+    lines_join lines rest Pop (turn_of pop_session at conn) hs s unserved d first second
+    (λ t seat. hears_seat (drop (length (smtp_lines_of (unserved ++ first))) hs) stage at t conn seat second) (λ t e. refl)
 
 -- ---- a mail reader's
-
-reader_on : (mid last : Stream) (o : Outcome ImapDialog) (e : Option ImapDialog) (more : State → ImapDialog → Outcome ImapDialog) (later : State → Seat → Heard) → o.dialog ≡ e
-    → ((s : State) (d : ImapDialog) → later s (Imap mid d) ≡ heard_by (Imap last) (more s d))
-    → heard_by (Imap last) (goes_on o e more) ≡ hears_then (heard_by (Imap mid) o) (option_map (Imap mid) e) later
-reader_on mid last o None more later is same = λ j. record {
-  said = o.said;
-  state = o.state;
-  seat = option_map (Imap mid) (sym is j);
-  aftermath = taking o.gone;
-  unsealed = o.unsealed;
-  reads = o.reads;
-  consoles = no_consoles;
-}
-reader_on mid last o (Some d) more later is same =
-    (λ j. record (heard_by (Imap last) (after o.said o.gone o.unsealed o.reads (more o.state d))) { aftermath = taking_both o.gone (more o.state d).gone j })
-    ∙ ap (λ (h : Heard). hears_then (heard_by (Imap mid) o) (Some (Imap mid d)) (λ s seat. h)) (sym (same o.state d))
 
 -- a reader's turns, but for the one of what is not whole yet
 reader_heard : (at conn : ℕ) (s : State) (d : ImapDialog) (stream : Stream) → hears_commands [] at s conn d stream ≡ heard_by (Imap (emptied stream)) (turns (imap_turn at conn) [] s d stream.said)
@@ -171,5 +183,5 @@ reader_events_join stage at conn s stream d first second =
     ∙ ap (λ (k : Stream). heard_by (Imap (emptied k)) (turns (imap_turn at conn) [] s d k.said)) (split stream first second)
     ∙ ap (heard_by (Imap (emptied g))) (turns_join (imap_turn at conn) [] s d h.said g.said)
     ∙ ap (λ (hs : List Hindrance). heard_by (Imap (emptied g)) (goes_on o o.dialog (λ t e. turns (imap_turn at conn) hs t e g.said))) (drop_none (length h.said))
-    ∙ reader_on (emptied h) (emptied g) o o.dialog (λ t e. turns (imap_turn at conn) [] t e g.said) (λ t seat. hears_seat [] stage at t conn seat second) refl (λ t e. reader_heard at conn t e g)
+    ∙ heard_on (Imap (emptied h)) (Imap (emptied g)) o o.dialog (λ t e. turns (imap_turn at conn) [] t e g.said) (λ t seat. hears_seat [] stage at t conn seat second) refl (λ t e. reader_heard at conn t e g)
     ∙ ap (λ (x : Heard). joined x (λ t seat. hears_seat [] stage at t conn seat second)) (sym (reader_heard at conn s d h))

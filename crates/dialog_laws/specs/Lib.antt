@@ -2,3 +2,4 @@ pub mod Ranges
 pub mod MailClient
 pub mod MailReader
 pub mod Joined
+pub mod Quits

@@ -4,9 +4,10 @@ ghost use Rattle.smtp_lines.specs.Line.{smtp_lines_of};
 ghost use Rattle.smtp_session.specs.declared.dialog.Dialog.{Dialog as TheDialog};
 ghost use Rattle.imap_stream.specs.Commands.{Heard as Stream, emptied};
 ghost use Rattle.imap_session.specs.declared.dialog.Dialog.{Dialog as TheReader};
+ghost use Rattle.pop_session.specs.declared.dialog.Dialog.{Dialog as TheFetcher};
 ghost use Rattle.console_head.specs.Request.{Stage};
 ghost use Rattle.mail_loop.specs.Hindrance.{Hindrance};
-ghost use Rattle.mail_loop.specs.State.{Imap, Smtp, State};
+ghost use Rattle.mail_loop.specs.State.{Imap, Pop, Smtp, State};
 ghost use Rattle.mail_loop.specs.Turns.{hears_seat};
 ghost use Rattle.dialog_laws.specs.Joined.{hears_all, joined};
 
@@ -31,10 +32,21 @@ pub fn mail_reader_events_join()
         ≡ joined (hears_seat [] stage at s conn (Imap (emptied stream) d) first) (λ t seat. hears_seat [] stage at t conn seat second) }
 {}
 
-/// So may the bytes of a mail client, or of a mail reader, come in any number of events, where nothing hinders them.
+/// And so are two events of a fetching client, hindered as those of a mail client.
+pub fn fetching_events_join()
+    ensures { (hindrances : List Hindrance) (stage : Stage) (at conn : ℕ) (s : State) (unserved : List ℕ) (d : TheFetcher) (first second : List ℕ) →
+        hears_seat hindrances stage at s conn (Pop unserved d) (first ++ second)
+        ≡ joined (hears_seat hindrances stage at s conn (Pop unserved d) first) (λ t seat. hears_seat (drop (length (smtp_lines_of (unserved ++ first))) hindrances) stage at t conn seat second) }
+{
+    what_is_kept_goes_on();
+}
+
+/// So may the bytes of a mail client, of a mail reader, or of a fetching client, come in any number of events, where nothing hinders them.
 pub fn events_of_a_stream_join()
     ensures client { (stage : Stage) (at conn : ℕ) (s : State) (unserved : List ℕ) (d : TheDialog) (first : List ℕ) (more : List (List ℕ)) →
         hears_all stage at s conn (Smtp unserved d) first more ≡ hears_seat [] stage at s conn (Smtp unserved d) (first ++ flat_map (λ piece. piece) more) }
+    ensures fetching { (stage : Stage) (at conn : ℕ) (s : State) (unserved : List ℕ) (d : TheFetcher) (first : List ℕ) (more : List (List ℕ)) →
+        hears_all stage at s conn (Pop unserved d) first more ≡ hears_seat [] stage at s conn (Pop unserved d) (first ++ flat_map (λ piece. piece) more) }
     ensures reader { (stage : Stage) (at conn : ℕ) (s : State) (stream : Stream) (d : TheReader) (first : List ℕ) (more : List (List ℕ)) →
         hears_all stage at s conn (Imap (emptied stream) d) first more ≡ hears_seat [] stage at s conn (Imap (emptied stream) d) (first ++ flat_map (λ piece. piece) more) }
 {

@@ -4,7 +4,10 @@ use Rattle.std.specs.List.{list_all, cons_option}
 use Rattle.undo_base.specs.declared.keys.User.{User}
 use Rattle.seal_log.specs.declared.fault.ReadFault.{ReadFault}
 use Rattle.seal_log.specs.declared.fault.ReadFault.TheVariants as read_fault
+use Rattle.verb_core.specs.declared.ask.SubmitFault.{SubmitFault}
 use Rattle.verb_core.specs.declared.conf.House.{House}
+use Rattle.verb_core.specs.declared.item.Item.{Item}
+use Rattle.verb_core.specs.declared.mailbox.BoxId.{BoxId}
 use Rattle.verb_core.specs.Store.{MailStore, is_known}
 use Rattle.imap_session.specs.declared.dialog.Awaits.{Awaits}
 use Rattle.imap_session.specs.declared.dialog.Awaits.TheVariants.{Nothing, Texts, Outcome}
@@ -16,8 +19,8 @@ use Rattle.imap_session.specs.Dialog.{ReadsOf, is_at_home, is_texts}
 use Rattle.store_kept.specs.Kept.{Kept, store_of}
 use Rattle.mail_desk.specs.Timeline.{has_text}
 use Rattle.store_kept.specs.Texts.{all_bodies}
-use Rattle.mail_loop.specs.Session.{Speech, is_home, is_said}
-use Rattle.mail_loop.specs.ImapTurn.{imap_speech, of_imap}
+use Rattle.mail_loop.specs.Session.{Speech, is_answer, is_home, is_said}
+use Rattle.mail_loop.specs.ImapTurn.{answers_awaited, imap_speech, of_imap}
 use Rattle.mail_loop.specs.Took.{AreThere, AsksAs, GoesOn, IsNext, IsAwaitedLast, IsOnlySaid}
 
 -- ---- what a command gives
@@ -68,6 +71,10 @@ heard_on d (Err why) reading = heard_none d d.awaits why reading
 -- with its texts a command wants none again, and without them something is said
 pub goes_on_of : (d e : Dialog) (texts : Result (List (List ℕ)) ReadFault) (out : ImapOut) → session.is_reading d ≡ true → session.heard d texts ≡ session.took out e → GoesOn imap_speech texts (of_imap out) e
 goes_on_of d e texts out reading is = subst (λ (t : session.Took). GoesOn imap_speech texts (of_imap t.out) t.dialog) is (heard_on d texts reading)
+
+-- what it says of an outcome asks nothing
+pub answered_after : (s : MailStore) (stamps : List (BoxId × ℕ)) (d e : Dialog) (outcome : Result Item SubmitFault) (out : ImapOut) → session.settle s stamps d outcome ≡ session.took out e → is_answer (of_imap out) ≡ true
+answered_after s stamps d e outcome out is = sym (ap (λ (t : session.Took). is_answer (of_imap t.out)) is) ∙ answers_awaited s stamps d d.awaits outcome
 
 -- ---- who is logged in
 

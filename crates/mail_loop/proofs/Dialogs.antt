@@ -1,6 +1,6 @@
 -- Turns of a session, whatever it speaks: what it gives, what is asked of the desk, and the texts that are read for it.
-use Rattle.std.proofs.lemmas.List.{append-nil}
-use Rattle.std.proofs.Common.{◌≡◌, ◌⊎◌, ℕ, Bool, [], true, false, true≢false, List, ◌∷◌, ◌++◌, Option, option_map, unwrap_or, Result, Ok, Err, refl, ap, subst, sym, ◌∙◌, inl, inr}
+use Rattle.std.proofs.lemmas.List.{append-nil, append_assoc}
+use Rattle.std.proofs.Common.{◌≡◌, ◌⊎◌, ℕ, Bool, [], true, false, true≢false, List, ◌∷◌, ◌++◌, Option, None, Some, option_map, unwrap_or, Result, Ok, Err, refl, ap, subst, sym, ◌∙◌, inl, inr}
 use Rattle.undo_base.specs.declared.keys.User.{User}
 use Rattle.seal_log.specs.declared.fault.ReadFault.{ReadFault}
 use Rattle.seal_log.specs.declared.fault.ReadFault.TheVariants.{Disk as NotRead, NoMemory as NoneForTexts}
@@ -25,12 +25,12 @@ use Rattle.mail_loop.specs.declared.out.Out.{Out}
 use Rattle.mail_loop.specs.declared.out.Out.TheVariants.{Say, Read, Submit, Bye}
 use Rattle.mail_loop.specs.declared.reply.Reply.{Reply}
 use Rattle.mail_loop.specs.Afterwards.{gone_between}
-use Rattle.mail_loop.specs.Asked.{Asked, asked_as, fails, unsealed_as}
+use Rattle.mail_loop.specs.Asked.{Asked, asked_as, unsealed_as}
 use Rattle.mail_loop.specs.State.{Seats}
 use Rattle.mail_loop.specs.Turn.{Turn, ends, lost, says, unanswered}
-use Rattle.mail_loop.specs.Session.{IsBye, Service, Session, Speech, Took, done, followed, is_home, is_said, served, service, settled, settled_as, submits, took}
-use Rattle.mail_loop.specs.Hindrance.{Hindrance, Clear, Refused as IsToldWant, Textless, Unread, UnreadRefused, UnreadUnheard, Misread, Misled, Unstored, Unheard, Unanswered, Unsealed, Untold, hindered, misread, row, under, unread, unread_unsaid, without_items, without_seals, without_texts}
-use Rattle.mail_loop.specs.Took.{Adds, IsNone, IsOnlySaid, IsTold, ReadsNone, ReadsStarved, Settles, SettlesAgain, Submits, Takes, TakesTexts, given, reads_of}
+use Rattle.mail_loop.specs.Session.{IsBye, Session, Speech, Took, behind, done, followed, hindered, is_answer, is_home, is_said, pursued, pursued_as, served, settled, settled_as, submits, took}
+use Rattle.mail_loop.specs.Hindrance.{Hindrance, Clear, Refused as IsToldWant, Textless, Unread, UnreadRefused, UnreadUnheard, Misread, Misled, Unstored, Unheard, Unanswered, Unsealed, Untold, Halfway, Service, halfway, last_hindrance, misread, row, service, stopped, under, unread, unread_unsaid, without_items, without_seals, without_texts}
+use Rattle.mail_loop.specs.Took.{Adds, AsksAs, IsAwaitedLast, IsDueNext, IsLast, IsNone, IsOnlySaid, IsTold, ReadsNone, ReadsStarved, Settles, SettlesAgain, SettlesOrAsks, Submits, Takes, TakesTexts, asked_in, given, reads_of}
 use Rattle.mail_loop.proofs.Refusals.{due_or_starved}
 use Rattle.mail_loop.proofs.Telling.{closed, lifted, told_last, told_nothing, told_whole, unsealed_too}
 
@@ -172,14 +172,79 @@ module _ {D : Type 0} (speech : Speech D) where
       subst (λ (t : Took D). Takes IsNone (record (settled_as t.out kept t.dialog) { unsealed = [] }) old kept e new ⊎ Takes IsNone (ends {D = D} [] kept) old kept e new) (sym is)
       (subst (λ (t : Turn D). Takes IsNone t old kept e new ⊎ Takes IsNone (ends {D = D} [] kept) old kept e new) (none_failed out kept e) (out_told out kept e old new stays told))
 
-  -- the session was told of its ask's outcome
-  pub settles_told : (outcome : Result Item SubmitFault) (kept : Kept) (d e : D) (out : Out) (old new : Reply) → old.closes ≡ false
+  -- the session was told of its ask's outcome, and answers
+  settles_told : (outcome : Result Item SubmitFault) (kept : Kept) (d e : D) (out : Out) (old new : Reply) → old.closes ≡ false → is_answer out ≡ true
       → speech.settle (store_of kept) kept.stamps d outcome ≡ took out e → IsTold out old new → Settles speech outcome kept d old e new
-  settles_told outcome kept d e out old new stays is told = by_told (settled_told outcome kept d e out old new stays is told)
+  settles_told outcome kept d e out old new stays answers is told = by_told (settled_told outcome kept d e out old new stays is told)
     where
       by_told : Takes IsNone (settled speech d (asked_as outcome kept)) old kept e new ⊎ Takes IsNone (ends {D = D} [] kept) old kept e new → Settles speech outcome kept d old e new
-      by_told (inl t) = inl t
+      by_told (inl t) = inl (ap (λ (t : Took D). is_answer t.out) is ∙ answers, t)
       by_told (inr t) = inr (inl t)
+
+  -- and answers, or asks further
+  pub settles_or_asks : (outcome : Result Item SubmitFault) (kept : Kept) (d e : D) (out : Out) (old new : Reply) (further : Option Ask) → old.closes ≡ false
+      → speech.settle (store_of kept) kept.stamps d outcome ≡ took out e → IsAwaitedLast speech out e → IsTold out old new → further ≡ asked_in out → SettlesOrAsks speech outcome kept d old e new further
+  settles_or_asks outcome kept d e (Say said) old new further stays is last told asks =
+      subst (λ (o : Option Ask). SettlesOrAsks speech outcome kept d old e new o) (sym asks) (settles_told outcome kept d e (Say said) old new stays refl is told)
+  settles_or_asks outcome kept d e (Bye said) old new further stays is last told asks =
+      subst (λ (o : Option Ask). SettlesOrAsks speech outcome kept d old e new o) (sym asks) (settles_told outcome kept d e (Bye said) old new stays refl is told)
+  settles_or_asks outcome kept d e (Read bodies) old new further stays is wrong told asks = absurd wrong
+  settles_or_asks outcome kept d e (Submit ask) old new further stays is last told asks =
+      subst (λ (o : Option Ask). SettlesOrAsks speech outcome kept d old e new o) (sym asks) (is, told)
+
+  -- which call is due then
+  pub due_next : (d : D) (out : Out) (further : Option Ask) → IsAwaitedLast speech out d → AsksAs speech out d → further ≡ asked_in out → IsDueNext speech d further
+  due_next d (Say said) further last asker asks = subst (λ (o : Option Ask). IsDueNext speech d o) (sym asks) last
+  due_next d (Bye said) further last asker asks = subst (λ (o : Option Ask). IsDueNext speech d o) (sym asks) last
+  due_next d (Read bodies) further wrong asker asks = absurd wrong
+  due_next d (Submit ask) further last asker asks = subst (λ (o : Option Ask). IsDueNext speech d o) (sym asks) (last, asker)
+
+  pub free_if_none : (d : D) (further : Option Ask) → further ≡ None → IsDueNext speech d further → speech.is_free d ≡ true
+  free_if_none d None is free = free
+  free_if_none d (Some ask) wrong due = absurd (let w : Some ask ≡ None = wrong in cc)
+
+  pub due_if_some : (d : D) (further : Option Ask) (ask : Ask) → further ≡ Some ask → IsDueNext speech d further → IsDueNext speech d (Some ask)
+  due_if_some d further ask is due = subst (λ (o : Option Ask). IsDueNext speech d o) is due
+
+  -- behind an answer nothing is awaited, and nobody asks
+  pub free_answered : (out : Out) (d : D) → is_answer out ≡ true → IsAwaitedLast speech out d → speech.is_free d ≡ true
+  free_answered (Say said) d is last = last
+  free_answered (Bye said) d is last = last
+  free_answered (Read bodies) d wrong last = absurd (true≢false (sym wrong))
+  free_answered (Submit ask) d wrong last = absurd (true≢false (sym wrong))
+
+  pub awaited_answered : (out : Out) (d : D) → is_answer out ≡ true → speech.is_free d ≡ true → IsAwaitedLast speech out d
+  awaited_answered (Say said) d is free = free
+  awaited_answered (Bye said) d is free = free
+  awaited_answered (Read bodies) d wrong free = absurd (true≢false (sym wrong))
+  awaited_answered (Submit ask) d wrong free = absurd (true≢false (sym wrong))
+
+  pub asks_answered : (out : Out) (d : D) → is_answer out ≡ true → AsksAs speech out d
+  asks_answered (Say said) d is = tt
+  asks_answered (Bye said) d is = tt
+  asks_answered (Read bodies) d wrong = tt
+  asks_answered (Submit ask) d wrong = absurd (true≢false (sym wrong))
+
+  -- what is not done is answered
+  pub free_undone : (kept : Kept) (d e : D) (fault : SubmitFault) (out : Out) → speech.is_due d ≡ true → speech.settle (store_of kept) kept.stamps d (Err fault) ≡ took out e
+      → IsAwaitedLast speech out e → speech.is_free e ≡ true
+  free_undone kept d e fault out due is last =
+      free_answered out e (sym (ap (λ (t : Took D). is_answer t.out) is) ∙ speech.answers_fault (store_of kept) kept.stamps d fault due) last
+
+  -- a further ask leads to no other
+  pub last_after : (kept : Kept) (d e : D) (outcome : Result Item SubmitFault) (ask : Ask) → speech.is_due d ≡ true → speech.settle (store_of kept) kept.stamps d outcome ≡ took (Submit ask) e → IsLast speech e
+  last_after kept d e outcome ask due is s stamps other =
+      ap (λ (t : Took D). is_answer (speech.settle s stamps t.dialog other).out) (sym is)
+      ∙ speech.answers_further (store_of kept) s kept.stamps stamps d outcome other due (ap (λ (t : Took D). is_answer t.out) is)
+
+  -- where nothing more can be asked
+  pub none_after_last : (kept : Kept) (d e : D) (outcome : Result Item SubmitFault) (ask : Ask) (old new : Reply) → IsLast speech d → SettlesOrAsks speech outcome kept d old e new (Some ask) → ⊥
+  none_after_last kept d e outcome ask old new last (is, same) =
+      true≢false (sym (last (store_of kept) kept.stamps outcome) ∙ ap (λ (t : Took D). is_answer t.out) is)
+
+  pub settles_if_none : (kept : Kept) (d e : D) (outcome : Result Item SubmitFault) (old new : Reply) (further : Option Ask) → further ≡ None → SettlesOrAsks speech outcome kept d old e new further
+      → Settles speech outcome kept d old e new
+  settles_if_none kept d e outcome old new further is settles = subst (λ (o : Option Ask). SettlesOrAsks speech outcome kept d old e new o) is settles
 
   -- the session was told of want of memory in the place of a refusal
   pub again_told : (was_refused : Bool) (kept : Kept) (d e : D) (out : Out) (old new : Reply) → old.closes ≡ false → was_refused ≡ true
@@ -228,27 +293,60 @@ module _ {D : Type 0} (speech : Speech D) where
       let t = speech.settle (store_of kept) kept.stamps d (Err Disk) in
       ended t.out kept t.dialog failed (speech.ends_at_fault (store_of kept) kept.stamps d due)
 
+  -- A turn of an ask: where the outcome is answered it is what is said of that, and where nothing is said of it that is left out.
+  pub record Concludes (kept : Kept) (d : D) (T : Service → Asked → Turn D) : Type 0 where
+    pub told : (desk : Service) (a : Asked) → is_answer (speech.settle (store_of a.kept) a.kept.stamps d a.outcome).out ≡ true → T desk a ≡ done speech kept d a
+    pub untold : (desk : Service) (a : Asked) → unanswered (T (stopped desk) a) ≡ unanswered (done speech kept d a)
+
+  -- one that leads to no further ask
+  pub done_concludes : (kept : Kept) (d : D) → Concludes kept d (λ desk a. done speech kept d a)
+  done_concludes kept d = record { told = λ desk a answers. refl; untold = λ desk a. refl }
+
+  -- one that may
+  answered_as : (desk : Service) (kept : Kept) (d : D) (a : Asked) (out : Out) (e : D) → is_answer out ≡ true → pursued_as speech desk kept d a out e ≡ done speech kept d a
+  answered_as desk kept d a (Say said) e is = refl
+  answered_as desk kept d a (Bye said) e is = refl
+  answered_as desk kept d a (Read bodies) e wrong = refl
+  answered_as desk kept d a (Submit ask) e wrong = absurd (true≢false (sym wrong))
+
+  stops_as : (desk : Service) (kept : Kept) (d : D) (a : Asked) (out : Out) (e : D) → unanswered (pursued_as speech (stopped desk) kept d a out e) ≡ unanswered (done speech kept d a)
+  stops_as desk kept d a (Say said) e = refl
+  stops_as desk kept d a (Bye said) e = refl
+  stops_as desk kept d a (Read bodies) e = refl
+  stops_as desk kept d a (Submit ask) e =
+      let gone = gone_between kept a.kept in
+      λ j. record { said = []; kept = sym (kept_settled d a) j; dialog = None; gone = append-nil gone j; unsealed = append-nil a.unsealed j; reads = sym (quiet_settled d a) j }
+
+  pub pursued_concludes : (kept : Kept) (d : D) → Concludes kept d (λ desk a. pursued speech desk kept d a)
+  pursued_concludes kept d = record {
+    told = λ desk a answers. let t = speech.settle (store_of a.kept) a.kept.stamps d a.outcome in answered_as desk kept d a t.out t.dialog answers;
+    untold = λ desk a. let t = speech.settle (store_of a.kept) a.kept.stamps d a.outcome in stops_as desk kept d a t.out t.dialog;
+  }
+
   -- what is asked of the desk is a turn, hindered or not
-  pub asked_turn : (S : List JournalRecord → Reads → Type 0) (at : ℕ) (kept kept' : Kept) (ask : Ask) (d e : D) (outcome : Result Item SubmitFault) (old old' new : Reply) → speech.is_due d ≡ true
+  pub asked_turn : (S : List JournalRecord → Reads → Type 0) (at : ℕ) (kept kept' : Kept) (ask : Ask) (d e : D) (outcome : Result Item SubmitFault) (old old' new : Reply) (T : Service → Asked → Turn D) → Concludes kept d T
+      → speech.is_due d ≡ true
       → NoneGone kept
       → old' ≡ record old { gone = old.gone ++ gone_between kept kept' }
       → Submits S at kept (speech.user d) ask kept' outcome
       → Settles speech outcome kept' d old' e new
-      → (h : Hindrance) × Takes S (under h at kept (λ desk. done speech kept d (desk.asked (speech.user d) ask))) old kept' e new
-  asked_turn S at kept kept' ask d e (Ok item) old old' new due none is (does, seals) (inl t) = (
+      → (h : Hindrance) × Takes S (under h at kept (λ desk. T desk (desk.asked (speech.user d) ask))) old kept' e new
+  asked_turn S at kept kept' ask d e (Ok item) old old' new T concludes due none is (does, seals) (inl (answers, t)) = (
     Clear,
-    subst (λ (s : Submitted). Takes S (done speech kept d (asked_as s.outcome s.kept)) old kept' e new) (sym does)
+    subst (λ (s : Submitted). Takes S (T (service at kept) (asked_as s.outcome s.kept)) old kept' e new) (sym does)
+        (subst (λ (u : Turn D). Takes S u old kept' e new) (sym (concludes.told (service at kept) (asked_as (Ok item) kept') answers))
         (noted S (settled speech d (asked_as (Ok item) kept')) (gone_between kept kept') old old' kept' e new is (none_gone d (asked_as (Ok item) kept'))
-        (lifted S (settled speech d (asked_as (Ok item) kept')) old' kept' e new t seals)),
+        (lifted S (settled speech d (asked_as (Ok item) kept')) old' kept' e new t seals))),
   )
-  asked_turn S at kept kept' ask d e (Ok item) old old' new due none is (does, seals) (inr (inl t)) = (
+  asked_turn S at kept kept' ask d e (Ok item) old old' new T concludes due none is (does, seals) (inr (inl t)) = (
     Unanswered,
-    subst (λ (s : Submitted). Takes S (unanswered (done speech kept d (asked_as s.outcome s.kept))) old kept' e new) (sym does)
-        (closed_on S kept d item kept' old old' kept' e new is t seals),
+    subst (λ (s : Submitted). Takes S (unanswered (T (stopped (service at kept)) (asked_as s.outcome s.kept))) old kept' e new) (sym does)
+        (subst (λ (u : Turn D). Takes S u old kept' e new) (sym (concludes.untold (service at kept) (asked_as (Ok item) kept')))
+        (closed_on S kept d item kept' old old' kept' e new is t seals)),
   )
-  asked_turn S at kept kept' ask d e (Ok item) old old' new due none is did (inr (inr t)) = absurd (let wrong : false ≡ true = t.0 in cc)
-  asked_turn S at kept kept' ask d e (Err Closed) old old' new due none is wrong s = absurd wrong
-  asked_turn S at kept kept' ask d e (Err Disk) old old' new due none is (item, due_is, same, seals) s =
+  asked_turn S at kept kept' ask d e (Ok item) old old' new T concludes due none is did (inr (inr t)) = absurd (let wrong : false ≡ true = t.0 in cc)
+  asked_turn S at kept kept' ask d e (Err Closed) old old' new T concludes due none is wrong s = absurd wrong
+  asked_turn S at kept kept' ask d e (Err Disk) old old' new T concludes due none is (item, due_is, same, seals) s =
       by_way (subst (λ (r : Reply). Settles speech (Err Disk) kept' d r e new) (none_more kept kept' old old' none same is) s)
     where
       text : List ℕ
@@ -257,62 +355,141 @@ module _ {D : Type 0} (speech : Speech D) where
       told : settled speech d (unsealed_as kept' (Ok item)) ≡ record (ends {D = D} text kept') { unsealed = Verb item ∷ [] }
       told = settled_unsealed d kept' (Verb item ∷ []) due
 
-      by_due : (f : Turn D → Turn D) → Takes S (f (settled speech d (unsealed_as kept' (Ok item)))) old kept' e new → Takes S (f (done speech kept d (fails at kept (speech.user d) ask))) old kept' e new
-      by_due f t =
-          subst (λ (r : Result Item Refused). Takes S (f (done speech kept d (unsealed_as kept r))) old kept' e new) (sym due_is)
-          (subst (λ (u : Turn D). Takes S (f u) old kept' e new) (sym (as_settled kept d (unsealed_as kept (Ok item)) none))
-          (subst (λ (k : Kept). Takes S (f (settled speech d (unsealed_as k (Ok item)))) old kept' e new) same t))
+      -- the same, of what was kept before
+      by_done : (f : Turn D → Turn D) → Takes S (f (settled speech d (unsealed_as kept' (Ok item)))) old kept' e new → Takes S (f (done speech kept d (unsealed_as kept (Ok item)))) old kept' e new
+      by_done f t =
+          subst (λ (u : Turn D). Takes S (f u) old kept' e new) (sym (as_settled kept d (unsealed_as kept (Ok item)) none))
+          (subst (λ (k : Kept). Takes S (f (settled speech d (unsealed_as k (Ok item)))) old kept' e new) same t)
 
-      by_way : Settles speech (Err Disk) kept' d old e new → (h : Hindrance) × Takes S (under h at kept (λ desk. done speech kept d (desk.asked (speech.user d) ask))) old kept' e new
-      by_way (inl t) = (
+      by_due : (f : Result Item Refused → Turn D) → Takes S (f (Ok item)) old kept' e new → Takes S (f (live (store_of kept) kept.next at (speech.user d) ask)) old kept' e new
+      by_due f t = subst (λ (r : Result Item Refused). Takes S (f r) old kept' e new) (sym due_is) t
+
+      by_way : Settles speech (Err Disk) kept' d old e new → (h : Hindrance) × Takes S (under h at kept (λ desk. T desk (desk.asked (speech.user d) ask))) old kept' e new
+      by_way (inl (answers, t)) = (
         Unsealed,
-        by_due (λ u. u) (subst (λ (u : Turn D). Takes S u old kept' e new) (sym told)
+        by_due (λ r. T (without_seals at kept (service at kept)) (unsealed_as kept r))
+            (subst (λ (u : Turn D). Takes S u old kept' e new) (sym (concludes.told (without_seals at kept (service at kept)) (unsealed_as kept (Ok item)) (speech.answers_fault (store_of kept) kept.stamps d Disk due)))
+            (by_done (λ u. u) (subst (λ (u : Turn D). Takes S u old kept' e new) (sym told)
             (unsealed_too S text kept' (Verb item ∷ []) old kept' e new
-            (subst (λ (u : Turn D). Takes IsNone u old kept' e new) (settled_unsealed d kept' [] due) t) seals)),
+            (subst (λ (u : Turn D). Takes IsNone u old kept' e new) (settled_unsealed d kept' [] due) t) seals)))),
       )
       by_way (inr (inl t)) = (
         Untold,
-        by_due unanswered (subst (λ (u : Turn D). Takes S (unanswered u) old kept' e new) (sym told)
-            (unsealed_too S [] kept' (Verb item ∷ []) old kept' e new t seals)),
+        by_due (λ r. unanswered (T (stopped (without_seals at kept (service at kept))) (unsealed_as kept r)))
+            (subst (λ (u : Turn D). Takes S u old kept' e new) (sym (concludes.untold (without_seals at kept (service at kept)) (unsealed_as kept (Ok item))))
+            (by_done unanswered (subst (λ (u : Turn D). Takes S (unanswered u) old kept' e new) (sym told)
+            (unsealed_too S [] kept' (Verb item ∷ []) old kept' e new t seals)))),
       )
       by_way (inr (inr t)) = absurd (let wrong : false ≡ true = t.0 in cc)
-  asked_turn S at kept kept' ask d e (Err (IsRefused why)) old old' new due none is (refusal, same, seals) s =
+  asked_turn S at kept kept' ask d e (Err (IsRefused why)) old old' new T concludes due none is (refusal, same, seals) s =
       by_way (subst (λ (r : Reply). Settles speech (Err (IsRefused why)) kept' d r e new) (none_more kept kept' old old' none same is) s)
     where
       whole : (t : Turn D) → Takes IsNone t old kept' e new → Takes S t old kept' e new
       whole t took = lifted S t old kept' e new took seals
 
       -- a refusal that is told takes no mailbox away
-      refused : (r : Refused) → Takes IsNone (settled speech d (asked_as (Err (IsRefused r)) kept')) old kept' e new
-          → Takes S (done speech kept d (asked_as (Err (IsRefused r)) kept)) old kept' e new
-      refused r t =
-          subst (λ (u : Turn D). Takes S u old kept' e new) (sym (as_settled kept d (asked_as (Err (IsRefused r)) kept) none))
+      refused : (desk : Service) (r : Refused) → Takes IsNone (settled speech d (asked_as (Err (IsRefused r)) kept')) old kept' e new
+          → Takes S (T desk (asked_as (Err (IsRefused r)) kept)) old kept' e new
+      refused desk r t =
+          subst (λ (u : Turn D). Takes S u old kept' e new) (sym (concludes.told desk (asked_as (Err (IsRefused r)) kept) (speech.answers_fault (store_of kept) kept.stamps d (IsRefused r) due)))
+          (subst (λ (u : Turn D). Takes S u old kept' e new) (sym (as_settled kept d (asked_as (Err (IsRefused r)) kept) none))
           (subst (λ (k : Kept). Takes S (settled speech d (asked_as (Err (IsRefused r)) k)) old kept' e new) same
-          (whole (settled speech d (asked_as (Err (IsRefused r)) kept')) t))
+          (whole (settled speech d (asked_as (Err (IsRefused r)) kept')) t)))
 
       by_cause : (why ≡ NoMemory) ⊎ (live (store_of kept) kept.next at (speech.user d) ask ≡ Err why) → Takes IsNone (settled speech d (asked_as (Err (IsRefused why)) kept')) old kept' e new
-          → (h : Hindrance) × Takes S (under h at kept (λ desk. done speech kept d (desk.asked (speech.user d) ask))) old kept' e new
-      by_cause (inl is) t = (Unstored, refused NoMemory (subst (λ (r : Refused). Takes IsNone (settled speech d (asked_as (Err (IsRefused r)) kept')) old kept' e new) is t))
+          → (h : Hindrance) × Takes S (under h at kept (λ desk. T desk (desk.asked (speech.user d) ask))) old kept' e new
+      by_cause (inl is) t = (Unstored, refused (without_items kept (service at kept)) NoMemory (subst (λ (r : Refused). Takes IsNone (settled speech d (asked_as (Err (IsRefused r)) kept')) old kept' e new) is t))
       by_cause (inr is) t = (
         Clear,
-        subst (λ (r : Result Item Refused). let s = submitted_as kept r in Takes S (done speech kept d (asked_as s.outcome s.kept)) old kept' e new) (sym is) (refused why t),
+        subst (λ (r : Result Item Refused). let s = submitted_as kept r in Takes S (T (service at kept) (asked_as s.outcome s.kept)) old kept' e new) (sym is) (refused (service at kept) why t),
       )
 
-      by_way : Settles speech (Err (IsRefused why)) kept' d old e new → (h : Hindrance) × Takes S (under h at kept (λ desk. done speech kept d (desk.asked (speech.user d) ask))) old kept' e new
-      by_way (inl t) = by_cause (due_or_starved why (live (store_of kept) kept.next at (speech.user d) ask) refusal) t
+      by_way : Settles speech (Err (IsRefused why)) kept' d old e new → (h : Hindrance) × Takes S (under h at kept (λ desk. T desk (desk.asked (speech.user d) ask))) old kept' e new
+      by_way (inl (answers, t)) = by_cause (due_or_starved why (live (store_of kept) kept.next at (speech.user d) ask) refusal) t
       by_way (inr (inl t)) = (Unheard, subst (λ (k : Kept). Takes S (ends {D = D} [] k) old kept' e new) same (whole (ends {D = D} [] kept') t))
-      by_way (inr (inr t)) = (Unstored, refused NoMemory t.1)
+      by_way (inr (inr t)) = (Unstored, refused (without_items kept (service at kept)) NoMemory t.1)
 
   -- the same, of an ask whose asker was told
-  pub asked_turn_by : (S : List JournalRecord → Reads → Type 0) (at : ℕ) (kept kept' : Kept) (by : Option User) (ask : Ask) (d e : D) (outcome : Result Item SubmitFault) (old old' new : Reply) → by ≡ speech.user d
+  pub asked_turn_by : (S : List JournalRecord → Reads → Type 0) (at : ℕ) (kept kept' : Kept) (by : Option User) (ask : Ask) (d e : D) (outcome : Result Item SubmitFault) (old old' new : Reply) (T : Service → Asked → Turn D) → Concludes kept d T
+      → by ≡ speech.user d
       → speech.is_due d ≡ true
       → NoneGone kept
       → old' ≡ record old { gone = old.gone ++ gone_between kept kept' }
       → Submits S at kept by ask kept' outcome
       → Settles speech outcome kept' d old' e new
-      → (h : Hindrance) × Takes S (under h at kept (λ desk. done speech kept d (desk.asked (speech.user d) ask))) old kept' e new
-  asked_turn_by S at kept kept' by ask d e outcome old old' new same due none is did s =
-      asked_turn S at kept kept' ask d e outcome old old' new due none is (subst (λ (u : Option User). Submits S at kept u ask kept' outcome) same did) s
+      → (h : Hindrance) × Takes S (under h at kept (λ desk. T desk (desk.asked (speech.user d) ask))) old kept' e new
+  asked_turn_by S at kept kept' by ask d e outcome old old' new T concludes same due none is did s =
+      asked_turn S at kept kept' ask d e outcome old old' new T concludes due none is (subst (λ (u : Option User). Submits S at kept u ask kept' outcome) same did) s
+
+  -- ---- a further ask
+
+  -- it leads to no other, whatever hinders it
+  last_same : (h : Hindrance) (at : ℕ) (kept : Kept) (e : D) (ask : Ask) → under (last_hindrance h) at kept (λ later. done speech kept e (later.asked (speech.user e) ask))
+      ≡ under h at kept (λ later. done speech kept e (later.asked (speech.user e) ask))
+  last_same Clear at kept e ask = refl
+  last_same IsToldWant at kept e ask = refl
+  last_same Textless at kept e ask = refl
+  last_same Unread at kept e ask = refl
+  last_same UnreadRefused at kept e ask = refl
+  last_same UnreadUnheard at kept e ask = refl
+  last_same (Misread texts h) at kept e ask = refl
+  last_same (Misled said left) at kept e ask = refl
+  last_same Unstored at kept e ask = refl
+  last_same Unheard at kept e ask = refl
+  last_same Unanswered at kept e ask = refl
+  last_same Unsealed at kept e ask = refl
+  last_same Untold at kept e ask = refl
+  last_same (Halfway h) at kept e ask = refl
+
+  -- its turn stands behind that of the first, of which S is known with it
+  behind_takes : (S S' : List JournalRecord → Reads → Type 0) (t : Turn D) (ids : List BoxId) (old old' : Reply) (kept : Kept) (e : D) (new : Reply) → old' ≡ record old { gone = old.gone ++ ids }
+      → ((failed : List JournalRecord) (r : Reads) → S failed r → S' failed r) → Takes S t old' kept e new → Takes S' (behind ids [] t) old kept e new
+  behind_takes S S' t ids old old' kept e new is then takes = record {
+    conn = takes.conn ∙ ap (λ (r : Reply). r.conn) is;
+    said = takes.said ∙ ap (λ (r : Reply). r.said ++ t.said) is;
+    kept_is = takes.kept_is;
+    dialog_is = takes.dialog_is;
+    gone = takes.gone ∙ ap (λ (r : Reply). r.gone ++ t.gone) is ∙ append_assoc old.gone ids t.gone;
+    seals = then t.unsealed t.reads takes.seals;
+  }
+
+  -- an ask was done that led to a further one
+  further_turn : (S S' : List JournalRecord → Reads → Type 0) (at : ℕ) (kept kept' left : Kept) (ask asked : Ask) (d e f : D) (item : Item) (old old' new : Reply)
+      → ((failed : List JournalRecord) (r : Reads) → S failed r → S' failed r)
+      → old' ≡ record old { gone = old.gone ++ gone_between kept kept' }
+      → submitted_as kept (live (store_of kept) kept.next at (speech.user d) ask) ≡ record { outcome = Ok item; kept = kept' }
+      → speech.settle (store_of kept') kept'.stamps d (Ok item) ≡ took (Submit asked) e
+      → (h : Hindrance) × Takes S (under h at kept' (λ later. done speech kept' e (later.asked (speech.user e) asked))) old' left f new
+      → (h : Hindrance) × Takes S' (under h at kept (λ desk. pursued speech desk kept d (desk.asked (speech.user d) ask))) old left f new
+  further_turn S S' at kept kept' left ask asked d e f item old old' new then is does settles (h, takes) = (
+    Halfway h,
+    subst (λ (s : Submitted). Takes S' (pursued speech (halfway h (service at kept)) kept d (asked_as s.outcome s.kept)) old left f new) (sym does)
+        (subst (λ (t : Took D). Takes S' (pursued_as speech (halfway h (service at kept)) kept d (asked_as (Ok item) kept') t.out t.dialog) old left f new) (sym settles)
+        (behind_takes S S' (under (last_hindrance h) at kept' (λ later. done speech kept' e (later.asked (speech.user e) asked))) (gone_between kept kept') old old' left f new is then
+        (subst (λ (t : Turn D). Takes S t old' left f new) (sym (last_same h at kept' e asked)) takes))),
+  )
+
+  -- the same, of what became of the first
+  pub asked_further : (S T S' : List JournalRecord → Reads → Type 0) (at : ℕ) (kept kept' left : Kept) (by : Option User) (ask asked : Ask) (d e f : D) (outcome : Result Item SubmitFault) (old old' new : Reply)
+      → by ≡ speech.user d → speech.is_due d ≡ true
+      → (S [] none_read → (failed : List JournalRecord) (r : Reads) → T failed r → S' failed r)
+      → old' ≡ record old { gone = old.gone ++ gone_between kept kept' }
+      → Submits S at kept by ask kept' outcome
+      → speech.settle (store_of kept') kept'.stamps d outcome ≡ took (Submit asked) e
+      → (h : Hindrance) × Takes T (under h at kept' (λ later. done speech kept' e (later.asked (speech.user e) asked))) old' left f new
+      → (h : Hindrance) × Takes S' (under h at kept (λ desk. pursued speech desk kept d (desk.asked (speech.user d) ask))) old left f new
+  asked_further S T S' at kept kept' left by ask asked d e f (Err fault) old old' new same due then is did settles turn =
+      absurd (true≢false (sym (speech.answers_fault (store_of kept') kept'.stamps d fault due) ∙ ap (λ (t : Took D). is_answer t.out) settles))
+  asked_further S T S' at kept kept' left by ask asked d e f (Ok item) old old' new same due then is (does, seals) settles turn =
+      further_turn T S' at kept kept' left ask asked d e f item old old' new (then seals) is
+      (subst (λ (u : Option User). submitted_as kept (live (store_of kept) kept.next at u ask) ≡ record { outcome = Ok item; kept = kept' }) same does) settles turn
+
+  -- what was done before a further ask is sealed
+  pub sealed_before : (S : List JournalRecord → Reads → Type 0) (at : ℕ) (kept kept' : Kept) (by : Option User) (ask asked : Ask) (d e : D) (outcome : Result Item SubmitFault) → speech.is_due d ≡ true
+      → Submits S at kept by ask kept' outcome → speech.settle (store_of kept') kept'.stamps d outcome ≡ took (Submit asked) e → S [] none_read
+  sealed_before S at kept kept' by ask asked d e (Ok item) due did settles = did.1
+  sealed_before S at kept kept' by ask asked d e (Err fault) due did settles =
+      absurd (true≢false (sym (speech.answers_fault (store_of kept') kept'.stamps d fault due) ∙ ap (λ (t : Took D). is_answer t.out) settles))
 
   -- ---- what a session gives
 
@@ -333,18 +510,55 @@ module _ {D : Type 0} (speech : Speech D) where
   -- ---- texts
 
   -- what is asked has nothing to do with texts
+  pursued_same : (desk : Service) (texts : List Body → Result (List (List ℕ)) ReadFault) (r : Reads) (kept : Kept) (d : D) (a : Asked) (out : Out) (e : D)
+      → pursued_as speech (record desk { texts = texts; reads = r }) kept d a out e ≡ pursued_as speech desk kept d a out e
+  pursued_same desk texts r kept d a (Say said) e = refl
+  pursued_same desk texts r kept d a (Bye said) e = refl
+  pursued_same desk texts r kept d a (Read bodies) e = refl
+  pursued_same desk texts r kept d a (Submit ask) e = refl
+
   submits_same : (desk : Service) (texts : List Body → Result (List (List ℕ)) ReadFault) (r : Reads) (kept : Kept) (out : Out) (d : D)
       → submits speech (record desk { texts = texts; reads = r }) kept out d ≡ submits speech desk kept out d
   submits_same desk texts r kept (Say said) d = refl
   submits_same desk texts r kept (Bye said) d = refl
   submits_same desk texts r kept (Read bodies) d = refl
-  submits_same desk texts r kept (Submit ask) d = refl
+  submits_same desk texts r kept (Submit ask) d =
+      let a = desk.asked (speech.user d) ask in
+      let t = speech.settle (store_of a.kept) a.kept.stamps d a.outcome in
+      pursued_same desk texts r kept d a t.out t.dialog
+
+  -- nor does it read any, hindered or not
+  quiet_under : (h : Hindrance) (at : ℕ) (kept : Kept) (f : Service → Turn D) → ((desk : Service) → (f desk).reads ≡ none_read) → (under h at kept f).reads ≡ none_read
+  quiet_under Clear at kept f quiet = quiet (service at kept)
+  quiet_under IsToldWant at kept f quiet = refl
+  quiet_under Textless at kept f quiet = quiet (without_texts (service at kept))
+  quiet_under Unread at kept f quiet = quiet (unread (service at kept))
+  quiet_under UnreadRefused at kept f quiet = quiet (unread_unsaid (service at kept))
+  quiet_under UnreadUnheard at kept f quiet = quiet (stopped (unread (service at kept)))
+  quiet_under (Misread texts h) at kept f quiet = quiet_under h at kept (λ desk. f (misread texts desk)) (λ desk. quiet (misread texts desk))
+  quiet_under (Misled said left) at kept f quiet = quiet (service at kept)
+  quiet_under Unstored at kept f quiet = quiet (without_items kept (service at kept))
+  quiet_under Unheard at kept f quiet = refl
+  quiet_under Unanswered at kept f quiet = quiet (stopped (service at kept))
+  quiet_under Unsealed at kept f quiet = quiet (without_seals at kept (service at kept))
+  quiet_under Untold at kept f quiet = quiet (stopped (without_seals at kept (service at kept)))
+  quiet_under (Halfway h) at kept f quiet = quiet (halfway h (service at kept))
+
+  quiet_pursued : (desk : Service) (kept : Kept) (d : D) (a : Asked) (out : Out) (e : D) → (pursued_as speech desk kept d a out e).reads ≡ none_read
+  quiet_pursued desk kept d a (Say said) e = quiet_settled d a
+  quiet_pursued desk kept d a (Bye said) e = quiet_settled d a
+  quiet_pursued desk kept d a (Read bodies) e = quiet_settled d a
+  quiet_pursued desk kept d a (Submit ask) e =
+      quiet_under desk.further desk.at a.kept (λ later. done speech a.kept e (later.asked (speech.user e) ask)) (λ later. quiet_settled e (later.asked (speech.user e) ask))
 
   pub quiet_submits : (desk : Service) (kept : Kept) (out : Out) (d : D) → (submits speech desk kept out d).reads ≡ none_read
   quiet_submits desk kept (Say said) d = refl
   quiet_submits desk kept (Bye said) d = refl
   quiet_submits desk kept (Read bodies) d = refl
-  quiet_submits desk kept (Submit ask) d = quiet_settled d (desk.asked (speech.user d) ask)
+  quiet_submits desk kept (Submit ask) d =
+      let a = desk.asked (speech.user d) ask in
+      let t = speech.settle (store_of a.kept) a.kept.stamps d a.outcome in
+      quiet_pursued desk kept d a t.out t.dialog
 
   -- turns before which texts were read, of which S is known behind that, and S' with it
   module _ (S S' : List JournalRecord → Reads → Type 0) (at : ℕ) (kept kept' : Kept) (e : D) (old new : Reply) where
@@ -367,17 +581,19 @@ module _ {D : Type 0} (speech : Speech D) where
     wrong_turn none wrong UnreadRefused f quiet t =
         let desk = unread_unsaid (service at kept) in reread S S' wrong_once (f desk) old kept' e new (quiet desk) wrong t
     wrong_turn none wrong UnreadUnheard f quiet t =
-        let desk = unread (service at kept) in reread S S' wrong_once (unanswered (f desk)) old kept' e new (quiet desk) wrong t
+        let desk = stopped (unread (service at kept)) in reread S S' wrong_once (unanswered (f desk)) old kept' e new (quiet desk) wrong t
     wrong_turn none wrong (Misread texts h) f quiet t = wrong_turn none wrong h (λ desk. f (misread texts desk)) (λ desk. quiet (misread texts desk)) t
     wrong_turn none wrong (Misled said left) f quiet t = reread S S' wrong_once (f (service at kept)) old kept' e new (quiet (service at kept)) wrong t
     wrong_turn none wrong Unstored f quiet t =
         let desk = without_items kept (service at kept) in reread S S' wrong_once (f desk) old kept' e new (quiet desk) wrong t
     wrong_turn none wrong Unheard f quiet t = reread S S' none_read (lost {D = D} kept) old kept' e new refl none t
-    wrong_turn none wrong Unanswered f quiet t = reread S S' wrong_once (unanswered (f (service at kept))) old kept' e new (quiet (service at kept)) wrong t
+    wrong_turn none wrong Unanswered f quiet t =
+        let desk = stopped (service at kept) in reread S S' wrong_once (unanswered (f desk)) old kept' e new (quiet desk) wrong t
     wrong_turn none wrong Unsealed f quiet t =
         let desk = without_seals at kept (service at kept) in reread S S' wrong_once (f desk) old kept' e new (quiet desk) wrong t
     wrong_turn none wrong Untold f quiet t =
-        let desk = without_seals at kept (service at kept) in reread S S' wrong_once (unanswered (f desk)) old kept' e new (quiet desk) wrong t
+        let desk = stopped (without_seals at kept (service at kept)) in reread S S' wrong_once (unanswered (f desk)) old kept' e new (quiet desk) wrong t
+    wrong_turn none wrong (Halfway h) f quiet t = let desk = halfway h (service at kept) in reread S S' wrong_once (f desk) old kept' e new (quiet desk) wrong t
 
     -- the texts were those of the items in force
     right_with : (bodies : List Body) (d : D) (desk : Service) → ((failed : List JournalRecord) → S failed none_read → S' failed none_read)
@@ -410,15 +626,16 @@ module _ {D : Type 0} (speech : Speech D) where
     right_turn bodies d none UnreadRefused t =
         (Clear, right_with bodies d (service at kept) none (subst Before (given_same bodies d (λ _. Err NoneForTexts) failed_once (service at kept)) t))
     right_turn bodies d none UnreadUnheard t =
-        (Unanswered, right_without bodies d (service at kept) none (subst (λ (u : Turn D). Before (unanswered u)) (given_same bodies d (λ _. Err NotRead) failed_once (service at kept)) t))
+        (Unanswered, right_without bodies d (stopped (service at kept)) none (subst (λ (u : Turn D). Before (unanswered u)) (given_same bodies d (λ _. Err NotRead) failed_once (stopped (service at kept))) t))
     right_turn bodies d none (Misread texts h) t =
         right_turn bodies d none h (subst (λ (f : Service → Turn D). Before (under h at kept f)) (λ j desk. given_same bodies d (λ _. Ok texts) wrong_once desk j) t)
     right_turn bodies d none (Misled said left) t = (Clear, right_with bodies d (service at kept) none t)
     right_turn bodies d none Unstored t = (Unstored, right_with bodies d (without_items kept (service at kept)) none t)
     right_turn bodies d none Unheard t = (Unheard, reread S S' none_read (lost {D = D} kept) old kept' e new refl none t)
-    right_turn bodies d none Unanswered t = (Unanswered, right_without bodies d (service at kept) none t)
+    right_turn bodies d none Unanswered t = (Unanswered, right_without bodies d (stopped (service at kept)) none t)
     right_turn bodies d none Unsealed t = (Unsealed, right_with bodies d (without_seals at kept (service at kept)) none t)
-    right_turn bodies d none Untold t = (Untold, right_without bodies d (without_seals at kept (service at kept)) none t)
+    right_turn bodies d none Untold t = (Untold, right_without bodies d (stopped (without_seals at kept (service at kept))) none t)
+    right_turn bodies d none (Halfway h) t = (Halfway h, right_with bodies d (halfway h (service at kept)) none t)
 
     -- one or the other
     by_texts : (bodies : List Body) (texts : List (List ℕ)) (d : D) → ((failed : List JournalRecord) → S failed none_read → S' failed none_read)
@@ -513,7 +730,7 @@ module _ {D : Type 0} (speech : Speech D) where
   unread_turn S at kept bodies NotRead d e old new awaits seals (inr (inl t)) =
       (UnreadRefused, told_why S NoneForTexts failed_once (unread_unsaid (service at kept)) kept d e old new awaits seals t)
   unread_turn S at kept bodies NotRead d e old new awaits seals (inr (inr t)) =
-      (UnreadUnheard, ended_why S NotRead failed_once (unread (service at kept)) kept d e old new awaits seals t)
+      (UnreadUnheard, ended_why S NotRead failed_once (stopped (unread (service at kept))) kept d e old new awaits seals t)
 
   -- the texts of a unit were read, and handed to the session
   pub texts_turn : (S S' : List JournalRecord → Reads → Type 0) (at : ℕ) (kept kept' : Kept) (bodies : List Body) (texts : List (List ℕ)) (d e : D) (old new : Reply) → speech.takes_texts d ≡ true
@@ -544,6 +761,7 @@ or_told P told at kept f Unheard t = (Unheard, t)
 or_told P told at kept f Unanswered t = (Unanswered, t)
 or_told P told at kept f Unsealed t = (Unsealed, t)
 or_told P told at kept f Untold t = (Untold, t)
+or_told P told at kept f (Halfway h) t = (Halfway h, t)
 
 -- what follows from what a unit gives is its turn
 pub begun_turn : {D U : Type 0} → (session : Session D U) (S : List JournalRecord → Reads → Type 0) (at : ℕ) (kept kept' : Kept) (others : Seats) (d e e' : D) (unit : U) (out : Out) (old new : Reply)

@@ -65,13 +65,12 @@ pub bytes_heard : {T : Type 0} → (S : List JournalRecord → Reads → Type 0)
     → Some s ≡ lookup (is_at (nat_cmp conn)) es
     → lent ≡ set_value (is_at (nat_cmp conn)) es s'
     → es' ≡ after_reply (not turned.closes) conn lent
-    → ((seats : Seats) → seat_at conn seats ≡ Some s → HeardAlone S at kept seats conn s bytes turned kept' s')
+    → HeardAlone S at kept es conn s bytes turned kept' s'
     → view answer ≡ with_reply (reply_of turned) (told_others conn turned.aftermath es')
     → stops answer ≡ turned.stops
     → (b : Bool) × (hs : List Hindrance) × (stage : Stage)
     × Answers S (hears_at (seat_at conn es) b hs stage at (record { kept = kept; seats = es }) conn bytes) kept' es' view stops (Ok answer)
-bytes_heard S conn at kept kept' es lent es' s s' bytes turned view stops answer present wrote stays heard those stop =
-    let (b, hs, stage, failed, reads, seals, readings, said, e) = heard es (sym present) in
+bytes_heard S conn at kept kept' es lent es' s s' bytes turned view stops answer present wrote stays (b, hs, stage, failed, reads, seals, readings, said, e) those stop =
     let whole = ap (λ (o : Option Seat). hears_at o b hs stage at (record { kept = kept; seats = es }) conn bytes) (sym present) ∙ e in
     let left_is = seats_after conn es lent es' s' turned.closes wrote stays in (
       b,

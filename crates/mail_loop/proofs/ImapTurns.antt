@@ -18,10 +18,10 @@ use Rattle.store_kept.specs.Kept.{Kept, store_of}
 use Rattle.verb_bytes.specs.declared.journal.JournalRecord.{JournalRecord}
 use Rattle.desk_journal.specs.Reading.{Reads}
 use Rattle.mail_loop.specs.declared.reply.Reply.{Reply}
-use Rattle.mail_loop.specs.State.{Seats, without_seat}
+use Rattle.mail_loop.specs.State.{Seats, beside}
 use Rattle.mail_loop.specs.Turn.{Turn, ends, says}
-use Rattle.mail_loop.specs.Session.{Took, followed, size_in}
-use Rattle.mail_loop.specs.Hindrance.{Hindrance, Clear, Unheard, hindered, under}
+use Rattle.mail_loop.specs.Session.{Took, followed, size_in, hindered}
+use Rattle.mail_loop.specs.Hindrance.{Hindrance, Clear, Unheard, under}
 use Rattle.mail_loop.specs.ImapTurn.{imap_session, imap_speech, of_imap, starved_command, took_by}
 use Rattle.mail_loop.specs.Took.{IsNone, Takes}
 use Rattle.mail_loop.specs.ImapTook.{IsAnswered, obeyed, obeyed_under}
@@ -30,7 +30,7 @@ use Rattle.mail_loop.proofs.Telling.{closed, told_whole}
 
 -- a turn of a mail reader's connection at a moment
 abbrev pub next_at : ℕ → ℕ → Seats → Hindrance → Kept → Dialog → Next → Turn Dialog
-next_at at conn seats h kept d next = hindered imap_session h at kept (without_seat conn seats) d next
+next_at at conn seats h kept d next = hindered imap_session h at kept (beside conn seats) d next
 
 -- an answer that was made, or for which no memory was found
 pub answered_turn : (said : List ℕ) (text : Result (List ℕ) WantOfMemory) (kept : Kept) (d d' : Dialog) (old new : Reply) (f : Hindrance → Turn Dialog) (h : Hindrance)

@@ -48,6 +48,7 @@ pub fresh_home : (house : House) (role : Role) → IsHome house (row_of role).fr
 fresh_home house role.Smtp = tt
 fresh_home house role.Imap = refl
 fresh_home house role.Http = tt
+fresh_home house role.Pop = refl
 
 -- no memory was found for a greeting: it is left out, and the connection is to be closed
 pub left_ungreeted : {T : Type 0} (a : Answered) (kept : Kept) (es : Seats) (conn : ℕ) (reply : Reply) (view : T → List Reply) (result : Result T WantOfMemory)

@@ -5,6 +5,7 @@ pub mod Dialogs
 pub mod SmtpTurns
 pub mod Commands
 pub mod ImapTurns
+pub mod PopTurns
 pub mod TextsRead
 pub mod Nexts
 pub mod Stretch

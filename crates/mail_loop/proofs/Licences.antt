@@ -1,8 +1,9 @@
 -- What licenses a hindrance.
-use Rattle.std.proofs.Common.{◌≡◌, ◌⊎◌, inl, inr, ℕ, Bool, cond, true, false, true≢false, List, [], ◌∷◌, Option, Ok, Err, refl, ap}
+use Rattle.std.proofs.Common.{◌≡◌, ◌⊎◌, inl, inr, ℕ, Bool, cond, true, false, true≢false, List, [], ◌∷◌, ◌++◌, Option, Ok, Err, refl, ap, ◌∙◌}
 use Rattle.std.specs.List.{list_any}
 use Rattle.undo_base.specs.declared.keys.User.{User}
 use Rattle.verb_core.specs.declared.ask.Ask.{Ask}
+use Rattle.verb_bytes.specs.declared.journal.JournalRecord.{JournalRecord}
 use Rattle.smtp_lines.specs.declared.line.SmtpLine.{SmtpLine}
 use Rattle.smtp_session.specs.declared.dialog.Dialog.{Dialog}
 use Rattle.smtp_session.specs.Dialog as smtp
@@ -10,31 +11,76 @@ use Rattle.imap_lines.specs.Command.{Reading, command_of}
 use Rattle.imap_stream.specs.declared.next.Next.{Next}
 use Rattle.imap_stream.specs.declared.next.Next.TheVariants.{Command, Ask as Mark, Bad, NotYet}
 use Rattle.imap_session.specs.declared.dialog.Dialog.{Dialog as ImapDialog}
-use Rattle.store_kept.specs.Kept.{Kept}
+use Rattle.pop_session.specs.declared.dialog.Dialog.{Dialog as PopDialog}
+use Rattle.store_kept.specs.Kept.{Kept, store_of}
 use Rattle.desk_journal.specs.Reading.{Reads, failed_once, none_read, wrong_once}
 use Rattle.mail_loop.specs.declared.out.Out.{Out}
 use Rattle.mail_loop.specs.declared.out.Out.TheVariants.{Say, Read, Submit, Bye}
 use Rattle.mail_loop.specs.State.{Seats}
 use Rattle.mail_loop.specs.Turn.{Turn, lost, says}
-use Rattle.mail_loop.specs.Session.{Service, Session, Speech, followed, served, service, submits}
-use Rattle.mail_loop.specs.Hindrance.{Hindrance, Clear, Refused, Textless, Unread, UnreadRefused, UnreadUnheard, Misread, Misled, Unstored, Unheard, Unanswered, Unsealed, Untold, IsLicensed, IsLicensedRow, Licence, Row, is_failed_write, misread, row, unread, unread_unsaid, without_items, without_seals, without_texts}
+use Rattle.mail_loop.specs.Asked.{Asked}
+use Rattle.mail_loop.specs.Session.{Session, Speech, IsLicensedRow, done, followed, pursued_as, served, submits}
+use Rattle.mail_loop.specs.Hindrance.{Hindrance, Clear, Refused, Textless, Unread, UnreadRefused, UnreadUnheard, Misread, Misled, Unstored, Unheard, Unanswered, Unsealed, Untold, Halfway, IsLicensed, Licence, Row, Service, WrongRead, halfway, is_failed_write, last_hindrance, misread, row, service, stopped, under, unread, unread_unsaid, without_items, without_seals, without_texts}
 use Rattle.mail_loop.specs.SmtpTurn.{memory_told, smtp_session}
 use Rattle.mail_loop.specs.ImapTurn.{imap_session}
+use Rattle.mail_loop.specs.PopTurn.{pop_session}
 use Rattle.mail_loop.specs.ImapTurn as reader
 use Rattle.mail_loop.proofs.Dialogs.{quiet_submits}
 
--- a desk that leaves nothing unsealed
-abbrev Seals : Service → Type 0
-Seals desk = (by : Option User) (ask : Ask) → (desk.asked by ask).unsealed ≡ []
+-- what licenses a hindrance is the same for each turn
+same_licence : {D : Type 0} → (h : Hindrance) (at at' : ℕ) (kept kept' : Kept) (told told' : Turn D) (turn turn' : Service → Turn D) → (row h at kept told turn).licence ≡ (row h at' kept' told' turn').licence
+same_licence Clear at at' kept kept' told told' turn turn' = refl
+same_licence Refused at at' kept kept' told told' turn turn' = refl
+same_licence Textless at at' kept kept' told told' turn turn' = refl
+same_licence Unread at at' kept kept' told told' turn turn' = refl
+same_licence UnreadRefused at at' kept kept' told told' turn turn' = refl
+same_licence UnreadUnheard at at' kept kept' told told' turn turn' = refl
+same_licence (Misread texts h) at at' kept kept' told told' turn turn' =
+    ap (λ (l : List Licence). WrongRead ∷ l) (same_licence h at at' kept kept' (lost kept) (lost kept') (λ desk. turn (misread texts desk)) (λ desk. turn' (misread texts desk)))
+same_licence (Misled said left) at at' kept kept' told told' turn turn' = refl
+same_licence Unstored at at' kept kept' told told' turn turn' = refl
+same_licence Unheard at at' kept kept' told told' turn turn' = refl
+same_licence Unanswered at at' kept kept' told told' turn turn' = refl
+same_licence Unsealed at at' kept kept' told told' turn turn' = refl
+same_licence Untold at at' kept kept' told told' turn turn' = refl
+same_licence (Halfway h) at at' kept kept' told told' turn turn' = same_licence h at at' kept kept' (lost kept) (lost kept') (λ desk. lost kept) (λ desk. lost kept')
+
+-- no failed write licenses a hindrance
+abbrev WritesNone : (D : Type 0) → Hindrance → Type 0
+WritesNone D h = (at : ℕ) (kept : Kept) (told : Turn D) (turn : Service → Turn D) → list_any is_failed_write (row h at kept told turn).licence ≡ false
+
+writes_none : {D : Type 0} → (h : Hindrance) (at : ℕ) (kept : Kept) (told : Turn D) (turn : Service → Turn D) → list_any is_failed_write (row h at kept told turn).licence ≡ false → WritesNone D h
+writes_none h at kept told turn none at' kept' told' turn' = ap (λ (l : List Licence). list_any is_failed_write l) (same_licence h at' at kept' kept told' told turn' turn) ∙ none
+
+-- what hinders a further ask is a hindrance itself, or none
+by_last : (P : Hindrance → Type 0) (h : Hindrance) → P h → P Clear → P (last_hindrance h)
+by_last P Clear here none = here
+by_last P Refused here none = here
+by_last P Textless here none = here
+by_last P Unread here none = here
+by_last P UnreadRefused here none = here
+by_last P UnreadUnheard here none = here
+by_last P (Misread texts h) here none = here
+by_last P (Misled said left) here none = here
+by_last P Unstored here none = here
+by_last P Unheard here none = here
+by_last P Unanswered here none = here
+by_last P Unsealed here none = here
+by_last P Untold here none = here
+by_last P (Halfway h) here none = none
+
+-- a desk that leaves nothing unsealed, nor what is asked further
+abbrev Seals : (D : Type 0) → Service → Type 0
+Seals D desk = ((by : Option User) (ask : Ask) → (desk.asked by ask).unsealed ≡ []) × WritesNone D desk.further
 
 -- A turn over a service leaves nothing unsealed where the service does not, and reads nothing, or as the service says.
 record IsFair {D : Type 0} (turn : Service → Turn D) : Type 0 where
-  seals : (desk : Service) → Seals desk → (turn desk).unsealed ≡ []
+  seals : (desk : Service) → Seals D desk → (turn desk).unsealed ≡ []
   reads : (desk : Service) → ((turn desk).reads ≡ none_read) ⊎ ((turn desk).reads ≡ desk.reads)
 
 -- The same of a turn that was given another text, or read none.
 record IsGiven {D : Type 0} (turn : Service → Turn D) : Type 0 where
-  seals : (desk : Service) → Seals desk → (turn desk).unsealed ≡ []
+  seals : (desk : Service) → Seals D desk → (turn desk).unsealed ≡ []
   reads : (desk : Service) → ((turn desk).reads ≡ none_read) ⊎ ((turn desk).reads ≡ wrong_once)
 
 -- what such a turn says is licensed but for the other text
@@ -64,18 +110,65 @@ quiet_row : {D : Type 0} → (clear : Turn D) (r : Row D) → (r.licence ≡ [] 
 quiet_row clear r goes sealed read =
     record { goes = goes; writes = λ none. sealed; reads = λ none. ap (λ (q : Reads). q.failed) read; wrong = λ none. ap (λ (q : Reads). q.wrong) read }
 
+-- no licence at all
+none_licensed : {D : Type 0} → (h : Hindrance) (at : ℕ) (kept : Kept) (told : Turn D) (turn : Service → Turn D) → (row h at kept told turn).licence ≡ [] → last_hindrance h ≡ Clear
+none_licensed Clear at kept told turn none = refl
+none_licensed Refused at kept told turn wrong = absurd (true≢false (ap some wrong))
+none_licensed Textless at kept told turn wrong = absurd (true≢false (ap some wrong))
+none_licensed Unread at kept told turn wrong = absurd (true≢false (ap some wrong))
+none_licensed UnreadRefused at kept told turn wrong = absurd (true≢false (ap some wrong))
+none_licensed UnreadUnheard at kept told turn wrong = absurd (true≢false (ap some wrong))
+none_licensed (Misread texts h) at kept told turn wrong = absurd (true≢false (ap some wrong))
+none_licensed (Misled said left) at kept told turn wrong = absurd (true≢false (ap some wrong))
+none_licensed Unstored at kept told turn wrong = absurd (true≢false (ap some wrong))
+none_licensed Unheard at kept told turn wrong = absurd (true≢false (ap some wrong))
+none_licensed Unanswered at kept told turn wrong = absurd (true≢false (ap some wrong))
+none_licensed Unsealed at kept told turn wrong = absurd (true≢false (ap some wrong))
+none_licensed Untold at kept told turn wrong = absurd (true≢false (ap some wrong))
+none_licensed (Halfway h) at kept told turn none = refl
+
+-- nothing is left unsealed but where a failed write licenses it
+sealed_under : {D : Type 0} → (h : Hindrance) (at : ℕ) (kept : Kept) (f : Service → Turn D) → list_any is_failed_write (row h at kept (lost kept) f).licence ≡ false
+    → ((desk : Service) → ((by : Option User) (ask : Ask) → (desk.asked by ask).unsealed ≡ []) → (f desk).unsealed ≡ []) → (under h at kept f).unsealed ≡ []
+sealed_under Clear at kept f none seals = seals (service at kept) (λ by ask. refl)
+sealed_under Refused at kept f none seals = refl
+sealed_under Textless at kept f none seals = seals (without_texts (service at kept)) (λ by ask. refl)
+sealed_under Unread at kept f none seals = seals (unread (service at kept)) (λ by ask. refl)
+sealed_under UnreadRefused at kept f none seals = seals (unread_unsaid (service at kept)) (λ by ask. refl)
+sealed_under UnreadUnheard at kept f none seals = seals (stopped (unread (service at kept))) (λ by ask. refl)
+sealed_under (Misread texts h) at kept f none seals = sealed_under h at kept (λ desk. f (misread texts desk)) none (λ desk all. seals (misread texts desk) all)
+sealed_under (Misled said left) at kept f none seals = seals (service at kept) (λ by ask. refl)
+sealed_under Unstored at kept f none seals = seals (without_items kept (service at kept)) (λ by ask. refl)
+sealed_under Unheard at kept f none seals = refl
+sealed_under Unanswered at kept f none seals = seals (stopped (service at kept)) (λ by ask. refl)
+sealed_under Unsealed at kept f wrong seals = absurd (true≢false wrong)
+sealed_under Untold at kept f wrong seals = absurd (true≢false wrong)
+sealed_under (Halfway h) at kept f none seals = seals (halfway h (service at kept)) (λ by ask. refl)
+
 module _ {D : Type 0} (speech : Speech D) (kept : Kept) where
-  submits_sealed : (desk : Service) (out : Out) (d : D) → Seals desk → (submits speech desk kept out d).unsealed ≡ []
+  pursued_sealed : (desk : Service) (d : D) (a : Asked) (out : Out) (e : D) → a.unsealed ≡ [] → WritesNone D desk.further → (pursued_as speech desk kept d a out e).unsealed ≡ []
+  pursued_sealed desk d a (Say said) e sealed none = sealed
+  pursued_sealed desk d a (Bye said) e sealed none = sealed
+  pursued_sealed desk d a (Read bodies) e sealed none = sealed
+  pursued_sealed desk d a (Submit asked) e sealed none =
+      let f : Service → Turn D = λ later. done speech a.kept e (later.asked (speech.user e) asked) in
+      ap (λ (l : List JournalRecord). l ++ (under desk.further desk.at a.kept f).unsealed) sealed
+      ∙ sealed_under desk.further desk.at a.kept f (none desk.at a.kept (lost a.kept) f) (λ later all. all (speech.user e) asked)
+
+  submits_sealed : (desk : Service) (out : Out) (d : D) → Seals D desk → (submits speech desk kept out d).unsealed ≡ []
   submits_sealed desk (Say said) d seals = refl
   submits_sealed desk (Bye said) d seals = refl
   submits_sealed desk (Read bodies) d seals = refl
-  submits_sealed desk (Submit asked) d seals = seals (speech.user d) asked
+  submits_sealed desk (Submit asked) d seals =
+      let a = desk.asked (speech.user d) asked in
+      let t = speech.settle (store_of a.kept) a.kept.stamps d a.outcome in
+      pursued_sealed desk d a t.out t.dialog (seals.0 (speech.user d) asked) seals.1
 
-  followed_sealed : (desk : Service) (out : Out) (d : D) → Seals desk → (followed speech desk kept out d).unsealed ≡ []
+  followed_sealed : (desk : Service) (out : Out) (d : D) → Seals D desk → (followed speech desk kept out d).unsealed ≡ []
   followed_sealed desk (Say said) d seals = refl
   followed_sealed desk (Bye said) d seals = refl
   followed_sealed desk (Read bodies) d seals = let t = speech.heard d (desk.texts bodies) in submits_sealed desk t.out t.dialog seals
-  followed_sealed desk (Submit asked) d seals = seals (speech.user d) asked
+  followed_sealed desk (Submit asked) d seals = submits_sealed desk (Submit asked) d seals
 
   followed_reads : (desk : Service) (out : Out) (d : D) → ((followed speech desk kept out d).reads ≡ none_read) ⊎ ((followed speech desk kept out d).reads ≡ desk.reads)
   followed_reads desk (Say said) d = inl refl
@@ -84,76 +177,95 @@ module _ {D : Type 0} (speech : Speech D) (kept : Kept) where
   followed_reads desk (Submit asked) d = inl (quiet_submits speech desk kept (Submit asked) d)
 
 -- the desk as it is, without memory for texts or for items, and with texts that are not read, seals what it is asked
-seals_all : (at : ℕ) (kept : Kept) → Seals (service at kept)
-seals_all at kept by ask = refl
+seals_all : {D : Type 0} → (at : ℕ) (kept : Kept) → Seals D (service at kept)
+seals_all at kept = (λ by ask. refl, λ at' kept' told turn. refl)
 
 module _ {D : Type 0} (at : ℕ) (kept : Kept) where
+  -- where no failed write licenses what hinders a further ask
+  further_seals : (h : Hindrance) → list_any is_failed_write (row h at kept (lost {D = D} kept) (λ desk. lost kept)).licence ≡ false → WritesNone D (last_hindrance h)
+  further_seals h none = by_last (λ (x : Hindrance). WritesNone D x) h (writes_none h at kept (lost {D = D} kept) (λ desk. lost kept) none) (λ at' kept' told turn. refl)
+
+  all_sealed : Seals D (service at kept)
+  all_sealed = seals_all {D = D} at kept
+
   given_row : (h : Hindrance) (told : Turn D) (turn : Service → Turn D) → told.unsealed ≡ [] → told.reads ≡ none_read → IsGiven turn → IsGivenRow (row h at kept told turn)
   given_row Clear told turn sealed read fair =
-      record { writes = λ none. fair.seals (service at kept) (seals_all at kept); reads = none_failed (turn (service at kept)).reads (fair.reads (service at kept)) }
+      record { writes = λ none. fair.seals (service at kept) all_sealed; reads = none_failed (turn (service at kept)).reads (fair.reads (service at kept)) }
   given_row Refused told turn sealed read fair = record { writes = λ none. sealed; reads = ap (λ (q : Reads). q.failed) read }
   given_row Textless told turn sealed read fair =
-      let desk = without_texts (service at kept) in record { writes = λ none. fair.seals desk (seals_all at kept); reads = none_failed (turn desk).reads (fair.reads desk) }
+      let desk = without_texts (service at kept) in record { writes = λ none. fair.seals desk all_sealed; reads = none_failed (turn desk).reads (fair.reads desk) }
   given_row Unread told turn sealed read fair =
-      let desk = unread (service at kept) in record { writes = λ none. fair.seals desk (seals_all at kept); reads = none_failed (turn desk).reads (fair.reads desk) }
+      let desk = unread (service at kept) in record { writes = λ none. fair.seals desk all_sealed; reads = none_failed (turn desk).reads (fair.reads desk) }
   given_row UnreadRefused told turn sealed read fair =
-      let desk = unread_unsaid (service at kept) in record { writes = λ none. fair.seals desk (seals_all at kept); reads = none_failed (turn desk).reads (fair.reads desk) }
+      let desk = unread_unsaid (service at kept) in record { writes = λ none. fair.seals desk all_sealed; reads = none_failed (turn desk).reads (fair.reads desk) }
   given_row UnreadUnheard told turn sealed read fair =
-      let desk = unread (service at kept) in record { writes = λ none. fair.seals desk (seals_all at kept); reads = none_failed (turn desk).reads (fair.reads desk) }
+      let desk = stopped (unread (service at kept)) in record { writes = λ none. fair.seals desk all_sealed; reads = none_failed (turn desk).reads (fair.reads desk) }
   given_row (Misread texts h) told turn sealed read fair =
       let other = given_row h (lost kept) (λ desk. turn (misread texts desk)) refl refl (record { seals = λ desk all. fair.seals (misread texts desk) all; reads = λ desk. fair.reads (misread texts desk) }) in
       record { writes = other.writes; reads = other.reads }
   given_row (Misled said left) told turn sealed read fair =
-      record { writes = λ none. fair.seals (service at kept) (seals_all at kept); reads = none_failed (turn (service at kept)).reads (fair.reads (service at kept)) }
+      record { writes = λ none. fair.seals (service at kept) all_sealed; reads = none_failed (turn (service at kept)).reads (fair.reads (service at kept)) }
   given_row Unstored told turn sealed read fair =
-      let desk = without_items kept (service at kept) in record { writes = λ none. fair.seals desk (λ by ask. refl); reads = none_failed (turn desk).reads (fair.reads desk) }
+      let desk = without_items kept (service at kept) in record { writes = λ none. fair.seals desk (λ by ask. refl, λ at' kept' t f. refl); reads = none_failed (turn desk).reads (fair.reads desk) }
   given_row Unheard told turn sealed read fair = record { writes = λ none. refl; reads = refl }
   given_row Unanswered told turn sealed read fair =
-      record { writes = λ none. fair.seals (service at kept) (seals_all at kept); reads = none_failed (turn (service at kept)).reads (fair.reads (service at kept)) }
+      let desk = stopped (service at kept) in record { writes = λ none. fair.seals desk all_sealed; reads = none_failed (turn desk).reads (fair.reads desk) }
   given_row Unsealed told turn sealed read fair =
       let desk = without_seals at kept (service at kept) in record { writes = λ wrong. absurd (true≢false wrong); reads = none_failed (turn desk).reads (fair.reads desk) }
   given_row Untold told turn sealed read fair =
-      let desk = without_seals at kept (service at kept) in record { writes = λ wrong. absurd (true≢false wrong); reads = none_failed (turn desk).reads (fair.reads desk) }
+      let desk = stopped (without_seals at kept (service at kept)) in record { writes = λ wrong. absurd (true≢false wrong); reads = none_failed (turn desk).reads (fair.reads desk) }
+  given_row (Halfway h) told turn sealed read fair =
+      let desk = halfway h (service at kept) in
+      record { writes = λ none. fair.seals desk (λ by ask. refl, further_seals h none); reads = none_failed (turn desk).reads (fair.reads desk) }
 
   licensed : (h : Hindrance) (told : Turn D) (turn : Service → Turn D) → told.unsealed ≡ [] → told.reads ≡ none_read → IsFair turn
       → ((texts : List (List ℕ)) → IsGiven (λ desk. turn (misread texts desk))) → IsLicensed (turn (service at kept)) (row h at kept told turn)
   licensed Clear told turn sealed read fair given =
-      quiet_row (turn (service at kept)) (row Clear at kept told turn) (λ e. refl) (fair.seals (service at kept) (seals_all at kept)) (either_none (turn (service at kept)).reads (fair.reads (service at kept)))
+      quiet_row (turn (service at kept)) (row Clear at kept told turn) (λ e. refl) (fair.seals (service at kept) all_sealed) (either_none (turn (service at kept)).reads (fair.reads (service at kept)))
   licensed Refused told turn sealed read fair given = quiet_row (turn (service at kept)) (row Refused at kept told turn) (λ e. absurd (true≢false (ap some e))) sealed read
   licensed Textless told turn sealed read fair given =
-      let desk = without_texts (service at kept) in quiet_row (turn (service at kept)) (row Textless at kept told turn) (λ e. absurd (true≢false (ap some e))) (fair.seals desk (seals_all at kept)) (either_none (turn desk).reads (fair.reads desk))
+      let desk = without_texts (service at kept) in quiet_row (turn (service at kept)) (row Textless at kept told turn) (λ e. absurd (true≢false (ap some e))) (fair.seals desk all_sealed) (either_none (turn desk).reads (fair.reads desk))
   licensed Unread told turn sealed read fair given =
       let desk = unread (service at kept) in
-      record { goes = λ e. absurd (true≢false (ap some e)); writes = λ none. fair.seals desk (seals_all at kept); reads = λ wrong. absurd (true≢false wrong); wrong = λ none. none_wrong (turn desk).reads (fair.reads desk) }
+      record { goes = λ e. absurd (true≢false (ap some e)); writes = λ none. fair.seals desk all_sealed; reads = λ wrong. absurd (true≢false wrong); wrong = λ none. none_wrong (turn desk).reads (fair.reads desk) }
   licensed UnreadRefused told turn sealed read fair given =
       let desk = unread_unsaid (service at kept) in
-      record { goes = λ e. absurd (true≢false (ap some e)); writes = λ none. fair.seals desk (seals_all at kept); reads = λ wrong. absurd (true≢false wrong); wrong = λ none. none_wrong (turn desk).reads (fair.reads desk) }
+      record { goes = λ e. absurd (true≢false (ap some e)); writes = λ none. fair.seals desk all_sealed; reads = λ wrong. absurd (true≢false wrong); wrong = λ none. none_wrong (turn desk).reads (fair.reads desk) }
   licensed UnreadUnheard told turn sealed read fair given =
-      let desk = unread (service at kept) in
-      record { goes = λ e. absurd (true≢false (ap some e)); writes = λ none. fair.seals desk (seals_all at kept); reads = λ wrong. absurd (true≢false wrong); wrong = λ none. none_wrong (turn desk).reads (fair.reads desk) }
+      let desk = stopped (unread (service at kept)) in
+      record { goes = λ e. absurd (true≢false (ap some e)); writes = λ none. fair.seals desk all_sealed; reads = λ wrong. absurd (true≢false wrong); wrong = λ none. none_wrong (turn desk).reads (fair.reads desk) }
   licensed (Misread texts h) told turn sealed read fair given =
       let other = given_row h (lost kept) (λ desk. turn (misread texts desk)) refl refl (given texts) in
       record { goes = λ e. absurd (true≢false (ap some e)); writes = other.writes; reads = λ none. other.reads; wrong = λ wrong. absurd (true≢false wrong) }
   licensed (Misled said left) told turn sealed read fair given =
       record {
         goes = λ e. absurd (true≢false (ap some e));
-        writes = λ none. fair.seals (service at kept) (seals_all at kept);
+        writes = λ none. fair.seals (service at kept) all_sealed;
         reads = λ none. ap (λ (q : Reads). q.failed) (either_none (turn (service at kept)).reads (fair.reads (service at kept)));
         wrong = λ wrong. absurd (true≢false wrong);
       }
   licensed Unstored told turn sealed read fair given =
-      let desk = without_items kept (service at kept) in quiet_row (turn (service at kept)) (row Unstored at kept told turn) (λ e. absurd (true≢false (ap some e))) (fair.seals desk (λ by ask. refl)) (either_none (turn desk).reads (fair.reads desk))
+      let desk = without_items kept (service at kept) in quiet_row (turn (service at kept)) (row Unstored at kept told turn) (λ e. absurd (true≢false (ap some e))) (fair.seals desk (λ by ask. refl, λ at' kept' t f. refl)) (either_none (turn desk).reads (fair.reads desk))
   licensed Unheard told turn sealed read fair given = quiet_row (turn (service at kept)) (row Unheard at kept told turn) (λ e. absurd (true≢false (ap some e))) refl refl
   licensed Unanswered told turn sealed read fair given =
-      quiet_row (turn (service at kept)) (row Unanswered at kept told turn) (λ e. absurd (true≢false (ap some e))) (fair.seals (service at kept) (seals_all at kept)) (either_none (turn (service at kept)).reads (fair.reads (service at kept)))
+      let desk = stopped (service at kept) in quiet_row (turn (service at kept)) (row Unanswered at kept told turn) (λ e. absurd (true≢false (ap some e))) (fair.seals desk all_sealed) (either_none (turn desk).reads (fair.reads desk))
   licensed Unsealed told turn sealed read fair given =
       let desk = without_seals at kept (service at kept) in
       let none = either_none (turn desk).reads (fair.reads desk) in
       record { goes = λ e. absurd (true≢false (ap some e)); writes = λ wrong. absurd (true≢false wrong); reads = λ _. ap (λ (q : Reads). q.failed) none; wrong = λ _. ap (λ (q : Reads). q.wrong) none }
   licensed Untold told turn sealed read fair given =
-      let desk = without_seals at kept (service at kept) in
+      let desk = stopped (without_seals at kept (service at kept)) in
       let none = either_none (turn desk).reads (fair.reads desk) in
       record { goes = λ e. absurd (true≢false (ap some e)); writes = λ wrong. absurd (true≢false wrong); reads = λ _. ap (λ (q : Reads). q.failed) none; wrong = λ _. ap (λ (q : Reads). q.wrong) none }
+  licensed (Halfway h) told turn sealed read fair given =
+      let desk = halfway h (service at kept) in
+      let none = either_none (turn desk).reads (fair.reads desk) in
+      record {
+        goes = λ e. ap (λ (x : Hindrance). turn (record (service at kept) { further = x })) (none_licensed h at kept (lost {D = D} kept) (λ desk. lost kept) e);
+        writes = λ without. fair.seals desk (λ by ask. refl, further_seals h without);
+        reads = λ _. ap (λ (q : Reads). q.failed) none;
+        wrong = λ _. ap (λ (q : Reads). q.wrong) none;
+      }
 
 -- a session's row
 pub session_licensed : {D U : Type 0} → (session : Session D U) (h : Hindrance) (at : ℕ) (kept : Kept) (others : Seats) (d : D) (unit : U)
@@ -191,3 +303,6 @@ reader_licensed h at kept others d (Command raw) =
 reader_licensed h at kept others d (Mark length) = session_licensed imap_session h at kept others d (Mark length) refl refl
 reader_licensed h at kept others d (Bad line) = session_licensed imap_session h at kept others d (Bad line) refl refl
 reader_licensed h at kept others d NotYet = session_licensed imap_session h at kept others d NotYet refl refl
+
+pub fetching_licensed : (h : Hindrance) (at : ℕ) (kept : Kept) (others : Seats) (d : PopDialog) (line : SmtpLine) → IsLicensedRow pop_session h at kept others d line
+fetching_licensed h at kept others d line = session_licensed pop_session h at kept others d line refl refl

@@ -25,18 +25,18 @@ use Rattle.store_kept.specs.Kept.{Kept, store_of}
 use Rattle.verb_bytes.specs.declared.journal.JournalRecord.{JournalRecord}
 use Rattle.desk_journal.specs.Reading.{Reads}
 use Rattle.mail_loop.specs.declared.reply.Reply.{Reply}
-use Rattle.mail_loop.specs.State.{Seats, without_seat}
+use Rattle.mail_loop.specs.State.{Seats, beside}
 use Rattle.mail_loop.specs.Turn.{Turn, lost, says}
-use Rattle.mail_loop.specs.Session.{followed}
-use Rattle.mail_loop.specs.Hindrance.{Hindrance, Refused, Unheard, hindered, under}
-use Rattle.mail_loop.specs.SmtpTurn.{is_free, memory_told, of_smtp, smtp_session, smtp_speech, took_by}
+use Rattle.mail_loop.specs.Session.{followed, hindered, is_answer}
+use Rattle.mail_loop.specs.Hindrance.{Hindrance, Refused, Unheard, under}
+use Rattle.mail_loop.specs.SmtpTurn.{answers, is_free, memory_told, of_smtp, smtp_session, smtp_speech, took_by}
 use Rattle.mail_loop.specs.Took.{Adds, AreThere, AsksAs, GoesOn, IsNext, IsNone, Takes}
 use Rattle.mail_loop.proofs.Dialogs.{begun_turn}
 use Rattle.mail_loop.proofs.Telling.{closed, told_whole}
 
 -- a turn of a mail client's connection at a moment
 abbrev pub line_at : ℕ → ℕ → Seats → Hindrance → Kept → Dialog → SmtpLine → Turn Dialog
-line_at at conn seats h kept d line = hindered smtp_session h at kept (without_seat conn seats) d line
+line_at at conn seats h kept d line = hindered smtp_session h at kept (beside conn seats) d line
 
 -- no outcome is due where the session is free, and it is free where none is
 pub none_due : (d : Dialog) → is_free d ≡ true → session.is_due d ≡ false
@@ -154,6 +154,10 @@ line_gives house conf at d e line out free is =
 -- no outcome is due once it was told
 pub free_after : (d e : Dialog) (outcome : Result Item SubmitFault) (out : SmtpOut) → session.settle d outcome ≡ session.turns out e → is_free e ≡ true
 free_after d e outcome out is = sym (ap (λ (t : session.Turn). is_free t.dialog) is)
+
+-- and it asked nothing
+pub answered_after : (d e : Dialog) (outcome : Result Item SubmitFault) (out : SmtpOut) → session.settle d outcome ≡ session.turns out e → is_answer (of_smtp out) ≡ true
+answered_after d e outcome out is = sym (ap (λ (t : session.Turn). is_answer (of_smtp t.out)) is) ∙ answers (session.host_due d.transaction) outcome
 
 -- it makes nothing of texts
 pub free_goes_on : (texts : Result (List (List ℕ)) ReadFault) (said : List ℕ) (d : Dialog) → is_free d ≡ true → GoesOn smtp_speech texts (gives.Say said) d

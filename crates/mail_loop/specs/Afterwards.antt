@@ -9,7 +9,7 @@ use Rattle.imap_session.specs.Words.{changed_text}
 use Rattle.store_kept.specs.Kept.{Kept, store_of}
 use Rattle.mail_loop.specs.declared.aftermath.Aftermath.{Aftermath}
 use Rattle.mail_loop.specs.declared.aftermath.Aftermath.TheVariants.{Quiet, TookAway, Rewound}
-use Rattle.mail_loop.specs.State.{Seat, Smtp, Imap, Http, role_of}
+use Rattle.mail_loop.specs.State.{Seat, Smtp, Imap, Http, Pop, role_of}
 use Rattle.mail_loop.specs.Roles.{row_of}
 
 -- the mailboxes that are taken away between two stores: those of the first that have none of their name in the second
@@ -42,6 +42,7 @@ is_quiet Rewound = false
 abbrev pub holds_one : List BoxId → Seat → Bool
 holds_one boxes (Smtp unserved d) = false
 holds_one boxes (Http came) = false
+holds_one boxes (Pop unserved d) = false
 holds_one boxes (Imap stream d) = list_any (λ (box : BoxId). imap.holds d box.user box.name) boxes
 
 -- the last words to another connection, behind which it is closed; none where it goes on

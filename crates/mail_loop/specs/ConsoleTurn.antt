@@ -9,7 +9,7 @@ use Rattle.console_session.specs.Turn.{Turn as ConsoleTurn, asked_of}
 use Rattle.store_kept.specs.Kept.{Kept}
 use Rattle.mail_loop.specs.declared.aftermath.Aftermath.TheVariants.{Quiet, Rewound}
 use Rattle.mail_loop.specs.declared.console_turn.Sequel.{Sequel}
-use Rattle.mail_loop.specs.Hindrance.{Hindrance, Clear, Refused, Textless, Unread, UnreadRefused, UnreadUnheard, Misread, Misled, Unstored, Unheard, Unanswered, Unsealed, Untold}
+use Rattle.mail_loop.specs.Hindrance.{Hindrance, Clear, Refused, Textless, Unread, UnreadRefused, UnreadUnheard, Misread, Misled, Unstored, Unheard, Unanswered, Unsealed, Untold, Halfway}
 
 -- the bytes of a console, and what they were read as
 pub record Reading : Type 0 where
@@ -47,6 +47,7 @@ of_console Unheard = console.Unheard
 of_console Unanswered = console.Unanswered
 of_console Unsealed = console.Unsealed
 of_console Untold = console.Untold
+of_console (Halfway h) = console.Clear
 
 -- the bytes of a console that came, read so, at a moment
 abbrev pub console_turn : Hindrance → ℕ → Kept → Stage → ConsoleTurn

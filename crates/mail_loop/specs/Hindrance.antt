@@ -1,12 +1,13 @@
 -- How a turn may go otherwise: one table, with what licenses each hindrance and what follows.
-use Rattle.std.specs.Prelude.{◌≡◌, ℕ, Bool, true, false, List, [], ◌∷◌, Ok, Err}
+use Rattle.std.specs.Prelude.{◌≡◌, ℕ, Bool, true, false, List, [], ◌∷◌, Result, Ok, Err}
 use Rattle.std.specs.List.{list_any}
+use Rattle.seal_log.specs.declared.fault.ReadFault.{ReadFault}
 use Rattle.seal_log.specs.declared.fault.ReadFault.TheVariants.{Disk, NoMemory as NoneForTexts}
-use Rattle.desk_journal.specs.Reading.{failed_once, wrong_once}
+use Rattle.verb_core.specs.declared.mailbox.Body.{Body}
+use Rattle.desk_journal.specs.Reading.{Reads, failed_once, none_read, wrong_once}
 use Rattle.store_kept.specs.Kept.{Kept}
-use Rattle.mail_loop.specs.Asked.{fails, starves}
-use Rattle.mail_loop.specs.Session.{Service, Session, served, service}
-use Rattle.mail_loop.specs.State.{Seats}
+use Rattle.store_kept.specs.Texts.{texts_kept}
+use Rattle.mail_loop.specs.Asked.{Asking, does, fails, starves}
 use Rattle.mail_loop.specs.Turn.{Turn, lost, unanswered}
 
 -- How a turn may go otherwise.
@@ -37,6 +38,8 @@ pub data Hindrance : Type 0 where
   Unsealed : Hindrance
   -- the same, and no memory was found for telling the client
   Untold : Hindrance
+  -- what the outcome of an ask led to asking further goes so: that is a turn of its own, and the first stays done
+  Halfway : Hindrance → Hindrance
 
 -- What licenses a hindrance. Want of memory is free; the others are counted in the turn.
 pub data Licence : Type 0 where
@@ -79,6 +82,21 @@ pub record IsLicensed {D : Type 0} (clear : Turn D) (r : Row D) : Type 0 where
   pub reads : list_any is_failed_read r.licence ≡ false → r.follows.reads.failed ≡ 0
   pub wrong : list_any is_wrong_read r.licence ≡ false → r.follows.reads.wrong ≡ 0
 
+-- ---- the desk
+
+-- How the desk serves a unit: the texts that it gives, whether it could not read them or gave others, and what becomes of an ask; at which moment, and what
+-- hinders a further ask, to which the outcome of the first leads.
+pub record Service : Type 0 where
+  pub texts : List Body → Result (List (List ℕ)) ReadFault
+  pub reads : Reads
+  pub asked : Asking
+  pub at : ℕ
+  pub further : Hindrance
+
+-- it gives the texts of the items in force, and does what is asked
+abbrev pub service : ℕ → Kept → Service
+service at kept = record { texts = λ bodies. Ok (texts_kept kept bodies); reads = none_read; asked = does at kept; at = at; further = Clear }
+
 -- ---- what the desk does otherwise
 
 -- it finds no memory for texts
@@ -105,6 +123,19 @@ without_items kept desk = record desk { asked = starves kept }
 abbrev pub without_seals : ℕ → Kept → Service → Service
 without_seals at kept desk = record desk { asked = fails at kept }
 
+-- a further ask leads to no other
+abbrev pub last_hindrance : Hindrance → Hindrance
+last_hindrance (Halfway h) = Clear
+last_hindrance h = h
+
+-- a further ask is hindered
+abbrev pub halfway : Hindrance → Service → Service
+halfway h desk = record desk { further = last_hindrance h }
+
+-- the session finds no memory for the outcome: nothing further is asked
+abbrev pub stopped : Service → Service
+stopped desk = record desk { further = Unheard }
+
 -- ---- the table
 
 -- A turn over what the desk serves, hindered or not, where `told` comes of want of memory that the session finds. A hindrance that a turn does not meet,
@@ -115,27 +146,21 @@ row Refused at kept told turn = record { licence = Free ∷ []; follows = told }
 row Textless at kept told turn = record { licence = Free ∷ []; follows = turn (without_texts (service at kept)) }
 row Unread at kept told turn = record { licence = FailedRead ∷ []; follows = turn (unread (service at kept)) }
 row UnreadRefused at kept told turn = record { licence = FailedRead ∷ Free ∷ []; follows = turn (unread_unsaid (service at kept)) }
-row UnreadUnheard at kept told turn = record { licence = FailedRead ∷ Free ∷ []; follows = unanswered (turn (unread (service at kept))) }
+row UnreadUnheard at kept told turn = record { licence = FailedRead ∷ Free ∷ []; follows = unanswered (turn (stopped (unread (service at kept)))) }
 row (Misread texts h) at kept told turn =
     let other = row h at kept (lost kept) (λ desk. turn (misread texts desk)) in record { licence = WrongRead ∷ other.licence; follows = other.follows }
 row (Misled said left) at kept told turn = record { licence = WrongRead ∷ []; follows = turn (service at kept) }
 row Unstored at kept told turn = record { licence = Free ∷ []; follows = turn (without_items kept (service at kept)) }
 row Unheard at kept told turn = record { licence = Free ∷ []; follows = lost kept }
-row Unanswered at kept told turn = record { licence = Free ∷ []; follows = unanswered (turn (service at kept)) }
+row Unanswered at kept told turn = record { licence = Free ∷ []; follows = unanswered (turn (stopped (service at kept))) }
 row Unsealed at kept told turn = record { licence = FailedWrite ∷ []; follows = turn (without_seals at kept (service at kept)) }
-row Untold at kept told turn = record { licence = FailedWrite ∷ Free ∷ []; follows = unanswered (turn (without_seals at kept (service at kept))) }
-
--- the row of a unit
-abbrev pub row_of_unit : {D U : Type 0} → Session D U → Hindrance → ℕ → Kept → Seats → D → U → Row D
-row_of_unit session h at kept others d unit = row h at kept (session.starves kept d unit) (λ desk. served session desk at kept others d unit)
+row Untold at kept told turn = record { licence = FailedWrite ∷ Free ∷ []; follows = unanswered (turn (stopped (without_seals at kept (service at kept)))) }
+row {D} (Halfway h) at kept told turn =
+    let other : Row D = row h at kept (lost kept) (λ desk. lost kept) in record { licence = other.licence; follows = turn (halfway h (service at kept)) }
 
 -- a turn that began, hindered or not: the session has found its memory
 abbrev pub under : {D : Type 0} → Hindrance → ℕ → Kept → (Service → Turn D) → Turn D
 under h at kept turn = (row h at kept (lost kept) turn).follows
-
--- a turn, hindered or not
-abbrev pub hindered : {D U : Type 0} → Session D U → Hindrance → ℕ → Kept → Seats → D → U → Turn D
-hindered session h at kept others d unit = (row_of_unit session h at kept others d unit).follows
 
 abbrev pub first_hindrance : List Hindrance → Hindrance
 first_hindrance [] = Clear
@@ -144,7 +169,3 @@ first_hindrance (h ∷ hs) = h
 abbrev pub other_hindrances : List Hindrance → List Hindrance
 other_hindrances [] = []
 other_hindrances (h ∷ hs) = hs
-
--- the row of a unit is licensed
-abbrev pub IsLicensedRow : {D U : Type 0} → Session D U → Hindrance → ℕ → Kept → Seats → D → U → Type 0
-IsLicensedRow session h at kept others d unit = IsLicensed (served session (service at kept) at kept others d unit) (row_of_unit session h at kept others d unit)

@@ -8,8 +8,8 @@ use Rattle.imap_session.specs.declared.dialog.Dialog.{Dialog}
 use Rattle.store_kept.specs.Kept.{Kept}
 use Rattle.mail_loop.specs.declared.reply.Reply.{Reply}
 use Rattle.mail_loop.specs.Turn.{Turn}
-use Rattle.mail_loop.specs.Session.{Service, followed}
-use Rattle.mail_loop.specs.Hindrance.{Hindrance, row}
+use Rattle.mail_loop.specs.Session.{followed}
+use Rattle.mail_loop.specs.Hindrance.{Hindrance, Service, row}
 use Rattle.mail_loop.specs.ImapTurn.{imap_speech, obeys, starved_command}
 use Rattle.mail_loop.specs.Took.{Adds}
 

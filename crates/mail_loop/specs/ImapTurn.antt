@@ -1,10 +1,12 @@
 -- The session of a mail reader: a command, a literal mark or a bad line of its stream is a unit, and what is not whole yet is the last one.
-use Rattle.std.specs.Prelude.{◌≡◌, ℕ, true, List, [], Ok, Err}
-use Rattle.std.proofs.Common.{refl, sym, true≢false}
+use Rattle.std.specs.Prelude.{◌≡◌, ℕ, true, List, [], Option, None, Some, Result, Ok, Err}
+use Rattle.std.proofs.Common.{◌∙◌, refl, sym, true≢false}
 use Rattle.seal_log.specs.declared.fault.ReadFault.{ReadFault}
 use Rattle.seal_log.specs.declared.fault.ReadFault.TheVariants as read_fault
 use Rattle.verb_core.specs.declared.ask.Refused.TheVariants.{NoMemory}
-use Rattle.verb_core.specs.declared.ask.SubmitFault.TheVariants.{Disk}
+use Rattle.verb_core.specs.declared.ask.SubmitFault.{SubmitFault}
+use Rattle.verb_core.specs.declared.ask.SubmitFault.TheVariants.{Refused as IsRefused, Disk, Closed}
+use Rattle.verb_core.specs.declared.item.Item.{Item}
 use Rattle.verb_core.specs.declared.mailbox.BoxId.{BoxId}
 use Rattle.verb_core.specs.Store.{MailStore}
 use Rattle.imap_lines.specs.Command.{Reading, command_of}
@@ -13,15 +15,19 @@ use Rattle.imap_stream.specs.declared.next.Next.TheVariants.{Command, Ask as Mar
 use Rattle.imap_session.specs.declared.dialog.Awaits.{Awaits}
 use Rattle.imap_session.specs.declared.dialog.Awaits.TheVariants.{Nothing, Texts, Outcome}
 use Rattle.imap_session.specs.declared.dialog.Dialog.{Dialog}
+use Rattle.imap_session.specs.declared.dialog.Pending.{Pending}
+use Rattle.imap_session.specs.declared.dialog.Pending.TheVariants as on
+use Rattle.imap_session.specs.declared.dialog.Selected.{Selected}
 use Rattle.imap_session.specs.declared.out.ImapOut.{ImapOut}
 use Rattle.imap_session.specs.declared.out.ImapOut.TheVariants.{Say as Says, Read as Reads, Submit as Submits, Bye as Ends}
 use Rattle.imap_session.specs.declared.words.Answer.TheVariants.{Refused as IsToldRefused}
+use Rattle.imap_session.specs.declared.words.Word.{Word}
 use Rattle.imap_session.specs.Dialog as session
 use Rattle.imap_session.specs.Words.{bad_line_text, ready_text, tagged}
 use Rattle.store_kept.specs.Kept.{Kept, store_of}
 use Rattle.mail_loop.specs.declared.out.Out.{Out}
 use Rattle.mail_loop.specs.declared.out.Out.TheVariants.{Say, Read, Submit, Bye}
-use Rattle.mail_loop.specs.Session.{IsBye, Session, Speech, Took, is_said, size_in, took}
+use Rattle.mail_loop.specs.Session.{IsBye, Session, Speech, Took, is_answer, is_said, size_in, took}
 use Rattle.mail_loop.specs.Turn.{Turn, lost, says}
 
 -- what its session answers
@@ -47,6 +53,32 @@ says_awaited d (Texts tag wanted) read_fault.Disk is = refl
 says_awaited d (Texts tag wanted) read_fault.NoMemory is = refl
 says_awaited d (Outcome tag pending) why wrong = absurd (true≢false (sym wrong))
 
+-- what it says of an outcome asks nothing
+answers_followed : (s : MailStore) (tag : List ℕ) (w : Word) (d : Dialog) (o : Option Selected) → is_answer (of_imap (session.follow s tag w d o).out) ≡ true
+answers_followed s tag w d None = refl
+answers_followed s tag w d (Some selected) = refl
+
+answers_pending : (s : MailStore) (stamps : List (BoxId × ℕ)) (tag : List ℕ) (d : Dialog) (p : Pending) (outcome : Result Item SubmitFault)
+    → is_answer (of_imap (session.settle_pending s stamps tag d p outcome).out) ≡ true
+answers_pending s stamps tag d p (Err (IsRefused why)) = refl
+answers_pending s stamps tag d p (Err Disk) = refl
+answers_pending s stamps tag d p (Err Closed) = refl
+answers_pending s stamps tag d (on.Select mailbox writes) (Ok item) = refl
+answers_pending s stamps tag d (on.Fetch form rows texts) (Ok item) = refl
+answers_pending s stamps tag d (on.Search by_uid numbers) (Ok item) = refl
+answers_pending s stamps tag d (on.Store form silent rows) (Ok item) = refl
+answers_pending s stamps tag d (on.Plain w) (Ok item) = refl
+answers_pending s stamps tag d (on.Leave w mailbox) (Ok item) = refl
+answers_pending s stamps tag d on.Close (Ok item) = refl
+answers_pending s stamps tag d (on.List subscribed) (Ok item) = refl
+answers_pending s stamps tag d (on.Status mailbox asked) (Ok item) = refl
+answers_pending s stamps tag d (on.Follow w) (Ok item) = answers_followed s tag w d d.selected
+
+pub answers_awaited : (s : MailStore) (stamps : List (BoxId × ℕ)) (d : Dialog) (a : Awaits) (outcome : Result Item SubmitFault) → is_answer (of_imap (session.settle_in s stamps d a outcome).out) ≡ true
+answers_awaited s stamps d Nothing outcome = refl
+answers_awaited s stamps d (Texts tag wanted) outcome = refl
+answers_awaited s stamps d (Outcome tag pending) outcome = answers_pending s stamps tag (session.at_rest d) pending outcome
+
 -- it asks for who is logged in
 abbrev pub imap_speech : Speech Dialog
 imap_speech = record {
@@ -61,6 +93,8 @@ imap_speech = record {
   opens_alone = refl;
   says_why = λ d why reading. says_awaited d d.awaits why reading;
   ends_at_fault = λ s stamps d due. ends_awaited s stamps d d.awaits due;
+  answers_fault = λ s stamps d fault due. answers_awaited s stamps d d.awaits (Err fault);
+  answers_further = λ s t stamps later d outcome other due further. absurd (true≢false (sym (answers_awaited s stamps d d.awaits outcome) ∙ further));
 }
 
 -- a command, or what is none

@@ -3,10 +3,11 @@ pub mod Roles
 pub mod Afterwards
 pub mod Asked
 pub mod Turn
-pub mod Session
 pub mod Hindrance
+pub mod Session
 pub mod SmtpTurn
 pub mod ImapTurn
+pub mod PopTurn
 pub mod ConsoleTurn
 pub mod Turns
 pub mod Machine

@@ -1,5 +1,5 @@
 -- A session, whatever it speaks: what it answers, what the desk does for that, and the turn that comes of both.
-use Rattle.std.specs.Prelude.{◌≡◌, ℕ, Bool, true, false, List, [], length, option_map, unwrap_or, Option, None, Result, Ok, Err}
+use Rattle.std.specs.Prelude.{◌≡◌, ℕ, Bool, true, false, List, [], ◌++◌, length, option_map, unwrap_or, Option, None, Result, Err}
 use Rattle.undo_base.specs.declared.keys.User.{User}
 use Rattle.seal_log.specs.declared.fault.ReadFault.{ReadFault}
 use Rattle.verb_core.specs.declared.ask.SubmitFault.{SubmitFault}
@@ -9,13 +9,14 @@ use Rattle.verb_core.specs.declared.item.Item.{Item}
 use Rattle.verb_core.specs.declared.mailbox.Body.{Body}
 use Rattle.verb_core.specs.declared.mailbox.BoxId.{BoxId}
 use Rattle.verb_core.specs.Store.{MailStore, is_known}
-use Rattle.desk_journal.specs.Reading.{Reads, none_read}
+use Rattle.verb_bytes.specs.declared.journal.JournalRecord.{JournalRecord}
 use Rattle.store_kept.specs.Kept.{Kept, store_of}
-use Rattle.store_kept.specs.Texts.{text_kept, texts_kept}
+use Rattle.store_kept.specs.Texts.{text_kept}
 use Rattle.mail_loop.specs.declared.out.Out.{Out}
 use Rattle.mail_loop.specs.declared.out.Out.TheVariants.{Say, Read, Submit, Bye}
 use Rattle.mail_loop.specs.Afterwards.{gone_between}
-use Rattle.mail_loop.specs.Asked.{Asked, Asking, does}
+use Rattle.mail_loop.specs.Asked.{Asked}
+use Rattle.mail_loop.specs.Hindrance.{Hindrance, IsLicensed, Row, Service, row, service, under}
 use Rattle.mail_loop.specs.State.{Seats}
 use Rattle.mail_loop.specs.Turn.{Turn, says, ends}
 
@@ -34,6 +35,13 @@ IsBye (Read bodies) = ⊥
 IsBye (Submit asked) = ⊥
 IsBye (Bye said) = Unit {0}
 
+-- something is said, and that may be the last: nothing is read or asked
+abbrev pub is_answer : Out → Bool
+is_answer (Say said) = true
+is_answer (Read bodies) = false
+is_answer (Submit asked) = false
+is_answer (Bye said) = true
+
 -- something is said, and no more: nothing is read or asked, and the connection stays open
 abbrev pub is_said : Out → Bool
 is_said (Say said) = true
@@ -43,7 +51,8 @@ is_said (Bye said) = false
 
 -- How a session goes on, and who asks: what it makes of the texts that it wanted, or of why they can't be had, and of the outcome of its ask, with the
 -- store and the stamps after it; whether nothing is awaited, texts may be handed to it, or an outcome is due. At first nobody
--- is logged in and nothing is awaited; without its texts it says something; an ask whose sealing failed ends it.
+-- is logged in and nothing is awaited; without its texts it says something; an ask whose sealing failed ends it. Where an ask was done it may ask further, and
+-- then the outcome is answered.
 pub record Speech (D : Type 0) : Type 0 where
   pub opening : D
   pub user : D → Option User
@@ -56,6 +65,9 @@ pub record Speech (D : Type 0) : Type 0 where
   pub opens_alone : user opening ≡ None
   pub says_why : (d : D) (why : ReadFault) → takes_texts d ≡ true → is_said (heard d (Err why)).out ≡ true
   pub ends_at_fault : (s : MailStore) (stamps : List (BoxId × ℕ)) (d : D) → is_due d ≡ true → IsBye (settle s stamps d (Err Disk)).out
+  pub answers_fault : (s : MailStore) (stamps : List (BoxId × ℕ)) (d : D) (fault : SubmitFault) → is_due d ≡ true → is_answer (settle s stamps d (Err fault)).out ≡ true
+  pub answers_further : (s t : MailStore) (stamps later : List (BoxId × ℕ)) (d : D) (outcome other : Result Item SubmitFault) → is_due d ≡ true
+      → is_answer (settle s stamps d outcome).out ≡ false → is_answer (settle t later (settle s stamps d outcome).dialog other).out ≡ true
 
 -- A session: how it goes on, what it makes of a unit of its stream at a moment, over what is kept and beside the other connections, and what comes of a
 -- unit for which it finds no memory.
@@ -68,25 +80,13 @@ pub record Session (D U : Type 0) : Type 0 where
 abbrev pub is_home : {D : Type 0} → Speech D → House → D → Bool
 is_home speech house d = unwrap_or (option_map (is_known house) (speech.user d)) true
 
--- ---- the desk
-
 -- how long a body is that an item in force brought
 abbrev pub size_in : Kept → Body → Option ℕ
 size_in kept body = option_map length (text_kept kept body)
 
--- How the desk serves a unit: the texts that it gives, whether it could not read them or gave others, and what becomes of an ask.
-pub record Service : Type 0 where
-  pub texts : List Body → Result (List (List ℕ)) ReadFault
-  pub reads : Reads
-  pub asked : Asking
-
--- it gives the texts of the items in force, and does what is asked
-abbrev pub service : ℕ → Kept → Service
-service at kept = record { texts = λ bodies. Ok (texts_kept kept bodies); reads = none_read; asked = does at kept }
-
 -- ---- the turn
 
--- what an outcome is answered; it leads to no ask
+-- what an outcome is answered, where it leads to no further ask
 abbrev pub settled_as : {D : Type 0} → Out → Kept → D → Turn D
 settled_as (Say said) kept d = says said kept d
 settled_as (Bye said) kept d = ends said kept
@@ -101,20 +101,50 @@ settled speech d a = let t = speech.settle (store_of a.kept) a.kept.stamps d a.o
 abbrev pub done : {D : Type 0} → Speech D → Kept → D → Asked → Turn D
 done speech kept d a = record (settled speech d a) { gone = gone_between kept a.kept }
 
+-- the turn of a further ask, behind that of the first
+abbrev pub behind : {D : Type 0} → List BoxId → List JournalRecord → Turn D → Turn D
+behind gone unsealed t = record t { gone = gone ++ t.gone; unsealed = unsealed ++ t.unsealed }
+
+-- what the dialog gives of an outcome is answered; or it is a further ask, whose turn follows, hindered or not, and which leads to no other
+abbrev pub pursued_as : {D : Type 0} → Speech D → Service → Kept → D → Asked → Out → D → Turn D
+pursued_as speech desk kept d a (Say said) e = done speech kept d a
+pursued_as speech desk kept d a (Read bodies) e = done speech kept d a
+pursued_as speech desk kept d a (Bye said) e = done speech kept d a
+pursued_as speech desk kept d a (Submit asked) e =
+    behind (gone_between kept a.kept) a.unsealed (under desk.further desk.at a.kept (λ later. done speech a.kept e (later.asked (speech.user e) asked)))
+
+-- what comes of an ask
+abbrev pub pursued : {D : Type 0} → Speech D → Service → Kept → D → Asked → Turn D
+pursued speech desk kept d a = let t = speech.settle (store_of a.kept) a.kept.stamps d a.outcome in pursued_as speech desk kept d a t.out t.dialog
+
 -- what the dialog gives once it has its texts; it wants none again
 abbrev pub submits : {D : Type 0} → Speech D → Service → Kept → Out → D → Turn D
 submits speech desk kept (Say said) d = says said kept d
 submits speech desk kept (Bye said) d = ends said kept
 submits speech desk kept (Read bodies) d = says [] kept d
-submits speech desk kept (Submit asked) d = done speech kept d (desk.asked (speech.user d) asked)
+submits speech desk kept (Submit asked) d = pursued speech desk kept d (desk.asked (speech.user d) asked)
 
 -- what the dialog gives, and what is read for it and asked by it of the desk
 abbrev pub followed : {D : Type 0} → Speech D → Service → Kept → Out → D → Turn D
 followed speech desk kept (Say said) d = says said kept d
 followed speech desk kept (Bye said) d = ends said kept
 followed speech desk kept (Read bodies) d = let t = speech.heard d (desk.texts bodies) in record (submits speech desk kept t.out t.dialog) { reads = desk.reads }
-followed speech desk kept (Submit asked) d = done speech kept d (desk.asked (speech.user d) asked)
+followed speech desk kept (Submit asked) d = pursued speech desk kept d (desk.asked (speech.user d) asked)
 
 -- a unit of the stream, at a moment and beside the other connections
 abbrev pub served : {D U : Type 0} → Session D U → Service → ℕ → Kept → Seats → D → U → Turn D
 served session desk at kept others d unit = let t = session.takes at kept others d unit in followed session.speech desk kept t.out t.dialog
+
+-- ---- the turn, hindered or not
+
+-- the row of a unit
+abbrev pub row_of_unit : {D U : Type 0} → Session D U → Hindrance → ℕ → Kept → Seats → D → U → Row D
+row_of_unit session h at kept others d unit = row h at kept (session.starves kept d unit) (λ desk. served session desk at kept others d unit)
+
+-- a turn, hindered or not
+abbrev pub hindered : {D U : Type 0} → Session D U → Hindrance → ℕ → Kept → Seats → D → U → Turn D
+hindered session h at kept others d unit = (row_of_unit session h at kept others d unit).follows
+
+-- the row of a unit is licensed
+abbrev pub IsLicensedRow : {D U : Type 0} → Session D U → Hindrance → ℕ → Kept → Seats → D → U → Type 0
+IsLicensedRow session h at kept others d unit = IsLicensed (served session (service at kept) at kept others d unit) (row_of_unit session h at kept others d unit)

@@ -1,5 +1,5 @@
 -- The machine's own records: what is kept, and the open connections.
-use Rattle.std.specs.Prelude.{ℕ, List}
+use Rattle.std.specs.Prelude.{ℕ, ◌==◌, not, filter, List}
 use Rattle.std.specs.BTreeMap.{is_at}
 use Rattle.std.specs.Map.{remove_entry}
 use Rattle.std.specs.Ordering.{nat_cmp}
@@ -8,20 +8,24 @@ use Rattle.undo_outside.specs.declared.event.Role.TheVariants as role
 use Rattle.smtp_session.specs.declared.dialog.Dialog.{Dialog}
 use Rattle.imap_stream.specs.Commands.{Heard}
 use Rattle.imap_session.specs.declared.dialog.Dialog.{Dialog as ImapDialog}
+use Rattle.pop_session.specs.declared.dialog.Dialog.{Dialog as PopDialog}
 use Rattle.store_kept.specs.Kept.{Kept}
 
 -- An open connection, by what it speaks: the bytes of a mail client's stream that were not served yet, and its dialog; how far a mail reader's
--- stream has been heard, and its dialog; or the bytes of a console that are not yet a request.
+-- stream has been heard, and its dialog; the bytes of a console that are not yet a request; or the bytes of a fetching client's stream that were not served
+-- yet, and its dialog.
 pub data Seat : Type 0 where
   Smtp : List ℕ → Dialog → Seat
   Imap : Heard → ImapDialog → Seat
   Http : List ℕ → Seat
+  Pop : List ℕ → PopDialog → Seat
 
 -- the role of a connection
 abbrev pub role_of : Seat → Role
 role_of (Smtp unserved d) = role.Smtp
 role_of (Imap stream d) = role.Imap
 role_of (Http came) = role.Http
+role_of (Pop unserved d) = role.Pop
 
 -- the open connections, by rising number
 abbrev pub Seats : Type 0
@@ -35,3 +39,7 @@ pub record State : Type 0 where
 -- all open connections but one
 abbrev pub without_seat : ℕ → Seats → Seats
 without_seat conn seats = remove_entry (is_at (nat_cmp conn)) seats
+
+-- the connections beside one
+abbrev pub beside : ℕ → Seats → Seats
+beside conn seats = filter (λ (e : ℕ × Seat). not (e.0 == conn)) seats

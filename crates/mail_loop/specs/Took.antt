@@ -19,6 +19,7 @@ use Rattle.verb_core.specs.declared.mailbox.BoxId.{BoxId}
 use Rattle.verb_core.specs.Boxes.{box_of}
 use Rattle.verb_core.specs.Live.{is_users, live}
 use Rattle.verb_core.specs.Names.{inbox}
+use Rattle.verb_core.specs.Store.{MailStore}
 use Rattle.box_store.specs.Refusing.{IsRefusal}
 use Rattle.store_kept.specs.Kept.{Kept, store_of}
 use Rattle.store_kept.specs.Texts.{has_text_kept}
@@ -30,8 +31,8 @@ use Rattle.mail_loop.specs.State.{Seat, Seats}
 use Rattle.mail_loop.specs.Afterwards.{taking}
 use Rattle.mail_loop.specs.Asked.{asked_as}
 use Rattle.mail_loop.specs.Turn.{Turn, lost}
-use Rattle.mail_loop.specs.Session.{Service, Speech, settled, settled_as, submits}
-use Rattle.mail_loop.specs.Hindrance.{Hindrance, under}
+use Rattle.mail_loop.specs.Session.{Speech, is_answer, settled, settled_as, submits, took}
+use Rattle.mail_loop.specs.Hindrance.{Hindrance, Service, under}
 use Rattle.mail_loop.specs.ConsoleTurn.{Reading, no_consoles, sequel_of}
 use Rattle.mail_loop.specs.Turns.{Heard}
 use Rattle.mail_loop.specs.Machine.{Answered as AnsweredEvent, seated, told_others, with_reply}
@@ -127,10 +128,32 @@ SettlesAgain speech was_refused kept d old d' new =
     Takes IsNone (lost kept) old kept d' new
     ⊎ ((was_refused ≡ true) × Takes IsNone (settled speech d (asked_as (Err (IsRefused NoMemory)) kept)) old kept d' new)
 
--- the dialog is told what became of its ask, or that in its place
+-- the dialog is told what became of its ask, and answers, or is told that in its place
 abbrev pub Settles : {D : Type 0} → Speech D → Result Item SubmitFault → Kept → D → Reply → D → Reply → Type 0
 Settles speech outcome kept d old d' new =
-    Takes IsNone (settled speech d (asked_as outcome kept)) old kept d' new ⊎ SettlesAgain speech (is_refused outcome) kept d old d' new
+    ((is_answer (speech.settle (store_of kept) kept.stamps d outcome).out ≡ true) × Takes IsNone (settled speech d (asked_as outcome kept)) old kept d' new)
+    ⊎ SettlesAgain speech (is_refused outcome) kept d old d' new
+
+-- or it asks this further, and nothing is told
+abbrev pub SettlesOrAsks : {D : Type 0} → Speech D → Result Item SubmitFault → Kept → D → Reply → D → Reply → Option Ask → Type 0
+SettlesOrAsks speech outcome kept d old d' new None = Settles speech outcome kept d old d' new
+SettlesOrAsks speech outcome kept d old d' new (Some asked) = (speech.settle (store_of kept) kept.stamps d outcome ≡ took (Submit asked) d') × (new ≡ old)
+
+-- which call is due then
+abbrev pub IsDueNext : {D : Type 0} → Speech D → D → Option Ask → Type 0
+IsDueNext speech d None = speech.is_free d ≡ true
+IsDueNext speech d (Some asked) = (speech.is_due d ≡ true) × (is_users asked ≡ is_some (speech.user d))
+
+-- whatever its outcome is, what is awaited leads to no further ask
+abbrev pub IsLast : {D : Type 0} → Speech D → D → Type 0
+IsLast speech d = (s : MailStore) (stamps : List (BoxId × ℕ)) (outcome : Result Item SubmitFault) → is_answer (speech.settle s stamps d outcome).out ≡ true
+
+-- what is asked
+abbrev pub asked_in : Out → Option Ask
+asked_in (Say said) = None
+asked_in (Read bodies) = None
+asked_in (Submit asked) = Some asked
+asked_in (Bye said) = None
 
 -- the name of the mailbox that an ask takes away where it is done: the one that is deleted or renamed; that of INBOX is there again
 abbrev pub name_taken : Ask → Option (List ℕ)

@@ -1,4 +1,4 @@
--- The turns of an event, one after the other: one for each whole line of a mail client's stream, and for each command, literal mark and bad line of a
+-- The turns of an event, one after the other: one for each whole line of a mail client's or a fetching client's stream, and for each command, literal mark and bad line of a
 -- mail reader's.
 use Rattle.std.specs.Prelude.{ℕ, List, [], ◌∷◌, ◌++◌, Option, None, Some}
 use Rattle.std.specs.Option.{option_map}
@@ -12,15 +12,17 @@ use Rattle.imap_stream.specs.Commands.{Heard as Stream, emptied}
 use Rattle.imap_stream.specs.declared.next.Next.{Next}
 use Rattle.imap_stream.specs.declared.next.Next.TheVariants.{NotYet}
 use Rattle.imap_session.specs.declared.dialog.Dialog.{Dialog as ImapDialog}
+use Rattle.pop_session.specs.declared.dialog.Dialog.{Dialog as PopDialog}
 use Rattle.verb_bytes.specs.declared.journal.JournalRecord.{JournalRecord}
 use Rattle.desk_journal.specs.Reading.{Reads, both_read, none_read}
 use Rattle.console_head.specs.Request.{Stage}
-use Rattle.mail_loop.specs.State.{Seat, Smtp, Imap, Http, State, without_seat}
+use Rattle.mail_loop.specs.State.{Seat, Smtp, Imap, Http, Pop, State, beside}
 use Rattle.mail_loop.specs.Turn.{Turn}
-use Rattle.mail_loop.specs.Session.{Session}
-use Rattle.mail_loop.specs.Hindrance.{Hindrance, hindered, first_hindrance, other_hindrances}
+use Rattle.mail_loop.specs.Session.{Session, hindered}
+use Rattle.mail_loop.specs.Hindrance.{Hindrance, first_hindrance, other_hindrances}
 use Rattle.mail_loop.specs.SmtpTurn.{smtp_session}
 use Rattle.mail_loop.specs.ImapTurn.{imap_session}
+use Rattle.mail_loop.specs.PopTurn.{pop_session}
 use Rattle.mail_loop.specs.ConsoleTurn.{Consoles, console_turn, left_by, no_consoles, sequel_of}
 use Rattle.mail_loop.specs.declared.aftermath.Aftermath.{Aftermath}
 use Rattle.mail_loop.specs.Afterwards.{taking}
@@ -68,7 +70,7 @@ outcome_of s t = record { said = t.said; state = record { kept = t.kept; seats =
 
 -- a turn of a connection's session, at a moment: a unit of its stream, beside the other connections
 abbrev pub turn_of : {D U : Type 0} → Session D U → ℕ → ℕ → Hindrance → State → D → U → Outcome D
-turn_of session at conn h s d unit = outcome_of s (hindered session h at s.kept (without_seat conn s.seats) d unit)
+turn_of session at conn h s d unit = outcome_of s (hindered session h at s.kept (beside conn s.seats) d unit)
 
 -- a turn of a mail client: a line of its stream
 abbrev pub smtp_turn : ℕ → ℕ → Hindrance → State → Dialog → SmtpLine → Outcome Dialog
@@ -77,6 +79,10 @@ smtp_turn at conn h s d line = turn_of smtp_session at conn h s d line
 -- a turn of a mail reader: a command, a literal mark or a bad line of its stream
 abbrev pub imap_turn : ℕ → ℕ → Hindrance → State → ImapDialog → Next → Outcome ImapDialog
 imap_turn at conn h s d next = turn_of imap_session at conn h s d next
+
+-- a turn of a fetching client: a line of its stream
+abbrev pub pop_turn : ℕ → ℕ → Hindrance → State → PopDialog → SmtpLine → Outcome PopDialog
+pop_turn at conn h s d line = turn_of pop_session at conn h s d line
 
 -- what comes of a connection's stream: what it is told, the state, its seat after that or none where it is closed, what follows for the other
 -- connections, the record whose sealing failed, where one did, how many could not read a text or were given another, and what came of consoles
@@ -95,6 +101,10 @@ heard_by seat o = record { said = o.said; state = o.state; seat = option_map sea
 -- the turns of a mail client's lines; what follows the last line stays unserved
 abbrev pub hears_lines : List Hindrance → ℕ → State → ℕ → Dialog → List ℕ → Heard
 hears_lines hs at s conn d stream = heard_by (Smtp (rest_of stream)) (turns (smtp_turn at conn) hs s d (smtp_lines_of stream))
+
+-- the turns of a fetching client's lines, by a session that sees the others
+abbrev pub fetches : Session PopDialog SmtpLine → List Hindrance → ℕ → State → ℕ → PopDialog → List ℕ → Heard
+fetches session hs at s conn d stream = heard_by (Pop (rest_of stream)) (turns (turn_of session at conn) hs s d (smtp_lines_of stream))
 
 -- the turns of what a mail reader's stream has given; the last is that of what is not whole yet, which says nothing
 abbrev pub hears_commands : List Hindrance → ℕ → State → ℕ → ImapDialog → Stream → Heard
@@ -119,3 +129,4 @@ abbrev pub hears_seat : List Hindrance → Stage → ℕ → State → ℕ → S
 hears_seat hs stage at s conn (Smtp unserved d) bytes = hears_lines hs at s conn d (unserved ++ bytes)
 hears_seat hs stage at s conn (Imap stream d) bytes = hears_commands hs at s conn d (imap_stream.heard stream bytes)
 hears_seat hs stage at s conn (Http came) bytes = hears_console hs stage at s (came ++ bytes)
+hears_seat hs stage at s conn (Pop unserved d) bytes = fetches pop_session hs at s conn d (unserved ++ bytes)

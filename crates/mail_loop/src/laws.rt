@@ -17,13 +17,16 @@ ghost use Rattle.smtp_lines.specs.declared.line.SmtpLine.{SmtpLine as TheLine};
 ghost use Rattle.smtp_session.specs.declared.dialog.Dialog.{Dialog as TheDialog};
 ghost use Rattle.imap_stream.specs.declared.next.Next.{Next as TheNext};
 ghost use Rattle.imap_session.specs.declared.dialog.Dialog.{Dialog as TheReader};
+ghost use Rattle.pop_session.specs.declared.dialog.Dialog.{Dialog as TheFetcher};
 ghost use Rattle.store_kept.specs.Kept.{Kept, store_of};
 ghost use Rattle.mail_desk.specs.Desk.{submitted};
 ghost use Rattle.mail_loop.specs.Afterwards.{gone_between};
 ghost use Rattle.mail_loop.specs.Took.{taken_by};
-ghost use Rattle.mail_loop.specs.Hindrance.{Hindrance, IsLicensedRow};
+ghost use Rattle.mail_loop.specs.Session.{IsLicensedRow};
+ghost use Rattle.mail_loop.specs.Hindrance.{Hindrance};
 ghost use Rattle.mail_loop.specs.SmtpTurn.{smtp_session};
 ghost use Rattle.mail_loop.specs.ImapTurn.{imap_session};
+ghost use Rattle.mail_loop.specs.PopTurn.{pop_session};
 ghost use Rattle.mail_loop.specs.State.{Seats, State};
 ghost use Rattle.mail_loop.specs.Machine.{happens};
 ghost use Rattle.mail_loop.specs.Serving.{Step, at_first, run};
@@ -39,11 +42,12 @@ pub fn turns_are_of_the_whole_stream()
     ensures rest { (stream bytes : List ℕ) → emptied (heard_of (stream ++ bytes)) ≡ emptied (heard (emptied (heard_of stream)) bytes) }
 {}
 
-/// What a hindered turn of a mail client or a mail reader says is licensed: what nothing licenses is the turn as it should be; a record was not sealed only under a hindrance that a failed
+/// What a hindered turn of a mail client, a mail reader or a fetching client says is licensed: what nothing licenses is the turn as it should be; a record was not sealed only under a hindrance that a failed
 /// write licenses, a text was not read only under one that a failed read licenses, and was another than was stored only where the disk gave
 /// it. How many there are in a turn the desk's counts tell (`HaveSealed`).
 pub fn hindrances_are_licensed()
     ensures client { (h : Hindrance) (at : ℕ) (kept : Kept) (others : Seats) (d : TheDialog) (line : TheLine) → IsLicensedRow smtp_session h at kept others d line }
+    ensures fetching { (h : Hindrance) (at : ℕ) (kept : Kept) (others : Seats) (d : TheFetcher) (line : TheLine) → IsLicensedRow pop_session h at kept others d line }
     ensures reader { (h : Hindrance) (at : ℕ) (kept : Kept) (others : Seats) (d : TheReader) (next : TheNext) → IsLicensedRow imap_session h at kept others d next }
 {}
 

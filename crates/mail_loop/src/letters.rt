@@ -12,12 +12,13 @@ use std::alloc::Global;
 use std::collections::BTreeMap;
 use undo_base::{NoMemory, Text};
 
-/// The string of a connection: its turns' answers, that its mailbox changed, or that the store was rewound.
+/// The string of a connection: its turns' answers, that its mailbox changed, that the store was rewound, or nothing.
 #[derive(Debug, Drop)]
 pub enum Said {
     Answers(Text),
     Changed,
     Rewound,
+    Silence,
 }
 
 /// What a connection is told at the end of an event, and whether it is closed then.
@@ -37,6 +38,7 @@ impl Letter {
             Said::Answers(text) => text.bytes(),
             Said::Changed => changed(),
             Said::Rewound => rewound(),
+            Said::Silence => b"".as_slice(),
         }
     }
 }

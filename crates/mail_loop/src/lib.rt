@@ -1,11 +1,11 @@
 //! The desk behind its connections: turns of mail clients and mail readers, and the serving loop.
 //!
 //! A session answers an `out`; `speaks` is what the loop knows of any session, and `turn` what follows from what it answers, with
-//! what `asking` hands to the desk. `smtp_turn` and `imap_turn` take a unit of a mail client's and of a mail reader's stream, and
-//! `console_turn` is a turn of a console. `roles` says what each role is. `open_connection`, `reply`, `letters` and `serve` are the
-//! loop over any number of connections; `aftermath` is what follows for the other connections, with the mailboxes that are `gone`.
+//! what `asking` hands to the desk. `smtp_turn`, `imap_turn` and `pop_turn` take a unit of a mail client's, a mail reader's and a
+//! fetching client's stream, and `console_turn` is a turn of a console; `maildrops` tells whose maildrops are in use. `roles` says what each role is. `open_connection`, `fetching`, `reply`, `letters` and `serve` are
+//! the loop over any number of connections; `aftermath` is what follows for the other connections, with the mailboxes that are `gone`.
 //! `laws` says what turns of a stream are turns of, what licenses a hindrance, and that what was answered stays. In specs/, `State`, `Roles` and `Afterwards`,
-//! `Turn`, `Session` and `Hindrance`, the sessions in `SmtpTurn` and `ImapTurn`, `ConsoleTurn`, `Turns` and `Machine` are the machine,
+//! `Turn`, `Session` and `Hindrance`, the sessions in `SmtpTurn`, `ImapTurn` and `PopTurn`, `ConsoleTurn`, `Turns` and `Machine` are the machine,
 //! `Serving` its runs, `Acknowledged` what a crash leaves of them. What carries the crate: `serves` and `uids` of `serve_events`, and
 //! `answered_is_kept`.
 #![tactic(auto)]
@@ -13,12 +13,15 @@
 mod aftermath;
 mod asking;
 mod console_turn;
+mod fetching;
 mod gone;
 mod imap_turn;
 mod laws;
 mod letters;
+mod maildrops;
 mod open_connection;
 mod out;
+mod pop_turn;
 mod reply;
 mod roles;
 mod serve;

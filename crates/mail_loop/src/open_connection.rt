@@ -5,6 +5,7 @@ ghost use Rattle.verb_core.specs.declared.mailbox.BoxId.{BoxId as TheBoxId};
 ghost use Rattle.imap_session.specs.Dialog.{holds, is_at_home, is_free};
 ghost use Rattle.verb_bytes.specs.declared.journal.JournalRecord.{JournalRecord};
 ghost use Rattle.desk_journal.specs.Reading.{Reads};
+ghost use Rattle.mail_loop.specs.PopTurn.{is_fetching, user_at};
 ghost use Rattle.mail_loop.specs.State.{Seats, Smtp as SmtpSeat, Imap as ImapSeat, role_of};
 ghost use Rattle.mail_loop.specs.Roles.{row_of};
 ghost use Rattle.mail_loop.specs.SmtpTurn as smtp;
@@ -16,11 +17,12 @@ ghost use Rattle.mail_loop.specs.ConsoleTurn.{AreSaid, Reading};
 ghost use Rattle.mail_loop.specs.Machine.{hears, seat_at};
 ghost use Rattle.mail_loop.specs.Afterwards.{holds_one, last_words};
 ghost use Rattle.mail_loop.specs.ImapTook.{is_not_yet};
-ghost use Rattle.mail_loop.specs.Stands.{IsFree, IsHome, said_of, seat_of};
+ghost use Rattle.mail_loop.specs.Stands.{AreInUse, IsFree, IsHome, said_of, seat_of};
 ghost use Rattle.mail_loop.specs.Took.{Tells, answered_alone};
 
 use crate::aftermath::Aftermath;
 use crate::console_turn::hear_console;
+use crate::fetching::hear_fetching;
 use crate::imap_turn::take_next;
 use crate::letters::Said;
 use crate::reply::{Reply, Turned, empty_reply, going_on};
@@ -29,6 +31,7 @@ use crate::smtp_turn::take_line;
 use console_session::ConsoleSession;
 use imap_session::ImapSession;
 use imap_stream::{Next, Pieces};
+use pop_session::PopSession;
 use smtp_lines::Cutter;
 use smtp_session::SmtpSession;
 use std::alloc::Global;
@@ -36,7 +39,7 @@ use std::marker::Model;
 use std::thread::Threads;
 use time_desk::Desk;
 use time_desk::laws::seals_join;
-use undo_base::NoMemory;
+use undo_base::{NoMemory, User, Users};
 use undo_outside::{Disk, Gate, Role};
 use verb_core::BoxId;
 
@@ -52,6 +55,10 @@ enum Kind {
         dialog: ImapSession,
     },
     Http(ConsoleSession),
+    Pop {
+        unserved: Cutter,
+        dialog: PopSession,
+    },
 }
 
 /// An open connection.
@@ -91,6 +98,10 @@ impl Kind {
                 dialog: ImapSession::new(),
             },
             Role::Http => Kind::Http(ConsoleSession::new(alloc)),
+            Role::Pop => Kind::Pop {
+                unserved: Cutter::new(alloc),
+                dialog: PopSession::new(),
+            },
         }
     }
 }
@@ -113,6 +124,7 @@ impl Connection {
             Kind::Smtp { .. } => Role::Smtp,
             Kind::Imap { .. } => Role::Imap,
             Kind::Http(_) => Role::Http,
+            Kind::Pop { .. } => Role::Pop,
         }
     }
 
@@ -135,6 +147,31 @@ impl Connection {
             Kind::Smtp { .. } => false,
             Kind::Imap { dialog, .. } => dialog_holds(dialog, boxes),
             Kind::Http(_) => false,
+            Kind::Pop { .. } => false,
+        }
+    }
+
+    /// Whether it is a fetching client's.
+    pub fn is_fetching(&self) -> bool
+        ensures { result ≡ is_fetching self.now }
+    {
+        match &self.kind {
+            Kind::Smtp { .. } => false,
+            Kind::Imap { .. } => false,
+            Kind::Http(_) => false,
+            Kind::Pop { .. } => true,
+        }
+    }
+
+    /// Who is logged in on it by POP3, or logs in.
+    pub fn fetching_user(&self) -> Option<User>
+        ensures { result ≡ user_at self.now }
+    {
+        match &self.kind {
+            Kind::Smtp { .. } => None,
+            Kind::Imap { .. } => None,
+            Kind::Http(_) => None,
+            Kind::Pop { dialog, .. } => dialog.user(),
         }
     }
 }
@@ -284,8 +321,8 @@ fn hear_imap<D: Disk + Drop>(
     }
 }
 
-/// Serves the bytes that came over a connection. What it makes of them is told of any table of connections in which it stands: a session
-/// may see the others.
+/// Serves the bytes that came over a connection. What it makes of them is told of any table of connections in which it stands, where
+/// `in_use` are the users of the other fetching clients.
 pub fn hear<R: Threads + Sync, D: Disk + Drop, G: Gate>(
     rt: &R,
     alloc: Global,
@@ -294,6 +331,7 @@ pub fn hear<R: Threads + Sync, D: Disk + Drop, G: Gate>(
     conn: u32,
     at: u64,
     gate: &G,
+    in_use: &Result<Users, NoMemory>,
     bytes: &[u8],
 ) -> Turned
     requires moment { at ≤ 253402300799 }
@@ -301,7 +339,7 @@ pub fn hear<R: Threads + Sync, D: Disk + Drop, G: Gate>(
     requires home { IsHome desk.old.kept.house connection.old }
     ensures home { IsHome desk.new.kept.house connection.new }
     ensures house { desk.new.kept.house ≡ desk.old.kept.house }
-    ensures heard { (seats : Seats) → seat_at conn seats ≡ Some connection.old → (no_memory : Bool) × (hs : List Hindrance) × (stage : Stage) × (failed : List JournalRecord) × (reads : Reads) ×
+    ensures heard { (seats : Seats) → seat_at conn seats ≡ Some connection.old → AreInUse conn seats connection.old in_use.now → (no_memory : Bool) × (hs : List Hindrance) × (stage : Stage) × (failed : List JournalRecord) × (reads : Reads) ×
         HaveSealed D.told desk.old desk.new failed reads × (readings : List Reading) × AreSaid readings ×
         (hears no_memory hs stage at (record { kept = desk.old.kept; seats = seats }) conn connection.old bytes.now
         ≡ answered_alone conn result desk.new.kept failed reads readings connection.new seats) }
@@ -312,5 +350,8 @@ pub fn hear<R: Threads + Sync, D: Disk + Drop, G: Gate>(
         }
         Kind::Imap { stream, dialog } => { hear_imap(alloc, desk, stream, dialog, conn, at, bytes) }
         Kind::Http(console) => hear_console(rt, alloc, desk, console, conn, at, gate, bytes),
+        Kind::Pop { unserved, dialog } => {
+            hear_fetching(alloc, desk, unserved, dialog, conn, at, in_use, bytes)
+        }
     }
 }

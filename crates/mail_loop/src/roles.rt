@@ -18,10 +18,11 @@ pub fn greeting(alloc: Global, house: &House, role: Role) -> Result<Option<Text>
         Role::Smtp => Ok(Some(smtp_session::greeting(alloc, house)?)),
         Role::Imap => Ok(Some(imap_session::greeting(alloc, house)?)),
         Role::Http => Ok(None),
+        Role::Pop => Ok(Some(pop_session::greeting(alloc)?)),
     }
 }
 
-/// The last words to a client of a role where the store is rewound; none where it goes on.
+/// The last words to a client of a role where the store is rewound, which may say nothing; none where it goes on.
 pub fn at_rewind(role: Role) -> Option<Said>
     ensures { option_map said_of result ≡ (row_of role).at_rewind }
 {
@@ -29,5 +30,6 @@ pub fn at_rewind(role: Role) -> Option<Said>
         Role::Smtp => None,
         Role::Imap => Some(Said::Rewound),
         Role::Http => None,
+        Role::Pop => Some(Said::Silence),
     }
 }

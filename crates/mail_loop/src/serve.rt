@@ -17,6 +17,7 @@ ghost use Rattle.mail_loop.specs.Serving.{Step, ServedOver, ended_as, is_disk, r
 ghost use Rattle.mail_loop.specs.Acknowledged.{GoesThrough, WentThrough};
 
 use crate::letters::{Letter, alone, letters_of, room_for_letters};
+use crate::maildrops::users_for;
 use crate::open_connection::{Connection, hear};
 use crate::reply::{greeting_to, ungreeted};
 use crate::roles::greeting;
@@ -245,9 +246,10 @@ fn hear_at<R: Threads + Sync, D: Disk + Drop, G: Gate>(
 {
     seals_join::<D>();
     let room = room_for_letters(alloc, connections)?;
+    let in_use = users_for(alloc, connections, conn);
     let turned = match connections.get_mut(&conn) {
         None => return Ok(nothing(alloc)),
-        Some(connection) => hear(rt, alloc, desk, connection, conn, at, gate, bytes),
+        Some(connection) => hear(rt, alloc, desk, connection, conn, at, gate, &in_use, bytes),
     };
     keep_if(connections, conn, !turned.closes);
     let stops = turned.stops;

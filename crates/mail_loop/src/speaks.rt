@@ -1,16 +1,18 @@
 //! A session, whatever it speaks: what the loop knows of it once it took a unit of its stream.
-ghost use Rattle.std.specs.Prelude.{◌≡◌, true, IfOk, IsTrue, OnErr, OnOk};
+ghost use Rattle.std.specs.Prelude.{◌≡◌, true, IfOk, IsTrue, Ok, OnErr};
 ghost use Rattle.verb_core.specs.declared.conf.House.{House as TheHouse};
 ghost use Rattle.verb_core.specs.Boxes.{is_rising};
 ghost use Rattle.verb_core.specs.Store.{IsValid};
 ghost use Rattle.mail_loop.specs.Session.{Speech, is_home, took};
 ghost use Rattle.mail_loop.specs.SmtpTurn.{smtp_speech};
 ghost use Rattle.mail_loop.specs.ImapTurn.{imap_speech};
-ghost use Rattle.mail_loop.specs.Took.{AsksAs, GoesOn};
+ghost use Rattle.mail_loop.specs.PopTurn.{pop_speech, text_of};
+ghost use Rattle.mail_loop.specs.Took.{AsksAs, GoesOn, IsAwaitedLast};
 
-use crate::out::{Out, of_imap, of_smtp};
+use crate::out::{Out, of_imap, of_pop_told, of_smtp};
 use box_store::Store;
 use imap_session::ImapSession;
+use pop_session::PopSession;
 use seal_log::ReadFault;
 use smtp_session::SmtpSession;
 use std::alloc::Global;
@@ -43,7 +45,8 @@ pub trait Speaks {
         ensures home { (house : TheHouse) → is_home speech house self.old ≡ true → is_home speech house self.new ≡ true }
         ensures err { OnErr result (self.new ≡ self.old) };
 
-    /// Takes the outcome of its ask, with the store and the stamps after it. A call that found no memory has changed nothing.
+    /// Takes the outcome of its ask, with the store and the stamps after it. It may ask further. A call that found no memory has
+    /// changed nothing.
     fn take_outcome(
         &mut self,
         alloc: Global,
@@ -55,7 +58,8 @@ pub trait Speaks {
         requires rising { IsTrue (is_rising stamps.now) }
         requires due { speech.is_due self.old ≡ true }
         ensures ok { IfOk result (λ out. speech.settle store.now.store stamps.now self.old outcome.now ≡ took out self.new) }
-        ensures free { OnOk result (speech.is_free self.new ≡ true) }
+        ensures next { IfOk result (λ out. IsAwaitedLast speech out self.new) }
+        ensures user { IfOk result (λ out. AsksAs speech out self.new) }
         ensures home { (house : TheHouse) → is_home speech house self.old ≡ true → is_home speech house self.new ≡ true }
         ensures err { OnErr result (self.new ≡ self.old) };
 }
@@ -122,5 +126,60 @@ impl Speaks for ImapSession {
     ) -> Result<Out, NoMemory> {
         let out = self.done(alloc, store, stamps, outcome)?;
         Ok(of_imap(out))
+    }
+}
+
+/// The one text that was read, or why it was not.
+fn one_text(
+    alloc: Global,
+    texts: &Result<Texts, ReadFault>,
+) -> Result<Result<Text, ReadFault>, NoMemory>
+    ensures { IfOk result (λ text. text ≡ text_of texts.now) }
+{
+    match texts {
+        Ok(texts) => Ok(Ok(first_text(alloc, texts)?)),
+        Err(why) => Ok(Err(*why)),
+    }
+}
+
+fn first_text(alloc: Global, texts: &Texts) -> Result<Text, NoMemory>
+    ensures { IfOk result (λ text. Ok text ≡ text_of (Ok texts.now)) }
+{
+    match texts.get(0) {
+        Some(text) => text.copy(alloc),
+        None => Ok(Text::new(alloc)),
+    }
+}
+
+impl Speaks for PopSession {
+    ghost speech = { pop_speech };
+
+    fn asker(&self) -> Option<User> {
+        self.user()
+    }
+
+    fn end(&mut self) {
+        *self = PopSession::new();
+    }
+
+    fn take_texts(
+        &mut self,
+        alloc: Global,
+        texts: &Result<Texts, ReadFault>,
+    ) -> Result<Out, NoMemory> {
+        let text = one_text(alloc, texts)?;
+        let out = self.read(alloc, &text)?;
+        Ok(of_pop_told(out))
+    }
+
+    fn take_outcome(
+        &mut self,
+        alloc: Global,
+        store: &Store,
+        stamps: &Stamps,
+        outcome: &Result<Item, SubmitFault>,
+    ) -> Result<Out, NoMemory> {
+        let out = self.done(alloc, store, stamps, outcome)?;
+        Ok(of_pop_told(out))
     }
 }

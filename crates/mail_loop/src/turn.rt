@@ -1,15 +1,15 @@
 //! What follows in a turn once the session took a unit of its stream: what is said, the texts that are read for it, and what it asks
 //! of the desk.
-ghost use Rattle.std.specs.Prelude.{◌≡◌, is_some, true, false, IfOk, IsTrue, OnErr, OnOk};
+ghost use Rattle.std.specs.Prelude.{◌≡◌, is_some, true, false, IfOk, IsTrue, OnErr};
 ghost use Rattle.std.specs.List.{list_all};
 ghost use Rattle.verb_core.specs.declared.conf.House.{House as TheHouse};
 ghost use Rattle.verb_core.specs.Live.{is_users};
 ghost use Rattle.store_kept.specs.Kept.{store_of, Kept};
 ghost use Rattle.store_kept.specs.Texts.{has_text_kept};
 ghost use Rattle.mail_loop.specs.Asked.{HaveSealed};
-ghost use Rattle.mail_loop.specs.Session.{done, followed, is_home, is_said, submits, took};
+ghost use Rattle.mail_loop.specs.Session.{done, followed, is_home, is_said, pursued, submits, took};
 ghost use Rattle.mail_loop.specs.Hindrance.{Hindrance, under};
-ghost use Rattle.mail_loop.specs.Took.{AreThere, AsksAs, IsAwaitedLast, IsNext, IsTold, ReadsNone, ReadsStarved, Settles, SettlesAgain, Takes, TakesTexts};
+ghost use Rattle.mail_loop.specs.Took.{AreThere, AsksAs, IsAwaitedLast, IsDueNext, IsLast, IsNext, IsTold, ReadsNone, ReadsStarved, Settles, SettlesAgain, SettlesOrAsks, Takes, TakesTexts, asked_in};
 
 use crate::asking::{ask_desk, is_refused};
 use crate::out::Out;
@@ -47,6 +47,25 @@ fn tell(reply: &mut Reply, out: Out)
     }
 }
 
+/// What is said goes into the reply. Gives what is asked.
+fn tell_or_ask(reply: &mut Reply, out: Out) -> Option<Ask>
+    ensures told { IsTold out reply.old reply.new }
+    ensures asks { result ≡ asked_in out }
+{
+    match out {
+        Out::Say(text) => {
+            say(reply, text.bytes(), false);
+            None
+        }
+        Out::Bye(text) => {
+            say(reply, text.bytes(), true);
+            None
+        }
+        Out::Read(_) => None,
+        Out::Submit(ask) => Some(ask),
+    }
+}
+
 /// The session takes an outcome over what the desk keeps.
 fn settle_with<S: Speaks, D: Disk + Drop>(
     alloc: Global,
@@ -56,7 +75,8 @@ fn settle_with<S: Speaks, D: Disk + Drop>(
 ) -> Result<Out, NoMemory>
     requires due { S.speech.is_due session.old ≡ true }
     ensures ok { IfOk result (λ out. S.speech.settle (store_of desk.now.kept) desk.now.kept.stamps session.old outcome.now ≡ took out session.new) }
-    ensures free { OnOk result (S.speech.is_free session.new ≡ true) }
+    ensures next { IfOk result (λ out. IsAwaitedLast S.speech out session.new) }
+    ensures user { IfOk result (λ out. AsksAs S.speech out session.new) }
     ensures home { (house : TheHouse) → is_home S.speech house session.old ≡ true → is_home S.speech house session.new ≡ true }
     ensures err { OnErr result (session.new ≡ session.old) }
 {
@@ -88,8 +108,32 @@ fn settle_again<S: Speaks, D: Disk + Drop>(
     }
 }
 
-/// Tells the session what became of its ask.
+/// Tells the session what became of its ask. Gives what it asks further, of which nothing was told yet.
 fn settle<S: Speaks, D: Disk + Drop>(
+    alloc: Global,
+    desk: &Desk<D>,
+    session: &mut S,
+    outcome: &Result<Item, SubmitFault>,
+    reply: &mut Reply,
+) -> Option<Ask>
+    requires due { S.speech.is_due session.old ≡ true }
+    requires stays { reply.old.closes ≡ false }
+    requires home { is_home S.speech desk.now.kept.house session.old ≡ true }
+    ensures next { IsDueNext S.speech session.new result }
+    ensures home { is_home S.speech desk.now.kept.house session.new ≡ true }
+    ensures settled { SettlesOrAsks S.speech outcome.now desk.now.kept session.old reply.old session.new reply.new result }
+{
+    match settle_with(alloc, desk, session, outcome) {
+        Ok(out) => tell_or_ask(reply, out),
+        Err(NoMemory) => {
+            settle_again(alloc, desk, session, is_refused(outcome), reply);
+            None
+        }
+    }
+}
+
+/// Tells the session what became of its last ask, which leads to no further one.
+fn settle_last<S: Speaks, D: Disk + Drop>(
     alloc: Global,
     desk: &Desk<D>,
     session: &mut S,
@@ -97,19 +141,46 @@ fn settle<S: Speaks, D: Disk + Drop>(
     reply: &mut Reply,
 )
     requires due { S.speech.is_due session.old ≡ true }
+    requires last { IsLast S.speech session.old }
     requires stays { reply.old.closes ≡ false }
     requires home { is_home S.speech desk.now.kept.house session.old ≡ true }
     ensures free { S.speech.is_free session.new ≡ true }
     ensures home { is_home S.speech desk.now.kept.house session.new ≡ true }
     ensures settled { Settles S.speech outcome.now desk.now.kept session.old reply.old session.new reply.new }
 {
-    match settle_with(alloc, desk, session, outcome) {
-        Ok(out) => tell(reply, out),
-        Err(NoMemory) => settle_again(alloc, desk, session, is_refused(outcome), reply),
+    match settle(alloc, desk, session, outcome, reply) {
+        None => {}
+        Some(_) => unreachable!(),
     }
 }
 
-/// Asks the desk for who is logged in, and tells the session what became of that.
+/// Asks the desk what the outcome of an ask led to: a turn of its own. The first stays done, whatever becomes of this.
+fn submit_further<S: Speaks, D: Disk + Drop>(
+    alloc: Global,
+    desk: &mut Desk<D>,
+    session: &mut S,
+    at: u64,
+    ask: Ask,
+    reply: &mut Reply,
+)
+    requires due { S.speech.is_due session.old ≡ true }
+    requires last { IsLast S.speech session.old }
+    requires user { is_users ask ≡ is_some (S.speech.user session.old) }
+    requires stays { reply.old.closes ≡ false }
+    requires home { is_home S.speech desk.old.kept.house session.old ≡ true }
+    requires sealed { desk.old.closed ≡ false }
+    ensures free { S.speech.is_free session.new ≡ true }
+    ensures home { is_home S.speech desk.new.kept.house session.new ≡ true }
+    ensures house { desk.new.kept.house ≡ desk.old.kept.house }
+    ensures turn { (h : Hindrance) ×
+        Takes (HaveSealed D.told desk.old desk.new) (under h at desk.old.kept (λ service. done S.speech desk.old.kept session.old (service.asked (S.speech.user session.old) ask))) reply.old desk.new.kept session.new reply.new }
+{
+    let last = ask_desk(alloc, desk, at, session.asker(), ask, reply);
+    settle_last(alloc, desk, session, &last, reply);
+}
+
+/// Asks the desk for who is logged in, and tells the session what became of that. Where that leads to a further ask the desk is asked
+/// that too.
 fn submit<S: Speaks, D: Disk + Drop>(
     alloc: Global,
     desk: &mut Desk<D>,
@@ -127,10 +198,14 @@ fn submit<S: Speaks, D: Disk + Drop>(
     ensures home { is_home S.speech desk.new.kept.house session.new ≡ true }
     ensures house { desk.new.kept.house ≡ desk.old.kept.house }
     ensures turn { (h : Hindrance) ×
-        Takes (HaveSealed D.told desk.old desk.new) (under h at desk.old.kept (λ service. done S.speech desk.old.kept session.old (service.asked (S.speech.user session.old) ask))) reply.old desk.new.kept session.new reply.new }
+        Takes (HaveSealed D.told desk.old desk.new) (under h at desk.old.kept (λ service. pursued S.speech service desk.old.kept session.old (service.asked (S.speech.user session.old) ask))) reply.old desk.new.kept session.new reply.new }
 {
+    seals_join::<D>();
     let outcome = ask_desk(alloc, desk, at, session.asker(), ask, reply);
-    settle(alloc, desk, session, &outcome, reply);
+    match settle(alloc, desk, session, &outcome, reply) {
+        None => {}
+        Some(further) => submit_further(alloc, desk, session, at, further, reply),
+    }
 }
 
 /// Does what comes of a unit whose session has its texts.
@@ -163,7 +238,7 @@ fn go_on<S: Speaks, D: Disk + Drop>(
 }
 
 /// Tells the session that no memory was found for its texts.
-fn read_starved<S: Speaks>(alloc: Global, session: &mut S, reply: &mut Reply)
+pub fn read_starved<S: Speaks>(alloc: Global, session: &mut S, reply: &mut Reply)
     requires reading { S.speech.takes_texts session.old ≡ true }
     requires stays { reply.old.closes ≡ false }
     ensures free { S.speech.is_free session.new ≡ true }

@@ -4,9 +4,9 @@ use Rattle.imap_session.specs.declared.dialog.Dialog.{Dialog}
 use Rattle.imap_session.specs.Words.{bad_line_text, ready_text}
 use Rattle.mail_loop.specs.Asked.{HaveSealed}
 use Rattle.mail_loop.specs.Turn.{Turn}
+use Rattle.mail_loop.specs.Session.{hindered}
 use Rattle.mail_loop.specs.Hindrance.{Hindrance, Clear}
 use Rattle.mail_loop.specs.Took.{IsNone, Takes}
-use Rattle.mail_loop.specs.Hindrance.{hindered}
 use Rattle.mail_loop.specs.ImapTurn.{imap_session}
 use Rattle.mail_loop.proofs.Dialogs.{said_turn}
 use Rattle.mail_loop.proofs.ImapTurns.{answered_turn, raw_turn, whatever_others}

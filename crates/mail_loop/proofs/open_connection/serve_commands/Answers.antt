@@ -7,7 +7,7 @@ use Rattle.imap_session.specs.Dialog.{is_view_current}
 use Rattle.store_kept.specs.Kept.{store_of}
 use Rattle.desk_journal.specs.Reading.{both_read, none_read}
 use Rattle.mail_loop.specs.Asked.{HaveSealed}
-use Rattle.mail_loop.specs.State.{Imap, without_seat}
+use Rattle.mail_loop.specs.State.{Imap, beside}
 use Rattle.mail_loop.proofs.Nexts.{is_emptied, none_taken, some_last, taken}
 use Rattle.mail_loop.proofs.ImapTurns.{next_at}
 use Rattle.mail_loop.proofs.Sealed.{chained, none_unsealed, still_open, unsealed}
@@ -76,7 +76,7 @@ returns-then-reply-clause-turns g c seats =
     (closed_after S (next_at c.args.at c.args.conn) seats kept d all l.desk.kept l.dialog c.in-Ok.next (c.next.new.self.said ++ NotYet ∷ [])
     new.desk.kept new.session l.reply new.reply l.invariant.far.0
     (subst (λ (nexts : List Next). SoFar (next_at c.args.at c.args.conn) seats kept d all l.reply l.invariant.far.0 l.desk.kept l.dialog (nexts ++ NotYet ∷ [])) some.0 (l.invariant.far.2 seats))
-    turn.0 (turn.1 (without_seat c.args.conn seats)) c.if-reply.true)
+    turn.0 (turn.1 (beside c.args.conn seats)) c.if-reply.true)
     (seat_goes new.reply.closes (Imap c.next.new.self new.session) c.if-reply.true)
     (chained told c.seals_join.ensures.then c.args.desk.now l.desk new.desk last.unsealed l.invariant.far.0 last.reads l.invariant.far.1 (turn.1 []).seals)
 
@@ -111,6 +111,6 @@ loop-next-preserved g c =
             so_far_more S (next_at c.args.at c.args.conn) seats kept d all l.desk.kept l.dialog c.in-Ok.next (c.next.new.self.said ++ NotYet ∷ [])
             new.desk.kept new.session l.reply new.reply l.invariant.far.0
             (subst (λ (nexts : List Next). SoFar (next_at c.args.at c.args.conn) seats kept d all l.reply l.invariant.far.0 l.desk.kept l.dialog (nexts ++ NotYet ∷ [])) some.0 (l.invariant.far.2 seats))
-            turn.0 (turn.1 (without_seat c.args.conn seats)) c.if-reply.false,
+            turn.0 (turn.1 (beside c.args.conn seats)) c.if-reply.false,
       );
     }

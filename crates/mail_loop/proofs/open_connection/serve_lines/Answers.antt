@@ -5,7 +5,7 @@ use Rattle.smtp_lines.specs.Line.{smtp_lines_of}
 use Rattle.mail_loop.specs.declared.reply.Reply.{Reply}
 use Rattle.desk_journal.specs.Reading.{both_read, none_read}
 use Rattle.mail_loop.specs.Asked.{HaveSealed}
-use Rattle.mail_loop.specs.State.{Smtp, without_seat}
+use Rattle.mail_loop.specs.State.{Smtp, beside}
 use Rattle.mail_loop.proofs.Sealed.{chained, none_unsealed, still_open, unsealed}
 use Rattle.mail_loop.proofs.Stretch.{SoFar, so_far_none, so_far_more, closed_after, unheard, all_heard, told_by, seat_stays, seat_goes}
 use Rattle.mail_loop.proofs.SmtpTurns.{line_at}
@@ -67,7 +67,7 @@ returns-then-reply-clause-turns g c seats =
     (closed_after S (line_at c.args.at c.args.conn) seats kept d (smtp_lines_of stream) l.desk.kept l.dialog c.in-Ok-Some.line (smtp_lines_of c.next.new.self)
     new.desk.kept new.session l.reply new.reply l.invariant.far.0
     (subst (λ (ls : List SmtpLine). SoFar (line_at c.args.at c.args.conn) seats kept d (smtp_lines_of stream) l.reply l.invariant.far.0 l.desk.kept l.dialog ls) takes.0 (l.invariant.far.2 seats))
-    turn.0 (turn.1 (without_seat c.args.conn seats)) c.if-reply.true)
+    turn.0 (turn.1 (beside c.args.conn seats)) c.if-reply.true)
     (seat_goes new.reply.closes (Smtp c.next.new.self new.session) c.if-reply.true)
     (chained told c.seals_join.ensures.then c.args.desk.now l.desk new.desk last.unsealed l.invariant.far.0 last.reads l.invariant.far.1 (turn.1 []).seals)
 
@@ -99,6 +99,6 @@ loop-line-preserved g c =
             so_far_more S (line_at c.args.at c.args.conn) seats kept d (smtp_lines_of stream) l.desk.kept l.dialog c.in-Ok-Some.line (smtp_lines_of c.next.new.self)
             new.desk.kept new.session l.reply new.reply l.invariant.far.0
             (subst (λ (ls : List SmtpLine). SoFar (line_at c.args.at c.args.conn) seats kept d (smtp_lines_of stream) l.reply l.invariant.far.0 l.desk.kept l.dialog ls) takes.0 (l.invariant.far.2 seats))
-            turn.0 (turn.1 (without_seat c.args.conn seats)) c.if-reply.false,
+            turn.0 (turn.1 (beside c.args.conn seats)) c.if-reply.false,
       );
     }

@@ -42,7 +42,9 @@ returns-clause-answers g c =
     let answer : Answer = record { letters = c.letters_of-letters.result; stops = c.hear-turned.result.stops } in
     bytes_heard (HaveSealed g.D.Disk.told c.args.desk.now c.hear-turned.new.desk) c.args.conn c.args.at c.args.desk.now.kept c.hear-turned.new.desk.kept c.args.connections.now.entries lent c.keep_if.new.connections.entries c.in-Some.connection.now connection
     c.args.bytes.now c.hear-turned.result (λ (answer : Answer). replies_of answer.letters.items) (λ (answer : Answer). answer.stops) answer c.in-Some.ensures.value (c.get_mut.follows.holds connection).0
-    c.keep_if.ensures.entries c.hear-turned.ensures.heard c.letters_of-letters.ensures refl
+    c.keep_if.ensures.entries
+    (c.hear-turned.ensures.heard c.args.connections.now.entries (sym c.in-Some.ensures.value) (c.users_for-in_use.ensures c.in-Some.connection.now (sym c.in-Some.ensures.value)))
+    c.letters_of-letters.ensures refl
 
 pub returns-clause-home : goal.returns-clause-home
 returns-clause-home g c =

@@ -7,8 +7,8 @@ use Rattle.store_kept.specs.Kept.{store_of}
 use Rattle.mail_loop.specs.declared.out.Out.{Out}
 use Rattle.mail_loop.specs.Asked.{HaveSealed}
 use Rattle.mail_loop.specs.State.{Seats}
-use Rattle.mail_loop.specs.Session.{followed}
-use Rattle.mail_loop.specs.Hindrance.{Hindrance, hindered, under}
+use Rattle.mail_loop.specs.Session.{followed, hindered}
+use Rattle.mail_loop.specs.Hindrance.{Hindrance, under}
 use Rattle.mail_loop.specs.SmtpTurn.{smtp_session, smtp_speech}
 use Rattle.mail_loop.specs.Took.{AreThere, AsksAs, IsNext, IsNone, Takes}
 use Rattle.mail_loop.proofs.Sealed.{unsealed}

@@ -3,8 +3,8 @@ use Rattle.mail_loop.specs.declared.out.Out.{Out}
 use Rattle.mail_loop.specs.declared.out.Out.TheVariants.{Read, Submit}
 use Rattle.mail_loop.specs.Asked.{HaveSealed}
 use Rattle.mail_loop.specs.Turn.{Turn}
-use Rattle.mail_loop.specs.Session.{service, followed}
-use Rattle.mail_loop.specs.Hindrance.{Hindrance, under}
+use Rattle.mail_loop.specs.Session.{followed}
+use Rattle.mail_loop.specs.Hindrance.{Hindrance, under, service}
 use Rattle.mail_loop.proofs.Dialogs.{bye_turn, out_turn, said_turn}
 use Rattle.mail_loop.proofs.Sealed.{unsealed}
 use Rattle.mail_loop.proofs.Telling.{lifted_turn}

@@ -1,12 +1,16 @@
 use Rattle.std.proofs.Common.{Bool, subst, inr}
 use Rattle.mail_loop.specs.Took.{SettlesAgain, is_refused}
-use Rattle.mail_loop.proofs.Dialogs.{settles_told}
+use Rattle.mail_loop.proofs.Dialogs.{due_next, settles_or_asks}
 use Rattle.mail_loop.proofs.turn.settle.Goals as goal
+
+pub returns-in-Ok-clause-next : goal.returns-in-Ok-clause-next
+returns-in-Ok-clause-next g c =
+    due_next g.S.Speaks.speech c.settle_with.new.session c.in-Ok.out c.tell_or_ask.result c.in-Ok.ensures.next c.in-Ok.ensures.user c.tell_or_ask.ensures.asks
 
 pub returns-in-Ok-clause-settled : goal.returns-in-Ok-clause-settled
 returns-in-Ok-clause-settled g c =
-    settles_told g.S.Speaks.speech c.args.outcome.now c.args.desk.now.kept c.args.session.now c.settle_with.new.session c.in-Ok.out c.args.reply.now c.tell.new.reply
-    c.requires.stays c.in-Ok.ensures.ok c.tell.ensures
+    settles_or_asks g.S.Speaks.speech c.args.outcome.now c.args.desk.now.kept c.args.session.now c.settle_with.new.session c.in-Ok.out c.args.reply.now c.tell_or_ask.new.reply c.tell_or_ask.result
+    c.requires.stays c.in-Ok.ensures.ok c.in-Ok.ensures.next c.tell_or_ask.ensures.told c.tell_or_ask.ensures.asks
 
 pub returns-in-Err-clause-settled : goal.returns-in-Err-clause-settled
 returns-in-Err-clause-settled g c =

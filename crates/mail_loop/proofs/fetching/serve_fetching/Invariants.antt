@@ -1,0 +1,26 @@
+use Rattle.std.proofs.Common.{◌≡◌, [], false, true, length}
+use Rattle.smtp_lines.specs.Lines.{rest_of}
+use Rattle.smtp_lines.specs.Line.{smtp_lines_of}
+use Rattle.pop_session.specs.Dialog.{is_at_home, is_free}
+use Rattle.desk_journal.specs.Reading.{Reads}
+use Rattle.mail_loop.specs.Asked.{HaveSealed}
+use Rattle.mail_loop.specs.State.{Seats}
+use Rattle.mail_loop.proofs.Stretch.{SoFar}
+use Rattle.mail_loop.proofs.PopTurns.{fetching_at}
+use Rattle.mail_loop.proofs.fetching.serve_fetching.Given as goal
+
+-- the turns so far, and those of the lines that are left
+abbrev pub invariant-loop-line : goal.invariant-loop-line
+invariant-loop-line g l = record {
+  stays : l.reply.closes ≡ false;
+  conn : l.reply.conn ≡ l.conn;
+  free : is_free l.dialog ≡ true;
+  home : is_at_home l.desk.kept.house l.dialog ≡ true;
+  house : l.desk.kept.house ≡ l.fn.desk.kept.house;
+  rest : rest_of l.unserved ≡ rest_of l.fn.unserved;
+  open' : l.desk.closed ≡ false;
+  far : (reads : Reads) × HaveSealed g.D.Disk.told l.fn.desk l.desk [] reads × ((seats : Seats) → SoFar (fetching_at l.users l.at l.conn) seats l.fn.desk.kept l.fn.dialog (smtp_lines_of l.fn.unserved) l.reply reads l.desk.kept l.dialog (smtp_lines_of l.unserved));
+}
+
+abbrev pub decreases-loop-line : goal.decreases-loop-line
+decreases-loop-line g l = length (smtp_lines_of l.unserved)

@@ -1,0 +1,77 @@
+//! The turns of a fetching client: a line of its stream.
+ghost use Rattle.std.specs.Prelude.{◌≡◌, false, true};
+ghost use Rattle.pop_session.specs.Dialog.{AsksAsUser, IsNext, is_at_home, is_free};
+ghost use Rattle.mail_loop.specs.Asked.{HaveSealed};
+ghost use Rattle.mail_loop.specs.Hindrance.{Hindrance, under};
+ghost use Rattle.mail_loop.specs.PopTurn.{of_pop, pop_beside, pop_speech};
+ghost use Rattle.mail_loop.specs.Session.{followed, hindered};
+ghost use Rattle.mail_loop.specs.State.{Seats};
+ghost use Rattle.mail_loop.specs.Took.{AreThere, Takes};
+
+use crate::out::of_pop;
+use crate::reply::{Reply, say};
+use crate::turn::{follow, read_starved};
+use pop_session::{PopOut, PopSession, memory_text};
+use smtp_lines::SmtpLine;
+use std::alloc::Global;
+use time_desk::Desk;
+use time_desk::laws::seals_join;
+use undo_base::{NoMemory, Users};
+use undo_outside::Disk;
+
+/// Does what comes of a line.
+fn obey<D: Disk + Drop>(
+    alloc: Global,
+    desk: &mut Desk<D>,
+    session: &mut PopSession,
+    at: u64,
+    out: PopOut,
+    reply: &mut Reply,
+)
+    requires next { IsNext out session.old }
+    requires user { AsksAsUser out session.old }
+    requires there { AreThere desk.old.kept (of_pop out) }
+    requires stays { reply.old.closes ≡ false }
+    requires home { is_at_home desk.old.kept.house session.old ≡ true }
+    requires sealed { desk.old.closed ≡ false }
+    ensures free { is_free session.new ≡ true }
+    ensures home { is_at_home desk.new.kept.house session.new ≡ true }
+    ensures house { desk.new.kept.house ≡ desk.old.kept.house }
+    ensures turn { (h : Hindrance) ×
+        Takes (HaveSealed D.told desk.old desk.new) (under h at desk.old.kept (λ service. followed pop_speech service desk.old.kept (of_pop out) session.old)) reply.old desk.new.kept session.new reply.new }
+{
+    seals_join::<D>();
+    match of_pop(alloc, out) {
+        Ok(out) => follow(alloc, desk, session, at, out, reply),
+        Err(NoMemory) => read_starved(alloc, session, reply),
+    }
+}
+
+/// Serves one line, and adds its answer to the reply. `users` are those of the other fetching clients.
+pub fn take_fetching<D: Disk + Drop>(
+    alloc: Global,
+    desk: &mut Desk<D>,
+    session: &mut PopSession,
+    at: u64,
+    users: &Users,
+    line: &SmtpLine,
+    reply: &mut Reply,
+)
+    requires free { is_free session.old ≡ true }
+    requires stays { reply.old.closes ≡ false }
+    requires home { is_at_home desk.old.kept.house session.old ≡ true }
+    requires sealed { desk.old.closed ≡ false }
+    ensures free { is_free session.new ≡ true }
+    ensures home { is_at_home desk.new.kept.house session.new ≡ true }
+    ensures house { desk.new.kept.house ≡ desk.old.kept.house }
+    ensures turn { (h : Hindrance) × ((others : Seats) →
+        Takes (HaveSealed D.told desk.old desk.new) (hindered (pop_beside users.now) h at desk.old.kept others session.old line.now) reply.old desk.new.kept session.new reply.new) }
+{
+    seals_join::<D>();
+    desk.stands();
+    let (house, store, stamps, sizes) = (desk.house(), desk.store(), desk.stamps(), desk.shelf());
+    match session.take(alloc, house, store, stamps, sizes, users, line) {
+        Ok(out) => obey(alloc, desk, session, at, out, reply),
+        Err(NoMemory) => say(reply, memory_text(), false),
+    }
+}
