@@ -35,7 +35,7 @@ use Rattle.pop_session.specs.Removal.{after, after_quit}
 use Rattle.store_kept.specs.Kept.{Kept, performed, store_of}
 use Rattle.mail_desk.specs.Desk.{submitted_as}
 use Rattle.mail_loop.specs.Asked.{Asked, unsealed_as}
-use Rattle.mail_loop.specs.Hindrance.{Hindrance, Clear, Refused, Textless, Unread, UnreadRefused, UnreadUnheard, Misread, Misled, Unstored, Unheard, Unanswered, Unsealed, Untold, Halfway, Service, halfway, misread, row, service, stopped, unread, unread_unsaid, without_items, without_seals, without_texts}
+use Rattle.mail_loop.specs.Hindrance.{Hindrance, Clear, Refused as IsToldWant, Textless, Unread, UnreadRefused, UnreadUnheard, Misread, Misled, Unstored, Unheard, Unanswered, Unsealed, Untold, Halfway, Service, halfway, misread, row, service, stopped, unread, unread_unsaid, without_items, without_seals, without_texts}
 use Rattle.mail_loop.specs.PopTurn.{in_use, memory_told, of_pop, pop_session, pop_speech, took_by}
 use Rattle.mail_loop.specs.Session.{done, followed, hindered, pursued, pursued_as, settled_as, size_in}
 use Rattle.mail_loop.specs.State.{Seats}
@@ -102,7 +102,7 @@ fails_sound at kept desk by ask item wrong = absurd (never_sealed kept (live (st
 holds_under : {D : Type 0} → (P : Turn D → Type 0) (h : Hindrance) (at : ℕ) (kept : Kept) (told : Turn D) (f : Service → Turn D) → P told → P (lost kept) → ((t : Turn D) → P (unanswered t))
     → ((desk : Service) → Sound at kept desk → P (f desk)) → P (row h at kept told f).follows
 holds_under P Clear at kept told f is none quiet each = each (service at kept) (service_sound at kept)
-holds_under P Refused at kept told f is none quiet each = is
+holds_under P IsToldWant at kept told f is none quiet each = is
 holds_under P Textless at kept told f is none quiet each = each (without_texts (service at kept)) (service_sound at kept)
 holds_under P Unread at kept told f is none quiet each = each (unread (service at kept)) (service_sound at kept)
 holds_under P UnreadRefused at kept told f is none quiet each = each (unread_unsaid (service at kept)) (service_sound at kept)
@@ -203,7 +203,7 @@ left_as : TakesMarked → KeepsOthers → DoesAsAsked → (kept : Kept) (u : Use
     → (let t = took_by (pop.leave keys (record { stage = Transaction u drop; awaits = w })) in
     let turn = followed pop_speech desk kept t.out t.dialog in
     turn.said ≡ answer_text Closing → OnlyGone u keys (store_of kept) (store_of turn.kept))
-left_as marked others does kept u drop [] w desk at sound said = none_gone u (store_of kept)
+left_as marked others does kept u drop [] w desk at sound = λ said. none_gone u (store_of kept)
 left_as marked others does kept u drop (key ∷ keys) w desk at sound = quits_as marked others does kept u drop (key ∷ keys) desk at sound
 
 -- the line is a QUIT of who is logged in
