@@ -83,8 +83,8 @@ def fetchmail(it, deletes):
 
 def getmail(it, deletes):
     os.makedirs(it.at('gm'), exist_ok=True)
-    written(it.at('gm/rc'), f'[retriever]\ntype = SimplePOP3Retriever\nserver = 127.0.0.1\nport = {it.port}\nusername = {it.user}\npassword = pw\n[destination]\ntype = Maildir\npath = {it.at("mail")}/\n[options]\nread_all = false\ndelete = false\ndelivered_to = false\nreceived = false\n')
-    return it.come('mail', lambda: ran(['getmail', f'--getmaildir={it.at("gm")}', '-r', 'rc', *(['--all', '--delete'] if deletes else [])], it.home))
+    written(it.at('gm/rc'), f'[retriever]\ntype = SimplePOP3Retriever\nserver = 127.0.0.1\nport = {it.port}\nusername = {it.user}\npassword = pw\n[destination]\ntype = MDA_external\npath = /usr/bin/tee\narguments = ("-a", "{it.at("got")}")\nallow_root_commands = true\nignore_stdout = true\n[options]\nread_all = false\ndelete = false\ndelivered_to = false\nreceived = false\n')
+    return it.grown('got', lambda: ran(['getmail', f'--getmaildir={it.at("gm")}', '-r', 'rc', *(['--all', '--delete'] if deletes else [])], it.home))
 
 def mpop(it, deletes):
     words = ['mpop', '--host=127.0.0.1', f'--port={it.port}', f'--user={it.user}', '--passwordeval=echo pw', '--auth=user', '--tls=off', f'--keep={"off" if deletes else "on"}', f'--only-new={"off" if deletes else "on"}',
@@ -103,7 +103,7 @@ PROGRAMS = {'python': (python, 'python3'), 'curl': (curl, 'curl'), 'fetchmail': 
 
 def delivered(store, users, number):
     with smtplib.SMTP('127.0.0.1', store.smtp, local_hostname='c', timeout=60) as it:
-        text = f'From: joe@far.test\r\nTo: all@mail.test\r\nSubject: letter {number}\r\nMessage-ID: <{number}@far.test>\r\n\r\nThis is letter {number}.\r\n.dots\r\n..\r\n' + 'x' * 900 * number + '\r\n'
+        text = f'From: joe@far.test\r\nTo: all@mail.test\r\nSubject: letter {number}\r\nMessage-ID: <{number}@far.test>\r\n\r\nThis is letter {number}.\r\n.dots\r\n..\r\n' + ('x' * 70 + '\r\n') * 12 * number
         it.sendmail('joe@far.test', [f'{user}@mail.test' for user in users], text)
 
 def there(store, user): return [subjects(text)[0] for text, _, _ in stores.lies(store, user).get('INBOX', ())]
