@@ -5,7 +5,8 @@ usage: bench/pop_clients.py PROGRAM [NAME ..]      NAME: of python, curl, fetchm
 
 Each program has a user of its own, and is asked seven times for what is new: at first (three letters), again (none), after one more letter (that one), after a cycle
 that touches another user alone (none), after a cycle that takes the first letter out (under the mailbox's new stamp all that is left, and the notice), and again (none);
-then it deletes what is there, and the store has none left. mutt keeps no list of what it has seen, so it is asked what it shows. Status 0 only where each did all of it.
+then it deletes what is there, and the store has none left. mutt keeps no list of what it has seen, so it is asked what it shows. fetchmail is told to use RETR: its
+TOP asks for 99,999,999 lines, which is refused. Status 0 only where each did all of it.
 """
 import os, poplib, re, shutil, signal, smtplib, subprocess, sys, tempfile
 
@@ -18,7 +19,7 @@ from stores import Store, Wrong, same, true  # noqa: E402
 SUBJECT = re.compile(rb'(?m)^Subject: ([^\r\n]*)')
 
 def ran(words, home, statuses=(0,)):
-    done = subprocess.run([str(it) for it in words], stdin=subprocess.DEVNULL, stdout=subprocess.PIPE, stderr=subprocess.STDOUT, timeout=120, env={**os.environ, 'HOME': home, 'LC_ALL': 'C.UTF-8', 'TERM': 'xterm'}, cwd=home)
+    done = subprocess.run([str(it) for it in words], stdin=subprocess.DEVNULL, stdout=subprocess.PIPE, stderr=subprocess.STDOUT, timeout=120, env={**os.environ, 'HOME': home, 'LC_ALL': 'C.UTF-8', 'TERM': 'xterm', 'FETCHMAIL_POP3_FORCE_RETR': '1'}, cwd=home)
     if done.returncode not in statuses: raise Wrong(f'{words[0]} ended with {done.returncode}: {done.stdout[-600:]}')
     return done.stdout
 
@@ -94,7 +95,7 @@ def mpop(it, deletes):
 def mutt(it, deletes):
     """All that its list shows, and deletes all where that is asked."""
     keys = '<tag-pattern>~A<enter><tag-prefix><pipe-message>cat >>got<enter>' + ('<tag-prefix><delete-message><quit>' if deletes else '<exit>')
-    rc = written(it.at('rc'), f'set pop_user="{it.user}" pop_pass=pw pop_authenticators=user pop_delete=no ssl_starttls=no folder={it.home} spoolfile=pop://127.0.0.1:{it.port}/\n'
+    rc = written(it.at('rc'), f'set pop_user="{it.user}" pop_pass=pw pop_authenticators=user pop_delete=no ssl_starttls=no ssl_force_tls=no folder={it.home} spoolfile=pop://127.0.0.1:{it.port}/\n'
                  f'set delete=yes quit=yes move=no wait_key=no pipe_split=yes pipe_decode=no sleep_time=0 beep=no header_cache={it.at("cache")} message_cachedir={it.at("texts")}\npush "{keys}"\n')
     if os.path.exists(it.at('got')): os.unlink(it.at('got'))
     return it.grown('got', lambda: ran(['script', '-qec', f'timeout 60 mutt -F {rc} -f pop://127.0.0.1:{it.port}/', '/dev/null'], it.home))
