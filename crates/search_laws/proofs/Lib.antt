@@ -1,3 +1,4 @@
 pub mod Agreeing
 pub mod Looking
 pub mod Finding
+pub mod Telling
