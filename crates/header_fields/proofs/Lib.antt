@@ -3,3 +3,4 @@ pub mod Grouping
 pub mod Heading
 pub mod Together
 pub mod Rows
+pub mod FieldNames

@@ -1,6 +1,6 @@
 -- The name and the value of a field (RFC 5322, 2.2), as they are looked for: without case, and with its folds.
-use Rattle.std.specs.Prelude.{ℕ, Bool, ◌-◌, ◌==◌, ◌&&◌, List, length, take, drop, if◌then◌else◌}
-use Rattle.std.specs.List.{list_any, before_first, after_first, suffix_len}
+use Rattle.std.specs.Prelude.{ℕ, Bool, ◌-◌, ◌==◌, ◌&&◌, ◌||◌, nat_le, List, length, take, drop, if◌then◌else◌}
+use Rattle.std.specs.List.{list_any, list_all, before_first, after_first, suffix_len}
 use Rattle.std.specs.Str.{str_eq_ignore_ascii_case}
 use Rattle.header_fields.specs.Lines.{is_empty_line}
 use Rattle.header_fields.specs.Fields.{is_blank}
@@ -24,6 +24,14 @@ name_of field = trimmed (before_first is_colon field)
 -- whether a field has this name, ignoring case
 abbrev pub is_named : List ℕ → List ℕ → Bool
 is_named name field = has_name field && str_eq_ignore_ascii_case (name_of field) name
+
+-- a letter, a digit, - or _
+abbrev pub is_field_byte : ℕ → Bool
+is_field_byte b = (nat_le 48 b && nat_le b 57) || (nat_le 65 b && nat_le b 90) || (nat_le 97 b && nat_le b 122) || b == 45 || b == 95
+
+-- a name by which a field can be asked for: 1 to 64 of these
+abbrev pub is_field_name : List ℕ → Bool
+is_field_name name = nat_le 1 (length name) && nat_le (length name) 64 && list_all is_field_byte name
 
 -- bytes without the CRLF at their end, where one stands there
 abbrev pub without_end : List ℕ → List ℕ

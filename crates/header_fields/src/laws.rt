@@ -1,7 +1,9 @@
 //! What the definitions say of a text.
-ghost use Rattle.std.specs.Prelude.{◌≡◌, ◌++◌};
+ghost use Rattle.std.specs.Prelude.{◌≡◌, ◌++◌, ℕ, true, List};
+ghost use Rattle.undo_base.specs.Name.{is_name};
 ghost use Rattle.header_fields.specs.Lines.{lines_of, joined};
 ghost use Rattle.header_fields.specs.Fields.{fields_of};
+ghost use Rattle.header_fields.specs.Values.{is_field_name};
 ghost use Rattle.header_fields.specs.Header.{empty_line_of, header_of, behind_header};
 
 use crate::header::header_len;
@@ -25,3 +27,9 @@ pub fn header_and_rest_are_the_text(text: &[u8])
 {
     header_len(text);
 }
+
+/// A name by which a field can be asked for is a name.
+#[tactic(auto, using(crate::proofs::FieldNames::field_name))]
+pub fn field_names_are_names()
+    ensures { (name : List ℕ) → is_field_name name ≡ true → is_name name ≡ true }
+{}

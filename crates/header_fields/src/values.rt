@@ -1,7 +1,7 @@
 //! The name and the value of a field.
 ghost use Rattle.std.specs.Prelude.{◌≡◌, ◌≤◌, length};
-ghost use Rattle.std.specs.List.{position_or_len, after_first};
-ghost use Rattle.header_fields.specs.Values.{is_colon, has_name as name_there, trimmed, name_of, is_named as named, without_end as ends_without, value_of};
+ghost use Rattle.std.specs.List.{position_or_len, after_first, list_all};
+ghost use Rattle.header_fields.specs.Values.{is_colon, is_field_byte as can_stand, is_field_name as can_be_asked, has_name as name_there, trimmed, name_of, is_named as named, without_end as ends_without, value_of};
 
 use crate::fields::is_blank;
 use crate::lines::is_empty_line;
@@ -50,6 +50,31 @@ pub fn is_named(name: &[u8], field: &[u8]) -> bool
     ensures { result ≡ named name.now field.now }
 {
     has_name(field) && name_in(field).eq_ignore_ascii_case(name)
+}
+
+/// A letter, a digit, `-` or `_`.
+fn is_field_byte(byte: u8) -> bool
+    ensures { result ≡ can_stand byte }
+{
+    (48 <= byte && byte <= 57)
+        || (65 <= byte && byte <= 90)
+        || (97 <= byte && byte <= 122)
+        || byte == b'-'
+        || byte == b'_'
+}
+
+/// Whether each byte is one of these.
+fn are_field_bytes(bytes: &[u8]) -> bool
+    ensures { result ≡ list_all can_stand bytes.now }
+{
+    bytes.iter().all(|byte| is_field_byte(*byte))
+}
+
+/// Whether a field can be asked for by the name: it is 1 to 64 letters, digits, `-` and `_`.
+pub fn is_field_name(name: &[u8]) -> bool
+    ensures { result ≡ can_be_asked name.now }
+{
+    1 <= name.len() && name.len() <= 64 && are_field_bytes(name)
 }
 
 /// Bytes without the CRLF at their end.

@@ -13,7 +13,8 @@ use Rattle.verb_core.specs.Names.{inbox, lost_found}
 use Rattle.verb_core.specs.Boxes.{box_of, has_row}
 use Rattle.verb_core.specs.Store.{MailStore}
 use Rattle.verb_core.specs.Items.{actor, text_in}
-use Rattle.verb_core.specs.Recipients.{recipients, deciding}
+use Rattle.verb_core.specs.Recipients.{recipients}
+use Rattle.verb_core.specs.Filters.{deciding}
 use Rattle.verb_core.specs.Step.{Boxes}
 use Rattle.verb_core.specs.Aims.{aim_at, into_or, and_postmaster, delivered, sought, sought_by}
 
@@ -38,7 +39,7 @@ module _ (house : House) (conf : Conf) (rs ss : Boxes) (same : (id : BoxId) → 
   delivered-same to (Some (Some name)) = ap (and_postmaster one to) (into_or-same rs ss same name inbox (recipients house conf to))
 
   sought-same : (text : List ℕ) (by : Option User) (d : Deed) → sought one text by d ≡ sought other text by d
-  sought-same text by (Deliver from to _) = delivered-same to (option_map (λ (f : Filter). f.file) (deciding conf text))
+  sought-same text by (Deliver from to _) = delivered-same to (option_map (λ (f : Filter). f.file) (deciding conf from to text))
   sought-same text by (Append mailbox flags moment t) = into_or-same rs ss same mailbox lost_found (actor by (Append mailbox flags moment []) ∷ [])
   sought-same text by (Copy mailbox keys target) = into_or-same rs ss same target lost_found (actor by (Copy mailbox keys target) ∷ [])
   sought-same text by (Acts (Give u mailbox t)) = into_or-same rs ss same mailbox lost_found (u ∷ [])

@@ -14,6 +14,7 @@ use Rattle.verb_core.specs.declared.item.Shown.TheVariants.{Nothing, Seen, Names
 use Rattle.verb_core.specs.declared.item.Way.TheVariants.{NoSource, Merged}
 use Rattle.verb_core.specs.declared.conf.House.{House}
 use Rattle.verb_core.specs.declared.conf.Conf.{Conf}
+use Rattle.verb_core.specs.declared.conf.Scope.TheVariants.{Body}
 use Rattle.verb_core.specs.declared.conf.Alias.{Alias}
 use Rattle.verb_core.specs.declared.conf.Filter.{Filter}
 use Rattle.verb_core.specs.declared.mailbox.Entry.{Entry}
@@ -76,7 +77,7 @@ abbrev team : Alias
 team = record { local = codes "team"; users = ann ∷ bob ∷ [] }
 
 abbrev offers : Filter
-offers = record { id = codes "offers"; needle = codes "offer"; file = Some (codes "Work") }
+offers = record { id = codes "offers"; needle = codes "offer"; file = Some (codes "Work"); scope = Body }
 
 -- ann has three messages in INBOX, the second with `\Deleted`, and one in Work
 abbrev store : MailStore
@@ -128,7 +129,7 @@ for_nobody_to_the_postmaster : theirs_after (Deliver [] (codes "nobody" ∷ code
 for_nobody_to_the_postmaster = refl
 
 abbrev discarding : MailStore
-discarding = record store { conf = record { aliases = []; filters = record offers { file = None } ∷ [] } }
+discarding = record store { conf = record { aliases = []; filters = record offers { file = None; scope = Body } ∷ [] } }
 
 discarded_for_all : (step discarding (by None (Deliver [] (codes "nobody" ∷ codes "bob" ∷ []) (codes "offer")))).0.boxes ≡ store.boxes
 discarded_for_all = refl
@@ -305,7 +306,7 @@ an_alias_is_dropped : conf_then (DropAlias (codes "team")) ≡ record store.conf
 an_alias_is_dropped = refl
 
 abbrev bills : Filter
-bills = record { id = codes "bills"; needle = codes "bill"; file = None }
+bills = record { id = codes "bills"; needle = codes "bill"; file = None; scope = Body }
 
 a_new_filter_goes_last : conf_then (SetFilter bills) ≡ record store.conf { filters = offers ∷ bills ∷ [] }
 a_new_filter_goes_last = refl
@@ -336,7 +337,7 @@ remove_takes_both = refl
 -- ---- refusals, in their order
 
 abbrev asks_at : ℕ → Ask → Result Item Refused
-asks_at number a = live store number 7 (Some ann) a
+asks_at number a = live store number 7 (Some ann) a false
 
 misshapen_before_fixed : asks_at 9 (ask.Rename lost_found (codes "a%")) ≡ Err NameShape
 misshapen_before_fixed = refl
@@ -368,16 +369,16 @@ numbers_last = refl
 abbrev nearly_full : MailStore
 nearly_full = record store { boxes = (box_of ann inbox, mail 4294967295 []) ∷ (box_of ann lost_found, mail 4294967296 []) ∷ [] }
 
-last_uid : live nearly_full 9 7 (Some ann) (ask.Append inbox no_flags None (codes "x")) ≡ Err UidWide
+last_uid : live nearly_full 9 7 (Some ann) (ask.Append inbox no_flags None (codes "x")) false ≡ Err UidWide
 last_uid = refl
 
-select_with_the_last_uid : live nearly_full 9 7 (Some ann) (ask.Select inbox) ≡ Ok (record (by (Some ann) (Select inbox)) { shown = Count (Some 0) })
+select_with_the_last_uid : live nearly_full 9 7 (Some ann) (ask.Select inbox) false ≡ Ok (record (by (Some ann) (Select inbox)) { shown = Count (Some 0) })
 select_with_the_last_uid = refl
 
-wide_before_numbers : live nearly_full 4194304 7 (Some ann) (ask.Status lost_found) ≡ Err UidWide
+wide_before_numbers : live nearly_full 4194304 7 (Some ann) (ask.Status lost_found) false ≡ Err UidWide
 wide_before_numbers = refl
 
-full_inbox_refuses_a_delivery : live nearly_full 9 7 None (ask.Deliver [] (codes "ann" ∷ []) (codes "x")) ≡ Err UidWide
+full_inbox_refuses_a_delivery : live nearly_full 9 7 None (ask.Deliver [] (codes "ann" ∷ []) (codes "x")) false ≡ Err UidWide
 full_inbox_refuses_a_delivery = refl
 
 -- ---- the keys that are found, and a moment that is not given

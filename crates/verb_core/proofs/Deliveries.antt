@@ -16,7 +16,8 @@ use Rattle.verb_core.specs.Mailboxes.{no_flags}
 use Rattle.verb_core.specs.Boxes.{same_user, box_of, has_row}
 use Rattle.verb_core.specs.Store.{MailStore}
 use Rattle.verb_core.specs.Items.{actor, text_in}
-use Rattle.verb_core.specs.Recipients.{recipients, some_unknown, deciding}
+use Rattle.verb_core.specs.Recipients.{recipients, some_unknown}
+use Rattle.verb_core.specs.Filters.{deciding}
 use Rattle.verb_core.specs.Aims.{Sought, aim_at, into_or, and_postmaster, delivered, sought}
 use Rattle.verb_core.specs.Step.{message, new_mail}
 use Rattle.verb_core.specs.Fates.{times_in, times_given, is_discarded}
@@ -69,10 +70,10 @@ module _ (s : MailStore) (i : Item) (u : User) where
       filed (Some name) stays = omega (arith, reaches name inbox (recipients s.house s.conf to) is, with_postmaster to (into_or s.boxes name inbox (recipients s.house s.conf to)))
 
 pub arrives-step : (s : MailStore) (i : Item) (from : List ℕ) (to : List (List ℕ)) (text : List ℕ) (u : User) → i.deed ≡ Deliver from to text
-    → list_any (same_user u) (recipients s.house s.conf to) ≡ true → is_discarded s.conf text ≡ false → times_given u (record { item = i.number; index = 0 }) s i ≡ 1
+    → list_any (same_user u) (recipients s.house s.conf to) ≡ true → is_discarded s.conf from to text ≡ false → times_given u (record { item = i.number; index = 0 }) s i ≡ 1
 arrives-step s i from to text u is among stays =
     let least : 1 ≤ times_given u (record { item = i.number; index = 0 }) s i =
     subst (λ (d : Deed). 1 ≤ given_at u (record { item = i.number; index = 0 }) (λ index. new_mail (actor i.by d) i s.boxes index d) (sought s (unwrap_or (text_in d) []) i.by d).aims) (sym is)
-    (arrives s i u to (deciding s.conf text) among stays) in
+    (arrives s i u to (deciding s.conf from to text) among stays) in
     let most : times_given u (record { item = i.number; index = 0 }) s i ≤ cond (eqb i.number i.number) 1 0 = times_given-le u (record { item = i.number; index = 0 }) s i in
     omega (arith, least, most, ap {B = ℕ} (λ b. cond b 1 0) (eq-eqb i.number i.number refl))

@@ -12,6 +12,7 @@ use Rattle.verb_core.specs.declared.item.Shown.TheVariants.{Nothing, Seen, Count
 use Rattle.verb_core.specs.declared.item.Way.TheVariants.{Plain}
 use Rattle.verb_core.specs.declared.conf.House.{House}
 use Rattle.verb_core.specs.declared.conf.Conf.{Conf}
+use Rattle.verb_core.specs.declared.conf.Scope.TheVariants.{Body}
 use Rattle.verb_core.specs.declared.mailbox.Entry.{Entry}
 use Rattle.verb_core.specs.declared.mailbox.Mailbox.{Mailbox}
 use Rattle.verb_core.specs.declared.ask.Ask.{Ask}
@@ -95,7 +96,7 @@ a_flag_is_added = refl
 abbrev with_filter : List Item
 with_filter =
     send 2 (codes "ann" ∷ []) (codes "Subject: plain") ∷ own 3 ann (Select inbox) ∷ fetch_first 4 2
-    ∷ none 5 (Acts (SetFilter (record { id = codes "f"; needle = codes "offer"; file = None })))
+    ∷ none 5 (Acts (SetFilter (record { id = codes "f"; needle = codes "offer"; file = None; scope = Body })))
     ∷ send 6 (codes "ann" ∷ []) (codes "Subject: offer") ∷ []
 
 abbrev without_filter : List Item
@@ -169,7 +170,7 @@ an_expunge_tells_what_is_left = refl
 abbrev plain_sends : List Item
 plain_sends = send 4 (codes "ann" ∷ []) (codes "plain") ∷ send 5 (codes "ann" ∷ []) (codes "plain") ∷ send 6 (codes "ann" ∷ []) (codes "plain") ∷ send 7 (codes "ann" ∷ []) (codes "plain") ∷ send 8 (codes "ann" ∷ []) (codes "an offer") ∷ send 9 (codes "ann" ∷ []) (codes "an offer") ∷ own 10 ann (Status inbox) ∷ []
 
-a_status_counts_what_is_there : answers start (none 2 (Acts (SetFilter (record { id = codes "f"; needle = codes "offer"; file = None }))) ∷ send 3 (codes "ann" ∷ []) (codes "plain") ∷ plain_sends)
+a_status_counts_what_is_there : answers start (none 2 (Acts (SetFilter (record { id = codes "f"; needle = codes "offer"; file = None; scope = Body }))) ∷ send 3 (codes "ann" ∷ []) (codes "plain") ∷ plain_sends)
     ≡ Nothing ∷ Nothing ∷ Nothing ∷ Nothing ∷ Nothing ∷ Nothing ∷ Nothing ∷ Nothing ∷ Count (Some 5) ∷ []
 a_status_counts_what_is_there = refl
 
@@ -185,17 +186,17 @@ abbrev one_message : MailStore
 one_message = run start (send 2 (codes "ann" ∷ []) (codes "x") ∷ [])
 
 abbrev asks : ℕ → Ask → Result Item Refused
-asks number a = live one_message number 1105092000 (Some ann) a
+asks number a = live one_message number 1105092000 (Some ann) a false
 
 -- the item that RENAME INBOX gives, and what it leaves
-a_fetch_by_number_of_a_gone_message : live (run start (send 2 (codes "ann" ∷ []) (codes "x") ∷ own 3 ann (Store inbox (key 2 ∷ []) Add deleted_flag) ∷ own 4 ann (Expunge inbox (key 2 ∷ [])) ∷ [])) 5 1105092000 (Some ann) (ask.Fetch inbox (key 2 ∷ []) false false true 0) ≡ Err Gone
+a_fetch_by_number_of_a_gone_message : live (run start (send 2 (codes "ann" ∷ []) (codes "x") ∷ own 3 ann (Store inbox (key 2 ∷ []) Add deleted_flag) ∷ own 4 ann (Expunge inbox (key 2 ∷ [])) ∷ [])) 5 1105092000 (Some ann) (ask.Fetch inbox (key 2 ∷ []) false false true 0) false ≡ Err Gone
 a_fetch_by_number_of_a_gone_message = refl
 
-an_expunge_records_the_marked : live (run start (send 2 (codes "ann" ∷ []) (codes "x") ∷ own 3 ann (Store inbox (key 2 ∷ []) Add deleted_flag) ∷ [])) 4 1105092000 (Some ann) (ask.Expunge inbox None) ≡ Ok (record (own 4 ann (Expunge inbox (key 2 ∷ []))) { shown = Left [] })
+an_expunge_records_the_marked : live (run start (send 2 (codes "ann" ∷ []) (codes "x") ∷ own 3 ann (Store inbox (key 2 ∷ []) Add deleted_flag) ∷ [])) 4 1105092000 (Some ann) (ask.Expunge inbox None) false ≡ Ok (record (own 4 ann (Expunge inbox (key 2 ∷ []))) { shown = Left [] })
 an_expunge_records_the_marked = refl
 
 -- of three messages, of which the first and the last are marked, an EXPUNGE of no others than the two last records the last alone
-an_expunge_of_some_leaves_the_others : live (run start (send 2 (codes "ann" ∷ []) (codes "x") ∷ send 3 (codes "ann" ∷ []) (codes "y") ∷ send 4 (codes "ann" ∷ []) (codes "z") ∷ own 5 ann (Store inbox (key 2 ∷ key 4 ∷ []) Add deleted_flag) ∷ [])) 6 1105092000 (Some ann) (ask.Expunge inbox (Some (key 3 ∷ key 4 ∷ []))) ≡ Ok (record (own 6 ann (Expunge inbox (key 4 ∷ []))) { shown = Left [] })
+an_expunge_of_some_leaves_the_others : live (run start (send 2 (codes "ann" ∷ []) (codes "x") ∷ send 3 (codes "ann" ∷ []) (codes "y") ∷ send 4 (codes "ann" ∷ []) (codes "z") ∷ own 5 ann (Store inbox (key 2 ∷ key 4 ∷ []) Add deleted_flag) ∷ [])) 6 1105092000 (Some ann) (ask.Expunge inbox (Some (key 3 ∷ key 4 ∷ []))) false ≡ Ok (record (own 6 ann (Expunge inbox (key 4 ∷ []))) { shown = Left [] })
 an_expunge_of_some_leaves_the_others = refl
 
 inbox_is_renamed : asks 3 (ask.Rename inbox (codes "Old")) ≡ Ok (record (own 3 ann (Rename inbox (codes "Old"))) { shown = Went Plain })
@@ -220,7 +221,7 @@ inbox_keeps_its_stamp : stamp_then inbox ≡ Some 1
 inbox_keeps_its_stamp = refl
 
 abbrev asks_then : Ask → Result Item Refused
-asks_then a = live renamed 4 1105092000 (Some ann) a
+asks_then a = live renamed 4 1105092000 (Some ann) a false
 
 create_of_a_name_that_is_there : asks_then (ask.Create (codes "Old")) ≡ Err Exists
 create_of_a_name_that_is_there = refl
@@ -237,5 +238,5 @@ delete_of_a_missing_mailbox = refl
 copy_to_a_missing_mailbox : asks_then (ask.Copy (codes "Old") (key 2 ∷ []) (codes "None") true) ≡ Err TryCreate
 copy_to_a_missing_mailbox = refl
 
-the_numbers_are_used_up : live one_message 4194304 1105092000 None (ask.Deliver (codes "j") (codes "ann" ∷ []) (codes "x")) ≡ Err (Numbers 4194304)
+the_numbers_are_used_up : live one_message 4194304 1105092000 None (ask.Deliver (codes "j") (codes "ann" ∷ []) (codes "x")) false ≡ Err (Numbers 4194304)
 the_numbers_are_used_up = refl

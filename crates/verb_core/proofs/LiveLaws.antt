@@ -19,7 +19,7 @@ use Rattle.verb_core.specs.Step.{Boxes, new_mail, put_at, step}
 use Rattle.verb_core.specs.Live.{asker, asked_item, overfills, is_uid_wide, if_so, first_of, or_item, answered, live}
 
 -- a change of what stands in a row changes no name
-names_of-change_row : (u : User) (id : BoxId) (f : Mailbox → Mailbox) (rs : Boxes) → names_of u (change_row id f rs) ≡ names_of u rs
+pub names_of-change_row : (u : User) (id : BoxId) (f : Mailbox → Mailbox) (rs : Boxes) → names_of u (change_row id f rs) ≡ names_of u rs
 names_of-change_row u id f [] = refl
 names_of-change_row u id f (r ∷ rs) =
     elim (same_user u r.0.user) as (λ b. map (λ (r : BoxId × Mailbox). r.0.name) (cond b ((r.0, cond (eq_by_cmp box_cmp id r.0) (f r.1) r.1) ∷ filter (λ (r : BoxId × Mailbox). same_user u r.0.user) (change_row id f rs)) (filter (λ (r : BoxId × Mailbox). same_user u r.0.user) (change_row id f rs))) ≡ map (λ (r : BoxId × Mailbox). r.0.name) (cond b (r ∷ filter (λ (r : BoxId × Mailbox). same_user u r.0.user) rs) (filter (λ (r : BoxId × Mailbox). same_user u r.0.user) rs))) [
@@ -44,9 +44,9 @@ last_two false true used number i r is e = inl cc
 last_two false false true number i r is e = inr cc
 last_two false false false number i r is e = cc
 
-pub delivery_refused : (s : MailStore) (number at : ℕ) (by : Option User) (from : List ℕ) (to : List (List ℕ)) (text : List ℕ) (r : Refused)
-    → live s number at by (Deliver from to text) ≡ Err r → (r ≡ UidWide) ⊎ (r ≡ Numbers number)
-delivery_refused s number at by from to text r =
+pub delivery_refused : (s : MailStore) (number at : ℕ) (by : Option User) (from : List ℕ) (to : List (List ℕ)) (text : List ℕ) (deep : Bool) (r : Refused)
+    → live s number at by (Deliver from to text) deep ≡ Err r → (r ≡ UidWide) ⊎ (r ≡ Numbers number)
+delivery_refused s number at by from to text deep r =
     last_two (overfills s by (asked_item s number at by (Deliver from to text))) (is_uid_wide s by (Deliver from to text) (asked_item s number at by (Deliver from to text))) (number == 4194304) number
     (answered s (asked_item s number at by (Deliver from to text))) r
     (ap (λ b. b && nat_lt 1000 (length (names_of (asker by) (step s (asked_item s number at by (Deliver from to text))).0.boxes)))

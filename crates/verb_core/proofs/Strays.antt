@@ -17,7 +17,8 @@ use Rattle.verb_core.specs.Mailboxes.{no_flags, put_all}
 use Rattle.verb_core.specs.Boxes.{box_cmp, box_of, has_row, row_at, change_row, mail_at}
 use Rattle.verb_core.specs.Store.{MailStore, IsValid}
 use Rattle.verb_core.specs.Items.{actor, text_in}
-use Rattle.verb_core.specs.Recipients.{recipients, some_unknown, deciding}
+use Rattle.verb_core.specs.Recipients.{recipients, some_unknown}
+use Rattle.verb_core.specs.Filters.{deciding}
 use Rattle.verb_core.specs.Aims.{Sought, aim_at, box_aimed, into_or, and_postmaster, delivered, sought}
 use Rattle.verb_core.specs.Step.{Boxes, message, new_mail, put_at, rearranged, step}
 use Rattle.verb_core.specs.Fates.{of_key, times_in, is_discarded}
@@ -120,7 +121,7 @@ module _ (s : MailStore) (i : Item) (valid : IsValid s) where
       filed (Some name) stays = comes_of to name inbox unknown
 
 pub comes-step : (s : MailStore) (i : Item) (from : List ℕ) (to : List (List ℕ)) (text : List ℕ) → IsValid s → i.deed ≡ Deliver from to text
-    → some_unknown s.house s.conf to ≡ true → is_discarded s.conf text ≡ false
+    → some_unknown s.house s.conf to ≡ true → is_discarded s.conf from to text ≡ false
     → times_in (record { item = i.number; index = 1 }) (mail_at (box_of s.house.postmaster lost_found) (step s i).0.boxes)
     ≡ times_in (record { item = i.number; index = 1 }) (mail_at (box_of s.house.postmaster lost_found) s.boxes) + 1
 comes-step s i from to text valid is unknown stays =
@@ -128,4 +129,4 @@ comes-step s i from to text valid is unknown stays =
     times_in (record { item = i.number; index = 1 }) (mail_at (box_of s.house.postmaster lost_found)
     (put_at (λ index. new_mail (actor i.by d) i s.boxes index d) (sought s (unwrap_or (text_in d) []) i.by d).aims (rearranged (actor i.by d) d s.boxes)))
     ≡ times_in (record { item = i.number; index = 1 }) (mail_at (box_of s.house.postmaster lost_found) s.boxes) + 1) (sym is)
-    (comes_by s i valid to (deciding s.conf text) unknown stays)
+    (comes_by s i valid to (deciding s.conf from to text) unknown stays)

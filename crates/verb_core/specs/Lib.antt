@@ -1,10 +1,12 @@
 pub mod Texts
 pub mod Names
+pub mod Patterns
 pub mod Mailboxes
 pub mod KeyOrder
 pub mod Boxes
 pub mod Store
 pub mod Recipients
+pub mod Filters
 pub mod Items
 pub mod Deeds
 pub mod Aims
@@ -13,3 +15,4 @@ pub mod Touched
 pub mod Live
 pub mod Stamps
 pub mod Fates
+pub mod Flat

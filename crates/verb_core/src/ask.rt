@@ -80,6 +80,7 @@ pub enum Refused {
     UidWide,
     Numbers { next: u32 },
     NoMemory,
+    HasInferiors,
 }
 
 /// Why a submitted ask has no item: it is refused, a device call failed, or the log is closed.

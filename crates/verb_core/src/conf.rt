@@ -1,5 +1,6 @@
 //! The house, and the configuration in force.
 ghost use Rattle.std.specs.Prelude.{◌≡◌};
+ghost use Rattle.verb_core.specs.Filters.{are_of_body as look_at_bodies, is_of_body as looks_at_body};
 ghost use Rattle.verb_core.specs.Store.{is_house, is_known};
 
 use crate::{Accounts, Aliases, Filters};
@@ -50,13 +51,45 @@ pub struct Alias {
     pub users: Users,
 }
 
-/// A message whose text has the needle is filed into the mailbox of that name, or discarded where
-/// there is no such name.
+/// What a filter looks at: the whole text as it is stored; the values of the header fields of that name, which ignores case
+/// (RFC 5322, 2.2); the reverse path; or the local parts.
+#[derive(Debug, Drop, PartialEq, Eq)]
+pub enum Scope {
+    Body,
+    Field(Name),
+    Sender,
+    Recipient,
+}
+
+impl Scope {
+    /// Whether it is the whole text.
+    pub fn is_of_body(&self) -> bool
+        ensures { result ≡ looks_at_body self.now }
+    {
+        match self {
+            Scope::Body => true,
+            Scope::Field(_) => false,
+            Scope::Sender => false,
+            Scope::Recipient => false,
+        }
+    }
+}
+
+/// Whether each filter looks at the whole text.
+pub fn are_of_body(filters: &[Filter]) -> bool
+    ensures { result ≡ look_at_bodies filters.now }
+{
+    filters.iter().all(|filter| filter.scope.is_of_body())
+}
+
+/// A message that has the needle where the scope says is filed into the mailbox of that name, or
+/// discarded where there is no such name.
 #[derive(Debug, Drop, PartialEq, Eq)]
 pub struct Filter {
     pub id: Name,
     pub needle: Name,
     pub file: Option<Name>,
+    pub scope: Scope,
 }
 
 /// The aliases by rising local part, and the filters in the order in which they are tried.

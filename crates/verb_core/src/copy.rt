@@ -1,13 +1,13 @@
 //! Copies of items, configurations and mailboxes.
 use crate::copy_deeds::{
     copy_act, copy_append, copy_close, copy_copy, copy_create, copy_delete, copy_deliver,
-    copy_drop_alias, copy_drop_filter, copy_expunge, copy_fetch, copy_give, copy_list, copy_notice,
-    copy_remove, copy_rename, copy_select, copy_set_alias, copy_set_filter, copy_status,
-    copy_store,
+    copy_drop_alias, copy_drop_filter, copy_expunge, copy_fetch, copy_field, copy_give, copy_list,
+    copy_notice, copy_remove, copy_rename, copy_select, copy_set_alias, copy_set_filter,
+    copy_status, copy_store,
 };
 use crate::{
     Account, Act, Aim, Alias, Body, BoxId, Conf, Deed, Entry, Filter, House, Item, Mailbox,
-    Resolved, Shown, Sight,
+    Resolved, Scope, Shown, Sight,
 };
 use std::alloc::Global;
 use undo_base::{Copies, NoMemory};
@@ -57,12 +57,24 @@ impl Copies for Alias {
     }
 }
 
+impl Copies for Scope {
+    fn copy(&self, alloc: Global) -> Result<Scope, NoMemory> {
+        match self {
+            Scope::Body => Ok(Scope::Body),
+            Scope::Field(name) => copy_field(alloc, name),
+            Scope::Sender => Ok(Scope::Sender),
+            Scope::Recipient => Ok(Scope::Recipient),
+        }
+    }
+}
+
 impl Copies for Filter {
     fn copy(&self, alloc: Global) -> Result<Filter, NoMemory> {
         Ok(Filter {
             id: self.id.copy(alloc)?,
             needle: self.needle.copy(alloc)?,
             file: self.file.copy(alloc)?,
+            scope: self.scope.copy(alloc)?,
         })
     }
 }

@@ -1,9 +1,10 @@
 //! Deeds and acts made of copies of their parts: one function for each kind.
 ghost use Rattle.std.specs.Prelude.{◌≡◌, IfOk};
+ghost use Rattle.verb_core.specs.declared.conf.Scope.TheVariants as scopes;
 ghost use Rattle.verb_core.specs.declared.item.Act.TheVariants as acts;
 ghost use Rattle.verb_core.specs.declared.item.Deed.TheVariants as deeds;
 
-use crate::{Act, Deed, Filter};
+use crate::{Act, Deed, Filter, Scope};
 use std::alloc::Global;
 use undo_base::{Copies, Flags, How, Key, Keys, Name, Names, NoMemory, Text, User, Users};
 
@@ -22,6 +23,12 @@ pub(crate) fn copy_drop_alias(alloc: Global, local: &Name) -> Result<Act, NoMemo
     Ok(Act::DropAlias {
         local: local.copy(alloc)?,
     })
+}
+
+pub(crate) fn copy_field(alloc: Global, name: &Name) -> Result<Scope, NoMemory>
+    ensures { IfOk result (λ copy. copy ≡ scopes.Field name.now) }
+{
+    Ok(Scope::Field(name.copy(alloc)?))
 }
 
 pub(crate) fn copy_set_filter(alloc: Global, filter: &Filter) -> Result<Act, NoMemory>

@@ -1,6 +1,7 @@
 //! Names that are always there, and names that a new mailbox can have.
 ghost use Rattle.std.specs.Prelude.{◌≡◌, bytes_eq};
-ghost use Rattle.verb_core.specs.Names.{inbox, lost_found, is_fixed as is_always_there, is_wildcard as is_any, is_new_name as is_new};
+ghost use Rattle.std.specs.List.{list_any};
+ghost use Rattle.verb_core.specs.Names.{inbox, lost_found, is_fixed as is_always_there, is_slash as is_separator, is_wildcard as is_any, has_whole_parts as are_whole, is_new_name as is_new};
 
 /// Whether it is INBOX.
 pub fn is_inbox(name: &[u8]) -> bool
@@ -23,17 +24,59 @@ pub fn is_fixed(name: &[u8]) -> bool
     is_inbox(name) || is_lost_found(name)
 }
 
-/// Whether the byte is `*` or `%`, each of which matches any run of bytes (RFC 3501, section 6.3.8).
+/// Whether the byte is `/`, which stands between a superior and what lies below it.
+pub fn is_slash(byte: u8) -> bool
+    ensures { result ≡ is_separator byte }
+{
+    byte == b'/'
+}
+
+/// Whether the byte is `*`, which matches any run of bytes, or `%`, which matches any run without `/` (RFC 3501, section 6.3.8).
 pub fn is_wildcard(byte: u8) -> bool
     ensures { result ≡ is_any byte }
 {
     byte == b'*' || byte == b'%'
 }
 
-/// Whether a new mailbox can have the name: it has neither a wildcard nor `/`.
-pub fn is_new_name(name: &[u8]) -> bool
-    ensures { result ≡ is_new name.now }
+/// Whether the name neither begins nor ends with `/`, nor holds `//`.
+#[tactic(auto, using(crate::proofs::NameBytes::whole_parts))]
+pub fn has_whole_parts(name: &[u8]) -> bool
+    ensures { result ≡ are_whole name.now }
 {
-    name.iter()
-        .all(|byte| !(is_wildcard(*byte) || *byte == b'/'))
+    let mut begins = true;
+    for byte in name {
+        if is_slash(*byte) && begins {
+            return false;
+        }
+        begins = is_slash(*byte);
+    }
+    !begins
+}
+
+/// Whether a byte of the name is one of these.
+fn has_wildcard(name: &[u8]) -> bool
+    ensures { result ≡ list_any is_any name.now }
+{
+    name.iter().any(|byte| is_wildcard(*byte))
+}
+
+/// Whether a byte of the name is `/`.
+fn has_slash(name: &[u8]) -> bool
+    ensures { result ≡ list_any is_separator name.now }
+{
+    name.iter().any(|byte| is_slash(*byte))
+}
+
+/// Whether a new mailbox can have the name: it has no wildcard, and where the store is not deep no `/`; where it is deep each of its parts has a byte.
+pub fn is_new_name(deep: bool, name: &[u8]) -> bool
+    ensures { result ≡ is_new deep name.now }
+{
+    if has_wildcard(name) {
+        return false;
+    }
+    if deep {
+        has_whole_parts(name)
+    } else {
+        !has_slash(name)
+    }
 }

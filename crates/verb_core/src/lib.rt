@@ -1,7 +1,7 @@
 //! The verbs of the mail store: its parts, its items, and what each item does.
 //!
 //! `mailbox`, `mail` and `conf` are the parts of a store, `item` what is recorded, `deed` what a deed has, `actor` whose
-//! mailboxes an item acts on, `fixed` the names that are always there, `flags` those that a STORE leaves, `ask` what is
+//! mailboxes an item acts on, `fixed` the names that are always there and those of new mailboxes, `superiors` their hierarchy, `flags` those that a STORE leaves, `ask` what is
 //! asked and refused, `bodies` where texts are read, `copy` and `copy_deeds` the copies, `recipients` whom a local part
 //! means; `threads` says what may cross threads, and `laws` what holds of every store and item. `specs/` says what each item does to the store, what it answers, and what is kept of a store in use.
 #![tactic(auto)]
@@ -20,18 +20,22 @@ pub mod laws;
 mod mail;
 mod mailbox;
 mod recipients;
+mod superiors;
 mod threads;
 
 pub use actor::{actor_of, who_acts};
 pub use ask::{Ask, Refused, SubmitFault};
 pub use bodies::{Bodies, BodiesFault};
-pub use conf::{Account, Alias, Conf, Filter, House};
-pub use fixed::{is_fixed, is_inbox, is_lost_found, is_new_name, is_wildcard};
+pub use conf::{Account, Alias, Conf, Filter, House, Scope, are_of_body};
+pub use fixed::{
+    has_whole_parts, is_fixed, is_inbox, is_lost_found, is_new_name, is_slash, is_wildcard,
+};
 pub use flags::flags_after;
 pub use item::{Act, Aim, Deed, Item, Resolved, Shown, Sight, Way};
 pub use mail::{Entries, EntriesView, keys_rise_from, last_key};
 pub use mailbox::{Body, BoxId, Entry, Mailbox};
 pub use recipients::resolve_local;
+pub use superiors::{is_inferior, names_with_superiors};
 pub use threads::types_cross_threads;
 use undo_base::Sequence;
 
