@@ -1,9 +1,11 @@
 mod Answered
 mod Growth
+mod Counts
 mod InTurn
 mod Made
 mod KeysThere
 mod Plans
+pub mod Renames
 mod WorkLaws
 mod Aimed
 mod GrowLaws

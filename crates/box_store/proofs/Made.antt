@@ -25,5 +25,5 @@ made e what s u rows who there does conf shows = record {
   elsewhere = λ t house valid same names.
       let here : SameAt (deed_touches (actor what.item.by what.item.deed) what.item.deed) rows t.boxes = subst (λ (rs : Boxes). SameAt (deed_touches (actor what.item.by what.item.deed) what.item.deed) rs t.boxes) (sym there) (deed_same (sought_in what) what.item s.boxes t.boxes same) in
       let work = subst (λ (v : User). Does (deed_touches v what.item.deed) rows e.work (after v what.item what.aims)) who does in
-      ap₂ (λ (c : Conf) (boxes : Boxes). record t { conf = c; boxes = boxes }) (conf t.house t.conf) (work t.boxes valid.rising here);
+      ap₂ (λ (c : Conf) (boxes : Boxes). record t { conf = c; boxes = boxes }) (conf t.house t.conf) (work t.boxes valid.rising valid.superiors here);
 }

@@ -9,9 +9,9 @@ use Rattle.undo_base.specs.declared.keys.User.{User}
 use Rattle.verb_core.specs.declared.conf.House.{House}
 use Rattle.verb_core.specs.declared.mailbox.BoxId.{BoxId}
 use Rattle.verb_core.specs.declared.mailbox.Mailbox.{Mailbox}
-use Rattle.verb_core.specs.Names.{inbox, lost_found}
+use Rattle.verb_core.specs.Names.{inbox, lost_found, superiors}
 use Rattle.verb_core.specs.Mailboxes.{no_mail}
-use Rattle.verb_core.specs.Boxes.{box_cmp, box_of, has_row, is_rising, row_at}
+use Rattle.verb_core.specs.Boxes.{box_cmp, box_of, has_row, has_superiors, is_rising, row_at}
 use Rattle.verb_core.specs.Store.{MailStore, IsValid, is_row, users_of}
 use Rattle.verb_core.specs.Step.{Boxes}
 use Rattle.verb_core.proofs.Validity.{both}
@@ -47,6 +47,14 @@ are_rows : (house : House) (rs : Boxes) → list_all (is_row house) rs ≡ true 
 are_rows house [] h = refl
 are_rows house (r ∷ rs) h = both _ _ (both _ _ (first_so _ _ (first_so _ _ h)) refl) (are_rows house rs (second_so _ _ h))
 
+-- and so are the superiors of each
+each_above : (rs : Boxes) → list_all (has_superiors (outlined rs)) (outlined rs) ≡ list_all (has_superiors rs) rs
+each_above rs = go rs
+  where
+    go : (more : Boxes) → list_all (has_superiors (outlined rs)) (outlined more) ≡ list_all (has_superiors rs) more
+    go [] = refl
+    go (r ∷ more) = ap₂ (λ (a b : Bool). a && b) (ap (λ (has : BoxId → Bool). list_all (λ n. has (box_of r.0.user n)) (superiors r.0.name)) (λ j id. has_outlined id rs j)) (go more)
+
 -- the outline of a valid store is valid
 pub valid_outline : (s : MailStore) → IsValid s → IsValid (outline s)
 valid_outline s valid = record {
@@ -54,5 +62,6 @@ valid_outline s valid = record {
   rising = rising_outlined s.boxes ∙ valid.rising;
   rows = are_rows s.house s.boxes valid.rows;
   fixed = ap (λ (has : BoxId → Bool). list_all (λ (u : User). has (box_of u inbox) && has (box_of u lost_found)) (users_of s.house)) (λ j id. has_outlined id s.boxes j) ∙ valid.fixed;
+  superiors = each_above s.boxes ∙ valid.superiors;
   aliases = valid.aliases;
 }

@@ -13,14 +13,13 @@ use Rattle.verb_core.specs.declared.item.Act.TheVariants.{Give}
 use Rattle.verb_core.specs.declared.item.Deed.{Deed}
 use Rattle.verb_core.specs.declared.item.Deed.TheVariants.{Deliver, Append, Copy, Act as Acts, Notice}
 use Rattle.verb_core.specs.declared.item.Item.{Item}
-use Rattle.verb_core.specs.declared.item.Way.TheVariants.{Plain, NoSource, Merged}
 use Rattle.verb_core.specs.declared.mailbox.BoxId.{BoxId}
 use Rattle.verb_core.specs.declared.mailbox.Entry.{Entry}
 use Rattle.verb_core.specs.declared.mailbox.Mailbox.{Mailbox}
 use Rattle.verb_core.specs.Names.{lost_found, is_fixed}
 use Rattle.verb_core.specs.Mailboxes.{is_among, with_entries, reflagged, copies, changed, put_all}
-use Rattle.verb_core.specs.Boxes.{box_cmp, box_of, row_at, mail_at, change_row, drop_row, is_rising}
-use Rattle.verb_core.specs.Step.{Boxes, way_of, deleted, new_mail, put_at, rearranged}
+use Rattle.verb_core.specs.Boxes.{box_cmp, box_of, row_at, mail_at, change_row, is_rising}
+use Rattle.verb_core.specs.Step.{Boxes, left, deleted, new_mail, put_at, rearranged}
 use Rattle.verb_core.specs.Touched.{SameAt, deed_touches, is_one}
 use Rattle.verb_core.specs.Aims.{box_aimed}
 use Rattle.verb_core.proofs.BoxLaws.{tied, same_rows, rising-change_row, row_at-change_row, same_box, bytes_eq-refl}
@@ -37,13 +36,6 @@ itself id = sym (same_box id id) ∙ rw (eq-eqb id.user.0 id.user.0 refl) (bytes
 -- the first of some mailboxes, and the second
 pub first_same : (id : BoxId) (ids : List BoxId) (rs ss : Boxes) → SameAt (is_one (id ∷ ids)) rs ss → row_at id rs ≡ row_at id ss
 first_same id ids rs ss same = same id (ap (λ b. b || list_any (λ (x : BoxId). eq_by_cmp box_cmp x id) ids) (itself id))
-
-pub second_same : (a id : BoxId) (rs ss : Boxes) → SameAt (is_one (a ∷ id ∷ [])) rs ss → row_at id rs ≡ row_at id ss
-second_same a id rs ss same = same id (ap (λ b. eq_by_cmp box_cmp a id || (b || false)) (itself id) ∙ or_true (eq_by_cmp box_cmp a id))
-  where
-    or_true : (a : Bool) → (a || true) ≡ true
-    or_true true = refl
-    or_true false = refl
 
 -- two changes that do the same to what stands in the row
 change_same : (id : BoxId) (f g : Mailbox → Mailbox) (rs : Boxes) → is_rising rs ≡ true → option_map f (row_at id rs) ≡ option_map g (row_at id rs) → change_row id f rs ≡ change_row id g rs
@@ -107,12 +99,7 @@ module _ (set keys : List Key) (same : (k : Key) → is_among set k ≡ is_among
           ∙ ap (λ (test : Key → Bool). map (λ (e : Entry). cond (test e.key) (record e { flags = changed how given e.flags }) e) m.entries) tests)
 
   pub deletes : (u : User) (name : List ℕ) (boxes : Boxes) → deleted u name set boxes ≡ deleted u name keys boxes
-  deletes u name boxes = ap (λ (test : Key → Bool). cond (is_fixed name) boxes (change_row (box_of u lost_found) (put_all (cond (is_fixed name) [] (filter (λ (e : Entry). not (test e.key)) (mail_at (box_of u name) boxes)))) (drop_row (box_of u name) boxes))) tests
-
--- ---- a RENAME goes the same way
-
-pub same_way : (u : User) (source target : List ℕ) (rs ss : Boxes) → SameAt (is_one (box_of u source ∷ box_of u target ∷ [])) rs ss → way_of u source target rs ≡ way_of u source target ss
-same_way u source target rs ss same = ap₂ (λ (o p : Option Mailbox). cond (bytes_eq source lost_found || is_fixed target || bytes_eq source target || not (is_some o)) NoSource (cond (is_some p) Merged Plain)) (first_same (box_of u source) (box_of u target ∷ []) rs ss same) (second_same (box_of u source) (box_of u target) rs ss same)
+  deletes u name boxes = ap (λ (test : Key → Bool). cond (is_fixed name) boxes (change_row (box_of u lost_found) (put_all (cond (is_fixed name) [] (filter (λ (e : Entry). not (test e.key)) (mail_at (box_of u name) boxes)))) (left u name boxes))) tests
 
 -- ---- new mail
 

@@ -10,13 +10,17 @@ use Rattle.verb_core.specs.declared.mailbox.Mailbox.{Mailbox}
 use Rattle.verb_core.specs.Names.{inbox, lost_found, is_fixed}
 use Rattle.verb_core.specs.Mailboxes.{no_mail, put_all, with_entries, emptied, expunged, without, is_among}
 use Rattle.verb_core.specs.Boxes.{box_cmp, box_of, is_rising, has_row, row_at, add_row, drop_row, change_row, mail_at, next_at}
-use Rattle.verb_core.specs.Step.{Boxes, left, renamed, after_rename, saved, deleted, created}
-use Rattle.verb_core.proofs.BoxLaws.{row_at-change_row, row_at-drop_row, rising-add_row, rising-drop_row, rising-change_row}
+use Rattle.verb_core.specs.Step.{Boxes, left, inbox_renamed, after_rename, saved, deleted, created, all_created}
+use Rattle.verb_core.proofs.BoxLaws.{row_at-change_row, row_at-drop_row, rising-add_row, rising-change_row}
+use Rattle.verb_core.proofs.Moves.{stays_empty, rising-left}
+use Rattle.verb_core.proofs.RowLists.{rising-all_created, rising-created}
+use Rattle.box_store.proofs.Renames.{rising-all_moved}
 use Rattle.mail_rows.specs.declared.change.Put.{Put}
+use Rattle.box_store.specs.declared.effect.Move.{Move}
 use Rattle.box_store.specs.declared.effect.Work.{Work}
 use Rattle.box_store.specs.declared.effect.Work.TheVariants.{Puts, Flags, Expunge, Remove, Create, Rename, Delete}
 use Rattle.mail_rows.specs.Mail.{all_flags_set}
-use Rattle.box_store.specs.Effects.{HasSpares, put_each, worked}
+use Rattle.box_store.specs.Effects.{HasSpares, all_moved, row_moved, put_each, worked}
 
 entries_of : Option Mailbox → List Entry
 entries_of o = unwrap_or (option_map (λ (m : Mailbox). m.entries) o) []
@@ -42,7 +46,7 @@ no_more_dropped false o = record { entries = omega arith; next = omega arith }
 
 no_more_left : (q : BoxId) (u : User) (source : List ℕ) (rs : Boxes) → NoMore (row_at q (left u source rs)) (row_at q rs)
 no_more_left q u source rs =
-    elim (bytes_eq source inbox) as (λ b. NoMore (row_at q (cond b (change_row (box_of u source) emptied rs) (drop_row (box_of u source) rs))) (row_at q rs)) [
+    elim (stays_empty u source rs) as (λ b. NoMore (row_at q (cond b (change_row (box_of u source) emptied rs) (drop_row (box_of u source) rs))) (row_at q rs)) [
       | true ↦ subst (λ (o : Option Mailbox). NoMore o (row_at q rs)) (sym (row_at-change_row q (box_of u source) emptied rs)) (no_more_emptied (eq_by_cmp box_cmp (box_of u source) q) (row_at q rs))
       | false ↦ subst (λ (o : Option Mailbox). NoMore o (row_at q rs)) (sym (row_at-drop_row q (box_of u source) rs)) (no_more_dropped (eq_by_cmp box_cmp (box_of u source) q) (row_at q rs))
     ]
@@ -72,12 +76,11 @@ fewer_left keys (e ∷ es) =
 
 -- and for what of it is saved
 pub spared_saved : (q : BoxId) (u : User) (name : List ℕ) (keys : List Key) (m : Mailbox) (spares : List ℕ) (rs : Boxes) → row_at (box_of u name) rs ≡ Some m
-    → HasSpares ((q, length (mail_at (box_of u name) rs)) ∷ []) spares rs → HasSpares ((q, length (without keys m.entries)) ∷ []) spares (drop_row (box_of u name) rs)
+    → HasSpares ((q, length (mail_at (box_of u name) rs)) ∷ []) spares rs → HasSpares ((q, length (without keys m.entries)) ∷ []) spares (left u name rs)
 spared_saved q u name keys m spares rs is has =
     let count : length (mail_at (box_of u name) rs) ≡ length m.entries = ap (λ (o : Option Mailbox). length (unwrap_or (option_map (λ (n : Mailbox). n.entries) o) [])) is in
     let fewer : length (without keys m.entries) ≤ length m.entries = fewer_left keys m.entries in
-    spared_no_more q (length (mail_at (box_of u name) rs)) (length (without keys m.entries)) spares rs (drop_row (box_of u name) rs) (omega arith)
-    (subst (λ (o : Option Mailbox). NoMore o (row_at q rs)) (sym (row_at-drop_row q (box_of u name) rs)) (no_more_dropped (eq_by_cmp box_cmp (box_of u name) q) (row_at q rs))) has
+    spared_no_more q (length (mail_at (box_of u name) rs)) (length (without keys m.entries)) spares rs (left u name rs) (omega arith) (no_more_left q u name rs) has
 
 -- ---- what the parts make
 
@@ -102,21 +105,21 @@ pub merged_some : (u : User) (source target : List ℕ) (m : Mailbox) (rs : Boxe
 merged_some u source target m rs is = ap (λ (es : List Entry). change_row (box_of u target) (put_all es) (left u source rs)) (sym (mail_is (box_of u source) rs (Some m) is))
 
 pub deleted_fixed : (u : User) (name : List ℕ) (keys : List Key) (rs : Boxes) → is_fixed name ≡ true → rs ≡ deleted u name keys rs
-deleted_fixed u name keys rs fixed = sym (ap (λ b. cond b rs (change_row (box_of u lost_found) (put_all (saved u name keys rs)) (drop_row (box_of u name) rs))) fixed)
+deleted_fixed u name keys rs fixed = sym (ap (λ b. cond b rs (change_row (box_of u lost_found) (put_all (saved u name keys rs)) (left u name rs))) fixed)
 
 deleted_other : (u : User) (name : List ℕ) (keys : List Key) (rs : Boxes) (es : List Entry) → is_fixed name ≡ false → mail_at (box_of u name) rs ≡ es
-    → change_row (box_of u lost_found) (put_all (without keys es)) (drop_row (box_of u name) rs) ≡ deleted u name keys rs
+    → change_row (box_of u lost_found) (put_all (without keys es)) (left u name rs) ≡ deleted u name keys rs
 deleted_other u name keys rs es free is =
-    ap (λ (xs : List Entry). change_row (box_of u lost_found) (put_all (without keys xs)) (drop_row (box_of u name) rs)) (sym is)
-    ∙ ap (λ b. cond b rs (change_row (box_of u lost_found) (put_all (cond b [] (without keys (mail_at (box_of u name) rs)))) (drop_row (box_of u name) rs))) (sym free)
+    ap (λ (xs : List Entry). change_row (box_of u lost_found) (put_all (without keys xs)) (left u name rs)) (sym is)
+    ∙ ap (λ b. cond b rs (change_row (box_of u lost_found) (put_all (cond b [] (without keys (mail_at (box_of u name) rs)))) (left u name rs))) (sym free)
 
-pub deleted_none : (u : User) (name : List ℕ) (keys : List Key) (rs : Boxes) → is_fixed name ≡ false → row_at (box_of u name) rs ≡ None → drop_row (box_of u name) rs ≡ deleted u name keys rs
+pub deleted_none : (u : User) (name : List ℕ) (keys : List Key) (rs : Boxes) → is_fixed name ≡ false → row_at (box_of u name) rs ≡ None → left u name rs ≡ deleted u name keys rs
 deleted_none u name keys rs free is =
-    sym (same_rows_put (box_of u lost_found) (drop_row (box_of u name) rs))
+    sym (same_rows_put (box_of u lost_found) (left u name rs))
     ∙ deleted_other u name keys rs [] free (mail_is (box_of u name) rs None is)
 
 pub deleted_some : (u : User) (name : List ℕ) (keys : List Key) (m : Mailbox) (rs : Boxes) → is_fixed name ≡ false → row_at (box_of u name) rs ≡ Some m
-    → change_row (box_of u lost_found) (put_all (without keys m.entries)) (drop_row (box_of u name) rs) ≡ deleted u name keys rs
+    → change_row (box_of u lost_found) (put_all (without keys m.entries)) (left u name rs) ≡ deleted u name keys rs
 deleted_some u name keys m rs free is = deleted_other u name keys rs m.entries free (mail_is (box_of u name) rs (Some m) is)
 
 pub created_there : (id : BoxId) (m : Mailbox) (rs : Boxes) → row_at id rs ≡ Some m → rs ≡ created id rs
@@ -134,25 +137,48 @@ rising_if false xs ys h k = k
 pub rising_changed : (id : BoxId) (f : Mailbox → Mailbox) (rs : Boxes) → is_rising rs ≡ true → is_rising (change_row id f rs) ≡ true
 rising_changed id f rs h = rising-change_row id f rs ∙ h
 
-rising_left : (u : User) (source : List ℕ) (rs : Boxes) → is_rising rs ≡ true → is_rising (left u source rs) ≡ true
-rising_left u source rs h = rising_if (bytes_eq source inbox) _ _ (rising_changed (box_of u source) emptied rs h) (rising-drop_row (box_of u source) rs h)
-
 pub rising_put : (puts : List Put) (rs : Boxes) → is_rising rs ≡ true → is_rising (put_each puts rs) ≡ true
 rising_put [] rs h = h
 rising_put (p ∷ ps) rs h = rising_put ps (change_row p.mailbox (put_all p.mail) rs) (rising_changed p.mailbox (put_all p.mail) rs h)
+
+rising_inbox : (u : User) (target : List ℕ) (rs : Boxes) → is_rising rs ≡ true → is_rising (inbox_renamed u target rs) ≡ true
+rising_inbox u target rs h = rising-add_row (box_of u target) (put_all (mail_at (box_of u inbox) rs) no_mail) (left u inbox rs) (rising-left u inbox rs h)
 
 pub rising_worked : (w : Work) (rs : Boxes) → is_rising rs ≡ true → is_rising (worked w rs) ≡ true
 rising_worked (Puts puts) rs h = rising_put puts rs h
 rising_worked (Flags mailbox flags) rs h = rising_changed mailbox (with_entries (all_flags_set flags)) rs h
 rising_worked (Expunge mailbox keys) rs h = rising_changed mailbox (with_entries (expunged keys)) rs h
 rising_worked (Remove mailbox key) rs h = rising_changed mailbox (with_entries (without (key ∷ []))) rs h
-rising_worked (Create mailbox) rs h = rising_if (has_row mailbox rs) rs (add_row mailbox no_mail rs) h (rising-add_row mailbox no_mail rs h)
-rising_worked (Rename NoSource u source target) rs h = h
-rising_worked (Rename Plain u source target) rs h = rising-add_row (box_of u target) (renamed u source rs) (left u source rs) (rising_left u source rs h)
-rising_worked (Rename Merged u source target) rs h = rising_changed (box_of u target) (put_all (mail_at (box_of u source) rs)) (left u source rs) (rising_left u source rs h)
+rising_worked (Create u mailboxes) rs h = rising-all_created u mailboxes rs h
+rising_worked (Rename NoSource u source target made moves) rs h = h
+rising_worked (Rename Plain u source target made moves) rs h =
+    rising_if (bytes_eq source inbox) (inbox_renamed u target (all_created u made rs)) (all_moved u moves (all_created u made rs))
+    (rising_inbox u target (all_created u made rs) (rising-all_created u made rs h))
+    (rising-all_moved u moves (all_created u made rs) (rising-all_created u made rs h))
+rising_worked (Rename Merged u source target made moves) rs h = rising_changed (box_of u target) (put_all (mail_at (box_of u source) rs)) (left u source rs) (rising-left u source rs h)
 rising_worked (Delete u mailbox keys) rs h =
-    rising_if (is_fixed mailbox) rs (change_row (box_of u lost_found) (put_all (saved u mailbox keys rs)) (drop_row (box_of u mailbox) rs)) h
-    (rising_changed (box_of u lost_found) (put_all (saved u mailbox keys rs)) (drop_row (box_of u mailbox) rs) (rising-drop_row (box_of u mailbox) rs h))
+    rising_if (is_fixed mailbox) rs (change_row (box_of u lost_found) (put_all (saved u mailbox keys rs)) (left u mailbox rs)) h
+    (rising_changed (box_of u lost_found) (put_all (saved u mailbox keys rs)) (left u mailbox rs) (rising-left u mailbox rs h))
 
 pub rising_leave : (u : User) (source : List ℕ) (rs : Boxes) → is_rising rs ≡ true → is_rising (left u source rs) ≡ true
-rising_leave u source rs h = rising_left u source rs h
+rising_leave u source rs h = rising-left u source rs h
+
+-- ---- a mailbox takes another name
+
+dropped_none : (id : BoxId) (rs : Boxes) → row_at id rs ≡ None → drop_row id rs ≡ rs
+dropped_none id [] h = refl
+dropped_none id (r ∷ rs) h = elim (eq_by_cmp box_cmp id r.0) as (λ b. cond b (Some r.1) (row_at id rs) ≡ None → cond (not b) (r ∷ drop_row id rs) (drop_row id rs) ≡ r ∷ rs) [
+  | true ↦ λ e. cc
+  | false ↦ λ e. ap (λ (t : Boxes). r ∷ t) (dropped_none id rs e)
+] h
+
+pub moved_none : (u : User) (m : Move) (rs : Boxes) → row_at (box_of u m.from) rs ≡ None → drop_row (box_of u m.from) rs ≡ row_moved u m rs
+moved_none u m rs is =
+    dropped_none (box_of u m.from) rs is
+    ∙ sym (ap (λ (o : Option Mailbox). unwrap_or (option_map (λ x. add_row (box_of u m.to) x (drop_row (box_of u m.from) rs)) o) rs) is)
+
+pub moved_some : (u : User) (m : Move) (x : Mailbox) (rs : Boxes) → row_at (box_of u m.from) rs ≡ Some x → add_row (box_of u m.to) x (drop_row (box_of u m.from) rs) ≡ row_moved u m rs
+moved_some u m x rs is = sym (ap (λ (o : Option Mailbox). unwrap_or (option_map (λ x. add_row (box_of u m.to) x (drop_row (box_of u m.from) rs)) o) rs) is)
+
+pub rising_made : (id : BoxId) (rs : Boxes) → is_rising rs ≡ true → is_rising (created id rs) ≡ true
+rising_made id rs h = rising-created id rs h

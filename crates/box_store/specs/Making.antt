@@ -5,16 +5,17 @@ use Rattle.verb_core.specs.declared.mailbox.BoxId.{BoxId}
 use Rattle.verb_core.specs.declared.mailbox.Mailbox.{Mailbox}
 use Rattle.verb_core.specs.declared.conf.House.{House}
 use Rattle.verb_core.specs.declared.conf.Conf.{Conf}
-use Rattle.verb_core.specs.Boxes.{is_rising}
+use Rattle.verb_core.specs.Boxes.{is_rising, has_superiors}
 use Rattle.verb_core.specs.Store.{MailStore, is_house, is_known, is_row, has_fixed, users_of}
 
 -- the store of these parts
 abbrev pub store_of_rows : House → Conf → List (BoxId × Mailbox) → MailStore
 store_of_rows house conf rows = record { house = house; conf = conf; boxes = rows }
 
--- whether the users and names rise, each user is known, and in each row the UIDs rise from at least 1 and stay below the next
+-- whether the users and names rise, each user is known, in each row the UIDs rise from at least 1 and stay below the next, and
+-- each superior of a row's name has a row, which then stands before it
 abbrev pub are_rows : House → List (BoxId × Mailbox) → Bool
-are_rows house rows = is_rising rows && list_all (is_row house) rows
+are_rows house rows = is_rising rows && list_all (is_row house) rows && list_all (has_superiors rows) rows
 
 -- whether each user has the fixed mailboxes
 abbrev pub have_fixed : House → List (BoxId × Mailbox) → Bool

@@ -1,5 +1,5 @@
 -- The refusals of what is asked, by the mailboxes as they are now.
-use Rattle.std.specs.Prelude.{◌≡◌, ℕ, ◌+◌, Bool, true, false, ◌&&◌, ◌==◌, nat_lt, nat_le, List, [], ◌∷◌, length, count_by, Option, Some, option_map, Result, Err, bytes_eq}
+use Rattle.std.specs.Prelude.{◌≡◌, ℕ, ◌+◌, Bool, true, false, not, ◌&&◌, ◌==◌, nat_lt, if◌then◌else◌, List, [], ◌∷◌, length, filter, count_by, Option, Some, option_map, Result, Err, bytes_eq}
 use Rattle.std.specs.List.{list_any}
 use Rattle.std.specs.Ordering.{eq_by_cmp}
 use Rattle.undo_base.specs.declared.keys.User.{User}
@@ -8,16 +8,16 @@ use Rattle.verb_core.specs.declared.item.Item.{Item}
 use Rattle.verb_core.specs.declared.ask.Ask.{Ask}
 use Rattle.verb_core.specs.declared.ask.Ask.TheVariants.{Deliver, Append, Copy, Status, Select, Create, Rename}
 use Rattle.verb_core.specs.declared.ask.Refused.{Refused}
-use Rattle.verb_core.specs.declared.ask.Refused.TheVariants.{NoBox, Exists, Fixed, NameShape, TryCreate, Gone, TooMany, TooLarge, BoxesFull, UidWide, Numbers, NoMemory}
+use Rattle.verb_core.specs.declared.ask.Refused.TheVariants.{NoBox, Exists, Fixed, NameShape, TryCreate, Gone, TooMany, TooLarge, BoxesFull, UidWide, Numbers, NoMemory, HasInferiors}
 use Rattle.verb_core.specs.declared.item.Deed.TheVariants as deed
 use Rattle.verb_core.specs.declared.mailbox.BoxId.{BoxId}
-use Rattle.verb_core.specs.Names.{inbox}
+use Rattle.verb_core.specs.Names.{inbox, is_empty, superiors, with_superiors}
 use Rattle.verb_core.specs.Mailboxes.{there}
 use Rattle.verb_core.specs.Boxes.{box_cmp, box_of, has_row, next_at, names_of}
 use Rattle.verb_core.specs.Store.{MailStore}
 use Rattle.verb_core.specs.Aims.{sought, box_aimed}
 use Rattle.verb_core.specs.Step.{Boxes}
-use Rattle.verb_core.specs.Live.{asker, mail_of, is_misshapen, asks_fixed, named, targets, new_names, is_missing, is_there, is_gone, key_count, too_large, is_wide, if_so, first_of}
+use Rattle.verb_core.specs.Live.{asker, mail_of, is_misshapen, deletes_superior, asks_fixed, named, targets, new_names, is_missing, is_there, is_gone, key_count, too_large, is_wide, if_so, first_of}
 
 -- the refusal is the one that is due, or want of memory
 abbrev pub IsRefusal : Refused → Result Item Refused → Type 0
@@ -32,11 +32,12 @@ IsDue r due = due ≡ Some r
 -- ---- by names
 
 -- the first refusal by the names in an ask, and by the mailboxes that are there
-abbrev pub by_names : MailStore → Option User → Ask → Option Refused
-by_names s by ask = first_of (
-    if_so (is_misshapen ask) NameShape
+abbrev pub by_names : MailStore → Option User → Ask → Bool → Option Refused
+by_names s by ask deep = first_of (
+    if_so (is_misshapen s by ask deep) NameShape
     ∷ if_so (asks_fixed ask) Fixed
     ∷ if_so (is_missing s by (named ask)) NoBox
+    ∷ if_so (deletes_superior s by ask) HasInferiors
     ∷ if_so (is_missing s by (targets ask)) TryCreate
     ∷ if_so (is_there s by (new_names ask)) Exists
     ∷ [])
@@ -53,15 +54,20 @@ by_keys s by ask = first_of (
 
 -- ---- by what is used up, where no name refuses
 
--- one mailbox more
-abbrev pub adds_name : Ask → Bool
-adds_name (Create mailbox) = true
-adds_name (Rename mailbox target) = bytes_eq mailbox inbox
-adds_name _ = false
+-- whether the asker has no mailbox of that name
+abbrev pub is_free : MailStore → Option User → List ℕ → Bool
+is_free s by name = not (has_row (box_of (asker by) name) s.boxes)
 
--- one mailbox more, where the asker has a thousand
+-- how many mailboxes more: those of the name and its superiors that are missing; of a RENAME, which is to a name, the missing
+-- superiors of its target, and of INBOX, which stays, the target
+abbrev pub adds_names : MailStore → Option User → Ask → ℕ
+adds_names s by (Create mailbox) = length (filter (is_free s by) (with_superiors mailbox))
+adds_names s by (Rename mailbox target) = if is_empty target then 0 else length (filter (is_free s by) (superiors target)) + (if bytes_eq mailbox inbox then 1 else 0)
+adds_names s by _ = 0
+
+-- so many more that the asker has more than a thousand
 abbrev pub fills_up : MailStore → Option User → Ask → Bool
-fills_up s by ask = adds_name ask && nat_le 1000 (length (names_of (asker by) s.boxes))
+fills_up s by ask = nat_lt 0 (adds_names s by ask) && nat_lt 1000 (length (names_of (asker by) s.boxes) + adds_names s by ask)
 
 -- new entries take the next UID past 32 bits
 abbrev pub outgrows : ℕ → ℕ → Bool
@@ -84,7 +90,7 @@ abbrev pub uses_up : MailStore → Option User → Ask → Bool
 uses_up s by (Deliver from to text) = aims_outgrow s.boxes (sought s text by (deed.Deliver from to text)).aims
 uses_up s by (Append mailbox flags moment text) = box_outgrows s.boxes (box_of (asker by) mailbox) 1
 uses_up s by (Copy mailbox keys target strict) = box_outgrows s.boxes (box_of (asker by) target) (length (there (mail_of s by mailbox) keys))
-uses_up s by (Rename mailbox target) = bytes_eq mailbox inbox && outgrows 1 (length (mail_of s by mailbox))
+uses_up s by (Rename mailbox target) = not (is_empty target) && bytes_eq mailbox inbox && outgrows 1 (length (mail_of s by mailbox))
 uses_up s by (Status mailbox) = is_wide s (box_of (asker by) mailbox)
 uses_up s by (Select mailbox) = is_wide s (box_of (asker by) mailbox)
 uses_up s by _ = false
@@ -100,5 +106,5 @@ by_room s number by ask = first_of (
 -- ---- in turn
 
 -- the first refusal of the three
-abbrev pub in_turn : MailStore → ℕ → Option User → Ask → Option Refused
-in_turn s number by ask = first_of (by_names s by ask ∷ by_keys s by ask ∷ by_room s number by ask ∷ [])
+abbrev pub in_turn : MailStore → ℕ → Option User → Ask → Bool → Option Refused
+in_turn s number by ask deep = first_of (by_names s by ask deep ∷ by_keys s by ask ∷ by_room s number by ask ∷ [])

@@ -1,11 +1,10 @@
 //! What an ask names.
 ghost use Rattle.std.specs.Prelude.{◌≡◌, [], option_copied, nat_lt, length, if◌then◌else◌};
 ghost use Rattle.std.specs.List.{cons_option};
-ghost use Rattle.verb_core.specs.Live.{new_names, named, targets, is_misshapen, asks_fixed, too_large};
-ghost use Rattle.box_store.specs.Refusing.{adds_name};
+ghost use Rattle.verb_core.specs.Live.{new_names, named, targets, asks_fixed, too_large};
 
 use undo_base::{MOST_FETCHED, MOST_LITERAL, Name, Text};
-use verb_core::{Ask, is_fixed, is_inbox, is_lost_found, is_new_name};
+use verb_core::{Ask, is_fixed, is_lost_found};
 
 /// The name of a new mailbox.
 pub(crate) fn new_name(ask: &Ask) -> Option<&Name>
@@ -67,16 +66,6 @@ pub(crate) fn target(ask: &Ask) -> Option<&Name>
         Ask::Create { .. } => None,
         Ask::Rename { .. } => None,
         Ask::Delete { .. } => None,
-    }
-}
-
-/// Whether the name of a new mailbox can't be one.
-pub(crate) fn is_misshapen(ask: &Ask) -> bool
-    ensures { result ≡ is_misshapen ask.now }
-{
-    match new_name(ask) {
-        None => false,
-        Some(name) => !is_new_name(name.bytes()),
     }
 }
 
@@ -143,26 +132,5 @@ pub(crate) fn too_large(ask: &Ask) -> Option<u64>
         Ask::Create { .. } => None,
         Ask::Rename { .. } => None,
         Ask::Delete { .. } => None,
-    }
-}
-
-/// Whether there would be one mailbox more: CREATE makes one, and RENAME of INBOX keeps INBOX.
-pub(crate) fn adds_name(ask: &Ask) -> bool
-    ensures { result ≡ adds_name ask.now }
-{
-    match ask {
-        Ask::Create { .. } => true,
-        Ask::Rename { mailbox, .. } => is_inbox(mailbox.bytes()),
-        Ask::Deliver { .. } => false,
-        Ask::Append { .. } => false,
-        Ask::Fetch { .. } => false,
-        Ask::Store { .. } => false,
-        Ask::Copy { .. } => false,
-        Ask::List { .. } => false,
-        Ask::Status { .. } => false,
-        Ask::Select { .. } => false,
-        Ask::Expunge { .. } => false,
-        Ask::Close { .. } => false,
-        Ask::Delete { .. } => false,
     }
 }

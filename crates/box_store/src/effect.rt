@@ -1,8 +1,15 @@
 //! Effects: what an item does, made from a store and applied to it, or to one that has the same mailboxes where the item
 //! touches them.
 use mail_rows::{FlagChange, KeySet, Put};
-use undo_base::{Key, Name, Sequence, User};
+use undo_base::{Key, Name, Names, Sequence, User};
 use verb_core::{Act, BoxId, Shown, Way};
+
+/// A mailbox takes another name.
+#[derive(Drop)]
+pub struct Move {
+    pub from: Name,
+    pub to: Name,
+}
 
 /// What an item does to mailboxes, as large as what it changes.
 #[derive(Drop)]
@@ -24,16 +31,20 @@ pub enum Work {
         mailbox: BoxId,
         key: Key,
     },
-    /// An empty mailbox comes, where there is none (RFC 3501, section 6.3.3).
+    /// Empty mailboxes of a user come where there are none, one after the other (RFC 3501, section 6.3.3).
     Create {
-        mailbox: BoxId,
+        user: User,
+        mailboxes: Names,
     },
-    /// A mailbox takes another name, or its entries move into another mailbox (RFC 3501, section 6.3.5).
+    /// A mailbox and its inferiors take other names, below superiors that are made; or its entries move into another mailbox
+    /// (RFC 3501, section 6.3.5).
     Rename {
         way: Way,
         user: User,
         source: Name,
         target: Name,
+        made: Names,
+        moves: Sequence<Move>,
     },
     /// A mailbox goes with the entries of these keys, and its others move to Lost+Found.
     Delete {

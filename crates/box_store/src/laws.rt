@@ -39,9 +39,9 @@ impl Store {
             (step self.now.store item.now).1 ≡ (step other.now.store item.now).1 }
         ensures mailboxes { rows_of (actor item.now.by item.now.deed) self.now.store.boxes ≡ rows_of (actor item.now.by item.now.deed) other.now.store.boxes →
             rows_of (actor item.now.by item.now.deed) (step self.now.store item.now).0.boxes ≡ rows_of (actor item.now.by item.now.deed) (step other.now.store item.now).0.boxes }
-        ensures asks { (number at : ℕ) (ask : Ask) → is_users ask ≡ true →
+        ensures asks { (number at : ℕ) (ask : Ask) (deep : Bool) → is_users ask ≡ true →
             rows_of (asker item.now.by) self.now.store.boxes ≡ rows_of (asker item.now.by) other.now.store.boxes →
-            live self.now.store number at item.now.by ask ≡ live other.now.store number at item.now.by ask }
+            live self.now.store number at item.now.by ask deep ≡ live other.now.store number at item.now.by ask deep }
     {
         users_are_apart();
         let _other = other;

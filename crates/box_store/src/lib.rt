@@ -17,6 +17,7 @@ mod effect;
 mod laws;
 mod live;
 mod make;
+mod names;
 mod outline;
 mod plan;
 mod refusals;
@@ -29,8 +30,9 @@ mod store;
 mod threads;
 mod work;
 
-pub use effect::{Effect, Work};
+pub use effect::{Effect, Move, Work};
 pub use mail_rows::{FlagChange, KeySet, Put};
+pub use names::{but_last, is_at_or_below, moved_name};
 pub use rows::{RowsRefused, makes_store, rows_fault, rows_make_valid_stores};
 pub use steps::Steps;
 pub use store::Store;

@@ -2,7 +2,7 @@
 ghost use Rattle.std.specs.Prelude.{◌≡◌, ◌≤◌, ◌∷◌, [], false, IsTrue, IfOk, IfSome, IfNone, map, unwrap_or, if◌then◌else◌};
 ghost use Rattle.verb_core.specs.declared.item.Deed.TheVariants as deeds;
 ghost use Rattle.verb_core.specs.Mailboxes.{keys_of};
-ghost use Rattle.verb_core.specs.Store.{is_house};
+ghost use Rattle.verb_core.specs.Store.{IsValid, is_house};
 ghost use Rattle.verb_core.specs.Step.{shown};
 ghost use Rattle.verb_core.specs.Live.{mail_of, marked, marked_in, deed_of, asked_item, answered, asker, first_of};
 ghost use Rattle.box_store.specs.Refusing.{IsDue, by_names, by_keys, by_room, in_turn};
@@ -40,12 +40,13 @@ fn first_refusal(
     number: u32,
     by: Option<User>,
     ask: &Ask,
+    deep: bool,
 ) -> Result<Option<Refused>, NoMemory>
     requires house { IsTrue (is_house store.now.store.house) }
     requires number { number ≤ 4194304 }
-    ensures { IfOk result (λ refused. refused ≡ in_turn store.now.store number by ask.now) }
+    ensures { IfOk result (λ refused. refused ≡ in_turn store.now.store number by ask.now deep) }
 {
-    match refused_by_names(store, by, ask) {
+    match refused_by_names(store, by, ask, deep) {
         Some(refused) => Ok(Some(refused)),
         None => refused_later(alloc, store, number, by, ask),
     }
@@ -58,13 +59,14 @@ fn why_not(
     number: u32,
     by: Option<User>,
     ask: &Ask,
+    deep: bool,
 ) -> Option<Refused>
     requires house { IsTrue (is_house store.now.store.house) }
     requires number { number ≤ 4194304 }
-    ensures none { IfNone result (in_turn store.now.store number by ask.now ≡ None) }
-    ensures some { IfSome result (λ refused. IsDue refused (in_turn store.now.store number by ask.now)) }
+    ensures none { IfNone result (in_turn store.now.store number by ask.now deep ≡ None) }
+    ensures some { IfSome result (λ refused. IsDue refused (in_turn store.now.store number by ask.now deep)) }
 {
-    match first_refusal(alloc, store, number, by, ask) {
+    match first_refusal(alloc, store, number, by, ask, deep) {
         Ok(refused) => refused,
         Err(_) => Some(Refused::NoMemory),
     }
@@ -234,8 +236,10 @@ fn item_of(
     at: u64,
     by: Option<User>,
     ask: Ask,
+    deep: bool,
 ) -> Result<Item, NoMemory>
-    requires { by_names store.now.store by ask ≡ None }
+    requires valid { IsValid store.now.store }
+    requires names { by_names store.now.store by ask deep ≡ None }
     ensures { IfOk result (λ item. item ≡ answered store.now.store (asked_item store.now.store number at by ask)) }
 {
     let deed = deed_of(alloc, store, by, at, ask)?;
@@ -245,13 +249,13 @@ fn item_of(
 impl Store {
     ghost use Rattle.std.specs.Prelude.{◌↔◌, IsSome, IfErr};
     ghost use Rattle.std.specs.List.{list_all, cons_option};
-    ghost use Rattle.verb_core.specs.Store.{IsValid, is_known};
+    ghost use Rattle.verb_core.specs.Store.{is_known};
     ghost use Rattle.verb_core.specs.Items.{IsWellFormed};
     ghost use Rattle.verb_core.specs.Live.{live, is_users};
     ghost use Rattle.box_store.specs.Refusing.{IsRefusal};
 
     /// What a user asks now: the item with its answer, or the first refusal that holds. The asker is a known user, or
-    /// nobody for a delivery. Nothing is done yet.
+    /// nobody for a delivery. Names may have superiors where the store is deep. Nothing is done yet.
     pub fn live(
         &self,
         alloc: Global,
@@ -259,18 +263,19 @@ impl Store {
         at: u64,
         by: Option<User>,
         ask: Ask,
+        deep: bool,
     ) -> Result<Item, Refused>
         requires valid { IsValid self.now.store }
         requires number { number ≤ 4194304 }
         requires by { IsSome by ↔ IsTrue (is_users ask) }
         requires known { IsTrue (list_all (is_known self.now.store.house) (cons_option by [])) }
-        ensures item { IfOk result (λ item. live self.now.store number at by ask ≡ Ok item) }
-        ensures refused { IfErr result (λ refused. IsRefusal refused (live self.now.store number at by ask)) }
+        ensures item { IfOk result (λ item. live self.now.store number at by ask deep ≡ Ok item) }
+        ensures refused { IfErr result (λ refused. IsRefusal refused (live self.now.store number at by ask deep)) }
         ensures formed { IfOk result (λ item. IsWellFormed self.now.store.house item) }
     {
-        match why_not(alloc, self, number, by, &ask) {
+        match why_not(alloc, self, number, by, &ask, deep) {
             Some(refused) => Err(refused),
-            None => match item_of(alloc, self, number, at, by, ask) {
+            None => match item_of(alloc, self, number, at, by, ask, deep) {
                 Ok(item) => Ok(item),
                 Err(_) => Err(Refused::NoMemory),
             },

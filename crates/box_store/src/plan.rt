@@ -4,22 +4,24 @@ ghost use Rattle.std.specs.List.{cons_option};
 ghost use Rattle.undo_base.specs.declared.asks.How.TheVariants.{Add};
 ghost use Rattle.verb_core.specs.declared.item.Deed.TheVariants.{Act as Acts};
 ghost use Rattle.verb_core.specs.Aims.{box_aimed};
-ghost use Rattle.verb_core.specs.Boxes.{box_of, change_row, is_rising};
+ghost use Rattle.verb_core.specs.Boxes.{box_of, change_row, is_rising, same_user};
+ghost use Rattle.verb_core.specs.Names.{superiors, with_superiors};
 ghost use Rattle.verb_core.specs.Items.{actor, keys_in};
 ghost use Rattle.verb_core.specs.Mailboxes.{copies, expunged, no_flags, reflagged, with_entries, without};
-ghost use Rattle.verb_core.specs.Step.{after_rename, created, deleted, message, put_at, rearranged, way_of};
+ghost use Rattle.verb_core.specs.Step.{after_rename, all_created, created_below, deleted, message, put_at, rearranged, way_of};
 ghost use Rattle.verb_core.specs.Touched.{deed_touches, is_one};
-ghost use Rattle.box_store.specs.Effects.{worked};
+ghost use Rattle.box_store.specs.Effects.{renamed_by, worked};
 ghost use Rattle.mail_rows.specs.Changes.{copies_by, copy_by, puts_by};
-ghost use Rattle.box_store.specs.Plans.{Does, after};
+ghost use Rattle.box_store.specs.Plans.{Does, after, missing_of, moves_of};
 
+use crate::names::{moves_of, superiors_to_create, to_create};
 use crate::{KeySet, Work};
 use mail_rows::flags::changes_of;
 use mail_rows::new_mail::{copy_puts, message_puts, own_message};
 use mail_rows::shown::{view_of, way_of};
 use std::alloc::Global;
-use undo_base::{Flags, How, Key, Keys, Name, NoMemory, Sequence, User};
-use verb_core::{Act, Aims, BoxId, Deed, EntriesView, Item, Mailbox};
+use undo_base::{Flags, How, Key, Keys, Name, Names, NoMemory, Sequence, User};
+use verb_core::{Act, Aims, BoxId, Deed, EntriesView, Item, Mailbox, Way};
 
 fn box_named(alloc: Global, user: User, name: &Name) -> Result<BoxId, NoMemory>
     ensures { IfOk result (λ id. id ≡ box_of user name.now) }
@@ -89,11 +91,58 @@ fn remove_work(alloc: Global, user: User, mailbox: &Name, key: Key) -> Result<Wo
     Ok(Work::Remove { mailbox, key })
 }
 
-fn create_work(alloc: Global, user: User, mailbox: &Name) -> Result<Work, NoMemory>
-    ensures { IfOk result (λ w. (boxes : _) → worked w boxes ≡ created (box_of user mailbox.now) boxes) }
+fn create_work(
+    alloc: Global,
+    rows: &[(BoxId, Mailbox)],
+    user: User,
+    mailbox: &Name,
+) -> Result<Work, NoMemory>
+    requires { IsTrue (is_rising rows.now) }
+    ensures { IfOk result (λ w. Does (is_one (map (box_of user) (with_superiors mailbox.now))) rows.now w (created_below user mailbox.now)) }
 {
-    let mailbox = box_named(alloc, user, mailbox)?;
-    Ok(Work::Create { mailbox })
+    let mailboxes = to_create(alloc, rows, user, mailbox)?;
+    Ok(Work::Create { user, mailboxes })
+}
+
+/// A RENAME that takes the source and its inferiors to a target that is free, or the mail of INBOX.
+fn plain_rename(
+    alloc: Global,
+    rows: &[(BoxId, Mailbox)],
+    user: User,
+    source: &Name,
+    target: &Name,
+) -> Result<Work, NoMemory>
+    requires { IsTrue (is_rising rows.now) }
+    ensures { IfOk result (λ w. (boxes : _) → worked w boxes ≡ renamed_by user source.now target.now (moves_of user source.now target.now rows.now) (all_created user (missing_of user (superiors target.now) rows.now) boxes)) }
+{
+    let made = superiors_to_create(alloc, rows, user, target)?;
+    let moves = moves_of(alloc, rows, user, source, target)?;
+    let source = source.copy(alloc)?;
+    let target = target.copy(alloc)?;
+    Ok(Work::Rename {
+        way: Way::Plain,
+        user,
+        source,
+        target,
+        made,
+        moves,
+    })
+}
+
+/// A RENAME that merges the mail of its source into its target.
+fn merging_rename(alloc: Global, user: User, source: &Name, target: &Name) -> Result<Work, NoMemory>
+    ensures { IfOk result (λ w. (boxes : _) → worked w boxes ≡ after_rename Way.Merged user source.now target.now boxes) }
+{
+    let source = source.copy(alloc)?;
+    let target = target.copy(alloc)?;
+    Ok(Work::Rename {
+        way: Way::Merged,
+        user,
+        source,
+        target,
+        made: Names::new(alloc),
+        moves: Sequence::new(alloc),
+    })
 }
 
 fn rename_work(
@@ -104,17 +153,13 @@ fn rename_work(
     target: &Name,
 ) -> Result<Work, NoMemory>
     requires { IsTrue (is_rising rows.now) }
-    ensures { IfOk result (λ w. Does (is_one (box_of user source.now ∷ box_of user target.now ∷ [])) rows.now w (λ boxes. after_rename (way_of user source.now target.now boxes) user source.now target.now boxes)) }
+    ensures { IfOk result (λ w. Does (λ q. same_user user q.user) rows.now w (λ boxes. after_rename (way_of user source.now target.now boxes) user source.now target.now boxes)) }
 {
-    let way = way_of(rows, user, source, target);
-    let source = source.copy(alloc)?;
-    let target = target.copy(alloc)?;
-    Ok(Work::Rename {
-        way,
-        user,
-        source,
-        target,
-    })
+    match way_of(rows, user, source, target) {
+        Way::NoSource => Ok(no_work(alloc)),
+        Way::Plain => plain_rename(alloc, rows, user, source, target),
+        Way::Merged => merging_rename(alloc, user, source, target),
+    }
 }
 
 fn delete_work(alloc: Global, user: User, mailbox: &Name, keys: &Keys) -> Result<Work, NoMemory>
@@ -197,7 +242,7 @@ fn plain_work(
         } => flags_work(alloc, rows, user, mailbox, keys, *how, *flags),
         Deed::Expunge { mailbox, keys } => expunge_work(alloc, user, mailbox, keys),
         Deed::Close { mailbox, keys } => expunge_work(alloc, user, mailbox, keys),
-        Deed::Create { mailbox } => create_work(alloc, user, mailbox),
+        Deed::Create { mailbox } => create_work(alloc, rows, user, mailbox),
         Deed::Rename { mailbox, target } => rename_work(alloc, rows, user, mailbox, target),
         Deed::Delete { mailbox, keys } => delete_work(alloc, user, mailbox, keys),
         Deed::Act(act) => act_work(alloc, user, act),

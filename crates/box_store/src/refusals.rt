@@ -1,16 +1,18 @@
 //! Why an ask is refused, by the mailboxes as they are now.
-ghost use Rattle.std.specs.Prelude.{◌≡◌, ◌&&◌, [], IfOk, option_copied, length, count_by, map, filter, if◌then◌else◌};
-ghost use Rattle.std.specs.List.{cons_option};
+ghost use Rattle.std.specs.Prelude.{◌≡◌, ◌&&◌, [], IfOk, option_copied, length, count_by, map, filter, not, if◌then◌else◌};
+ghost use Rattle.std.specs.List.{cons_option, list_any};
 ghost use Rattle.verb_core.specs.Boxes.{box_of, has_row};
-ghost use Rattle.verb_core.specs.Live.{asker, mail_of, marked, marked_in, lacks, is_missing, is_there, is_gone, key_count};
+ghost use Rattle.verb_core.specs.Live.{asker, mail_of, marked, marked_in, lacks, is_misshapen, misplaces, deletes_superior, is_missing, is_there, is_gone, key_count};
+ghost use Rattle.verb_core.specs.Names.{is_new_name as is_new};
 ghost use Rattle.box_store.specs.Refusing.{by_names, by_keys};
 
 use crate::Store;
-use crate::asked::{asks_fixed, is_misshapen, named, new_name, target, too_large};
+use crate::asked::{asks_fixed, named, new_name, target, too_large};
+use mail_rows::inferiors::{has_inferior, is_below_itself, is_overlong};
 use mail_rows::sights::{marked_among, there_of};
 use std::alloc::{AllocError, Global};
 use undo_base::{Key, Keys, MOST_KEYS, Name, NoMemory, User};
-use verb_core::{Ask, EntriesView, Entry, Refused, who_acts};
+use verb_core::{Ask, EntriesView, Entry, Refused, is_new_name, who_acts};
 
 /// Whether the asker has a mailbox of that name.
 pub(crate) fn has_box(store: &Store, by: Option<User>, name: &Name) -> bool
@@ -56,11 +58,80 @@ fn is_there(store: &Store, by: Option<User>, name: Option<&Name>) -> bool
     }
 }
 
-/// The first refusal by the names in an ask, and by the mailboxes that are there.
-pub(crate) fn refused_by_names(store: &Store, by: Option<User>, ask: &Ask) -> Option<Refused>
-    ensures { result ≡ by_names store.now.store by ask.now }
+/// Whether a RENAME asks for names that no mailbox can have: one below its own source, or too long a one for an inferior.
+fn misplaces(store: &Store, by: Option<User>, ask: &Ask) -> bool
+    ensures { result ≡ misplaces store.now.store by ask.now }
 {
-    if is_misshapen(ask) {
+    match ask {
+        Ask::Rename { mailbox, target } => {
+            is_below_itself(mailbox.bytes(), target.bytes())
+                || is_overlong(store.rows.as_slice(), who_acts(by), mailbox, target)
+        }
+        Ask::Deliver { .. } => false,
+        Ask::Append { .. } => false,
+        Ask::Fetch { .. } => false,
+        Ask::Store { .. } => false,
+        Ask::Copy { .. } => false,
+        Ask::List { .. } => false,
+        Ask::Status { .. } => false,
+        Ask::Select { .. } => false,
+        Ask::Expunge { .. } => false,
+        Ask::Close { .. } => false,
+        Ask::Create { .. } => false,
+        Ask::Delete { .. } => false,
+    }
+}
+
+/// Whether no new mailbox can have a name, where there is one.
+fn is_no_new_name(deep: bool, name: Option<&Name>) -> bool
+    ensures { result ≡ list_any (λ n. not (is_new deep n)) (cons_option (option_copied name.entry) []) }
+{
+    match name {
+        None => false,
+        Some(name) => !is_new_name(deep, name.bytes()),
+    }
+}
+
+/// Whether a new name can't be one, where the store is deep or not.
+fn is_misshapen(store: &Store, by: Option<User>, ask: &Ask, deep: bool) -> bool
+    ensures { result ≡ is_misshapen store.now.store by ask.now deep }
+{
+    is_no_new_name(deep, new_name(ask)) || misplaces(store, by, ask)
+}
+
+/// Whether a DELETE names a mailbox that has an inferior.
+fn deletes_superior(store: &Store, by: Option<User>, ask: &Ask) -> bool
+    ensures { result ≡ deletes_superior store.now.store by ask.now }
+{
+    match ask {
+        Ask::Delete { mailbox } => {
+            has_inferior(store.rows.as_slice(), who_acts(by), mailbox.bytes())
+        }
+        Ask::Deliver { .. } => false,
+        Ask::Append { .. } => false,
+        Ask::Fetch { .. } => false,
+        Ask::Store { .. } => false,
+        Ask::Copy { .. } => false,
+        Ask::List { .. } => false,
+        Ask::Status { .. } => false,
+        Ask::Select { .. } => false,
+        Ask::Expunge { .. } => false,
+        Ask::Close { .. } => false,
+        Ask::Create { .. } => false,
+        Ask::Rename { .. } => false,
+    }
+}
+
+/// The first refusal by the names in an ask, and by the mailboxes that are there.
+pub(crate) fn refused_by_names(
+    store: &Store,
+    by: Option<User>,
+    ask: &Ask,
+    deep: bool,
+) -> Option<Refused>
+    ensures { result ≡ by_names store.now.store by ask.now deep }
+{
+    if is_misshapen(store, by, ask, deep) {
         return Some(Refused::NameShape);
     }
     if asks_fixed(ask) {
@@ -68,6 +139,9 @@ pub(crate) fn refused_by_names(store: &Store, by: Option<User>, ask: &Ask) -> Op
     }
     if is_missing(store, by, named(ask)) {
         return Some(Refused::NoBox);
+    }
+    if deletes_superior(store, by, ask) {
+        return Some(Refused::HasInferiors);
     }
     if is_missing(store, by, target(ask)) {
         return Some(Refused::TryCreate);

@@ -1,9 +1,9 @@
 //! Room for an effect, so that applying it takes no memory.
-ghost use Rattle.std.specs.Prelude.{◌≡◌, ◌+◌, ◌-◌, slice_index, ◌≤◌, ◌<◌, ◌^◌, [], ◌∷◌, Option, Some, None, true, IsTrue, IfOk, OnOk, length, map, take, drop, vec_len, vec_capacity};
-ghost use Rattle.verb_core.specs.Names.{lost_found};
+ghost use Rattle.std.specs.Prelude.{◌≡◌, ◌+◌, ◌-◌, slice_index, ◌≤◌, ◌<◌, ◌^◌, [], ◌∷◌, Option, Some, None, true, IsTrue, IfOk, OnOk, bytes_eq, if◌then◌else◌, length, map, take, drop, vec_len, vec_capacity};
+ghost use Rattle.verb_core.specs.Names.{inbox, lost_found};
 ghost use Rattle.verb_core.specs.Boxes.{box_of, is_rising, mail_at};
 ghost use Rattle.verb_core.specs.declared.item.Act.{Act};
-ghost use Rattle.box_store.specs.Effects.{mail_in, grows, HasSpares, adds_row, conf_by};
+ghost use Rattle.box_store.specs.Effects.{mail_in, grows, HasSpares, rows_added as are_added, conf_by};
 
 use crate::spares::Spares;
 use crate::{Effect, Put, Store, Work};
@@ -11,8 +11,8 @@ use mail_rows::HeldConf;
 use mail_rows::mail::take_entries;
 use mail_rows::rows::place_of;
 use std::alloc::Global;
-use undo_base::{NoMemory, User};
-use verb_core::{Act, BoxId, Conf, Entries, House, Mailbox, Way};
+use undo_base::{Name, Names, NoMemory, User};
+use verb_core::{Act, BoxId, Conf, Entries, House, Mailbox, Way, is_inbox};
 
 /// How many entries a mailbox has at most.
 const MOST_ENTRIES: usize = 4_294_967_295;
@@ -198,6 +198,8 @@ fn reserve_mail(
             user,
             source,
             target,
+            made: _,
+            moves: _,
         } => match way {
             Way::Merged => {
                 reserve_merge(alloc, rows, spares, *user, source.bytes(), target.bytes())
@@ -219,7 +221,59 @@ fn reserve_mail(
             keys: _,
         } => Ok(()),
         Work::Remove { mailbox: _, key: _ } => Ok(()),
-        Work::Create { mailbox: _ } => Ok(()),
+        Work::Create {
+            user: _,
+            mailboxes: _,
+        } => Ok(()),
+    }
+}
+
+/// How many rows a RENAME adds at most: the superiors that it makes and, of INBOX, its target.
+fn rows_renamed(source: &Name, made: &Names) -> Result<usize, NoMemory>
+    ensures { IfOk result (λ count. count ≡ length made.now + (if bytes_eq source.now inbox then 1 else 0)) }
+{
+    if !is_inbox(source.bytes()) {
+        return Ok(made.len());
+    }
+    match made.len().checked_add(1) {
+        Some(count) => Ok(count),
+        None => Err(NoMemory),
+    }
+}
+
+/// How many rows are added at most.
+fn rows_added(work: &Work) -> Result<usize, NoMemory>
+    ensures { IfOk result (λ count. count ≡ are_added work.now) }
+{
+    match work {
+        Work::Create { user: _, mailboxes } => Ok(mailboxes.len()),
+        Work::Rename {
+            way,
+            user: _,
+            source,
+            target: _,
+            made,
+            moves: _,
+        } => match way {
+            Way::Plain => rows_renamed(source, made),
+            Way::Merged => Ok(0),
+            Way::NoSource => Ok(0),
+        },
+        Work::Puts(_) => Ok(0),
+        Work::Flags {
+            mailbox: _,
+            flags: _,
+        } => Ok(0),
+        Work::Expunge {
+            mailbox: _,
+            keys: _,
+        } => Ok(0),
+        Work::Remove { mailbox: _, key: _ } => Ok(0),
+        Work::Delete {
+            user: _,
+            mailbox: _,
+            keys: _,
+        } => Ok(0),
     }
 }
 
@@ -248,7 +302,7 @@ impl Store {
         ensures store { self.new.store ≡ self.old.store }
         ensures ok { OnOk result (IsReady effect.now self.new) }
     {
-        self.rows.reserve(1)?;
+        self.rows.reserve(rows_added(&effect.work)?)?;
         reserve_mail(alloc, &mut self.rows, &mut self.spares, &effect.work)?;
         reserve_conf(alloc, &self.house, &mut self.conf, &effect.act)?;
         Ok(())

@@ -1,24 +1,24 @@
 //! What an ask would use up: mailboxes, UIDs and numbers.
-ghost use Rattle.std.specs.Prelude.{◌≡◌, ◌≤◌, ◌&&◌, IsTrue, IfOk, option_map, length, bytes_eq};
+ghost use Rattle.std.specs.Prelude.{◌≡◌, ◌≤◌, ◌+◌, ◌&&◌, IsTrue, IfOk, option_map, filter, length, nat_lt, not, bytes_eq, if◌then◌else◌};
 ghost use Rattle.std.specs.Ordering.{eq_by_cmp};
 ghost use Rattle.verb_core.specs.declared.conf.Filter.{Filter as TheFilter};
-ghost use Rattle.verb_core.specs.Names.{inbox};
+ghost use Rattle.verb_core.specs.Names.{inbox, is_empty, superiors, with_superiors};
 ghost use Rattle.verb_core.specs.Mailboxes.{there};
 ghost use Rattle.verb_core.specs.Boxes.{box_cmp, box_of, names_of};
 ghost use Rattle.verb_core.specs.Store.{is_house};
 ghost use Rattle.verb_core.specs.Aims.{delivered, box_aimed};
-ghost use Rattle.verb_core.specs.Recipients.{deciding};
+ghost use Rattle.verb_core.specs.Filters.{deciding};
 ghost use Rattle.verb_core.specs.Live.{asker, mail_of, is_wide};
-ghost use Rattle.box_store.specs.Refusing.{fills_up, outgrows, box_outgrows, aims_at, aims_outgrow, uses_up, by_room};
+ghost use Rattle.box_store.specs.Refusing.{adds_names, fills_up, is_free, outgrows, box_outgrows, aims_at, aims_outgrow, uses_up, by_room};
 
 use crate::Store;
-use crate::asked::adds_name;
-use crate::refusals::{mail_of, view_of};
+use crate::names::but_last;
+use crate::refusals::{has_box, mail_of, view_of};
 use mail_rows::aims::reach_delivery;
 use mail_rows::sights::there_of;
 use std::alloc::Global;
 use undo_base::{Keys, LAST_NUMBER, MOST_BOXES, MOST_UID, Name, Names, NoMemory, Text, User};
-use verb_core::{Aim, Ask, Refused, is_inbox, who_acts};
+use verb_core::{Aim, Ask, Refused, is_inbox, names_with_superiors, who_acts};
 
 /// How many mailboxes the user has.
 #[tactic(auto, using(crate::proofs::KeysThere::length_names))]
@@ -29,11 +29,99 @@ fn count_boxes(store: &Store, user: User) -> usize
     rows.iter().filter(|row| row.0.user == user).count()
 }
 
-/// Whether there would be one mailbox more, where the asker has a thousand.
-fn fills_up(store: &Store, by: Option<User>, ask: &Ask) -> bool
-    ensures { result ≡ fills_up store.now.store by ask.now }
+/// How many of the names no mailbox of the asker has.
+fn count_free(store: &Store, by: Option<User>, names: &[Name]) -> usize
+    ensures { result ≡ length (filter (is_free store.now.store by) names.now) }
 {
-    adds_name(ask) && count_boxes(store, who_acts(by)) >= MOST_BOXES
+    names
+        .iter()
+        .filter(|name| !has_box(store, by, name))
+        .count()
+}
+
+/// How many mailboxes a CREATE makes: itself and its superiors that are missing.
+fn count_created(
+    alloc: Global,
+    store: &Store,
+    by: Option<User>,
+    mailbox: &Name,
+) -> Result<usize, NoMemory>
+    ensures { IfOk result (λ count. count ≡ length (filter (is_free store.now.store by) (with_superiors mailbox.now))) }
+{
+    let names = names_with_superiors(alloc, mailbox)?;
+    Ok(count_free(store, by, names.as_slice()))
+}
+
+/// How many superiors a RENAME makes: those of its target that are missing.
+fn count_made(
+    alloc: Global,
+    store: &Store,
+    by: Option<User>,
+    target: &Name,
+) -> Result<usize, NoMemory>
+    ensures { IfOk result (λ count. count ≡ length (filter (is_free store.now.store by) (superiors target.now))) }
+{
+    let names = names_with_superiors(alloc, target)?;
+    Ok(count_free(store, by, but_last(names.as_slice())))
+}
+
+/// How many mailboxes more a RENAME leaves: the superiors that it makes and, of INBOX, which stays, the target.
+fn count_renamed(
+    alloc: Global,
+    store: &Store,
+    by: Option<User>,
+    mailbox: &Name,
+    target: &Name,
+) -> Result<usize, NoMemory>
+    ensures { IfOk result (λ count. count ≡ (if is_empty target.now then 0 else length (filter (is_free store.now.store by) (superiors target.now)) + (if bytes_eq mailbox.now inbox then 1 else 0))) }
+{
+    if target.bytes().is_empty() {
+        return Ok(0);
+    }
+    let made = count_made(alloc, store, by, target)?;
+    if !is_inbox(mailbox.bytes()) {
+        return Ok(made);
+    }
+    match made.checked_add(1) {
+        Some(count) => Ok(count),
+        None => Err(NoMemory),
+    }
+}
+
+/// How many mailboxes more an ask leaves.
+fn adds_names(alloc: Global, store: &Store, by: Option<User>, ask: &Ask) -> Result<usize, NoMemory>
+    ensures { IfOk result (λ count. count ≡ adds_names store.now.store by ask.now) }
+{
+    match ask {
+        Ask::Create { mailbox } => count_created(alloc, store, by, mailbox),
+        Ask::Rename { mailbox, target } => count_renamed(alloc, store, by, mailbox, target),
+        Ask::Deliver { .. } => Ok(0),
+        Ask::Append { .. } => Ok(0),
+        Ask::Fetch { .. } => Ok(0),
+        Ask::Store { .. } => Ok(0),
+        Ask::Copy { .. } => Ok(0),
+        Ask::List { .. } => Ok(0),
+        Ask::Status { .. } => Ok(0),
+        Ask::Select { .. } => Ok(0),
+        Ask::Expunge { .. } => Ok(0),
+        Ask::Close { .. } => Ok(0),
+        Ask::Delete { .. } => Ok(0),
+    }
+}
+
+/// Whether a user with so many mailboxes gets so many more that they are more than a thousand.
+fn are_too_many(count: usize, more: usize) -> bool
+    ensures { result ≡ (nat_lt 0 more && nat_lt 1000 (count + more)) }
+{
+    more > 0 && (count > MOST_BOXES || more > MOST_BOXES - count)
+}
+
+/// Whether there would be so many mailboxes more that the asker has more than a thousand.
+fn fills_up(alloc: Global, store: &Store, by: Option<User>, ask: &Ask) -> Result<bool, NoMemory>
+    ensures { IfOk result (λ full. full ≡ fills_up store.now.store by ask.now) }
+{
+    let more = adds_names(alloc, store, by, ask)?;
+    Ok(are_too_many(count_boxes(store, who_acts(by)), more))
 }
 
 /// Whether new entries take the next UID past 32 bits.
@@ -78,17 +166,19 @@ fn aims_outgrow(store: &Store, aims: &[Aim]) -> bool
 fn delivery_outgrows(
     alloc: Global,
     store: &Store,
+    from: &Text,
     to: &Names,
     text: &Text,
 ) -> Result<bool, NoMemory>
     requires { IsTrue (is_house store.now.store.house) }
-    ensures { IfOk result (λ passes. passes ≡ aims_outgrow store.now.store.boxes (delivered store.now.store to.now (option_map (λ (f : TheFilter). f.file) (deciding store.now.store.conf text.now))).aims) }
+    ensures { IfOk result (λ passes. passes ≡ aims_outgrow store.now.store.boxes (delivered store.now.store to.now (option_map (λ (f : TheFilter). f.file) (deciding store.now.store.conf from.now to.now text.now))).aims) }
 {
     let reach = reach_delivery(
         alloc,
         store.rows.as_slice(),
         &store.house,
         store.conf.conf(),
+        from,
         to,
         text.bytes(),
     )?;
@@ -124,10 +214,12 @@ fn is_wide(store: &Store, by: Option<User>, name: &Name) -> bool
 }
 
 /// Whether the mail of INBOX takes the next UID of a new mailbox past 32 bits.
-fn rename_outgrows(store: &Store, by: Option<User>, mailbox: &Name) -> bool
-    ensures { result ≡ (bytes_eq mailbox.now inbox && outgrows 1 (length (mail_of store.now.store by mailbox.now))) }
+fn rename_outgrows(store: &Store, by: Option<User>, mailbox: &Name, target: &Name) -> bool
+    ensures { result ≡ (not (is_empty target.now) && bytes_eq mailbox.now inbox && outgrows 1 (length (mail_of store.now.store by mailbox.now))) }
 {
-    is_inbox(mailbox.bytes()) && outgrows(1, mail_of(store, by, mailbox).len())
+    !target.bytes().is_empty()
+        && is_inbox(mailbox.bytes())
+        && outgrows(1, mail_of(store, by, mailbox).len())
 }
 
 /// Whether a mailbox has used up its UIDs, or would.
@@ -136,7 +228,7 @@ fn uses_up(alloc: Global, store: &Store, by: Option<User>, ask: &Ask) -> Result<
     ensures { IfOk result (λ passes. passes ≡ uses_up store.now.store by ask.now) }
 {
     match ask {
-        Ask::Deliver { to, text, .. } => delivery_outgrows(alloc, store, to, text),
+        Ask::Deliver { from, to, text } => delivery_outgrows(alloc, store, from, to, text),
         Ask::Append { mailbox, .. } => Ok(box_outgrows(store, who_acts(by), mailbox, 1)),
         Ask::Copy {
             mailbox,
@@ -144,7 +236,7 @@ fn uses_up(alloc: Global, store: &Store, by: Option<User>, ask: &Ask) -> Result<
             target,
             ..
         } => copy_outgrows(alloc, store, by, mailbox, keys, target),
-        Ask::Rename { mailbox, .. } => Ok(rename_outgrows(store, by, mailbox)),
+        Ask::Rename { mailbox, target } => Ok(rename_outgrows(store, by, mailbox, target)),
         Ask::Status { mailbox } => Ok(is_wide(store, by, mailbox)),
         Ask::Select { mailbox } => Ok(is_wide(store, by, mailbox)),
         Ask::Fetch { .. } => Ok(false),
@@ -169,7 +261,7 @@ pub(crate) fn refused_by_room(
     requires number { number ≤ 4194304 }
     ensures { IfOk result (λ refused. refused ≡ by_room store.now.store number by ask.now) }
 {
-    if fills_up(store, by, ask) {
+    if fills_up(alloc, store, by, ask)? {
         return Ok(Some(Refused::BoxesFull));
     }
     if uses_up(alloc, store, by, ask)? {

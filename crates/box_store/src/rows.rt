@@ -1,5 +1,5 @@
 //! Stores made of rows, as a snapshot has them.
-ghost use Rattle.std.specs.Prelude.{◌≡◌, ◌↔◌, ◌<◌, ◌+◌, ◌&&◌, ℕ, List, None, Some, Err, IsTrue, IfOk, length, take};
+ghost use Rattle.std.specs.Prelude.{◌≡◌, ◌↔◌, ◌≤◌, ◌<◌, ◌+◌, ◌&&◌, ℕ, List, None, Some, Err, IsTrue, IfOk, true, if◌then◌else◌, length, take};
 ghost use Rattle.std.specs.List.{list_all};
 ghost use Rattle.verb_core.specs.declared.conf.House.{House as TheHouse};
 ghost use Rattle.verb_core.specs.declared.conf.Conf.{Conf as TheConf};
@@ -7,6 +7,7 @@ ghost use Rattle.verb_core.specs.declared.mailbox.BoxId.{BoxId as TheBoxId};
 ghost use Rattle.verb_core.specs.declared.mailbox.Mailbox.{Mailbox as TheMailbox};
 ghost use Rattle.verb_core.specs.Boxes.{box_cmp, box_of, has_row, is_rising};
 ghost use Rattle.verb_core.specs.Mailboxes.{uids_rise};
+ghost use Rattle.verb_core.specs.Names.{superiors, is_slash as is_separator};
 ghost use Rattle.verb_core.specs.Store.{IsValid, has_fixed, is_house, is_known, is_row};
 ghost use Rattle.box_store.specs.declared.rows.RowsRefused.TheVariants.{Row};
 ghost use Rattle.box_store.specs.Making as spec;
@@ -18,8 +19,8 @@ use mail_rows::HeldConf;
 use mail_rows::rows::place_of;
 use std::alloc::Global;
 use std::cmp::Ordering;
-use undo_base::{Copies, NoMemory, User};
-use verb_core::{BoxId, Conf, Entry, House, Mailbox, Rows};
+use undo_base::{Copies, NoMemory, User, before};
+use verb_core::{BoxId, Conf, Entry, House, Mailbox, Rows, is_slash};
 
 /// Why rows make no store.
 #[derive(Clone, Copy, Debug, PartialEq, Eq)]
@@ -31,12 +32,12 @@ pub enum RowsRefused {
 }
 
 /// How a mailbox lies to another, by user and then by name.
-fn compare(before: &BoxId, id: &BoxId) -> Ordering
-    ensures { result ≡ box_cmp before.now id.now }
+fn compare(earlier: &BoxId, id: &BoxId) -> Ordering
+    ensures { result ≡ box_cmp earlier.now id.now }
 {
-    match before.user.0.cmp(&id.user.0) {
+    match earlier.user.0.cmp(&id.user.0) {
         Ordering::Less => Ordering::Less,
-        Ordering::Equal => before.name.bytes().cmp(id.name.bytes()),
+        Ordering::Equal => earlier.name.bytes().cmp(id.name.bytes()),
         Ordering::Greater => Ordering::Greater,
     }
 }
@@ -73,13 +74,49 @@ fn is_row(house: &House, row: &(BoxId, Mailbox)) -> bool
     house.knows(row.0.user) && uids_rise(row.1.entries.as_slice(), row.1.next)
 }
 
+/// Whether the user has a row for the front of a name, where the byte behind that makes it a superior.
+fn has_superior(rows: &[(BoxId, Mailbox)], user: User, front: &[u8], byte: u8) -> bool
+    requires { IsTrue (is_rising rows.now) }
+    ensures { result ≡ (if is_separator byte then has_row (box_of user front.now) rows.now else true) }
+{
+    !is_slash(byte) || has_row(rows, user, front)
+}
+
+fn both(first: bool, second: bool) -> bool
+    ensures { result ≡ (first && second) }
+{
+    first && second
+}
+
+/// Whether the user has a row for each superior of a name.
+#[tactic(auto, using(crate::proofs::Making::none_above, crate::proofs::Making::one_above, crate::proofs::Making::all_read))]
+fn has_superiors(rows: &[(BoxId, Mailbox)], user: User, name: &[u8]) -> bool
+    requires { IsTrue (is_rising rows.now) }
+    ensures { result ≡ list_all (λ superior. has_row (box_of user superior) rows.now) (superiors name.now) }
+{
+    let mut all = true;
+    for place in 1..name.len() {
+        let here = has_superior(rows, user, before(name, place), name[place]);
+        all = both(all, here);
+    }
+    all
+}
+
+fn all_three(first: bool, second: bool, third: bool) -> bool
+    ensures { result ≡ (first && second && third) }
+{
+    first && second && third
+}
+
 /// Whether the row at a place can stand behind those before it.
 fn stands(house: &House, rows: &[(BoxId, Mailbox)], place: usize) -> bool
     requires before { IsTrue (are_rows house.now (take place rows.now)) }
     requires within { place < length rows.now }
     ensures { result ≡ are_rows house.now (take (place + 1) rows.now) }
 {
-    is_above(rows, place) && is_row(house, &rows[place])
+    let row = &rows[place];
+    let named = has_superiors(before(rows, place), row.0.user, row.0.name.bytes());
+    all_three(is_above(rows, place), is_row(house, row), named)
 }
 
 /// Whether there is a row of that user and name.

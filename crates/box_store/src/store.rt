@@ -2,20 +2,23 @@
 ghost use Rattle.std.specs.Prelude.{◌≡◌, [], IsTrue, IfOk, option_copied};
 ghost use Rattle.std.specs.List.{list_all};
 ghost use Rattle.verb_core.specs.Store.{MailStore, IsValid, is_house, is_known, opening};
-ghost use Rattle.verb_core.specs.Boxes.{box_of, row_at, names_of};
+ghost use Rattle.verb_core.specs.Boxes.{box_of, has_inferior as has_below, row_at, names_of};
 ghost use Rattle.verb_core.specs.Items.{IsWellFormed};
 ghost use Rattle.verb_core.specs.Aims.{sought};
+ghost use Rattle.verb_core.specs.Step.{way_of};
 
 use crate::spares::Spares;
 use mail_rows::HeldConf;
 use mail_rows::aims::reach_of;
+use mail_rows::inferiors::has_inferior;
 use mail_rows::lookup::{copied_rows, names_in, search_mailbox};
 use mail_rows::opening::fixed_rows;
+use mail_rows::shown::way_of;
 use std::alloc::Global;
 use std::marker::Model;
 use undo_base::{Copies, Name, Names, NoMemory, User};
 use verb_core::laws::steps_keep_validity;
-use verb_core::{BoxId, Conf, House, Item, Mailbox, Resolved, Rows};
+use verb_core::{BoxId, Conf, House, Item, Mailbox, Resolved, Rows, Way};
 
 /// The house, the configuration in force, and the mailboxes by rising user and name.
 #[derive(Drop)]
@@ -98,6 +101,20 @@ impl Store {
         ensures { option_copied result ≡ row_at (box_of user name.now) self.now.store.boxes }
     {
         search_mailbox(self.rows.as_slice(), user, name)
+    }
+
+    /// How a RENAME goes (RFC 3501, section 6.3.5). Takes no memory.
+    pub fn way(&self, user: User, source: &Name, target: &Name) -> Way
+        ensures { result ≡ way_of user source.now target.now self.now.store.boxes }
+    {
+        way_of(self.rows.as_slice(), user, source, target)
+    }
+
+    /// Whether the user has an inferior of the name. Takes no memory.
+    pub fn has_inferior(&self, user: User, name: &Name) -> bool
+        ensures { result ≡ has_below user name.now self.now.store.boxes }
+    {
+        has_inferior(self.rows.as_slice(), user, name.bytes())
     }
 
     /// The configuration in force. Takes no memory.

@@ -1,18 +1,19 @@
 //! Work on rows of mailboxes. Nothing here takes memory.
-ghost use Rattle.std.specs.Prelude.{◌≡◌, ◌+◌, ◌≤◌, ◌<◌, [], ◌∷◌, true, IsTrue, bytes_eq, unwrap_or, option_map, if◌then◌else◌, length, map, drop, vec_len, vec_capacity};
+ghost use Rattle.std.specs.Prelude.{◌≡◌, ◌+◌, ◌≤◌, ◌<◌, ◌||◌, [], ◌∷◌, true, IsTrue, bytes_eq, unwrap_or, option_map, if◌then◌else◌, length, map, drop, vec_len, vec_capacity};
 ghost use Rattle.verb_core.specs.Names.{inbox, lost_found, is_fixed as is_fixed_name};
 ghost use Rattle.verb_core.specs.Mailboxes.{no_mail as nothing, put_all, with_entries, emptied, expunged, without as left_out};
-ghost use Rattle.verb_core.specs.Boxes.{box_of, is_rising, row_at, mail_at, change_row};
-ghost use Rattle.verb_core.specs.Step.{created, left, renamed, after_rename, deleted};
+ghost use Rattle.verb_core.specs.Boxes.{box_of, has_inferior as has_below, is_rising, row_at, mail_at, change_row};
+ghost use Rattle.verb_core.specs.Step.{all_created, created, inbox_renamed, left, after_rename, deleted};
 ghost use Rattle.mail_rows.specs.Mail.{all_flags_set};
-ghost use Rattle.box_store.specs.Effects.{put_each as puts_each, mail_in, grows, HasSpares, adds_row, worked};
+ghost use Rattle.box_store.specs.Effects.{put_each as puts_each, mail_in, all_moved, renamed_by, row_moved, grows, HasSpares, rows_added, worked};
 
 use crate::spares::Spares;
-use crate::{FlagChange, KeySet, Put, Work};
+use crate::{FlagChange, KeySet, Move, Put, Work};
+use mail_rows::inferiors::has_inferior;
 use mail_rows::mail::{begun_anew, expunge, put_mail, remove, set_flags, take_entries, without};
 use mail_rows::rows::{insert_row, place_of, put_row, take_row};
 use std::alloc::Global;
-use undo_base::{Key, Name, User};
+use undo_base::{Key, Name, Names, Sequence, User};
 use verb_core::{BoxId, Entries, Entry, Mailbox, Way, is_fixed, is_inbox};
 
 /// Puts mail at the end of a mailbox, where there is one. The spare list at that place has room for all of its entries.
@@ -102,12 +103,28 @@ fn no_mail(alloc: Global) -> Mailbox
 fn create(rows: &mut Vec<(BoxId, Mailbox)>, mailbox: BoxId)
     requires rising { IsTrue (is_rising rows.old.items) }
     requires room { vec_len rows.old < vec_capacity rows.old }
-    ensures { rows.new.items ≡ created mailbox rows.old.items }
+    ensures rows { rows.new.items ≡ created mailbox rows.old.items }
+    ensures len { vec_len rows.new ≤ vec_len rows.old + 1 }
+    ensures capacity { vec_capacity rows.old ≤ vec_capacity rows.new }
 {
     let alloc = *rows.allocator();
     match place_of(rows.as_slice(), mailbox.user, mailbox.name.bytes()) {
         Ok(_) => {}
         Err(place) => insert_row(rows, place, (mailbox, no_mail(alloc))),
+    }
+}
+
+/// The same of some mailboxes of a user, one after the other. There is room for all.
+#[tactic(auto, using(crate::proofs::WorkLaws::rising_made))]
+fn create_all(rows: &mut Vec<(BoxId, Mailbox)>, user: User, mailboxes: Names)
+    requires rising { IsTrue (is_rising rows.old.items) }
+    requires room { vec_len rows.old + length mailboxes ≤ vec_capacity rows.old }
+    ensures rows { rows.new.items ≡ all_created user mailboxes rows.old.items }
+    ensures len { vec_len rows.new ≤ vec_len rows.old + length mailboxes }
+    ensures capacity { vec_capacity rows.old ≤ vec_capacity rows.new }
+{
+    for name in mailboxes.into_vec() {
+        create(rows, BoxId { user, name });
     }
 }
 
@@ -131,7 +148,15 @@ fn empty_row(rows: &mut Vec<(BoxId, Mailbox)>, user: User, name: &[u8]) -> Optio
     }
 }
 
-/// Leaves a mailbox: INBOX is emptied and keeps its next UID, another goes. What was there comes back.
+/// Whether a mailbox stays where it is left: INBOX, and one that has an inferior.
+fn stays(rows: &[(BoxId, Mailbox)], user: User, source: &[u8]) -> bool
+    requires { IsTrue (is_rising rows.now) }
+    ensures { result ≡ (bytes_eq source.now inbox || has_below user source.now rows.now) }
+{
+    is_inbox(source) || has_inferior(rows, user, source)
+}
+
+/// Leaves a mailbox: INBOX, and one that has an inferior, is emptied and keeps its next UID, another goes. What was there comes back.
 fn leave(rows: &mut Vec<(BoxId, Mailbox)>, user: User, source: &[u8]) -> Option<Mailbox>
     requires { IsTrue (is_rising rows.old.items) }
     ensures row { result ≡ row_at (box_of user source.now) rows.old.items }
@@ -139,39 +164,92 @@ fn leave(rows: &mut Vec<(BoxId, Mailbox)>, user: User, source: &[u8]) -> Option<
     ensures len { vec_len rows.new ≤ vec_len rows.old }
     ensures capacity { vec_capacity rows.new ≡ vec_capacity rows.old }
 {
-    if is_inbox(source) {
+    if stays(rows.as_slice(), user, source) {
         empty_row(rows, user, source)
     } else {
         take_row(rows, user, source)
     }
 }
 
-/// What stands under the new name of a mailbox that was left: the entries of INBOX under new UIDs, or the mailbox.
-fn renamed_from(alloc: Global, source: &[u8], mailbox: Option<Mailbox>) -> Mailbox
-    ensures { result ≡ (if bytes_eq source.now inbox then put_all (unwrap_or (option_map (λ m. m.entries) mailbox) []) nothing else unwrap_or mailbox nothing) }
+/// The entries of a mailbox that was left, under new UIDs, in a new one.
+fn new_from(alloc: Global, mailbox: Option<Mailbox>) -> Mailbox
+    ensures { result ≡ put_all (unwrap_or (option_map (λ m. m.entries) mailbox) []) nothing }
 {
     match mailbox {
         None => no_mail(alloc),
-        Some(mailbox) => {
-            if is_inbox(source) {
-                begun_anew(mailbox.entries.into_vec())
-            } else {
-                mailbox
-            }
-        }
+        Some(mailbox) => begun_anew(mailbox.entries.into_vec()),
     }
 }
 
-/// A mailbox takes another name (RFC 3501, section 6.3.5). There is room for one more row.
-fn rename(rows: &mut Vec<(BoxId, Mailbox)>, user: User, source: &[u8], target: Name)
+/// The mail of INBOX moves into a new mailbox (RFC 3501, section 6.3.5). There is room for one more row.
+fn rename_inbox(rows: &mut Vec<(BoxId, Mailbox)>, user: User, target: Name)
     requires rising { IsTrue (is_rising rows.old.items) }
     requires room { vec_len rows.old < vec_capacity rows.old }
-    ensures { rows.new.items ≡ after_rename Way.Plain user source.now target rows.old.items }
+    ensures { rows.new.items ≡ inbox_renamed user target rows.old.items }
 {
     let alloc = *rows.allocator();
-    let mailbox = leave(rows, user, source);
-    let mailbox = renamed_from(alloc, source, mailbox);
+    let mailbox = leave(rows, user, b"INBOX");
+    let mailbox = new_from(alloc, mailbox);
     put_row(rows, BoxId { user, name: target }, mailbox);
+}
+
+/// A mailbox takes another name, where it is there.
+fn move_row(rows: &mut Vec<(BoxId, Mailbox)>, user: User, moved: Move)
+    requires { IsTrue (is_rising rows.old.items) }
+    ensures { rows.new.items ≡ row_moved user moved rows.old.items }
+{
+    let Move { from, to } = moved;
+    match take_row(rows, user, from.bytes()) {
+        None => {}
+        Some(mailbox) => put_row(rows, BoxId { user, name: to }, mailbox),
+    }
+}
+
+/// The same of some, one after the other.
+#[tactic(auto, using(crate::proofs::Renames::rising_moved))]
+fn move_all(rows: &mut Vec<(BoxId, Mailbox)>, user: User, moves: Sequence<Move>)
+    requires { IsTrue (is_rising rows.old.items) }
+    ensures { rows.new.items ≡ all_moved user moves rows.old.items }
+{
+    for moved in moves.into_vec() {
+        move_row(rows, user, moved);
+    }
+}
+
+/// Mailboxes take other names, or INBOX leaves its mail under one. Of INBOX there is room for one more row.
+fn rename(
+    rows: &mut Vec<(BoxId, Mailbox)>,
+    user: User,
+    source: &Name,
+    target: Name,
+    moves: Sequence<Move>,
+)
+    requires rising { IsTrue (is_rising rows.old.items) }
+    requires room { bytes_eq source.now inbox ≡ true → vec_len rows.old < vec_capacity rows.old }
+    ensures { rows.new.items ≡ renamed_by user source.now target moves rows.old.items }
+{
+    if is_inbox(source.bytes()) {
+        rename_inbox(rows, user, target);
+    } else {
+        move_all(rows, user, moves);
+    }
+}
+
+/// The same, once the superiors of the target are made that are missing.
+fn rename_below(
+    rows: &mut Vec<(BoxId, Mailbox)>,
+    user: User,
+    source: &Name,
+    target: Name,
+    made: Names,
+    moves: Sequence<Move>,
+)
+    requires rising { IsTrue (is_rising rows.old.items) }
+    requires room { vec_len rows.old + rows_added (Work.Rename Way.Plain user source.now target made moves) ≤ vec_capacity rows.old }
+    ensures { rows.new.items ≡ renamed_by user source.now target moves (all_created user made rows.old.items) }
+{
+    create_all(rows, user, made);
+    rename(rows, user, source, target, moves);
 }
 
 /// A mailbox's entries move into another mailbox. The first spare list has room for all of its entries.
@@ -199,20 +277,22 @@ fn rename_by(
     user: User,
     source: Name,
     target: Name,
+    made: Names,
+    moves: Sequence<Move>,
 )
     requires rising { IsTrue (is_rising rows.old.items) }
-    requires room { adds_row (Work.Rename way user source target) ≡ true → vec_len rows.old < vec_capacity rows.old }
-    requires spares { HasSpares (grows (Work.Rename way user source target) rows.old.items) spares.old rows.old.items }
-    ensures { rows.new.items ≡ after_rename way user source target rows.old.items }
+    requires room { vec_len rows.old + rows_added (Work.Rename way user source target made moves) ≤ vec_capacity rows.old }
+    requires spares { HasSpares (grows (Work.Rename way user source target made moves) rows.old.items) spares.old rows.old.items }
+    ensures { rows.new.items ≡ worked (Work.Rename way user source target made moves) rows.old.items }
 {
     match way {
         Way::NoSource => {}
-        Way::Plain => rename(rows, user, source.bytes(), target),
+        Way::Plain => rename_below(rows, user, &source, target, made, moves),
         Way::Merged => merge(rows, spares, user, source.bytes(), target.bytes()),
     }
 }
 
-/// A mailbox goes with the entries of these keys, and its others move to Lost+Found. The first spare list has room for
+/// A mailbox goes with the entries of these keys, and its others move to Lost+Found; one that has an inferior stays. The first spare list has room for
 /// all of its entries.
 fn delete(
     rows: &mut Vec<(BoxId, Mailbox)>,
@@ -228,7 +308,7 @@ fn delete(
     if is_fixed(name) {
         return;
     }
-    match take_row(rows, user, name) {
+    match leave(rows, user, name) {
         None => {}
         Some(mailbox) => {
             let saved = without(mailbox, keys);
@@ -237,10 +317,10 @@ fn delete(
     }
 }
 
-/// Does the work. There is room for the row that it adds, and the spare lists have room for the mailboxes that grow.
+/// Does the work. There is room for the rows that it adds, and the spare lists have room for the mailboxes that grow.
 pub(crate) fn work_on(rows: &mut Vec<(BoxId, Mailbox)>, spares: &mut Spares, work: Work)
     requires rising { IsTrue (is_rising rows.old.items) }
-    requires room { adds_row work ≡ true → vec_len rows.old < vec_capacity rows.old }
+    requires room { vec_len rows.old + rows_added work ≤ vec_capacity rows.old }
     requires spares { HasSpares (grows work rows.old.items) spares.old rows.old.items }
     ensures { rows.new.items ≡ worked work rows.old.items }
 {
@@ -249,13 +329,15 @@ pub(crate) fn work_on(rows: &mut Vec<(BoxId, Mailbox)>, spares: &mut Spares, wor
         Work::Flags { mailbox, flags } => flag(rows, &mailbox, flags.as_slice()),
         Work::Expunge { mailbox, keys } => expunge_in(rows, &mailbox, &keys),
         Work::Remove { mailbox, key } => remove_in(rows, &mailbox, key),
-        Work::Create { mailbox } => create(rows, mailbox),
+        Work::Create { user, mailboxes } => create_all(rows, user, mailboxes),
         Work::Rename {
             way,
             user,
             source,
             target,
-        } => rename_by(rows, spares, way, user, source, target),
+            made,
+            moves,
+        } => rename_by(rows, spares, way, user, source, target, made, moves),
         Work::Delete {
             user,
             mailbox,

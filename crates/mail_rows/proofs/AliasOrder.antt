@@ -75,7 +75,7 @@ parted name id (x ∷ more) rise zero (suc j) d le lt before =
 parted name id (x ∷ more) rise (suc i) zero d le lt before = absurd (omega (arith, le))
 parted name id (x ∷ more) rise (suc i) (suc j) d le lt before = parted name id more rise.1 i j d (omega (arith, le)) (omega (arith, lt)) before
 
-counted : {X : Type 0} (p : X → Bool) (all : List X) (n : ℕ) → n ≤ length all → IsPartitionPoint (λ x. p x ≡ true) (λ x. p x ≡ false) all n → n ≡ front p all
+pub counted : {X : Type 0} (p : X → Bool) (all : List X) (n : ℕ) → n ≤ length all → IsPartitionPoint (λ x. p x ≡ true) (λ x. p x ≡ false) all n → n ≡ front p all
 counted p [] zero le at = refl
 counted p [] (suc n) le at = absurd (omega (arith, le))
 counted p (x ∷ more) zero le at = sym (ap {B = ℕ} (λ b. cond b (suc (front p more)) 0) (at.1 0 x (omega arith) (omega arith)))

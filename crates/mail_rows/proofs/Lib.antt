@@ -6,8 +6,10 @@ mod KeyPlaces
 mod Indexes
 mod KeysSeen
 mod Patterns
+mod Headers
+pub mod Runs
 mod Reached
-mod Needles
+mod Occurrences
 mod ConfLaws
 mod AliasOrder
 mod FilterOrder

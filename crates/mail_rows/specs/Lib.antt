@@ -1,4 +1,6 @@
 pub mod Fixed
+pub mod Headers
+pub mod Inferiors
 pub mod Reaching
 pub mod Places
 pub mod Mail

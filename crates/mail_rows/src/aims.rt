@@ -4,14 +4,15 @@ ghost use Rattle.verb_core.specs.declared.conf.Filter.{Filter as TheFilter};
 ghost use Rattle.verb_core.specs.Names.{inbox, lost_found};
 ghost use Rattle.verb_core.specs.Boxes.{is_rising};
 ghost use Rattle.verb_core.specs.Store.{is_house};
-ghost use Rattle.verb_core.specs.Recipients.{recipients as names_recipients, deciding};
+ghost use Rattle.verb_core.specs.Filters.{deciding};
+ghost use Rattle.verb_core.specs.Recipients.{recipients as names_recipients};
 ghost use Rattle.verb_core.specs.Aims.{Sought, aim_at as makes_aim, into_or, and_postmaster, delivered, sought};
 ghost use Rattle.mail_rows.specs.Reaching.{sought_at, act_sought, with_copy};
 
 use crate::opening::{inbox_name, lost_found_name};
 use crate::reach::{Reach, aim_at, first_met, meanings, means_nobody, reach_each, recipients};
 use std::alloc::Global;
-use undo_base::{Name, Names, NoMemory, User};
+use undo_base::{Name, Names, NoMemory, Text, User};
 use verb_core::{Act, Aims, BoxId, Conf, Deed, House, Item, Mailbox, who_acts};
 
 /// No aims.
@@ -94,20 +95,22 @@ fn reach_recipients(
     Ok(reach)
 }
 
-/// Where a delivery goes, by the first filter whose needle is in the text.
+/// Where a delivery goes, by the first filter whose needle is in what its scope looks at.
 pub fn reach_delivery(
     alloc: Global,
     rows: &[(BoxId, Mailbox)],
     house: &House,
     conf: &Conf,
+    from: &Text,
     to: &Names,
     text: &[u8],
 ) -> Result<Reach, NoMemory>
     requires house { IsTrue (is_house house.now) }
     requires rising { IsTrue (is_rising rows.now) }
-    ensures { IfOk result (λ reach. sought_at reach ≡ delivered (record { house = house.now; conf = conf.now; boxes = rows.now }) to.now (option_map (λ (f : TheFilter). f.file) (deciding conf.now text.now))) }
+    ensures { IfOk result (λ reach. sought_at reach ≡ delivered (record { house = house.now; conf = conf.now; boxes = rows.now }) to.now (option_map (λ (f : TheFilter). f.file) (deciding conf.now from.now to.now text.now))) }
 {
-    match first_met(conf.filters.as_slice(), text) {
+    let filters = conf.filters.as_slice();
+    match first_met(alloc, filters, from.bytes(), to.as_slice(), text)? {
         None => {
             let inbox = inbox_name(alloc)?;
             reach_recipients(alloc, rows, house, conf, to, &inbox)
@@ -147,7 +150,9 @@ pub fn reach_of(
     ensures { IfOk result (λ reach. sought_at reach ≡ sought (record { house = house.now; conf = conf.now; boxes = rows.now }) text.now item.now.by item.now.deed) }
 {
     match &item.deed {
-        Deed::Deliver { to, .. } => reach_delivery(alloc, rows, house, conf, to, text),
+        Deed::Deliver { from, to, .. } => {
+            reach_delivery(alloc, rows, house, conf, from, to, text)
+        }
         Deed::Append { mailbox, .. } => reach_one(alloc, rows, mailbox, who_acts(item.by)),
         Deed::Copy { target, .. } => reach_one(alloc, rows, target, who_acts(item.by)),
         Deed::Act(act) => reach_act(alloc, rows, act),

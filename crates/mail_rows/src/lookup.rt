@@ -1,6 +1,6 @@
 //! Mailboxes found among rows by user and name, copies of rows, and a user's names.
 ghost use Rattle.std.specs.Prelude.{◌≡◌, ◌++◌, ◌∷◌, [], IsTrue, IfOk, OnOk, option_copied, if◌then◌else◌};
-ghost use Rattle.verb_core.specs.Boxes.{box_of, is_rising, row_at, names_of, same_user};
+ghost use Rattle.verb_core.specs.Boxes.{box_of, has_row, is_rising, row_at, names_of, same_user};
 
 use crate::rows::place_of;
 use std::alloc::Global;
@@ -20,6 +20,14 @@ pub fn search_mailbox<'a>(
         Ok(place) => Some(&rows[place].1),
         Err(_) => None,
     }
+}
+
+/// Whether the user has a mailbox of that name.
+pub(crate) fn is_there(rows: &[(BoxId, Mailbox)], user: User, name: &Name) -> bool
+    requires { IsTrue (is_rising rows.now) }
+    ensures { result ≡ has_row (box_of user name.now) rows.now }
+{
+    search_mailbox(rows, user, name).is_some()
 }
 
 /// Copies of the rows.

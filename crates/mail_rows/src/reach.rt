@@ -1,31 +1,66 @@
 //! Where an item's mail goes.
-ghost use Rattle.std.specs.Prelude.{◌≡◌, ℕ, ◌<◌, ◌++◌, ◌∷◌, [], List, not, IsTrue, IfOk, OnOk, option_copied, option_map, find, filter, map, if◌then◌else◌};
+ghost use Rattle.std.specs.Prelude.{◌≡◌, ◌<◌, ◌++◌, ◌∷◌, [], not, IsTrue, IfOk, OnOk, option_copied, find, filter, map, if◌then◌else◌};
 ghost use Rattle.std.specs.List.{list_any};
 ghost use Rattle.verb_core.specs.Names.{is_empty};
 ghost use Rattle.verb_core.specs.Boxes.{box_of, has_row, is_rising, same_user};
 ghost use Rattle.verb_core.specs.Store.{is_house, users_of};
 ghost use Rattle.verb_core.specs.Aims.{aim_at as makes_aim, into_or};
 ghost use Rattle.mail_rows.specs.Reaching.{is_among_meanings, sought_at};
-ghost use Rattle.verb_core.specs.Recipients.{is_met as meets, resolved};
+ghost use Rattle.verb_core.specs.Filters.{is_met as meets, occurs as is_within};
+ghost use Rattle.verb_core.specs.Recipients.{resolved};
 
-use crate::lookup::search_mailbox;
-use bstr::ByteSlice;
+use crate::header::Header;
+use crate::lookup::is_there;
+use crate::needles::occurs;
 use std::alloc::Global;
 use undo_base::{Name, NoMemory, Sequence, User, Users};
-use verb_core::{Aim, Aims, BoxId, Conf, Filter, House, Mailbox, resolve_local};
+use verb_core::{Aim, Aims, BoxId, Conf, Filter, House, Mailbox, Scope, resolve_local};
 
-/// Whether the filter's needle occurs in the text.
-fn is_met(text: &[u8], filter: &Filter) -> bool
-    ensures { result ≡ meets text.now filter.now }
+/// Whether the filter's needle occurs in what its scope looks at of a message.
+fn is_met(
+    alloc: Global,
+    header: &mut Header<'_>,
+    from: &[u8],
+    to: &[Name],
+    filter: &Filter,
+) -> Result<bool, NoMemory>
+    ensures met { IfOk result (λ met. met ≡ meets from.now to.now header.old filter.now) }
+    ensures text { header.new ≡ header.old }
 {
-    text.contains_str(filter.needle.bytes())
+    let needle = &filter.needle;
+    match &filter.scope {
+        Scope::Body => Ok(occurs(header.text(), needle)),
+        Scope::Field(name) => header.has(alloc, name, needle),
+        Scope::Sender => Ok(occurs(from, needle)),
+        Scope::Recipient => Ok(is_in_one(to, needle)),
+    }
 }
 
-/// The first filter whose needle occurs in the text.
-pub(crate) fn first_met<'a>(filters: &'a [Filter], text: &[u8]) -> Option<&'a Filter>
-    ensures { option_copied result ≡ find (meets text.now) filters.now }
+/// Whether the needle occurs in one of the local parts.
+fn is_in_one(to: &[Name], needle: &Name) -> bool
+    ensures { result ≡ list_any (is_within needle.now) to.now }
 {
-    filters.iter().find(|filter| is_met(text, filter))
+    to.iter().any(|local| occurs(local.bytes(), needle))
+}
+
+/// The first filter whose needle occurs in what its scope looks at. The header is cut into its fields once at most, and nothing
+/// behind it is looked at but for filters that look at the whole text.
+pub(crate) fn first_met<'a>(
+    alloc: Global,
+    filters: &'a [Filter],
+    from: &[u8],
+    to: &[Name],
+    text: &[u8],
+) -> Result<Option<&'a Filter>, NoMemory>
+    ensures { IfOk result (λ found. option_copied found ≡ find (meets from.now to.now text.now) filters.now) }
+{
+    let mut header = Header::of(text);
+    for filter in filters {
+        if is_met(alloc, &mut header, from, to, filter)? {
+            return Ok(Some(filter));
+        }
+    }
+    Ok(None)
 }
 
 /// What each local part means.
@@ -63,14 +98,6 @@ fn has_user(users: &Users, user: User) -> bool
     ensures { result ≡ list_any (same_user user) users.now }
 {
     users.iter().any(|other| user == *other)
-}
-
-/// Whether the user has a mailbox of that name.
-fn is_there(rows: &[(BoxId, Mailbox)], user: User, name: &Name) -> bool
-    requires { IsTrue (is_rising rows.now) }
-    ensures { result ≡ has_row (box_of user name.now) rows.now }
-{
-    search_mailbox(rows, user, name).is_some()
 }
 
 /// The aims of new mail, and what was looked for and is not there.

@@ -1,5 +1,5 @@
 //! Rows of mailboxes: their places, and rows that come and go.
-ghost use Rattle.std.specs.Prelude.{◌≡◌, ◌≤◌, ◌<◌, IsTrue, IfOk, IfErr, vec_len, vec_capacity};
+ghost use Rattle.std.specs.Prelude.{◌≡◌, ◌+◌, ◌≤◌, ◌<◌, IsTrue, IfOk, IfErr, OnSome, vec_len, vec_capacity};
 ghost use Rattle.verb_core.specs.Boxes.{box_cmp, box_of, is_rising, row_at, add_row, drop_row};
 ghost use Rattle.mail_rows.specs.Places.{IsPlace, IsGap};
 
@@ -33,6 +33,7 @@ pub fn take_row(rows: &mut Vec<(BoxId, Mailbox)>, user: User, name: &[u8]) -> Op
     ensures row { result ≡ row_at (box_of user name.now) rows.old.items }
     ensures rows { rows.new.items ≡ drop_row (box_of user name.now) rows.old.items }
     ensures len { vec_len rows.new ≤ vec_len rows.old }
+    ensures fewer { OnSome result (vec_len rows.new < vec_len rows.old) }
     ensures capacity { vec_capacity rows.new ≡ vec_capacity rows.old }
 {
     match place_of(rows.as_slice(), user, name) {
@@ -48,7 +49,9 @@ pub fn take_row(rows: &mut Vec<(BoxId, Mailbox)>, user: User, name: &[u8]) -> Op
 pub fn put_row(rows: &mut Vec<(BoxId, Mailbox)>, id: BoxId, mailbox: Mailbox)
     requires rising { IsTrue (is_rising rows.old.items) }
     requires room { vec_len rows.old < vec_capacity rows.old }
-    ensures { rows.new.items ≡ add_row id mailbox rows.old.items }
+    ensures rows { rows.new.items ≡ add_row id mailbox rows.old.items }
+    ensures len { vec_len rows.new ≤ vec_len rows.old + 1 }
+    ensures capacity { vec_capacity rows.old ≤ vec_capacity rows.new }
 {
     match place_of(rows.as_slice(), id.user, id.name.bytes()) {
         Ok(place) => rows[place] = (id, mailbox),
@@ -60,7 +63,9 @@ pub fn put_row(rows: &mut Vec<(BoxId, Mailbox)>, id: BoxId, mailbox: Mailbox)
 pub fn insert_row(rows: &mut Vec<(BoxId, Mailbox)>, place: usize, row: (BoxId, Mailbox))
     requires room { vec_len rows.old < vec_capacity rows.old }
     requires gap { IsGap row.0 rows.old.items place }
-    ensures { rows.new.items ≡ add_row row.0 row.1 rows.old.items }
+    ensures rows { rows.new.items ≡ add_row row.0 row.1 rows.old.items }
+    ensures len { vec_len rows.new ≤ vec_len rows.old + 1 }
+    ensures capacity { vec_capacity rows.old ≤ vec_capacity rows.new }
 {
     match rows.insert(place, row) {
         Ok(()) => {}

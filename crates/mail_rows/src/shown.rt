@@ -3,8 +3,9 @@ ghost use Rattle.std.specs.Prelude.{◌≡◌, [], IsTrue, IfOk, option_map, len
 ghost use Rattle.verb_core.specs.declared.mailbox.Mailbox.{Mailbox as TheMailbox};
 ghost use Rattle.verb_core.specs.Boxes.{box_of, has_row, is_rising, mail_at, row_at};
 ghost use Rattle.verb_core.specs.Mailboxes.{keys_of};
-ghost use Rattle.verb_core.specs.Step.{saved, shown, way_of};
+ghost use Rattle.verb_core.specs.Step.{is_in_vain as changes_nothing, saved, shown, way_of};
 
+use crate::inferiors::{is_below_itself, is_overlong};
 use crate::lookup::search_mailbox;
 use crate::pattern::listed;
 use crate::sights::{left_of, others_of, sights_of, there_of};
@@ -45,15 +46,25 @@ fn count_of(rows: &[(BoxId, Mailbox)], user: User, name: &Name) -> Result<Option
     }
 }
 
+/// Whether the names are such that a RENAME changes nothing.
+fn is_in_vain(rows: &[(BoxId, Mailbox)], user: User, source: &Name, target: &Name) -> bool
+    requires { IsTrue (is_rising rows.now) }
+    ensures { result ≡ changes_nothing user source.now target.now rows.now }
+{
+    target.bytes().is_empty()
+        || is_lost_found(source.bytes())
+        || is_fixed(target.bytes())
+        || source == target
+        || is_below_itself(source.bytes(), target.bytes())
+        || is_overlong(rows, user, source, target)
+}
+
 /// How a RENAME goes.
 pub fn way_of(rows: &[(BoxId, Mailbox)], user: User, source: &Name, target: &Name) -> Way
     requires { IsTrue (is_rising rows.now) }
     ensures { result ≡ way_of user source.now target.now rows.now }
 {
-    if is_lost_found(source.bytes()) || is_fixed(target.bytes()) || source == target {
-        return Way::NoSource;
-    }
-    if search_mailbox(rows, user, source).is_none() {
+    if is_in_vain(rows, user, source, target) || search_mailbox(rows, user, source).is_none() {
         return Way::NoSource;
     }
     if search_mailbox(rows, user, target).is_some() {

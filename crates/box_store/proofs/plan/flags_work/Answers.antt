@@ -10,7 +10,7 @@ use Rattle.box_store.proofs.Plans.{flags_do}
 use Rattle.box_store.proofs.plan.flags_work.Goals as goal
 
 pub returns : goal.returns
-returns c = λ boxes rising same.
+returns c = λ boxes rising whole same.
     let id : BoxId = box_of c.args.user c.args.mailbox.now in
     let set : List Key = c.in_ok-keys.keys in
     ap₂ (λ (q : BoxId) (changes : List FlagChange). change_row q (with_entries (all_flags_set changes)) boxes) c.in_ok-mailbox.ensures (c.in_ok-flags.ensures ∙ ap (changes_from 0 set c.args.how c.args.given) c.view_of.ensures)

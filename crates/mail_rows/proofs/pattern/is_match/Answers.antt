@@ -1,14 +1,22 @@
-use Rattle.std.proofs.Common.{sym, ◌∙◌}
-use Rattle.mail_rows.proofs.Patterns.{misses, used_up, at_star}
+use Rattle.std.proofs.Common.{◌≡◌, ◌-◌, ◌∙◌, suc, refl, arith}
+use Rattle.mail_rows.proofs.Patterns.{first_cells, first_end, cells_more, end_more, whole}
 use Rattle.mail_rows.proofs.pattern.is_match.Goals as goal
 
-pub returns-in-None : goal.returns-in-None
-returns-in-None c = sym (misses c.args.pattern.now c.args.name.now (sym c.in-None.ensures))
+pub loop-place-init : goal.loop-place-init
+loop-place-init c = record {
+  within = omega arith;
+  cells = λ letters is. first_cells c.args.pattern.now c.args.cells.now letters is;
+  at_end = first_end c.args.pattern.now;
+}
 
-pub returns-in-None-split_first : goal.returns-in-None-split_first
-returns-in-None-split_first c = used_up c.args.pattern.now c.args.name.now c.in-Some.behind.now c.in-Some.end.now c.is_empty.result c.in-Some.ensures c.in-None-split_first.ensures.cases c.is_empty.ensures
+pub loop-place-preserved : goal.loop-place-preserved
+loop-place-preserved c =
+    let one : c.loop-place.place ≡ suc (c.loop-place.place - 1) = omega (arith, c.loop-place-test.true) in
+    record {
+      within = omega (arith, c.loop-place.invariant.within);
+      cells = λ letters is. cells_more c.args.pattern.now c.loop-place.place (c.loop-place.place - 1) _ one c.loop-place.invariant.within refl c.loop-place.cells c.pass.new.cells c.loop-place.at_end letters (c.loop-place.invariant.cells letters is) c.loop-place.invariant.at_end c.pass.ensures;
+      at_end = c.passes_end-at_end.ensures ∙ end_more c.args.pattern.now c.loop-place.place (c.loop-place.place - 1) _ one c.loop-place.invariant.within refl c.loop-place.at_end _ c.loop-place.invariant.at_end refl;
+    }
 
-pub returns-in-Some-split_first : goal.returns-in-Some-split_first
-returns-in-Some-split_first c =
-    let star = at_star c.args.pattern.now c.args.name.now c.in-Some.behind.now c.in-Some.end.now c.in-Some-split_first.more.now c.in-Some-split_first.field-0-0.now c.in-Some.ensures c.in-Some-split_first.ensures.cases.0 in
-    c.matches_some_end.ensures ∙ sym star.whole
+pub returns : goal.returns
+returns c = λ letters is. whole c.args.pattern.now c.loop-place.place c.loop-place.cells c.loop-place.at_end c.matches_whole.result letters (omega (arith, c.loop-place-test.false)) (c.loop-place.invariant.cells letters is) c.loop-place.invariant.at_end c.matches_whole.ensures
