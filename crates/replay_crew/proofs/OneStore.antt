@@ -1,5 +1,5 @@
 -- Behind items that are independent of it an item finds its mailboxes as before them.
-use Rattle.std.proofs.Common.{◌≡◌, ℕ, Bool, true, false, not, ◌&&◌, ◌||◌, List, [], ◌∷◌, map, Some, option_map, cond, refl, sym, ap, ◌∙◌, true≢false}
+use Rattle.std.proofs.Common.{◌≡◌, ℕ, Bool, true, false, not, ◌&&◌, ◌||◌, List, [], ◌∷◌, map, Some, option_map, bytes_eq, cond, refl, sym, ap, ◌∙◌, true≢false}
 use Rattle.std.specs.List.{list_all, AllByRecursion}
 use Rattle.std.specs.Ordering.{eq_by_cmp}
 use Rattle.std.specs.Cmp.{first_so, second_so}
@@ -19,8 +19,8 @@ use Rattle.verb_core.proofs.BoxLaws.{same_box, row_at-change_row}
 use Rattle.verb_core.proofs.Frame.{other_stays}
 use Rattle.verb_core.proofs.Validity.{step_with-IsValid}
 use Rattle.touch_rules.specs.declared.touched.Touch.{Touch}
-use Rattle.touch_rules.specs.declared.touched.Touch.TheVariants.{Keys, Tail, Whole, Names}
-use Rattle.touch_rules.specs.Commuting.{user_of, mailbox_of, same_mailbox, does_write, commute}
+use Rattle.touch_rules.specs.declared.touched.Touch.TheVariants.{Keys, Tail, Whole, Names, Every}
+use Rattle.touch_rules.specs.Commuting.{user_of, is_every, mailbox_of, same_mailbox, does_write, commute}
 use Rattle.touch_rules.specs.Swapping.{sets_conf, Swap}
 use Rattle.touch_rules.proofs.Fitting.{is_free, commute_flip, independent_commute}
 use Rattle.touch_rules.proofs.Changes.{Change, IsAllowed, Allowed, after_changes, names_kept}
@@ -37,21 +37,40 @@ no_share : (p : Bool) → (not p || false) ≡ true → p ≡ false
 no_share true h = sym h
 no_share false h = refl
 
-off_change : (a : Touch) (id : BoxId) (f : Mailbox → Mailbox) → IsAllowed a id f → (v : User) (n : List ℕ) (w : Bool) → (not (same_user (user_of a) v && same_mailbox (mailbox_of a) (Some n)) || not (does_write a || w)) ≡ true → eq_by_cmp box_cmp id (box_of v n) ≡ false
+off_change : (a : Touch) (id : BoxId) (f : Mailbox → Mailbox) → IsAllowed a id f → (v : User) (n : List ℕ) (w : Bool) → (not (same_user (user_of a) v && (is_every a || false || same_mailbox (mailbox_of a) (Some n))) || not (does_write a || w)) ≡ true → eq_by_cmp box_cmp id (box_of v n) ≡ false
 off_change (Keys u m ks true) id f one v n w h = ap (λ q. eq_by_cmp box_cmp q (box_of v n)) one.1 ∙ sym (same_box (box_of u m) (box_of v n)) ∙ no_share _ h
 off_change (Keys u m ks false) id f one v n w h = absurd (true≢false (sym one.0))
 off_change (Tail u m number) id f one v n w h = ap (λ q. eq_by_cmp box_cmp q (box_of v n)) one.0 ∙ sym (same_box (box_of u m) (box_of v n)) ∙ no_share _ h
 off_change (Whole u m x) id f one v n w h = absurd one
 off_change (Names u x) id f one v n w h = absurd one
+off_change (Every u) id f one v n w h = absurd one
+
+-- what is free of all of a user, and writes or not, is another user's
+other_user : (s w m : Bool) → (not (s && true) || not (w || true)) ≡ true → (s && m) ≡ false
+other_user false w m h = refl
+other_user true true m h = absurd (true≢false (sym h))
+other_user true false m h = absurd (true≢false (sym h))
 
 neither : (a b : Bool) → a ≡ false → b ≡ false → (a || b) ≡ false
 neither true b h k = h
 neither false b h k = k
 
-off_changes : (cs : List Change) → AllByRecursion Allowed cs → (v : User) (n : List ℕ) (w : Bool) → list_all (λ (c : Change). not (same_user (user_of c.touch) v && same_mailbox (mailbox_of c.touch) (Some n)) || not (does_write c.touch || w)) cs ≡ true
+off_changes : (cs : List Change) → AllByRecursion Allowed cs → (v : User) (n : List ℕ) (w : Bool) → list_all (λ (c : Change). not (same_user (user_of c.touch) v && (is_every c.touch || false || same_mailbox (mailbox_of c.touch) (Some n))) || not (does_write c.touch || w)) cs ≡ true
     → is_one (map (λ (c : Change). c.id) cs) (box_of v n) ≡ false
 off_changes [] all v n w h = refl
 off_changes (c ∷ cs) all v n w h = neither _ _ (off_change c.touch c.id c.becomes all.0 v n w (first_so _ _ h)) (off_changes cs all.1 v n w (second_so _ _ h))
+
+-- a change and a touch of all of a user that are independent are of two users
+off_every : (a : Touch) (id : BoxId) (f : Mailbox → Mailbox) → IsAllowed a id f → (v : User) → is_free a (Every v) ≡ true → (n : List ℕ) → eq_by_cmp box_cmp id (box_of v n) ≡ false
+off_every (Keys u m ks w) id f one v h n = ap (λ q. eq_by_cmp box_cmp q (box_of v n)) one.1 ∙ sym (same_box (box_of u m) (box_of v n)) ∙ other_user (same_user u v) w (bytes_eq m n) h
+off_every (Tail u m number) id f one v h n = ap (λ q. eq_by_cmp box_cmp q (box_of v n)) one.0 ∙ sym (same_box (box_of u m) (box_of v n)) ∙ other_user (same_user u v) true (bytes_eq m n) h
+off_every (Whole u m x) id f one v h n = absurd one
+off_every (Names u x) id f one v h n = absurd one
+off_every (Every u) id f one v h n = absurd one
+
+offs_every : (cs : List Change) → AllByRecursion Allowed cs → (v : User) → list_all (λ (c : Change). is_free c.touch (Every v)) cs ≡ true → (n : List ℕ) → is_one (map (λ (c : Change). c.id) cs) (box_of v n) ≡ false
+offs_every [] all v h n = refl
+offs_every (c ∷ cs) all v h n = neither _ _ (off_every c.touch c.id c.becomes all.0 v (first_so _ _ h) n) (offs_every cs all.1 v (second_so _ _ h) n)
 
 offs : (cs : List Change) → AllByRecursion Allowed cs → (ts : List Touch) → list_all (λ t. list_all (λ (c : Change). is_free c.touch t) cs) ts ≡ true → AllByRecursion (Off (is_one (map (λ (c : Change). c.id) cs))) ts
 offs cs all [] h = tt
@@ -59,6 +78,7 @@ offs cs all (Keys v n ks w ∷ ts) h = (off_changes cs all v n w (first_so _ _ h
 offs cs all (Tail v n number ∷ ts) h = (off_changes cs all v n true (first_so _ _ h), offs cs all ts (second_so _ _ h))
 offs cs all (Whole v n w ∷ ts) h = (off_changes cs all v n w (first_so _ _ h), offs cs all ts (second_so _ _ h))
 offs cs all (Names v w ∷ ts) h = (tt, offs cs all ts (second_so _ _ h))
+offs cs all (Every v ∷ ts) h = (offs_every cs all v (first_so _ _ h), offs cs all ts (second_so _ _ h))
 
 row_kept : (cs : List Change) (q : BoxId) (rs : Boxes) → is_one (map (λ (c : Change). c.id) cs) q ≡ false → row_at q (after_changes cs rs) ≡ row_at q rs
 row_kept [] q rs h = refl

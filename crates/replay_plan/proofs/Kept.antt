@@ -1,5 +1,5 @@
 -- What is kept of the earlier items tells the level of the next.
-use Rattle.std.proofs.Common.{◌≡◌, ℕ, ◌+◌, ◌<◌, ◌≤◌, max, Bool, true, false, not, ◌&&◌, ◌||◌, ◌==◌, cond, nat_lt, List, [], ◌∷◌, ◌++◌, map, length, zip, get_or, refl, sym, ap, ap₂, ◌∙◌, arith, true≢false}
+use Rattle.std.proofs.Common.{◌≡◌, ℕ, ◌+◌, ◌<◌, ◌≤◌, max, Bool, true, false, not, ◌&&◌, ◌||◌, ◌==◌, cond, nat_lt, List, [], ◌∷◌, ◌++◌, map, length, zip, get_or, refl, sym, ap, ap₂, ◌∙◌, arith, eqb-true, true≢false}
 use Rattle.std.specs.List.{list_all, list_any}
 use Rattle.std.proofs.lemmas.Bool.{lt-ltb, ltb-true}
 use Rattle.touch_rules.specs.declared.touched.Touch.{Touch}
@@ -10,7 +10,7 @@ use Rattle.replay_plan.specs.Placing.{Placed, may_have, level_behind, highest}
 use Rattle.replay_plan.specs.Slots.{Spot, level_at, parts_of, asked_by, is_at, asked_on, last_at, taken_at, at_level, Tells, Knows, Leads, SameTaken, bound, is_avoided, IsUntaken}
 use Rattle.replay_plan.proofs.Gathered.{highest_is_max}
 use Rattle.replay_plan.proofs.Least.{above, least_low, least_high, least_le, least_passes, long_zip, zip_none, zip_push}
-use Rattle.replay_plan.proofs.Pairs.{all_ext, all_and, all_or, all_swap, not_any, commute_is, apart_is}
+use Rattle.replay_plan.proofs.Pairs.{all_ext, all_and, all_or, all_swap, not_any, commute_is, are_apart, apart_same, apart_is}
 
 -- ---- below a level
 
@@ -42,6 +42,25 @@ lt_last (e ∷ earlier) s level h =
 
 -- ---- the least level
 
+-- one that has a lower level has another
+not_equal : (n level : ℕ) → nat_lt n level ≡ true → (n == level) ≡ false
+not_equal n level lt = elim (n == level) as (λ t. (n == level) ≡ t → t ≡ false) [
+  | true ↦ λ is. let less : n < level = ltb-true n level lt in let same : n ≡ level = eqb-true n level is in absurd (omega (arith, less, same))
+  | false ↦ λ _. refl
+] refl
+
+-- where an item commutes, or has a lower level, two tests of it that are one for those that commute come to the same
+same_test : (c l i h e : Bool) → (c ≡ true → i ≡ h) → (l ≡ true → e ≡ false) → ((c || l) && (i || not e)) ≡ ((c || l) && (h || not e))
+same_test true l i h e one lower = ap (λ t. t || not e) (one refl)
+same_test false true i h e one lower = ap (λ t. i || not t) (lower refl) ∙ either i h ∙ sym (ap (λ t. h || not t) (lower refl))
+  where
+    either : (i h : Bool) → (i || true) ≡ (h || true)
+    either true true = refl
+    either true false = refl
+    either false true = refl
+    either false false = refl
+same_test false false i h e one lower = refl
+
 module _ (earlier : List Placed) (last next : List (Slot × ℕ)) (touches : List Touch) (tells : Tells earlier last) (knows : Knows earlier next) where
   -- a level is above the bound where each that does not commute has a lower one
   bound_is : (level : ℕ) → 1 ≤ level → nat_lt (bound last touches) level ≡ list_all (λ (e : Placed). commute e.0 touches || nat_lt e.1 level) earlier
@@ -60,19 +79,21 @@ module _ (earlier : List Placed) (last next : List (Slot × ℕ)) (touches : Lis
       ∙ all_ext (λ (e : Placed). list_all (λ b. list_all (λ p. not (list_any (λ a. is_at (parts_of a) a (asked_on b p)) e.0)) (asked_by b) || nat_lt e.1 level) touches) (λ (e : Placed). commute e.0 touches || nat_lt e.1 level)
       (λ e. all_or (λ b. list_all (λ p. not (list_any (λ a. is_at (parts_of a) a (asked_on b p)) e.0)) (asked_by b)) (nat_lt e.1 level) touches ∙ ap (λ c. c || nat_lt e.1 level) (commute_is e.0 touches)) earlier
 
-  -- a level is not taken where each that is not independent has another
-  free_is : (level : ℕ) → not (is_avoided next touches level) ≡ list_all (λ (e : Placed). are_independent e.0 touches || not (e.1 == level)) earlier
+  -- a level is not taken where each that is not apart has another
+  free_is : (level : ℕ) → not (is_avoided next touches level) ≡ list_all (λ (e : Placed). are_apart e.0 touches || not (e.1 == level)) earlier
   free_is level =
       not_any (λ b. nat_lt 0 (level_at next (asked_on b (Level level)))) touches
       ∙ all_ext (λ b. not (nat_lt 0 (level_at next (asked_on b (Level level))))) (λ b. list_all (λ (e : Placed). not (list_any (λ a. is_at (Level e.1 ∷ []) a (asked_on b (Level level))) e.0)) earlier)
       (λ b. ap not (knows (asked_on b (Level level))) ∙ not_any (λ (e : Placed). list_any (λ a. is_at (Level e.1 ∷ []) a (asked_on b (Level level))) e.0) earlier) touches
       ∙ all_swap (λ b (e : Placed). not (list_any (λ a. is_at (Level e.1 ∷ []) a (asked_on b (Level level))) e.0)) touches earlier
-      ∙ all_ext (λ (e : Placed). list_all (λ b. not (list_any (λ a. is_at (Level e.1 ∷ []) a (asked_on b (Level level))) e.0)) touches) (λ (e : Placed). are_independent e.0 touches || not (e.1 == level))
+      ∙ all_ext (λ (e : Placed). list_all (λ b. not (list_any (λ a. is_at (Level e.1 ∷ []) a (asked_on b (Level level))) e.0)) touches) (λ (e : Placed). are_apart e.0 touches || not (e.1 == level))
       (λ e. apart_is e.1 level e.0 touches) earlier
 
   may_is : (level : ℕ) → 1 ≤ level → may_have earlier touches level ≡ (nat_lt (bound last touches) level && not (is_avoided next touches level))
   may_is level low =
-      all_and (λ (e : Placed). commute e.0 touches || nat_lt e.1 level) (λ (e : Placed). are_independent e.0 touches || not (e.1 == level)) earlier
+      all_ext (λ (e : Placed). (commute e.0 touches || nat_lt e.1 level) && (are_independent e.0 touches || not (e.1 == level))) (λ (e : Placed). (commute e.0 touches || nat_lt e.1 level) && (are_apart e.0 touches || not (e.1 == level)))
+      (λ e. same_test (commute e.0 touches) (nat_lt e.1 level) (are_independent e.0 touches) (are_apart e.0 touches) (e.1 == level) (λ fit. sym (apart_same e.0 touches fit)) (not_equal e.1 level)) earlier
+      ∙ all_and (λ (e : Placed). commute e.0 touches || nat_lt e.1 level) (λ (e : Placed). are_apart e.0 touches || not (e.1 == level)) earlier
       ∙ sym (ap₂ (λ a b. a && b) (bound_is level low) (free_is level))
 
   -- none below it is one that the item may have

@@ -6,12 +6,15 @@ use Rattle.undo_base.specs.declared.keys.User.{User}
 use Rattle.undo_base.specs.declared.keys.Key.{Key}
 use Rattle.verb_core.specs.Names.{inbox}
 use Rattle.touch_rules.specs.declared.touched.Touch.{Touch}
-use Rattle.touch_rules.specs.declared.touched.Touch.TheVariants.{Keys, Tail, Whole, Names}
+use Rattle.touch_rules.specs.declared.touched.Touch.TheVariants.{Keys, Tail, Whole, Names, Every}
 use Rattle.replay_plan.specs.Placing.{levels_by_item, levels_of}
 use Rattle.replay_plan.specs.Lines.{text_of_levels}
 
 abbrev ann : User
 ann = record { 0 = 0 }
+
+abbrev bob : User
+bob = record { 0 = 1 }
 
 abbrev work : List ℕ
 work = codes "Work"
@@ -44,3 +47,18 @@ planned = refl
 pub told : text_of_levels (levels_of morning) (3 ∷ 4 ∷ 5 ∷ 6 ∷ 7 ∷ 8 ∷ 9 ∷ 10 ∷ []) ≡ codes "level 1: 3 4 10\nlevel 2: 5 6 8\nlevel 3: 7\nlevel 4: 9\n"
 unfolding digits
 told = refl
+
+-- a FETCH of ann's first message (4), a RENAME of hers (5), the same FETCH (6), a LIST of bob (7), a LIST of ann (8) and a RENAME
+-- of hers (9): a RENAME parts the levels of its user, and of no other
+abbrev renamed_twice : List (List Touch)
+renamed_twice =
+    (Keys ann inbox first false ∷ [])
+    ∷ (Every ann ∷ [])
+    ∷ (Keys ann inbox first false ∷ [])
+    ∷ (Names bob false ∷ [])
+    ∷ (Names ann false ∷ [])
+    ∷ (Every ann ∷ [])
+    ∷ []
+
+pub levels_round_renames : levels_by_item renamed_twice ≡ 1 ∷ 2 ∷ 3 ∷ 1 ∷ 3 ∷ 4 ∷ []
+levels_round_renames = refl

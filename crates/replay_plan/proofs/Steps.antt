@@ -5,12 +5,12 @@ use Rattle.std.proofs.lemmas.Bool.{lt-ltb, ltb-true}
 use Rattle.std.proofs.lemmas.List.{take_more}
 use Rattle.touch_rules.specs.declared.touched.Touch.{Touch}
 use Rattle.verb_core.specs.Boxes.{same_user}
-use Rattle.touch_rules.specs.Commuting.{user_of, mailbox_of, same_mailbox, does_write}
+use Rattle.touch_rules.specs.Commuting.{user_of, same_mailbox, does_write}
 use Rattle.replay_plan.specs.declared.slots.Part.{Part}
 use Rattle.replay_plan.specs.declared.slots.Part.TheVariants.{Level}
 use Rattle.replay_plan.specs.declared.slots.Slot.{Slot}
 use Rattle.replay_plan.specs.Placing.{highest}
-use Rattle.replay_plan.specs.Slots.{Spot, spot_on, same_spot, same_part, same_way, level_at, at_level, is_at, asked_on, is_avoided, Leads, SameTaken, IsNextFree, IsPast}
+use Rattle.replay_plan.specs.Slots.{Spot, mailbox_at, spot_on, same_spot, same_part, same_way, level_at, at_level, is_at, asked_on, is_avoided, Leads, SameTaken, IsNextFree, IsPast}
 use Rattle.replay_plan.proofs.Tables.{one_spot, spot_itself}
 
 any_append : {X : Type 0} (f : X → Bool) (xs : List X) (x : X) → list_any f (xs ++ x ∷ []) ≡ (f x || list_any f xs)
@@ -58,7 +58,7 @@ module _ (a : Touch) (spot : Spot) where
       three false y z = refl
 
       off : (p : Part) → same_spot spot (spot_on a w p) ≡ false
-      off p = ap (λ t. same_user spot.user (user_of a) && (same_mailbox spot.mailbox (mailbox_of a) && (t && same_part spot.part p))) h ∙ three (same_user spot.user (user_of a)) (same_mailbox spot.mailbox (mailbox_of a)) (same_part spot.part p)
+      off p = ap (λ t. same_user spot.user (user_of a) && (same_mailbox spot.mailbox (mailbox_at a p) && (t && same_part spot.part p))) h ∙ three (same_user spot.user (user_of a)) (same_mailbox spot.mailbox (mailbox_at a p)) (same_part spot.part p)
 
   -- a touch is at a spot by reading or by writing
   pub both_ways : (parts : List Part) → is_at parts a spot ≡ ((does_write a && list_any (λ p. same_spot spot (spot_on a true p)) parts) || list_any (λ p. same_spot spot (spot_on a false p)) parts)

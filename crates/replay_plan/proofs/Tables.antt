@@ -18,7 +18,7 @@ use Rattle.undo_base.specs.declared.keys.User.{User}
 use Rattle.undo_base.specs.declared.keys.Key.{Key}
 use Rattle.verb_core.specs.Mailboxes.{same_key}
 use Rattle.replay_plan.specs.declared.slots.Part.{Part}
-use Rattle.replay_plan.specs.declared.slots.Part.TheVariants.{Anything, Whole, Tails, TailOf, KeysOf, At, Level}
+use Rattle.replay_plan.specs.declared.slots.Part.TheVariants.{Anywhere, Everywhere, Anything, Whole, Tails, TailOf, KeysOf, At, Level}
 use Rattle.replay_plan.specs.declared.slots.Slot.{Slot}
 use Rattle.undo_base.specs.contracts.keys.UserOrd.TheImpl as user_order
 use Rattle.verb_core.specs.Boxes.{same_user}
@@ -35,6 +35,26 @@ nat_is : (x y : ℕ) → is_eq (nat_cmp x y) ≡ (x == y)
 nat_is x y = search rules
 
 part_is : (a b : Part) → is_at (part_order.cmp-value.it a) b ≡ same_part a b
+part_is Anywhere Anywhere = refl
+part_is Anywhere Everywhere = refl
+part_is Anywhere Anything = refl
+part_is Anywhere Whole = refl
+part_is Anywhere Tails = refl
+part_is Anywhere (TailOf y) = refl
+part_is Anywhere (KeysOf y) = refl
+part_is Anywhere (At y) = refl
+part_is Anywhere (Level y) = refl
+part_is Everywhere Anywhere = refl
+part_is Everywhere Everywhere = refl
+part_is Everywhere Anything = refl
+part_is Everywhere Whole = refl
+part_is Everywhere Tails = refl
+part_is Everywhere (TailOf y) = refl
+part_is Everywhere (KeysOf y) = refl
+part_is Everywhere (At y) = refl
+part_is Everywhere (Level y) = refl
+part_is Anything Anywhere = refl
+part_is Anything Everywhere = refl
 part_is Anything Anything = refl
 part_is Anything Whole = refl
 part_is Anything Tails = refl
@@ -42,6 +62,8 @@ part_is Anything (TailOf y) = refl
 part_is Anything (KeysOf y) = refl
 part_is Anything (At y) = refl
 part_is Anything (Level y) = refl
+part_is Whole Anywhere = refl
+part_is Whole Everywhere = refl
 part_is Whole Anything = refl
 part_is Whole Whole = refl
 part_is Whole Tails = refl
@@ -49,6 +71,8 @@ part_is Whole (TailOf y) = refl
 part_is Whole (KeysOf y) = refl
 part_is Whole (At y) = refl
 part_is Whole (Level y) = refl
+part_is Tails Anywhere = refl
+part_is Tails Everywhere = refl
 part_is Tails Anything = refl
 part_is Tails Whole = refl
 part_is Tails Tails = refl
@@ -56,6 +80,8 @@ part_is Tails (TailOf y) = refl
 part_is Tails (KeysOf y) = refl
 part_is Tails (At y) = refl
 part_is Tails (Level y) = refl
+part_is (TailOf x) Anywhere = refl
+part_is (TailOf x) Everywhere = refl
 part_is (TailOf x) Anything = refl
 part_is (TailOf x) Whole = refl
 part_is (TailOf x) Tails = refl
@@ -63,6 +89,8 @@ part_is (TailOf x) (TailOf y) = nat_is x y
 part_is (TailOf x) (KeysOf y) = refl
 part_is (TailOf x) (At y) = refl
 part_is (TailOf x) (Level y) = refl
+part_is (KeysOf x) Anywhere = refl
+part_is (KeysOf x) Everywhere = refl
 part_is (KeysOf x) Anything = refl
 part_is (KeysOf x) Whole = refl
 part_is (KeysOf x) Tails = refl
@@ -70,6 +98,8 @@ part_is (KeysOf x) (TailOf y) = refl
 part_is (KeysOf x) (KeysOf y) = nat_is x y
 part_is (KeysOf x) (At y) = refl
 part_is (KeysOf x) (Level y) = refl
+part_is (At x) Anywhere = refl
+part_is (At x) Everywhere = refl
 part_is (At x) Anything = refl
 part_is (At x) Whole = refl
 part_is (At x) Tails = refl
@@ -77,6 +107,8 @@ part_is (At x) (TailOf y) = refl
 part_is (At x) (KeysOf y) = refl
 part_is (At x) (At y) = key_is x y
 part_is (At x) (Level y) = refl
+part_is (Level x) Anywhere = refl
+part_is (Level x) Everywhere = refl
 part_is (Level x) Anything = refl
 part_is (Level x) Whole = refl
 part_is (Level x) Tails = refl
@@ -160,7 +192,9 @@ one_mailbox (Some a) None h = absurd (true≢false (sym h))
 one_mailbox None (Some b) h = absurd (true≢false (sym h))
 one_mailbox None None h = refl
 
-one_part : (a b : Part) → same_part a b ≡ true → a ≡ b
+pub one_part : (a b : Part) → same_part a b ≡ true → a ≡ b
+one_part Anywhere Anywhere h = refl
+one_part Everywhere Everywhere h = refl
 one_part Anything Anything h = refl
 one_part Whole Whole h = refl
 one_part Tails Tails h = refl
@@ -181,7 +215,9 @@ one_spot a b h =
       part = one_part a.part b.part (second_so _ _ q) j;
     }
 
-part_itself : (a : Part) → same_part a a ≡ true
+pub part_itself : (a : Part) → same_part a a ≡ true
+part_itself Anywhere = refl
+part_itself Everywhere = refl
 part_itself Anything = refl
 part_itself Whole = refl
 part_itself Tails = refl

@@ -1,5 +1,5 @@
--- What is kept of the earlier items in their stead: for each part of each place the last level.
-use Rattle.std.specs.Prelude.{◌≡◌, ◌≤◌, ◌<◌, ℕ, max, nat_lt, Bool, true, false, not, ◌&&◌, ◌||◌, ◌==◌, if◌then◌else◌, List, [], ◌∷◌, map, Option, option_map, unwrap_or}
+-- What is kept of the earlier items in their stead: for each part of each place, and of each user, the last level.
+use Rattle.std.specs.Prelude.{◌≡◌, ◌≤◌, ◌<◌, ℕ, max, nat_lt, Bool, true, false, not, ◌&&◌, ◌||◌, ◌==◌, if◌then◌else◌, List, [], ◌∷◌, map, Option, None, option_map, unwrap_or}
 use Rattle.std.specs.List.{list_any}
 use Rattle.std.specs.Map.{lookup}
 use Rattle.undo_base.specs.declared.keys.User.{User}
@@ -7,11 +7,11 @@ use Rattle.undo_base.specs.declared.keys.Key.{Key}
 use Rattle.verb_core.specs.Mailboxes.{same_key}
 use Rattle.verb_core.specs.Boxes.{same_user}
 use Rattle.touch_rules.specs.declared.touched.Touch.{Touch}
-use Rattle.touch_rules.specs.declared.touched.Touch.TheVariants.{Keys, Tail, Whole as WholeBox, Names}
+use Rattle.touch_rules.specs.declared.touched.Touch.TheVariants.{Keys, Tail, Whole as WholeBox, Names, Every}
 use Rattle.touch_rules.specs.Commuting.{user_of, mailbox_of, same_mailbox, does_write}
 use Rattle.replay_plan.specs.Placing.{Placed, highest}
 use Rattle.replay_plan.specs.declared.slots.Part.{Part}
-use Rattle.replay_plan.specs.declared.slots.Part.TheVariants.{Anything, Whole, Tails, TailOf, KeysOf, At, Level}
+use Rattle.replay_plan.specs.declared.slots.Part.TheVariants.{Anywhere, Everywhere, Anything, Whole, Tails, TailOf, KeysOf, At, Level}
 use Rattle.replay_plan.specs.declared.slots.Slot.{Slot}
 
 -- a part of a place, and whether only those that write it count
@@ -24,11 +24,22 @@ pub record Spot : Type 0 where
 abbrev pub spot_of : Slot → Spot
 spot_of s = record { user = s.user; mailbox = option_map (λ name. name.items) s.mailbox; written = s.written; part = s.part }
 
--- a spot at the place of a touch
+-- whether it is a part of all places of a user
+abbrev pub is_users : Part → Bool
+is_users Anywhere = true
+is_users Everywhere = true
+is_users _ = false
+
+abbrev pub mailbox_at : Touch → Part → Option (List ℕ)
+mailbox_at touch part = if is_users part then None else mailbox_of touch
+
+-- a spot at the place of a touch, or at its user
 abbrev pub spot_on : Touch → Bool → Part → Spot
-spot_on touch written part = record { user = user_of touch; mailbox = mailbox_of touch; written = written; part = part }
+spot_on touch written part = record { user = user_of touch; mailbox = mailbox_at touch part; written = written; part = part }
 
 abbrev pub same_part : Part → Part → Bool
+same_part Anywhere Anywhere = true
+same_part Everywhere Everywhere = true
 same_part Anything Anything = true
 same_part Whole Whole = true
 same_part Tails Tails = true
@@ -55,23 +66,36 @@ abbrev pub key_parts : List Key → List Part
 key_parts [] = []
 key_parts (key ∷ keys) = KeysOf key.item ∷ At key ∷ key_parts keys
 
--- the parts of its place that a touch is of
+-- the parts of its place, and of its user, that a touch is of
 abbrev pub parts_of : Touch → List Part
-parts_of (Keys u mailbox keys writes) = Anything ∷ key_parts keys
-parts_of (Tail u mailbox number) = Anything ∷ Tails ∷ TailOf number ∷ []
-parts_of (WholeBox u mailbox writes) = Anything ∷ Whole ∷ []
-parts_of (Names u writes) = Anything ∷ Whole ∷ []
+parts_of (Keys u mailbox keys writes) = Anywhere ∷ Anything ∷ key_parts keys
+parts_of (Tail u mailbox number) = Anywhere ∷ Anything ∷ Tails ∷ TailOf number ∷ []
+parts_of (WholeBox u mailbox writes) = Anywhere ∷ Anything ∷ Whole ∷ []
+parts_of (Names u writes) = Anywhere ∷ Anything ∷ Whole ∷ []
+parts_of (Every u) = Anywhere ∷ Everywhere ∷ []
 
 abbrev pub key_asked : List Key → List Part
 key_asked [] = []
 key_asked (key ∷ keys) = TailOf key.item ∷ At key ∷ key_asked keys
 
--- the parts that a later touch of its place must come behind: a touch of one of them speaks of the same messages
+-- the parts of its place that a later touch must come behind: a touch of one of them speaks of the same messages
+abbrev pub own_asked : Touch → List Part
+own_asked (Keys u mailbox keys writes) = Whole ∷ key_asked keys
+own_asked (Tail u mailbox number) = Whole ∷ Tails ∷ KeysOf number ∷ []
+own_asked (WholeBox u mailbox writes) = Anything ∷ []
+own_asked (Names u writes) = Anything ∷ []
+own_asked (Every u) = []
+
+-- the part of its user that it must come behind: what is of all of the user comes behind anything, and anything behind that
+abbrev pub users_asked : Touch → Part
+users_asked (Keys u mailbox keys writes) = Everywhere
+users_asked (Tail u mailbox number) = Everywhere
+users_asked (WholeBox u mailbox writes) = Everywhere
+users_asked (Names u writes) = Everywhere
+users_asked (Every u) = Anywhere
+
 abbrev pub asked_by : Touch → List Part
-asked_by (Keys u mailbox keys writes) = Whole ∷ key_asked keys
-asked_by (Tail u mailbox number) = Whole ∷ Tails ∷ KeysOf number ∷ []
-asked_by (WholeBox u mailbox writes) = Anything ∷ []
-asked_by (Names u writes) = Anything ∷ []
+asked_by touch = users_asked touch ∷ own_asked touch
 
 -- whether a touch of these parts is at a spot
 abbrev pub is_at : List Part → Touch → Spot → Bool
@@ -86,7 +110,7 @@ abbrev pub last_at : List Placed → Spot → ℕ
 last_at [] spot = 0
 last_at (e ∷ earlier) spot = max (if list_any (λ a. is_at (parts_of a) a spot) e.0 then e.1 else 0) (last_at earlier spot)
 
--- whether an item that has the level of a spot has touched its place
+-- whether an item that has the level of a spot has touched its place; what is of all of a user counts as at the user's names
 abbrev pub taken_at : List Placed → Spot → Bool
 taken_at earlier spot = list_any (λ e. list_any (λ a. is_at (Level e.1 ∷ []) a spot) e.0) earlier
 

@@ -1,8 +1,8 @@
-//! Which parts of its place a touch is of, and which a later touch must come behind.
-ghost use Rattle.std.specs.Prelude.{◌≡◌, ◌∷◌, ◌++◌, IfOk, OnOk, option_map, Some};
+//! Which parts of its place and of its user a touch is of, and which a later touch must come behind.
+ghost use Rattle.std.specs.Prelude.{◌≡◌, [], ◌∷◌, ◌++◌, IfOk, OnOk, option_map, Some};
 ghost use Rattle.touch_rules.specs.Commuting.{mailbox_of};
-ghost use Rattle.replay_plan.specs.declared.slots.Part.TheVariants.{Anything, Whole};
-ghost use Rattle.replay_plan.specs.Slots.{spot_of, spot_on, parts_of, asked_by, key_parts, key_asked};
+ghost use Rattle.replay_plan.specs.declared.slots.Part.TheVariants.{Anywhere, Everywhere, Anything, Whole, Tails, TailOf, KeysOf};
+ghost use Rattle.replay_plan.specs.Slots.{spot_of, spot_on, is_users, mailbox_at, parts_of, asked_by, key_parts, key_asked};
 
 use crate::slots::{Part, Slot};
 use std::alloc::Global;
@@ -32,19 +32,41 @@ fn with_asked_keys(parts: &mut Vec<Part>, keys: &[Key]) -> Result<(), NoMemory>
 }
 
 fn of_keys(alloc: Global, keys: &[Key]) -> Result<Vec<Part>, NoMemory>
-    ensures { IfOk result (λ parts. parts.items ≡ Anything ∷ key_parts keys.now) }
+    ensures { IfOk result (λ parts. parts.items ≡ Anywhere ∷ Anything ∷ key_parts keys.now) }
 {
-    let mut parts = vec![in alloc; Part::Anything]?;
+    let mut parts = vec![in alloc; Part::Anywhere, Part::Anything]?;
     with_keys(&mut parts, keys)?;
     Ok(parts)
 }
 
 fn asked_by_keys(alloc: Global, keys: &[Key]) -> Result<Vec<Part>, NoMemory>
-    ensures { IfOk result (λ parts. parts.items ≡ Whole ∷ key_asked keys.now) }
+    ensures { IfOk result (λ parts. parts.items ≡ Everywhere ∷ Whole ∷ key_asked keys.now) }
 {
-    let mut parts = vec![in alloc; Part::Whole]?;
+    let mut parts = vec![in alloc; Part::Everywhere, Part::Whole]?;
     with_asked_keys(&mut parts, keys)?;
     Ok(parts)
+}
+
+fn of_tail(alloc: Global, number: u32) -> Result<Vec<Part>, NoMemory>
+    ensures { IfOk result (λ parts. parts.items ≡ Anywhere ∷ Anything ∷ Tails ∷ TailOf number ∷ []) }
+{
+    let mut parts = vec![in alloc; Part::Anywhere, Part::Anything, Part::Tails]?;
+    parts.push(Part::TailOf(number))?;
+    Ok(parts)
+}
+
+fn asked_by_tail(alloc: Global, number: u32) -> Result<Vec<Part>, NoMemory>
+    ensures { IfOk result (λ parts. parts.items ≡ Everywhere ∷ Whole ∷ Tails ∷ KeysOf number ∷ []) }
+{
+    let mut parts = vec![in alloc; Part::Everywhere, Part::Whole, Part::Tails]?;
+    parts.push(Part::KeysOf(number))?;
+    Ok(parts)
+}
+
+fn whole(alloc: Global) -> Result<Vec<Part>, NoMemory>
+    ensures { IfOk result (λ parts. parts.items ≡ Anywhere ∷ Anything ∷ Whole ∷ []) }
+{
+    Ok(vec![in alloc; Part::Anywhere, Part::Anything, Part::Whole]?)
 }
 
 /// The parts that a touch is of.
@@ -53,11 +75,10 @@ pub(crate) fn parts(alloc: Global, touch: &Touch) -> Result<Vec<Part>, NoMemory>
 {
     match touch {
         Touch::Keys { keys, .. } => of_keys(alloc, keys.as_slice()),
-        Touch::Tail { number, .. } => {
-            Ok(vec![in alloc; Part::Anything, Part::Tails, Part::TailOf(*number)]?)
-        }
-        Touch::Whole { .. } => Ok(vec![in alloc; Part::Anything, Part::Whole]?),
-        Touch::Names { .. } => Ok(vec![in alloc; Part::Anything, Part::Whole]?),
+        Touch::Tail { number, .. } => of_tail(alloc, *number),
+        Touch::Whole { .. } => whole(alloc),
+        Touch::Names { .. } => whole(alloc),
+        Touch::Every { .. } => Ok(vec![in alloc; Part::Anywhere, Part::Everywhere]?),
     }
 }
 
@@ -67,11 +88,10 @@ pub(crate) fn asked(alloc: Global, touch: &Touch) -> Result<Vec<Part>, NoMemory>
 {
     match touch {
         Touch::Keys { keys, .. } => asked_by_keys(alloc, keys.as_slice()),
-        Touch::Tail { number, .. } => {
-            Ok(vec![in alloc; Part::Whole, Part::Tails, Part::KeysOf(*number)]?)
-        }
-        Touch::Whole { .. } => Ok(vec![in alloc; Part::Anything]?),
-        Touch::Names { .. } => Ok(vec![in alloc; Part::Anything]?),
+        Touch::Tail { number, .. } => asked_by_tail(alloc, *number),
+        Touch::Whole { .. } => Ok(vec![in alloc; Part::Everywhere, Part::Anything]?),
+        Touch::Names { .. } => Ok(vec![in alloc; Part::Everywhere, Part::Anything]?),
+        Touch::Every { .. } => Ok(vec![in alloc; Part::Anywhere]?),
     }
 }
 
@@ -83,7 +103,7 @@ fn name_bytes(alloc: Global, name: &Name) -> Result<Option<Vec<u8>>, NoMemory>
     Ok(Some(bytes))
 }
 
-fn mailbox(alloc: Global, touch: &Touch) -> Result<Option<Vec<u8>>, NoMemory>
+fn own_mailbox(alloc: Global, touch: &Touch) -> Result<Option<Vec<u8>>, NoMemory>
     ensures { IfOk result (λ bytes. option_map (λ b. b.items) bytes ≡ mailbox_of touch.now) }
 {
     match touch.mailbox() {
@@ -92,7 +112,33 @@ fn mailbox(alloc: Global, touch: &Touch) -> Result<Option<Vec<u8>>, NoMemory>
     }
 }
 
-/// A slot at the place of a touch.
+/// Whether it is a part of all places of a user.
+fn of_user(part: Part) -> bool
+    ensures { result ≡ is_users part }
+{
+    match part {
+        Part::Anywhere => true,
+        Part::Everywhere => true,
+        Part::Anything => false,
+        Part::Whole => false,
+        Part::Tails => false,
+        Part::TailOf(_) => false,
+        Part::KeysOf(_) => false,
+        Part::At(_) => false,
+        Part::Level(_) => false,
+    }
+}
+
+fn mailbox(alloc: Global, touch: &Touch, part: Part) -> Result<Option<Vec<u8>>, NoMemory>
+    ensures { IfOk result (λ bytes. option_map (λ b. b.items) bytes ≡ mailbox_at touch.now part) }
+{
+    if of_user(part) {
+        return Ok(None);
+    }
+    own_mailbox(alloc, touch)
+}
+
+/// A slot at the place of a touch, or at its user.
 pub(crate) fn slot_on(
     alloc: Global,
     touch: &Touch,
@@ -101,7 +147,7 @@ pub(crate) fn slot_on(
 ) -> Result<Slot, NoMemory>
     ensures { IfOk result (λ slot. spot_of slot ≡ spot_on touch.now written part) }
 {
-    let mailbox = mailbox(alloc, touch)?;
+    let mailbox = mailbox(alloc, touch, part)?;
     Ok(Slot {
         user: touch.user(),
         mailbox,

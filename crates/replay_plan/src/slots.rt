@@ -7,10 +7,14 @@ use std::collections::BTreeMap;
 use std::marker::Model;
 use undo_base::{Key, NoMemory, User};
 
-/// What of a place is touched, or a level that items of the place have.
+/// What of a place, or of all places of a user, is touched, or a level that items of the place have.
 #[derive(Clone, Copy, PartialEq, Eq, PartialOrd, Ord)]
 pub(crate) enum Part {
-    /// Anything at all.
+    /// Anything of the user.
+    Anywhere,
+    /// All of the user.
+    Everywhere,
+    /// Anything of the place.
     Anything,
     /// The whole mailbox.
     Whole,
@@ -33,6 +37,7 @@ pub(crate) struct Slot {
     pub(crate) part: Part,
     pub(crate) written: bool,
     pub(crate) user: User,
+    /// None is where the user's mailboxes are named, and for what is of all places of the user.
     pub(crate) mailbox: Option<Vec<u8>>,
 }
 

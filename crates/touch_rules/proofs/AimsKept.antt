@@ -15,14 +15,15 @@ use Rattle.verb_core.specs.Names.{inbox, lost_found}
 use Rattle.verb_core.specs.Boxes.{box_of, has_row}
 use Rattle.verb_core.specs.Store.{MailStore, IsValid}
 use Rattle.verb_core.specs.Items.{IsWellFormed, actor, text_in}
-use Rattle.verb_core.specs.Recipients.{recipients, some_unknown, deciding}
+use Rattle.verb_core.specs.Recipients.{recipients, some_unknown}
+use Rattle.verb_core.specs.Filters.{deciding}
 use Rattle.verb_core.specs.Aims.{Sought, aim_at, into_or, and_postmaster, delivered, sought, sought_by}
 use Rattle.verb_core.specs.Step.{Boxes, step, step_with}
 use Rattle.verb_core.specs.Touched.{deed_touches, touches_box}
 use Rattle.verb_core.proofs.AimNames.{sought_by-same}
 use Rattle.verb_core.proofs.Frame.{other_stays}
 use Rattle.touch_rules.specs.declared.touched.Touch.{Touch}
-use Rattle.touch_rules.specs.declared.touched.Touch.TheVariants.{Keys, Tail, Whole, Names}
+use Rattle.touch_rules.specs.declared.touched.Touch.TheVariants.{Keys, Tail, Whole, Names, Every}
 use Rattle.touch_rules.specs.Table.{tail_on, looked_for, touches_of}
 use Rattle.touch_rules.specs.Commuting.{commute}
 use Rattle.touch_rules.specs.Swapping.{brings_mail, sets_conf, resolved, CanHave, Swap, SwapAnew}
@@ -32,12 +33,13 @@ use Rattle.touch_rules.proofs.Plain.{moves_boxes, row_of, changes, works}
 use Rattle.touch_rules.proofs.Elsewhere.{Off, off_all, no_mail_of}
 use Rattle.touch_rules.proofs.Orders.{conf_same, swap_given}
 
--- a mailbox that is touched is there in both or in neither
+-- a mailbox to which mail comes, or that is touched as a whole, is there in both or in neither
 abbrev HasSame : Boxes → Boxes → Touch → Type 0
 HasSame rs ss (Keys u n keys writes) = Unit {0}
 HasSame rs ss (Tail u n number) = has_row (box_of u n) rs ≡ has_row (box_of u n) ss
 HasSame rs ss (Whole u n writes) = has_row (box_of u n) rs ≡ has_row (box_of u n) ss
 HasSame rs ss (Names u writes) = Unit {0}
+HasSame rs ss (Every u) = Unit {0}
 
 all_first : (P : Touch → Type 0) (xs ys : List Touch) → AllByRecursion P (xs ++ ys) → AllByRecursion P xs
 all_first P [] ys h = tt
@@ -110,7 +112,7 @@ module _ (house : House) (conf : Conf) (rs ss : Boxes) (i : Item) where
   delivered_kept to (Some (Some name)) h = ap (and_postmaster here to) (post_same to name (recipients house conf to) (some_unknown house conf to) h)
 
   sought_kept : (text : List ℕ) (by : Option User) (d : Deed) → AllByRecursion (HasSame rs ss) (row_of (sought here text by d) i by d) → sought here text by d ≡ sought there_too text by d
-  sought_kept text by (Deliver from to t) h = delivered_kept to (option_map (λ (f : Filter). f.file) (deciding conf text)) h
+  sought_kept text by (Deliver from to t) h = delivered_kept to (option_map (λ (f : Filter). f.file) (deciding conf from to text)) h
   sought_kept text by (Append mailbox flags moment t) h = into_all rs ss i.number mailbox lost_found (actor by (Append mailbox flags moment []) ∷ []) h
   sought_kept text by (Copy mailbox keys target) h = into_all rs ss i.number target lost_found (actor by (Copy mailbox keys target) ∷ []) h.1
   sought_kept text by (Acts (Give u mailbox t)) h = into_all rs ss i.number mailbox lost_found (u ∷ []) h
@@ -147,6 +149,7 @@ module _ (to : Sought) (s : MailStore) (i : Item) (moves : moves_boxes i.deed �
   behind (Tail u n number ∷ ts) off = (has_off (box_of u n) off.0, behind ts off.1)
   behind (Whole u n w ∷ ts) off = (has_off (box_of u n) off.0, behind ts off.1)
   behind (Names u w ∷ ts) off = (tt, behind ts off.1)
+  behind (Every u ∷ ts) off = (tt, behind ts off.1)
 
   before : (ts : List Touch) → AllByRecursion (Off (deed_touches (actor i.by i.deed) i.deed)) ts → AllByRecursion (HasSame s.boxes (step_with to s i).0.boxes) ts
   before [] off = tt
@@ -154,6 +157,7 @@ module _ (to : Sought) (s : MailStore) (i : Item) (moves : moves_boxes i.deed �
   before (Tail u n number ∷ ts) off = (sym (has_off (box_of u n) off.0), before ts off.1)
   before (Whole u n w ∷ ts) off = (sym (has_off (box_of u n) off.0), before ts off.1)
   before (Names u w ∷ ts) off = (tt, before ts off.1)
+  before (Every u ∷ ts) off = (tt, before ts off.1)
 
 has_still : (to : Sought) (s : MailStore) (i : Item) → moves_boxes i.deed ≡ false → CanHave to i → (id : BoxId) → has_row id (step_with to s i).0.boxes ≡ has_row id s.boxes
 has_still to s i still can id = ap (has_row id) (works to i i.by i.deed s.boxes still can) ∙ has_kept id (changes to i i.by i.deed s.boxes) s.boxes

@@ -13,7 +13,7 @@ use Rattle.verb_core.specs.Boxes.{box_cmp, box_of, row_at, has_row, change_row, 
 use Rattle.verb_core.specs.Step.{Boxes}
 use Rattle.verb_core.proofs.BoxLaws.{tied, itself, same_box, row_at-change_row}
 use Rattle.touch_rules.specs.declared.touched.Touch.{Touch}
-use Rattle.touch_rules.specs.declared.touched.Touch.TheVariants.{Keys, Tail, Whole, Names}
+use Rattle.touch_rules.specs.declared.touched.Touch.TheVariants.{Keys, Tail, Whole, Names, Every}
 use Rattle.touch_rules.specs.Commuting.{have_common, has_number}
 use Rattle.touch_rules.proofs.Edits.{negated, common_flip, LeavesOthers, edits_swap, edit_and_mail, all_of, SeenAlike, alike_itself, alike_then, alike_edit, alike_mail}
 use Rattle.touch_rules.proofs.Fitting.{fits}
@@ -30,6 +30,7 @@ IsAllowed (Keys u n keys writes) id becomes = (writes ≡ true) × (id ≡ box_o
 IsAllowed (Tail u n number) id becomes = (id ≡ box_of u n) × ((es : List Entry) × (all_of number es ≡ true) × ((m : Mailbox) → becomes m ≡ put_all es m))
 IsAllowed (Whole u n writes) id becomes = ⊥
 IsAllowed (Names u writes) id becomes = ⊥
+IsAllowed (Every u) id becomes = ⊥
 
 abbrev pub Allowed : Change → Type 0
 Allowed c = IsAllowed c.touch c.id c.becomes
@@ -78,13 +79,16 @@ turns (Keys u m ks true) (Tail v n number) a b x y one two fit tie =
 turns (Keys u m ks false) (Tail v n number) a b x y one two fit tie = absurd (true≢false (sym one.0))
 turns (Keys u m ks w) (Whole v n z) a b x y one two fit tie = absurd two
 turns (Keys u m ks w) (Names v z) a b x y one two fit tie = absurd two
+turns (Keys u m ks w) (Every v) a b x y one two fit tie = absurd two
 turns (Tail u m number) (Keys v n ks w) a b x y one two fit tie =
     λ (at : Mailbox). sym (mail_turns ks two.2.0 number one.1.0 y x two.2.1 one.1.1 (negated _ (must_differ (u.0 == v.0 && bytes_eq m n) false (not (has_number number ks)) (at_place a b u v m n one.0 two.1 tie) refl fit)) two.2.2 one.1.2 at)
 turns (Tail u m number) (Tail v n other) a b x y one two fit tie = absurd (true≢false (sym (must_differ (u.0 == v.0 && bytes_eq m n) false false (at_place a b u v m n one.0 two.0 tie) refl fit)))
 turns (Tail u m number) (Whole v n z) a b x y one two fit tie = absurd two
 turns (Tail u m number) (Names v z) a b x y one two fit tie = absurd two
+turns (Tail u m number) (Every v) a b x y one two fit tie = absurd two
 turns (Whole u m w) t a b x y one two fit tie = absurd one
 turns (Names u w) t a b x y one two fit tie = absurd one
+turns (Every u) t a b x y one two fit tie = absurd one
 
 -- ---- rows
 
@@ -132,6 +136,7 @@ seen_one v n ks w (Tail u m number) id f one fit tie at =
     (alike_mail ks number one.1.0 at one.1.1 (negated _ (must_differ (u.0 == v.0 && bytes_eq m n) false (not (has_number number ks)) (at_place id (box_of v n) u v m n one.0 refl tie) refl fit)))
 seen_one v n ks w (Whole u m x) id f one fit tie at = absurd one
 seen_one v n ks w (Names u x) id f one fit tie at = absurd one
+seen_one v n ks w (Every u) id f one fit tie at = absurd one
 
 -- messages by keys are seen as before
 pub seen_kept : (v : User) (n : List ℕ) (ks : List Key) (w : Bool) (cs : List Change) → AllByRecursion Allowed cs → all_fit cs (Keys v n ks w) ≡ true
@@ -161,6 +166,7 @@ whole_off v n w (Tail u m number) id f one fit = elim (eq_by_cmp box_cmp id (box
 ] refl
 whole_off v n w (Whole u m x) id f one fit = absurd one
 whole_off v n w (Names u x) id f one fit = absurd one
+whole_off v n w (Every u) id f one fit = absurd one
 
 -- a whole mailbox is as before
 pub whole_kept : (v : User) (n : List ℕ) (w : Bool) (cs : List Change) → AllByRecursion Allowed cs → all_fit cs (Whole v n w) ≡ true → (rs : Boxes) → row_at (box_of v n) (after_changes cs rs) ≡ row_at (box_of v n) rs

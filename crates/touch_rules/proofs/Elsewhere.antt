@@ -1,5 +1,5 @@
 -- Items that make, rename or delete a mailbox: what commutes with them touches other mailboxes, and other users' names.
-use Rattle.std.proofs.Common.{◌≡◌, ℕ, Bool, true, false, not, ◌&&◌, ◌||◌, ◌==◌, List, [], ◌∷◌, ◌++◌, map, Option, bytes_eq, refl, sym, ap, ◌∙◌, true≢false}
+use Rattle.std.proofs.Common.{◌≡◌, ℕ, Bool, true, false, not, ◌&&◌, ◌||◌, ◌==◌, List, [], ◌∷◌, ◌++◌, map, Option, bytes_eq, refl, sym, ap, ◌∙◌, true≢false, eqb-true}
 use Rattle.std.specs.List.{list_all, AllByRecursion}
 use Rattle.std.specs.Ordering.{eq_by_cmp}
 use Rattle.std.specs.Cmp.{first_so, second_so, eq_by_cmp_equiv}
@@ -11,7 +11,7 @@ use Rattle.verb_core.specs.declared.item.Deed.TheVariants.{Deliver, Append, Fetc
 use Rattle.verb_core.specs.declared.item.Act.TheVariants.{Remove, Give}
 use Rattle.verb_core.specs.declared.mailbox.BoxId.{BoxId}
 use Rattle.verb_core.specs.declared.mailbox.Mailbox.{Mailbox}
-use Rattle.verb_core.specs.Names.{lost_found}
+use Rattle.verb_core.specs.Names.{lost_found, with_superiors}
 use Rattle.verb_core.specs.Boxes.{box_cmp, box_of, same_user, rows_of, names_of}
 use Rattle.verb_core.specs.Store.{MailStore}
 use Rattle.verb_core.specs.Items.{actor, is_own}
@@ -21,10 +21,10 @@ use Rattle.verb_core.specs.Touched.{deed_touches, touches_names, is_one}
 use Rattle.verb_core.proofs.Apart.{others_kept}
 use Rattle.verb_core.proofs.BoxLaws.{boxes_total, tied, same_box}
 use Rattle.touch_rules.specs.declared.touched.Touch.{Touch}
-use Rattle.touch_rules.specs.declared.touched.Touch.TheVariants.{Keys, Tail, Whole, Names}
-use Rattle.touch_rules.specs.Table.{tail_on, looked_for, arrivals, table_row}
+use Rattle.touch_rules.specs.declared.touched.Touch.TheVariants.{Keys, Tail, Whole, Names, Every}
+use Rattle.touch_rules.specs.Table.{tail_on, looked_for, written, arrivals, table_row}
 use Rattle.touch_rules.specs.Swapping.{brings_mail, resolved}
-use Rattle.touch_rules.proofs.Edits.{neither}
+use Rattle.touch_rules.proofs.Edits.{neither, flip_eqb}
 use Rattle.touch_rules.proofs.Fitting.{fits}
 use Rattle.touch_rules.proofs.Plain.{moves_boxes, row_of}
 
@@ -34,6 +34,7 @@ Off test (Keys u n keys writes) = test (box_of u n) ≡ false
 Off test (Tail u n number) = test (box_of u n) ≡ false
 Off test (Whole u n writes) = test (box_of u n) ≡ false
 Off test (Names u writes) = Unit {0}
+Off test (Every u) = (n : List ℕ) → test (box_of u n) ≡ false
 
 -- ---- a touch that fits a whole mailbox that is written
 
@@ -45,27 +46,40 @@ not_shared false w h = refl
 other_box : (u v : User) (m n : List ℕ) (w : Bool) → (not (v.0 == u.0 && bytes_eq n m) || not (w || true) || false) ≡ true → eq_by_cmp box_cmp (box_of u m) (box_of v n) ≡ false
 other_box u v m n w h = (eq_by_cmp_equiv boxes_total).symm (box_of u m) (box_of v n) ∙ sym (same_box (box_of v n) (box_of u m)) ∙ not_shared _ w h
 
--- each mailbox of these is written as a whole
-abbrev wholes : User → List (List ℕ) → List Touch
-wholes u [] = Names u true ∷ []
-wholes u (n ∷ ns) = Whole u n true ∷ wholes u ns
+and_true : (a : Bool) → (a && true) ≡ a
+and_true true = refl
+and_true false = refl
 
-abbrev boxes_named : User → List (List ℕ) → List BoxId
-boxes_named u [] = []
-boxes_named u (n ∷ ns) = box_of u n ∷ boxes_named u ns
+-- one that fits the names, or all, of a user, and is of names or of all, is another user's
+other_user : (v u : User) (w : Bool) → (not (v.0 == u.0 && true) || not (w || true) || false) ≡ true → same_user v u ≡ false
+other_user v u w h = sym (and_true (v.0 == u.0)) ∙ not_shared _ w h
 
-off_these : (u : User) (ns : List (List ℕ)) (t : Touch) → list_all (fits t) (wholes u ns) ≡ true → Off (is_one (boxes_named u ns)) t
+users_box : (u v : User) (m n : List ℕ) → same_user v u ≡ false → eq_by_cmp box_cmp (box_of u m) (box_of v n) ≡ false
+users_box u v m n off = sym (same_box (box_of u m) (box_of v n)) ∙ ap (λ b. b && bytes_eq m n) (flip_eqb u.0 v.0 ∙ off)
+
+-- each mailbox of these is written as a whole, and the names are
+off_these : (u : User) (ns : List (List ℕ)) (t : Touch) → list_all (fits t) (map (written u) ns ++ Names u true ∷ []) ≡ true → Off (is_one (map (box_of u) ns)) t
 off_these u [] (Keys v n ks w) h = refl
 off_these u [] (Tail v n number) h = refl
 off_these u [] (Whole v n w) h = refl
+off_these u [] (Every v) h = λ n. refl
 off_these u ns (Names v w) h = tt
 off_these u (m ∷ ns) (Keys v n ks w) h = neither _ _ (other_box u v m n w (first_so _ _ h)) (off_these u ns (Keys v n ks w) (second_so _ _ h))
 off_these u (m ∷ ns) (Tail v n number) h = neither _ _ (other_box u v m n true (first_so _ _ h)) (off_these u ns (Tail v n number) (second_so _ _ h))
 off_these u (m ∷ ns) (Whole v n w) h = neither _ _ (other_box u v m n w (first_so _ _ h)) (off_these u ns (Whole v n w) (second_so _ _ h))
+off_these u (m ∷ ns) (Every v) h = λ n. neither _ _ (users_box u v m n (other_user v u true (first_so _ _ h))) (off_these u ns (Every v) (second_so _ _ h) n)
+
+-- all of the user is touched
+off_user : (u : User) (t : Touch) → fits t (Every u) ≡ true → Off (λ q. same_user u q.user) t
+off_user u (Keys v n ks w) h = flip_eqb u.0 v.0 ∙ other_user v u w h
+off_user u (Tail v n number) h = flip_eqb u.0 v.0 ∙ other_user v u true h
+off_user u (Whole v n w) h = flip_eqb u.0 v.0 ∙ other_user v u w h
+off_user u (Names v w) h = tt
+off_user u (Every v) h = λ n. flip_eqb u.0 v.0 ∙ other_user v u true h
 
 pub off_one : (to : Sought) (i : Item) (by : Option User) (d : Deed) (t : Touch) → moves_boxes d ≡ true → list_all (fits t) (row_of to i by d) ≡ true → Off (deed_touches (actor by d) d) t
-off_one to i by (Create mailbox) t moves h = off_these (actor by (Create mailbox)) (mailbox ∷ []) t h
-off_one to i by (Rename mailbox target) t moves h = off_these (actor by (Rename mailbox target)) (mailbox ∷ target ∷ []) t h
+off_one to i by (Create mailbox) t moves h = off_these (actor by (Create mailbox)) (with_superiors mailbox) t h
+off_one to i by (Rename mailbox target) t moves h = off_user (actor by (Rename mailbox target)) t (first_so _ _ h)
 off_one to i by (Delete mailbox keys) t moves h = off_these (actor by (Delete mailbox keys)) (mailbox ∷ lost_found ∷ []) t h
 off_one to i by _ t moves h = absurd (true≢false (sym moves))
 
@@ -98,6 +112,13 @@ module _ (test : BoxId → Bool) (q : BoxId) where
   one_off : (u : User) (n : List ℕ) → test (box_of u n) ≡ false → is_one (box_of u n ∷ []) q ≡ true → test q ≡ false
   one_off u n off h = off_row (box_of u n) false off nothing h
 
+  these_off : (u : User) (ns : List (List ℕ)) (rest : List Touch) → AllByRecursion (Off test) (map (written u) ns ++ rest) → is_one (map (box_of u) ns) q ≡ true → test q ≡ false
+  these_off u [] rest off h = nothing h
+  these_off u (n ∷ ns) rest off h = off_row (box_of u n) (is_one (map (box_of u) ns) q) off.0 (these_off u ns rest off.1) h
+
+  user_off : (u : User) → ((n : List ℕ) → test (box_of u n) ≡ false) → same_user u q.user ≡ true → test q ≡ false
+  user_off u off h = sym (ap test (λ j. record { user = record { 0 = eqb-true u.0 q.user.0 h j }; name = q.name })) ∙ off q.name
+
   two_off : (u : User) (m n : List ℕ) → test (box_of u m) ≡ false → test (box_of u n) ≡ false → is_one (box_of u m ∷ box_of u n ∷ []) q ≡ true → test q ≡ false
   two_off u m n off away h = off_row (box_of u m) (is_one (box_of u n ∷ []) q) off (one_off u n away) h
 
@@ -108,9 +129,9 @@ module _ (test : BoxId → Bool) (q : BoxId) where
   deed_off by (Close mailbox keys) arriving own off h = one_off (actor by (Close mailbox keys)) mailbox off.0 h
   deed_off by (Status mailbox) arriving own off h = one_off (actor by (Status mailbox)) mailbox off.0 h
   deed_off by (Select mailbox) arriving own off h = one_off (actor by (Select mailbox)) mailbox off.0 h
-  deed_off by (Create mailbox) arriving own off h = one_off (actor by (Create mailbox)) mailbox off.0 h
+  deed_off by (Create mailbox) arriving own off h = these_off (actor by (Create mailbox)) (with_superiors mailbox) (Names (actor by (Create mailbox)) true ∷ []) off h
   deed_off by (Acts (Remove v mailbox key)) arriving own off h = one_off v mailbox off.0 h
-  deed_off by (Rename mailbox target) arriving own off h = two_off (actor by (Rename mailbox target)) mailbox target off.0 off.1.0 h
+  deed_off by (Rename mailbox target) arriving own off h = user_off (actor by (Rename mailbox target)) off.0 h
   deed_off by (Delete mailbox keys) arriving own off h = two_off (actor by (Delete mailbox keys)) mailbox lost_found off.0 off.1.0 h
   deed_off by (Copy mailbox keys target) arriving own off h = absurd (true≢false own)
   deed_off by _ arriving own off h = nothing h
@@ -131,18 +152,23 @@ module _ (test : BoxId → Bool) (q : BoxId) where
 
 -- ---- names
 
-and_true : (a : Bool) → (a && true) ≡ a
-and_true true = refl
-and_true false = refl
+all_last : (passes : Touch → Bool) (u : User) (ns : List (List ℕ)) → list_all passes (map (written u) ns ++ Names u true ∷ []) ≡ true → passes (Names u true) ≡ true
+all_last passes u [] h = first_so _ _ h
+all_last passes u (n ∷ ns) h = all_last passes u ns (second_so _ _ h)
 
-names_off : (u v : User) (w : Bool) → fits (Names v w) (Names u true) ≡ true → same_user v u ≡ false
-names_off u v w h = sym (and_true (same_user v u)) ∙ not_shared _ w h
+-- names that fit what a deed touches that moves mailboxes are another user's
+names_off : (to : Sought) (i : Item) (by : Option User) (d : Deed) (v : User) (w : Bool) → moves_boxes d ≡ true → list_all (fits (Names v w)) (row_of to i by d) ≡ true → same_user v (actor by d) ≡ false
+names_off to i by (Create mailbox) v w moves h = other_user v _ w (all_last (fits (Names v w)) (actor by (Create mailbox)) (with_superiors mailbox) h)
+names_off to i by (Rename mailbox target) v w moves h = other_user v _ w (first_so _ _ h)
+names_off to i by (Delete mailbox keys) v w moves h = other_user v _ w (first_so _ _ (second_so _ _ (second_so _ _ h)))
+names_off to i by _ v w moves h = absurd (true≢false (sym moves))
 
-writes_names : (to : Sought) (i : Item) (by : Option User) (d : Deed) (t : Touch) → moves_boxes d ≡ true → list_all (fits t) (row_of to i by d) ≡ true → fits t (Names (actor by d) true) ≡ true
-writes_names to i by (Create mailbox) t moves h = first_so _ _ (second_so _ _ h)
-writes_names to i by (Rename mailbox target) t moves h = first_so _ _ (second_so _ _ (second_so _ _ h))
-writes_names to i by (Delete mailbox keys) t moves h = first_so _ _ (second_so _ _ (second_so _ _ h))
-writes_names to i by _ t moves h = absurd (true≢false (sym moves))
+-- and so is all of a user
+every_off : (to : Sought) (i : Item) (by : Option User) (d : Deed) (v : User) → moves_boxes d ≡ true → list_all (fits (Every v)) (row_of to i by d) ≡ true → same_user v (actor by d) ≡ false
+every_off to i by (Create mailbox) v moves h = other_user v _ true (all_last (fits (Every v)) (actor by (Create mailbox)) (with_superiors mailbox) h)
+every_off to i by (Rename mailbox target) v moves h = other_user v _ true (first_so _ _ h)
+every_off to i by (Delete mailbox keys) v moves h = other_user v _ true (first_so _ _ h)
+every_off to i by _ v moves h = absurd (true≢false (sym moves))
 
 -- what commutes with it and touches names is another user's
 pub other_names : (to from : Sought) (i j : Item) → moves_boxes i.deed ≡ true → list_all (λ t. list_all (fits t) (row_of to i i.by i.deed)) (row_of from j j.by j.deed) ≡ true → touches_names j.deed ≡ true
@@ -150,10 +176,10 @@ pub other_names : (to from : Sought) (i j : Item) → moves_boxes i.deed ≡ tru
 other_names to from i j moves h names = by_deed j.deed h names
   where
     by_deed : (d : Deed) → list_all (λ t. list_all (fits t) (row_of to i i.by i.deed)) (row_of from j j.by d) ≡ true → touches_names d ≡ true → same_user (actor j.by d) (actor i.by i.deed) ≡ false
-    by_deed (Lists pattern) h names = names_off (actor i.by i.deed) (actor j.by (Lists pattern)) false (writes_names to i i.by i.deed (Names (actor j.by (Lists pattern)) false) moves (first_so _ _ h))
-    by_deed (Create mailbox) h names = names_off (actor i.by i.deed) (actor j.by (Create mailbox)) true (writes_names to i i.by i.deed (Names (actor j.by (Create mailbox)) true) moves (first_so _ _ (second_so _ _ h)))
-    by_deed (Rename mailbox target) h names = names_off (actor i.by i.deed) (actor j.by (Rename mailbox target)) true (writes_names to i i.by i.deed (Names (actor j.by (Rename mailbox target)) true) moves (first_so _ _ (second_so _ _ (second_so _ _ h))))
-    by_deed (Delete mailbox keys) h names = names_off (actor i.by i.deed) (actor j.by (Delete mailbox keys)) true (writes_names to i i.by i.deed (Names (actor j.by (Delete mailbox keys)) true) moves (first_so _ _ (second_so _ _ (second_so _ _ h))))
+    by_deed (Lists pattern) h names = names_off to i i.by i.deed (actor j.by (Lists pattern)) false moves (first_so _ _ h)
+    by_deed (Create mailbox) h names = names_off to i i.by i.deed (actor j.by (Create mailbox)) true moves (all_last (λ t. list_all (fits t) (row_of to i i.by i.deed)) (actor j.by (Create mailbox)) (with_superiors mailbox) h)
+    by_deed (Rename mailbox target) h names = every_off to i i.by i.deed (actor j.by (Rename mailbox target)) moves (first_so _ _ h)
+    by_deed (Delete mailbox keys) h names = names_off to i i.by i.deed (actor j.by (Delete mailbox keys)) true moves (first_so _ _ (second_so _ _ (second_so _ _ h)))
     by_deed _ h names = absurd (true≢false (sym names))
 
 -- ---- such an item brings no mail, and is its user's own

@@ -3,8 +3,8 @@ use Rattle.std.proofs.Common.{◌≡◌, ℕ, Bool, true, false, not, ◌&&◌, 
 use Rattle.std.specs.List.{list_all}
 use Rattle.std.specs.Cmp.{first_so, second_so}
 use Rattle.touch_rules.specs.declared.touched.Touch.{Touch}
-use Rattle.touch_rules.specs.declared.touched.Touch.TheVariants.{Keys, Tail, Whole, Names}
-use Rattle.touch_rules.specs.Commuting.{user_of, mailbox_of, same_mailbox, share_place, does_write, both_read, different, are_independent, commute}
+use Rattle.touch_rules.specs.declared.touched.Touch.TheVariants.{Keys, Tail, Whole, Names, Every}
+use Rattle.touch_rules.specs.Commuting.{user_of, is_every, mailbox_of, same_mailbox, share_place, does_write, both_read, different, are_independent, commute}
 use Rattle.touch_rules.proofs.Edits.{flip_eqb, common_flip}
 
 -- whether two touches let their items come in either order
@@ -33,8 +33,14 @@ flip_mailbox None (Some b) = refl
 flip_mailbox (Some a) None = refl
 flip_mailbox (Some a) (Some b) = flip_bytes a b
 
+flip_every : (a b c d : Bool) → c ≡ d → (a || b || c) ≡ (b || a || d)
+flip_every true true c d is = refl
+flip_every true false c d is = refl
+flip_every false true c d is = refl
+flip_every false false c d is = is
+
 flip_place : (a b : Touch) → share_place a b ≡ share_place b a
-flip_place a b = ap₂ (λ p q. p && q) (flip_eqb (user_of a).0 (user_of b).0) (flip_mailbox (mailbox_of a) (mailbox_of b))
+flip_place a b = ap₂ (λ p q. p && q) (flip_eqb (user_of a).0 (user_of b).0) (flip_every (is_every a) (is_every b) _ _ (flip_mailbox (mailbox_of a) (mailbox_of b)))
 
 flip_read : (a b : Touch) → both_read a b ≡ both_read b a
 flip_read a b = ap not (flip_or (does_write a) (does_write b))
@@ -56,6 +62,15 @@ flip_different (Names u w) (Keys v n ks x) = refl
 flip_different (Names u w) (Tail v n j) = refl
 flip_different (Names u w) (Whole v n x) = refl
 flip_different (Names u w) (Names v x) = refl
+flip_different (Keys u m ks w) (Every v) = refl
+flip_different (Tail u m i) (Every v) = refl
+flip_different (Whole u m w) (Every v) = refl
+flip_different (Names u w) (Every v) = refl
+flip_different (Every u) (Keys v n ks x) = refl
+flip_different (Every u) (Tail v n j) = refl
+flip_different (Every u) (Whole v n x) = refl
+flip_different (Every u) (Names v x) = refl
+flip_different (Every u) (Every v) = refl
 
 fits_flip : (a b : Touch) → fits a b ≡ fits b a
 fits_flip a b = ap₂ (λ p q. p || q) (ap₂ (λ p q. not p || q) (flip_place a b) (flip_read a b)) (flip_different a b)

@@ -13,7 +13,7 @@ use Rattle.verb_core.specs.declared.item.Act.TheVariants.{SetAlias, DropAlias, S
 use Rattle.verb_core.specs.declared.item.Shown.TheVariants.{Seen, Names as Named, Count, Done, Copied, Left}
 use Rattle.verb_core.specs.declared.mailbox.Entry.{Entry}
 use Rattle.verb_core.specs.declared.mailbox.Mailbox.{Mailbox}
-use Rattle.verb_core.specs.Names.{is_listed}
+use Rattle.verb_core.specs.Patterns.{is_listed}
 use Rattle.verb_core.specs.Mailboxes.{put_all, with_entries, no_flags, reflagged, expunged, without, is_among}
 use Rattle.verb_core.specs.Boxes.{box_of, mail_at}
 use Rattle.verb_core.specs.Items.{actor}

@@ -12,12 +12,15 @@ use Rattle.verb_core.specs.declared.item.Resolved.{Resolved}
 use Rattle.verb_core.specs.Names.{inbox, lost_found}
 use Rattle.verb_core.specs.Mailboxes.{no_flags}
 use Rattle.verb_core.specs.Aims.{aim_at}
-use Rattle.touch_rules.specs.declared.touched.Touch.TheVariants.{Keys, Tail, Whole, Names}
+use Rattle.touch_rules.specs.declared.touched.Touch.TheVariants.{Keys, Tail, Whole, Names, Every}
 use Rattle.touch_rules.specs.Table.{touches_of}
 use Rattle.touch_rules.specs.Commuting.{are_independent, commute}
 
 abbrev ann : User
 ann = record { 0 = 0 }
+
+abbrev bob : User
+bob = record { 0 = 1 }
 
 abbrev key : ℕ → Key
 key item = record { item = item; index = 0 }
@@ -73,9 +76,45 @@ flags_apart = refl
 pub select_and_mail : commute (touches_of (met 5 (Some ann) (Select inbox) [])) (touches_of (mail 7)) ≡ false
 select_and_mail = refl
 
--- a RENAME touches both names, and all names of its user
-pub renamed : touches_of (met 5 (Some ann) (Rename work (codes "Old")) []) ≡ Whole ann work true ∷ Whole ann (codes "Old") true ∷ Names ann true ∷ []
+-- a RENAME touches all of its user
+abbrev rename : ℕ → Resolved
+rename number = met number (Some ann) (Rename work (codes "Old")) []
+
+pub renamed : touches_of (rename 5) ≡ Every ann ∷ []
 renamed = refl
+
+-- so it has an order with each item that touches anything of that user, one that only reads too, and is independent of none
+pub rename_and_fetch : commute (touches_of (rename 5)) (touches_of (fetched false 6 3)) ≡ false
+rename_and_fetch = refl
+
+pub fetch_and_rename : are_independent (touches_of (fetched false 6 3)) (touches_of (rename 5)) ≡ false
+fetch_and_rename = refl
+
+pub rename_and_mail : commute (touches_of (rename 5)) (touches_of (mail 7)) ≡ false
+rename_and_mail = refl
+
+pub rename_and_list : commute (touches_of (met 10 (Some ann) (Lists (codes "*")) [])) (touches_of (rename 11)) ≡ false
+rename_and_list = refl
+
+pub two_renames : commute (touches_of (rename 5)) (touches_of (rename 6)) ≡ false
+two_renames = refl
+
+pub one_looked_for : commute (touches_of (rename 5)) (touches_of (record (mail 7) { aims = []; missed = aim_at ann work 0 ∷ [] })) ≡ false
+one_looked_for = refl
+
+-- and none with another user's
+pub rename_of_another : are_independent (touches_of (rename 5)) (touches_of (met 6 (Some bob) (Rename work (codes "Old")) [])) ≡ true
+rename_of_another = refl
+
+-- a CREATE touches the superiors of its name, that are there too
+pub created : touches_of (met 5 (Some ann) (Create (codes "a/b/c")) []) ≡ Whole ann (codes "a") true ∷ Whole ann (codes "a/b") true ∷ Whole ann (codes "a/b/c") true ∷ Names ann true ∷ []
+created = refl
+
+pub created_below_inbox : commute (touches_of (met 5 (Some ann) (Create (codes "INBOX/x")) [])) (touches_of (mail 7)) ≡ false
+created_below_inbox = refl
+
+pub created_beside_inbox : are_independent (touches_of (met 5 (Some ann) (Create (codes "a/b")) [])) (touches_of (mail 7)) ≡ true
+created_beside_inbox = refl
 
 pub deleted : touches_of (met 5 (Some ann) (Delete work []) []) ≡ Whole ann work true ∷ Whole ann lost_found true ∷ Names ann true ∷ []
 deleted = refl

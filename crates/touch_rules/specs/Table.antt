@@ -1,4 +1,4 @@
--- What each item touches: messages of a mailbox by their keys, its end, the whole mailbox, or a user's names.
+-- What each item touches: messages of a mailbox by their keys, its end, the whole mailbox, a user's names, or all of a user.
 use Rattle.std.specs.Prelude.{ℕ, true, false, List, [], ◌∷◌, ◌++◌, map}
 use Rattle.undo_base.specs.declared.keys.User.{User}
 use Rattle.verb_core.specs.declared.item.Aim.{Aim}
@@ -7,10 +7,10 @@ use Rattle.verb_core.specs.declared.item.Deed.{Deed}
 use Rattle.verb_core.specs.declared.item.Deed.TheVariants.{Deliver, Append, Fetch, Store, Copy, List as Lists, Status, Select, Expunge, Close, Create, Rename, Delete, Act as Acts, Notice}
 use Rattle.verb_core.specs.declared.item.Act.{Act}
 use Rattle.verb_core.specs.declared.item.Act.TheVariants.{SetAlias, DropAlias, SetFilter, DropFilter, Remove, Give}
-use Rattle.verb_core.specs.Names.{lost_found}
+use Rattle.verb_core.specs.Names.{lost_found, with_superiors}
 use Rattle.verb_core.specs.Items.{actor}
 use Rattle.touch_rules.specs.declared.touched.Touch.{Touch}
-use Rattle.touch_rules.specs.declared.touched.Touch.TheVariants.{Keys, Tail, Whole, Names}
+use Rattle.touch_rules.specs.declared.touched.Touch.TheVariants.{Keys, Tail, Whole, Names, Every}
 
 -- new mail of the item of a number, at an aim
 abbrev pub tail_on : ℕ → Aim → Touch
@@ -19,6 +19,10 @@ tail_on number aim = Tail aim.user aim.mailbox number
 -- a mailbox that was looked for and is missing
 abbrev pub looked_for : Aim → Touch
 looked_for aim = Whole aim.user aim.mailbox false
+
+-- a mailbox that comes, changes or goes
+abbrev pub written : User → List ℕ → Touch
+written u mailbox = Whole u mailbox true
 
 -- where an item's new mail goes, and where it looked in vain
 abbrev pub arrivals : Resolved → List Touch
@@ -46,9 +50,9 @@ table_row u arriving (Copy mailbox keys target) = Keys u mailbox keys false ∷ 
 table_row u arriving (Status mailbox) = Whole u mailbox false ∷ []
 table_row u arriving (Select mailbox) = Whole u mailbox false ∷ []
 table_row u arriving (Lists pattern) = Names u false ∷ []
-table_row u arriving (Create mailbox) = Whole u mailbox true ∷ Names u true ∷ []
-table_row u arriving (Rename mailbox target) = Whole u mailbox true ∷ Whole u target true ∷ Names u true ∷ []
-table_row u arriving (Delete mailbox keys) = Whole u mailbox true ∷ Whole u lost_found true ∷ Names u true ∷ []
+table_row u arriving (Create mailbox) = map (written u) (with_superiors mailbox) ++ Names u true ∷ []
+table_row u arriving (Rename mailbox target) = Every u ∷ []
+table_row u arriving (Delete mailbox keys) = written u mailbox ∷ written u lost_found ∷ Names u true ∷ []
 table_row u arriving (Acts act) = act_row arriving act
 
 -- what an item touches whose aims are known

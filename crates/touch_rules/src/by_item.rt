@@ -1,14 +1,14 @@
 //! The touches of an item whose aims are known.
 ghost use Rattle.std.specs.Prelude.{◌≡◌, [], ◌∷◌, ◌++◌, map, is_some, true, false, IfOk};
-ghost use Rattle.verb_core.specs.Names.{lost_found};
+ghost use Rattle.verb_core.specs.Names.{lost_found, with_superiors};
 ghost use Rattle.verb_core.specs.Items.{is_own};
-ghost use Rattle.touch_rules.specs.declared.touched.Touch.TheVariants.{Keys as OnKeys, Whole, Names as OnNames};
-ghost use Rattle.touch_rules.specs.Table.{tail_on, looked_for, arrivals, act_row, table_row, touches_of};
+ghost use Rattle.touch_rules.specs.declared.touched.Touch.TheVariants.{Keys as OnKeys, Whole, Names as OnNames, Every};
+ghost use Rattle.touch_rules.specs.Table.{tail_on, looked_for, written as writes_all, arrivals, act_row, table_row, touches_of};
 
 use crate::{Touch, TouchSet};
 use std::alloc::Global;
 use undo_base::{Copies, Key, Keys, Name, NoMemory, Sequence, User};
-use verb_core::{Act, Aim, Deed, Resolved, actor_of};
+use verb_core::{Act, Aim, Deed, Resolved, actor_of, names_with_superiors};
 
 fn lost_found_name(alloc: Global) -> Result<Name, NoMemory>
     ensures { IfOk result (λ name. name ≡ lost_found) }
@@ -168,29 +168,46 @@ fn listed(alloc: Global, user: User) -> Result<TouchSet, NoMemory>
     )
 }
 
-fn created(alloc: Global, user: User, mailbox: &Name) -> Result<TouchSet, NoMemory>
-    ensures { IfOk result (λ set. set ≡ Whole user mailbox.now true ∷ OnNames user true ∷ []) }
+/// With the mailboxes of these names, which come, change or go.
+fn with_written(
+    alloc: Global,
+    set: TouchSet,
+    user: User,
+    names: &[Name],
+) -> Result<TouchSet, NoMemory>
+    ensures { IfOk result (λ all. all ≡ set ++ map (writes_all user) names.now) }
 {
-    let touch = whole(alloc, user, mailbox, true)?;
-    let set = one(alloc, touch)?;
+    let mut all = set;
+    for name in names {
+        let touch = whole(alloc, user, name, true)?;
+        all.push(touch)?;
+    }
+    Ok(all)
+}
+
+fn created(alloc: Global, user: User, mailbox: &Name) -> Result<TouchSet, NoMemory>
+    ensures { IfOk result (λ set. set ≡ map (writes_all user) (with_superiors mailbox.now) ++ OnNames user true ∷ []) }
+{
+    let names = names_with_superiors(alloc, mailbox)?;
+    let set = with_written(alloc, Sequence::new(alloc), user, names.as_slice())?;
     with(set, Touch::Names { user, writes: true })
 }
 
-fn renamed(alloc: Global, user: User, mailbox: &Name, target: &Name) -> Result<TouchSet, NoMemory>
-    ensures { IfOk result (λ set. set ≡ Whole user mailbox.now true ∷ Whole user target.now true ∷ OnNames user true ∷ []) }
+fn renamed(alloc: Global, user: User) -> Result<TouchSet, NoMemory>
+    ensures { IfOk result (λ set. set ≡ Every user ∷ []) }
 {
-    let touch = whole(alloc, user, mailbox, true)?;
-    let set = one(alloc, touch)?;
-    let other = whole(alloc, user, target, true)?;
-    let set = with(set, other)?;
-    with(set, Touch::Names { user, writes: true })
+    one(alloc, Touch::Every { user })
 }
 
 fn deleted(alloc: Global, user: User, mailbox: &Name) -> Result<TouchSet, NoMemory>
     ensures { IfOk result (λ set. set ≡ Whole user mailbox.now true ∷ Whole user lost_found true ∷ OnNames user true ∷ []) }
 {
     let lost = lost_found_name(alloc)?;
-    renamed(alloc, user, mailbox, &lost)
+    let touch = whole(alloc, user, mailbox, true)?;
+    let set = one(alloc, touch)?;
+    let other = whole(alloc, user, &lost, true)?;
+    let set = with(set, other)?;
+    with(set, Touch::Names { user, writes: true })
 }
 
 // ---- the table
@@ -235,7 +252,7 @@ fn row_touches(
         Deed::Select { mailbox } => looked_at(alloc, user, mailbox),
         Deed::List { .. } => listed(alloc, user),
         Deed::Create { mailbox } => created(alloc, user, mailbox),
-        Deed::Rename { mailbox, target } => renamed(alloc, user, mailbox, target),
+        Deed::Rename { .. } => renamed(alloc, user),
         Deed::Delete { mailbox, .. } => deleted(alloc, user, mailbox),
     }
 }

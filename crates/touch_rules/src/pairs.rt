@@ -25,7 +25,8 @@ fn is_same_mailbox(a: Option<&Name>, b: Option<&Name>) -> bool
 fn shares_place(a: &Touch, b: &Touch) -> bool
     ensures { result ≡ share_place a.now b.now }
 {
-    a.user() == b.user() && is_same_mailbox(a.mailbox(), b.mailbox())
+    a.user() == b.user()
+        && (a.is_every() || b.is_every() || is_same_mailbox(a.mailbox(), b.mailbox()))
 }
 
 fn only_read(a: &Touch, b: &Touch) -> bool
@@ -60,6 +61,7 @@ fn of_keys(keys: &[Key], other: &Touch) -> bool
         Touch::Tail { number, .. } => !some_of(keys, *number),
         Touch::Whole { .. } => false,
         Touch::Names { .. } => false,
+        Touch::Every { .. } => false,
     }
 }
 
@@ -71,6 +73,7 @@ fn of_tail(number: u32, other: &Touch) -> bool
         Touch::Tail { .. } => false,
         Touch::Whole { .. } => false,
         Touch::Names { .. } => false,
+        Touch::Every { .. } => false,
     }
 }
 
@@ -82,6 +85,7 @@ fn are_different(a: &Touch, b: &Touch) -> bool
         Touch::Tail { number, .. } => of_tail(*number, b),
         Touch::Whole { .. } => false,
         Touch::Names { .. } => false,
+        Touch::Every { .. } => false,
     }
 }
 

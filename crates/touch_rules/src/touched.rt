@@ -30,10 +30,14 @@ pub enum Touch {
         user: User,
         writes: bool,
     },
+    /// All of a user: which mailboxes he has, and each of them.
+    Every {
+        user: User,
+    },
 }
 
 impl Touch {
-    ghost use Rattle.touch_rules.specs.Commuting.{does_write, mailbox_of, user_of};
+    ghost use Rattle.touch_rules.specs.Commuting.{does_write, is_every, mailbox_of, user_of};
 
     /// Whose place it is.
     pub fn user(&self) -> User
@@ -44,10 +48,24 @@ impl Touch {
             Touch::Tail { user, .. } => *user,
             Touch::Whole { user, .. } => *user,
             Touch::Names { user, .. } => *user,
+            Touch::Every { user } => *user,
         }
     }
 
-    /// The mailbox; none where the place is a user's names.
+    /// Whether it is of all places of its user.
+    pub fn is_every(&self) -> bool
+        ensures { result ≡ is_every self.now }
+    {
+        match self {
+            Touch::Keys { .. } => false,
+            Touch::Tail { .. } => false,
+            Touch::Whole { .. } => false,
+            Touch::Names { .. } => false,
+            Touch::Every { .. } => true,
+        }
+    }
+
+    /// The mailbox, where the place is one.
     pub fn mailbox(&self) -> Option<&Name>
         ensures { option_copied result ≡ mailbox_of self.now }
     {
@@ -56,10 +74,11 @@ impl Touch {
             Touch::Tail { mailbox, .. } => Some(mailbox),
             Touch::Whole { mailbox, .. } => Some(mailbox),
             Touch::Names { .. } => None,
+            Touch::Every { .. } => None,
         }
     }
 
-    /// Whether the item writes there: one that puts new mail at the end does.
+    /// Whether the item writes there: one that puts new mail at the end does, and one that touches all of a user.
     pub fn writes(&self) -> bool
         ensures { result ≡ does_write self.now }
     {
@@ -68,6 +87,7 @@ impl Touch {
             Touch::Tail { .. } => true,
             Touch::Whole { writes, .. } => *writes,
             Touch::Names { writes, .. } => *writes,
+            Touch::Every { .. } => true,
         }
     }
 }
