@@ -1,4 +1,4 @@
-//! Tests of verb_bytes: records of cycles and of snapshots, of which no conversation makes a journal, and the places of
+//! Tests of verb_bytes: records of cycles, of snapshots, of a filter's scope and of an upgrade, byte for byte, and the places of
 //! texts. They stand in a crate of their own, since a crate with tests is proved twice.
 #![tactic(auto)]
 

@@ -1,4 +1,4 @@
-//! Records of a cycle and of a snapshot, byte for byte.
+//! Records of a cycle, of snapshots, of a filter's scope and of an upgrade, byte for byte.
 
 use std::alloc::Global;
 use std::test::Fail;
@@ -18,6 +18,34 @@ const SNAPSHOT: &[u8] =
 const SNAPSHOT_FIELDS: &[usize] = &[
     0, 1, 5, 9, 13, 15, 21, 22, 26, 27, 33, 41, 45, 53, 59, 63, 67, 68,
 ];
+
+/// The same filter of the whole text, and one of the field Subject, in a store of no mailbox.
+const SCOPED: &[u8] =
+    b"\x06\x00\x00\x00\x0a\x00\x00\x00\x00\x00\x00\x00\x02\x01f\x05offer\x00\x00\x01g\x03bid\x00\x01\x07Subject\x00\x00\x00\x00";
+
+const SCOPED_FIELDS: &[usize] = &[0, 1, 5, 9, 13, 15, 21, 22, 23, 25, 29, 30, 31, 39];
+
+/// The same two filters, but that the second looks at the whole text too: they are refused as a list.
+const UNSCOPED: &[u8] =
+    b"\x06\x00\x00\x00\x0a\x00\x00\x00\x00\x00\x00\x00\x02\x01f\x05offer\x00\x00\x01g\x03bid\x00\x00\x00\x00\x00\x00";
+
+/// Number 2 at moment 1105092000: the filter f discards what has offer in its field Subject.
+const SET: &[u8] =
+    b"\x02\x00\x00\x00\x02\x00\x00\x00\x00\x41\xde\x5d\xa0\x07\x01f\x05offer\x00\x01\x07Subject";
+
+const SET_FIELDS: &[usize] = &[0, 1, 5, 13, 14, 16, 22, 23, 24];
+
+/// The same, of what comes from a sender that has offer in it, and of what goes to such a recipient.
+const OF_SENDERS: &[u8] =
+    b"\x02\x00\x00\x00\x02\x00\x00\x00\x00\x41\xde\x5d\xa0\x07\x01f\x05offer\x00\x02";
+
+const OF_RECIPIENTS: &[u8] =
+    b"\x02\x00\x00\x00\x02\x00\x00\x00\x00\x41\xde\x5d\xa0\x07\x01f\x05offer\x00\x03";
+
+/// An upgrade at that moment.
+const UPGRADE: &[u8] = b"\x05\x00\x00\x00\x00\x41\xde\x5d\xa0";
+
+const UPGRADE_FIELDS: &[usize] = &[0, 1];
 
 /// Number 7 at moment 1105092000: user 0 adds Seen to the message 2 of in, which is shown done for none.
 const STORED: &[u8] =
@@ -60,8 +88,18 @@ fn is_written_again(alloc: Global, bytes: &[u8]) -> Result<bool, Fail> {
 
 #[test]
 fn what_is_read_is_written_so(rt: HostRuntime) -> Result<(), Fail> {
-    assert!(rt; is_written_again(rt.alloc(), CYCLE)?);
-    assert!(rt; is_written_again(rt.alloc(), SNAPSHOT)?);
+    let table = [
+        CYCLE,
+        SNAPSHOT,
+        SCOPED,
+        SET,
+        OF_SENDERS,
+        OF_RECIPIENTS,
+        UPGRADE,
+    ];
+    for payload in table {
+        assert!(rt; is_written_again(rt.alloc(), payload)?);
+    }
     Ok(())
 }
 
@@ -100,6 +138,9 @@ fn each_front_is_refused_at_the_field_that_is_cut(rt: HostRuntime) {
     let table = [
         (CYCLE, CYCLE_FIELDS),
         (SNAPSHOT, SNAPSHOT_FIELDS),
+        (SCOPED, SCOPED_FIELDS),
+        (SET, SET_FIELDS),
+        (UPGRADE, UPGRADE_FIELDS),
         (STORED, STORED_FIELDS),
         (FETCHED, FETCHED_FIELDS),
         (RENAMED, RENAMED_FIELDS),
@@ -130,7 +171,8 @@ fn place_changed(
 }
 
 // Each kind of field that is out of its range: a moment, a key, a text and an act; a kind of record, an option, a user, a
-// name, flags and a moment; who acted, a deed, how flags change, flags and what was shown; a bool; how a RENAME went.
+// name, flags and a moment; a scope and the name of a field, an act of no other scope, a list of filters of the whole text alone, and the
+// moment of an upgrade; who acted, a deed, how flags change, flags and what was shown; a bool; how a RENAME went.
 #[test]
 fn a_field_out_of_its_range_is_refused_at_its_start(rt: HostRuntime) -> Result<(), Fail> {
     let table = [
@@ -139,13 +181,20 @@ fn a_field_out_of_its_range_is_refused_at_its_start(rt: HostRuntime) -> Result<(
         (CYCLE, 14, 0x7f, 13),
         (CYCLE, 35, 1, 35),
         (CYCLE, 45, 0, 45),
-        (CYCLE, 45, 7, 45),
-        (SNAPSHOT, 0, 5, 0),
+        (CYCLE, 45, 8, 45),
+        (SNAPSHOT, 0, 7, 0),
         (SNAPSHOT, 21, 2, 21),
         (SNAPSHOT, 26, 200, 26),
         (SNAPSHOT, 27, 0, 27),
         (SNAPSHOT, 67, 0x20, 67),
         (SNAPSHOT, 68, 1, 68),
+        (SCOPED, 22, 4, 22),
+        (SCOPED, 31, 65, 31),
+        (SCOPED, 38, 0x2e, 31),
+        (SET, 23, 0, 23),
+        (SET, 24, 0, 24),
+        (UNSCOPED, 0, 6, 9),
+        (UPGRADE, 1, 1, 1),
         (STORED, 13, 200, 13),
         (STORED, 14, 0, 14),
         (STORED, 14, 14, 14),

@@ -1,6 +1,6 @@
 -- Items that users asked for and acts of the operator are in their ranges.
 use Rattle.std.proofs.Common.{◌≡◌, ℕ, ◌≤◌, Bool, true, false, List, Option, Some, None, refl, sym, subst, arith}
-use Rattle.std.specs.Prelude.{nat_lt, ◌==◌, IfSome}
+use Rattle.std.specs.Prelude.{nat_lt, ◌==◌, if◌then◌else◌, IfSome, IsTrue}
 use Rattle.std.specs.Int.{w32, w64}
 use Rattle.std.proofs.lemmas.Bool.{and_from, lt-ltb}
 use Rattle.undo_base.specs.declared.keys.User.{User}
@@ -9,9 +9,13 @@ use Rattle.undo_base.specs.declared.keys.Flags.{Flags}
 use Rattle.undo_base.specs.declared.asks.How.{How}
 use Rattle.undo_base.specs.declared.asks.How.TheVariants.{Replace, Add, Take}
 use Rattle.undo_base.specs.Name.{IsName}
+use Rattle.header_fields.specs.Values.{is_field_name}
 use Rattle.undo_base.specs.declared.limits.TheConstants.{LAST_MOMENT, MOST_KEYS, MOST_RECIPIENTS}
 use Rattle.verb_core.specs.declared.conf.Conf.{Conf}
 use Rattle.verb_core.specs.declared.conf.Filter.{Filter}
+use Rattle.verb_core.specs.declared.conf.Scope.{Scope}
+use Rattle.verb_core.specs.declared.conf.Scope.TheVariants.{Body, Field as HeaderField, Sender, Recipient}
+use Rattle.verb_core.specs.Filters.{is_of_body, are_of_body}
 use Rattle.verb_core.specs.declared.mailbox.Entry.{Entry}
 use Rattle.verb_core.specs.declared.mailbox.Mailbox.{Mailbox}
 use Rattle.verb_core.specs.declared.mailbox.BoxId.{BoxId}
@@ -26,11 +30,11 @@ use Rattle.verb_core.specs.declared.item.Deed.TheVariants.{Deliver, Append, Fetc
 use Rattle.verb_core.specs.declared.item.Shown.{Shown}
 use Rattle.verb_core.specs.declared.item.Shown.TheVariants.{Nothing, Seen, Names as Named, Count, Done, Copied, Put, Left, Way as Went, Moved}
 use Rattle.verb_bytes.specs.declared.journal.CycleAsk.{CycleAsk}
-use Rattle.verb_bytes.specs.declared.journal.JournalRecord.TheVariants.{Verb, Operator, Cycle, Snapshot}
+use Rattle.verb_bytes.specs.declared.journal.JournalRecord.TheVariants.{Verb, Operator, Cycle, Snapshot, Upgrade}
 use Rattle.verb_bytes.specs.declared.write.TheConstants.{ALL_FLAGS, MOST_BODY, NOBODY}
-use Rattle.verb_bytes.specs.Fields.{Field, are_in_range, only_if, byte_field, key_field, name_field, list_fields, option_fields, bool_field, flags_field, flags_code, u32_field, user_field, actor_field, worth, most_of_four, most_of_eight}
-use Rattle.verb_bytes.specs.Spelling.{HasSpelling, act_fields, alias_fields, ask_fields, deed_fields, entry_fields, filter_fields, how_field, key_list, replace_fields, row_fields, shown_fields, shown_kind, sight_fields, way_field}
-use Rattle.verb_bytes.specs.Limits.{IsAct, IsAlias, IsAsked, IsCycleAsk, IsDeed, IsEntry, IsFilter, IsKey, IsReplace, IsRow, IsShown, IsSight, IsUser, AreFew, AreKeys, AreMany}
+use Rattle.verb_bytes.specs.Fields.{Field, are_in_range, ◌&◌, only_if, byte_field, key_field, name_field, field_name_field, list_fields, option_fields, bool_field, flags_field, flags_code, u32_field, user_field, actor_field, worth, most_of_four, most_of_eight, record_kind, act_kind}
+use Rattle.verb_bytes.specs.Spelling.{HasSpelling, act_fields, alias_fields, ask_fields, deed_fields, entry_fields, filter_fields, how_field, key_list, replace_fields, row_fields, scope_fields, scoped_fields, shown_fields, shown_kind, sight_fields, store_fields, way_field}
+use Rattle.verb_bytes.specs.Limits.{IsAct, IsAlias, IsAsked, IsCycleAsk, IsDeed, IsEntry, IsFilter, IsKey, IsReplace, IsRow, IsScope, IsShown, IsSight, IsUser, AreFew, AreKeys, AreMany}
 use Rattle.verb_bytes.proofs.Exact.{in_range_both}
 use Rattle.verb_bytes.proofs.Ranges.{byte_fits, record_kind_fits, act_kind_fits, deed_kind_fits, number_fits, alias_fits, text_fits, name_fits, user_fits, list_fits, many_fit, holds}
 
@@ -87,10 +91,31 @@ kind_fits kind n e = byte_fits kind kind n (omega (arith, e)) (omega (arith, e))
 filter_fits : (f : Filter) → IsFilter f → are_in_range (filter_fields f) ≡ true
 filter_fits f h = in_range_both _ _ (name_fits f.id h.0) (in_range_both _ _ (name_fits f.needle h.1) (option_fits name_field IsName name_fits f.file h.2))
 
+field_name_fits : (name : List ℕ) → IsTrue (is_field_name name) → are_in_range (field_name_field name) ≡ true
+unfolding field_name_field are_in_range
+field_name_fits name is = and_from _ _ is refl
+
+-- any scope, behind a byte that may be 0
+scope_fits : (s : Scope) → IsScope s → are_in_range (scope_fields 0 s) ≡ true
+scope_fits Body is = byte_fits 0 3 0 (omega arith) (omega arith)
+scope_fits (HeaderField name) is = in_range_both _ _ (byte_fits 0 3 1 (omega arith) (omega arith)) (field_name_fits name is)
+scope_fits Sender is = byte_fits 0 3 2 (omega arith) (omega arith)
+scope_fits Recipient is = byte_fits 0 3 3 (omega arith) (omega arith)
+
+scoped_fits : (f : Filter) → IsFilter f → are_in_range (scoped_fields 0 f) ≡ true
+scoped_fits f h = in_range_both _ _ (filter_fits f h) (scope_fits f.scope h.3)
+
 act_fits : (a : Act) → IsAct a → are_in_range (act_fields a) ≡ true
 act_fits (SetAlias local users) h = in_range_both _ _ (act_kind_fits 1 (omega arith) (omega arith)) (in_range_both _ _ (name_fits local h.0) (many_fit user_field IsUser user_fits users h.1))
 act_fits (DropAlias local) h = in_range_both _ _ (act_kind_fits 2 (omega arith) (omega arith)) (name_fits local h)
-act_fits (SetFilter f) h = in_range_both _ _ (act_kind_fits 3 (omega arith) (omega arith)) (filter_fits f h)
+act_fits (SetFilter f) h = by_scope f.scope h.3
+  where
+    -- a filter of the whole text has its own act
+    by_scope : (s : Scope) → IsScope s → are_in_range (if is_of_body s then act_kind 3 & filter_fields f else act_kind 7 & (filter_fields f & scope_fields 1 s)) ≡ true
+    by_scope Body tt = in_range_both _ _ (act_kind_fits 3 (omega arith) (omega arith)) (filter_fits f h)
+    by_scope (HeaderField name) is = in_range_both _ _ (act_kind_fits 7 (omega arith) (omega arith)) (in_range_both _ _ (filter_fits f h) (in_range_both _ _ (byte_fits 1 3 1 (omega arith) (omega arith)) (field_name_fits name is)))
+    by_scope Sender tt = in_range_both _ _ (act_kind_fits 7 (omega arith) (omega arith)) (in_range_both _ _ (filter_fits f h) (byte_fits 1 3 2 (omega arith) (omega arith)))
+    by_scope Recipient tt = in_range_both _ _ (act_kind_fits 7 (omega arith) (omega arith)) (in_range_both _ _ (filter_fits f h) (byte_fits 1 3 3 (omega arith) (omega arith)))
 act_fits (DropFilter id) h = in_range_both _ _ (act_kind_fits 4 (omega arith) (omega arith)) (name_fits id h)
 act_fits (Remove u mailbox k) h = in_range_both _ _ (act_kind_fits 5 (omega arith) (omega arith)) (in_range_both _ _ (user_fits u h.0) (in_range_both _ _ (name_fits mailbox h.1) (key_fits k h.2)))
 act_fits (Give u mailbox text) h = in_range_both _ _ (act_kind_fits 6 (omega arith) (omega arith)) (in_range_both _ _ (user_fits u h.0) (in_range_both _ _ (name_fits mailbox h.1) (text_fits MOST_BODY text h.2)))
@@ -133,12 +158,21 @@ row_fits r h =
     (in_range_both _ _ (name_fits r.0.name h.name)
     (in_range_both _ _ (number_fits w64 most_of_eight r.1.next h.next) (many_fit entry_fields IsEntry entry_fits r.1.entries h.entries)))
 
-pub snapshot_is_spelled : (items : ℕ) (conf : Conf) (rows : List (BoxId × Mailbox)) → items ≤ most_of_four → AreMany IsAlias conf.aliases → AreMany IsFilter conf.filters → AreMany IsRow rows → HasSpelling (Snapshot items conf rows)
-snapshot_is_spelled items conf rows items_le aliases filters all =
-    in_range_both _ _ (record_kind_fits 4 (omega arith))
-    (in_range_both _ _ (u32_fits items items_le)
+store_fits : (fields : Filter → List Field) → ((f : Filter) → IsFilter f → are_in_range (fields f) ≡ true) → (items : ℕ) (conf : Conf) (rows : List (BoxId × Mailbox)) → items ≤ most_of_four → AreMany IsAlias conf.aliases → AreMany IsFilter conf.filters → AreMany IsRow rows → are_in_range (store_fields fields items conf rows) ≡ true
+store_fits fields fit items conf rows items_le aliases filters all =
+    in_range_both _ _ (u32_fits items items_le)
     (in_range_both _ _ (many_fit alias_fields IsAlias alias_fits conf.aliases aliases)
-    (in_range_both _ _ (many_fit filter_fields IsFilter filter_fits conf.filters filters) (many_fit row_fields IsRow row_fits rows all))))
+    (in_range_both _ _ (many_fit fields IsFilter fit conf.filters filters) (many_fit row_fields IsRow row_fits rows all)))
+
+pub snapshot_is_spelled : (items : ℕ) (conf : Conf) (rows : List (BoxId × Mailbox)) → items ≤ most_of_four → AreMany IsAlias conf.aliases → AreMany IsFilter conf.filters → AreMany IsRow rows → HasSpelling (Snapshot items conf rows)
+snapshot_is_spelled items conf rows items_le aliases filters all = by_scopes (are_of_body conf.filters)
+  where
+    by_scopes : (t : Bool) → are_in_range (if t then record_kind 4 & store_fields filter_fields items conf rows else record_kind 6 & store_fields (scoped_fields 0) items conf rows) ≡ true
+    by_scopes true = in_range_both _ _ (record_kind_fits 4 (omega arith)) (store_fits filter_fields filter_fits items conf rows items_le aliases filters all)
+    by_scopes false = in_range_both _ _ (record_kind_fits 6 (omega arith)) (store_fits (scoped_fields 0) scoped_fits items conf rows items_le aliases filters all)
+
+pub upgrade_is_spelled : (at : ℕ) → at ≤ LAST_MOMENT → HasSpelling (Upgrade at)
+upgrade_is_spelled at at_le = in_range_both _ _ (record_kind_fits 5 (omega arith)) (number_fits w64 LAST_MOMENT at at_le)
 
 -- ---- items
 

@@ -66,7 +66,7 @@ pub record CutBefore {A : Type 0} (a b c d : List A) : Type 0 where
   pub first : c ≡ a ++ mid
   pub second : b ≡ mid ++ d
 
-two_cuts : {A : Type 0} (a b c d : List A) → a ++ b ≡ c ++ d → CutBefore a b c d ⊎ CutBefore c d a b
+pub two_cuts : {A : Type 0} (a b c d : List A) → a ++ b ≡ c ++ d → CutBefore a b c d ⊎ CutBefore c d a b
 two_cuts [] b c d e = inl (record { mid = c; first = refl; second = e })
 two_cuts (x ∷ a) b [] d e = inr (record { mid = x ∷ a; first = refl; second = sym e })
 two_cuts (x ∷ a) b (y ∷ c) d e =
@@ -102,7 +102,7 @@ pub bytes_joined : (a b : List Field) (rest : List ℕ) → bytes_of (a & b) ++ 
 unfolding bytes_of
 bytes_joined a b rest = ap (λ (x : List ℕ). x ++ rest) (flat_map-append (λ (f : Field). f.bytes) a b) ∙ append_assoc (bytes_of a) (bytes_of b) rest
 
-takes_joined : (bytes : List ℕ) (a : List Field) (mid : List ℕ) (b : List Field) (rest : List ℕ) → Takes bytes a mid → Takes mid b rest → Takes bytes (a & b) rest
+pub takes_joined : (bytes : List ℕ) (a : List Field) (mid : List ℕ) (b : List Field) (rest : List ℕ) → Takes bytes a mid → Takes mid b rest → Takes bytes (a & b) rest
 takes_joined bytes a mid b rest p q = record {
   parts = p.parts ∙ ap (λ (x : List ℕ). bytes_of a ++ x) q.parts ∙ sym (bytes_joined a b rest);
   fits = in_range_both a b p.fits q.fits;
@@ -138,22 +138,29 @@ pub ok_is : {A : Type 0} (x y : A) → read_ok x ≡ read_ok y → x ≡ y
 ok_is x y e = cc
 
 -- what comes behind leaves no more than it finds
-then_left : {A C : Type 0} {f : Reader A} {F : A → List Field} → Exact f F → (g : A → Reader C) → ((a : A) → are_in_range (F a) ≡ true → Shrinks (g a)) → (bytes : List ℕ) → IsBytes bytes → left_of ((f >>= g) bytes) ≤ left_of (f bytes)
-then_left {A} {C} {f} {F} e g less bytes fits = by_result (f bytes) refl
+then_left : {A C : Type 0} {f : Reader A} {P : A → List Field → Type 0} → Only f P → (g : A → Reader C) → ((a : A) (fa : List Field) → P a fa → are_in_range fa ≡ true → Shrinks (g a)) → (bytes : List ℕ) → IsBytes bytes → left_of ((f >>= g) bytes) ≤ left_of (f bytes)
+then_left {A} {C} {f} {P} o g less bytes fits = by_result (f bytes) refl
   where
     by_result : (r : Result (A × List ℕ) ℕ) → f bytes ≡ r → left_of (and_then r g) ≤ left_of r
     by_result (Err left) is = omega arith
     by_result (Ok p) is =
-        let t = e.only.takes bytes p.1 p.0 fits is in
-        (less p.0 (subst (λ (fs : List Field). are_in_range fs ≡ true) t.2 t.1.fits)).most p.1 t.1.rest_fits
+        let t = o.takes bytes p.1 p.0 fits is in
+        (less p.0 t.0 t.2 t.1.fits).most p.1 t.1.rest_fits
 
-pub shrinks_step : {A C : Type 0} {f : Reader A} {F : A → List Field} → Exact f F → (g : A → Reader C) → ((a : A) → are_in_range (F a) ≡ true → Shrinks (g a)) → Shrinks (f >>= g)
-shrinks_step {f = f} e g less = record {
+shrinks_behind : {A C : Type 0} {f : Reader A} {P : A → List Field → Type 0} → Only f P → (g : A → Reader C) → ((a : A) (fa : List Field) → P a fa → are_in_range fa ≡ true → Shrinks (g a)) → Shrinks (f >>= g)
+shrinks_behind {f = f} o g less = record {
   most = λ bytes fits.
-      let a : left_of ((f >>= g) bytes) ≤ left_of (f bytes) = then_left e g less bytes fits in
-      let b : left_of (f bytes) ≤ length bytes = e.only.shrinks.most bytes fits in
+      let a : left_of ((f >>= g) bytes) ≤ left_of (f bytes) = then_left o g less bytes fits in
+      let b : left_of (f bytes) ≤ length bytes = o.shrinks.most bytes fits in
       omega arith;
 }
+
+-- what is asked of a value whose fields are in their ranges, asked of its fields as they are read
+of_fields : {A : Type 0} (F : A → List Field) (X : A → Type 0) → ((a : A) → are_in_range (F a) ≡ true → X a) → (a : A) (fa : List Field) → fa ≡ F a → are_in_range fa ≡ true → X a
+of_fields F X h a fa is fits = h a (subst (λ (fs : List Field). are_in_range fs ≡ true) is fits)
+
+pub shrinks_step : {A C : Type 0} {f : Reader A} {F : A → List Field} → Exact f F → (g : A → Reader C) → ((a : A) → are_in_range (F a) ≡ true → Shrinks (g a)) → Shrinks (f >>= g)
+shrinks_step {C = C} {F = F} e g less = shrinks_behind e.only g (of_fields F (λ a. Shrinks (g a)) less)
 
 made_left : {A C : Type 0} (make : A → C) (r : Result (A × List ℕ) ℕ) → left_of (and_then r (λ x. done (make x))) ≡ left_of r
 made_left make (Ok p) = refl
@@ -182,7 +189,7 @@ again_step {A} {C} {f} {F} e g less a c fs h = record {
             subst (λ (r : Result (A × List ℕ) ℕ). left_of (and_then r g) ≤ length rest) (sym reads_a) (h.passes k.mid back (bytes_of k.mid ++ rest) rest t.1.rest_fits p.1 k.second refl)
         | inr k ↦
             let most : left_of (f bytes) ≤ length rest = (e.again a).passes front k.mid bytes rest fit p.0 k.first begins in
-            let less_than : left_of ((f >>= g) bytes) ≤ left_of (f bytes) = then_left e g less bytes fit in
+            let less_than : left_of ((f >>= g) bytes) ≤ left_of (f bytes) = then_left e.only g (of_fields F (λ a. Shrinks (g a)) less) bytes fit in
             omega arith
       ];
 }
@@ -213,58 +220,58 @@ again_done c = record {
       omega arith;
 }
 
-pub only_step : {A C : Type 0} {f : Reader A} {F : A → List Field} → Exact f F → (g : A → Reader C) (Q : C → List Field → Type 0) → ((a : A) → are_in_range (F a) ≡ true → Only (g a) (λ c fs. Q c (F a & fs))) → Only (f >>= g) Q
-only_step {A} {C} {f} {F} e g Q h = record {
+-- what follows a reader whose values have such fields
+pub only_behind : {A C : Type 0} {f : Reader A} {P : A → List Field → Type 0} → Only f P → (g : A → Reader C) (Q : C → List Field → Type 0) → ((a : A) (fa : List Field) → P a fa → are_in_range fa ≡ true → Only (g a) (λ c fs. Q c (fa & fs))) → Only (f >>= g) Q
+only_behind {A} {C} {f} {P} o g Q h = record {
   takes = λ bytes rest x fits read.
       let s = then_ok (f bytes) g (x, rest) read in
-      let t = e.only.takes bytes s.0.1 s.0.0 fits s.1 in
-      let front : Takes bytes (F s.0.0) s.0.1 = subst (λ (fs : List Field). Takes bytes fs s.0.1) t.2 t.1 in
-      let u = (h s.0.0 front.fits).takes s.0.1 rest x front.rest_fits s.2 in
-      (F s.0.0 & u.0, takes_joined bytes (F s.0.0) s.0.1 u.0 rest front u.1, u.2);
+      let t = o.takes bytes s.0.1 s.0.0 fits s.1 in
+      let u = (h s.0.0 t.0 t.2 t.1.fits).takes s.0.1 rest x t.1.rest_fits s.2 in
+      (t.0 & u.0, takes_joined bytes t.0 s.0.1 u.0 rest t.1 u.1, u.2);
   stops = λ bytes left fits stopped.
       elim (then_err (f bytes) g left stopped) [
-        | inl early ↦ stops_early bytes left (e.only.stops bytes left fits early)
+        | inl early ↦ stops_early bytes left (o.stops bytes left fits early)
         | inr late ↦
-            let t = e.only.takes bytes late.found.1 late.found.0 fits late.was in
-            let front : Takes bytes (F late.found.0) late.found.1 = subst (λ (fs : List Field). Takes bytes fs late.found.1) t.2 t.1 in
-            stops_late bytes left late.found.0 late.found.1 front ((h late.found.0 front.fits).stops late.found.1 left front.rest_fits late.stops)
+            let t = o.takes bytes late.found.1 late.found.0 fits late.was in
+            stops_late bytes left t.0 late.found.1 t.1 ((h late.found.0 t.0 t.2 t.1.fits).stops late.found.1 left t.1.rest_fits late.stops)
       ];
-  shrinks = shrinks_step e g (λ a fits. (h a fits).shrinks);
+  shrinks = shrinks_behind o g (λ a fa is fits. (h a fa is fits).shrinks);
   sample =
-      let fits : are_in_range (F e.only.sample.value) ≡ true = subst (λ (fs : List Field). are_in_range fs ≡ true) e.only.sample.is_such e.only.sample.fits in
-      let next = (h e.only.sample.value fits).sample in
-      record { value = next.value; fields = F e.only.sample.value & next.fields; is_such = next.is_such; fits = in_range_both (F e.only.sample.value) next.fields fits next.fits };
+      let next = (h o.sample.value o.sample.fields o.sample.is_such o.sample.fits).sample in
+      record { value = next.value; fields = o.sample.fields & next.fields; is_such = next.is_such; fits = in_range_both o.sample.fields next.fields o.sample.fits next.fits };
 }
   where
-    stops_early : (bytes : List ℕ) (left : ℕ) → Stops bytes (λ a fs. fs ≡ F a) left → Stops bytes Q left
+    stops_early : (bytes : List ℕ) (left : ℕ) → Stops bytes P left → Stops bytes Q left
     stops_early bytes left s =
-        let fits : are_in_range (F s.value) ≡ true = subst (λ (fs : List Field). are_in_range fs ≡ true) s.is_such s.fits in
-        let next = (h s.value fits).sample in
-        let all : F s.value & next.fields ≡ s.front & (s.back & next.fields) = ap (λ (fs : List Field). fs & next.fields) (sym s.is_such) ∙ append_assoc s.front s.back next.fields in
+        let next = (h s.value (s.front & s.back) s.is_such s.fits).sample in
+        let all : (s.front & s.back) & next.fields ≡ s.front & (s.back & next.fields) = append_assoc s.front s.back next.fields in
         record {
           value = next.value;
           front = s.front;
           back = s.back & next.fields;
           is_such = subst (Q next.value) all next.is_such;
-          fits = subst (λ (fs : List Field). are_in_range fs ≡ true) all (in_range_both (F s.value) next.fields fits next.fits);
+          fits = subst (λ (fs : List Field). are_in_range fs ≡ true) all (in_range_both (s.front & s.back) next.fields s.fits next.fits);
           rest = s.rest;
           parts = s.parts;
           left_is = s.left_is;
         }
 
-    stops_late : (bytes : List ℕ) (left : ℕ) (a : A) (mid : List ℕ) → Takes bytes (F a) mid → Stops mid (λ c fs. Q c (F a & fs)) left → Stops bytes Q left
-    stops_late bytes left a mid t s =
-        let all : F a & (s.front & s.back) ≡ (F a & s.front) & s.back = sym (append_assoc (F a) s.front s.back) in
+    stops_late : (bytes : List ℕ) (left : ℕ) (fa : List Field) (mid : List ℕ) → Takes bytes fa mid → Stops mid (λ c fs. Q c (fa & fs)) left → Stops bytes Q left
+    stops_late bytes left fa mid t s =
+        let all : fa & (s.front & s.back) ≡ (fa & s.front) & s.back = sym (append_assoc fa s.front s.back) in
         record {
           value = s.value;
-          front = F a & s.front;
+          front = fa & s.front;
           back = s.back;
           is_such = subst (Q s.value) all s.is_such;
-          fits = subst (λ (fs : List Field). are_in_range fs ≡ true) all (in_range_both (F a) (s.front & s.back) t.fits s.fits);
+          fits = subst (λ (fs : List Field). are_in_range fs ≡ true) all (in_range_both fa (s.front & s.back) t.fits s.fits);
           rest = s.rest;
-          parts = t.parts ∙ ap (λ (x : List ℕ). bytes_of (F a) ++ x) s.parts ∙ sym (bytes_joined (F a) s.front s.rest);
+          parts = t.parts ∙ ap (λ (x : List ℕ). bytes_of fa ++ x) s.parts ∙ sym (bytes_joined fa s.front s.rest);
           left_is = s.left_is;
         }
+
+pub only_step : {A C : Type 0} {f : Reader A} {F : A → List Field} → Exact f F → (g : A → Reader C) (Q : C → List Field → Type 0) → ((a : A) → are_in_range (F a) ≡ true → Only (g a) (λ c fs. Q c (F a & fs))) → Only (f >>= g) Q
+only_step {A} {C} {f} {F} e g Q h = only_behind e.only g Q (λ a fa is fits. subst (λ (fs : List Field). Only (g a) (λ c more. Q c (fs & more))) (sym is) (h a (subst (λ (fs : List Field). are_in_range fs ≡ true) is fits)))
 
 -- the same values under other names
 pub stops_made : {A C : Type 0} (bytes : List ℕ) (left : ℕ) (P : A → List Field → Type 0) (Q : C → List Field → Type 0) (make : A → C) → ((a : A) (fs : List Field) → P a fs → Q (make a) fs) → Stops bytes P left → Stops bytes Q left

@@ -1,5 +1,5 @@
 -- Each field that is spelled is read back, and a field that is read was spelled so.
-use Rattle.std.proofs.Common.{◌≡◌, ℕ, suc, ◌+◌, ◌-◌, ◌<◌, ◌≤◌, Bool, true, false, cond, ltb, ◌&&◌, List, [], ◌∷◌, ◌++◌, length, take, drop, Option, Some, None, Ok, refl, sym, ap, subst, ◌∙◌, append_assoc, arith, inl, inr}
+use Rattle.std.proofs.Common.{◌≡◌, ℕ, suc, ◌+◌, ◌-◌, ◌<◌, ◌≤◌, Bool, true, false, cond, ltb, ◌&&◌, List, [], ◌∷◌, ◌++◌, length, take, drop, Option, Some, None, Ok, refl, sym, ap, subst, ◌∙◌, append_assoc, arith, inl, inr, lit<}
 use Rattle.std.specs.Prelude.{◌==◌, nat_le, nat_lt, option_and_then}
 use Rattle.std.specs.Int.{Width, w16, w32, w64, byte_len, from_be_bytes, to_be_bytes}
 use Rattle.std.proofs.lemmas.Bool.{cases_lt, ltb-false, le-ltb, leb-true, le-leb, lt-ltb, ltb-true, eqb-true, and_parts, and_from}
@@ -8,11 +8,13 @@ use Rattle.std.proofs.lemmas.List.{append-nil, take_at, drop_at, take-append-dro
 use Rattle.std.proofs.lemmas.Nat.{be_bytes_2, be_bytes_4, be_bytes_8, from_be_bytes-to_be_bytes_2, from_be_bytes-to_be_bytes_4, from_be_bytes-to_be_bytes_8}
 use Rattle.undo_base.specs.declared.keys.User.{User}
 use Rattle.undo_base.specs.declared.keys.Key.{Key}
-use Rattle.verb_bytes.specs.Fields.{Field, bytes_of, are_in_range, ◌&◌, byte_field, number_field, is_name, name_field, text_field, key_field, option_fields, actor_field}
+use Rattle.header_fields.specs.Values.{is_field_name}
+use Rattle.verb_bytes.specs.Fields.{Field, field, bytes_of, are_in_range, ◌&◌, byte_field, number_field, is_name, name_field, field_name_field, text_field, key_field, list_fields, option_fields, actor_field, any_list_fields, most_of_four}
 use Rattle.verb_bytes.specs.declared.write.TheConstants.{LAST_USER, NOBODY}
 use Rattle.verb_bytes.specs.Decoding.{IsBytes}
-use Rattle.verb_bytes.specs.Readers.{Reader, field_or, cut, when, find_byte, find_number, find_name, find_text, find_key, actor_of, find_actor, byte_at, number_at, name_at, text_at, key_at, actor_at, done, read1, nth_case, choice_at, option_at, user_of}
-use Rattle.verb_bytes.proofs.Exact.{Takes, Again, Only, Exact, again_step, again1, again_done, only_step, only1, only_done, EachCase, only_case, case_shrinks, only_field, again_field, and_true}
+use Rattle.verb_bytes.specs.Readers.{Reader, field_or, field_at, cut, when, find_byte, find_number, find_short, find_text, find_key, actor_of, find_actor, byte_at, number_at, name_at, field_name_at, text_at, key_at, actor_at, done, read1, nth_case, choice_at, list_at, option_at, user_of}
+use Rattle.verb_bytes.specs.Reading.{any_list_at}
+use Rattle.verb_bytes.proofs.Exact.{Takes, Again, Only, Exact, again_step, again1, again_done, only_step, only1, only_done, EachCase, only_case, case_shrinks, only_field, again_field, list_exact, and_true}
 
 -- ---- bytes
 
@@ -171,31 +173,40 @@ number_exact w limit most wide lt = record {
 
 -- ---- names and texts
 
-name_takes : (bytes rest : List ℕ) (x : List ℕ) → IsBytes bytes → name_at bytes ≡ Ok (x, rest) → (fs : List Field) × Takes bytes fs rest × (fs ≡ name_field x)
-unfolding name_field name_at bytes_of are_in_range
-name_takes [] rest x fits e = absurd cc
-name_takes (n ∷ more) rest x fits e =
-    option_and_then_some (λ (p : List ℕ × List ℕ). when (is_name p.0) p) (cut n more) (x, rest) (found_ok _ _ (x, rest) e) (λ p e1 e2.
+-- bytes behind their length in one byte, where they pass a test
+short_takes : (test : List ℕ → Bool) (bytes rest : List ℕ) (x : List ℕ) → IsBytes bytes → field_at (find_short test) bytes ≡ Ok (x, rest) → (fs : List Field) × Takes bytes fs rest × (fs ≡ field (test x) (length x ∷ x))
+unfolding bytes_of are_in_range
+short_takes test [] rest x fits e = absurd cc
+short_takes test (n ∷ more) rest x fits e =
+    option_and_then_some (λ (p : List ℕ × List ℕ). when (test p.0) p) (cut n more) (x, rest) (found_ok _ _ (x, rest) e) (λ p e1 e2.
     let c = cut_is n more p e1 in
-    let h = when_some (is_name p.0) p (x, rest) e2 in
+    let h = when_some (test p.0) p (x, rest) e2 in
     let back_fits : IsBytes p.1 = subst IsBytes (sym c.back) (IsBytes-drop n more (IsBytes-rest n more fits)) in
-    let front : n ∷ more ≡ bytes_of (name_field p.0) ++ p.1 =
+    let front : n ∷ more ≡ bytes_of (field (test p.0) (length p.0 ∷ p.0)) ++ p.1 =
     ap (λ (y : List ℕ). n ∷ y) c.parts ∙ ap (λ (k : ℕ). k ∷ (p.0 ++ p.1)) (sym c.count_is) ∙ ap (λ (y : List ℕ). (length p.0 ∷ y) ++ p.1) (sym (append-nil p.0)) in
-    subst (λ (y : List ℕ × List ℕ). (fs : List Field) × Takes (n ∷ more) fs y.1 × (fs ≡ name_field y.0)) h.1 (name_field p.0, record { parts = front; fits = and_from _ _ h.0 refl; rest_fits = back_fits }, refl))
+    subst (λ (y : List ℕ × List ℕ). (fs : List Field) × Takes (n ∷ more) fs y.1 × (fs ≡ field (test y.0) (length y.0 ∷ y.0))) h.1 (field (test p.0) (length p.0 ∷ p.0), record { parts = front; fits = and_from _ _ h.0 refl; rest_fits = back_fits }, refl))
 
-name_only : Only name_at (λ x fs. fs ≡ name_field x)
-unfolding name_field name_at are_in_range
-name_only = only_field find_name (λ x fs. fs ≡ name_field x) name_takes (record { value = 97 ∷ []; fields = name_field (97 ∷ []); is_such = refl; fits = refl })
+short_only : (test : List ℕ → Bool) (sample : List ℕ) → test sample ≡ true → Only (field_at (find_short test)) (λ x fs. fs ≡ field (test x) (length x ∷ x))
+unfolding are_in_range
+short_only test sample passes = only_field (find_short test) (λ x fs. fs ≡ field (test x) (length x ∷ x)) (short_takes test) (record { value = sample; fields = field (test sample) (length sample ∷ sample); is_such = refl; fits = and_from _ _ passes refl })
+
+short_exact : (test : List ℕ → Bool) (sample : List ℕ) → test sample ≡ true → Exact (field_at (find_short test)) (λ x. field (test x) (length x ∷ x))
+unfolding bytes_of are_in_range
+short_exact test sample passes = record {
+  again = λ x. again_field x (record { bytes = length x ∷ x; in_range = test x }) (short_only test sample passes).shrinks (λ rest fits.
+      let e : bytes_of (field (test x) (length x ∷ x)) ++ rest ≡ length x ∷ (x ++ rest) = ap (λ (y : List ℕ). (length x ∷ y) ++ rest) (append-nil x) in
+      let parts = cut_at x rest (length x) refl in
+      ap (field_at (find_short test)) e ∙ ap (field_or (suc (length (x ++ rest)))) (ap (λ (o : Option (List ℕ × List ℕ)). option_and_then (λ (p : List ℕ × List ℕ). when (test p.0) p) o) parts ∙ ap (λ (b : Bool). when b (x, rest)) (and_true (test x) fits)));
+  only = short_only test sample passes;
+}
 
 pub name_exact : Exact name_at name_field
-unfolding name_field name_at bytes_of are_in_range
-name_exact = record {
-  again = λ x. again_field x (record { bytes = length x ∷ x; in_range = is_name x }) name_only.shrinks (λ rest fits.
-      let e : bytes_of (name_field x) ++ rest ≡ length x ∷ (x ++ rest) = ap (λ (y : List ℕ). (length x ∷ y) ++ rest) (append-nil x) in
-      let parts = cut_at x rest (length x) refl in
-      ap name_at e ∙ ap (field_or (suc (length (x ++ rest)))) (ap (λ (o : Option (List ℕ × List ℕ)). option_and_then (λ (p : List ℕ × List ℕ). when (is_name p.0) p) o) parts ∙ ap (λ (b : Bool). when b (x, rest)) (and_true (is_name x) fits)));
-  only = name_only;
-}
+unfolding name_at name_field
+name_exact = short_exact is_name (97 ∷ []) refl
+
+pub field_name_exact : Exact field_name_at field_name_field
+unfolding field_name_at field_name_field
+field_name_exact = short_exact is_field_name (97 ∷ []) refl
 
 text_bytes : (most : ℕ) (x rest : List ℕ) → bytes_of (text_field most x) ++ rest ≡ to_be_bytes w32 (length x) ++ (x ++ rest)
 unfolding text_field bytes_of
@@ -366,3 +377,11 @@ option_exact {A} {f} {F} e = choice_exact 0 1 (omega arith) (done None ∷ read1
     again : (x : Option A) → Again (option_at f) x (option_fields F x)
     again None = again_alone 0 1 (omega arith) (done None ∷ read1 Some f ∷ []) (Chosen 0 1 (option_fields F)) each 0 None (again_done None)
     again (Some x) = again_case 0 1 (omega arith) (done None ∷ read1 Some f ∷ []) (Chosen 0 1 (option_fields F)) each 1 (Some x) (F x) (again1 e Some x)
+
+-- ---- lists
+
+pub counted : {A : Type 0} {f : Reader A} {F : A → List Field} (most : ℕ) → most < 4294967296 → Exact f F → Exact (list_at most f) (list_fields most F)
+counted most lt e = list_exact (number_exact w32 4294967296 most wide32 lt) e
+
+pub any_counted : {A : Type 0} {f : Reader A} {F : A → List Field} → Exact f F → Exact (any_list_at f) (any_list_fields F)
+any_counted e = counted most_of_four (lit< tt) e

@@ -1,6 +1,8 @@
 pub mod Exact
 pub mod FieldLaws
+pub mod ScopeLaws
 pub mod RecordLaws
+pub mod Lacking
 pub mod Refusals
 pub mod Ranges
 pub mod AskedRanges
@@ -12,3 +14,4 @@ pub mod Found
 pub mod TimesLoop
 pub mod Cases
 pub mod Forms
+mod Rows

@@ -1,6 +1,7 @@
 -- Each record is read from its fields, and only from these.
-use Rattle.std.proofs.Common.{◌≡◌, ℕ, zero, suc, ◌-◌, ◌<◌, ◌≤◌, Bool, true, false, ◌&&◌, List, [], ◌∷◌, ◌++◌, length, Option, Ok, refl, sym, ap, subst, ◌∙◌, arith, inl, inr, lit<}
-use Rattle.std.specs.Prelude.{◌==◌}
+use Rattle.std.proofs.Common.{◌≡◌, ℕ, zero, suc, ◌-◌, ◌<◌, ◌≤◌, Bool, true, false, ◌&&◌, not, List, [], ◌∷◌, ◌++◌, length, Option, Ok, refl, sym, ap, subst, ◌∙◌, arith, inl, inr, lit<}
+use Rattle.std.specs.Prelude.{◌==◌, if◌then◌else◌}
+use Rattle.std.specs.List.{flat_map}
 use Rattle.std.specs.Int.{w32, w64}
 use Rattle.std.proofs.lemmas.Bool.{cases_lt, and_parts, eqb-true}
 use Rattle.std.proofs.lemmas.List.{append-nil}
@@ -9,9 +10,12 @@ use Rattle.undo_base.specs.declared.keys.Flags.{Flags}
 use Rattle.undo_base.specs.declared.asks.How.{How}
 use Rattle.undo_base.specs.declared.asks.How.TheVariants.{Replace, Add, Take}
 use Rattle.undo_base.specs.declared.limits.TheConstants.{LAST_MOMENT, MOST_KEYS, MOST_RECIPIENTS, MOST_USERS}
+use Rattle.verb_core.specs.declared.conf.Alias.{Alias}
 use Rattle.verb_core.specs.declared.conf.Filter.{Filter}
 use Rattle.verb_core.specs.declared.conf.House.{House}
 use Rattle.verb_core.specs.declared.conf.Conf.{Conf}
+use Rattle.verb_core.specs.declared.mailbox.BoxId.{BoxId}
+use Rattle.verb_core.specs.declared.mailbox.Mailbox.{Mailbox}
 use Rattle.verb_core.specs.declared.item.Item.{Item}
 use Rattle.verb_core.specs.declared.item.Way.{Way}
 use Rattle.verb_core.specs.declared.item.Way.TheVariants.{Plain, NoSource, Merged}
@@ -22,20 +26,22 @@ use Rattle.verb_core.specs.declared.item.Deed.TheVariants.{Deliver, Append, Fetc
 use Rattle.verb_core.specs.declared.item.Shown.{Shown}
 use Rattle.verb_core.specs.declared.item.Shown.TheVariants.{Nothing, Seen, Names as Named, Count, Done, Copied, Put, Left, Way as Went, Moved}
 use Rattle.verb_core.specs.Names.{is_empty}
+use Rattle.verb_core.specs.Filters.{is_of_body, are_of_body}
 use Rattle.verb_bytes.specs.declared.kinds.TheConstants.{LAST_RECORD, LAST_ACT, LAST_DEED, LAST_SHOWN}
 use Rattle.verb_bytes.specs.declared.write.TheConstants.{ALL_FLAGS, LAST_USER, MOST_BODY}
 use Rattle.verb_bytes.specs.declared.journal.JournalRecord.{JournalRecord}
-use Rattle.verb_bytes.specs.declared.journal.JournalRecord.TheVariants.{Format, Verb, Operator, Cycle, Snapshot}
-use Rattle.verb_bytes.specs.Fields.{Field, bytes_of, are_in_range, ◌&◌, only_if, byte_field, name_field, list_fields, bool_field, flags_field, flags_code, u32_field, u64_field, moment_field, any_text_field, body_field, user_field, any_list_fields, most_of_four, most_of_eight, record_kind, act_kind, deed_kind}
-use Rattle.verb_bytes.specs.Spelling.{key_list, account_fields, alias_fields, aliases_fields, filter_fields, entry_fields, row_fields, how_field, deed_fields, deed_fields_within, sight_fields, way_field, shown_kind, shown_fields, shown_fields_within, item_fields, act_fields, replace_fields, ask_fields, house_fields, record_fields}
-use Rattle.verb_bytes.specs.Readers.{Reader, ◌>>=◌, done, read1, read2, read3, read4, read5, list_at, nth_case, byte_at, bool_at, name_at, actor_at, u32_at, moment_at, flags_of, flags_at, user_of, user_at}
-use Rattle.verb_bytes.specs.Reading.{any_list_at, any_text_at, body_at, u64_at, keys_at, account_of, account_at, alias_of, alias_at, aliases_at, filter_of, filter_at, entry_of, entry_at, row_of, row_at, how_at, deed_cases, deed_at, sight_of, sight_at, way_at, shown_cases, shown_at, item_of, item_at, act_cases, act_at, replace_of, replace_at, ask_of, cycle_ask_at, format_of, format_at, snapshot_of, record_cases, record_at}
-use Rattle.verb_bytes.proofs.Exact.{Takes, Shrinks, Again, Only, Exact, and_true, no_front, ok_is, shrinks_done, shrinks_step, shrinks1, shrinks2, shrinks3, shrinks4, shrinks5, again_step, again_done, only_step, only_done, again1, only1, again2, only2, again3, only3, again4, only4, again5, only5, again6, only6, list_exact, EachCase, only_case, case_shrinks}
-use Rattle.verb_bytes.proofs.FieldLaws.{Chosen, again_case, byte_exact, byte_bounds, wide32, wide64, number_exact, name_exact, text_exact, key_exact, actor_exact, again_alone, choice_exact, option_exact}
+use Rattle.verb_bytes.specs.declared.journal.JournalRecord.TheVariants.{Format, Verb, Operator, Cycle, Snapshot, Upgrade}
+use Rattle.verb_bytes.specs.Fields.{Field, bytes_of, are_in_range, ◌&◌, only_if, byte_field, number_field, name_field, list_fields, bool_field, flags_field, flags_code, u32_field, u64_field, moment_field, any_text_field, body_field, user_field, any_list_fields, most_of_four, most_of_eight, record_kind, act_kind, deed_kind}
+use Rattle.verb_bytes.specs.Spelling.{key_list, account_fields, alias_fields, aliases_fields, filter_fields, scope_fields, scoped_fields, entry_fields, row_fields, how_field, deed_fields, deed_fields_within, sight_fields, way_field, shown_kind, shown_fields, shown_fields_within, item_fields, act_fields, replace_fields, ask_fields, house_fields, record_fields}
+use Rattle.verb_bytes.specs.Readers.{Reader, ◌>>=◌, done, read1, read2, read3, read4, read5, list_at, nth_case, choice_at, byte_at, bool_at, name_at, actor_at, u32_at, moment_at, flags_of, flags_at, user_of, user_at}
+use Rattle.verb_bytes.specs.Reading.{any_list_at, any_text_at, body_at, u64_at, keys_at, account_of, account_at, alias_of, alias_at, aliases_at, filter_at, scope_at, scoped_at, scoped_filters_at, entry_of, entry_at, row_of, row_at, how_at, deed_cases, deed_at, sight_of, sight_at, way_at, shown_cases, shown_at, item_of, item_at, act_cases, act_at, replace_of, replace_at, ask_of, cycle_ask_at, format_of, format_at, snapshot_of, snapshot_at, record_cases, record_at}
+use Rattle.verb_bytes.proofs.Exact.{Takes, Shrinks, Again, Only, Exact, and_true, in_range_parts, no_front, ok_is, shrinks_done, shrinks_step, shrinks1, shrinks2, shrinks3, shrinks4, shrinks5, again_step, again_done, only_step, only_behind, only_weaker, only_done, again1, only1, again2, only2, again3, only3, again4, only4, again5, only5, again6, only6, EachCase, only_case, case_shrinks}
+use Rattle.verb_bytes.proofs.FieldLaws.{Chosen, again_case, byte_exact, byte_bounds, wide32, wide64, number_exact, name_exact, text_exact, key_exact, actor_exact, again_alone, choice_exact, option_exact, counted, any_counted}
+use Rattle.verb_bytes.proofs.ScopeLaws.{never, only_fit1, of_body_fields, filter_exact, other_filter_exact, other_only, body_filter_is, body_filter_only, body_filters_are, body_filters_only, scoped_list, scoped_list_exact, scoped_filters_only}
 
 -- ---- numbers, texts and lists of a range
 
-u32_exact : Exact u32_at u32_field
+pub u32_exact : Exact u32_at u32_field
 u32_exact = number_exact w32 4294967296 most_of_four wide32 (lit< tt)
 
 u64_exact : Exact u64_at u64_field
@@ -49,12 +55,6 @@ any_text_exact = text_exact most_of_four (lit< tt)
 
 body_exact : Exact body_at body_field
 body_exact = text_exact MOST_BODY (lit< tt)
-
-counted : {A : Type 0} {f : Reader A} {F : A → List Field} (most : ℕ) → most < 4294967296 → Exact f F → Exact (list_at most f) (list_fields most F)
-counted most lt e = list_exact (number_exact w32 4294967296 most wide32 lt) e
-
-any_counted : {A : Type 0} {f : Reader A} {F : A → List Field} → Exact f F → Exact (any_list_at f) (any_list_fields F)
-any_counted e = counted most_of_four (lit< tt) e
 
 keys_exact : Exact keys_at key_list
 keys_exact = counted MOST_KEYS (lit< tt) key_exact
@@ -170,11 +170,8 @@ account_exact = record { again = λ q. again2 name_exact name_exact account_of q
 alias_exact : Exact alias_at alias_fields
 alias_exact = record { again = λ q. again2 name_exact (any_counted user_exact) alias_of q.local q.users; only = only2 name_exact (any_counted user_exact) alias_of (λ q fs. fs ≡ alias_fields q) (λ a b. refl) }
 
-aliases_exact : Exact aliases_at aliases_fields
+pub aliases_exact : Exact aliases_at aliases_fields
 aliases_exact = any_counted alias_exact
-
-filter_exact : Exact filter_at filter_fields
-filter_exact = record { again = λ q. again3 name_exact name_exact (option_exact name_exact) filter_of q.id q.needle q.file; only = only3 name_exact name_exact (option_exact name_exact) filter_of (λ q fs. fs ≡ filter_fields q) (λ a b c. refl) }
 
 entry_exact : Exact entry_at entry_fields
 entry_exact = record { again = λ q. again6 u64_exact key_exact u32_exact u32_exact flags_exact moment_exact entry_of q.uid q.key q.body.origin q.body.rev q.flags q.at; only = only6 u64_exact key_exact u32_exact u32_exact flags_exact moment_exact entry_of (λ q fs. fs ≡ entry_fields q) (λ a b c d x y. refl) }
@@ -189,10 +186,6 @@ replace_exact : Exact replace_at replace_fields
 replace_exact = record { again = λ q. again2 u32_exact body_exact replace_of q.0 q.1; only = only2 u32_exact body_exact replace_of (λ q fs. fs ≡ replace_fields q) (λ a b. refl) }
 
 -- ---- deeds
-
-never : {C : Type 0} (reader : Reader C) (x : C) → Again reader x (only_if false)
-unfolding only_if are_in_range
-never reader x = record { reads = λ rest fits. absurd cc; passes = λ front back bytes rest fit fits cut begins. absurd cc }
 
 deed_each : (most : ℕ) → most < 4294967296 → EachCase 1 (deed_cases most) (Chosen 1 LAST_DEED (deed_fields_within most))
 deed_each most lt = (
@@ -411,20 +404,31 @@ item_exact = record {
       only_only (shown_of d) (item_of n t b d) _ (λ s. refl)))));
 }
 
+-- a filter of the whole text is set by one act, and one of another scope by another
+set_of_body : (f : Filter) → are_in_range (of_body_fields f) ≡ true → act_kind 3 & of_body_fields f ≡ act_fields (SetFilter f)
+set_of_body f fits =
+    let body : is_of_body f.scope ≡ true = body_filter_only f fits in
+    ap (λ (fs : List Field). act_kind 3 & fs) (body_filter_is f body) ∙ ap (λ (t : Bool). if t then act_kind 3 & filter_fields f else act_kind 7 & scoped_fields 1 f) (sym body)
+
+set_of_other : (f : Filter) → are_in_range (scoped_fields 1 f) ≡ true → act_kind 7 & scoped_fields 1 f ≡ act_fields (SetFilter f)
+set_of_other f fits =
+    let other : is_of_body f.scope ≡ false = other_only f.scope (in_range_parts (filter_fields f) (scope_fields 1 f.scope) fits).1 in
+    ap (λ (t : Bool). if t then act_kind 3 & filter_fields f else act_kind 7 & scoped_fields 1 f) (sym other)
+
 act_each : EachCase 1 act_cases (Chosen 1 LAST_ACT act_fields)
 act_each = (
   only2 name_exact (any_counted user_exact) SetAlias _ (λ a b. refl),
   (
     only1 name_exact DropAlias _ (λ a. refl),
     (
-      only1 filter_exact SetFilter _ (λ a. refl),
+      only_fit1 filter_exact SetFilter _ set_of_body,
       (
         only1 name_exact DropFilter _ (λ a. refl),
         (
           only3 user_exact name_exact key_exact Remove _ (λ a b c. refl),
           (
             only3 user_exact name_exact body_exact Give _ (λ a b c. refl),
-            tt,
+            (only_fit1 other_filter_exact SetFilter _ set_of_other, tt),
           ),
         ),
       ),
@@ -438,7 +442,11 @@ act_case n x fs h = again_case 1 LAST_ACT (omega arith) act_cases (Chosen 1 LAST
 act_again : (x : Act) → Again act_at x (act_fields x)
 act_again (SetAlias a b) = act_case 1 (SetAlias a b) _ (again2 name_exact (any_counted user_exact) SetAlias a b)
 act_again (DropAlias a) = act_case 2 (DropAlias a) _ (again1 name_exact DropAlias a)
-act_again (SetFilter a) = act_case 3 (SetFilter a) _ (again1 filter_exact SetFilter a)
+act_again (SetFilter f) = by_scope (is_of_body f.scope) refl
+  where
+    by_scope : (t : Bool) → is_of_body f.scope ≡ t → Again act_at (SetFilter f) (if t then act_kind 3 & filter_fields f else act_kind 7 & scoped_fields 1 f)
+    by_scope true e = subst (λ (fs : List Field). Again act_at (SetFilter f) (act_kind 3 & fs)) (body_filter_is f e) (act_case 3 (SetFilter f) _ (again1 filter_exact SetFilter f))
+    by_scope false e = act_case 7 (SetFilter f) _ (again1 other_filter_exact SetFilter f)
 act_again (DropFilter a) = act_case 4 (DropFilter a) _ (again1 name_exact DropFilter a)
 act_again (Remove a b c) = act_case 5 (Remove a b c) _ (again3 user_exact name_exact key_exact Remove a b c)
 act_again (Give a b c) = act_case 6 (Give a b c) _ (again3 user_exact name_exact body_exact Give a b c)
@@ -480,6 +488,41 @@ format_only =
     only_step user_exact (λ e. read1 (format_of a b c d e) aliases_at) _ (λ e fits.
     only_only aliases_exact (format_of a b c d e) _ (λ x. refl))))))
 
+body_list_exact : Exact (any_list_at filter_at) (any_list_fields of_body_fields)
+body_list_exact = any_counted filter_exact
+
+pub rows_exact : Exact (any_list_at row_at) (any_list_fields row_fields)
+rows_exact = any_counted row_exact
+
+-- the fields of a snapshot of either kind
+abbrev snapshot_parts : List Field → List Field → ℕ → List Alias → List (BoxId × Mailbox) → List Field
+snapshot_parts kind filters items aliases rows = kind & u32_field items & aliases_fields aliases & filters & any_list_fields row_fields rows
+
+body_list_is : (fs : List Filter) → are_of_body fs ≡ true → any_list_fields of_body_fields fs ≡ any_list_fields filter_fields fs
+body_list_is fs h = ap (λ (x : List Field). number_field w32 most_of_four (length fs) & x) (body_filters_are fs h)
+
+of_the_whole_text : (items : ℕ) (aliases : List Alias) (fs : List Filter) (rows : List (BoxId × Mailbox)) → are_of_body fs ≡ true → snapshot_parts (record_kind 4) (any_list_fields of_body_fields fs) items aliases rows ≡ record_fields (snapshot_of items aliases fs rows)
+of_the_whole_text items aliases fs rows h =
+    ap (λ (x : List Field). snapshot_parts (record_kind 4) x items aliases rows) (body_list_is fs h)
+    ∙ ap (λ (t : Bool). if t then snapshot_parts (record_kind 4) (any_list_fields filter_fields fs) items aliases rows else snapshot_parts (record_kind 6) (scoped_list fs) items aliases rows) (sym h)
+
+pub with_scopes : (items : ℕ) (aliases : List Alias) (fs : List Filter) (rows : List (BoxId × Mailbox)) → are_of_body fs ≡ false → snapshot_parts (record_kind 6) (scoped_list fs) items aliases rows ≡ record_fields (snapshot_of items aliases fs rows)
+with_scopes items aliases fs rows h = ap (λ (t : Bool). if t then snapshot_parts (record_kind 4) (any_list_fields filter_fields fs) items aliases rows else snapshot_parts (record_kind 6) (scoped_list fs) items aliases rows) (sym h)
+
+body_snapshot_only : Only (snapshot_at (any_list_at filter_at)) (λ r fs. record_kind 4 & fs ≡ record_fields r)
+body_snapshot_only =
+    only_step u32_exact (λ i. read3 (snapshot_of i) aliases_at (any_list_at filter_at) (any_list_at row_at)) _ (λ i fits.
+    only_step aliases_exact (λ a. read2 (snapshot_of i a) (any_list_at filter_at) (any_list_at row_at)) _ (λ a fits.
+    only_step body_list_exact (λ fs. read1 (snapshot_of i a fs) (any_list_at row_at)) _ (λ fs fits.
+    only1 rows_exact (snapshot_of i a fs) _ (λ r. of_the_whole_text i a fs r (body_filters_only fs (in_range_parts (number_field w32 most_of_four (length fs)) (flat_map of_body_fields fs) fits).1)))))
+
+pub scoped_snapshot_only : Only (snapshot_at scoped_filters_at) (λ r fs. record_kind 6 & fs ≡ record_fields r)
+scoped_snapshot_only =
+    only_step u32_exact (λ i. read3 (snapshot_of i) aliases_at scoped_filters_at (any_list_at row_at)) _ (λ i fits.
+    only_step aliases_exact (λ a. read2 (snapshot_of i a) scoped_filters_at (any_list_at row_at)) _ (λ a fits.
+    only_behind scoped_filters_only (λ fs. read1 (snapshot_of i a fs) (any_list_at row_at)) _ (λ fs fields is fits.
+    only1 rows_exact (snapshot_of i a fs) _ (λ r. ap (λ (x : List Field). snapshot_parts (record_kind 6) x i a r) is.0 ∙ with_scopes i a fs r is.1))))
+
 record_each : EachCase 0 record_cases (Chosen 0 LAST_RECORD record_fields)
 record_each = (
   format_only,
@@ -490,23 +533,103 @@ record_each = (
       (
         only3 u32_exact moment_exact ask_exact Cycle _ (λ a b c. refl),
         (
-          only4 u32_exact aliases_exact (any_counted filter_exact) (any_counted row_exact) snapshot_of _ (λ a b c d. refl),
-          tt,
+          body_snapshot_only,
+          (only1 moment_exact Upgrade _ (λ a. refl), (scoped_snapshot_only, tt)),
         ),
       ),
     ),
   ),
 )
 
-record_case : (n : ℕ) (x : JournalRecord) (fs : List Field) → Again (nth_case (n - 0) record_cases) x fs → Again record_at x (record_kind n & fs)
-record_case n x fs h = again_case 0 LAST_RECORD (omega arith) record_cases (Chosen 0 LAST_RECORD record_fields) record_each n x fs h
+-- a record is read only from its fields, and where reading stops the first fields of some record end
+pub record_only : Only record_at (λ r fs. fs ≡ record_fields r)
+record_only = only_step (byte_exact 0 LAST_RECORD (omega arith)) (λ n. nth_case (n - 0) record_cases) (λ r fs. fs ≡ record_fields r) (λ n fits.
+    let h = byte_bounds 0 LAST_RECORD n fits in
+    let all : length record_cases ≡ suc LAST_RECORD = refl in
+    only_case record_cases 0 (n - 0) n (Chosen 0 LAST_RECORD record_fields) record_each (omega arith) (omega arith))
 
-record_again : (x : JournalRecord) → Again record_at x (record_fields x)
-record_again (Format a b) = record_case 0 (Format a b) _ (format_again a b)
-record_again (Verb a) = record_case 1 (Verb a) _ (again1 item_exact Verb a)
-record_again (Operator a b c) = record_case 2 (Operator a b c) _ (again3 u32_exact moment_exact act_exact Operator a b c)
-record_again (Cycle a b c) = record_case 3 (Cycle a b c) _ (again3 u32_exact moment_exact ask_exact Cycle a b c)
-record_again (Snapshot a b c) = record_case 4 (Snapshot a b c) _ (again4 u32_exact aliases_exact (any_counted filter_exact) (any_counted row_exact) snapshot_of a b.aliases b.filters c)
+-- ---- the kinds, with any reader of the last
 
-pub record_exact : Exact record_at record_fields
-record_exact = choice_exact 0 LAST_RECORD (omega arith) record_cases refl record_fields record_again record_each
+abbrev pub cases_with : Reader JournalRecord → List (Reader JournalRecord)
+cases_with last =
+    format_at
+    ∷ read1 Verb item_at
+    ∷ read3 Operator u32_at moment_at act_at
+    ∷ read3 Cycle u32_at moment_at cycle_ask_at
+    ∷ snapshot_at (any_list_at filter_at)
+    ∷ read1 Upgrade moment_at
+    ∷ last
+    ∷ []
+
+abbrev pub record_with : Reader JournalRecord → Reader JournalRecord
+record_with last = choice_at 0 LAST_RECORD (cases_with last)
+
+each_with : (last : Reader JournalRecord) → Only last (λ r fs. Unit {0}) → EachCase 0 (cases_with last) (λ n r fs. Unit {0})
+each_with last h = (
+  only_weaker format_only _ (λ c fs q. tt),
+  (
+    only1 item_exact Verb _ (λ a. tt),
+    (
+      only3 u32_exact moment_exact act_exact Operator _ (λ a b c. tt),
+      (
+        only3 u32_exact moment_exact ask_exact Cycle _ (λ a b c. tt),
+        (
+          only_weaker body_snapshot_only _ (λ c fs q. tt),
+          (only1 moment_exact Upgrade _ (λ a. tt), (h, tt)),
+        ),
+      ),
+    ),
+  ),
+)
+
+case_with : (last : Reader JournalRecord) → Only last (λ r fs. Unit {0}) → (n : ℕ) (x : JournalRecord) (fs : List Field) → Again (nth_case (n - 0) (cases_with last)) x fs → Again (record_with last) x (record_kind n & fs)
+case_with last only n x fs h = again_case 0 LAST_RECORD (omega arith) (cases_with last) (λ n r fs. Unit {0}) (each_with last only) n x fs h
+
+-- the filters of a snapshot, and of no other record
+abbrev pub has_scopes : JournalRecord → Bool
+has_scopes (Snapshot items conf rows) = not (are_of_body conf.filters)
+has_scopes _ = false
+
+all_of_body : (b : Bool) → not b ≡ false → b ≡ true
+all_of_body true h = refl
+all_of_body false h = absurd cc
+
+pub again_with : (last : Reader JournalRecord) → Only last (λ r fs. Unit {0}) → (x : JournalRecord) → has_scopes x ≡ false → Again (record_with last) x (record_fields x)
+again_with last only (Format a b) h = case_with last only 0 (Format a b) _ (format_again a b)
+again_with last only (Verb a) h = case_with last only 1 (Verb a) _ (again1 item_exact Verb a)
+again_with last only (Operator a b c) h = case_with last only 2 (Operator a b c) _ (again3 u32_exact moment_exact act_exact Operator a b c)
+again_with last only (Cycle a b c) h = case_with last only 3 (Cycle a b c) _ (again3 u32_exact moment_exact ask_exact Cycle a b c)
+again_with last only (Snapshot items conf rows) h =
+    subst (λ (fs : List Field). Again (record_with last) (Snapshot items conf rows) fs) (of_the_whole_text items conf.aliases conf.filters rows (all_of_body (are_of_body conf.filters) h))
+    (case_with last only 4 (Snapshot items conf rows) _ (again4 u32_exact aliases_exact body_list_exact rows_exact snapshot_of items conf.aliases conf.filters rows))
+again_with last only (Upgrade a) h = case_with last only 5 (Upgrade a) _ (again1 moment_exact Upgrade a)
+
+-- ---- the last kind, whatever the scopes of its filters are
+
+abbrev pub any_scopes_at : Reader JournalRecord
+any_scopes_at = snapshot_at (any_list_at (scoped_at scope_at))
+
+any_scopes_only : Only any_scopes_at (λ r fs. Unit {0})
+any_scopes_only = only4 u32_exact aliases_exact scoped_list_exact rows_exact snapshot_of _ (λ a b c d. tt)
+
+pub some_other : (b : Bool) → not b ≡ true → b ≡ false
+some_other true h = absurd cc
+some_other false h = refl
+
+-- each record is read so, and the first of its fields that are there are passed
+pub plain_again : (x : JournalRecord) → Again (record_with any_scopes_at) x (record_fields x)
+plain_again x = by_scopes x (has_scopes x) refl
+  where
+    scoped : (x : JournalRecord) → has_scopes x ≡ true → Again (record_with any_scopes_at) x (record_fields x)
+    scoped (Snapshot items conf rows) h =
+        subst (λ (fs : List Field). Again (record_with any_scopes_at) (Snapshot items conf rows) fs) (with_scopes items conf.aliases conf.filters rows (some_other (are_of_body conf.filters) h))
+        (case_with any_scopes_at any_scopes_only 6 (Snapshot items conf rows) _ (again4 u32_exact aliases_exact scoped_list_exact rows_exact snapshot_of items conf.aliases conf.filters rows))
+    scoped (Format a b) h = absurd cc
+    scoped (Verb a) h = absurd cc
+    scoped (Operator a b c) h = absurd cc
+    scoped (Cycle a b c) h = absurd cc
+    scoped (Upgrade a) h = absurd cc
+
+    by_scopes : (x : JournalRecord) (t : Bool) → has_scopes x ≡ t → Again (record_with any_scopes_at) x (record_fields x)
+    by_scopes x true h = scoped x h
+    by_scopes x false h = again_with any_scopes_at any_scopes_only x h

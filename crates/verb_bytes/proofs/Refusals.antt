@@ -6,19 +6,20 @@ use Rattle.verb_bytes.specs.declared.decode.BadBytes.TheVariants.{Place, NoMemor
 use Rattle.verb_bytes.specs.declared.journal.JournalRecord.{JournalRecord}
 use Rattle.verb_bytes.specs.Fields.{Field, bytes_of, are_in_range}
 use Rattle.verb_bytes.specs.Spelling.{Spells, record_bytes, record_fields}
-use Rattle.verb_bytes.specs.Decoding.{Reaches, IsRefusedAt, IsSpelled, IsRefused, IsBytes, Decodes, IsThis}
+use Rattle.verb_bytes.specs.Decoding.{LacksScopes, Reaches, IsRefusedAt, IsSpelled, IsRefused, IsBytes, Decodes, IsThis}
 use Rattle.verb_bytes.specs.Reading.{from_start, refused_behind, first_refused, record_at, AnswersAll}
 use Rattle.verb_bytes.proofs.Exact.{ok_is, left_of}
-use Rattle.verb_bytes.proofs.RecordLaws.{record_exact}
+use Rattle.verb_bytes.proofs.RecordLaws.{any_scopes_at, plain_again, record_only, record_with}
+use Rattle.verb_bytes.proofs.Lacking.{lacking_ends, plain_or_lacking, record_reads}
 
 -- what is spelled is read, with nothing behind it
 spelled_is_read : (x : JournalRecord) (bytes : List ℕ) → Spells x bytes → record_at bytes ≡ Ok (x, [])
-spelled_is_read x bytes s = ap record_at (s.1 ∙ sym (append-nil (record_bytes x))) ∙ (record_exact.again x).reads [] s.0
+spelled_is_read x bytes s = ap record_at (s.1 ∙ sym (append-nil (record_bytes x))) ∙ record_reads x [] s.0
 
 -- what is read with nothing behind it was spelled
 read_was_spelled : (x : JournalRecord) (bytes : List ℕ) → IsBytes bytes → record_at bytes ≡ Ok (x, []) → Spells x bytes
 read_was_spelled x bytes fits e =
-    let t = record_exact.only.takes bytes [] x fits e in
+    let t = record_only.takes bytes [] x fits e in
     (subst (λ (fs : List Field). are_in_range fs ≡ true) t.2 t.1.fits, t.1.parts ∙ append-nil (bytes_of t.0) ∙ ap bytes_of t.2)
 
 -- bytes spell one record at most
@@ -34,9 +35,12 @@ spelled_is_accepted x bytes s = ap (λ (r : Result (JournalRecord × List ℕ) �
 reaches : (bytes : List ℕ) → IsBytes bytes → Reaches bytes (length bytes - left_of (record_at bytes))
 reaches bytes fits = by_result (record_at bytes) refl
   where
+    before_list : (list : ℕ) → LacksScopes bytes list → (r : Result (JournalRecord × List ℕ) ℕ) → record_at bytes ≡ r → length bytes - left_of r ≤ list
+    before_list list lacking r e = let ends = lacking_ends bytes list lacking in let same : left_of (record_at bytes) ≡ left_of r = ap left_of e in omega arith
+
     by_result : (r : Result (JournalRecord × List ℕ) ℕ) → record_at bytes ≡ r → Reaches bytes (length bytes - left_of r)
     by_result (Err left) e =
-        let s = record_exact.only.stops bytes left fits e in
+        let s = record_only.stops bytes left fits e in
         let long : length bytes ≡ length (bytes_of s.front ++ s.rest) = ap length s.parts in
         let left_is : length s.rest ≡ left = s.left_is in
         record {
@@ -48,9 +52,10 @@ reaches bytes fits = by_result (record_at bytes) refl
           rest = s.rest;
           begins = s.parts;
           ends = omega (arith, length-append (bytes_of s.front) s.rest);
+          lists = λ list lacking. before_list list lacking (Err left) e;
         }
     by_result (Ok p) e =
-        let t = record_exact.only.takes bytes p.1 p.0 fits e in
+        let t = record_only.takes bytes p.1 p.0 fits e in
         let begins : bytes ≡ bytes_of (record_fields p.0) ++ p.1 = t.1.parts ∙ ap (λ (fs : List Field). bytes_of fs ++ p.1) t.2 in
         let long : length bytes ≡ length (bytes_of (record_fields p.0) ++ p.1) = ap length begins in
         record {
@@ -62,15 +67,24 @@ reaches bytes fits = by_result (record_at bytes) refl
           rest = p.1;
           begins = begins;
           ends = omega (arith, length-append (bytes_of (record_fields p.0)) p.1);
+          lists = λ list lacking. before_list list lacking (Ok p) e;
         }
 
 -- no record's first fields reach further
 reaches_most : (bytes : List ℕ) → IsBytes bytes → (other : ℕ) → Reaches bytes other → other ≤ length bytes - left_of (record_at bytes)
 reaches_most bytes fits other r =
-    let most : left_of (record_at bytes) ≤ length r.rest = (record_exact.again r.what).passes r.front r.back bytes r.rest fits r.has_spelling r.fields r.begins in
-    let long : length bytes ≡ length (bytes_of r.front ++ r.rest) = ap length r.begins in
-    let ends : length (bytes_of r.front) ≡ other = r.ends in
-    omega (arith, length-append (bytes_of r.front) r.rest)
+    elim (plain_or_lacking bytes fits) [
+      | inl plain ↦
+          let most : left_of (record_with any_scopes_at bytes) ≤ length r.rest = (plain_again r.what).passes r.front r.back bytes r.rest fits r.has_spelling r.fields r.begins in
+          let same : left_of (record_at bytes) ≡ left_of (record_with any_scopes_at bytes) = ap left_of plain in
+          let long : length bytes ≡ length (bytes_of r.front ++ r.rest) = ap length r.begins in
+          let ends : length (bytes_of r.front) ≡ other = r.ends in
+          omega (arith, length-append (bytes_of r.front) r.rest)
+      | inr lacking ↦
+          let le : other ≤ lacking.0 = r.lists lacking.0 lacking.1 in
+          let ends = lacking_ends bytes lacking.0 lacking.1 in
+          omega arith
+    ]
 
 refused_where : (count : ℕ) (r : Result (JournalRecord × List ℕ) ℕ) (place : ℕ) → from_start count (refused_behind r) ≡ Some place → place ≡ count - left_of r
 refused_where count (Err left) place e = cc

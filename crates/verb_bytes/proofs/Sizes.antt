@@ -7,7 +7,7 @@ use Rattle.std.proofs.lemmas.List.Concat.{flat_map-append}
 use Rattle.undo_base.specs.declared.keys.Key.{Key}
 use Rattle.undo_base.specs.declared.keys.User.{User}
 use Rattle.verb_bytes.specs.declared.write.TheConstants.{LAST_USER}
-use Rattle.verb_bytes.specs.Fields.{Field, most_of_four, bytes_of, byte_field, number_field, name_field, text_field, key_field, user_field, u32_field}
+use Rattle.verb_bytes.specs.Fields.{Field, most_of_four, bytes_of, byte_field, number_field, name_field, field_name_field, text_field, key_field, user_field, u32_field}
 use Rattle.verb_bytes.specs.Places.{size_of, before_deed, before_act, before_ask}
 use Rattle.verb_bytes.specs.declared.places.TextPlace.{TextPlace}
 
@@ -35,6 +35,10 @@ pub size_name : (bytes : List ℕ) → size_of (name_field bytes) ≡ 1 + length
 unfolding size_of bytes_of name_field
 size_name bytes = omega (arith, length-append bytes [])
 
+pub size_field_name : (bytes : List ℕ) → size_of (field_name_field bytes) ≡ 1 + length bytes
+unfolding size_of bytes_of field_name_field
+size_field_name bytes = omega (arith, length-append bytes [])
+
 pub size_text : (most : ℕ) (bytes : List ℕ) → size_of (text_field most bytes) ≡ 4 + length bytes
 unfolding size_of bytes_of text_field
 size_text most bytes = omega (arith, length-append bytes [])
@@ -51,13 +55,13 @@ pub size_numbers : (ns : List ℕ) → size_of (flat_map u32_field ns) ≡ 4 * l
 size_numbers [] = size_none
 size_numbers (n ∷ ns) = omega (arith, size_both (u32_field n) (flat_map u32_field ns), size_u32 most_of_four n, size_numbers ns)
 
-pub ruleset sizes = (size_both, size_none, size_byte, size_u32, size_u64, size_name, size_text, size_key, size_users, size_numbers)
+pub ruleset sizes = (size_both, size_none, size_byte, size_u32, size_u64, size_name, size_field_name, size_text, size_key, size_users, size_numbers)
 
 -- no text
 pub no_place : (places : List TextPlace) → places ++ [] ≡ places
 no_place places = append-nil places
 
-pub ruleset act_sizes = (size_both, size_none, size_byte, size_u32, size_u64, size_name, size_text, size_key, size_users, size_numbers, no_place)
+pub ruleset act_sizes = (size_both, size_none, size_byte, size_u32, size_u64, size_name, size_field_name, size_text, size_key, size_users, size_numbers, no_place)
 
 -- ---- before a text
 

@@ -6,6 +6,7 @@ use Rattle.undo_base.specs.declared.keys.User.{User}
 use Rattle.undo_base.specs.declared.keys.Key.{Key}
 use Rattle.undo_base.specs.declared.keys.Flags.{Flags}
 use Rattle.undo_base.specs.Name.{first_unprintable}
+use Rattle.header_fields.specs.Values.{is_field_name}
 use Rattle.undo_base.specs.declared.limits.TheConstants.{LAST_MOMENT, MOST_NAME}
 use Rattle.verb_bytes.specs.declared.kinds.TheConstants.{LAST_RECORD, LAST_ACT, LAST_DEED}
 use Rattle.verb_bytes.specs.declared.write.TheConstants.{ALL_FLAGS, LAST_USER, MOST_BODY, NOBODY}
@@ -57,6 +58,10 @@ is_name bytes = nat_le 1 (length bytes) && nat_le (length bytes) MOST_NAME && is
 -- its length in one byte, and the bytes of the name
 unfoldable pub name_field : List ℕ → List Field
 name_field bytes = field (is_name bytes) (length bytes ∷ bytes)
+
+-- the same of the name of a header field: 1 to 64 letters, digits, `-` and `_`
+unfoldable pub field_name_field : List ℕ → List Field
+field_name_field bytes = field (is_field_name bytes) (length bytes ∷ bytes)
 
 -- its length in four bytes, and the bytes of the text
 unfoldable pub text_field : ℕ → List ℕ → List Field

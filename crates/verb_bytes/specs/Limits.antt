@@ -1,15 +1,18 @@
 -- What gives each record its spelling, in plain facts.
-use Rattle.std.specs.Prelude.{◌≡◌, ℕ, ◌<◌, ◌≤◌, List, [], length, None, IfSome}
+use Rattle.std.specs.Prelude.{◌≡◌, ℕ, ◌<◌, ◌≤◌, List, [], length, None, IfSome, IsTrue}
 use Rattle.std.specs.List.{AllByRecursion}
 use Rattle.undo_base.specs.declared.keys.User.{User}
 use Rattle.undo_base.specs.declared.keys.Key.{Key}
 use Rattle.undo_base.specs.Name.{IsName}
+use Rattle.header_fields.specs.Values.{is_field_name}
 use Rattle.undo_base.specs.declared.limits.TheConstants.{LAST_MOMENT, MOST_KEYS, MOST_RECIPIENTS, MOST_USERS}
 use Rattle.verb_core.specs.declared.conf.Account.{Account}
 use Rattle.verb_core.specs.declared.conf.Alias.{Alias}
 use Rattle.verb_core.specs.declared.conf.Filter.{Filter}
 use Rattle.verb_core.specs.declared.conf.House.{House}
 use Rattle.verb_core.specs.declared.conf.Conf.{Conf}
+use Rattle.verb_core.specs.declared.conf.Scope.{Scope}
+use Rattle.verb_core.specs.declared.conf.Scope.TheVariants.{Body, Field, Sender, Recipient}
 use Rattle.verb_core.specs.declared.mailbox.Entry.{Entry}
 use Rattle.verb_core.specs.declared.mailbox.Mailbox.{Mailbox}
 use Rattle.verb_core.specs.declared.mailbox.BoxId.{BoxId}
@@ -77,8 +80,15 @@ pub record AreFew {A : Type 0} (P : A → Type 0) (xs : List A) : Type 0 where
 abbrev pub AreKeys : List Key → Type 0
 AreKeys ks = AreFew IsKey ks
 
+-- a header field of a name that can be asked for, or another scope
+abbrev pub IsScope : Scope → Type 0
+IsScope Body = Unit {0}
+IsScope (Field name) = IsTrue (is_field_name name)
+IsScope Sender = Unit {0}
+IsScope Recipient = Unit {0}
+
 abbrev pub IsFilter : Filter → Type 0
-IsFilter f = IsName f.id × IsName f.needle × IfSome f.file IsName
+IsFilter f = IsName f.id × IsName f.needle × IfSome f.file IsName × IsScope f.scope
 
 -- an act of the operator: its names are names, its users are users, and its text can be stored
 abbrev pub IsAct : Act → Type 0

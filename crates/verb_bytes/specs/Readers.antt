@@ -9,6 +9,7 @@ use Rattle.verb_bytes.specs.declared.cursor.Stop.TheVariants.{At, NoMemory}
 use Rattle.undo_base.specs.declared.limits.TheConstants.{LAST_MOMENT}
 use Rattle.verb_bytes.specs.declared.kinds.TheConstants.{LAST_RECORD, LAST_ACT, LAST_DEED}
 use Rattle.verb_bytes.specs.declared.write.TheConstants.{ALL_FLAGS, LAST_USER, NOBODY}
+use Rattle.header_fields.specs.Values.{is_field_name}
 use Rattle.verb_bytes.specs.Fields.{is_name, most_of_four}
 
 -- what is read at the front and the bytes behind it; or how many bytes are left from the first field on that is cut or
@@ -40,9 +41,10 @@ find_byte least most (n ∷ rest) = when (nat_le least n && nat_le n most) (n, r
 abbrev pub find_number : Width → ℕ → List ℕ → Option (ℕ × List ℕ)
 find_number w most bytes = option_and_then (λ (p : List ℕ × List ℕ). when (nat_le (from_be_bytes w p.0) most) (from_be_bytes w p.0, p.1)) (cut (byte_len w) bytes)
 
-abbrev pub find_name : List ℕ → Option (List ℕ × List ℕ)
-find_name [] = None
-find_name (n ∷ rest) = option_and_then (λ (p : List ℕ × List ℕ). when (is_name p.0) p) (cut n rest)
+-- bytes behind their length in one byte, where they pass the test
+abbrev pub find_short : (List ℕ → Bool) → List ℕ → Option (List ℕ × List ℕ)
+find_short test [] = None
+find_short test (n ∷ rest) = option_and_then (λ (p : List ℕ × List ℕ). when (test p.0) p) (cut n rest)
 
 abbrev pub find_text : ℕ → List ℕ → Option (List ℕ × List ℕ)
 find_text most bytes = option_and_then (λ (n : ℕ × List ℕ). cut n.0 n.1) (find_number w32 most bytes)
@@ -68,7 +70,10 @@ unfoldable pub number_at : Width → ℕ → Reader ℕ
 number_at w most = field_at (find_number w most)
 
 unfoldable pub name_at : Reader (List ℕ)
-name_at = field_at find_name
+name_at = field_at (find_short is_name)
+
+unfoldable pub field_name_at : Reader (List ℕ)
+field_name_at = field_at (find_short is_field_name)
 
 unfoldable pub text_at : ℕ → Reader (List ℕ)
 text_at most = field_at (find_text most)
@@ -92,6 +97,14 @@ first >>= next = λ bytes. and_then (first bytes) next
 -- a value that no byte stands for
 abbrev pub done : {A : Type 0} → A → Reader A
 done x = λ bytes. Ok (x, bytes)
+
+-- what was read, where the test passes at it; else it is refused where it begins, with so many bytes left
+abbrev pub kept_if : {A : Type 0} → (A → Bool) → ℕ → Result (A × List ℕ) ℕ → Result (A × List ℕ) ℕ
+kept_if test left (Err at) = Err at
+kept_if test left (Ok x) = if test x.0 then Ok x else Err left
+
+abbrev pub such_that : {A : Type 0} → (A → Bool) → Reader A → Reader A
+such_that test one = λ bytes. kept_if test (length bytes) (one bytes)
 
 -- nothing can be read here
 abbrev pub refused : {A : Type 0} → Reader A

@@ -1,5 +1,5 @@
 -- How the code reads each record, from left to right. What it answers is said in Decoding, without this.
-use Rattle.std.specs.Prelude.{◌≡◌, ℕ, ◌-◌, List, [], ◌∷◌, length, Option, Some, None, Result, Ok, Err}
+use Rattle.std.specs.Prelude.{◌≡◌, ℕ, ◌-◌, not, List, [], ◌∷◌, length, Option, Some, None, Result, Ok, Err}
 use Rattle.undo_base.specs.declared.keys.Key.{Key}
 use Rattle.undo_base.specs.declared.keys.User.{User}
 use Rattle.undo_base.specs.declared.keys.Flags.{Flags}
@@ -9,6 +9,9 @@ use Rattle.undo_base.specs.declared.limits.TheConstants.{MOST_KEYS, MOST_RECIPIE
 use Rattle.verb_core.specs.declared.conf.Account.{Account}
 use Rattle.verb_core.specs.declared.conf.Alias.{Alias}
 use Rattle.verb_core.specs.declared.conf.Filter.{Filter}
+use Rattle.verb_core.specs.declared.conf.Scope.{Scope}
+use Rattle.verb_core.specs.declared.conf.Scope.TheVariants.{Body, Field, Sender, Recipient}
+use Rattle.verb_core.specs.Filters.{are_of_body}
 use Rattle.verb_core.specs.declared.mailbox.Entry.{Entry}
 use Rattle.verb_core.specs.declared.mailbox.Mailbox.{Mailbox}
 use Rattle.verb_core.specs.declared.mailbox.BoxId.{BoxId}
@@ -24,7 +27,7 @@ use Rattle.verb_core.specs.declared.item.Shown.{Shown}
 use Rattle.verb_core.specs.declared.item.Shown.TheVariants.{Nothing, Seen, Names as Named, Count, Done, Copied, Put, Left, Way as Went, Moved}
 use Rattle.verb_bytes.specs.declared.journal.CycleAsk.{CycleAsk}
 use Rattle.verb_bytes.specs.declared.journal.JournalRecord.{JournalRecord}
-use Rattle.verb_bytes.specs.declared.journal.JournalRecord.TheVariants.{Format, Verb, Operator, Cycle, Snapshot}
+use Rattle.verb_bytes.specs.declared.journal.JournalRecord.TheVariants.{Format, Verb, Operator, Cycle, Snapshot, Upgrade}
 use Rattle.verb_bytes.specs.declared.decode.BadBytes.{BadBytes}
 use Rattle.verb_bytes.specs.declared.decode.BadBytes.TheVariants.{Place, NoMemory}
 use Rattle.verb_bytes.specs.declared.kinds.TheConstants.{LAST_RECORD, LAST_ACT, LAST_DEED}
@@ -32,7 +35,7 @@ use Rattle.verb_bytes.specs.declared.write.TheConstants.{MOST_BODY}
 use Rattle.verb_bytes.specs.Fields.{most_of_four, most_of_eight}
 use Rattle.verb_bytes.specs.Spelling.{shown_kind}
 use Rattle.std.specs.Int.{w64}
-use Rattle.verb_bytes.specs.Readers.{Reader, done, ◌>>=◌, read1, read2, read3, read4, read5, read6, list_at, nth_case, choice_at, byte_at, option_at, bool_at, name_at, text_at, key_at, actor_at, number_at, u32_at, moment_at, flags_at, user_at}
+use Rattle.verb_bytes.specs.Readers.{Reader, done, ◌>>=◌, read1, read2, read3, read4, read5, read6, list_at, nth_case, choice_at, byte_at, option_at, bool_at, such_that, name_at, field_name_at, text_at, key_at, actor_at, number_at, u32_at, moment_at, flags_at, user_at}
 
 abbrev pub any_list_at : {A : Type 0} → Reader A → Reader (List A)
 any_list_at one = list_at most_of_four one
@@ -66,11 +69,30 @@ alias_at = read2 alias_of name_at (any_list_at user_at)
 abbrev pub aliases_at : Reader (List Alias)
 aliases_at = any_list_at alias_at
 
-abbrev pub filter_of : List ℕ → List ℕ → Option (List ℕ) → Filter
-filter_of i n f = record { id = i; needle = n; file = f }
+abbrev pub filter_of : List ℕ → List ℕ → Option (List ℕ) → Scope → Filter
+filter_of i n f s = record { id = i; needle = n; file = f; scope = s }
 
+-- a filter, behind whose other fields its scope is read
+abbrev pub scoped_at : Reader Scope → Reader Filter
+scoped_at scope = read4 filter_of name_at name_at (option_at name_at) scope
+
+-- one of the whole text
 abbrev pub filter_at : Reader Filter
-filter_at = read3 filter_of name_at name_at (option_at name_at)
+filter_at = scoped_at (done Body)
+
+abbrev pub other_scopes : List (Reader Scope)
+other_scopes = read1 Field field_name_at ∷ done Sender ∷ done Recipient ∷ []
+
+-- any scope, and one of no whole text
+abbrev pub scope_at : Reader Scope
+scope_at = choice_at 0 3 (done Body ∷ other_scopes)
+
+abbrev pub other_scope_at : Reader Scope
+other_scope_at = choice_at 1 3 other_scopes
+
+-- filters of which some looks at less than the whole text
+abbrev pub scoped_filters_at : Reader (List Filter)
+scoped_filters_at = such_that (λ fs. not (are_of_body fs)) (any_list_at (scoped_at scope_at))
 
 -- ---- mailboxes
 
@@ -154,6 +176,7 @@ act_cases =
     ∷ read1 DropFilter name_at
     ∷ read3 Remove user_at name_at key_at
     ∷ read3 Give user_at name_at body_at
+    ∷ read1 SetFilter (scoped_at other_scope_at)
     ∷ []
 
 abbrev pub act_at : Reader Act
@@ -182,8 +205,8 @@ format_at = read6 format_of name_at (any_list_at name_at) u32_at (list_at MOST_U
 abbrev pub snapshot_of : ℕ → List Alias → List Filter → List (BoxId × Mailbox) → JournalRecord
 snapshot_of i a f r = Snapshot i (record { aliases = a; filters = f }) r
 
-abbrev pub snapshot_at : Reader JournalRecord
-snapshot_at = read4 snapshot_of u32_at aliases_at (any_list_at filter_at) (any_list_at row_at)
+abbrev pub snapshot_at : Reader (List Filter) → Reader JournalRecord
+snapshot_at filters = read4 snapshot_of u32_at aliases_at filters (any_list_at row_at)
 
 abbrev pub record_cases : List (Reader JournalRecord)
 record_cases =
@@ -191,7 +214,9 @@ record_cases =
     ∷ read1 Verb item_at
     ∷ read3 Operator u32_at moment_at act_at
     ∷ read3 Cycle u32_at moment_at cycle_ask_at
-    ∷ snapshot_at
+    ∷ snapshot_at (any_list_at filter_at)
+    ∷ read1 Upgrade moment_at
+    ∷ snapshot_at scoped_filters_at
     ∷ []
 
 abbrev pub record_at : Reader JournalRecord

@@ -1,5 +1,5 @@
 -- The fields of each record, in order, and the one spelling that they make.
-use Rattle.std.specs.Prelude.{◌≡◌, ℕ, false, ◌==◌, List, IsTrue}
+use Rattle.std.specs.Prelude.{◌≡◌, ℕ, false, ◌==◌, List, if◌then◌else◌, IsTrue}
 use Rattle.undo_base.specs.declared.keys.Key.{Key}
 use Rattle.undo_base.specs.declared.asks.How.{How}
 use Rattle.undo_base.specs.declared.asks.How.TheVariants.{Replace, Add, Take}
@@ -8,6 +8,8 @@ use Rattle.verb_core.specs.declared.conf.Account.{Account}
 use Rattle.verb_core.specs.declared.conf.Alias.{Alias}
 use Rattle.verb_core.specs.declared.conf.Filter.{Filter}
 use Rattle.verb_core.specs.declared.conf.House.{House}
+use Rattle.verb_core.specs.declared.conf.Scope.{Scope}
+use Rattle.verb_core.specs.declared.conf.Scope.TheVariants.{Body, Field as HeaderField, Sender, Recipient}
 use Rattle.verb_core.specs.declared.conf.Conf.{Conf}
 use Rattle.verb_core.specs.declared.mailbox.Entry.{Entry}
 use Rattle.verb_core.specs.declared.mailbox.Mailbox.{Mailbox}
@@ -23,11 +25,12 @@ use Rattle.verb_core.specs.declared.item.Deed.TheVariants.{Deliver, Append, Fetc
 use Rattle.verb_core.specs.declared.item.Shown.{Shown}
 use Rattle.verb_core.specs.declared.item.Shown.TheVariants.{Nothing, Seen, Names as Named, Count, Done, Copied, Put, Left, Way as Went, Moved}
 use Rattle.verb_core.specs.Names.{is_empty}
+use Rattle.verb_core.specs.Filters.{is_of_body, are_of_body}
 use Rattle.verb_bytes.specs.declared.journal.CycleAsk.{CycleAsk}
 use Rattle.verb_bytes.specs.declared.journal.JournalRecord.{JournalRecord}
-use Rattle.verb_bytes.specs.declared.journal.JournalRecord.TheVariants.{Format, Verb, Operator, Cycle, Snapshot}
+use Rattle.verb_bytes.specs.declared.journal.JournalRecord.TheVariants.{Format, Verb, Operator, Cycle, Snapshot, Upgrade}
 use Rattle.verb_bytes.specs.declared.write.TheConstants.{MOST_BODY}
-use Rattle.verb_bytes.specs.Fields.{Field, bytes_of, are_in_range, ◌&◌, only_if, byte_field, name_field, text_field, key_field, list_fields, option_fields, bool_field, flags_field, u32_field, u64_field, moment_field, any_text_field, body_field, user_field, actor_field, any_list_fields, record_kind, act_kind, deed_kind}
+use Rattle.verb_bytes.specs.Fields.{Field, bytes_of, are_in_range, ◌&◌, only_if, byte_field, name_field, field_name_field, text_field, key_field, list_fields, option_fields, bool_field, flags_field, u32_field, u64_field, moment_field, any_text_field, body_field, user_field, actor_field, any_list_fields, record_kind, act_kind, deed_kind}
 
 -- the keys of an item
 abbrev pub key_list : List Key → List Field
@@ -44,8 +47,20 @@ alias_fields a = name_field a.local & any_list_fields user_field a.users
 abbrev pub aliases_fields : List Alias → List Field
 aliases_fields as_ = any_list_fields alias_fields as_
 
+-- a filter but for its scope: one of the whole text
 abbrev pub filter_fields : Filter → List Field
 filter_fields f = name_field f.id & name_field f.needle & option_fields name_field f.file
+
+-- what a filter looks at, where the byte is at least this: 0 where it may be the whole text, 1 where it may not
+abbrev pub scope_fields : ℕ → Scope → List Field
+scope_fields least Body = byte_field least 3 0
+scope_fields least (HeaderField name) = byte_field least 3 1 & field_name_field name
+scope_fields least Sender = byte_field least 3 2
+scope_fields least Recipient = byte_field least 3 3
+
+-- a filter with its scope behind it
+abbrev pub scoped_fields : ℕ → Filter → List Field
+scoped_fields least f = filter_fields f & scope_fields least f.scope
 
 -- ---- mailboxes
 
@@ -132,7 +147,7 @@ item_fields i = u32_field i.number & moment_field i.at & actor_field i.by & deed
 abbrev pub act_fields : Act → List Field
 act_fields (SetAlias local users) = act_kind 1 & name_field local & any_list_fields user_field users
 act_fields (DropAlias local) = act_kind 2 & name_field local
-act_fields (SetFilter f) = act_kind 3 & filter_fields f
+act_fields (SetFilter f) = if is_of_body f.scope then act_kind 3 & filter_fields f else act_kind 7 & scoped_fields 1 f
 act_fields (DropFilter id) = act_kind 4 & name_field id
 act_fields (Remove u mailbox k) = act_kind 5 & user_field u & name_field mailbox & key_field k
 act_fields (Give u mailbox text) = act_kind 6 & user_field u & name_field mailbox & body_field text
@@ -150,12 +165,23 @@ ask_fields ask = name_field ask.key & u32_field ask.point & any_list_fields u32_
 abbrev pub house_fields : House → Conf → List Field
 house_fields h conf = name_field h.host & any_list_fields name_field h.domains & u32_field h.first & list_fields MOST_USERS account_fields h.accounts & user_field h.postmaster & aliases_fields conf.aliases & only_if (is_empty conf.filters)
 
+-- a store, with the fields of its filters
+abbrev pub store_fields : (Filter → List Field) → ℕ → Conf → List (BoxId × Mailbox) → List Field
+store_fields fields items conf rows = u32_field items & aliases_fields conf.aliases & any_list_fields fields conf.filters & any_list_fields row_fields rows
+
+-- a snapshot is of one kind where each filter looks at the whole text, and of another where some filter does not
+abbrev pub snapshot_fields : ℕ → Conf → List (BoxId × Mailbox) → List Field
+snapshot_fields items conf rows =
+    if are_of_body conf.filters then record_kind 4 & store_fields filter_fields items conf rows
+    else record_kind 6 & store_fields (scoped_fields 0) items conf rows
+
 abbrev pub record_fields : JournalRecord → List Field
 record_fields (Format h conf) = record_kind 0 & house_fields h conf
 record_fields (Verb i) = record_kind 1 & item_fields i
 record_fields (Operator number at a) = record_kind 2 & u32_field number & moment_field at & act_fields a
 record_fields (Cycle number at ask) = record_kind 3 & u32_field number & moment_field at & ask_fields ask
-record_fields (Snapshot items conf rows) = record_kind 4 & u32_field items & aliases_fields conf.aliases & any_list_fields filter_fields conf.filters & any_list_fields row_fields rows
+record_fields (Snapshot items conf rows) = snapshot_fields items conf rows
+record_fields (Upgrade at) = record_kind 5 & moment_field at
 
 -- each of its fields is in its range
 abbrev pub HasSpelling : JournalRecord → Type 0

@@ -2,11 +2,14 @@
 ghost use Rattle.std.specs.Prelude.{◌≤◌, ◌-◌};
 ghost use Rattle.verb_core.specs.declared.item.Act.TheVariants.{SetAlias, DropAlias, SetFilter, DropFilter, Remove, Give};
 ghost use Rattle.verb_bytes.specs.Readers.{Gives, nth_case, read1, read2, read3, name_at, user_at, key_at};
-ghost use Rattle.verb_bytes.specs.Reading.{act_cases, any_list_at, filter_at, body_at};
+ghost use Rattle.verb_bytes.specs.Reading.{act_cases, any_list_at, filter_at, scoped_at, other_scope_at, body_at};
+ghost use Rattle.verb_bytes.specs.Spelling.{act_fields};
+ghost use Rattle.verb_bytes.specs.Writing.{Puts};
 
 use crate::cursor::{Cursor, Stop};
 use crate::kinds::{LAST_ACT, put_act_kind, read_act_kind};
 use crate::part::{Part, put_list, read_list};
+use crate::scopes::{put_scoped, read_scoped_but_body};
 use crate::write::{MOST_BODY, Unwritten, put_key, put_name, put_text, put_user};
 use std::alloc::Global;
 use undo_base::Text;
@@ -32,10 +35,7 @@ impl Part for Act {
                 put_act_kind(out, 2)?;
                 put_name(out, local)
             }
-            Act::SetFilter(filter) => {
-                put_act_kind(out, 3)?;
-                filter.put(out)
-            }
+            Act::SetFilter(filter) => put_set_filter(filter, out),
             Act::DropFilter { id } => {
                 put_act_kind(out, 4)?;
                 put_name(out, id)
@@ -65,6 +65,20 @@ impl Part for Act {
     }
 }
 
+/// A filter of the whole text is one act, and one of another scope is another.
+#[tactic(auto, using(crate::proofs::Puts::list_steps))]
+fn put_set_filter(filter: &Filter, out: &mut Text) -> Result<(), Unwritten>
+    ensures { Puts (act_fields (SetFilter filter.now)) out.old out.new result }
+{
+    if filter.scope.is_of_body() {
+        put_act_kind(out, 3)?;
+        filter.put(out)
+    } else {
+        put_act_kind(out, 7)?;
+        put_scoped(1, filter, out)
+    }
+}
+
 fn read_case(alloc: Global, kind: u8, cursor: &mut Cursor<'_>) -> Result<Act, Stop>
     requires first { 1 ≤ kind }
     requires last { kind ≤ LAST_ACT }
@@ -76,7 +90,8 @@ fn read_case(alloc: Global, kind: u8, cursor: &mut Cursor<'_>) -> Result<Act, St
         3 => read_set_filter(alloc, cursor),
         4 => read_drop_filter(alloc, cursor),
         5 => read_remove(alloc, cursor),
-        _ => read_give(alloc, cursor),
+        6 => read_give(alloc, cursor),
+        _ => read_set_scoped(alloc, cursor),
     }
 }
 
@@ -99,6 +114,13 @@ fn read_set_filter(alloc: Global, cursor: &mut Cursor<'_>) -> Result<Act, Stop>
     ensures { Gives (read1 SetFilter filter_at) cursor.old.rest.now cursor.new.rest.now result }
 {
     let filter = Filter::read(alloc, cursor)?;
+    Ok(Act::SetFilter(filter))
+}
+
+fn read_set_scoped(alloc: Global, cursor: &mut Cursor<'_>) -> Result<Act, Stop>
+    ensures { Gives (read1 SetFilter (scoped_at other_scope_at)) cursor.old.rest.now cursor.new.rest.now result }
+{
+    let filter = read_scoped_but_body(alloc, cursor)?;
     Ok(Act::SetFilter(filter))
 }
 

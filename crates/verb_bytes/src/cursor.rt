@@ -1,10 +1,12 @@
 //! Bytes that are read from left to right, and the fields that are read from them.
 ghost use Rattle.std.specs.Prelude.{◌≡◌, ◌<◌, ◌≤◌, IfOk};
 ghost use Rattle.std.specs.Int.{w32, w64};
+ghost use Rattle.header_fields.specs.Values.{is_field_name as can_be_asked};
 ghost use Rattle.verb_bytes.specs.Fields.{is_name};
-ghost use Rattle.verb_bytes.specs.Readers.{Gives, when, byte_at, number_at, name_at, text_at, key_at, actor_at, bool_at, flags_at, user_at, has_bit};
+ghost use Rattle.verb_bytes.specs.Readers.{Gives, when, byte_at, number_at, name_at, field_name_at, text_at, key_at, actor_at, bool_at, flags_at, user_at, has_bit};
 
 use crate::write::{ALL_FLAGS, LAST_USER, NOBODY};
+use header_fields::is_field_name;
 use std::alloc::Global;
 use undo_base::{Flags, Key, Name, NameRefused, NoMemory, Text, User};
 
@@ -37,6 +39,16 @@ fn name_of(alloc: Global, bytes: &[u8]) -> Result<Option<Name>, NoMemory>
         Err(NameRefused::Byte { place: _ }) => Ok(None),
         Err(NameRefused::NoMemory) => Err(NoMemory),
     }
+}
+
+/// The name of a header field that bytes are, where they are one.
+fn field_name_of(alloc: Global, bytes: &[u8]) -> Result<Option<Name>, NoMemory>
+    ensures { IfOk result (λ found. found ≡ when (can_be_asked bytes.now) bytes.now) }
+{
+    if !is_field_name(bytes) {
+        return Ok(None);
+    }
+    name_of(alloc, bytes)
 }
 
 /// Whether a byte has the bit that is worth this much.
@@ -135,6 +147,31 @@ impl<'a> Cursor<'a> {
                 }
                 let (bytes, rest) = rest.split_at(count);
                 match name_of(alloc, bytes)? {
+                    None => Err(Stop::At { left }),
+                    Some(name) => {
+                        self.rest = rest;
+                        Ok(name)
+                    }
+                }
+            }
+        }
+    }
+
+    /// The name of a header field behind its length in one byte.
+    #[tactic(auto, unfolding(crate::specs::Readers::field_name_at))]
+    pub(crate) fn field_name(&mut self, alloc: Global) -> Result<Name, Stop>
+        ensures { Gives field_name_at self.old.rest.now self.new.rest.now result }
+    {
+        let left = self.rest.len();
+        match self.rest {
+            [] => Err(Stop::At { left: 0 }),
+            [count, rest @ ..] => {
+                let count = usize::from(*count);
+                if rest.len() < count {
+                    return Err(Stop::At { left });
+                }
+                let (bytes, rest) = rest.split_at(count);
+                match field_name_of(alloc, bytes)? {
                     None => Err(Stop::At { left }),
                     Some(name) => {
                         self.rest = rest;

@@ -1,15 +1,16 @@
 //! Records, read from their bytes.
 ghost use Rattle.std.specs.Prelude.{◌≡◌, ◌≤◌, ◌-◌, Ok};
 ghost use Rattle.verb_bytes.specs.declared.journal.JournalRecord.{JournalRecord};
-ghost use Rattle.verb_bytes.specs.declared.journal.JournalRecord.TheVariants.{Verb, Operator, Cycle};
+ghost use Rattle.verb_bytes.specs.declared.journal.JournalRecord.TheVariants.{Verb, Operator, Cycle, Upgrade};
 ghost use Rattle.verb_bytes.specs.Readers.{Gives, nth_case, read1, read3, u32_at, moment_at};
 ghost use Rattle.verb_bytes.specs.Decoding.{Decodes, IsThis};
-ghost use Rattle.verb_bytes.specs.Reading.{record_cases, record_at, snapshot_at, act_at, item_at, cycle_ask_at, AnswersAll};
+ghost use Rattle.verb_bytes.specs.Reading.{record_cases, record_at, any_list_at, filter_at, scoped_filters_at, snapshot_at, act_at, item_at, cycle_ask_at, AnswersAll};
 ghost use Rattle.verb_bytes.specs.Spelling.{Spells};
 
 use crate::cursor::{Cursor, Stop};
 use crate::kinds::{LAST_RECORD, read_record_kind};
 use crate::part::{Part, read_list};
+use crate::scopes::read_scoped_filters;
 use crate::settings::read_house;
 use crate::{CycleAsk, JournalRecord};
 use std::alloc::Global;
@@ -67,8 +68,26 @@ fn read_cycle(alloc: Global, cursor: &mut Cursor<'_>) -> Result<JournalRecord, S
     Ok(JournalRecord::Cycle { number, at, ask })
 }
 
+fn read_upgrade(cursor: &mut Cursor<'_>) -> Result<JournalRecord, Stop>
+    ensures { Gives (read1 Upgrade moment_at) cursor.old.rest.now cursor.new.rest.now result }
+{
+    let at = cursor.u64(LAST_MOMENT)?;
+    Ok(JournalRecord::Upgrade { at })
+}
+
+fn read_scoped_snapshot(alloc: Global, cursor: &mut Cursor<'_>) -> Result<JournalRecord, Stop>
+    ensures { Gives (snapshot_at scoped_filters_at) cursor.old.rest.now cursor.new.rest.now result }
+{
+    let items = cursor.u32(u32::MAX)?;
+    let aliases = read_list(alloc, u32::MAX, cursor)?;
+    let filters = read_scoped_filters(alloc, cursor)?;
+    let rows = read_list(alloc, u32::MAX, cursor)?;
+    let conf = Conf { aliases, filters };
+    Ok(JournalRecord::Snapshot { items, conf, rows })
+}
+
 fn read_snapshot(alloc: Global, cursor: &mut Cursor<'_>) -> Result<JournalRecord, Stop>
-    ensures { Gives snapshot_at cursor.old.rest.now cursor.new.rest.now result }
+    ensures { Gives (snapshot_at (any_list_at filter_at)) cursor.old.rest.now cursor.new.rest.now result }
 {
     let items = cursor.u32(u32::MAX)?;
     let aliases = read_list(alloc, u32::MAX, cursor)?;
@@ -87,7 +106,9 @@ fn read_case(alloc: Global, kind: u8, cursor: &mut Cursor<'_>) -> Result<Journal
         1 => read_verb(alloc, cursor),
         2 => read_operator(alloc, cursor),
         3 => read_cycle(alloc, cursor),
-        _ => read_snapshot(alloc, cursor),
+        4 => read_snapshot(alloc, cursor),
+        5 => read_upgrade(cursor),
+        _ => read_scoped_snapshot(alloc, cursor),
     }
 }
 

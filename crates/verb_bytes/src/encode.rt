@@ -1,17 +1,18 @@
 //! Records, written as their bytes.
 ghost use Rattle.std.specs.Prelude.{◌≡◌, IfOk};
-ghost use Rattle.verb_bytes.specs.declared.journal.JournalRecord.TheVariants.{Verb, Operator, Cycle, Snapshot};
-ghost use Rattle.verb_bytes.specs.Spelling.{ask_fields, record_fields, record_bytes, HasSpelling};
+ghost use Rattle.verb_bytes.specs.declared.journal.JournalRecord.TheVariants.{Verb, Operator, Cycle, Snapshot, Upgrade};
+ghost use Rattle.verb_bytes.specs.Spelling.{ask_fields, filter_fields, scoped_fields, store_fields, record_fields, record_bytes, HasSpelling};
 ghost use Rattle.verb_bytes.specs.Writing.{Encodes, Puts};
 
 use crate::kinds::put_record_kind;
 use crate::part::{Part, put_list, put_slice};
+use crate::scopes::put_scoped_filters;
 use crate::settings::put_house;
 use crate::write::{Unwritten, put_name, put_u32, put_u64};
 use crate::{CycleAsk, JournalRecord};
 use std::alloc::Global;
 use undo_base::{LAST_MOMENT, NoMemory, Text};
-use verb_core::{Act, BoxId, Conf, Item, Mailbox};
+use verb_core::{Act, BoxId, Conf, Item, Mailbox, are_of_body};
 
 #[tactic(auto, using(crate::proofs::Puts::list_steps))]
 fn put_ask(ask: &CycleAsk, out: &mut Text) -> Result<(), Unwritten>
@@ -61,11 +62,53 @@ fn put_snapshot(
 ) -> Result<(), Unwritten>
     ensures { Puts (record_fields (Snapshot items conf.now rows.now)) out.old out.new result }
 {
-    put_record_kind(out, 4)?;
+    if are_of_body(conf.filters.as_slice()) {
+        put_record_kind(out, 4)?;
+        put_store(items, conf, rows, out)
+    } else {
+        put_record_kind(out, 6)?;
+        put_scoped_store(items, conf, rows, out)
+    }
+}
+
+/// Writes a store, each of whose filters looks at the whole text.
+#[tactic(auto, using(crate::proofs::Puts::list_steps))]
+fn put_store(
+    items: u32,
+    conf: &Conf,
+    rows: &[(BoxId, Mailbox)],
+    out: &mut Text,
+) -> Result<(), Unwritten>
+    ensures { Puts (store_fields filter_fields items conf.now rows.now) out.old out.new result }
+{
     put_u32(out, u32::MAX, items)?;
     put_list(u32::MAX, &conf.aliases, out)?;
     put_list(u32::MAX, &conf.filters, out)?;
     put_slice(u32::MAX, rows, out)
+}
+
+/// The same with the scopes of its filters.
+#[tactic(auto, using(crate::proofs::Puts::list_steps))]
+fn put_scoped_store(
+    items: u32,
+    conf: &Conf,
+    rows: &[(BoxId, Mailbox)],
+    out: &mut Text,
+) -> Result<(), Unwritten>
+    ensures { Puts (store_fields (scoped_fields 0) items conf.now rows.now) out.old out.new result }
+{
+    put_u32(out, u32::MAX, items)?;
+    put_list(u32::MAX, &conf.aliases, out)?;
+    put_scoped_filters(&conf.filters, out)?;
+    put_slice(u32::MAX, rows, out)
+}
+
+#[tactic(auto, using(crate::proofs::Puts::list_steps))]
+fn put_upgrade(at: u64, out: &mut Text) -> Result<(), Unwritten>
+    ensures { Puts (record_fields (Upgrade at)) out.old out.new result }
+{
+    put_record_kind(out, 5)?;
+    put_u64(out, LAST_MOMENT, at)
 }
 
 #[tactic(auto, using(crate::proofs::Puts::list_steps))]
@@ -86,6 +129,7 @@ fn put_record(what: &JournalRecord, out: &mut Text) -> Result<(), Unwritten>
             rows.as_slice(),
             out,
         ),
+        JournalRecord::Upgrade { at } => put_upgrade(*at, out),
     }
 }
 
@@ -136,6 +180,15 @@ pub fn spell_snapshot(
 {
     let mut out = Text::new(alloc);
     put_snapshot(items, conf, rows, &mut out)?;
+    Ok(out)
+}
+
+/// The same of the record of an upgrade.
+pub fn spell_upgrade(alloc: Global, at: u64) -> Result<Text, Unwritten>
+    ensures { Encodes (Upgrade at) result }
+{
+    let mut out = Text::new(alloc);
+    put_upgrade(at, &mut out)?;
     Ok(out)
 }
 

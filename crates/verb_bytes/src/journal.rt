@@ -18,7 +18,7 @@ pub struct CycleAsk {
     pub inserts: Acts,
 }
 
-/// One record. A `Verb` is a user's item, with rev 0.
+/// One record. A `Verb` is a user's item, with rev 0; from an `Upgrade` on names may have superiors.
 #[derive(Drop)]
 pub enum JournalRecord {
     Format(House, Conf),
@@ -26,4 +26,5 @@ pub enum JournalRecord {
     Operator { number: u32, at: u64, act: Act },
     Cycle { number: u32, at: u64, ask: CycleAsk },
     Snapshot { items: u32, conf: Conf, rows: Rows },
+    Upgrade { at: u64 },
 }

@@ -11,7 +11,7 @@ ghost use Rattle.verb_core.specs.declared.item.Item.{Item};
 ghost use Rattle.verb_core.specs.Items.{has_form, keys_in};
 ghost use Rattle.verb_bytes.specs.declared.journal.CycleAsk.{CycleAsk};
 ghost use Rattle.verb_bytes.specs.declared.journal.JournalRecord.{JournalRecord};
-ghost use Rattle.verb_bytes.specs.declared.journal.JournalRecord.TheVariants.{Format, Verb, Operator, Cycle, Snapshot};
+ghost use Rattle.verb_bytes.specs.declared.journal.JournalRecord.TheVariants.{Format, Verb, Operator, Cycle, Snapshot, Upgrade};
 ghost use Rattle.verb_bytes.specs.Decoding.{IsBytes, IsRefused, IsRefusedAt, IsSpelled};
 ghost use Rattle.verb_bytes.specs.Fields.{most_of_four};
 ghost use Rattle.verb_bytes.specs.Limits.{delivery, AreMany, IsAct, IsAlias, IsAsked, IsCycleAsk, IsFilter, IsMail, IsOpening, IsRow};
@@ -55,6 +55,11 @@ pub fn cycles_have_spellings()
 pub fn snapshots_have_spellings()
     ensures { (items : ℕ) (conf : Conf) (rows : List (BoxId × Mailbox)) → items ≤ most_of_four → AreMany IsAlias conf.aliases → AreMany IsFilter conf.filters
         → AreMany IsRow rows → HasSpelling (Snapshot items conf rows) }
+{}
+
+/// An upgrade has a spelling.
+pub fn upgrades_have_spellings()
+    ensures { (at : ℕ) → at ≤ LAST_MOMENT → HasSpelling (Upgrade at) }
 {}
 
 /// The item of a record that has a spelling shows what its deed shows, has few keys and no rev.

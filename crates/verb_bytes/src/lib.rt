@@ -23,13 +23,16 @@ pub mod laws;
 mod mailboxes;
 mod part;
 mod places;
+mod scopes;
 mod settings;
 mod shown;
 mod simple;
 mod write;
 
 pub use decode::{BadBytes, decode_record};
-pub use encode::{encode_record, spell_act, spell_cycle, spell_item, spell_record, spell_snapshot};
+pub use encode::{
+    encode_record, spell_act, spell_cycle, spell_item, spell_record, spell_snapshot, spell_upgrade,
+};
 pub use journal::{Acts, CycleAsk, JournalRecord, Replaces};
 pub use places::{
     TextPlace, TextPlaces, act_text_from, ask_text_places, item_text_from, text_places,

@@ -28,7 +28,7 @@ pub(crate) trait Part: Sized + Drop {
 }
 
 /// Adds an element. There is room for no more than as many again and four.
-fn push_read<T: Drop>(items: &mut Vec<T>, item: T) -> Result<(), NoMemory>
+pub(crate) fn push_read<T: Drop>(items: &mut Vec<T>, item: T) -> Result<(), NoMemory>
     requires { vec_capacity items.old ≤ 2 * vec_len items.old + 4 }
     ensures ok { OnOk result (items.new.items ≡ items.old.items ++ item ∷ []) }
     ensures err { OnErr result (items.new.items ≡ items.old.items) }

@@ -4,20 +4,20 @@ ghost use Rattle.std.specs.List.{flat_map, AllZip};
 ghost use Rattle.std.specs.Option.{option_to_list};
 ghost use Rattle.undo_base.specs.declared.keys.Flags.{Flags};
 ghost use Rattle.undo_base.specs.declared.keys.User.{User};
-ghost use Rattle.verb_core.specs.declared.item.Act.TheVariants.{Give};
+ghost use Rattle.verb_core.specs.declared.item.Act.TheVariants.{Give, SetFilter};
 ghost use Rattle.verb_core.specs.declared.item.Deed.TheVariants.{Act as Acts};
 ghost use Rattle.verb_core.specs.Items.{text_in};
 ghost use Rattle.verb_bytes.specs.declared.journal.JournalRecord.TheVariants.{Verb, Operator, Cycle};
 ghost use Rattle.verb_bytes.specs.Fields.{◌&◌, act_kind, any_text_field, deed_kind, flags_field, list_fields, moment_field, name_field, option_fields, user_field};
 ghost use Rattle.verb_bytes.specs.Places.{act_place, first_from, given_texts, placed, places_along, replaced_texts, size_of, text_places_of, IsTextAt, LiesThere};
-ghost use Rattle.verb_bytes.specs.Spelling.{act_fields, filter_fields, record_bytes, HasSpelling};
+ghost use Rattle.verb_bytes.specs.Spelling.{act_fields, filter_fields, scope_fields, record_bytes, HasSpelling};
 
 use crate::part::Part;
 use crate::write::MOST_TO;
 use crate::{CycleAsk, JournalRecord};
 use std::alloc::Global;
 use undo_base::{Name, Names, NoMemory, Sequence, Text};
-use verb_core::{Act, Deed, Filter, Item};
+use verb_core::{Act, Deed, Filter, Item, Scope};
 
 /// Where a text lies in the bytes of a record: so many bytes, behind `from` others.
 #[derive(Clone, Copy, Debug, PartialEq, Eq)]
@@ -76,6 +76,32 @@ fn past_filter(from: u32, filter: &Filter) -> Result<u32, NoMemory>
     let from = past_name(from, &filter.id)?;
     let from = past_name(from, &filter.needle)?;
     past_option(from, &filter.file)
+}
+
+#[tactic(auto, using(crate::proofs::Sizes::sizes))]
+fn past_scope(from: u32, scope: &Scope) -> Result<u32, NoMemory>
+    ensures { IfOk result (λ at. at ≡ from + size_of (scope_fields 1 scope.now)) }
+{
+    match scope {
+        Scope::Body => past(from, 1),
+        Scope::Field(name) => past(from, 2 + name.bytes().len()),
+        Scope::Sender => past(from, 1),
+        Scope::Recipient => past(from, 1),
+    }
+}
+
+/// An act that sets a filter: one of the whole text has no byte for it.
+#[tactic(auto, using(crate::proofs::Sizes::sizes))]
+fn past_set_filter(from: u32, filter: &Filter) -> Result<u32, NoMemory>
+    ensures { IfOk result (λ at. at ≡ from + size_of (act_fields (SetFilter filter.now))) }
+{
+    let from = past(from, 1)?;
+    let from = past_filter(from, filter)?;
+    if filter.scope.is_of_body() {
+        Ok(from)
+    } else {
+        past_scope(from, &filter.scope)
+    }
 }
 
 #[tactic(auto, using(crate::proofs::Sizes::sizes))]
@@ -154,7 +180,7 @@ impl Placed for Act {
         match self {
             Act::SetAlias { local, users } => past_alias(from, local, users.len()),
             Act::DropAlias { local } => past(from, 2 + local.bytes().len()),
-            Act::SetFilter(filter) => past_filter(past(from, 1)?, filter),
+            Act::SetFilter(filter) => past_set_filter(from, filter),
             Act::DropFilter { id } => past(from, 2 + id.bytes().len()),
             Act::Remove { mailbox, .. } => past(from, 9 + mailbox.bytes().len()),
             Act::Give { mailbox, text, .. } => place_give(from, mailbox, text, places),

@@ -10,7 +10,7 @@ use crate::part::{Part, put_list, put_option, read_list, read_option};
 use crate::write::{MOST_ACCOUNTS, Unwritten, put_condition, put_name, put_u32, put_user};
 use std::alloc::Global;
 use undo_base::Text;
-use verb_core::{Account, Alias, Conf, Filter, Filters, House};
+use verb_core::{Account, Alias, Conf, Filter, Filters, House, Scope};
 
 impl Part for Account {
     ghost use Rattle.verb_bytes.specs.Spelling.{account_fields};
@@ -73,7 +73,12 @@ impl Part for Filter {
         let id = cursor.name(alloc)?;
         let needle = cursor.name(alloc)?;
         let file = read_option(alloc, cursor)?;
-        Ok(Filter { id, needle, file })
+        Ok(Filter {
+            id,
+            needle,
+            file,
+            scope: Scope::Body,
+        })
     }
 }
 

@@ -1,9 +1,10 @@
 //! Fields, written at the end of a text where their values are in their ranges.
 ghost use Rattle.std.specs.Prelude.{◌≡◌, ◌≤◌, ◌++◌, IsTrue};
 ghost use Rattle.std.specs.Int.{w32, w64};
-ghost use Rattle.verb_bytes.specs.Fields.{field, only_if, byte_field, number_field, name_field, text_field, key_field, user_field, actor_field, bool_field, flags_field, worth};
+ghost use Rattle.verb_bytes.specs.Fields.{field, only_if, byte_field, number_field, name_field, field_name_field, text_field, key_field, user_field, actor_field, bool_field, flags_field, worth};
 ghost use Rattle.verb_bytes.specs.Writing.{Puts};
 
+use header_fields::is_field_name;
 use undo_base::{Flags, Key, MOST_KEYS, MOST_RECIPIENTS, MOST_USERS, Name, NoMemory, Text, User};
 
 /// The most bytes of a message's text as it is stored.
@@ -119,6 +120,15 @@ pub(crate) fn put_name(out: &mut Text, value: &Name) -> Result<(), Unwritten>
 {
     let bytes = value.bytes();
     put_both(out, true, &[bytes.len() as u8], bytes)
+}
+
+/// The name of a header field behind its length in one byte.
+#[tactic(auto, unfolding(crate::specs::Fields::field_name_field))]
+pub(crate) fn put_field_name(out: &mut Text, value: &Name) -> Result<(), Unwritten>
+    ensures { Puts (field_name_field value.now) out.old out.new result }
+{
+    let bytes = value.bytes();
+    put_both(out, is_field_name(bytes), &[bytes.len() as u8], bytes)
 }
 
 /// A text of at most so many bytes, behind its length in four bytes.

@@ -19,7 +19,10 @@ returns-in-4 c = this_case 1 act_cases c.args.cursor.now.rest.now c.read_drop_fi
 pub returns-in-5 : goal.returns-in-5
 returns-in-5 c = this_case 1 act_cases c.args.cursor.now.rest.now c.read_remove.new.cursor.rest.now c.args.kind 5 c.read_remove.result c.in-5.is c.read_remove.ensures
 
+pub returns-in-6 : goal.returns-in-6
+returns-in-6 c = this_case 1 act_cases c.args.cursor.now.rest.now c.read_give.new.cursor.rest.now c.args.kind 6 c.read_give.result c.in-6.is c.read_give.ensures
+
 pub returns-in_default : goal.returns-in_default
 returns-in_default c =
     let last : c.args.kind ≡ LAST_ACT = omega arith in
-    this_case 1 act_cases c.args.cursor.now.rest.now c.read_give.new.cursor.rest.now c.args.kind LAST_ACT c.read_give.result last c.read_give.ensures
+    this_case 1 act_cases c.args.cursor.now.rest.now c.read_set_scoped.new.cursor.rest.now c.args.kind LAST_ACT c.read_set_scoped.result last c.read_set_scoped.ensures

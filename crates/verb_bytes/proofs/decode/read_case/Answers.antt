@@ -16,7 +16,13 @@ returns-in-2 c = this_case 0 record_cases c.args.cursor.now.rest.now c.read_oper
 pub returns-in-3 : goal.returns-in-3
 returns-in-3 c = this_case 0 record_cases c.args.cursor.now.rest.now c.read_cycle.new.cursor.rest.now c.args.kind 3 c.read_cycle.result c.in-3.is c.read_cycle.ensures
 
+pub returns-in-4 : goal.returns-in-4
+returns-in-4 c = this_case 0 record_cases c.args.cursor.now.rest.now c.read_snapshot.new.cursor.rest.now c.args.kind 4 c.read_snapshot.result c.in-4.is c.read_snapshot.ensures
+
+pub returns-in-5 : goal.returns-in-5
+returns-in-5 c = this_case 0 record_cases c.args.cursor.now.rest.now c.read_upgrade.new.cursor.rest.now c.args.kind 5 c.read_upgrade.result c.in-5.is c.read_upgrade.ensures
+
 pub returns-in_default : goal.returns-in_default
 returns-in_default c =
     let last : c.args.kind ≡ LAST_RECORD = omega arith in
-    this_case 0 record_cases c.args.cursor.now.rest.now c.read_snapshot.new.cursor.rest.now c.args.kind LAST_RECORD c.read_snapshot.result last c.read_snapshot.ensures
+    this_case 0 record_cases c.args.cursor.now.rest.now c.read_scoped_snapshot.new.cursor.rest.now c.args.kind LAST_RECORD c.read_scoped_snapshot.result last c.read_scoped_snapshot.ensures
