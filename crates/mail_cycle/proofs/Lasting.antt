@@ -8,6 +8,7 @@ use Rattle.verb_core.specs.declared.mailbox.Mailbox.{Mailbox}
 use Rattle.verb_core.specs.Boxes.{has_row, row_at}
 use Rattle.verb_core.specs.Items.{NumbersApart, text_in, text_of}
 use Rattle.verb_core.specs.Step.{Boxes, run, step}
+use Rattle.verb_core.specs.Store.{IsValid}
 use Rattle.verb_core.proofs.StampLaws.{stamp-each}
 use Rattle.verb_bytes.specs.declared.journal.CycleAsk.{CycleAsk}
 use Rattle.store_kept.specs.Kept.{Kept, Marks, mailbox_at, performed, stamp_at, store_of}
@@ -81,7 +82,7 @@ text_before body text i (j ∷ t) apart e = by ((j.number == body.origin) && (j.
     by true is rest = is
     by false is rest = rest is
 
-module _ (s : Kept) (i : Item) (named : map (λ (r : BoxId × ℕ). r.0) s.stamps ≡ map (λ (r : BoxId × Mailbox). r.0) (store_of s).boxes) (number : i.number ≡ s.next) where
+module _ (s : Kept) (i : Item) (valid : IsValid (store_of s)) (named : map (λ (r : BoxId × ℕ). r.0) s.stamps ≡ map (λ (r : BoxId × Mailbox). r.0) (store_of s).boxes) (number : i.number ≡ s.next) where
   item_stamps : StampsLast s (performed s i)
   item_stamps id stamp m below stamped mail =
       by (has_row id (store_of s).boxes) refl mail
@@ -90,7 +91,7 @@ module _ (s : Kept) (i : Item) (named : map (λ (r : BoxId × ℕ). r.0) s.stamp
     where
       by : (b : Bool) → has_row id (store_of s).boxes ≡ b → row_at id (step (store_of s) i).0.boxes ≡ Some m → cond b (row_at id s.stamps) (Some i.number) ≡ Some stamp
           → (stamp_at s id ≡ Some stamp) × (extends_one (mailbox_at s id) m ≡ true)
-      by true there after is = (is, step_extends (store_of s) i id m after there)
+      by true there after is = (is, step_extends (store_of s) i id m valid after there)
       by false there after is = let same : i.number ≡ stamp = cc in absurd (omega arith)
 
   item_texts : TextsLast s (performed s i)

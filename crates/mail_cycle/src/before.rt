@@ -33,17 +33,19 @@ pub struct Before<'a> {
 }
 
 impl<'a> Model for Before<'a> {
+    ghost use Rattle.std.specs.Prelude.{false};
     ghost use Rattle.mail_cycle.specs.Begun.{IsBegun};
     ghost use Rattle.store_kept.specs.Kept.{Kept, kept_from, no_marks};
 
     ghost Value = { Kept };
 
-    ghost view = { λ b. kept_from b.base.now b.store.now.store b.timeline.now b.stamps.now b.next b.reports.now no_marks };
+    ghost view = { λ b. kept_from b.base.now b.store.now.store b.timeline.now b.stamps.now b.next b.reports.now no_marks false };
 
-    ghost invariant = { λ b. IsBegun (kept_from b.base.now b.store.now.store b.timeline.now b.stamps.now b.next b.reports.now no_marks) };
+    ghost invariant = { λ b. IsBegun (kept_from b.base.now b.store.now.store b.timeline.now b.stamps.now b.next b.reports.now no_marks false) };
 }
 
 impl<'a> Before<'a> {
+    ghost use Rattle.std.specs.Prelude.{false};
     ghost use Rattle.store_kept.specs.Kept.{kept_from, no_marks};
 
     /// A store in use.
@@ -60,7 +62,7 @@ impl<'a> Before<'a> {
         requires formed { AllByRecursion (IsWellFormed base.now.house) timeline.now }
         requires named { map (λ (r : TheBoxId × ℕ). r.0) stamps.now ≡ map (λ (r : TheBoxId × TheMailbox). r.0) store.now.store.boxes }
         requires next { next ≤ 4194304 }
-        ensures { result ≡ kept_from base.now store.now.store timeline.now stamps.now next reports.now no_marks }
+        ensures { result ≡ kept_from base.now store.now.store timeline.now stamps.now next reports.now no_marks false }
     {
         Before {
             base,

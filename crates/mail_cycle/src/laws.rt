@@ -8,7 +8,7 @@ ghost use Rattle.verb_core.specs.declared.mailbox.BoxId.{BoxId};
 ghost use Rattle.verb_core.specs.declared.mailbox.Mailbox.{Mailbox};
 ghost use Rattle.verb_core.specs.Items.{IsTimeline, IsWellFormed, NumbersApart, text_of};
 ghost use Rattle.verb_core.specs.Step.{answers, run};
-ghost use Rattle.verb_core.specs.Store.{MailStore};
+ghost use Rattle.verb_core.specs.Store.{IsValid, MailStore};
 ghost use Rattle.verb_bytes.specs.declared.journal.CycleAsk.{CycleAsk};
 ghost use Rattle.paradox.specs.Words.{told_of};
 ghost use Rattle.paradox.specs.declared.reports.BrokenItem.{BrokenItem};
@@ -117,7 +117,7 @@ pub fn answers_that_are_shown_hold()
 pub fn uids_last()
     ensures itself { (s : Kept) → UidsLast s s }
     ensures followed { (a b c : Kept) → UidsLast a b → UidsLast b c → UidsLast a c }
-    ensures item { (s : Kept) (i : Item) → map (λ (r : BoxId × ℕ). r.0) s.stamps ≡ map (λ (r : BoxId × Mailbox). r.0) (store_of s).boxes → i.number ≡ s.next →
+    ensures item { (s : Kept) (i : Item) → IsValid (store_of s) → map (λ (r : BoxId × ℕ). r.0) s.stamps ≡ map (λ (r : BoxId × Mailbox). r.0) (store_of s).boxes → i.number ≡ s.next →
         UidsLast s (performed s i) }
     ensures cycle { (s : Kept) (at : ℕ) (ask : CycleAsk) (due : Cycled) → NumbersApart s.timeline → due_anew s at ask ≡ Rewinds due →
         UidsLast s (after_cycle s ask due) }

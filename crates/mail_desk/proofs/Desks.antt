@@ -1,5 +1,5 @@
 -- The desk at first, and what every desk has.
-use Rattle.std.proofs.Common.{◌≡◌, ℕ, ◌-◌, ◌<◌, ◌≤◌, Bool, true, ◌&&◌, List, [], ◌∷◌, map, flat_map, option_map, is_some, refl, ap, sym, ◌∙◌, arith, length, nat_le}
+use Rattle.std.proofs.Common.{◌≡◌, ℕ, ◌-◌, ◌<◌, ◌≤◌, Bool, true, false, ◌&&◌, List, [], ◌∷◌, map, flat_map, option_map, is_some, refl, ap, sym, ◌∙◌, arith, length, nat_le}
 use Rattle.std.specs.List.{AllByRecursion, list_all}
 use Rattle.std.specs.Cmp.{first_so, second_so}
 use Rattle.std.proofs.lemmas.Bool.{leb-true}
@@ -21,7 +21,7 @@ use Rattle.verb_core.proofs.OpeningLaws.{held-opening, opening-IsBase}
 use Rattle.seal_log.specs.declared.place.Place.{Place}
 use Rattle.shelf.specs.declared.note.Note.{Note}
 use Rattle.shelf.specs.Notes.{size_of}
-use Rattle.store_kept.specs.Kept.{Origin, Reports, kept_from, new_desk, opening_origin}
+use Rattle.store_kept.specs.Kept.{Kept, Origin, Reports, kept_from, new_desk, opening_origin, upgraded}
 use Rattle.store_kept.specs.Bases.{HasBase}
 use Rattle.mail_desk.specs.Desk.{IsDesk}
 use Rattle.mail_desk.specs.Held.{marks_kept}
@@ -45,10 +45,10 @@ first_bounds house sound =
 -- the parts of a new desk, as they were made
 pub new_desk_is : (origin : Origin) (store : MailStore) (stamps : List (BoxId × ℕ)) (first : ℕ) (timeline : List Item) (reports : Reports) (marks : List (ℕ × Place)) → origin ≡ opening_origin origin.house origin.opening
     → store ≡ origin.base → stamps ≡ opening_stamps origin.base → first ≡ origin.house.first → timeline ≡ [] → reports ≡ [] → marks ≡ []
-    → kept_from origin store timeline stamps first reports (marks_kept 0 0 marks) ≡ new_desk origin.house origin.opening
+    → kept_from origin store timeline stamps first reports (marks_kept 0 0 marks) false ≡ new_desk origin.house origin.opening
 new_desk_is origin store stamps first timeline reports marks made stored stamped numbered empty none unmarked =
-    (λ j. kept_from origin (stored j) (empty j) (stamped j) (numbered j) (none j) (marks_kept 0 0 (unmarked j)))
-    ∙ ap (λ (o : Origin). kept_from (record origin { base = o.base }) o.base [] (opening_stamps o.base) origin.house.first [] (marks_kept 0 0 [])) made
+    (λ j. kept_from origin (stored j) (empty j) (stamped j) (numbered j) (none j) (marks_kept 0 0 (unmarked j)) false)
+    ∙ ap (λ (o : Origin). kept_from (record origin { base = o.base }) o.base [] (opening_stamps o.base) origin.house.first [] (marks_kept 0 0 []) false) made
 
 -- the opening store carries any timeline
 pub base_opening : (house : House) (conf : Conf) → is_house house ≡ true → list_all (λ a. list_all (is_known house) a.users) conf.aliases ≡ true → HasBase (new_desk house conf)
@@ -87,6 +87,26 @@ new_desk_holds house conf sound aliases filters valid named =
       reports = refl;
       texts = empty_boxes (has_text []) (users_of house);
     }
+
+-- it is a desk still where names may have superiors
+pub upgraded_holds : (kept : Kept) → IsDesk kept → IsDesk (upgraded kept)
+upgraded_holds kept is = record {
+  house = is.house;
+  aliases = is.aliases;
+  filters = is.filters;
+  base = is.base;
+  house_is = is.house_is;
+  valid = is.valid;
+  next = is.next;
+  since = is.since;
+  stamps = is.stamps;
+  fresh = is.fresh;
+  formed = is.formed;
+  apart = is.apart;
+  below = is.below;
+  reports = is.reports;
+  texts = is.texts;
+}
 
 -- nothing is noted, and no item brought a text
 pub nothing_known : (notes : List (Body × Note)) (t : List Item) → notes ≡ [] → t ≡ [] → (body : Body) → size_of notes body ≡ option_map length (text_of t body)

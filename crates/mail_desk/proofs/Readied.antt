@@ -5,13 +5,13 @@ use Rattle.undo_base.specs.declared.keys.User.{User}
 use Rattle.undo_base.specs.declared.memory.NoMemory.{NoMemory as MemoryWant}
 use Rattle.verb_core.specs.declared.ask.Ask.{Ask}
 use Rattle.verb_core.specs.declared.ask.Refused.{Refused}
-use Rattle.verb_core.specs.declared.ask.Refused.TheVariants.{NameShape, Fixed, NoBox, TryCreate, Exists, Gone, TooMany, TooLarge, BoxesFull, UidWide, Numbers}
+use Rattle.verb_core.specs.declared.ask.Refused.TheVariants.{NameShape, Fixed, NoBox, HasInferiors, TryCreate, Exists, Gone, TooMany, TooLarge, BoxesFull, UidWide, Numbers}
 use Rattle.verb_core.specs.declared.item.Item.{Item}
 use Rattle.verb_core.specs.declared.item.Resolved.{Resolved}
 use Rattle.verb_core.specs.declared.item.Shown.{Shown}
 use Rattle.verb_core.specs.Aims.{Sought, sought}
 use Rattle.verb_core.specs.Items.{IsWellFormed}
-use Rattle.verb_core.specs.Live.{asked_item, answered, asks_fixed, first_of, if_so, is_gone, is_misshapen, is_missing, is_there, is_uid_wide, key_count, live, named, new_names, or_item, overfills, targets, too_large}
+use Rattle.verb_core.specs.Live.{asked_item, answered, asks_fixed, first_of, if_so, is_gone, deletes_superior, is_misshapen, is_missing, is_there, is_uid_wide, key_count, live, named, new_names, or_item, overfills, targets, too_large}
 use Rattle.verb_core.specs.Stamps.{stamps_after}
 use Rattle.verb_core.specs.Step.{step, step_with}
 use Rattle.verb_core.specs.Store.{MailStore, IsValid}
@@ -33,13 +33,14 @@ passed [] false r i j e = (let is : ◌≡◌ {A = Result Item Refused} (Ok i) (
 passed (None ∷ others) used r i j e = passed others used r i j e
 passed (Some q ∷ others) used r i j e = absurd (let wrong : ◌≡◌ {A = Result Item Refused} (Err q) (Ok j) = e in cc)
 
-pub asked_is : (s : MailStore) (number at : ℕ) (by : Option User) (ask : Ask) (j : Item) → live s number at by ask ≡ Ok j → (j ≡ answered s (asked_item s number at by ask)) × ((number == 4194304) ≡ false)
-asked_is s number at by ask j e =
+pub asked_is : (s : MailStore) (number at : ℕ) (by : Option User) (ask : Ask) (deep : Bool) (j : Item) → live s number at by ask deep ≡ Ok j → (j ≡ answered s (asked_item s number at by ask)) × ((number == 4194304) ≡ false)
+asked_is s number at by ask deep j e =
     let i = asked_item s number at by ask in
     passed (
-    if_so (is_misshapen ask) NameShape
+    if_so (is_misshapen s by ask deep) NameShape
     ∷ if_so (asks_fixed ask) Fixed
     ∷ if_so (is_missing s by (named ask)) NoBox
+    ∷ if_so (deletes_superior s by ask) HasInferiors
     ∷ if_so (is_missing s by (targets ask)) TryCreate
     ∷ if_so (is_there s by (new_names ask)) Exists
     ∷ if_so (is_gone s by ask) Gone
@@ -49,13 +50,13 @@ asked_is s number at by ask j e =
     ∷ if_so (is_uid_wide s by ask (asked_item s number at by ask)) UidWide
     ∷ []) (number == 4194304) (Numbers number) (answered s (asked_item s number at by ask)) j e
 
-pub number_asked : (r : Result Item Refused) (s : MailStore) (number at : ℕ) (by : Option User) (ask : Ask) → IfOk r (λ item. live s number at by ask ≡ Ok item) → IfOk r (λ item. item.number ≡ number)
-number_asked (Ok item) s number at by ask is = ap (λ (i : Item). i.number) (asked_is s number at by ask item is).0
-number_asked (Err why) s number at by ask is = tt
+pub number_asked : (r : Result Item Refused) (s : MailStore) (number at : ℕ) (by : Option User) (ask : Ask) (deep : Bool) → IfOk r (λ item. live s number at by ask deep ≡ Ok item) → IfOk r (λ item. item.number ≡ number)
+number_asked (Ok item) s number at by ask deep is = ap (λ (i : Item). i.number) (asked_is s number at by ask deep item is).0
+number_asked (Err why) s number at by ask deep is = tt
 
-pub number_left : (r : Result Item Refused) (s : MailStore) (number at : ℕ) (by : Option User) (ask : Ask) → number ≤ 4194304 → IfOk r (λ item. live s number at by ask ≡ Ok item) → OnOk r (number < 4194304)
-number_left (Ok item) s number at by ask most is = let no = (asked_is s number at by ask item is).1 in grind (arith, nat_tests)
-number_left (Err why) s number at by ask most is = tt
+pub number_left : (r : Result Item Refused) (s : MailStore) (number at : ℕ) (by : Option User) (ask : Ask) (deep : Bool) → number ≤ 4194304 → IfOk r (λ item. live s number at by ask deep ≡ Ok item) → OnOk r (number < 4194304)
+number_left (Ok item) s number at by ask deep most is = let no = (asked_is s number at by ask deep item is).1 in grind (arith, nat_tests)
+number_left (Err why) s number at by ask deep most is = tt
 
 -- ---- what is ready
 

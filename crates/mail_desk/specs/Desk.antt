@@ -45,4 +45,4 @@ submitted_as kept (Err why) = record { outcome = Err (IsRefused why); kept = kep
 
 -- an ask at a moment
 abbrev pub submitted : Kept → ℕ → Option User → Ask → Submitted
-submitted kept at by ask = submitted_as kept (live (store_of kept) kept.next at by ask)
+submitted kept at by ask = submitted_as kept (live (store_of kept) kept.next at by ask kept.deep)

@@ -7,7 +7,7 @@ ghost use Rattle.verb_core.specs.declared.mailbox.Mailbox.{Mailbox as TheMailbox
 ghost use Rattle.verb_core.specs.Boxes.{box_of, row_at};
 ghost use Rattle.seal_log.specs.declared.place.Place.{Place as ThePlace};
 ghost use Rattle.verb_core.specs.Items.{IsTimeline};
-ghost use Rattle.store_kept.specs.Kept.{is_by_key, new_desk, opening_origin, origin_of, report_of as report_in, store_of};
+ghost use Rattle.store_kept.specs.Kept.{is_by_key, new_desk, opening_origin, origin_of, report_of as report_in, store_of, upgraded};
 ghost use Rattle.store_kept.specs.Bases.{HasBase};
 ghost use Rattle.store_kept.specs.Texts.{all_bodies, has_text_kept};
 ghost use Rattle.verb_core.specs.Stamps.{opening_stamps};
@@ -28,7 +28,7 @@ use verb_core::{BoxId, Conf, House, Mailbox, Stamps};
 
 /// What it begins with, the store, the items in force in order, the stamp of each mailbox, the next
 /// number, each cycle's report by the key of its request, where each text and each snapshot lies, and how many items entered
-/// since the last snapshot, and how many snapshots there are.
+/// since the last snapshot, how many snapshots there are, and whether names may have superiors.
 #[derive(Drop)]
 pub struct Desk {
     pub(crate) base: Base,
@@ -40,6 +40,7 @@ pub struct Desk {
     pub(crate) shelf: Shelf,
     pub(crate) since: u32,
     pub(crate) taken: u64,
+    pub(crate) deep: bool,
 }
 
 impl Model for Desk {
@@ -52,7 +53,7 @@ impl Model for Desk {
     ghost Value = { Held };
 
     ghost view = { λ d. record {
-      kept = kept_from d.base d.store.store d.timeline.items d.stamps d.next d.reports.items (marks_kept d.since d.taken d.shelf.marks);
+      kept = kept_from d.base d.store.store d.timeline.items d.stamps d.next d.reports.items (marks_kept d.since d.taken d.shelf.marks) d.deep;
       notes = d.shelf.notes;
       marks = d.shelf.marks;
       room = record {
@@ -65,7 +66,7 @@ impl Model for Desk {
     } };
 
     ghost invariant = { λ d. record {
-      desk : IsDesk (kept_from d.base d.store.store d.timeline.items d.stamps d.next d.reports.items (marks_kept d.since d.taken d.shelf.marks));
+      desk : IsDesk (kept_from d.base d.store.store d.timeline.items d.stamps d.next d.reports.items (marks_kept d.since d.taken d.shelf.marks) d.deep);
       sizes : SizesOf d.shelf.notes d.timeline.items;
     } };
 }
@@ -134,6 +135,7 @@ fn begun(alloc: Global, base: Base, store: Store, stamps: Stamps) -> Desk
         shelf: Shelf::new(alloc),
         since: 0,
         taken: 0,
+        deep: false,
     }
 }
 
@@ -260,6 +262,22 @@ impl Desk {
         ensures { option_copied result ≡ report_in self.now.kept.reports key.now }
     {
         report_of(self.reports.as_slice(), key)
+    }
+
+    /// Whether names may have superiors. It takes no memory.
+    pub fn deep(&self) -> bool
+        ensures { result ≡ self.now.kept.deep }
+    {
+        self.deep
+    }
+
+    /// From now on names may have superiors. It takes no memory.
+    pub fn upgrade(&mut self)
+        ensures kept { self.new.kept ≡ upgraded self.old.kept }
+        ensures notes { self.new.notes ≡ self.old.notes }
+        ensures marks { self.new.marks ≡ self.old.marks }
+    {
+        self.deep = true;
     }
 
     /// What holds of each desk: this does nothing.

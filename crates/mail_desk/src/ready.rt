@@ -302,13 +302,13 @@ impl Desk {
     fn asked(&self, alloc: Global, at: u64, by: Option<User>, ask: Ask) -> Result<Item, Refused>
         requires by { IsSome by ↔ IsTrue (is_users ask) }
         requires known { IsTrue (list_all (is_known self.now.kept.house) (cons_option by [])) }
-        ensures item { IfOk result (λ item. live (store_of self.now.kept) self.now.kept.next at by ask ≡ Ok item) }
+        ensures item { IfOk result (λ item. live (store_of self.now.kept) self.now.kept.next at by ask self.now.kept.deep ≡ Ok item) }
         ensures formed { IfOk result (λ item. IsWellFormed self.now.kept.house item) }
         ensures number { IfOk result (λ item. item.number ≡ self.now.kept.next) }
         ensures left { OnOk result (self.now.kept.next < 4194304) }
-        ensures refused { IfErr result (λ refused. IsRefusal refused (live (store_of self.now.kept) self.now.kept.next at by ask)) }
+        ensures refused { IfErr result (λ refused. IsRefusal refused (live (store_of self.now.kept) self.now.kept.next at by ask self.now.kept.deep)) }
     {
-        self.store.live(alloc, self.next, at, by, ask)
+        self.store.live(alloc, self.next, at, by, ask, self.deep)
     }
 
     /// Finds what is asked for at a moment, and makes all room for it. The desk stays as it was but for its room.
@@ -324,9 +324,9 @@ impl Desk {
         ensures kept { self.new.kept ≡ self.old.kept }
         ensures notes { self.new.notes ≡ self.old.notes }
         ensures marks { self.new.marks ≡ self.old.marks }
-        ensures item { IfOk result (λ ready. live (store_of self.old.kept) self.old.kept.next at by ask ≡ Ok ready.item) }
+        ensures item { IfOk result (λ ready. live (store_of self.old.kept) self.old.kept.next at by ask self.old.kept.deep ≡ Ok ready.item) }
         ensures ready { IfOk result (λ ready. CanEnter ready self.new) }
-        ensures refused { IfErr result (λ refused. IsRefusal refused (live (store_of self.old.kept) self.old.kept.next at by ask)) }
+        ensures refused { IfErr result (λ refused. IsRefusal refused (live (store_of self.old.kept) self.old.kept.next at by ask self.old.kept.deep)) }
     {
         let item = self.asked(alloc, at, by, ask)?;
         match self.ready_item(alloc, item) {

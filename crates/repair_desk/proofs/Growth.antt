@@ -1,6 +1,7 @@
 -- Each item extends the mailboxes that are there before and after it.
-use Rattle.std.proofs.Common.{◌≡◌, ℕ, ◌+◌, Bool, true, false, not, ◌&&◌, ◌||◌, cond, nat_le, arith, refl, sym, ◌∙◌, ap, subst, List, [], ◌∷◌, filter, Option, Some, None, is_some, option_map, bytes_eq}
+use Rattle.std.proofs.Common.{◌≡◌, ℕ, ◌+◌, Bool, true, false, not, ◌&&◌, ◌||◌, cond, nat_le, arith, refl, sym, ◌∙◌, ap, subst, List, [], ◌∷◌, filter, map, Option, Some, None, is_some, option_map, true≢false, bytes_eq}
 use Rattle.std.specs.List.{list_all}
+use Rattle.std.specs.Cmp.{second_so}
 use Rattle.std.specs.Ordering.{eq_by_cmp}
 use Rattle.std.proofs.lemmas.Bool.Decides.{nat_tests}
 use Rattle.std.proofs.lemmas.List.Folds.{list_all-append}
@@ -20,13 +21,17 @@ use Rattle.verb_core.specs.declared.mailbox.BoxId.{BoxId}
 use Rattle.verb_core.specs.declared.mailbox.Entry.{Entry}
 use Rattle.verb_core.specs.declared.mailbox.Mailbox.{Mailbox}
 use Rattle.verb_core.specs.Aims.{box_aimed, sought_by}
-use Rattle.verb_core.specs.Boxes.{add_row, box_cmp, box_of, change_row, drop_row, has_row, mail_at, row_at}
+use Rattle.verb_core.specs.Boxes.{add_row, box_cmp, box_of, change_row, drop_row, has_row, has_superiors, is_at_or_below, mail_at, row_at}
 use Rattle.verb_core.specs.Items.{actor}
 use Rattle.verb_core.specs.Mailboxes.{changed, emptied, is_among, no_flags, no_mail, put, put_all, reflagged, with_entries}
-use Rattle.verb_core.specs.Names.{inbox, is_fixed, lost_found}
-use Rattle.verb_core.specs.Step.{Boxes, after_rename, created, left, new_mail, put_at, rearranged, renamed, saved, step, way_of}
-use Rattle.verb_core.specs.Store.{MailStore}
-use Rattle.verb_core.proofs.BoxLaws.{row_at-add_row, row_at-change_row, row_at-drop_row, tied}
+use Rattle.verb_core.specs.Names.{inbox, is_empty, is_fixed, is_inferior, lost_found, moved_name, superiors, with_superiors}
+use Rattle.verb_core.specs.Step.{Boxes, after_rename, all_created, inbox_renamed, is_in_vain, left, moved, new_mail, put_at, rearranged, saved, step, way_of}
+use Rattle.verb_core.specs.Store.{IsValid, MailStore}
+use Rattle.verb_core.specs.Touched.{is_one}
+use Rattle.verb_core.proofs.BoxLaws.{row_at-add_row, row_at-change_row, row_at-drop_row, row_at-where, tied}
+use Rattle.verb_core.proofs.MoveLaws.{moved_free}
+use Rattle.verb_core.proofs.Moves.{had-place, moved_box, moved_rows, not_in_vain, row_at-moved, stays_empty}
+use Rattle.verb_core.proofs.RowLists.{first_there, row_at-all_created}
 use Rattle.verb_core.proofs.Validity.{all-filter}
 use Rattle.repair_desk.specs.Renewals.{extends, extends_one, is_old}
 use Rattle.repair_desk.proofs.Extended.{among, both, itself, transitive}
@@ -155,58 +160,106 @@ module _ (q : BoxId) where
   if_carries true rs xs ys g h = g
   if_carries false rs xs ys g h = h
 
-  created_carries : (id : BoxId) (rs : Boxes) → Carries (row_at q rs) (row_at q (created id rs))
-  created_carries id rs = by (has_row id rs) refl
+  -- mailboxes are made where there are none
+  created_carries : (u : User) (names : List (List ℕ)) (rs : Boxes) → Carries (row_at q rs) (row_at q (all_created u names rs))
+  created_carries u names rs = subst (Carries (row_at q rs)) (sym (row_at-all_created u q names rs)) (by (row_at q rs))
     where
-      by : (b : Bool) → has_row id rs ≡ b → Carries (row_at q rs) (row_at q (cond b rs (add_row id no_mail rs)))
-      by true e = same_carries rs
-      by false e = added_carries id no_mail rs rs e (same_carries rs)
+      by : (o : Option Mailbox) → Carries o (first_there o (cond (is_one (map (box_of u) names) q) (Some no_mail) None))
+      by None = tt
+      by (Some m) = itself m
 
   left_carries : (u : User) (source : List ℕ) (rs : Boxes) → Carries (row_at q rs) (row_at q (left u source rs))
-  left_carries u source rs = if_carries (bytes_eq source inbox) rs _ _ (changed_carries (box_of u source) emptied rs emptied_extends) (dropped_carries (box_of u source) rs)
+  left_carries u source rs = if_carries (stays_empty u source rs) rs _ _ (changed_carries (box_of u source) emptied rs emptied_extends) (dropped_carries (box_of u source) rs)
 
-  -- where a RENAME goes its plain way, the new name had no mailbox
-  free : (bad there : Bool) → cond bad NoSource (cond there Merged Plain) ≡ Plain → there ≡ false
-  free true there e = cc
-  free false true e = cc
-  free false false e = refl
+  -- INBOX's mail comes into a mailbox of a free name
+  inbox_carries : (u : User) (target : List ℕ) (rs ss : Boxes) → has_row (box_of u target) rs ≡ false → Carries (row_at q rs) (row_at q ss) → Carries (row_at q rs) (row_at q (inbox_renamed u target ss))
+  inbox_carries u target rs ss gone before =
+      added_carries (box_of u target) (put_all (mail_at (box_of u inbox) ss) no_mail) rs (left u inbox ss) gone
+      (carried_on (row_at q rs) (row_at q ss) _ before (changed_grows (box_of u inbox) emptied ss emptied_extends))
 
-  renamed_carries : (way : Way) (u : User) (source target : List ℕ) (rs : Boxes) → way_of u source target rs ≡ way → Carries (row_at q rs) (row_at q (after_rename way u source target rs))
-  renamed_carries NoSource u source target rs e = same_carries rs
-  renamed_carries Plain u source target rs e =
-      added_carries (box_of u target) (renamed u source rs) rs (left u source rs)
-      (free (bytes_eq source lost_found || is_fixed target || bytes_eq source target || not (has_row (box_of u source) rs)) (has_row (box_of u target) rs) e)
-      (left_carries u source rs)
-  renamed_carries Merged u source target rs e =
-      carried_on (row_at q rs) (row_at q (left u source rs)) _ (left_carries u source rs)
-      (changed_grows (box_of u target) (put_all (mail_at (box_of u source) rs)) (left u source rs) (put_all_extends (mail_at (box_of u source) rs)))
+  -- what moves comes under names that had none
+  moved_carries : (u : User) (source target : List ℕ) (rs : Boxes) → ((m : List ℕ) → (bytes_eq source m || is_inferior source m) ≡ true → row_at (box_of u (moved_name source target m)) rs ≡ None)
+      → Carries (row_at q rs) (row_at q (moved u source target rs))
+  moved_carries u source target rs free = subst (Carries (row_at q rs)) (sym (row_at-moved q u source target rs)) (by (row_at q (moved_rows u source target rs)) refl)
+    where
+      -- the new place of what moves had no mailbox
+      was_free : (p : BoxId) × (has_row p (filter (λ (r : BoxId × Mailbox). is_at_or_below u source r.0) rs) ≡ true) × (q ≡ moved_box u source target p) → row_at q rs ≡ None
+      was_free (p, there, is) = subst (λ (b : BoxId). row_at b rs ≡ None) (sym is) (free p.name (second_so _ _ (within p there)))
+        where
+          within : (p : BoxId) → has_row p (filter (λ (r : BoxId × Mailbox). is_at_or_below u source r.0) rs) ≡ true → is_at_or_below u source p ≡ true
+          within p h = kept (is_at_or_below u source p) (sym (ap is_some (row_at-where (is_at_or_below u source) p rs)) ∙ h)
+            where
+              kept : (b : Bool) → is_some (cond b (row_at p rs) None) ≡ true → b ≡ true
+              kept true e = refl
+              kept false e = absurd (true≢false (sym e))
 
-  deleted_carries : (u : User) (name : List ℕ) (keys : List Key) (rs : Boxes) → Carries (row_at q rs) (row_at q (change_row (box_of u lost_found) (put_all (saved u name keys rs)) (drop_row (box_of u name) rs)))
+      by : (o : Option Mailbox) → row_at q (moved_rows u source target rs) ≡ o → Carries (row_at q rs) (first_there o (cond (not (is_at_or_below u source q)) (row_at q rs) None))
+      by (Some m) e = subst (λ (o : Option Mailbox). Carries o (Some m)) (sym (was_free (had-place (moved_box u source target) q _ (ap is_some e)))) tt
+      by None e = rest (not (is_at_or_below u source q)) (row_at q rs)
+        where
+          rest : (b : Bool) (o : Option Mailbox) → Carries o (cond b o None)
+          rest true o = carried o o (stays o)
+          rest false None = tt
+          rest false (Some m) = tt
+
+  -- where a RENAME goes its plain way, the new name had no mailbox, nor had a name below it
+  plain_carries : (u : User) (source target : List ℕ) (rs : Boxes) → list_all (has_superiors rs) rs ≡ true → is_empty target ≡ false → has_row (box_of u target) rs ≡ false
+      → Carries (row_at q rs) (row_at q (after_rename Plain u source target rs))
+  plain_carries u source target rs whole named gone =
+      if_carries (bytes_eq source inbox) rs (inbox_renamed u target (all_created u (superiors target) rs)) (moved u source target (all_created u (superiors target) rs))
+      (inbox_carries u target rs (all_created u (superiors target) rs) gone (created_carries u (superiors target) rs))
+      (on_made (row_at q rs) refl)
+    where
+      on_made : (o : Option Mailbox) → row_at q rs ≡ o → Carries o (row_at q (moved u source target (all_created u (superiors target) rs)))
+      on_made None e = tt
+      on_made (Some m) e =
+          let here : row_at q (all_created u (superiors target) rs) ≡ Some m = row_at-all_created u q (superiors target) rs ∙ ap (λ (o : Option Mailbox). first_there o (cond (is_one (map (box_of u) (superiors target)) q) (Some no_mail) None)) e in
+          subst (λ (o : Option Mailbox). Carries o (row_at q (moved u source target (all_created u (superiors target) rs)))) here
+          (moved_carries u source target (all_created u (superiors target) rs) (moved_free u source target rs whole named gone))
+
+  renamed_carries : (u : User) (source target : List ℕ) (rs : Boxes) → list_all (has_superiors rs) rs ≡ true → Carries (row_at q rs) (row_at q (after_rename (way_of u source target rs) u source target rs))
+  renamed_carries u source target rs whole =
+      elim (is_in_vain u source target rs || not (has_row (box_of u source) rs)) as (λ b. (is_in_vain u source target rs || not (has_row (box_of u source) rs)) ≡ b →
+      Carries (row_at q rs) (row_at q (after_rename (cond b NoSource (cond (has_row (box_of u target) rs) Merged Plain)) u source target rs))) [
+        | true ↦ λ e. same_carries rs
+        | false ↦ λ e.
+            elim (has_row (box_of u target) rs) as (λ h. has_row (box_of u target) rs ≡ h → Carries (row_at q rs) (row_at q (after_rename (cond h Merged Plain) u source target rs))) [
+              | true ↦ λ h. carried_on (row_at q rs) (row_at q (left u source rs)) _ (left_carries u source rs)
+                  (changed_grows (box_of u target) (put_all (mail_at (box_of u source) rs)) (left u source rs) (put_all_extends (mail_at (box_of u source) rs)))
+              | false ↦ λ h. plain_carries u source target rs whole (not_in_vain u source target rs (or_first _ _ e)).0 h
+            ] refl
+      ] refl
+    where
+      or_first : (a b : Bool) → (a || b) ≡ false → a ≡ false
+      or_first true b e = e
+      or_first false b e = refl
+
+  deleted_carries : (u : User) (name : List ℕ) (keys : List Key) (rs : Boxes) → Carries (row_at q rs) (row_at q (change_row (box_of u lost_found) (put_all (saved u name keys rs)) (left u name rs)))
   deleted_carries u name keys rs =
-      carried_on (row_at q rs) (row_at q (drop_row (box_of u name) rs)) _ (dropped_carries (box_of u name) rs)
-      (changed_grows (box_of u lost_found) (put_all (saved u name keys rs)) (drop_row (box_of u name) rs) (put_all_extends (saved u name keys rs)))
+      carried_on (row_at q rs) (row_at q (left u name rs)) _ (left_carries u name rs)
+      (changed_grows (box_of u lost_found) (put_all (saved u name keys rs)) (left u name rs) (put_all_extends (saved u name keys rs)))
 
-  rearranged_carries : (u : User) (d : Deed) (rs : Boxes) → Carries (row_at q rs) (row_at q (rearranged u d rs))
-  rearranged_carries u (Fetch mailbox keys sets_seen shows_body) rs =
+  rearranged_carries : (u : User) (d : Deed) (rs : Boxes) → list_all (has_superiors rs) rs ≡ true → Carries (row_at q rs) (row_at q (rearranged u d rs))
+  rearranged_carries u (Fetch mailbox keys sets_seen shows_body) rs whole =
       if_carries sets_seen rs _ rs (changed_carries (box_of u mailbox) _ rs (reflagged_extends keys Add (record no_flags { seen = true }))) (same_carries rs)
-  rearranged_carries u (Store mailbox keys how flags) rs = changed_carries (box_of u mailbox) _ rs (reflagged_extends keys how flags)
-  rearranged_carries u (Expunge mailbox keys) rs = changed_carries (box_of u mailbox) _ rs (fewer_extend (λ e. not (is_among keys e.key && e.flags.deleted)))
-  rearranged_carries u (Close mailbox keys) rs = changed_carries (box_of u mailbox) _ rs (fewer_extend (λ e. not (is_among keys e.key && e.flags.deleted)))
-  rearranged_carries u (Create mailbox) rs = created_carries (box_of u mailbox) rs
-  rearranged_carries u (Rename mailbox target) rs = renamed_carries (way_of u mailbox target rs) u mailbox target rs refl
-  rearranged_carries u (Delete mailbox keys) rs = if_carries (is_fixed mailbox) rs rs _ (same_carries rs) (deleted_carries u mailbox keys rs)
-  rearranged_carries u (Acts (Remove w mailbox key)) rs = changed_carries (box_of u mailbox) _ rs (fewer_extend (λ e. not (is_among (key ∷ []) e.key)))
-  rearranged_carries u _ rs = same_carries rs
+  rearranged_carries u (Store mailbox keys how flags) rs whole = changed_carries (box_of u mailbox) _ rs (reflagged_extends keys how flags)
+  rearranged_carries u (Expunge mailbox keys) rs whole = changed_carries (box_of u mailbox) _ rs (fewer_extend (λ e. not (is_among keys e.key && e.flags.deleted)))
+  rearranged_carries u (Close mailbox keys) rs whole = changed_carries (box_of u mailbox) _ rs (fewer_extend (λ e. not (is_among keys e.key && e.flags.deleted)))
+  rearranged_carries u (Create mailbox) rs whole = if_carries (has_row (box_of u mailbox) rs) rs rs _ (same_carries rs) (created_carries u (with_superiors mailbox) rs)
+  rearranged_carries u (Rename mailbox target) rs whole = renamed_carries u mailbox target rs whole
+  rearranged_carries u (Delete mailbox keys) rs whole = if_carries (is_fixed mailbox) rs rs _ (same_carries rs) (deleted_carries u mailbox keys rs)
+  rearranged_carries u (Acts (Remove w mailbox key)) rs whole = changed_carries (box_of u mailbox) _ rs (fewer_extend (λ e. not (is_among (key ∷ []) e.key)))
+  rearranged_carries u _ rs whole = same_carries rs
 
-  step_carries : (s : MailStore) (i : Item) → Carries (row_at q s.boxes) (row_at q (step s i).0.boxes)
-  step_carries s i =
-      carried_on (row_at q s.boxes) (row_at q (rearranged (actor i.by i.deed) i.deed s.boxes)) _ (rearranged_carries (actor i.by i.deed) i.deed s.boxes)
+  step_carries : (s : MailStore) (i : Item) → IsValid s → Carries (row_at q s.boxes) (row_at q (step s i).0.boxes)
+  step_carries s i valid =
+      carried_on (row_at q s.boxes) (row_at q (rearranged (actor i.by i.deed) i.deed s.boxes)) _ (rearranged_carries (actor i.by i.deed) i.deed s.boxes valid.superiors)
       (put_grows (λ index. new_mail (actor i.by i.deed) i s.boxes index i.deed) (sought_by s i).aims (rearranged (actor i.by i.deed) i.deed s.boxes))
 
 -- ---- the law
 
-pub step_extends : (s : MailStore) (i : Item) (id : BoxId) (m : Mailbox) → row_at id (step s i).0.boxes ≡ Some m → has_row id s.boxes ≡ true → extends_one (row_at id s.boxes) m ≡ true
-step_extends s i id m after before = by (row_at id s.boxes) before (subst (Carries (row_at id s.boxes)) after (step_carries id s i))
+pub step_extends : (s : MailStore) (i : Item) (id : BoxId) (m : Mailbox) → IsValid s → row_at id (step s i).0.boxes ≡ Some m → has_row id s.boxes ≡ true → extends_one (row_at id s.boxes) m ≡ true
+step_extends s i id m valid after before = by (row_at id s.boxes) before (subst (Carries (row_at id s.boxes)) after (step_carries id s i valid))
   where
     by : (o : Option Mailbox) → is_some o ≡ true → Carries o (Some m) → extends_one o m ≡ true
     by None there g = cc

@@ -10,7 +10,7 @@ ghost use Rattle.verb_core.specs.declared.mailbox.Mailbox.{Mailbox};
 ghost use Rattle.verb_core.specs.Boxes.{has_row, row_at};
 ghost use Rattle.verb_core.specs.Items.{IsTimeline, NumbersApart, text_of};
 ghost use Rattle.verb_core.specs.Step.{step};
-ghost use Rattle.verb_core.specs.Store.{MailStore};
+ghost use Rattle.verb_core.specs.Store.{IsValid, MailStore};
 ghost use Rattle.verb_bytes.specs.declared.journal.CycleAsk.{CycleAsk};
 ghost use Rattle.repair_desk.specs.Renewals.{extends, extends_one, renewed, stamp_after};
 ghost use Rattle.repair_desk.specs.Repairs.{are_known, dropped, is_among, is_dropped, new_timeline, numbers_of, position, replaced, takes_text};
@@ -73,6 +73,6 @@ pub fn extending_goes_on()
 
 /// A mailbox that was there before an item and is there after it is extended.
 pub fn items_extend_mailboxes()
-    ensures { (s : MailStore) (i : Item) (id : BoxId) (m : Mailbox) → row_at id (step s i).0.boxes ≡ Some m → has_row id s.boxes ≡ true →
+    ensures { (s : MailStore) (i : Item) (id : BoxId) (m : Mailbox) → IsValid s → row_at id (step s i).0.boxes ≡ Some m → has_row id s.boxes ≡ true →
         extends_one (row_at id s.boxes) m ≡ true }
 {}

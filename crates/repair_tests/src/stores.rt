@@ -83,7 +83,7 @@ fn answer(alloc: Global, given: &[(u8, &str, u64, &[u64])]) -> Result<Result<usi
 
 #[test]
 fn rows_make_a_store_or_are_refused(rt: HostRuntime) -> Result<(), Fail> {
-    let table: [(&[(u8, &str, u64, &[u64])], Result<usize, usize>); 9] = [
+    let table: [(&[(u8, &str, u64, &[u64])], Result<usize, usize>); 12] = [
         (
             &[(0, "INBOX", 4, &[1, 3]), (0, "Lost+Found", 1, &[])],
             Ok(2),
@@ -103,6 +103,25 @@ fn rows_make_a_store_or_are_refused(rt: HostRuntime) -> Result<(), Fail> {
         (&[(0, "INBOX", 4, &[0])], Err(0)),
         (&[(0, "INBOX", 4, &[1, 4])], Err(0)),
         (&[(0, "INBOX", 4, &[1, 3])], Err(1)),
+        (
+            &[
+                (0, "INBOX", 1, &[]),
+                (0, "Lost+Found", 1, &[]),
+                (0, "Work", 1, &[]),
+                (0, "Work-x", 1, &[]),
+                (0, "Work/x", 1, &[]),
+            ],
+            Ok(5),
+        ),
+        (
+            &[
+                (0, "INBOX", 1, &[]),
+                (0, "Lost+Found", 1, &[]),
+                (0, "Work/x", 1, &[]),
+            ],
+            Err(2),
+        ),
+        (&[(0, "INBOX/x", 1, &[])], Err(0)),
     ];
     for (given, want) in table {
         assert!(rt; answer(rt.alloc(), given)? == want);

@@ -1,5 +1,5 @@
 -- What is kept of a store in use: all that is needed to have it again, and to go on.
-use Rattle.std.specs.Prelude.{◌≡◌, ℕ, ◌+◌, ◌-◌, nat_le, nat_lt, Bool, List, [], ◌∷◌, ◌++◌, length, get_or, filter, Option}
+use Rattle.std.specs.Prelude.{◌≡◌, ℕ, ◌+◌, ◌-◌, nat_le, nat_lt, Bool, true, false, List, [], ◌∷◌, ◌++◌, length, get_or, filter, Option}
 use Rattle.std.specs.declared.cmp.Ordering.{Ordering}
 use Rattle.std.specs.Ordering.{nat_cmp}
 use Rattle.std.specs.Cmp.Lexicographic.{slice_cmp}
@@ -80,7 +80,7 @@ newest_at place places = get_or (not_behind place places) (length (not_behind pl
 -- ---- what is kept
 
 -- the house, the configuration at first, the store before the first item, the store that is there, the items in force in order,
--- the stamp of each mailbox, the next number, the reports of cycles, and the snapshots
+-- the stamp of each mailbox, the next number, the reports of cycles, the snapshots, and whether names may have superiors
 pub record Kept : Type 0 where
   pub house : House
   pub opening : Conf
@@ -91,6 +91,7 @@ pub record Kept : Type 0 where
   pub next : ℕ
   pub reports : Reports
   pub marks : Marks
+  pub deep : Bool
 
 -- what a store in use begins with: its house, the configuration at first, and the base, the store before the first item
 pub record Origin : Type 0 where
@@ -103,8 +104,8 @@ abbrev pub opening_origin : House → Conf → Origin
 opening_origin house conf = record { house = house; opening = conf; base = opening house conf }
 
 -- what is kept, by where it began
-abbrev pub kept_from : Origin → MailStore → List Item → List (BoxId × ℕ) → ℕ → Reports → Marks → Kept
-kept_from origin store timeline stamps next reports marks = record {
+abbrev pub kept_from : Origin → MailStore → List Item → List (BoxId × ℕ) → ℕ → Reports → Marks → Bool → Kept
+kept_from origin store timeline stamps next reports marks deep = record {
   house = origin.house;
   opening = origin.opening;
   base = origin.base;
@@ -114,6 +115,7 @@ kept_from origin store timeline stamps next reports marks = record {
   next = next;
   reports = reports;
   marks = marks;
+  deep = deep;
 }
 
 -- what it began with
@@ -148,6 +150,7 @@ new_desk house conf = record {
   next = house.first;
   reports = [];
   marks = no_marks;
+  deep = false;
 }
 
 -- the item is performed, and is the last of those in force
@@ -159,6 +162,10 @@ performed kept item = record kept {
   next = kept.next + 1;
   marks = entered 1 kept.marks;
 }
+
+-- from then on names may have superiors
+abbrev pub upgraded : Kept → Kept
+upgraded kept = record kept { deep = true }
 
 -- a snapshot of what is kept was taken
 abbrev pub snapshotted : Kept → Kept

@@ -13,7 +13,7 @@ returns c =
     let i = c.args.item.now in
     let stamps = c.args.stamps.now in
     let laws = c.stamps_name_mailboxes.ensures in
-    let is = stamps_by_deed laws.after laws.each i.number (actor i.by i.deed) i.deed (λ index. new_mail (actor i.by i.deed) i s.boxes index i.deed) (sought_by s i).aims s.boxes stamps c.requires.valid.rising c.requires.named in
+    let is = stamps_by_deed laws.after laws.each i.number (actor i.by i.deed) i.deed (λ index. new_mail (actor i.by i.deed) i s.boxes index i.deed) (sought_by s i).aims s.boxes stamps c.requires.valid.rising c.requires.valid.superiors c.requires.named in
     let acts = ap (λ (u : User). stamps_by i.number u i.deed s.boxes stamps) c.unwrap_or-user.ensures ∙ same_actor i.number i.by i.deed s.boxes stamps in
     subst (λ (t : StampRows). IfOk c.restamped.result (λ changed. unwrap_or changed stamps ≡ t)) (acts ∙ sym is)
     (subst (λ (t : StampRows). IfOk c.restamped.result (λ changed. unwrap_or changed t ≡ stamps_by i.number c.unwrap_or-user.result i.deed s.boxes t)) c.as_slice.ensures c.restamped.ensures)

@@ -17,7 +17,7 @@ live-requires-clause-known c =
 
 pub returns-clause-item : goal.returns-clause-item
 returns-clause-item c =
-    subst (λ (h : Held). IfOk c.live.result (λ item. live (store_of h.kept) h.kept.next c.args.at c.args.by c.args.ask ≡ Ok item)) c.self.view_is c.live.ensures.item
+    subst (λ (h : Held). IfOk c.live.result (λ item. live (store_of h.kept) h.kept.next c.args.at c.args.by c.args.ask h.kept.deep ≡ Ok item)) c.self.view_is c.live.ensures.item
 
 pub returns-clause-formed : goal.returns-clause-formed
 returns-clause-formed c =
@@ -27,13 +27,13 @@ returns-clause-formed c =
 pub returns-clause-number : goal.returns-clause-number
 returns-clause-number c =
     subst (λ (h : Held). IfOk c.live.result (λ item. item.number ≡ h.kept.next)) c.self.view_is
-    (number_asked c.live.result c.self.inside.store.store c.self.inside.next c.args.at c.args.by c.args.ask c.live.ensures.item)
+    (number_asked c.live.result c.self.inside.store.store c.self.inside.next c.args.at c.args.by c.args.ask c.self.inside.deep c.live.ensures.item)
 
 pub returns-clause-left : goal.returns-clause-left
 returns-clause-left c =
     subst (λ (h : Held). OnOk c.live.result (h.kept.next < 4194304)) c.self.view_is
-    (number_left c.live.result c.self.inside.store.store c.self.inside.next c.args.at c.args.by c.args.ask c.self.invariant.desk.next c.live.ensures.item)
+    (number_left c.live.result c.self.inside.store.store c.self.inside.next c.args.at c.args.by c.args.ask c.self.inside.deep c.self.invariant.desk.next c.live.ensures.item)
 
 pub returns-clause-refused : goal.returns-clause-refused
 returns-clause-refused c =
-    subst (λ (h : Held). IfErr c.live.result (λ refused. IsRefusal refused (live (store_of h.kept) h.kept.next c.args.at c.args.by c.args.ask))) c.self.view_is c.live.ensures.refused
+    subst (λ (h : Held). IfErr c.live.result (λ refused. IsRefusal refused (live (store_of h.kept) h.kept.next c.args.at c.args.by c.args.ask h.kept.deep))) c.self.view_is c.live.ensures.refused

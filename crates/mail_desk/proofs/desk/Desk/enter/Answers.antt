@@ -23,13 +23,13 @@ invariant_of-self c =
     let d = c.self.inside in
     let item = c.args.ready.item in
     let desk = c.self.invariant.desk in
-    let kept : Kept = kept_from d.base d.store.store d.timeline.items d.stamps d.next d.reports.items (marks_kept d.since d.taken d.shelf.marks) in
+    let kept : Kept = kept_from d.base d.store.store d.timeline.items d.stamps d.next d.reports.items (marks_kept d.since d.taken d.shelf.marks) d.deep in
     let can = subst (λ (h : Held). CanEnter c.args.ready h) (sym c.self.view_is) c.requires in
     let pushed : c.push.new.self.items ≡ d.timeline.items ++ item ∷ [] = c.push.ensures ∙ ap (λ (i : Item). d.timeline.items ++ i ∷ []) can.stored in
     let stored = c.apply_alone.ensures ∙ can.does in
     let stamped = c.change_stamps.ensures ∙ can.stamps in
-    let grown : performed kept item ≡ kept_from d.base c.apply_alone.new.store.store c.push.new.self.items c.change_stamps.new.stamps (d.next + 1) d.reports.items (marks_kept (d.since + 1) d.taken c.note_text.new.shelf.marks) =
-    sym (λ j. kept_from d.base (stored j) (pushed j) (stamped j) (d.next + 1) d.reports.items (marks_kept (d.since + 1) d.taken (c.note_text.ensures.marks j))) in
+    let grown : performed kept item ≡ kept_from d.base c.apply_alone.new.store.store c.push.new.self.items c.change_stamps.new.stamps (d.next + 1) d.reports.items (marks_kept (d.since + 1) d.taken c.note_text.new.shelf.marks) d.deep =
+    sym (λ j. kept_from d.base (stored j) (pushed j) (stamped j) (d.next + 1) d.reports.items (marks_kept (d.since + 1) d.taken (c.note_text.ensures.marks j)) d.deep) in
     record {
       desk = subst (λ (k : Kept). IsDesk k) grown (desk_goes_on c.mail_is_kept.ensures c.steps_keep_validity.ensures.step c.stamps_name_mailboxes.ensures.after kept item desk can.formed can.number can.left);
       sizes = subst (λ (t : List Item). SizesOf c.note_text.new.shelf.notes t) (sym pushed)
@@ -40,11 +40,11 @@ pub returns-clause-kept : goal.returns-clause-kept
 returns-clause-kept c =
     let d = c.self.inside in
     let item = c.args.ready.item in
-    let kept : Kept = kept_from d.base d.store.store d.timeline.items d.stamps d.next d.reports.items (marks_kept d.since d.taken d.shelf.marks) in
+    let kept : Kept = kept_from d.base d.store.store d.timeline.items d.stamps d.next d.reports.items (marks_kept d.since d.taken d.shelf.marks) d.deep in
     let can = subst (λ (h : Held). CanEnter c.args.ready h) (sym c.self.view_is) c.requires in
     let pushed : c.push.new.self.items ≡ d.timeline.items ++ item ∷ [] = c.push.ensures ∙ ap (λ (i : Item). d.timeline.items ++ i ∷ []) can.stored in
     let stored = c.apply_alone.ensures ∙ can.does in
     let stamped = c.change_stamps.ensures ∙ can.stamps in
-    let grown : ◌≡◌ {A = Kept} (kept_from d.base c.apply_alone.new.store.store c.push.new.self.items c.change_stamps.new.stamps (d.next + 1) d.reports.items (marks_kept (d.since + 1) d.taken c.note_text.new.shelf.marks)) (performed kept item) =
-    λ j. kept_from d.base (stored j) (pushed j) (stamped j) (d.next + 1) d.reports.items (marks_kept (d.since + 1) d.taken (c.note_text.ensures.marks j)) in
+    let grown : ◌≡◌ {A = Kept} (kept_from d.base c.apply_alone.new.store.store c.push.new.self.items c.change_stamps.new.stamps (d.next + 1) d.reports.items (marks_kept (d.since + 1) d.taken c.note_text.new.shelf.marks) d.deep) (performed kept item) =
+    λ j. kept_from d.base (stored j) (pushed j) (stamped j) (d.next + 1) d.reports.items (marks_kept (d.since + 1) d.taken (c.note_text.ensures.marks j)) d.deep in
     grown ∙ ap (λ (h : Held). performed h.kept item) c.self.view_is

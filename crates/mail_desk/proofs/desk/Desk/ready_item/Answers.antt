@@ -21,8 +21,8 @@ pub invariant_of-self : goal.invariant_of-self
 invariant_of-self c =
     let d = c.self.inside in
     let made = c.make_ready.ensures in
-    let same : ◌≡◌ {A = Kept} (kept_from d.base c.make_ready.new.store.store c.make_ready.new.timeline.items d.stamps d.next d.reports.items (marks_kept d.since d.taken c.make_ready.new.shelf.marks)) (kept_from d.base d.store.store d.timeline.items d.stamps d.next d.reports.items (marks_kept d.since d.taken d.shelf.marks)) =
-    λ j. kept_from d.base (made.store j) (made.timeline j) d.stamps d.next d.reports.items (marks_kept d.since d.taken (made.marks j)) in
+    let same : ◌≡◌ {A = Kept} (kept_from d.base c.make_ready.new.store.store c.make_ready.new.timeline.items d.stamps d.next d.reports.items (marks_kept d.since d.taken c.make_ready.new.shelf.marks) d.deep) (kept_from d.base d.store.store d.timeline.items d.stamps d.next d.reports.items (marks_kept d.since d.taken d.shelf.marks) d.deep) =
+    λ j. kept_from d.base (made.store j) (made.timeline j) d.stamps d.next d.reports.items (marks_kept d.since d.taken (made.marks j)) d.deep in
     record {
       desk = subst (λ (k : Kept). IsDesk k) (sym same) c.self.invariant.desk;
       sizes = λ body. ap (λ (n : List (Body × Note)). size_of n body) made.shelf ∙ c.self.invariant.sizes body ∙ ap (λ (t : List Item). option_map length (text_of t body)) (sym made.timeline);
@@ -32,8 +32,8 @@ pub returns-clause-kept : goal.returns-clause-kept
 returns-clause-kept c =
     let d = c.self.inside in
     let made = c.make_ready.ensures in
-    let same : ◌≡◌ {A = Kept} (kept_from d.base c.make_ready.new.store.store c.make_ready.new.timeline.items d.stamps d.next d.reports.items (marks_kept d.since d.taken c.make_ready.new.shelf.marks)) (kept_from d.base d.store.store d.timeline.items d.stamps d.next d.reports.items (marks_kept d.since d.taken d.shelf.marks)) =
-    λ j. kept_from d.base (made.store j) (made.timeline j) d.stamps d.next d.reports.items (marks_kept d.since d.taken (made.marks j)) in
+    let same : ◌≡◌ {A = Kept} (kept_from d.base c.make_ready.new.store.store c.make_ready.new.timeline.items d.stamps d.next d.reports.items (marks_kept d.since d.taken c.make_ready.new.shelf.marks) d.deep) (kept_from d.base d.store.store d.timeline.items d.stamps d.next d.reports.items (marks_kept d.since d.taken d.shelf.marks) d.deep) =
+    λ j. kept_from d.base (made.store j) (made.timeline j) d.stamps d.next d.reports.items (marks_kept d.since d.taken (made.marks j)) d.deep in
     same ∙ ap (λ (h : Held). h.kept) c.self.view_is
 
 pub returns-clause-ready : goal.returns-clause-ready
@@ -41,10 +41,10 @@ returns-clause-ready c =
     let d = c.self.inside in
     let new = c.make_ready.new in
     let made = c.make_ready.ensures in
-    let kept : Kept = kept_from d.base d.store.store d.timeline.items d.stamps d.next d.reports.items (marks_kept d.since d.taken d.shelf.marks) in
+    let kept : Kept = kept_from d.base d.store.store d.timeline.items d.stamps d.next d.reports.items (marks_kept d.since d.taken d.shelf.marks) d.deep in
     let held : Held = record { kept = kept; notes = new.shelf.notes; marks = new.shelf.marks; room = record { store = new.store; items = new.timeline.room; notes = new.shelf.room; reports = vec_capacity d.reports - vec_len d.reports; marks = new.shelf.keeps } } in
-    let same : ◌≡◌ {A = Kept} kept (kept_from d.base new.store.store new.timeline.items d.stamps d.next d.reports.items (marks_kept d.since d.taken new.shelf.marks)) =
-    sym (λ j. kept_from d.base (made.store j) (made.timeline j) d.stamps d.next d.reports.items (marks_kept d.since d.taken (made.marks j))) in
+    let same : ◌≡◌ {A = Kept} kept (kept_from d.base new.store.store new.timeline.items d.stamps d.next d.reports.items (marks_kept d.since d.taken new.shelf.marks) d.deep) =
+    sym (λ j. kept_from d.base (made.store j) (made.timeline j) d.stamps d.next d.reports.items (marks_kept d.since d.taken (made.marks j)) d.deep) in
     subst (λ (k : Kept). IfOk c.make_ready.result (λ ready. CanEnter ready (record {
       kept = k;
       notes = new.shelf.notes;

@@ -24,8 +24,8 @@ pub invariant_of-self : goal.invariant_of-self
 invariant_of-self c =
     let d = c.self.inside in
     let noted = c.noted_with_room-shelf in
-    let same : ◌≡◌ {A = Kept} (kept_from d.base d.store.store noted.new.timeline.items d.stamps d.next noted.new.reports.items (marks_kept d.since d.taken d.shelf.marks)) (kept_from d.base d.store.store d.timeline.items d.stamps d.next d.reports.items (marks_kept d.since d.taken d.shelf.marks)) =
-    λ j. kept_from d.base d.store.store (noted.ensures.items j) d.stamps d.next (noted.ensures.same j) (marks_kept d.since d.taken d.shelf.marks) in
+    let same : ◌≡◌ {A = Kept} (kept_from d.base d.store.store noted.new.timeline.items d.stamps d.next noted.new.reports.items (marks_kept d.since d.taken d.shelf.marks) d.deep) (kept_from d.base d.store.store d.timeline.items d.stamps d.next d.reports.items (marks_kept d.since d.taken d.shelf.marks) d.deep) =
+    λ j. kept_from d.base d.store.store (noted.ensures.items j) d.stamps d.next (noted.ensures.same j) (marks_kept d.since d.taken d.shelf.marks) d.deep in
     record {
       desk = subst (λ (k : Kept). IsDesk k) (sym same) c.self.invariant.desk;
       sizes = λ body. c.self.invariant.sizes body ∙ ap (λ (t : List Item). option_map length (text_of t body)) (sym noted.ensures.items);
@@ -35,8 +35,8 @@ pub returns-clause-kept : goal.returns-clause-kept
 returns-clause-kept c =
     let d = c.self.inside in
     let noted = c.noted_with_room-shelf in
-    let same : ◌≡◌ {A = Kept} (kept_from d.base d.store.store noted.new.timeline.items d.stamps d.next noted.new.reports.items (marks_kept d.since d.taken d.shelf.marks)) (kept_from d.base d.store.store d.timeline.items d.stamps d.next d.reports.items (marks_kept d.since d.taken d.shelf.marks)) =
-    λ j. kept_from d.base d.store.store (noted.ensures.items j) d.stamps d.next (noted.ensures.same j) (marks_kept d.since d.taken d.shelf.marks) in
+    let same : ◌≡◌ {A = Kept} (kept_from d.base d.store.store noted.new.timeline.items d.stamps d.next noted.new.reports.items (marks_kept d.since d.taken d.shelf.marks) d.deep) (kept_from d.base d.store.store d.timeline.items d.stamps d.next d.reports.items (marks_kept d.since d.taken d.shelf.marks) d.deep) =
+    λ j. kept_from d.base d.store.store (noted.ensures.items j) d.stamps d.next (noted.ensures.same j) (marks_kept d.since d.taken d.shelf.marks) d.deep in
     same ∙ ap (λ (h : Held). h.kept) c.self.view_is
 
 pub returns-clause-made : goal.returns-clause-made
@@ -45,7 +45,7 @@ returns-clause-made c =
     let a = c.args in
     let made = c.completed in
     subst (λ (h : Held). IfOk made.result (λ remade. remade_as h.kept remade ≡ with_parts h.kept a.store.store (take a.from h.kept.timeline ++ a.behind) a.stamps a.next (a.key, a.report) a.place a.entered)) c.self.view_is
-    (made_is made.result (kept_from d.base d.store.store d.timeline.items d.stamps d.next d.reports.items (marks_kept d.since d.taken d.shelf.marks))
+    (made_is made.result (kept_from d.base d.store.store d.timeline.items d.stamps d.next d.reports.items (marks_kept d.since d.taken d.shelf.marks) d.deep)
     a.store a.from a.behind a.stamps a.next a.key a.report a.place a.entered made.ensures.store made.ensures.from made.ensures.behind made.ensures.stamps made.ensures.next made.ensures.key made.ensures.report made.ensures.place made.ensures.entered)
 
 pub returns-clause-ready : goal.returns-clause-ready
@@ -54,15 +54,15 @@ returns-clause-ready c =
     let a = c.args in
     let noted = c.noted_with_room-shelf in
     let made = c.completed in
-    let kept : Kept = kept_from d.base d.store.store noted.new.timeline.items d.stamps d.next noted.new.reports.items (marks_kept d.since d.taken d.shelf.marks) in
+    let kept : Kept = kept_from d.base d.store.store noted.new.timeline.items d.stamps d.next noted.new.reports.items (marks_kept d.since d.taken d.shelf.marks) d.deep in
     let held : Held = record {
-      kept = kept_from d.base d.store.store noted.new.timeline.items d.stamps d.next noted.new.reports.items (marks_kept d.since d.taken d.shelf.marks);
+      kept = kept_from d.base d.store.store noted.new.timeline.items d.stamps d.next noted.new.reports.items (marks_kept d.since d.taken d.shelf.marks) d.deep;
       notes = d.shelf.notes;
       marks = d.shelf.marks;
       room = record { store = d.store; items = noted.new.timeline.room; notes = d.shelf.room; reports = vec_capacity noted.new.reports - vec_len noted.new.reports; marks = d.shelf.keeps };
     } in
-    let same : ◌≡◌ {A = Kept} (kept_from d.base d.store.store d.timeline.items d.stamps d.next d.reports.items (marks_kept d.since d.taken d.shelf.marks)) (kept_from d.base d.store.store noted.new.timeline.items d.stamps d.next noted.new.reports.items (marks_kept d.since d.taken d.shelf.marks)) =
-    sym (λ j. kept_from d.base d.store.store (noted.ensures.items j) d.stamps d.next (noted.ensures.same j) (marks_kept d.since d.taken d.shelf.marks)) in
+    let same : ◌≡◌ {A = Kept} (kept_from d.base d.store.store d.timeline.items d.stamps d.next d.reports.items (marks_kept d.since d.taken d.shelf.marks) d.deep) (kept_from d.base d.store.store noted.new.timeline.items d.stamps d.next noted.new.reports.items (marks_kept d.since d.taken d.shelf.marks) d.deep) =
+    sym (λ j. kept_from d.base d.store.store (noted.ensures.items j) d.stamps d.next (noted.ensures.same j) (marks_kept d.since d.taken d.shelf.marks) d.deep) in
     let was : c.args.self.now.kept ≡ kept = sym (ap (λ (h : Held). h.kept) c.self.view_is) ∙ same in
     let desk = subst (λ (k : Kept). IsDesk k) same c.self.invariant.desk in
     let sizes = through made.result shelf_of noted.result made.ensures.shelf (λ (p : Noted). SizesOf p.notes (take a.from d.timeline.items ++ a.behind)) noted.ensures.sizes in

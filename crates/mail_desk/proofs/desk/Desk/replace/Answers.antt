@@ -15,14 +15,14 @@ use Rattle.mail_desk.proofs.desk.Desk.replace.Goals as goal
 left_is : (c : goal.After-put_report) →
     let d = c.self.inside in
     kept_from d.base c.put.new.place.store c.go_on.new.self.items c.put-2.new.place c.args.remade.next c.put_report.new.reports.items
-    (marks_kept (d.since + c.args.remade.entered) d.taken c.forget_after.new.self.marks)
-    ≡ remade_as (kept_from d.base d.store.store d.timeline.items d.stamps d.next d.reports.items (marks_kept d.since d.taken d.shelf.marks)) c.args.remade
+    (marks_kept (d.since + c.args.remade.entered) d.taken c.forget_after.new.self.marks) d.deep
+    ≡ remade_as (kept_from d.base d.store.store d.timeline.items d.stamps d.next d.reports.items (marks_kept d.since d.taken d.shelf.marks) d.deep) c.args.remade
 left_is c =
     let d = c.self.inside in
     let made = c.args.remade in
     let places = c.forget_after.ensures.positions ∙ ap (λ (ms : List (ℕ × Place)). not_behind made.place (map (λ (m : ℕ × Place). m.0) ms)) c.take_notes.ensures.marks in
     λ j. kept_from d.base (c.put.ensures j).store (c.go_on.ensures j) (c.put-2.ensures j) made.next (c.put_report.ensures j)
-    (record { since = d.since + made.entered; taken = d.taken; places = places j })
+    (record { since = d.since + made.entered; taken = d.taken; places = places j }) d.deep
 
 pub go_on-requires-clause-from : goal.go_on-requires-clause-from
 go_on-requires-clause-from c = let can = subst (λ (h : Held). CanReplace c.args.remade h) (sym c.self.view_is) c.requires in can.from
