@@ -13,5 +13,6 @@ pub mod Runs
 pub mod Sealed
 pub mod Submits
 pub mod Snapshots
+pub mod Upgrading
 pub mod Turns
 pub mod Spots

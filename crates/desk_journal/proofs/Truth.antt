@@ -14,7 +14,7 @@ use Rattle.verb_core.specs.declared.item.Item.{Item}
 use Rattle.verb_core.specs.Live.{answered, live}
 use Rattle.verb_bytes.specs.declared.journal.CycleAsk.{CycleAsk}
 use Rattle.verb_bytes.specs.declared.journal.JournalRecord.{JournalRecord}
-use Rattle.verb_bytes.specs.declared.journal.JournalRecord.TheVariants.{Format, Verb, Operator, Cycle}
+use Rattle.verb_bytes.specs.declared.journal.JournalRecord.TheVariants.{Format, Verb, Operator, Cycle, Upgrade}
 use Rattle.house_text.specs.Beginning.{can_begin}
 use Rattle.store_kept.specs.Kept.{Kept, new_desk, store_of}
 use Rattle.mail_desk.proofs.Readied.{asked_is}
@@ -58,10 +58,10 @@ pub true_as : (kept : Kept) (what : JournalRecord) → what ≡ true_record kept
 true_as kept what is = subst (λ (r : JournalRecord). is_same record_code what r ≡ true) is (same_itself record_code what)
 
 -- an item that is due shows the step's answer
-pub live_true : (kept : Kept) (number at : ℕ) (by : Option User) (ask : Ask) (item : Item) → live (store_of kept) number at by ask ≡ Ok item → is_true kept (Verb item) ≡ true
-live_true kept number at by ask item is =
+pub live_true : (kept : Kept) (number at : ℕ) (by : Option User) (ask : Ask) (deep : Bool) (item : Item) → live (store_of kept) number at by ask deep ≡ Ok item → is_true kept (Verb item) ≡ true
+live_true kept number at by ask deep item is =
     true_as kept (Verb item)
-    (subst (λ (i : Item). Verb i ≡ Verb (answered (store_of kept) i)) (sym (asked_is (store_of kept) number at by ask item is).0) refl)
+    (subst (λ (i : Item). Verb i ≡ Verb (answered (store_of kept) i)) (sym (asked_is (store_of kept) number at by ask deep item is).0) refl)
 
 pub act_true : (kept : Kept) (number at : ℕ) (act : Act) → is_true kept (Operator number at act) ≡ true
 act_true kept number at act = same_itself record_code (Operator number at act)
@@ -71,6 +71,9 @@ cycle_true kept number at ask = same_itself record_code (Cycle number at ask)
 
 pub snapshot_true : (kept : Kept) → is_true kept (snapshot_record kept) ≡ true
 snapshot_true kept = same_itself record_code (snapshot_record kept)
+
+pub upgrade_true : (kept : Kept) (at : ℕ) → is_true kept (Upgrade at) ≡ true
+upgrade_true kept at = same_itself record_code (Upgrade at)
 
 -- ---- more records
 

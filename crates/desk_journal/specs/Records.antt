@@ -14,12 +14,12 @@ use Rattle.verb_core.specs.Live.{answered}
 use Rattle.verb_core.specs.Store.{is_known}
 use Rattle.verb_bytes.specs.declared.journal.CycleAsk.{CycleAsk}
 use Rattle.verb_bytes.specs.declared.journal.JournalRecord.{JournalRecord}
-use Rattle.verb_bytes.specs.declared.journal.JournalRecord.TheVariants.{Format, Verb, Operator, Cycle, Snapshot}
+use Rattle.verb_bytes.specs.declared.journal.JournalRecord.TheVariants.{Format, Verb, Operator, Cycle, Snapshot, Upgrade}
 use Rattle.verb_bytes.specs.Fields.{are_in_range}
 use Rattle.verb_bytes.specs.Spelling.{record_bytes, record_fields}
 use Rattle.seal_log.specs.Journal.{StandsFor}
 use Rattle.box_store.specs.Making.{makes_store}
-use Rattle.store_kept.specs.Kept.{Kept, new_desk, passed, performed, snapshotted, store_of}
+use Rattle.store_kept.specs.Kept.{Kept, new_desk, passed, performed, snapshotted, store_of, upgraded}
 use Rattle.repair_desk.specs.Repairs.{are_known, position}
 use Rattle.cycle_rules.specs.Asking.{Due, Repeats, NoPoint, NoNumbers, Rewinds, after_cycle, cycle_due}
 use Rattle.house_text.specs.Beginning.{can_begin}
@@ -127,12 +127,17 @@ abbrev pub after_snapshot : Kept → ℕ → Conf → List (BoxId × Mailbox) �
 after_snapshot kept items conf rows =
     if is_spelled (Snapshot items conf rows) && can_keep kept items conf rows then Some (after_kept kept (Snapshot items conf rows)) else None
 
+-- what is kept after an upgrade, where it can stand: there was none before
+abbrev pub after_upgrade : Kept → ℕ → Option Kept
+after_upgrade kept at = if is_spelled (Upgrade at) && not kept.deep then Some (upgraded kept) else None
+
 -- what is kept after one more record; none where it can't stand
 abbrev pub after_record : Kept → JournalRecord → Option Kept
 after_record kept (Verb item) = after_item kept (Verb item) item
 after_record kept (Operator number at act) = after_item kept (Operator number at act) (act_item number at act)
 after_record kept (Cycle number at ask) = after_cycle_record kept number at ask
 after_record kept (Snapshot items conf rows) = after_snapshot kept items conf rows
+after_record kept (Upgrade at) = after_upgrade kept at
 after_record kept _ = None
 
 -- ---- many

@@ -1,4 +1,4 @@
--- What becomes of an ask, of an act and of a snapshot.
+-- What becomes of an ask, of an act, of a snapshot and of an upgrade.
 use Rattle.std.specs.Prelude.{◌≡◌, ◌≢◌, ◌⊎◌, ℕ, ◌+◌, ◌<◌, true, false, List, [], ◌∷◌, length, Result, Ok, Err, OnOk, OnErr, IsErrOf, IsTrue}
 use Rattle.undo_outside.specs.Disk.{DiskTold, WriteStarved}
 use Rattle.verb_core.specs.declared.ask.Refused.{Refused}
@@ -8,7 +8,7 @@ use Rattle.verb_core.specs.declared.ask.Refused.TheVariants.{NoMemory}
 use Rattle.verb_core.specs.declared.item.Act.{Act}
 use Rattle.verb_core.specs.declared.item.Item.{Item}
 use Rattle.verb_bytes.specs.declared.journal.JournalRecord.{JournalRecord}
-use Rattle.verb_bytes.specs.declared.journal.JournalRecord.TheVariants.{Verb, Operator}
+use Rattle.verb_bytes.specs.declared.journal.JournalRecord.TheVariants.{Verb, Operator, Upgrade}
 use Rattle.box_store.specs.Refusing.{IsRefusal}
 use Rattle.seal_log.specs.Causes.{Fed, SealWants, Starves}
 use Rattle.seal_log.specs.declared.fault.SealFault.{SealFault}
@@ -16,7 +16,7 @@ use Rattle.seal_log.specs.declared.fault.SealFault.TheVariants as log_faults
 use Rattle.desk_journal.specs.declared.fault.ActFault.{ActFault}
 use Rattle.desk_journal.specs.declared.fault.ActFault.TheVariants as act_faults
 use Rattle.seal_log.specs.Settled.{Holds, IsSettled}
-use Rattle.store_kept.specs.Kept.{snapshotted}
+use Rattle.store_kept.specs.Kept.{snapshotted, upgraded}
 use Rattle.desk_journal.specs.Lasting.{IsUnwritten, JournalTold, Lasting}
 use Rattle.desk_journal.specs.Records.{snapshot_record}
 use Rattle.desk_journal.specs.Sealing.{Seals, SealsPayloads}
@@ -116,3 +116,17 @@ module _ {D : Type 0} (told : D → DiskTold) where
   SnapshotsNone old new log_faults.Disk = (old.closed ≡ false) × Seals told [] (snapshot_record old.kept ∷ []) old new
   SnapshotsNone old new log_faults.NoMemory = (old.closed ≡ false) × SealsNothing old new
   SnapshotsNone old new log_faults.Closed = IsTrue old.closed × (new ≡ old)
+
+  -- Names may have superiors from then on, and the record of that was sealed.
+  abbrev pub Upgrades : ℕ → Lasting D → Lasting D → Type 0
+  Upgrades at old new = (old.closed ≡ false) × (new.kept ≡ upgraded old.kept) × Seals told (Upgrade at ∷ []) [] old new
+
+  -- It is done once: where it was done before nothing changes, also on a desk that is closed.
+  abbrev pub UpgradesOnce : ℕ → Lasting D → Lasting D → Type 0
+  UpgradesOnce at old new = ((old.kept.deep ≡ true) × (new ≡ old)) ⊎ ((old.kept.deep ≡ false) × Upgrades at old new)
+
+  -- Why they may not: as of a snapshot.
+  abbrev pub UpgradesNone : ℕ → Lasting D → Lasting D → SealFault → Type 0
+  UpgradesNone at old new log_faults.Disk = (old.closed ≡ false) × Seals told [] (Upgrade at ∷ []) old new
+  UpgradesNone at old new log_faults.NoMemory = (old.closed ≡ false) × SealsNothing old new
+  UpgradesNone at old new log_faults.Closed = IsTrue old.closed × (new ≡ old)

@@ -1,7 +1,7 @@
 //! The journal of a desk: what each call on a desk in memory seals in it, and what its records leave.
 //!
 //! `on_disk` has the journal on a disk, `seal` seals the record of an item, and `spelling` makes the bytes of each. `make` begins a
-//! journal; `submit`, `act` and `snapshot` do what users and the operator ask of a desk in memory and its open journal; `texts`
+//! journal; `submit`, `act`, `snapshot` and `upgrade` do what users and the operator ask of a desk in memory and its open journal; `texts`
 //! reads the texts of bodies, `read_texts` is the texts of a desk for whoever performs its items once more, with those that a
 //! request brings (`new_texts`), and `fresh` says where those lie that a cycle brings. `fault` says why a desk is not made and an act not done, and `laws` what holds of runs of
 //! calls. In specs/, `Records` says what records leave one after the other and when one can stand, `Lasting` what contracts see
@@ -25,6 +25,7 @@ mod snapshot;
 mod spelling;
 mod submit;
 mod texts;
+mod upgrade;
 
 pub use act::{act_open, item_of};
 pub use fault::{ActFault, MakeFault};
@@ -37,3 +38,4 @@ pub use seal::seal_bytes;
 pub use snapshot::snapshot_open;
 pub use spelling::cycle_bytes;
 pub use submit::submit_open;
+pub use upgrade::upgrade_open;

@@ -1,6 +1,6 @@
 //! The bytes of records.
 ghost use Rattle.std.specs.Prelude.{◌≡◌, IsTrue, IfOk, OnOk};
-ghost use Rattle.verb_bytes.specs.declared.journal.JournalRecord.TheVariants.{Format, Verb, Operator, Cycle};
+ghost use Rattle.verb_bytes.specs.declared.journal.JournalRecord.TheVariants.{Format, Verb, Operator, Cycle, Upgrade};
 ghost use Rattle.verb_bytes.specs.Spelling.{record_bytes};
 ghost use Rattle.desk_journal.specs.Records.{is_spelled};
 
@@ -8,6 +8,7 @@ use std::alloc::Global;
 use undo_base::{Copies, NoMemory, Text};
 use verb_bytes::{
     CycleAsk, JournalRecord, Unwritten, spell_act, spell_cycle, spell_item, spell_record,
+    spell_upgrade,
 };
 use verb_core::{Act, Conf, House, Item};
 
@@ -41,6 +42,18 @@ pub fn cycle_bytes(alloc: Global, number: u32, at: u64, ask: &CycleAsk) -> Resul
     ensures bytes { IfOk result (λ text. text ≡ record_bytes (Cycle number at ask.now)) }
 {
     match spell_cycle(alloc, number, at, ask) {
+        Ok(bytes) => Ok(bytes),
+        Err(Unwritten::Unspelled) => Err(NoMemory),
+        Err(Unwritten::NoMemory) => Err(NoMemory),
+    }
+}
+
+/// The same of an upgrade.
+pub fn upgrade_bytes(alloc: Global, at: u64) -> Result<Text, NoMemory>
+    ensures spelled { OnOk result (IsTrue (is_spelled (Upgrade at))) }
+    ensures bytes { IfOk result (λ text. text ≡ record_bytes (Upgrade at)) }
+{
+    match spell_upgrade(alloc, at) {
         Ok(bytes) => Ok(bytes),
         Err(Unwritten::Unspelled) => Err(NoMemory),
         Err(Unwritten::NoMemory) => Err(NoMemory),

@@ -78,11 +78,11 @@ fn find(
     ensures kept { desk.new.kept ≡ desk.old.kept }
     ensures notes { desk.new.notes ≡ desk.old.notes }
     ensures marks { desk.new.marks ≡ desk.old.marks }
-    ensures item { IfOk result (λ found. live (store_of desk.old.kept) desk.old.kept.next at by ask ≡ Ok found.ready.item) }
+    ensures item { IfOk result (λ found. live (store_of desk.old.kept) desk.old.kept.next at by ask desk.old.kept.deep ≡ Ok found.ready.item) }
     ensures ready { IfOk result (λ found. CanEnter found.ready desk.new) }
     ensures lies { IfOk result (λ found. (text : List ℕ) → text_in found.ready.item.deed ≡ Some text → IsTextAt found.bytes found.from text) }
     ensures record { IfOk result (λ found. IsRecordOf (Verb found.ready.item) found.bytes desk.old.kept found.ready.item) }
-    ensures refused { IfErr result (λ refused. IsRefusal refused (live (store_of desk.old.kept) desk.old.kept.next at by ask)) }
+    ensures refused { IfErr result (λ refused. IsRefusal refused (live (store_of desk.old.kept) desk.old.kept.next at by ask desk.old.kept.deep)) }
 {
     let ready = desk.ready(alloc, at, by, ask)?;
     match with_bytes(alloc, ready) {
@@ -154,7 +154,7 @@ pub fn submit_open<D: Disk>(
     ensures err { OnErr result (desk.new.kept ≡ desk.old.kept) }
     ensures notes { OnErr result (desk.new.notes ≡ desk.old.notes) }
     ensures marks { OnErr result (desk.new.marks ≡ desk.old.marks) }
-    ensures why { IfErr result (λ fault. SubmitsNone D.told (live (store_of desk.old.kept) desk.old.kept.next at by ask)
+    ensures why { IfErr result (λ fault. SubmitsNone D.told (live (store_of desk.old.kept) desk.old.kept.next at by ask desk.old.kept.deep)
         (lasting desk.old journal.old) (lasting desk.new journal.new) fault) }
     ensures writes_none { WritesNone result (lasting desk.old journal.old) (lasting desk.new journal.new) }
     ensures reads { (D.told journal.new.disk).failed_reads ≡ (D.told journal.old.disk).failed_reads }

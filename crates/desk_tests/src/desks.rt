@@ -44,6 +44,11 @@ pub(crate) fn started(alloc: Global, image: &[u8], failing: &[u32]) -> Result<De
     desk_of(Desk::start(alloc, disk))
 }
 
+/// A desk that is started over a disk that another left.
+pub(crate) fn restarted(alloc: Global, disk: MemDisk) -> Result<Desk<MemDisk>, Fail> {
+    desk_of(Desk::start(alloc, disk))
+}
+
 pub(crate) fn kept(alloc: Global, desk: &Desk<MemDisk>) -> Result<Kept, Fail> {
     Ok((desk.digest(alloc)?, desk.counts()))
 }

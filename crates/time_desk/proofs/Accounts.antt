@@ -12,11 +12,12 @@ use Rattle.verb_core.specs.declared.conf.Filter.{Filter}
 use Rattle.verb_core.specs.declared.mailbox.Entry.{Entry}
 use Rattle.verb_core.specs.Aims.{Sought, aim_at, and_postmaster, delivered, into_or, sought}
 use Rattle.verb_core.specs.Boxes.{same_user}
+use Rattle.verb_core.specs.Filters.{deciding}
 use Rattle.verb_core.specs.Fates.{HasOneFate, IsBase, is_discarded, times_given, times_in}
 use Rattle.verb_core.specs.Items.{actor, text_in}
 use Rattle.verb_core.specs.Mailboxes.{no_flags}
 use Rattle.verb_core.specs.Names.{inbox, lost_found}
-use Rattle.verb_core.specs.Recipients.{deciding, recipients, some_unknown}
+use Rattle.verb_core.specs.Recipients.{recipients, some_unknown}
 use Rattle.verb_core.specs.Step.{message, new_mail, run}
 use Rattle.verb_core.specs.Store.{IsValid, MailStore}
 use Rattle.verb_core.proofs.BoxLaws.{same_user-refl}
@@ -72,10 +73,10 @@ module _ (s : MailStore) (i : Item) where
       filed (Some name) stays = to_postmaster to (into_or s.boxes name inbox (recipients s.house s.conf to)) unknown
 
 -- the postmaster's copy of mail for nobody
-pub stray_given : (s : MailStore) (i : Item) (from : List ℕ) (to : List (List ℕ)) (text : List ℕ) → i.deed ≡ Deliver from to text → some_unknown s.house s.conf to ≡ true → is_discarded s.conf text ≡ false
+pub stray_given : (s : MailStore) (i : Item) (from : List ℕ) (to : List (List ℕ)) (text : List ℕ) → i.deed ≡ Deliver from to text → some_unknown s.house s.conf to ≡ true → is_discarded s.conf from to text ≡ false
     → times_given s.house.postmaster (record { item = i.number; index = 1 }) s i ≡ 1
 stray_given s i from to text is unknown stays =
     let least : 1 ≤ times_given s.house.postmaster (record { item = i.number; index = 1 }) s i =
-    subst (λ (d : Deed). 1 ≤ given_at s.house.postmaster (key s i) (λ index. new_mail (actor i.by d) i s.boxes index d) (sought s (unwrap_or (text_in d) []) i.by d).aims) (sym is) (comes s i to (deciding s.conf text) unknown stays) in
+    subst (λ (d : Deed). 1 ≤ given_at s.house.postmaster (key s i) (λ index. new_mail (actor i.by d) i s.boxes index d) (sought s (unwrap_or (text_in d) []) i.by d).aims) (sym is) (comes s i to (deciding s.conf from to text) unknown stays) in
     let most = times_given-le s.house.postmaster (record { item = i.number; index = 1 }) s i in
     omega (arith, least, most, ap {B = ℕ} (λ b. cond b 1 0) (eq-eqb i.number i.number refl))

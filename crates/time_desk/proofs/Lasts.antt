@@ -1,4 +1,4 @@
--- What a client knows by UID lasts over one call that seals a record, of whatever desk: its stamps name its mailboxes.
+-- What a client knows by UID lasts over one call that seals a record, of whatever desk: its store is valid, and its stamps name its mailboxes.
 use Rattle.std.proofs.Common.{◌≡◌, ℕ, Bool, true, false, ◌&&◌, ◌||◌, ◌==◌, cond, nat_lt, [], ◌∷◌, map, Option, Some, None, Result, Ok, Err, IfOk, OnOk, OnErr, eqb-true, inr, ap, refl, sym, subst}
 use Rattle.std.specs.Prelude.{option_and_then}
 use Rattle.std.proofs.lemmas.Bool.{and_parts}
@@ -7,19 +7,21 @@ use Rattle.verb_core.specs.Deeds.{act_item}
 use Rattle.verb_core.specs.declared.item.Item.{Item}
 use Rattle.verb_core.specs.declared.mailbox.BoxId.{BoxId}
 use Rattle.verb_core.specs.declared.mailbox.Mailbox.{Mailbox}
+use Rattle.verb_core.specs.Store.{IsValid}
 use Rattle.verb_bytes.specs.declared.journal.JournalRecord.{JournalRecord}
-use Rattle.verb_bytes.specs.declared.journal.JournalRecord.TheVariants.{Verb, Operator, Cycle, Snapshot}
-use Rattle.store_kept.specs.Kept.{Kept, Marks, passed, performed, snapshotted, store_of}
+use Rattle.verb_bytes.specs.declared.journal.JournalRecord.TheVariants.{Verb, Operator, Cycle, Snapshot, Upgrade}
+use Rattle.store_kept.specs.Kept.{Kept, Marks, passed, performed, snapshotted, store_of, upgraded}
 use Rattle.mail_cycle.specs.Permanence.{UidsLast}
 use Rattle.mail_cycle.proofs.Lasting.{lasts_itself, lasts_performed}
 use Rattle.desk_journal.specs.Lasting.{Lasting}
 use Rattle.desk_journal.specs.Records.{after_item, after_kept, after_record, can_follow, can_keep, is_cycle, is_formed, is_spelled, is_true}
 use Rattle.desk_journal.specs.Sealing.{Seals}
 use Rattle.desk_journal.specs.Submitting.{Snapshots}
+use Rattle.desk_journal.proofs.Upgrading.{upgrade_is}
 
--- the stamps name the mailboxes
+-- the store is valid, and the stamps name its mailboxes
 abbrev pub IsNamed : Kept → Type 0
-IsNamed kept = map (λ (r : BoxId × ℕ). r.0) kept.stamps ≡ map (λ (r : BoxId × Mailbox). r.0) (store_of kept).boxes
+IsNamed kept = IsValid (store_of kept) × (map (λ (r : BoxId × ℕ). r.0) kept.stamps ≡ map (λ (r : BoxId × Mailbox). r.0) (store_of kept).boxes)
 
 -- over no record
 pub lasts_kept : (old new : Kept) → new ≡ old → UidsLast old new
@@ -29,6 +31,10 @@ lasts_kept old new same = subst (UidsLast old) (sym same) (lasts_itself old)
 pub lasts_marked : (kept : Kept) (marks : Marks) → UidsLast kept (record kept { marks = marks })
 lasts_marked kept marks = let same = lasts_itself kept in record { next = same.next; stamps = same.stamps; texts = same.texts }
 
+-- whether names may have superiors or not
+lasts_upgraded : (kept : Kept) → UidsLast kept (upgraded kept)
+lasts_upgraded kept = let same = lasts_itself kept in record { next = same.next; stamps = same.stamps; texts = same.texts }
+
 item_lasts : (kept new : Kept) (what : JournalRecord) (item : Item) → IsNamed kept → after_item kept what item ≡ Some new → UidsLast kept new
 item_lasts kept new what item named is = by (is_spelled what) (can_follow kept item) refl is
   where
@@ -36,7 +42,7 @@ item_lasts kept new what item named is = by (is_spelled what) (can_follow kept i
     by true true e is =
         let number : item.number ≡ kept.next = eqb-true item.number kept.next (and_parts (item.number == kept.next) (nat_lt kept.next 4194304) (and_parts ((item.number == kept.next) && nat_lt kept.next 4194304) (is_formed kept.house item) e).0).0 in
         let same : performed kept item ≡ new = cc is in
-        subst (UidsLast kept) same (lasts_performed kept item named number)
+        subst (UidsLast kept) same (lasts_performed kept item named.0 named.1 number)
     by true false e is = absurd (cc is)
     by false can e is = absurd (cc is)
 
@@ -57,11 +63,17 @@ record_lasts kept new (Snapshot items conf rows) plain named is = by (is_spelled
     by true true is = let same : after_kept kept (Snapshot items conf rows) ≡ new = cc is in subst (UidsLast kept) same as_marked
     by true false is = absurd (cc is)
     by false can is = absurd (cc is)
+record_lasts kept new (Upgrade at) plain named is = subst (UidsLast kept) (upgrade_is kept new at is) (lasts_upgraded kept)
 record_lasts kept new _ plain named is = absurd (cc is)
 
 after_one : (o : Option Kept) (new : Kept) → option_and_then Some o ≡ Some new → o ≡ Some new
 after_one None new is = is
 after_one (Some k) new is = is
+
+-- over a call that upgraded
+pub upgrades_last : {T E : Type 0} (result : Result T E) (old new : Kept) → OnOk result (new ≡ upgraded old) → OnErr result (new ≡ old) → UidsLast old new
+upgrades_last (Ok x) old new done same = subst (UidsLast old) (sym done) (lasts_upgraded old)
+upgrades_last (Err e) old new done same = lasts_kept old new same
 
 module _ {D : Type 0} (told : D → DiskTold) where
   sealed_lasts : (what : JournalRecord) (old new : Lasting D) → is_cycle what ≡ false → IsNamed old.kept → Seals told (what ∷ []) [] old new → UidsLast old.kept new.kept

@@ -1,5 +1,5 @@
 -- An image opens in one way.
-use Rattle.std.proofs.Common.{◌≡◌, ◌⊎◌, inl, inr, ℕ, ◌<◌, ◌∷◌, ◌++◌, ◌∙◌, [], List, Bool, true, false, ◌&&◌, Option, Some, None, Result, Ok, Err, length, is_some, IsTrue, refl, sym, ap, subst, arith, append_assoc, length-append}
+use Rattle.std.proofs.Common.{◌≡◌, ◌⊎◌, inl, inr, ℕ, ◌<◌, ◌∷◌, ◌++◌, ◌∙◌, [], List, Bool, true, false, ◌&&◌, not, Option, Some, None, Result, Ok, Err, length, is_some, IsTrue, refl, sym, ap, subst, arith, append_assoc, length-append}
 use Rattle.std.proofs.lemmas.List.{append-nil}
 use Rattle.std.specs.Prelude.{option_and_then, if◌then◌else◌}
 use Rattle.std.specs.List.{AllByRecursion}
@@ -10,11 +10,11 @@ use Rattle.verb_core.specs.declared.mailbox.BoxId.{BoxId}
 use Rattle.verb_core.specs.declared.mailbox.Mailbox.{Mailbox}
 use Rattle.verb_bytes.specs.declared.journal.CycleAsk.{CycleAsk}
 use Rattle.verb_bytes.specs.declared.journal.JournalRecord.{JournalRecord}
-use Rattle.verb_bytes.specs.declared.journal.JournalRecord.TheVariants.{Format, Verb, Operator, Cycle, Snapshot}
+use Rattle.verb_bytes.specs.declared.journal.JournalRecord.TheVariants.{Format, Verb, Operator, Cycle, Snapshot, Upgrade}
 use Rattle.verb_bytes.specs.Spelling.{HasSpelling, Spells, record_bytes}
 use Rattle.seal_log.specs.Journal.{frame, sealed, BeginsClosed, IsPayload, StandsFor}
 use Rattle.seal_log.specs.Loading.{BeginsCut, GoesOn, IsNotFormatted}
-use Rattle.store_kept.specs.Kept.{Kept, performed, new_desk}
+use Rattle.store_kept.specs.Kept.{Kept, performed, new_desk, upgraded}
 use Rattle.cycle_rules.specs.Asking.{cycle_due}
 use Rattle.house_text.specs.Beginning.{can_begin}
 use Rattle.time_desk.specs.declared.fault.StartFault.{StartFault}
@@ -50,11 +50,19 @@ snapshot_spelled kept items conf rows = by_test (is_spelled (Snapshot items conf
     by_test true h = refl
     by_test false h = h
 
+upgrade_spelled : (kept : Kept) (at : ℕ) → IsTrue (is_some (after_record kept (Upgrade at))) → HasSpelling (Upgrade at)
+upgrade_spelled kept at = by_test (is_spelled (Upgrade at))
+  where
+    by_test : (b : Bool) → is_some (if b && not kept.deep then Some (upgraded kept) else None) ≡ true → b ≡ true
+    by_test true h = refl
+    by_test false h = h
+
 record_spelled : (kept : Kept) (r : JournalRecord) → IsTrue (is_some (after_record kept r)) → HasSpelling r
 record_spelled kept (Verb item) h = item_spelled kept (Verb item) item h
 record_spelled kept (Operator number at act) h = item_spelled kept (Operator number at act) (act_item number at act) h
 record_spelled kept (Cycle number at ask) h = cycle_spelled kept number at ask h
 record_spelled kept (Snapshot items conf rows) h = snapshot_spelled kept items conf rows h
+record_spelled kept (Upgrade at) h = upgrade_spelled kept at h
 record_spelled kept _ h = absurd (cc h)
 
 first_spelled : (r : JournalRecord) → IsTrue (is_some (first_state r)) → HasSpelling r

@@ -16,10 +16,10 @@ use Rattle.verb_core.specs.Store.{is_house, is_known, opening}
 use Rattle.verb_core.proofs.StampLaws.{after-ids, opening-ids}
 use Rattle.verb_bytes.specs.declared.journal.CycleAsk.{CycleAsk}
 use Rattle.verb_bytes.specs.declared.journal.JournalRecord.{JournalRecord}
-use Rattle.verb_bytes.specs.declared.journal.JournalRecord.TheVariants.{Format, Verb, Operator, Cycle, Snapshot}
+use Rattle.verb_bytes.specs.declared.journal.JournalRecord.TheVariants.{Format, Verb, Operator, Cycle, Snapshot, Upgrade}
 use Rattle.verb_bytes.specs.Spelling.{HasSpelling}
 use Rattle.paradox.specs.declared.reports.Report.{Report}
-use Rattle.store_kept.specs.Kept.{Kept, Marks, marked, new_desk, passed, performed, report_of, snapshotted, store_of}
+use Rattle.store_kept.specs.Kept.{Kept, Marks, marked, new_desk, passed, performed, report_of, snapshotted, store_of, upgraded}
 use Rattle.repair_desk.specs.Repairs.{are_known, position}
 use Rattle.cycle_rules.specs.Asking.{Due, NoNumbers, NoPoint, Repeats, Rewinds, after_cycle, cycle_due, due_anew, due_at, due_by}
 use Rattle.cycle_rules.specs.Cycles.{Cycled, cycled_at, leaves_numbers}
@@ -34,6 +34,8 @@ use Rattle.desk_journal.specs.Records.{after_cycle_record, after_due, after_item
 use Rattle.desk_journal.specs.Permanence.{IsSound, RevsBelow}
 use Rattle.desk_journal.proofs.Beginnings.{begins_known}
 use Rattle.desk_journal.proofs.Entering.{item_runs, item_revs, no_rev}
+use Rattle.desk_journal.proofs.Upgrading.{upgrade_is}
+use Rattle.time_desk.proofs.Accounts.{sound_valid}
 
 -- ---- at first
 
@@ -141,7 +143,7 @@ pub item_follows : (kept : Kept) (i : Item) → IsSound kept → IsWellFormed ke
 item_follows kept i sound formed number rev = record {
   sound = item_sound kept i sound formed number;
   revs = item_revs kept i rev;
-  lasts = lasts_performed kept i sound.named number;
+  lasts = lasts_performed kept i (sound_valid kept sound) sound.named number;
   opens = λ opens. opens;
 }
 
@@ -240,6 +242,28 @@ snapshot_record_follows kept new items conf rows sound is = by (is_spelled (Snap
     by true false e = let same : record kept { marks = passed kept.marks } ≡ new = cc e in subst (Follows kept) same (marks_follow kept (passed kept.marks) sound)
     by false truth e = absurd (cc e)
 
+-- ---- an upgrade
+
+-- whether names may have superiors says nothing of the rest
+upgrade_follows : (kept : Kept) → IsSound kept → Follows kept (upgraded kept)
+upgrade_follows kept sound =
+    let same = lasts_itself kept in
+    record {
+      sound = record {
+        house = sound.house;
+        aliases = sound.aliases;
+        base = sound.base;
+        runs = sound.runs;
+        timeline = sound.timeline;
+        below = sound.below;
+        named = sound.named;
+        fresh = sound.fresh;
+      };
+      revs = λ revs. revs;
+      lasts = record { next = same.next; stamps = same.stamps; texts = same.texts };
+      opens = λ opens. opens;
+    }
+
 -- ---- records
 
 pub record_follows : (kept new : Kept) (r : JournalRecord) → IsSound kept → after_record kept r ≡ Some new → Follows kept new
@@ -247,6 +271,7 @@ record_follows kept new (Verb item) sound is = item_record kept new (Verb item) 
 record_follows kept new (Operator number at act) sound is = item_record kept new (Operator number at act) (act_item number at act) (λ fits. refl) sound is
 record_follows kept new (Cycle number at ask) sound is = cycle_record kept new number at ask sound is
 record_follows kept new (Snapshot items conf rows) sound is = snapshot_record_follows kept new items conf rows sound is
+record_follows kept new (Upgrade at) sound is = subst (Follows kept) (upgrade_is kept new at is) (upgrade_follows kept sound)
 record_follows kept new _ sound is = absurd (cc is)
 
 follows_itself : (kept : Kept) → IsSound kept → Follows kept kept

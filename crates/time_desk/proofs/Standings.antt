@@ -1,5 +1,5 @@
 -- Records that are read and performed one after the other.
-use Rattle.std.proofs.Common.{◌≡◌, inl, inr, ℕ, zero, suc, ◌+◌, ◌-◌, ◌<◌, ◌≤◌, ◌∷◌, ◌++◌, ◌∙◌, ◌&&◌, List, Bool, true, false, Option, Some, None, Result, Ok, Err, length, take, drop, get_or, refl, sym, ap, subst, arith, append_assoc, append-nil, length-append, []}
+use Rattle.std.proofs.Common.{◌≡◌, inl, inr, ℕ, zero, suc, ◌+◌, ◌-◌, ◌<◌, ◌≤◌, ◌∷◌, ◌++◌, ◌∙◌, ◌&&◌, not, List, Bool, true, false, Option, Some, None, Result, Ok, Err, length, take, drop, get_or, refl, sym, ap, subst, arith, append_assoc, append-nil, length-append, []}
 use Rattle.std.proofs.lemmas.List.{map-append, take_all}
 use Rattle.std.proofs.lemmas.List.Concat.{flat_map-append}
 use Rattle.std.specs.Prelude.{bytes_eq, option_and_then, if◌then◌else◌, IfOk, IfErr, slice_get}
@@ -12,12 +12,12 @@ use Rattle.verb_core.specs.declared.mailbox.BoxId.{BoxId}
 use Rattle.verb_core.specs.declared.mailbox.Mailbox.{Mailbox}
 use Rattle.std.specs.Int.{w32, to_be_bytes}
 use Rattle.verb_bytes.specs.declared.journal.JournalRecord.{JournalRecord}
-use Rattle.verb_bytes.specs.declared.journal.JournalRecord.TheVariants.{Snapshot}
+use Rattle.verb_bytes.specs.declared.journal.JournalRecord.TheVariants.{Snapshot, Upgrade}
 use Rattle.verb_bytes.specs.Spelling.{HasSpelling, Spells, record_bytes}
 use Rattle.seal_log.specs.declared.place.Place.{Place}
 use Rattle.seal_log.specs.Journal.{frame, sealed, LiesAt}
 use Rattle.seal_log.specs.Loading.{places_from}
-use Rattle.store_kept.specs.Kept.{Kept, passed, performed, snapshotted}
+use Rattle.store_kept.specs.Kept.{Kept, passed, performed, snapshotted, upgraded}
 use Rattle.desk_journal.proofs.Truth.{true_as, true_is}
 use Rattle.time_desk.specs.declared.fault.StartFault.{StartFault}
 use Rattle.time_desk.specs.declared.fault.StartFault.TheVariants.{NotFormatted, Damaged, Disk, NoMemory}
@@ -128,6 +128,20 @@ pub snapshot_none : (kept : Kept) (items : ℕ) (conf : Conf) (rows : List (BoxI
 snapshot_none kept items conf rows spelled cant =
     ap (λ (b : Bool). if b && can_keep kept items conf rows then Some (after_kept kept (Snapshot items conf rows)) else None) spelled
     ∙ ap (λ (b : Bool). if b then Some (after_kept kept (Snapshot items conf rows)) else None) cant
+
+-- ---- an upgrade
+
+-- the first can stand
+pub upgrade_after : (kept : Kept) (at : ℕ) → HasSpelling (Upgrade at) → kept.deep ≡ false → after_record kept (Upgrade at) ≡ Some (upgraded kept)
+upgrade_after kept at spelled flat =
+    ap (λ (b : Bool). if b && not kept.deep then Some (upgraded kept) else None) spelled
+    ∙ ap (λ (b : Bool). if not b then Some (upgraded kept) else None) flat
+
+-- a second can't
+pub upgrade_none : (kept : Kept) (at : ℕ) → HasSpelling (Upgrade at) → kept.deep ≡ true → after_record kept (Upgrade at) ≡ None
+upgrade_none kept at spelled deep =
+    ap (λ (b : Bool). if b && not kept.deep then Some (upgraded kept) else None) spelled
+    ∙ ap (λ (b : Bool). if not b then Some (upgraded kept) else None) deep
 
 -- ---- the front
 

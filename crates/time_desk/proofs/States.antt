@@ -108,7 +108,7 @@ module _ (records : List JournalRecord) (kept : Kept) (is : state records ≡ So
   arrived before later i u key split once = (once, fate_of before later i u key split (once_some _ once))
 
   pub recipient_of : (before later : List Item) (i : Item) (from : List ℕ) (to : List (List ℕ)) (text : List ℕ) (u : User) → kept.timeline ≡ before ++ i ∷ later → i.deed ≡ Deliver from to text
-      → list_any (same_user u) (recipients kept.house (run kept.base before).conf to) ≡ true → is_discarded (run kept.base before).conf text ≡ false
+      → list_any (same_user u) (recipients kept.house (run kept.base before).conf to) ≡ true → is_discarded (run kept.base before).conf from to text ≡ false
       → Arrives kept before i later u (record { item = i.number; index = 0 })
   recipient_of before later i from to text u split deed among stays =
       let s = run kept.base before in
@@ -116,7 +116,7 @@ module _ (records : List JournalRecord) (kept : Kept) (is : state records ≡ So
       (arrives-step s i from to text u deed (subst (λ (h : House). list_any (same_user u) (recipients h s.conf to) ≡ true) (sym (led_house before)) among) stays)
 
   pub stray_of : (before later : List Item) (i : Item) (from : List ℕ) (to : List (List ℕ)) (text : List ℕ) → kept.timeline ≡ before ++ i ∷ later → i.deed ≡ Deliver from to text
-      → some_unknown kept.house (run kept.base before).conf to ≡ true → is_discarded (run kept.base before).conf text ≡ false
+      → some_unknown kept.house (run kept.base before).conf to ≡ true → is_discarded (run kept.base before).conf from to text ≡ false
       → Arrives kept before i later kept.house.postmaster (record { item = i.number; index = 1 })
   stray_of before later i from to text split deed unknown stays =
       let s = run kept.base before in

@@ -1,5 +1,5 @@
 -- What a cycle begins with.
-use Rattle.std.specs.Prelude.{◌≡◌, ◌⊎◌, ◌≤◌, ◌+◌, ◌==◌, ℕ, Bool, ◌&&◌, List, ◌∷◌, ◌++◌, Option, None, Some, option_and_then, take, IsTrue, if◌then◌else◌}
+use Rattle.std.specs.Prelude.{◌≡◌, ◌⊎◌, ◌≤◌, ◌+◌, ◌==◌, ℕ, Bool, ◌&&◌, List, ◌∷◌, ◌++◌, Option, None, Some, option_and_then, take, IsTrue, if◌then◌else◌, false}
 use Rattle.std.specs.List.{AllByRecursion, slice_range}
 use Rattle.undo_outside.specs.Disk.{DiskTold}
 use Rattle.verb_core.specs.declared.conf.Conf.{Conf}
@@ -40,9 +40,9 @@ abbrev pub FindsLast : Kept → List (ℕ × Place) → Option Beginning → Typ
 FindsLast kept marks None = newest marks ≡ None
 FindsLast kept marks (Some first) = (place : Place) × (newest marks ≡ Some (first.count, place)) × (first.store.store ≡ store_at kept first.count)
 
--- what a cycle is told of what is kept: all but the snapshots
+-- what a cycle is told of what is kept: all but the snapshots and whether names may have superiors
 abbrev pub unmarked : Kept → Kept
-unmarked kept = record kept { marks = no_marks }
+unmarked kept = record kept { marks = no_marks; deep = false }
 
 -- ---- what reads give of a snapshot
 

@@ -2,7 +2,7 @@
 //!
 //! `desk` has the desk over its journal, and tells its parts. `make` begins a journal, `start` reads one, with `standing` for the
 //! records that can stand, and `openings` has the law that an image opens in one way. `submit` and `act` take what users and the
-//! operator ask, `snapshot` keeps the store of a moment, and `texts` reads the texts of bodies, each by what desk_journal does;
+//! operator ask, `snapshot` keeps the store of a moment, `upgrade` lets names have superiors, and `texts` reads the texts of bodies, each by what desk_journal does;
 //! `cycle` does what the operator asks of the past, with `redo` for a cycle in memory and `beginning` for what it begins with;
 //! `again` performs a journal's cycles again; `plan` tells which later items could be done side by side; and `fault` says why a desk is not started and a cycle not done.
 //! `permanence` has the laws that no UID ever names two messages, and that each message is accounted for; `laws` passes on what
@@ -30,6 +30,7 @@ mod standing;
 mod start;
 mod submit;
 mod texts;
+mod upgrade;
 
 pub use desk::Desk;
 pub use desk_journal::{ActFault, MakeFault};

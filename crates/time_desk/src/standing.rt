@@ -3,7 +3,7 @@ ghost use Rattle.std.specs.Prelude.{◌≡◌, ◌≤◌, ◌<◌, ◌+◌, List
 ghost use Rattle.std.specs.List.{list_all};
 ghost use Rattle.verb_core.specs.Items.{text_in, users_in};
 ghost use Rattle.verb_core.specs.Store.{is_known as knows};
-ghost use Rattle.verb_bytes.specs.declared.journal.JournalRecord.TheVariants.{Cycle, Operator, Snapshot, Verb};
+ghost use Rattle.verb_bytes.specs.declared.journal.JournalRecord.TheVariants.{Cycle, Operator, Snapshot, Upgrade, Verb};
 ghost use Rattle.verb_bytes.specs.Spelling.{HasSpelling, record_bytes};
 ghost use Rattle.seal_log.specs.Causes.{ReadAtCause};
 ghost use Rattle.seal_log.specs.Journal.{LiesAt};
@@ -512,6 +512,25 @@ fn enter_snapshot(
     kept
 }
 
+// ---- an upgrade
+
+/// Upgrades a desk, where it was not upgraded before.
+fn enter_upgrade(desk: &mut Desk, at: u64) -> bool
+    requires { HasSpelling (Upgrade at) }
+    ensures entered { Performs (after_record desk.old.kept (Upgrade at)) result desk.new.kept }
+    ensures base { desk.new.kept.base ≡ desk.old.kept.base }
+    ensures timeline { desk.new.kept.timeline ≡ desk.old.kept.timeline }
+    ensures notes { desk.new.notes ≡ desk.old.notes }
+    ensures marks { desk.new.marks ≡ desk.old.marks }
+{
+    let _at = at;
+    if desk.deep() {
+        return false;
+    }
+    desk.upgrade();
+    true
+}
+
 // ---- the next record
 
 /// What is told of one record that finds no memory.
@@ -570,5 +589,6 @@ pub(crate) fn follow<D: Disk>(
         JournalRecord::Snapshot { items, conf, rows } => {
             without_reads(enter_snapshot(alloc, desk, end, items, conf, rows, place))
         }
+        JournalRecord::Upgrade { at } => Ok(enter_upgrade(desk, at)),
     }
 }

@@ -37,7 +37,7 @@ impl<D: Disk> Desk<D> {
         ensures err { OnErr result (self.new.kept ≡ self.old.kept) }
         ensures notes { OnErr result (self.new.notes ≡ self.old.notes) }
         ensures marks { OnErr result (self.new.marks ≡ self.old.marks) }
-        ensures why { IfErr result (λ fault. SubmitsNone D.told (live (store_of self.old.kept) self.old.kept.next at by ask) self.old self.new fault) }
+        ensures why { IfErr result (λ fault. SubmitsNone D.told (live (store_of self.old.kept) self.old.kept.next at by ask self.old.kept.deep) self.old self.new fault) }
         ensures writes_none { WritesNone result self.old self.new }
         ensures reads { ReadsWell D.told self.old self.new }
         ensures fed { OnOk result (Fed (D.told self.old.disk) (D.told self.new.disk)) }

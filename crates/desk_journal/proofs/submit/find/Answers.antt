@@ -16,7 +16,7 @@ pub returns-in-Ok-clause-record : goal.returns-in-Ok-clause-record
 returns-in-Ok-clause-record c =
     let kept = c.args.desk.now.kept in
     let item = c.in-Ok.found.ready.item in
-    let due : live (store_of kept) kept.next c.args.at c.args.by c.args.ask ≡ Ok item = search rules in
+    let due : live (store_of kept) kept.next c.args.at c.args.by c.args.ask kept.deep ≡ Ok item = search rules in
     let bytes : record_bytes (Verb item) ≡ c.in-Ok.found.bytes = search rules in
     let can = subst (λ (r : Ready). CanEnter r c.ready.new.self) (sym c.in-Ok.ensures.ready) c.in_ok-ready.ensures.ready in
     let same = c.in_ok-ready.ensures.kept in
@@ -24,5 +24,5 @@ returns-in-Ok-clause-record c =
     record {
       bytes_are = bytes;
       can_stand = item_stands kept item spelled (subst (λ (k : Kept). IsWellFormed k.house item) same can.formed) (can.number ∙ ap (λ (k : Kept). k.next) same) (subst (λ (k : Kept). k.next < 4194304) same can.left);
-      truth = live_true kept kept.next c.args.at c.args.by c.args.ask item due;
+      truth = live_true kept kept.next c.args.at c.args.by c.args.ask kept.deep item due;
     }

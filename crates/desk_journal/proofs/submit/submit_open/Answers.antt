@@ -16,7 +16,7 @@ pub returns-in-Ok-clause-ok : goal.returns-in-Ok-clause-ok
 returns-in-Ok-clause-ok g c =
     let kept = c.args.desk.now.kept in
     let found = c.in-Ok.found in
-    ok_submitted c.seal_found.result (live (store_of kept) kept.next c.args.at c.args.by c.args.ask) kept c.seal_found.new.desk.kept found.ready.item c.in-Ok.ensures.item c.seal_found.ensures.item
+    ok_submitted c.seal_found.result (live (store_of kept) kept.next c.args.at c.args.by c.args.ask kept.deep) kept c.seal_found.new.desk.kept found.ready.item c.in-Ok.ensures.item c.seal_found.ensures.item
     (subst (λ (k : Kept). OnOk c.seal_found.result (c.seal_found.new.desk.kept ≡ performed k found.ready.item)) c.in-Ok.ensures.kept c.seal_found.ensures.performed)
 
 pub returns-in-Err-clause-why : goal.returns-in-Err-clause-why
@@ -37,5 +37,5 @@ returns-in-Err-clause-writes_none g c = λ other. record { kept = c.in-Err.ensur
 pub returns-in-Ok-clause-why : goal.returns-in-Ok-clause-why
 returns-in-Ok-clause-why g c =
     let kept = c.args.desk.now.kept in
-    submits_none_from g.D.Disk.told (live (store_of kept) kept.next c.args.at c.args.by c.args.ask) c.in-Ok.found.ready.item c.args.desk.now c.find.new.desk c.args.journal.now (lasting c.seal_found.new.desk c.seal_found.new.journal)
+    submits_none_from g.D.Disk.told (live (store_of kept) kept.next c.args.at c.args.by c.args.ask kept.deep) c.in-Ok.found.ready.item c.args.desk.now c.find.new.desk c.args.journal.now (lasting c.seal_found.new.desk c.seal_found.new.journal)
     c.seal_found.result c.in-Ok.ensures.item c.in-Ok.ensures.kept c.in-Ok.ensures.notes c.in-Ok.ensures.marks c.requires.open c.seal_found.ensures.err

@@ -9,7 +9,8 @@ use Rattle.verb_core.specs.declared.item.Item.{Item}
 use Rattle.verb_core.specs.declared.mailbox.Body.{Body}
 use Rattle.shelf.specs.declared.note.Note.{Note}
 use Rattle.desk_journal.specs.Records.{after_record}
-use Rattle.desk_journal.specs.Stored.{NotedBefore, TextsLie}
+use Rattle.desk_journal.specs.Stored.{MarkedBefore, MarksLie, NotedBefore, TextsLie}
+use Rattle.desk_journal.proofs.Marking.{marks_kept}
 use Rattle.time_desk.specs.Standing.{Performs}
 use Rattle.time_desk.proofs.Standings.{if_ok}
 use Rattle.time_desk.proofs.standing.follow.Goals as goal
@@ -75,3 +76,25 @@ returns-in-Snapshot-clause-noted g c =
     (λ stood still e. subst (λ (t : List Item). NotedBefore c.args.end c.enter_snapshot.new.desk.notes t) (sym (still e).1)
     (subst (λ (notes : List (Body × Note)). NotedBefore c.args.end notes c.args.desk.now.kept.timeline) (sym (still e).0) c.requires.noted))
     (passed _ c.enter_snapshot.result c.without_reads-in-Snapshot.result c.without_reads-in-Snapshot.ensures.same c.enter_snapshot.ensures.still)
+
+pub returns-in-Upgrade-clause-performed : goal.returns-in-Upgrade-clause-performed
+returns-in-Upgrade-clause-performed g c payloads texts =
+    subst (λ (w : JournalRecord). Performs (after_record c.args.desk.now.kept w) c.enter_upgrade.result c.enter_upgrade.new.desk.kept) (sym c.in-Upgrade.is) c.enter_upgrade.ensures.entered
+
+pub returns-in-Upgrade-clause-texts : goal.returns-in-Upgrade-clause-texts
+returns-in-Upgrade-clause-texts g c payloads texts lies = λ e.
+    subst (λ (t : List Item). TextsLie payloads c.enter_upgrade.new.desk.notes t) (sym c.enter_upgrade.ensures.timeline)
+    (subst (λ (notes : List (Body × Note)). TextsLie payloads notes c.args.desk.now.kept.timeline) (sym c.enter_upgrade.ensures.notes) texts.lie)
+
+pub returns-in-Upgrade-clause-marks : goal.returns-in-Upgrade-clause-marks
+returns-in-Upgrade-clause-marks g c payloads texts lies = λ e.
+    subst (MarksLie payloads c.enter_upgrade.new.desk.kept) (sym c.enter_upgrade.ensures.marks)
+    (marks_kept payloads c.args.desk.now.kept c.enter_upgrade.new.desk.kept c.args.desk.now.marks c.enter_upgrade.ensures.base c.enter_upgrade.ensures.timeline texts.marks)
+
+pub returns-in-Upgrade-clause-noted : goal.returns-in-Upgrade-clause-noted
+returns-in-Upgrade-clause-noted g c = λ e.
+    subst (λ (t : List Item). NotedBefore c.args.end c.enter_upgrade.new.desk.notes t) (sym c.enter_upgrade.ensures.timeline)
+    (subst (λ (notes : List (Body × Note)). NotedBefore c.args.end notes c.args.desk.now.kept.timeline) (sym c.enter_upgrade.ensures.notes) c.requires.noted)
+
+pub returns-in-Upgrade-clause-marked : goal.returns-in-Upgrade-clause-marked
+returns-in-Upgrade-clause-marked g c = λ e. subst (MarkedBefore c.args.end) (sym c.enter_upgrade.ensures.marks) c.requires.marked

@@ -14,7 +14,7 @@ pub returns-clause-uids : goal.returns-clause-uids
 returns-clause-uids g c =
     let tried = c.act_open in
     let inside = c.self.inside in
-    let named = subst (λ (l : Lasting g.row.D.Denot). IsNamed l.kept) (sym c.self.view_is) c.stands.ensures.named in
+    let named = subst (λ (l : Lasting g.row.D.Denot). IsNamed l.kept) (sym c.self.view_is) (c.stands.ensures.valid, c.stands.ensures.named) in
     subst (λ (l : Lasting g.row.D.Denot). UidsLast l.kept tried.new.desk.kept) c.self.view_is
     (calls_last g.D.Disk.told tried.result (Operator inside.desk.kept.next c.args.at c.args.act) (lasting inside.desk inside.journal) (lasting tried.new.desk tried.new.journal) refl
     named tried.ensures.ok tried.ensures.same)
