@@ -17,4 +17,3 @@ pub mod Headed
 pub mod SpelledArguments
 pub mod SpelledWhat
 pub mod Spoken
-pub mod FieldNames

@@ -8,7 +8,8 @@ use Rattle.std.proofs.lemmas.List.Folds.{list_all-append}
 use Rattle.undo_base.specs.declared.asks.Section.{Section}
 use Rattle.undo_base.specs.declared.asks.Section.TheVariants.{Whole, Header, Text, Fields, NotFields}
 use Rattle.imap_stream.specs.declared.picks.SetRange.{SetRange}
-use Rattle.imap_lines.specs.Asks.{is_field, numbers_in, closed_part_in, part_in}
+use Rattle.header_fields.specs.Values.{is_field_name}
+use Rattle.imap_lines.specs.Asks.{numbers_in, closed_part_in, part_in}
 use Rattle.imap_lines.specs.Fetch.{begins_in, body_of, begun, with_fields, with_tokens, whole_asks, asks_in, ends_closed, fetch_in}
 use Rattle.imap_tokens.specs.Sets.{cut_at}
 use Rattle.imap_lines.specs.What.{what_in}
@@ -81,7 +82,7 @@ whole_read peek section what_is part begins is asks kind names rest =
     (kind, ap (λ o. option_and_then (λ more. with_tokens more rest) (option_map (begun (at_state asks Attribute kind names)) o)) one)
 
 -- field names and the parenthesis behind them
-names_read : (asks : List FetchAsk) (kind : Kind) (so_far : List (List ℕ)) (name : List ℕ) (names : List (List ℕ)) (rest : List Token) → AllByRecursion (λ n. is_field n ≡ true) (name ∷ names)
+names_read : (asks : List FetchAsk) (kind : Kind) (so_far : List (List ℕ)) (name : List ℕ) (names : List (List ℕ)) (rest : List Token) → AllByRecursion (λ n. is_field_name n ≡ true) (name ∷ names)
     → with_tokens (at_state asks FieldName kind so_far) (spaced (map string_token (name ∷ names)) ++ Close ∷ rest) ≡ with_tokens (at_state asks Tail kind (so_far ++ name ∷ names)) rest
 names_read asks kind so_far name [] rest are = rw ((string_argument name).is, are.0) refl
 names_read asks kind so_far name (next ∷ names) rest are =

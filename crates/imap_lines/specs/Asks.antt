@@ -1,6 +1,6 @@
 -- What STATUS and FETCH ask for (RFC 3501, 9: status-att, fetch-att, section).
-use Rattle.std.specs.Prelude.{codes, ℕ, Bool, true, false, not, ◌-◌, ◌==◌, ◌&&◌, ◌||◌, List, [], ◌∷◌, ◌++◌, length, take, nat_le, slice_index, Option, None, Some, option_map, option_and_then, if◌then◌else◌}
-use Rattle.std.specs.List.{list_all}
+use Rattle.std.specs.Prelude.{codes, ℕ, Bool, true, false, not, ◌-◌, ◌==◌, ◌&&◌, List, [], ◌∷◌, ◌++◌, length, take, slice_index, Option, None, Some, option_map, option_and_then, if◌then◌else◌}
+use Rattle.header_fields.specs.Values.{is_field_name}
 use Rattle.undo_base.specs.declared.asks.StatusAsk.{StatusAsk}
 use Rattle.undo_base.specs.declared.asks.StatusAsk.TheVariants.{Messages, Recent, UidNext, UidValidity, Unseen}
 use Rattle.imap_tokens.specs.Words.{row_of, number_in, count_in}
@@ -31,16 +31,9 @@ statuses_from wanted asks (token ∷ tokens) =
     else if is_close token && (length tokens == 0) then Some asks
     else None
 
--- a letter, a digit, - or _
-abbrev pub is_field_byte : ℕ → Bool
-is_field_byte b = (nat_le 48 b && nat_le b 57) || (nat_le 65 b && nat_le b 90) || (nat_le 97 b && nat_le b 122) || b == 45 || b == 95
-
 -- the name of a header field
-abbrev pub is_field : List ℕ → Bool
-is_field bytes = not (length bytes == 0) && nat_le (length bytes) 64 && list_all is_field_byte bytes
-
 abbrev pub field_in : List ℕ → Option (List ℕ)
-field_in bytes = if is_field bytes then Some bytes else None
+field_in bytes = if is_field_name bytes then Some bytes else None
 
 abbrev pub numbers_in : List ℕ → List ℕ → Option (ℕ × ℕ)
 numbers_in from count = option_and_then (λ a. option_map (λ b. (a, b)) (number_in count)) (count_in from)

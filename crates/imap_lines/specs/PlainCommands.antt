@@ -12,7 +12,7 @@ use Rattle.undo_base.specs.declared.asks.Section.TheVariants.{Whole, Header, Tex
 use Rattle.undo_base.specs.declared.keys.Flags.{Flags}
 use Rattle.imap_stream.specs.declared.next.RawCommand.{RawCommand}
 use Rattle.imap_stream.specs.declared.picks.SetRange.{SetRange}
-use Rattle.imap_lines.specs.Asks.{is_field}
+use Rattle.header_fields.specs.Values.{is_field_name}
 use Rattle.imap_tokens.specs.Words.{is_atom, is_pattern_byte}
 use Rattle.imap_tokens.specs.Tokens.{is_quoted_byte}
 use Rattle.imap_tokens.specs.declared.tokens.Token.{Token}
@@ -211,7 +211,7 @@ IsPart (Some part) = (part.0 ≤ 4294967295) × (1 ≤ part.1) × (part.1 ≤ 42
 
 -- one name of a header field, or more
 abbrev pub AreFields : List (List ℕ) → Type 0
-AreFields names = (0 < length names) × AllByRecursion (λ name. is_field name ≡ true) names
+AreFields names = (0 < length names) × AllByRecursion (λ name. is_field_name name ≡ true) names
 
 -- a section names fields, if it is one of fields
 abbrev pub IsSection : Section → Type 0

@@ -1,9 +1,9 @@
 //! What FETCH and STATUS ask for, as it is written.
 ghost use Rattle.std.specs.Prelude.{◌≡◌, [], true, IfOk, option_map};
-ghost use Rattle.std.specs.List.{list_all};
-ghost use Rattle.imap_lines.specs.Asks.{status_in, statuses_from, is_field_byte, is_field, part_in, tail_in};
+ghost use Rattle.imap_lines.specs.Asks.{status_in, statuses_from, part_in, tail_in};
 ghost use Rattle.imap_lines.specs.Asks as spec;
 
+use header_fields::{field_names_are_names, is_field_name};
 use imap_tokens::{
     Token, find_byte, is_close_token, is_same_word, is_space_token, read_count, read_number,
     word_in,
@@ -80,36 +80,14 @@ pub fn read_statuses(alloc: Global, tokens: &[Token]) -> Result<Option<StatusAsk
     Ok(None)
 }
 
-fn is_field_char(byte: u8) -> bool
-    ensures { result ≡ is_field_byte byte }
-{
-    (48 <= byte && byte <= 57)
-        || (65 <= byte && byte <= 90)
-        || (97 <= byte && byte <= 122)
-        || byte == b'-'
-        || byte == b'_'
-}
-
-fn only_field_chars(bytes: &[u8]) -> bool
-    ensures { result ≡ list_all is_field_byte bytes.now }
-{
-    bytes.iter().all(|byte| is_field_char(*byte))
-}
-
-fn is_field_name(bytes: &[u8]) -> bool
-    ensures { result ≡ is_field bytes.now }
-{
-    !bytes.is_empty() && bytes.len() <= 64 && only_field_chars(bytes)
-}
-
 /// A field's name as a name, which it always is.
-#[tactic(auto, using(crate::proofs::FieldNames::field_name))]
 pub fn field_name(alloc: Global, bytes: &[u8]) -> Result<Option<Name>, NoMemory>
     ensures { IfOk result (λ name. name ≡ spec.field_in bytes.now) }
 {
     if !is_field_name(bytes) {
         return Ok(None);
     }
+    field_names_are_names();
     Ok(Some(Name::of(alloc, bytes)?))
 }
 

@@ -14,7 +14,7 @@ use Rattle.imap_session.specs.declared.dialog.Pending.TheVariants as on
 use Rattle.imap_session.specs.declared.dialog.Selected.{Selected}
 use Rattle.imap_session.specs.declared.out.ImapOut.{ImapOut}
 use Rattle.imap_session.specs.declared.words.Word.{Word}
-use Rattle.imap_session.specs.Dialog.{AsksAsUser, IsNext, Took, done, follow, is_on, is_free, is_outcome, is_rest, settle_in, settle_pending, took, undone}
+use Rattle.imap_session.specs.Dialog.{AsksAsUser, IsNext, Took, done, follow, is_lost, is_free, is_outcome, is_rest, settle_in, settle_pending, took, undone}
 use Rattle.imap_session.specs.Sound.{IsSound}
 use Rattle.imap_view.proofs.Mail.{view_in_order}
 
@@ -58,8 +58,8 @@ module _ (s : MailStore) (valid : IsValid s) (d : Dialog) (sound : IsSound d) (u
   fine_done stamps tag item (on.Search by_uid numbers) free = record { sound = sound; next = free; user = tt; stays = refl }
   fine_done stamps tag item (on.Store form silent rows) free = record { sound = sound; next = free; user = tt; stays = refl }
   fine_done stamps tag item (on.Plain w) free = record { sound = sound; next = free; user = tt; stays = refl }
-  fine_done stamps tag item (on.Leave w mailbox) free = record {
-    sound = kept_sound (is_on mailbox d.selected);
+  fine_done stamps tag item (on.Leave w) free = record {
+    sound = kept_sound (is_lost s d.user d.selected);
     next = free;
     user = tt;
     stays = refl;
@@ -70,7 +70,7 @@ module _ (s : MailStore) (valid : IsValid s) (d : Dialog) (sound : IsSound d) (u
     user = tt;
     stays = refl;
   }
-  fine_done stamps tag item (on.List subscribed) free = record { sound = sound; next = free; user = tt; stays = refl }
+  fine_done stamps tag item (on.List subscribed deep) free = record { sound = sound; next = free; user = tt; stays = refl }
   fine_done stamps tag item (on.Status mailbox asked) free = record { sound = sound; next = free; user = tt; stays = refl }
   fine_done stamps tag item (on.Follow w) free = fine_follow tag w d.selected free
 
@@ -84,10 +84,10 @@ module _ (s : MailStore) (valid : IsValid s) (d : Dialog) (sound : IsSound d) (u
   fine_undone tag (on.Fetch form rows texts) (WasRefused why) free = record { sound = sound; next = free; user = tt; stays = refl }
   fine_undone tag (on.Store form silent rows) (WasRefused why) free = record { sound = sound; next = free; user = tt; stays = refl }
   fine_undone tag (on.Plain w) (WasRefused why) free = record { sound = sound; next = free; user = tt; stays = refl }
-  fine_undone tag (on.Leave w mailbox) (WasRefused why) free = record { sound = sound; next = free; user = tt; stays = refl }
+  fine_undone tag (on.Leave w) (WasRefused why) free = record { sound = sound; next = free; user = tt; stays = refl }
   fine_undone tag (on.Search by_uid numbers) (WasRefused why) free = record { sound = sound; next = free; user = tt; stays = refl }
   fine_undone tag on.Close (WasRefused why) free = record { sound = sound; next = free; user = tt; stays = refl }
-  fine_undone tag (on.List subscribed) (WasRefused why) free = record { sound = sound; next = free; user = tt; stays = refl }
+  fine_undone tag (on.List subscribed deep) (WasRefused why) free = record { sound = sound; next = free; user = tt; stays = refl }
   fine_undone tag (on.Status mailbox asked) (WasRefused why) free = record { sound = sound; next = free; user = tt; stays = refl }
   fine_undone tag (on.Follow w) (WasRefused why) free = record { sound = sound; next = free; user = tt; stays = refl }
   fine_undone tag pending Disk free = record { sound = sound; next = free; user = tt; stays = refl }

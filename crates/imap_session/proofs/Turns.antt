@@ -27,7 +27,7 @@ use Rattle.imap_session.specs.declared.out.ImapOut.TheVariants.{Say}
 use Rattle.imap_session.specs.declared.words.Answer.TheVariants.{ReadOnly, BadCharset}
 use Rattle.imap_session.specs.declared.words.Word.{Word}
 use Rattle.imap_session.specs.declared.words.Word.TheVariants as word
-use Rattle.imap_view.specs.Names.{mailbox_of}
+use Rattle.imap_view.specs.Names.{made_mailbox_of, mailbox_of}
 use Rattle.imap_session.specs.Fetching.{bodies_of}
 use Rattle.imap_session.specs.Searching.{all_places, is_known_charset, search_bodies}
 use Rattle.search_verb.specs.Asked.{Asked}
@@ -190,20 +190,20 @@ module _ (house : House) (s : MailStore) (d : Dialog) (sound : IsSound d) (free 
   fine_delete tag (Some u) None user = fine_say _
   fine_delete tag (Some u) (Some mailbox) user = fine_asks _ tag _ refl (user refl)
 
-  fine_rename : (tag : List ℕ) (u : Option User) (target mailbox : Option (List ℕ)) → (is_some u ≡ true → is_some d.user ≡ true) → IsFine house s d (rename tag d u target mailbox)
-  fine_rename tag None target mailbox user = fine_say _
-  fine_rename tag (Some u) None mailbox user = fine_say _
-  fine_rename tag (Some u) (Some target) None user = fine_say _
-  fine_rename tag (Some u) (Some target) (Some mailbox) user = fine_asks _ tag _ refl (user refl)
+  fine_rename : (tag : List ℕ) (u : Option User) (deep : Bool) (target mailbox : Option (List ℕ)) → (is_some u ≡ true → is_some d.user ≡ true) → IsFine house s d (rename tag d u deep target mailbox)
+  fine_rename tag None deep target mailbox user = fine_say _
+  fine_rename tag (Some u) deep None mailbox user = fine_say _
+  fine_rename tag (Some u) deep (Some target) None user = fine_say _
+  fine_rename tag (Some u) deep (Some target) (Some mailbox) user = fine_asks _ tag _ refl (user refl)
 
   fine_subscribe : (tag : List ℕ) (u : Option User) (w : Word) → IsFine house s d (subscribe tag d u w)
   fine_subscribe tag None w = fine_say _
   fine_subscribe tag (Some u) w = fine_say _
 
-  fine_list : (tag : List ℕ) (u : Option User) (subscribed : Bool) (reference pattern : List ℕ) → (is_some u ≡ true → is_some d.user ≡ true) → IsFine house s d (list tag d u subscribed reference pattern)
-  fine_list tag None subscribed reference pattern user = fine_say _
-  fine_list tag (Some u) subscribed reference [] user = fine_say _
-  fine_list tag (Some u) subscribed reference (b ∷ pattern) user = fine_asks _ tag _ refl (user refl)
+  fine_list : (tag : List ℕ) (u : Option User) (deep subscribed : Bool) (reference pattern : List ℕ) → (is_some u ≡ true → is_some d.user ≡ true) → IsFine house s d (list tag d u deep subscribed reference pattern)
+  fine_list tag None deep subscribed reference pattern user = fine_say _
+  fine_list tag (Some u) deep subscribed reference [] user = fine_say _
+  fine_list tag (Some u) deep subscribed reference (b ∷ pattern) user = fine_asks _ tag _ refl (user refl)
 
   fine_status : (tag : List ℕ) (u : Option User) (mailbox : Option (List ℕ)) (asked : List StatusAsk) → (is_some u ≡ true → is_some d.user ≡ true) → IsFine house s d (status tag d u mailbox asked)
   fine_status tag None mailbox asked user = fine_say _
@@ -235,30 +235,30 @@ module _ (house : House) (s : MailStore) (d : Dialog) (sound : IsSound d) (free 
   fine_copy tag None set target by_uid user = fine_say _
   fine_copy tag (Some selected) set target by_uid user = fine_copy_places tag selected target by_uid (places_named selected.view set by_uid) (user refl)
 
-  pub fine_obey : (sizes : Body → Option ℕ) (tag : List ℕ) (asked : ImapWhat) → IsValid s → IsFine house s d (obey house s sizes tag d asked)
-  fine_obey sizes tag what.Capability valid = fine_say _
-  fine_obey sizes tag what.Noop valid = fine_follow tag word.Noop valid d.selected sound.selected
-  fine_obey sizes tag what.Logout valid = fine_logout tag
-  fine_obey sizes tag (what.Login user password) valid = fine_login tag d.user user password refl
-  fine_obey sizes tag (what.Select mailbox) valid = fine_select tag d.user (mailbox_of mailbox) true (λ h. h)
-  fine_obey sizes tag (what.Examine mailbox) valid = fine_select tag d.user (mailbox_of mailbox) false (λ h. h)
-  fine_obey sizes tag (what.Create mailbox) valid = fine_create tag d.user (mailbox_of mailbox) (λ h. h)
-  fine_obey sizes tag (what.Delete mailbox) valid = fine_delete tag d.user (mailbox_of mailbox) (λ h. h)
-  fine_obey sizes tag (what.Rename mailbox target) valid = fine_rename tag d.user (mailbox_of target) (mailbox_of mailbox) (λ h. h)
-  fine_obey sizes tag (what.Subscribe mailbox) valid = fine_subscribe tag d.user word.Subscribe
-  fine_obey sizes tag (what.Unsubscribe mailbox) valid = fine_subscribe tag d.user word.Unsubscribe
-  fine_obey sizes tag (what.List reference pattern) valid = fine_list tag d.user false reference pattern (λ h. h)
-  fine_obey sizes tag (what.Lsub reference pattern) valid = fine_list tag d.user true reference pattern (λ h. h)
-  fine_obey sizes tag (what.Status mailbox asked) valid = fine_status tag d.user (mailbox_of mailbox) asked (λ h. h)
-  fine_obey sizes tag (what.Append mailbox flags moment text) valid = fine_append tag d.user (mailbox_of mailbox) flags moment text (λ h. h)
-  fine_obey sizes tag what.Check valid = fine_check tag valid d.selected sound.selected
-  fine_obey sizes tag what.Close valid = fine_close tag d.selected sound.selected
-  fine_obey sizes tag what.Expunge valid = fine_expunge tag d.selected sound.selected
-  fine_obey sizes tag (what.Fetch set asked by_uid) valid = fine_fetch sizes tag (attributes_of asked) set by_uid
-  fine_obey sizes tag (what.Store set how silent flags by_uid) valid = fine_store sizes tag d.selected (record { how = how; flags = flags; by_uid = by_uid }) silent set sound.selected
-  fine_obey sizes tag (what.Copy set target by_uid) valid = fine_copy tag d.selected set (mailbox_of target) by_uid sound.selected
-  fine_obey sizes tag (what.Search charset key by_uid) valid = fine_search sizes tag d.selected charset key by_uid sound.selected
-  fine_obey sizes tag what.Authenticate valid = fine_say _
+  pub fine_obey : (sizes : Body → Option ℕ) (deep : Bool) (tag : List ℕ) (asked : ImapWhat) → IsValid s → IsFine house s d (obey house s sizes deep tag d asked)
+  fine_obey sizes deep tag what.Capability valid = fine_say _
+  fine_obey sizes deep tag what.Noop valid = fine_follow tag word.Noop valid d.selected sound.selected
+  fine_obey sizes deep tag what.Logout valid = fine_logout tag
+  fine_obey sizes deep tag (what.Login user password) valid = fine_login tag d.user user password refl
+  fine_obey sizes deep tag (what.Select mailbox) valid = fine_select tag d.user (mailbox_of deep mailbox) true (λ h. h)
+  fine_obey sizes deep tag (what.Examine mailbox) valid = fine_select tag d.user (mailbox_of deep mailbox) false (λ h. h)
+  fine_obey sizes deep tag (what.Create mailbox) valid = fine_create tag d.user (made_mailbox_of deep mailbox) (λ h. h)
+  fine_obey sizes deep tag (what.Delete mailbox) valid = fine_delete tag d.user (mailbox_of deep mailbox) (λ h. h)
+  fine_obey sizes deep tag (what.Rename mailbox target) valid = fine_rename tag d.user deep (mailbox_of deep target) (mailbox_of deep mailbox) (λ h. h)
+  fine_obey sizes deep tag (what.Subscribe mailbox) valid = fine_subscribe tag d.user word.Subscribe
+  fine_obey sizes deep tag (what.Unsubscribe mailbox) valid = fine_subscribe tag d.user word.Unsubscribe
+  fine_obey sizes deep tag (what.List reference pattern) valid = fine_list tag d.user deep false reference pattern (λ h. h)
+  fine_obey sizes deep tag (what.Lsub reference pattern) valid = fine_list tag d.user deep true reference pattern (λ h. h)
+  fine_obey sizes deep tag (what.Status mailbox asked) valid = fine_status tag d.user (mailbox_of deep mailbox) asked (λ h. h)
+  fine_obey sizes deep tag (what.Append mailbox flags moment text) valid = fine_append tag d.user (mailbox_of deep mailbox) flags moment text (λ h. h)
+  fine_obey sizes deep tag what.Check valid = fine_check tag valid d.selected sound.selected
+  fine_obey sizes deep tag what.Close valid = fine_close tag d.selected sound.selected
+  fine_obey sizes deep tag what.Expunge valid = fine_expunge tag d.selected sound.selected
+  fine_obey sizes deep tag (what.Fetch set asked by_uid) valid = fine_fetch sizes tag (attributes_of asked) set by_uid
+  fine_obey sizes deep tag (what.Store set how silent flags by_uid) valid = fine_store sizes tag d.selected (record { how = how; flags = flags; by_uid = by_uid }) silent set sound.selected
+  fine_obey sizes deep tag (what.Copy set target by_uid) valid = fine_copy tag d.selected set (mailbox_of deep target) by_uid sound.selected
+  fine_obey sizes deep tag (what.Search charset key by_uid) valid = fine_search sizes tag d.selected charset key by_uid sound.selected
+  fine_obey sizes deep tag what.Authenticate valid = fine_say _
 
 -- ---- a view that is known to be current
 
@@ -272,46 +272,46 @@ module _ (house : House) (s : MailStore) (d : Dialog) where
   checked_current tag (Some selected) is = view_is_current (mail_of s d.user selected.mailbox)
 
   -- behind NOOP and CHECK the view is current
-  told_current : (sizes : Body → Option ℕ) (tag : List ℕ) (asked : ImapWhat) → follows_view asked ≡ true → is_view_current s (obey house s sizes tag d asked).dialog ≡ true
-  told_current sizes tag what.Capability h = absurd (true≢false (sym h))
-  told_current sizes tag what.Noop h = followed_current tag word.Noop d.selected refl
-  told_current sizes tag what.Logout h = absurd (true≢false (sym h))
-  told_current sizes tag (what.Login user password) h = absurd (true≢false (sym h))
-  told_current sizes tag (what.Select mailbox) h = absurd (true≢false (sym h))
-  told_current sizes tag (what.Examine mailbox) h = absurd (true≢false (sym h))
-  told_current sizes tag (what.Create mailbox) h = absurd (true≢false (sym h))
-  told_current sizes tag (what.Delete mailbox) h = absurd (true≢false (sym h))
-  told_current sizes tag (what.Rename mailbox target) h = absurd (true≢false (sym h))
-  told_current sizes tag (what.Subscribe mailbox) h = absurd (true≢false (sym h))
-  told_current sizes tag (what.Unsubscribe mailbox) h = absurd (true≢false (sym h))
-  told_current sizes tag (what.List reference pattern) h = absurd (true≢false (sym h))
-  told_current sizes tag (what.Lsub reference pattern) h = absurd (true≢false (sym h))
-  told_current sizes tag (what.Status mailbox asked) h = absurd (true≢false (sym h))
-  told_current sizes tag (what.Append mailbox flags moment text) h = absurd (true≢false (sym h))
-  told_current sizes tag what.Check h = checked_current tag d.selected refl
-  told_current sizes tag what.Close h = absurd (true≢false (sym h))
-  told_current sizes tag what.Expunge h = absurd (true≢false (sym h))
-  told_current sizes tag (what.Fetch set asked by_uid) h = absurd (true≢false (sym h))
-  told_current sizes tag (what.Store set how silent flags by_uid) h = absurd (true≢false (sym h))
-  told_current sizes tag (what.Copy set target by_uid) h = absurd (true≢false (sym h))
-  told_current sizes tag (what.Search charset key by_uid) h = absurd (true≢false (sym h))
-  told_current sizes tag what.Authenticate h = absurd (true≢false (sym h))
+  told_current : (sizes : Body → Option ℕ) (deep : Bool) (tag : List ℕ) (asked : ImapWhat) → follows_view asked ≡ true → is_view_current s (obey house s sizes deep tag d asked).dialog ≡ true
+  told_current sizes deep tag what.Capability h = absurd (true≢false (sym h))
+  told_current sizes deep tag what.Noop h = followed_current tag word.Noop d.selected refl
+  told_current sizes deep tag what.Logout h = absurd (true≢false (sym h))
+  told_current sizes deep tag (what.Login user password) h = absurd (true≢false (sym h))
+  told_current sizes deep tag (what.Select mailbox) h = absurd (true≢false (sym h))
+  told_current sizes deep tag (what.Examine mailbox) h = absurd (true≢false (sym h))
+  told_current sizes deep tag (what.Create mailbox) h = absurd (true≢false (sym h))
+  told_current sizes deep tag (what.Delete mailbox) h = absurd (true≢false (sym h))
+  told_current sizes deep tag (what.Rename mailbox target) h = absurd (true≢false (sym h))
+  told_current sizes deep tag (what.Subscribe mailbox) h = absurd (true≢false (sym h))
+  told_current sizes deep tag (what.Unsubscribe mailbox) h = absurd (true≢false (sym h))
+  told_current sizes deep tag (what.List reference pattern) h = absurd (true≢false (sym h))
+  told_current sizes deep tag (what.Lsub reference pattern) h = absurd (true≢false (sym h))
+  told_current sizes deep tag (what.Status mailbox asked) h = absurd (true≢false (sym h))
+  told_current sizes deep tag (what.Append mailbox flags moment text) h = absurd (true≢false (sym h))
+  told_current sizes deep tag what.Check h = checked_current tag d.selected refl
+  told_current sizes deep tag what.Close h = absurd (true≢false (sym h))
+  told_current sizes deep tag what.Expunge h = absurd (true≢false (sym h))
+  told_current sizes deep tag (what.Fetch set asked by_uid) h = absurd (true≢false (sym h))
+  told_current sizes deep tag (what.Store set how silent flags by_uid) h = absurd (true≢false (sym h))
+  told_current sizes deep tag (what.Copy set target by_uid) h = absurd (true≢false (sym h))
+  told_current sizes deep tag (what.Search charset key by_uid) h = absurd (true≢false (sym h))
+  told_current sizes deep tag what.Authenticate h = absurd (true≢false (sym h))
 
 -- what stays known of the view behind a command holds
-pub current_after : (house : House) (s : MailStore) (sizes : Body → Option ℕ) (tag : List ℕ) (d : Dialog) (asked : ImapWhat) (current : Bool) → IsFine house s d (obey house s sizes tag d asked)
-    → (current ≡ true → is_view_current s d ≡ true) → stays_current current asked (obey house s sizes tag d asked).out ≡ true → is_view_current s (obey house s sizes tag d asked).dialog ≡ true
-current_after house s sizes tag d asked true fine known h = fine.view (first_so (is_said (obey house s sizes tag d asked).out) true h) (known refl)
-current_after house s sizes tag d asked false fine known h = told_current house s d sizes tag asked (second_so (is_said (obey house s sizes tag d asked).out) (follows_view asked) h)
+pub current_after : (house : House) (s : MailStore) (sizes : Body → Option ℕ) (deep : Bool) (tag : List ℕ) (d : Dialog) (asked : ImapWhat) (current : Bool) → IsFine house s d (obey house s sizes deep tag d asked)
+    → (current ≡ true → is_view_current s d ≡ true) → stays_current current asked (obey house s sizes deep tag d asked).out ≡ true → is_view_current s (obey house s sizes deep tag d asked).dialog ≡ true
+current_after house s sizes deep tag d asked true fine known h = fine.view (first_so (is_said (obey house s sizes deep tag d asked).out) true h) (known refl)
+current_after house s sizes deep tag d asked false fine known h = told_current house s d sizes deep tag asked (second_so (is_said (obey house s sizes deep tag d asked).out) (follows_view asked) h)
 
 -- CHECK, by what the view is told
-pub check_is : (house : House) (s : MailStore) (sizes : Body → Option ℕ) (tag : List ℕ) (d : Dialog) (asked : ImapWhat) (t : Took) → asked ≡ what.Check
-    → check s tag d d.selected ≡ t → obey house s sizes tag d asked ≡ t
-check_is house s sizes tag d asked t e h = rw e h
+pub check_is : (house : House) (s : MailStore) (sizes : Body → Option ℕ) (deep : Bool) (tag : List ℕ) (d : Dialog) (asked : ImapWhat) (t : Took) → asked ≡ what.Check
+    → check s tag d d.selected ≡ t → obey house s sizes deep tag d asked ≡ t
+check_is house s sizes deep tag d asked t e h = rw e h
 
 -- NOOP, by what the view is told
-pub noop_is : (house : House) (s : MailStore) (sizes : Body → Option ℕ) (tag : List ℕ) (d : Dialog) (asked : ImapWhat) (t : Took) → asked ≡ what.Noop
-    → follow s tag word.Noop d d.selected ≡ t → obey house s sizes tag d asked ≡ t
-noop_is house s sizes tag d asked t e h = rw e h
+pub noop_is : (house : House) (s : MailStore) (sizes : Body → Option ℕ) (deep : Bool) (tag : List ℕ) (d : Dialog) (asked : ImapWhat) (t : Took) → asked ≡ what.Noop
+    → follow s tag word.Noop d d.selected ≡ t → obey house s sizes deep tag d asked ≡ t
+noop_is house s sizes deep tag d asked t e h = rw e h
 
 -- what want of memory leaves is as sound as it was, and at home
 unselected_sound : (d : Dialog) → IsSound d → IsSound (unselected d)

@@ -1,5 +1,5 @@
 -- The dialog with a mail client (RFC 3501, 3 and 6), as a function of its state, the house, the store, the lengths of
--- texts and one command. It gives what is said, read or asked of the store, and the state after it.
+-- texts, whether names may have superiors, and one command. It gives what is said, read or asked of the store, and the state after it.
 use Rattle.std.specs.Prelude.{◌≡◌, ℕ, Bool, true, false, not, ◌&&◌, ◌||◌, List, [], ◌∷◌, ◌++◌, length, bytes_eq, is_some, option_map, unwrap_or, Option, None, Some, Result, Ok, Err, if◌then◌else◌}
 use Rattle.std.specs.List.{list_all}
 use Rattle.undo_base.specs.declared.asks.StatusAsk.{StatusAsk}
@@ -33,7 +33,7 @@ use Rattle.verb_core.specs.declared.mailbox.BoxId.{BoxId}
 use Rattle.verb_core.specs.declared.mailbox.Entry.{Entry}
 use Rattle.verb_core.specs.declared.mailbox.Mailbox.{Mailbox}
 use Rattle.verb_core.specs.Boxes.{same_user}
-use Rattle.verb_core.specs.Names.{inbox, is_fixed, is_new_name}
+use Rattle.verb_core.specs.Names.{is_fixed, is_new_name}
 use Rattle.verb_core.specs.Live.{is_users, mail_of}
 use Rattle.verb_core.specs.Store.{MailStore, is_known}
 use Rattle.imap_session.specs.declared.dialog.Awaits.{Awaits}
@@ -53,7 +53,7 @@ use Rattle.imap_session.specs.declared.words.Answer.TheVariants.{Done, Opened, N
 use Rattle.imap_session.specs.declared.words.Word.{Word}
 use Rattle.imap_session.specs.declared.words.Word.TheVariants as word
 use Rattle.imap_session.specs.Words.{bye_text, capability_text, copy_word, fault_text, fetch_word, list_word, no_names_text, search_word, store_word, tagged, unread_text, word_text}
-use Rattle.imap_view.specs.Names.{account_of, mailbox_of}
+use Rattle.imap_view.specs.Names.{account_of, made_mailbox_of, mailbox_of}
 use Rattle.imap_view.specs.Views.{is_current, news, view_of}
 use Rattle.imap_view.specs.Named.{keys_at, places_named, rows_at}
 use Rattle.imap_view.specs.Facts.{facts_at, is_there}
@@ -142,25 +142,21 @@ create tag d (Some u) (Some mailbox) = asks (ask.Create mailbox) tag (on.Plain w
 abbrev pub delete : List ℕ → Dialog → Option User → Option (List ℕ) → Took
 delete tag d None mailbox = says tag WrongState d
 delete tag d (Some u) None = says tag (Refused NoBox) d
-delete tag d (Some u) (Some mailbox) = asks (ask.Delete mailbox) tag (on.Leave word.Delete mailbox) d
+delete tag d (Some u) (Some mailbox) = asks (ask.Delete mailbox) tag (on.Leave word.Delete) d
 
 -- why a mailbox that is not there can't get a name
-abbrev pub target_refused : List ℕ → Refusal
-target_refused target = if not (is_new_name target) then NameShape else if is_fixed target then Fixed else NoBox
+abbrev pub target_refused : Bool → List ℕ → Refusal
+target_refused deep target = if not (is_new_name deep target) then NameShape else if is_fixed target then Fixed else NoBox
 
--- what follows a RENAME: INBOX stays where it is
-abbrev pub after_rename : List ℕ → Pending
-after_rename mailbox = if bytes_eq mailbox inbox then on.Plain word.Rename else on.Leave word.Rename mailbox
-
-abbrev pub rename_to : List ℕ → Dialog → List ℕ → Option (List ℕ) → Took
-rename_to tag d target None = says tag (Refused (target_refused target)) d
-rename_to tag d target (Some mailbox) = asks (ask.Rename mailbox target) tag (after_rename mailbox) d
+abbrev pub rename_to : List ℕ → Dialog → Bool → List ℕ → Option (List ℕ) → Took
+rename_to tag d deep target None = says tag (Refused (target_refused deep target)) d
+rename_to tag d deep target (Some mailbox) = asks (ask.Rename mailbox target) tag (on.Leave word.Rename) d
 
 -- RENAME (RFC 3501, 6.3.5)
-abbrev pub rename : List ℕ → Dialog → Option User → Option (List ℕ) → Option (List ℕ) → Took
-rename tag d None target mailbox = says tag WrongState d
-rename tag d (Some u) None mailbox = says tag (Refused NameShape) d
-rename tag d (Some u) (Some target) mailbox = rename_to tag d target mailbox
+abbrev pub rename : List ℕ → Dialog → Option User → Bool → Option (List ℕ) → Option (List ℕ) → Took
+rename tag d None deep target mailbox = says tag WrongState d
+rename tag d (Some u) deep None mailbox = says tag (Refused NameShape) d
+rename tag d (Some u) deep (Some target) mailbox = rename_to tag d deep target mailbox
 
 -- SUBSCRIBE and UNSUBSCRIBE, which change nothing (RFC 3501, 6.3.6 and 6.3.7)
 abbrev pub subscribe : List ℕ → Dialog → Option User → Word → Took
@@ -168,10 +164,10 @@ subscribe tag d None w = says tag WrongState d
 subscribe tag d (Some u) w = says tag (Done w) d
 
 -- LIST and LSUB: the reference stands before the pattern (RFC 3501, 6.3.8 and 6.3.9)
-abbrev pub list : List ℕ → Dialog → Option User → Bool → List ℕ → List ℕ → Took
-list tag d None subscribed reference pattern = says tag WrongState d
-list tag d (Some u) subscribed reference [] = tells (no_names_text subscribed) tag (Done (list_word subscribed)) d
-list tag d (Some u) subscribed reference (b ∷ pattern) = asks (ask.List (reference ++ b ∷ pattern)) tag (on.List subscribed) d
+abbrev pub list : List ℕ → Dialog → Option User → Bool → Bool → List ℕ → List ℕ → Took
+list tag d None deep subscribed reference pattern = says tag WrongState d
+list tag d (Some u) deep subscribed reference [] = tells (no_names_text deep subscribed) tag (Done (list_word subscribed)) d
+list tag d (Some u) deep subscribed reference (b ∷ pattern) = asks (ask.List (reference ++ b ∷ pattern)) tag (on.List subscribed deep) d
 
 -- STATUS (RFC 3501, 6.3.10)
 abbrev pub status : List ℕ → Dialog → Option User → Option (List ℕ) → List StatusAsk → Took
@@ -294,31 +290,31 @@ copy s tag d (Some selected) set target by_uid = copy_places s tag d selected ta
 
 -- ---- one command
 
-abbrev pub obey : House → MailStore → (Body → Option ℕ) → List ℕ → Dialog → ImapWhat → Took
-obey house s sizes tag d what.Capability = capability tag d
-obey house s sizes tag d what.Noop = follow s tag word.Noop d d.selected
-obey house s sizes tag d what.Logout = logout tag d
-obey house s sizes tag d (what.Login user password) = login house tag d d.user user password
-obey house s sizes tag d (what.Select mailbox) = select tag d d.user (mailbox_of mailbox) true
-obey house s sizes tag d (what.Examine mailbox) = select tag d d.user (mailbox_of mailbox) false
-obey house s sizes tag d (what.Create mailbox) = create tag d d.user (mailbox_of mailbox)
-obey house s sizes tag d (what.Delete mailbox) = delete tag d d.user (mailbox_of mailbox)
-obey house s sizes tag d (what.Rename mailbox target) = rename tag d d.user (mailbox_of target) (mailbox_of mailbox)
-obey house s sizes tag d (what.Subscribe mailbox) = subscribe tag d d.user word.Subscribe
-obey house s sizes tag d (what.Unsubscribe mailbox) = subscribe tag d d.user word.Unsubscribe
-obey house s sizes tag d (what.List reference pattern) = list tag d d.user false reference pattern
-obey house s sizes tag d (what.Lsub reference pattern) = list tag d d.user true reference pattern
-obey house s sizes tag d (what.Status mailbox asked) = status tag d d.user (mailbox_of mailbox) asked
-obey house s sizes tag d (what.Append mailbox flags moment text) = append tag d d.user (mailbox_of mailbox) flags moment text
-obey house s sizes tag d what.Check = check s tag d d.selected
-obey house s sizes tag d what.Close = close tag d d.selected
-obey house s sizes tag d what.Expunge = expunge tag d d.selected
-obey house s sizes tag d (what.Fetch set asked by_uid) = fetch s sizes tag d (attributes_of asked) set by_uid
-obey house s sizes tag d (what.Store set how silent flags by_uid) =
+abbrev pub obey : House → MailStore → (Body → Option ℕ) → Bool → List ℕ → Dialog → ImapWhat → Took
+obey house s sizes deep tag d what.Capability = capability tag d
+obey house s sizes deep tag d what.Noop = follow s tag word.Noop d d.selected
+obey house s sizes deep tag d what.Logout = logout tag d
+obey house s sizes deep tag d (what.Login user password) = login house tag d d.user user password
+obey house s sizes deep tag d (what.Select mailbox) = select tag d d.user (mailbox_of deep mailbox) true
+obey house s sizes deep tag d (what.Examine mailbox) = select tag d d.user (mailbox_of deep mailbox) false
+obey house s sizes deep tag d (what.Create mailbox) = create tag d d.user (made_mailbox_of deep mailbox)
+obey house s sizes deep tag d (what.Delete mailbox) = delete tag d d.user (mailbox_of deep mailbox)
+obey house s sizes deep tag d (what.Rename mailbox target) = rename tag d d.user deep (mailbox_of deep target) (mailbox_of deep mailbox)
+obey house s sizes deep tag d (what.Subscribe mailbox) = subscribe tag d d.user word.Subscribe
+obey house s sizes deep tag d (what.Unsubscribe mailbox) = subscribe tag d d.user word.Unsubscribe
+obey house s sizes deep tag d (what.List reference pattern) = list tag d d.user deep false reference pattern
+obey house s sizes deep tag d (what.Lsub reference pattern) = list tag d d.user deep true reference pattern
+obey house s sizes deep tag d (what.Status mailbox asked) = status tag d d.user (mailbox_of deep mailbox) asked
+obey house s sizes deep tag d (what.Append mailbox flags moment text) = append tag d d.user (mailbox_of deep mailbox) flags moment text
+obey house s sizes deep tag d what.Check = check s tag d d.selected
+obey house s sizes deep tag d what.Close = close tag d d.selected
+obey house s sizes deep tag d what.Expunge = expunge tag d d.selected
+obey house s sizes deep tag d (what.Fetch set asked by_uid) = fetch s sizes tag d (attributes_of asked) set by_uid
+obey house s sizes deep tag d (what.Store set how silent flags by_uid) =
     store s sizes tag d d.selected (record { how = how; flags = flags; by_uid = by_uid }) silent set
-obey house s sizes tag d (what.Copy set target by_uid) = copy s tag d d.selected set (mailbox_of target) by_uid
-obey house s sizes tag d (what.Search charset key by_uid) = search s sizes tag d d.selected charset key by_uid
-obey house s sizes tag d what.Authenticate = says tag NotOffered d
+obey house s sizes deep tag d (what.Copy set target by_uid) = copy s tag d d.selected set (mailbox_of deep target) by_uid
+obey house s sizes deep tag d (what.Search charset key by_uid) = search s sizes tag d d.selected charset key by_uid
+obey house s sizes deep tag d what.Authenticate = says tag NotOffered d
 
 -- what a command leaves that found no memory: a SELECT or EXAMINE leaves no mailbox selected, as one that is refused does, so that a
 -- command behind it is not taken to be of the mailbox before (RFC 3501, 6.3.1); any other leaves all as it was
@@ -347,17 +343,17 @@ without_memory (what.Copy set target by_uid) d = d
 without_memory (what.Search charset key by_uid) d = d
 without_memory what.Authenticate d = d
 
--- one command; `sizes` has the lengths of texts
-abbrev pub turn : House → MailStore → (Body → Option ℕ) → Dialog → ImapCommand → Took
-turn house s sizes d command = obey house s sizes command.tag d command.what
+-- one command; `sizes` has the lengths of texts, and `deep` tells whether names may have superiors
+abbrev pub turn : House → MailStore → (Body → Option ℕ) → Bool → Dialog → ImapCommand → Took
+turn house s sizes deep d command = obey house s sizes deep command.tag d command.what
 
-abbrev pub hears_reading : House → MailStore → (Body → Option ℕ) → Dialog → Reading → Took
-hears_reading house s sizes d (Ok command) = turn house s sizes d command
-hears_reading house s sizes d (Err unread) = took (Say (unread_text unread)) d
+abbrev pub hears_reading : House → MailStore → (Body → Option ℕ) → Bool → Dialog → Reading → Took
+hears_reading house s sizes deep d (Ok command) = turn house s sizes deep d command
+hears_reading house s sizes deep d (Err unread) = took (Say (unread_text unread)) d
 
 -- one command of a stream, by its lines and literals
-abbrev pub hears : House → MailStore → (Body → Option ℕ) → Dialog → RawCommand → Took
-hears house s sizes d raw = hears_reading house s sizes d (command_of raw)
+abbrev pub hears : House → MailStore → (Body → Option ℕ) → Bool → Dialog → RawCommand → Took
+hears house s sizes deep d raw = hears_reading house s sizes deep d (command_of raw)
 
 -- ---- what was awaited
 
@@ -391,14 +387,14 @@ selects s stamps tag d mailbox writes =
     tells (select_lines (facts_at s stamps d.user mailbox) writes) tag (Opened writes)
     (record d { selected = Some (record { mailbox = mailbox; view = view_of (mail_of s d.user mailbox); writes = writes }) })
 
--- the mailbox is selected
-abbrev pub is_on : List ℕ → Option Selected → Bool
-is_on mailbox None = false
-is_on mailbox (Some selected) = bytes_eq selected.mailbox mailbox
+-- the selected mailbox is no more: the user has none of its name
+abbrev pub is_lost : MailStore → Option User → Option Selected → Bool
+is_lost s user None = false
+is_lost s user (Some selected) = not (is_there s user selected.mailbox)
 
--- a mailbox stays selected, unless it is the one that is no more
-abbrev pub kept_beside : List ℕ → Option Selected → Option Selected
-kept_beside mailbox selected = if is_on mailbox selected then None else selected
+-- a mailbox stays selected, unless its name was taken away
+abbrev pub still_selected : MailStore → Option User → Option Selected → Option Selected
+still_selected s user selected = if is_lost s user selected then None else selected
 
 -- the names that a LIST was shown
 abbrev pub names_in : Shown → List (List ℕ)
@@ -412,9 +408,9 @@ done s stamps tag d item (on.Fetch form rows texts) = tells (fetch_lines form ro
 done s stamps tag d item (on.Search by_uid numbers) = tells (search_line numbers) tag (Done (search_word by_uid)) d
 done s stamps tag d item (on.Store form silent rows) = tells (if silent then [] else store_lines form rows) tag (Done (store_word form.by_uid)) d
 done s stamps tag d item (on.Plain w) = says tag (Done w) d
-done s stamps tag d item (on.Leave w mailbox) = says tag (Done w) (record d { selected = kept_beside mailbox d.selected })
+done s stamps tag d item (on.Leave w) = says tag (Done w) (record d { selected = still_selected s d.user d.selected })
 done s stamps tag d item on.Close = says tag (Done word.Close) (unselected d)
-done s stamps tag d item (on.List subscribed) = tells (list_lines (word_text (list_word subscribed)) (names_in item.shown)) tag (Done (list_word subscribed)) d
+done s stamps tag d item (on.List subscribed deep) = tells (list_lines (word_text (list_word subscribed)) (names_in item.shown) deep) tag (Done (list_word subscribed)) d
 done s stamps tag d item (on.Status mailbox asked) = tells (status_line mailbox asked (facts_at s stamps d.user mailbox)) tag (Done word.Status) d
 done s stamps tag d item (on.Follow w) = follow s tag w d d.selected
 
@@ -425,9 +421,9 @@ selected_after (on.Fetch form rows texts) selected = selected
 selected_after (on.Search by_uid numbers) selected = selected
 selected_after (on.Store form silent rows) selected = selected
 selected_after (on.Plain w) selected = selected
-selected_after (on.Leave w mailbox) selected = selected
+selected_after (on.Leave w) selected = selected
 selected_after on.Close selected = selected
-selected_after (on.List subscribed) selected = selected
+selected_after (on.List subscribed deep) selected = selected
 selected_after (on.Status mailbox asked) selected = selected
 selected_after (on.Follow w) selected = selected
 

@@ -8,6 +8,7 @@ use Rattle.imap_stream.specs.declared.next.LineFault.{LineFault}
 use Rattle.imap_stream.specs.declared.next.LineFault.TheVariants as fault
 use Rattle.imap_lines.specs.declared.command.ImapRefused.{ImapRefused}
 use Rattle.imap_lines.specs.declared.command.ImapRefused.TheVariants as unread
+use Rattle.imap_text.specs.Answers.{delimiter}
 use Rattle.imap_text.specs.Words.{crlf}
 use Rattle.imap_session.specs.declared.words.Word.{Word}
 use Rattle.imap_session.specs.declared.words.Word.TheVariants as word
@@ -66,6 +67,7 @@ list_word subscribed = if subscribed then word.Lsub else word.List
 abbrev pub refusal_text : Refused → List ℕ
 refusal_text refused.NoBox = codes "NO No such mailbox."
 refusal_text refused.Exists = codes "NO Mailbox exists."
+refusal_text refused.HasInferiors = codes "NO Mailbox has inferiors."
 refusal_text refused.Fixed = codes "NO Mailbox is fixed."
 refusal_text refused.NameShape = codes "NO Bad mailbox name."
 refusal_text refused.TryCreate = codes "NO [TRYCREATE] No such mailbox."
@@ -104,9 +106,9 @@ greeting_text house = said (codes "* OK " ++ house.host ++ codes " IMAP4rev1 und
 abbrev pub capability_text : List ℕ
 capability_text = said (codes "* CAPABILITY IMAP4rev1")
 
--- the answer to a LIST without a pattern: there is no delimiter (RFC 3501, 6.3.8)
-abbrev pub no_names_text : Bool → List ℕ
-no_names_text subscribed = said (codes "* " ++ word_text (list_word subscribed) ++ codes " (\\Noselect) NIL \"\"")
+-- the answer to a LIST without a pattern, which asks for the delimiter (RFC 3501, 6.3.8)
+abbrev pub no_names_text : Bool → Bool → List ℕ
+no_names_text deep subscribed = said (codes "* " ++ word_text (list_word subscribed) ++ codes " (\\Noselect) " ++ delimiter deep ++ codes " \"\"")
 
 -- a literal is invited (RFC 3501, 7.5)
 abbrev pub ready_text : List ℕ
@@ -124,6 +126,9 @@ changed_text = said (codes "* BYE Mailbox changed.")
 
 abbrev pub rewound_text : List ℕ
 rewound_text = said (codes "* BYE The store was rewound.")
+
+abbrev pub upgraded_text : List ℕ
+upgraded_text = said (codes "* BYE The store was upgraded.")
 
 abbrev pub fault_answer : LineFault → List ℕ
 fault_answer fault.Long = codes "BAD Line too long."

@@ -46,6 +46,7 @@ fn submit_append(
 /// APPEND.
 pub(crate) fn append(
     alloc: Global,
+    deep: bool,
     dialog: &mut Dialog,
     tag: &Name,
     mailbox: &Text,
@@ -53,12 +54,12 @@ pub(crate) fn append(
     moment: Option<u64>,
     text: &Text,
 ) -> Result<ImapOut, NoMemory>
-    ensures ok { IfOk result (λ out. spec.append tag.now dialog.old dialog.old.user (mailbox_named mailbox.now) flags moment text.now ≡ took out dialog.new) }
+    ensures ok { IfOk result (λ out. spec.append tag.now dialog.old dialog.old.user (mailbox_named deep mailbox.now) flags moment text.now ≡ took out dialog.new) }
     ensures err { OnErr result (dialog.new ≡ dialog.old) }
 {
     match dialog.user {
         None => say(alloc, tag, Answer::WrongState),
-        Some(_) => match mailbox_of(alloc, mailbox)? {
+        Some(_) => match mailbox_of(alloc, deep, mailbox)? {
             None => say(alloc, tag, Answer::Refused(Refused::TryCreate)),
             Some(mailbox) => submit_append(alloc, dialog, tag, mailbox, flags, moment, text),
         },
@@ -145,6 +146,7 @@ fn no_target(store: &Store, user: Option<User>, mailbox: &Name) -> Refused
 pub(crate) fn copy(
     alloc: Global,
     store: &Store,
+    deep: bool,
     dialog: &mut Dialog,
     tag: &Name,
     set: &SetText,
@@ -152,7 +154,7 @@ pub(crate) fn copy(
     by_uid: bool,
 ) -> Result<ImapOut, NoMemory>
     requires { IfSome dialog.old.selected (λ s. is_in_order s.view ≡ true) }
-    ensures ok { IfOk result (λ out. spec.copy store.now.store tag.now dialog.old dialog.old.selected set.now (mailbox_named target.now) by_uid ≡ took out dialog.new) }
+    ensures ok { IfOk result (λ out. spec.copy store.now.store tag.now dialog.old dialog.old.selected set.now (mailbox_named deep target.now) by_uid ≡ took out dialog.new) }
     ensures err { OnErr result (dialog.new ≡ dialog.old) }
 {
     let Some(selected) = &dialog.selected else {
@@ -161,7 +163,7 @@ pub(crate) fn copy(
     let Some(places) = places_named(alloc, &selected.view, set, by_uid)? else {
         return say(alloc, tag, Answer::BadNumber);
     };
-    let Some(target) = mailbox_of(alloc, target)? else {
+    let Some(target) = mailbox_of(alloc, deep, target)? else {
         let why = no_target(store, dialog.user, &selected.mailbox);
         return say(alloc, tag, Answer::Refused(why));
     };

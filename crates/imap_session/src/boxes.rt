@@ -1,6 +1,6 @@
 //! CREATE, DELETE, RENAME, SUBSCRIBE and UNSUBSCRIBE (RFC 3501, sections 6.3.3 to 6.3.7).
 ghost use Rattle.std.specs.Prelude.{◌≡◌, IfOk, OnErr};
-ghost use Rattle.imap_view.specs.Names.{mailbox_of as mailbox_named};
+ghost use Rattle.imap_view.specs.Names.{made_mailbox_of as made_mailbox_named, mailbox_of as mailbox_named};
 ghost use Rattle.imap_session.specs.Dialog.{took};
 ghost use Rattle.imap_session.specs.Dialog as spec;
 
@@ -8,7 +8,7 @@ use crate::commands::{say, submit};
 use crate::dialog::{Dialog, Pending};
 use crate::out::ImapOut;
 use crate::words::{Answer, Word};
-use imap_view::mailbox_of;
+use imap_view::{made_mailbox_of, mailbox_of};
 use std::alloc::Global;
 use undo_base::{Name, NoMemory, Text};
 use verb_core::{Ask, Refused, is_fixed, is_new_name};
@@ -30,16 +30,17 @@ fn create_named(
 /// CREATE.
 pub(crate) fn create(
     alloc: Global,
+    deep: bool,
     dialog: &mut Dialog,
     tag: &Name,
     mailbox: &Text,
 ) -> Result<ImapOut, NoMemory>
-    ensures ok { IfOk result (λ out. spec.create tag.now dialog.old dialog.old.user (mailbox_named mailbox.now) ≡ took out dialog.new) }
+    ensures ok { IfOk result (λ out. spec.create tag.now dialog.old dialog.old.user (made_mailbox_named deep mailbox.now) ≡ took out dialog.new) }
     ensures err { OnErr result (dialog.new ≡ dialog.old) }
 {
     match dialog.user {
         None => say(alloc, tag, Answer::WrongState),
-        Some(_) => match mailbox_of(alloc, mailbox)? {
+        Some(_) => match made_mailbox_of(alloc, deep, mailbox)? {
             None => say(alloc, tag, Answer::Refused(Refused::NameShape)),
             Some(mailbox) => create_named(alloc, dialog, tag, mailbox),
         },
@@ -52,31 +53,28 @@ fn delete_named(
     tag: &Name,
     mailbox: Name,
 ) -> Result<ImapOut, NoMemory>
-    ensures ok { IfOk result (λ out. spec.asks (Ask.Delete mailbox) tag.now (Pending.Leave Word.Delete mailbox) dialog.old ≡ took out dialog.new) }
+    ensures ok { IfOk result (λ out. spec.asks (Ask.Delete mailbox) tag.now (Pending.Leave Word.Delete) dialog.old ≡ took out dialog.new) }
     ensures err { OnErr result (dialog.new ≡ dialog.old) }
 {
     let tag = tag.copy(alloc)?;
-    let copy = mailbox.copy(alloc)?;
-    let pending = Pending::Leave {
-        word: Word::Delete,
-        mailbox: copy,
-    };
+    let pending = Pending::Leave { word: Word::Delete };
     Ok(submit(dialog, tag, Ask::Delete { mailbox }, pending))
 }
 
 /// DELETE.
 pub(crate) fn delete(
     alloc: Global,
+    deep: bool,
     dialog: &mut Dialog,
     tag: &Name,
     mailbox: &Text,
 ) -> Result<ImapOut, NoMemory>
-    ensures ok { IfOk result (λ out. spec.delete tag.now dialog.old dialog.old.user (mailbox_named mailbox.now) ≡ took out dialog.new) }
+    ensures ok { IfOk result (λ out. spec.delete tag.now dialog.old dialog.old.user (mailbox_named deep mailbox.now) ≡ took out dialog.new) }
     ensures err { OnErr result (dialog.new ≡ dialog.old) }
 {
     match dialog.user {
         None => say(alloc, tag, Answer::WrongState),
-        Some(_) => match mailbox_of(alloc, mailbox)? {
+        Some(_) => match mailbox_of(alloc, deep, mailbox)? {
             None => say(alloc, tag, Answer::Refused(Refused::NoBox)),
             Some(mailbox) => delete_named(alloc, dialog, tag, mailbox),
         },
@@ -84,30 +82,17 @@ pub(crate) fn delete(
 }
 
 /// Why a mailbox that is not there can't get a name.
-fn target_refused(target: &Name) -> Refused
-    ensures { result ≡ spec.target_refused target.now }
+fn target_refused(deep: bool, target: &Name) -> Refused
+    ensures { result ≡ spec.target_refused deep target.now }
 {
     let target = target.bytes();
-    if !is_new_name(target) {
+    if !is_new_name(deep, target) {
         return Refused::NameShape;
     }
     if is_fixed(target) {
         return Refused::Fixed;
     }
     Refused::NoBox
-}
-
-/// What follows a RENAME: INBOX stays where it is.
-fn after_rename(alloc: Global, mailbox: &Name) -> Result<Pending, NoMemory>
-    ensures { IfOk result (λ pending. pending ≡ spec.after_rename mailbox.now) }
-{
-    if mailbox.bytes() == b"INBOX".as_slice() {
-        return Ok(Pending::Plain { word: Word::Rename });
-    }
-    Ok(Pending::Leave {
-        word: Word::Rename,
-        mailbox: mailbox.copy(alloc)?,
-    })
 }
 
 fn rename_named(
@@ -117,26 +102,27 @@ fn rename_named(
     mailbox: Name,
     target: Name,
 ) -> Result<ImapOut, NoMemory>
-    ensures ok { IfOk result (λ out. spec.asks (Ask.Rename mailbox target) tag.now (spec.after_rename mailbox) dialog.old ≡ took out dialog.new) }
+    ensures ok { IfOk result (λ out. spec.asks (Ask.Rename mailbox target) tag.now (Pending.Leave Word.Rename) dialog.old ≡ took out dialog.new) }
     ensures err { OnErr result (dialog.new ≡ dialog.old) }
 {
     let tag = tag.copy(alloc)?;
-    let pending = after_rename(alloc, &mailbox)?;
+    let pending = Pending::Leave { word: Word::Rename };
     Ok(submit(dialog, tag, Ask::Rename { mailbox, target }, pending))
 }
 
 fn rename_to(
     alloc: Global,
+    deep: bool,
     dialog: &mut Dialog,
     tag: &Name,
     mailbox: Option<Name>,
     target: Name,
 ) -> Result<ImapOut, NoMemory>
-    ensures ok { IfOk result (λ out. spec.rename_to tag.now dialog.old target mailbox ≡ took out dialog.new) }
+    ensures ok { IfOk result (λ out. spec.rename_to tag.now dialog.old deep target mailbox ≡ took out dialog.new) }
     ensures err { OnErr result (dialog.new ≡ dialog.old) }
 {
     match mailbox {
-        None => say(alloc, tag, Answer::Refused(target_refused(&target))),
+        None => say(alloc, tag, Answer::Refused(target_refused(deep, &target))),
         Some(mailbox) => rename_named(alloc, dialog, tag, mailbox, target),
     }
 }
@@ -144,21 +130,22 @@ fn rename_to(
 /// RENAME.
 pub(crate) fn rename(
     alloc: Global,
+    deep: bool,
     dialog: &mut Dialog,
     tag: &Name,
     mailbox: &Text,
     target: &Text,
 ) -> Result<ImapOut, NoMemory>
-    ensures ok { IfOk result (λ out. spec.rename tag.now dialog.old dialog.old.user (mailbox_named target.now) (mailbox_named mailbox.now) ≡ took out dialog.new) }
+    ensures ok { IfOk result (λ out. spec.rename tag.now dialog.old dialog.old.user deep (mailbox_named deep target.now) (mailbox_named deep mailbox.now) ≡ took out dialog.new) }
     ensures err { OnErr result (dialog.new ≡ dialog.old) }
 {
     match dialog.user {
         None => say(alloc, tag, Answer::WrongState),
-        Some(_) => match mailbox_of(alloc, target)? {
+        Some(_) => match mailbox_of(alloc, deep, target)? {
             None => say(alloc, tag, Answer::Refused(Refused::NameShape)),
             Some(target) => {
-                let mailbox = mailbox_of(alloc, mailbox)?;
-                rename_to(alloc, dialog, tag, mailbox, target)
+                let mailbox = mailbox_of(alloc, deep, mailbox)?;
+                rename_to(alloc, deep, dialog, tag, mailbox, target)
             }
         },
     }

@@ -170,17 +170,18 @@ fn select_named(
 
 fn begin_select(
     alloc: Global,
+    deep: bool,
     dialog: &mut Dialog,
     tag: &Name,
     mailbox: &Text,
     writes: bool,
 ) -> Result<ImapOut, NoMemory>
-    ensures ok { IfOk result (λ out. spec.select tag.now dialog.old dialog.old.user (mailbox_named mailbox.now) writes ≡ took out dialog.new) }
+    ensures ok { IfOk result (λ out. spec.select tag.now dialog.old dialog.old.user (mailbox_named deep mailbox.now) writes ≡ took out dialog.new) }
     ensures err { OnErr result (dialog.new ≡ dialog.old) }
 {
     match dialog.user {
         None => say(alloc, tag, Answer::WrongState),
-        Some(_) => match mailbox_of(alloc, mailbox)? {
+        Some(_) => match mailbox_of(alloc, deep, mailbox)? {
             None => select_none(alloc, dialog, tag),
             Some(mailbox) => select_named(alloc, dialog, tag, mailbox, writes),
         },
@@ -190,15 +191,16 @@ fn begin_select(
 /// SELECT and EXAMINE. Where no memory is found for it, no mailbox is selected any more.
 pub(crate) fn select(
     alloc: Global,
+    deep: bool,
     dialog: &mut Dialog,
     tag: &Name,
     mailbox: &Text,
     writes: bool,
 ) -> Result<ImapOut, NoMemory>
-    ensures ok { IfOk result (λ out. spec.select tag.now dialog.old dialog.old.user (mailbox_named mailbox.now) writes ≡ took out dialog.new) }
+    ensures ok { IfOk result (λ out. spec.select tag.now dialog.old dialog.old.user (mailbox_named deep mailbox.now) writes ≡ took out dialog.new) }
     ensures err { OnErr result (dialog.new ≡ spec.unselected dialog.old) }
 {
-    match begin_select(alloc, dialog, tag, mailbox, writes) {
+    match begin_select(alloc, deep, dialog, tag, mailbox, writes) {
         Ok(out) => Ok(out),
         Err(NoMemory) => {
             dialog.selected = None;

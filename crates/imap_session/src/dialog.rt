@@ -72,16 +72,16 @@ pub enum Pending {
     Plain {
         word: Word,
     },
-    /// This mailbox is no more: where it is selected, none is selected any more.
+    /// A mailbox's name may be taken away: where it is the selected one, none is selected any more.
     Leave {
         word: Word,
-        mailbox: Name,
     },
     /// No mailbox is selected any more.
     Close,
-    /// The names are told.
+    /// The names are told, which may have superiors or not.
     List {
         subscribed: bool,
+        deep: bool,
     },
     /// A mailbox is told of.
     Status {

@@ -21,7 +21,7 @@ mod session;
 mod settle;
 mod words;
 
-pub use lines::{bad_line, changed, greeting, no_memory, ready, refused, rewound};
+pub use lines::{bad_line, changed, greeting, no_memory, ready, refused, rewound, upgraded};
 pub use obey::stays_current;
 pub use out::{Bodies0, ImapOut};
 pub use session::ImapSession;

@@ -88,3 +88,10 @@ pub fn rewound() -> &'static [u8]
 {
     b"* BYE The store was rewound.\r\n"
 }
+
+/// The last words to every session after an upgrade. Takes no memory.
+pub fn upgraded() -> &'static [u8]
+    ensures { result.now ≡ spec.upgraded_text }
+{
+    b"* BYE The store was upgraded.\r\n"
+}

@@ -14,19 +14,21 @@ use crate::dialog::{Dialog, Pending};
 use crate::out::ImapOut;
 use crate::words::{Answer, Word, list_word, word_text};
 use box_store::Store;
-use imap_text::{render_list, render_status};
+use imap_text::{delimiter, render_list, render_status};
 use imap_view::{mailbox_of, status_facts};
 use std::alloc::Global;
 use undo_base::{Name, Names, NoMemory, StatusAsks, Text, User};
 use verb_core::{Ask, Refused, Shown, Stamps};
 
 /// The answer to a LIST without a pattern.
-fn no_names(alloc: Global, tag: &Name, subscribed: bool) -> Result<ImapOut, NoMemory>
-    ensures { IfOk result (λ out. out ≡ ImapOut.Say (words.no_names_text subscribed ++ words.tagged tag.now (Answer.Done (words.list_word subscribed)))) }
+fn no_names(alloc: Global, deep: bool, tag: &Name, subscribed: bool) -> Result<ImapOut, NoMemory>
+    ensures { IfOk result (λ out. out ≡ ImapOut.Say (words.no_names_text deep subscribed ++ words.tagged tag.now (Answer.Done (words.list_word subscribed)))) }
 {
     let mut text = Text::of(alloc, b"* ")?;
     text.extend(word_text(list_word(subscribed)))?;
-    text.extend(b" (\\Noselect) NIL \"\"\r\n")?;
+    text.extend(b" (\\Noselect) ")?;
+    text.extend(delimiter(deep))?;
+    text.extend(b" \"\"\r\n")?;
     tell(text, tag, Answer::Done(list_word(subscribed)))
 }
 
@@ -41,40 +43,42 @@ fn joined(alloc: Global, reference: &Text, pattern: &Text) -> Result<Text, NoMem
 
 fn submit_list(
     alloc: Global,
+    deep: bool,
     dialog: &mut Dialog,
     tag: &Name,
     subscribed: bool,
     reference: &Text,
     pattern: &Text,
 ) -> Result<ImapOut, NoMemory>
-    ensures ok { IfOk result (λ out. spec.asks (Ask.List (reference.now ++ pattern.now)) tag.now (Pending.List subscribed) dialog.old ≡ took out dialog.new) }
+    ensures ok { IfOk result (λ out. spec.asks (Ask.List (reference.now ++ pattern.now)) tag.now (Pending.List subscribed deep) dialog.old ≡ took out dialog.new) }
     ensures err { OnErr result (dialog.new ≡ dialog.old) }
 {
     let tag = tag.copy(alloc)?;
     let pattern = joined(alloc, reference, pattern)?;
-    let pending = Pending::List { subscribed };
+    let pending = Pending::List { subscribed, deep };
     Ok(submit(dialog, tag, Ask::List { pattern }, pending))
 }
 
 /// LIST and LSUB.
 pub(crate) fn list(
     alloc: Global,
+    deep: bool,
     dialog: &mut Dialog,
     tag: &Name,
     subscribed: bool,
     reference: &Text,
     pattern: &Text,
 ) -> Result<ImapOut, NoMemory>
-    ensures ok { IfOk result (λ out. spec.list tag.now dialog.old dialog.old.user subscribed reference.now pattern.now ≡ took out dialog.new) }
+    ensures ok { IfOk result (λ out. spec.list tag.now dialog.old dialog.old.user deep subscribed reference.now pattern.now ≡ took out dialog.new) }
     ensures err { OnErr result (dialog.new ≡ dialog.old) }
 {
     match dialog.user {
         None => say(alloc, tag, Answer::WrongState),
         Some(_) => {
             if pattern.bytes().len() == 0 {
-                no_names(alloc, tag, subscribed)
+                no_names(alloc, deep, tag, subscribed)
             } else {
-                submit_list(alloc, dialog, tag, subscribed, reference, pattern)
+                submit_list(alloc, deep, dialog, tag, subscribed, reference, pattern)
             }
         }
     }
@@ -105,15 +109,16 @@ fn names_in<'a>(shown: &'a Shown, none: &'a Names) -> &'a Names
 /// The names that a LIST was shown are told.
 pub(crate) fn listed(
     alloc: Global,
+    deep: bool,
     tag: &Name,
     subscribed: bool,
     shown: &Shown,
 ) -> Result<ImapOut, NoMemory>
-    ensures { IfOk result (λ out. out ≡ ImapOut.Say (list_lines (words.word_text (words.list_word subscribed)) (spec.names_in shown.now) ++ words.tagged tag.now (Answer.Done (words.list_word subscribed)))) }
+    ensures { IfOk result (λ out. out ≡ ImapOut.Say (list_lines (words.word_text (words.list_word subscribed)) (spec.names_in shown.now) deep ++ words.tagged tag.now (Answer.Done (words.list_word subscribed)))) }
 {
     let none = Names::new(alloc);
     let word = word_text(list_word(subscribed));
-    let text = render_list(alloc, word, names_in(shown, &none))?;
+    let text = render_list(alloc, word, names_in(shown, &none), deep)?;
     tell(text, tag, Answer::Done(list_word(subscribed)))
 }
 
@@ -144,17 +149,18 @@ fn submit_status(
 /// STATUS.
 pub(crate) fn status(
     alloc: Global,
+    deep: bool,
     dialog: &mut Dialog,
     tag: &Name,
     mailbox: &Text,
     asked: &StatusAsks,
 ) -> Result<ImapOut, NoMemory>
-    ensures ok { IfOk result (λ out. spec.status tag.now dialog.old dialog.old.user (mailbox_named mailbox.now) asked.now ≡ took out dialog.new) }
+    ensures ok { IfOk result (λ out. spec.status tag.now dialog.old dialog.old.user (mailbox_named deep mailbox.now) asked.now ≡ took out dialog.new) }
     ensures err { OnErr result (dialog.new ≡ dialog.old) }
 {
     match dialog.user {
         None => say(alloc, tag, Answer::WrongState),
-        Some(_) => match mailbox_of(alloc, mailbox)? {
+        Some(_) => match mailbox_of(alloc, deep, mailbox)? {
             None => say(alloc, tag, Answer::Refused(Refused::NoBox)),
             Some(mailbox) => submit_status(alloc, dialog, tag, mailbox, asked),
         },

@@ -49,12 +49,13 @@ pub fn stays_current(current: bool, command: &ImapCommand, out: &ImapOut) -> boo
     is_said(out) && (current || follows_view(&command.what))
 }
 
-/// One command with its tag. `current` says that the view is known to be current.
+/// One command with its tag, where the store is deep or not. `current` says that the view is known to be current.
 pub(crate) fn obey(
     alloc: Global,
     house: &House,
     store: &Store,
     sizes: &Shelf,
+    deep: bool,
     dialog: &mut Dialog,
     tag: &Name,
     what: &ImapWhat,
@@ -64,7 +65,7 @@ pub(crate) fn obey(
     requires valid { IsValid store.now.store }
     requires current { current ≡ true → spec.is_view_current store.now.store dialog.old ≡ true }
     requires order { IfSome dialog.old.selected (λ s. is_in_order s.view ≡ true) }
-    ensures ok { IfOk result (λ out. spec.obey house.now store.now.store (size_of sizes.now.notes) tag.now dialog.old what.now ≡ took out dialog.new) }
+    ensures ok { IfOk result (λ out. spec.obey house.now store.now.store (size_of sizes.now.notes) deep tag.now dialog.old what.now ≡ took out dialog.new) }
     ensures err { OnErr result (dialog.new ≡ spec.without_memory what.now dialog.old) }
 {
     match what {
@@ -79,7 +80,7 @@ pub(crate) fn obey(
         ),
         ImapWhat::Logout => logout(alloc, tag),
         ImapWhat::Login { user, password } => login(alloc, house, dialog, tag, user, password),
-        ImapWhat::Select { mailbox } => select(alloc, dialog, tag, mailbox, true),
+        ImapWhat::Select { mailbox } => select(alloc, deep, dialog, tag, mailbox, true),
         ImapWhat::Expunge => expunge(alloc, dialog, tag),
         ImapWhat::Fetch { set, asked, by_uid } => {
             fetch(alloc, store, sizes, dialog, tag, asked, set, *by_uid)
@@ -99,23 +100,25 @@ pub(crate) fn obey(
             store_flags(alloc, store, sizes, dialog, tag, form, *silent, set)
         }
         ImapWhat::Capability => capability(alloc, tag),
-        ImapWhat::Examine { mailbox } => select(alloc, dialog, tag, mailbox, false),
-        ImapWhat::Create { mailbox } => create(alloc, dialog, tag, mailbox),
-        ImapWhat::Delete { mailbox } => delete(alloc, dialog, tag, mailbox),
-        ImapWhat::Rename { mailbox, target } => rename(alloc, dialog, tag, mailbox, target),
+        ImapWhat::Examine { mailbox } => select(alloc, deep, dialog, tag, mailbox, false),
+        ImapWhat::Create { mailbox } => create(alloc, deep, dialog, tag, mailbox),
+        ImapWhat::Delete { mailbox } => delete(alloc, deep, dialog, tag, mailbox),
+        ImapWhat::Rename { mailbox, target } => rename(alloc, deep, dialog, tag, mailbox, target),
         ImapWhat::Subscribe { mailbox: _ } => subscribe(alloc, dialog, tag, Word::Subscribe),
         ImapWhat::Unsubscribe { mailbox: _ } => subscribe(alloc, dialog, tag, Word::Unsubscribe),
         ImapWhat::List { reference, pattern } => list(
-            alloc, dialog, tag, false, reference, pattern,
+            alloc, deep, dialog, tag, false, reference, pattern,
         ),
-        ImapWhat::Lsub { reference, pattern } => list(alloc, dialog, tag, true, reference, pattern),
-        ImapWhat::Status { mailbox, asked } => status(alloc, dialog, tag, mailbox, asked),
+        ImapWhat::Lsub { reference, pattern } => list(
+            alloc, deep, dialog, tag, true, reference, pattern,
+        ),
+        ImapWhat::Status { mailbox, asked } => status(alloc, deep, dialog, tag, mailbox, asked),
         ImapWhat::Append {
             mailbox,
             flags,
             moment,
             text,
-        } => append(alloc, dialog, tag, mailbox, *flags, *moment, text),
+        } => append(alloc, deep, dialog, tag, mailbox, *flags, *moment, text),
         ImapWhat::Check => check(
             alloc,
             store,
@@ -129,7 +132,7 @@ pub(crate) fn obey(
             set,
             target,
             by_uid,
-        } => copy(alloc, store, dialog, tag, set, target, *by_uid),
+        } => copy(alloc, store, deep, dialog, tag, set, target, *by_uid),
         ImapWhat::Search {
             charset,
             key,

@@ -55,7 +55,7 @@ impl ImapSession {
         }
     }
 
-    /// Takes one command. A SELECT or EXAMINE that found no memory leaves no mailbox selected; any other command that
+    /// Takes one command, where the store is deep or not: what comes of it later is told by the same. A SELECT or EXAMINE that found no memory leaves no mailbox selected; any other command that
     /// found none has changed nothing.
     pub fn take(
         &mut self,
@@ -64,13 +64,14 @@ impl ImapSession {
         store: &Store,
         stamps: &Stamps,
         sizes: &Shelf,
+        deep: bool,
         command: &ImapCommand,
     ) -> Result<ImapOut, NoMemory>
         requires house { IsTrue (is_house house.now) }
         requires valid { IsValid store.now.store }
         requires home { is_at_home house.now self.old ≡ true }
         requires free { is_free self.old ≡ true }
-        ensures ok { IfOk result (λ out. turn house.now store.now.store (size_of sizes.now.notes) self.old command.now ≡ took out self.new) }
+        ensures ok { IfOk result (λ out. turn house.now store.now.store (size_of sizes.now.notes) deep self.old command.now ≡ took out self.new) }
         ensures next { IfOk result (λ out. IsNext out self.new) }
         ensures user { IfOk result (λ out. AsksAsUser out self.new) }
         ensures reads { IfOk result (λ out. ReadsOf store.now.store out) }
@@ -78,7 +79,7 @@ impl ImapSession {
         ensures err { OnErr result (self.new ≡ without_memory command.now.what self.old) }
         ensures rests { OnErr result (is_free self.new ≡ true) }
     {
-        self.take_known(alloc, house, store, stamps, sizes, command, false)
+        self.take_known(alloc, house, store, stamps, sizes, deep, command, false)
     }
 
     /// `take`, where it may be known that the view is current: then a NOOP or CHECK does not look at the mailbox.
@@ -89,6 +90,7 @@ impl ImapSession {
         store: &Store,
         stamps: &Stamps,
         sizes: &Shelf,
+        deep: bool,
         command: &ImapCommand,
         current: bool,
     ) -> Result<ImapOut, NoMemory>
@@ -97,7 +99,7 @@ impl ImapSession {
         requires home { is_at_home house.now self.old ≡ true }
         requires free { is_free self.old ≡ true }
         requires current { current ≡ true → spec.is_view_current store.now.store self.old ≡ true }
-        ensures ok { IfOk result (λ out. turn house.now store.now.store (size_of sizes.now.notes) self.old command.now ≡ took out self.new) }
+        ensures ok { IfOk result (λ out. turn house.now store.now.store (size_of sizes.now.notes) deep self.old command.now ≡ took out self.new) }
         ensures next { IfOk result (λ out. IsNext out self.new) }
         ensures user { IfOk result (λ out. AsksAsUser out self.new) }
         ensures reads { IfOk result (λ out. ReadsOf store.now.store out) }
@@ -112,6 +114,7 @@ impl ImapSession {
             house,
             store,
             sizes,
+            deep,
             &mut self.dialog,
             &command.tag,
             &command.what,

@@ -19,7 +19,7 @@ use crate::words::{Answer, Word, fetch_word, store_word};
 use box_store::Store;
 use imap_fetch::{FetchForm, Messages, StoreForm, fetch_lines, store_lines};
 use imap_text::render_select;
-use imap_view::{mail_of, select_facts, view_of};
+use imap_view::{is_there, mail_of, select_facts, view_of};
 use std::alloc::Global;
 use undo_base::{Name, NoMemory, Text, Texts, User};
 use verb_core::{Item, Stamps, SubmitFault};
@@ -111,29 +111,31 @@ fn stored(
     tell(text, tag, Answer::Done(store_word(form.by_uid)))
 }
 
-fn is_on(mailbox: &Name, selected: &Option<Selected>) -> bool
-    ensures { result ≡ spec.is_on mailbox.now selected.now }
+/// Whether the selected mailbox is no more.
+fn is_lost(store: &Store, user: Option<User>, selected: &Option<Selected>) -> bool
+    ensures { result ≡ spec.is_lost store.now.store user selected.now }
 {
     match selected {
         None => false,
-        Some(selected) => selected.mailbox.bytes() == mailbox.bytes(),
+        Some(selected) => !is_there(store, user, &selected.mailbox),
     }
 }
 
-/// A mailbox is no more: where it is selected, none is selected any more.
+/// A mailbox's name may have been taken away: where it was the selected one, none is selected any more.
 fn leave(
     alloc: Global,
+    store: &Store,
+    user: Option<User>,
     selected: &mut Option<Selected>,
     tag: &Name,
     word: Word,
-    mailbox: &Name,
 ) -> Result<ImapOut, NoMemory>
     ensures said { IfOk result (λ out. out ≡ ImapOut.Say (words.tagged tag.now (Answer.Done word))) }
-    ensures kept { OnOk result (selected.new ≡ spec.kept_beside mailbox.now selected.old) }
+    ensures kept { OnOk result (selected.new ≡ spec.still_selected store.now.store user selected.old) }
     ensures err { OnErr result (selected.new ≡ selected.old) }
 {
     let out = say(alloc, tag, Answer::Done(word))?;
-    if is_on(mailbox, selected) {
+    if is_lost(store, user, selected) {
         *selected = None;
     }
     Ok(out)
@@ -177,9 +179,11 @@ fn done(
         Pending::Search { by_uid, numbers } => searched(alloc, tag, *by_uid, numbers),
         Pending::Store { form, silent, rows } => stored(alloc, tag, *form, *silent, rows),
         Pending::Plain { word } => say(alloc, tag, Answer::Done(*word)),
-        Pending::Leave { word, mailbox } => leave(alloc, selected, tag, *word, mailbox),
+        Pending::Leave { word } => leave(alloc, store, user, selected, tag, *word),
         Pending::Close => close(alloc, selected, tag),
-        Pending::List { subscribed } => listed(alloc, tag, *subscribed, &item.shown),
+        Pending::List { subscribed, deep } => {
+            listed(alloc, *deep, tag, *subscribed, &item.shown)
+        }
         Pending::Status { mailbox, asked } => {
             counted(alloc, store, stamps, user, tag, mailbox, asked)
         }
@@ -211,12 +215,12 @@ fn give_up(selected: &mut Option<Selected>, pending: &Pending)
             rows: _,
         } => {}
         Pending::Plain { word: _ } => {}
-        Pending::Leave {
-            word: _,
-            mailbox: _,
-        } => {}
+        Pending::Leave { word: _ } => {}
         Pending::Close => {}
-        Pending::List { subscribed: _ } => {}
+        Pending::List {
+            subscribed: _,
+            deep: _,
+        } => {}
         Pending::Status {
             mailbox: _,
             asked: _,

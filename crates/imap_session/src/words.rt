@@ -130,6 +130,7 @@ fn refusal_text(refused: Refused) -> &'static [u8]
     match refused {
         Refused::NoBox => b"NO No such mailbox.",
         Refused::Exists => b"NO Mailbox exists.",
+        Refused::HasInferiors => b"NO Mailbox has inferiors.",
         Refused::Fixed => b"NO Mailbox is fixed.",
         Refused::NameShape => b"NO Bad mailbox name.",
         Refused::TryCreate => b"NO [TRYCREATE] No such mailbox.",

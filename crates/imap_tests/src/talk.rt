@@ -51,6 +51,7 @@ fn obeyed(alloc: Global, talk: &mut Talk, command: &ImapCommand) -> Result<ImapO
             &talk.desk.store,
             &talk.desk.stamps,
             &talk.desk.shelf,
+            false,
             command,
         )?,
     )

@@ -35,12 +35,16 @@ IsDated (Literal bytes) = Unit {0}
 abbrev pub HasDate : FetchPart → Type 0
 HasDate part = IsDated part.value
 
--- a mailbox, with no attributes and no delimiter (RFC 3501, 7.2.2 and 7.2.3)
-abbrev pub list_line : List ℕ → List ℕ → List ℕ
-list_line word name = line (word ++ codes " () NIL " ++ quoted name)
+-- what parts a mailbox's name from those below it: `/`, or nothing where no name has a superior (RFC 3501, 6.3.8)
+abbrev pub delimiter : Bool → List ℕ
+delimiter deep = if deep then codes "\"/\"" else codes "NIL"
 
-unfoldable pub list_lines : List ℕ → List (List ℕ) → List ℕ
-list_lines word names = flat_map (list_line word) names
+-- a mailbox, with no attributes (RFC 3501, 7.2.2 and 7.2.3)
+abbrev pub list_line : List ℕ → Bool → List ℕ → List ℕ
+list_line word deep name = line (word ++ codes " () " ++ delimiter deep ++ codes " " ++ quoted name)
+
+unfoldable pub list_lines : List ℕ → List (List ℕ) → Bool → List ℕ
+list_lines word names deep = flat_map (list_line word deep) names
 
 -- the items of STATUS and their numbers (RFC 3501, 7.2.4): no message is recent
 abbrev pub status_word : StatusAsk → List ℕ

@@ -8,24 +8,33 @@ use crate::write::{push_flags_line, push_number, push_number_line, push_quoted, 
 use std::alloc::Global;
 use undo_base::{Flags, Name, Names, NoMemory, StatusAsk, StatusAsks, Text};
 
-fn push_list_line(out: &mut Text, word: &[u8], name: &Name) -> Result<(), NoMemory>
-    ensures { OnOk result (out.new ≡ out.old ++ spec.list_line word.now name.now) }
+/// What parts a mailbox's name from those below it, where the store is deep or not. Takes no memory.
+pub fn delimiter(deep: bool) -> &'static [u8]
+    ensures { result.now ≡ spec.delimiter deep }
+{
+    if deep { b"\"/\"" } else { b"NIL" }
+}
+
+fn push_list_line(out: &mut Text, word: &[u8], deep: bool, name: &Name) -> Result<(), NoMemory>
+    ensures { OnOk result (out.new ≡ out.old ++ spec.list_line word.now deep name.now) }
 {
     out.extend(b"* ")?;
     out.extend(word)?;
-    out.extend(b" () NIL ")?;
+    out.extend(b" () ")?;
+    out.extend(delimiter(deep))?;
+    out.extend(b" ")?;
     push_quoted(out, name.bytes())?;
     out.extend(b"\r\n")
 }
 
 /// The names, each on a line with this word before it, LIST or LSUB (RFC 3501, 7.2.2 and 7.2.3).
-pub fn render_list(alloc: Global, word: &[u8], names: &Names) -> Result<Text, NoMemory>
-    ensures { IfOk result (λ text. text ≡ spec.list_lines word.now names.now) }
+pub fn render_list(alloc: Global, word: &[u8], names: &Names, deep: bool) -> Result<Text, NoMemory>
+    ensures { IfOk result (λ text. text ≡ spec.list_lines word.now names.now deep) }
 {
     let mut out = Text::new(alloc);
     let names = names.as_slice();
     for name in names {
-        push_list_line(&mut out, word, name)?;
+        push_list_line(&mut out, word, deep, name)?;
     }
     Ok(out)
 }

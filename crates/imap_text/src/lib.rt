@@ -11,7 +11,7 @@ mod facts;
 mod fetch;
 mod write;
 
-pub use boxes::{render_list, render_select, render_status};
+pub use boxes::{delimiter, render_list, render_select, render_status};
 pub use expunge::render_expunge;
 pub use facts::{BoxFacts, FetchPart, FetchValue};
 pub use fetch::{date_text, render_fetch};

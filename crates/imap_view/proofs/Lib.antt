@@ -6,3 +6,4 @@ pub mod Unasked
 pub mod Picked
 pub mod Told
 pub mod Gone
+pub mod Arguments

@@ -17,4 +17,4 @@ mod picks;
 pub use facts::{is_there, mail_of, select_facts, status_facts};
 pub use messages::{Known, View, is_current, news, view_of};
 pub use named::{keys_at, places_named, rows_at};
-pub use names::{account_of, mailbox_of};
+pub use names::{account_of, made_mailbox_of, mailbox_of};

@@ -63,6 +63,7 @@ refused_no (why.Numbers next) = refl
 refused_no why.NoMemory = refl
 refused_no why.NoBox = refl
 refused_no why.Exists = refl
+refused_no why.HasInferiors = refl
 refused_no why.Fixed = refl
 refused_no why.NameShape = refl
 refused_no why.TryCreate = refl

@@ -184,8 +184,8 @@ pub others_after : (s : MailStore) (u : User) (number at next later : ℕ) (keys
 others_after s u number at next later keys id apart = other_row (box_of u inbox) id _ _ apart ∙ other_row (box_of u inbox) id _ s.boxes apart
 
 -- the store does what is asked, or refuses it
-pub after_live : (s : MailStore) (u : User) (number at : ℕ) (ask : Ask) (item : Item) → live s number at (Some u) ask ≡ Ok item → (step s item).0 ≡ after s u number at ask
-after_live s u number at ask item is = by_refusal (refusal s number at (Some u) ask) is
+pub after_live : (s : MailStore) (u : User) (number at : ℕ) (ask : Ask) (deep : Bool) (item : Item) → live s number at (Some u) ask deep ≡ Ok item → (step s item).0 ≡ after s u number at ask
+after_live s u number at ask deep item is = by_refusal (refusal s number at (Some u) ask deep) is
   where
     item_or : Result Item Refused → Item
     item_or (Ok i) = i

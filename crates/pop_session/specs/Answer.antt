@@ -67,6 +67,7 @@ ask_refused (why.Numbers next) = NumbersUsedUp
 ask_refused why.NoMemory = NoMemory
 ask_refused why.NoBox = NoMemory
 ask_refused why.Exists = NoMemory
+ask_refused why.HasInferiors = NoMemory
 ask_refused why.Fixed = NoMemory
 ask_refused why.NameShape = NoMemory
 ask_refused why.TryCreate = NoMemory

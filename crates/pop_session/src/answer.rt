@@ -149,6 +149,7 @@ pub(crate) fn ask_refused(refused: Refused) -> Answer
         Refused::NoMemory => Answer::NoMemory,
         Refused::NoBox => Answer::NoMemory,
         Refused::Exists => Answer::NoMemory,
+        Refused::HasInferiors => Answer::NoMemory,
         Refused::Fixed => Answer::NoMemory,
         Refused::NameShape => Answer::NoMemory,
         Refused::TryCreate => Answer::NoMemory,

@@ -29,7 +29,7 @@ ghost use Rattle.pop_session.specs.Removal.{after, after_quit, quit_outs};
 pub fn a_quit_removes_the_marked()
     ensures marked { (s : MailStore) (u : User) (number at next later : ℕ) (keys : List Key) → mail_of (after_quit s u number at next later keys) (Some u) inbox ≡ without keys (mail_of s (Some u) inbox) }
     ensures others { (s : MailStore) (u : User) (number at next later : ℕ) (keys : List Key) (id : BoxId) → eq_by_cmp box_cmp (box_of u inbox) id ≡ false → row_at id (after_quit s u number at next later keys).boxes ≡ row_at id s.boxes }
-    ensures done { (s : MailStore) (u : User) (number at : ℕ) (ask : Ask) (item : Item) → live s number at (Some u) ask ≡ Ok item → (step s item).0 ≡ after s u number at ask }
+    ensures done { (s : MailStore) (u : User) (number at : ℕ) (ask : Ask) (deep : Bool) (item : Item) → live s number at (Some u) ask deep ≡ Ok item → (step s item).0 ≡ after s u number at ask }
 {}
 
 /// A QUIT with marked messages asks a STORE and an EXPUNGE of these, and is answered `+OK Bye.` where the store did both. It is

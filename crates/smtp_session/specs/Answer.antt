@@ -3,7 +3,7 @@ use Rattle.std.specs.Prelude.{ℕ, List, ◌++◌, codes, decimal}
 use Rattle.smtp_lines.specs.declared.command.SmtpRefused.{SmtpRefused}
 use Rattle.smtp_lines.specs.declared.command.SmtpRefused.TheVariants.{Long, Unknown, NotDone, Argument, Parameter, NoMemory as WithoutMemory}
 use Rattle.verb_core.specs.declared.ask.Refused.{Refused}
-use Rattle.verb_core.specs.declared.ask.Refused.TheVariants.{NoBox, Exists, Fixed, NameShape, TryCreate, Gone, TooMany, TooLarge, BoxesFull, UidWide, Numbers, NoMemory as WithoutRoom}
+use Rattle.verb_core.specs.declared.ask.Refused.TheVariants.{NoBox, Exists, HasInferiors, Fixed, NameShape, TryCreate, Gone, TooMany, TooLarge, BoxesFull, UidWide, Numbers, NoMemory as WithoutRoom}
 use Rattle.smtp_session.specs.declared.answer.Answer.{Answer}
 use Rattle.smtp_session.specs.declared.answer.Answer.TheVariants.{Ready, Host, Done, Begin, Stored, CannotVerify, Closing, LineTooLong, UnknownCommand, NotImplemented, BadArgument, UnknownParameter, BadSequence, TooManyRecipients, NoMailbox, TextTooLarge, MailboxFull, NumbersUsedUp, NoMemory, DiskFault}
 use Rattle.smtp_session.specs.Bytes.{said}
@@ -43,6 +43,7 @@ line_refused WithoutMemory = NoMemory
 abbrev pub delivery_refused : Refused → Answer
 delivery_refused NoBox = NoMemory
 delivery_refused Exists = NoMemory
+delivery_refused HasInferiors = NoMemory
 delivery_refused Fixed = NoMemory
 delivery_refused NameShape = NoMemory
 delivery_refused TryCreate = NoMemory

@@ -7,7 +7,7 @@ use Rattle.smtp_lines.specs.declared.command.SmtpCommand.TheVariants.{Helo, Ehlo
 use Rattle.smtp_lines.specs.Command.{Reading, command_of}
 use Rattle.verb_core.specs.declared.ask.Ask.TheVariants.{Deliver}
 use Rattle.verb_core.specs.declared.ask.Refused.{Refused}
-use Rattle.verb_core.specs.declared.ask.Refused.TheVariants.{NoBox, Exists, Fixed, NameShape, TryCreate, Gone, TooMany, TooLarge, BoxesFull, UidWide, Numbers, NoMemory}
+use Rattle.verb_core.specs.declared.ask.Refused.TheVariants.{NoBox, Exists, HasInferiors, Fixed, NameShape, TryCreate, Gone, TooMany, TooLarge, BoxesFull, UidWide, Numbers, NoMemory}
 use Rattle.verb_core.specs.declared.ask.SubmitFault.{SubmitFault}
 use Rattle.verb_core.specs.declared.ask.SubmitFault.TheVariants.{Refused as IsRefused, Disk, Closed}
 use Rattle.verb_core.specs.declared.conf.House.{House}
@@ -166,6 +166,7 @@ is_refusal_of_delivery (Numbers next) = true
 is_refusal_of_delivery NoMemory = true
 is_refusal_of_delivery NoBox = false
 is_refusal_of_delivery Exists = false
+is_refusal_of_delivery HasInferiors = false
 is_refusal_of_delivery Fixed = false
 is_refusal_of_delivery NameShape = false
 is_refusal_of_delivery TryCreate = false

@@ -128,6 +128,7 @@ pub(crate) fn answer_to_delivery(refused: Refused) -> Answer
         Refused::NoMemory => Answer::NoMemory,
         Refused::NoBox => Answer::NoMemory,
         Refused::Exists => Answer::NoMemory,
+        Refused::HasInferiors => Answer::NoMemory,
         Refused::Fixed => Answer::NoMemory,
         Refused::NameShape => Answer::NoMemory,
         Refused::TryCreate => Answer::NoMemory,
