@@ -4,6 +4,7 @@ use Rattle.std.specs.Prelude.{Result, Ok, Err, IsTrue, option_and_then, option_m
 use Rattle.std.specs.List.{AllByRecursion, list_all, after_first, before_first}
 use Rattle.std.specs.Str.{bytes_eq}
 use Rattle.undo_base.specs.declared.keys.User.{User}
+use Rattle.serde_json.specs.Data.{Data}
 use Rattle.verb_core.specs.declared.conf.House.{House}
 use Rattle.verb_core.specs.declared.item.Act.{Act}
 use Rattle.verb_core.specs.declared.item.Act.TheVariants.{SetAlias, DropAlias, SetFilter, DropFilter, Remove, Give}
@@ -22,13 +23,14 @@ use Rattle.console_http.specs.declared.request.HttpRefused.TheVariants.{Route}
 use Rattle.console_http.specs.declared.request.Route.{Route as Taken}
 use Rattle.console_http.specs.declared.request.Route.TheVariants as route
 use Rattle.console_http.specs.Parts.{box_name, is_slash, part_of}
+use Rattle.console_http.specs.Members.{has_members, value_of}
 use Rattle.console_http.specs.Acts.{act_in}
 use Rattle.console_http.specs.Cycles.{cycle_in, try_in}
-use Rattle.console_http.specs.Routes.{Choice, alone, box_in, front_of, method_of, number_in, page_of, route_at, route_on, said, taken}
+use Rattle.console_http.specs.Routes.{Choice, alone, asked_plainly, box_in, front_of, method_of, number_in, page_of, route_at, route_on, said, taken}
 use Rattle.repair_desk.specs.Repairs.{are_known}
 use Rattle.console_http.specs.Requests.{AskKnows, AskRecords, Asks, IsRecordable, KnowsUsers}
 use Rattle.console_http.proofs.Bodies.{request_fits}
-use Rattle.console_http.proofs.Each.{Each, Anything, anything, each_then, each_map}
+use Rattle.console_http.proofs.Each.{Each, Anything, anything, each_then, each_map, each_if}
 use Rattle.console_http.proofs.Made.{IsMade, IsAsk, act_in_made, cycle_in_made, try_in_made}
 use Rattle.console_http.proofs.Recording.{act_recorded, ask_recorded}
 
@@ -46,6 +48,7 @@ MadeOf house (route.Cycle ask) = IsAsk house ask
 MadeOf house (route.Try ask) = IsAsk house ask
 MadeOf house route.Snapshot = Unit {0}
 MadeOf house route.Stop = Unit {0}
+MadeOf house route.Upgrade = Unit {0}
 
 abbrev ChoiceMade : House → Choice → Type 0
 ChoiceMade house (Ok route) = MadeOf house route
@@ -74,6 +77,12 @@ box_made house parts =
 number_made : (house : House) (to : ℕ → Taken) (parts : List ℕ) → ((n : ℕ) → MadeOf house (to n)) → Each (MadeOf house) (option_map to (number_in parts))
 number_made house to parts made = each_map {A = ℕ} Anything (MadeOf house) to (λ n h. made n) (number_in parts) (anything (number_in parts))
 
+plainly_made : (house : House) (r : Taken) (body : List ℕ) → MadeOf house r → Each (MadeOf house) (asked_plainly r body)
+plainly_made house r [] made = made
+plainly_made house r (b ∷ body) made =
+    each_then {A = Data} Anything (MadeOf house) (λ d. if has_members 0 d then Some r else None) (λ d h. each_if (MadeOf house) (has_members 0 d) (Some r) made)
+    (value_of (b ∷ body)) (anything (value_of (b ∷ body)))
+
 on_page : (house : House) (p : Page) (parts body : List ℕ) → length body ≤ 4194304 → ChoiceMade house (route_on house p parts body)
 on_page house page.Status parts body few = alone_made house (Ok route.Status) parts tt
 on_page house page.Timeline parts body few = taken_made house _ (number_made house (λ start. route.Timeline start) parts (λ n. tt))
@@ -92,6 +101,9 @@ on_page house page.Try parts body few =
     alone_made house (said asks) parts (said_made house asks (each_map (IsAsk house) (MadeOf house) (λ (ask : CycleAsk). route.Try ask) (λ ask h. h) (try_in house body) (try_in_made house body few)))
 on_page house page.Snapshot parts body few = alone_made house (Ok route.Snapshot) parts tt
 on_page house page.Stop parts body few = alone_made house (Ok route.Stop) parts tt
+on_page house page.Upgrade parts body few =
+    let asked = asked_plainly route.Upgrade body in
+    alone_made house (said asked) parts (said_made house asked (plainly_made house route.Upgrade body tt))
 
 at_page : (house : House) (r : Request) (o : Option Page) → length r.body ≤ 4194304 → ChoiceMade house (route_at house r o)
 at_page house r None few = tt
@@ -128,6 +140,7 @@ route_knows house (route.Cycle ask) made = acts_know house ask.inserts made.inse
 route_knows house (route.Try ask) made = acts_know house ask.inserts made.inserts.each
 route_knows house route.Snapshot made = tt
 route_knows house route.Stop made = tt
+route_knows house route.Upgrade made = tt
 
 pub ask_knows : (house : House) (bytes : List ℕ) (asked : Result Asked HttpRefused) → Asks house bytes asked → AskKnows house asked
 ask_knows house bytes (Ok NotYet) asks = tt
@@ -149,6 +162,7 @@ route_recorded house number at (route.Cycle ask) is n t made = ask_recorded hous
 route_recorded house number at (route.Try ask) is n t made = ask_recorded house number at ask is n t made
 route_recorded house number at route.Snapshot is n t made = tt
 route_recorded house number at route.Stop is n t made = tt
+route_recorded house number at route.Upgrade is n t made = tt
 
 pub ask_records : (house : House) (bytes : List ℕ) (asked : Result Asked HttpRefused) (number at : ℕ) → IsTrue (is_house house) → number ≤ 4294967295 → at ≤ 253402300799
     → Asks house bytes asked → AskRecords number at asked

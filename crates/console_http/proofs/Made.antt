@@ -1,6 +1,6 @@
 -- What acts and cycles are made of: names, known users, and numbers, texts and lists in their ranges.
 use Rattle.std.proofs.Common.{◌≡◌, ℕ, ◌≤◌, List, [], ◌∷◌, length, Option, Some, None, refl, cond, true, false, nat_lt, arith}
-use Rattle.std.specs.Prelude.{IsTrue, nat_le, codes, option_and_then, option_map}
+use Rattle.std.specs.Prelude.{IsTrue, nat_le, codes, is_some, option_and_then, option_map, if◌then◌else◌}
 use Rattle.std.specs.List.{AllByRecursion, list_all, position_or_len}
 use Rattle.std.specs.Str.{bytes_eq}
 use Rattle.std.proofs.lemmas.Bool.{leb-true}
@@ -9,20 +9,23 @@ use Rattle.base64.specs.GeneralPurpose.{decode_of}
 use Rattle.serde_json.specs.Data.{Data, null, boolean, number, string, array, object, Items, no_items, item}
 use Rattle.serde_json.specs.Find.{get, as_number, as_u64, as_str, as_array}
 use Rattle.undo_base.specs.Name.{IsName}
+use Rattle.header_fields.specs.Values.{is_field_name}
 use Rattle.undo_base.specs.declared.keys.User.{User}
 use Rattle.verb_core.specs.declared.conf.Account.{Account}
 use Rattle.verb_core.specs.declared.conf.House.{House}
+use Rattle.verb_core.specs.declared.conf.Scope.{Scope}
+use Rattle.verb_core.specs.declared.conf.Scope.TheVariants.{Body, Field, Sender, Recipient}
 use Rattle.verb_core.specs.declared.item.Act.{Act}
 use Rattle.verb_core.specs.declared.item.Act.TheVariants.{SetAlias, DropAlias, SetFilter, DropFilter, Remove, Give}
 use Rattle.verb_core.specs.Recipients.{user_named}
 use Rattle.verb_core.specs.Store.{is_known}
 use Rattle.verb_bytes.specs.declared.journal.CycleAsk.{CycleAsk}
-use Rattle.verb_bytes.specs.Limits.{AreMany}
+use Rattle.verb_bytes.specs.Limits.{AreMany, IsScope}
 use Rattle.console_http.specs.declared.acts.Word.{Word}
 use Rattle.console_http.specs.declared.acts.Word.TheVariants as word
-use Rattle.console_http.specs.Parts.{name_of, box_name, local_of}
-use Rattle.console_http.specs.Members.{at_most, body_at, box_at, each_of, file_at, file_in, has_members, list_at, local_at, name_at, number_at, short_text, some_users, text_at, text_in, told_bytes, user_at, user_in, users_at, users_in, value_of, whole_number}
-use Rattle.console_http.specs.Acts.{act_by, act_in, act_of, act_sized, alias_of, filter_of, give_of, remove_of, size_of, unalias_of, unfilter_of, word_of}
+use Rattle.console_http.specs.Parts.{name_of, box_name, local_of, field_of}
+use Rattle.console_http.specs.Members.{at_most, body_at, box_at, each_of, field_at, file_at, file_in, has_members, list_at, local_at, name_at, number_at, short_text, some_users, text_at, text_in, told_bytes, user_at, user_in, users_at, users_in, value_of, whole_number}
+use Rattle.console_http.specs.Acts.{act_by, act_in, act_of, act_sized, alias_of, filter_of, give_of, plain_scope, remove_of, scope_at, scope_in, scope_named, size_of, unalias_of, unfilter_of, word_of}
 use Rattle.console_http.specs.Cycles.{ask_of, cycle_in, cycle_of, drops_at, has_cycle_members, inserts_at, key_at, key_of, replace_of, replaces_at, try_in, try_of}
 use Rattle.console_http.proofs.Each.{Each, Anything, anything, each_then, each_map, each_weaker, each_if, each_when}
 use Rattle.undo_base.proofs.Names.{name_is}
@@ -58,7 +61,7 @@ AreSmall ds = items_size ds ≤ 4194304
 abbrev pub IsMade : House → Act → Type 0
 IsMade house (SetAlias local users) = IsName local × KnowsAll house users × IsFew (length users)
 IsMade house (DropAlias local) = IsName local
-IsMade house (SetFilter f) = IsName f.id × IsName f.needle × MayBeName f.file
+IsMade house (SetFilter f) = IsName f.id × IsName f.needle × MayBeName f.file × IsScope f.scope
 IsMade house (DropFilter id) = IsName id
 IsMade house (Remove u mailbox k) = Knows house u × IsName mailbox × IsFew k.item × (k.index ≤ 65535)
 IsMade house (Give u mailbox text) = Knows house u × IsName mailbox × IsText text
@@ -184,15 +187,46 @@ alias_made house d small =
 unalias_made : (house : House) (d : Data) → Each (IsMade house) (unalias_of d)
 unalias_made house d = each_map IsName (IsMade house) (λ local. DropAlias local) (λ local h. h) (local_at d) (local_at_made d)
 
-filter_act : List ℕ → List ℕ → Option (List ℕ) → Act
-filter_act id needle file = SetFilter (record { id = id; needle = needle; file = file })
+field_made : (text : List ℕ) → Each (λ name. IsTrue (is_field_name name)) (field_of text)
+field_made text = each_when (λ name. IsTrue (is_field_name name)) (is_field_name text) text (λ e. e)
+
+field_at_made : (d : Data) → Each (λ name. IsTrue (is_field_name name)) (field_at d)
+field_at_made d =
+    each_then {A = List ℕ} Anything (λ name. IsTrue (is_field_name name)) field_of (λ text h. field_made text) (text_at (codes "field") d) (anything (text_at (codes "field") d))
+
+plain_made : (word : List ℕ) → Each IsScope (plain_scope word)
+plain_made word =
+    elim (bytes_eq word (codes "body")) as (λ b. Each IsScope (if b then Some Body else (if bytes_eq word (codes "sender") then Some Sender else (if bytes_eq word (codes "recipient") then Some Recipient else None)))) [
+      | true ↦ tt
+      | false ↦ elim (bytes_eq word (codes "sender")) as (λ b. Each IsScope (if b then Some Sender else (if bytes_eq word (codes "recipient") then Some Recipient else None))) [
+        | true ↦ tt
+        | false ↦ elim (bytes_eq word (codes "recipient")) as (λ b. Each IsScope (if b then Some Recipient else None)) [ true ↦ tt | false ↦ tt ]
+      ]
+    ]
+
+scope_named_made : (d : Data) (word : List ℕ) → Each IsScope (scope_named d word)
+scope_named_made d word =
+    elim (bytes_eq word (codes "header")) as (λ b. Each IsScope (if b then option_map Field (field_at d) else (if is_some (get (codes "field") d) then None else plain_scope word))) [
+      | true ↦ each_map (λ name. IsTrue (is_field_name name)) IsScope Field (λ name h. h) (field_at d) (field_at_made d)
+      | false ↦ elim (is_some (get (codes "field") d)) as (λ b. Each IsScope (if b then None else plain_scope word)) [ true ↦ tt | false ↦ plain_made word ]
+    ]
+
+scope_made : (d : Data) (o : Option Data) → Each IsScope (scope_in d o)
+scope_made d None = scope_named_made d (codes "body")
+scope_made d (Some scope) = each_then {A = List ℕ} Anything IsScope (scope_named d) (λ word h. scope_named_made d word) (as_str scope) (anything (as_str scope))
+
+filter_act : List ℕ → List ℕ → Option (List ℕ) → Scope → Act
+filter_act id needle file scope = SetFilter (record { id = id; needle = needle; file = file; scope = scope })
 
 filter_made : (house : House) (d : Data) → Each (IsMade house) (filter_of d)
 unfolding filter_act
 filter_made house d =
-    each_then IsName (IsMade house) (λ id. option_and_then (λ needle. option_map (λ file. filter_act id needle file) (file_at d)) (name_at (codes "needle") d))
-    (λ id f. each_then IsName (IsMade house) (λ needle. option_map (λ file. filter_act id needle file) (file_at d))
-    (λ needle g. each_map MayBeName (IsMade house) (λ file. filter_act id needle file) (λ file h. (f, g, h)) (file_at d) (file_at_made d))
+    each_then IsName (IsMade house)
+    (λ id. option_and_then (λ needle. option_and_then (λ file. option_map (λ scope. filter_act id needle file scope) (scope_at d)) (file_at d)) (name_at (codes "needle") d))
+    (λ id f. each_then IsName (IsMade house) (λ needle. option_and_then (λ file. option_map (λ scope. filter_act id needle file scope) (scope_at d)) (file_at d))
+    (λ needle g. each_then MayBeName (IsMade house) (λ file. option_map (λ scope. filter_act id needle file scope) (scope_at d))
+    (λ file h. each_map IsScope (IsMade house) (λ scope. filter_act id needle file scope) (λ scope s. (f, g, h, s)) (scope_at d) (scope_made d (get (codes "scope") d)))
+    (file_at d) (file_at_made d))
     (name_at (codes "needle") d) (name_at_made (codes "needle") d))
     (name_at (codes "name") d) (name_at_made (codes "name") d)
 
@@ -237,7 +271,7 @@ act_made : (house : House) (d : Data) → IsSmall d → Each (IsMade house) (act
 act_made house d small =
     let words = option_and_then word_of (text_at (codes "act") d) in
     each_then {A = Word} Anything (IsMade house) (act_sized house d)
-    (λ w h. each_if (IsMade house) (has_members (size_of w) d) (act_by house d w) (act_by_made house d w small)) words (anything words)
+    (λ w h. each_if (IsMade house) (has_members (size_of d w) d) (act_by house d w) (act_by_made house d w small)) words (anything words)
 
 -- ---- cycles
 

@@ -48,7 +48,7 @@ file_is (Some name) h = h
 act_is : (house : House) → IsTrue (is_house house) → (act : Act) → IsMade house act → IsAct act
 act_is house is (SetAlias local users) made = (made.0, record { each = users_are house is users made.1; few = made.2 })
 act_is house is (DropAlias local) made = made
-act_is house is (SetFilter f) made = (made.0, made.1, file_is f.file made.2)
+act_is house is (SetFilter f) made = (made.0, made.1, file_is f.file made.2, made.3)
 act_is house is (DropFilter id) made = made
 act_is house is (Remove u mailbox k) made = (user_is house u is made.0, made.1, (omega (arith, made.2), omega (arith, made.3)))
 act_is house is (Give u mailbox text) made = (user_is house u is made.0, made.1, made.2)

@@ -11,7 +11,7 @@ use Rattle.serde_json.specs.Read.{read}
 use Rattle.undo_base.specs.declared.keys.User.{User}
 use Rattle.verb_core.specs.declared.conf.House.{House}
 use Rattle.verb_core.specs.Recipients.{user_named}
-use Rattle.console_http.specs.Parts.{name_of, box_name, local_of}
+use Rattle.console_http.specs.Parts.{name_of, box_name, local_of, field_of}
 
 -- the JSON value that a body is
 abbrev pub value_of : List ℕ → Option Data
@@ -50,6 +50,10 @@ box_at key d = option_and_then box_name (text_at key d)
 
 abbrev pub local_at : Data → Option (List ℕ)
 local_at d = option_and_then local_of (text_at (codes "local") d)
+
+-- the member 'field', where it names a header field
+abbrev pub field_at : Data → Option (List ℕ)
+field_at d = option_and_then field_of (text_at (codes "field") d)
 
 abbrev pub user_at : House → Data → Option User
 user_at house d = option_and_then (user_named house) (text_at (codes "user") d)

@@ -24,6 +24,7 @@ text_of page.Cycle = codes "/cycle"
 text_of page.Try = codes "/try"
 text_of page.Snapshot = codes "/snapshot"
 text_of page.Stop = codes "/stop"
+text_of page.Upgrade = codes "/upgrade"
 
 -- its tokens: bytes, and what takes the rest of a path or a part of it
 abbrev pub pattern_of : Page → List ℕ
@@ -38,6 +39,7 @@ pattern_of page.Cycle = codes "/cycle"
 pattern_of page.Try = codes "/try"
 pattern_of page.Snapshot = codes "/snapshot"
 pattern_of page.Stop = codes "/stop"
+pattern_of page.Upgrade = codes "/upgrade"
 
 -- a page whose path has no parts
 abbrev pub is_alone : Page → Bool
@@ -60,6 +62,7 @@ names_of page.Cycle = []
 names_of page.Try = []
 names_of page.Snapshot = []
 names_of page.Stop = []
+names_of page.Upgrade = []
 
 abbrev pub entry_of : Page → RouteOf Page
 entry_of page = record { pattern = pattern_of page; text = text_of page; names = names_of page; value = page }
@@ -70,15 +73,15 @@ row_of page = (pattern_of page, entry_of page)
 -- ---- the rows as they come in
 
 abbrev pub acting_rows : RowsOf (RouteOf Page)
-acting_rows = row_of page.Act ∷ row_of page.Cycle ∷ row_of page.Snapshot ∷ row_of page.Stop ∷ row_of page.Try ∷ []
+acting_rows = row_of page.Act ∷ row_of page.Cycle ∷ row_of page.Snapshot ∷ row_of page.Stop ∷ row_of page.Try ∷ row_of page.Upgrade ∷ []
 
 abbrev pub whole_rows : RowsOf (RouteOf Page)
-whole_rows = row_of page.Act ∷ row_of page.Conf ∷ row_of page.Cycle ∷ row_of page.Snapshot ∷ row_of page.Status ∷ row_of page.Stop ∷ row_of page.Try ∷ []
+whole_rows = row_of page.Act ∷ row_of page.Conf ∷ row_of page.Cycle ∷ row_of page.Snapshot ∷ row_of page.Status ∷ row_of page.Stop ∷ row_of page.Try ∷ row_of page.Upgrade ∷ []
 
 abbrev pub page_rows : RowsOf (RouteOf Page)
 page_rows =
     row_of page.Act ∷ row_of page.Body ∷ row_of page.Box ∷ row_of page.Conf ∷ row_of page.Cycle ∷ row_of page.Plan ∷ row_of page.Snapshot ∷ row_of page.Status
-    ∷ row_of page.Stop ∷ row_of page.Timeline ∷ row_of page.Try ∷ []
+    ∷ row_of page.Stop ∷ row_of page.Timeline ∷ row_of page.Try ∷ row_of page.Upgrade ∷ []
 
 -- each is below 256
 abbrev pub AreBytes : List ℕ → Type 0

@@ -5,6 +5,7 @@ use Rattle.std.specs.Char.{is_ascii_digit, is_ascii_hexdigit, is_ascii_lowercase
 use Rattle.std.specs.Str.{bytes_eq, str_to_ascii_lowercase}
 use Rattle.percent_encoding.specs.Percent.{percent_decode}
 use Rattle.undo_base.specs.Name.{is_name}
+use Rattle.header_fields.specs.Values.{is_field_name}
 use Rattle.verb_core.specs.Names.{inbox}
 use Rattle.undo_base.specs.Digits.{number_between}
 
@@ -51,3 +52,7 @@ is_local text = nat_le 1 (length text) && nat_le (length text) 64 && list_all is
 
 abbrev pub local_of : List ℕ → Option (List ℕ)
 local_of text = if is_local text then Some text else None
+
+-- the name of a header field: 1 to 64 letters, digits, '-' and '_'
+abbrev pub field_of : List ℕ → Option (List ℕ)
+field_of text = if is_field_name text then Some text else None

@@ -87,6 +87,7 @@ KnowsUsers house (route.Cycle ask) = IsTrue (are_known house ask.inserts)
 KnowsUsers house (route.Try ask) = IsTrue (are_known house ask.inserts)
 KnowsUsers house route.Snapshot = Unit {0}
 KnowsUsers house route.Stop = Unit {0}
+KnowsUsers house route.Upgrade = Unit {0}
 
 abbrev pub AskKnows : House → Result Asked HttpRefused → Type 0
 AskKnows house (Ok NotYet) = Unit {0}
@@ -106,6 +107,7 @@ IsRecordable number at (route.Cycle ask) = HasSpelling (Cycle number at ask)
 IsRecordable number at (route.Try ask) = HasSpelling (Cycle number at ask)
 IsRecordable number at route.Snapshot = Unit {0}
 IsRecordable number at route.Stop = Unit {0}
+IsRecordable number at route.Upgrade = Unit {0}
 
 abbrev pub AskRecords : ℕ → ℕ → Result Asked HttpRefused → Type 0
 AskRecords number at (Ok NotYet) = Unit {0}

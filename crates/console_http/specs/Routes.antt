@@ -8,10 +8,11 @@ use Rattle.console_head.specs.Request.{Request}
 use Rattle.console_http.specs.declared.pages.Page.{Page}
 use Rattle.console_http.specs.declared.pages.Page.TheVariants as page
 use Rattle.console_http.specs.declared.request.Route.{Route as Taken}
-use Rattle.console_http.specs.declared.request.Route.TheVariants.{Status, Timeline, Box, Body, Conf, Plan, Act, Cycle, Try, Snapshot, Stop}
+use Rattle.console_http.specs.declared.request.Route.TheVariants.{Status, Timeline, Box, Body, Conf, Plan, Act, Cycle, Try, Snapshot, Stop, Upgrade}
 use Rattle.console_http.specs.declared.request.HttpRefused.{HttpRefused}
 use Rattle.console_http.specs.declared.request.HttpRefused.TheVariants.{Route, Json}
 use Rattle.console_http.specs.Parts.{part_of, number32, box_name, is_slash}
+use Rattle.console_http.specs.Members.{has_members, value_of}
 use Rattle.console_http.specs.Acts.{act_in}
 use Rattle.console_http.specs.Cycles.{cycle_in, try_in}
 
@@ -28,9 +29,11 @@ front_of page.Cycle = codes "/cycle"
 front_of page.Try = codes "/try"
 front_of page.Snapshot = codes "/snapshot"
 front_of page.Stop = codes "/stop"
+front_of page.Upgrade = codes "/upgrade"
 
 abbrev pub all_pages : List Page
-all_pages = page.Status ∷ page.Timeline ∷ page.Box ∷ page.Body ∷ page.Conf ∷ page.Plan ∷ page.Act ∷ page.Cycle ∷ page.Try ∷ page.Snapshot ∷ page.Stop ∷ []
+all_pages = page.Status ∷ page.Timeline ∷ page.Box ∷ page.Body ∷ page.Conf ∷ page.Plan ∷ page.Act ∷ page.Cycle ∷ page.Try ∷ page.Snapshot ∷ page.Stop ∷ page.Upgrade
+    ∷ []
 
 -- the page whose front the path has
 abbrev pub page_of : List ℕ → Option Page
@@ -48,6 +51,7 @@ method_of page.Cycle = codes "POST"
 method_of page.Try = codes "POST"
 method_of page.Snapshot = codes "POST"
 method_of page.Stop = codes "POST"
+method_of page.Upgrade = codes "POST"
 
 abbrev pub Choice : Type 0
 Choice = Result Taken HttpRefused
@@ -76,6 +80,11 @@ abbrev pub said : Option Taken → Choice
 said None = Err Json
 said (Some route) = Ok route
 
+-- what a body without a member asks for: no octet, or an object of none
+abbrev pub asked_plainly : Taken → List ℕ → Option Taken
+asked_plainly route [] = Some route
+asked_plainly route (b ∷ body) = option_and_then (λ d. if has_members 0 d then Some route else None) (value_of (b ∷ body))
+
 -- the route of a page, by the parts of its path and the body
 abbrev pub route_on : House → Page → List ℕ → List ℕ → Choice
 route_on house page.Status parts body = alone (Ok Status) parts
@@ -89,6 +98,7 @@ route_on house page.Cycle parts body = alone (said (option_map (λ ask. Cycle as
 route_on house page.Try parts body = alone (said (option_map (λ ask. Try ask) (try_in house body))) parts
 route_on house page.Snapshot parts body = alone (Ok Snapshot) parts
 route_on house page.Stop parts body = alone (Ok Stop) parts
+route_on house page.Upgrade parts body = alone (said (asked_plainly Upgrade body)) parts
 
 abbrev pub route_at : House → Request → Option Page → Choice
 route_at house r None = Err Route

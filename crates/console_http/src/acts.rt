@@ -1,17 +1,18 @@
 //! The operator's acts.
-ghost use Rattle.std.specs.Prelude.{◌≡◌, IsTrue, IfOk, option_map};
+ghost use Rattle.std.specs.Prelude.{◌≡◌, IsTrue, IfOk, codes, is_some, option_map};
+ghost use Rattle.serde_json.specs.Find.{get};
 ghost use Rattle.serde_json.specs.View.{view};
 ghost use Rattle.verb_core.specs.Store.{is_house};
-ghost use Rattle.console_http.specs.Acts.{word_of, size_of, alias_of, unalias_of, filter_of, unfilter_of, remove_of, give_of, act_by, act_of, act_in};
+ghost use Rattle.console_http.specs.Acts.{word_of, size_of, alias_of, unalias_of, plain_scope as plain_scope_of, scope_named, scope_at as scope_member, filter_of, unfilter_of, remove_of, give_of, act_by, act_of, act_in};
 
 use crate::members::{
-    body_at, box_at, file_at, has_members, local_at, name_at, number_at, read_value, text_at,
-    user_at, users_at,
+    body_at, box_at, field_at, file_at, has_members, local_at, name_at, number_at, one_at,
+    read_value, text_at, user_at, users_at,
 };
 use serde_json::Value;
 use std::alloc::Global;
 use undo_base::{Key, NoMemory};
-use verb_core::{Act, Filter, House};
+use verb_core::{Act, Filter, House, Scope};
 
 /// The word of an act.
 #[derive(Clone, Copy, Debug, PartialEq, Eq)]
@@ -45,13 +46,13 @@ fn read_word(text: &[u8]) -> Option<Word>
 }
 
 /// How many members an act has, its word among them.
-fn member_count(word: Word) -> usize
-    ensures { result ≡ size_of word }
+fn member_count(value: &Value, word: Word) -> usize
+    ensures { result ≡ size_of (view value.now) word }
 {
     match word {
         Word::Alias => 3,
         Word::Unalias => 2,
-        Word::Filter => 4,
+        Word::Filter => 4 + one_at(value, "scope") + one_at(value, "field"),
         Word::Unfilter => 2,
         Word::Remove => 5,
         Word::Give => 4,
@@ -80,6 +81,54 @@ fn read_unalias(alloc: Global, value: &Value) -> Result<Option<Act>, NoMemory>
     Ok(Some(Act::DropAlias { local }))
 }
 
+/// What a word says of where a filter looks, if it says all.
+fn plain_scope(word: &[u8]) -> Option<Scope>
+    ensures { result ≡ plain_scope_of word.now }
+{
+    if word == b"body".as_slice() {
+        Some(Scope::Body)
+    } else if word == b"sender".as_slice() {
+        Some(Scope::Sender)
+    } else if word == b"recipient".as_slice() {
+        Some(Scope::Recipient)
+    } else {
+        None
+    }
+}
+
+/// Whether a header field is named.
+fn has_field(value: &Value) -> bool
+    ensures { result ≡ is_some (get (codes "field") (view value.now)) }
+{
+    value.get("field").is_some()
+}
+
+/// Where a filter looks, by the word for it.
+fn read_scope(alloc: Global, value: &Value, word: &[u8]) -> Result<Option<Scope>, NoMemory>
+    ensures { IfOk result (λ scope. scope ≡ scope_named (view value.now) word.now) }
+{
+    if word == b"header".as_slice() {
+        return Ok(field_at(alloc, value)?.map(|field| Scope::Field(field)));
+    }
+    if has_field(value) {
+        return Ok(None);
+    }
+    Ok(plain_scope(word))
+}
+
+/// Where a filter looks: in the body, if it does not say.
+fn scope_at(alloc: Global, value: &Value) -> Result<Option<Scope>, NoMemory>
+    ensures { IfOk result (λ scope. scope ≡ scope_member (view value.now)) }
+{
+    match value.get("scope") {
+        None => read_scope(alloc, value, b"body"),
+        Some(scope) => match scope.as_str() {
+            None => Ok(None),
+            Some(word) => read_scope(alloc, value, word.as_bytes()),
+        },
+    }
+}
+
 fn read_filter(alloc: Global, value: &Value) -> Result<Option<Act>, NoMemory>
     ensures { IfOk result (λ act. act ≡ filter_of (view value.now)) }
 {
@@ -92,7 +141,15 @@ fn read_filter(alloc: Global, value: &Value) -> Result<Option<Act>, NoMemory>
     let Some(file) = file_at(alloc, value)? else {
         return Ok(None);
     };
-    Ok(Some(Act::SetFilter(Filter { id, needle, file })))
+    let Some(scope) = scope_at(alloc, value)? else {
+        return Ok(None);
+    };
+    Ok(Some(Act::SetFilter(Filter {
+        id,
+        needle,
+        file,
+        scope,
+    })))
 }
 
 fn read_unfilter(alloc: Global, value: &Value) -> Result<Option<Act>, NoMemory>
@@ -177,7 +234,7 @@ pub fn act_from(alloc: Global, house: &House, value: &Value) -> Result<Option<Ac
     let Some(word) = read_word(text.as_bytes()) else {
         return Ok(None);
     };
-    if !has_members(value, member_count(word)) {
+    if !has_members(value, member_count(value, word)) {
         return Ok(None);
     }
     read_worded(alloc, house, value, word)

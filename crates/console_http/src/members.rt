@@ -4,10 +4,10 @@ ghost use Rattle.serde_json.specs.Events.{members_len};
 ghost use Rattle.serde_json.specs.Find.{as_object, get};
 ghost use Rattle.serde_json.specs.View.{view, items_view};
 ghost use Rattle.verb_core.specs.Store.{is_house};
-ghost use Rattle.console_http.specs.Members.{value_of, has_members as counted, one_at as one_member, text_at as text_member, number_at as number_member, name_at as name_member, box_at as box_member, local_at as local_member, user_at as user_member, user_in, users_in, users_at as users_member, file_in, file_at as file_member, text_in, body_at as body_member};
+ghost use Rattle.console_http.specs.Members.{value_of, has_members as counted, one_at as one_member, text_at as text_member, number_at as number_member, name_at as name_member, box_at as box_member, local_at as local_member, field_at as field_member, user_at as user_member, user_in, users_in, users_at as users_member, file_in, file_at as file_member, text_in, body_at as body_member};
 ghost use Rattle.console_http.specs.Members as spec;
 
-use crate::parts::{find_user, read_box, read_local, read_name};
+use crate::parts::{find_user, read_box, read_field, read_local, read_name};
 use base64::DecodeAllocError;
 use base64::engine::general_purpose::STANDARD;
 use serde_json::Value;
@@ -132,6 +132,16 @@ pub fn local_at(alloc: Global, value: &Value) -> Result<Option<Name>, NoMemory>
     match text_at(value, "local") {
         None => Ok(None),
         Some(text) => read_local(alloc, text.as_bytes()),
+    }
+}
+
+/// The member `field`, where it names a header field.
+pub fn field_at(alloc: Global, value: &Value) -> Result<Option<Name>, NoMemory>
+    ensures { IfOk result (λ name. name ≡ field_member (view value.now)) }
+{
+    match text_at(value, "field") {
+        None => Ok(None),
+        Some(text) => read_field(alloc, text.as_bytes()),
     }
 }
 

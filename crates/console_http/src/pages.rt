@@ -21,6 +21,7 @@ pub enum Page {
     Try,
     Snapshot,
     Stop,
+    Upgrade,
 }
 
 impl Page {
@@ -40,6 +41,7 @@ impl Page {
             Page::Try => b"/try",
             Page::Snapshot => b"/snapshot",
             Page::Stop => b"/stop",
+            Page::Upgrade => b"/upgrade",
         }
     }
 
@@ -50,7 +52,8 @@ impl Page {
         match self {
             Page::Status | Page::Timeline | Page::Box | Page::Body | Page::Conf | Page::Plan =>
                 b"GET",
-            Page::Act | Page::Cycle | Page::Try | Page::Snapshot | Page::Stop => b"POST",
+            Page::Act | Page::Cycle | Page::Try | Page::Snapshot | Page::Stop | Page::Upgrade =>
+                b"POST",
         }
     }
 }
@@ -63,6 +66,7 @@ fn add_acting(router: &mut Router<Page>) -> Result<(), InsertError>
     router.insert("/try", Page::Try)?;
     router.insert("/snapshot", Page::Snapshot)?;
     router.insert("/stop", Page::Stop)?;
+    router.insert("/upgrade", Page::Upgrade)?;
     Ok(())
 }
 

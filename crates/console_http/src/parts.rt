@@ -5,8 +5,9 @@ ghost use Rattle.undo_base.specs.Name.{is_name as name_text, is_printable as pri
 ghost use Rattle.verb_core.specs.Recipients.{user_named};
 ghost use Rattle.verb_core.specs.Store.{is_house};
 ghost use Rattle.std.specs.Prelude.{IsTrue, bytes_eq};
-ghost use Rattle.console_http.specs.Parts.{begins_with_hex as begins_hex, has_good_escapes as good_escapes, is_slash, part_of, number32, name_of, kept, box_name, is_local_byte as local_byte, is_local as local_text, local_of};
+ghost use Rattle.console_http.specs.Parts.{begins_with_hex as begins_hex, has_good_escapes as good_escapes, is_slash, part_of, number32, name_of, kept, box_name, is_local_byte as local_byte, is_local as local_text, local_of, field_of};
 
+use header_fields::{field_names_are_names, is_field_name};
 use percent_encoding::percent_decode;
 use std::alloc::Global;
 use undo_base::{MOST_NAME, Name, NoMemory, User, after, read_number as read_digits};
@@ -172,6 +173,17 @@ pub fn read_local(alloc: Global, text: &[u8]) -> Result<Option<Name>, NoMemory>
     if !is_local(text) {
         return Ok(None);
     }
+    Ok(Some(Name::of(alloc, text)?))
+}
+
+/// The name of a header field.
+pub fn read_field(alloc: Global, text: &[u8]) -> Result<Option<Name>, NoMemory>
+    ensures { IfOk result (λ name. name ≡ field_of text.now) }
+{
+    if !is_field_name(text) {
+        return Ok(None);
+    }
+    field_names_are_names();
     Ok(Some(Name::of(alloc, text)?))
 }
 

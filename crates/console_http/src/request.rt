@@ -6,11 +6,12 @@ ghost use Rattle.console_head.specs.Seen.{parts_seen};
 ghost use Rattle.console_http.specs.Acts.{act_in};
 ghost use Rattle.console_http.specs.Cycles.{cycle_in, try_in};
 ghost use Rattle.console_http.specs.Pages.{route_by};
-ghost use Rattle.console_http.specs.Routes.{number_in, box_in, alone as alone_at, taken, said as said_of, route_on, route_of};
+ghost use Rattle.console_http.specs.Routes.{number_in, box_in, alone as alone_at, taken, said as said_of, asked_plainly, route_on, route_of};
 ghost use Rattle.console_http.specs.Requests.{Asks, AsksOf, Found, Learns, told_of};
 
 use crate::acts::read_act;
 use crate::cycles::{read_cycle, read_try};
+use crate::members::{has_members, read_value};
 use crate::pages::{Page, find_page};
 use crate::parts::{before_slash, behind_slash, find_user, read_box, read_number, read_part};
 use console_head::{Coming, HeadRefused, Request};
@@ -33,6 +34,7 @@ pub enum Route {
     Try(CycleAsk),
     Snapshot,
     Stop,
+    Upgrade,
 }
 
 /// What the bytes of a connection ask, if they are a request already.
@@ -186,6 +188,34 @@ fn read_tried(alloc: Global, house: &House, parts: &[u8], body: &[u8]) -> Result
     said(read_try(alloc, house, body)?.map(|ask| Route::Try(ask)))
 }
 
+/// What a body without a member asks for.
+fn plainly(alloc: Global, route: Route, body: &[u8]) -> Result<Option<Route>, NoMemory>
+    ensures { IfOk result (λ asked. asked ≡ asked_plainly route body.now) }
+{
+    if body.is_empty() {
+        return Ok(Some(route));
+    }
+    match read_value(alloc, body)? {
+        None => Ok(None),
+        Some(value) => {
+            if has_members(&value, 0) {
+                Ok(Some(route))
+            } else {
+                Ok(None)
+            }
+        }
+    }
+}
+
+fn read_upgrade(alloc: Global, parts: &[u8], body: &[u8]) -> Result<Route, HttpRefused>
+    ensures { Found (alone_at (said_of (asked_plainly Route.Upgrade body.now)) parts.now) result }
+{
+    if !parts.is_empty() {
+        return Err(HttpRefused::Route);
+    }
+    said(plainly(alloc, Route::Upgrade, body)?)
+}
+
 /// The route of a page, by the parts of its path and the body.
 fn read_parts(
     alloc: Global,
@@ -209,6 +239,7 @@ fn read_parts(
         Page::Try => read_tried(alloc, house, parts, body),
         Page::Snapshot => alone(Route::Snapshot, parts),
         Page::Stop => alone(Route::Stop, parts),
+        Page::Upgrade => read_upgrade(alloc, parts, body),
     }
 }
 

@@ -11,6 +11,8 @@ use Rattle.verb_core.specs.declared.conf.Alias.{Alias}
 use Rattle.verb_core.specs.declared.conf.Conf.{Conf}
 use Rattle.verb_core.specs.declared.conf.Filter.{Filter}
 use Rattle.verb_core.specs.declared.conf.House.{House}
+use Rattle.verb_core.specs.declared.conf.Scope.{Scope}
+use Rattle.verb_core.specs.declared.conf.Scope.TheVariants.{Body, Field, Sender, Recipient}
 use Rattle.verb_core.specs.declared.item.Item.{Item}
 use Rattle.verb_core.specs.declared.mailbox.Mailbox.{Mailbox}
 use Rattle.console_replies.specs.declared.bodies.Counts.{Counts}
@@ -19,7 +21,7 @@ use Rattle.console_replies.specs.Bodies.{counted, status_data, body_data}
 use Rattle.console_replies.specs.Timeline.{item_data, timeline_data}
 use Rattle.console_replies.specs.Mailboxes.{entry_data, box_data}
 use Rattle.console_replies.specs.Reports.{broken_data, renewal_data, report_data}
-use Rattle.console_replies.specs.Confs.{user_data, users_data, put_alias, file_data, filter_data, conf_data}
+use Rattle.console_replies.specs.Confs.{user_data, users_data, put_alias, file_data, scoped_data, filter_data, conf_data}
 
 -- a list of values of which none has a float
 listed : {A : Type 0} (f : A → Data) → ((a : A) → has_float (f a) ≡ false) → (xs : List A) → items_have_float (items_of (map f xs)) ≡ false
@@ -52,8 +54,14 @@ file_has_none : (file : Option (List ℕ)) → has_float (file_data file) ≡ fa
 file_has_none None = refl
 file_has_none (Some name) = refl
 
+scoped_has_none : (f : Filter) (scope : Scope) → has_float (scoped_data f scope) ≡ false
+scoped_has_none f Body = rw (file_has_none f.file) refl
+scoped_has_none f (Field field) = rw (file_has_none f.file) refl
+scoped_has_none f Sender = rw (file_has_none f.file) refl
+scoped_has_none f Recipient = rw (file_has_none f.file) refl
+
 filter_has_none : (f : Filter) → has_float (filter_data f) ≡ false
-filter_has_none f = rw (file_has_none f.file) refl
+filter_has_none f = scoped_has_none f f.scope
 
 users_have_none : (house : House) (users : List User) → has_float (users_data house users) ≡ false
 users_have_none house users = listed (user_data house) (λ u. refl) users

@@ -31,6 +31,9 @@ items_data n = object (member (codes "items") (counted n) no_members)
 abbrev pub stopped_data : Data
 stopped_data = object (member (codes "stopped") (boolean true) no_members)
 
+abbrev pub upgraded_data : Data
+upgraded_data = object (member (codes "upgraded") (boolean true) no_members)
+
 abbrev pub word_text : ErrorWord → List ℕ
 word_text Head = codes "head"
 word_text Json = codes "json"

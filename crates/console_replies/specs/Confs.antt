@@ -5,6 +5,8 @@ use Rattle.serde_json.specs.View.{items_of}
 use Rattle.undo_base.specs.declared.keys.User.{User}
 use Rattle.verb_core.specs.declared.conf.Alias.{Alias}
 use Rattle.verb_core.specs.declared.conf.Filter.{Filter}
+use Rattle.verb_core.specs.declared.conf.Scope.{Scope}
+use Rattle.verb_core.specs.declared.conf.Scope.TheVariants.{Body, Field, Sender, Recipient}
 use Rattle.verb_core.specs.declared.conf.Conf.{Conf}
 use Rattle.verb_core.specs.declared.conf.House.{House}
 use Rattle.paradox.specs.Letters.{user_name}
@@ -27,8 +29,24 @@ abbrev pub file_data : Option (List ℕ) → Data
 file_data None = null
 file_data (Some name) = string name
 
+-- a filter that looks in the body
+abbrev pub plain_data : Filter → Data
+plain_data f = object (member (codes "file") (file_data f.file) (member (codes "name") (string f.id) (member (codes "needle") (string f.needle) no_members)))
+
+-- a filter that looks where a word says
+abbrev pub worded_members : Filter → List ℕ → Members
+worded_members f word =
+    member (codes "file") (file_data f.file) (member (codes "name") (string f.id) (member (codes "needle") (string f.needle) (member (codes "scope") (string word) no_members)))
+
+-- a filter by its scope, which is told unless it is the body, with the header field that it names
+abbrev pub scoped_data : Filter → Scope → Data
+scoped_data f Body = plain_data f
+scoped_data f (Field field) = object (member (codes "field") (string field) (worded_members f (codes "header")))
+scoped_data f Sender = object (worded_members f (codes "sender"))
+scoped_data f Recipient = object (worded_members f (codes "recipient"))
+
 abbrev pub filter_data : Filter → Data
-filter_data f = object (member (codes "file") (file_data f.file) (member (codes "name") (string f.id) (member (codes "needle") (string f.needle) no_members)))
+filter_data f = scoped_data f f.scope
 
 abbrev pub conf_data : House → Conf → Data
 conf_data house conf =

@@ -2,7 +2,7 @@
 ghost use Rattle.std.specs.Prelude.{◌≡◌, IfOk, string_bytes};
 ghost use Rattle.serde_json.specs.View.{view};
 ghost use Rattle.serde_json.specs.Written.{compact_text};
-ghost use Rattle.console_replies.specs.Bodies.{status_data, body_data, number_data, items_data, stopped_data, word_text, error_data, point_data, numbers_data};
+ghost use Rattle.console_replies.specs.Bodies.{status_data, body_data, number_data, items_data, stopped_data, upgraded_data, word_text, error_data, point_data, numbers_data};
 
 use crate::text::text_of;
 use base64::engine::general_purpose::STANDARD;
@@ -101,6 +101,19 @@ pub fn stopped_json(alloc: Global) -> Result<Text, NoMemory>
     ensures { IfOk result (λ text. text ≡ compact_text stopped_data) }
 {
     text_of(alloc, stopped_value(alloc)?)
+}
+
+fn upgraded_value(alloc: Global) -> Result<Value, AllocError>
+    ensures { IfOk result (λ v. view v ≡ upgraded_data) }
+{
+    json!(in alloc; {"upgraded": true})
+}
+
+/// The answer to POST /upgrade.
+pub fn upgraded_json(alloc: Global) -> Result<Text, NoMemory>
+    ensures { IfOk result (λ text. text ≡ compact_text upgraded_data) }
+{
+    text_of(alloc, upgraded_value(alloc)?)
 }
 
 fn word(error: ErrorWord) -> &'static str

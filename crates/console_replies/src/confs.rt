@@ -1,15 +1,16 @@
 //! Configurations.
-ghost use Rattle.std.specs.Prelude.{◌≡◌, IfOk, OnOk, map, string_bytes};
+ghost use Rattle.std.specs.Prelude.{◌≡◌, IfOk, OnOk, codes, map, string_bytes};
+ghost use Rattle.serde_json.specs.Data.{member, object, string};
 ghost use Rattle.serde_json.specs.View.{view, items_view, items_of, members_view};
 ghost use Rattle.serde_json.specs.Written.{compact_text};
-ghost use Rattle.console_replies.specs.Confs.{user_data, users_data, put_alias as with_alias, aliases_members, file_data, filter_data, conf_data};
+ghost use Rattle.console_replies.specs.Confs.{user_data, users_data, put_alias as with_alias, aliases_members, file_data, plain_data, worded_members, filter_data, conf_data};
 
 use crate::text::{name_text, text_of};
 use crate::timeline::user_name;
 use serde_json::{Map, Value, json};
 use std::alloc::{AllocError, Global};
 use undo_base::{Name, NoMemory, Text, User};
-use verb_core::{Alias, Conf, Filter, House};
+use verb_core::{Alias, Conf, Filter, House, Scope};
 
 fn user_value(alloc: Global, house: &House, user: User) -> Result<Value, AllocError>
     ensures { IfOk result (λ v. view v ≡ user_data house.now user) }
@@ -72,13 +73,53 @@ fn file_value(alloc: Global, file: &Option<Name>) -> Result<Value, AllocError>
     }
 }
 
-fn filter_value(alloc: Global, filter: &Filter) -> Result<Value, AllocError>
-    ensures { IfOk result (λ v. view v ≡ filter_data filter.now) }
+/// A filter's file, its name and its needle.
+fn filter_parts(alloc: Global, filter: &Filter) -> Result<(Value, String, String), AllocError>
+    ensures { IfOk result (λ p. (view p.0 ≡ file_data filter.now.file) × (string_bytes p.1 ≡ filter.now.id) × (string_bytes p.2 ≡ filter.now.needle)) }
 {
     let file = file_value(alloc, &filter.file)?;
     let name = name_text(alloc, &filter.id)?;
     let needle = name_text(alloc, &filter.needle)?;
+    Ok((file, name, needle))
+}
+
+/// A filter that looks in the body.
+fn plain_value(alloc: Global, filter: &Filter) -> Result<Value, AllocError>
+    ensures { IfOk result (λ v. view v ≡ plain_data filter.now) }
+{
+    let (file, name, needle) = filter_parts(alloc, filter)?;
     json!(in alloc; {"file": file, "name": name, "needle": needle})
+}
+
+/// A filter that looks where a word says.
+fn worded_value(alloc: Global, filter: &Filter, word: &str) -> Result<Value, AllocError>
+    ensures { IfOk result (λ v. view v ≡ object (worded_members filter.now word.now)) }
+{
+    let (file, name, needle) = filter_parts(alloc, filter)?;
+    let scope = String::from_str(alloc, word)?;
+    json!(in alloc; {"file": file, "name": name, "needle": needle, "scope": scope})
+}
+
+/// A filter that looks at a header field.
+fn field_value(alloc: Global, filter: &Filter, field: &Name) -> Result<Value, AllocError>
+    ensures { IfOk result (λ v. view v ≡ object (member (codes "field") (string field.now) (worded_members filter.now (codes "header")))) }
+{
+    let field = name_text(alloc, field)?;
+    let (file, name, needle) = filter_parts(alloc, filter)?;
+    json!(in alloc; {
+        "field": field, "file": file, "name": name, "needle": needle, "scope": "header"
+    })
+}
+
+fn filter_value(alloc: Global, filter: &Filter) -> Result<Value, AllocError>
+    ensures { IfOk result (λ v. view v ≡ filter_data filter.now) }
+{
+    match &filter.scope {
+        Scope::Body => plain_value(alloc, filter),
+        Scope::Field(field) => field_value(alloc, filter, field),
+        Scope::Sender => worded_value(alloc, filter, "sender"),
+        Scope::Recipient => worded_value(alloc, filter, "recipient"),
+    }
 }
 
 fn filter_values(alloc: Global, filters: &[Filter]) -> Result<Vec<Value>, AllocError>

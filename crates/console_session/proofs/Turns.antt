@@ -15,9 +15,9 @@ use Rattle.seal_log.specs.declared.fault.SealFault.{SealFault}
 use Rattle.seal_log.specs.declared.fault.SealFault.TheVariants as seal_fault
 use Rattle.verb_bytes.specs.declared.journal.CycleAsk.{CycleAsk}
 use Rattle.verb_bytes.specs.declared.journal.JournalRecord.{JournalRecord}
-use Rattle.verb_bytes.specs.declared.journal.JournalRecord.TheVariants.{Operator, Cycle}
+use Rattle.verb_bytes.specs.declared.journal.JournalRecord.TheVariants.{Operator, Cycle, Upgrade}
 use Rattle.paradox.specs.declared.reports.Report.{Report}
-use Rattle.store_kept.specs.Kept.{performed, report_of, snapshotted, Kept}
+use Rattle.store_kept.specs.Kept.{performed, report_of, snapshotted, upgraded, Kept}
 use Rattle.repair_desk.specs.Repairs.{position}
 use Rattle.cycle_rules.specs.Asking.{Due, IsRewinds, Repeats, NoPoint, NoNumbers, Rewinds as IsDue, after_cycle, cycle_due, due_anew, due_at, due_by}
 use Rattle.cycle_rules.specs.Cycles.{Cycled, cycled_at, leaves_numbers}
@@ -33,7 +33,7 @@ use Rattle.verb_core.specs.Deeds.{act_item}
 use Rattle.desk_journal.specs.Records.{after_record, after_records, is_formed, is_spelled, snapshot_record}
 use Rattle.desk_journal.specs.Sealing.{Seals}
 use Rattle.desk_journal.specs.Stored.{HoldsTexts}
-use Rattle.desk_journal.specs.Submitting.{ActsNone, SnapshotsNone}
+use Rattle.desk_journal.specs.Submitting.{ActsNone, SnapshotsNone, UpgradesNone, UpgradesOnce}
 use Rattle.console_head.specs.declared.request.HeadRefused.TheVariants.{Head as BadHead, Size as TooLarge}
 use Rattle.console_http.specs.declared.request.Asked.{Asked}
 use Rattle.console_http.specs.declared.request.Asked.TheVariants.{NotYet, Whole}
@@ -44,14 +44,14 @@ use Rattle.console_http.specs.declared.request.Route.TheVariants as route
 use Rattle.console_http.specs.Requests.{Asks}
 use Rattle.console_http.specs.Routes.{Choice, route_of}
 use Rattle.console_replies.specs.declared.bodies.ErrorWord.TheVariants.{Disk}
-use Rattle.console_replies.specs.Bodies.{body_data, error_data, items_data, number_data, numbers_data, point_data}
+use Rattle.console_replies.specs.Bodies.{body_data, error_data, items_data, number_data, numbers_data, point_data, upgraded_data}
 use Rattle.console_replies.specs.Reports.{report_data}
 use Rattle.console_session.specs.declared.reply.After.{After}
-use Rattle.console_session.specs.declared.reply.After.TheVariants.{Closes, Fails, Rewinds, Waits}
+use Rattle.console_session.specs.declared.reply.After.TheVariants.{Closes, Fails, Rewinds, Upgrades, Waits}
 use Rattle.console_session.specs.declared.reply.Reply.{Reply}
 use Rattle.console_session.specs.Answers.{Answer, answer, answer_text, body_found, plan_answer, planned, refused, told_plainly}
-use Rattle.console_session.specs.Turn.{Turn, chosen, cycled, done, failed, kept_as_it_is, numbered, numberless, rewound, tells}
-use Rattle.console_session.specs.Hindrance.{Hindrance, Clear, Refused, Unheard, Unanswered, Unsealed, Untold, Unread, UnreadRefused, UnreadUnheard, Misread, acted_under, behind_a_read, cycled_under, found_under, hindered, lost, read_under, rewound_under, routed_under, sealed_under, starved, told_under, tried_under, unanswered, unread}
+use Rattle.console_session.specs.Turn.{Turn, chosen, cycled, done, failed, kept_as_it_is, numbered, numberless, rewound, tells, upgrade_done, upgraded_once}
+use Rattle.console_session.specs.Hindrance.{Hindrance, Clear, Refused, Unheard, Unanswered, Unsealed, Untold, Unread, UnreadRefused, UnreadUnheard, Misread, acted_under, behind_a_read, cycled_under, found_under, hindered, lost, read_under, rewound_under, routed_under, sealed_under, starved, told_under, tried_under, unanswered, unread, upgraded_under}
 use Rattle.console_session.specs.Hearing.{Hears, AreServed, IsTurn, Serves, Starves, Tells, TellsCycleFault, TellsDiskFault, TellsFault, TellsFound, TellsOnly, TellsRead, TellsReadFault, TellsSealFault, TellsUnread, is_failure, reply}
 use Rattle.console_session.proofs.Deciding.{IsSame, kept_decided, text_decided}
 
@@ -339,6 +339,53 @@ module _ {D : Type 0} (told : D → DiskTold) where
       snaps at old new r (starved_turn _ old new r refl refl (kept_stays old new (none.1.kept (inr refl))) none.1 well says)
   snapshot_not_done at old new seal_fault.Closed r none well says = absurd says
 
+  -- ---- upgrades
+
+  -- what becomes of an upgrade where the store was upgraded before, and where it was not
+  upgrade_again : (h : Hindrance) (at : ℕ) (kept : Kept) → kept.deep ≡ true → upgraded_under h at kept ≡ told_under h kept (tells (answer 200 upgraded_data) Closes kept)
+  upgrade_again h at kept e = rw e refl
+
+  upgrade_first : (h : Hindrance) (at : ℕ) (kept : Kept) → kept.deep ≡ false → upgraded_under h at kept ≡ sealed_under h kept (upgrade_done at kept) (failed kept (Upgrade at))
+  upgrade_first h at kept e = rw e refl
+
+  -- then its record is to be sealed
+  upgrade_seals : (at : ℕ) (kept : Kept) → kept.deep ≡ false → (upgraded_once at kept).sealed ≡ [] → ⊥
+  upgrade_seals at kept flat e = record_is_not (Upgrade at) [] (rw flat at e)
+
+  abbrev Upgrading : ℕ → Lasting D → Lasting D → Reply → Type 0
+  Upgrading at old new r = Under (λ h. sealed_under h old.kept (upgrade_done at old.kept) (failed old.kept (Upgrade at))) old new r
+
+  upgrades : (at : ℕ) (old new : Lasting D) (r : Reply) → old.kept.deep ≡ false → Upgrading at old new r → Serves told at (Ok (Whole route.Upgrade)) old new r
+  upgrades at old new r flat under =
+      let u = under_as _ _ old new r (λ h. upgrade_first h at old.kept flat) under in
+      record { hindrance = u.0; turn_is = u.1; still = λ e. absurd (upgrade_seals at old.kept flat e) }
+
+  -- the store was upgraded before, and that is told
+  pub upgrade_told : Still → Truth → (at : ℕ) (old : Lasting D) (r : Reply) → old.kept.deep ≡ true → Tells (answer 200 upgraded_data) Closes r
+      → Serves told at (Ok (Whole route.Upgrade)) old old r
+  upgrade_told still truth at old r deep says =
+      serves_told still at (Ok (Whole route.Upgrade)) (answer 200 upgraded_data) Closes old old r (as_it_was truth old old refl) (λ h. upgrade_again h at old.kept deep) says
+
+  -- it was sealed, and that is told or nothing is said
+  upgraded_turn : (at : ℕ) (old new : Lasting D) (r : Reply) → TellsOnly (answer 200 upgraded_data) Upgrades r
+      → new.kept ≡ upgraded old.kept → Seals told (Upgrade at ∷ []) [] old new → ReadsWell told old new → Upgrading at old new r
+  upgraded_turn at old new r (inl e) kept seals well = (Clear, record { reply_is = e; kept = kept; seals = seals; read = reads_well old new well })
+  upgraded_turn at old new r (inr e) kept seals well = (Unanswered, record { reply_is = e; kept = kept; seals = seals; read = reads_well old new well })
+
+  -- a store that was not upgraded before is
+  pub upgrade_sealed : (at : ℕ) (old new : Lasting D) (r : Reply) → old.kept.deep ≡ false → UpgradesOnce told at old new → ReadsWell told old new
+      → TellsOnly (answer 200 upgraded_data) Upgrades r → Serves told at (Ok (Whole route.Upgrade)) old new r
+  upgrade_sealed at old new r flat (inl again) well says = absurd (true≢false (sym again.0 ∙ flat))
+  upgrade_sealed at old new r flat (inr once) well says = upgrades at old new r flat (upgraded_turn at old new r says once.1.1 once.1.2 well)
+
+  pub upgrade_not_sealed : (at : ℕ) (old new : Lasting D) (f : SealFault) (r : Reply) → old.kept.deep ≡ false → UpgradesNone told at old new f → ReadsWell told old new → TellsSealFault f r
+      → Serves told at (Ok (Whole route.Upgrade)) old new r
+  upgrade_not_sealed at old new seal_fault.Disk r flat none well says =
+      upgrades at old new r flat (unsealed_turn _ (Upgrade at) old new r refl refl says (kept_stays old new (none.1.kept (inr refl))) none.1 well)
+  upgrade_not_sealed at old new seal_fault.NoMemory r flat none well says =
+      upgrades at old new r flat (starved_turn _ old new r refl refl (kept_stays old new (none.1.kept (inr refl))) none.1 well says)
+  upgrade_not_sealed at old new seal_fault.Closed r flat none well says = absurd says
+
   -- ---- cycles
 
   -- a request for a cycle was served, by what was due to it
@@ -597,6 +644,7 @@ module _ {D : Type 0} (told : D → DiskTold) where
   starved_route at kept (route.Try ask) = starved_try kept ask (due_anew kept at ask)
   starved_route at kept route.Snapshot = refl
   starved_route at kept route.Stop = refl
+  starved_route at kept route.Upgrade = elim kept.deep as (λ b. (if b then starved kept else starved kept) ≡ starved kept) [ true ↦ refl | false ↦ refl ]
 
   lost_route : (at : ℕ) (kept : Kept) (t : Taken) → routed_under Unheard at kept t ≡ lost kept
   lost_route at kept route.Status = refl
@@ -610,6 +658,7 @@ module _ {D : Type 0} (told : D → DiskTold) where
   lost_route at kept (route.Try ask) = lost_try kept ask (due_anew kept at ask)
   lost_route at kept route.Snapshot = refl
   lost_route at kept route.Stop = refl
+  lost_route at kept route.Upgrade = elim kept.deep as (λ b. (if b then lost kept else lost kept) ≡ lost kept) [ true ↦ refl | false ↦ refl ]
 
   starved_choice : (at : ℕ) (kept : Kept) (c : Choice) → hindered Refused at kept (chosen c) ≡ starved kept
   starved_choice at kept (Ok t) = starved_route at kept t
@@ -725,6 +774,13 @@ module _ {D : Type 0} (told : D → DiskTold) where
   ends_tried h kept ask NoNumbers = ends_told h kept _ refl
   ends_tried h kept ask (IsDue due) = ends_read h kept _ refl
 
+  ends_upgraded : (h : Hindrance) (at : ℕ) (kept : Kept) → EndsSo (upgraded_under h at kept)
+  ends_upgraded h at kept =
+      elim kept.deep as (λ b. EndsSo (if b then told_under h kept (tells (answer 200 upgraded_data) Closes kept) else sealed_under h kept (upgrade_done at kept) (failed kept (Upgrade at)))) [
+        | true ↦ ends_told h kept _ refl
+        | false ↦ ends_sealed h kept _ _ refl refl
+      ]
+
   ends_routed : (h : Hindrance) (at : ℕ) (kept : Kept) (t : Taken) → EndsSo (routed_under h at kept t)
   ends_routed h at kept route.Status = ends_told h kept _ refl
   ends_routed h at kept (route.Timeline start) = ends_told h kept _ refl
@@ -737,6 +793,7 @@ module _ {D : Type 0} (told : D → DiskTold) where
   ends_routed h at kept (route.Try ask) = ends_tried h kept ask (due_anew kept at ask)
   ends_routed h at kept route.Snapshot = ends_sealed h kept _ _ refl refl
   ends_routed h at kept route.Stop = ends_told h kept _ refl
+  ends_routed h at kept route.Upgrade = ends_upgraded h at kept
 
   ends_so : (h : Hindrance) (at : ℕ) (kept : Kept) (asked : Result Asked HttpRefused) → EndsSo (hindered h at kept asked)
   ends_so h at kept (Ok NotYet) = refl

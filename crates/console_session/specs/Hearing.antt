@@ -22,7 +22,7 @@ use Rattle.console_http.specs.declared.request.HttpRefused.TheVariants.{NoMemory
 use Rattle.console_replies.specs.declared.bodies.ErrorWord.TheVariants.{Disk}
 use Rattle.console_replies.specs.Bodies.{error_data, numbers_data, point_data}
 use Rattle.console_session.specs.declared.reply.After.{After}
-use Rattle.console_session.specs.declared.reply.After.TheVariants.{Waits, Closes, Stops, Fails, Rewinds}
+use Rattle.console_session.specs.declared.reply.After.TheVariants.{Waits, Closes, Stops, Fails, Rewinds, Upgrades}
 use Rattle.console_session.specs.declared.reply.Reply.{Reply}
 use Rattle.console_session.specs.Answers.{Answer, answer, answer_text, refused}
 use Rattle.console_session.specs.Turn.{Turn, asked_of, turn}
@@ -56,7 +56,7 @@ TellsFault fault.Disk r = TellsOnly (answer 500 (error_data Disk)) Fails r
 TellsFault fault.NoMemory r = Starves r
 TellsFault fault.Closed r = ⊥
 
--- why a snapshot was not taken is told
+-- why the record of a snapshot or an upgrade was not sealed is told
 abbrev pub TellsSealFault : SealFault → Reply → Type 0
 TellsSealFault seal_fault.Disk r = TellsOnly (answer 500 (error_data Disk)) Fails r
 TellsSealFault seal_fault.NoMemory r = Starves r
@@ -93,6 +93,7 @@ is_failure Closes = false
 is_failure Stops = false
 is_failure Fails = true
 is_failure Rewinds = false
+is_failure Upgrades = false
 
 module _ {D : Type 0} (told : D → DiskTold) where
   -- What is told of texts that were read, each of them: the answer that is due where the disk holds them. Or a read failed, and that is told. Or want of memory.

@@ -2,7 +2,7 @@
 use Rattle.std.specs.Prelude.{ℕ, List, [], nat_lt, Option, None, Some, Result, Ok, Err, if◌then◌else◌}
 use Rattle.verb_core.specs.declared.item.Act.{Act}
 use Rattle.verb_bytes.specs.declared.journal.CycleAsk.{CycleAsk}
-use Rattle.verb_bytes.specs.declared.journal.JournalRecord.TheVariants.{Operator, Cycle}
+use Rattle.verb_bytes.specs.declared.journal.JournalRecord.TheVariants.{Operator, Cycle, Upgrade}
 use Rattle.store_kept.specs.Kept.{Kept}
 use Rattle.cycle_rules.specs.Asking.{Due, Repeats, NoPoint, NoNumbers, Rewinds, cycle_due, due_anew}
 use Rattle.repair_desk.specs.Repairs.{position}
@@ -15,10 +15,10 @@ use Rattle.console_http.specs.declared.request.HttpRefused.TheVariants.{NoMemory
 use Rattle.console_http.specs.declared.request.Route.{Route}
 use Rattle.console_http.specs.declared.request.Route.TheVariants as route
 use Rattle.console_replies.specs.declared.bodies.ErrorWord.TheVariants as word
-use Rattle.console_replies.specs.Bodies.{error_data}
+use Rattle.console_replies.specs.Bodies.{error_data, upgraded_data}
 use Rattle.console_session.specs.declared.reply.After.TheVariants.{Closes}
 use Rattle.console_session.specs.Answers.{answer, body_found, refused}
-use Rattle.console_session.specs.Turn.{Turn, waits, tells, done, failed, kept_as_it_is, numberless, pointless, reported, rewound, routed}
+use Rattle.console_session.specs.Turn.{Turn, waits, tells, done, failed, kept_as_it_is, numberless, pointless, reported, rewound, routed, upgrade_done}
 
 -- How a turn may go otherwise.
 pub data Hindrance : Type 0 where
@@ -28,9 +28,9 @@ pub data Hindrance : Type 0 where
   Refused : Hindrance
   -- the same, and no memory was found for telling the operator
   Unheard : Hindrance
-  -- no memory was found for the answer to an act, a cycle or a snapshot that is done
+  -- no memory was found for the answer to an act, a cycle, a snapshot or an upgrade that is done
   Unanswered : Hindrance
-  -- an act, a cycle or a snapshot could not be sealed: the operator is told, and serving ends
+  -- an act, a cycle, a snapshot or an upgrade could not be sealed: the operator is told, and serving ends
   Unsealed : Hindrance
   -- the same, and no memory was found for telling the operator
   Untold : Hindrance
@@ -143,6 +143,11 @@ tried_under h kept ask NoPoint = told_under h kept (pointless kept ask.point)
 tried_under h kept ask NoNumbers = told_under h kept (numberless kept)
 tried_under h kept ask (Rewinds due) = read_under h kept (reported kept due.report)
 
+-- what becomes of an upgrade; where the store was upgraded before nothing is to be sealed
+abbrev pub upgraded_under : Hindrance → ℕ → Kept → Turn
+upgraded_under h at kept =
+    if kept.deep then told_under h kept (tells (answer 200 upgraded_data) Closes kept) else sealed_under h kept (upgrade_done at kept) (failed kept (Upgrade at))
+
 abbrev pub routed_under : Hindrance → ℕ → Kept → Route → Turn
 routed_under h at kept route.Status = told_under h kept (routed at kept route.Status)
 routed_under h at kept (route.Timeline start) = told_under h kept (routed at kept (route.Timeline start))
@@ -155,6 +160,7 @@ routed_under h at kept (route.Cycle ask) = cycled_under h at kept ask (cycle_due
 routed_under h at kept (route.Try ask) = tried_under h kept ask (due_anew kept at ask)
 routed_under h at kept route.Snapshot = sealed_under h kept (kept_as_it_is kept) (failed kept (snapshot_record kept))
 routed_under h at kept route.Stop = told_under h kept (routed at kept route.Stop)
+routed_under h at kept route.Upgrade = upgraded_under h at kept
 
 -- a turn, hindered or not; bytes that are not yet a request want no memory
 abbrev pub hindered : Hindrance → ℕ → Kept → Result Asked HttpRefused → Turn

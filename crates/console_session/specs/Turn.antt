@@ -4,9 +4,9 @@ use Rattle.verb_core.specs.declared.conf.House.{House}
 use Rattle.verb_core.specs.declared.item.Act.{Act}
 use Rattle.verb_bytes.specs.declared.journal.CycleAsk.{CycleAsk}
 use Rattle.verb_bytes.specs.declared.journal.JournalRecord.{JournalRecord}
-use Rattle.verb_bytes.specs.declared.journal.JournalRecord.TheVariants.{Operator, Cycle}
+use Rattle.verb_bytes.specs.declared.journal.JournalRecord.TheVariants.{Operator, Cycle, Upgrade}
 use Rattle.paradox.specs.declared.reports.Report.{Report}
-use Rattle.store_kept.specs.Kept.{performed, snapshotted, Kept}
+use Rattle.store_kept.specs.Kept.{performed, snapshotted, upgraded, Kept}
 use Rattle.cycle_rules.specs.Asking.{Due, Repeats, NoPoint, NoNumbers, Rewinds as IsDue, after_cycle, cycle_due, due_anew}
 use Rattle.cycle_rules.specs.Cycles.{Cycled}
 use Rattle.verb_core.specs.Deeds.{act_item}
@@ -21,10 +21,10 @@ use Rattle.console_http.specs.declared.request.Route.TheVariants as route
 use Rattle.console_http.specs.Requests.{told_of}
 use Rattle.console_http.specs.Routes.{Choice, route_of}
 use Rattle.console_replies.specs.declared.bodies.ErrorWord.TheVariants as word
-use Rattle.console_replies.specs.Bodies.{error_data, items_data, number_data, numbers_data, point_data, stopped_data}
+use Rattle.console_replies.specs.Bodies.{error_data, items_data, number_data, numbers_data, point_data, stopped_data, upgraded_data}
 use Rattle.console_replies.specs.Reports.{report_data}
 use Rattle.console_session.specs.declared.reply.After.{After}
-use Rattle.console_session.specs.declared.reply.After.TheVariants.{Waits, Closes, Stops, Fails, Rewinds}
+use Rattle.console_session.specs.declared.reply.After.TheVariants.{Waits, Closes, Stops, Fails, Rewinds, Upgrades}
 use Rattle.console_session.specs.Answers.{Answer, answer, answer_text, body_answer, box_answer, conf_answer, plan_answer, refused, status_answer, timeline_answer}
 
 -- what a turn says, what is kept after it, what follows, the record that was sealed in it, or that could not be, and whether a text could not be
@@ -125,6 +125,23 @@ kept_as_it_is kept = record {
   reads = none_read;
 }
 
+-- ---- upgrades
+
+-- the store is upgraded, and that is answered
+abbrev pub upgrade_done : ℕ → Kept → Turn
+upgrade_done at kept = record {
+  said = answer_text (answer 200 upgraded_data);
+  kept = upgraded kept;
+  after = Upgrades;
+  sealed = Upgrade at ∷ [];
+  unsealed = [];
+  reads = none_read;
+}
+
+-- the same where it was not upgraded before; else nothing changes, and the answer is the same
+abbrev pub upgraded_once : ℕ → Kept → Turn
+upgraded_once at kept = if kept.deep then tells (answer 200 upgraded_data) Closes kept else upgrade_done at kept
+
 -- ---- turns
 
 -- the answer to a route at a moment
@@ -140,6 +157,7 @@ routed at kept (route.Cycle ask) = cycled at kept ask (cycle_due kept at ask)
 routed at kept (route.Try ask) = tried kept ask (due_anew kept at ask)
 routed at kept route.Snapshot = kept_as_it_is kept
 routed at kept route.Stop = tells (answer 200 stopped_data) Stops kept
+routed at kept route.Upgrade = upgraded_once at kept
 
 -- the turn of what is asked at a moment
 abbrev pub turn : ℕ → Kept → Result Asked HttpRefused → Turn

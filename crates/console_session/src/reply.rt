@@ -25,6 +25,8 @@ pub enum After {
     Fails,
     /// The connection is closed. A cycle was done: each mail reader's connection is told that the store was rewound, and closed.
     Rewinds,
+    /// The connection is closed. The store was upgraded: each mail reader's connection is told that, and closed.
+    Upgrades,
 }
 
 /// What a connection is told, and what follows.

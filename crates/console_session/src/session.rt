@@ -1,5 +1,5 @@
 //! A console connection, as far as its bytes came.
-ghost use Rattle.std.specs.Prelude.{◌≡◌, ◌≤◌, ◌++◌, [], false, Ok};
+ghost use Rattle.std.specs.Prelude.{◌≡◌, ◌<◌, ◌≤◌, ◌++◌, [], false, length, Ok};
 ghost use Rattle.console_http.specs.Requests.{AskKnows, KnowsUsers};
 ghost use Rattle.console_http.specs.declared.request.Asked.TheVariants.{Whole};
 ghost use Rattle.console_session.specs.Hearing.{Hears, Serves, is_failure};
@@ -12,6 +12,8 @@ use crate::routes::{
     tell_body, tell_box, tell_conf, tell_plan, tell_refused, tell_status, tell_timeline,
 };
 use crate::snapshot::snapshot;
+use crate::upgrade::upgrade;
+use console_head::laws::what_waits_is_bounded;
 use console_http::laws::acts_name_known_users;
 use console_http::{Asked, Coming, HttpRefused, Route, read_coming};
 use console_replies::stopped_json;
@@ -68,6 +70,7 @@ fn follow<D: Disk, R: Threads + Sync, G: Gate>(
         Route::Try(ask) => try_cycle(rt, alloc, desk, at, &ask, gate),
         Route::Snapshot => snapshot(alloc, desk),
         Route::Stop => tell(alloc, 200, stopped_json(alloc), After::Stops),
+        Route::Upgrade => upgrade(alloc, desk, at),
     }
 }
 
@@ -119,12 +122,14 @@ impl ConsoleSession {
         requires moment { at ≤ LAST_MOMENT }
         ensures heard { Hears D.told at self.old bytes.now desk.old desk.new result }
         ensures waits { result.after ≡ Waits → self.new ≡ self.old ++ bytes.now }
+        ensures bound { result.after ≡ Waits → length self.new < 4210688 }
         ensures closed { desk.new.closed ≡ is_failure result.after }
     {
         if let Err(NoMemory) = self.came.extend(bytes) {
             return silent(alloc, After::Closes);
         }
         acts_name_known_users();
+        what_waits_is_bounded();
         let asked = read_coming(alloc, &mut self.coming, desk.house(), self.came.bytes());
         serve(rt, alloc, desk, at, asked, gate)
     }

@@ -11,8 +11,8 @@ use std::alloc::Global;
 use time_desk::Desk;
 use undo_outside::Disk;
 
-/// Tells why a snapshot was not taken.
-fn tell_fault(alloc: Global, fault: SealFault) -> Reply
+/// Tells why the record of a snapshot or an upgrade was not sealed.
+pub(crate) fn tell_fault(alloc: Global, fault: SealFault) -> Reply
     requires { fault ≡ SealFault.Closed → ⊥ }
     ensures { TellsSealFault fault result }
 {
