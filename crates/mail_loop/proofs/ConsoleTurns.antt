@@ -7,7 +7,7 @@ use Rattle.store_kept.specs.Kept.{Kept}
 use Rattle.desk_journal.specs.Lasting.{Lasting}
 use Rattle.desk_journal.specs.Reading.{Reads, none_read}
 use Rattle.console_session.specs.declared.reply.After.{After}
-use Rattle.console_session.specs.declared.reply.After.TheVariants.{Waits, Closes, Stops, Fails, Rewinds}
+use Rattle.console_session.specs.declared.reply.After.TheVariants.{Waits, Closes, Stops, Fails, Rewinds, Upgrades}
 use Rattle.console_session.specs.declared.reply.Reply.{Reply}
 use Rattle.console_session.specs.Hearing.{Hears, IsUnfed, AreServed}
 use Rattle.console_session.specs.Hindrance as console
@@ -73,6 +73,7 @@ by_after conn said Closes kept seats failed reads readings all came waits = refl
 by_after conn said Stops kept seats failed reads readings all came waits = refl
 by_after conn said Fails kept seats failed reads readings all came waits = refl
 by_after conn said Rewinds kept seats failed reads readings all came waits = refl
+by_after conn said Upgrades kept seats failed reads readings all came waits = refl
 
 -- what a console's session made of its bytes is what the machine makes of them
 pub console_heard : {D : Type 0} → (told : D → DiskTold) → Nothing told → (at : ℕ) (came came' bytes : List ℕ) (conn : ℕ) (seats : Seats) (old new : Lasting D) (r : Reply)

@@ -42,7 +42,7 @@ house_as kept (Err why) = refl
 pub house_stays : (S : List JournalRecord → Reads → Type 0) (kept kept' : Kept) (at : ℕ) (by : Option User) (ask : Ask) (outcome : Result Item SubmitFault)
     → Submits S at kept by ask kept' outcome → kept'.house ≡ kept.house
 house_stays S kept kept' at by ask (Ok item) (is, seals) =
-    sym (ap (λ (s : Submitted). s.kept.house) is) ∙ house_as kept (live (store_of kept) kept.next at by ask)
+    sym (ap (λ (s : Submitted). s.kept.house) is) ∙ house_as kept (live (store_of kept) kept.next at by ask kept.deep)
 house_stays S kept kept' at by ask (Err (IsRefused why)) (due, same, seals) = ap (λ (k : Kept). k.house) same
 house_stays S kept kept' at by ask (Err Disk) (item, is, same, seals) = ap (λ (k : Kept). k.house) same
 house_stays S kept kept' at by ask (Err Closed) wrong = absurd wrong
@@ -361,7 +361,7 @@ module _ {D : Type 0} (speech : Speech D) where
           subst (λ (u : Turn D). Takes S (f u) old kept' e new) (sym (as_settled kept d (unsealed_as kept (Ok item)) none))
           (subst (λ (k : Kept). Takes S (f (settled speech d (unsealed_as k (Ok item)))) old kept' e new) same t)
 
-      by_due : (f : Result Item Refused → Turn D) → Takes S (f (Ok item)) old kept' e new → Takes S (f (live (store_of kept) kept.next at (speech.user d) ask)) old kept' e new
+      by_due : (f : Result Item Refused → Turn D) → Takes S (f (Ok item)) old kept' e new → Takes S (f (live (store_of kept) kept.next at (speech.user d) ask kept.deep)) old kept' e new
       by_due f t = subst (λ (r : Result Item Refused). Takes S (f r) old kept' e new) (sym due_is) t
 
       by_way : Settles speech (Err Disk) kept' d old e new → (h : Hindrance) × Takes S (under h at kept (λ desk. T desk (desk.asked (speech.user d) ask))) old kept' e new
@@ -396,7 +396,7 @@ module _ {D : Type 0} (speech : Speech D) where
           (subst (λ (k : Kept). Takes S (settled speech d (asked_as (Err (IsRefused r)) k)) old kept' e new) same
           (whole (settled speech d (asked_as (Err (IsRefused r)) kept')) t)))
 
-      by_cause : (why ≡ NoMemory) ⊎ (live (store_of kept) kept.next at (speech.user d) ask ≡ Err why) → Takes IsNone (settled speech d (asked_as (Err (IsRefused why)) kept')) old kept' e new
+      by_cause : (why ≡ NoMemory) ⊎ (live (store_of kept) kept.next at (speech.user d) ask kept.deep ≡ Err why) → Takes IsNone (settled speech d (asked_as (Err (IsRefused why)) kept')) old kept' e new
           → (h : Hindrance) × Takes S (under h at kept (λ desk. T desk (desk.asked (speech.user d) ask))) old kept' e new
       by_cause (inl is) t = (Unstored, refused (without_items kept (service at kept)) NoMemory (subst (λ (r : Refused). Takes IsNone (settled speech d (asked_as (Err (IsRefused r)) kept')) old kept' e new) is t))
       by_cause (inr is) t = (
@@ -405,7 +405,7 @@ module _ {D : Type 0} (speech : Speech D) where
       )
 
       by_way : Settles speech (Err (IsRefused why)) kept' d old e new → (h : Hindrance) × Takes S (under h at kept (λ desk. T desk (desk.asked (speech.user d) ask))) old kept' e new
-      by_way (inl (answers, t)) = by_cause (due_or_starved why (live (store_of kept) kept.next at (speech.user d) ask) refusal) t
+      by_way (inl (answers, t)) = by_cause (due_or_starved why (live (store_of kept) kept.next at (speech.user d) ask kept.deep) refusal) t
       by_way (inr (inl t)) = (Unheard, subst (λ (k : Kept). Takes S (ends {D = D} [] k) old kept' e new) same (whole (ends {D = D} [] kept') t))
       by_way (inr (inr t)) = (Unstored, refused (without_items kept (service at kept)) NoMemory t.1)
 
@@ -457,7 +457,7 @@ module _ {D : Type 0} (speech : Speech D) where
   further_turn : (S S' : List JournalRecord → Reads → Type 0) (at : ℕ) (kept kept' left : Kept) (ask asked : Ask) (d e f : D) (item : Item) (old old' new : Reply)
       → ((failed : List JournalRecord) (r : Reads) → S failed r → S' failed r)
       → old' ≡ record old { gone = old.gone ++ gone_between kept kept' }
-      → submitted_as kept (live (store_of kept) kept.next at (speech.user d) ask) ≡ record { outcome = Ok item; kept = kept' }
+      → submitted_as kept (live (store_of kept) kept.next at (speech.user d) ask kept.deep) ≡ record { outcome = Ok item; kept = kept' }
       → speech.settle (store_of kept') kept'.stamps d (Ok item) ≡ took (Submit asked) e
       → (h : Hindrance) × Takes S (under h at kept' (λ later. done speech kept' e (later.asked (speech.user e) asked))) old' left f new
       → (h : Hindrance) × Takes S' (under h at kept (λ desk. pursued speech desk kept d (desk.asked (speech.user d) ask))) old left f new
@@ -482,7 +482,7 @@ module _ {D : Type 0} (speech : Speech D) where
       absurd (true≢false (sym (speech.answers_fault (store_of kept') kept'.stamps d fault due) ∙ ap (λ (t : Took D). is_answer t.out) settles))
   asked_further S T S' at kept kept' left by ask asked d e f (Ok item) old old' new same due then is (does, seals) settles turn =
       further_turn T S' at kept kept' left ask asked d e f item old old' new (then seals) is
-      (subst (λ (u : Option User). submitted_as kept (live (store_of kept) kept.next at u ask) ≡ record { outcome = Ok item; kept = kept' }) same does) settles turn
+      (subst (λ (u : Option User). submitted_as kept (live (store_of kept) kept.next at u ask kept.deep) ≡ record { outcome = Ok item; kept = kept' }) same does) settles turn
 
   -- what was done before a further ask is sealed
   pub sealed_before : (S : List JournalRecord → Reads → Type 0) (at : ℕ) (kept kept' : Kept) (by : Option User) (ask asked : Ask) (d e : D) (outcome : Result Item SubmitFault) → speech.is_due d ≡ true

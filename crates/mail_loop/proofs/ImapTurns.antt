@@ -1,5 +1,5 @@
 -- Turns of a mail reader: a command as it stands in the stream, and what is none.
-use Rattle.std.proofs.Common.{◌≡◌, ℕ, List, [], ◌++◌, false, Option, Result, Ok, Err, IfOk, refl, ap, subst, sym, ◌∙◌, inl, inr}
+use Rattle.std.proofs.Common.{◌≡◌, ℕ, List, [], ◌++◌, Bool, false, Option, Result, Ok, Err, IfOk, refl, ap, subst, sym, ◌∙◌, inl, inr}
 use Rattle.undo_base.specs.declared.memory.NoMemory.{NoMemory as WantOfMemory}
 use Rattle.verb_core.specs.declared.conf.House.{House}
 use Rattle.verb_core.specs.declared.mailbox.Body.{Body}
@@ -48,7 +48,7 @@ answered_turn said (Err w) kept d d' old new f h same clear lost e =
     (Unheard, subst (λ (t : Turn Dialog). Takes IsNone t old kept d' new) (sym lost) (closed kept kept d' old new refl e))
 
 pub command_turn : (S : List JournalRecord → Reads → Type 0) (at : ℕ) (kept kept' : Kept) (command : ImapCommand) (out : ImapOut) (d e e' : Dialog) (old new : Reply)
-    → session.turn kept.house (store_of kept) (size_in kept) d command ≡ session.took out e
+    → session.turn kept.house (store_of kept) (size_in kept) kept.deep d command ≡ session.took out e
     → (h : Hindrance) × Takes S (under h at kept (λ desk. followed imap_speech desk kept (of_imap out) e)) old kept' e' new
     → (h : Hindrance) × Takes S (obeyed_under h at kept d (Ok command)) old kept' e' new
 command_turn S at kept kept' command out d e e' old new is (h, t) =
@@ -77,8 +77,8 @@ pub whatever_others : (S : List JournalRecord → Reads → Type 0) (at : ℕ) (
 whatever_others S at kept kept' next d d' old new (h, t) = (h, λ others. t)
 
 -- what the session was given is what the machine gives the dialog
-pub command_is : (kept : Kept) (house : House) (store : MailStore) (sizes : Body → Option ℕ) (d e : Dialog) (command : ImapCommand) (out : ImapOut)
-    → house ≡ kept.house → store ≡ store_of kept → ((body : Body) → sizes body ≡ size_in kept body)
-    → session.turn house store sizes d command ≡ session.took out e
-    → session.turn kept.house (store_of kept) (size_in kept) d command ≡ session.took out e
-command_is kept house store sizes d e command out h s z is = sym (λ j. session.turn (h j) (s j) (λ body. z body j) d command) ∙ is
+pub command_is : (kept : Kept) (house : House) (store : MailStore) (sizes : Body → Option ℕ) (deep : Bool) (d e : Dialog) (command : ImapCommand) (out : ImapOut)
+    → house ≡ kept.house → store ≡ store_of kept → ((body : Body) → sizes body ≡ size_in kept body) → deep ≡ kept.deep
+    → session.turn house store sizes deep d command ≡ session.took out e
+    → session.turn kept.house (store_of kept) (size_in kept) kept.deep d command ≡ session.took out e
+command_is kept house store sizes deep d e command out h s z p is = sym (λ j. session.turn (h j) (s j) (λ body. z body j) (p j) d command) ∙ is

@@ -5,7 +5,7 @@ use Rattle.std.proofs.lemmas.Bool.{ltb-false}
 use Rattle.std.proofs.lemmas.List.Sums.{prefix_len-le-length}
 use Rattle.mail_loop.specs.declared.letters.Letter.{Letter}
 use Rattle.mail_loop.specs.declared.aftermath.Aftermath.{Aftermath}
-use Rattle.mail_loop.specs.declared.aftermath.Aftermath.TheVariants.{Quiet, TookAway, Rewound}
+use Rattle.mail_loop.specs.declared.aftermath.Aftermath.TheVariants.{Quiet, TookAway, Rewound, Upgraded}
 use Rattle.mail_loop.specs.Afterwards.{is_quiet}
 use Rattle.mail_loop.specs.State.{Seats}
 use Rattle.mail_loop.specs.Machine.{Reply, parting, told_others, with_reply}
@@ -29,6 +29,7 @@ pub quiet_is : (a : Aftermath) → is_quiet a ≡ true → a ≡ Quiet
 quiet_is Quiet is = refl
 quiet_is (TookAway boxes) wrong = absurd (let w : false ≡ true = wrong in cc)
 quiet_is Rewound wrong = absurd (let w : false ≡ true = wrong in cc)
+quiet_is Upgraded wrong = absurd (let w : false ≡ true = wrong in cc)
 
 -- where nothing follows no other connection is told
 pub none_told : (conn : ℕ) (seats : Seats) → told_others conn Quiet seats ≡ []

@@ -2,7 +2,7 @@
 use Rattle.std.proofs.Common.{◌≡◌, ◌⊎◌, inl, inr, Result, Err, refl}
 use Rattle.verb_core.specs.declared.item.Item.{Item}
 use Rattle.verb_core.specs.declared.ask.Refused.{Refused}
-use Rattle.verb_core.specs.declared.ask.Refused.TheVariants.{NoBox, Exists, Fixed, NameShape, TryCreate, Gone, TooMany, TooLarge, BoxesFull, UidWide, Numbers, NoMemory}
+use Rattle.verb_core.specs.declared.ask.Refused.TheVariants.{NoBox, Exists, HasInferiors, Fixed, NameShape, TryCreate, Gone, TooMany, TooLarge, BoxesFull, UidWide, Numbers, NoMemory}
 use Rattle.box_store.specs.Refusing.{IsRefusal}
 
 -- the refusal that is due, or want of memory
@@ -10,6 +10,7 @@ pub due_or_starved : (why : Refused) (due : Result Item Refused) → IsRefusal w
 due_or_starved NoMemory due is = inl refl
 due_or_starved NoBox due is = inr is
 due_or_starved Exists due is = inr is
+due_or_starved HasInferiors due is = inr is
 due_or_starved Fixed due is = inr is
 due_or_starved NameShape due is = inr is
 due_or_starved TryCreate due is = inr is

@@ -203,7 +203,7 @@ pub did_submit : {D : Type 0} → (told : D → DiskTold) (at : ℕ) (by : Optio
     → IfOk result (λ item. submitted old.kept at by ask ≡ record { outcome = Ok item; kept = new.kept })
     → IfOk result (λ item. Seals told (Verb item ∷ []) [] old new)
     → OnErr result (new.kept ≡ old.kept)
-    → IfErr result (λ fault. SubmitsNone told (live (store_of old.kept) old.kept.next at by ask) old new fault)
+    → IfErr result (λ fault. SubmitsNone told (live (store_of old.kept) old.kept.next at by ask old.kept.deep) old new fault)
     → Submits (HaveSealed told old new) at old.kept by ask new.kept result
 did_submit told at by ask old new (Ok item) open' well ok seals err why = (ok, sealed_of told (Verb item ∷ []) [] old new well seals)
 did_submit told at by ask old new (Err (IsRefused r)) open' well ok seals err why = (why.1, err, sealed_of told [] [] old new well why.2)

@@ -1,17 +1,18 @@
 -- The mailboxes that are gone between two stores, and which an ask takes away.
-use Rattle.std.proofs.Common.{◌≡◌, ◌↔◌, ℕ, arith, length, take, ◌++◌, append-nil, is_err, IsSome, IsTrue, Bool, true, false, true≢false, cond, not, ◌||◌, ◌&&◌, filter, map, bytes_eq, List, [], ◌∷◌, Option, None, Some, is_some, Result, Ok, Err, refl, ap, sym, ◌∙◌}
+use Rattle.std.proofs.Common.{◌≡◌, ◌↔◌, ℕ, arith, length, take, ◌++◌, append-nil, is_err, IsSome, IsTrue, Bool, true, false, true≢false, cond, not, ◌||◌, ◌&&◌, filter, map, bytes_eq, List, [], ◌∷◌, Option, None, Some, is_some, Result, Ok, Err, inl, inr, ◌⊎◌, refl, ap, sym, ◌∙◌}
 use Rattle.std.proofs.lemmas.List.{take-append-le, take_all}
 use Rattle.std.specs.Ordering.{eq_by_cmp, is_eq, is_lt}
 use Rattle.std.specs.declared.cmp.Ordering.{Ordering}
 use Rattle.std.specs.declared.cmp.Ordering.TheVariants.{Less, Equal, Greater}
 use Rattle.std.specs.FinMap.Entries as rows
-use Rattle.std.specs.List.{cons_option}
+use Rattle.std.specs.Cmp.{second_so}
+use Rattle.std.specs.List.{list_all, list_any}
 use Rattle.undo_base.specs.declared.keys.Key.{Key}
 use Rattle.undo_base.specs.declared.keys.User.{User}
 use Rattle.verb_core.specs.declared.ask.Ask.{Ask}
 use Rattle.verb_core.specs.declared.ask.Ask.TheVariants.{Deliver, Append, Fetch, Store, Copy, List as Names, Status, Select, Expunge, Close, Create, Rename, Delete}
 use Rattle.verb_core.specs.declared.ask.Refused.{Refused}
-use Rattle.verb_core.specs.declared.ask.Refused.TheVariants.{NameShape, Fixed, NoBox, TryCreate, Exists}
+use Rattle.verb_core.specs.declared.ask.Refused.TheVariants.{NameShape, Fixed, NoBox, HasInferiors, TryCreate, Exists}
 use Rattle.verb_core.specs.declared.ask.SubmitFault.{SubmitFault}
 use Rattle.verb_core.specs.declared.ask.SubmitFault.TheVariants.{Refused as IsRefused, Disk, Closed}
 use Rattle.verb_core.specs.declared.item.Deed.TheVariants as deed
@@ -19,16 +20,19 @@ use Rattle.verb_core.specs.declared.item.Item.{Item}
 use Rattle.verb_core.specs.declared.mailbox.BoxId.{BoxId}
 use Rattle.verb_core.specs.declared.mailbox.Mailbox.{Mailbox}
 use Rattle.verb_core.specs.Aims.{sought_by}
-use Rattle.verb_core.specs.Boxes.{add_row, box_cmp, box_of, change_row, drop_row, has_row, is_rising, row_at}
+use Rattle.verb_core.specs.Boxes.{add_row, box_cmp, box_of, change_row, drop_row, has_inferior, has_row, has_superiors, is_at_or_below, mail_at, row_at}
 use Rattle.verb_core.specs.Items.{actor}
-use Rattle.verb_core.specs.Live.{answered, asked_item, asks_fixed, deed_of, first_of, if_so, is_misshapen, is_missing, is_there, is_users, live, named, new_names, or_item, refusal, targets}
+use Rattle.verb_core.specs.Live.{answered, asked_item, asks_fixed, deed_of, first_of, if_so, deletes_superior, is_misshapen, is_missing, is_there, is_users, live, misplaces, named, new_names, or_item, refusal, targets}
 use Rattle.verb_core.specs.Mailboxes.{emptied, no_mail, put_all}
-use Rattle.verb_core.specs.Names.{inbox, is_fixed, lost_found}
-use Rattle.verb_core.specs.Step.{Boxes, after_rename, deleted, left, new_mail, rearranged, renamed, saved, step}
+use Rattle.verb_core.specs.Names.{inbox, is_empty, is_fixed, is_new_name, lost_found, superiors, with_superiors}
+use Rattle.verb_core.specs.Step.{Boxes, after_rename, all_created, created_below, deleted, inbox_renamed, is_below_itself, is_in_vain, is_overlong, left, moved, new_mail, rearranged, renamed, saved, step}
 use Rattle.verb_core.specs.declared.item.Way.TheVariants.{Plain, NoSource, Merged}
-use Rattle.verb_core.specs.Store.{MailStore}
+use Rattle.verb_core.specs.Store.{IsValid, MailStore}
+use Rattle.verb_core.specs.Touched.{is_one}
 use Rattle.verb_core.proofs.BoxLaws.{itself, row_at-add_row, row_at-drop_row, tied}
-use Rattle.verb_core.proofs.Validity.{has_row-change_row, has_row-put_at}
+use Rattle.verb_core.proofs.MoveLaws.{moved_free}
+use Rattle.verb_core.proofs.Moves.{has_row-change_row, has_row-put_at, moved_box, remains, was}
+use Rattle.verb_core.proofs.RowLists.{has_row-all_created}
 use Rattle.std.proofs.lemmas.Slice.Eq.{bytes_eq-Decides}
 use Rattle.mail_desk.specs.Desk.{Submitted, submitted, submitted_as}
 use Rattle.mail_desk.proofs.Readied.{asked_is}
@@ -36,7 +40,7 @@ use Rattle.verb_bytes.specs.declared.journal.JournalRecord.{JournalRecord}
 use Rattle.store_kept.specs.Kept.{Kept, performed, store_of}
 use Rattle.desk_journal.specs.Reading.{Reads}
 use Rattle.mail_loop.specs.Afterwards.{gone_between, taken_away}
-use Rattle.mail_loop.specs.Took.{Submits, taken_by}
+use Rattle.mail_loop.specs.Took.{Submits, all_boxes, taken_by}
 
 -- ---- between two stores
 
@@ -54,6 +58,13 @@ none_taken ss [] there = refl
 none_taken ss (r ∷ rs) there =
     ap (λ (b : Bool). cond (not b) (r.0 ∷ taken_away rs ss) (taken_away rs ss)) (there r.0 (here r rs))
     ∙ none_taken ss rs (λ id has. there id (still r rs id has))
+
+-- where a test tells which of the rows the other store lacks, those are taken away that meet it
+taken_where : (ss : Boxes) (test : BoxId → Bool) (rs : Boxes) → ((id : BoxId) → has_row id rs ≡ true → not (has_row id ss) ≡ test id) → taken_away rs ss ≡ filter test (map (λ (r : BoxId × Mailbox). r.0) rs)
+taken_where ss test [] is = refl
+taken_where ss test (r ∷ rs) is =
+    ap (λ (b : Bool). cond b (r.0 ∷ taken_away rs ss) (taken_away rs ss)) (is r.0 (here r rs))
+    ∙ ap (λ (ids : List BoxId). cond (test r.0) (r.0 ∷ ids) ids) (taken_where ss test rs (λ id has. is id (still r rs id has)))
 
 -- no mailbox is gone between a store and itself
 pub none_gone_of : (kept : Kept) → gone_between kept kept ≡ []
@@ -120,16 +131,26 @@ kept_added q id m rs h = ap is_some (row_at-add_row q id m rs) ∙ elim (eq_by_c
 kept_dropped : (q id : BoxId) (rs : Boxes) → has_row q rs ≡ true → has_row q (drop_row id rs) ≡ not (eq_by_cmp box_cmp id q)
 kept_dropped q id rs h = ap is_some (row_at-drop_row q id rs) ∙ elim (eq_by_cmp box_cmp id q) as (λ b. is_some (cond b None (row_at q rs)) ≡ not b) [ true ↦ refl | false ↦ h ]
 
--- another row than the one that is added is there where it was
-other_added : (q id : BoxId) (m : Mailbox) (rs : Boxes) → eq_by_cmp box_cmp q id ≡ false → has_row q (add_row id m rs) ≡ has_row q rs
-other_added q id m rs apart = ap is_some (row_at-add_row q id m rs) ∙ ap (λ (b : Bool). is_some (cond b (Some m) (row_at q rs))) apart
+or_left : (a b : Bool) → (a || b) ≡ false → a ≡ false
+or_left true b wrong = absurd (true≢false wrong)
+or_left false b h = refl
+
+or_right : (a b : Bool) → (a || b) ≡ false → b ≡ false
+or_right true b wrong = absurd (true≢false wrong)
+or_right false b h = h
+
+nor : (a b : Bool) → a ≡ false → b ≡ false → (a || b) ≡ false
+nor true b x y = x
+nor false b x y = y
 
 -- ---- an ask that is done
 
 -- what did not refuse it
 record Passes (s : MailStore) (by : Option User) (ask : Ask) : Type 0 where
+  placed : misplaces s by ask ≡ false
   fixed : asks_fixed ask ≡ false
   there : is_missing s by (named ask) ≡ false
+  inferior : deletes_superior s by ask ≡ false
   free : is_there s by (new_names ask) ≡ false
 
 head_none : (b : Bool) (r : Refused) (rest : List (Option Refused)) → first_of (if_so b r ∷ rest) ≡ None → (b ≡ false) × (first_of rest ≡ None)
@@ -140,15 +161,16 @@ none_refused : (o : Option Refused) (i item : Item) → or_item o i ≡ Ok item 
 none_refused None i item is = refl
 none_refused (Some r) i item wrong = absurd (let w : ◌≡◌ {A = Result Item Refused} (Err r) (Ok item) = wrong in cc)
 
-passes : (s : MailStore) (number at : ℕ) (by : Option User) (ask : Ask) (item : Item) → live s number at by ask ≡ Ok item → Passes s by ask
-passes s number at by ask item is =
-    let none = none_refused (refusal s number at by ask) (answered s (asked_item s number at by ask)) item is in
-    let a = head_none (is_misshapen ask) NameShape _ none in
+passes : (s : MailStore) (number at : ℕ) (by : Option User) (ask : Ask) (deep : Bool) (item : Item) → live s number at by ask deep ≡ Ok item → Passes s by ask
+passes s number at by ask deep item is =
+    let none = none_refused (refusal s number at by ask deep) (answered s (asked_item s number at by ask)) item is in
+    let a = head_none (is_misshapen s by ask deep) NameShape _ none in
     let b = head_none (asks_fixed ask) Fixed _ a.1 in
     let c = head_none (is_missing s by (named ask)) NoBox _ b.1 in
-    let d = head_none (is_missing s by (targets ask)) TryCreate _ c.1 in
+    let superior = head_none (deletes_superior s by ask) HasInferiors _ c.1 in
+    let d = head_none (is_missing s by (targets ask)) TryCreate _ superior.1 in
     let e = head_none (is_there s by (new_names ask)) Exists _ d.1 in
-    record { fixed = b.0; there = c.0; free = e.0 }
+    record { placed = or_right (list_any (λ name. not (is_new_name deep name)) (new_names ask)) (misplaces s by ask) a.0; fixed = b.0; there = c.0; inferior = superior.0; free = e.0 }
 
 one_there : (b : Bool) → (not b || false) ≡ false → b ≡ true
 one_there true h = refl
@@ -158,15 +180,7 @@ one_free : (b : Bool) → (b || false) ≡ false → b ≡ false
 one_free true wrong = absurd (true≢false wrong)
 one_free false h = refl
 
-or_left : (a b : Bool) → (a || b) ≡ false → a ≡ false
-or_left true b wrong = absurd (true≢false wrong)
-or_left false b h = refl
-
-or_right : (a b : Bool) → (a || b) ≡ false → b ≡ false
-or_right true b wrong = absurd (true≢false wrong)
-or_right false b h = h
-
-module _ (s : MailStore) (u : User) (sorted : rows.is_sorted box_cmp s.boxes ≡ true) where
+module _ (s : MailStore) (u : User) (sorted : rows.is_sorted box_cmp s.boxes ≡ true) (whole : list_all (has_superiors s.boxes) s.boxes ≡ true) where
   abbrev rs : Boxes
   rs = s.boxes
 
@@ -177,56 +191,93 @@ module _ (s : MailStore) (u : User) (sorted : rows.is_sorted box_cmp s.boxes ≡
   changes : (id : BoxId) (f : Mailbox → Mailbox) → taken_away rs (change_row id f rs) ≡ []
   changes id f = none_by (change_row id f rs) (λ q h. has_row-change_row q id f rs ∙ h)
 
-  -- a new mailbox takes no other away
-  creates : (name : List ℕ) → taken_away rs (cond (has_row (box_of u name) rs) rs (add_row (box_of u name) no_mail rs)) ≡ []
-  creates name = elim (has_row (box_of u name) rs) as (λ b. taken_away rs (cond b rs (add_row (box_of u name) no_mail rs)) ≡ []) [
+  -- mailboxes that are made take no other away
+  kept_created : (names : List (List ℕ)) (q : BoxId) → has_row q rs ≡ true → has_row q (all_created u names rs) ≡ true
+  kept_created names q h = has_row-all_created u q names rs ∙ ap (λ (b : Bool). b || is_one (map (box_of u) names) q) h
+
+  creates : (name : List ℕ) → taken_away rs (created_below u name rs) ≡ []
+  creates name = elim (has_row (box_of u name) rs) as (λ b. taken_away rs (cond b rs (all_created u (with_superiors name) rs)) ≡ []) [
     | true ↦ none_by rs (λ q h. h)
-    | false ↦ none_by (add_row (box_of u name) no_mail rs) (λ q h. kept_added q (box_of u name) no_mail rs h)
+    | false ↦ none_by (all_created u (with_superiors name) rs) (kept_created (with_superiors name))
   ]
 
-  -- the way of a RENAME that is done
-  goes_plain : (source target : List ℕ) → (bytes_eq source lost_found || is_fixed target) ≡ false → has_row (box_of u source) rs ≡ true → has_row (box_of u target) rs ≡ false
-      → rearranged u (deed.Rename source target) rs ≡ add_row (box_of u target) (renamed u source rs) (left u source rs)
-  goes_plain source target fixed there free =
-      by_tests (bytes_eq source lost_found) (is_fixed target) (bytes_eq source target) (has_row (box_of u source) rs) (has_row (box_of u target) rs) refl refl refl refl refl
-    where
-      by_tests : (a b c d e : Bool) → bytes_eq source lost_found ≡ a → is_fixed target ≡ b → bytes_eq source target ≡ c → has_row (box_of u source) rs ≡ d → has_row (box_of u target) rs ≡ e
-          → after_rename (cond (a || b || c || not d) NoSource (cond e Merged Plain)) u source target rs ≡ add_row (box_of u target) (renamed u source rs) (left u source rs)
-      by_tests true b c d e one two three four five = absurd (true≢false (sym one ∙ or_left (bytes_eq source lost_found) (is_fixed target) fixed))
-      by_tests false true c d e one two three four five = absurd (true≢false (sym two ∙ or_right (bytes_eq source lost_found) (is_fixed target) fixed))
-      by_tests false false true d e one two three four five =
-          absurd (true≢false (sym there ∙ ap (λ (n : List ℕ). has_row (box_of u n) rs) ((bytes_eq-Decides source target).0 three) ∙ free))
-      by_tests false false false false e one two three four five = absurd (true≢false (sym there ∙ four))
-      by_tests false false false true true one two three four five = absurd (true≢false (sym five ∙ free))
-      by_tests false false false true false one two three four five = refl
+  module _ (source target : List ℕ) where
+    abbrev made : Boxes
+    made = all_created u (superiors target) rs
 
-  -- a RENAME takes its source away, but INBOX
-  renames : (source target : List ℕ) → (bytes_eq source lost_found || is_fixed target) ≡ false → has_row (box_of u source) rs ≡ true → has_row (box_of u target) rs ≡ false
-      → taken_away rs (rearranged u (deed.Rename source target) rs) ≡ map (box_of u) (cons_option (cond (bytes_eq source inbox) None (Some source)) [])
-  renames source target fixed there free =
-      ap (taken_away rs) (goes_plain source target fixed there free)
-      ∙ elim (bytes_eq source inbox) as (λ b. taken_away rs (add_row (box_of u target) (renamed u source rs) (cond b (change_row (box_of u source) emptied rs) (drop_row (box_of u source) rs)))
-      ≡ map (box_of u) (cons_option (cond b None (Some source)) [])) [
-        | true ↦ none_by (add_row (box_of u target) (renamed u source rs) (change_row (box_of u source) emptied rs))
-            (λ q h. kept_added q (box_of u target) (renamed u source rs) (change_row (box_of u source) emptied rs) (has_row-change_row q (box_of u source) emptied rs ∙ h))
-        | false ↦ only_it (box_of u source) (add_row (box_of u target) (renamed u source rs) (drop_row (box_of u source) rs)) rs sorted there
-            (λ q h. other_added q (box_of u target) (renamed u source rs) (drop_row (box_of u source) rs) (no_target q (eq_by_cmp box_cmp q (box_of u target)) refl h) ∙ kept_dropped q (box_of u source) rs h)
-      ]
-    where
-      no_target : (q : BoxId) (b : Bool) → eq_by_cmp box_cmp q (box_of u target) ≡ b → has_row q rs ≡ true → b ≡ false
-      no_target q true e has = absurd (true≢false (sym has ∙ ap (λ (x : BoxId). has_row x rs) (tied q (box_of u target) e) ∙ free))
-      no_target q false e has = refl
+    -- a RENAME to an empty name does nothing
+    goes_nowhere : is_empty target ≡ true → rearranged u (deed.Rename source target) rs ≡ rs
+    goes_nowhere e = ap (λ (b : Bool). after_rename (cond (b || bytes_eq source lost_found || is_fixed target || bytes_eq source target || is_below_itself source target || is_overlong u source target rs || not (has_row (box_of u source) rs)) NoSource (cond (has_row (box_of u target) rs) Merged Plain)) u source target rs) e
 
-  -- a DELETE takes its mailbox away
-  deletes : (name : List ℕ) (keys : List Key) → is_fixed name ≡ false → has_row (box_of u name) rs ≡ true → taken_away rs (deleted u name keys rs) ≡ box_of u name ∷ []
-  deletes name keys fixed there =
+    -- the way of another that is done
+    goes_plain : is_empty target ≡ false → (bytes_eq source lost_found || is_fixed target) ≡ false → (is_below_itself source target || is_overlong u source target rs) ≡ false
+        → has_row (box_of u source) rs ≡ true → has_row (box_of u target) rs ≡ false → rearranged u (deed.Rename source target) rs ≡ renamed u source target made
+    goes_plain some fixed placed there free =
+        ap (λ (b : Bool). after_rename (cond (b || not (has_row (box_of u source) rs)) NoSource (cond (has_row (box_of u target) rs) Merged Plain)) u source target rs) not_vain
+        ∙ ap (λ (b : Bool). after_rename (cond (not b) NoSource (cond (has_row (box_of u target) rs) Merged Plain)) u source target rs) there
+        ∙ ap (λ (b : Bool). after_rename (cond b Merged Plain) u source target rs) free
+      where
+        apart : (b : Bool) → bytes_eq source target ≡ b → b ≡ false
+        apart true e = absurd (true≢false (sym there ∙ ap (λ (n : List ℕ). has_row (box_of u n) rs) ((bytes_eq-Decides source target).0 e) ∙ free))
+        apart false e = refl
+
+        not_vain : is_in_vain u source target rs ≡ false
+        not_vain =
+            let one = nor (is_empty target) (bytes_eq source lost_found) some (or_left (bytes_eq source lost_found) (is_fixed target) fixed) in
+            let two = nor (is_empty target || bytes_eq source lost_found) (is_fixed target) one (or_right (bytes_eq source lost_found) (is_fixed target) fixed) in
+            let three = nor (is_empty target || bytes_eq source lost_found || is_fixed target) (bytes_eq source target) two (apart (bytes_eq source target) refl) in
+            let four = nor (is_empty target || bytes_eq source lost_found || is_fixed target || bytes_eq source target) (is_below_itself source target) three (or_left (is_below_itself source target) (is_overlong u source target rs) placed) in
+            nor (is_empty target || bytes_eq source lost_found || is_fixed target || bytes_eq source target || is_below_itself source target) (is_overlong u source target rs) four (or_right (is_below_itself source target) (is_overlong u source target rs) placed)
+
+    -- INBOX is there again
+    renames_inbox : taken_away rs (inbox_renamed u target made) ≡ []
+    renames_inbox = none_by (inbox_renamed u target made) (λ q h.
+        kept_added q (box_of u target) (put_all (mail_at (box_of u inbox) made) no_mail) (left u inbox made) (has_row-change_row q (box_of u inbox) emptied made ∙ kept_created (superiors target) q h))
+
+    -- of the mailboxes that were there those at and below the source are gone
+    gone_moved : is_empty target ≡ false → has_row (box_of u target) rs ≡ false → (q : BoxId) → has_row q rs ≡ true → not (has_row q (moved u source target made)) ≡ is_at_or_below u source q
+    gone_moved some free q h =
+        elim (is_at_or_below u source q) as (λ b. is_at_or_below u source q ≡ b → not (has_row q (moved u source target made)) ≡ b) [
+          | true ↦ λ at. elim (has_row q (moved u source target made)) as (λ b. has_row q (moved u source target made) ≡ b → not b ≡ true) [
+            | true ↦ λ e. absurd (never at (was u source target made q e))
+            | false ↦ λ e. refl
+          ] refl
+          | false ↦ λ off. ap not (remains u source target made q off (kept_created (superiors target) q h))
+        ] refl
+      where
+        never : is_at_or_below u source q ≡ true → ((p : BoxId) × (has_row p made ≡ true) × (is_at_or_below u source p ≡ true) × (q ≡ moved_box u source target p)) ⊎ ((has_row q made ≡ true) × (is_at_or_below u source q ≡ false)) → ⊥
+        never at (inl (p, there, below, is)) = true≢false (sym (kept_created (superiors target) q h) ∙ ap (λ (x : BoxId). has_row x made) is ∙ ap is_some (moved_free u source target rs whole some free p.name (second_so _ _ below)))
+        never at (inr (there, off)) = true≢false (sym at ∙ off)
+
+    -- a RENAME takes its source and the inferiors away, but INBOX
+    renames : (bytes_eq source lost_found || is_fixed target) ≡ false → (is_below_itself source target || is_overlong u source target rs) ≡ false → has_row (box_of u source) rs ≡ true → has_row (box_of u target) rs ≡ false
+        → taken_away rs (rearranged u (deed.Rename source target) rs) ≡ cond (bytes_eq source inbox || is_empty target) [] (filter (is_at_or_below u source) (map (λ (r : BoxId × Mailbox). r.0) rs))
+    renames fixed placed there free =
+        elim (is_empty target) as (λ e. is_empty target ≡ e → taken_away rs (rearranged u (deed.Rename source target) rs) ≡ cond (bytes_eq source inbox || e) [] (filter (is_at_or_below u source) (map (λ (r : BoxId × Mailbox). r.0) rs))) [
+          | true ↦ λ e. ap (taken_away rs) (goes_nowhere e) ∙ none_by rs (λ q h. h) ∙ nothing (bytes_eq source inbox)
+          | false ↦ λ e. ap (taken_away rs) (goes_plain e fixed placed there free)
+              ∙ elim (bytes_eq source inbox) as (λ b. taken_away rs (cond b (inbox_renamed u target made) (moved u source target made)) ≡ cond (b || false) [] (filter (is_at_or_below u source) (map (λ (r : BoxId × Mailbox). r.0) rs))) [
+                | true ↦ renames_inbox
+                | false ↦ taken_where (moved u source target made) (is_at_or_below u source) rs (gone_moved e free)
+              ]
+        ] refl
+      where
+        nothing : (b : Bool) → [] ≡ cond {A = List BoxId} (b || true) [] (filter (is_at_or_below u source) (map (λ (r : BoxId × Mailbox). r.0) rs))
+        nothing true = refl
+        nothing false = refl
+
+  -- a DELETE takes its mailbox away: one that has an inferior is not deleted
+  deletes : (name : List ℕ) (keys : List Key) → is_fixed name ≡ false → has_inferior u name rs ≡ false → has_row (box_of u name) rs ≡ true → taken_away rs (deleted u name keys rs) ≡ box_of u name ∷ []
+  deletes name keys fixed none there =
       let ss : Boxes = change_row (box_of u lost_found) (put_all (saved u name keys rs)) (drop_row (box_of u name) rs) in
-      ap (λ (b : Bool). taken_away rs (cond b rs ss)) fixed
+      ap (λ (b : Bool). taken_away rs (cond b rs (change_row (box_of u lost_found) (put_all (saved u name keys rs)) (left u name rs)))) fixed
+      ∙ ap (λ (b : Bool). taken_away rs (change_row (box_of u lost_found) (put_all (saved u name keys rs)) (cond b (change_row (box_of u name) emptied rs) (drop_row (box_of u name) rs))))
+      (nor (bytes_eq name inbox) (has_inferior u name rs) (or_left (bytes_eq name inbox) (bytes_eq name lost_found) fixed) none)
       ∙ only_it (box_of u name) ss rs sorted there
       (λ q h. has_row-change_row q (box_of u lost_found) (put_all (saved u name keys rs)) (drop_row (box_of u name) rs) ∙ kept_dropped q (box_of u name) rs h)
 
   -- a user's ask
-  by_user : (at : ℕ) (ask : Ask) → is_users ask ≡ true → Passes s (Some u) ask → taken_away rs (rearranged (actor (Some u) (deed_of s (Some u) at ask)) (deed_of s (Some u) at ask) rs) ≡ taken_by (Some u) ask
+  by_user : (at : ℕ) (ask : Ask) → is_users ask ≡ true → Passes s (Some u) ask → taken_away rs (rearranged (actor (Some u) (deed_of s (Some u) at ask)) (deed_of s (Some u) at ask) rs) ≡ taken_by (Some u) ask (map (λ (r : BoxId × Mailbox). r.0) rs)
   by_user at (Deliver from to text) wrong p = absurd (true≢false (sym wrong))
   by_user at (Append mailbox flags moment text) is p = none_by rs (λ q h. h)
   by_user at (Fetch mailbox keys sets_seen shows_body strict asked) is p =
@@ -239,8 +290,8 @@ module _ (s : MailStore) (u : User) (sorted : rows.is_sorted box_cmp s.boxes ≡
   by_user at (Expunge mailbox only) is p = changes (box_of u mailbox) _
   by_user at (Close mailbox removes) is p = changes (box_of u mailbox) _
   by_user at (Create mailbox) is p = creates mailbox
-  by_user at (Rename mailbox target) is p = renames mailbox target p.fixed (one_there (has_row (box_of u mailbox) rs) p.there) (one_free (has_row (box_of u target) rs) p.free)
-  by_user at (Delete mailbox) is p = deletes mailbox _ p.fixed (one_there (has_row (box_of u mailbox) rs) p.there)
+  by_user at (Rename mailbox target) is p = renames mailbox target p.fixed p.placed (one_there (has_row (box_of u mailbox) rs) p.there) (one_free (has_row (box_of u target) rs) p.free)
+  by_user at (Delete mailbox) is p = deletes mailbox _ p.fixed p.inferior (one_there (has_row (box_of u mailbox) rs) p.there)
 
 -- an ask of nobody takes none away
 by_nobody : (s : MailStore) (at : ℕ) (ask : Ask) → is_users ask ≡ false → taken_away s.boxes (rearranged (actor None (deed_of s None at ask)) (deed_of s None at ask) s.boxes) ≡ []
@@ -258,34 +309,34 @@ by_nobody s at (Create mailbox) wrong = absurd (true≢false wrong)
 by_nobody s at (Rename mailbox target) wrong = absurd (true≢false wrong)
 by_nobody s at (Delete mailbox) wrong = absurd (true≢false wrong)
 
-by_asker : (s : MailStore) (at : ℕ) (by : Option User) (ask : Ask) → rows.is_sorted box_cmp s.boxes ≡ true → is_users ask ≡ is_some by → Passes s by ask
-    → taken_away s.boxes (rearranged (actor by (deed_of s by at ask)) (deed_of s by at ask) s.boxes) ≡ taken_by by ask
-by_asker s at None ask sorted is p = by_nobody s at ask is
-by_asker s at (Some u) ask sorted is p = by_user s u sorted at ask is p
+by_asker : (s : MailStore) (at : ℕ) (by : Option User) (ask : Ask) → IsValid s → is_users ask ≡ is_some by → Passes s by ask
+    → taken_away s.boxes (rearranged (actor by (deed_of s by at ask)) (deed_of s by at ask) s.boxes) ≡ taken_by by ask (map (λ (r : BoxId × Mailbox). r.0) s.boxes)
+by_asker s at None ask valid is p = by_nobody s at ask is
+by_asker s at (Some u) ask valid is p = by_user s u valid.rising valid.superiors at ask is p
 
 -- what an ask takes away that is done is what the code read from it
-pub taken_is : (s : MailStore) (number at : ℕ) (by : Option User) (ask : Ask) (item : Item) → rows.is_sorted box_cmp s.boxes ≡ true → is_users ask ≡ is_some by → live s number at by ask ≡ Ok item
-    → taken_away s.boxes (step s item).0.boxes ≡ taken_by by ask
-taken_is s number at by ask item sorted is done =
+pub taken_is : (s : MailStore) (number at : ℕ) (by : Option User) (ask : Ask) (deep : Bool) (item : Item) → IsValid s → is_users ask ≡ is_some by → live s number at by ask deep ≡ Ok item
+    → taken_away s.boxes (step s item).0.boxes ≡ taken_by by ask (map (λ (r : BoxId × Mailbox). r.0) s.boxes)
+taken_is s number at by ask deep item valid is done =
     let i = asked_item s number at by ask in
     let mail = λ (index : ℕ). new_mail (actor i.by i.deed) i s.boxes index i.deed in
-    ap (λ (j : Item). taken_away s.boxes (step s j).0.boxes) (asked_is s number at by ask item done).0
+    ap (λ (j : Item). taken_away s.boxes (step s j).0.boxes) (asked_is s number at by ask deep item done).0
     ∙ taken_same s.boxes (step s (answered s i)).0.boxes (rearranged (actor by (deed_of s by at ask)) (deed_of s by at ask) s.boxes)
     (λ q. has_row-put_at q mail (sought_by s i).aims (rearranged (actor by (deed_of s by at ask)) (deed_of s by at ask) s.boxes))
-    ∙ by_asker s at by ask sorted is (passes s number at by ask item done)
+    ∙ by_asker s at by ask valid is (passes s number at by ask deep item done)
 
 -- of what the desk did of an ask
-pub done_takes : (kept kept' : Kept) (at : ℕ) (by : Option User) (ask : Ask) (item : Item) (due : Result Item Refused) → rows.is_sorted box_cmp (store_of kept).boxes ≡ true → is_users ask ≡ is_some by
-    → live (store_of kept) kept.next at by ask ≡ due → submitted_as kept due ≡ record { outcome = Ok item; kept = kept' } → gone_between kept kept' ≡ taken_by by ask
-done_takes kept kept' at by ask item (Ok i) sorted users is did =
-    ap (λ (k : Kept). gone_between kept k) (sym (ap (λ (s : Submitted). s.kept) did)) ∙ taken_is (store_of kept) kept.next at by ask i sorted users is
-done_takes kept kept' at by ask item (Err why) sorted users is wrong =
+pub done_takes : (kept kept' : Kept) (at : ℕ) (by : Option User) (ask : Ask) (item : Item) (due : Result Item Refused) → IsValid (store_of kept) → is_users ask ≡ is_some by
+    → live (store_of kept) kept.next at by ask kept.deep ≡ due → submitted_as kept due ≡ record { outcome = Ok item; kept = kept' } → gone_between kept kept' ≡ taken_by by ask (all_boxes kept)
+done_takes kept kept' at by ask item (Ok i) valid users is did =
+    ap (λ (k : Kept). gone_between kept k) (sym (ap (λ (s : Submitted). s.kept) did)) ∙ taken_is (store_of kept) kept.next at by ask kept.deep i valid users is
+done_takes kept kept' at by ask item (Err why) valid users is wrong =
     absurd (let w : ◌≡◌ {A = Result Item SubmitFault} (Err (IsRefused why)) (Ok item) = ap (λ (s : Submitted). s.outcome) wrong in cc)
 
 -- what was noted of an ask that is done is what is gone then
-pub noted_done : (S : List JournalRecord → Reads → Type 0) (kept kept' : Kept) (at : ℕ) (by : Option User) (ask : Ask) (item : Item) → rows.is_sorted box_cmp (store_of kept).boxes ≡ true → is_users ask ≡ is_some by
-    → Submits S at kept by ask kept' (Ok item) → gone_between kept kept' ≡ taken_by by ask
-noted_done S kept kept' at by ask item sorted users did = done_takes kept kept' at by ask item (live (store_of kept) kept.next at by ask) sorted users refl did.0
+pub noted_done : (S : List JournalRecord → Reads → Type 0) (kept kept' : Kept) (at : ℕ) (by : Option User) (ask : Ask) (item : Item) → IsValid (store_of kept) → is_users ask ≡ is_some by
+    → Submits S at kept by ask kept' (Ok item) → gone_between kept kept' ≡ taken_by by ask (all_boxes kept)
+noted_done S kept kept' at by ask item valid users did = done_takes kept kept' at by ask item (live (store_of kept) kept.next at by ask kept.deep) valid users refl did.0
 
 -- where it is not done none is gone
 pub none_noted : (S : List JournalRecord → Reads → Type 0) (kept kept' : Kept) (at : ℕ) (by : Option User) (ask : Ask) (fault : SubmitFault) → Submits S at kept by ask kept' (Err fault) → gone_between kept kept' ≡ []
@@ -294,21 +345,28 @@ none_noted S kept kept' at by ask Disk did = ap (gone_between kept) did.2 ∙ no
 none_noted S kept kept' at by ask Closed wrong = absurd wrong
 
 -- of an ask that is done by the definition
-pub taken_if_done : (kept : Kept) (at : ℕ) (by : Option User) (ask : Ask) (item : Item) → rows.is_sorted box_cmp (store_of kept).boxes ≡ true → is_users ask ≡ is_some by
-    → live (store_of kept) kept.next at by ask ≡ Ok item → gone_between kept (submitted kept at by ask).kept ≡ taken_by by ask
-taken_if_done kept at by ask item sorted users is =
-    ap (λ (r : Result Item Refused). gone_between kept (submitted_as kept r).kept) is ∙ done_takes kept (performed kept item) at by ask item (Ok item) sorted users is refl
+pub taken_if_done : (kept : Kept) (at : ℕ) (by : Option User) (ask : Ask) (item : Item) → IsValid (store_of kept) → is_users ask ≡ is_some by
+    → live (store_of kept) kept.next at by ask kept.deep ≡ Ok item → gone_between kept (submitted kept at by ask).kept ≡ taken_by by ask (all_boxes kept)
+taken_if_done kept at by ask item valid users is =
+    ap (λ (r : Result Item Refused). gone_between kept (submitted_as kept r).kept) is ∙ done_takes kept (performed kept item) at by ask item (Ok item) valid users is refl
 
 -- and of one that is refused
-pub none_if_refused : (kept : Kept) (at : ℕ) (by : Option User) (ask : Ask) (why : Refused) → live (store_of kept) kept.next at by ask ≡ Err why → gone_between kept (submitted kept at by ask).kept ≡ []
+pub none_if_refused : (kept : Kept) (at : ℕ) (by : Option User) (ask : Ask) (why : Refused) → live (store_of kept) kept.next at by ask kept.deep ≡ Err why → gone_between kept (submitted kept at by ask).kept ≡ []
 none_if_refused kept at by ask why is = ap (λ (r : Result Item Refused). gone_between kept (submitted_as kept r).kept) is ∙ none_gone_of kept
 
 -- ---- what was noted
 
+-- what was there stays, where what was noted behind it is left out
+pub front_stays : (ids more : List BoxId) → take (length ids) (ids ++ more) ≡ ids
+front_stays ids more = take-append-le (length ids) ids more (omega arith) ∙ take_all (length ids) ids (omega arith)
+
+pub all_stay : (ids : List BoxId) → take (length ids) ids ≡ ids
+all_stay ids = take_all (length ids) ids (omega arith)
+
 -- what was noted behind what was there is left out again
 pub noted_none : (ids more noted left : List BoxId) → noted ≡ ids ++ more → left ≡ take (length ids) noted → left ≡ ids
 noted_none ids more noted left is first =
-    first ∙ ap (λ (l : List BoxId). take (length ids) l) is ∙ take-append-le (length ids) ids more (omega arith) ∙ take_all (length ids) ids (omega arith)
+    first ∙ ap (λ (l : List BoxId). take (length ids) l) is ∙ front_stays ids more
 
 -- a user's ask has an asker, and no other
 asks_for : (by : Option User) (asks : Bool) → IsSome by ↔ IsTrue asks → asks ≡ is_some by
@@ -319,17 +377,17 @@ asks_for (Some u) false h = absurd (true≢false (sym (h.0 refl)))
 
 -- it was not done: what was noted of it is left out again
 pub noted_unless_done : (S : List JournalRecord → Reads → Type 0) (kept kept' : Kept) (at : ℕ) (by : Option User) (ask : Ask) (outcome : Result Item SubmitFault) (ids noted left : List BoxId) (count : ℕ)
-    → is_err outcome ≡ true → Submits S at kept by ask kept' outcome → noted ≡ ids ++ taken_by by ask → count ≡ length ids → left ≡ take count noted
+    → is_err outcome ≡ true → Submits S at kept by ask kept' outcome → noted ≡ ids ++ taken_by by ask (all_boxes kept) → count ≡ length ids → left ≡ take count noted
     → left ≡ ids ++ gone_between kept kept'
 noted_unless_done S kept kept' at by ask (Ok item) ids noted left count wrong did is long first = absurd (true≢false (sym wrong))
 noted_unless_done S kept kept' at by ask (Err fault) ids noted left count err did is long first =
-    noted_none ids (taken_by by ask) noted left is (first ∙ ap (λ (n : ℕ). take n noted) long) ∙ sym (append-nil ids)
+    noted_none ids (taken_by by ask (all_boxes kept)) noted left is (first ∙ ap (λ (n : ℕ). take n noted) long) ∙ sym (append-nil ids)
     ∙ ap (λ (l : List BoxId). ids ++ l) (sym (none_noted S kept kept' at by ask fault did))
 
 -- it was done: what was noted of it is gone
 pub noted_where_done : (S : List JournalRecord → Reads → Type 0) (kept kept' : Kept) (at : ℕ) (by : Option User) (ask : Ask) (outcome : Result Item SubmitFault) (ids noted : List BoxId)
-    → is_err outcome ≡ false → IsTrue (is_rising (store_of kept).boxes) → IsSome by ↔ IsTrue (is_users ask) → Submits S at kept by ask kept' outcome → noted ≡ ids ++ taken_by by ask
+    → is_err outcome ≡ false → IsValid (store_of kept) → IsSome by ↔ IsTrue (is_users ask) → Submits S at kept by ask kept' outcome → noted ≡ ids ++ taken_by by ask (all_boxes kept)
     → noted ≡ ids ++ gone_between kept kept'
-noted_where_done S kept kept' at by ask (Ok item) ids noted ok rising users did is =
-    is ∙ ap (λ (l : List BoxId). ids ++ l) (sym (noted_done S kept kept' at by ask item rising (asks_for by (is_users ask) users) did))
-noted_where_done S kept kept' at by ask (Err fault) ids noted wrong rising users did is = absurd (true≢false wrong)
+noted_where_done S kept kept' at by ask (Ok item) ids noted ok valid users did is =
+    is ∙ ap (λ (l : List BoxId). ids ++ l) (sym (noted_done S kept kept' at by ask item valid (asks_for by (is_users ask) users) did))
+noted_where_done S kept kept' at by ask (Err fault) ids noted wrong valid users did is = absurd (true≢false wrong)

@@ -8,7 +8,7 @@ use Rattle.imap_session.specs.Dialog as imap
 use Rattle.imap_session.specs.Words.{changed_text}
 use Rattle.store_kept.specs.Kept.{Kept, store_of}
 use Rattle.mail_loop.specs.declared.aftermath.Aftermath.{Aftermath}
-use Rattle.mail_loop.specs.declared.aftermath.Aftermath.TheVariants.{Quiet, TookAway, Rewound}
+use Rattle.mail_loop.specs.declared.aftermath.Aftermath.TheVariants.{Quiet, TookAway, Rewound, Upgraded}
 use Rattle.mail_loop.specs.State.{Seat, Smtp, Imap, Http, Pop, role_of}
 use Rattle.mail_loop.specs.Roles.{row_of}
 
@@ -31,12 +31,18 @@ both_follow Quiet next = next
 both_follow (TookAway boxes) Quiet = TookAway boxes
 both_follow (TookAway boxes) (TookAway more) = TookAway (boxes ++ more)
 both_follow (TookAway boxes) Rewound = Rewound
+both_follow (TookAway boxes) Upgraded = Upgraded
 both_follow Rewound next = Rewound
+both_follow Upgraded Quiet = Upgraded
+both_follow Upgraded (TookAway boxes) = Upgraded
+both_follow Upgraded Rewound = Rewound
+both_follow Upgraded Upgraded = Upgraded
 
 abbrev pub is_quiet : Aftermath → Bool
 is_quiet Quiet = true
 is_quiet (TookAway boxes) = false
 is_quiet Rewound = false
+is_quiet Upgraded = false
 
 -- whether a session has one of these mailboxes selected
 abbrev pub holds_one : List BoxId → Seat → Bool
@@ -50,3 +56,4 @@ abbrev pub last_words : Aftermath → Seat → Option (List ℕ)
 last_words Quiet seat = None
 last_words (TookAway boxes) seat = if holds_one boxes seat then Some changed_text else None
 last_words Rewound seat = (row_of (role_of seat)).at_rewind
+last_words Upgraded seat = (row_of (role_of seat)).at_upgrade

@@ -46,7 +46,7 @@ unsealed_as kept (Err why) = asked_as (Err (IsRefused why)) kept
 
 -- its sealing fails, unless it is refused
 abbrev pub fails : ℕ → Kept → Asking
-fails at kept by ask = unsealed_as kept (live (store_of kept) kept.next at by ask)
+fails at kept by ask = unsealed_as kept (live (store_of kept) kept.next at by ask kept.deep)
 
 -- from old to new the desk sealed some records, the sealing of these failed, and so many turns could not read or were given other texts
 abbrev pub HaveSealed : {D : Type 0} → (D → DiskTold) → Lasting D → Lasting D → List JournalRecord → Reads → Type 0

@@ -3,11 +3,11 @@ use Rattle.std.specs.Prelude.{ℕ, Bool, true, false, ◌||◌, List, [], ◌++�
 use Rattle.std.specs.List.{AllByRecursion}
 use Rattle.console_head.specs.Request.{Says, Stage}
 use Rattle.console_session.specs.declared.reply.After.{After}
-use Rattle.console_session.specs.declared.reply.After.TheVariants.{Waits, Closes, Stops, Fails, Rewinds}
+use Rattle.console_session.specs.declared.reply.After.TheVariants.{Waits, Closes, Stops, Fails, Rewinds, Upgrades}
 use Rattle.console_session.specs.Hindrance as console
 use Rattle.console_session.specs.Turn.{Turn as ConsoleTurn, asked_of}
 use Rattle.store_kept.specs.Kept.{Kept}
-use Rattle.mail_loop.specs.declared.aftermath.Aftermath.TheVariants.{Quiet, Rewound}
+use Rattle.mail_loop.specs.declared.aftermath.Aftermath.TheVariants.{Quiet, Rewound, Upgraded}
 use Rattle.mail_loop.specs.declared.console_turn.Sequel.{Sequel}
 use Rattle.mail_loop.specs.Hindrance.{Hindrance, Clear, Refused, Textless, Unread, UnreadRefused, UnreadUnheard, Misread, Misled, Unstored, Unheard, Unanswered, Unsealed, Untold, Halfway}
 
@@ -60,6 +60,7 @@ sequel_of Closes = record { closes = true; stops = false; aftermath = Quiet }
 sequel_of Stops = record { closes = true; stops = true; aftermath = Quiet }
 sequel_of Fails = record { closes = true; stops = false; aftermath = Quiet }
 sequel_of Rewinds = record { closes = true; stops = false; aftermath = Rewound }
+sequel_of Upgrades = record { closes = true; stops = false; aftermath = Upgraded }
 
 -- the bytes that are kept of a console, where it stays open
 abbrev pub left_by : After → List ℕ → Option (List ℕ)

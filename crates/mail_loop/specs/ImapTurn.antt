@@ -68,9 +68,9 @@ answers_pending s stamps tag d (on.Fetch form rows texts) (Ok item) = refl
 answers_pending s stamps tag d (on.Search by_uid numbers) (Ok item) = refl
 answers_pending s stamps tag d (on.Store form silent rows) (Ok item) = refl
 answers_pending s stamps tag d (on.Plain w) (Ok item) = refl
-answers_pending s stamps tag d (on.Leave w mailbox) (Ok item) = refl
+answers_pending s stamps tag d (on.Leave w) (Ok item) = refl
 answers_pending s stamps tag d on.Close (Ok item) = refl
-answers_pending s stamps tag d (on.List subscribed) (Ok item) = refl
+answers_pending s stamps tag d (on.List subscribed deep) (Ok item) = refl
 answers_pending s stamps tag d (on.Status mailbox asked) (Ok item) = refl
 answers_pending s stamps tag d (on.Follow w) (Ok item) = answers_followed s tag w d d.selected
 
@@ -99,7 +99,7 @@ imap_speech = record {
 
 -- a command, or what is none
 abbrev pub obeys : Kept → Dialog → Reading → Took Dialog
-obeys kept d reading = took_by (session.hears_reading kept.house (store_of kept) (size_in kept) d reading)
+obeys kept d reading = took_by (session.hears_reading kept.house (store_of kept) (size_in kept) kept.deep d reading)
 
 -- a literal is invited, and a bad line is refused
 abbrev pub takes : Kept → Dialog → Next → Took Dialog

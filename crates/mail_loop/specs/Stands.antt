@@ -6,11 +6,11 @@ use Rattle.verb_core.specs.declared.conf.House.{House}
 use Rattle.mail_loop.specs.declared.letters.Letter.{Letter}
 use Rattle.mail_loop.specs.declared.reply.Turned.{Turned}
 use Rattle.mail_loop.specs.declared.letters.Said.{Said}
-use Rattle.mail_loop.specs.declared.letters.Said.TheVariants.{Answers, Changed, Rewound, Silence}
+use Rattle.mail_loop.specs.declared.letters.Said.TheVariants.{Answers, Changed, Rewound, Upgraded, Silence}
 use Rattle.mail_loop.specs.declared.open_connection.Kind.{Kind}
 use Rattle.mail_loop.specs.declared.open_connection.Kind.TheVariants as kind
 use Rattle.imap_session.specs.Dialog.{is_at_home, is_free}
-use Rattle.imap_session.specs.Words.{changed_text, rewound_text}
+use Rattle.imap_session.specs.Words.{changed_text, rewound_text, upgraded_text}
 use Rattle.pop_session.specs.Dialog as pop
 use Rattle.mail_loop.specs.State.{Seat, Seats, Smtp, Imap, Http, Pop, beside}
 use Rattle.mail_loop.specs.Machine.{Reply}
@@ -28,6 +28,7 @@ abbrev pub said_of : Said → List ℕ
 said_of (Answers text) = text
 said_of Changed = changed_text
 said_of Rewound = rewound_text
+said_of Upgraded = upgraded_text
 said_of Silence = []
 
 abbrev pub letter_of : Letter → Reply

@@ -1,5 +1,5 @@
 -- What the code's answers and replies are in the machine.
-use Rattle.std.specs.Prelude.{◌≡◌, ◌⊎◌, ℕ, Bool, true, false, is_some, bytes_eq, if◌then◌else◌, List, [], ◌∷◌, ◌++◌, map, Option, None, Some, MatchOption, Result, Ok, Err, IsTrue}
+use Rattle.std.specs.Prelude.{◌≡◌, ◌⊎◌, ℕ, Bool, true, false, is_some, bytes_eq, ◌||◌, if◌then◌else◌, List, [], ◌∷◌, ◌++◌, map, filter, Option, None, Some, MatchOption, Result, Ok, Err, IsTrue}
 use Rattle.std.specs.List.{cons_option, list_all}
 use Rattle.undo_base.specs.declared.keys.User.{User}
 use Rattle.seal_log.specs.declared.fault.ReadFault.{ReadFault}
@@ -16,9 +16,9 @@ use Rattle.verb_core.specs.declared.ask.SubmitFault.{SubmitFault}
 use Rattle.verb_core.specs.declared.ask.SubmitFault.TheVariants.{Refused as IsRefused, Disk, Closed}
 use Rattle.verb_core.specs.declared.item.Item.{Item}
 use Rattle.verb_core.specs.declared.mailbox.BoxId.{BoxId}
-use Rattle.verb_core.specs.Boxes.{box_of}
+use Rattle.verb_core.specs.Boxes.{box_of, is_at_or_below}
 use Rattle.verb_core.specs.Live.{is_users, live}
-use Rattle.verb_core.specs.Names.{inbox}
+use Rattle.verb_core.specs.Names.{inbox, is_empty}
 use Rattle.verb_core.specs.Store.{MailStore}
 use Rattle.box_store.specs.Refusing.{IsRefusal}
 use Rattle.store_kept.specs.Kept.{Kept, store_of}
@@ -118,8 +118,8 @@ is_refused (Err Closed) = false
 -- What the desk did of an ask: S holds of the record whose sealing failed, and nothing was read. A desk that is open doesn't answer that it is closed.
 abbrev pub Submits : (List JournalRecord → Reads → Type 0) → ℕ → Kept → Option User → Ask → Kept → Result Item SubmitFault → Type 0
 Submits S at kept by ask kept' (Ok item) = (submitted kept at by ask ≡ record { outcome = Ok item; kept = kept' }) × S [] none_read
-Submits S at kept by ask kept' (Err (IsRefused why)) = IsRefusal why (live (store_of kept) kept.next at by ask) × (kept' ≡ kept) × S [] none_read
-Submits S at kept by ask kept' (Err Disk) = (item : Item) × (live (store_of kept) kept.next at by ask ≡ Ok item) × (kept' ≡ kept) × S (Verb item ∷ []) none_read
+Submits S at kept by ask kept' (Err (IsRefused why)) = IsRefusal why (live (store_of kept) kept.next at by ask kept.deep) × (kept' ≡ kept) × S [] none_read
+Submits S at kept by ask kept' (Err Disk) = (item : Item) × (live (store_of kept) kept.next at by ask kept.deep ≡ Ok item) × (kept' ≡ kept) × S (Verb item ∷ []) none_read
 Submits S at kept by ask kept' (Err Closed) = ⊥
 
 -- the connection closes with no answer, or an ask that was refused is settled as one for which no memory was found
@@ -155,16 +155,20 @@ asked_in (Read bodies) = None
 asked_in (Submit asked) = Some asked
 asked_in (Bye said) = None
 
--- the name of the mailbox that an ask takes away where it is done: the one that is deleted or renamed; that of INBOX is there again
-abbrev pub name_taken : Ask → Option (List ℕ)
-name_taken (asks.Rename mailbox target) = if bytes_eq mailbox inbox then None else Some mailbox
-name_taken (asks.Delete mailbox) = Some mailbox
-name_taken _ = None
+-- the mailboxes that a user's ask takes away where it is done, of those that there are: the one that is deleted, or that is renamed with its
+-- inferiors; that of INBOX is there again
+abbrev pub taken_of : User → Ask → List BoxId → List BoxId
+taken_of u (asks.Rename mailbox target) boxes = if bytes_eq mailbox inbox || is_empty target then [] else filter (is_at_or_below u mailbox) boxes
+taken_of u (asks.Delete mailbox) boxes = box_of u mailbox ∷ []
+taken_of u _ boxes = []
 
--- the mailbox that an ask takes away, where there is one
-abbrev pub taken_by : Option User → Ask → List BoxId
-taken_by None asked = []
-taken_by (Some user) asked = map (box_of user) (cons_option (name_taken asked) [])
+abbrev pub taken_by : Option User → Ask → List BoxId → List BoxId
+taken_by None asked boxes = []
+taken_by (Some user) asked boxes = taken_of user asked boxes
+
+-- the mailboxes that there are
+abbrev pub all_boxes : Kept → List BoxId
+all_boxes kept = map (λ r. r.0) (store_of kept).boxes
 
 -- ---- texts
 

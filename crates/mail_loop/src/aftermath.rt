@@ -5,12 +5,13 @@ ghost use Rattle.mail_loop.specs.Afterwards.{is_quiet, taking};
 use crate::gone::Gone;
 
 /// What follows an event's turns for the other connections: nothing; mailboxes were taken away, and who has one of them selected is
-/// told and closed; or the store was rewound, which is told to each mail reader, and closes it.
+/// told and closed; or the store was rewound or upgraded, which is told to each mail reader, and closes it.
 #[derive(Drop)]
 pub enum Aftermath {
     Quiet,
     TookAway(Gone),
     Rewound,
+    Upgraded,
 }
 
 impl Aftermath {

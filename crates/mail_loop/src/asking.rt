@@ -1,15 +1,18 @@
 //! What a session asks of the desk, and the mailboxes that this takes away.
-ghost use Rattle.std.specs.Prelude.{◌≡◌, ◌↔◌, ◌++◌, [], false, bytes_eq, option_copied, IsSome, IsTrue, OnErr, OnOk};
+ghost use Rattle.std.specs.Prelude.{◌≡◌, ◌↔◌, ℕ, ◌++◌, ◌∷◌, [], false, bytes_eq, filter, length, map, take, IsSome, IsTrue, OnErr, OnOk};
 ghost use Rattle.std.specs.List.{cons_option, list_all};
+ghost use Rattle.verb_core.specs.declared.mailbox.BoxId.{BoxId as TheBoxId};
+ghost use Rattle.verb_core.specs.Boxes.{box_of, is_at_or_below as is_below};
 ghost use Rattle.verb_core.specs.Live.{is_users};
 ghost use Rattle.verb_core.specs.Names.{inbox};
 ghost use Rattle.verb_core.specs.Store.{is_known};
 ghost use Rattle.mail_loop.specs.Afterwards.{gone_between};
 ghost use Rattle.mail_loop.specs.Asked.{HaveSealed};
-ghost use Rattle.mail_loop.specs.Took.{Submits, is_refused, name_taken, taken_by};
+ghost use Rattle.mail_loop.specs.Took.{Submits, is_refused, taken_by, taken_of};
 
 use crate::gone::Gone;
 use crate::reply::Reply;
+use box_store::is_at_or_below;
 use std::alloc::Global;
 use time_desk::Desk;
 use time_desk::laws::seals_join;
@@ -35,34 +38,111 @@ fn is_inbox(name: &Name) -> bool
     name.bytes() == b"INBOX".as_slice()
 }
 
-/// The name of the mailbox that an ask takes away. That of INBOX is there again.
-fn name_taken(ask: &Ask) -> Option<&Name>
-    ensures { option_copied result ≡ name_taken ask.now }
+/// Notes a mailbox, if it is the user's of that name or an inferior of it.
+fn note_below(
+    alloc: Global,
+    gone: &mut Gone,
+    id: &BoxId,
+    user: User,
+    name: &Name,
+) -> Result<(), NoMemory>
+    ensures ok { OnOk result (gone.new ≡ gone.old ++ filter (is_below user name.now) (id.now ∷ [])) }
+    ensures err { OnErr result (gone.new ≡ gone.old) }
+{
+    if !is_at_or_below(id, user, name) {
+        return Ok(());
+    }
+    let id = id.copy(alloc)?;
+    gone.push(id)
+}
+
+/// Notes the user's mailbox of that name, and its inferiors.
+#[tactic(auto, using(crate::proofs::Taken::front_stays))]
+fn note_renamed(
+    alloc: Global,
+    gone: &mut Gone,
+    rows: &[(BoxId, u32)],
+    user: User,
+    name: &Name,
+) -> Result<(), NoMemory>
+    ensures ok { OnOk result (gone.new ≡ gone.old ++ filter (is_below user name.now) (map (λ (r : TheBoxId × ℕ). r.0) rows.now)) }
+    ensures err { OnErr result (take (length gone.old) gone.new ≡ gone.old) }
+{
+    for row in rows {
+        note_below(alloc, gone, &row.0, user, name)?;
+    }
+    Ok(())
+}
+
+/// Notes the user's mailbox of that name.
+fn note_deleted(alloc: Global, gone: &mut Gone, user: User, name: &Name) -> Result<(), NoMemory>
+    ensures ok { OnOk result (gone.new ≡ gone.old ++ box_of user name.now ∷ []) }
+    ensures err { OnErr result (gone.new ≡ gone.old) }
+{
+    let name = name.copy(alloc)?;
+    gone.push(BoxId { user, name })
+}
+
+/// Notes the mailboxes that a user's ask takes away, of those that there are. That of INBOX is there again.
+#[tactic(auto, using(crate::proofs::Taken::all_stay))]
+fn note_of(
+    alloc: Global,
+    gone: &mut Gone,
+    rows: &[(BoxId, u32)],
+    user: User,
+    ask: &Ask,
+) -> Result<(), NoMemory>
+    ensures ok { OnOk result (gone.new ≡ gone.old ++ taken_of user ask.now (map (λ (r : TheBoxId × ℕ). r.0) rows.now)) }
+    ensures err { OnErr result (take (length gone.old) gone.new ≡ gone.old) }
 {
     match ask {
-        Ask::Delete { mailbox } => Some(mailbox),
-        Ask::Rename { mailbox, .. } => {
-            if is_inbox(mailbox) {
-                None
+        Ask::Delete { mailbox } => note_deleted(alloc, gone, user, mailbox),
+        Ask::Rename { mailbox, target } => {
+            if is_inbox(mailbox) || target.bytes().is_empty() {
+                Ok(())
             } else {
-                Some(mailbox)
+                note_renamed(alloc, gone, rows, user, mailbox)
             }
         }
-        _ => None,
+        _ => Ok(()),
     }
 }
 
-/// Notes the mailbox that an ask takes away, where there is one.
-fn note(alloc: Global, gone: &mut Gone, by: Option<User>, ask: &Ask) -> Result<(), NoMemory>
-    ensures ok { OnOk result (gone.new ≡ gone.old ++ taken_by by ask.now) }
+/// Notes the mailboxes that an ask takes away, of those that there are.
+fn note_by(
+    alloc: Global,
+    gone: &mut Gone,
+    rows: &[(BoxId, u32)],
+    by: Option<User>,
+    ask: &Ask,
+) -> Result<(), NoMemory>
+    ensures ok { OnOk result (gone.new ≡ gone.old ++ taken_by by ask.now (map (λ (r : TheBoxId × ℕ). r.0) rows.now)) }
+    ensures err { OnErr result (take (length gone.old) gone.new ≡ gone.old) }
+{
+    match by {
+        Some(user) => note_of(alloc, gone, rows, user, ask),
+        None => Ok(()),
+    }
+}
+
+/// Notes the mailboxes that an ask takes away, of those that there are, or none of them.
+fn note(
+    alloc: Global,
+    gone: &mut Gone,
+    rows: &[(BoxId, u32)],
+    by: Option<User>,
+    ask: &Ask,
+) -> Result<(), NoMemory>
+    ensures ok { OnOk result (gone.new ≡ gone.old ++ taken_by by ask.now (map (λ (r : TheBoxId × ℕ). r.0) rows.now)) }
     ensures err { OnErr result (gone.new ≡ gone.old) }
 {
-    match (by, name_taken(ask)) {
-        (Some(user), Some(name)) => {
-            let name = name.copy(alloc)?;
-            gone.push(BoxId { user, name })
+    let before = gone.len();
+    match note_by(alloc, gone, rows, by, ask) {
+        Ok(()) => Ok(()),
+        Err(NoMemory) => {
+            gone.keep_first(before);
+            Err(NoMemory)
         }
-        _ => Ok(()),
     }
 }
 
@@ -84,7 +164,7 @@ pub fn ask_desk<D: Disk + Drop>(
     seals_join::<D>();
     desk.stands();
     let before = reply.gone.len();
-    if let Err(NoMemory) = note(alloc, &mut reply.gone, by, &ask) {
+    if let Err(NoMemory) = note(alloc, &mut reply.gone, desk.stamps().as_slice(), by, &ask) {
         return Err(SubmitFault::Refused(Refused::NoMemory));
     }
     let outcome = desk.submit(alloc, at, by, ask);

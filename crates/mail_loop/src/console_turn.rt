@@ -37,6 +37,7 @@ fn sequel_of(after: After) -> Sequel
         After::Stops => (true, true, Aftermath::Quiet),
         After::Fails => (true, false, Aftermath::Quiet),
         After::Rewinds => (true, false, Aftermath::Rewound),
+        After::Upgrades => (true, false, Aftermath::Upgraded),
     };
     Sequel {
         closes,

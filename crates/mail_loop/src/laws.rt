@@ -4,7 +4,7 @@ ghost use Rattle.undo_base.specs.declared.keys.User.{User as TheUser};
 ghost use Rattle.verb_core.specs.declared.ask.Ask.{Ask as TheAsk};
 ghost use Rattle.verb_core.specs.declared.ask.Refused.{Refused};
 ghost use Rattle.verb_core.specs.declared.item.Item.{Item as TheItem};
-ghost use Rattle.verb_core.specs.Boxes.{is_rising};
+ghost use Rattle.verb_core.specs.Store.{IsValid};
 ghost use Rattle.verb_core.specs.Live.{is_users, live};
 ghost use Rattle.imap_stream.specs.Commands.{emptied, heard, heard_of, said_of};
 ghost use Rattle.undo_outside.specs.declared.event.LinkNote.TheVariants.{Came};
@@ -21,7 +21,7 @@ ghost use Rattle.pop_session.specs.declared.dialog.Dialog.{Dialog as TheFetcher}
 ghost use Rattle.store_kept.specs.Kept.{Kept, store_of};
 ghost use Rattle.mail_desk.specs.Desk.{submitted};
 ghost use Rattle.mail_loop.specs.Afterwards.{gone_between};
-ghost use Rattle.mail_loop.specs.Took.{taken_by};
+ghost use Rattle.mail_loop.specs.Took.{all_boxes, taken_by};
 ghost use Rattle.mail_loop.specs.Session.{IsLicensedRow};
 ghost use Rattle.mail_loop.specs.Hindrance.{Hindrance};
 ghost use Rattle.mail_loop.specs.SmtpTurn.{smtp_session};
@@ -51,11 +51,12 @@ pub fn hindrances_are_licensed()
     ensures reader { (h : Hindrance) (at : ℕ) (kept : Kept) (others : Seats) (d : TheReader) (next : TheNext) → IsLicensedRow imap_session h at kept others d next }
 {}
 
-/// An ask that is done takes the mailbox away that a DELETE names, or a RENAME but of INBOX, and no other; one that is refused takes none.
+/// An ask that is done takes the mailbox away that a DELETE names, or that a RENAME names but INBOX, with its inferiors, and no other; one that
+/// is refused takes none.
 pub fn asks_take_away()
-    ensures done { (kept : Kept) (at : ℕ) (by : Option TheUser) (ask : TheAsk) (item : TheItem) → IsTrue (is_rising (store_of kept).boxes) → is_users ask ≡ is_some by
-        → live (store_of kept) kept.next at by ask ≡ Ok item → gone_between kept (submitted kept at by ask).kept ≡ taken_by by ask }
-    ensures refused { (kept : Kept) (at : ℕ) (by : Option TheUser) (ask : TheAsk) (why : Refused) → live (store_of kept) kept.next at by ask ≡ Err why
+    ensures done { (kept : Kept) (at : ℕ) (by : Option TheUser) (ask : TheAsk) (item : TheItem) → IsValid (store_of kept) → is_users ask ≡ is_some by
+        → live (store_of kept) kept.next at by ask kept.deep ≡ Ok item → gone_between kept (submitted kept at by ask).kept ≡ taken_by by ask (all_boxes kept) }
+    ensures refused { (kept : Kept) (at : ℕ) (by : Option TheUser) (ask : TheAsk) (why : Refused) → live (store_of kept) kept.next at by ask kept.deep ≡ Err why
         → gone_between kept (submitted kept at by ask).kept ≡ [] }
 {}
 

@@ -7,17 +7,18 @@ ghost use Rattle.mail_loop.specs.Stands.{letter_of, replies_of, reply_of, said_o
 use crate::aftermath::Aftermath;
 use crate::open_connection::Connection;
 use crate::reply::Turned;
-use imap_session::{changed, rewound};
+use imap_session::{changed, rewound, upgraded};
 use std::alloc::Global;
 use std::collections::BTreeMap;
 use undo_base::{NoMemory, Text};
 
-/// The string of a connection: its turns' answers, that its mailbox changed, that the store was rewound, or nothing.
+/// The string of a connection: its turns' answers, that its mailbox changed, that the store was rewound or upgraded, or nothing.
 #[derive(Debug, Drop)]
 pub enum Said {
     Answers(Text),
     Changed,
     Rewound,
+    Upgraded,
     Silence,
 }
 
@@ -38,6 +39,7 @@ impl Letter {
             Said::Answers(text) => text.bytes(),
             Said::Changed => changed(),
             Said::Rewound => rewound(),
+            Said::Upgraded => upgraded(),
             Said::Silence => b"".as_slice(),
         }
     }

@@ -26,7 +26,7 @@ use crate::fetching::hear_fetching;
 use crate::imap_turn::take_next;
 use crate::letters::Said;
 use crate::reply::{Reply, Turned, empty_reply, going_on};
-use crate::roles::at_rewind;
+use crate::roles::{at_rewind, at_upgrade};
 use crate::smtp_turn::take_line;
 use console_session::ConsoleSession;
 use imap_session::ImapSession;
@@ -136,6 +136,7 @@ impl Connection {
             Aftermath::Quiet => None,
             Aftermath::TookAway(gone) => self.holds_one(gone.as_slice()).then_some(Said::Changed),
             Aftermath::Rewound => at_rewind(self.role()),
+            Aftermath::Upgraded => at_upgrade(self.role()),
         }
     }
 

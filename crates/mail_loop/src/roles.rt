@@ -1,4 +1,4 @@
-//! What each role is: how its client is greeted, and whether a rewind of the store closes its connections.
+//! What each role is: how its client is greeted, and whether a rewind or an upgrade of the store closes its connections.
 ghost use Rattle.std.specs.Prelude.{◌≡◌, IfErr, IfOk, IsSome, option_map};
 ghost use Rattle.mail_loop.specs.Roles.{row_of};
 ghost use Rattle.mail_loop.specs.Stands.{said_of};
@@ -31,5 +31,15 @@ pub fn at_rewind(role: Role) -> Option<Said>
         Role::Imap => Some(Said::Rewound),
         Role::Http => None,
         Role::Pop => Some(Said::Silence),
+    }
+}
+
+/// The last words to a client of a role where the store is upgraded; none where it goes on.
+pub fn at_upgrade(role: Role) -> Option<Said>
+    ensures { option_map said_of result ≡ (row_of role).at_upgrade }
+{
+    match role {
+        Role::Imap => Some(Said::Upgraded),
+        Role::Smtp | Role::Http | Role::Pop => None,
     }
 }

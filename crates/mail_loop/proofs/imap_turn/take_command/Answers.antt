@@ -38,8 +38,8 @@ returns-in-Ok-clause-turn g c =
     let kept = c.args.desk.now.kept in
     let d = c.args.session.now in
     let e = c.take_known.new.self in
-    let is = command_is kept c.house-house.result.now c.store-store.result.now.store (size_of c.shelf-sizes.result.now.notes) d e c.args.command.now c.in-Ok.out
-    c.house-house.ensures.value c.store-store.ensures.value c.shelf-sizes.ensures.sizes c.in-Ok.ensures.ok in
+    let is = command_is kept c.house-house.result.now c.store-store.result.now.store (size_of c.shelf-sizes.result.now.notes) c.upgraded-deep.result d e c.args.command.now c.in-Ok.out
+    c.house-house.ensures.value c.store-store.ensures.value c.shelf-sizes.ensures.sizes c.upgraded-deep.ensures c.in-Ok.ensures.ok in
     command_turn (HaveSealed g.D.Disk.told c.args.desk.now c.follow.new.desk) c.args.at kept c.follow.new.desk.kept c.args.command.now c.in-Ok.out d e c.follow.new.session c.args.reply.now c.follow.new.reply is
     (subst (λ (o : Out). (h : Hindrance) × Takes (HaveSealed g.D.Disk.told c.args.desk.now c.follow.new.desk) (under h c.args.at kept (λ desk. followed imap_speech desk kept o e)) c.args.reply.now c.follow.new.desk.kept c.follow.new.session c.follow.new.reply)
     c.of_imap.ensures c.follow.ensures.turn)
