@@ -1,6 +1,7 @@
 pub mod Lists
 pub mod Options
 pub mod Boxes
+pub mod NamesMade
 pub mod Live
 pub mod Steps
 pub mod Naming

@@ -11,20 +11,21 @@ use Rattle.undo_base.specs.Name.{IsName}
 use Rattle.verb_core.specs.declared.ask.Ask.{Ask}
 use Rattle.verb_core.specs.declared.ask.Ask.TheVariants.{Deliver, Append, Fetch, Store, Copy, List as Names, Status, Select, Expunge, Close, Create, Rename, Delete}
 use Rattle.verb_core.specs.declared.ask.Refused.{Refused}
-use Rattle.verb_core.specs.declared.ask.Refused.TheVariants.{NoBox, Exists, Fixed, NameShape, TryCreate, Gone, TooMany, TooLarge, BoxesFull, UidWide}
+use Rattle.verb_core.specs.declared.ask.Refused.TheVariants.{NoBox, HasInferiors, Exists, Fixed, NameShape, TryCreate, Gone, TooMany, TooLarge, BoxesFull, UidWide}
 use Rattle.verb_core.specs.declared.conf.House.{House}
 use Rattle.verb_core.specs.declared.item.Item.{Item}
 use Rattle.verb_core.specs.declared.mailbox.BoxId.{BoxId}
 use Rattle.verb_core.specs.declared.mailbox.Entry.{Entry}
 use Rattle.verb_core.specs.declared.mailbox.Mailbox.{Mailbox}
-use Rattle.verb_core.specs.Names.{is_empty, is_fixed, is_listed}
+use Rattle.verb_core.specs.Names.{is_empty, is_fixed}
+use Rattle.verb_core.specs.Patterns.{is_listed}
 use Rattle.verb_core.specs.Mailboxes.{expunged, is_among, is_mailbox, keys_of, same_key, without}
 use Rattle.verb_core.specs.Boxes.{box_cmp, box_of, names_of, row_at}
 use Rattle.verb_core.specs.Store.{IsValid, MailStore, is_row}
 use Rattle.verb_core.specs.Items.{actor}
 use Rattle.verb_core.specs.Aims.{sought_by}
 use Rattle.verb_core.specs.Step.{Boxes, shown}
-use Rattle.verb_core.specs.Live.{answered, asked_item, asker, asks_fixed, deed_of, first_of, if_so, is_gone, is_misshapen, is_missing, is_there, is_uid_wide, is_wide, key_count, live, mail_of, marked, marked_in, named, new_names, or_item, overfills, targets, too_large}
+use Rattle.verb_core.specs.Live.{answered, asked_item, asker, asks_fixed, deed_of, first_of, if_so, is_gone, deletes_superior, is_misshapen, is_missing, is_there, is_uid_wide, is_wide, key_count, live, mail_of, marked, marked_in, named, new_names, or_item, overfills, targets, too_large}
 use Rattle.verb_bytes.specs.Limits.{AreKeys, IsAsked, IsDeed, IsKey, IsShown, IsUser, delivery}
 use Rattle.verb_bytes.specs.Spelling.{shown_kind}
 use Rattle.dialog_laws.specs.Ranges.{AreAllKeys, IsRecordable, IsStored, IsStoredEntry}
@@ -56,14 +57,15 @@ record IsLive (s : MailStore) (number at : ℕ) (by : Option User) (ask : Ask) (
   large : too_large ask ≡ None
   wide : is_uid_wide s by ask (asked_item s number at by ask) ≡ false
 
-is_live : (s : MailStore) (number at : ℕ) (by : Option User) (ask : Ask) (item : Item) → live s number at by ask ≡ Ok item → IsLive s number at by ask item
-is_live s number at by ask item e =
+is_live : (s : MailStore) (number at : ℕ) (by : Option User) (ask : Ask) (deep : Bool) (item : Item) → live s number at by ask deep ≡ Ok item → IsLive s number at by ask item
+is_live s number at by ask deep item e =
     let i : Item = asked_item s number at by ask in
     let r1 = not_refused _ (answered s i) item e in
-    let r2 = head_none (if_so (is_misshapen ask) NameShape) _ r1.0 in
+    let r2 = head_none (if_so (is_misshapen s by ask deep) NameShape) _ r1.0 in
     let r3 = head_none (if_so (asks_fixed ask) Fixed) _ r2.1 in
     let r4 = head_none (if_so (is_missing s by (named ask)) NoBox) _ r3.1 in
-    let r5 = head_none (if_so (is_missing s by (targets ask)) TryCreate) _ r4.1 in
+    let superior = head_none (if_so (deletes_superior s by ask) HasInferiors) _ r4.1 in
+    let r5 = head_none (if_so (is_missing s by (targets ask)) TryCreate) _ superior.1 in
     let r6 = head_none (if_so (is_there s by (new_names ask)) Exists) _ r5.1 in
     let r7 = head_none (if_so (is_gone s by ask) Gone) _ r6.1 in
     let r8 = head_none (if_so (nat_lt 65536 (key_count s by ask)) (TooMany (key_count s by ask))) _ r7.1 in
@@ -198,12 +200,12 @@ module _ (s : MailStore) (number at : ℕ) (by : Option User) (valid : IsValid s
         shown = shown_is ask (not (is_empty (sought_by s (asked_item s number at by ask)).missed)) (asked_item s number at by ask) deed is.few is.wide;
       }
 
-pub live_asked : (s : MailStore) (number at : ℕ) (by : Option User) (ask : Ask) (item : Item) → IsValid s → IsStored s → IsRecordable ask → IfSome by IsUser
-    → number ≤ 4294967295 → at ≤ 253402300799 → live s number at by ask ≡ Ok item → IsAsked item
-live_asked s number at by ask item valid stored h user le timely e =
-    let is : IsLive s number at by ask item = is_live s number at by ask item e in
+pub live_asked : (s : MailStore) (number at : ℕ) (by : Option User) (ask : Ask) (deep : Bool) (item : Item) → IsValid s → IsStored s → IsRecordable ask → IfSome by IsUser
+    → number ≤ 4294967295 → at ≤ 253402300799 → live s number at by ask deep ≡ Ok item → IsAsked item
+live_asked s number at by ask deep item valid stored h user le timely e =
+    let is : IsLive s number at by ask item = is_live s number at by ask deep item e in
     subst IsAsked (sym is.is) (asked_of s number at by valid stored timely ask item h user le is)
 
-pub live_delivery : (s : MailStore) (number at : ℕ) (from : List ℕ) (to : List (List ℕ)) (text : List ℕ) (item : Item) → live s number at None (Deliver from to text) ≡ Ok item
+pub live_delivery : (s : MailStore) (number at : ℕ) (from : List ℕ) (to : List (List ℕ)) (text : List ℕ) (deep : Bool) (item : Item) → live s number at None (Deliver from to text) deep ≡ Ok item
     → item ≡ delivery number at from to text
-live_delivery s number at from to text item e = (is_live s number at None (Deliver from to text) item e).is
+live_delivery s number at from to text deep item e = (is_live s number at None (Deliver from to text) deep item e).is

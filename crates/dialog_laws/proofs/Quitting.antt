@@ -56,6 +56,7 @@ bad_refusal (why.Numbers next) = refl
 bad_refusal why.NoMemory = refl
 bad_refusal why.NoBox = refl
 bad_refusal why.Exists = refl
+bad_refusal why.HasInferiors = refl
 bad_refusal why.Fixed = refl
 bad_refusal why.NameShape = refl
 bad_refusal why.TryCreate = refl
@@ -74,7 +75,7 @@ not_closing said bad is = true≢false (sym good_closing ∙ ap is_good (sym is)
 
 -- what the desk says was done was done, at a moment
 abbrev Sound : ℕ → Kept → Service → Type 0
-Sound at kept desk = (by : Option User) (ask : Ask) (item : Item) → (desk.asked by ask).outcome ≡ Ok item → (live (store_of kept) kept.next at by ask ≡ Ok item) × ((desk.asked by ask).kept ≡ performed kept item)
+Sound at kept desk = (by : Option User) (ask : Ask) (item : Item) → (desk.asked by ask).outcome ≡ Ok item → (live (store_of kept) kept.next at by ask kept.deep ≡ Ok item) × ((desk.asked by ask).kept ≡ performed kept item)
 
 does_sound : (kept : Kept) (due : Result Item Refused) (item : Item) → (submitted_as kept due).outcome ≡ Ok item → (due ≡ Ok item) × ((submitted_as kept due).kept ≡ performed kept item)
 does_sound kept (Ok i) item is =
@@ -86,7 +87,7 @@ does_sound kept (Ok i) item is =
 does_sound kept (Err r) item wrong = absurd (let w : ◌≡◌ {A = Result Item SubmitFault} (Err (IsRefused r)) (Ok item) = wrong in cc)
 
 service_sound : (at : ℕ) (kept : Kept) → Sound at kept (service at kept)
-service_sound at kept by ask item is = does_sound kept (live (store_of kept) kept.next at by ask) item is
+service_sound at kept by ask item is = does_sound kept (live (store_of kept) kept.next at by ask kept.deep) item is
 
 starves_sound : (at : ℕ) (kept : Kept) (desk : Service) → Sound at kept (without_items kept desk)
 starves_sound at kept desk by ask item wrong = absurd (let w : ◌≡◌ {A = Result Item SubmitFault} (Err (IsRefused why.NoMemory)) (Ok item) = wrong in cc)
@@ -96,7 +97,7 @@ never_sealed kept (Ok i) item wrong = let w : ◌≡◌ {A = Result Item SubmitF
 never_sealed kept (Err r) item wrong = let w : ◌≡◌ {A = Result Item SubmitFault} (Err (IsRefused r)) (Ok item) = wrong in cc
 
 fails_sound : (at : ℕ) (kept : Kept) (desk : Service) → Sound at kept (without_seals at kept desk)
-fails_sound at kept desk by ask item wrong = absurd (never_sealed kept (live (store_of kept) kept.next at by ask) item wrong)
+fails_sound at kept desk by ask item wrong = absurd (never_sealed kept (live (store_of kept) kept.next at by ask kept.deep) item wrong)
 
 -- What holds of each turn over a desk that is sound, of one that is lost, and of one that is not answered, holds whatever hinders it.
 holds_under : {D : Type 0} → (P : Turn D → Type 0) (h : Hindrance) (at : ℕ) (kept : Kept) (told : Turn D) (f : Service → Turn D) → P told → P (lost kept) → ((t : Turn D) → P (unanswered t))
@@ -134,7 +135,7 @@ abbrev pub KeepsOthers : Type 0
 KeepsOthers = (s : MailStore) (u : User) (number at next later : ℕ) (keys : List Key) (id : BoxId) → eq_by_cmp box_cmp (box_of u inbox) id ≡ false → row_at id (after_quit s u number at next later keys).boxes ≡ row_at id s.boxes
 
 abbrev pub DoesAsAsked : Type 0
-DoesAsAsked = (s : MailStore) (u : User) (number at : ℕ) (ask : Ask) (item : Item) → live s number at (Some u) ask ≡ Ok item → (step s item).0 ≡ after s u number at ask
+DoesAsAsked = (s : MailStore) (u : User) (number at : ℕ) (ask : Ask) (deep : Bool) (item : Item) → live s number at (Some u) ask deep ≡ Ok item → (step s item).0 ≡ after s u number at ask
 
 module _ (marked : TakesMarked) (kept_others : KeepsOthers) (does_it : DoesAsAsked) (kept : Kept) (u : User) (drop : Maildrop) (keys : List Key) where
   -- what a turn must leave where it was answered so
@@ -156,13 +157,13 @@ module _ (marked : TakesMarked) (kept_others : KeepsOthers) (does_it : DoesAsAsk
 
   -- the EXPUNGE is done, or what is said is no good answer
   expunged_as : (at later : ℕ) (k : Kept) (a : Asked) → store_of k ≡ after (store_of kept) u kept.next at (pop.store_of keys)
-      → ((item : Item) → a.outcome ≡ Ok item → (live (store_of k) k.next later (Some u) (pop.expunge_of keys) ≡ Ok item) × (a.kept ≡ performed k item))
+      → ((item : Item) → a.outcome ≡ Ok item → (live (store_of k) k.next later (Some u) (pop.expunge_of keys) k.deep ≡ Ok item) × (a.kept ≡ performed k item))
       → (outcome : Result Item SubmitFault) → a.outcome ≡ outcome
       → (let t = took_by (pop.settle removing outcome) in Leaves (settled_as t.out a.kept t.dialog))
   expunged_as at later k a stored sound (Ok item) is said =
       let does = sound item is in
       let left : store_of a.kept ≡ after_quit (store_of kept) u kept.next at k.next later keys =
-      ap store_of does.1 ∙ does_it (store_of k) u k.next later (pop.expunge_of keys) item does.0 ∙ ap (λ (s : MailStore). after s u k.next later (pop.expunge_of keys)) stored in
+      ap store_of does.1 ∙ does_it (store_of k) u k.next later (pop.expunge_of keys) k.deep item does.0 ∙ ap (λ (s : MailStore). after s u k.next later (pop.expunge_of keys)) stored in
       subst (λ (s : MailStore). OnlyGone u keys (store_of kept) s) (sym left)
       (record { gone = marked (store_of kept) u kept.next at k.next later keys; others = kept_others (store_of kept) u kept.next at k.next later keys })
   expunged_as at later k a stored sound (Err (IsRefused r)) is said = absurd (not_closing (answer_text (ask_refused r)) (bad_refusal r) said)
@@ -171,12 +172,12 @@ module _ (marked : TakesMarked) (kept_others : KeepsOthers) (does_it : DoesAsAsk
 
   -- the STORE is done and the EXPUNGE asked, or what is said is no good answer
   stored_as : (desk : Service) (at : ℕ) (a : Asked)
-      → ((item : Item) → a.outcome ≡ Ok item → (live (store_of kept) kept.next at (Some u) (pop.store_of keys) ≡ Ok item) × (a.kept ≡ performed kept item))
+      → ((item : Item) → a.outcome ≡ Ok item → (live (store_of kept) kept.next at (Some u) (pop.store_of keys) kept.deep ≡ Ok item) × (a.kept ≡ performed kept item))
       → (outcome : Result Item SubmitFault) → a.outcome ≡ outcome
       → (let t = took_by (pop.settle storing outcome) in Leaves (pursued_as pop_speech desk kept storing a t.out t.dialog))
   stored_as desk at a sound (Ok item) is =
       let does = sound item is in
-      let stored : store_of a.kept ≡ after (store_of kept) u kept.next at (pop.store_of keys) = ap store_of does.1 ∙ does_it (store_of kept) u kept.next at (pop.store_of keys) item does.0 in
+      let stored : store_of a.kept ≡ after (store_of kept) u kept.next at (pop.store_of keys) = ap store_of does.1 ∙ does_it (store_of kept) u kept.next at (pop.store_of keys) kept.deep item does.0 in
       let f : Service → Turn Dialog = λ later. done pop_speech a.kept removing (later.asked (Some u) (pop.expunge_of keys)) in
       holds_under Leaves desk.further desk.at a.kept (lost a.kept) f (silent a.kept) (silent a.kept) unsaid
       (λ later fair. let b = later.asked (Some u) (pop.expunge_of keys) in expunged_as at desk.at a.kept b stored (λ item is. fair (Some u) (pop.expunge_of keys) item is) b.outcome refl)

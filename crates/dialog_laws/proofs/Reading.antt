@@ -1,9 +1,8 @@
 -- A mail reader's dialog is of a user, of names and of keys, and what it asks can be recorded.
-use Rattle.std.proofs.Common.{◌≡◌, ℕ, ◌+◌, ◌≤◌, ◌<◌, Bool, true, false, cond, List, [], ◌∷◌, ◌++◌, length, slice_get, Option, None, Some, unwrap_or, Result, Ok, Err, bytes_eq, nat_lt, ltb-true, refl, arith, length-append}
+use Rattle.std.proofs.Common.{◌≡◌, ℕ, ◌+◌, ◌≤◌, ◌<◌, Bool, true, false, cond, List, [], ◌∷◌, ◌++◌, length, slice_get, Option, None, Some, unwrap_or, Result, Ok, Err, nat_lt, ltb-true, refl, arith, length-append}
 use Rattle.std.specs.Prelude.{IfSome, IsTrue}
 use Rattle.std.specs.List.{AllByRecursion, Contains}
 use Rattle.std.specs.Option.{option_and_then}
-use Rattle.std.specs.Str.{str_eq_ignore_ascii_case}
 use Rattle.undo_base.specs.declared.asks.StatusAsk.{StatusAsk}
 use Rattle.undo_base.specs.declared.keys.Flags.{Flags}
 use Rattle.undo_base.specs.declared.keys.User.{User}
@@ -21,7 +20,7 @@ use Rattle.imap_fetch.specs.declared.asked.Attribute.{Attribute}
 use Rattle.imap_fetch.specs.declared.lines.StoreForm.{StoreForm}
 use Rattle.imap_fetch.specs.declared.messages.Message.{Message}
 use Rattle.imap_view.specs.Named.{key_at, keys_at, message_at, places_named, rows_at}
-use Rattle.imap_view.specs.Names.{is_name, mailbox_of, name_of}
+use Rattle.imap_view.specs.Names.{is_name, made_mailbox_of, mailbox_of, with_inbox, without_slash}
 use Rattle.imap_view.specs.Views.{entry_of, is_message, known_of, view_of}
 use Rattle.imap_view.specs.declared.messages.Known.{Known}
 use Rattle.verb_core.specs.declared.ask.Ask.{Ask}
@@ -35,7 +34,6 @@ use Rattle.verb_core.specs.declared.mailbox.BoxId.{BoxId}
 use Rattle.verb_core.specs.declared.mailbox.Entry.{Entry}
 use Rattle.verb_core.specs.Boxes.{box_of}
 use Rattle.verb_core.specs.Live.{asker, mail_of}
-use Rattle.verb_core.specs.Names.{inbox}
 use Rattle.verb_core.specs.Store.{MailStore, is_house}
 use Rattle.imap_session.specs.declared.dialog.Awaits.{Awaits}
 use Rattle.imap_session.specs.declared.dialog.Awaits.TheVariants.{Nothing, Texts as AwaitsTexts, Outcome as AwaitsOutcome}
@@ -52,7 +50,7 @@ use Rattle.imap_session.specs.declared.out.ImapOut.TheVariants.{Say, Read, Submi
 use Rattle.imap_session.specs.declared.words.Answer.TheVariants.{ReadOnly, BadCharset}
 use Rattle.imap_session.specs.declared.words.Word.{Word}
 use Rattle.imap_session.specs.declared.words.Word.TheVariants as word
-use Rattle.imap_session.specs.Dialog.{Took, after_rename, append, asks, at_rest, begin_fetch, begin_search, check, close, copy, copy_places, create, delete, done, enter, expunge, fetch_in, fetch_places, fetching, follow, heard, heard_in, hears, hears_reading, is_on, list, login, obey, opening, rename, says, search, search_in, searching, select, settle, settle_in, settle_pending, status, store, store_places, subscribe, took, turn, undone, unselected, without_memory}
+use Rattle.imap_session.specs.Dialog.{Took, append, asks, at_rest, begin_fetch, begin_search, check, close, copy, copy_places, create, delete, done, enter, expunge, fetch_in, fetch_places, fetching, follow, heard, heard_in, hears, hears_reading, is_lost, list, login, obey, opening, rename, says, search, search_in, searching, select, settle, settle_in, settle_pending, status, store, store_places, subscribe, took, turn, undone, unselected, without_memory}
 use Rattle.imap_session.specs.Fetching.{ask_of, bodies_of}
 use Rattle.imap_session.specs.Searching.{all_places, finds, found, found_from, is_known_charset, is_vast, kept, keys_of, search_ask, search_bodies}
 use Rattle.verb_bytes.specs.Limits.{IsKey, IsUser}
@@ -67,9 +65,11 @@ use Rattle.dialog_laws.proofs.Steps.{few_users}
 
 -- ---- names
 
-mailbox_named : (bytes : List ℕ) → IfSome (mailbox_of bytes) IsName
-mailbox_named bytes =
-    if_has IsName (str_eq_ignore_ascii_case bytes inbox) (Some inbox) (name_of bytes) (record { some = omega arith; most = omega arith; printable = refl }) (when_has IsName (is_name bytes) bytes (name_of_test bytes))
+mailbox_named : (deep : Bool) (bytes : List ℕ) → IfSome (mailbox_of deep bytes) IsName
+mailbox_named deep bytes = when_has IsName (is_name (with_inbox deep bytes)) (with_inbox deep bytes) (name_of_test (with_inbox deep bytes))
+
+made_named : (deep : Bool) (bytes : List ℕ) → IfSome (made_mailbox_of deep bytes) IsName
+made_named deep bytes = mailbox_named deep (cond deep (without_slash bytes) bytes)
 
 -- ---- views, and what they name
 
@@ -123,10 +123,6 @@ fine_either : (b : Bool) (x y : Took) → IsFine x → IsFine y → IsFine (cond
 fine_either true x y f g = f
 fine_either false x y f g = g
 
-rename_pending : (b : Bool) (mailbox : List ℕ) → IsPending (cond b (on.Plain word.Rename) (on.Leave word.Rename mailbox))
-rename_pending true mailbox = tt
-rename_pending false mailbox = tt
-
 module _ (house : House) (s : MailStore) (d : Dialog) (h : IsReading d) where
   fine_say : (text : List ℕ) → IsFine (took (Say text) d)
   fine_say text = record { reading = h; asks = tt }
@@ -166,22 +162,22 @@ module _ (house : House) (s : MailStore) (d : Dialog) (h : IsReading d) where
   fine_delete tag (Some u) None name = fine_say _
   fine_delete tag (Some u) (Some mailbox) name = fine_asks _ tag _ name tt
 
-  fine_rename : (tag : List ℕ) (u : Option User) (target mailbox : Option (List ℕ)) → IfSome target IsName → IfSome mailbox IsName → IsFine (rename tag d u target mailbox)
-  fine_rename tag None target mailbox new name = fine_say _
-  fine_rename tag (Some u) None mailbox new name = fine_say _
-  fine_rename tag (Some u) (Some target) None new name = fine_say _
-  fine_rename tag (Some u) (Some target) (Some mailbox) new name = fine_asks (ask.Rename mailbox target) tag (after_rename mailbox) (name, new) (rename_pending (bytes_eq mailbox inbox) mailbox)
+  fine_rename : (tag : List ℕ) (u : Option User) (deep : Bool) (target mailbox : Option (List ℕ)) → IfSome target IsName → IfSome mailbox IsName → IsFine (rename tag d u deep target mailbox)
+  fine_rename tag None deep target mailbox new name = fine_say _
+  fine_rename tag (Some u) deep None mailbox new name = fine_say _
+  fine_rename tag (Some u) deep (Some target) None new name = fine_say _
+  fine_rename tag (Some u) deep (Some target) (Some mailbox) new name = fine_asks (ask.Rename mailbox target) tag (on.Leave word.Rename) (name, new) tt
 
   fine_subscribe : (tag : List ℕ) (u : Option User) (w : Word) → IsFine (subscribe tag d u w)
   fine_subscribe tag None w = fine_say _
   fine_subscribe tag (Some u) w = fine_say _
 
-  fine_list : (tag : List ℕ) (u : Option User) (subscribed : Bool) (reference pattern : List ℕ) → length reference + length pattern ≤ 4294967295 → IsFine (list tag d u subscribed reference pattern)
-  fine_list tag None subscribed reference pattern few = fine_say _
-  fine_list tag (Some u) subscribed reference [] few = fine_say _
-  fine_list tag (Some u) subscribed reference (b ∷ pattern) few =
+  fine_list : (tag : List ℕ) (u : Option User) (deep subscribed : Bool) (reference pattern : List ℕ) → length reference + length pattern ≤ 4294967295 → IsFine (list tag d u deep subscribed reference pattern)
+  fine_list tag None deep subscribed reference pattern few = fine_say _
+  fine_list tag (Some u) deep subscribed reference [] few = fine_say _
+  fine_list tag (Some u) deep subscribed reference (b ∷ pattern) few =
       let joined : length (reference ++ b ∷ pattern) ≡ length reference + length (b ∷ pattern) = length-append reference (b ∷ pattern) in
-      fine_asks (ask.List (reference ++ b ∷ pattern)) tag (on.List subscribed) (omega (arith, joined, few)) tt
+      fine_asks (ask.List (reference ++ b ∷ pattern)) tag (on.List subscribed deep) (omega (arith, joined, few)) tt
 
   fine_status : (tag : List ℕ) (u : Option User) (mailbox : Option (List ℕ)) (asked : List StatusAsk) → IfSome mailbox IsName → IsFine (status tag d u mailbox asked)
   fine_status tag None mailbox asked name = fine_say _
@@ -269,37 +265,37 @@ module _ (house : House) (s : MailStore) (d : Dialog) (h : IsReading d) where
     fine_check tag None v = fine_say _
     fine_check tag (Some selected) v = fine_follow tag word.Check (Some selected) v
 
-    fine_obey : (sizes : Body → Option ℕ) (tag : List ℕ) (asked : ImapWhat) → IsTrue (is_house house) → IsSpoken asked → IsFine (obey house s sizes tag d asked)
-    fine_obey sizes tag what.Capability is spoken = fine_say _
-    fine_obey sizes tag what.Noop is spoken = fine_follow tag word.Noop d.selected h.selected
-    fine_obey sizes tag what.Logout is spoken = record { reading = h; asks = tt }
-    fine_obey sizes tag (what.Login user password) is spoken = fine_login tag d.user user password is
-    fine_obey sizes tag (what.Select mailbox) is spoken = fine_select tag d.user (mailbox_of mailbox) true (mailbox_named mailbox)
-    fine_obey sizes tag (what.Examine mailbox) is spoken = fine_select tag d.user (mailbox_of mailbox) false (mailbox_named mailbox)
-    fine_obey sizes tag (what.Create mailbox) is spoken = fine_create tag d.user (mailbox_of mailbox) (mailbox_named mailbox)
-    fine_obey sizes tag (what.Delete mailbox) is spoken = fine_delete tag d.user (mailbox_of mailbox) (mailbox_named mailbox)
-    fine_obey sizes tag (what.Rename mailbox target) is spoken = fine_rename tag d.user (mailbox_of target) (mailbox_of mailbox) (mailbox_named target) (mailbox_named mailbox)
-    fine_obey sizes tag (what.Subscribe mailbox) is spoken = fine_subscribe tag d.user word.Subscribe
-    fine_obey sizes tag (what.Unsubscribe mailbox) is spoken = fine_subscribe tag d.user word.Unsubscribe
-    fine_obey sizes tag (what.List reference pattern) is spoken = fine_list tag d.user false reference pattern spoken
-    fine_obey sizes tag (what.Lsub reference pattern) is spoken = fine_list tag d.user true reference pattern spoken
-    fine_obey sizes tag (what.Status mailbox asked) is spoken = fine_status tag d.user (mailbox_of mailbox) asked (mailbox_named mailbox)
-    fine_obey sizes tag (what.Append mailbox flags moment text) is spoken = fine_append tag d.user (mailbox_of mailbox) flags moment text (mailbox_named mailbox) spoken
-    fine_obey sizes tag what.Check is spoken = fine_check tag d.selected h.selected
-    fine_obey sizes tag what.Close is spoken = fine_close tag d.selected h.selected
-    fine_obey sizes tag what.Expunge is spoken = fine_expunge tag d.selected h.selected
-    fine_obey sizes tag (what.Fetch set asked by_uid) is spoken = fine_fetch sizes tag d.selected (attributes_of asked) set by_uid h.selected
-    fine_obey sizes tag (what.Store set how silent flags by_uid) is spoken = fine_store sizes tag d.selected (record { how = how; flags = flags; by_uid = by_uid }) silent set h.selected
-    fine_obey sizes tag (what.Copy set target by_uid) is spoken = fine_copy tag d.selected set (mailbox_of target) by_uid h.selected (mailbox_named target)
-    fine_obey sizes tag (what.Search charset key by_uid) is spoken = fine_search sizes tag d.selected charset key by_uid h.selected
-    fine_obey sizes tag what.Authenticate is spoken = fine_say _
+    fine_obey : (sizes : Body → Option ℕ) (deep : Bool) (tag : List ℕ) (asked : ImapWhat) → IsTrue (is_house house) → IsSpoken asked → IsFine (obey house s sizes deep tag d asked)
+    fine_obey sizes deep tag what.Capability is spoken = fine_say _
+    fine_obey sizes deep tag what.Noop is spoken = fine_follow tag word.Noop d.selected h.selected
+    fine_obey sizes deep tag what.Logout is spoken = record { reading = h; asks = tt }
+    fine_obey sizes deep tag (what.Login user password) is spoken = fine_login tag d.user user password is
+    fine_obey sizes deep tag (what.Select mailbox) is spoken = fine_select tag d.user (mailbox_of deep mailbox) true (mailbox_named deep mailbox)
+    fine_obey sizes deep tag (what.Examine mailbox) is spoken = fine_select tag d.user (mailbox_of deep mailbox) false (mailbox_named deep mailbox)
+    fine_obey sizes deep tag (what.Create mailbox) is spoken = fine_create tag d.user (made_mailbox_of deep mailbox) (made_named deep mailbox)
+    fine_obey sizes deep tag (what.Delete mailbox) is spoken = fine_delete tag d.user (mailbox_of deep mailbox) (mailbox_named deep mailbox)
+    fine_obey sizes deep tag (what.Rename mailbox target) is spoken = fine_rename tag d.user deep (mailbox_of deep target) (mailbox_of deep mailbox) (mailbox_named deep target) (mailbox_named deep mailbox)
+    fine_obey sizes deep tag (what.Subscribe mailbox) is spoken = fine_subscribe tag d.user word.Subscribe
+    fine_obey sizes deep tag (what.Unsubscribe mailbox) is spoken = fine_subscribe tag d.user word.Unsubscribe
+    fine_obey sizes deep tag (what.List reference pattern) is spoken = fine_list tag d.user deep false reference pattern spoken
+    fine_obey sizes deep tag (what.Lsub reference pattern) is spoken = fine_list tag d.user deep true reference pattern spoken
+    fine_obey sizes deep tag (what.Status mailbox asked) is spoken = fine_status tag d.user (mailbox_of deep mailbox) asked (mailbox_named deep mailbox)
+    fine_obey sizes deep tag (what.Append mailbox flags moment text) is spoken = fine_append tag d.user (mailbox_of deep mailbox) flags moment text (mailbox_named deep mailbox) spoken
+    fine_obey sizes deep tag what.Check is spoken = fine_check tag d.selected h.selected
+    fine_obey sizes deep tag what.Close is spoken = fine_close tag d.selected h.selected
+    fine_obey sizes deep tag what.Expunge is spoken = fine_expunge tag d.selected h.selected
+    fine_obey sizes deep tag (what.Fetch set asked by_uid) is spoken = fine_fetch sizes tag d.selected (attributes_of asked) set by_uid h.selected
+    fine_obey sizes deep tag (what.Store set how silent flags by_uid) is spoken = fine_store sizes tag d.selected (record { how = how; flags = flags; by_uid = by_uid }) silent set h.selected
+    fine_obey sizes deep tag (what.Copy set target by_uid) is spoken = fine_copy tag d.selected set (mailbox_of deep target) by_uid h.selected (mailbox_named deep target)
+    fine_obey sizes deep tag (what.Search charset key by_uid) is spoken = fine_search sizes tag d.selected charset key by_uid h.selected
+    fine_obey sizes deep tag what.Authenticate is spoken = fine_say _
 
-    fine_reading : (sizes : Body → Option ℕ) (reading : Reading) → IsTrue (is_house house) → IsSaid reading → IsFine (hears_reading house s sizes d reading)
-    fine_reading sizes (Ok command) is spoken = fine_obey sizes command.tag command.what is spoken
-    fine_reading sizes (Err unread) is spoken = fine_say _
+    fine_reading : (sizes : Body → Option ℕ) (deep : Bool) (reading : Reading) → IsTrue (is_house house) → IsSaid reading → IsFine (hears_reading house s sizes deep d reading)
+    fine_reading sizes deep (Ok command) is spoken = fine_obey sizes deep command.tag command.what is spoken
+    fine_reading sizes deep (Err unread) is spoken = fine_say _
 
-    fine_hears : (sizes : Body → Option ℕ) (raw : RawCommand) → IsTrue (is_house house) → IsShort raw → IsFine (hears house s sizes d raw)
-    fine_hears sizes raw is short = fine_reading sizes (command_of raw) is (reading_said raw short)
+    fine_hears : (sizes : Body → Option ℕ) (deep : Bool) (raw : RawCommand) → IsTrue (is_house house) → IsShort raw → IsFine (hears house s sizes deep d raw)
+    fine_hears sizes deep raw is short = fine_reading sizes deep (command_of raw) is (reading_said raw short)
 
 -- ---- what comes of what was awaited
 
@@ -324,12 +320,12 @@ module _ (s : MailStore) (stored : IsStored s) (house : House) where
   fine_done stamps tag d item (on.Search by_uid numbers) h w = record { reading = h; asks = tt }
   fine_done stamps tag d item (on.Store form silent rows) h w = record { reading = h; asks = tt }
   fine_done stamps tag d item (on.Plain w1) h w = record { reading = h; asks = tt }
-  fine_done stamps tag d item (on.Leave w1 mailbox) h w = record {
-    reading = record { user = h.user; selected = if_has IsViewed (is_on mailbox d.selected) None d.selected tt h.selected; awaits = h.awaits };
+  fine_done stamps tag d item (on.Leave w1) h w = record {
+    reading = record { user = h.user; selected = if_has IsViewed (is_lost s d.user d.selected) None d.selected tt h.selected; awaits = h.awaits };
     asks = tt;
   }
   fine_done stamps tag d item on.Close h w = record { reading = record { user = h.user; selected = tt; awaits = h.awaits }; asks = tt }
-  fine_done stamps tag d item (on.List subscribed) h w = record { reading = h; asks = tt }
+  fine_done stamps tag d item (on.List subscribed deep) h w = record { reading = h; asks = tt }
   fine_done stamps tag d item (on.Status mailbox asked) h w = record { reading = h; asks = tt }
   fine_done stamps tag d item (on.Follow w1) h w = fine_follow house s d h stored tag w1 d.selected h.selected
 
@@ -339,9 +335,9 @@ module _ (s : MailStore) (stored : IsStored s) (house : House) where
   fine_undone tag d (on.Search by_uid numbers) (WasRefused why) h = record { reading = h; asks = tt }
   fine_undone tag d (on.Store form silent rows) (WasRefused why) h = record { reading = h; asks = tt }
   fine_undone tag d (on.Plain w) (WasRefused why) h = record { reading = h; asks = tt }
-  fine_undone tag d (on.Leave w mailbox) (WasRefused why) h = record { reading = h; asks = tt }
+  fine_undone tag d (on.Leave w) (WasRefused why) h = record { reading = h; asks = tt }
   fine_undone tag d on.Close (WasRefused why) h = record { reading = h; asks = tt }
-  fine_undone tag d (on.List subscribed) (WasRefused why) h = record { reading = h; asks = tt }
+  fine_undone tag d (on.List subscribed deep) (WasRefused why) h = record { reading = h; asks = tt }
   fine_undone tag d (on.Status mailbox asked) (WasRefused why) h = record { reading = h; asks = tt }
   fine_undone tag d (on.Follow w) (WasRefused why) h = record { reading = h; asks = tt }
   fine_undone tag d pending Disk h = record { reading = h; asks = tt }
@@ -392,13 +388,13 @@ left_reading what.Authenticate d h = h
 pub opening_reading : IsReading opening
 opening_reading = record { user = tt; selected = tt; awaits = tt }
 
-pub turn_reading : (house : House) (s : MailStore) (sizes : Body → Option ℕ) (d : Dialog) (command : ImapCommand) → IsTrue (is_house house) → IsStored s → IsSpoken command.what → IsReading d
-    → IsReading (turn house s sizes d command).dialog
-turn_reading house s sizes d command is stored spoken h = (fine_obey house s d h stored sizes command.tag command.what is spoken).reading
+pub turn_reading : (house : House) (s : MailStore) (sizes : Body → Option ℕ) (deep : Bool) (d : Dialog) (command : ImapCommand) → IsTrue (is_house house) → IsStored s → IsSpoken command.what → IsReading d
+    → IsReading (turn house s sizes deep d command).dialog
+turn_reading house s sizes deep d command is stored spoken h = (fine_obey house s d h stored sizes deep command.tag command.what is spoken).reading
 
-pub turn_asks : (house : House) (s : MailStore) (sizes : Body → Option ℕ) (d : Dialog) (command : ImapCommand) → IsTrue (is_house house) → IsStored s → IsSpoken command.what → IsReading d
-    → AsksRecordable (turn house s sizes d command).dialog.user (turn house s sizes d command).out
-turn_asks house s sizes d command is stored spoken h = (fine_obey house s d h stored sizes command.tag command.what is spoken).asks
+pub turn_asks : (house : House) (s : MailStore) (sizes : Body → Option ℕ) (deep : Bool) (d : Dialog) (command : ImapCommand) → IsTrue (is_house house) → IsStored s → IsSpoken command.what → IsReading d
+    → AsksRecordable (turn house s sizes deep d command).dialog.user (turn house s sizes deep d command).out
+turn_asks house s sizes deep d command is stored spoken h = (fine_obey house s d h stored sizes deep command.tag command.what is spoken).asks
 
 pub heard_reading : (d : Dialog) (texts : Result (List (List ℕ)) ReadFault) → IsReading d → IsReading (heard d texts).dialog
 heard_reading d texts h = (fine_heard d texts h).reading
@@ -418,7 +414,7 @@ settled_reading s stamps d outcome stored h = (settled_fine no_house s stamps d 
 -- ---- a whole dialog
 
 taken_fine : (house : House) (d : Dialog) (taken : Taken) → IsTrue (is_house house) → IsPlain taken → IsReading d → IsFine (turn_of house d taken)
-taken_fine house d (Command s sizes raw) is plain h = fine_hears house s d h plain.0 sizes raw is plain.1
+taken_fine house d (Command s sizes deep raw) is plain h = fine_hears house s d h plain.0 sizes deep raw is plain.1
 taken_fine house d (Unserved asked) is plain h = record { reading = left_reading asked d h; asks = tt }
 taken_fine house d (Texts texts) is plain h = fine_heard d texts h
 taken_fine house d (Outcome s stamps outcome) is plain h = settled_fine house s stamps d outcome plain h

@@ -38,7 +38,7 @@ unfolding spoken
 no_delivery = refl
 
 abbrev command : List ℕ → readers.Taken
-command bytes = readers.Command (store.opening house conf) (λ body. None) (record { lines = bytes ∷ []; literals = [] })
+command bytes = readers.Command (store.opening house conf) (λ body. None) false (record { lines = bytes ∷ []; literals = [] })
 
 -- a mail reader that logs in and selects its INBOX, in any case, asks for it as user 0
 one_ask : readers.asked_in house reader.opening (command (codes "a LOGIN ann x") ∷ command (codes "b SELECT inbox") ∷ []) ≡ record { user = Some (record { 0 = 0 }); ask = Select (codes "INBOX") } ∷ []

@@ -20,12 +20,12 @@ use Rattle.verb_core.specs.Step.{run}
 use Rattle.verb_core.specs.Store.{is_house}
 use Rattle.verb_bytes.specs.declared.journal.CycleAsk.{CycleAsk}
 use Rattle.verb_bytes.specs.declared.journal.JournalRecord.{JournalRecord}
-use Rattle.verb_bytes.specs.declared.journal.JournalRecord.TheVariants.{Format, Verb, Operator, Cycle, Snapshot}
+use Rattle.verb_bytes.specs.declared.journal.JournalRecord.TheVariants.{Format, Verb, Operator, Cycle, Snapshot, Upgrade}
 use Rattle.verb_bytes.specs.Fields.{Field, are_in_range, deed_kind, name_field}
 use Rattle.verb_bytes.specs.Fields as fields
 use Rattle.verb_bytes.specs.Spelling.{deed_fields}
 use Rattle.verb_bytes.proofs.Forms.{deed_ranged, no_rev}
-use Rattle.store_kept.specs.Kept.{Kept, new_desk, passed, performed, snapshotted, store_of}
+use Rattle.store_kept.specs.Kept.{Kept, new_desk, passed, performed, snapshotted, store_of, upgraded}
 use Rattle.paradox.specs.Letters.{notices}
 use Rattle.paradox.specs.declared.reports.BrokenItem.{BrokenItem}
 use Rattle.paradox.specs.declared.reports.Report.{Report}
@@ -302,6 +302,9 @@ record_good k (Snapshot items conf rows) new g e =
     (either IsGood (is_true k (Snapshot items conf rows)) (snapshotted k) (record k { marks = passed k.marks })
     (record { stored = g.stored; rows = g.rows; accounts = g.accounts; runs = g.runs; keeping = g.keeping; few = g.few; next = g.next })
     (record { stored = g.stored; rows = g.rows; accounts = g.accounts; runs = g.runs; keeping = g.keeping; few = g.few; next = g.next }))
+record_good k (Upgrade at) new g e =
+    let s = some_when (is_spelled (Upgrade at) && not k.deep) (upgraded k) new e in
+    subst IsGood s.1 (record { stored = g.stored; rows = g.rows; accounts = g.accounts; runs = g.runs; keeping = g.keeping; few = g.few; next = g.next })
 record_good k _ new g e = absurd (none_is new e)
 
 records_good : (k : Kept) (rs : List JournalRecord) (new : Kept) → IsGood k → after_records k rs ≡ Some new → IsGood new

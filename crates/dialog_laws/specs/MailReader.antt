@@ -1,5 +1,5 @@
 -- The whole dialog with a mail reader, and what is asked in it.
-use Rattle.std.specs.Prelude.{ℕ, ◌≤◌, ◌+◌, List, [], ◌∷◌, ◌++◌, length, Option, IfSome, Result}
+use Rattle.std.specs.Prelude.{ℕ, ◌≤◌, ◌+◌, Bool, List, [], ◌∷◌, ◌++◌, length, Option, IfSome, Result}
 use Rattle.std.specs.List.{AllByRecursion}
 use Rattle.undo_base.specs.declared.keys.User.{User}
 use Rattle.undo_base.specs.declared.limits.TheConstants.{LAST_MOMENT}
@@ -82,23 +82,23 @@ AsksRecordable user (Bye text) = Unit {0}
 
 -- ---- a whole dialog
 
--- what a dialog takes: a command over a store, with the lengths of its texts; a command for which no memory was found; the texts that were needed, or why
--- they can't be had; or what became of what was asked, with the store and the stamps after it
+-- what a dialog takes: a command over a store, with the lengths of its texts and whether its names may have superiors; a command for which no memory was
+-- found; the texts that were needed, or why they can't be had; or what became of what was asked, with the store and the stamps after it
 pub data Taken : Type 0 where
-  Command : MailStore → (Body → Option ℕ) → RawCommand → Taken
+  Command : MailStore → (Body → Option ℕ) → Bool → RawCommand → Taken
   Unserved : ImapWhat → Taken
   Texts : Result (List (List ℕ)) ReadFault → Taken
   Outcome : MailStore → List (BoxId × ℕ) → Result Item SubmitFault → Taken
 
 -- its store is in the ranges of records, and its command is short
 abbrev pub IsPlain : Taken → Type 0
-IsPlain (Command s sizes raw) = IsStored s × IsShort raw
+IsPlain (Command s sizes deep raw) = IsStored s × IsShort raw
 IsPlain (Unserved asked) = Unit {0}
 IsPlain (Texts texts) = Unit {0}
 IsPlain (Outcome s stamps outcome) = IsStored s
 
 abbrev pub turn_of : House → Dialog → Taken → Took
-turn_of house d (Command s sizes raw) = hears house s sizes d raw
+turn_of house d (Command s sizes deep raw) = hears house s sizes deep d raw
 turn_of house d (Unserved asked) = took (Say []) (without_memory asked d)
 turn_of house d (Texts texts) = heard d texts
 turn_of house d (Outcome s stamps outcome) = settle s stamps d outcome

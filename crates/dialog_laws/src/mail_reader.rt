@@ -1,5 +1,5 @@
 //! What a mail reader's dialog asks. These functions do nothing: their contracts are laws of the definitions.
-ghost use Rattle.std.specs.Prelude.{◌≡◌, ℕ, ◌≤◌, IsTrue, List, Ok, Option, Result};
+ghost use Rattle.std.specs.Prelude.{◌≡◌, ℕ, ◌≤◌, Bool, IsTrue, List, Ok, Option, Result};
 ghost use Rattle.std.specs.List.{AllByRecursion, Contains};
 ghost use Rattle.undo_base.specs.declared.limits.TheConstants.{LAST_MOMENT};
 ghost use Rattle.seal_log.specs.declared.fault.ReadFault.{ReadFault};
@@ -36,18 +36,18 @@ pub fn commands_are_in_range()
 /// A dialog is of a user, of names and of keys at first, and each turn keeps it so. What is asked then can be recorded.
 pub fn reading_dialogs_have_names()
     ensures opening { IsReading opening }
-    ensures turn { (house : House) (s : MailStore) (sizes : Body → Option ℕ) (d : TheDialog) (command : TheCommand) → IsTrue (is_house house) → IsStored s → IsSpoken command.what →
-        IsReading d → IsReading (turn house s sizes d command).dialog }
+    ensures turn { (house : House) (s : MailStore) (sizes : Body → Option ℕ) (deep : Bool) (d : TheDialog) (command : TheCommand) → IsTrue (is_house house) → IsStored s → IsSpoken command.what →
+        IsReading d → IsReading (turn house s sizes deep d command).dialog }
     ensures unserved { (asked : TheWhat) (d : TheDialog) → IsReading d → IsReading (without_memory asked d) }
     ensures heard { (d : TheDialog) (texts : Result (List (List ℕ)) ReadFault) → IsReading d → IsReading (heard d texts).dialog }
     ensures settled { (s : MailStore) (stamps : List (BoxId × ℕ)) (d : TheDialog) (outcome : Result Item SubmitFault) → IsStored s → IsReading d → IsReading (settle s stamps d outcome).dialog }
-    ensures asks { (house : House) (s : MailStore) (sizes : Body → Option ℕ) (d : TheDialog) (command : TheCommand) → IsTrue (is_house house) → IsStored s → IsSpoken command.what →
-        IsReading d → AsksRecordable (turn house s sizes d command).dialog.user (turn house s sizes d command).out }
+    ensures asks { (house : House) (s : MailStore) (sizes : Body → Option ℕ) (deep : Bool) (d : TheDialog) (command : TheCommand) → IsTrue (is_house house) → IsStored s → IsSpoken command.what →
+        IsReading d → AsksRecordable (turn house s sizes deep d command).dialog.user (turn house s sizes deep d command).out }
     ensures asks_then { (d : TheDialog) (texts : Result (List (List ℕ)) ReadFault) → IsReading d → AsksRecordable (heard d texts).dialog.user (heard d texts).out }
 {}
 
 /// Whatever a mail reader says and is answered, the store makes of each ask an item that has a spelling, if it does not refuse it.
 pub fn mail_readers_ask_what_can_be_recorded()
-    ensures { (house : House) (takes : List Taken) (asked : AskedBy) (s : MailStore) (number at : ℕ) (item : Item) → IsTrue (is_house house) → AllByRecursion IsPlain takes →
-        Contains (asked_in house opening takes) asked → IsValid s → IsStored s → number ≤ 4294967295 → at ≤ LAST_MOMENT → live s number at asked.user asked.ask ≡ Ok item → HasSpelling (Verb item) }
+    ensures { (house : House) (takes : List Taken) (asked : AskedBy) (s : MailStore) (number at : ℕ) (deep : Bool) (item : Item) → IsTrue (is_house house) → AllByRecursion IsPlain takes →
+        Contains (asked_in house opening takes) asked → IsValid s → IsStored s → number ≤ 4294967295 → at ≤ LAST_MOMENT → live s number at asked.user asked.ask deep ≡ Ok item → HasSpelling (Verb item) }
 {}

@@ -1,5 +1,5 @@
 //! What the store makes of an ask, and what items leave of it. These functions do nothing: their contracts are laws of the definitions.
-ghost use Rattle.std.specs.Prelude.{◌≡◌, ℕ, ◌+◌, ◌≤◌, IsTrue, IfSome, List, length, None, Ok, Option, Some};
+ghost use Rattle.std.specs.Prelude.{◌≡◌, ℕ, ◌+◌, ◌*◌, ◌≤◌, Bool, IsTrue, IfSome, List, length, None, Ok, Option, Some};
 ghost use Rattle.std.specs.List.{AllByRecursion};
 ghost use Rattle.undo_base.specs.declared.limits.TheConstants.{LAST_MOMENT};
 ghost use Rattle.undo_base.specs.declared.keys.User.{User};
@@ -21,21 +21,21 @@ ghost use Rattle.dialog_laws.specs.Ranges.{IsKeeping, IsRecordable, IsStored};
 
 /// The item that a store makes of an ask that can be recorded has a spelling, with what is shown for it.
 pub fn live_items_have_spellings()
-    ensures asked { (s : MailStore) (number at : ℕ) (by : Option User) (ask : Ask) (item : Item) → IsValid s → IsStored s → IsRecordable ask → IfSome by IsUser →
-        number ≤ 4294967295 → at ≤ LAST_MOMENT → live s number at by ask ≡ Ok item → IsAsked item }
-    ensures spelled { (s : MailStore) (number at : ℕ) (by : Option User) (ask : Ask) (item : Item) → IsValid s → IsStored s → IsRecordable ask → IfSome by IsUser →
-        number ≤ 4294967295 → at ≤ LAST_MOMENT → live s number at by ask ≡ Ok item → HasSpelling (Verb item) }
-    ensures delivered { (s : MailStore) (number at : ℕ) (from : List ℕ) (to : List (List ℕ)) (text : List ℕ) (item : Item) →
-        live s number at None (Deliver from to text) ≡ Ok item → item ≡ delivery number at from to text }
+    ensures asked { (s : MailStore) (number at : ℕ) (by : Option User) (ask : Ask) (deep : Bool) (item : Item) → IsValid s → IsStored s → IsRecordable ask → IfSome by IsUser →
+        number ≤ 4294967295 → at ≤ LAST_MOMENT → live s number at by ask deep ≡ Ok item → IsAsked item }
+    ensures spelled { (s : MailStore) (number at : ℕ) (by : Option User) (ask : Ask) (deep : Bool) (item : Item) → IsValid s → IsStored s → IsRecordable ask → IfSome by IsUser →
+        number ≤ 4294967295 → at ≤ LAST_MOMENT → live s number at by ask deep ≡ Ok item → HasSpelling (Verb item) }
+    ensures delivered { (s : MailStore) (number at : ℕ) (from : List ℕ) (to : List (List ℕ)) (text : List ℕ) (deep : Bool) (item : Item) →
+        live s number at None (Deliver from to text) deep ≡ Ok item → item ≡ delivery number at from to text }
 {}
 
-/// The opening store is in the ranges of records, and so is each that items lead to whose own numbers and names are, as long as the mailboxes and
-/// the items are no more than four bytes count. What users ask is such an item.
+/// The opening store is in the ranges of records, and so is each that items lead to whose own numbers and names are, as long as the mailboxes, and
+/// 200 more for each item, are no more than four bytes count: a name of 200 bytes has fewer superiors. What users ask is such an item.
 pub fn stores_stay_in_range()
     ensures opening { (house : House) (conf : Conf) → IsTrue (is_house house) → IsStored (opening house conf) }
-    ensures step { (s : MailStore) (i : Item) → IsStored s → length s.boxes + 1 ≤ 4294967295 → IsKeeping i → IsStored (step s i).0 }
-    ensures grown { (s : MailStore) (i : Item) → length (step s i).0.boxes ≤ length s.boxes + 1 }
-    ensures run { (base : MailStore) (t : List Item) → IsStored base → length base.boxes + length t ≤ 4294967295 → AllByRecursion IsKeeping t → IsStored (run base t) }
+    ensures step { (s : MailStore) (i : Item) → IsStored s → length s.boxes + 200 ≤ 4294967295 → IsKeeping i → IsStored (step s i).0 }
+    ensures grown { (s : MailStore) (i : Item) → IsKeeping i → length (step s i).0.boxes ≤ length s.boxes + 200 }
+    ensures run { (base : MailStore) (t : List Item) → IsStored base → length base.boxes + 200 * length t ≤ 4294967295 → AllByRecursion IsKeeping t → IsStored (run base t) }
     ensures asked { (i : Item) → IsAsked i → IsKeeping i }
 {}
 

@@ -34,11 +34,11 @@ or_item_is : (o : Option Refused) (i item : Item) → or_item o i ≡ Ok item �
 or_item_is None i item is = let same : ◌≡◌ {A = Result Item Refused} (Ok i) (Ok item) = is in cc
 or_item_is (Some why) i item is = absurd (let wrong : ◌≡◌ {A = Result Item Refused} (Err why) (Ok item) = is in cc)
 
-pub kept_so : (s : MailStore) (number at : ℕ) (by : Option User) (q : Searching) (texts : List (List ℕ)) (item : Item) → live s number at by (search_ask q texts) ≡ Ok item
+pub kept_so : (s : MailStore) (number at : ℕ) (by : Option User) (q : Searching) (texts : List (List ℕ)) (deep : Bool) (item : Item) → live s number at by (search_ask q texts) deep ≡ Ok item
     → (item.by ≡ by) × (item.deed ≡ search_deed q texts) × (item.shown ≡ Seen (sights_in s by q texts))
-kept_so s number at by q texts item is =
+kept_so s number at by q texts deep item is =
     let due = answered s (asked_item s number at by (search_ask q texts)) in
-    let same : due ≡ item = or_item_is (refusal s number at by (search_ask q texts)) due item is in
+    let same : due ≡ item = or_item_is (refusal s number at by (search_ask q texts) deep) due item is in
     (sym (ap (λ (i : Item). i.by) same), sym (ap (λ (i : Item). i.deed) same), sym (ap (λ (i : Item). i.shown) same))
 
 -- ---- what is compared

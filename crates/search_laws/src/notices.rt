@@ -1,5 +1,5 @@
 //! These functions do nothing: their contracts are laws of the definitions.
-ghost use Rattle.std.specs.Prelude.{◌≡◌, ◌↔◌, ℕ, List, false, true, None, Option, Ok};
+ghost use Rattle.std.specs.Prelude.{◌≡◌, ◌↔◌, ℕ, Bool, List, false, true, None, Option, Ok};
 ghost use Rattle.undo_base.specs.declared.keys.User.{User};
 ghost use Rattle.verb_core.specs.declared.item.Item.{Item};
 ghost use Rattle.verb_core.specs.declared.item.Shown.TheVariants.{Seen};
@@ -19,7 +19,7 @@ ghost use Rattle.search_laws.specs.Notices.{all_stay, search_deed, sights_in};
 /// cycle's point, there is a reason to tell of it exactly where it is dropped, or where one of the messages that it has shown is not
 /// in its mailbox at its place of the new timeline, or has another text there and the SEARCH looked at texts or at sizes.
 pub fn searches_are_told_of_by_what_they_showed()
-    ensures kept { (s : MailStore) (number at : ℕ) (by : Option User) (q : Searching) (texts : List (List ℕ)) (item : Item) → live s number at by (search_ask q texts) ≡ Ok item →
+    ensures kept { (s : MailStore) (number at : ℕ) (by : Option User) (q : Searching) (texts : List (List ℕ)) (deep : Bool) (item : Item) → live s number at by (search_ask q texts) deep ≡ Ok item →
         (item.by ≡ by) × (item.deed ≡ search_deed q texts) × (item.shown ≡ Seen (sights_in s by q texts)) }
     ensures told { (q : Searching) (texts : List (List ℕ)) (item : Item) (shown : List Sight) (s : Kept) (at : ℕ) (ask : CycleAsk) (place : ℕ) (earlier : List Item) →
         item.deed ≡ search_deed q texts → item.shown ≡ Seen shown →

@@ -10,12 +10,13 @@ use Rattle.verb_core.specs.declared.mailbox.Mailbox.{Mailbox}
 use Rattle.verb_core.specs.Deeds.{act_item}
 use Rattle.verb_bytes.specs.declared.journal.CycleAsk.{CycleAsk}
 use Rattle.verb_bytes.specs.declared.journal.JournalRecord.{JournalRecord}
-use Rattle.verb_bytes.specs.declared.journal.JournalRecord.TheVariants.{Format, Verb, Operator, Cycle, Snapshot}
+use Rattle.verb_bytes.specs.declared.journal.JournalRecord.TheVariants.{Format, Verb, Operator, Cycle, Snapshot, Upgrade}
 use Rattle.store_kept.specs.Kept.{Kept, passed, performed, snapshotted}
 use Rattle.cycle_rules.specs.Asking.{after_cycle}
 use Rattle.cycle_rules.specs.Cycles.{cycled_at, told_at}
 use Rattle.desk_journal.specs.Records.{after_kept, after_record, after_records, after_snapshot, first_state, is_cycle, is_snapshot, is_true, state}
 use Rattle.desk_journal.proofs.Runs.{state_append}
+use Rattle.desk_journal.proofs.Upgrading.{upgrade_is}
 use Rattle.snapshot_laws.specs.Usable.{cycles_in, snapshots_in}
 use Rattle.snapshot_laws.proofs.Runs.{IsLasting, along}
 use Rattle.snapshot_laws.proofs.Steps.{IsFirst, cycled_is, is_first, kept_is, performed_is}
@@ -57,6 +58,8 @@ taken_more done kept (Cycle number at ask) next is old e =
 taken_more done kept (Snapshot items conf rows) next is old e =
     taken_by done (Snapshot items conf rows) kept.marks.taken next.marks.taken 1 old
     (ap (λ (k : Kept). k.marks.taken) (sym (kept_is kept next items conf rows e).next_is) ∙ taken_kept kept (Snapshot items conf rows)) refl
+taken_more done kept (Upgrade at) next is old e =
+    taken_by done (Upgrade at) kept.marks.taken next.marks.taken 0 old (ap (λ (k : Kept). k.marks.taken) (sym (upgrade_is kept next at e)) ∙ omega arith) refl
 taken_more done kept _ next is old e = absurd (cc e)
 
 pub taken_are : (records : List JournalRecord) (kept : Kept) → state records ≡ Some kept → IsTaken records kept
@@ -86,6 +89,7 @@ counts_one kept next (Cycle number at ask) e plain =
     let cycled = cycled_is kept next at ask number e in
     subst (λ (k : Kept). Counts kept k (cycles_in (Cycle number at ask ∷ []))) cycled.next_is (counts_cycle kept at ask cycled.place (cycles_in (Cycle number at ask ∷ [])) refl)
 counts_one kept next (Snapshot items conf rows) e plain = absurd (cc plain)
+counts_one kept next (Upgrade at) e plain = subst (λ (k : Kept). Counts kept k 0) (upgrade_is kept next at e) (record { house = refl; numbers = omega arith })
 counts_one kept next _ e plain = absurd (cc e)
 
 -- no record is a snapshot, nor the first

@@ -7,10 +7,11 @@ use Rattle.verb_core.specs.declared.mailbox.BoxId.{BoxId}
 use Rattle.verb_core.specs.declared.mailbox.Mailbox.{Mailbox}
 use Rattle.verb_core.specs.Deeds.{act_item}
 use Rattle.verb_bytes.specs.declared.journal.JournalRecord.{JournalRecord}
-use Rattle.verb_bytes.specs.declared.journal.JournalRecord.TheVariants.{Verb, Operator, Cycle, Snapshot}
+use Rattle.verb_bytes.specs.declared.journal.JournalRecord.TheVariants.{Verb, Operator, Cycle, Snapshot, Upgrade}
 use Rattle.store_kept.specs.Kept.{Kept, new_desk, not_behind, passed, performed, placed, snapshotted}
 use Rattle.cycle_rules.specs.Cycles.{cycled_at}
 use Rattle.desk_journal.specs.Records.{first_state, is_true, place_rewound_to, state}
+use Rattle.desk_journal.proofs.Upgrading.{upgrade_is}
 use Rattle.snapshot_laws.specs.Usable.{GoesNoLower, IsUsable}
 use Rattle.snapshot_laws.proofs.Members.{In, Rises, placed_is, placed_itself, placed_others, rises_not_behind, rises_placed, stayed, stays}
 use Rattle.snapshot_laws.proofs.Runs.{IsLasting, along}
@@ -205,6 +206,9 @@ stands_more done kept (Snapshot items conf rows) next is stands e =
     let found = kept_is kept next items conf rows e in
     subst (Stands (done ++ Snapshot items conf rows ∷ [])) found.next_is
     (stands_snapshot done kept items conf rows is stands found.items_are (is_true kept (Snapshot items conf rows)) refl)
+stands_more done kept (Upgrade at) next is stands e =
+    subst (Stands (done ++ Upgrade at ∷ [])) (upgrade_is kept next at e)
+    (plain done kept (Upgrade at) is stands (λ n last. let wrong : Upgrade at ≡ Snapshot n last.conf last.rows = last.record_is in cc wrong) refl (length kept.timeline) (omega arith))
 stands_more done kept _ next is stands e = absurd (cc e)
 
 -- the first record is no snapshot

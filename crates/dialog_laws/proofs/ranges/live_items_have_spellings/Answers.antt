@@ -6,7 +6,7 @@ pub returns-clause-asked : goal.returns-clause-asked
 returns-clause-asked c = live_asked
 
 pub returns-clause-spelled : goal.returns-clause-spelled
-returns-clause-spelled c s number at by ask item valid stored h user le timely e = item_is_spelled item (live_asked s number at by ask item valid stored h user le timely e)
+returns-clause-spelled c s number at by ask deep item valid stored h user le timely e = item_is_spelled item (live_asked s number at by ask deep item valid stored h user le timely e)
 
 pub returns-clause-delivered : goal.returns-clause-delivered
 returns-clause-delivered c = live_delivery
