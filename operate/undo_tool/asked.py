@@ -10,7 +10,8 @@ import time
 from typing import Any, Callable, Iterator, Optional
 
 from .console import Console, Item, Timeline
-from .formats import (ACTS, LARGEST_BODY, LARGEST_INDEX, LARGEST_NUMBER, LARGEST_REQUEST, LAST_NUMBER, LONGEST_KEY, LONGEST_LOCAL, LONGEST_NAME, REPLACEABLE)
+from .formats import (ACTS, HEADER, LARGEST_BODY, LARGEST_INDEX, LARGEST_NUMBER, LARGEST_REQUEST, LAST_NUMBER, LONGEST_FIELD, LONGEST_KEY, LONGEST_LOCAL, LONGEST_NAME, MAY_HAVE,
+                      REPLACEABLE, SCOPES)
 from .moments import utc
 from .troubles import NOTHING_FOUND, WRONG_WORDS, Trouble
 
@@ -25,6 +26,10 @@ def is_name(it: Any, longest: int = LONGEST_NAME) -> bool:
 
 def is_local(it: Any) -> bool:
     return isinstance(it, str) and re.fullmatch(r'[a-z0-9._-]{1,%d}' % LONGEST_LOCAL, it) is not None
+
+
+def is_field(it: Any) -> bool:
+    return isinstance(it, str) and re.fullmatch(r'[A-Za-z0-9_-]{1,%d}' % LONGEST_FIELD, it) is not None
 
 
 def body_fault(it: Any) -> Optional[str]:
@@ -45,10 +50,14 @@ def act_faults(act: Any) -> Iterator[str]:
     if not isinstance(act, dict) or not isinstance(act.get('act'), str) or act['act'] not in ACTS:
         yield f'An act is one of {", ".join(ACTS)}, not {shortly(act)}.'
         return
-    word, wants = act['act'], {'act', *ACTS[act['act']]}
-    if set(act) != wants:
-        yield f'The act {word} has exactly the members {", ".join(sorted(wants))}, not {", ".join(sorted(act))}.'
+    word = act['act']
+    wants, may = {'act', *ACTS[word]}, set(MAY_HAVE.get(word, ()))
+    if not wants <= set(act) <= wants | may:
+        more = f' and may have {", ".join(sorted(may))}' if may else ''
+        yield f'The act {word} has exactly the members {", ".join(sorted(wants))}{more}, not {", ".join(sorted(act))}.'
         return
+    if ('field' in act) != (act.get('scope') == HEADER):
+        yield f'In the act {word}, field names a header field where the scope is "{HEADER}", and stands nowhere else.'
     checks: dict[str, tuple[Callable[[Any], bool], str]] = {
         'local': (is_local, 'is no local part: 1 to 64 of a to z, 0 to 9, ".", "-" and "_"'),
         'users': (lambda it: isinstance(it, list) and bool(it) and all(map(is_local, it)), 'is no list of at least one user'),
@@ -57,10 +66,12 @@ def act_faults(act: Any) -> Iterator[str]:
         'needle': (is_name, 'is nothing that a filter can look for: 1 to 200 printable bytes'),
         'box': (is_name, 'is no name of a mailbox'),
         'file': (lambda it: it is None or is_name(it), 'is neither a mailbox nor null'),
+        'scope': (lambda it: isinstance(it, str) and it in SCOPES, f'is none of {", ".join(SCOPES)}'),
+        'field': (is_field, f'is no name of a header field: 1 to {LONGEST_FIELD} letters, digits, "-" and "_"'),
         'item': (is_number, f'is no number from 0 to {LARGEST_NUMBER}'),
         'index': (lambda it: is_number(it, LARGEST_INDEX), f'is no index from 0 to {LARGEST_INDEX}'),
     }
-    for member in ACTS[word]:
+    for member in (*ACTS[word], *(it for it in MAY_HAVE.get(word, ()) if it in act)):
         if member == 'body':
             fault = body_fault(act['body'])
             if fault:

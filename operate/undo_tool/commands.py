@@ -6,10 +6,10 @@ import sys
 import time
 from urllib.parse import quote
 
-from .common import Words, drafted, show, store_of, wanted_of
+from .common import Words, confirmed, drafted, show, store_of, wanted_of
 from .console import Console, Item, Timeline, accepted, refusal
 from .formats import ACT_VERBS, LAST_NUMBER, WITH_TEXT
-from .history import Telling, opened, read
+from .history import Telling, filter_of, opened, read, where_text
 from .mail import message_of, text_of
 from .measures import measured
 from .model import NOTHING
@@ -46,6 +46,19 @@ def do_metrics(words: Words) -> int:
 def do_snapshot(words: Words) -> int:
     answer = accepted(words.console.post('/snapshot', b''))
     show(words, answer, f'The store that {answer["items"]:,} items led to is in the journal: a cycle behind them begins there.')
+    return 0
+
+
+UPGRADE_SAID = '''From then on a mailbox may stand in another: `Work/2005` lies in `Work`, a CREATE of it makes both, a RENAME of `Work` takes it along, and
+mail programs show a tree. No message, UID or UIDVALIDITY changes, and a name that is there stays. It cannot be undone, and no cycle undoes it.
+Every IMAP connection is sent away and connects again. A mail program may show the tree only once it has read its list of folders anew.'''
+
+
+def do_upgrade(words: Words) -> int:
+    if not words.yes:
+        confirmed(f'{UPGRADE_SAID}\nUpgrade it?')
+    answer = accepted(words.console.post('/upgrade', b''), 'This server knows no upgrade (404): it came with a later version of undomail.')
+    show(words, answer, 'The store is upgraded: names of mailboxes may have superiors.')
     return 0
 
 
@@ -114,8 +127,8 @@ def do_box(words: Words) -> int:
 def do_conf(words: Words) -> int:
     conf = accepted(words.console.get('/conf'))
     aliases = table(['alias', 'users'], ([name, ', '.join(users)] for name, users in conf['aliases'].items())) if conf['aliases'] else 'No alias.'
-    filters = table(['filter', 'what it does', 'needle'],
-                    ([it['name'], 'discards' if it['file'] is None else f'files into {it["file"]}', it['needle']] for it in conf['filters'])) if conf['filters'] else 'No filter.'
+    filters = table(['filter', 'what it does', 'where it looks', 'needle'],
+                    ([it.name, 'discards' if it.file is None else f'files into {it.file}', where_text(it), it.needle] for it in map(filter_of, conf['filters']))) if conf['filters'] else 'No filter.'
     show(words, conf, f'{aliases}\n\n{filters}')
     return 0
 

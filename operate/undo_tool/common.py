@@ -9,7 +9,7 @@ from typing import Any, Optional
 from .asked import new_key, octets_of, refuse, shape_faults
 from .console import Wanted
 from .files import write_new
-from .troubles import WRONG_WORDS, Trouble
+from .troubles import NOT_CONFIRMED, WRONG_WORDS, Trouble
 
 Words = argparse.Namespace
 
@@ -39,6 +39,13 @@ def drafted(words: Words, point: int, drops: list[int], what: str) -> None:
     refuse(shape_faults(request), 'This is no request that the console would take')
     write_request(request, words.draft)
     print(f'A request that drops {what} stands in {words.draft}, under the key {json.dumps(request["key"])}, back to point {point}. Next: undo try {words.draft}', file=sys.stderr if words.json else sys.stdout)
+
+
+def confirmed(question: str) -> None:
+    """Asks for a yes; a terminal that says nothing is a no."""
+    print(f'{question} Write yes: ', end='', file=sys.stderr, flush=True)
+    if sys.stdin.readline().strip().lower() != 'yes':
+        raise Trouble(NOT_CONFIRMED, 'Not confirmed: nothing was sent.')
 
 
 def write_request(request: dict[str, Any], path: str) -> None:

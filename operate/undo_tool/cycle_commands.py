@@ -8,13 +8,13 @@ import sys
 from typing import Any
 
 from .asked import idle_parts, new_key, octets_of, refuse, shape_faults, store_faults
-from .common import Words, show, write_request
+from .common import Words, confirmed, show, write_request
 from .console import Timeline
 from .cycles import Outcome, Prepared, naming_of, prepared, run_cycle
 from .files import kept_from, mail_from, request_from
 from .formats import LARGEST_REQUEST
 from .told import by_user, counted, effects_text, naming_text, report_text, totals_text
-from .troubles import FILE_FAULT, NOT_CONFIRMED, NOTHING_FOUND, WRONG_WORDS, Trouble
+from .troubles import FILE_FAULT, NOTHING_FOUND, WRONG_WORDS, Trouble
 
 
 def do_draft(words: Words) -> int:
@@ -78,13 +78,11 @@ def outcome_text(request: dict[str, Any], outcome: Outcome, texts: int, everythi
 
 
 def confirm(report: dict[str, Any]) -> None:
-    """Asks whether to run it; a terminal that says nothing is a no."""
+    """Asks whether to run it."""
     users = list(by_user(report))
     shown = f'{", ".join(users[:10])} and {len(users) - 10:,} more' if len(users) > 10 else ', '.join(users)
     who = f'{shown} will get a notice' if users else 'nobody will get a notice'
-    print(f'Every mail reader is sent away and connects again; {who}. Run it? Write yes: ', end='', file=sys.stderr, flush=True)
-    if sys.stdin.readline().strip().lower() != 'yes':
-        raise Trouble(NOT_CONFIRMED, 'Not confirmed: nothing was sent.')
+    confirmed(f'Every mail reader is sent away and connects again; {who}. Run it?')
 
 
 # ---- texts that are given back ----

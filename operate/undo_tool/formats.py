@@ -8,7 +8,7 @@ LARGEST_BODY = 1_052_672
 LARGEST_NUMBER = 4_294_967_295
 LARGEST_INDEX = 65_535
 LAST_NUMBER = 4_194_303
-LONGEST_KEY, LONGEST_NAME, LONGEST_LOCAL = 64, 200, 64
+LONGEST_KEY, LONGEST_NAME, LONGEST_LOCAL, LONGEST_FIELD = 64, 200, 64, 64
 ACTS = {
     'alias': ('local', 'users'),
     'unalias': ('local',),
@@ -17,6 +17,8 @@ ACTS = {
     'remove': ('box', 'index', 'item', 'user'),
     'give': ('body', 'box', 'user'),
 }
+MAY_HAVE = {'filter': ('scope', 'field')}  # a field exactly beside the scope of a header
+BODY, HEADER, SENDER, RECIPIENT = SCOPES = 'body', 'header', 'sender', 'recipient'
 WITH_TEXT = {'DELIVER', 'APPEND', 'GIVE', 'NOTICE'}
 ACT_VERBS = {'ALIAS', 'UNALIAS', 'FILTER', 'UNFILTER', 'REMOVE', 'GIVE'}
 REPLACEABLE = {'DELIVER', 'APPEND', 'GIVE'}

@@ -5,6 +5,7 @@ import base64
 import dataclasses
 from typing import Any, Callable, Iterable, Iterator, NamedTuple, Optional
 
+from .formats import BODY, HEADER, RECIPIENT, SENDER
 from .journal import (NOBODY, Append, Body, Close, Copy, Create, Cycle, Damaged, Deed, Delete, Deliver, DropAlias, DropFilter, Expunge, Fetch, Filter, Format, Give, Journal, List,
                       NoStore, Notice, Operator, Remove, Rename, Select, SetAlias, SetFilter, Snapshot, Status, Store, Verb, keys_in, sights_in)
 from .mail import Message, text_of
@@ -130,7 +131,7 @@ class Telling:
         elif type(deed) is DropAlias:
             row.update(local=deed.local)
         elif type(deed) is SetFilter:
-            row.update(name=deed.filter.name, needle=deed.filter.needle, file=deed.filter.file)
+            row.update(filter_data(deed.filter))
         elif type(deed) is DropFilter:
             row.update(name=deed.name)
         elif type(deed) is Remove:
@@ -197,8 +198,29 @@ class Telling:
         return '; '.join(parts)
 
 
+def filter_data(it: Filter) -> dict[str, Any]:
+    """A filter as the console has it: with its scope unless that is the body, and with the field that it names."""
+    return {'name': it.name, 'needle': it.needle, 'file': it.file, **({} if it.scope == BODY else {'scope': it.scope}), **({} if it.field is None else {'field': it.field})}
+
+
+def filter_of(it: dict[str, Any]) -> Filter:
+    """A filter of an act, or as the console tells it."""
+    return Filter(it['name'], it['needle'], it['file'], it.get('scope', BODY), it.get('field'))
+
+
+def where_text(it: Filter) -> str:
+    """Where a filter looks."""
+    return {BODY: 'whole text', HEADER: f'header field {it.field}', SENDER: 'sender', RECIPIENT: 'recipients'}[it.scope]
+
+
+def met_text(it: Filter) -> str:
+    """What is said of mail that the filter decides about."""
+    where = {BODY: 'what holds', HEADER: f'what has in {it.field}', SENDER: 'what is from a sender with', RECIPIENT: 'what is to a recipient with'}
+    return f'{where[it.scope]} "{it.needle}"'
+
+
 def filter_text(it: Filter) -> str:
-    return f'filter {it.name}: what holds "{it.needle}" is {"discarded" if it.file is None else f"filed into {it.file}"}'
+    return f'filter {it.name}: {met_text(it)} is {"discarded" if it.file is None else f"filed into {it.file}"}'
 
 
 def keys_text(keys: list[int]) -> str:
@@ -416,7 +438,7 @@ def deed_of(house: House, act: dict[str, Any]) -> Deed:
     if word == 'unalias':
         return DropAlias(act['local'])
     if word == 'filter':
-        return SetFilter(Filter(act['name'], act['needle'], None if act['file'] is None else box(act['file'])))
+        return SetFilter(filter_of({**act, 'file': None if act['file'] is None else box(act['file'])}))
     if word == 'unfilter':
         return DropFilter(act['name'])
     if word == 'remove':

@@ -8,9 +8,12 @@ What is not as docs/FORMATS.md says is refused at its place, and nothing is gues
 from __future__ import annotations
 
 import os
+import re
 import struct
 from copy import copy as shallow_copy
 from typing import Any, Callable, Iterator, NamedTuple, Optional, Union
+
+from .formats import BODY, SCOPES
 
 OPEN_GATE = 0x55
 LAST_NUMBER = 4_194_303
@@ -21,6 +24,7 @@ NOBODY = 255
 ANSWERED, FLAGGED, DELETED, SEEN, DRAFT = 1, 2, 4, 8, 16
 REPLACE_FLAGS, ADD_FLAGS, TAKE_FLAGS = range(3)
 PLAINLY, NO_SOURCE, MERGED = range(3)
+WHOLE, FIELD = 0, 1  # of the scopes, as records have them
 
 
 class Damaged(Exception):
@@ -55,6 +59,8 @@ class Filter(NamedTuple):
     name: str
     needle: str
     file: Optional[str]  # the mailbox; none discards
+    scope: str = BODY  # where it looks
+    field: Optional[str] = None  # the header field, where the scope is a header's
 
 
 class Key(NamedTuple):
@@ -228,6 +234,10 @@ class Cycle(NamedTuple):
     inserts: tuple[Deed, ...]
 
 
+class Upgrade(NamedTuple):
+    at: int
+
+
 class SnapshotBox(NamedTuple):
     user: int
     name: str
@@ -242,7 +252,7 @@ class Snapshot(NamedTuple):
     boxes: tuple[SnapshotBox, ...]
 
 
-Record = Union[Format, Verb, Operator, Cycle, Snapshot]
+Record = Union[Format, Verb, Operator, Cycle, Snapshot, Upgrade]
 
 U32, KEY, SIGHT, ENTRY = struct.Struct('>I'), struct.Struct('>IH'), struct.Struct('>IHI'), struct.Struct('>QIHIIBQ')
 VERB_HEAD = struct.Struct('>IQBB')  # number, moment, actor and the deed's byte, behind the kind
@@ -386,6 +396,30 @@ class Fields:
     def filter(self) -> Filter:
         return Filter(self.name(), self.name(), self.option(self.name))
 
+    def field_name(self) -> str:
+        at, found = self.at, self.name()
+        if re.fullmatch('[A-Za-z0-9_-]{1,64}', found) is None:
+            raise Refused(at, 'a name that no header field can have')
+        return found
+
+    def scope(self, least: int) -> tuple[str, Optional[str]]:
+        """Where a filter looks, and the header field."""
+        at, found = self.at, self.up_to(len(SCOPES) - 1, 'a scope')
+        if found < least:
+            raise Refused(at, f'a scope {found} is under {least}')
+        return SCOPES[found], self.field_name() if found == FIELD else None
+
+    def scoped(self, least: int) -> Filter:
+        """A filter, and behind it where it looks."""
+        return Filter(*self.filter()[:3], *self.scope(least))
+
+    def scoped_filters(self) -> tuple[Filter, ...]:
+        """Filters of which some looks elsewhere than in the whole text."""
+        at, found = self.at, self.each(lambda: self.scoped(WHOLE))
+        if all(it.scope == BODY for it in found):
+            raise Refused(at, 'each filter looks at the whole text, so the record is to be one without scopes')
+        return found
+
     def alias(self) -> tuple[str, tuple[int, ...]]:
         return self.name(), self.each(self.user)
 
@@ -472,6 +506,7 @@ DEEDS: dict[int, Callable[[Fields], Deed]] = {
 ACTS: dict[int, Callable[[Fields], Deed]] = {
     1: lambda it: SetAlias(*it.alias()), 2: lambda it: DropAlias(it.name()), 3: lambda it: SetFilter(it.filter()), 4: lambda it: DropFilter(it.name()),
     5: lambda it: Remove(it.user(), it.name(), int.from_bytes(it.take(6), 'big')), 6: lambda it: Give(it.user(), it.name(), it.text(LARGEST_BODY)),
+    7: lambda it: SetFilter(it.scoped(FIELD)),
 }
 
 
@@ -516,12 +551,16 @@ def entries(it: Fields) -> bytes:
     return found
 
 
-def snapshot(it: Fields) -> Snapshot:
-    return Snapshot(it.u32(), it.each(it.alias), it.each(it.filter), it.each(lambda: SnapshotBox(it.user(), it.name(), it.u64(), entries(it))))
+def snapshot(it: Fields, scoped: bool) -> Snapshot:
+    return Snapshot(it.u32(), it.each(it.alias), it.scoped_filters() if scoped else it.each(it.filter), it.each(lambda: SnapshotBox(it.user(), it.name(), it.u64(), entries(it))))
 
 
-FORMAT, VERB, OPERATOR, CYCLE, SNAPSHOT = range(5)
-KINDS: dict[int, Callable[[Fields], Record]] = {FORMAT: the_format, VERB: verb, OPERATOR: lambda it: Operator(it.u32(), it.moment(), act(it)), CYCLE: cycle, SNAPSHOT: snapshot}
+FORMAT, VERB, OPERATOR, CYCLE, SNAPSHOT, UPGRADE, SCOPED_SNAPSHOT = range(7)
+SNAPSHOTS = (SNAPSHOT, SCOPED_SNAPSHOT)
+KINDS: dict[int, Callable[[Fields], Record]] = {
+    FORMAT: the_format, VERB: verb, OPERATOR: lambda it: Operator(it.u32(), it.moment(), act(it)), CYCLE: cycle, SNAPSHOT: lambda it: snapshot(it, False),
+    UPGRADE: lambda it: Upgrade(it.moment()), SCOPED_SNAPSHOT: lambda it: snapshot(it, True),
+}
 
 
 def record_of(payload: bytes) -> Record:

@@ -9,7 +9,7 @@ from .common import Words, drafted, show, store_of, wanted_of
 from .console import Item as Row
 from .console import Wanted
 from .history import (FLAGS_ALONE, LOOK_WORDS, LOOKED, READ, Delivery, Read, Telling, addressed_to, opened, read, reading, some, touched_by, who_read)
-from .journal import Cycle, Format, Journal, Operator, SetFilter, Verb
+from .journal import Cycle, Format, Journal, Operator, SetFilter, Upgrade, Verb
 from .mail import Message, text_of
 from .model import NOTHING, Done, Item, Outcome, Past, box_named
 from .moments import local, utc
@@ -49,12 +49,18 @@ class Rows:
         elif kind is Cycle:
             if self.has(record.number, record.at, '', 'CYCLE', ''):
                 self.write(self.cycle_data(record, outcome) if self.json else None, record.number, record.at, '', 'CYCLE', lambda: self.telling.cycle(record, outcome))
+        elif kind is Upgrade:
+            if self.has_without_number(record.at, 'UPGRADE'):
+                self.write({'verb': 'UPGRADE', 'at': record.at}, None, record.at, '', 'UPGRADE', lambda: 'names of mailboxes may have superiors from here on')
         elif not self.chooses:
             data = self.format_data(record) if kind is Format else {'verb': 'SNAPSHOT', 'items': record.count, 'octets': frame.length}
             self.write(data, None, None, '', data['verb'], lambda: self.format_text(data) if kind is Format else f'of the store behind {record.count:,} items, {frame.length:,} octets')
 
     def has(self, number: int, at: int, by: str, verb: str, box: str) -> bool:
         return not self.chooses or ((self.item is None or self.item == number) and self.wanted.has(Row(number, at, by, verb, box)))
+
+    def has_without_number(self, at: int, verb: str) -> bool:
+        return self.item is None and self.has(0, at, '', verb, '')
 
     def of_item(self, item: Item, outcome: Outcome) -> None:
         by = self.telling.user(item.by)

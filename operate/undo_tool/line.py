@@ -8,11 +8,11 @@ import re
 import sys
 from typing import Any, Callable, Optional
 
-from .commands import do_box, do_conf, do_find, do_metrics, do_page, do_plan, do_show, do_snapshot, do_status, do_timeline
+from .commands import do_box, do_conf, do_find, do_metrics, do_page, do_plan, do_show, do_snapshot, do_status, do_timeline, do_upgrade
 from .common import Words
 from .console import Console
 from .cycle_commands import do_draft, do_give_back, do_run, do_try
-from .formats import LARGEST_NUMBER
+from .formats import BODY, HEADER, LARGEST_NUMBER, RECIPIENT, SENDER
 from .journal_commands import do_history, do_to, do_touched_by, do_who_read
 from .many import spread
 from .moments import moment
@@ -86,13 +86,28 @@ def give_act(text: str) -> dict[str, Any]:
     return {'act': 'give', 'body': path, 'box': box, 'user': user}
 
 
+# the options for a filter that comes in, by where it looks
+FILTERS = {
+    '--filter': (BODY, ('NAME', 'NEEDLE'), 'what holds the needle is discarded, or filed into the mailbox'),
+    '--filter-header': (HEADER, ('NAME', 'FIELD', 'NEEDLE'), 'the same of what has it in a header field of this name, as Subject'),
+    '--filter-sender': (SENDER, ('NAME', 'NEEDLE'), 'the same of what comes from a sender who has it'),
+    '--filter-recipient': (RECIPIENT, ('NAME', 'NEEDLE'), 'the same of what goes to a recipient who has it'),
+}
+
+
 class FilterAct(argparse.Action):
-    """--filter NAME NEEDLE [MAILBOX]: an act among the others, in the order of the words."""
+    """--filter NAME NEEDLE [MAILBOX], and its like: an act among the others, in the order of the words."""
 
     def __call__(self, parser: argparse.ArgumentParser, words: Words, given: Any, option: Optional[str] = None) -> None:
-        if len(given) not in (2, 3):
-            parser.error('--filter wants NAME NEEDLE, to discard, or NAME NEEDLE MAILBOX, to file')
-        act = {'act': 'filter', 'name': given[0], 'needle': given[1], 'file': given[2] if len(given) == 3 else None}
+        scope, wants, _ = FILTERS[self.option_strings[0]]
+        if len(given) not in (len(wants), len(wants) + 1):
+            parser.error(f'{option} wants {" ".join(wants)}, to discard, or {" ".join(wants)} MAILBOX, to file')
+        row = dict(zip(wants, given))
+        act = {'act': 'filter', 'name': row['NAME'], 'needle': row['NEEDLE'], 'file': given[len(wants)] if len(given) > len(wants) else None}
+        if scope != BODY:
+            act['scope'] = scope
+        if scope == HEADER:
+            act['field'] = row['FIELD']
         words.insert = [*(words.insert or []), act]
 
 
@@ -131,7 +146,8 @@ def draft_words(it: argparse.ArgumentParser) -> None:
     ]
     for option, reads, shape, says in acts:
         it.add_argument(option, dest='insert', type=reads, action='append', metavar=shape, help=says)
-    it.add_argument('--filter', dest='insert', action=FilterAct, nargs='+', metavar='WORD', help='NAME NEEDLE [MAILBOX]: a filter that comes in; without a mailbox it discards')
+    for option, (_, wants, says) in FILTERS.items():
+        it.add_argument(option, dest='insert', action=FilterAct, nargs='+', metavar='WORD', help=f'{" ".join(wants)} [MAILBOX]: a filter that comes in: {says}')
     it.add_argument('--as-it-is', action='store_true', help='texts from files keep their line ends (else each is made CRLF, as mail has it)')
     it.add_argument('--offline', action='store_true', help='without a look at the server')
     it.add_argument('-o', '--output', metavar='FILE', help='a new file for the request (else standard output)')
@@ -194,6 +210,8 @@ def look_words(command: Callable[..., argparse.ArgumentParser]) -> None:
     it.add_argument('name', metavar='MAILBOX')
     command('conf', do_conf, 'the aliases and filters in force')
     command('snapshot', do_snapshot, 'puts the store as it is into the journal, so that a cycle behind its last item begins there; no mail changes')
+    it = command('upgrade', do_upgrade, 'lets names of mailboxes have superiors, once and for all, once it is confirmed; no mail changes')
+    it.add_argument('--yes', action='store_true', help='without asking')
 
 
 def past_words(command: Callable[..., argparse.ArgumentParser]) -> None:

@@ -8,7 +8,7 @@ from typing import Any, Optional
 from .console import Console, Timeline, items_of
 from .formats import LAST_NUMBER
 from .history import opened
-from .journal import LATEST_MOMENT, SNAPSHOT, Damaged, NoStore
+from .journal import LATEST_MOMENT, SNAPSHOTS, Damaged, NoStore
 from .moments import local
 from .told import counted
 from .troubles import DAMAGED, Trouble
@@ -129,7 +129,7 @@ def last_snapshot(store: str) -> Optional[int]:
     with opened(store) as journal:
         try:
             for frame in journal.frames():
-                if frame.kind == SNAPSHOT and frame.length >= 5:
+                if frame.kind in SNAPSHOTS and frame.length >= 5:
                     found = int.from_bytes(journal.octets.apart(frame.place + 1, 4), 'big')
         except (NoStore, Damaged) as fault:
             raise Trouble(DAMAGED, f'{store} is no journal: {fault or "it is empty, or does not begin with an open gate"}.') from None

@@ -15,9 +15,10 @@ from copy import copy as shallow_copy
 from typing import Any, Callable, Iterable, Iterator, NamedTuple, Optional
 
 from . import journal
+from .formats import BODY, HEADER, LONGEST_NAME, SCOPES, SENDER
 from .journal import (ADD_FLAGS, DELETED, ENTRY, LAST_NUMBER, MERGED, NO_SOURCE, PLAINLY, REPLACE_FLAGS, SEEN, Append, Body, Close, Copy, Create, Cycle, Damaged, Deed, Delete,
                       Deliver, DropAlias, DropFilter, Expunge, Fetch, Filter, Format, Frame, Give, Journal, List, NoStore, Notice, Operator, Remove, Rename, Select, SetAlias, SetFilter,
-                      Snapshot, Status, Store, Verb, keys_as, keys_in, sights_in)
+                      Snapshot, Status, Store, Upgrade, Verb, keys_as, keys_in, sights_in)
 
 INBOX, LOST_FOUND = 'INBOX', 'Lost+Found'
 FIXED = (INBOX, LOST_FOUND)
@@ -110,21 +111,63 @@ class House:
         self.numbers = {name: number for number, name in enumerate(self.users)}
 
 
+def is_inferior(name: str, other: str) -> bool:
+    """Whether the other stands below the name in the hierarchy."""
+    return name != '' and other.startswith(name + '/')
+
+
+def with_superiors(name: str) -> list[str]:
+    """The name behind its superiors, the shortest first."""
+    return [name[:at] for at in range(1, len(name)) if name[at] == '/'] + [name]
+
+
+def header_values(text: bytes) -> dict[bytes, list[bytes]]:
+    """The values of a text's header fields, by their names in lower case. A field is a line and those after it that begin with a space or a tab; one without a colon has no name."""
+    found: dict[bytes, list[bytes]] = {}
+    header = b'' if text.startswith(b'\r\n') else text.partition(b'\r\n\r\n')[0]
+    for field in re.split(rb'\r\n(?![ \t])', header):
+        name, colon, value = field.partition(b':')
+        if colon:
+            found.setdefault(name.rstrip(b' \t').lower(), []).append(value)
+    return found
+
+
+class Decider:
+    """Which of a store's filters decides where a delivery's message goes: the first whose needle stands where the filter looks."""
+
+    def __init__(self, filters: list[Filter]) -> None:
+        self.rows = [(it, it.needle.encode('ascii'), (it.field or '').encode('ascii').lower()) for it in filters]
+        self.reads_header = any(it.scope == HEADER for it in filters)
+
+    def decides(self, deed: Deliver) -> Optional[Filter]:
+        values = header_values(deed.body.octets) if self.reads_header else {}
+        for it, needle, field in self.rows:
+            if it.scope == BODY:
+                met = needle in deed.body.octets
+            elif it.scope == HEADER:
+                met = any(needle in value for value in values.get(field, ()))
+            elif it.scope == SENDER:
+                met = needle in deed.sender
+            else:
+                met = any(it.needle in local for local in deed.recipients)
+            if met:
+                return it
+        return None
+
+
 def is_listed(pattern: bytes, name: str) -> bool:
-    """Whether a LIST gives this name: `*` and `%` each match any run, and INBOX is compared in any case."""
-    sought, octets = (pattern.upper() if name == INBOX else pattern), name.encode('ascii')
-    pieces = sought.replace(b'%', b'*').split(b'*')
-    if len(pieces) == 1:
-        return octets == sought
-    if not octets.startswith(pieces[0]):
-        return False
-    at = len(pieces[0])
-    for piece in pieces[1:-1]:
-        found = octets.find(piece, at)
-        if found < 0:
-            return False
-        at = found + len(piece)
-    return octets.endswith(pieces[-1]) and len(octets) - len(pieces[-1]) >= at
+    """Whether a LIST gives this name: `*` matches any run, `%` one without `/`, and INBOX as the first part is compared in any case."""
+    octets = name.encode('ascii')
+    in_any_case = len(INBOX) if octets.split(b'/')[0] == INBOX.encode('ascii') else 0
+    places = {0}  # the ends of what the pattern's front matches
+    for letter in pattern:
+        if letter == ord('*'):
+            places = set(range(min(places), len(octets) + 1)) if places else places
+        elif letter == ord('%'):
+            places = {end for at in places for end in range(at, (octets.find(b'/', at) if b'/' in octets[at:] else len(octets)) + 1)}
+        else:
+            places = {at + 1 for at in places if at < len(octets) and (bytes([letter]).upper()[0] if at < in_any_case else letter) == octets[at]}
+    return len(octets) in places
 
 
 class MailStore:
@@ -134,7 +177,7 @@ class MailStore:
         self.house = house
         self.aliases = dict(aliases)
         self.filters: list[Filter] = []
-        self.needles: list[bytes] = []
+        self.decider = Decider([])
         self.boxes: list[dict[str, Box]] = [{INBOX: Box(), LOST_FOUND: Box()} for _ in house.users]
         self.revs: dict[int, int] = {}  # of texts that a cycle replaced
         self.meant: dict[str, tuple[int, ...]] = {}
@@ -157,11 +200,7 @@ class MailStore:
         return PERFORM[type(item.deed)](self, item, item.deed)
 
     def deliver(self, item: Item, deed: Deliver) -> Outcome:
-        decided = None
-        for place, needle in enumerate(self.needles):
-            if needle in deed.body.octets:
-                decided = self.filters[place]
-                break
+        decided = self.decider.decides(deed)
         if item.rev:
             self.revs[item.number] = item.rev
         if decided is not None and decided.file is None:
@@ -226,36 +265,61 @@ class MailStore:
             del box.mail[key]
         return Outcome(None, (), tuple((item.by, deed.box, key) for key in gone))
 
+    def has_inferior(self, user: int, name: str) -> bool:
+        return any(is_inferior(name, it) for it in self.boxes[user])
+
     def create(self, item: Item, deed: Create) -> Outcome:
-        self.boxes[item.by].setdefault(deed.box, Box())
+        if deed.box not in self.boxes[item.by]:
+            self.create_all(item.by, with_superiors(deed.box))
         return NOTHING
+
+    def create_all(self, user: int, names: list[str]) -> None:
+        for name in names:
+            self.boxes[user].setdefault(name, Box())
 
     def way_of(self, user: int, source: str, target: str) -> int:
         boxes = self.boxes[user]
-        if source == LOST_FOUND or target in FIXED or source == target or source not in boxes:
+        if target == '' or source == LOST_FOUND or target in FIXED or source == target or source not in boxes:
             return NO_SOURCE
-        return MERGED if target in boxes else PLAINLY
+        if source != INBOX and is_inferior(source, target):
+            return NO_SOURCE
+        if target in boxes:
+            return MERGED
+        if source != INBOX and any(is_inferior(source, it) and len(target) + len(it) - len(source) > LONGEST_NAME for it in boxes):
+            return NO_SOURCE
+        return PLAINLY
+
+    def leave(self, user: int, name: str) -> None:
+        """INBOX is emptied, and a mailbox that has an inferior; another goes."""
+        if name == INBOX or self.has_inferior(user, name):
+            self.boxes[user][name].mail = {}
+        else:
+            del self.boxes[user][name]
 
     def rename(self, item: Item, deed: Rename) -> Outcome:
         boxes, way = self.boxes[item.by], self.way_of(item.by, deed.box, deed.target)
         if way == NO_SOURCE:
             return NOTHING
-        if way == PLAINLY and deed.box != INBOX:
-            boxes[deed.target] = boxes.pop(deed.box)
-            return NOTHING
+        if way == PLAINLY:
+            self.create_all(item.by, with_superiors(deed.target)[:-1])
+            if deed.box != INBOX:
+                moving = {name: box for name, box in boxes.items() if name == deed.box or is_inferior(deed.box, name)}
+                for name in moving:
+                    del boxes[name]
+                for name, box in moving.items():
+                    boxes[deed.target + name[len(deed.box):]] = box
+                return NOTHING
         target = boxes.setdefault(deed.target, Box())
         target.put_all(boxes[deed.box].mail.items())
-        if deed.box == INBOX:
-            boxes[INBOX].mail = {}
-        else:
-            del boxes[deed.box]
+        self.leave(item.by, deed.box)
         return NOTHING
 
     def delete(self, item: Item, deed: Delete) -> Outcome:
         boxes = self.boxes[item.by]
         if deed.box in FIXED or deed.box not in boxes:
             return NOTHING
-        keys, mail = set(keys_in(deed.keys)), boxes.pop(deed.box).mail
+        keys, mail = set(keys_in(deed.keys)), boxes[deed.box].mail
+        self.leave(item.by, deed.box)
         boxes[LOST_FOUND].put_all((key, it) for key, it in mail.items() if key not in keys)
         return Outcome(None, (), tuple((item.by, deed.box, key) for key in mail if key in keys))
 
@@ -270,7 +334,7 @@ class MailStore:
         return NOTHING
 
     def with_filters(self, filters: list[Filter]) -> Outcome:
-        self.filters, self.needles = filters, [it.needle.encode('ascii') for it in filters]
+        self.filters, self.decider = filters, Decider(filters)
         return NOTHING
 
     def set_filter(self, item: Item, deed: SetFilter) -> Outcome:
@@ -321,17 +385,20 @@ class MailStore:
     # as a snapshot has it
 
     def snapshot(self, count: int) -> Iterator[bytes]:
-        """The payload of the Snapshot record of this store, behind so many items, in pieces."""
+        """The payload of the Snapshot record of this store, behind so many items, in pieces. Where each filter looks at the whole text it tells no scopes."""
         def name(it: str) -> bytes:
             return bytes([len(it)]) + it.encode('ascii')
         def u32(it: int) -> bytes:
             return it.to_bytes(4, 'big')
-        yield b'\x04' + u32(count) + u32(len(self.aliases))
+        def scope(it: Filter) -> bytes:
+            return bytes([SCOPES.index(it.scope)]) + (name(it.field) if it.field else b'')
+        scoped = any(it.scope != BODY for it in self.filters)
+        yield bytes([journal.SCOPED_SNAPSHOT if scoped else journal.SNAPSHOT]) + u32(count) + u32(len(self.aliases))
         for local in sorted(self.aliases):
             yield name(local) + u32(len(self.aliases[local])) + bytes(self.aliases[local])
         yield u32(len(self.filters))
         for it in self.filters:
-            yield name(it.name) + name(it.needle) + (b'\0' if it.file is None else b'\1' + name(it.file))
+            yield name(it.name) + name(it.needle) + (b'\0' if it.file is None else b'\1' + name(it.file)) + (scope(it) if scoped else b'')
         yield u32(sum(len(boxes) for boxes in self.boxes))
         pack, revs = ENTRY.pack, self.revs
         for user, boxes in enumerate(self.boxes):
@@ -498,6 +565,7 @@ class Past:
         self.reports: dict[str, dict[str, Any]] = {}
         self.marks: list[tuple[int, Frame]] = []  # snapshots from which a cycle can begin, by how many items they are of
         self.snapshots = 0
+        self.upgraded: Optional[int] = None  # since when names may have superiors
         self.allowance = 1 << 22  # octets of snapshots that are still compared: so many more with each item, so that reading takes steps by items
 
     # reading
@@ -522,7 +590,7 @@ class Past:
                 self.begin(frame)
                 if seen:
                     seen(self.format, frame, NOTHING)
-            elif frame.kind == journal.SNAPSHOT:
+            elif frame.kind in journal.SNAPSHOTS:
                 self.take_snapshot(frame, seen)
             else:
                 found = self.journal.record(frame)
@@ -530,6 +598,10 @@ class Past:
                     done = self.rewind(found, frame)
                     if seen:
                         seen(found, frame, done)
+                elif type(found) is Upgrade:
+                    self.upgrade(found, frame)
+                    if seen:
+                        seen(found, frame, NOTHING)
                 elif type(found) is Format:
                     raise Damaged(frame.place - 5, frame.place, 'a second Format record')
                 else:
@@ -549,6 +621,11 @@ class Past:
         self.base = lambda: MailStore(self.house, it.aliases)
         self.store = self.base()
         self.stamps = {(user, name): it.first - 1 for user in range(users) for name in FIXED}
+
+    def upgrade(self, it: Upgrade, frame: Frame) -> None:
+        if self.upgraded is not None:
+            raise Damaged(frame.place - 5, frame.place, 'a second Upgrade record')
+        self.upgraded = it.at
 
     def take_snapshot(self, frame: Frame, seen: Any) -> None:
         head = self.journal.octets.apart(frame.place, SNAPSHOT_HEAD)
@@ -571,10 +648,12 @@ class Past:
         """Whether a snapshot that is not true makes a store of the house all the same: then it is passed, and else no record."""
         users = len(self.house.users)
         rows = [(row.user, row.name) for row in it.boxes]
+        there = set(rows)
         rises = all(one < two for one, two in zip(rows, rows[1:])) and all(user < users for user, _ in rows)
-        fixed = all((user, name) in rows for user in range(users) for name in FIXED)
+        fixed = all((user, name) in there for user in range(users) for name in FIXED)
         named = all(max(meant, default=0) < users for _, meant in it.aliases)
-        if not (rises and fixed and named and all(uids_rise(row) for row in it.boxes)):
+        above = all((user, superior) in there for user, name in rows for superior in with_superiors(name)[:-1])
+        if not (rises and fixed and named and above and all(uids_rise(row) for row in it.boxes)):
             raise Damaged(frame.place - 5, frame.place, 'the snapshot is of no store of this house')
 
     def is_true(self, frame: Frame) -> bool:

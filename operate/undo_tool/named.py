@@ -9,8 +9,8 @@ from urllib.parse import quote
 from . import model
 from .console import Console, Item, accepted
 from .formats import REPLACEABLE, WITH_TEXT
-from .history import Telling, filter_text, key_text
-from .journal import Deliver, Filter
+from .history import Telling, filter_of, filter_text, key_text
+from .journal import Deliver
 from .mail import Message, message_of
 from .model import Past
 
@@ -71,7 +71,7 @@ def act_text(act: dict[str, Any]) -> str:
     if word == 'unalias':
         return f'alias {act["local"]} goes'
     if word == 'filter':
-        return filter_text(Filter(act['name'], act['needle'], act['file']))
+        return filter_text(filter_of(act))
     if word == 'unfilter':
         return f'filter {act["name"]} goes'
     if word == 'remove':
