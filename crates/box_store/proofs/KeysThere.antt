@@ -1,5 +1,5 @@
 -- How many keys are there, how many are marked, and how many mailboxes a user has.
-use Rattle.std.proofs.Common.{◌≡◌, ℕ, suc, subst, ◌<◌, ◌≤◌, Bool, true, false, ◌||◌, cond, List, [], ◌∷◌, filter, length, refl, sym, ◌∙◌, arith, nat_lt, ltb-true}
+use Rattle.std.proofs.Common.{◌≡◌, ℕ, suc, subst, ◌<◌, ◌≤◌, Bool, true, false, ◌||◌, cond, List, [], ◌∷◌, filter, map, length, refl, sym, ap, ◌∙◌, arith, nat_lt, ltb-true}
 use Rattle.std.specs.Cmp.{both_ways}
 use Rattle.std.specs.List.{list_any, count_by}
 use Rattle.std.proofs.lemmas.Bool.{lt-ltb}
@@ -39,8 +39,20 @@ pub length_marked : (entries : List Entry) → length (marked entries) ≡ count
 length_marked entries = length-map (filter (λ e. e.flags.deleted) entries) (λ e. e.key) ∙ length-filter (λ e. e.flags.deleted) entries
 
 -- how many mailboxes a user has
-pub length_names : (u : User) (rs : Boxes) → length (names_of u rs) ≡ count_by (λ r. same_user u r.0.user) rs
-length_names u rs = length-map (rows_of u rs) (λ r. r.0.name) ∙ length-filter (λ r. same_user u r.0.user) rs
+pub length_names : (u : User) (rs : Boxes) → length (names_of u rs) ≡ length (rows_of u rs)
+length_names u rs = length-map (rows_of u rs) (λ r. r.0.name)
+
+-- a user's rows are all his own
+rows_again : (u : User) (rs : Boxes) → rows_of u (rows_of u rs) ≡ rows_of u rs
+rows_again u [] = refl
+rows_again u (r ∷ rs) = elim (same_user u r.0.user) as (λ b. same_user u r.0.user ≡ b → rows_of u (cond b (r ∷ rows_of u rs) (rows_of u rs)) ≡ cond b (r ∷ rows_of u rs) (rows_of u rs)) [
+  | true ↦ λ e. ap (λ b. cond b (r ∷ rows_of u (rows_of u rs)) (rows_of u (rows_of u rs))) e ∙ ap (λ (t : Boxes). r ∷ t) (rows_again u rs)
+  | false ↦ λ e. rows_again u rs
+] refl
+
+-- and have his names
+pub names_again : (u : User) (rs run : Boxes) → run ≡ rows_of u rs → names_of u run ≡ names_of u rs
+names_again u rs run is = ap (names_of u) is ∙ ap (map (λ r. r.0.name)) (rows_again u rs)
 
 -- no more keys are there than were asked for
 pub few-there : (entries : List Entry) (keys : List Key) → length (there entries keys) ≤ length keys

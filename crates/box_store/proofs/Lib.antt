@@ -3,6 +3,7 @@ mod Growth
 mod Counts
 mod InTurn
 mod Made
+mod RowMoves
 mod KeysThere
 mod Plans
 pub mod Renames

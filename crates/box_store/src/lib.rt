@@ -2,7 +2,7 @@
 //!
 //! `store` holds the mailboxes in rows and tells what it has; rows and single mailboxes are those of mail_rows. `make` makes
 //! an item's effect, and `plan` says what of it is done to mailboxes. `reserve` makes room for it in `spares`; `apply` (with
-//! `work`) does it. `live` answers what a user asks, by `refusals` and `room`. `laws` has what holds of every item.
+//! `work` and `moving`) does it. `live` answers what a user asks, by `refusals` and `room`. `laws` has what holds of every item.
 //! `rows` makes stores of rows that were read.
 //! Smaller: `effect` is what an effect is, `asked` what an ask names; `steps` counts, and `threads` says what may cross
 //! threads. `outline` makes outlines, in which no mail lies.
@@ -17,6 +17,7 @@ mod effect;
 mod laws;
 mod live;
 mod make;
+mod moving;
 mod names;
 mod outline;
 mod plan;

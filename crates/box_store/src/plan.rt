@@ -15,13 +15,13 @@ ghost use Rattle.mail_rows.specs.Changes.{copies_by, copy_by, puts_by};
 ghost use Rattle.box_store.specs.Plans.{Does, after, missing_of, moves_of};
 
 use crate::names::{moves_of, superiors_to_create, to_create};
-use crate::{KeySet, Work};
+use crate::{KeySet, Move, Work};
 use mail_rows::flags::changes_of;
 use mail_rows::new_mail::{copy_puts, message_puts, own_message};
 use mail_rows::shown::{view_of, way_of};
 use std::alloc::Global;
 use undo_base::{Flags, How, Key, Keys, Name, Names, NoMemory, Sequence, User};
-use verb_core::{Act, Aims, BoxId, Deed, EntriesView, Item, Mailbox, Way};
+use verb_core::{Act, Aims, BoxId, Deed, EntriesView, Item, Mailbox, Way, is_inbox};
 
 fn box_named(alloc: Global, user: User, name: &Name) -> Result<BoxId, NoMemory>
     ensures { IfOk result (λ id. id ≡ box_of user name.now) }
@@ -104,6 +104,23 @@ fn create_work(
     Ok(Work::Create { user, mailboxes })
 }
 
+/// The mailboxes that a RENAME moves, each with its new name: the source and its inferiors. INBOX and what lies below it stay.
+fn moves_to_make(
+    alloc: Global,
+    rows: &[(BoxId, Mailbox)],
+    user: User,
+    source: &Name,
+    target: &Name,
+) -> Result<Sequence<Move>, NoMemory>
+    requires { IsTrue (is_rising rows.now) }
+    ensures { IfOk result (λ moves. (boxes : _) → renamed_by user source.now target.now moves boxes ≡ renamed_by user source.now target.now (moves_of user source.now target.now rows.now) boxes) }
+{
+    if is_inbox(source.bytes()) {
+        return Ok(Sequence::new(alloc));
+    }
+    moves_of(alloc, rows, user, source, target)
+}
+
 /// A RENAME that takes the source and its inferiors to a target that is free, or the mail of INBOX.
 fn plain_rename(
     alloc: Global,
@@ -116,7 +133,7 @@ fn plain_rename(
     ensures { IfOk result (λ w. (boxes : _) → worked w boxes ≡ renamed_by user source.now target.now (moves_of user source.now target.now rows.now) (all_created user (missing_of user (superiors target.now) rows.now) boxes)) }
 {
     let made = superiors_to_create(alloc, rows, user, target)?;
-    let moves = moves_of(alloc, rows, user, source, target)?;
+    let moves = moves_to_make(alloc, rows, user, source, target)?;
     let source = source.copy(alloc)?;
     let target = target.copy(alloc)?;
     Ok(Work::Rename {

@@ -15,6 +15,7 @@ use crate::Store;
 use crate::names::but_last;
 use crate::refusals::{has_box, mail_of, view_of};
 use mail_rows::aims::reach_delivery;
+use mail_rows::lookup::rows_of;
 use mail_rows::sights::there_of;
 use std::alloc::Global;
 use undo_base::{Keys, LAST_NUMBER, MOST_BOXES, MOST_UID, Name, Names, NoMemory, Text, User};
@@ -25,8 +26,7 @@ use verb_core::{Aim, Ask, Refused, is_inbox, names_with_superiors, who_acts};
 fn count_boxes(store: &Store, user: User) -> usize
     ensures { result ≡ length (names_of user store.now.store.boxes) }
 {
-    let rows = store.rows.as_slice();
-    rows.iter().filter(|row| row.0.user == user).count()
+    rows_of(store.rows.as_slice(), user).len()
 }
 
 /// How many of the names no mailbox of the asker has.

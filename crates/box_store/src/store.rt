@@ -11,7 +11,7 @@ use crate::spares::Spares;
 use mail_rows::HeldConf;
 use mail_rows::aims::reach_of;
 use mail_rows::inferiors::has_inferior;
-use mail_rows::lookup::{copied_rows, names_in, search_mailbox};
+use mail_rows::lookup::{copied_rows, names_in, rows_of, search_mailbox};
 use mail_rows::opening::fixed_rows;
 use mail_rows::shown::way_of;
 use std::alloc::Global;
@@ -128,7 +128,7 @@ impl Store {
     pub fn names(&self, alloc: Global, user: User) -> Result<Names, NoMemory>
         ensures { IfOk result (λ names. names ≡ names_of user self.now.store.boxes) }
     {
-        names_in(alloc, user, self.rows.as_slice())
+        names_in(alloc, user, rows_of(self.rows.as_slice(), user))
     }
 
     /// All mailboxes, by rising user and name.

@@ -5,8 +5,9 @@ ghost use Rattle.verb_core.specs.Mailboxes.{no_mail as nothing, put_all, with_en
 ghost use Rattle.verb_core.specs.Boxes.{box_of, has_inferior as has_below, is_rising, row_at, mail_at, change_row};
 ghost use Rattle.verb_core.specs.Step.{all_created, created, inbox_renamed, left, after_rename, deleted};
 ghost use Rattle.mail_rows.specs.Mail.{all_flags_set};
-ghost use Rattle.box_store.specs.Effects.{put_each as puts_each, mail_in, all_moved, renamed_by, row_moved, grows, HasSpares, rows_added, worked};
+ghost use Rattle.box_store.specs.Effects.{put_each as puts_each, mail_in, renamed_by, grows, HasSpares, rows_added, worked};
 
+use crate::moving::move_all;
 use crate::spares::Spares;
 use crate::{FlagChange, KeySet, Move, Put, Work};
 use mail_rows::inferiors::has_inferior;
@@ -191,29 +192,6 @@ fn rename_inbox(rows: &mut Vec<(BoxId, Mailbox)>, user: User, target: Name)
     let mailbox = leave(rows, user, b"INBOX");
     let mailbox = new_from(alloc, mailbox);
     put_row(rows, BoxId { user, name: target }, mailbox);
-}
-
-/// A mailbox takes another name, where it is there.
-fn move_row(rows: &mut Vec<(BoxId, Mailbox)>, user: User, moved: Move)
-    requires { IsTrue (is_rising rows.old.items) }
-    ensures { rows.new.items ≡ row_moved user moved rows.old.items }
-{
-    let Move { from, to } = moved;
-    match take_row(rows, user, from.bytes()) {
-        None => {}
-        Some(mailbox) => put_row(rows, BoxId { user, name: to }, mailbox),
-    }
-}
-
-/// The same of some, one after the other.
-#[tactic(auto, using(crate::proofs::Renames::rising_moved))]
-fn move_all(rows: &mut Vec<(BoxId, Mailbox)>, user: User, moves: Sequence<Move>)
-    requires { IsTrue (is_rising rows.old.items) }
-    ensures { rows.new.items ≡ all_moved user moves rows.old.items }
-{
-    for moved in moves.into_vec() {
-        move_row(rows, user, moved);
-    }
 }
 
 /// Mailboxes take other names, or INBOX leaves its mail under one. Of INBOX there is room for one more row.

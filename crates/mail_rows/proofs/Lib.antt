@@ -7,6 +7,7 @@ mod Indexes
 mod KeysSeen
 mod Patterns
 mod Headers
+pub mod RowRuns
 pub mod Runs
 mod Reached
 mod Occurrences

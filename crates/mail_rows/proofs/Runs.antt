@@ -1,12 +1,10 @@
 -- The inferiors of a name among rows in order are a run of them.
-use Rattle.std.proofs.Common.{◌≡◌, ℕ, suc, ◌<◌, ◌≤◌, Bool, true, false, not, ◌&&◌, ◌||◌, ◌==◌, nat_lt, nat_eq, cond, List, [], ◌∷◌, ◌++◌, bytes_eq, get_or, take, drop, filter, map, length, refl, sym, ap, ap₂, subst, ◌∙◌, arith, rules, inl, inr, true≢false, eq-eqb, eqb-true, Ordering, Less, Equal, Greater, is_lt, nat_cmp}
+use Rattle.std.proofs.Common.{◌≡◌, ℕ, ◌<◌, ◌≤◌, Bool, true, false, not, ◌&&◌, ◌||◌, ◌==◌, nat_lt, nat_eq, cond, List, [], ◌∷◌, ◌++◌, bytes_eq, get_or, filter, map, length, refl, sym, ap, ap₂, subst, ◌∙◌, arith, true≢false, eq-eqb, eqb-true, Ordering, Less, Equal, Greater, is_lt, nat_cmp}
 use Rattle.std.specs.Ordering.{ordering_then}
 use Rattle.std.specs.Cmp.{first_so, second_so, nat_cmp_total, tied_itself}
 use Rattle.std.specs.Cmp.Lexicographic.{slice_cmp}
 use Rattle.std.specs.List.{starts_with, list_any}
-use Rattle.std.specs.List.Sorted.{IsPartitionedBy}
 use Rattle.std.specs.FinMap.Entries as rows
-use Rattle.std.proofs.lemmas.Bool.{cases_order}
 use Rattle.std.proofs.lemmas.Bool.Decides.{nat_tests}
 use Rattle.std.proofs.lemmas.Map.Lookups.{exact_unsigned}
 use Rattle.undo_base.specs.declared.keys.User.{User}
@@ -14,13 +12,13 @@ use Rattle.verb_core.specs.declared.mailbox.BoxId.{BoxId}
 use Rattle.verb_core.specs.declared.mailbox.Mailbox.{Mailbox}
 use Rattle.undo_base.specs.declared.limits.TheConstants.{MOST_NAME}
 use Rattle.verb_core.specs.Names.{inbox, is_empty, is_slash, is_inferior, moved_name}
-use Rattle.verb_core.specs.Boxes.{box_cmp, box_of, has_inferior, has_row, is_rising, names_of, same_user}
+use Rattle.verb_core.specs.Boxes.{box_cmp, box_of, has_inferior, has_row, names_of, same_user}
 use Rattle.verb_core.specs.Step.{Boxes, is_overlong}
 use Rattle.verb_core.proofs.BoxLaws.{boxes_total}
-use Rattle.verb_core.proofs.Searched.{less_is, rising_at}
+use Rattle.verb_core.proofs.Searched.{less_is}
 use Rattle.verb_core.proofs.NameLaws.{has_front, front_of, inferior, no_superior_is_empty}
-use Rattle.mail_rows.proofs.ConfLaws.{front}
-use Rattle.mail_rows.specs.Inferiors.{is_under, rows_from, rows_under, stands_first}
+use Rattle.mail_rows.proofs.RowRuns.{AreTogether, lt_is}
+use Rattle.mail_rows.specs.Inferiors.{is_under, rows_under, stands_first}
 
 -- ---- bytes, and a name with a `/` behind it
 
@@ -52,9 +50,6 @@ not_less Less xs = refl
 not_less Equal [] = refl
 not_less Equal (x ∷ xs) = refl
 not_less Greater xs = refl
-
-lt_is : (x y : ℕ) → nat_lt x y ≡ is_lt (nat_cmp x y)
-lt_is x y = search rules
 
 pub next_byte : (name other : List ℕ) (d : ℕ) → starts_with nat_eq other name ≡ true → length name < length other → is_lt (slice_cmp nat_cmp other (name ++ 47 ∷ [])) ≡ nat_lt (get_or other (length name) d) 47
 next_byte [] [] d h more = absurd (omega (arith, more))
@@ -105,22 +100,6 @@ between_names (c ∷ cs) (b ∷ bs) (y ∷ ys) under low high =
     no_less : ◌≡◌ {A = Ordering} Greater Less → ⊥
     no_less h = cc
 
--- ---- tests whose passes stand in front
-
-all_none : {X : Type 0} (p : X → Bool) (xs : List X) → ((j : ℕ) (d : X) → j < length xs → p (get_or xs j d) ≡ true → ⊥) → filter p xs ≡ []
-all_none p [] none = refl
-all_none p (x ∷ xs) none = elim (p x) as (λ b. p x ≡ b → cond b (x ∷ filter p xs) (filter p xs) ≡ []) [
-  | true ↦ λ e. absurd (none 0 x (omega arith) e)
-  | false ↦ λ e. all_none p xs (λ j d lt h. none (suc j) d (omega (arith, lt)) h)
-] refl
-
-in_front : {X : Type 0} (p : X → Bool) (xs : List X) → IsPartitionedBy p xs → filter p xs ≡ take (front p xs) xs
-in_front p [] parted = refl
-in_front p (x ∷ xs) parted = elim (p x) as (λ b. p x ≡ b → cond b (x ∷ filter p xs) (filter p xs) ≡ take (cond b (suc (front p xs)) 0) (x ∷ xs)) [
-  | true ↦ λ e. ap (λ t. x ∷ t) (in_front p xs (λ i j d le lt h. parted (suc i) (suc j) d (omega (arith, le)) (omega (arith, lt)) h))
-  | false ↦ λ e. all_none p xs (λ j d lt h. true≢false (sym (parted 0 (suc j) d (omega arith) (omega (arith, lt)) h) ∙ e))
-] refl
-
 -- ---- rows
 
 module _ (u : User) (name : List ℕ) where
@@ -157,53 +136,8 @@ module _ (u : User) (name : List ℕ) where
       no_less : ◌≡◌ {A = Ordering} Greater Less → ⊥
       no_less h = cc
 
-  -- those that stand first are at the front
-  pub first_parted : (rs : Boxes) → is_rising rs ≡ true → IsPartitionedBy (λ (r : BoxId × Mailbox). stands_first u name r.0) rs
-  first_parted rs rising i j d le lt h = elim (cases_order i j) [
-    | inr (inl less) ↦ down (get_or rs i d).0 (get_or rs j d).0 (rising_at rs rising i j d less lt) h
-    | inl same ↦ subst (λ (k : ℕ). stands_first u name (get_or rs k d).0 ≡ true) (sym same) h
-    | inr (inr more) ↦ absurd (omega (arith, le, more))
-  ]
-
-  pub drop_first : (rs : Boxes) → drop (front (λ (r : BoxId × Mailbox). stands_first u name r.0) rs) rs ≡ rows_from u name rs
-  drop_first [] = refl
-  drop_first (r ∷ rs) = elim (stands_first u name r.0) as (λ b. drop (cond b (suc (front (λ (r : BoxId × Mailbox). stands_first u name r.0) rs)) 0) (r ∷ rs) ≡ cond b (rows_from u name rs) (r ∷ rs)) [ true ↦ drop_first rs | false ↦ refl ]
-
-  rising_from : (rs : Boxes) → is_rising rs ≡ true → is_rising (rows_from u name rs) ≡ true
-  rising_from [] h = refl
-  rising_from (r ∷ rs) h = elim (stands_first u name r.0) as (λ b. is_rising (cond b (rows_from u name rs) (r ∷ rs)) ≡ true) [ true ↦ rising_from rs (second_so _ _ h) | false ↦ h ]
-
-  -- of those behind them none is
-  none_first : (rs : Boxes) → is_rising rs ≡ true → (i : ℕ) (d : BoxId × Mailbox) → i < length (rows_from u name rs) → stands_first u name (get_or (rows_from u name rs) i d).0 ≡ false
-  none_first [] rising = λ i d lt. absurd (omega (arith, lt))
-  none_first (r ∷ rs) rising = elim (stands_first u name r.0) as (λ b. stands_first u name r.0 ≡ b → (i : ℕ) (d : BoxId × Mailbox) → i < length (cond b (rows_from u name rs) (r ∷ rs)) → stands_first u name (get_or (cond b (rows_from u name rs) (r ∷ rs)) i d).0 ≡ false) [
-    | true ↦ λ e. none_first rs (second_so _ _ rising)
-    | false ↦ λ e i d lt. elim (stands_first u name (get_or (r ∷ rs) i d).0) as (λ b. stands_first u name (get_or (r ∷ rs) i d).0 ≡ b → b ≡ false) [
-      | true ↦ λ h. absurd (true≢false (sym (first_parted (r ∷ rs) rising 0 i d (omega arith) lt h) ∙ e))
-      | false ↦ λ h. refl
-    ] refl
-  ] refl
-
-  pub under_parted : (rs : Boxes) → is_rising rs ≡ true → IsPartitionedBy (λ (r : BoxId × Mailbox). is_under u name r.0) (rows_from u name rs)
-  under_parted rs rising i j d le lt h = elim (cases_order i j) [
-    | inr (inl less) ↦ between (get_or (rows_from u name rs) i d).0 (get_or (rows_from u name rs) j d).0 (rising_at (rows_from u name rs) (rising_from rs rising) i j d less lt) (none_first rs rising i d (omega (arith, less, lt))) h
-    | inl same ↦ subst (λ (k : ℕ). is_under u name (get_or (rows_from u name rs) k d).0 ≡ true) (sym same) h
-    | inr (inr more) ↦ absurd (omega (arith, le, more))
-  ]
-
-  first_left : (rs : Boxes) → rows_under u name (rows_from u name rs) ≡ rows_under u name rs
-  first_left [] = refl
-  first_left (r ∷ rs) = elim (stands_first u name r.0) as (λ b. stands_first u name r.0 ≡ b → rows_under u name (cond b (rows_from u name rs) (r ∷ rs)) ≡ rows_under u name (r ∷ rs)) [
-    | true ↦ λ e. first_left rs ∙ sym (ap (λ b. cond b (r ∷ rows_under u name rs) (rows_under u name rs)) (apart r.0 e))
-    | false ↦ λ e. refl
-  ] refl
-
-  -- the run
-  pub run_is : (rs : Boxes) (n : ℕ) → is_rising rs ≡ true → n ≡ front (λ (r : BoxId × Mailbox). is_under u name r.0) (rows_from u name rs) → take n (rows_from u name rs) ≡ rows_under u name rs
-  run_is rs n rising is =
-      ap (λ (k : ℕ). take k (rows_from u name rs)) is
-      ∙ sym (in_front (λ (r : BoxId × Mailbox). is_under u name r.0) (rows_from u name rs) (under_parted rs rising))
-      ∙ first_left rs
+  pub inferiors_together : AreTogether (stands_first u name) (is_under u name)
+  inferiors_together = record { down = down; apart = apart; between = between }
 
   -- a user has an inferior where there is such a row
   pub some_row : (rs : Boxes) → not (is_empty (rows_under u name rs)) ≡ has_inferior u name rs

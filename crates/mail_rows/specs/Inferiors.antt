@@ -1,5 +1,5 @@
--- Where the inferiors of a mailbox stand among rows in order: side by side, from its name with a `/` on.
-use Rattle.std.specs.Prelude.{ℕ, ◌&&◌, ◌++◌, Bool, if◌then◌else◌, List, [], ◌∷◌, filter}
+-- Where a user's rows, and the inferiors of a mailbox from its name with a `/` on, stand among rows in order: side by side.
+use Rattle.std.specs.Prelude.{ℕ, ◌&&◌, ◌++◌, nat_lt, Bool, if◌then◌else◌, List, [], ◌∷◌, filter}
 use Rattle.std.specs.Ordering.{is_lt}
 use Rattle.undo_base.specs.declared.keys.User.{User}
 use Rattle.verb_core.specs.declared.mailbox.BoxId.{BoxId}
@@ -19,7 +19,11 @@ stands_first u name q = is_lt (box_cmp q (box_of u (name ++ 47 ∷ [])))
 abbrev pub rows_under : User → List ℕ → List (BoxId × Mailbox) → List (BoxId × Mailbox)
 rows_under u name rows = filter (λ r. is_under u name r.0) rows
 
--- the rows behind those that stand before them
-abbrev pub rows_from : User → List ℕ → List (BoxId × Mailbox) → List (BoxId × Mailbox)
-rows_from u name [] = []
-rows_from u name (r ∷ rs) = if stands_first u name r.0 then rows_from u name rs else r ∷ rs
+-- whether it is an earlier user's
+abbrev pub is_earlier : User → BoxId → Bool
+is_earlier u q = nat_lt q.user.0 u.0
+
+-- the rows behind those in front that pass a test
+abbrev pub rows_from : (BoxId → Bool) → List (BoxId × Mailbox) → List (BoxId × Mailbox)
+rows_from first [] = []
+rows_from first (r ∷ rs) = if first r.0 then rows_from first rs else r ∷ rs

@@ -1,45 +1,40 @@
 //! The header of a text as filters look at it: cut into its fields once for all of them, each field's name brought to lower case
-//! once (RFC 5322, section 2.2).
-ghost use Rattle.std.specs.Prelude.{◌≡◌, ◌∷◌, ◌++◌, ◌&&◌, [], IfOk, OnOk, map};
+//! once, and the values of a name found by halves, whatever the number of fields and of filters (RFC 5322, section 2.2).
+ghost use Rattle.std.specs.Prelude.{◌≡◌, ◌∷◌, ◌++◌, ◌&&◌, ◌||◌, [], IfOk, OnOk, bytes_eq};
 ghost use Rattle.std.specs.List.{list_any};
+ghost use Rattle.std.specs.Ordering.{nat_cmp};
+ghost use Rattle.std.specs.Cmp.Lexicographic.{slice_cmp};
+ghost use Rattle.std.specs.BTreeMap.{is_at};
+ghost use Rattle.std.specs.Map.{remove_entry};
 ghost use Rattle.verb_core.specs.Filters.{occurs as is_within};
 ghost use Rattle.header_fields.specs.Fields.{fields_of};
 ghost use Rattle.header_fields.specs.Values.{is_named, value_of};
-ghost use Rattle.mail_rows.specs.Headers.{finds, pair_of, some_value, with_names};
+ghost use Rattle.mail_rows.specs.Headers.{Holds, some_beside, some_value, some_within, with_names};
 
 use crate::needles::occurs;
 use header_fields::{begins_field, field_len, has_name, name_in, value_in};
 use std::alloc::Global;
+use std::collections::BTreeMap;
 use std::marker::Model;
 use undo_base::{Name, NoMemory, after, before};
 
-/// A field: its name in lower case, and its value.
+/// The value of a field.
 #[derive(Drop)]
-struct NamedField<'a> {
-    name: Vec<u8>,
-    value: &'a [u8],
+struct Value<'a> {
+    bytes: &'a [u8],
 }
 
-/// The fields of a header that have a name.
+/// For each name in lower case the values of the fields that have it.
 #[derive(Drop)]
-struct NamedFields<'a> {
-    list: Vec<NamedField<'a>>,
-}
-
-impl<'a> Model for NamedFields<'a> {
-    ghost use Rattle.std.specs.Prelude.{List, map};
-    ghost use Rattle.mail_rows.specs.Headers.{Pair, pair_of};
-
-    ghost Value = { List Pair };
-
-    ghost view = { λ f. map pair_of f.list.items };
+struct Fields<'a> {
+    values: BTreeMap<Vec<u8>, Vec<Value<'a>>>,
 }
 
 /// A text, and the fields of its header once they were cut.
 #[derive(Drop)]
 pub(crate) struct Header<'a> {
     text: &'a [u8],
-    fields: Option<NamedFields<'a>>,
+    fields: Option<Fields<'a>>,
 }
 
 impl<'a> Model for Header<'a> {
@@ -53,57 +48,78 @@ impl<'a> Model for Header<'a> {
     ghost invariant = { λ h. IsCut h.text.now h.fields };
 }
 
-/// Adds a field, where it has a name.
-fn push_field<'a>(
+/// The values of a name, taken out.
+#[tactic(auto, using(crate::proofs::Headers::beside_none, crate::proofs::Headers::beside_some))]
+fn take_values<'a>(alloc: Global, fields: &mut Fields<'a>, name: &[u8]) -> Vec<Value<'a>>
+    ensures values { (needle : _) → some_within needle result.items ≡ some_beside name.now needle fields.old.values }
+    ensures others { fields.new.values.entries ≡ remove_entry (is_at (λ k. slice_cmp nat_cmp name.now k.items)) fields.old.values.entries }
+{
+    match fields.values.remove(name) {
+        None => Vec::new(alloc),
+        Some(values) => values,
+    }
+}
+
+/// Adds a value to those of a name.
+#[tactic(auto, using(crate::proofs::Headers::pushed))]
+fn push_value<'a>(
     alloc: Global,
-    fields: &mut Vec<NamedField<'a>>,
-    field: &'a [u8],
+    fields: &mut Fields<'a>,
+    name: Vec<u8>,
+    bytes: &'a [u8],
 ) -> Result<(), NoMemory>
-    ensures { OnOk result (map pair_of fields.new.items ≡ map pair_of fields.old.items ++ with_names (field.now ∷ [])) }
+    ensures { OnOk result ((own needle : _) → some_beside own needle fields.new.values ≡ (some_beside own needle fields.old.values || (bytes_eq name.items own && is_within needle bytes.now))) }
+{
+    let mut values = take_values(alloc, fields, name.as_slice());
+    values.push(Value { bytes })?;
+    fields.values.insert(name, values)?;
+    Ok(())
+}
+
+/// Adds a field, where it has a name.
+#[tactic(auto, using(crate::proofs::Headers::named, crate::proofs::Headers::nameless))]
+fn push_field<'a>(alloc: Global, fields: &mut Fields<'a>, field: &'a [u8]) -> Result<(), NoMemory>
+    ensures { OnOk result ((own needle : _) → some_beside own needle fields.new.values ≡ (some_beside own needle fields.old.values || some_value own needle (with_names (field.now ∷ [])))) }
 {
     if has_name(field) {
-        fields.push(NamedField {
-            name: name_in(field).to_ascii_lowercase(alloc)?,
-            value: value_in(field),
-        })?;
+        let name = name_in(field).to_ascii_lowercase(alloc)?;
+        push_value(alloc, fields, name, value_in(field))?;
     }
     Ok(())
 }
 
 /// The fields of the header. What follows it is not looked at.
-#[tactic(auto, using(crate::proofs::Headers::cut_more))]
-fn cut<'a>(alloc: Global, text: &'a [u8]) -> Result<NamedFields<'a>, NoMemory>
-    ensures { IfOk result (λ fields. fields ≡ with_names (fields_of text.now)) }
+#[tactic(auto, using(crate::proofs::Headers::none_yet, crate::proofs::Headers::cut_more, crate::proofs::Headers::all_cut))]
+fn cut<'a>(alloc: Global, text: &'a [u8]) -> Result<Fields<'a>, NoMemory>
+    ensures { IfOk result (λ fields. Holds fields.values (with_names (fields_of text.now))) }
 {
-    let mut list = Vec::new(alloc);
+    let mut fields = Fields {
+        values: BTreeMap::new(alloc),
+    };
     let mut rest = text;
     while begins_field(rest) {
         let count = field_len(rest);
-        push_field(alloc, &mut list, before(rest, count))?;
+        let field = before(rest, count);
+        push_field(alloc, &mut fields, field)?;
         rest = after(rest, count);
     }
-    Ok(NamedFields { list })
+    Ok(fields)
 }
 
-/// Whether a field has this name, which is in lower case, and the needle in its value.
-fn is_found(field: &NamedField<'_>, name: &[u8], needle: &Name) -> bool
-    ensures { result ≡ finds name.now needle.now field.now }
+fn occurs_in_one(values: &[Value<'_>], needle: &Name) -> bool
+    ensures { result ≡ some_within needle.now values.now }
 {
-    field.name.as_slice() == name && occurs(field.value, needle)
+    values.iter().any(|value| occurs(value.bytes, needle))
 }
 
-fn is_found_among(fields: &[NamedField<'_>], name: &[u8], needle: &Name) -> bool
-    ensures { result ≡ list_any (finds name.now needle.now) fields.now }
+/// Whether the needle occurs in a value of that name, which is in lower case.
+#[tactic(auto, using(crate::proofs::Headers::beside_none, crate::proofs::Headers::beside_some))]
+fn have(fields: &Fields<'_>, name: &[u8], needle: &Name) -> bool
+    ensures { result ≡ some_beside name.now needle.now fields.now.values }
 {
-    fields.iter().any(|field| is_found(field, name, needle))
-}
-
-impl<'a> NamedFields<'a> {
-    /// Whether the needle occurs in the value of a field of that name, which is in lower case.
-    fn have(&self, name: &[u8], needle: &Name) -> bool
-        ensures { result ≡ some_value name.now needle.now self.now }
-    {
-        is_found_among(self.list.as_slice(), name, needle)
+    match fields.values.get(name) {
+        None => false,
+        Some(values) => occurs_in_one(values.as_slice(), needle),
     }
 }
 
@@ -134,10 +150,10 @@ impl<'a> Header<'a> {
     {
         let name = name.lower(alloc)?;
         if let Some(fields) = &self.fields {
-            return Ok(fields.have(name.bytes(), needle));
+            return Ok(have(fields, name.bytes(), needle));
         }
         let fields = cut(alloc, self.text)?;
-        let found = fields.have(name.bytes(), needle);
+        let found = have(&fields, name.bytes(), needle);
         self.fields = Some(fields);
         Ok(found)
     }

@@ -48,7 +48,7 @@ fn is_under(row: &(BoxId, Mailbox), user: User, name: &[u8]) -> bool
 /// The rows from the first inferior on, where there is one.
 fn from_first<'a>(rows: &'a [(BoxId, Mailbox)], user: User, name: &[u8]) -> &'a [(BoxId, Mailbox)]
     requires { IsTrue (is_rising rows.now) }
-    ensures { result.now ≡ rows_from user name.now rows.now }
+    ensures { result.now ≡ rows_from (stands_first user name.now) rows.now }
 {
     after(
         rows,

@@ -1,10 +1,11 @@
 //! Mailboxes found among rows by user and name, copies of rows, and a user's names.
 ghost use Rattle.std.specs.Prelude.{◌≡◌, ◌++◌, ◌∷◌, [], IsTrue, IfOk, OnOk, option_copied, if◌then◌else◌};
-ghost use Rattle.verb_core.specs.Boxes.{box_of, has_row, is_rising, row_at, names_of, same_user};
+ghost use Rattle.verb_core.specs.Boxes.{box_of, has_row, is_rising, row_at, names_of, rows_of, same_user};
+ghost use Rattle.mail_rows.specs.Inferiors.{is_earlier, rows_from};
 
 use crate::rows::place_of;
 use std::alloc::Global;
-use undo_base::{Copies, Name, Names, NoMemory, User};
+use undo_base::{Copies, Name, Names, NoMemory, User, after, before};
 use verb_core::{BoxId, Mailbox, Rows};
 
 /// The mailbox of that user and name among rows in order.
@@ -28,6 +29,23 @@ pub(crate) fn is_there(rows: &[(BoxId, Mailbox)], user: User, name: &Name) -> bo
     ensures { result ≡ has_row (box_of user name.now) rows.now }
 {
     search_mailbox(rows, user, name).is_some()
+}
+
+/// The rows from the user's first on, where he has one.
+fn from_user<'a>(rows: &'a [(BoxId, Mailbox)], user: User) -> &'a [(BoxId, Mailbox)]
+    requires { IsTrue (is_rising rows.now) }
+    ensures { result.now ≡ rows_from (is_earlier user) rows.now }
+{
+    after(rows, rows.partition_point(|row| row.0.user.0 < user.0))
+}
+
+/// The user's rows among rows in order, found by halves.
+pub fn rows_of<'a>(rows: &'a [(BoxId, Mailbox)], user: User) -> &'a [(BoxId, Mailbox)]
+    requires { IsTrue (is_rising rows.now) }
+    ensures { result.now ≡ rows_of user rows.now }
+{
+    let rest = from_user(rows, user);
+    before(rest, rest.partition_point(|row| user == row.0.user))
 }
 
 /// Copies of the rows.

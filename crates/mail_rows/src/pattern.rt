@@ -1,11 +1,12 @@
 //! Names against the patterns of LIST (RFC 3501, section 6.3.8), in time that grows as pattern times name at most.
-ghost use Rattle.std.specs.Prelude.{◌≡◌, ◌≤◌, ◌++◌, ◌∷◌, ◌&&◌, ◌==◌, [], List, IfOk, OnOk, drop, filter, length, map, not, true, false, if◌then◌else◌};
+ghost use Rattle.std.specs.Prelude.{◌≡◌, ◌≤◌, ◌++◌, ◌∷◌, ◌&&◌, ◌==◌, [], List, IsTrue, IfOk, OnOk, drop, filter, length, map, not, true, false, if◌then◌else◌};
 ghost use Rattle.std.specs.List.{cons_option, position_or_len};
-ghost use Rattle.verb_core.specs.Boxes.{names_of, same_user};
+ghost use Rattle.verb_core.specs.Boxes.{is_rising, names_of};
 ghost use Rattle.verb_core.specs.Names.{inbox, is_slash as is_separator, is_wildcard as is_any};
 ghost use Rattle.verb_core.specs.Patterns.{Letter, is_inbox_or_below as inbox_or_below, is_letter, is_listed as is_given, letters_in, letters_of, matches};
 ghost use Rattle.mail_rows.specs.Patterns.{letter_of, cell_of, matches_at, handed, passed, told_first};
 
+use crate::lookup::rows_of;
 use std::alloc::Global;
 use undo_base::{Name, Names, NoMemory, Text, User, after, before};
 use verb_core::{BoxId, Mailbox, is_inbox, is_slash, is_wildcard};
@@ -213,52 +214,47 @@ fn is_listed(
     Ok(is_match(pattern, cells.as_mut_slice()))
 }
 
-/// Adds the row's name, if it is the user's and LIST gives it.
+/// Adds the row's name, if LIST gives it.
 fn push_listed(
     alloc: Global,
     names: &mut Names,
     cells: &mut Vec<Cell>,
     pattern: &[u8],
     letters: usize,
-    user: User,
     row: &(BoxId, Mailbox),
 ) -> Result<(), NoMemory>
     requires { letters ≡ length (filter (λ byte. not (is_any byte)) pattern.now) }
-    ensures { OnOk result (names.new ≡ names.old ++ (if same_user user row.now.0.user && is_given pattern.now row.now.0.name then row.now.0.name ∷ [] else [])) }
+    ensures { OnOk result (names.new ≡ names.old ++ (if is_given pattern.now row.now.0.name then row.now.0.name ∷ [] else [])) }
 {
-    if user == row.0.user && is_listed(cells, pattern, letters, &row.0.name)? {
+    if is_listed(cells, pattern, letters, &row.0.name)? {
         names.push(row.0.name.copy(alloc)?)?;
     }
     Ok(())
 }
 
-/// The user's names that the shortened pattern gives.
-fn listed_by(
-    alloc: Global,
-    rows: &[(BoxId, Mailbox)],
-    user: User,
-    pattern: &[u8],
-) -> Result<Names, NoMemory>
-    ensures { IfOk result (λ names. names ≡ filter (is_given pattern.now) (names_of user rows.now)) }
+/// The names of rows that the shortened pattern gives.
+fn listed_by(alloc: Global, rows: &[(BoxId, Mailbox)], pattern: &[u8]) -> Result<Names, NoMemory>
+    ensures { IfOk result (λ names. names ≡ filter (is_given pattern.now) (map (λ r. r.0.name) rows.now)) }
 {
     let letters = count_letters(pattern);
     let mut cells = Vec::new(alloc);
     let mut names = Names::new(alloc);
     for row in rows {
-        push_listed(alloc, &mut names, &mut cells, pattern, letters, user, row)?;
+        push_listed(alloc, &mut names, &mut cells, pattern, letters, row)?;
     }
     Ok(names)
 }
 
-/// The user's names that LIST gives, in byte order.
+/// The user's names that LIST gives, in byte order. Other users' rows are not looked at.
 pub(crate) fn listed(
     alloc: Global,
     rows: &[(BoxId, Mailbox)],
     user: User,
     pattern: &Text,
 ) -> Result<Names, NoMemory>
+    requires { IsTrue (is_rising rows.now) }
     ensures { IfOk result (λ names. names ≡ filter (is_given pattern.now) (names_of user rows.now)) }
 {
     let short = shortened(alloc, pattern.bytes())?;
-    listed_by(alloc, rows, user, short.as_slice())
+    listed_by(alloc, rows_of(rows, user), short.as_slice())
 }

@@ -1,9 +1,9 @@
-use Rattle.std.proofs.Common.{◌≡◌, ◌∙◌, ℕ, List, ap, sym, subst}
-use Rattle.verb_core.specs.Boxes.{box_of, add_row, drop_row, row_at, is_rising}
+use Rattle.std.proofs.Common.{◌∙◌, ℕ, List, ap, sym}
+use Rattle.verb_core.specs.Boxes.{box_of, add_row, drop_row, row_at}
 use Rattle.verb_core.specs.Step.{Boxes}
 use Rattle.verb_core.proofs.BoxLaws.{rising-drop_row}
 use Rattle.box_store.proofs.WorkLaws.{moved_none, moved_some}
-use Rattle.box_store.proofs.work.move_row.Goals as goal
+use Rattle.box_store.proofs.moving.move_over.Goals as goal
 
 pub put_row-requires-clause-rising : goal.put_row-requires-clause-rising
 put_row-requires-clause-rising c = rw c.take_row.ensures.rows (rising-drop_row (box_of c.args.user c.bytes.result.now) c.args.rows.now.items c.requires)

@@ -1,7 +1,7 @@
 use Rattle.std.proofs.Common.{◌≡◌, IsTrue}
 use Rattle.verb_core.specs.Boxes.{is_rising}
 use Rattle.box_store.specs.Effects.{all_moved}
-use Rattle.box_store.proofs.work.move_all.Given as goal
+use Rattle.box_store.proofs.moving.move_all.Given as goal
 
 -- those that moved, and those that are left, are all of them
 abbrev pub invariant-loop-moved : goal.invariant-loop-moved

@@ -1,0 +1,6 @@
+use Rattle.box_store.proofs.RowMoves.{renamed_before}
+use Rattle.box_store.proofs.moving.move_before.Goals as goal
+
+pub returns : goal.returns
+returns c = λ front between back r is first wide.
+    renamed_before c.args.name c.args.rows.now c.rename_row.new.rows c.swap_blocks.new.items front between back r c.args.from c.args.to c.rename_row.ensures c.swap_blocks.ensures is first wide
