@@ -11,7 +11,7 @@ use Rattle.verb_core.specs.Step.{Boxes, run, step}
 use Rattle.verb_core.specs.Store.{IsValid}
 use Rattle.verb_core.proofs.StampLaws.{stamp-each}
 use Rattle.verb_bytes.specs.declared.journal.CycleAsk.{CycleAsk}
-use Rattle.store_kept.specs.Kept.{Kept, Marks, mailbox_at, performed, stamp_at, store_of}
+use Rattle.store_kept.specs.Kept.{Kept, Marks, mailbox_at, performed, stamp_at, store_of, upgraded}
 use Rattle.repair_desk.specs.Renewals.{extends_one, stamp_after}
 use Rattle.repair_desk.specs.Repairs.{position}
 use Rattle.repair_desk.proofs.Extended.{each, itself, transitive}
@@ -30,6 +30,14 @@ own_mailbox (Some old) m e = let same : m ≡ old = cc in ap (λ (new : Mailbox)
 -- what is known of snapshots makes no difference
 pub lasts_marked : (s : Kept) (marks : Marks) → UidsLast s (record s { marks = marks })
 lasts_marked s marks = record {
+  next = omega arith;
+  stamps = λ id stamp m below stamped mail. (stamped, own_mailbox (mailbox_at s id) m mail);
+  texts = λ body text number rev is. is;
+}
+
+-- nor does an upgrade, which changes no mailbox
+pub lasts_upgraded : (s : Kept) → UidsLast s (upgraded s)
+lasts_upgraded s = record {
   next = omega arith;
   stamps = λ id stamp m below stamped mail. (stamped, own_mailbox (mailbox_at s id) m mail);
   texts = λ body text number rev is. is;

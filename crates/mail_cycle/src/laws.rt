@@ -20,7 +20,7 @@ ghost use Rattle.mail_cycle.specs.Comparing.{cycled_from, cycled_with, reached_f
 ghost use Rattle.mail_cycle.specs.Leaving.{GoesOn, GoesOnAt};
 ghost use Rattle.mail_cycle.specs.Permanence.{UidsLast};
 ghost use Rattle.mail_cycle.specs.Places.{items_before, reason_at, shown_at, tellings};
-ghost use Rattle.store_kept.specs.Kept.{Kept, Marks, performed, store_of};
+ghost use Rattle.store_kept.specs.Kept.{Kept, Marks, performed, store_of, upgraded};
 
 /// What a cycle leaves can be gone on with: the items are well formed, their numbers distinct and below the next one, the
 /// stamps name the mailboxes and are below the next number, and it has risen and is one that an item can have. So it is with
@@ -113,7 +113,7 @@ pub fn answers_that_are_shown_hold()
 {}
 
 /// What a client that keeps mail by UID knows lasts: over no step at all, over two that follow one another, over each item
-/// with the next number, over each cycle, and whatever is known of snapshots (RFC 3501, section 2.3.1.1).
+/// with the next number, over each cycle, over an upgrade, and whatever is known of snapshots (RFC 3501, section 2.3.1.1).
 pub fn uids_last()
     ensures itself { (s : Kept) → UidsLast s s }
     ensures followed { (a b c : Kept) → UidsLast a b → UidsLast b c → UidsLast a c }
@@ -121,5 +121,6 @@ pub fn uids_last()
         UidsLast s (performed s i) }
     ensures cycle { (s : Kept) (at : ℕ) (ask : CycleAsk) (due : Cycled) → NumbersApart s.timeline → due_anew s at ask ≡ Rewinds due →
         UidsLast s (after_cycle s ask due) }
+    ensures upgrade { (s : Kept) → UidsLast s (upgraded s) }
     ensures marks { (s : Kept) (marks : Marks) → UidsLast s (record s { marks = marks }) }
 {}
