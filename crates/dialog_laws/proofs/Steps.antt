@@ -1,6 +1,6 @@
 -- A step keeps a store in the ranges of records.
 use Rattle.std.proofs.Common.{◌≡◌, ℕ, suc, ◌+◌, ◌*◌, ◌<◌, ◌≤◌, Bool, true, false, not, cond, ◌&&◌, ◌||◌, List, [], ◌∷◌, ◌++◌, length, map, filter, flat_map, Option, None, Some, option_map, unwrap_or, Less, Equal, Greater, refl, sym, subst, ap, arith, true≢false, bytes_eq, nat_le, nat_lt, ◌∙◌, leb-true, length-append}
-use Rattle.std.specs.Prelude.{IfSome, IsTrue}
+use Rattle.std.specs.Prelude.{IsTrue}
 use Rattle.std.specs.Cmp.{first_so, second_so}
 use Rattle.std.specs.Cmp.Lexicographic.{bytes_decides}
 use Rattle.std.specs.List.{AllByRecursion, enumerate_from, list_any}
