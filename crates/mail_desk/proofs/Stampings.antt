@@ -1,10 +1,10 @@
 -- The stamps after an item, by its deed.
-use Rattle.std.proofs.Common.{◌≡◌, ℕ, Bool, true, false, not, ◌&&◌, ◌||◌, cond, List, [], ◌∷◌, ◌++◌, map, filter, unwrap_or, Option, None, Some, is_some, refl, ap, ap₂, sym, subst, ◌∙◌, is_lt, is_eq, bytes_eq, Less, Equal, Greater, true≢false, take, drop, take_while, length, insert, set, zero, suc, ◌≤◌, ◌<◌, arith}
+use Rattle.std.proofs.Common.{◌≡◌, ℕ, Bool, true, false, not, ◌&&◌, ◌||◌, cond, List, [], ◌∷◌, map, filter, unwrap_or, Option, None, Some, is_some, refl, ap, ap₂, sym, subst, ◌∙◌, is_lt, is_eq, bytes_eq, Less, Equal, Greater, true≢false, drop, take_while, length, insert, set, zero, suc, ◌≤◌, ◌<◌, arith}
 use Rattle.std.specs.List.{list_all, list_any, prefix_len}
 use Rattle.std.proofs.Math.Numerals.{one-add}
 use Rattle.std.proofs.lemmas.List.{length-take}
 use Rattle.std.specs.Ordering.{eq_by_cmp}
-use Rattle.std.specs.Cmp.{first_so, second_so}
+use Rattle.std.specs.Cmp.{second_so}
 use Rattle.std.specs.FinMap.Entries as rows
 use Rattle.undo_base.specs.declared.keys.User.{User}
 use Rattle.verb_core.specs.declared.item.Aim.{Aim}
@@ -17,19 +17,19 @@ use Rattle.verb_core.specs.declared.mailbox.BoxId.{BoxId}
 use Rattle.verb_core.specs.declared.mailbox.Entry.{Entry}
 use Rattle.verb_core.specs.declared.mailbox.Mailbox.{Mailbox}
 use Rattle.verb_core.specs.Mailboxes.{no_mail, put_all, emptied}
-use Rattle.verb_core.specs.Names.{inbox, lost_found, is_empty, is_fixed, is_inferior, moved_name, superiors, with_superiors}
+use Rattle.verb_core.specs.Names.{inbox, lost_found, is_empty, is_fixed, moved_name, superiors, with_superiors}
 use Rattle.verb_core.specs.Boxes.{box_cmp, box_of, row_at, has_row, add_row, add_rows, drop_row, change_row, has_inferior, has_superiors, is_at_or_below, is_rising, mail_at}
 use Rattle.verb_core.specs.Aims.{box_aimed}
 use Rattle.verb_core.specs.Items.{actor}
-use Rattle.verb_core.specs.Step.{Boxes, put_at, rearranged, created, all_created, left, moved, renamed, inbox_renamed, is_in_vain, way_of, after_rename, deleted, saved}
+use Rattle.verb_core.specs.Step.{Boxes, put_at, rearranged, created, all_created, left, moved, inbox_renamed, is_in_vain, way_of, after_rename, saved}
 use Rattle.verb_core.specs.Stamps.{stamps_after}
 use Rattle.verb_core.specs.Touched.{is_one}
-use Rattle.verb_core.proofs.BoxLaws.{tied, same_rows, row_at-add_row, row_at-drop_row, row_at-where, rising-add_row, rising-drop_row, rising-where}
-use Rattle.verb_core.proofs.RowLists.{first_there, row_at-add_rows, rising-add_rows, has_row-all_created}
+use Rattle.verb_core.proofs.BoxLaws.{tied, same_rows, row_at-add_row, row_at-where}
+use Rattle.verb_core.proofs.RowLists.{first_there, row_at-add_rows, has_row-all_created}
 use Rattle.verb_core.proofs.MoveLaws.{moved_free}
 use Rattle.verb_core.proofs.Moves.{not_in_vain}
-use Rattle.verb_core.proofs.Validity.{has_row-change_row, rising-rearranged}
-use Rattle.mail_desk.specs.Stamping.{StampRows, begins_with, stands_before, stamped, stamped_all, stamps_left, stamps_moved, stamps_named, renamed_stamps, stamps_by}
+use Rattle.verb_core.proofs.Validity.{rising-rearranged}
+use Rattle.mail_desk.specs.Stamping.{StampRows, begins_with, stands_before, stamped, stamped_all, stamps_left, stamps_moved, renamed_stamps, stamps_by}
 
 abbrev pub ids_of : {A : Type 0} → List (BoxId × A) → List BoxId
 ids_of rs = map (λ r. r.0) rs
