@@ -8,10 +8,10 @@ use box_store::{RowsRefused, Store};
 use std::alloc::Global;
 use std::test::Fail;
 use stored_items::StoredItem;
-use undo_base::{Flags, Key, Name, Names, Text, User};
+use undo_base::{Flags, Key, Keys, Name, Names, Text, User};
 use verb_core::{
     Account, Accounts, Aliases, Bodies, BodiesFault, Body, BoxId, Conf, Deed, Entries, Entry,
-    Filters, House, Item, Mailbox, Rows, Shown,
+    Filters, House, Item, Mailbox, Rows, Shown, Way,
 };
 
 /// 7 January 2005, 10:00:00.
@@ -234,4 +234,69 @@ pub(crate) fn counted(alloc: Global, house: &House, user: u8) -> Result<StoredIt
         mailbox: name(alloc, b"INBOX")?,
     };
     Ok(StoredItem::of(alloc, item(number, Some(user), deed, Shown::Count(None))))
+}
+
+/// A user's CREATE.
+pub(crate) fn created(
+    alloc: Global,
+    house: &House,
+    number: u32,
+    user: User,
+    mailbox: &[u8],
+) -> Result<StoredItem, Fail>
+    ensures { IfOk result (λ item. IsWellFormed house.now item) }
+{
+    if !house.knows(user) {
+        return Err(Fail::new("an unknown user"));
+    }
+    let deed = Deed::Create {
+        mailbox: name(alloc, mailbox)?,
+    };
+    Ok(StoredItem::of(alloc, item(number, Some(user), deed, Shown::Nothing)))
+}
+
+/// A user's RENAME.
+pub(crate) fn renamed(
+    alloc: Global,
+    house: &House,
+    number: u32,
+    user: User,
+    mailbox: &[u8],
+    target: &[u8],
+) -> Result<StoredItem, Fail>
+    ensures { IfOk result (λ item. IsWellFormed house.now item) }
+{
+    if !house.knows(user) {
+        return Err(Fail::new("an unknown user"));
+    }
+    let mailbox = name(alloc, mailbox)?;
+    let deed = Deed::Rename {
+        mailbox,
+        target: name(alloc, target)?,
+    };
+    Ok(StoredItem::of(
+        alloc,
+        item(number, Some(user), deed, Shown::Way(Way::Plain)),
+    ))
+}
+
+/// A user's DELETE, of a mailbox whose messages were all recorded.
+pub(crate) fn deleted(
+    alloc: Global,
+    house: &House,
+    number: u32,
+    user: User,
+    mailbox: &[u8],
+) -> Result<StoredItem, Fail>
+    ensures { IfOk result (λ item. IsWellFormed house.now item) }
+{
+    if !house.knows(user) {
+        return Err(Fail::new("an unknown user"));
+    }
+    let deed = Deed::Delete {
+        mailbox: name(alloc, mailbox)?,
+        keys: Keys::new(alloc),
+    };
+    let shown = Shown::Moved(Keys::new(alloc));
+    Ok(StoredItem::of(alloc, item(number, Some(user), deed, shown)))
 }

@@ -26,10 +26,10 @@ use verb_core::{House, Mailbox, Shown};
 
 /// What came of items: in how many levels they were performed, the store, and what they show.
 #[derive(Drop)]
-struct Came {
-    levels: usize,
-    store: Store,
-    shows: Shows,
+pub(crate) struct Came {
+    pub(crate) levels: usize,
+    pub(crate) store: Store,
+    pub(crate) shows: Shows,
 }
 
 fn resolved(
@@ -102,7 +102,7 @@ fn came_of<R: Threads + Sync, G: Gate, L: Ledger>(
 }
 
 /// The items performed on a store.
-fn performed<R: Threads + Sync, G: Gate>(
+pub(crate) fn performed<R: Threads + Sync, G: Gate>(
     rt: &R,
     alloc: Global,
     store: Store,

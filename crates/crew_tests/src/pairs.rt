@@ -54,6 +54,22 @@ fn counted(alloc: Global, user: u8) -> Result<TouchSet, Fail> {
     )
 }
 
+/// A LIST of a user's names.
+fn listed(alloc: Global, user: u8) -> Result<TouchSet, Fail> {
+    one(
+        alloc,
+        Touch::Names {
+            user: User(user),
+            writes: false,
+        },
+    )
+}
+
+/// A RENAME of a user.
+fn renamed(alloc: Global, user: u8) -> Result<TouchSet, Fail> {
+    one(alloc, Touch::Every { user: User(user) })
+}
+
 /// Whether two are independent, and whether they commute, each way round.
 fn are(a: &TouchSet, b: &TouchSet, apart: bool, swap: bool) -> bool {
     independent(a, b) == apart
@@ -89,10 +105,27 @@ fn counts_are_right(alloc: Global) -> Result<bool, Fail> {
     Ok(are(&first, &second, true, true) && are(&first, &sent, false, false))
 }
 
+fn renames_are_right(alloc: Global) -> Result<bool, Fail> {
+    let rename = renamed(alloc, 3)?;
+    let elsewhere = renamed(alloc, 4)?;
+    let sent = sent(alloc, 3, 10)?;
+    let counted = counted(alloc, 3)?;
+    let listed = listed(alloc, 3)?;
+    Ok(
+        are(&rename, &elsewhere, true, true)
+            && are(&rename, &rename, false, false)
+            && are(&rename, &sent, false, false)
+            && are(&rename, &counted, false, false)
+            && are(&rename, &listed, false, false)
+            && are(&elsewhere, &listed, true, true),
+    )
+}
+
 #[test]
 fn pairs_commute_as_the_table_says(rt: HostRuntime) -> Result<(), Fail> {
     assert!(rt; deliveries_are_right(rt.alloc())?);
     assert!(rt; changes_are_right(rt.alloc())?);
     assert!(rt; counts_are_right(rt.alloc())?);
+    assert!(rt; renames_are_right(rt.alloc())?);
     Ok(())
 }
