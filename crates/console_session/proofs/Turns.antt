@@ -1,7 +1,6 @@
 -- Replies as turns.
-use Rattle.std.proofs.Common.{◌≡◌, ◌&&◌, ◌||◌, ℕ, ◌<◌, Bool, true, false, not, ◌==◌, List, [], ◌∷◌, ◌++◌, Option, Some, None, refl, sym, ap, ◌∙◌, subst, arith, inl, inr, true≢false}
-use Rattle.std.specs.Prelude.{◌⊎◌, IsSome, length, nat_lt, option_and_then, option_map, unwrap_or, Result, Ok, Err, if◌then◌else◌}
-use Rattle.std.proofs.lemmas.Bool.Decides.{nat_tests}
+use Rattle.std.proofs.Common.{◌≡◌, ◌||◌, ℕ, Bool, true, false, not, List, [], ◌∷◌, ◌++◌, Option, Some, None, refl, sym, ap, ◌∙◌, subst, arith, inl, inr, true≢false}
+use Rattle.std.specs.Prelude.{◌⊎◌, IsSome, length, nat_lt, option_map, unwrap_or, Result, Ok, Err, if◌then◌else◌}
 use Rattle.undo_outside.specs.Disk.{DiskTold, IsHonest, ReadFailed}
 use Rattle.seal_log.proofs.Uses.{reads_none}
 use Rattle.verb_core.specs.declared.item.Act.{Act}
@@ -19,8 +18,8 @@ use Rattle.verb_bytes.specs.declared.journal.JournalRecord.TheVariants.{Operator
 use Rattle.paradox.specs.declared.reports.Report.{Report}
 use Rattle.store_kept.specs.Kept.{performed, report_of, snapshotted, upgraded, Kept}
 use Rattle.repair_desk.specs.Repairs.{position}
-use Rattle.cycle_rules.specs.Asking.{Due, IsRewinds, Repeats, NoPoint, NoNumbers, Rewinds as IsDue, after_cycle, cycle_due, due_anew, due_at, due_by}
-use Rattle.cycle_rules.specs.Cycles.{Cycled, cycled_at, leaves_numbers}
+use Rattle.cycle_rules.specs.Asking.{Due, IsRewinds, Repeats, NoPoint, NoNumbers, Rewinds as IsDue, after_cycle, cycle_due, due_anew, due_by}
+use Rattle.cycle_rules.specs.Cycles.{Cycled}
 use Rattle.desk_journal.specs.declared.fault.ActFault.{ActFault}
 use Rattle.desk_journal.specs.declared.fault.ActFault.TheVariants as fault
 use Rattle.time_desk.specs.declared.fault.CycleFault.{CycleFault}
@@ -30,7 +29,7 @@ use Rattle.desk_journal.specs.Lasting.{Lasting}
 use Rattle.time_desk.specs.Planning.{Plans, PlansNone, plan_at}
 use Rattle.desk_journal.specs.Reading.{Counted, HaveRead, IsStill, ReadsWell, failed_once, none_read, wrong_once}
 use Rattle.verb_core.specs.Deeds.{act_item}
-use Rattle.desk_journal.specs.Records.{after_record, after_records, is_formed, is_spelled, snapshot_record}
+use Rattle.desk_journal.specs.Records.{after_records, snapshot_record}
 use Rattle.desk_journal.specs.Sealing.{Seals}
 use Rattle.desk_journal.specs.Stored.{HoldsTexts}
 use Rattle.desk_journal.specs.Submitting.{ActsNone, SnapshotsNone, UpgradesNone, UpgradesOnce}
@@ -50,73 +49,11 @@ use Rattle.console_session.specs.declared.reply.After.{After}
 use Rattle.console_session.specs.declared.reply.After.TheVariants.{Closes, Fails, Rewinds, Upgrades, Waits}
 use Rattle.console_session.specs.declared.reply.Reply.{Reply}
 use Rattle.console_session.specs.Answers.{Answer, answer, answer_text, body_found, plan_answer, planned, refused, told_plainly}
-use Rattle.console_session.specs.Turn.{Turn, chosen, cycled, done, failed, kept_as_it_is, numbered, numberless, rewound, tells, upgrade_done, upgraded_once}
+use Rattle.console_session.specs.Turn.{Turn, chosen, cycled, done, failed, kept_as_it_is, numberless, rewound, tells, upgrade_done, upgraded_once}
 use Rattle.console_session.specs.Hindrance.{Hindrance, Clear, Refused, Unheard, Unanswered, Unsealed, Untold, Unread, UnreadRefused, UnreadUnheard, Misread, acted_under, behind_a_read, cycled_under, found_under, hindered, lost, read_under, rewound_under, routed_under, sealed_under, starved, told_under, tried_under, unanswered, unread, upgraded_under}
 use Rattle.console_session.specs.Hearing.{Hears, AreServed, IsTurn, Serves, Starves, Tells, TellsCycleFault, TellsDiskFault, TellsFault, TellsFound, TellsOnly, TellsRead, TellsReadFault, TellsSealFault, TellsUnread, is_failure, reply}
 use Rattle.console_session.proofs.Deciding.{IsSame, kept_decided, text_decided}
-
--- ---- numbers
-
-none_is_not : (x : Kept) → ◌≡◌ {A = Option Kept} None (Some x) → ⊥
-none_is_not x e = subst is_there (sym e) tt
-  where
-    is_there : Option Kept → Type 0
-    is_there None = ⊥
-    is_there (Some x) = Unit {0}
-
-must_pass : (a b t d : Bool) (x k : Kept) → (if a && (b && t && d) then Some x else None) ≡ Some k → t ≡ true
-must_pass a b true d x k e = refl
-must_pass true true false d x k e = absurd (none_is_not k e)
-must_pass true false false d x k e = absurd (none_is_not k e)
-must_pass false b false d x k e = absurd (none_is_not k e)
-
-then_some : (o : Option Kept) → option_and_then (λ (next : Kept). Some next) o ≡ o
-then_some None = refl
-then_some (Some kept) = refl
-
--- an act that was sealed had a number left
-pub number_left : (kept k : Kept) (at : ℕ) (act : Act) → after_records kept (Operator kept.next at act ∷ []) ≡ Some k → nat_lt kept.next 4194304 ≡ true
-number_left kept k at act e =
-    must_pass (is_spelled (Operator kept.next at act)) (kept.next == kept.next) (nat_lt kept.next 4194304) (is_formed kept.house (act_item kept.next at act))
-    (performed kept (act_item kept.next at act)) k (sym (then_some (after_record kept (Operator kept.next at act))) ∙ e)
-
-act_with : (h : Hindrance) (at : ℕ) (kept : Kept) (act : Act) → nat_lt kept.next 4194304 ≡ true
-    → acted_under h at kept act ≡ sealed_under h kept (done at kept act) (failed kept (Operator kept.next at act))
-act_with h at kept act e = rw e refl
-
-act_without : (h : Hindrance) (at : ℕ) (kept : Kept) (act : Act) → kept.next ≡ 4194304 → acted_under h at kept act ≡ told_under h kept (numberless kept)
-act_without h at kept act e = let none : nat_lt kept.next 4194304 ≡ false = grind (arith, nat_tests, e) in rw none refl
-
-record_is_not : (x : JournalRecord) (xs : List JournalRecord) → x ∷ xs ≡ [] → ⊥
-record_is_not x xs e = subst is_there e tt
-  where
-    is_there : List JournalRecord → Type 0
-    is_there [] = ⊥
-    is_there (x ∷ xs) = Unit {0}
-
--- an act with a number is to be sealed
-act_seals : (at : ℕ) (kept : Kept) (act : Act) → nat_lt kept.next 4194304 ≡ true → (numbered kept (done at kept act)).sealed ≡ [] → ⊥
-act_seals at kept act left e = record_is_not (Operator kept.next at act) [] (rw left at e)
-
-less_is : (n : ℕ) → n < 4194304 → nat_lt n 4194304 ≡ true
-less_is n lt = grind (arith, nat_tests, lt)
-
--- ---- keys
-
--- no cycle had the key
-abbrev IsNew : Due → Type 0
-IsNew (Repeats report) = ⊥
-IsNew NoPoint = Unit {0}
-IsNew NoNumbers = Unit {0}
-IsNew (IsDue due) = Unit {0}
-
-new_at : (kept : Kept) (at : ℕ) (ask : CycleAsk) (place : Option ℕ) → IsNew (due_at kept at ask place)
-new_at kept at ask None = tt
-new_at kept at ask (Some place) = elim (leaves_numbers kept ask) as (λ b. IsNew (if b then IsDue (cycled_at kept at ask place) else NoNumbers)) [ true ↦ tt | false ↦ tt ]
-
-fresh_is_new : (kept : Kept) (at : ℕ) (ask : CycleAsk) → report_of kept.reports ask.key ≡ None → IsNew (cycle_due kept at ask)
-fresh_is_new kept at ask e =
-    subst (λ (o : Option Report). IsNew (due_by o (due_anew kept at ask))) (sym e) (new_at kept at ask (position kept.timeline ask.point))
+use Rattle.console_session.proofs.Numbering.{number_left, act_with, act_without, record_is_not, act_seals, less_is, IsNew, fresh_is_new}
 
 module _ {D : Type 0} (told : D → DiskTold) where
   -- a desk of which the disk was only read sealed nothing
