@@ -1,5 +1,5 @@
 //! A cycle, put together.
-ghost use Rattle.std.specs.Prelude.{◌≡◌, ◌+◌, ◌-◌, ◌≤◌, ◌++◌, drop, length, take, IfOk, IsTrue, OnOk};
+ghost use Rattle.std.specs.Prelude.{◌≡◌, ◌+◌, ◌-◌, ◌≤◌, ◌++◌, drop, length, take, IfOk, IsTrue, OnErr, OnOk};
 ghost use Rattle.std.specs.List.{AllByRecursion};
 ghost use Rattle.verb_core.specs.Items.{IsWellFormed};
 ghost use Rattle.verb_core.specs.Step.{answers, run};
@@ -105,6 +105,7 @@ fn go_to<B: Bodies, L: Ledger>(
     ensures kept { IfOk result (λ there. there.repairs.kept ≡ edited.kept) }
     ensures unmatched { IfOk result (λ there. there.repairs.unmatched ≡ edited.unmatched) }
     ensures steps { OnOk result (steps.new + first.count ≡ steps.old + place) }
+    ensures most { OnErr result (steps.new + first.count ≤ steps.old + place) }
     ensures reads { Counts (B.told bodies.old) (B.told bodies.new) result }
     ensures stays { StaysTold (B.told bodies.old) (B.told bodies.new) }
     ensures leads { B.leads bodies.old bodies.new }
@@ -166,6 +167,7 @@ fn at_point<B: Bodies, L: Ledger>(
     ensures kept { IfOk result (λ there. there.repairs.kept ≡ (edited_at before.now.timeline ask.now before.now.next at place).kept) }
     ensures unmatched { IfOk result (λ there. there.repairs.unmatched ≡ (edited_at before.now.timeline ask.now before.now.next at place).unmatched) }
     ensures steps { OnOk result (steps.new + first.count ≡ steps.old + place) }
+    ensures most { OnErr result (steps.new + first.count ≤ steps.old + place) }
     ensures reads { Counts (B.told bodies.old) (B.told bodies.new) result }
     ensures stays { StaysTold (B.told bodies.old) (B.told bodies.new) }
     ensures leads { B.leads bodies.old bodies.new }
@@ -203,6 +205,7 @@ fn settled<L: Ledger>(
         IfOk result (LeavesAt before.now.timeline (reached_from before.now at ask.now place first from (take from before.now.timeline ++ (front ++ later.items)))
         (cycled_from before.now at ask.now place first from (take from before.now.timeline ++ (front ++ later.items)))) }
     ensures steps { IfOk result (λ made. steps.new ≤ steps.old + length made.report.notices) }
+    ensures most { OnErr result (steps.new ≤ steps.old + length before.now.house.accounts) }
 {
     match with_front(front, later) {
         Ok(replayed) => settle(
@@ -239,6 +242,7 @@ pub fn cycle_from<R: Threads + Sync, G: Gate, B: Bodies, L: Ledger>(
     ensures made { IfOk result (IsMadeFrom before.now at ask.now place first.store.store first.count (B.told bodies.old).honest) }
     ensures ok { (B.told bodies.old).honest → first.store.store ≡ run before.now.base (take first.count before.now.timeline) → IfOk result (Leaves before.now (cycled_at before.now at ask.now place)) }
     ensures steps { IfOk result (λ made. steps.new ≤ steps.old + (place - first.count) + length ask.now.inserts + made.report.kept + length made.report.notices) }
+    ensures most { OnErr result (steps.new ≤ steps.old + (place - first.count) + length ask.now.inserts + (edited_at before.now.timeline ask.now before.now.next at place).kept + length before.now.house.accounts) }
     ensures reads { Counts (B.told bodies.old) (B.told bodies.new) result }
     ensures stays { StaysTold (B.told bodies.old) (B.told bodies.new) }
     ensures leads { B.leads bodies.old bodies.new }
@@ -282,6 +286,7 @@ pub fn cycle_in_order<B: Bodies, L: Ledger>(
     ensures made { IfOk result (IsMadeFrom before.now at ask.now place first.store.store first.count (B.told bodies.old).honest) }
     ensures ok { (B.told bodies.old).honest → first.store.store ≡ run before.now.base (take first.count before.now.timeline) → IfOk result (Leaves before.now (cycled_at before.now at ask.now place)) }
     ensures steps { IfOk result (λ made. steps.new ≤ steps.old + (place - first.count) + length ask.now.inserts + made.report.kept + length made.report.notices) }
+    ensures most { OnErr result (steps.new ≤ steps.old + (place - first.count) + length ask.now.inserts + (edited_at before.now.timeline ask.now before.now.next at place).kept + length before.now.house.accounts) }
     ensures reads { Counts (B.told bodies.old) (B.told bodies.new) result }
     ensures stays { StaysTold (B.told bodies.old) (B.told bodies.new) }
     ensures leads { B.leads bodies.old bodies.new }

@@ -1,5 +1,5 @@
 //! Items, replayed level by level on workers. It gives the same as one after the other.
-ghost use Rattle.std.specs.Prelude.{◌≡◌, ◌+◌, List, length, map, IfOk, OnOk};
+ghost use Rattle.std.specs.Prelude.{◌≡◌, ◌≤◌, ◌+◌, List, length, map, IfOk, OnErr, OnOk};
 ghost use Rattle.std.specs.List.{AllByRecursion};
 ghost use Rattle.verb_core.specs.declared.item.Item.{Item};
 ghost use Rattle.verb_core.specs.Items.{IsWellFormed};
@@ -49,6 +49,7 @@ fn run_levels<R: Threads + Sync, G: Gate, L: Ledger>(
     ensures shows { (timeline : List Item) → AreResolvedFrom store.store timeline items.now → IfOk result (λ made. made.1 ≡ answers store.store timeline) }
     ensures valid { IfOk result (λ made. IsValid made.0.store) }
     ensures steps { OnOk result (steps.new ≡ steps.old + length items.now) }
+    ensures most { OnErr result (steps.new ≤ steps.old + length items.now) }
 {
     let levels = levels_of(alloc, items)?;
     run_plan(rt, alloc, store, &levels, items, gate, steps)
@@ -75,6 +76,7 @@ pub(crate) fn replay_by_levels<R: Threads + Sync, G: Gate, B: Bodies, L: Ledger>
     ensures valid { IfOk result (λ made. IsValid made.store.store) }
     ensures shows { IfOk result (λ made. made.shows ≡ answers store.store made.items) }
     ensures steps { OnOk result (steps.new ≡ steps.old + length items) }
+    ensures most { OnErr result (steps.new ≤ steps.old + length items) }
     ensures reads { Counts (B.told bodies.old) (B.told bodies.new) result }
     ensures stays { StaysTold (B.told bodies.old) (B.told bodies.new) }
     ensures leads { B.leads bodies.old bodies.new }

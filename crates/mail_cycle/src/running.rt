@@ -1,6 +1,6 @@
 //! Items, performed one after the other, each delivery with its text, which is read: those through a point for the store that
 //! they lead to, and, where there are no workers, those behind it for what they show too.
-ghost use Rattle.std.specs.Prelude.{◌≡◌, ◌+◌, ◌-◌, ◌==◌, if◌then◌else◌, [], ◌∷◌, ◌++◌, drop, length, IfErr, IfOk, OnOk};
+ghost use Rattle.std.specs.Prelude.{◌≡◌, ◌≤◌, ◌+◌, ◌-◌, ◌==◌, if◌then◌else◌, [], ◌∷◌, ◌++◌, drop, length, IfErr, IfOk, OnErr, OnOk};
 ghost use Rattle.std.specs.List.{AllByRecursion};
 ghost use Rattle.verb_core.specs.Items.{IsWellFormed};
 ghost use Rattle.verb_core.specs.Step.{answers, run, step};
@@ -42,6 +42,7 @@ fn perform<L: Ledger>(
     ensures valid { OnOk result (IsValid store.new.store) }
     ensures shown { IfOk result (λ shown. shown ≡ (step store.old.store (heard_as item.now text.now)).1) }
     ensures steps { OnOk result (steps.new ≡ steps.old + 1) }
+    ensures no_step { OnErr result (steps.new ≡ steps.old) }
 {
     steps_keep_validity();
     store.perform(alloc, item.item(), text, steps)
@@ -64,6 +65,7 @@ fn perform_heard<B: Bodies, L: Ledger>(
     ensures valid { OnOk result (IsValid store.new.store) }
     ensures shown { IfOk result (λ shown. shown ≡ (step store.old.store item.new).1) }
     ensures steps { OnOk result (steps.new ≡ steps.old + 1) }
+    ensures no_step { OnErr result (steps.new ≡ steps.old) }
     ensures reads { Counts (B.told bodies.old) (B.told bodies.new) result }
     ensures stays { StaysTold (B.told bodies.old) (B.told bodies.new) }
     ensures leads { B.leads bodies.old bodies.new }
@@ -112,6 +114,7 @@ fn perform_each<B: Bodies, L: Ledger>(
     ensures valid { OnOk result (IsValid store.new.store) }
     ensures shows { IfOk result (λ shows. shows ≡ drop front (answers store.old.store items.new.items)) }
     ensures steps { OnOk result (steps.new ≡ steps.old + length items.old.items) }
+    ensures most { OnErr result (steps.new ≤ steps.old + length items.old.items) }
     ensures reads { Counts (B.told bodies.old) (B.told bodies.new) result }
     ensures stays { StaysTold (B.told bodies.old) (B.told bodies.new) }
     ensures leads { B.leads bodies.old bodies.new }
@@ -144,6 +147,7 @@ pub(crate) fn replay_in_order<B: Bodies, L: Ledger>(
     ensures valid { IfOk result (λ made. IsValid made.store.store) }
     ensures shows { IfOk result (λ made. made.shows ≡ drop front (answers store.store made.items)) }
     ensures steps { OnOk result (steps.new ≡ steps.old + length items) }
+    ensures most { OnErr result (steps.new ≤ steps.old + length items) }
     ensures reads { Counts (B.told bodies.old) (B.told bodies.new) result }
     ensures stays { StaysTold (B.told bodies.old) (B.told bodies.new) }
     ensures leads { B.leads bodies.old bodies.new }

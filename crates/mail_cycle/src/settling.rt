@@ -1,5 +1,5 @@
 //! The end of a cycle: what replayed items show is compared with what users were shown, users are told, and all is put together.
-ghost use Rattle.std.specs.Prelude.{◌≡◌, ◌+◌, ◌-◌, ◌≤◌, ◌++◌, drop, length, take, IfOk, IsTrue, OnOk};
+ghost use Rattle.std.specs.Prelude.{◌≡◌, ◌+◌, ◌-◌, ◌≤◌, ◌++◌, drop, length, take, IfOk, IsTrue, OnErr, OnOk};
 ghost use Rattle.std.specs.List.{AllByRecursion};
 ghost use Rattle.verb_core.specs.Items.{IsWellFormed};
 ghost use Rattle.verb_core.specs.Step.{answers, run, step};
@@ -89,6 +89,7 @@ fn perform<L: Ledger>(
     ensures store { OnOk result (store.new.store ≡ (step store.old.store notice.now).0) }
     ensures valid { OnOk result (IsValid store.new.store) }
     ensures steps { OnOk result (steps.new ≡ steps.old + 1) }
+    ensures no_step { OnErr result (steps.new ≡ steps.old) }
 {
     steps_keep_validity();
     match store.perform(alloc, notice, notice.deed.text_bytes(), steps) {
@@ -112,6 +113,7 @@ fn perform_all<L: Ledger>(
     ensures store { OnOk result (store.new.store ≡ run store.old.store notices.now) }
     ensures valid { OnOk result (IsValid store.new.store) }
     ensures steps { OnOk result (steps.new ≡ steps.old + length notices.now) }
+    ensures most { OnErr result (steps.new ≤ steps.old + length notices.now) }
 {
     for notice in notices {
         perform(alloc, store, notice, steps)?;
@@ -131,6 +133,7 @@ fn performed<L: Ledger>(
     ensures store { IfOk result (λ made. made.store ≡ run store.store notices.now) }
     ensures valid { IfOk result (λ made. IsValid made.store) }
     ensures steps { IfOk result (λ made. steps.new ≡ steps.old + length notices.now) }
+    ensures most { OnErr result (steps.new ≤ steps.old + length notices.now) }
 {
     let mut store = store;
     match perform_all(alloc, &mut store, notices, steps) {
@@ -180,6 +183,7 @@ fn lead<L: Ledger>(
     ensures valid { IfOk result (λ led. IsValid led.store.store) }
     ensures items { IfOk result (λ led. led.items ≡ shown_after front replayed.items (drop inserts replayed.shows) ++ notices) }
     ensures steps { IfOk result (λ led. steps.new ≡ steps.old + length notices) }
+    ensures most { OnErr result (steps.new ≤ steps.old + length notices) }
 {
     let Replayed {
         items,
@@ -302,6 +306,7 @@ fn close<L: Ledger>(
       unmatched = repairs.unmatched;
     }) }
     ensures steps { IfOk result (λ made. steps.new ≤ steps.old + length told.notices) }
+    ensures most { OnErr result (steps.new ≤ steps.old + length told.notices) }
 {
     let inserts = ask.inserts.len();
     let front = before.front_with(place, inserts) - from;
@@ -350,6 +355,7 @@ pub fn settle<L: Ledger>(
         IfOk result (LeavesAt before.now.timeline (reached_from before.now at ask.now place first from (take from before.now.timeline ++ replayed.items))
         (cycled_from before.now at ask.now place first from (take from before.now.timeline ++ replayed.items))) }
     ensures steps { IfOk result (λ made. steps.new ≤ steps.old + length made.report.notices) }
+    ensures most { OnErr result (steps.new ≤ steps.old + length before.now.house.accounts) }
 {
     match tell_users(alloc, before, at, ask, place, replayed.shows.as_slice()) {
         Ok(told) => close(

@@ -5,6 +5,7 @@ use Rattle.verb_core.specs.Store.{MailStore}
 use Rattle.verb_core.proofs.Joins.{run_house}
 use Rattle.stored_items.specs.Stored.{AllHeard}
 use Rattle.cycle_rules.specs.Cycles.{repaired_items}
+use Rattle.replay_crew.proofs.Loops.{at_err}
 use Rattle.mail_cycle.proofs.Left.{length_repaired}
 use Rattle.mail_cycle.proofs.Made.{made_exact, made_of, many_steps}
 use Rattle.mail_cycle.proofs.Parted.{alike, begins, heard, led, shown}
@@ -57,6 +58,25 @@ returns-in-Ok-clause-steps g c =
     let all : c.replay_by_levels.new.steps + c.args.first.count ≡ c.args.steps.now + length items = omega (arith, many, rest, c.in_ok-there.ensures.steps, c.in_ok-later.ensures.steps) in
     many_steps s c.args.at c.args.ask.now place c.args.first.store.store c.args.first.count (g.B.Bodies.told c.args.bodies.now).honest c.in-Ok.made
     items c.args.steps.now c.replay_by_levels.new.steps c.settled.new.steps c.requires.few c.requires.place refl all (returns-in-Ok-clause-made g c) c.in-Ok.ensures.steps
+
+-- where a read fails or memory is wanting, no item was performed twice
+pub returns-in_err-later-clause-most : goal.returns-in_err-later-clause-most
+returns-in_err-later-clause-most g c =
+    let s = c.args.before.now in
+    let place = c.args.place in
+    let items = repaired_items s c.args.at c.args.ask.now place in
+    let many = length_repaired s c.args.at c.args.ask.now place c.requires.place in
+    let rest : length c.in_ok-there.there.later ≡ length items - place = ap (λ (t : List Item). length t) c.in_ok-there.ensures.later ∙ length-drop place items in
+    at_err c.from_residual-in_err-later.result (omega (arith, many, rest, c.requires.few, c.in_ok-there.ensures.steps, c.in_err-later.ensures.most))
+
+pub returns-in-Err-clause-most : goal.returns-in-Err-clause-most
+returns-in-Err-clause-most g c =
+    let s = c.args.before.now in
+    let place = c.args.place in
+    let items = repaired_items s c.args.at c.args.ask.now place in
+    let many = length_repaired s c.args.at c.args.ask.now place c.requires.place in
+    let rest : length c.in_ok-there.there.later ≡ length items - place = ap (λ (t : List Item). length t) c.in_ok-there.ensures.later ∙ length-drop place items in
+    omega (arith, many, rest, c.requires.few, c.in_ok-there.ensures.steps, c.in_ok-later.ensures.steps, c.in-Err.ensures.most)
 
 pub returns-in_err-later-clause-leads : goal.returns-in_err-later-clause-leads
 returns-in_err-later-clause-leads g c = g.met.B.Bodies.leads_on _ _ _ c.in_ok-there.ensures.leads c.in_err-later.ensures.leads

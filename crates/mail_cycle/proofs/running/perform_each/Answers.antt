@@ -3,6 +3,7 @@ use Rattle.verb_core.specs.Store.{MailStore}
 use Rattle.replay_crew.specs.Hearing.{StoresOf}
 use Rattle.mail_cycle.proofs.Heard.{next_heard, next_later, next_same, next_shows, next_store, next_tells}
 use Rattle.replay_crew.proofs.Heard.{stays_on, stores_still}
+use Rattle.replay_crew.proofs.Loops.{at_err}
 use Rattle.mail_cycle.proofs.running.perform_each.Goals as goal
 
 pub loop-item-preserved : goal.loop-item-preserved
@@ -32,3 +33,9 @@ loop-item-preserved g c =
       stays = stays_on first told _ so_far.stays done.stays;
       leads = g.met.B.Bodies.leads_on _ _ _ so_far.leads done.leads;
     }
+
+pub returns-in_err-shown-clause-most : goal.returns-in_err-shown-clause-most
+returns-in_err-shown-clause-most g c = at_err c.from_residual-in_err-shown.result (omega (arith, c.in_err-shown.ensures.no_step, c.loop-item.invariant.steps))
+
+pub returns-in_err-left-clause-most : goal.returns-in_err-left-clause-most
+returns-in_err-left-clause-most g c = at_err c.from_residual-in_err-left.result (omega (arith, c.in_ok-shown.ensures.steps, c.loop-item.invariant.steps))
