@@ -9,6 +9,7 @@ pub mod Soundness
 pub mod Lasts
 pub mod Servings
 pub mod Resolving
+pub mod Bounding
 pub mod Rewinding
 pub mod Marking
 pub mod Messages

@@ -91,7 +91,7 @@ repaired_length kept at ask place within =
     let later = map (repaired ask kept.next) (stays ask (drop place kept.timeline)) in
     omega (arith, length-append front (acts ++ later), length-append acts later, length-append (front ++ acts) later, length-append front acts, length-take-le place kept.timeline within, acts_length kept.next at ask.inserts, length-map (stays ask (drop place kept.timeline)) (repaired ask kept.next))
 
-made_length : (kept : Kept) (at : ℕ) (ask : CycleAsk) (place : ℕ) (first : MailStore) (count : ℕ) (honest : Type 0) (made : Rewound) → place ≤ length kept.timeline → IsMadeFrom kept at ask place first count honest made
+pub made_length : (kept : Kept) (at : ℕ) (ask : CycleAsk) (place : ℕ) (first : MailStore) (count : ℕ) (honest : Type 0) (made : Rewound) → place ≤ length kept.timeline → IsMadeFrom kept at ask place first count honest made
     → length (items_left kept.timeline made) ≡ place + length ask.inserts + made.report.kept + length made.report.notices
 made_length kept at ask place first count honest made within is =
     let now = compared_from ask place first count is.heard in

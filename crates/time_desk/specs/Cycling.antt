@@ -120,6 +120,11 @@ abbrev pub most_performed : Kept → CycleAsk → Cycled → ℕ
 most_performed kept ask due =
     (due.place - newest_at due.place kept.marks.places) + length ask.inserts + due.report.kept + length due.report.notices
 
+-- how many at most where it is refused after all, for want of memory or at the disk: these, with a notice for each account
+abbrev pub most_tried : Kept → CycleAsk → Cycled → ℕ
+most_tried kept ask due =
+    (due.place - newest_at due.place kept.marks.places) + length ask.inserts + due.report.kept + length kept.house.accounts
+
 module _ {D : Type 0} (told : D → DiskTold) where
   -- By what is due: a key that a cycle had is answered with that cycle's report, and nothing changes; else the one record of
   -- the cycle is sealed, and where the texts lie on the disk as they are noted, what is kept is what the cycle leaves.

@@ -14,7 +14,7 @@ ghost use Rattle.mail_cycle.specs.Leaving.{IsMade, items_left};
 ghost use Rattle.mail_cycle.specs.Permanence.{UidsLast};
 ghost use Rattle.mail_cycle.specs.Refusing.{IsRefusalOf};
 ghost use Rattle.mail_desk.specs.Remaking.{CanReplace, remade_as};
-ghost use Rattle.time_desk.specs.Cycling.{CycleWants, Cycles, CyclesAs, CyclesNone, IsCycleOutcomeOf, IsFit, IsTold, Redoes, RedoesCause, RenotesAs, Tries, TriesNone, after_rewound, most_performed};
+ghost use Rattle.time_desk.specs.Cycling.{CycleWants, Cycles, CyclesAs, CyclesNone, IsCycleOutcomeOf, IsFit, IsTold, Redoes, RedoesCause, RenotesAs, Tries, TriesNone, after_rewound, most_performed, most_tried};
 ghost use Rattle.desk_journal.specs.Lasting.{lasting};
 ghost use Rattle.desk_journal.specs.Reading.{IsStill, ReadsWell};
 ghost use Rattle.desk_journal.specs.Records.{is_spelled};
@@ -341,6 +341,9 @@ fn rewound_in<R: Threads + Sync, G: Gate, D: Disk, L: Ledger>(
     ensures still { IsOnlyRead D.told journal.old journal.new }
     ensures rewinds { (due : Cycled) → due_anew desk.now.kept at ask.now ≡ Rewinds due → HoldsHeld (D.told journal.old.disk) desk.now
         → OnOk result (steps.new ≤ steps.old + most_performed desk.now.kept ask.now due) }
+    ensures most { (due : Cycled) → due_anew desk.now.kept at ask.now ≡ Rewinds due → HoldsHeld (D.told journal.old.disk) desk.now
+        → OnErr result (steps.new ≤ steps.old + most_tried desk.now.kept ask.now due) }
+    ensures few { OnErr result (steps.new ≤ steps.old + length desk.now.kept.timeline + length ask.now.inserts + length desk.now.kept.house.accounts) }
     ensures steps { IfOk result (λ made. steps.new ≤ steps.old + length (items_left desk.now.kept.timeline made)) }
 {
     rewound(
@@ -413,6 +416,9 @@ fn cycle_open<R: Threads + Sync, G: Gate, D: Disk, L: Ledger>(
     ensures why { IfErr result (λ fault. CyclesNone D.told at ask (lasting desk.old journal.old) (lasting desk.new journal.new) fault) }
     ensures rewinds { (due : Cycled) → due_anew desk.old.kept at ask ≡ Rewinds due → HoldsTexts D.told (lasting desk.old journal.old)
         → OnOk result (steps.new ≤ steps.old + most_performed desk.old.kept ask due) }
+    ensures most { (due : Cycled) → due_anew desk.old.kept at ask ≡ Rewinds due → HoldsTexts D.told (lasting desk.old journal.old)
+        → OnErr result (steps.new ≤ steps.old + most_tried desk.old.kept ask due) }
+    ensures few { OnErr result (steps.new ≤ steps.old + length desk.old.kept.timeline + length ask.inserts + length desk.old.kept.house.accounts) }
     ensures same { OnOk result ((D.told journal.new.disk).failed_reads ≡ (D.told journal.old.disk).failed_reads) }
     ensures fed { OnOk result (Fed (D.told journal.old.disk) (D.told journal.new.disk)) }
     ensures wants { IfErr result (λ fault. CycleWants D.told journal.old.disk journal.new.disk fault) }
@@ -452,6 +458,9 @@ fn cycle_anew<R: Threads + Sync, G: Gate, D: Disk, L: Ledger>(
     ensures why { IfErr result (λ fault. CyclesNone D.told at ask (lasting desk.old journal.old) (lasting desk.new journal.new) fault) }
     ensures rewinds { (due : Cycled) → due_anew desk.old.kept at ask ≡ Rewinds due → HoldsTexts D.told (lasting desk.old journal.old)
         → OnOk result (steps.new ≤ steps.old + most_performed desk.old.kept ask due) }
+    ensures most { (due : Cycled) → due_anew desk.old.kept at ask ≡ Rewinds due → HoldsTexts D.told (lasting desk.old journal.old)
+        → OnErr result (steps.new ≤ steps.old + most_tried desk.old.kept ask due) }
+    ensures few { OnErr result (steps.new ≤ steps.old + length desk.old.kept.timeline + length ask.inserts + length desk.old.kept.house.accounts) }
     ensures same { OnOk result ((D.told journal.new.disk).failed_reads ≡ (D.told journal.old.disk).failed_reads) }
     ensures fed { OnOk result (Fed (D.told journal.old.disk) (D.told journal.new.disk)) }
     ensures wants { IfErr result (λ fault. CycleWants D.told journal.old.disk journal.new.disk fault) }
@@ -497,6 +506,10 @@ impl<D: Disk> Desk<D> {
         ensures why { IfErr result (λ fault. CyclesNone D.told at ask self.old self.new fault) }
         ensures rewinds { (due : Cycled) → cycle_due self.old.kept at ask ≡ Rewinds due → HoldsTexts D.told self.old
             → OnOk result (steps.new ≤ steps.old + most_performed self.old.kept ask due) }
+        // A refusal comes before any item or behind some: no item is performed twice.
+        ensures most { (due : Cycled) → cycle_due self.old.kept at ask ≡ Rewinds due → HoldsTexts D.told self.old
+            → OnErr result (steps.new ≤ steps.old + most_tried self.old.kept ask due) }
+        ensures few { OnErr result (steps.new ≤ steps.old + length self.old.kept.timeline + length ask.inserts + length self.old.kept.house.accounts) }
         ensures same { OnOk result (ReadsWell D.told self.old self.new) }
         // A write finds no memory only where the answer is want of memory, and none comes after it.
         ensures fed { OnOk result (Fed (D.told self.old.disk) (D.told self.new.disk)) }

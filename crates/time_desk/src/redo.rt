@@ -1,13 +1,13 @@
 //! A cycle in memory, beside the desk.
-ghost use Rattle.std.specs.Prelude.{◌≡◌, ◌<◌, ◌+◌, ◌-◌, ◌≤◌, Some, length, IsTrue, IfOk, IfErr, OnOk};
+ghost use Rattle.std.specs.Prelude.{◌≡◌, ◌<◌, ◌+◌, ◌-◌, ◌≤◌, Some, length, IsTrue, IfOk, IfErr, OnErr, OnOk};
 ghost use Rattle.seal_log.specs.Settled.{ReadsAlone};
-ghost use Rattle.repair_desk.specs.Repairs.{are_known, position};
+ghost use Rattle.repair_desk.specs.Repairs.{are_known, edited_at, position};
 ghost use Rattle.cycle_rules.specs.Asking.{IsRewinds, Rewinds, due_anew};
 ghost use Rattle.cycle_rules.specs.Cycles.{Cycled, cycled_at, leaves_numbers};
 ghost use Rattle.mail_cycle.specs.Leaving.{IsMade, IsMadeFrom, Leaves, items_left};
 ghost use Rattle.mail_cycle.specs.Refusing.{IsRefusalOf};
 ghost use Rattle.mail_desk.specs.Remaking.{CanReplace, remade_as};
-ghost use Rattle.time_desk.specs.Cycling.{IsFit, Redoes, RedoesCause, after_rewound, most_performed};
+ghost use Rattle.time_desk.specs.Cycling.{IsFit, Redoes, RedoesCause, after_rewound, most_performed, most_tried};
 ghost use Rattle.time_desk.specs.Planning.{BodiesCause};
 ghost use Rattle.time_desk.specs.Serving.{Serves, unmarked};
 ghost use Rattle.desk_journal.specs.Stored.{MarkedBefore, TextsNoted, Renotes, store_at};
@@ -87,6 +87,7 @@ fn rewound_from<R: Threads + Sync, G: Gate, D: Disk, L: Ledger>(
     ensures cause { BodiesCause (D.told disk.old) (D.told disk.new) result }
     ensures reads { ReadsAlone (D.told disk.old) (D.told disk.new) }
     ensures steps { IfOk result (λ made. steps.new ≤ steps.old + (place - first.count) + length ask.now.inserts + made.report.kept + length made.report.notices) }
+    ensures most { OnErr result (steps.new ≤ steps.old + (place - first.count) + length ask.now.inserts + (edited_at desk.now.kept.timeline ask.now desk.now.kept.next at place).kept + length desk.now.kept.house.accounts) }
 {
     desk.stands();
     cycles_leave_states();
@@ -136,6 +137,9 @@ fn rewound_at<R: Threads + Sync, G: Gate, D: Disk, L: Ledger>(
     ensures reads { ReadsAlone (D.told disk.old) (D.told disk.new) }
     ensures rewinds { HoldsHeld (D.told disk.old) desk.now
         → OnOk result (steps.new ≤ steps.old + most_performed desk.now.kept ask.now (cycled_at desk.now.kept at ask.now place)) }
+    ensures most { HoldsHeld (D.told disk.old) desk.now
+        → OnErr result (steps.new ≤ steps.old + most_tried desk.now.kept ask.now (cycled_at desk.now.kept at ask.now place)) }
+    ensures few { OnErr result (steps.new ≤ steps.old + length desk.now.kept.timeline + length ask.now.inserts + length desk.now.kept.house.accounts) }
     ensures steps { IfOk result (λ made. steps.new ≤ steps.old + length (items_left desk.now.kept.timeline made)) }
 {
     desk.stands();
@@ -174,6 +178,9 @@ pub(crate) fn rewound<R: Threads + Sync, G: Gate, D: Disk, L: Ledger>(
     ensures reads { ReadsAlone (D.told disk.old) (D.told disk.new) }
     ensures rewinds { (due : Cycled) → due_anew desk.now.kept at ask.now ≡ Rewinds due → HoldsHeld (D.told disk.old) desk.now
         → OnOk result (steps.new ≤ steps.old + most_performed desk.now.kept ask.now due) }
+    ensures most { (due : Cycled) → due_anew desk.now.kept at ask.now ≡ Rewinds due → HoldsHeld (D.told disk.old) desk.now
+        → OnErr result (steps.new ≤ steps.old + most_tried desk.now.kept ask.now due) }
+    ensures few { OnErr result (steps.new ≤ steps.old + length desk.now.kept.timeline + length ask.now.inserts + length desk.now.kept.house.accounts) }
     ensures steps { IfOk result (λ made. steps.new ≤ steps.old + length (items_left desk.now.kept.timeline made)) }
 {
     match due_place(&begun(desk), ask) {

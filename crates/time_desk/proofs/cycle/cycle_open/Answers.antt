@@ -1,8 +1,9 @@
-use Rattle.std.proofs.Common.{IfErr, IfOk, ap, subst, sym, ℕ}
+use Rattle.std.proofs.Common.{IfErr, IfOk, ap, arith, subst, sym, ℕ}
 use Rattle.time_desk.specs.Cycling.{Cycles, CyclesNone}
 use Rattle.desk_journal.specs.Lasting.{Lasting, lasting}
 use Rattle.desk_journal.specs.Stored.{MarkedBefore, NotedBefore}
 use Rattle.desk_journal.specs.Telling.{HoldsHeld}
+use Rattle.time_desk.proofs.Bounding.{any_err, made_few, performed_few}
 use Rattle.time_desk.proofs.Rewinding.{any_ok, cycles_as, made_unread, read_from, refused}
 use Rattle.desk_journal.proofs.Runs.{seals_still}
 use Rattle.desk_journal.proofs.Sealed.{still_read}
@@ -65,3 +66,16 @@ returns-in-Ok-clause-wants g c =
 
 pub returns-in-Err-clause-wants : goal.returns-in-Err-clause-wants
 returns-in-Err-clause-wants g c = reading_wants g.D.Disk.told c.args.journal.now.disk c.rewound_in.new.journal.disk c.refused_as.result c.in-Err.ensures.still.reads
+
+-- what was performed is no more where the cycle is refused after it
+pub returns-in-Ok-clause-most : goal.returns-in-Ok-clause-most
+returns-in-Ok-clause-most g c = λ due is holds.
+    any_err c.cycle_made.result (omega (arith, c.in-Ok.ensures.rewinds due is (holds.payloads, holds.texts), performed_few c.args.desk.now.kept c.args.at c.args.ask due is))
+
+pub returns-in-Ok-clause-few : goal.returns-in-Ok-clause-few
+returns-in-Ok-clause-few g c =
+    any_err c.cycle_made.result
+    (omega (arith, c.in-Ok.ensures.steps, made_few c.args.desk.now.kept c.args.at c.args.ask (HoldsHeld (g.D.Disk.told c.args.journal.now.disk) c.args.desk.now) c.in-Ok.made c.in-Ok.ensures.made))
+
+pub returns-in-Err-clause-most : goal.returns-in-Err-clause-most
+returns-in-Err-clause-most g c = λ due is holds. c.in-Err.ensures.most due is (holds.payloads, holds.texts)

@@ -1,4 +1,5 @@
 use Rattle.desk_journal.specs.Telling.{HoldsHeld}
+use Rattle.time_desk.proofs.Bounding.{few_from, tried_from}
 use Rattle.time_desk.proofs.Rewinding.{all_made, few_steps, most_steps}
 use Rattle.desk_journal.proofs.Telling.{held_on}
 use Rattle.time_desk.proofs.redo.rewound_at.Goals as goal
@@ -24,3 +25,11 @@ returns-in-Ok-clause-rewinds g c = λ holds.
 pub returns-in-Ok-clause-steps : goal.returns-in-Ok-clause-steps
 returns-in-Ok-clause-steps g c =
     few_steps c.args.desk.now.kept c.args.at c.args.ask.now c.args.place c.in-Ok.first _ c.rewound_from.result c.args.steps.now c.rewound_from.new.steps c.requires.place c.rewound_from.ensures.made c.rewound_from.ensures.steps
+
+pub returns-in-Ok-clause-most : goal.returns-in-Ok-clause-most
+returns-in-Ok-clause-most g c = λ holds.
+    tried_from c.args.desk.now.kept c.args.at c.args.ask.now c.args.place c.rewound_from.result c.args.steps.now c.rewound_from.new.steps c.in-Ok.first.count (c.in-Ok.ensures.newest holds).count c.rewound_from.ensures.most
+
+pub returns-in-Ok-clause-few : goal.returns-in-Ok-clause-few
+returns-in-Ok-clause-few g c =
+    few_from c.args.desk.now.kept c.args.at c.args.ask.now c.args.place c.rewound_from.result c.args.steps.now c.rewound_from.new.steps c.in-Ok.first.count c.requires.place c.rewound_from.ensures.most

@@ -1,5 +1,8 @@
-use Rattle.std.proofs.Common.{◌∙◌, ap}
+use Rattle.std.proofs.Common.{◌∙◌, ◌+◌, ◌-◌, ◌≤◌, ap, length, subst}
+use Rattle.std.specs.Prelude.{OnErr}
 use Rattle.verb_core.specs.Texts.{BodiesTold}
+use Rattle.store_kept.specs.Kept.{Kept}
+use Rattle.repair_desk.specs.Repairs.{edited_at}
 use Rattle.desk_journal.specs.Telling.{HoldsHeld}
 use Rattle.time_desk.proofs.Rewinding.{done_as, fits_made, made_as}
 use Rattle.time_desk.proofs.Telling.{honest_as, tells_repaired_items, told_as}
@@ -33,3 +36,9 @@ returns-clause-fit g c =
     c.bodies_have_texts.ensures.behind stands.base c.requires.serves.few c.requires.place c.requires.serves.serves
     (λ heard all. c.cycles_leave_states.ensures.from kept c.args.at c.args.ask.now c.args.place first.store.store first.count heard stands.timeline stands.below stands.fresh c.requires.known c.requires.serves.few all c.requires.numbers)
     (λ heard same. c.cycles_begin_anywhere.ensures.front kept c.args.at c.args.ask.now c.args.place first.store.store first.count heard c.requires.serves.few c.requires.place same)
+
+pub returns-clause-most : goal.returns-clause-most
+returns-clause-most g c =
+    subst (λ (k : Kept). OnErr c.cycle_from.result (c.cycle_from.new.steps ≤ c.args.steps.now + (c.args.place - c.args.first.count) + length c.args.ask.now.inserts
+    + (edited_at k.timeline c.args.ask.now k.next c.args.at c.args.place).kept + length k.house.accounts))
+    c.begun.ensures c.cycle_from.ensures.most

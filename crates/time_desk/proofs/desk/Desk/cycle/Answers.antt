@@ -1,7 +1,8 @@
-use Rattle.std.proofs.Common.{◌≡◌, ◌∙◌, ◌+◌, ◌≤◌, IfErr, IfOk, OnOk, inl, refl, subst, sym}
+use Rattle.std.proofs.Common.{◌≡◌, ◌∙◌, ◌+◌, ◌≤◌, IfErr, IfOk, OnOk, inl, length, refl, subst, sym}
+use Rattle.std.specs.Prelude.{OnErr}
 use Rattle.cycle_rules.specs.Asking.{Rewinds, cycle_due}
 use Rattle.mail_cycle.specs.Permanence.{UidsLast}
-use Rattle.time_desk.specs.Cycling.{CycleWants, Cycles, CyclesNone, most_performed}
+use Rattle.time_desk.specs.Cycling.{CycleWants, Cycles, CyclesNone, most_performed, most_tried}
 use Rattle.desk_journal.specs.Lasting.{Lasting, lasting}
 use Rattle.desk_journal.specs.Permanence.{IsSound}
 use Rattle.desk_journal.specs.Stored.{HoldsTexts}
@@ -52,3 +53,16 @@ returns-in-Ok-None-clause-wants g c =
 
 pub returns-in-Err-clause-wants : goal.returns-in-Err-clause-wants
 returns-in-Err-clause-wants g c = inl (reads_none (g.D.Disk.told c.args.self.now.disk) (g.met.D.Disk.tells_truth c.args.self.now.disk))
+
+pub returns-in-Ok-None-clause-most : goal.returns-in-Ok-None-clause-most
+returns-in-Ok-None-clause-most g c = λ due is holds.
+    let tried = c.cycle_anew in
+    let inside = c.self.inside in
+    subst (λ (l : Lasting g.row.D.Denot). OnErr tried.result (tried.new.steps ≤ c.args.steps.now + most_tried l.kept c.args.ask due)) c.self.view_is
+    (tried.ensures.most due (sym (due_new inside.desk.kept c.args.at c.args.ask (sym c.in-Ok-None.ensures.found ∙ c.in-Ok-None.field-0-is)) ∙ subst (λ (l : Lasting g.row.D.Denot). cycle_due l.kept c.args.at c.args.ask ≡ Rewinds due) (sym c.self.view_is) is)
+    (subst (HoldsTexts g.D.Disk.told) (sym c.self.view_is) holds))
+
+pub returns-in-Ok-None-clause-few : goal.returns-in-Ok-None-clause-few
+returns-in-Ok-None-clause-few g c =
+    let tried = c.cycle_anew in
+    subst (λ (l : Lasting g.row.D.Denot). OnErr tried.result (tried.new.steps ≤ c.args.steps.now + length l.kept.timeline + length c.args.ask.inserts + length l.kept.house.accounts)) c.self.view_is tried.ensures.few
