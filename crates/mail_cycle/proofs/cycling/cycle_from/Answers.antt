@@ -60,6 +60,9 @@ returns-in-Ok-clause-steps g c =
     items c.args.steps.now c.replay_by_levels.new.steps c.settled.new.steps c.requires.few c.requires.place refl all (returns-in-Ok-clause-made g c) c.in-Ok.ensures.steps
 
 -- where a read fails or memory is wanting, no item was performed twice
+pub returns-in_err-there-clause-most : goal.returns-in_err-there-clause-most
+returns-in_err-there-clause-most g c = at_err c.from_residual-in_err-there.result (omega (arith, c.requires.few, c.in_err-there.ensures.most))
+
 pub returns-in_err-later-clause-most : goal.returns-in_err-later-clause-most
 returns-in_err-later-clause-most g c =
     let s = c.args.before.now in

@@ -1,6 +1,9 @@
-use Rattle.std.proofs.Common.{◌∙◌, ◌-◌, subst, sym, take}
+use Rattle.std.proofs.Common.{◌∙◌, ◌-◌, List, ap, arith, length, subst, sym, take}
+use Rattle.std.proofs.lemmas.List.{length-take-le}
 use Rattle.std.specs.List.{AllByRecursion}
+use Rattle.verb_core.specs.declared.item.Item.{Item}
 use Rattle.replay_crew.specs.Hearing.{HoldsOf, StoresOf}
+use Rattle.replay_crew.proofs.Loops.{at_err}
 use Rattle.mail_cycle.proofs.Told.{all_held, all_stored, front_told}
 use Rattle.mail_cycle.proofs.cycling.go_to.Goals as goal
 
@@ -18,3 +21,9 @@ returns-in_ok-made-in-Ok-clause-same g c = λ is.
     let items = c.args.edited.items in
     c.in_ok-made-in-Ok.ensures.same is (subst (AllByRecursion (StoresOf told)) (sym c.in-Ok.ensures.front) (all_stored told (take rest items) is (front_told told rest items c.requires.texts)))
     ∙ c.in-Ok.ensures.front
+
+pub returns-in_err-made-in-Ok-clause-most : goal.returns-in_err-made-in-Ok-clause-most
+returns-in_err-made-in-Ok-clause-most g c =
+    let rest = c.args.place - c.args.first.count in
+    let through = ap (λ (t : List Item). length t) c.in-Ok.ensures.front in
+    at_err c.from_residual.result (omega (arith, through, length-take-le rest c.args.edited.items c.requires.place, c.requires.few, c.in_err-made-in-Ok.ensures.most))

@@ -1,4 +1,6 @@
-use Rattle.std.proofs.Common.{◌∙◌, ap, arith, get_or}
+use Rattle.std.proofs.Common.{◌∙◌, List, ap, arith, get_or, length}
+use Rattle.std.proofs.lemmas.List.{length-drop}
+use Rattle.verb_core.specs.declared.item.Item.{Item}
 use Rattle.verb_core.specs.Store.{MailStore}
 use Rattle.replay_crew.specs.Hearing.{StoresOf}
 use Rattle.mail_cycle.proofs.Heard.{next_heard, next_later, next_same, next_shows, next_store, next_tells}
@@ -35,7 +37,17 @@ loop-item-preserved g c =
     }
 
 pub returns-in_err-shown-clause-most : goal.returns-in_err-shown-clause-most
-returns-in_err-shown-clause-most g c = at_err c.from_residual-in_err-shown.result (omega (arith, c.in_err-shown.ensures.no_step, c.loop-item.invariant.steps))
+returns-in_err-shown-clause-most g c =
+    let so_far = c.loop-item.invariant in
+    let k = c.loop-item.item-index in
+    let left = ap (λ (t : List Item). length t) so_far.later in
+    at_err c.from_residual-in_err-shown.result
+    (omega (arith, c.in_err-shown.ensures.no_step, so_far.steps, left, length-drop k c.loop-item.item-items, length-drop k c.args.items.now.items))
 
 pub returns-in_err-left-clause-most : goal.returns-in_err-left-clause-most
-returns-in_err-left-clause-most g c = at_err c.from_residual-in_err-left.result (omega (arith, c.in_ok-shown.ensures.steps, c.loop-item.invariant.steps))
+returns-in_err-left-clause-most g c =
+    let so_far = c.loop-item.invariant in
+    let k = c.loop-item.item-index in
+    let left = ap (λ (t : List Item). length t) so_far.later in
+    at_err c.from_residual-in_err-left.result
+    (omega (arith, c.in_ok-shown.ensures.steps, so_far.steps, left, length-drop k c.loop-item.item-items, length-drop k c.args.items.now.items))

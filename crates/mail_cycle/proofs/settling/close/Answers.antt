@@ -1,0 +1,6 @@
+use Rattle.std.proofs.Common.{arith}
+use Rattle.replay_crew.proofs.Loops.{at_err}
+use Rattle.mail_cycle.proofs.settling.close.Goals as goal
+
+pub returns-in-Ok-clause-most : goal.returns-in-Ok-clause-most
+returns-in-Ok-clause-most g c = at_err c.finish.result (omega (arith, c.in-Ok.ensures.steps))
