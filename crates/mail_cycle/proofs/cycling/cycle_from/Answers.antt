@@ -61,7 +61,7 @@ returns-in-Ok-clause-steps g c =
 
 -- where a read fails or memory is wanting, no item was performed twice
 pub returns-in_err-there-clause-most : goal.returns-in_err-there-clause-most
-returns-in_err-there-clause-most g c = at_err c.from_residual-in_err-there.result (omega (arith, c.requires.few, c.in_err-there.ensures.most))
+returns-in_err-there-clause-most g c = at_err c.from_residual.result (omega (arith, c.requires.few, c.in_err-there.ensures.most))
 
 pub returns-in_err-later-clause-most : goal.returns-in_err-later-clause-most
 returns-in_err-later-clause-most g c =

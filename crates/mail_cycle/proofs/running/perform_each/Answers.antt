@@ -41,7 +41,7 @@ returns-in_err-shown-clause-most g c =
     let so_far = c.loop-item.invariant in
     let k = c.loop-item.item-index in
     let left = ap (λ (t : List Item). length t) so_far.later in
-    at_err c.from_residual-in_err-shown.result
+    at_err c.from_residual.result
     (omega (arith, c.in_err-shown.ensures.no_step, so_far.steps, left, length-drop k c.loop-item.item-items, length-drop k c.args.items.now.items))
 
 pub returns-in_err-left-clause-most : goal.returns-in_err-left-clause-most
