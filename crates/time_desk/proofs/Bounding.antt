@@ -87,5 +87,8 @@ tells_few kept at ask (Some place) = elim (leaves_numbers kept ask) as (λ b. Te
 -- so what it performs where it is done is no more than where it is refused
 pub performed_few : (kept : Kept) (at : ℕ) (ask : CycleAsk) (due : Cycled) → due_anew kept at ask ≡ Rewinds due → most_performed kept ask due ≤ most_tried kept ask due
 performed_few kept at ask due is =
-    let few : length due.report.notices ≤ length kept.house.accounts = subst (TellsFew kept) is (tells_few kept at ask (position kept.timeline ask.point)) in
-    omega (arith, few)
+    more (due.place - newest_at due.place kept.marks.places) (length ask.inserts) due.report.kept (length due.report.notices) (length kept.house.accounts)
+    (subst (TellsFew kept) is (tells_few kept at ask (position kept.timeline ask.point)))
+  where
+    more : (a b c d e : ℕ) → d ≤ e → a + b + c + d ≤ a + b + c + e
+    more a b c d e le = omega arith
