@@ -14,3 +14,4 @@ pub mod Stretches
 pub mod Pieces
 pub mod Quitting
 pub mod Rows
+pub mod Fetched

@@ -3,3 +3,4 @@ pub mod MailClient
 pub mod MailReader
 pub mod Joined
 pub mod Quits
+pub mod FetchingClient
