@@ -16,9 +16,7 @@ pub use events::{
     events_of_a_stream_join, fetching_events_join, mail_client_events_join, mail_reader_events_join,
 };
 pub use fetching::an_answered_quit_removed_the_marked;
-pub use fetching_client::{
-    fetching_clients_ask_what_can_be_recorded, fetching_dialogs_have_keys,
-};
+pub use fetching_client::{fetching_clients_ask_what_can_be_recorded, fetching_dialogs_have_keys};
 pub use mail_client::{mail_clients_ask_for_deliveries, mail_dialogs_have_names};
 pub use mail_reader::{
     commands_are_in_range, mail_readers_ask_what_can_be_recorded, reading_dialogs_have_names,
