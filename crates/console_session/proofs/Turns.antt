@@ -1,7 +1,8 @@
 -- Replies as turns.
 use Rattle.std.proofs.Common.{◌≡◌, ◌||◌, ℕ, Bool, true, false, not, List, [], ◌∷◌, ◌++◌, Option, Some, None, refl, sym, ap, ◌∙◌, subst, arith, inl, inr, true≢false}
 use Rattle.std.specs.Prelude.{◌⊎◌, IsSome, length, nat_lt, option_map, unwrap_or, Result, Ok, Err, if◌then◌else◌}
-use Rattle.undo_outside.specs.Disk.{DiskTold, IsHonest, ReadFailed}
+use Rattle.undo_outside.specs.Disk.{DiskTold, IsHonest, ReadFailed, WriteStarved}
+use Rattle.seal_log.specs.Causes.{Fed, SealWants, Starves as FindsNone}
 use Rattle.seal_log.proofs.Uses.{reads_none}
 use Rattle.verb_core.specs.declared.item.Act.{Act}
 use Rattle.verb_core.specs.declared.conf.House.{House}
@@ -24,7 +25,7 @@ use Rattle.desk_journal.specs.declared.fault.ActFault.{ActFault}
 use Rattle.desk_journal.specs.declared.fault.ActFault.TheVariants as fault
 use Rattle.time_desk.specs.declared.fault.CycleFault.{CycleFault}
 use Rattle.time_desk.specs.declared.fault.CycleFault.TheVariants as cycle_fault
-use Rattle.time_desk.specs.Cycling.{Cycles, CyclesBy, CyclesNone, FailsToCycle, FailsToRead, StarvesBy, Tries, TriesNone}
+use Rattle.time_desk.specs.Cycling.{CycleWants, Cycles, CyclesBy, CyclesNone, FailsToCycle, FailsToRead, StarvesBy, Tries, TriesNone}
 use Rattle.desk_journal.specs.Lasting.{Lasting}
 use Rattle.time_desk.specs.Planning.{Plans, PlansNone, plan_at}
 use Rattle.desk_journal.specs.Reading.{Counted, HaveRead, IsStill, ReadsWell, failed_once, none_read, wrong_once}
@@ -32,7 +33,7 @@ use Rattle.verb_core.specs.Deeds.{act_item}
 use Rattle.desk_journal.specs.Records.{after_records, snapshot_record}
 use Rattle.desk_journal.specs.Sealing.{Seals}
 use Rattle.desk_journal.specs.Stored.{HoldsTexts}
-use Rattle.desk_journal.specs.Submitting.{ActsNone, SnapshotsNone, UpgradesNone, UpgradesOnce}
+use Rattle.desk_journal.specs.Submitting.{ActWants, ActsNone, SnapshotsNone, UpgradesNone, UpgradesOnce}
 use Rattle.console_head.specs.declared.request.HeadRefused.TheVariants.{Head as BadHead, Size as TooLarge}
 use Rattle.console_http.specs.declared.request.Asked.{Asked}
 use Rattle.console_http.specs.declared.request.Asked.TheVariants.{NotYet, Whole}
@@ -50,7 +51,7 @@ use Rattle.console_session.specs.declared.reply.After.TheVariants.{Closes, Fails
 use Rattle.console_session.specs.declared.reply.Reply.{Reply}
 use Rattle.console_session.specs.Answers.{Answer, answer, answer_text, body_found, plan_answer, planned, refused, told_plainly}
 use Rattle.console_session.specs.Turn.{Turn, chosen, cycled, done, failed, kept_as_it_is, numberless, rewound, tells, upgrade_done, upgraded_once}
-use Rattle.console_session.specs.Hindrance.{Hindrance, Clear, Refused, Unheard, Unanswered, Unsealed, Untold, Unread, UnreadRefused, UnreadUnheard, Misread, acted_under, behind_a_read, cycled_under, found_under, hindered, lost, read_under, rewound_under, routed_under, sealed_under, starved, told_under, tried_under, unanswered, unread, upgraded_under}
+use Rattle.console_session.specs.Hindrance.{Hindrance, Clear, Refused, Unheard, Unanswered, Unsealed, Untold, Unwritten, UnwrittenUnheard, Unread, UnreadRefused, UnreadUnheard, Misread, acted_under, behind_a_read, behind_a_write, cycled_under, found_under, hindered, lost, read_under, rewound_under, routed_under, sealed_under, starved, told_under, tried_under, unanswered, unread, upgraded_under}
 use Rattle.console_session.specs.Hearing.{Hears, AreServed, IsTurn, Serves, Starves, Tells, TellsCycleFault, TellsDiskFault, TellsFault, TellsFound, TellsOnly, TellsRead, TellsReadFault, TellsSealFault, TellsUnread, is_failure, reply}
 use Rattle.console_session.proofs.Deciding.{IsSame, kept_decided, text_decided}
 use Rattle.console_session.proofs.Numbering.{number_left, act_with, act_without, record_is_not, act_seals, less_is, IsNew, fresh_is_new}
@@ -89,6 +90,20 @@ module _ {D : Type 0} (told : D → DiskTold) where
   reads_wrong : (old new : Lasting D) → ReadsWell told old new → (HoldsTexts told old → ⊥) → HaveRead told old new wrong_once
   reads_wrong old new well not = record { failed = counted_none _ _ well; reliable = λ e. refl; honest = λ h. absurd (not h) }
 
+  -- ---- writes that found no memory
+
+  -- each write found memory, or the last one that was made found none
+  abbrev Wants : Lasting D → Lasting D → Type 0
+  Wants old new = Fed (told old.disk) (told new.disk) ⊎ WriteStarved (told old.disk) (told new.disk)
+
+  none_starved : (old new : Lasting D) → Fed (told old.disk) (told new.disk) → Counted 0 (told old.disk).starved (told new.disk).starved
+  none_starved old new fed = counted_none _ _ fed
+
+  -- where no memory was found
+  wants_of : (old new : Lasting D) → FindsNone told old.disk new.disk → Wants old new
+  wants_of old new (inl same) = inl (ap (λ (d : D). (told d).starved) same)
+  wants_of old new (inr starved) = inr starved
+
   -- ---- turns
 
   abbrev Under : (Hindrance → Turn) → Lasting D → Lasting D → Reply → Type 0
@@ -98,8 +113,8 @@ module _ {D : Type 0} (told : D → DiskTold) where
   turn_at t s old new r e turn = subst (λ (u : Turn). IsTurn told u old new r) (sym e) turn
 
   same_turn : Still → (said : List ℕ) (after : After) (old new : Lasting D) (r : Reply) → IsQuiet old new → r ≡ reply said after
-      → IsTurn told (record { said = said; kept = old.kept; after = after; sealed = []; unsealed = []; reads = none_read }) old new r
-  same_turn still said after old new r same e = record { reply_is = e; kept = same.still.kept; seals = still old new same.still; read = reads_well old new same.well }
+      → IsTurn told (record { said = said; kept = old.kept; after = after; sealed = []; unsealed = []; reads = none_read; starved = 0 }) old new r
+  same_turn still said after old new r same e = record { reply_is = e; kept = same.still.kept; seals = still old new same.still; read = reads_well old new same.well; starved = none_starved old new same.still.reads.fed }
 
   -- an answer that changes nothing
   pub told_turn : Still → (a : Answer) (after : After) (old new : Lasting D) (r : Reply) → IsQuiet old new → Tells a after r
@@ -114,21 +129,21 @@ module _ {D : Type 0} (told : D → DiskTold) where
   answer_turn still due a old new r same holds e (inl is) = (Clear, same_turn still (answer_text due) Closes old new r same (e ∙ ap (λ (t : List ℕ). reply t Closes) is))
   answer_turn still due a old new r same holds e (inr other) = (
     Misread (answer_text a) old.kept,
-    record { reply_is = e; kept = same.still.kept; seals = still old new same.still; read = reads_wrong old new same.well (λ h. other (ap answer_text (holds h))) },
+    record { reply_is = e; kept = same.still.kept; seals = still old new same.still; read = reads_wrong old new same.well (λ h. other (ap answer_text (holds h))); starved = none_starved old new same.still.reads.fed },
   )
 
   unread_turn : Still → (old new : Lasting D) (r : Reply) → IsStill told old new → ReadFailed (told old.disk) (told new.disk) → r ≡ reply (unread old.kept).said Closes
       → IsTurn told (unread old.kept) old new r
-  unread_turn still old new r same failed e = record { reply_is = e; kept = same.kept; seals = still old new same; read = reads_ill old new failed }
+  unread_turn still old new r same failed e = record { reply_is = e; kept = same.kept; seals = still old new same; read = reads_ill old new failed; starved = none_starved old new same.reads.fed }
 
   -- and no memory was found for telling that, or for telling anything
   starved_unread : Still → (old new : Lasting D) (r : Reply) → IsStill told old new → ReadFailed (told old.disk) (told new.disk) → r ≡ reply (starved old.kept).said Closes
       → IsTurn told (behind_a_read (starved old.kept)) old new r
-  starved_unread still old new r same failed e = record { reply_is = e; kept = same.kept; seals = still old new same; read = reads_ill old new failed }
+  starved_unread still old new r same failed e = record { reply_is = e; kept = same.kept; seals = still old new same; read = reads_ill old new failed; starved = none_starved old new same.reads.fed }
 
   lost_unread : Still → (old new : Lasting D) (r : Reply) → IsStill told old new → ReadFailed (told old.disk) (told new.disk) → r ≡ reply [] Closes
       → IsTurn told (behind_a_read (lost old.kept)) old new r
-  lost_unread still old new r same failed e = record { reply_is = e; kept = same.kept; seals = still old new same; read = reads_ill old new failed }
+  lost_unread still old new r same failed e = record { reply_is = e; kept = same.kept; seals = still old new same; read = reads_ill old new failed; starved = none_starved old new same.reads.fed }
 
   -- an answer that is made of texts, or a text that could not be read
   pub read_turn : Still → (due : Answer) (old new : Lasting D) (r : Reply) → IsStill told old new → TellsRead told due old new r
@@ -191,19 +206,38 @@ module _ {D : Type 0} (told : D → DiskTold) where
 
   -- a record could not be sealed, and that is told or nothing is said
   unsealed_turn : (f : Hindrance → Turn) (what : JournalRecord) (old new : Lasting D) (r : Reply) → f Unsealed ≡ failed old.kept what → f Untold ≡ unanswered (failed old.kept what)
-      → TellsOnly (answer 500 (error_data Disk)) Fails r → new.kept ≡ old.kept → Seals told [] (what ∷ []) old new → ReadsWell told old new → Under f old new r
-  unsealed_turn f what old new r told_is untold_is (inl e) kept seals well =
-      (Unsealed, turn_at _ _ old new r told_is (record { reply_is = e; kept = kept; seals = seals; read = reads_well old new well }))
-  unsealed_turn f what old new r told_is untold_is (inr e) kept seals well =
-      (Untold, turn_at _ _ old new r untold_is (record { reply_is = e; kept = kept; seals = seals; read = reads_well old new well }))
+      → TellsOnly (answer 500 (error_data Disk)) Fails r → new.kept ≡ old.kept → Seals told [] (what ∷ []) old new → ReadsWell told old new
+      → Fed (told old.disk) (told new.disk) → Under f old new r
+  unsealed_turn f what old new r told_is untold_is (inl e) kept seals well fed =
+      (Unsealed, turn_at _ _ old new r told_is (record { reply_is = e; kept = kept; seals = seals; read = reads_well old new well; starved = none_starved old new fed }))
+  unsealed_turn f what old new r told_is untold_is (inr e) kept seals well fed =
+      (Untold, turn_at _ _ old new r untold_is (record { reply_is = e; kept = kept; seals = seals; read = reads_well old new well; starved = none_starved old new fed }))
 
-  -- no memory was found before anything was sealed
-  starved_turn : (f : Hindrance → Turn) (old new : Lasting D) (r : Reply) → f Refused ≡ starved old.kept → f Unheard ≡ lost old.kept → new.kept ≡ old.kept → Seals told [] [] old new → ReadsWell told old new
-      → Starves r → Under f old new r
-  starved_turn f old new r told_is lost_is kept seals well (inl e) =
-      (Refused, turn_at _ _ old new r told_is (record { reply_is = e; kept = kept; seals = seals; read = reads_well old new well }))
-  starved_turn f old new r told_is lost_is kept seals well (inr e) =
-      (Unheard, turn_at _ _ old new r lost_is (record { reply_is = e; kept = kept; seals = seals; read = reads_well old new well }))
+  -- where no memory is found a turn that seals a record is this
+  record WantsSo (f : Hindrance → Turn) (kept : Kept) : Type 0 where
+    told_is : f Refused ≡ starved kept
+    lost_is : f Unheard ≡ lost kept
+    written_is : f Unwritten ≡ behind_a_write (starved kept)
+    unheard_is : f UnwrittenUnheard ≡ behind_a_write (lost kept)
+
+  -- no memory was found before anything was sealed, or in a write of it
+  starved_turn : (f : Hindrance → Turn) (old new : Lasting D) (r : Reply) → WantsSo f old.kept → new.kept ≡ old.kept → Seals told [] [] old new → ReadsWell told old new
+      → Wants old new → Starves r → Under f old new r
+  starved_turn f old new r so kept seals well (inl fed) (inl e) =
+      (Refused, turn_at _ _ old new r so.told_is (record { reply_is = e; kept = kept; seals = seals; read = reads_well old new well; starved = none_starved old new fed }))
+  starved_turn f old new r so kept seals well (inl fed) (inr e) =
+      (Unheard, turn_at _ _ old new r so.lost_is (record { reply_is = e; kept = kept; seals = seals; read = reads_well old new well; starved = none_starved old new fed }))
+  starved_turn f old new r so kept seals well (inr wants) (inl e) =
+      (Unwritten, turn_at _ _ old new r so.written_is (record { reply_is = e; kept = kept; seals = seals; read = reads_well old new well; starved = wants.0 }))
+  starved_turn f old new r so kept seals well (inr wants) (inr e) =
+      (UnwrittenUnheard, turn_at _ _ old new r so.unheard_is (record { reply_is = e; kept = kept; seals = seals; read = reads_well old new well; starved = wants.0 }))
+
+  -- one of a record that is sealed, and one of a cycle
+  sealed_wants : (kept : Kept) (t u : Turn) → WantsSo (λ h. sealed_under h kept t u) kept
+  sealed_wants kept t u = record { told_is = refl; lost_is = refl; written_is = refl; unheard_is = refl }
+
+  rewound_wants : (kept : Kept) (t u : Turn) → WantsSo (λ h. rewound_under h kept t u) kept
+  rewound_wants kept t u = record { told_is = refl; lost_is = refl; written_is = refl; unheard_is = refl }
 
   -- where nothing was sealed, what was kept is kept
   kept_stays : (old new : Lasting D) → after_records old.kept [] ≡ Some new.kept → new.kept ≡ old.kept
@@ -224,14 +258,14 @@ module _ {D : Type 0} (told : D → DiskTold) where
   -- it was sealed, and that is told or nothing is said
   done_turn : (at : ℕ) (act : Act) (old new : Lasting D) (r : Reply) → TellsOnly (answer 200 (number_data old.kept.next)) Closes r
       → new.kept ≡ performed old.kept (act_item old.kept.next at act) → Seals told (Operator old.kept.next at act ∷ []) [] old new → ReadsWell told old new
-      → Under (λ h. sealed_under h old.kept (done at old.kept act) (failed old.kept (Operator old.kept.next at act))) old new r
-  done_turn at act old new r (inl e) kept seals well = (Clear, record { reply_is = e; kept = kept; seals = seals; read = reads_well old new well })
-  done_turn at act old new r (inr e) kept seals well = (Unanswered, record { reply_is = e; kept = kept; seals = seals; read = reads_well old new well })
+      → Fed (told old.disk) (told new.disk) → Under (λ h. sealed_under h old.kept (done at old.kept act) (failed old.kept (Operator old.kept.next at act))) old new r
+  done_turn at act old new r (inl e) kept seals well fed = (Clear, record { reply_is = e; kept = kept; seals = seals; read = reads_well old new well; starved = none_starved old new fed })
+  done_turn at act old new r (inr e) kept seals well fed = (Unanswered, record { reply_is = e; kept = kept; seals = seals; read = reads_well old new well; starved = none_starved old new fed })
 
   pub act_done : (at : ℕ) (act : Act) (old new : Lasting D) (r : Reply) → TellsOnly (answer 200 (number_data old.kept.next)) Closes r
       → new.kept ≡ performed old.kept (act_item old.kept.next at act) → Seals told (Operator old.kept.next at act ∷ []) [] old new → ReadsWell told old new
-      → Serves told at (Ok (Whole (route.Act act))) old new r
-  act_done at act old new r says kept seals well = acts at act old new r (number_left old.kept new.kept at act (seals.kept (inr refl))) (done_turn at act old new r says kept seals well)
+      → Fed (told old.disk) (told new.disk) → Serves told at (Ok (Whole (route.Act act))) old new r
+  act_done at act old new r says kept seals well fed = acts at act old new r (number_left old.kept new.kept at act (seals.kept (inr refl))) (done_turn at act old new r says kept seals well fed)
 
   none_left : Still → Truth → (at next : ℕ) (act : Act) (old new : Lasting D) (r : Reply) → next ≡ old.kept.next → old.kept.next ≡ 4194304 → new ≡ old
       → Tells (answer 507 (numbers_data next)) Closes r → Serves told at (Ok (Whole (route.Act act))) old new r
@@ -239,14 +273,15 @@ module _ {D : Type 0} (told : D → DiskTold) where
       serves_told still at (Ok (Whole (route.Act act))) (answer 507 (numbers_data old.kept.next)) Closes old new r (as_it_was truth old new same) (λ h. act_without h at old.kept act e)
       (subst (λ (n : ℕ). Tells (answer 507 (numbers_data n)) Closes r) is_next says)
 
-  pub act_not_done : Still → Truth → (at : ℕ) (act : Act) (old new : Lasting D) (f : ActFault) (r : Reply) → ActsNone told at act old new f → new.kept ≡ old.kept → ReadsWell told old new → TellsFault f r
-      → Serves told at (Ok (Whole (route.Act act))) old new r
-  act_not_done still truth at act old new (fault.Numbers next) r none kept well says = none_left still truth at next act old new r none.1 none.2 none.3 says
-  act_not_done still truth at act old new fault.Disk r none kept well says =
-      acts at act old new r (less_is old.kept.next none.1) (unsealed_turn _ (Operator old.kept.next at act) old new r refl refl says kept none.2 well)
-  act_not_done still truth at act old new fault.NoMemory r none kept well says =
-      acts at act old new r (less_is old.kept.next none.1) (starved_turn _ old new r refl refl kept none.2 well says)
-  act_not_done still truth at act old new fault.Closed r none kept well says = absurd says
+  pub act_not_done : Still → Truth → (at : ℕ) (act : Act) (old new : Lasting D) (f : ActFault) (r : Reply) → ActsNone told at act old new f → new.kept ≡ old.kept → ReadsWell told old new
+      → ActWants told old.disk new.disk f → TellsFault f r → Serves told at (Ok (Whole (route.Act act))) old new r
+  act_not_done still truth at act old new (fault.Numbers next) r none kept well wants says = none_left still truth at next act old new r none.1 none.2 none.3 says
+  act_not_done still truth at act old new fault.Disk r none kept well fed says =
+      acts at act old new r (less_is old.kept.next none.1) (unsealed_turn _ (Operator old.kept.next at act) old new r refl refl says kept none.2 well fed)
+  act_not_done still truth at act old new fault.NoMemory r none kept well wants says =
+      acts at act old new r (less_is old.kept.next none.1)
+      (starved_turn _ old new r (sealed_wants old.kept (done at old.kept act) (failed old.kept (Operator old.kept.next at act))) kept none.2 well (wants_of old new wants) says)
+  act_not_done still truth at act old new fault.Closed r none kept well wants says = absurd says
 
   -- ---- snapshots
 
@@ -259,22 +294,25 @@ module _ {D : Type 0} (told : D → DiskTold) where
 
   -- it was sealed, and that is told or nothing is said
   kept_turn : (old new : Lasting D) (r : Reply) → TellsOnly (answer 200 (items_data (length old.kept.timeline))) Closes r
-      → new.kept ≡ snapshotted old.kept → Seals told (snapshot_record old.kept ∷ []) [] old new → ReadsWell told old new → Snapping old new r
-  kept_turn old new r (inl e) kept seals well = (Clear, record { reply_is = e; kept = kept; seals = seals; read = reads_well old new well })
-  kept_turn old new r (inr e) kept seals well = (Unanswered, record { reply_is = e; kept = kept; seals = seals; read = reads_well old new well })
+      → new.kept ≡ snapshotted old.kept → Seals told (snapshot_record old.kept ∷ []) [] old new → ReadsWell told old new → Fed (told old.disk) (told new.disk) → Snapping old new r
+  kept_turn old new r (inl e) kept seals well fed = (Clear, record { reply_is = e; kept = kept; seals = seals; read = reads_well old new well; starved = none_starved old new fed })
+  kept_turn old new r (inr e) kept seals well fed = (Unanswered, record { reply_is = e; kept = kept; seals = seals; read = reads_well old new well; starved = none_starved old new fed })
 
   pub snapshot_done : (at items : ℕ) (old new : Lasting D) (r : Reply) → TellsOnly (answer 200 (items_data items)) Closes r → items ≡ length old.kept.timeline
-      → new.kept ≡ snapshotted old.kept → Seals told (snapshot_record old.kept ∷ []) [] old new → ReadsWell told old new → Serves told at (Ok (Whole route.Snapshot)) old new r
-  snapshot_done at items old new r says count kept seals well =
-      snaps at old new r (kept_turn old new r (subst (λ (n : ℕ). TellsOnly (answer 200 (items_data n)) Closes r) count says) kept seals well)
-
-  pub snapshot_not_done : (at : ℕ) (old new : Lasting D) (f : SealFault) (r : Reply) → SnapshotsNone told old new f → ReadsWell told old new → TellsSealFault f r
+      → new.kept ≡ snapshotted old.kept → Seals told (snapshot_record old.kept ∷ []) [] old new → ReadsWell told old new → Fed (told old.disk) (told new.disk)
       → Serves told at (Ok (Whole route.Snapshot)) old new r
-  snapshot_not_done at old new seal_fault.Disk r none well says =
-      snaps at old new r (unsealed_turn _ (snapshot_record old.kept) old new r refl refl says (kept_stays old new (none.1.kept (inr refl))) none.1 well)
-  snapshot_not_done at old new seal_fault.NoMemory r none well says =
-      snaps at old new r (starved_turn _ old new r refl refl (kept_stays old new (none.1.kept (inr refl))) none.1 well says)
-  snapshot_not_done at old new seal_fault.Closed r none well says = absurd says
+  snapshot_done at items old new r says count kept seals well fed =
+      snaps at old new r (kept_turn old new r (subst (λ (n : ℕ). TellsOnly (answer 200 (items_data n)) Closes r) count says) kept seals well fed)
+
+  pub snapshot_not_done : {X : Type 0} → (at : ℕ) (old new : Lasting D) (f : SealFault) (r : Reply) → SnapshotsNone told old new f → ReadsWell told old new → SealWants {T = X} told old.disk new.disk (Err f)
+      → TellsSealFault f r → Serves told at (Ok (Whole route.Snapshot)) old new r
+  snapshot_not_done at old new seal_fault.Disk r none well wants says =
+      snaps at old new r (unsealed_turn _ (snapshot_record old.kept) old new r refl refl says (kept_stays old new (none.1.kept (inr refl))) none.1 well (wants.disk refl))
+  snapshot_not_done at old new seal_fault.NoMemory r none well wants says =
+      snaps at old new r
+      (starved_turn _ old new r (sealed_wants old.kept (kept_as_it_is old.kept) (failed old.kept (snapshot_record old.kept))) (kept_stays old new (none.1.kept (inr refl))) none.1 well
+      (wants_of old new (wants.no_memory refl)) says)
+  snapshot_not_done at old new seal_fault.Closed r none well wants says = absurd says
 
   -- ---- upgrades
 
@@ -305,23 +343,25 @@ module _ {D : Type 0} (told : D → DiskTold) where
 
   -- it was sealed, and that is told or nothing is said
   upgraded_turn : (at : ℕ) (old new : Lasting D) (r : Reply) → TellsOnly (answer 200 upgraded_data) Upgrades r
-      → new.kept ≡ upgraded old.kept → Seals told (Upgrade at ∷ []) [] old new → ReadsWell told old new → Upgrading at old new r
-  upgraded_turn at old new r (inl e) kept seals well = (Clear, record { reply_is = e; kept = kept; seals = seals; read = reads_well old new well })
-  upgraded_turn at old new r (inr e) kept seals well = (Unanswered, record { reply_is = e; kept = kept; seals = seals; read = reads_well old new well })
+      → new.kept ≡ upgraded old.kept → Seals told (Upgrade at ∷ []) [] old new → ReadsWell told old new → Fed (told old.disk) (told new.disk) → Upgrading at old new r
+  upgraded_turn at old new r (inl e) kept seals well fed = (Clear, record { reply_is = e; kept = kept; seals = seals; read = reads_well old new well; starved = none_starved old new fed })
+  upgraded_turn at old new r (inr e) kept seals well fed = (Unanswered, record { reply_is = e; kept = kept; seals = seals; read = reads_well old new well; starved = none_starved old new fed })
 
   -- a store that was not upgraded before is
-  pub upgrade_sealed : (at : ℕ) (old new : Lasting D) (r : Reply) → old.kept.deep ≡ false → UpgradesOnce told at old new → ReadsWell told old new
+  pub upgrade_sealed : (at : ℕ) (old new : Lasting D) (r : Reply) → old.kept.deep ≡ false → UpgradesOnce told at old new → ReadsWell told old new → Fed (told old.disk) (told new.disk)
       → TellsOnly (answer 200 upgraded_data) Upgrades r → Serves told at (Ok (Whole route.Upgrade)) old new r
-  upgrade_sealed at old new r flat (inl again) well says = absurd (true≢false (sym again.0 ∙ flat))
-  upgrade_sealed at old new r flat (inr once) well says = upgrades at old new r flat (upgraded_turn at old new r says once.1.1 once.1.2 well)
+  upgrade_sealed at old new r flat (inl again) well fed says = absurd (true≢false (sym again.0 ∙ flat))
+  upgrade_sealed at old new r flat (inr once) well fed says = upgrades at old new r flat (upgraded_turn at old new r says once.1.1 once.1.2 well fed)
 
-  pub upgrade_not_sealed : (at : ℕ) (old new : Lasting D) (f : SealFault) (r : Reply) → old.kept.deep ≡ false → UpgradesNone told at old new f → ReadsWell told old new → TellsSealFault f r
-      → Serves told at (Ok (Whole route.Upgrade)) old new r
-  upgrade_not_sealed at old new seal_fault.Disk r flat none well says =
-      upgrades at old new r flat (unsealed_turn _ (Upgrade at) old new r refl refl says (kept_stays old new (none.1.kept (inr refl))) none.1 well)
-  upgrade_not_sealed at old new seal_fault.NoMemory r flat none well says =
-      upgrades at old new r flat (starved_turn _ old new r refl refl (kept_stays old new (none.1.kept (inr refl))) none.1 well says)
-  upgrade_not_sealed at old new seal_fault.Closed r flat none well says = absurd says
+  pub upgrade_not_sealed : {X : Type 0} → (at : ℕ) (old new : Lasting D) (f : SealFault) (r : Reply) → old.kept.deep ≡ false → UpgradesNone told at old new f → ReadsWell told old new
+      → SealWants {T = X} told old.disk new.disk (Err f) → TellsSealFault f r → Serves told at (Ok (Whole route.Upgrade)) old new r
+  upgrade_not_sealed at old new seal_fault.Disk r flat none well wants says =
+      upgrades at old new r flat (unsealed_turn _ (Upgrade at) old new r refl refl says (kept_stays old new (none.1.kept (inr refl))) none.1 well (wants.disk refl))
+  upgrade_not_sealed at old new seal_fault.NoMemory r flat none well wants says =
+      upgrades at old new r flat
+      (starved_turn _ old new r (sealed_wants old.kept (upgrade_done at old.kept) (failed old.kept (Upgrade at))) (kept_stays old new (none.1.kept (inr refl))) none.1 well
+      (wants_of old new (wants.no_memory refl)) says)
+  upgrade_not_sealed at old new seal_fault.Closed r flat none well wants says = absurd says
 
   -- ---- cycles
 
@@ -360,51 +400,54 @@ module _ {D : Type 0} (told : D → DiskTold) where
 
   -- a cycle was sealed, over texts that are not those that were stored
   misread_turn : (at : ℕ) (ask : CycleAsk) (due : Cycled) (said : List ℕ) (old new : Lasting D) (r : Reply) → Seals told (Cycle old.kept.next at ask ∷ []) [] old new → ReadsWell told old new
-      → r ≡ reply said Rewinds → (HoldsTexts told old → ⊥) → Under (λ h. rewound_under h old.kept (rewound at old.kept ask due) (failed old.kept (Cycle old.kept.next at ask))) old new r
-  misread_turn at ask due said old new r seals well e not =
-      (Misread said new.kept, record { reply_is = e; kept = refl; seals = seals; read = reads_wrong old new well not })
+      → Fed (told old.disk) (told new.disk) → r ≡ reply said Rewinds → (HoldsTexts told old → ⊥) → Under (λ h. rewound_under h old.kept (rewound at old.kept ask due) (failed old.kept (Cycle old.kept.next at ask))) old new r
+  misread_turn at ask due said old new r seals well fed e not =
+      (Misread said new.kept, record { reply_is = e; kept = refl; seals = seals; read = reads_wrong old new well not; starved = none_starved old new fed })
 
   -- a cycle was sealed, and what is kept is what it leaves: its report is told, or nothing is said
   made_turn : (at : ℕ) (ask : CycleAsk) (due : Cycled) (report : Report) (old new : Lasting D) (r : Reply) → IsMade ask due report old new
-      → Seals told (Cycle old.kept.next at ask ∷ []) [] old new → ReadsWell told old new → new.kept ≡ after_cycle old.kept ask due → TellsOnly (answer 200 (report_data old.kept.house report)) Rewinds r
+      → Seals told (Cycle old.kept.next at ask ∷ []) [] old new → ReadsWell told old new → Fed (told old.disk) (told new.disk) → new.kept ≡ after_cycle old.kept ask due → TellsOnly (answer 200 (report_data old.kept.house report)) Rewinds r
       → IsSame (report_text old report) (report_text old due.report)
       → Under (λ h. rewound_under h old.kept (rewound at old.kept ask due) (failed old.kept (Cycle old.kept.next at ask))) old new r
-  made_turn at ask due report old new r made seals well kept (inl e) (inl same) =
-      (Clear, record { reply_is = e ∙ ap (λ (t : List ℕ). reply t Rewinds) same; kept = kept; seals = seals; read = reads_well old new well })
-  made_turn at ask due report old new r made seals well kept (inl e) (inr other) = misread_turn at ask due (report_text old report) old new r seals well e (λ h. other (ap (report_text old) (made h).0))
-  made_turn at ask due report old new r made seals well kept (inr e) same = (Unanswered, record { reply_is = e; kept = kept; seals = seals; read = reads_well old new well })
+  made_turn at ask due report old new r made seals well fed kept (inl e) (inl same) =
+      (Clear, record { reply_is = e ∙ ap (λ (t : List ℕ). reply t Rewinds) same; kept = kept; seals = seals; read = reads_well old new well; starved = none_starved old new fed })
+  made_turn at ask due report old new r made seals well fed kept (inl e) (inr other) = misread_turn at ask due (report_text old report) old new r seals well fed e (λ h. other (ap (report_text old) (made h).0))
+  made_turn at ask due report old new r made seals well fed kept (inr e) same =
+      (Unanswered, record { reply_is = e; kept = kept; seals = seals; read = reads_well old new well; starved = none_starved old new fed })
 
   -- a cycle was sealed
   rewound_turn : (at : ℕ) (ask : CycleAsk) (due : Cycled) (report : Report) (old new : Lasting D) (r : Reply) → IsMade ask due report old new
-      → Seals told (Cycle old.kept.next at ask ∷ []) [] old new → ReadsWell told old new → TellsOnly (answer 200 (report_data old.kept.house report)) Rewinds r → IsSame new.kept (after_cycle old.kept ask due)
+      → Seals told (Cycle old.kept.next at ask ∷ []) [] old new → ReadsWell told old new → Fed (told old.disk) (told new.disk) → TellsOnly (answer 200 (report_data old.kept.house report)) Rewinds r → IsSame new.kept (after_cycle old.kept ask due)
       → Under (λ h. rewound_under h old.kept (rewound at old.kept ask due) (failed old.kept (Cycle old.kept.next at ask))) old new r
-  rewound_turn at ask due report old new r made seals well says (inl kept) =
-      made_turn at ask due report old new r made seals well kept says (text_decided (report_text old report) (report_text old due.report))
-  rewound_turn at ask due report old new r made seals well (inl e) (inr other) = misread_turn at ask due (report_text old report) old new r seals well e (λ h. other (made h).1)
-  rewound_turn at ask due report old new r made seals well (inr e) (inr other) = misread_turn at ask due [] old new r seals well e (λ h. other (made h).1)
+  rewound_turn at ask due report old new r made seals well fed says (inl kept) =
+      made_turn at ask due report old new r made seals well fed kept says (text_decided (report_text old report) (report_text old due.report))
+  rewound_turn at ask due report old new r made seals well fed (inl e) (inr other) = misread_turn at ask due (report_text old report) old new r seals well fed e (λ h. other (made h).1)
+  rewound_turn at ask due report old new r made seals well fed (inr e) (inr other) = misread_turn at ask due [] old new r seals well fed e (λ h. other (made h).1)
 
   cycle_rewinds : (at : ℕ) (ask : CycleAsk) (due : Due) (report : Report) (old new : Lasting D) (r : Reply) → IsNew due → CyclesBy told at ask old new report due → ReadsWell told old new
-      → TellsOnly (answer 200 (report_data new.kept.house report)) Rewinds r → ServesDue at ask due old new r
-  cycle_rewinds at ask (Repeats earlier) report old new r is_new by well says = absurd is_new
-  cycle_rewinds at ask NoPoint report old new r is_new by well says = absurd by
-  cycle_rewinds at ask NoNumbers report old new r is_new by well says = absurd by
-  cycle_rewinds at ask (IsDue due) report old new r is_new by well says =
+      → Fed (told old.disk) (told new.disk) → TellsOnly (answer 200 (report_data new.kept.house report)) Rewinds r → ServesDue at ask due old new r
+  cycle_rewinds at ask (Repeats earlier) report old new r is_new by well fed says = absurd is_new
+  cycle_rewinds at ask NoPoint report old new r is_new by well fed says = absurd by
+  cycle_rewinds at ask NoNumbers report old new r is_new by well fed says = absurd by
+  cycle_rewinds at ask (IsDue due) report old new r is_new by well fed says =
       let of_old = subst (λ (h : House). TellsOnly (answer 200 (report_data h report)) Rewinds r) by.2.house says in
-      due_sealed at ask due old new r (rewound_turn at ask due report old new r by.1 by.2 well of_old (kept_decided new.kept (after_cycle old.kept ask due)))
+      due_sealed at ask due old new r (rewound_turn at ask due report old new r by.1 by.2 well fed of_old (kept_decided new.kept (after_cycle old.kept ask due)))
 
   -- a cycle under a new key is done
   pub cycle_done : (at : ℕ) (ask : CycleAsk) (report : Report) (old new : Lasting D) (r : Reply) → report_of old.kept.reports ask.key ≡ None
-      → Cycles told at ask old new report → ReadsWell told old new → TellsOnly (answer 200 (report_data new.kept.house report)) Rewinds r → Serves told at (Ok (Whole (route.Cycle ask))) old new r
-  cycle_done at ask report old new r fresh by well says =
-      serves_due at ask old new r (cycle_due old.kept at ask) refl (cycle_rewinds at ask (cycle_due old.kept at ask) report old new r (fresh_is_new old.kept at ask fresh) by well says)
+      → Cycles told at ask old new report → ReadsWell told old new → Fed (told old.disk) (told new.disk) → TellsOnly (answer 200 (report_data new.kept.house report)) Rewinds r
+      → Serves told at (Ok (Whole (route.Cycle ask))) old new r
+  cycle_done at ask report old new r fresh by well fed says =
+      serves_due at ask old new r (cycle_due old.kept at ask) refl (cycle_rewinds at ask (cycle_due old.kept at ask) report old new r (fresh_is_new old.kept at ask fresh) by well fed says)
 
-  starved_due : Still → Truth → (at : ℕ) (ask : CycleAsk) (due : Due) (old new : Lasting D) (r : Reply) → StarvesBy told old new due → Starves r → ServesDue at ask due old new r
-  starved_due still truth at ask (Repeats report) old new r by says =
+  starved_due : Still → Truth → (at : ℕ) (ask : CycleAsk) (due : Due) (old new : Lasting D) (r : Reply) → StarvesBy told old new due → Wants old new → Starves r → ServesDue at ask due old new r
+  starved_due still truth at ask (Repeats report) old new r by wants says =
       due_told still at ask (Repeats report) (answer 200 (report_data old.kept.house report)) old new r (as_it_was truth old new by) (λ h. refl) (inr says)
-  starved_due still truth at ask NoPoint old new r by says = absurd by
-  starved_due still truth at ask NoNumbers old new r by says = absurd by
-  starved_due still truth at ask (IsDue due) old new r by says =
-      due_sealed at ask due old new r (starved_turn _ old new r refl refl (kept_stays old new (by.1.kept (inr refl))) by.1 by.2 says)
+  starved_due still truth at ask NoPoint old new r by wants says = absurd by
+  starved_due still truth at ask NoNumbers old new r by wants says = absurd by
+  starved_due still truth at ask (IsDue due) old new r by wants says =
+      due_sealed at ask due old new r
+      (starved_turn _ old new r (rewound_wants old.kept (rewound at old.kept ask due) (failed old.kept (Cycle old.kept.next at ask))) (kept_stays old new (by.1.kept (inr refl))) by.1 by.2 wants says)
 
   -- a cycle that is due
   rewinds_is : (due : Due) → IsRewinds due → (c : Cycled) × (due ≡ IsDue c)
@@ -422,32 +465,36 @@ module _ {D : Type 0} (told : D → DiskTold) where
 
   -- the disk failed: the record of a cycle that is due could not be sealed, or a text could not be read for it
   failed_due : Still → (at : ℕ) (ask : CycleAsk) (old new : Lasting D) (r : Reply) → old.closed ≡ false → FailsToCycle told at ask old new ⊎ FailsToRead told at ask old new
-      → TellsDiskFault new.closed r → Serves told at (Ok (Whole (route.Cycle ask))) old new r
-  failed_due still at ask old new r open_is (inl fails) says =
+      → Fed (told old.disk) (told new.disk) → TellsDiskFault new.closed r → Serves told at (Ok (Whole (route.Cycle ask))) old new r
+  failed_due still at ask old new r open_is (inl fails) fed says =
       let closed_is : new.closed ≡ true = fails.2.closed ∙ ap (λ (b : Bool). b || true) open_is in
       serves_due at ask old new r (IsDue fails.0) fails.1
       (due_sealed at ask fails.0 old new r
-      (unsealed_turn _ (Cycle old.kept.next at ask) old new r refl refl (subst (λ (b : Bool). TellsDiskFault b r) closed_is says) (kept_stays old new (fails.2.kept (inr refl))) fails.2 fails.3))
-  failed_due still at ask old new r open_is (inr fails) says =
+      (unsealed_turn _ (Cycle old.kept.next at ask) old new r refl refl (subst (λ (b : Bool). TellsDiskFault b r) closed_is says) (kept_stays old new (fails.2.kept (inr refl))) fails.2 fails.3 fed))
+  failed_due still at ask old new r open_is (inr fails) fed says =
       let due = rewinds_is (cycle_due old.kept at ask) fails.0 in
       serves_due at ask old new r (IsDue due.0) due.1
       (unread_due still at ask due.0 old new r fails.1 fails.2 (subst (λ (b : Bool). TellsDiskFault b r) (fails.1.closed ∙ open_is) says))
 
   -- a cycle is not done
-  pub cycle_not_done : Still → Truth → (at : ℕ) (ask : CycleAsk) (old new : Lasting D) (f : CycleFault) (r : Reply) → CyclesNone told at ask old new f → TellsCycleFault new.closed f r
-      → Serves told at (Ok (Whole (route.Cycle ask))) old new r
-  cycle_not_done still truth at ask old new (cycle_fault.Point given) r none says =
+  pub cycle_not_done : Still → Truth → (at : ℕ) (ask : CycleAsk) (old new : Lasting D) (f : CycleFault) (r : Reply) → CyclesNone told at ask old new f → CycleWants told old.disk new.disk f
+      → TellsCycleFault new.closed f r → Serves told at (Ok (Whole (route.Cycle ask))) old new r
+  cycle_not_done still truth at ask old new (cycle_fault.Point given) r none wants says =
       serves_due at ask old new r NoPoint none.1
       (due_told still at ask NoPoint (answer 422 (point_data ask.point)) old new r (as_it_was truth old new none.3) (λ h. refl)
       (subst (λ (n : ℕ). Tells (answer 422 (point_data n)) Closes r) none.2 says))
-  cycle_not_done still truth at ask old new (cycle_fault.Numbers next) r none says =
+  cycle_not_done still truth at ask old new (cycle_fault.Numbers next) r none wants says =
       serves_due at ask old new r NoNumbers none.1
       (due_told still at ask NoNumbers (answer 507 (numbers_data old.kept.next)) old new r (as_it_was truth old new none.3) (λ h. refl)
       (subst (λ (n : ℕ). Tells (answer 507 (numbers_data n)) Closes r) none.2 says))
-  cycle_not_done still truth at ask old new cycle_fault.Disk r none says = failed_due still at ask old new r none.0 none.1 says
-  cycle_not_done still truth at ask old new cycle_fault.NoMemory r none says =
-      serves_due at ask old new r (cycle_due old.kept at ask) refl (starved_due still truth at ask (cycle_due old.kept at ask) old new r none says)
-  cycle_not_done still truth at ask old new cycle_fault.Closed r none says = absurd says
+  cycle_not_done still truth at ask old new cycle_fault.Disk r none fed says = failed_due still at ask old new r none.0 none.1 fed says
+  cycle_not_done still truth at ask old new cycle_fault.NoMemory r none wants says =
+      serves_due at ask old new r (cycle_due old.kept at ask) refl (starved_due still truth at ask (cycle_due old.kept at ask) old new r none (by_wants wants) says)
+    where
+      by_wants : CycleWants told old.disk new.disk cycle_fault.NoMemory → Wants old new
+      by_wants (inl read) = inl read.fed
+      by_wants (inr starved) = inr starved
+  cycle_not_done still truth at ask old new cycle_fault.Closed r none wants says = absurd says
 
   -- ---- trials
 
@@ -618,6 +665,8 @@ module _ {D : Type 0} (told : D → DiskTold) where
   wanting at old new r c Unanswered turn same = as_starved at old new r c turn same
   wanting at old new r c Unsealed turn same = as_starved at old new r c turn same
   wanting at old new r c Untold turn same = as_starved at old new r c turn same
+  wanting at old new r c Unwritten turn same = as_starved at old new r c turn same
+  wanting at old new r c UnwrittenUnheard turn same = as_starved at old new r c turn same
   wanting at old new r c Unread turn same = as_starved at old new r c turn same
   wanting at old new r c UnreadRefused turn same = as_starved at old new r c turn same
   wanting at old new r c UnreadUnheard turn same = as_starved at old new r c turn same
@@ -647,6 +696,8 @@ module _ {D : Type 0} (told : D → DiskTold) where
   ends_told Unanswered kept t e = e
   ends_told Unsealed kept t e = e
   ends_told Untold kept t e = e
+  ends_told Unwritten kept t e = e
+  ends_told UnwrittenUnheard kept t e = e
   ends_told Unread kept t e = e
   ends_told UnreadRefused kept t e = e
   ends_told UnreadUnheard kept t e = e
@@ -659,6 +710,8 @@ module _ {D : Type 0} (told : D → DiskTold) where
   ends_read Unanswered kept t e = e
   ends_read Unsealed kept t e = e
   ends_read Untold kept t e = e
+  ends_read Unwritten kept t e = e
+  ends_read UnwrittenUnheard kept t e = e
   ends_read Unread kept t e = refl
   ends_read UnreadRefused kept t e = refl
   ends_read UnreadUnheard kept t e = refl
@@ -675,6 +728,8 @@ module _ {D : Type 0} (told : D → DiskTold) where
   ends_sealed Unanswered kept t u e f = e
   ends_sealed Unsealed kept t u e f = f
   ends_sealed Untold kept t u e f = f
+  ends_sealed Unwritten kept t u e f = refl
+  ends_sealed UnwrittenUnheard kept t u e f = refl
   ends_sealed Unread kept t u e f = e
   ends_sealed UnreadRefused kept t u e f = e
   ends_sealed UnreadUnheard kept t u e f = e
@@ -687,6 +742,8 @@ module _ {D : Type 0} (told : D → DiskTold) where
   ends_rewound Unanswered kept t u e f = e
   ends_rewound Unsealed kept t u e f = f
   ends_rewound Untold kept t u e f = f
+  ends_rewound Unwritten kept t u e f = refl
+  ends_rewound UnwrittenUnheard kept t u e f = refl
   ends_rewound Unread kept t u e f = refl
   ends_rewound UnreadRefused kept t u e f = refl
   ends_rewound UnreadUnheard kept t u e f = refl

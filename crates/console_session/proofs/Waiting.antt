@@ -24,7 +24,7 @@ use Rattle.console_replies.specs.Bodies.{upgraded_data}
 use Rattle.console_session.specs.Answers.{answer, body_found}
 use Rattle.console_session.specs.Hearing.{Hears, AreServed, IsUnfed}
 use Rattle.console_session.specs.Turn.{Turn, asked_of, chosen, done, failed, numberless, tells, upgrade_done}
-use Rattle.console_session.specs.Hindrance.{Hindrance, Clear, Refused, Unheard, Unanswered, Unsealed, Untold, Unread, UnreadRefused, UnreadUnheard, Misread, acted_under, cycled_under, found_under, hindered, read_under, rewound_under, routed_under, sealed_under, told_under, tried_under, upgraded_under}
+use Rattle.console_session.specs.Hindrance.{Hindrance, Clear, Refused, Unheard, Unanswered, Unsealed, Untold, Unwritten, UnwrittenUnheard, Unread, UnreadRefused, UnreadUnheard, Misread, acted_under, cycled_under, found_under, hindered, read_under, rewound_under, routed_under, sealed_under, told_under, tried_under, upgraded_under}
 
 -- what follows is not that more bytes are waited for
 abbrev Ends : Turn → Type 0
@@ -52,6 +52,8 @@ told_ends Unheard kept t ends = closing
 told_ends Unanswered kept t ends = ends
 told_ends Unsealed kept t ends = ends
 told_ends Untold kept t ends = ends
+told_ends Unwritten kept t ends = ends
+told_ends UnwrittenUnheard kept t ends = ends
 told_ends Unread kept t ends = ends
 told_ends UnreadRefused kept t ends = ends
 told_ends UnreadUnheard kept t ends = ends
@@ -64,6 +66,8 @@ read_ends Unheard kept t ends = closing
 read_ends Unanswered kept t ends = ends
 read_ends Unsealed kept t ends = ends
 read_ends Untold kept t ends = ends
+read_ends Unwritten kept t ends = ends
+read_ends UnwrittenUnheard kept t ends = ends
 read_ends Unread kept t ends = closing
 read_ends UnreadRefused kept t ends = closing
 read_ends UnreadUnheard kept t ends = closing
@@ -76,6 +80,8 @@ sealed_ends Unheard kept t u done_ends failed_ends = closing
 sealed_ends Unanswered kept t u done_ends failed_ends = done_ends
 sealed_ends Unsealed kept t u done_ends failed_ends = failed_ends
 sealed_ends Untold kept t u done_ends failed_ends = failed_ends
+sealed_ends Unwritten kept t u done_ends failed_ends = closing
+sealed_ends UnwrittenUnheard kept t u done_ends failed_ends = closing
 sealed_ends Unread kept t u done_ends failed_ends = done_ends
 sealed_ends UnreadRefused kept t u done_ends failed_ends = done_ends
 sealed_ends UnreadUnheard kept t u done_ends failed_ends = done_ends
@@ -88,6 +94,8 @@ rewound_ends Unheard kept t u done_ends failed_ends = closing
 rewound_ends Unanswered kept t u done_ends failed_ends = done_ends
 rewound_ends Unsealed kept t u done_ends failed_ends = failed_ends
 rewound_ends Untold kept t u done_ends failed_ends = failed_ends
+rewound_ends Unwritten kept t u done_ends failed_ends = closing
+rewound_ends UnwrittenUnheard kept t u done_ends failed_ends = closing
 rewound_ends Unread kept t u done_ends failed_ends = closing
 rewound_ends UnreadRefused kept t u done_ends failed_ends = closing
 rewound_ends UnreadUnheard kept t u done_ends failed_ends = closing

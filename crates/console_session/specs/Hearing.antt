@@ -10,7 +10,7 @@ use Rattle.desk_journal.specs.declared.fault.ActFault.TheVariants as fault
 use Rattle.time_desk.specs.declared.fault.CycleFault.{CycleFault}
 use Rattle.time_desk.specs.declared.fault.CycleFault.TheVariants as cycle_fault
 use Rattle.desk_journal.specs.Lasting.{Lasting}
-use Rattle.desk_journal.specs.Reading.{HaveRead, IsStill, ReadsWell}
+use Rattle.desk_journal.specs.Reading.{Counted, HaveRead, IsStill, ReadsWell}
 use Rattle.desk_journal.specs.Sealing.{Seals}
 use Rattle.desk_journal.specs.Stored.{HoldsTexts}
 use Rattle.console_head.specs.declared.request.Coming.{Coming}
@@ -106,12 +106,13 @@ module _ {D : Type 0} (told : D → DiskTold) where
   TellsFound None due old new r = ReadsWell told old new × Tells due Closes r
   TellsFound (Some x) due old new r = TellsRead due old new r
 
-  -- a turn was said and sealed, and its texts were read
+  -- a turn was said and sealed, its texts were read, and just so many of its writes found no memory
   pub record IsTurn (t : Turn) (old new : Lasting D) (r : Reply) : Type 0 where
     pub reply_is : r ≡ reply t.said t.after
     pub kept : new.kept ≡ t.kept
     pub seals : Seals told t.sealed t.unsealed old new
     pub read : HaveRead told old new t.reads
+    pub starved : Counted t.starved (told old.disk).starved (told new.disk).starved
 
   -- a turn, hindered or not; where nothing is to be sealed the desk is as it was, and the disk was only read
   pub record Serves (at : ℕ) (asked : Result Asked HttpRefused) (old new : Lasting D) (r : Reply) : Type 0 where

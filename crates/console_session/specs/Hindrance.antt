@@ -34,6 +34,10 @@ pub data Hindrance : Type 0 where
   Unsealed : Hindrance
   -- the same, and no memory was found for telling the operator
   Untold : Hindrance
+  -- no memory was found in a write of an act, a cycle, a snapshot or an upgrade, as the disk says, and the operator is told; nothing was sealed
+  Unwritten : Hindrance
+  -- the same, and no memory was found for telling the operator
+  UnwrittenUnheard : Hindrance
   -- a text could not be read, and the operator is told; nothing was sealed
   Unread : Hindrance
   -- the same, and no memory was found for telling that: the operator is told of want of memory
@@ -45,7 +49,7 @@ pub data Hindrance : Type 0 where
 
 -- the connection closes with no answer
 abbrev pub lost : Kept → Turn
-lost kept = record { said = []; kept = kept; after = Closes; sealed = []; unsealed = []; reads = none_read }
+lost kept = record { said = []; kept = kept; after = Closes; sealed = []; unsealed = []; reads = none_read; starved = 0 }
 
 -- the operator is told of want of memory
 abbrev pub starved : Kept → Turn
@@ -54,6 +58,10 @@ starved kept = tells (refused NoMemory) Closes kept
 -- the same turn behind a read that failed
 abbrev pub behind_a_read : Turn → Turn
 behind_a_read t = record t { reads = failed_once }
+
+-- the same turn behind a write that found no memory
+abbrev pub behind_a_write : Turn → Turn
+behind_a_write t = record t { starved = 1 }
 
 -- the operator is told that a text could not be read
 abbrev pub unread : Kept → Turn
@@ -75,6 +83,8 @@ told_under Unheard kept t = lost kept
 told_under Unanswered kept t = t
 told_under Unsealed kept t = t
 told_under Untold kept t = t
+told_under Unwritten kept t = t
+told_under UnwrittenUnheard kept t = t
 told_under Unread kept t = t
 told_under UnreadRefused kept t = t
 told_under UnreadUnheard kept t = t
@@ -88,6 +98,8 @@ read_under Unheard kept t = lost kept
 read_under Unanswered kept t = t
 read_under Unsealed kept t = t
 read_under Untold kept t = t
+read_under Unwritten kept t = t
+read_under UnwrittenUnheard kept t = t
 read_under Unread kept t = unread kept
 read_under UnreadRefused kept t = behind_a_read (starved kept)
 read_under UnreadUnheard kept t = behind_a_read (lost kept)
@@ -101,6 +113,8 @@ sealed_under Unheard kept done unsealed = lost kept
 sealed_under Unanswered kept done unsealed = unanswered done
 sealed_under Unsealed kept done unsealed = unsealed
 sealed_under Untold kept done unsealed = unanswered unsealed
+sealed_under Unwritten kept done unsealed = behind_a_write (starved kept)
+sealed_under UnwrittenUnheard kept done unsealed = behind_a_write (lost kept)
 sealed_under Unread kept done unsealed = done
 sealed_under UnreadRefused kept done unsealed = done
 sealed_under UnreadUnheard kept done unsealed = done
@@ -114,6 +128,8 @@ rewound_under Unheard kept done unsealed = lost kept
 rewound_under Unanswered kept done unsealed = unanswered done
 rewound_under Unsealed kept done unsealed = unsealed
 rewound_under Untold kept done unsealed = unanswered unsealed
+rewound_under Unwritten kept done unsealed = behind_a_write (starved kept)
+rewound_under UnwrittenUnheard kept done unsealed = behind_a_write (lost kept)
 rewound_under Unread kept done unsealed = unread kept
 rewound_under UnreadRefused kept done unsealed = behind_a_read (starved kept)
 rewound_under UnreadUnheard kept done unsealed = behind_a_read (lost kept)

@@ -27,8 +27,8 @@ use Rattle.console_session.specs.declared.reply.After.{After}
 use Rattle.console_session.specs.declared.reply.After.TheVariants.{Waits, Closes, Stops, Fails, Rewinds, Upgrades}
 use Rattle.console_session.specs.Answers.{Answer, answer, answer_text, body_answer, box_answer, conf_answer, plan_answer, refused, status_answer, timeline_answer}
 
--- what a turn says, what is kept after it, what follows, the record that was sealed in it, or that could not be, and whether a text could not be
--- read, or another was read than was stored
+-- what a turn says, what is kept after it, what follows, the record that was sealed in it, or that could not be, whether a text could not be
+-- read, or another was read than was stored, and in how many writes no memory was found
 pub record Turn : Type 0 where
   pub said : List ℕ
   pub kept : Kept
@@ -36,14 +36,15 @@ pub record Turn : Type 0 where
   pub sealed : List JournalRecord
   pub unsealed : List JournalRecord
   pub reads : Reads
+  pub starved : ℕ
 
 -- nothing is said yet, and the connection stays open
 abbrev pub waits : Kept → Turn
-waits kept = record { said = []; kept = kept; after = Waits; sealed = []; unsealed = []; reads = none_read }
+waits kept = record { said = []; kept = kept; after = Waits; sealed = []; unsealed = []; reads = none_read; starved = 0 }
 
 -- an answer that changes nothing
 abbrev pub tells : Answer → After → Kept → Turn
-tells a after kept = record { said = answer_text a; kept = kept; after = after; sealed = []; unsealed = []; reads = none_read }
+tells a after kept = record { said = answer_text a; kept = kept; after = after; sealed = []; unsealed = []; reads = none_read; starved = 0 }
 
 -- too few numbers are left
 abbrev pub numberless : Kept → Turn
@@ -60,6 +61,7 @@ done at kept act = record {
   sealed = Operator kept.next at act ∷ [];
   unsealed = [];
   reads = none_read;
+  starved = 0;
 }
 
 -- a record could not be sealed, and nothing is kept of it
@@ -71,6 +73,7 @@ failed kept what = record {
   sealed = [];
   unsealed = what ∷ [];
   reads = none_read;
+  starved = 0;
 }
 
 -- what becomes of an act for which a number is left, or that none is left
@@ -96,6 +99,7 @@ rewound at kept ask due = record {
   sealed = Cycle kept.next at ask ∷ [];
   unsealed = [];
   reads = none_read;
+  starved = 0;
 }
 
 -- what becomes of a request for a cycle, by what is due to it
@@ -123,6 +127,7 @@ kept_as_it_is kept = record {
   sealed = snapshot_record kept ∷ [];
   unsealed = [];
   reads = none_read;
+  starved = 0;
 }
 
 -- ---- upgrades
@@ -136,6 +141,7 @@ upgrade_done at kept = record {
   sealed = Upgrade at ∷ [];
   unsealed = [];
   reads = none_read;
+  starved = 0;
 }
 
 -- the same where it was not upgraded before; else nothing changes, and the answer is the same

@@ -2,7 +2,8 @@
 ghost use Rattle.std.specs.Prelude.{◌≡◌, ◌≤◌, ◌<◌, IfOk, OnOk, IfErr, IsTrue, None, Ok, false};
 ghost use Rattle.store_kept.specs.Kept.{report_of};
 ghost use Rattle.repair_desk.specs.Repairs.{are_known};
-ghost use Rattle.time_desk.specs.Cycling.{Cycles, CyclesNone};
+ghost use Rattle.seal_log.specs.Causes.{Fed};
+ghost use Rattle.time_desk.specs.Cycling.{CycleWants, Cycles, CyclesNone};
 ghost use Rattle.desk_journal.specs.Reading.{ReadsWell};
 ghost use Rattle.console_replies.specs.Reports.{report_data};
 ghost use Rattle.console_http.specs.declared.request.Asked.TheVariants.{Whole};
@@ -81,6 +82,8 @@ fn rewind_over<D: Disk, R: Threads + Sync, G: Gate, L: Ledger>(
     ensures done { IfOk result (λ report. Cycles D.told at ask desk.old desk.new report) }
     ensures why { IfErr result (λ fault. CyclesNone D.told at ask desk.old desk.new fault) }
     ensures same { OnOk result (ReadsWell D.told desk.old desk.new) }
+    ensures fed { OnOk result (Fed (D.told desk.old.disk) (D.told desk.new.disk)) }
+    ensures wants { IfErr result (λ fault. CycleWants D.told desk.old.disk desk.new.disk fault) }
 {
     let mut steps: Steps<L> = Steps::new(blank);
     desk.cycle(rt, alloc, at, ask, gate, &mut steps)
@@ -100,6 +103,8 @@ fn rewind_desk<D: Disk, R: Threads + Sync, G: Gate>(
     ensures done { IfOk result (λ report. Cycles D.told at ask desk.old desk.new report) }
     ensures why { IfErr result (λ fault. CyclesNone D.told at ask desk.old desk.new fault) }
     ensures same { OnOk result (ReadsWell D.told desk.old desk.new) }
+    ensures fed { OnOk result (Fed (D.told desk.old.disk) (D.told desk.new.disk)) }
+    ensures wants { IfErr result (λ fault. CycleWants D.told desk.old.disk desk.new.disk fault) }
 {
     rewind_over::<D, R, G, Brand>(rt, alloc, desk, at, ask, gate, Blank::new(1))
 }

@@ -35,7 +35,7 @@ use Rattle.pop_session.specs.Removal.{after, after_quit}
 use Rattle.store_kept.specs.Kept.{Kept, performed, store_of}
 use Rattle.mail_desk.specs.Desk.{submitted_as}
 use Rattle.mail_loop.specs.Asked.{Asked, unsealed_as}
-use Rattle.mail_loop.specs.Hindrance.{Hindrance, Clear, Refused as IsToldWant, Textless, Unread, UnreadRefused, UnreadUnheard, Misread, Misled, Unstored, Unheard, Unanswered, Unsealed, Untold, Halfway, Service, halfway, misread, row, service, stopped, unread, unread_unsaid, without_items, without_seals, without_texts}
+use Rattle.mail_loop.specs.Hindrance.{Hindrance, Clear, Refused as IsToldWant, Textless, Unread, UnreadRefused, UnreadUnheard, Misread, Misled, Unstored, Unheard, Unanswered, Unsealed, Untold, Unwritten, UnwrittenUnheard, Halfway, Service, halfway, misread, row, service, stopped, unread, unread_unsaid, without_items, without_seals, without_texts, without_writes}
 use Rattle.mail_loop.specs.PopTurn.{in_use, memory_told, of_pop, pop_session, pop_speech, took_by}
 use Rattle.mail_loop.specs.Session.{done, followed, hindered, pursued, pursued_as, settled_as, size_in}
 use Rattle.mail_loop.specs.State.{Seats}
@@ -92,6 +92,9 @@ service_sound at kept by ask item is = does_sound kept (live (store_of kept) kep
 starves_sound : (at : ℕ) (kept : Kept) (desk : Service) → Sound at kept (without_items kept desk)
 starves_sound at kept desk by ask item wrong = absurd (let w : ◌≡◌ {A = Result Item SubmitFault} (Err (IsRefused why.NoMemory)) (Ok item) = wrong in cc)
 
+unwritten_sound : (at : ℕ) (kept : Kept) (desk : Service) → Sound at kept (without_writes kept desk)
+unwritten_sound at kept desk by ask item wrong = absurd (let w : ◌≡◌ {A = Result Item SubmitFault} (Err (IsRefused why.NoMemory)) (Ok item) = wrong in cc)
+
 never_sealed : (kept : Kept) (due : Result Item Refused) (item : Item) → (unsealed_as kept due).outcome ≡ Ok item → ⊥
 never_sealed kept (Ok i) item wrong = let w : ◌≡◌ {A = Result Item SubmitFault} (Err Disk) (Ok item) = wrong in cc
 never_sealed kept (Err r) item wrong = let w : ◌≡◌ {A = Result Item SubmitFault} (Err (IsRefused r)) (Ok item) = wrong in cc
@@ -115,6 +118,8 @@ holds_under P Unheard at kept told f is none quiet each = none
 holds_under P Unanswered at kept told f is none quiet each = quiet (f (stopped (service at kept)))
 holds_under P Unsealed at kept told f is none quiet each = each (without_seals at kept (service at kept)) (fails_sound at kept (service at kept))
 holds_under P Untold at kept told f is none quiet each = quiet (f (stopped (without_seals at kept (service at kept))))
+holds_under P Unwritten at kept told f is none quiet each = each (without_writes kept (service at kept)) (unwritten_sound at kept (service at kept))
+holds_under P UnwrittenUnheard at kept told f is none quiet each = quiet (f (stopped (without_writes kept (service at kept))))
 holds_under P (Halfway h) at kept told f is none quiet each = each (halfway h (service at kept)) (service_sound at kept)
 
 -- ---- a QUIT

@@ -5,7 +5,6 @@ use Rattle.smtp_lines.specs.declared.line.SmtpLine.{SmtpLine}
 use Rattle.smtp_lines.specs.Line.{smtp_lines_of}
 use Rattle.smtp_lines.specs.Lines.{rest_of}
 use Rattle.smtp_session.specs.declared.dialog.Dialog.{Dialog}
-use Rattle.desk_journal.specs.Reading.{both_read, none_read}
 use Rattle.imap_stream.specs.Commands as imap_stream
 use Rattle.imap_stream.specs.Commands.{Heard as Stream, emptied, saying}
 use Rattle.imap_stream.specs.declared.next.Next.{Next}
@@ -18,31 +17,32 @@ use Rattle.verb_core.specs.declared.mailbox.BoxId.{BoxId}
 use Rattle.mail_loop.specs.declared.aftermath.Aftermath.TheVariants.{TookAway}
 use Rattle.mail_loop.specs.Afterwards.{both_follow, taking}
 use Rattle.mail_loop.specs.ConsoleTurn.{no_consoles}
+use Rattle.mail_loop.specs.Counts.{both_counted, none_counted}
 use Rattle.mail_loop.specs.Hindrance.{Clear, Hindrance, first_hindrance, other_hindrances}
 use Rattle.mail_loop.specs.PopTurn.{pop_session}
 use Rattle.mail_loop.specs.State.{Imap, Pop, Seat, Smtp, State}
 use Rattle.mail_loop.specs.Turns.{Heard, Outcome, after, goes_on, heard_by, hears_commands, hears_seat, imap_turn, none_yet, smtp_turn, turn_of, turns}
-use Rattle.mail_loop.proofs.Sealed.{no_more, none_before, reads_regroup}
+use Rattle.mail_loop.proofs.Sealed.{no_more, none_before, counts_regroup}
 use Rattle.dialog_laws.specs.Joined.{hears_then, joined}
 
 module _ {D : Type 0} where
-  after_none : (o : Outcome D) → after [] [] [] none_read o ≡ o
-  after_none o = λ j. record { said = o.said; state = o.state; dialog = o.dialog; gone = o.gone; unsealed = o.unsealed; reads = no_more o.reads j }
+  after_none : (o : Outcome D) → after [] [] [] none_counted o ≡ o
+  after_none o = λ j. record { said = o.said; state = o.state; dialog = o.dialog; gone = o.gone; unsealed = o.unsealed; counts = no_more o.counts j }
 
-  after_twice : (o p q : Outcome D) → after o.said o.gone o.unsealed o.reads (after p.said p.gone p.unsealed p.reads q)
-      ≡ after (o.said ++ p.said) (o.gone ++ p.gone) (o.unsealed ++ p.unsealed) (both_read o.reads p.reads) q
+  after_twice : (o p q : Outcome D) → after o.said o.gone o.unsealed o.counts (after p.said p.gone p.unsealed p.counts q)
+      ≡ after (o.said ++ p.said) (o.gone ++ p.gone) (o.unsealed ++ p.unsealed) (both_counted o.counts p.counts) q
   after_twice o p q = λ j. record {
     said = sym (append_assoc o.said p.said q.said) j;
     state = q.state;
     dialog = q.dialog;
     gone = sym (append_assoc o.gone p.gone q.gone) j;
     unsealed = sym (append_assoc o.unsealed p.unsealed q.unsealed) j;
-    reads = sym (reads_regroup o.reads p.reads q.reads) j;
+    counts = sym (counts_regroup o.counts p.counts q.counts) j;
   }
 
   -- turns go on behind those of an open connection as behind any
   goes_twice : (o p : Outcome D) (e : Option D) (more : State → D → Outcome D)
-      → after o.said o.gone o.unsealed o.reads (goes_on p e more) ≡ goes_on (after o.said o.gone o.unsealed o.reads p) e more
+      → after o.said o.gone o.unsealed o.counts (goes_on p e more) ≡ goes_on (after o.said o.gone o.unsealed o.counts p) e more
   goes_twice o p None more = refl
   goes_twice o p (Some d) more = after_twice o p (more p.state d)
 
@@ -61,9 +61,9 @@ module _ {D U : Type 0} (one : Hindrance → State → D → U → Outcome D) wh
   turns_more hs o None us vs more = refl
   turns_more hs o (Some d) us vs more =
       let p : Outcome D = turns one (other_hindrances hs) o.state d us in
-      ap (after o.said o.gone o.unsealed o.reads) (more o.state d)
+      ap (after o.said o.gone o.unsealed o.counts) (more o.state d)
       ∙ goes_twice o p p.dialog (λ t f. turns one (drop (length us) (other_hindrances hs)) t f vs)
-      ∙ ap (λ (ks : List Hindrance). goes_on (after o.said o.gone o.unsealed o.reads p) p.dialog (λ t f. turns one ks t f vs)) (drop_more hs (length us))
+      ∙ ap (λ (ks : List Hindrance). goes_on (after o.said o.gone o.unsealed o.counts p) p.dialog (λ t f. turns one ks t f vs)) (drop_more hs (length us))
 
   -- the turns of all are those of some, and then those of the others where they left the connection
   pub turns_join : (hs : List Hindrance) (s : State) (d : D) (us vs : List U)
@@ -84,10 +84,10 @@ module _ {D U : Type 0} (one : Hindrance → State → D → U → Outcome D) (u
       ∙ ap (λ (o : Outcome D). goes_on o o.dialog (λ t e. none_yet t e)) (quiet s d) ∙ after_none (none_yet s d)
 
   behind_quiet : (o : Outcome D) (e : Option D) (n : ℕ) → o.dialog ≡ e → goes_on o e (λ t f. turns one (drop n []) t f (u ∷ [])) ≡ o
-  behind_quiet o None n is = λ j. record { said = o.said; state = o.state; dialog = sym is j; gone = o.gone; unsealed = o.unsealed; reads = o.reads }
+  behind_quiet o None n is = λ j. record { said = o.said; state = o.state; dialog = sym is j; gone = o.gone; unsealed = o.unsealed; counts = o.counts }
   behind_quiet o (Some d) n is =
-      ap (after o.said o.gone o.unsealed o.reads) (alone_quiet n o.state d)
-      ∙ (λ j. record { said = append-nil o.said j; state = o.state; dialog = sym is j; gone = append-nil o.gone j; unsealed = append-nil o.unsealed j; reads = none_before o.reads j })
+      ap (after o.said o.gone o.unsealed o.counts) (alone_quiet n o.state d)
+      ∙ (λ j. record { said = append-nil o.said j; state = o.state; dialog = sym is j; gone = append-nil o.gone j; unsealed = append-nil o.unsealed j; counts = none_before o.counts j })
 
   -- what says nothing changes nothing behind turns that nothing hinders
   pub quiet_last : (s : State) (d : D) (us : List U) → turns one [] s d (us ++ u ∷ []) ≡ turns one [] s d us
@@ -109,11 +109,11 @@ heard_on mid last o None more later is same = λ j. record {
   seat = option_map mid (sym is j);
   aftermath = taking o.gone;
   unsealed = o.unsealed;
-  reads = o.reads;
+  counts = o.counts;
   consoles = no_consoles;
 }
 heard_on mid last o (Some d) more later is same =
-    (λ j. record (heard_by last (after o.said o.gone o.unsealed o.reads (more o.state d))) { aftermath = taking_both o.gone (more o.state d).gone j })
+    (λ j. record (heard_by last (after o.said o.gone o.unsealed o.counts (more o.state d))) { aftermath = taking_both o.gone (more o.state d).gone j })
     ∙ ap (λ (h : Heard). hears_then (heard_by mid o) (Some (mid d)) (λ s seat. h)) (sym (same o.state d))
 
 -- ---- a stream of lines

@@ -1,10 +1,10 @@
 -- Events of one connection, one behind the other.
 use Rattle.std.specs.Prelude.{ℕ, List, [], ◌∷◌, ◌++◌, Option, None, Some}
-use Rattle.desk_journal.specs.Reading.{both_read}
 use Rattle.console_head.specs.Request.{Stage}
 use Rattle.mail_loop.specs.State.{Seat, State}
 use Rattle.mail_loop.specs.Afterwards.{both_follow}
 use Rattle.mail_loop.specs.ConsoleTurn.{both}
+use Rattle.mail_loop.specs.Counts.{both_counted}
 use Rattle.mail_loop.specs.Turns.{Heard, hears_seat}
 
 -- what comes of an event, and then of another
@@ -15,7 +15,7 @@ both_heard first next = record {
   seat = next.seat;
   aftermath = both_follow first.aftermath next.aftermath;
   unsealed = first.unsealed ++ next.unsealed;
-  reads = both_read first.reads next.reads;
+  counts = both_counted first.counts next.counts;
   consoles = both first.consoles next.consoles;
 }
 

@@ -5,7 +5,7 @@ use Rattle.undo_outside.specs.Disk.{DiskTold}
 use Rattle.verb_bytes.specs.declared.journal.JournalRecord.{JournalRecord}
 use Rattle.store_kept.specs.Kept.{Kept}
 use Rattle.desk_journal.specs.Lasting.{Lasting}
-use Rattle.desk_journal.specs.Reading.{Reads, none_read}
+use Rattle.mail_loop.specs.Counts.{Counts, none_counted}
 use Rattle.console_session.specs.declared.reply.After.{After}
 use Rattle.console_session.specs.declared.reply.After.TheVariants.{Waits, Closes, Stops, Fails, Rewinds, Upgrades}
 use Rattle.console_session.specs.declared.reply.Reply.{Reply}
@@ -16,7 +16,7 @@ use Rattle.mail_loop.specs.declared.aftermath.Aftermath.TheVariants.{Quiet}
 use Rattle.mail_loop.specs.State.{Seats, State, Http}
 use Rattle.mail_loop.specs.Asked.{HaveSealed}
 use Rattle.mail_loop.specs.ConsoleTurn.{Reading, left_by, of_console, sequel_of}
-use Rattle.mail_loop.specs.Hindrance.{Hindrance, Clear, Refused, Unread, UnreadRefused, UnreadUnheard, Misled, Unheard, Unanswered, Unsealed, Untold}
+use Rattle.mail_loop.specs.Hindrance.{Hindrance, Clear, Refused, Unread, UnreadRefused, UnreadUnheard, Misled, Unheard, Unanswered, Unsealed, Untold, Unwritten, UnwrittenUnheard}
 use Rattle.mail_loop.specs.Machine.{heard}
 use Rattle.mail_loop.specs.Took.{answered_alone, turned_as}
 use Rattle.mail_loop.proofs.Sealed.{Nothing, unsealed}
@@ -30,6 +30,8 @@ as_of console.Unheard = Unheard
 as_of console.Unanswered = Unanswered
 as_of console.Unsealed = Unsealed
 as_of console.Untold = Untold
+as_of console.Unwritten = Unwritten
+as_of console.UnwrittenUnheard = UnwrittenUnheard
 as_of console.Unread = Unread
 as_of console.UnreadRefused = UnreadRefused
 as_of console.UnreadUnheard = UnreadUnheard
@@ -42,13 +44,15 @@ as_it_is console.Unheard = refl
 as_it_is console.Unanswered = refl
 as_it_is console.Unsealed = refl
 as_it_is console.Untold = refl
+as_it_is console.Unwritten = refl
+as_it_is console.UnwrittenUnheard = refl
 as_it_is console.Unread = refl
 as_it_is console.UnreadRefused = refl
 as_it_is console.UnreadUnheard = refl
 as_it_is (console.Misread said left) = refl
 
 -- the connection stays open where it waits, and is closed else
-by_after : (conn : ℕ) (said : List ℕ) (after : After) (kept : Kept) (seats : Seats) (failed : List JournalRecord) (reads : Reads) (readings : List Reading) (all came : List ℕ)
+by_after : (conn : ℕ) (said : List ℕ) (after : After) (kept : Kept) (seats : Seats) (failed : List JournalRecord) (counts : Counts) (readings : List Reading) (all came : List ℕ)
     → (after ≡ Waits → came ≡ all)
     → heard conn (record {
       said = said;
@@ -56,24 +60,24 @@ by_after : (conn : ℕ) (said : List ℕ) (after : After) (kept : Kept) (seats :
       seat = option_map Http (left_by after all);
       aftermath = (sequel_of after).aftermath;
       unsealed = failed;
-      reads = reads;
+      counts = counts;
       consoles = record { readings = readings; stops = (sequel_of after).stops };
-    }) ≡ answered_alone conn (turned_as conn (record { said = said; after = after })) kept failed reads readings (Http came) seats
-by_after conn said Waits kept seats failed reads readings all came waits =
+    }) ≡ answered_alone conn (turned_as conn (record { said = said; after = after })) kept failed counts readings (Http came) seats
+by_after conn said Waits kept seats failed counts readings all came waits =
     ap (λ (b : List ℕ). heard conn (record {
       said = said;
       state = record { kept = kept; seats = seats };
       seat = Some (Http b);
       aftermath = Quiet;
       unsealed = failed;
-      reads = reads;
+      counts = counts;
       consoles = record { readings = readings; stops = false };
     })) (sym (waits refl))
-by_after conn said Closes kept seats failed reads readings all came waits = refl
-by_after conn said Stops kept seats failed reads readings all came waits = refl
-by_after conn said Fails kept seats failed reads readings all came waits = refl
-by_after conn said Rewinds kept seats failed reads readings all came waits = refl
-by_after conn said Upgrades kept seats failed reads readings all came waits = refl
+by_after conn said Closes kept seats failed counts readings all came waits = refl
+by_after conn said Stops kept seats failed counts readings all came waits = refl
+by_after conn said Fails kept seats failed counts readings all came waits = refl
+by_after conn said Rewinds kept seats failed counts readings all came waits = refl
+by_after conn said Upgrades kept seats failed counts readings all came waits = refl
 
 -- what a console's session made of its bytes is what the machine makes of them
 pub console_heard : {D : Type 0} → (told : D → DiskTold) → Nothing told → (at : ℕ) (came came' bytes : List ℕ) (conn : ℕ) (seats : Seats) (old new : Lasting D) (r : Reply)
@@ -82,10 +86,11 @@ pub console_heard : {D : Type 0} → (told : D → DiskTold) → Nothing told �
 console_heard {D} told nothing at came came' bytes conn seats old new r (IsUnfed is same) waits =
     subst (λ (n : Lasting D). HeardAlone (HaveSealed told old n) at old.kept seats conn (Http came) bytes (turned_as conn r) n.kept (Http came')) (sym same)
     (subst (λ (q : Reply). HeardAlone (HaveSealed told old old) at old.kept seats conn (Http came) bytes (turned_as conn q) old.kept (Http came')) (sym is)
-    (true, [], Ok None, [], none_read, unsealed told nothing old, [], tt, refl))
+    (true, [], Ok None, [], none_counted, unsealed told nothing old, [], tt, refl))
 console_heard {D} told nothing at came came' bytes conn seats old new r (AreServed stage says serves) waits =
     let turn = serves.turn_is in
     let t = console.hindered serves.hindrance at old.kept (asked_of old.kept.house stage) in
+    let counts : Counts = record { reads = t.reads; starved = t.starved } in
     let reading : Reading = record { bytes = came ++ bytes; stage = stage } in
     let readings = reading ∷ [] in
     let s : State = record { kept = old.kept; seats = seats } in (
@@ -93,8 +98,8 @@ console_heard {D} told nothing at came came' bytes conn seats old new r (AreServ
       as_of serves.hindrance ∷ [],
       stage,
       t.unsealed,
-      t.reads,
-      (t.sealed, turn.seals, turn.read),
+      counts,
+      (t.sealed, turn.seals, record { reads = turn.read; starved = turn.starved }),
       readings,
       (says, tt),
       ap (λ (h : console.Hindrance).
@@ -105,12 +110,12 @@ console_heard {D} told nothing at came came' bytes conn seats old new r (AreServ
             seat = option_map Http (left_by u.after (came ++ bytes));
             aftermath = (sequel_of u.after).aftermath;
             unsealed = u.unsealed;
-            reads = u.reads;
+            counts = record { reads = u.reads; starved = u.starved };
             consoles = record { readings = readings; stops = (sequel_of u.after).stops };
           })) (as_it_is serves.hindrance)
-          ∙ by_after conn t.said t.after t.kept seats t.unsealed t.reads readings (came ++ bytes) came' (λ e. waits (ap (λ (q : Reply). q.after) turn.reply_is ∙ e))
-          ∙ ap (λ (q : Reply). answered_alone conn (turned_as conn q) t.kept t.unsealed t.reads readings (Http came') seats) (sym turn.reply_is)
-          ∙ ap (λ (k : Kept). answered_alone conn (turned_as conn r) k t.unsealed t.reads readings (Http came') seats) (sym turn.kept),
+          ∙ by_after conn t.said t.after t.kept seats t.unsealed counts readings (came ++ bytes) came' (λ e. waits (ap (λ (q : Reply). q.after) turn.reply_is ∙ e))
+          ∙ ap (λ (q : Reply). answered_alone conn (turned_as conn q) t.kept t.unsealed counts readings (Http came') seats) (sym turn.reply_is)
+          ∙ ap (λ (k : Kept). answered_alone conn (turned_as conn r) k t.unsealed counts readings (Http came') seats) (sym turn.kept),
     )
 
 -- the house is as it was

@@ -1,5 +1,5 @@
 -- The desks that serving goes through, and what crashes leave since.
-use Rattle.std.specs.Prelude.{IsSome, option_and_then}
+use Rattle.std.specs.Prelude.{IsSome, nat_le, ◌&&◌, option_and_then, if◌then◌else◌}
 use Rattle.std.proofs.Common.{◌≡◌, ◌⊎◌, ◌≤◌, ℕ, zero, suc, Bool, true, false, not, ◌||◌, List, [], ◌∷◌, ◌++◌, take, Some, None, Option, Ok, refl, ap, sym, subst, ◌∙◌, inl}
 use Rattle.std.proofs.lemmas.List.{append-nil, append_assoc, length-map, map-append, take-map}
 use Rattle.undo_outside.specs.Disk.{DiskTold, IsHonest}
@@ -17,13 +17,15 @@ use Rattle.desk_journal.specs.Records.{after_record, after_records, first_state,
 use Rattle.desk_journal.specs.Sealing.{ReadNoTexts, Seals}
 use Rattle.desk_journal.specs.Stored.{HoldsTexts}
 use Rattle.mail_loop.specs.Asked.{HaveSealed}
-use Rattle.mail_loop.specs.Did.{Keeps}
-use Rattle.mail_loop.specs.Machine.{Answered, Hindrances, Keeping, answered, happens, ignored, is_end}
+use Rattle.desk_journal.specs.Reading.{Counted, HaveRead, Reads}
+use Rattle.mail_loop.specs.Did.{Keeps, is_due_on}
+use Rattle.mail_loop.specs.Machine.{Answered, Hindrances, Keeping, IsPassed, answered, happens, ignored, is_end, unwritten_by}
 use Rattle.mail_loop.specs.State.{State}
 use Rattle.mail_loop.specs.Serving.{Step, at_first, ended_as, is_disk, run}
 use Rattle.mail_loop.specs.Acknowledged.{AnswersLast, Course, GoesThrough, Lasts, Stretch, Went, WentThrough, behind, sealed_in, steps_of, turned}
 use Rattle.mail_loop.proofs.Events.{end_ignored}
-use Rattle.mail_loop.proofs.Sealed.{Nothing, Then, nothing_read, unsealed}
+use Rattle.mail_loop.proofs.Links.{counted_none}
+use Rattle.mail_loop.proofs.Sealed.{Nothing, Then, nothing_read, unread_if, unsealed, wanting_if}
 
 -- ---- what records leave
 
@@ -85,23 +87,46 @@ module _ {D : Type 0} (told : D → DiskTold) where
 
   -- ---- one step
 
+  -- how many writes of the snapshot found no memory, where one is due on a desk
+  abbrev unwritten_on : Keeping → Lasting D → ℕ
+  unwritten_on k desk = if is_due_on desk then unwritten_by k else 0
+
+  -- none, where it was passed over
+  pub passed_on : (desk : Lasting D) → unwritten_on IsPassed desk ≡ 0
+  passed_on desk = elim (is_due_on desk) as (λ b. (if b then unwritten_by IsPassed else 0) ≡ 0) [ true ↦ refl | false ↦ refl ]
+
+  -- nor is one due of a closed desk
+  shut_on : (k : Keeping) (desk : Lasting D) → desk.closed ≡ true → unwritten_on k desk ≡ 0
+  shut_on k desk shut = ap (λ (b : Bool). if not b && nat_le 1024 desk.kept.marks.since then unwritten_by k else 0) shut
+
   -- the strings of a step were sent, or none, and no snapshot was taken behind them
-  pub went_alone : Nothing told → (s : State) (step : Step) (old mid : Lasting D) → old.closed ≡ false → HaveSealed told old mid (turned s step).unsealed (turned s step).reads
+  pub went_alone : Nothing told → (s : State) (step : Step) (old mid : Lasting D) → unwritten_on step.hindrances.keeping mid ≡ 0 → old.closed ≡ false → HaveSealed told old mid (turned s step).unsealed (turned s step).counts
       → mid.kept ≡ (turned s step).state.kept → GoesThrough told s step old mid
-  went_alone nothing s step old mid open' (added, seals, read) kept = (
+  went_alone nothing s step old mid none open' (added, seals, counted) kept = (
     record { step = step; sealed = added; telling = mid; snapshot = []; after = mid },
     refl,
-    record { is_open = open'; turns = seals; telling_is = kept; read = read; unkept = []; keeps = same_sealed nothing mid; unread = nothing_read told mid mid refl; stays = λ shut. (refl, refl) },
+    record {
+      is_open = open';
+      turns = seals;
+      telling_is = kept;
+      read = counted.reads;
+      starved = counted.starved;
+      unkept = [];
+      keeps = same_sealed nothing mid;
+      unread = nothing_read told mid mid refl;
+      starved_behind = subst (λ (n : ℕ). Counted n (told mid.disk).starved (told mid.disk).starved) (sym none) (counted_none (told mid.disk).starved (told mid.disk).starved refl);
+      stays = λ shut. (refl, refl);
+    },
     refl,
   )
 
   -- and then the snapshot that was due
-  pub went_on : Nothing told → (s : State) (step : Step) (k : Keeping) (old mid new : Lasting D) → old.closed ≡ false → HaveSealed told old mid (turned s step).unsealed (turned s step).reads
+  pub went_on : Nothing told → (s : State) (step : Step) (k : Keeping) (old mid new : Lasting D) → k ≡ step.hindrances.keeping → old.closed ≡ false → HaveSealed told old mid (turned s step).unsealed (turned s step).counts
       → mid.kept ≡ (turned s step).state.kept → Keeps told k mid new → GoesThrough told s step old new
-  went_on nothing s step k old mid new open' sealed kept keeps = by_closed mid.closed refl
+  went_on nothing s step k old mid new is open' sealed kept keeps = by_closed mid.closed refl
     where
       by_closed : (b : Bool) → mid.closed ≡ b → GoesThrough told s step old new
-      by_closed true shut = subst (λ (d : Lasting D). GoesThrough told s step old d) (sym (keeps.closed shut)) (went_alone nothing s step old mid open' sealed kept)
+      by_closed true shut = subst (λ (d : Lasting D). GoesThrough told s step old d) (sym (keeps.closed shut)) (went_alone nothing s step old mid (shut_on step.hindrances.keeping mid shut) open' sealed kept)
       by_closed false shut = (
         record { step = step; sealed = sealed.0; telling = mid; snapshot = keeps.seals.0; after = new },
         refl,
@@ -109,23 +134,26 @@ module _ {D : Type 0} (told : D → DiskTold) where
           is_open = open';
           turns = sealed.1;
           telling_is = kept;
-          read = sealed.2;
+          read = sealed.2.reads;
+          starved = sealed.2.starved;
           unkept = _;
           keeps = keeps.seals.1;
-          unread = keeps.seals.2;
+          unread = subst (λ (r : Reads). HaveRead told mid new r) (unread_if (is_due_on mid) (unwritten_by k)) keeps.seals.2.reads;
+          starved_behind = subst (λ (j : Keeping). Counted (unwritten_on j mid) (told mid.disk).starved (told new.disk).starved) is
+              (subst (λ (n : ℕ). Counted n (told mid.disk).starved (told new.disk).starved) (wanting_if (is_due_on mid) (unwritten_by k)) keeps.seals.2.starved);
           stays = λ wrong. absurd (let no : true ≡ false = sym wrong ∙ shut in cc);
         },
         refl,
       )
 
   -- the end, and the snapshot that was due then
-  pub went_end : Nothing told → (s : State) (event : Event) → is_end event.what ≡ true → (h : Hindrances) → h.unfed ≡ false → h.turns ≡ [] → h.stage ≡ Ok None → (k : Keeping) (old new : Lasting D)
+  pub went_end : Nothing told → (s : State) (event : Event) → is_end event.what ≡ true → (h : Hindrances) → h.unfed ≡ false → h.turns ≡ [] → h.stage ≡ Ok None → (k : Keeping) → k ≡ h.keeping → (old new : Lasting D)
       → old.closed ≡ false → old.kept ≡ s.kept → Keeps told k old new → GoesThrough told s (record { event = event; hindrances = h }) old new
-  went_end nothing s event ends h fed turns stage k old new open' kept keeps =
+  went_end nothing s event ends h fed turns stage k same old new open' kept keeps =
       let step : Step = record { event = event; hindrances = h } in
       let is : ignored s ≡ turned s step =
       sym (end_ignored s event ends) ∙ (λ j. answered (sym fed j) (sym turns j) (sym stage j) s event) in
-      went_on nothing s step k old old new open' (subst (λ (a : Answered). HaveSealed told old old a.unsealed a.reads) is (unsealed told nothing old)) (kept ∙ ap (λ (a : Answered). a.state.kept) is) keeps
+      went_on nothing s step k old old new same open' (subst (λ (a : Answered). HaveSealed told old old a.unsealed a.counts) is (unsealed told nothing old)) (kept ∙ ap (λ (a : Answered). a.state.kept) is) keeps
 
   -- ---- one step more
 

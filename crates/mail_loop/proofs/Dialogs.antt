@@ -1,6 +1,6 @@
 -- Turns of a session, whatever it speaks: what it gives, what is asked of the desk, and the texts that are read for it.
 use Rattle.std.proofs.lemmas.List.{append-nil, append_assoc}
-use Rattle.std.proofs.Common.{◌≡◌, ◌⊎◌, ℕ, Bool, [], true, false, true≢false, List, ◌∷◌, ◌++◌, Option, None, Some, option_map, unwrap_or, Result, Ok, Err, refl, ap, subst, sym, ◌∙◌, inl, inr}
+use Rattle.std.proofs.Common.{◌≡◌, ◌⊎◌, ℕ, add-zero, zero-add, Bool, [], true, false, true≢false, List, ◌∷◌, ◌++◌, Option, None, Some, option_map, unwrap_or, Result, Ok, Err, refl, ap, subst, sym, ◌∙◌, inl, inr}
 use Rattle.undo_base.specs.declared.keys.User.{User}
 use Rattle.seal_log.specs.declared.fault.ReadFault.{ReadFault}
 use Rattle.seal_log.specs.declared.fault.ReadFault.TheVariants.{Disk as NotRead, NoMemory as NoneForTexts}
@@ -21,25 +21,26 @@ use Rattle.mail_desk.specs.Desk.{Submitted, submitted_as}
 use Rattle.verb_bytes.specs.declared.journal.JournalRecord.{JournalRecord}
 use Rattle.verb_bytes.specs.declared.journal.JournalRecord.TheVariants.{Verb}
 use Rattle.desk_journal.specs.Reading.{Reads, failed_once, none_read, wrong_once}
+use Rattle.mail_loop.specs.Counts.{Counts, none_counted, read_so, wanting}
 use Rattle.mail_loop.specs.declared.out.Out.{Out}
 use Rattle.mail_loop.specs.declared.out.Out.TheVariants.{Say, Read, Submit, Bye}
 use Rattle.mail_loop.specs.declared.reply.Reply.{Reply}
 use Rattle.mail_loop.specs.Afterwards.{gone_between}
-use Rattle.mail_loop.specs.Asked.{Asked, asked_as, unsealed_as}
+use Rattle.mail_loop.specs.Asked.{Asked, asked_as, unsealed_as, unwritten}
 use Rattle.mail_loop.specs.State.{Seats}
-use Rattle.mail_loop.specs.Turn.{Turn, ends, lost, says, unanswered}
+use Rattle.mail_loop.specs.Turn.{Turn, ends, lost, reading, says, unanswered}
 use Rattle.mail_loop.specs.Session.{IsBye, Session, Speech, Took, behind, done, followed, hindered, is_answer, is_home, is_said, pursued, pursued_as, served, settled, settled_as, submits, took}
-use Rattle.mail_loop.specs.Hindrance.{Hindrance, Clear, Refused as IsToldWant, Textless, Unread, UnreadRefused, UnreadUnheard, Misread, Misled, Unstored, Unheard, Unanswered, Unsealed, Untold, Halfway, Service, halfway, last_hindrance, misread, row, service, stopped, under, unread, unread_unsaid, without_items, without_seals, without_texts}
-use Rattle.mail_loop.specs.Took.{Adds, AsksAs, IsAwaitedLast, IsDueNext, IsLast, IsNone, IsOnlySaid, IsTold, ReadsNone, ReadsStarved, Settles, SettlesAgain, SettlesOrAsks, Submits, Takes, TakesTexts, asked_in, given, reads_of}
+use Rattle.mail_loop.specs.Hindrance.{Hindrance, Clear, Refused as IsToldWant, Textless, Unread, UnreadRefused, UnreadUnheard, Misread, Misled, Unstored, Unheard, Unanswered, Unsealed, Untold, Unwritten, UnwrittenUnheard, Halfway, Service, halfway, last_hindrance, misread, row, service, stopped, under, unread, unread_unsaid, without_items, without_seals, without_texts, without_writes}
+use Rattle.mail_loop.specs.Took.{Adds, AsksAs, IsAwaitedLast, IsDueNext, IsLast, IsNone, IsOnlySaid, IsTold, ReadsNone, ReadsStarved, Settles, SettlesAgain, SettlesOrAsks, Submits, Takes, TakesTexts, Wrote, asked_in, given, reads_of}
 use Rattle.mail_loop.proofs.Refusals.{due_or_starved}
-use Rattle.mail_loop.proofs.Telling.{closed, lifted, told_last, told_nothing, told_whole, unsealed_too}
+use Rattle.mail_loop.proofs.Telling.{closed, lifted, starved_too, told_last, told_nothing, told_whole, unsealed_too}
 
 house_as : (kept : Kept) (due : Result Item Refused) → (submitted_as kept due).kept.house ≡ kept.house
 house_as kept (Ok item) = refl
 house_as kept (Err why) = refl
 
 -- what is asked leaves the house as it is
-pub house_stays : (S : List JournalRecord → Reads → Type 0) (kept kept' : Kept) (at : ℕ) (by : Option User) (ask : Ask) (outcome : Result Item SubmitFault)
+pub house_stays : (S : List JournalRecord → Counts → Type 0) (kept kept' : Kept) (at : ℕ) (by : Option User) (ask : Ask) (outcome : Result Item SubmitFault)
     → Submits S at kept by ask kept' outcome → kept'.house ≡ kept.house
 house_stays S kept kept' at by ask (Ok item) (is, seals) =
     sym (ap (λ (s : Submitted). s.kept.house) is) ∙ house_as kept (live (store_of kept) kept.next at by ask kept.deep)
@@ -83,7 +84,7 @@ module _ {D : Type 0} where
       (Unheard, subst (λ (t : Turn D). Takes IsNone t old kept d new) (sym lost) (closed kept kept d old new refl e))
 
   -- what is said of an outcome seals nothing, takes no mailbox away, wants no text and keeps what is kept
-  none_failed : (out : Out) (kept : Kept) (d : D) → settled_as out kept d ≡ record (settled_as out kept d) { unsealed = [] }
+  none_failed : (out : Out) (kept : Kept) (d : D) → settled_as out kept d ≡ record (settled_as out kept d) { unsealed = []; counts = none_counted }
   none_failed (Say said) kept d = refl
   none_failed (Bye said) kept d = refl
   none_failed (Read bodies) kept d = refl
@@ -95,7 +96,7 @@ module _ {D : Type 0} where
   none_left (Read bodies) kept d = refl
   none_left (Submit ask) kept d = refl
 
-  none_wanted : (out : Out) (kept : Kept) (d : D) → (settled_as out kept d).reads ≡ none_read
+  none_wanted : (out : Out) (kept : Kept) (d : D) → (settled_as out kept d).counts.reads ≡ none_read
   none_wanted (Say said) kept d = refl
   none_wanted (Bye said) kept d = refl
   none_wanted (Read bodies) kept d = refl
@@ -108,14 +109,14 @@ module _ {D : Type 0} where
   kept_told (Submit ask) kept d = refl
 
   ended : (out : Out) (kept : Kept) (d : D) (failed : List JournalRecord) → IsBye out
-      → record (settled_as out kept d) { unsealed = failed } ≡ record (ends {D = D} (words out) kept) { unsealed = failed }
+      → record (settled_as out kept d) { unsealed = failed; counts = none_counted } ≡ record (ends {D = D} (words out) kept) { unsealed = failed }
   ended (Bye said) kept d failed bye = refl
   ended (Say said) kept d failed wrong = absurd wrong
   ended (Read bodies) kept d failed wrong = absurd wrong
   ended (Submit ask) kept d failed wrong = absurd wrong
 
   -- mailboxes were noted before
-  noted : (S : List JournalRecord → Reads → Type 0) (t : Turn D) (ids : List BoxId) (old old' : Reply) (kept : Kept) (e : D) (new : Reply) → old' ≡ record old { gone = old.gone ++ ids }
+  noted : (S : List JournalRecord → Counts → Type 0) (t : Turn D) (ids : List BoxId) (old old' : Reply) (kept : Kept) (e : D) (new : Reply) → old' ≡ record old { gone = old.gone ++ ids }
       → t.gone ≡ [] → Takes S t old' kept e new → Takes S (record t { gone = ids }) old kept e new
   noted S t ids old old' kept e new is none takes = record {
     conn = takes.conn ∙ ap (λ (r : Reply). r.conn) is;
@@ -127,18 +128,15 @@ module _ {D : Type 0} where
   }
 
   -- the same turn, for which texts were read so
-  abbrev reading : Reads → Turn D → Turn D
-  reading r t = record t { reads = r }
-
-  reread : (S S' : List JournalRecord → Reads → Type 0) (r : Reads) (t : Turn D) (old : Reply) (kept : Kept) (d : D) (new : Reply) → t.reads ≡ none_read
-      → ((failed : List JournalRecord) → S failed none_read → S' failed r) → Takes S t old kept d new → Takes S' (reading r t) old kept d new
+  reread : (S S' : List JournalRecord → Counts → Type 0) (r : Reads) (t : Turn D) (old : Reply) (kept : Kept) (d : D) (new : Reply) → t.counts.reads ≡ none_read
+      → ((failed : List JournalRecord) (n : ℕ) → S failed (wanting n) → S' failed (record { reads = r; starved = n })) → Takes S t old kept d new → Takes S' (reading r t) old kept d new
   reread S S' r t old kept d new quiet then takes = record {
     conn = takes.conn;
     said = takes.said;
     kept_is = takes.kept_is;
     dialog_is = takes.dialog_is;
     gone = takes.gone;
-    seals = then t.unsealed (subst (λ (q : Reads). S t.unsealed q) quiet takes.seals);
+    seals = then t.unsealed t.counts.starved (subst (λ (q : Reads). S t.unsealed (record { reads = q; starved = t.counts.starved })) quiet takes.seals);
   }
 
 -- no mailbox is gone between a store and itself
@@ -169,7 +167,7 @@ module _ {D : Type 0} (speech : Speech D) where
       → speech.settle (store_of kept) kept.stamps d outcome ≡ took out e → IsTold out old new
       → Takes IsNone (settled speech d (asked_as outcome kept)) old kept e new ⊎ Takes IsNone (ends {D = D} [] kept) old kept e new
   settled_told outcome kept d e out old new stays is told =
-      subst (λ (t : Took D). Takes IsNone (record (settled_as t.out kept t.dialog) { unsealed = [] }) old kept e new ⊎ Takes IsNone (ends {D = D} [] kept) old kept e new) (sym is)
+      subst (λ (t : Took D). Takes IsNone (record (settled_as t.out kept t.dialog) { unsealed = []; counts = none_counted }) old kept e new ⊎ Takes IsNone (ends {D = D} [] kept) old kept e new) (sym is)
       (subst (λ (t : Turn D). Takes IsNone t old kept e new ⊎ Takes IsNone (ends {D = D} [] kept) old kept e new) (none_failed out kept e) (out_told out kept e old new stays told))
 
   -- the session was told of its ask's outcome, and answers
@@ -263,16 +261,16 @@ module _ {D : Type 0} (speech : Speech D) where
   none_gone d a = let t = speech.settle (store_of a.kept) a.kept.stamps d a.outcome in none_left t.out a.kept t.dialog
 
   -- what is said of an outcome wants no text
-  quiet_settled : (d : D) (a : Asked) → (settled speech d a).reads ≡ none_read
-  quiet_settled d a = let t = speech.settle (store_of a.kept) a.kept.stamps d a.outcome in none_wanted t.out a.kept t.dialog
+  quiet_settled : (d : D) (a : Asked) → (settled speech d a).counts.reads ≡ none_read
+  quiet_settled d a = refl
 
   -- where no mailbox is gone the turn is that of the outcome alone
   as_settled : (kept : Kept) (d : D) (a : Asked) → gone_between kept a.kept ≡ [] → done speech kept d a ≡ settled speech d a
   as_settled kept d a none = λ j. record (settled speech d a) { gone = (none ∙ sym (none_gone d a)) j }
 
   -- the connection closes with no answer to what is kept, whose mailboxes were noted before
-  closed_on : (S : List JournalRecord → Reads → Type 0) (before : Kept) (d : D) (item : Item) (k : Kept) (old old' : Reply) (kept : Kept) (e : D) (new : Reply)
-      → old' ≡ record old { gone = old.gone ++ gone_between before k } → Takes IsNone (ends {D = D} [] k) old' kept e new → S [] none_read
+  closed_on : (S : List JournalRecord → Counts → Type 0) (before : Kept) (d : D) (item : Item) (k : Kept) (old old' : Reply) (kept : Kept) (e : D) (new : Reply)
+      → old' ≡ record old { gone = old.gone ++ gone_between before k } → Takes IsNone (ends {D = D} [] k) old' kept e new → S [] none_counted
       → Takes S (unanswered (done speech before d (asked_as (Ok item) k))) old kept e new
   closed_on S before d item k old old' kept e new is takes none =
       let t = noted IsNone (ends {D = D} [] k) (gone_between before k) old old' kept e new is refl takes in
@@ -282,12 +280,12 @@ module _ {D : Type 0} (speech : Speech D) where
         kept_is = t.kept_is ∙ sym (kept_settled d (asked_as (Ok item) k));
         dialog_is = t.dialog_is;
         gone = t.gone;
-        seals = subst (λ (r : Reads). S [] r) (sym (quiet_settled d (asked_as (Ok item) k))) none;
+        seals = none;
       }
 
   -- where an ask could not be sealed the client is told, and its connection closes
   settled_unsealed : (d : D) (kept : Kept) (failed : List JournalRecord) → speech.is_due d ≡ true
-      → settled speech d (record { outcome = Err Disk; kept = kept; unsealed = failed })
+      → settled speech d (record { outcome = Err Disk; kept = kept; unsealed = failed; starved = 0 })
       ≡ record (ends {D = D} (words (speech.settle (store_of kept) kept.stamps d (Err Disk)).out) kept) { unsealed = failed }
   settled_unsealed d kept failed due =
       let t = speech.settle (store_of kept) kept.stamps d (Err Disk) in
@@ -315,7 +313,7 @@ module _ {D : Type 0} (speech : Speech D) where
   stops_as desk kept d a (Read bodies) e = refl
   stops_as desk kept d a (Submit ask) e =
       let gone = gone_between kept a.kept in
-      λ j. record { said = []; kept = sym (kept_settled d a) j; dialog = None; gone = append-nil gone j; unsealed = append-nil a.unsealed j; reads = sym (quiet_settled d a) j }
+      λ j. record { said = []; kept = sym (kept_settled d a) j; dialog = None; gone = append-nil gone j; unsealed = append-nil a.unsealed j; counts = wanting (add-zero a.starved j) }
 
   pub pursued_concludes : (kept : Kept) (d : D) → Concludes kept d (λ desk a. pursued speech desk kept d a)
   pursued_concludes kept d = record {
@@ -324,7 +322,7 @@ module _ {D : Type 0} (speech : Speech D) where
   }
 
   -- what is asked of the desk is a turn, hindered or not
-  pub asked_turn : (S : List JournalRecord → Reads → Type 0) (at : ℕ) (kept kept' : Kept) (ask : Ask) (d e : D) (outcome : Result Item SubmitFault) (old old' new : Reply) (T : Service → Asked → Turn D) → Concludes kept d T
+  pub asked_turn : (S : List JournalRecord → Counts → Type 0) (at : ℕ) (kept kept' : Kept) (ask : Ask) (d e : D) (outcome : Result Item SubmitFault) (old old' new : Reply) (T : Service → Asked → Turn D) → Concludes kept d T
       → speech.is_due d ≡ true
       → NoneGone kept
       → old' ≡ record old { gone = old.gone ++ gone_between kept kept' }
@@ -381,36 +379,56 @@ module _ {D : Type 0} (speech : Speech D) where
             (unsealed_too S [] kept' (Verb item ∷ []) old kept' e new t seals)))),
       )
       by_way (inr (inr t)) = absurd (let wrong : false ≡ true = t.0 in cc)
-  asked_turn S at kept kept' ask d e (Err (IsRefused why)) old old' new T concludes due none is (refusal, same, seals) s =
-      by_way (subst (λ (r : Reply). Settles speech (Err (IsRefused why)) kept' d r e new) (none_more kept kept' old old' none same is) s)
+  asked_turn S at kept kept' ask d e (Err (IsRefused why)) old old' new T concludes due none is (refusal, same, wrote) s =
+      by_wrote wrote (subst (λ (r : Reply). Settles speech (Err (IsRefused why)) kept' d r e new) (none_more kept kept' old old' none same is) s)
     where
-      whole : (t : Turn D) → Takes IsNone t old kept' e new → Takes S t old kept' e new
-      whole t took = lifted S t old kept' e new took seals
+      Turns : Type 0
+      Turns = (h : Hindrance) × Takes S (under h at kept (λ desk. T desk (desk.asked (speech.user d) ask))) old kept' e new
 
-      -- a refusal that is told takes no mailbox away
-      refused : (desk : Service) (r : Refused) → Takes IsNone (settled speech d (asked_as (Err (IsRefused r)) kept')) old kept' e new
-          → Takes S (T desk (asked_as (Err (IsRefused r)) kept)) old kept' e new
-      refused desk r t =
-          subst (λ (u : Turn D). Takes S u old kept' e new) (sym (concludes.told desk (asked_as (Err (IsRefused r)) kept) (speech.answers_fault (store_of kept) kept.stamps d (IsRefused r) due)))
-          (subst (λ (u : Turn D). Takes S u old kept' e new) (sym (as_settled kept d (asked_as (Err (IsRefused r)) kept) none))
-          (subst (λ (k : Kept). Takes S (settled speech d (asked_as (Err (IsRefused r)) k)) old kept' e new) same
-          (whole (settled speech d (asked_as (Err (IsRefused r)) kept')) t)))
+      -- a refusal that is told takes no mailbox away; so many writes found no memory for it
+      refused : (desk : Service) (r : Refused) (n : ℕ) → S [] (wanting n) → Takes IsNone (settled speech d (asked_as (Err (IsRefused r)) kept')) old kept' e new
+          → Takes S (T desk (record { outcome = Err (IsRefused r); kept = kept; unsealed = []; starved = n })) old kept' e new
+      refused desk r n seals t =
+          let a : Asked = record { outcome = Err (IsRefused r); kept = kept; unsealed = []; starved = n } in
+          subst (λ (u : Turn D). Takes S u old kept' e new) (sym (concludes.told desk a (speech.answers_fault (store_of kept) kept.stamps d (IsRefused r) due)))
+          (subst (λ (u : Turn D). Takes S u old kept' e new) (sym (as_settled kept d a none))
+          (subst (λ (k : Kept). Takes S (settled speech d (record { outcome = Err (IsRefused r); kept = k; unsealed = []; starved = n })) old kept' e new) same
+          (starved_too S (settled speech d (asked_as (Err (IsRefused r)) kept')) n old kept' e new t seals)))
 
-      by_cause : (why ≡ NoMemory) ⊎ (live (store_of kept) kept.next at (speech.user d) ask kept.deep ≡ Err why) → Takes IsNone (settled speech d (asked_as (Err (IsRefused why)) kept')) old kept' e new
-          → (h : Hindrance) × Takes S (under h at kept (λ desk. T desk (desk.asked (speech.user d) ask))) old kept' e new
-      by_cause (inl is) t = (Unstored, refused (without_items kept (service at kept)) NoMemory (subst (λ (r : Refused). Takes IsNone (settled speech d (asked_as (Err (IsRefused r)) kept')) old kept' e new) is t))
-      by_cause (inr is) t = (
+      by_cause : S [] none_counted → (why ≡ NoMemory) ⊎ (live (store_of kept) kept.next at (speech.user d) ask kept.deep ≡ Err why)
+          → Takes IsNone (settled speech d (asked_as (Err (IsRefused why)) kept')) old kept' e new → Turns
+      by_cause seals (inl is) t =
+          (Unstored, refused (without_items kept (service at kept)) NoMemory 0 seals (subst (λ (r : Refused). Takes IsNone (settled speech d (asked_as (Err (IsRefused r)) kept')) old kept' e new) is t))
+      by_cause seals (inr is) t = (
         Clear,
-        subst (λ (r : Result Item Refused). let s = submitted_as kept r in Takes S (T (service at kept) (asked_as s.outcome s.kept)) old kept' e new) (sym is) (refused (service at kept) why t),
+        subst (λ (r : Result Item Refused). let s = submitted_as kept r in Takes S (T (service at kept) (asked_as s.outcome s.kept)) old kept' e new) (sym is) (refused (service at kept) why 0 seals t),
       )
 
-      by_way : Settles speech (Err (IsRefused why)) kept' d old e new → (h : Hindrance) × Takes S (under h at kept (λ desk. T desk (desk.asked (speech.user d) ask))) old kept' e new
-      by_way (inl (answers, t)) = by_cause (due_or_starved why (live (store_of kept) kept.next at (speech.user d) ask kept.deep) refusal) t
-      by_way (inr (inl t)) = (Unheard, subst (λ (k : Kept). Takes S (ends {D = D} [] k) old kept' e new) same (whole (ends {D = D} [] kept') t))
-      by_way (inr (inr t)) = (Unstored, refused (without_items kept (service at kept)) NoMemory t.1)
+      -- nothing is said of an ask for which a write found no memory
+      unwritten_untold : S [] (wanting 1) → Takes IsNone (ends {D = D} [] kept') old kept' e new
+          → Takes S (unanswered (T (stopped (without_writes kept (service at kept))) (unwritten kept (speech.user d) ask))) old kept' e new
+      unwritten_untold seals t =
+          let a = unwritten kept (speech.user d) ask in
+          subst (λ (u : Turn D). Takes S u old kept' e new) (sym (concludes.untold (without_writes kept (service at kept)) a)) (record {
+            conn = t.conn;
+            said = t.said;
+            kept_is = same ∙ sym (kept_settled d a);
+            dialog_is = t.dialog_is;
+            gone = t.gone ∙ ap (λ (ids : List BoxId). old.gone ++ ids) (sym none);
+            seals = seals;
+          })
+
+      by_wrote : Wrote S why → Settles speech (Err (IsRefused why)) kept' d old e new → Turns
+      by_wrote (inl seals) (inl (answers, t)) = by_cause seals (due_or_starved why (live (store_of kept) kept.next at (speech.user d) ask kept.deep) refusal) t
+      by_wrote (inl seals) (inr (inl t)) = (Unheard, subst (λ (k : Kept). Takes S (ends {D = D} [] k) old kept' e new) same (lifted S (ends {D = D} [] kept') old kept' e new t seals))
+      by_wrote (inl seals) (inr (inr t)) = (Unstored, refused (without_items kept (service at kept)) NoMemory 0 seals t.1)
+      by_wrote (inr (starved, seals)) (inl (answers, t)) =
+          (Unwritten, refused (without_writes kept (service at kept)) NoMemory 1 seals (subst (λ (r : Refused). Takes IsNone (settled speech d (asked_as (Err (IsRefused r)) kept')) old kept' e new) starved t))
+      by_wrote (inr (starved, seals)) (inr (inl t)) = (UnwrittenUnheard, unwritten_untold seals t)
+      by_wrote (inr (starved, seals)) (inr (inr t)) = (Unwritten, refused (without_writes kept (service at kept)) NoMemory 1 seals t.1)
 
   -- the same, of an ask whose asker was told
-  pub asked_turn_by : (S : List JournalRecord → Reads → Type 0) (at : ℕ) (kept kept' : Kept) (by : Option User) (ask : Ask) (d e : D) (outcome : Result Item SubmitFault) (old old' new : Reply) (T : Service → Asked → Turn D) → Concludes kept d T
+  pub asked_turn_by : (S : List JournalRecord → Counts → Type 0) (at : ℕ) (kept kept' : Kept) (by : Option User) (ask : Ask) (d e : D) (outcome : Result Item SubmitFault) (old old' new : Reply) (T : Service → Asked → Turn D) → Concludes kept d T
       → by ≡ speech.user d
       → speech.is_due d ≡ true
       → NoneGone kept
@@ -439,23 +457,25 @@ module _ {D : Type 0} (speech : Speech D) where
   last_same Unanswered at kept e ask = refl
   last_same Unsealed at kept e ask = refl
   last_same Untold at kept e ask = refl
+  last_same Unwritten at kept e ask = refl
+  last_same UnwrittenUnheard at kept e ask = refl
   last_same (Halfway h) at kept e ask = refl
 
   -- its turn stands behind that of the first, of which S is known with it
-  behind_takes : (S S' : List JournalRecord → Reads → Type 0) (t : Turn D) (ids : List BoxId) (old old' : Reply) (kept : Kept) (e : D) (new : Reply) → old' ≡ record old { gone = old.gone ++ ids }
-      → ((failed : List JournalRecord) (r : Reads) → S failed r → S' failed r) → Takes S t old' kept e new → Takes S' (behind ids [] t) old kept e new
+  behind_takes : (S S' : List JournalRecord → Counts → Type 0) (t : Turn D) (ids : List BoxId) (old old' : Reply) (kept : Kept) (e : D) (new : Reply) → old' ≡ record old { gone = old.gone ++ ids }
+      → ((failed : List JournalRecord) (c : Counts) → S failed c → S' failed c) → Takes S t old' kept e new → Takes S' (behind ids [] 0 t) old kept e new
   behind_takes S S' t ids old old' kept e new is then takes = record {
     conn = takes.conn ∙ ap (λ (r : Reply). r.conn) is;
     said = takes.said ∙ ap (λ (r : Reply). r.said ++ t.said) is;
     kept_is = takes.kept_is;
     dialog_is = takes.dialog_is;
     gone = takes.gone ∙ ap (λ (r : Reply). r.gone ++ t.gone) is ∙ append_assoc old.gone ids t.gone;
-    seals = then t.unsealed t.reads takes.seals;
+    seals = subst (λ (n : ℕ). S' t.unsealed (record { reads = t.counts.reads; starved = n })) (sym (zero-add t.counts.starved)) (then t.unsealed t.counts takes.seals);
   }
 
   -- an ask was done that led to a further one
-  further_turn : (S S' : List JournalRecord → Reads → Type 0) (at : ℕ) (kept kept' left : Kept) (ask asked : Ask) (d e f : D) (item : Item) (old old' new : Reply)
-      → ((failed : List JournalRecord) (r : Reads) → S failed r → S' failed r)
+  further_turn : (S S' : List JournalRecord → Counts → Type 0) (at : ℕ) (kept kept' left : Kept) (ask asked : Ask) (d e f : D) (item : Item) (old old' new : Reply)
+      → ((failed : List JournalRecord) (c : Counts) → S failed c → S' failed c)
       → old' ≡ record old { gone = old.gone ++ gone_between kept kept' }
       → submitted_as kept (live (store_of kept) kept.next at (speech.user d) ask kept.deep) ≡ record { outcome = Ok item; kept = kept' }
       → speech.settle (store_of kept') kept'.stamps d (Ok item) ≡ took (Submit asked) e
@@ -470,9 +490,9 @@ module _ {D : Type 0} (speech : Speech D) where
   )
 
   -- the same, of what became of the first
-  pub asked_further : (S T S' : List JournalRecord → Reads → Type 0) (at : ℕ) (kept kept' left : Kept) (by : Option User) (ask asked : Ask) (d e f : D) (outcome : Result Item SubmitFault) (old old' new : Reply)
+  pub asked_further : (S T S' : List JournalRecord → Counts → Type 0) (at : ℕ) (kept kept' left : Kept) (by : Option User) (ask asked : Ask) (d e f : D) (outcome : Result Item SubmitFault) (old old' new : Reply)
       → by ≡ speech.user d → speech.is_due d ≡ true
-      → (S [] none_read → (failed : List JournalRecord) (r : Reads) → T failed r → S' failed r)
+      → (S [] none_counted → (failed : List JournalRecord) (c : Counts) → T failed c → S' failed c)
       → old' ≡ record old { gone = old.gone ++ gone_between kept kept' }
       → Submits S at kept by ask kept' outcome
       → speech.settle (store_of kept') kept'.stamps d outcome ≡ took (Submit asked) e
@@ -485,8 +505,8 @@ module _ {D : Type 0} (speech : Speech D) where
       (subst (λ (u : Option User). submitted_as kept (live (store_of kept) kept.next at u ask kept.deep) ≡ record { outcome = Ok item; kept = kept' }) same does) settles turn
 
   -- what was done before a further ask is sealed
-  pub sealed_before : (S : List JournalRecord → Reads → Type 0) (at : ℕ) (kept kept' : Kept) (by : Option User) (ask asked : Ask) (d e : D) (outcome : Result Item SubmitFault) → speech.is_due d ≡ true
-      → Submits S at kept by ask kept' outcome → speech.settle (store_of kept') kept'.stamps d outcome ≡ took (Submit asked) e → S [] none_read
+  pub sealed_before : (S : List JournalRecord → Counts → Type 0) (at : ℕ) (kept kept' : Kept) (by : Option User) (ask asked : Ask) (d e : D) (outcome : Result Item SubmitFault) → speech.is_due d ≡ true
+      → Submits S at kept by ask kept' outcome → speech.settle (store_of kept') kept'.stamps d outcome ≡ took (Submit asked) e → S [] none_counted
   sealed_before S at kept kept' by ask asked d e (Ok item) due did settles = did.1
   sealed_before S at kept kept' by ask asked d e (Err fault) due did settles =
       absurd (true≢false (sym (speech.answers_fault (store_of kept') kept'.stamps d fault due) ∙ ap (λ (t : Took D). is_answer t.out) settles))
@@ -494,14 +514,14 @@ module _ {D : Type 0} (speech : Speech D) where
   -- ---- what a session gives
 
   -- an ask of a unit that has its texts
-  pub submits_turn : (S : List JournalRecord → Reads → Type 0) (at : ℕ) (kept kept' : Kept) (out gives : Out) (d e : D) (old new : Reply) → out ≡ gives
+  pub submits_turn : (S : List JournalRecord → Counts → Type 0) (at : ℕ) (kept kept' : Kept) (out gives : Out) (d e : D) (old new : Reply) → out ≡ gives
       → (h : Hindrance) × Takes S (under h at kept (λ desk. submits speech desk kept gives d)) old kept' e new
       → (h : Hindrance) × Takes S (under h at kept (λ desk. submits speech desk kept out d)) old kept' e new
   submits_turn S at kept kept' out gives d e old new is t =
       subst (λ (o : Out). (h : Hindrance) × Takes S (under h at kept (λ desk. submits speech desk kept o d)) old kept' e new) (sym is) t
 
   -- what comes of what the session gives
-  pub out_turn : (S : List JournalRecord → Reads → Type 0) (at : ℕ) (kept kept' : Kept) (out gives : Out) (d e : D) (old new : Reply) → out ≡ gives
+  pub out_turn : (S : List JournalRecord → Counts → Type 0) (at : ℕ) (kept kept' : Kept) (out gives : Out) (d e : D) (old new : Reply) → out ≡ gives
       → (h : Hindrance) × Takes S (under h at kept (λ desk. followed speech desk kept gives d)) old kept' e new
       → (h : Hindrance) × Takes S (under h at kept (λ desk. followed speech desk kept out d)) old kept' e new
   out_turn S at kept kept' out gives d e old new is t =
@@ -528,7 +548,7 @@ module _ {D : Type 0} (speech : Speech D) where
       pursued_same desk texts r kept d a t.out t.dialog
 
   -- nor does it read any, hindered or not
-  quiet_under : (h : Hindrance) (at : ℕ) (kept : Kept) (f : Service → Turn D) → ((desk : Service) → (f desk).reads ≡ none_read) → (under h at kept f).reads ≡ none_read
+  quiet_under : (h : Hindrance) (at : ℕ) (kept : Kept) (f : Service → Turn D) → ((desk : Service) → (f desk).counts.reads ≡ none_read) → (under h at kept f).counts.reads ≡ none_read
   quiet_under Clear at kept f quiet = quiet (service at kept)
   quiet_under IsToldWant at kept f quiet = refl
   quiet_under Textless at kept f quiet = quiet (without_texts (service at kept))
@@ -542,16 +562,18 @@ module _ {D : Type 0} (speech : Speech D) where
   quiet_under Unanswered at kept f quiet = quiet (stopped (service at kept))
   quiet_under Unsealed at kept f quiet = quiet (without_seals at kept (service at kept))
   quiet_under Untold at kept f quiet = quiet (stopped (without_seals at kept (service at kept)))
+  quiet_under Unwritten at kept f quiet = quiet (without_writes kept (service at kept))
+  quiet_under UnwrittenUnheard at kept f quiet = quiet (stopped (without_writes kept (service at kept)))
   quiet_under (Halfway h) at kept f quiet = quiet (halfway h (service at kept))
 
-  quiet_pursued : (desk : Service) (kept : Kept) (d : D) (a : Asked) (out : Out) (e : D) → (pursued_as speech desk kept d a out e).reads ≡ none_read
+  quiet_pursued : (desk : Service) (kept : Kept) (d : D) (a : Asked) (out : Out) (e : D) → (pursued_as speech desk kept d a out e).counts.reads ≡ none_read
   quiet_pursued desk kept d a (Say said) e = quiet_settled d a
   quiet_pursued desk kept d a (Bye said) e = quiet_settled d a
   quiet_pursued desk kept d a (Read bodies) e = quiet_settled d a
   quiet_pursued desk kept d a (Submit ask) e =
       quiet_under desk.further desk.at a.kept (λ later. done speech a.kept e (later.asked (speech.user e) ask)) (λ later. quiet_settled e (later.asked (speech.user e) ask))
 
-  pub quiet_submits : (desk : Service) (kept : Kept) (out : Out) (d : D) → (submits speech desk kept out d).reads ≡ none_read
+  pub quiet_submits : (desk : Service) (kept : Kept) (out : Out) (d : D) → (submits speech desk kept out d).counts.reads ≡ none_read
   quiet_submits desk kept (Say said) d = refl
   quiet_submits desk kept (Bye said) d = refl
   quiet_submits desk kept (Read bodies) d = refl
@@ -561,16 +583,20 @@ module _ {D : Type 0} (speech : Speech D) where
       quiet_pursued desk kept d a t.out t.dialog
 
   -- turns before which texts were read, of which S is known behind that, and S' with it
-  module _ (S S' : List JournalRecord → Reads → Type 0) (at : ℕ) (kept kept' : Kept) (e : D) (old new : Reply) where
+  module _ (S S' : List JournalRecord → Counts → Type 0) (at : ℕ) (kept kept' : Kept) (e : D) (old new : Reply) where
     abbrev Before : Turn D → Type 0
     Before t = Takes S t old kept' e new
 
     abbrev With : Turn D → Type 0
     With t = Takes S' t old kept' e new
 
+    -- where texts were read so before, S' holds of that and of the rest
+    abbrev AsRead : Reads → Type 0
+    AsRead r = (failed : List JournalRecord) (n : ℕ) → S failed (wanting n) → S' failed (record { reads = r; starved = n })
+
     -- the texts were others
-    wrong_turn : ((failed : List JournalRecord) → S failed none_read → S' failed none_read) → ((failed : List JournalRecord) → S failed none_read → S' failed wrong_once)
-        → (h : Hindrance) (f : Service → Turn D) → ((desk : Service) → (f desk).reads ≡ none_read)
+    wrong_turn : AsRead none_read → AsRead wrong_once
+        → (h : Hindrance) (f : Service → Turn D) → ((desk : Service) → (f desk).counts.reads ≡ none_read)
         → Before (under h at kept f) → With (under h at kept (λ desk. reading wrong_once (f desk)))
     wrong_turn none wrong Clear f quiet t = reread S S' wrong_once (f (service at kept)) old kept' e new (quiet (service at kept)) wrong t
     wrong_turn none wrong IsToldWant f quiet t = reread S S' none_read (lost {D = D} kept) old kept' e new refl none t
@@ -593,16 +619,20 @@ module _ {D : Type 0} (speech : Speech D) where
         let desk = without_seals at kept (service at kept) in reread S S' wrong_once (f desk) old kept' e new (quiet desk) wrong t
     wrong_turn none wrong Untold f quiet t =
         let desk = stopped (without_seals at kept (service at kept)) in reread S S' wrong_once (unanswered (f desk)) old kept' e new (quiet desk) wrong t
+    wrong_turn none wrong Unwritten f quiet t =
+        let desk = without_writes kept (service at kept) in reread S S' wrong_once (f desk) old kept' e new (quiet desk) wrong t
+    wrong_turn none wrong UnwrittenUnheard f quiet t =
+        let desk = stopped (without_writes kept (service at kept)) in reread S S' wrong_once (unanswered (f desk)) old kept' e new (quiet desk) wrong t
     wrong_turn none wrong (Halfway h) f quiet t = let desk = halfway h (service at kept) in reread S S' wrong_once (f desk) old kept' e new (quiet desk) wrong t
 
     -- the texts were those of the items in force
-    right_with : (bodies : List Body) (d : D) (desk : Service) → ((failed : List JournalRecord) → S failed none_read → S' failed none_read)
+    right_with : (bodies : List Body) (d : D) (desk : Service) → AsRead none_read
         → Before (given speech kept (texts_kept kept bodies) d desk) → With (reading none_read (given speech kept (texts_kept kept bodies) d desk))
     right_with bodies d desk none t =
         let u = speech.heard d (Ok (texts_kept kept bodies)) in
         reread S S' none_read (submits speech desk kept u.out u.dialog) old kept' e new (quiet_submits desk kept u.out u.dialog) none t
 
-    right_without : (bodies : List Body) (d : D) (desk : Service) → ((failed : List JournalRecord) → S failed none_read → S' failed none_read)
+    right_without : (bodies : List Body) (d : D) (desk : Service) → AsRead none_read
         → Before (unanswered (given speech kept (texts_kept kept bodies) d desk)) → With (unanswered (reading none_read (given speech kept (texts_kept kept bodies) d desk)))
     right_without bodies d desk none t =
         let u = speech.heard d (Ok (texts_kept kept bodies)) in
@@ -614,7 +644,7 @@ module _ {D : Type 0} (speech : Speech D) where
     given_same bodies d texts r desk =
         let u = speech.heard d (Ok (texts_kept kept bodies)) in submits_same desk texts r kept u.out u.dialog
 
-    right_turn : (bodies : List Body) (d : D) → ((failed : List JournalRecord) → S failed none_read → S' failed none_read)
+    right_turn : (bodies : List Body) (d : D) → AsRead none_read
         → (h : Hindrance) → Before (under h at kept (given speech kept (texts_kept kept bodies) d))
         → (h' : Hindrance) × With (under h' at kept (λ desk. followed speech desk kept (Read bodies) d))
     right_turn bodies d none Clear t = (Clear, right_with bodies d (service at kept) none t)
@@ -635,11 +665,13 @@ module _ {D : Type 0} (speech : Speech D) where
     right_turn bodies d none Unanswered t = (Unanswered, right_without bodies d (stopped (service at kept)) none t)
     right_turn bodies d none Unsealed t = (Unsealed, right_with bodies d (without_seals at kept (service at kept)) none t)
     right_turn bodies d none Untold t = (Untold, right_without bodies d (stopped (without_seals at kept (service at kept))) none t)
+    right_turn bodies d none Unwritten t = (Unwritten, right_with bodies d (without_writes kept (service at kept)) none t)
+    right_turn bodies d none UnwrittenUnheard t = (UnwrittenUnheard, right_without bodies d (stopped (without_writes kept (service at kept))) none t)
     right_turn bodies d none (Halfway h) t = (Halfway h, right_with bodies d (halfway h (service at kept)) none t)
 
     -- one or the other
-    by_texts : (bodies : List Body) (texts : List (List ℕ)) (d : D) → ((failed : List JournalRecord) → S failed none_read → S' failed none_read)
-        → (texts ≡ texts_kept kept bodies) ⊎ ((failed : List JournalRecord) → S failed none_read → S' failed wrong_once)
+    by_texts : (bodies : List Body) (texts : List (List ℕ)) (d : D) → AsRead none_read
+        → (texts ≡ texts_kept kept bodies) ⊎ AsRead wrong_once
         → (h : Hindrance) → Before (under h at kept (given speech kept texts d))
         → (h' : Hindrance) × With (under h' at kept (λ desk. followed speech desk kept (Read bodies) d))
     by_texts bodies texts d none (inl right) h t =
@@ -652,7 +684,7 @@ module _ {D : Type 0} (speech : Speech D) where
         )
 
   -- an ask of a unit that has its texts
-  pub given_turn : (S : List JournalRecord → Reads → Type 0) (at : ℕ) (kept kept' : Kept) (texts : List (List ℕ)) (out : Out) (d e e' : D) (old new : Reply)
+  pub given_turn : (S : List JournalRecord → Counts → Type 0) (at : ℕ) (kept kept' : Kept) (texts : List (List ℕ)) (out : Out) (d e e' : D) (old new : Reply)
       → speech.heard d (Ok texts) ≡ took out e
       → (h : Hindrance) × Takes S (under h at kept (λ desk. submits speech desk kept out e)) old kept' e' new
       → TakesTexts speech S at kept texts d old kept' e' new
@@ -690,38 +722,43 @@ module _ {D : Type 0} (speech : Speech D) where
   only_ended desk kept (Read bodies) d wrong = absurd (true≢false (sym wrong))
   only_ended desk kept (Submit ask) d wrong = absurd (true≢false (sym wrong))
 
+  -- where nothing was counted but how texts were read
+  none_read_so : (S : List JournalRecord → Counts → Type 0) (r : Reads) → S [] (read_so r) → (failed : List JournalRecord) (n : ℕ) → IsNone failed (wanting n) → S failed (record { reads = r; starved = n })
+  none_read_so S r none failed n is =
+      subst (λ (f : List JournalRecord). S f (record { reads = r; starved = n })) (sym is.0)
+      (subst (λ (c : Counts). S [] (record { reads = r; starved = c.starved })) (sym is.1) none)
+
   -- what is told of it is what comes of a service that has no texts
-  told_why : (S : List JournalRecord → Reads → Type 0) (why : ReadFault) (r : Reads) (desk : Service) (kept : Kept) (d e : D) (old new : Reply) → speech.takes_texts d ≡ true → S [] r
+  told_why : (S : List JournalRecord → Counts → Type 0) (why : ReadFault) (r : Reads) (desk : Service) (kept : Kept) (d e : D) (old new : Reply) → speech.takes_texts d ≡ true → S [] (read_so r)
       → Takes IsNone (let u = speech.heard d (Err why) in settled_as u.out kept u.dialog) old kept e new
       → Takes S (let u = speech.heard d (Err why) in reading r (submits speech desk kept u.out u.dialog)) old kept e new
   told_why S why r desk kept d e old new awaits none t =
       let u = speech.heard d (Err why) in
       subst (λ (v : Turn D). Takes S (reading r v) old kept e new)
       (only_said desk kept u.out u.dialog (speech.says_why d why awaits))
-      (reread IsNone S r (settled_as u.out kept u.dialog) old kept e new (none_wanted u.out kept u.dialog)
-      (λ failed is. subst (λ (f : List JournalRecord). S f r) (sym is.0) none) t)
+      (reread IsNone S r (settled_as u.out kept u.dialog) old kept e new (none_wanted u.out kept u.dialog) (none_read_so S r none) t)
 
   -- where nothing is told of it the connection closes
-  ended_why : (S : List JournalRecord → Reads → Type 0) (why : ReadFault) (r : Reads) (desk : Service) (kept : Kept) (d e : D) (old new : Reply) → speech.takes_texts d ≡ true → S [] r
+  ended_why : (S : List JournalRecord → Counts → Type 0) (why : ReadFault) (r : Reads) (desk : Service) (kept : Kept) (d e : D) (old new : Reply) → speech.takes_texts d ≡ true → S [] (read_so r)
       → Takes IsNone (ends {D = D} [] kept) old kept e new
       → Takes S (let u = speech.heard d (Err why) in unanswered (reading r (submits speech desk kept u.out u.dialog))) old kept e new
   ended_why S why r desk kept d e old new awaits none t =
       let u = speech.heard d (Err why) in
       subst (λ (v : Turn D). Takes S (reading r v) old kept e new)
       (only_ended desk kept u.out u.dialog (speech.says_why d why awaits))
-      (reread IsNone S r (ends {D = D} [] kept) old kept e new refl (λ failed is. subst (λ (f : List JournalRecord). S f r) (sym is.0) none) t)
+      (reread IsNone S r (ends {D = D} [] kept) old kept e new refl (none_read_so S r none) t)
 
   -- no memory was found for the texts of a unit
-  pub textless_turn : (S : List JournalRecord → Reads → Type 0) (at : ℕ) (kept : Kept) (bodies : List Body) (d e : D) (old new : Reply) → speech.takes_texts d ≡ true
-      → S [] none_read → ReadsStarved speech kept d old e new
+  pub textless_turn : (S : List JournalRecord → Counts → Type 0) (at : ℕ) (kept : Kept) (bodies : List Body) (d e : D) (old new : Reply) → speech.takes_texts d ≡ true
+      → S [] none_counted → ReadsStarved speech kept d old e new
       → (h : Hindrance) × Takes S (under h at kept (λ desk. followed speech desk kept (Read bodies) d)) old kept e new
   textless_turn S at kept bodies d e old new awaits seals (inl t) =
       (Textless, told_why S NoneForTexts none_read (without_texts (service at kept)) kept d e old new awaits seals t)
   textless_turn S at kept bodies d e old new awaits seals (inr t) = (Unheard, lifted S (lost {D = D} kept) old kept e new t seals)
 
   -- the texts of a unit were not read
-  pub unread_turn : (S : List JournalRecord → Reads → Type 0) (at : ℕ) (kept : Kept) (bodies : List Body) (why : ReadFault) (d e : D) (old new : Reply) → speech.takes_texts d ≡ true
-      → S [] (reads_of why) → ReadsNone speech why kept d old e new
+  pub unread_turn : (S : List JournalRecord → Counts → Type 0) (at : ℕ) (kept : Kept) (bodies : List Body) (why : ReadFault) (d e : D) (old new : Reply) → speech.takes_texts d ≡ true
+      → S [] (read_so (reads_of why)) → ReadsNone speech why kept d old e new
       → (h : Hindrance) × Takes S (under h at kept (λ desk. followed speech desk kept (Read bodies) d)) old kept e new
   unread_turn S at kept bodies NoneForTexts d e old new awaits seals (inl t) = textless_turn S at kept bodies d e old new awaits seals (inl t)
   unread_turn S at kept bodies NoneForTexts d e old new awaits seals (inr t) = textless_turn S at kept bodies d e old new awaits seals t
@@ -733,41 +770,12 @@ module _ {D : Type 0} (speech : Speech D) where
       (UnreadUnheard, ended_why S NotRead failed_once (stopped (unread (service at kept))) kept d e old new awaits seals t)
 
   -- the texts of a unit were read, and handed to the session
-  pub texts_turn : (S S' : List JournalRecord → Reads → Type 0) (at : ℕ) (kept kept' : Kept) (bodies : List Body) (texts : List (List ℕ)) (d e : D) (old new : Reply) → speech.takes_texts d ≡ true
-      → ((failed : List JournalRecord) → S failed none_read → S' failed none_read)
-      → (texts ≡ texts_kept kept bodies) ⊎ ((failed : List JournalRecord) → S failed none_read → S' failed wrong_once)
+  pub texts_turn : (S S' : List JournalRecord → Counts → Type 0) (at : ℕ) (kept kept' : Kept) (bodies : List Body) (texts : List (List ℕ)) (d e : D) (old new : Reply) → speech.takes_texts d ≡ true
+      → ((failed : List JournalRecord) (n : ℕ) → S failed (wanting n) → S' failed (wanting n))
+      → (texts ≡ texts_kept kept bodies) ⊎ ((failed : List JournalRecord) (n : ℕ) → S failed (wanting n) → S' failed (record { reads = wrong_once; starved = n }))
       → TakesTexts speech S at kept texts d old kept' e new
       → (h : Hindrance) × Takes S' (under h at kept (λ desk. followed speech desk kept (Read bodies) d)) old kept' e new
   texts_turn S S' at kept kept' bodies texts d e old new awaits none which (inl (h, t)) = by_texts S S' at kept kept' e old new bodies texts d none which h t
   texts_turn S S' at kept kept' bodies texts d e old new awaits none which (inr (t, same, seals)) =
       subst (λ (k : Kept). (h : Hindrance) × Takes S' (under h at kept (λ desk. followed speech desk kept (Read bodies) d)) old k e new) (sym same)
-      (textless_turn S' at kept bodies d e old new awaits (none [] seals) t)
-
--- ---- a unit of the stream
-
--- what the desk serves, hindered or not, where want of memory of the session may be told
-pub or_told : {D : Type 0} → (P : Turn D → Type 0) (told : Turn D) (at : ℕ) (kept : Kept) (f : Service → Turn D) (h : Hindrance) → P (under h at kept f)
-    → (h' : Hindrance) × P (row h' at kept told f).follows
-or_told P told at kept f Clear t = (Clear, t)
-or_told P told at kept f IsToldWant t = (Unheard, t)
-or_told P told at kept f Textless t = (Textless, t)
-or_told P told at kept f Unread t = (Unread, t)
-or_told P told at kept f UnreadRefused t = (UnreadRefused, t)
-or_told P told at kept f UnreadUnheard t = (UnreadUnheard, t)
-or_told P told at kept f (Misread texts h) t = (Misread texts h, t)
-or_told P told at kept f (Misled said left) t = (Misled said left, t)
-or_told P told at kept f Unstored t = (Unstored, t)
-or_told P told at kept f Unheard t = (Unheard, t)
-or_told P told at kept f Unanswered t = (Unanswered, t)
-or_told P told at kept f Unsealed t = (Unsealed, t)
-or_told P told at kept f Untold t = (Untold, t)
-or_told P told at kept f (Halfway h) t = (Halfway h, t)
-
--- what follows from what a unit gives is its turn
-pub begun_turn : {D U : Type 0} → (session : Session D U) (S : List JournalRecord → Reads → Type 0) (at : ℕ) (kept kept' : Kept) (others : Seats) (d e e' : D) (unit : U) (out : Out) (old new : Reply)
-    → session.takes at kept others d unit ≡ took out e
-    → (h : Hindrance) × Takes S (under h at kept (λ desk. followed session.speech desk kept out e)) old kept' e' new
-    → (h : Hindrance) × Takes S (hindered session h at kept others d unit) old kept' e' new
-begun_turn {D} session S at kept kept' others d e e' unit out old new is (h, t) =
-    or_told (λ (u : Turn D). Takes S u old kept' e' new) (session.starves kept d unit) at kept (λ desk. served session desk at kept others d unit) h
-    (subst (λ (u : Took D). Takes S (under h at kept (λ desk. followed session.speech desk kept u.out u.dialog)) old kept' e' new) (sym is) t)
+      (textless_turn S' at kept bodies d e old new awaits (none [] 0 seals) t)

@@ -6,7 +6,7 @@ use Rattle.std.specs.Ordering.{nat_cmp}
 use Rattle.undo_base.specs.declared.memory.NoMemory.{NoMemory as WantOfMemory}
 use Rattle.verb_core.specs.declared.conf.House.{House}
 use Rattle.store_kept.specs.Kept.{Kept}
-use Rattle.desk_journal.specs.Reading.{none_read}
+use Rattle.mail_loop.specs.Counts.{none_counted}
 use Rattle.undo_outside.specs.declared.event.Role.{Role}
 use Rattle.undo_outside.specs.declared.event.Role.TheVariants as role
 use Rattle.mail_loop.specs.State.{Seat, Seats, State}
@@ -20,7 +20,7 @@ use Rattle.mail_loop.specs.Took.{IsNone}
 -- a seat more, and these replies
 abbrev pub with_replies : Kept → Seats → ℕ → Seat → List Reply → Answered
 with_replies kept es conn seat replies =
-    record { state = record { kept = kept; seats = with_new_seat conn seat es }; replies = replies; unsealed = []; reads = none_read; consoles = no_consoles }
+    record { state = record { kept = kept; seats = with_new_seat conn seat es }; replies = replies; unsealed = []; counts = none_counted; consoles = no_consoles }
 
 -- a client was admitted, and this is said; or memory was wanted
 pub opened_with : {T : Type 0} (a : Answered) (kept : Kept) (es es' : Seats) (conn : ℕ) (seat : Seat) (replies : List Reply) (view : T → List Reply) (result : Result T WantOfMemory)

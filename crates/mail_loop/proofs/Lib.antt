@@ -2,6 +2,7 @@ pub mod Links
 pub mod Refusals
 pub mod Telling
 pub mod Dialogs
+pub mod Units
 pub mod SmtpTurns
 pub mod Commands
 pub mod ImapTurns

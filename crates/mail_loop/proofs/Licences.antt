@@ -1,8 +1,11 @@
 -- What licenses a hindrance.
-use Rattle.std.proofs.Common.{◌≡◌, ◌⊎◌, inl, inr, ℕ, Bool, cond, true, false, true≢false, List, [], ◌∷◌, ◌++◌, Option, Ok, Err, refl, ap, ◌∙◌}
+use Rattle.std.proofs.Common.{◌≡◌, ◌⊎◌, inl, inr, ℕ, ◌+◌, Bool, cond, true, false, true≢false, List, [], ◌∷◌, ◌++◌, Option, Result, Ok, Err, refl, ap, ◌∙◌}
 use Rattle.std.specs.List.{list_any}
 use Rattle.undo_base.specs.declared.keys.User.{User}
 use Rattle.verb_core.specs.declared.ask.Ask.{Ask}
+use Rattle.verb_core.specs.declared.ask.Refused.{Refused as WhyRefused}
+use Rattle.verb_core.specs.declared.item.Item.{Item}
+use Rattle.verb_core.specs.Live.{live}
 use Rattle.verb_bytes.specs.declared.journal.JournalRecord.{JournalRecord}
 use Rattle.smtp_lines.specs.declared.line.SmtpLine.{SmtpLine}
 use Rattle.smtp_session.specs.declared.dialog.Dialog.{Dialog}
@@ -14,13 +17,14 @@ use Rattle.imap_session.specs.declared.dialog.Dialog.{Dialog as ImapDialog}
 use Rattle.pop_session.specs.declared.dialog.Dialog.{Dialog as PopDialog}
 use Rattle.store_kept.specs.Kept.{Kept, store_of}
 use Rattle.desk_journal.specs.Reading.{Reads, failed_once, none_read, wrong_once}
+use Rattle.mail_loop.specs.Counts.{Counts, none_counted}
 use Rattle.mail_loop.specs.declared.out.Out.{Out}
 use Rattle.mail_loop.specs.declared.out.Out.TheVariants.{Say, Read, Submit, Bye}
 use Rattle.mail_loop.specs.State.{Seats}
 use Rattle.mail_loop.specs.Turn.{Turn, lost, says}
-use Rattle.mail_loop.specs.Asked.{Asked}
+use Rattle.mail_loop.specs.Asked.{Asked, unsealed_as}
 use Rattle.mail_loop.specs.Session.{Session, Speech, IsLicensedRow, done, followed, pursued_as, served, submits}
-use Rattle.mail_loop.specs.Hindrance.{Hindrance, Clear, Refused, Textless, Unread, UnreadRefused, UnreadUnheard, Misread, Misled, Unstored, Unheard, Unanswered, Unsealed, Untold, Halfway, IsLicensed, Licence, Row, Service, WrongRead, halfway, is_failed_write, last_hindrance, misread, row, service, stopped, under, unread, unread_unsaid, without_items, without_seals, without_texts}
+use Rattle.mail_loop.specs.Hindrance.{Hindrance, Clear, Refused, Textless, Unread, UnreadRefused, UnreadUnheard, Misread, Misled, Unstored, Unheard, Unanswered, Unsealed, Untold, Unwritten, UnwrittenUnheard, Halfway, IsLicensed, Licence, Row, Service, WrongRead, halfway, is_failed_write, is_starved_write, last_hindrance, misread, row, service, stopped, under, unread, unread_unsaid, without_items, without_seals, without_texts, without_writes}
 use Rattle.mail_loop.specs.SmtpTurn.{memory_told, smtp_session}
 use Rattle.mail_loop.specs.ImapTurn.{imap_session}
 use Rattle.mail_loop.specs.PopTurn.{pop_session}
@@ -43,6 +47,8 @@ same_licence Unheard at at' kept kept' told told' turn turn' = refl
 same_licence Unanswered at at' kept kept' told told' turn turn' = refl
 same_licence Unsealed at at' kept kept' told told' turn turn' = refl
 same_licence Untold at at' kept kept' told told' turn turn' = refl
+same_licence Unwritten at at' kept kept' told told' turn turn' = refl
+same_licence UnwrittenUnheard at at' kept kept' told told' turn turn' = refl
 same_licence (Halfway h) at at' kept kept' told told' turn turn' = same_licence h at at' kept kept' (lost kept) (lost kept') (λ desk. lost kept) (λ desk. lost kept')
 
 -- no failed write licenses a hindrance
@@ -51,6 +57,13 @@ WritesNone D h = (at : ℕ) (kept : Kept) (told : Turn D) (turn : Service → Tu
 
 writes_none : {D : Type 0} → (h : Hindrance) (at : ℕ) (kept : Kept) (told : Turn D) (turn : Service → Turn D) → list_any is_failed_write (row h at kept told turn).licence ≡ false → WritesNone D h
 writes_none h at kept told turn none at' kept' told' turn' = ap (λ (l : List Licence). list_any is_failed_write l) (same_licence h at' at kept' kept told' told turn' turn) ∙ none
+
+-- nor does a write that found no memory
+abbrev WantsNone : (D : Type 0) → Hindrance → Type 0
+WantsNone D h = (at : ℕ) (kept : Kept) (told : Turn D) (turn : Service → Turn D) → list_any is_starved_write (row h at kept told turn).licence ≡ false
+
+wants_none : {D : Type 0} → (h : Hindrance) (at : ℕ) (kept : Kept) (told : Turn D) (turn : Service → Turn D) → list_any is_starved_write (row h at kept told turn).licence ≡ false → WantsNone D h
+wants_none h at kept told turn none at' kept' told' turn' = ap (λ (l : List Licence). list_any is_starved_write l) (same_licence h at' at kept' kept told' told turn' turn) ∙ none
 
 -- what hinders a further ask is a hindrance itself, or none
 by_last : (P : Hindrance → Type 0) (h : Hindrance) → P h → P Clear → P (last_hindrance h)
@@ -67,26 +80,41 @@ by_last P Unheard here none = here
 by_last P Unanswered here none = here
 by_last P Unsealed here none = here
 by_last P Untold here none = here
+by_last P Unwritten here none = here
+by_last P UnwrittenUnheard here none = here
 by_last P (Halfway h) here none = none
 
 -- a desk that leaves nothing unsealed, nor what is asked further
 abbrev Seals : (D : Type 0) → Service → Type 0
 Seals D desk = ((by : Option User) (ask : Ask) → (desk.asked by ask).unsealed ≡ []) × WritesNone D desk.further
 
--- A turn over a service leaves nothing unsealed where the service does not, and reads nothing, or as the service says.
+-- a desk whose writes find memory for what it is asked, and for what is asked further
+abbrev Feeds : (D : Type 0) → Service → Type 0
+Feeds D desk = ((by : Option User) (ask : Ask) → (desk.asked by ask).starved ≡ 0) × WantsNone D desk.further
+
+-- it does also where it seals nothing
+unsealed_fed : (kept : Kept) (due : Result Item WhyRefused) → (unsealed_as kept due).starved ≡ 0
+unsealed_fed kept (Ok item) = refl
+unsealed_fed kept (Err why) = refl
+
+-- A turn over a service leaves nothing unsealed where the service does not, finds memory for its writes where it does, and reads nothing, or as the
+-- service says.
 record IsFair {D : Type 0} (turn : Service → Turn D) : Type 0 where
   seals : (desk : Service) → Seals D desk → (turn desk).unsealed ≡ []
-  reads : (desk : Service) → ((turn desk).reads ≡ none_read) ⊎ ((turn desk).reads ≡ desk.reads)
+  feeds : (desk : Service) → Feeds D desk → (turn desk).counts.starved ≡ 0
+  reads : (desk : Service) → ((turn desk).counts.reads ≡ none_read) ⊎ ((turn desk).counts.reads ≡ desk.reads)
 
 -- The same of a turn that was given another text, or read none.
 record IsGiven {D : Type 0} (turn : Service → Turn D) : Type 0 where
   seals : (desk : Service) → Seals D desk → (turn desk).unsealed ≡ []
-  reads : (desk : Service) → ((turn desk).reads ≡ none_read) ⊎ ((turn desk).reads ≡ wrong_once)
+  feeds : (desk : Service) → Feeds D desk → (turn desk).counts.starved ≡ 0
+  reads : (desk : Service) → ((turn desk).counts.reads ≡ none_read) ⊎ ((turn desk).counts.reads ≡ wrong_once)
 
 -- what such a turn says is licensed but for the other text
 record IsGivenRow {D : Type 0} (r : Row D) : Type 0 where
   writes : list_any is_failed_write r.licence ≡ false → r.follows.unsealed ≡ []
-  reads : r.follows.reads.failed ≡ 0
+  reads : r.follows.counts.reads.failed ≡ 0
+  starved : list_any is_starved_write r.licence ≡ false → r.follows.counts.starved ≡ 0
 
 either_none : (r : Reads) → (r ≡ none_read) ⊎ (r ≡ none_read) → r ≡ none_read
 either_none r (inl is) = is
@@ -106,9 +134,9 @@ some [] = false
 some (x ∷ xs) = true
 
 -- nothing is said of a disk
-quiet_row : {D : Type 0} → (clear : Turn D) (r : Row D) → (r.licence ≡ [] → r.follows ≡ clear) → r.follows.unsealed ≡ [] → r.follows.reads ≡ none_read → IsLicensed clear r
-quiet_row clear r goes sealed read =
-    record { goes = goes; writes = λ none. sealed; reads = λ none. ap (λ (q : Reads). q.failed) read; wrong = λ none. ap (λ (q : Reads). q.wrong) read }
+quiet_row : {D : Type 0} → (clear : Turn D) (r : Row D) → (r.licence ≡ [] → r.follows ≡ clear) → r.follows.unsealed ≡ [] → r.follows.counts.reads ≡ none_read → r.follows.counts.starved ≡ 0 → IsLicensed clear r
+quiet_row clear r goes sealed read fed =
+    record { goes = goes; writes = λ none. sealed; reads = λ none. ap (λ (q : Reads). q.failed) read; wrong = λ none. ap (λ (q : Reads). q.wrong) read; starved = λ none. fed }
 
 -- no licence at all
 none_licensed : {D : Type 0} → (h : Hindrance) (at : ℕ) (kept : Kept) (told : Turn D) (turn : Service → Turn D) → (row h at kept told turn).licence ≡ [] → last_hindrance h ≡ Clear
@@ -125,6 +153,8 @@ none_licensed Unheard at kept told turn wrong = absurd (true≢false (ap some wr
 none_licensed Unanswered at kept told turn wrong = absurd (true≢false (ap some wrong))
 none_licensed Unsealed at kept told turn wrong = absurd (true≢false (ap some wrong))
 none_licensed Untold at kept told turn wrong = absurd (true≢false (ap some wrong))
+none_licensed Unwritten at kept told turn wrong = absurd (true≢false (ap some wrong))
+none_licensed UnwrittenUnheard at kept told turn wrong = absurd (true≢false (ap some wrong))
 none_licensed (Halfway h) at kept told turn none = refl
 
 -- nothing is left unsealed but where a failed write licenses it
@@ -143,7 +173,29 @@ sealed_under Unheard at kept f none seals = refl
 sealed_under Unanswered at kept f none seals = seals (stopped (service at kept)) (λ by ask. refl)
 sealed_under Unsealed at kept f wrong seals = absurd (true≢false wrong)
 sealed_under Untold at kept f wrong seals = absurd (true≢false wrong)
+sealed_under Unwritten at kept f none seals = seals (without_writes kept (service at kept)) (λ by ask. refl)
+sealed_under UnwrittenUnheard at kept f none seals = seals (stopped (without_writes kept (service at kept))) (λ by ask. refl)
 sealed_under (Halfway h) at kept f none seals = seals (halfway h (service at kept)) (λ by ask. refl)
+
+-- no write finds no memory but where that licenses it
+fed_under : {D : Type 0} → (h : Hindrance) (at : ℕ) (kept : Kept) (f : Service → Turn D) → list_any is_starved_write (row h at kept (lost kept) f).licence ≡ false
+    → ((desk : Service) → ((by : Option User) (ask : Ask) → (desk.asked by ask).starved ≡ 0) → (f desk).counts.starved ≡ 0) → (under h at kept f).counts.starved ≡ 0
+fed_under Clear at kept f none feeds = feeds (service at kept) (λ by ask. refl)
+fed_under Refused at kept f none feeds = refl
+fed_under Textless at kept f none feeds = feeds (without_texts (service at kept)) (λ by ask. refl)
+fed_under Unread at kept f none feeds = feeds (unread (service at kept)) (λ by ask. refl)
+fed_under UnreadRefused at kept f none feeds = feeds (unread_unsaid (service at kept)) (λ by ask. refl)
+fed_under UnreadUnheard at kept f none feeds = feeds (stopped (unread (service at kept))) (λ by ask. refl)
+fed_under (Misread texts h) at kept f none feeds = fed_under h at kept (λ desk. f (misread texts desk)) none (λ desk all. feeds (misread texts desk) all)
+fed_under (Misled said left) at kept f none feeds = feeds (service at kept) (λ by ask. refl)
+fed_under Unstored at kept f none feeds = feeds (without_items kept (service at kept)) (λ by ask. refl)
+fed_under Unheard at kept f none feeds = refl
+fed_under Unanswered at kept f none feeds = feeds (stopped (service at kept)) (λ by ask. refl)
+fed_under Unsealed at kept f none feeds = feeds (without_seals at kept (service at kept)) (λ by ask. unsealed_fed kept (live (store_of kept) kept.next at by ask kept.deep))
+fed_under Untold at kept f none feeds = feeds (stopped (without_seals at kept (service at kept))) (λ by ask. unsealed_fed kept (live (store_of kept) kept.next at by ask kept.deep))
+fed_under Unwritten at kept f wrong feeds = absurd (true≢false wrong)
+fed_under UnwrittenUnheard at kept f wrong feeds = absurd (true≢false wrong)
+fed_under (Halfway h) at kept f none feeds = feeds (halfway h (service at kept)) (λ by ask. refl)
 
 module _ {D : Type 0} (speech : Speech D) (kept : Kept) where
   pursued_sealed : (desk : Service) (d : D) (a : Asked) (out : Out) (e : D) → a.unsealed ≡ [] → WritesNone D desk.further → (pursued_as speech desk kept d a out e).unsealed ≡ []
@@ -170,7 +222,31 @@ module _ {D : Type 0} (speech : Speech D) (kept : Kept) where
   followed_sealed desk (Read bodies) d seals = let t = speech.heard d (desk.texts bodies) in submits_sealed desk t.out t.dialog seals
   followed_sealed desk (Submit asked) d seals = submits_sealed desk (Submit asked) d seals
 
-  followed_reads : (desk : Service) (out : Out) (d : D) → ((followed speech desk kept out d).reads ≡ none_read) ⊎ ((followed speech desk kept out d).reads ≡ desk.reads)
+  pursued_fed : (desk : Service) (d : D) (a : Asked) (out : Out) (e : D) → a.starved ≡ 0 → WantsNone D desk.further → (pursued_as speech desk kept d a out e).counts.starved ≡ 0
+  pursued_fed desk d a (Say said) e fed none = fed
+  pursued_fed desk d a (Bye said) e fed none = fed
+  pursued_fed desk d a (Read bodies) e fed none = fed
+  pursued_fed desk d a (Submit asked) e fed none =
+      let f : Service → Turn D = λ later. done speech a.kept e (later.asked (speech.user e) asked) in
+      ap {B = ℕ} (λ (n : ℕ). n + (under desk.further desk.at a.kept f).counts.starved) fed
+      ∙ ap {B = ℕ} (λ (n : ℕ). 0 + n) (fed_under desk.further desk.at a.kept f (none desk.at a.kept (lost a.kept) f) (λ later all. all (speech.user e) asked))
+
+  submits_fed : (desk : Service) (out : Out) (d : D) → Feeds D desk → (submits speech desk kept out d).counts.starved ≡ 0
+  submits_fed desk (Say said) d feeds = refl
+  submits_fed desk (Bye said) d feeds = refl
+  submits_fed desk (Read bodies) d feeds = refl
+  submits_fed desk (Submit asked) d feeds =
+      let a = desk.asked (speech.user d) asked in
+      let t = speech.settle (store_of a.kept) a.kept.stamps d a.outcome in
+      pursued_fed desk d a t.out t.dialog (feeds.0 (speech.user d) asked) feeds.1
+
+  followed_fed : (desk : Service) (out : Out) (d : D) → Feeds D desk → (followed speech desk kept out d).counts.starved ≡ 0
+  followed_fed desk (Say said) d feeds = refl
+  followed_fed desk (Bye said) d feeds = refl
+  followed_fed desk (Read bodies) d feeds = let t = speech.heard d (desk.texts bodies) in submits_fed desk t.out t.dialog feeds
+  followed_fed desk (Submit asked) d feeds = submits_fed desk (Submit asked) d feeds
+
+  followed_reads : (desk : Service) (out : Out) (d : D) → ((followed speech desk kept out d).counts.reads ≡ none_read) ⊎ ((followed speech desk kept out d).counts.reads ≡ desk.reads)
   followed_reads desk (Say said) d = inl refl
   followed_reads desk (Bye said) d = inl refl
   followed_reads desk (Read bodies) d = inr refl
@@ -185,103 +261,147 @@ module _ {D : Type 0} (at : ℕ) (kept : Kept) where
   further_seals : (h : Hindrance) → list_any is_failed_write (row h at kept (lost {D = D} kept) (λ desk. lost kept)).licence ≡ false → WritesNone D (last_hindrance h)
   further_seals h none = by_last (λ (x : Hindrance). WritesNone D x) h (writes_none h at kept (lost {D = D} kept) (λ desk. lost kept) none) (λ at' kept' told turn. refl)
 
+  further_feeds : (h : Hindrance) → list_any is_starved_write (row h at kept (lost {D = D} kept) (λ desk. lost kept)).licence ≡ false → WantsNone D (last_hindrance h)
+  further_feeds h none = by_last (λ (x : Hindrance). WantsNone D x) h (wants_none h at kept (lost {D = D} kept) (λ desk. lost kept) none) (λ at' kept' told turn. refl)
+
+  all_fed : Feeds D (service at kept)
+  all_fed = (λ by ask. refl, λ at' kept' told turn. refl)
+
+  unsealed_feeds : Feeds D (without_seals at kept (service at kept))
+  unsealed_feeds = (λ by ask. unsealed_fed kept (live (store_of kept) kept.next at by ask kept.deep), λ at' kept' told turn. refl)
+
+  none_sealed : Seals D (without_writes kept (service at kept))
+  none_sealed = (λ by ask. refl, λ at' kept' told turn. refl)
+
   all_sealed : Seals D (service at kept)
   all_sealed = seals_all {D = D} at kept
 
-  given_row : (h : Hindrance) (told : Turn D) (turn : Service → Turn D) → told.unsealed ≡ [] → told.reads ≡ none_read → IsGiven turn → IsGivenRow (row h at kept told turn)
+  given_row : (h : Hindrance) (told : Turn D) (turn : Service → Turn D) → told.unsealed ≡ [] → told.counts ≡ none_counted → IsGiven turn → IsGivenRow (row h at kept told turn)
   given_row Clear told turn sealed read fair =
-      record { writes = λ none. fair.seals (service at kept) all_sealed; reads = none_failed (turn (service at kept)).reads (fair.reads (service at kept)) }
-  given_row Refused told turn sealed read fair = record { writes = λ none. sealed; reads = ap (λ (q : Reads). q.failed) read }
+      record { writes = λ none. fair.seals (service at kept) all_sealed; reads = none_failed (turn (service at kept)).counts.reads (fair.reads (service at kept)); starved = λ none. fair.feeds (service at kept) all_fed }
+  given_row Refused told turn sealed read fair = record { writes = λ none. sealed; reads = ap (λ (q : Counts). q.reads.failed) read; starved = λ none. ap (λ (q : Counts). q.starved) read }
   given_row Textless told turn sealed read fair =
-      let desk = without_texts (service at kept) in record { writes = λ none. fair.seals desk all_sealed; reads = none_failed (turn desk).reads (fair.reads desk) }
+      let desk = without_texts (service at kept) in record { writes = λ none. fair.seals desk all_sealed; reads = none_failed (turn desk).counts.reads (fair.reads desk); starved = λ none. fair.feeds desk all_fed }
   given_row Unread told turn sealed read fair =
-      let desk = unread (service at kept) in record { writes = λ none. fair.seals desk all_sealed; reads = none_failed (turn desk).reads (fair.reads desk) }
+      let desk = unread (service at kept) in record { writes = λ none. fair.seals desk all_sealed; reads = none_failed (turn desk).counts.reads (fair.reads desk); starved = λ none. fair.feeds desk all_fed }
   given_row UnreadRefused told turn sealed read fair =
-      let desk = unread_unsaid (service at kept) in record { writes = λ none. fair.seals desk all_sealed; reads = none_failed (turn desk).reads (fair.reads desk) }
+      let desk = unread_unsaid (service at kept) in record { writes = λ none. fair.seals desk all_sealed; reads = none_failed (turn desk).counts.reads (fair.reads desk); starved = λ none. fair.feeds desk all_fed }
   given_row UnreadUnheard told turn sealed read fair =
-      let desk = stopped (unread (service at kept)) in record { writes = λ none. fair.seals desk all_sealed; reads = none_failed (turn desk).reads (fair.reads desk) }
+      let desk = stopped (unread (service at kept)) in record { writes = λ none. fair.seals desk all_sealed; reads = none_failed (turn desk).counts.reads (fair.reads desk); starved = λ none. fair.feeds desk all_fed }
   given_row (Misread texts h) told turn sealed read fair =
-      let other = given_row h (lost kept) (λ desk. turn (misread texts desk)) refl refl (record { seals = λ desk all. fair.seals (misread texts desk) all; reads = λ desk. fair.reads (misread texts desk) }) in
-      record { writes = other.writes; reads = other.reads }
+      let other = given_row h (lost kept) (λ desk. turn (misread texts desk)) refl refl (record {
+        seals = λ desk all. fair.seals (misread texts desk) all;
+        feeds = λ desk all. fair.feeds (misread texts desk) all;
+        reads = λ desk. fair.reads (misread texts desk);
+      }) in
+      record { writes = other.writes; reads = other.reads; starved = other.starved }
   given_row (Misled said left) told turn sealed read fair =
-      record { writes = λ none. fair.seals (service at kept) all_sealed; reads = none_failed (turn (service at kept)).reads (fair.reads (service at kept)) }
+      record { writes = λ none. fair.seals (service at kept) all_sealed; reads = none_failed (turn (service at kept)).counts.reads (fair.reads (service at kept)); starved = λ none. fair.feeds (service at kept) all_fed }
   given_row Unstored told turn sealed read fair =
-      let desk = without_items kept (service at kept) in record { writes = λ none. fair.seals desk (λ by ask. refl, λ at' kept' t f. refl); reads = none_failed (turn desk).reads (fair.reads desk) }
-  given_row Unheard told turn sealed read fair = record { writes = λ none. refl; reads = refl }
+      let desk = without_items kept (service at kept) in record { writes = λ none. fair.seals desk (λ by ask. refl, λ at' kept' t f. refl); reads = none_failed (turn desk).counts.reads (fair.reads desk); starved = λ none. fair.feeds desk (λ by ask. refl, λ at' kept' t f. refl) }
+  given_row Unheard told turn sealed read fair = record { writes = λ none. refl; reads = refl; starved = λ none. refl }
   given_row Unanswered told turn sealed read fair =
-      let desk = stopped (service at kept) in record { writes = λ none. fair.seals desk all_sealed; reads = none_failed (turn desk).reads (fair.reads desk) }
+      let desk = stopped (service at kept) in record { writes = λ none. fair.seals desk all_sealed; reads = none_failed (turn desk).counts.reads (fair.reads desk); starved = λ none. fair.feeds desk all_fed }
   given_row Unsealed told turn sealed read fair =
-      let desk = without_seals at kept (service at kept) in record { writes = λ wrong. absurd (true≢false wrong); reads = none_failed (turn desk).reads (fair.reads desk) }
+      let desk = without_seals at kept (service at kept) in record { writes = λ wrong. absurd (true≢false wrong); reads = none_failed (turn desk).counts.reads (fair.reads desk); starved = λ none. fair.feeds desk unsealed_feeds }
   given_row Untold told turn sealed read fair =
-      let desk = stopped (without_seals at kept (service at kept)) in record { writes = λ wrong. absurd (true≢false wrong); reads = none_failed (turn desk).reads (fair.reads desk) }
+      let desk = stopped (without_seals at kept (service at kept)) in record { writes = λ wrong. absurd (true≢false wrong); reads = none_failed (turn desk).counts.reads (fair.reads desk); starved = λ none. fair.feeds desk unsealed_feeds }
+  given_row Unwritten told turn sealed read fair =
+      let desk = without_writes kept (service at kept) in
+      record { writes = λ none. fair.seals desk none_sealed; reads = none_failed (turn desk).counts.reads (fair.reads desk); starved = λ wrong. absurd (true≢false wrong) }
+  given_row UnwrittenUnheard told turn sealed read fair =
+      let desk = stopped (without_writes kept (service at kept)) in
+      record { writes = λ none. fair.seals desk none_sealed; reads = none_failed (turn desk).counts.reads (fair.reads desk); starved = λ wrong. absurd (true≢false wrong) }
   given_row (Halfway h) told turn sealed read fair =
       let desk = halfway h (service at kept) in
-      record { writes = λ none. fair.seals desk (λ by ask. refl, further_seals h none); reads = none_failed (turn desk).reads (fair.reads desk) }
+      record { writes = λ none. fair.seals desk (λ by ask. refl, further_seals h none); reads = none_failed (turn desk).counts.reads (fair.reads desk); starved = λ none. fair.feeds desk (λ by ask. refl, further_feeds h none) }
 
-  licensed : (h : Hindrance) (told : Turn D) (turn : Service → Turn D) → told.unsealed ≡ [] → told.reads ≡ none_read → IsFair turn
+  licensed : (h : Hindrance) (told : Turn D) (turn : Service → Turn D) → told.unsealed ≡ [] → told.counts ≡ none_counted → IsFair turn
       → ((texts : List (List ℕ)) → IsGiven (λ desk. turn (misread texts desk))) → IsLicensed (turn (service at kept)) (row h at kept told turn)
   licensed Clear told turn sealed read fair given =
-      quiet_row (turn (service at kept)) (row Clear at kept told turn) (λ e. refl) (fair.seals (service at kept) all_sealed) (either_none (turn (service at kept)).reads (fair.reads (service at kept)))
-  licensed Refused told turn sealed read fair given = quiet_row (turn (service at kept)) (row Refused at kept told turn) (λ e. absurd (true≢false (ap some e))) sealed read
+      quiet_row (turn (service at kept)) (row Clear at kept told turn) (λ e. refl) (fair.seals (service at kept) all_sealed) (either_none (turn (service at kept)).counts.reads (fair.reads (service at kept)))
+      (fair.feeds (service at kept) all_fed)
+  licensed Refused told turn sealed read fair given = quiet_row (turn (service at kept)) (row Refused at kept told turn) (λ e. absurd (true≢false (ap some e))) sealed (ap (λ (q : Counts). q.reads) read) (ap (λ (q : Counts). q.starved) read)
   licensed Textless told turn sealed read fair given =
-      let desk = without_texts (service at kept) in quiet_row (turn (service at kept)) (row Textless at kept told turn) (λ e. absurd (true≢false (ap some e))) (fair.seals desk all_sealed) (either_none (turn desk).reads (fair.reads desk))
+      let desk = without_texts (service at kept) in quiet_row (turn (service at kept)) (row Textless at kept told turn) (λ e. absurd (true≢false (ap some e))) (fair.seals desk all_sealed) (either_none (turn desk).counts.reads (fair.reads desk))
+      (fair.feeds desk all_fed)
   licensed Unread told turn sealed read fair given =
       let desk = unread (service at kept) in
-      record { goes = λ e. absurd (true≢false (ap some e)); writes = λ none. fair.seals desk all_sealed; reads = λ wrong. absurd (true≢false wrong); wrong = λ none. none_wrong (turn desk).reads (fair.reads desk) }
+      record { goes = λ e. absurd (true≢false (ap some e)); writes = λ none. fair.seals desk all_sealed; reads = λ wrong. absurd (true≢false wrong); wrong = λ none. none_wrong (turn desk).counts.reads (fair.reads desk); starved = λ none. fair.feeds desk all_fed }
   licensed UnreadRefused told turn sealed read fair given =
       let desk = unread_unsaid (service at kept) in
-      record { goes = λ e. absurd (true≢false (ap some e)); writes = λ none. fair.seals desk all_sealed; reads = λ wrong. absurd (true≢false wrong); wrong = λ none. none_wrong (turn desk).reads (fair.reads desk) }
+      record { goes = λ e. absurd (true≢false (ap some e)); writes = λ none. fair.seals desk all_sealed; reads = λ wrong. absurd (true≢false wrong); wrong = λ none. none_wrong (turn desk).counts.reads (fair.reads desk); starved = λ none. fair.feeds desk all_fed }
   licensed UnreadUnheard told turn sealed read fair given =
       let desk = stopped (unread (service at kept)) in
-      record { goes = λ e. absurd (true≢false (ap some e)); writes = λ none. fair.seals desk all_sealed; reads = λ wrong. absurd (true≢false wrong); wrong = λ none. none_wrong (turn desk).reads (fair.reads desk) }
+      record { goes = λ e. absurd (true≢false (ap some e)); writes = λ none. fair.seals desk all_sealed; reads = λ wrong. absurd (true≢false wrong); wrong = λ none. none_wrong (turn desk).counts.reads (fair.reads desk); starved = λ none. fair.feeds desk all_fed }
   licensed (Misread texts h) told turn sealed read fair given =
       let other = given_row h (lost kept) (λ desk. turn (misread texts desk)) refl refl (given texts) in
-      record { goes = λ e. absurd (true≢false (ap some e)); writes = other.writes; reads = λ none. other.reads; wrong = λ wrong. absurd (true≢false wrong) }
+      record { goes = λ e. absurd (true≢false (ap some e)); writes = other.writes; reads = λ none. other.reads; wrong = λ wrong. absurd (true≢false wrong); starved = other.starved }
   licensed (Misled said left) told turn sealed read fair given =
       record {
         goes = λ e. absurd (true≢false (ap some e));
         writes = λ none. fair.seals (service at kept) all_sealed;
-        reads = λ none. ap (λ (q : Reads). q.failed) (either_none (turn (service at kept)).reads (fair.reads (service at kept)));
+        reads = λ none. ap (λ (q : Reads). q.failed) (either_none (turn (service at kept)).counts.reads (fair.reads (service at kept)));
         wrong = λ wrong. absurd (true≢false wrong);
+        starved = λ none. fair.feeds (service at kept) all_fed;
       }
   licensed Unstored told turn sealed read fair given =
-      let desk = without_items kept (service at kept) in quiet_row (turn (service at kept)) (row Unstored at kept told turn) (λ e. absurd (true≢false (ap some e))) (fair.seals desk (λ by ask. refl, λ at' kept' t f. refl)) (either_none (turn desk).reads (fair.reads desk))
-  licensed Unheard told turn sealed read fair given = quiet_row (turn (service at kept)) (row Unheard at kept told turn) (λ e. absurd (true≢false (ap some e))) refl refl
+      let desk = without_items kept (service at kept) in quiet_row (turn (service at kept)) (row Unstored at kept told turn) (λ e. absurd (true≢false (ap some e))) (fair.seals desk (λ by ask. refl, λ at' kept' t f. refl)) (either_none (turn desk).counts.reads (fair.reads desk))
+      (fair.feeds desk (λ by ask. refl, λ at' kept' t f. refl))
+  licensed Unheard told turn sealed read fair given = quiet_row (turn (service at kept)) (row Unheard at kept told turn) (λ e. absurd (true≢false (ap some e))) refl refl refl
   licensed Unanswered told turn sealed read fair given =
-      let desk = stopped (service at kept) in quiet_row (turn (service at kept)) (row Unanswered at kept told turn) (λ e. absurd (true≢false (ap some e))) (fair.seals desk all_sealed) (either_none (turn desk).reads (fair.reads desk))
+      let desk = stopped (service at kept) in quiet_row (turn (service at kept)) (row Unanswered at kept told turn) (λ e. absurd (true≢false (ap some e))) (fair.seals desk all_sealed) (either_none (turn desk).counts.reads (fair.reads desk))
+      (fair.feeds desk all_fed)
   licensed Unsealed told turn sealed read fair given =
       let desk = without_seals at kept (service at kept) in
-      let none = either_none (turn desk).reads (fair.reads desk) in
-      record { goes = λ e. absurd (true≢false (ap some e)); writes = λ wrong. absurd (true≢false wrong); reads = λ _. ap (λ (q : Reads). q.failed) none; wrong = λ _. ap (λ (q : Reads). q.wrong) none }
+      let none = either_none (turn desk).counts.reads (fair.reads desk) in
+      record { goes = λ e. absurd (true≢false (ap some e)); writes = λ wrong. absurd (true≢false wrong); reads = λ _. ap (λ (q : Reads). q.failed) none; wrong = λ _. ap (λ (q : Reads). q.wrong) none; starved = λ _. fair.feeds desk unsealed_feeds }
   licensed Untold told turn sealed read fair given =
       let desk = stopped (without_seals at kept (service at kept)) in
-      let none = either_none (turn desk).reads (fair.reads desk) in
-      record { goes = λ e. absurd (true≢false (ap some e)); writes = λ wrong. absurd (true≢false wrong); reads = λ _. ap (λ (q : Reads). q.failed) none; wrong = λ _. ap (λ (q : Reads). q.wrong) none }
+      let none = either_none (turn desk).counts.reads (fair.reads desk) in
+      record { goes = λ e. absurd (true≢false (ap some e)); writes = λ wrong. absurd (true≢false wrong); reads = λ _. ap (λ (q : Reads). q.failed) none; wrong = λ _. ap (λ (q : Reads). q.wrong) none; starved = λ _. fair.feeds desk unsealed_feeds }
+  licensed Unwritten told turn sealed read fair given =
+      let desk = without_writes kept (service at kept) in
+      let none = either_none (turn desk).counts.reads (fair.reads desk) in
+      record { goes = λ e. absurd (true≢false (ap some e)); writes = λ _. fair.seals desk none_sealed; reads = λ _. ap (λ (q : Reads). q.failed) none; wrong = λ _. ap (λ (q : Reads). q.wrong) none; starved = λ wrong. absurd (true≢false wrong) }
+  licensed UnwrittenUnheard told turn sealed read fair given =
+      let desk = stopped (without_writes kept (service at kept)) in
+      let none = either_none (turn desk).counts.reads (fair.reads desk) in
+      record { goes = λ e. absurd (true≢false (ap some e)); writes = λ _. fair.seals desk none_sealed; reads = λ _. ap (λ (q : Reads). q.failed) none; wrong = λ _. ap (λ (q : Reads). q.wrong) none; starved = λ wrong. absurd (true≢false wrong) }
   licensed (Halfway h) told turn sealed read fair given =
       let desk = halfway h (service at kept) in
-      let none = either_none (turn desk).reads (fair.reads desk) in
+      let none = either_none (turn desk).counts.reads (fair.reads desk) in
       record {
         goes = λ e. ap (λ (x : Hindrance). turn (record (service at kept) { further = x })) (none_licensed h at kept (lost {D = D} kept) (λ desk. lost kept) e);
         writes = λ without. fair.seals desk (λ by ask. refl, further_seals h without);
         reads = λ _. ap (λ (q : Reads). q.failed) none;
         wrong = λ _. ap (λ (q : Reads). q.wrong) none;
+        starved = λ without. fair.feeds desk (λ by ask. refl, further_feeds h without);
       }
 
 -- a session's row
 pub session_licensed : {D U : Type 0} → (session : Session D U) (h : Hindrance) (at : ℕ) (kept : Kept) (others : Seats) (d : D) (unit : U)
-    → (session.starves kept d unit).unsealed ≡ [] → (session.starves kept d unit).reads ≡ none_read → IsLicensedRow session h at kept others d unit
+    → (session.starves kept d unit).unsealed ≡ [] → (session.starves kept d unit).counts ≡ none_counted → IsLicensedRow session h at kept others d unit
 session_licensed {D} session h at kept others d unit sealed read =
     let t = session.takes at kept others d unit in
     licensed {D = D} at kept h (session.starves kept d unit) (λ desk. served session desk at kept others d unit) sealed read
-    (record { seals = λ desk all. followed_sealed session.speech kept desk t.out t.dialog all; reads = λ desk. followed_reads session.speech kept desk t.out t.dialog })
-    (λ texts. record { seals = λ desk all. followed_sealed session.speech kept (misread texts desk) t.out t.dialog all; reads = λ desk. followed_reads session.speech kept (misread texts desk) t.out t.dialog })
+    (record {
+      seals = λ desk all. followed_sealed session.speech kept desk t.out t.dialog all;
+      feeds = λ desk all. followed_fed session.speech kept desk t.out t.dialog all;
+      reads = λ desk. followed_reads session.speech kept desk t.out t.dialog;
+    })
+    (λ texts. record {
+      seals = λ desk all. followed_sealed session.speech kept (misread texts desk) t.out t.dialog all;
+      feeds = λ desk all. followed_fed session.speech kept (misread texts desk) t.out t.dialog all;
+      reads = λ desk. followed_reads session.speech kept (misread texts desk) t.out t.dialog;
+    })
 
 -- what a session says of want of memory for a unit
 client_sealed : (kept : Kept) (d : Dialog) (b : Bool) → (cond b (lost kept) (says memory_told kept d)).unsealed ≡ []
 client_sealed kept d true = refl
 client_sealed kept d false = refl
 
-client_read : (kept : Kept) (d : Dialog) (b : Bool) → (cond b (lost kept) (says memory_told kept d)).reads ≡ none_read
+client_read : (kept : Kept) (d : Dialog) (b : Bool) → (cond b (lost kept) (says memory_told kept d)).counts ≡ none_counted
 client_read kept d true = refl
 client_read kept d false = refl
 
@@ -293,7 +413,7 @@ command_sealed : (kept : Kept) (d : ImapDialog) (r : Reading) → (reader.starve
 command_sealed kept d (Ok command) = refl
 command_sealed kept d (Err why) = refl
 
-command_read : (kept : Kept) (d : ImapDialog) (r : Reading) → (reader.starved_command kept d r).reads ≡ none_read
+command_read : (kept : Kept) (d : ImapDialog) (r : Reading) → (reader.starved_command kept d r).counts ≡ none_counted
 command_read kept d (Ok command) = refl
 command_read kept d (Err why) = refl
 

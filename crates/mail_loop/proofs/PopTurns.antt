@@ -25,7 +25,7 @@ use Rattle.store_kept.specs.Kept.{Kept, store_of}
 use Rattle.store_kept.specs.Texts.{all_bodies}
 use Rattle.mail_desk.specs.Timeline.{has_text}
 use Rattle.verb_bytes.specs.declared.journal.JournalRecord.{JournalRecord}
-use Rattle.desk_journal.specs.Reading.{Reads as HowRead, none_read}
+use Rattle.mail_loop.specs.Counts.{Counts, none_counted}
 use Rattle.mail_loop.specs.declared.reply.Reply.{Reply}
 use Rattle.mail_loop.specs.State.{Seat, Seats, State, Smtp, Imap, Http, Pop, beside}
 use Rattle.mail_loop.specs.Turn.{Turn, lost, says}
@@ -35,7 +35,8 @@ use Rattle.mail_loop.specs.Hindrance.{Hindrance, Refused, Unheard, first_hindran
 use Rattle.mail_loop.specs.PopTurn.{in_use, is_fetching, is_read, memory_told, of_pop, pop_beside, pop_session, pop_speech, text_of, took_by, user_at, user_beside}
 use Rattle.mail_loop.specs.Stands.{AreInUse}
 use Rattle.mail_loop.specs.Took.{Adds, AreThere, AsksAs, GoesOn, IsAwaitedLast, IsNext, IsNone, ReadsStarved, Takes}
-use Rattle.mail_loop.proofs.Dialogs.{begun_turn, textless_turn}
+use Rattle.mail_loop.proofs.Dialogs.{textless_turn}
+use Rattle.mail_loop.proofs.Units.{begun_turn}
 use Rattle.mail_loop.proofs.Telling.{closed, lifted, told_whole}
 
 -- a turn of a fetching client's connection at a moment, where these users have their maildrops in use
@@ -76,8 +77,8 @@ reading_of (Reads body) d read is = is
 reading_of (Submits ask) d wrong is = absurd (true≢false (sym wrong))
 
 -- no memory was found for the text that is to be read
-pub textless_line : (S : List JournalRecord → HowRead → Type 0) (at : ℕ) (kept : Kept) (out : PopOut) (d e : Dialog) (old new : Reply) → is_read out ≡ true → session.IsNext out d
-    → S [] none_read → ReadsStarved pop_speech kept d old e new
+pub textless_line : (S : List JournalRecord → Counts → Type 0) (at : ℕ) (kept : Kept) (out : PopOut) (d e : Dialog) (old new : Reply) → is_read out ≡ true → session.IsNext out d
+    → S [] none_counted → ReadsStarved pop_speech kept d old e new
     → (h : Hindrance) × Takes S (under h at kept (λ desk. followed pop_speech desk kept (of_pop out) d)) old kept e new
 textless_line S at kept (Says said) d e old new wrong is seals starved = absurd (true≢false (sym wrong))
 textless_line S at kept (Ends said) d e old new wrong is seals starved = absurd (true≢false (sym wrong))
@@ -134,7 +135,7 @@ awaited_last (Submits ask) d none is = is
 -- ---- a line
 
 -- what follows from what a line gives is its turn
-pub line_turn : (S : List JournalRecord → HowRead → Type 0) (at : ℕ) (kept kept' : Kept) (users : List User) (d e e' : Dialog) (line : SmtpLine) (out : PopOut) (old new : Reply)
+pub line_turn : (S : List JournalRecord → Counts → Type 0) (at : ℕ) (kept kept' : Kept) (users : List User) (d e e' : Dialog) (line : SmtpLine) (out : PopOut) (old new : Reply)
     → session.turn kept.house (store_of kept) kept.stamps (size_in kept) users d line ≡ session.took out e
     → (h : Hindrance) × Takes S (under h at kept (λ desk. followed pop_speech desk kept (of_pop out) e)) old kept' e' new
     → (h : Hindrance) × ((others : Seats) → Takes S (hindered (pop_beside users) h at kept others d line) old kept' e' new)
@@ -143,7 +144,7 @@ line_turn S at kept kept' users d e e' line out old new is t =
     (u.0, λ others. u.1)
 
 -- no memory was found for a line
-pub starved_line : (S : List JournalRecord → HowRead → Type 0) (at : ℕ) (kept : Kept) (users : List User) (d e : Dialog) (line : SmtpLine) (text : List ℕ) (old new : Reply) → e ≡ d → text ≡ memory_told → S [] none_read
+pub starved_line : (S : List JournalRecord → Counts → Type 0) (at : ℕ) (kept : Kept) (users : List User) (d e : Dialog) (line : SmtpLine) (text : List ℕ) (old new : Reply) → e ≡ d → text ≡ memory_told → S [] none_counted
     → Adds text false old new → (h : Hindrance) × ((others : Seats) → Takes S (hindered (pop_beside users) h at kept others d line) old kept e new)
 starved_line S at kept users d e line text old new same is none (inl added) = (
   Refused,
@@ -178,7 +179,7 @@ same_turns users at conn hs s d (line ∷ lines) used =
         → goes_on (turn_of pop_session at conn (first_hindrance hs) s d line) o (λ t e. turns (turn_of (pop_beside users) at conn) (other_hindrances hs) t e lines)
         ≡ goes_on (turn_of pop_session at conn (first_hindrance hs) s d line) o (λ t e. turns (turn_of pop_session at conn) (other_hindrances hs) t e lines)
     behind_it None same = refl
-    behind_it (Some e) same = let o = turn_of pop_session at conn (first_hindrance hs) s d line in ap (after o.said o.gone o.unsealed o.reads) (same e)
+    behind_it (Some e) same = let o = turn_of pop_session at conn (first_hindrance hs) s d line in ap (after o.said o.gone o.unsealed o.counts) (same e)
 
 pub same_fetches : (users : List User) (at conn : ℕ) (hs : List Hindrance) (s : State) (d : Dialog) (stream : List ℕ) → users ≡ in_use (beside conn s.seats)
     → fetches pop_session hs at s conn d stream ≡ fetches (pop_beside users) hs at s conn d stream

@@ -11,14 +11,15 @@ use Rattle.undo_outside.specs.Calls.{LinkTold, Rose, then_told, IsNext, Comes}
 use Rattle.mail_loop.specs.declared.serve.ServeFault.{ServeFault}
 use Rattle.mail_loop.specs.declared.serve.ServeFault.TheVariants.{Link, Disk, Turns, NoMemory}
 use Rattle.verb_bytes.specs.declared.journal.JournalRecord.{JournalRecord}
-use Rattle.desk_journal.specs.Reading.{Counted, Reads, RoseBy, both_read, none_read}
+use Rattle.desk_journal.specs.Reading.{Counted, RoseBy}
+use Rattle.mail_loop.specs.Counts.{Counts, both_counted, none_counted}
 use Rattle.store_kept.specs.Kept.{Kept}
 use Rattle.mail_loop.specs.State.{State, Seats}
 use Rattle.mail_loop.specs.ConsoleTurn.{AreSaid, Reading, both, no_consoles}
 use Rattle.mail_loop.specs.Machine.{Hindrances, Keeping, IsPassed, Outcome, happens, is_end}
 use Rattle.mail_loop.specs.Did.{AreLicensed, Goes, Leads, StopsAtClose, WantsIn, left_out_of, missed_of}
-use Rattle.mail_loop.specs.Serving.{Step, after_notes, run, at_first, NoEnd, missed_in, ComeInOrder, events_of, readings_in, reads_in, stopped_in, unsealed_in, left_out_in, CountsFaults, IsCutAtClose, IsLeftStarved, IsLeftUnsealed, Serves, Served, ServedOver, ended_as}
-use Rattle.mail_loop.proofs.Sealed.{no_more, none_before, reads_regroup}
+use Rattle.mail_loop.specs.Serving.{Step, after_notes, run, at_first, NoEnd, missed_in, ComeInOrder, counts_in, events_of, readings_in, stopped_in, unsealed_in, left_out_in, CountsFaults, IsCutAtClose, IsLeftStarved, IsLeftUnsealed, Serves, Served, ServedOver, ended_as}
+use Rattle.mail_loop.proofs.Sealed.{no_more, none_before, counts_regroup}
 use Rattle.mail_loop.proofs.Links.{counted_add, counted_one, then_told-nil, then_told-append, rose_add}
 
 -- one element more has it too
@@ -30,7 +31,7 @@ all_more P (y ∷ xs) x all here = (all.0, all_more P xs x all.1 here)
 abbrev pub then_step : Outcome → Step → Outcome
 then_step o step =
     let p = happens step.hindrances o.state step.event in
-    record { state = p.state; notes = o.notes ++ Came step.event ∷ p.notes; unsealed = o.unsealed ++ p.unsealed; reads = both_read o.reads p.reads; consoles = both o.consoles p.consoles }
+    record { state = p.state; notes = o.notes ++ Came step.event ∷ p.notes; unsealed = o.unsealed ++ p.unsealed; counts = both_counted o.counts p.counts; consoles = both o.consoles p.consoles }
 
 or_none : (b : Bool) → (b || false) ≡ b
 or_none true = refl
@@ -40,7 +41,7 @@ or_more : (a b c : Bool) → (a || (b || c)) ≡ ((a || b) || c)
 or_more true b c = refl
 or_more false b c = refl
 
-before_and_after : (r : Reads) → both_read r none_read ≡ both_read none_read r
+before_and_after : (r : Counts) → both_counted r none_counted ≡ both_counted none_counted r
 before_and_after r = none_before r ∙ sym (no_more r)
 
 run_more : (steps : List Step) (s : State) (step : Step) → run (steps ++ step ∷ []) s ≡ then_step (run steps s) step
@@ -50,19 +51,19 @@ run_more [] s step =
       state = p.state;
       notes = append-nil (Came step.event ∷ p.notes) j;
       unsealed = append-nil p.unsealed j;
-      reads = before_and_after p.reads j;
+      counts = before_and_after p.counts j;
       consoles = record { readings = append-nil p.consoles.readings j; stops = or_none p.consoles.stops j };
     }
 run_more (first ∷ steps) s step =
     let o = happens first.hindrances s first.event in
     let q = run steps o.state in
     let p = happens step.hindrances q.state step.event in
-    ap (after_notes (Came first.event ∷ o.notes) o.unsealed o.reads o.consoles) (run_more steps o.state step)
+    ap (after_notes (Came first.event ∷ o.notes) o.unsealed o.counts o.consoles) (run_more steps o.state step)
     ∙ (λ j. record {
       state = p.state;
       notes = sym (append_assoc (Came first.event ∷ o.notes) q.notes (Came step.event ∷ p.notes)) j;
       unsealed = sym (append_assoc o.unsealed q.unsealed p.unsealed) j;
-      reads = sym (reads_regroup o.reads q.reads p.reads) j;
+      counts = sym (counts_regroup o.counts q.counts p.counts) j;
       consoles = record {
         readings = sym (append_assoc o.consoles.readings q.consoles.readings p.consoles.readings) j;
         stops = or_more o.consoles.stops q.consoles.stops p.consoles.stops j;
@@ -90,10 +91,10 @@ left_out_more : (steps : List Step) (step : Step) → left_out_in (steps ++ step
 left_out_more [] step = omega arith
 left_out_more (s ∷ steps) step = let more = left_out_more steps step in omega arith
 
--- serving ended so; T holds of the record whose sealing failed, and of what was not read, and C of the steps
-abbrev pub Ran : (List JournalRecord → Reads → Type 0) → (List Step → Type 0) → ℕ → LinkTold → LinkTold → Kept → Kept → Result (Unit {0}) ServeFault → Type 0
+-- serving ended so; T holds of the record whose sealing failed, and of what was counted, and C of the steps
+abbrev pub Ran : (List JournalRecord → Counts → Type 0) → (List Step → Type 0) → ℕ → LinkTold → LinkTold → Kept → Kept → Result (Unit {0}) ServeFault → Type 0
 Ran T C limit old new kept kept' result =
-    (steps : List Step) × (notes : List LinkNote) × ServedOver limit steps notes old new kept kept' result × T (unsealed_in steps kept) (reads_in steps kept) × C steps
+    (steps : List Step) × (notes : List LinkNote) × ServedOver limit steps notes old new kept kept' result × T (unsealed_in steps kept) (counts_in steps kept) × C steps
 
 -- What the link did and counted over these steps. So many calls more found no memory than there are strings left out.
 pub record Done (wants : ℕ) (old new : LinkTold) (steps : List Step) (notes : List LinkNote) : Type 0 where
@@ -123,35 +124,35 @@ pub record SoServed (turns : ℕ) (old new : LinkTold) (kept : Kept) (state : St
   pub count : length steps ≡ turns
   pub no_end : NoEnd steps
   pub readings : List Reading
-  pub reads : Reads
-  pub leaves : run steps (at_first kept) ≡ record { state = state; notes = notes; unsealed = []; reads = reads; consoles = record { readings = readings; stops = false } }
+  pub counts : Counts
+  pub leaves : run steps (at_first kept) ≡ record { state = state; notes = notes; unsealed = []; counts = counts; consoles = record { readings = readings; stops = false } }
   pub said : AreSaid readings
   pub done : Done 0 old new steps notes
 
--- the same, and S holds of what was not read, and C of the steps
-pub record SoSealed (S : List JournalRecord → Reads → Type 0) (C : List Step → Type 0) (turns : ℕ) (old new : LinkTold) (kept : Kept) (state : State) : Type 0 where
+-- the same, and S holds of what was counted, and C of the steps
+pub record SoSealed (S : List JournalRecord → Counts → Type 0) (C : List Step → Type 0) (turns : ℕ) (old new : LinkTold) (kept : Kept) (state : State) : Type 0 where
   pub served : SoServed turns old new kept state
-  pub seals : S [] served.reads
+  pub seals : S [] served.counts
   pub course : C served.steps
 
 -- none failed
-abbrev pub Only : (List JournalRecord → Reads → Type 0) → Type 0
-Only S = (failed : List JournalRecord) (reads : Reads) → S failed reads → failed ≡ []
+abbrev pub Only : (List JournalRecord → Counts → Type 0) → Type 0
+Only S = (failed : List JournalRecord) (counts : Counts) → S failed counts → failed ≡ []
 
 -- some failed
-abbrev pub Fails : (List JournalRecord → Reads → Type 0) → Type 0
-Fails S = (failed : List JournalRecord) (reads : Reads) → S failed reads → failed ≢ []
+abbrev pub Fails : (List JournalRecord → Counts → Type 0) → Type 0
+Fails S = (failed : List JournalRecord) (counts : Counts) → S failed counts → failed ≢ []
 
 -- S before and then T is U of both
-abbrev pub Chains : (List JournalRecord → Reads → Type 0) → (List JournalRecord → Reads → Type 0) → (List JournalRecord → Reads → Type 0) → Type 0
-Chains S T U = (failed : List JournalRecord) (r q : Reads) → S [] r → T failed q → U failed (both_read r q)
+abbrev pub Chains : (List JournalRecord → Counts → Type 0) → (List JournalRecord → Counts → Type 0) → (List JournalRecord → Counts → Type 0) → Type 0
+Chains S T U = (failed : List JournalRecord) (r q : Counts) → S [] r → T failed q → U failed (both_counted r q)
 
 -- C of steps, behind which the machine has this state, and then W of what hinders an event, which leaves this, is E of all
 abbrev pub Extends : (List Step → Type 0) → (Hindrances → Type 0) → (List Step → Type 0) → Kept → State → Event → Kept → Type 0
 Extends C W E first s event after =
     (steps : List Step) (h : Hindrances) → C steps → (run steps (at_first first)).state ≡ s → after ≡ (happens h s event).state.kept → W h → E (steps ++ record { event = event; hindrances = h } ∷ [])
 
-pub so_served_none : (S : List JournalRecord → Reads → Type 0) (C : List Step → Type 0) (told : LinkTold) (kept : Kept) (seats : Seats) → seats ≡ [] → S [] none_read → C []
+pub so_served_none : (S : List JournalRecord → Counts → Type 0) (C : List Step → Type 0) (told : LinkTold) (kept : Kept) (seats : Seats) → seats ≡ [] → S [] none_counted → C []
     → SoSealed S C 0 told told kept (record { kept = kept; seats = seats })
 so_served_none S C told kept seats none seals course = record {
   served = record {
@@ -160,8 +161,8 @@ so_served_none S C told kept seats none seals course = record {
     count = refl;
     no_end = tt;
     readings = [];
-    reads = none_read;
-    leaves = ap (λ (c : Seats). record { state = record { kept = kept; seats = c }; notes = []; unsealed = []; reads = none_read; consoles = no_consoles }) (sym none);
+    counts = none_counted;
+    leaves = ap (λ (c : Seats). record { state = record { kept = kept; seats = c }; notes = []; unsealed = []; counts = none_counted; consoles = no_consoles }) (sym none);
     said = tt;
     done = done_none told;
   };
@@ -263,7 +264,7 @@ done_more turns n old mid got new kept s event h more so came licensed goes =
 
 -- what the steps leave with one more
 leaves_more : (turns : ℕ) (old mid : LinkTold) (kept : Kept) (s : State) (step : Step) → (so : SoServed turns old mid kept s)
-    → run (so.steps ++ step ∷ []) (at_first kept) ≡ then_step (record { state = s; notes = so.notes; unsealed = []; reads = so.reads; consoles = record { readings = so.readings; stops = false } }) step
+    → run (so.steps ++ step ∷ []) (at_first kept) ≡ then_step (record { state = s; notes = so.notes; unsealed = []; counts = so.counts; consoles = record { readings = so.readings; stops = false } }) step
 leaves_more turns old mid kept s step so = run_more so.steps (at_first kept) step ∙ ap (λ q. then_step q step) so.leaves
 
 -- the last step's event, after those before
@@ -272,9 +273,9 @@ here_is : (turns : ℕ) (old mid : LinkTold) (kept : Kept) (s : State) (step : S
 here_is turns old mid kept s step so = ap (λ (q : Outcome). happens step.hindrances q.state step.event) so.leaves
 
 -- serving ended after these steps
-ended_over : (T : List JournalRecord → Reads → Type 0) (C : List Step → Type 0) (limit wants : ℕ) (old new : LinkTold) (kept kept' : Kept) (steps : List Step) (notes : List LinkNote) (result : Result (Unit {0}) ServeFault)
+ended_over : (T : List JournalRecord → Counts → Type 0) (C : List Step → Type 0) (limit wants : ℕ) (old new : LinkTold) (kept kept' : Kept) (steps : List Step) (notes : List LinkNote) (result : Result (Unit {0}) ServeFault)
     → Done wants old new steps notes → Served limit wants steps kept notes kept' result → (wants ≡ 1 → new.starved_last ≡ true) → CountsFaults result old new
-    → AreSaid (readings_in steps kept) → T (unsealed_in steps kept) (reads_in steps kept) → C steps → Ran T C limit old new kept kept' result
+    → AreSaid (readings_in steps kept) → T (unsealed_in steps kept) (counts_in steps kept) → C steps → Ran T C limit old new kept kept' result
 ended_over T C limit wants old new kept kept' steps notes result done served last faults read seals course = (
   steps,
   notes,
@@ -303,7 +304,7 @@ so_state : (turns : ℕ) (old new : LinkTold) (kept : Kept) (s : State) → (so 
 so_state turns old new kept s so = ap (λ (o : Outcome). o.state) so.leaves
 
 -- one step more
-pub so_more : (S T U : List JournalRecord → Reads → Type 0) (C : List Step → Type 0) (W : Hindrances → Type 0) (E : List Step → Type 0) (turns : ℕ) (old mid got new : LinkTold) (kept after : Kept) (s : State) (seats : Seats) (event : Event) (r : Result Bool WantOfMemory) (b : Bool)
+pub so_more : (S T U : List JournalRecord → Counts → Type 0) (C : List Step → Type 0) (W : Hindrances → Type 0) (E : List Step → Type 0) (turns : ℕ) (old mid got new : LinkTold) (kept after : Kept) (s : State) (seats : Seats) (event : Event) (r : Result Bool WantOfMemory) (b : Bool)
     → SoSealed S C turns old mid kept s → Comes mid got (Ok event) → is_end event.what ≡ false
     → (h : Hindrances) × (n : ℕ) × AreLicensed h.deliveries n got new × Leads T n h.keeping s.kept (happens h s event) got new after seats r × W h
     → r ≡ Ok b → b ≡ false → Only T → Chains S T U → Extends C W E kept s event after
@@ -316,10 +317,10 @@ so_more S T U C W E turns old mid got new kept after s seats event r b sealed ca
     let whole = all_done (WantsIn o s.kept n new) r b o.notes did.notes ok did.whole in
     let left = seats_left r b seats o.state.seats o.consoles.stops ok leads.seats_are in
     let readings = so.readings ++ o.consoles.readings in
-    let reads = both_read so.reads o.reads in
+    let counts = both_counted so.counts o.counts in
     let steps = so.steps ++ step ∷ [] in
     let notes = so.notes ++ Came event ∷ did.notes in
-    let none = only o.unsealed o.reads leads.seals in
+    let none = only o.unsealed o.counts leads.seals in
     record {
       served = record {
         steps = steps;
@@ -327,18 +328,18 @@ so_more S T U C W E turns old mid got new kept after s seats event r b sealed ca
         count = length-append so.steps (step ∷ []) ∙ (omega (arith, so.count));
         no_end = all_more (λ t. is_end t.event.what ≡ false) so.steps step so.no_end goes;
         readings = readings;
-        reads = reads;
+        counts = counts;
         leaves =
             leaves_more turns old mid kept s step so
-            ∙ ap (λ (k : Kept). record { state = record { kept = k; seats = o.state.seats }; notes = so.notes ++ Came event ∷ o.notes; unsealed = o.unsealed; reads = reads; consoles = record { readings = readings; stops = o.consoles.stops } }) (sym leads.kept_is)
-            ∙ ap (λ (c : Seats). record { state = record { kept = after; seats = c }; notes = so.notes ++ Came event ∷ o.notes; unsealed = o.unsealed; reads = reads; consoles = record { readings = readings; stops = o.consoles.stops } }) (sym left.0)
-            ∙ ap (λ (l : List LinkNote). record { state = record { kept = after; seats = seats }; notes = so.notes ++ Came event ∷ l; unsealed = o.unsealed; reads = reads; consoles = record { readings = readings; stops = o.consoles.stops } }) whole
-            ∙ ap (λ (u : List JournalRecord). record { state = record { kept = after; seats = seats }; notes = notes; unsealed = u; reads = reads; consoles = record { readings = readings; stops = o.consoles.stops } }) none
-            ∙ ap (λ (c : Bool). record { state = record { kept = after; seats = seats }; notes = notes; unsealed = []; reads = reads; consoles = record { readings = readings; stops = c } }) (sym left.1 ∙ on);
+            ∙ ap (λ (k : Kept). record { state = record { kept = k; seats = o.state.seats }; notes = so.notes ++ Came event ∷ o.notes; unsealed = o.unsealed; counts = counts; consoles = record { readings = readings; stops = o.consoles.stops } }) (sym leads.kept_is)
+            ∙ ap (λ (c : Seats). record { state = record { kept = after; seats = c }; notes = so.notes ++ Came event ∷ o.notes; unsealed = o.unsealed; counts = counts; consoles = record { readings = readings; stops = o.consoles.stops } }) (sym left.0)
+            ∙ ap (λ (l : List LinkNote). record { state = record { kept = after; seats = seats }; notes = so.notes ++ Came event ∷ l; unsealed = o.unsealed; counts = counts; consoles = record { readings = readings; stops = o.consoles.stops } }) whole
+            ∙ ap (λ (u : List JournalRecord). record { state = record { kept = after; seats = seats }; notes = notes; unsealed = u; counts = counts; consoles = record { readings = readings; stops = o.consoles.stops } }) none
+            ∙ ap (λ (c : Bool). record { state = record { kept = after; seats = seats }; notes = notes; unsealed = []; counts = counts; consoles = record { readings = readings; stops = c } }) (sym left.1 ∙ on);
         said = said_more so.readings o.consoles.readings so.said leads.read;
         done = subst (λ k. Done k old new steps notes) (all_closed r b n ok leads.closed) (done_more turns n old mid got new kept s event h did.notes so came licensed did.goes);
       };
-      seals = chain [] so.reads o.reads sealed.seals (subst (λ (u : List JournalRecord). T u o.reads) none leads.seals);
+      seals = chain [] so.counts o.counts sealed.seals (subst (λ (u : List JournalRecord). T u o.counts) none leads.seals);
       course = extends so.steps h sealed.course (so_state turns old mid kept s so) leads.kept_is went;
     }
 
@@ -365,7 +366,7 @@ abbrev pub Stops : Event → Bool → Type 0
 Stops event b = (is_end event.what ≡ true) ⊎ ((is_end event.what ≡ false) × (b ≡ true))
 
 -- the end came, or a console asked serving to stop, and nothing was left unsealed
-pub so_stopped : (S T U : List JournalRecord → Reads → Type 0) (C : List Step → Type 0) (W : Hindrances → Type 0) (E : List Step → Type 0) (turns limit : ℕ) (old mid got new : LinkTold) (kept after : Kept) (s : State) (seats : Seats) (event : Event) (r : Result Bool WantOfMemory) (b : Bool)
+pub so_stopped : (S T U : List JournalRecord → Counts → Type 0) (C : List Step → Type 0) (W : Hindrances → Type 0) (E : List Step → Type 0) (turns limit : ℕ) (old mid got new : LinkTold) (kept after : Kept) (s : State) (seats : Seats) (event : Event) (r : Result Bool WantOfMemory) (b : Bool)
     → SoSealed S C turns old mid kept s → turns < limit → Comes mid got (Ok event) → Stops event b
     → (h : Hindrances) × (n : ℕ) × AreLicensed h.deliveries n got new × Leads T n h.keeping s.kept (happens h s event) got new after seats r × W h
     → r ≡ Ok b → Only T → Chains S T U → Extends C W E kept s event after
@@ -388,12 +389,12 @@ so_stopped S T U C W E turns limit old mid got new kept after s seats event r b 
         kept_is = leads.kept_is ∙ sym (ap (λ (q : Outcome). q.state.kept) leaves);
       },
       (so.steps, step, refl, so.no_end, so_goes turns old mid kept s so, how stops (ap (λ (q : Outcome). q.consoles.stops) (here_is turns old mid kept s step so) ∙ sym left.1)),
-      ap (λ (q : Outcome). q.unsealed) leaves ∙ only o.unsealed o.reads leads.seals,
+      ap (λ (q : Outcome). q.unsealed) leaves ∙ only o.unsealed o.counts leads.seals,
       few_more so.steps step turns limit so.count few,
       refl,
     )
     (none_wanted new.starved_last) done.faults (read_more turns old mid kept s step so leads.read)
-    (subst (λ (q : Outcome). U q.unsealed q.reads) (sym leaves) (chain o.unsealed so.reads o.reads sealed.seals leads.seals))
+    (subst (λ (q : Outcome). U q.unsealed q.counts) (sym leaves) (chain o.unsealed so.counts o.counts sealed.seals leads.seals))
     (extends so.steps h sealed.course (so_state turns old mid kept s so) leads.kept_is went)
   where
     how : Stops event b → {asked : Bool} → asked ≡ b → (is_end event.what ≡ true) ⊎ ((is_end event.what ≡ false) × (asked ≡ true))
@@ -430,7 +431,7 @@ done_still turns n old mid got kept s so log coming missed starved reliable faul
     }
 
 -- `next` failed
-pub so_unlinked : (S : List JournalRecord → Reads → Type 0) (C : List Step → Type 0) (turns limit : ℕ) (old mid got : LinkTold) (kept : Kept) (s : State)
+pub so_unlinked : (S : List JournalRecord → Counts → Type 0) (C : List Step → Type 0) (turns limit : ℕ) (old mid got : LinkTold) (kept : Kept) (s : State)
     → SoSealed S C turns old mid kept s → turns < limit → Comes mid got (Err Failed) → Ran S C limit old got kept s.kept (Err Link)
 so_unlinked S C turns limit old mid got kept s sealed few came =
     let so = sealed.served in (
@@ -453,12 +454,12 @@ so_unlinked S C turns limit old mid got kept s sealed few came =
         );
         read = so_read turns old mid kept s so;
       },
-      subst (λ (o : Outcome). S o.unsealed o.reads) (sym so.leaves) sealed.seals,
+      subst (λ (o : Outcome). S o.unsealed o.counts) (sym so.leaves) sealed.seals,
       sealed.course,
     )
 
 -- `next` found no memory
-pub so_unfed : (S : List JournalRecord → Reads → Type 0) (C : List Step → Type 0) (turns limit : ℕ) (old mid got : LinkTold) (kept : Kept) (s : State)
+pub so_unfed : (S : List JournalRecord → Counts → Type 0) (C : List Step → Type 0) (turns limit : ℕ) (old mid got : LinkTold) (kept : Kept) (s : State)
     → SoSealed S C turns old mid kept s → turns < limit → Comes mid got (Err NoneForNext) → Ran S C limit old got kept s.kept (Err NoMemory)
 so_unfed S C turns limit old mid got kept s sealed few (same, once) =
     let so = sealed.served in
@@ -473,16 +474,16 @@ so_unfed S C turns limit old mid got kept s sealed few (same, once) =
       omega (arith, so.count, few),
       inl (so_goes turns old mid kept s so),
     )
-    (λ _. ap (λ (t : LinkTold). t.starved_last) same) done.faults (so_read turns old mid kept s so) (subst (λ (o : Outcome). S o.unsealed o.reads) (sym so.leaves) sealed.seals) sealed.course
+    (λ _. ap (λ (t : LinkTold). t.starved_last) same) done.faults (so_read turns old mid kept s so) (subst (λ (o : Outcome). S o.unsealed o.counts) (sym so.leaves) sealed.seals) sealed.course
 
 -- so many events were taken
-pub so_spent : (S : List JournalRecord → Reads → Type 0) (C : List Step → Type 0) (turns limit : ℕ) (old new : LinkTold) (kept : Kept) (s : State)
+pub so_spent : (S : List JournalRecord → Counts → Type 0) (C : List Step → Type 0) (turns limit : ℕ) (old new : LinkTold) (kept : Kept) (s : State)
     → SoSealed S C turns old new kept s → turns ≡ limit → Ran S C limit old new kept s.kept (Err Turns)
 so_spent S C turns limit old new kept s sealed all =
     let so = sealed.served in
     ended_over S C limit 0 old new kept s.kept so.steps so.notes (Err Turns) so.done
     (so_serves turns old new kept s so, so.no_end, so.count ∙ all, so_sealed turns old new kept s so, so_goes turns old new kept s so, refl)
-    (none_wanted new.starved_last) so.done.faults (so_read turns old new kept s so) (subst (λ (o : Outcome). S o.unsealed o.reads) (sym so.leaves) sealed.seals) sealed.course
+    (none_wanted new.starved_last) so.done.faults (so_read turns old new kept s so) (subst (λ (o : Outcome). S o.unsealed o.counts) (sym so.leaves) sealed.seals) sealed.course
 
 -- ---- and within one
 
@@ -530,7 +531,7 @@ left_unsealed turns n old mid new kept s step notes more so all (inr (one, passe
     (inr (cut_at_close turns n old mid new kept s step notes more so all one passed stops), λ _. stops.starved_last)
 
 -- memory was wanted in an event
-pub so_starved : (S T U : List JournalRecord → Reads → Type 0) (C : List Step → Type 0) (W : Hindrances → Type 0) (E : List Step → Type 0) (turns limit : ℕ) (old mid got new : LinkTold) (kept after : Kept) (s : State) (seats : Seats) (event : Event) (r : Result Bool WantOfMemory) (w : WantOfMemory)
+pub so_starved : (S T U : List JournalRecord → Counts → Type 0) (C : List Step → Type 0) (W : Hindrances → Type 0) (E : List Step → Type 0) (turns limit : ℕ) (old mid got new : LinkTold) (kept after : Kept) (s : State) (seats : Seats) (event : Event) (r : Result Bool WantOfMemory) (w : WantOfMemory)
     → SoSealed S C turns old mid kept s → turns < limit → Comes mid got (Ok event) → is_end event.what ≡ false
     → (h : Hindrances) × (n : ℕ) × AreLicensed h.deliveries n got new × Leads T n h.keeping s.kept (happens h s event) got new after seats r × W h
     → r ≡ Err w → Only T → Chains S T U → Extends C W E kept s event after
@@ -549,16 +550,16 @@ so_starved S T U C W E turns limit old mid got new kept after s seats event r w 
       serves_more turns old mid kept after s step did.notes more so leads.kept_is all,
       all_more (λ t. is_end t.event.what ≡ false) so.steps step so.no_end goes,
       left.0,
-      ap (λ (q : Outcome). q.unsealed) leaves ∙ only o.unsealed o.reads leads.seals,
+      ap (λ (q : Outcome). q.unsealed) leaves ∙ only o.unsealed o.counts leads.seals,
       few_more so.steps step turns limit so.count few,
       inr (so.steps, step, refl, so_goes turns old mid kept s so),
     )
     left.1 done.faults (read_more turns old mid kept s step so leads.read)
-    (subst (λ (q : Outcome). U q.unsealed q.reads) (sym leaves) (chain o.unsealed so.reads o.reads sealed.seals leads.seals))
+    (subst (λ (q : Outcome). U q.unsealed q.counts) (sym leaves) (chain o.unsealed so.counts o.counts sealed.seals leads.seals))
     (extends so.steps h sealed.course (so_state turns old mid kept s so) leads.kept_is went)
 
 -- sealing failed in an event
-pub so_failed : (S T U : List JournalRecord → Reads → Type 0) (C : List Step → Type 0) (W : Hindrances → Type 0) (E : List Step → Type 0) (turns limit : ℕ) (old mid got new : LinkTold) (kept after : Kept) (s : State) (seats : Seats) (event : Event) (r : Result Bool WantOfMemory)
+pub so_failed : (S T U : List JournalRecord → Counts → Type 0) (C : List Step → Type 0) (W : Hindrances → Type 0) (E : List Step → Type 0) (turns limit : ℕ) (old mid got new : LinkTold) (kept after : Kept) (s : State) (seats : Seats) (event : Event) (r : Result Bool WantOfMemory)
     → SoSealed S C turns old mid kept s → turns < limit → Comes mid got (Ok event)
     → (h : Hindrances) × (n : ℕ) × AreLicensed h.deliveries n got new × Leads T n h.keeping s.kept (happens h s event) got new after seats r × W h
     → Fails T → Chains S T U → Extends C W E kept s event after
@@ -568,7 +569,7 @@ so_failed S T U C W E turns limit old mid got new kept after s seats event r sea
     let step : Step = record { event = event; hindrances = h } in
     let o = happens h s event in
     let did = leads.did in
-    let (more, all, cut) = cut_in o s.kept n new r o.notes did.notes (some o.unsealed o.reads leads.seals) did.whole leads.closed h.keeping leads.passed in
+    let (more, all, cut) = cut_in o s.kept n new r o.notes did.notes (some o.unsealed o.counts leads.seals) did.whole leads.closed h.keeping leads.passed in
     let leaves = leaves_more turns old mid kept s step so in
     let done = done_more turns n old mid got new kept s event h did.notes so came licensed did.goes in
     let left = left_unsealed turns n old mid new kept s step did.notes more so all cut in
@@ -582,17 +583,17 @@ so_failed S T U C W E turns limit old mid got new kept after s seats event r sea
         refl,
         so.no_end,
         ap (λ (q : Outcome). q.unsealed) so.leaves,
-        λ none. some o.unsealed o.reads leads.seals (sym (ap (λ (q : Outcome). q.unsealed) (here_is turns old mid kept s step so)) ∙ none),
+        λ none. some o.unsealed o.counts leads.seals (sym (ap (λ (q : Outcome). q.unsealed) (here_is turns old mid kept s step so)) ∙ none),
       ),
       few_more so.steps step turns limit so.count few,
       inr (so.steps, step, refl, so_goes turns old mid kept s so),
     )
     left.1 done.faults (read_more turns old mid kept s step so leads.read)
-    (subst (λ (q : Outcome). U q.unsealed q.reads) (sym leaves) (chain o.unsealed so.reads o.reads sealed.seals leads.seals))
+    (subst (λ (q : Outcome). U q.unsealed q.counts) (sym leaves) (chain o.unsealed so.counts o.counts sealed.seals leads.seals))
     (extends so.steps h sealed.course (so_state turns old mid kept s so) leads.kept_is went)
 
 -- the end came, and the snapshot that was due then was sealed or left out, or its sealing failed
-pub so_ended : (S T U : List JournalRecord → Reads → Type 0) (C : List Step → Type 0) (W : Hindrances → Type 0) (E : List Step → Type 0) (turns limit : ℕ) (old mid got : LinkTold) (kept after : Kept) (s : State) (event : Event)
+pub so_ended : (S T U : List JournalRecord → Counts → Type 0) (C : List Step → Type 0) (W : Hindrances → Type 0) (E : List Step → Type 0) (turns limit : ℕ) (old mid got : LinkTold) (kept after : Kept) (s : State) (event : Event)
     (closed : Bool) (result : Result (Unit {0}) ServeFault)
     → SoSealed S C turns old mid kept s → turns < limit → Comes mid got (Ok event) → is_end event.what ≡ true
     → (h : Hindrances) × (n : ℕ) × AreLicensed h.deliveries n got got × Leads T n h.keeping s.kept (happens h s event) got got after s.seats (Ok false) × W h

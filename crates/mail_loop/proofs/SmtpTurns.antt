@@ -23,7 +23,7 @@ use Rattle.std.specs.Str.{str_to_ascii_lowercase}
 use Rattle.smtp_session.specs.Dialog as session
 use Rattle.store_kept.specs.Kept.{Kept, store_of}
 use Rattle.verb_bytes.specs.declared.journal.JournalRecord.{JournalRecord}
-use Rattle.desk_journal.specs.Reading.{Reads}
+use Rattle.mail_loop.specs.Counts.{Counts}
 use Rattle.mail_loop.specs.declared.reply.Reply.{Reply}
 use Rattle.mail_loop.specs.State.{Seats, beside}
 use Rattle.mail_loop.specs.Turn.{Turn, lost, says}
@@ -31,7 +31,7 @@ use Rattle.mail_loop.specs.Session.{followed, hindered, is_answer}
 use Rattle.mail_loop.specs.Hindrance.{Hindrance, Refused, Unheard, under}
 use Rattle.mail_loop.specs.SmtpTurn.{answers, is_free, memory_told, of_smtp, smtp_session, smtp_speech, took_by}
 use Rattle.mail_loop.specs.Took.{Adds, AreThere, AsksAs, GoesOn, IsNext, IsNone, Takes}
-use Rattle.mail_loop.proofs.Dialogs.{begun_turn}
+use Rattle.mail_loop.proofs.Units.{begun_turn}
 use Rattle.mail_loop.proofs.Telling.{closed, told_whole}
 
 -- a turn of a mail client's connection at a moment
@@ -188,7 +188,7 @@ none_wanted kept (Asks ask) = tt
 -- ---- a line
 
 -- what follows from what a line gives is its turn, whatever the other connections
-pub line_turn : (S : List JournalRecord → Reads → Type 0) (at : ℕ) (kept kept' : Kept) (d e e' : Dialog) (line : SmtpLine) (out : SmtpOut) (old new : Reply)
+pub line_turn : (S : List JournalRecord → Counts → Type 0) (at : ℕ) (kept kept' : Kept) (d e e' : Dialog) (line : SmtpLine) (out : SmtpOut) (old new : Reply)
     → session.turn kept.house (store_of kept).conf at d line ≡ session.turns out e
     → (h : Hindrance) × Takes S (under h at kept (λ desk. followed smtp_speech desk kept (of_smtp out) e)) old kept' e' new
     → (h : Hindrance) × ((others : Seats) → Takes S (hindered smtp_session h at kept others d line) old kept' e' new)

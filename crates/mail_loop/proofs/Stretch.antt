@@ -6,7 +6,7 @@ use Rattle.verb_core.specs.declared.mailbox.BoxId.{BoxId}
 use Rattle.mail_loop.specs.declared.reply.Reply.{Reply}
 use Rattle.store_kept.specs.Kept.{Kept}
 use Rattle.verb_bytes.specs.declared.journal.JournalRecord.{JournalRecord}
-use Rattle.desk_journal.specs.Reading.{Reads, both_read, none_read}
+use Rattle.mail_loop.specs.Counts.{Counts, both_counted, none_counted}
 use Rattle.mail_loop.specs.State.{Seat, Seats, State}
 use Rattle.mail_loop.specs.Turn.{Turn}
 use Rattle.mail_loop.specs.Hindrance.{Hindrance, Clear, Unheard}
@@ -16,7 +16,7 @@ use Rattle.mail_loop.specs.declared.reply.Turned.{Turned}
 use Rattle.mail_loop.specs.ConsoleTurn.{AreSaid, Reading, no_consoles}
 use Rattle.mail_loop.specs.Afterwards.{taking}
 use Rattle.mail_loop.specs.Machine.{heard, hears, seated, told_others, with_reply}
-use Rattle.mail_loop.proofs.Sealed.{no_more, none_before, reads_regroup}
+use Rattle.mail_loop.proofs.Sealed.{no_more, none_before, counts_regroup}
 use Rattle.mail_loop.specs.Took.{Takes, Tells, seat_left, answered_alone, going_on_with}
 
 -- what is kept, beside seats that no turn touches
@@ -32,72 +32,72 @@ abbrev all_turns : {D U : Type 0} → (Seats → Hindrance → Kept → D → U 
 all_turns one seats hs kept d us = turns (alone one) hs (beside seats kept) d us
 
 -- an outcome of such turns
-abbrev leaving : {D : Type 0} → Seats → List ℕ → List BoxId → List JournalRecord → Reads → Kept → Option D → Outcome D
-leaving seats said boxes failed reads kept o =
-    record { said = said; state = record { kept = kept; seats = seats }; dialog = o; gone = boxes; unsealed = failed; reads = reads }
+abbrev leaving : {D : Type 0} → Seats → List ℕ → List BoxId → List JournalRecord → Counts → Kept → Option D → Outcome D
+leaving seats said boxes failed counts kept o =
+    record { said = said; state = record { kept = kept; seats = seats }; dialog = o; gone = boxes; unsealed = failed; counts = counts }
 
 -- an outcome of such turns, whose answers are a reply's
-abbrev pub left : {D : Type 0} → Seats → Reply → Kept → List JournalRecord → Reads → Option D → Outcome D
-left seats reply kept failed reads o = leaving seats reply.said reply.gone failed reads kept o
+abbrev pub left : {D : Type 0} → Seats → Reply → Kept → List JournalRecord → Counts → Option D → Outcome D
+left seats reply kept failed counts o = leaving seats reply.said reply.gone failed counts kept o
 
-nothing_more : {D : Type 0} → (seats : Seats) (reply : Reply) (reads : Reads) (kept : Kept) (o : Option D)
-    → leaving seats (reply.said ++ []) (reply.gone ++ []) [] (both_read reads none_read) kept o ≡ left seats reply kept [] reads o
-nothing_more seats reply reads kept o = λ j. leaving seats (append-nil reply.said j) (append-nil reply.gone j) [] (none_before reads j) kept o
+nothing_more : {D : Type 0} → (seats : Seats) (reply : Reply) (counts : Counts) (kept : Kept) (o : Option D)
+    → leaving seats (reply.said ++ []) (reply.gone ++ []) [] (both_counted counts none_counted) kept o ≡ left seats reply kept [] counts o
+nothing_more seats reply counts kept o = λ j. leaving seats (append-nil reply.said j) (append-nil reply.gone j) [] (none_before counts j) kept o
 
 -- what is to come after a reply's answers, and after what was read for them
-abbrev pub behind : {D : Type 0} → Reply → Reads → Outcome D → Outcome D
-behind reply reads o = after reply.said reply.gone [] reads o
+abbrev pub behind : {D : Type 0} → Reply → Counts → Outcome D → Outcome D
+behind reply counts o = after reply.said reply.gone [] counts o
 
 -- the turns of all leave what is in the reply, of which so many could not read, and then what the turns of those to come leave
-pub record SoFar {D U : Type 0} (one : Seats → Hindrance → Kept → D → U → Turn D) (seats : Seats) (kept : Kept) (d : D) (all : List U) (reply : Reply) (reads : Reads) (kept' : Kept) (d' : D) (us : List U) : Type 0 where
+pub record SoFar {D U : Type 0} (one : Seats → Hindrance → Kept → D → U → Turn D) (seats : Seats) (kept : Kept) (d : D) (all : List U) (reply : Reply) (counts : Counts) (kept' : Kept) (d' : D) (us : List U) : Type 0 where
   pub before : List Hindrance
   pub split : (more : List Hindrance) → turns (alone one) (before ++ more) (record { kept = kept; seats = seats }) d all
-      ≡ behind reply reads (turns (alone one) more (record { kept = kept'; seats = seats }) d' us)
+      ≡ behind reply counts (turns (alone one) more (record { kept = kept'; seats = seats }) d' us)
 
 pub so_far_none : {D U : Type 0} → (one : Seats → Hindrance → Kept → D → U → Turn D) (seats : Seats) (kept : Kept) (d : D) (us : List U) (conn : ℕ) (reply : Reply)
-    → reply ≡ record { conn = conn; said = []; closes = false; gone = [] } → SoFar one seats kept d us reply none_read kept d us
+    → reply ≡ record { conn = conn; said = []; closes = false; gone = [] } → SoFar one seats kept d us reply none_counted kept d us
 so_far_none one seats kept d us conn reply empty =
-    subst (λ (r : Reply). SoFar one seats kept d us r none_read kept d us) (sym empty) (record {
+    subst (λ (r : Reply). SoFar one seats kept d us r none_counted kept d us) (sym empty) (record {
       before = [];
-      split = λ more. let o = all_turns one seats more kept d us in λ j. record o { reads = sym (no_more o.reads) j };
+      split = λ more. let o = all_turns one seats more kept d us in λ j. record o { counts = sym (no_more o.counts) j };
     })
 
 -- all turns, up to the next, which leaves the dialog o
-up_to : {D U : Type 0} → (one : Seats → Hindrance → Kept → D → U → Turn D) (seats : Seats) (kept : Kept) (d : D) (all : List U) (reply : Reply) (reads : Reads) (kept' : Kept) (d' : D) (u : U) (us : List U)
-    → (s : SoFar one seats kept d all reply reads kept' d' (u ∷ us)) → (h : Hindrance) (more : List Hindrance) (o : Option D)
+up_to : {D U : Type 0} → (one : Seats → Hindrance → Kept → D → U → Turn D) (seats : Seats) (kept : Kept) (d : D) (all : List U) (reply : Reply) (counts : Counts) (kept' : Kept) (d' : D) (u : U) (us : List U)
+    → (s : SoFar one seats kept d all reply counts kept' d' (u ∷ us)) → (h : Hindrance) (more : List Hindrance) (o : Option D)
     → (one seats h kept' d' u).dialog ≡ o
     → all_turns one seats ((s.before ++ h ∷ []) ++ more) kept d all
-    ≡ behind reply reads (goes_on (alone one h (beside seats kept') d' u) o (λ s e. turns (alone one) more s e us))
-up_to one seats kept d all reply reads kept' d' u us s h more o e =
+    ≡ behind reply counts (goes_on (alone one h (beside seats kept') d' u) o (λ s e. turns (alone one) more s e us))
+up_to one seats kept d all reply counts kept' d' u us s h more o e =
     ap (λ hs. all_turns one seats hs kept d all) (append_assoc s.before (h ∷ []) more) ∙ s.split (h ∷ more)
-    ∙ ap (λ p. behind reply reads (goes_on (alone one h (beside seats kept') d' u) p (λ s e. turns (alone one) more s e us))) e
+    ∙ ap (λ p. behind reply counts (goes_on (alone one h (beside seats kept') d' u) p (λ s e. turns (alone one) more s e us))) e
 
 -- one turn more, after which the connection is open
-pub so_far_more : {D U : Type 0} → (S : List JournalRecord → Reads → Type 0) (one : Seats → Hindrance → Kept → D → U → Turn D) (seats : Seats) (kept : Kept) (d : D) (all : List U) (kept' : Kept) (d' : D) (u : U) (us : List U)
-    (new : Kept) (e : D) (old reply : Reply) (reads : Reads)
-    → SoFar one seats kept d all old reads kept' d' (u ∷ us) → (h : Hindrance) → Takes S (one seats h kept' d' u) old new e reply → reply.closes ≡ false
-    → SoFar one seats kept d all reply (both_read reads (one seats h kept' d' u).reads) new e us
-so_far_more {D} {U} S one seats kept d all kept' d' u us new e old reply reads s h took stays = by_dialog (one seats h kept' d' u).dialog refl took.dialog_is
+pub so_far_more : {D U : Type 0} → (S : List JournalRecord → Counts → Type 0) (one : Seats → Hindrance → Kept → D → U → Turn D) (seats : Seats) (kept : Kept) (d : D) (all : List U) (kept' : Kept) (d' : D) (u : U) (us : List U)
+    (new : Kept) (e : D) (old reply : Reply) (counts : Counts)
+    → SoFar one seats kept d all old counts kept' d' (u ∷ us) → (h : Hindrance) → Takes S (one seats h kept' d' u) old new e reply → reply.closes ≡ false
+    → SoFar one seats kept d all reply (both_counted counts (one seats h kept' d' u).counts) new e us
+so_far_more {D} {U} S one seats kept d all kept' d' u us new e old reply counts s h took stays = by_dialog (one seats h kept' d' u).dialog refl took.dialog_is
   where
     by_dialog : (o : Option D) → (one seats h kept' d' u).dialog ≡ o → MatchOption o (reply.closes ≡ true) (λ f. (e ≡ f) × (reply.closes ≡ false) × ((one seats h kept' d' u).unsealed ≡ []))
-        → SoFar one seats kept d all reply (both_read reads (one seats h kept' d' u).reads) new e us
+        → SoFar one seats kept d all reply (both_counted counts (one seats h kept' d' u).counts) new e us
     by_dialog None is shut = absurd (let wrong : true ≡ false = sym shut ∙ stays in cc)
     by_dialog (Some f) is goes = record {
       before = s.before ++ h ∷ [];
       split = λ more.
           let turn = one seats h kept' d' u in
-          up_to one seats kept d all old reads kept' d' u us s h more (Some f) is
-          ∙ ap (λ (failed : List JournalRecord). behind old reads (after turn.said turn.gone failed turn.reads (all_turns one seats more turn.kept f us))) goes.2
+          up_to one seats kept d all old counts kept' d' u us s h more (Some f) is
+          ∙ ap (λ (failed : List JournalRecord). behind old counts (after turn.said turn.gone failed turn.counts (all_turns one seats more turn.kept f us))) goes.2
           ∙ regroup more f
-          ∙ ap (λ said. after said (old.gone ++ turn.gone) [] (both_read reads turn.reads) (all_turns one seats more turn.kept f us)) (sym took.said)
-          ∙ ap (λ boxes. after reply.said boxes [] (both_read reads turn.reads) (all_turns one seats more turn.kept f us)) (sym took.gone)
-          ∙ ap (λ k. behind reply (both_read reads turn.reads) (all_turns one seats more k f us)) (sym took.kept_is)
-          ∙ ap (λ g. behind reply (both_read reads turn.reads) (all_turns one seats more new g us)) (sym goes.0);
+          ∙ ap (λ said. after said (old.gone ++ turn.gone) [] (both_counted counts turn.counts) (all_turns one seats more turn.kept f us)) (sym took.said)
+          ∙ ap (λ boxes. after reply.said boxes [] (both_counted counts turn.counts) (all_turns one seats more turn.kept f us)) (sym took.gone)
+          ∙ ap (λ k. behind reply (both_counted counts turn.counts) (all_turns one seats more k f us)) (sym took.kept_is)
+          ∙ ap (λ g. behind reply (both_counted counts turn.counts) (all_turns one seats more new g us)) (sym goes.0);
     }
       where
         regroup : (more : List Hindrance) (f : D)
-            → behind old reads (after (one seats h kept' d' u).said (one seats h kept' d' u).gone [] (one seats h kept' d' u).reads (all_turns one seats more (one seats h kept' d' u).kept f us))
-            ≡ after (old.said ++ (one seats h kept' d' u).said) (old.gone ++ (one seats h kept' d' u).gone) [] (both_read reads (one seats h kept' d' u).reads)
+            → behind old counts (after (one seats h kept' d' u).said (one seats h kept' d' u).gone [] (one seats h kept' d' u).counts (all_turns one seats more (one seats h kept' d' u).kept f us))
+            ≡ after (old.said ++ (one seats h kept' d' u).said) (old.gone ++ (one seats h kept' d' u).gone) [] (both_counted counts (one seats h kept' d' u).counts)
             (all_turns one seats more (one seats h kept' d' u).kept f us)
         regroup more f =
             let t = all_turns one seats more (one seats h kept' d' u).kept f us in
@@ -107,78 +107,78 @@ so_far_more {D} {U} S one seats kept d all kept' d' u us new e old reply reads s
               dialog = t.dialog;
               gone = sym (append_assoc old.gone (one seats h kept' d' u).gone t.gone) j;
               unsealed = t.unsealed;
-              reads = sym (reads_regroup reads (one seats h kept' d' u).reads t.reads) j;
+              counts = sym (counts_regroup counts (one seats h kept' d' u).counts t.counts) j;
             }
 
 -- the last turn, after which the connection is closed
-pub closed_after : {D U : Type 0} → (S : List JournalRecord → Reads → Type 0) (one : Seats → Hindrance → Kept → D → U → Turn D) (seats : Seats) (kept : Kept) (d : D) (all : List U) (kept' : Kept) (d' : D) (u : U) (us : List U)
-    (new : Kept) (e : D) (old reply : Reply) (reads : Reads)
-    → SoFar one seats kept d all old reads kept' d' (u ∷ us) → (h : Hindrance) → Takes S (one seats h kept' d' u) old new e reply → reply.closes ≡ true
-    → (hs : List Hindrance) × (turns (alone one) hs (record { kept = kept; seats = seats }) d all ≡ left seats reply new (one seats h kept' d' u).unsealed (both_read reads (one seats h kept' d' u).reads) None)
-closed_after {D} {U} S one seats kept d all kept' d' u us new e old reply reads s h took shut = by_dialog (one seats h kept' d' u).dialog refl took.dialog_is
+pub closed_after : {D U : Type 0} → (S : List JournalRecord → Counts → Type 0) (one : Seats → Hindrance → Kept → D → U → Turn D) (seats : Seats) (kept : Kept) (d : D) (all : List U) (kept' : Kept) (d' : D) (u : U) (us : List U)
+    (new : Kept) (e : D) (old reply : Reply) (counts : Counts)
+    → SoFar one seats kept d all old counts kept' d' (u ∷ us) → (h : Hindrance) → Takes S (one seats h kept' d' u) old new e reply → reply.closes ≡ true
+    → (hs : List Hindrance) × (turns (alone one) hs (record { kept = kept; seats = seats }) d all ≡ left seats reply new (one seats h kept' d' u).unsealed (both_counted counts (one seats h kept' d' u).counts) None)
+closed_after {D} {U} S one seats kept d all kept' d' u us new e old reply counts s h took shut = by_dialog (one seats h kept' d' u).dialog refl took.dialog_is
   where
     by_dialog : (o : Option D) → (one seats h kept' d' u).dialog ≡ o → MatchOption o (reply.closes ≡ true) (λ f. (e ≡ f) × (reply.closes ≡ false) × ((one seats h kept' d' u).unsealed ≡ []))
-        → (hs : List Hindrance) × (turns (alone one) hs (record { kept = kept; seats = seats }) d all ≡ left seats reply new (one seats h kept' d' u).unsealed (both_read reads (one seats h kept' d' u).reads) None)
+        → (hs : List Hindrance) × (turns (alone one) hs (record { kept = kept; seats = seats }) d all ≡ left seats reply new (one seats h kept' d' u).unsealed (both_counted counts (one seats h kept' d' u).counts) None)
     by_dialog None is shuts = (
       (s.before ++ h ∷ []) ++ [],
-      up_to one seats kept d all old reads kept' d' u us s h [] None is
-          ∙ ap (λ (said : List ℕ). leaving seats said (old.gone ++ (one seats h kept' d' u).gone) (one seats h kept' d' u).unsealed (both_read reads (one seats h kept' d' u).reads) (one seats h kept' d' u).kept None) (sym took.said)
-          ∙ ap (λ (boxes : List BoxId). leaving seats reply.said boxes (one seats h kept' d' u).unsealed (both_read reads (one seats h kept' d' u).reads) (one seats h kept' d' u).kept None) (sym took.gone)
-          ∙ ap (λ (k : Kept). left seats reply k (one seats h kept' d' u).unsealed (both_read reads (one seats h kept' d' u).reads) None) (sym took.kept_is),
+      up_to one seats kept d all old counts kept' d' u us s h [] None is
+          ∙ ap (λ (said : List ℕ). leaving seats said (old.gone ++ (one seats h kept' d' u).gone) (one seats h kept' d' u).unsealed (both_counted counts (one seats h kept' d' u).counts) (one seats h kept' d' u).kept None) (sym took.said)
+          ∙ ap (λ (boxes : List BoxId). leaving seats reply.said boxes (one seats h kept' d' u).unsealed (both_counted counts (one seats h kept' d' u).counts) (one seats h kept' d' u).kept None) (sym took.gone)
+          ∙ ap (λ (k : Kept). left seats reply k (one seats h kept' d' u).unsealed (both_counted counts (one seats h kept' d' u).counts) None) (sym took.kept_is),
     )
     by_dialog (Some f) is goes = absurd (let wrong : true ≡ false = sym shut ∙ goes.1 in cc)
 
 -- a turn for which no memory is found, and which is lost
-pub unheard : {D U : Type 0} → (one : Seats → Hindrance → Kept → D → U → Turn D) (seats : Seats) (kept : Kept) (d : D) (all : List U) (reply : Reply) (reads : Reads) (kept' : Kept) (d' : D) (us : List U)
-    → SoFar one seats kept d all reply reads kept' d' us → (us ≡ [] → ⊥)
-    → ((u : U) → one seats Unheard kept' d' u ≡ record { said = []; kept = kept'; dialog = None; gone = []; unsealed = []; reads = none_read })
-    → (hs : List Hindrance) × (turns (alone one) hs (record { kept = kept; seats = seats }) d all ≡ left seats reply kept' [] reads None)
-unheard one seats kept d all reply reads kept' d' [] s some lost = absurd (some refl)
-unheard {D} one seats kept d all reply reads kept' d' (u ∷ us) s some lost = (
+pub unheard : {D U : Type 0} → (one : Seats → Hindrance → Kept → D → U → Turn D) (seats : Seats) (kept : Kept) (d : D) (all : List U) (reply : Reply) (counts : Counts) (kept' : Kept) (d' : D) (us : List U)
+    → SoFar one seats kept d all reply counts kept' d' us → (us ≡ [] → ⊥)
+    → ((u : U) → one seats Unheard kept' d' u ≡ record { said = []; kept = kept'; dialog = None; gone = []; unsealed = []; counts = none_counted })
+    → (hs : List Hindrance) × (turns (alone one) hs (record { kept = kept; seats = seats }) d all ≡ left seats reply kept' [] counts None)
+unheard one seats kept d all reply counts kept' d' [] s some lost = absurd (some refl)
+unheard {D} one seats kept d all reply counts kept' d' (u ∷ us) s some lost = (
   s.before ++ Unheard ∷ [],
   s.split (Unheard ∷ [])
-      ∙ ap (λ (t : Turn D). behind reply reads (goes_on (outcome_of (beside seats kept') t) t.dialog (λ s e. turns (alone one) [] s e us))) (lost u)
-      ∙ nothing_more seats reply reads kept' None,
+      ∙ ap (λ (t : Turn D). behind reply counts (goes_on (outcome_of (beside seats kept') t) t.dialog (λ s e. turns (alone one) [] s e us))) (lost u)
+      ∙ nothing_more seats reply counts kept' None,
 )
 
 -- no turn is to come
-pub all_heard : {D U : Type 0} → (one : Seats → Hindrance → Kept → D → U → Turn D) (seats : Seats) (kept : Kept) (d : D) (all : List U) (reply : Reply) (reads : Reads) (kept' : Kept) (d' : D) (us : List U)
-    → SoFar one seats kept d all reply reads kept' d' us → us ≡ []
-    → (hs : List Hindrance) × (turns (alone one) hs (record { kept = kept; seats = seats }) d all ≡ left seats reply kept' [] reads (Some d'))
-all_heard one seats kept d all reply reads kept' d' us s none = (
+pub all_heard : {D U : Type 0} → (one : Seats → Hindrance → Kept → D → U → Turn D) (seats : Seats) (kept : Kept) (d : D) (all : List U) (reply : Reply) (counts : Counts) (kept' : Kept) (d' : D) (us : List U)
+    → SoFar one seats kept d all reply counts kept' d' us → us ≡ []
+    → (hs : List Hindrance) × (turns (alone one) hs (record { kept = kept; seats = seats }) d all ≡ left seats reply kept' [] counts (Some d'))
+all_heard one seats kept d all reply counts kept' d' us s none = (
   s.before ++ [],
-  s.split [] ∙ ap (λ ls. behind reply reads (all_turns one seats [] kept' d' ls)) none
-      ∙ nothing_more seats reply reads kept' (Some d'),
+  s.split [] ∙ ap (λ ls. behind reply counts (all_turns one seats [] kept' d' ls)) none
+      ∙ nothing_more seats reply counts kept' (Some d'),
 )
 
 -- the last turn is to come, which says nothing
-pub last_heard : {D U : Type 0} → (one : Seats → Hindrance → Kept → D → U → Turn D) (seats : Seats) (kept : Kept) (d : D) (all : List U) (reply : Reply) (reads : Reads) (kept' : Kept) (d' : D) (us : List U) (u : U)
-    → SoFar one seats kept d all reply reads kept' d' us → us ≡ u ∷ [] → one seats Clear kept' d' u ≡ record { said = []; kept = kept'; dialog = Some d'; gone = []; unsealed = []; reads = none_read }
-    → (hs : List Hindrance) × (turns (alone one) hs (record { kept = kept; seats = seats }) d all ≡ left seats reply kept' [] reads (Some d'))
-last_heard {D} one seats kept d all reply reads kept' d' us u s last quiet = (
+pub last_heard : {D U : Type 0} → (one : Seats → Hindrance → Kept → D → U → Turn D) (seats : Seats) (kept : Kept) (d : D) (all : List U) (reply : Reply) (counts : Counts) (kept' : Kept) (d' : D) (us : List U) (u : U)
+    → SoFar one seats kept d all reply counts kept' d' us → us ≡ u ∷ [] → one seats Clear kept' d' u ≡ record { said = []; kept = kept'; dialog = Some d'; gone = []; unsealed = []; counts = none_counted }
+    → (hs : List Hindrance) × (turns (alone one) hs (record { kept = kept; seats = seats }) d all ≡ left seats reply kept' [] counts (Some d'))
+last_heard {D} one seats kept d all reply counts kept' d' us u s last quiet = (
   s.before ++ [],
-  s.split [] ∙ ap (λ ls. behind reply reads (all_turns one seats [] kept' d' ls)) last
-      ∙ ap (λ (t : Turn D). behind reply reads (goes_on (outcome_of (beside seats kept') t) t.dialog (λ s e. turns (alone one) [] s e []))) quiet
-      ∙ nothing_more seats reply reads kept' (Some d'),
+  s.split [] ∙ ap (λ ls. behind reply counts (all_turns one seats [] kept' d' ls)) last
+      ∙ ap (λ (t : Turn D). behind reply counts (goes_on (outcome_of (beside seats kept') t) t.dialog (λ s e. turns (alone one) [] s e []))) quiet
+      ∙ nothing_more seats reply counts kept' (Some d'),
 )
 
 -- what the turns say is what the connection is told
 pub told_by : {D U : Type 0} → (one : Seats → Hindrance → Kept → D → U → Turn D) (seat_of : D → Seat) (seats : Seats) (kept : Kept) (d : D) (all : List U) (conn : ℕ) (reply : Reply)
-    (kept' : Kept) (failed : List JournalRecord) (reads : Reads) (seat : Seat) (o : Option D) (S : List JournalRecord → Reads → Type 0)
+    (kept' : Kept) (failed : List JournalRecord) (counts : Counts) (seat : Seat) (o : Option D) (S : List JournalRecord → Counts → Type 0)
     → reply.conn ≡ conn
-    → (hs : List Hindrance) × (turns (alone one) hs (record { kept = kept; seats = seats }) d all ≡ left seats reply kept' failed reads o)
-    → option_map seat_of o ≡ seat_left reply.closes seat → S failed reads
-    → (hs : List Hindrance) × (failed : List JournalRecord) × (reads : Reads) × S failed reads
-    × Tells (heard_by seat_of (turns (alone one) hs (record { kept = kept; seats = seats }) d all)) seats conn reply kept' failed reads seat
-told_by one seat_of seats kept d all conn reply kept' failed reads seat o S same (hs, is) left_is seals = (
+    → (hs : List Hindrance) × (turns (alone one) hs (record { kept = kept; seats = seats }) d all ≡ left seats reply kept' failed counts o)
+    → option_map seat_of o ≡ seat_left reply.closes seat → S failed counts
+    → (hs : List Hindrance) × (failed : List JournalRecord) × (counts : Counts) × S failed counts
+    × Tells (heard_by seat_of (turns (alone one) hs (record { kept = kept; seats = seats }) d all)) seats conn reply kept' failed counts seat
+told_by one seat_of seats kept d all conn reply kept' failed counts seat o S same (hs, is) left_is seals = (
   hs,
   failed,
-  reads,
+  counts,
   seals,
   record {
     conn_is = same;
     heard_is = ap (heard_by seat_of) is
-        ∙ ap (λ (s : Option Seat). record { said = reply.said; state = record { kept = kept'; seats = seats }; seat = s; aftermath = taking reply.gone; unsealed = failed; reads = reads; consoles = no_consoles }) left_is;
+        ∙ ap (λ (s : Option Seat). record { said = reply.said; state = record { kept = kept'; seats = seats }; seat = s; aftermath = taking reply.gone; unsealed = failed; counts = counts; consoles = no_consoles }) left_is;
   },
 )
 
@@ -187,32 +187,32 @@ none_left true seat = refl
 none_left false seat = refl
 
 -- the answers of the turns are the one reply
-pub heard_alone : (h : Heard) (seats : Seats) (conn : ℕ) (reply : Reply) (kept : Kept) (failed : List JournalRecord) (reads : Reads) (seat : Seat)
-    → Tells h seats conn reply kept failed reads seat
-    → heard conn h ≡ answered_alone conn (going_on_with reply) kept failed reads [] seat seats
-heard_alone h seats conn reply kept failed reads seat t =
+pub heard_alone : (h : Heard) (seats : Seats) (conn : ℕ) (reply : Reply) (kept : Kept) (failed : List JournalRecord) (counts : Counts) (seat : Seat)
+    → Tells h seats conn reply kept failed counts seat
+    → heard conn h ≡ answered_alone conn (going_on_with reply) kept failed counts [] seat seats
+heard_alone h seats conn reply kept failed counts seat t =
     ap (heard conn) t.heard_is
     ∙ ap (λ (b : Bool). record {
       state = record { kept = kept; seats = seated conn (seat_left reply.closes seat) seats };
       replies = with_reply (record { conn = conn; said = reply.said; closes = b }) (told_others conn (taking reply.gone) (seated conn (seat_left reply.closes seat) seats));
       unsealed = failed;
-      reads = reads;
+      counts = counts;
       consoles = no_consoles;
     }) (none_left reply.closes seat)
     ∙ ap (λ (n : ℕ). record {
       state = record { kept = kept; seats = seated conn (seat_left reply.closes seat) seats };
       replies = with_reply (record { conn = n; said = reply.said; closes = reply.closes }) (told_others conn (taking reply.gone) (seated conn (seat_left reply.closes seat) seats));
       unsealed = failed;
-      reads = reads;
+      counts = counts;
       consoles = no_consoles;
     }) (sym t.conn_is)
 
 -- no memory was found for the bytes
 pub unfed_alone : (hs : List Hindrance) (stage : Stage) (at : ℕ) (kept : Kept) (seats : Seats) (conn : ℕ) (seat seat' : Seat) (bytes : List ℕ) (reply : Reply)
     → reply ≡ record { conn = conn; said = []; closes = true; gone = [] }
-    → hears true hs stage at (record { kept = kept; seats = seats }) conn seat bytes ≡ answered_alone conn (going_on_with reply) kept [] none_read [] seat' seats
+    → hears true hs stage at (record { kept = kept; seats = seats }) conn seat bytes ≡ answered_alone conn (going_on_with reply) kept [] none_counted [] seat' seats
 unfed_alone hs stage at kept seats conn seat seat' bytes reply e =
-    sym (ap (λ (r : Reply). answered_alone conn (going_on_with r) kept [] none_read [] seat' seats) e)
+    sym (ap (λ (r : Reply). answered_alone conn (going_on_with r) kept [] none_counted [] seat' seats) e)
 
 -- the seat of a connection that stays open
 pub seat_stays : (closes : Bool) (seat seat' : Seat) → closes ≡ false → seat ≡ seat' → Some seat ≡ seat_left closes seat'
@@ -226,35 +226,35 @@ seat_goes false seat shut = absurd (let w : false ≡ true = shut in cc)
 
 -- the bytes of a connection are heard, and this is its reply, whether serving is asked to stop, what is kept, the record whose sealing failed, what could
 -- not be read, and its seat then
-abbrev pub HeardAlone : (List JournalRecord → Reads → Type 0) → ℕ → Kept → Seats → ℕ → Seat → List ℕ → Turned → Kept → Seat → Type 0
+abbrev pub HeardAlone : (List JournalRecord → Counts → Type 0) → ℕ → Kept → Seats → ℕ → Seat → List ℕ → Turned → Kept → Seat → Type 0
 HeardAlone S at kept seats conn seat bytes turned kept' seat' =
-    (no_memory : Bool) × (hs : List Hindrance) × (stage : Stage) × (failed : List JournalRecord) × (reads : Reads) × S failed reads × (readings : List Reading) × AreSaid readings
+    (no_memory : Bool) × (hs : List Hindrance) × (stage : Stage) × (failed : List JournalRecord) × (counts : Counts) × S failed counts × (readings : List Reading) × AreSaid readings
     × (hears no_memory hs stage at (record { kept = kept; seats = seats }) conn seat bytes
-    ≡ answered_alone conn turned kept' failed reads readings seat' seats)
+    ≡ answered_alone conn turned kept' failed counts readings seat' seats)
 
 -- the turns of a mail client or a mail reader
-pub going : (S : List JournalRecord → Reads → Type 0) (at : ℕ) (kept : Kept) (seats : Seats) (conn : ℕ) (seat : Seat) (bytes : List ℕ) (reply : Reply) (turned : Turned) (kept' : Kept) (seat' : Seat)
+pub going : (S : List JournalRecord → Counts → Type 0) (at : ℕ) (kept : Kept) (seats : Seats) (conn : ℕ) (seat : Seat) (bytes : List ℕ) (reply : Reply) (turned : Turned) (kept' : Kept) (seat' : Seat)
     → turned ≡ going_on_with reply
-    → (b : Bool) (hs : List Hindrance) (stage : Stage) (failed : List JournalRecord) (reads : Reads) → S failed reads
-    → hears b hs stage at (record { kept = kept; seats = seats }) conn seat bytes ≡ answered_alone conn (going_on_with reply) kept' failed reads [] seat' seats
+    → (b : Bool) (hs : List Hindrance) (stage : Stage) (failed : List JournalRecord) (counts : Counts) → S failed counts
+    → hears b hs stage at (record { kept = kept; seats = seats }) conn seat bytes ≡ answered_alone conn (going_on_with reply) kept' failed counts [] seat' seats
     → HeardAlone S at kept seats conn seat bytes turned kept' seat'
-going S at kept seats conn seat bytes reply turned kept' seat' is b hs stage failed reads seals e =
-    subst (λ (t : Turned). HeardAlone S at kept seats conn seat bytes t kept' seat') (sym is) (b, hs, stage, failed, reads, seals, [], tt, e)
+going S at kept seats conn seat bytes reply turned kept' seat' is b hs stage failed counts seals e =
+    subst (λ (t : Turned). HeardAlone S at kept seats conn seat bytes t kept' seat') (sym is) (b, hs, stage, failed, counts, seals, [], tt, e)
 
-pub heard_same : (S T : List JournalRecord → Reads → Type 0) (at : ℕ) (kept : Kept) (seats : Seats) (conn : ℕ) (seat seat0 : Seat) (bytes : List ℕ) (turned turned0 : Turned) (kept' kept0 : Kept) (seat' seat'' : Seat)
-    → seat ≡ seat0 → turned0 ≡ turned → kept0 ≡ kept' → seat'' ≡ seat' → ((failed : List JournalRecord) (reads : Reads) → S failed reads → T failed reads)
+pub heard_same : (S T : List JournalRecord → Counts → Type 0) (at : ℕ) (kept : Kept) (seats : Seats) (conn : ℕ) (seat seat0 : Seat) (bytes : List ℕ) (turned turned0 : Turned) (kept' kept0 : Kept) (seat' seat'' : Seat)
+    → seat ≡ seat0 → turned0 ≡ turned → kept0 ≡ kept' → seat'' ≡ seat' → ((failed : List JournalRecord) (counts : Counts) → S failed counts → T failed counts)
     → HeardAlone S at kept seats conn seat bytes turned kept' seat' → HeardAlone T at kept seats conn seat0 bytes turned0 kept0 seat''
-heard_same S T at kept seats conn seat seat0 bytes turned turned0 kept' kept0 seat' seat'' s r k t then (b, hs, stage, failed, reads, seals, readings, said, is) = (
+heard_same S T at kept seats conn seat seat0 bytes turned turned0 kept' kept0 seat' seat'' s r k t then (b, hs, stage, failed, counts, seals, readings, said, is) = (
   b,
   hs,
   stage,
   failed,
-  reads,
-  then failed reads seals,
+  counts,
+  then failed counts seals,
   readings,
   said,
   ap (λ (x : Seat). hears b hs stage at (record { kept = kept; seats = seats }) conn x bytes) (sym s) ∙ is
-      ∙ ap (λ (x : Turned). answered_alone conn x kept' failed reads readings seat' seats) (sym r)
-      ∙ ap (λ (x : Kept). answered_alone conn turned0 x failed reads readings seat' seats) (sym k)
-      ∙ ap (λ (x : Seat). answered_alone conn turned0 kept0 failed reads readings x seats) (sym t),
+      ∙ ap (λ (x : Turned). answered_alone conn x kept' failed counts readings seat' seats) (sym r)
+      ∙ ap (λ (x : Kept). answered_alone conn turned0 x failed counts readings seat' seats) (sym k)
+      ∙ ap (λ (x : Seat). answered_alone conn turned0 kept0 failed counts readings x seats) (sym t),
 )

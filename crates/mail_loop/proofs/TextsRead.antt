@@ -10,7 +10,8 @@ use Rattle.mail_loop.specs.declared.out.Out.TheVariants.{Read}
 use Rattle.store_kept.specs.Kept.{Kept}
 use Rattle.store_kept.specs.Texts.{texts_kept}
 use Rattle.desk_journal.specs.Lasting.{Lasting}
-use Rattle.desk_journal.specs.Reading.{IsStill, ReadsWell, none_read, wrong_once}
+use Rattle.desk_journal.specs.Reading.{IsStill, ReadsWell, wrong_once}
+use Rattle.mail_loop.specs.Counts.{read_so, wanting}
 use Rattle.desk_journal.specs.Stored.{HoldsTexts}
 use Rattle.console_session.proofs.Deciding.{IsSame, decided}
 use Rattle.mail_loop.specs.declared.reply.Reply.{Reply}
@@ -35,13 +36,13 @@ module _ {D Dialog : Type 0} (told : D → DiskTold) (speech : Speech Dialog) wh
       texts_turn speech (HaveSealed told b c) (HaveSealed told a c) at a.kept c.kept bodies texts d e old new awaits all (which (texts_decided texts (texts_kept a.kept bodies)))
       (subst (λ (k : Kept). TakesTexts speech (HaveSealed told b c) at k texts d old c.kept e new) is.kept t)
     where
-      all : (failed : List JournalRecord) → HaveSealed told b c failed none_read → HaveSealed told a c failed none_read
-      all failed seals = chained_after told then a b c failed none_read (still_sealed told still a b is well) seals
+      all : (failed : List JournalRecord) (n : ℕ) → HaveSealed told b c failed (wanting n) → HaveSealed told a c failed (wanting n)
+      all failed n seals = chained_after told then a b c failed (wanting n) (still_sealed told still a b is well) seals
 
       which : IsSame texts (texts_kept a.kept bodies)
-          → (texts ≡ texts_kept a.kept bodies) ⊎ ((failed : List JournalRecord) → HaveSealed told b c failed none_read → HaveSealed told a c failed wrong_once)
+          → (texts ≡ texts_kept a.kept bodies) ⊎ ((failed : List JournalRecord) (n : ℕ) → HaveSealed told b c failed (wanting n) → HaveSealed told a c failed (record { reads = wrong_once; starved = n }))
       which (inl same) = inl same
-      which (inr other) = inr (λ failed seals. wrong_sealed told a c failed (λ holds. other (given holds)) (all failed seals))
+      which (inr other) = inr (λ failed n seals. wrong_sealed told a c failed n (λ holds. other (given holds)) (all failed n seals))
 
   -- why texts did not come is told to the session
   pub texts_unread : Still told → (at : ℕ) (a b : Lasting D) (bodies : List Body) (why : ReadFault) (d e : Dialog) (old new : Reply) → speech.takes_texts d ≡ true
@@ -53,6 +54,6 @@ module _ {D Dialog : Type 0} (told : D → DiskTold) (speech : Speech Dialog) wh
       (unread_turn speech (HaveSealed told a b) at a.kept bodies why d e old new awaits (counts why cause well)
       (subst (λ (k : Kept). ReadsNone speech why k d old e new) is.kept t))
     where
-      counts : (w : ReadFault) → (w ≡ Disk → ReadFailed (told a.disk) (told b.disk)) → (w ≡ NoMemory → ReadsWell told a b) → HaveSealed told a b [] (reads_of w)
+      counts : (w : ReadFault) → (w ≡ Disk → ReadFailed (told a.disk) (told b.disk)) → (w ≡ NoMemory → ReadsWell told a b) → HaveSealed told a b [] (read_so (reads_of w))
       counts Disk failed stood = failed_sealed told still a b is (failed refl)
       counts NoMemory failed stood = still_sealed told still a b is (stood refl)

@@ -1,18 +1,20 @@
--- What was answered stays: the desks that serving goes through, step after step, and what each crash leaves since the strings of a step were sent.
-use Rattle.std.specs.Prelude.{◌≡◌, ℕ, true, false, List, [], ◌∷◌, ◌++◌, map, Some}
+-- What was answered stays: the desks that serving goes through, step after step, and what each crash leaves since a step's turns were sealed, before
+-- whose strings the machine seals no snapshot.
+use Rattle.std.specs.Prelude.{◌≡◌, ℕ, true, false, List, [], ◌∷◌, ◌++◌, map, Some, if◌then◌else◌}
 use Rattle.undo_outside.specs.Disk.{DiskTold}
 use Rattle.verb_bytes.specs.declared.journal.JournalRecord.{JournalRecord}
 use Rattle.store_kept.specs.Kept.{Kept}
 use Rattle.desk_journal.specs.Crashing.{LeavesFront}
 use Rattle.desk_journal.specs.Lasting.{Lasting}
-use Rattle.desk_journal.specs.Reading.{HaveRead, none_read}
+use Rattle.desk_journal.specs.Reading.{Counted, HaveRead, none_read}
 use Rattle.desk_journal.specs.Records.{state}
 use Rattle.desk_journal.specs.Sealing.{Seals}
 use Rattle.mail_loop.specs.State.{State}
-use Rattle.mail_loop.specs.Machine.{Answered, answered, happens}
+use Rattle.mail_loop.specs.Machine.{Answered, answered, happens, unwritten_by}
+use Rattle.mail_loop.specs.Did.{is_due_on}
 use Rattle.mail_loop.specs.Serving.{Step, at_first, run}
 
--- what the turns of a step leave, before its strings are sent
+-- what the turns of a step leave
 abbrev pub turned : State → Step → Answered
 turned s step = answered step.hindrances.unfed step.hindrances.turns step.hindrances.stage s step.event
 
@@ -20,8 +22,9 @@ turned s step = answered step.hindrances.unfed step.hindrances.turns step.hindra
 abbrev pub behind : State → Step → State
 behind s step = (happens step.hindrances s step.event).state
 
--- A step of serving over a desk. When the step's strings are sent the desk is `telling`, and these records of its turns are sealed. At its end the
--- desk is `after`, and behind the strings the snapshot that was due is sealed, or nothing.
+-- A step of serving over a desk. Behind its turns the desk is `telling`, and these records of theirs are sealed; at its end the desk is `after`, and the
+-- snapshot that was due is sealed, or nothing. That the strings are sent between the two no clause says, since a link tells no moment of a disk: the
+-- machine's definition has them there (`happens`), and its log is the link's.
 pub record Stretch (D : Type 0) : Type 0 where
   pub step : Step
   pub sealed : List JournalRecord
@@ -30,17 +33,21 @@ pub record Stretch (D : Type 0) : Type 0 where
   pub after : Lasting D
 
 -- From an open desk on a step went so: its turns sealed these records, in order, but for the one of them whose sealing failed, and what the desk kept
--- when its strings were sent is what the machine keeps then. In these turns just as many reads failed as the machine says that texts were not read in
--- them, so that a client is told of a failed read in no step without one. Behind the strings a snapshot was sealed, or nothing, or its sealing failed,
--- and no read failed. A desk that was closed by then sealed nothing more.
+-- behind them is what the machine keeps before its strings. In these turns just as many reads failed as the machine says that texts were not read in
+-- them, so that a client is told of a failed read in no step without one; and just as many writes found no memory as the machine says that turns were
+-- hindered by that (`Unwritten`), so that in a step without one the disk's count of them stands. Behind these turns a snapshot was sealed, or nothing,
+-- or its sealing failed, and no read failed; a write found no memory only where the machine says that the snapshot was due and left out for that. A
+-- desk that was closed by then sealed nothing more.
 pub record Went {D : Type 0} (told : D → DiskTold) (s : State) (old : Lasting D) (w : Stretch D) : Type 0 where
   pub is_open : old.closed ≡ false
   pub turns : Seals told w.sealed (turned s w.step).unsealed old w.telling
   pub telling_is : w.telling.kept ≡ (turned s w.step).state.kept
-  pub read : HaveRead told old w.telling (turned s w.step).reads
+  pub read : HaveRead told old w.telling (turned s w.step).counts.reads
+  pub starved : Counted (turned s w.step).counts.starved (told old.disk).starved (told w.telling.disk).starved
   pub unkept : List JournalRecord
   pub keeps : Seals told w.snapshot unkept w.telling w.after
   pub unread : HaveRead told w.telling w.after none_read
+  pub starved_behind : Counted (if is_due_on w.telling then unwritten_by w.step.hindrances.keeping else 0) (told w.telling.disk).starved (told w.after.disk).starved
   pub stays : w.telling.closed ≡ true → (w.after ≡ w.telling) × (w.snapshot ≡ [])
 
 -- from old to new a desk goes through this step
@@ -72,12 +79,12 @@ pub record Lasts (records : List JournalRecord) (kept : Kept) (disk : DiskTold) 
   pub more : List JournalRecord
   pub each : (image : List ℕ) → disk.since moment image → LeavesFront records more image
 
--- what the machine keeps when the strings of a step are sent, behind other steps
+-- what the machine keeps behind the turns of a step, behind other steps
 abbrev pub kept_at : Kept → List Step → Step → Kept
 kept_at first before step = (turned (run before (at_first first)).state step).state.kept
 
--- What was answered before a moment is in every image of that moment and of each later one: for each step, since the moment at which its strings
--- were sent, the records at first and all that were sealed by then, which leave what the machine keeps then.
+-- What was answered before a moment is in every image of that moment and of each later one: for each step, since the moment behind its
+-- turns, the records at first and all that were sealed by then, which leave what the machine keeps then.
 abbrev pub AnswersLast : {D : Type 0} → (D → DiskTold) → List JournalRecord → Kept → List (Stretch D) → DiskTold → Type 0
 AnswersLast {D} told records first course disk =
     (before : List (Stretch D)) (w : Stretch D) (after : List (Stretch D)) → course ≡ before ++ w ∷ after

@@ -9,7 +9,7 @@ use Rattle.console_session.specs.Turn.{Turn as ConsoleTurn, asked_of}
 use Rattle.store_kept.specs.Kept.{Kept}
 use Rattle.mail_loop.specs.declared.aftermath.Aftermath.TheVariants.{Quiet, Rewound, Upgraded}
 use Rattle.mail_loop.specs.declared.console_turn.Sequel.{Sequel}
-use Rattle.mail_loop.specs.Hindrance.{Hindrance, Clear, Refused, Textless, Unread, UnreadRefused, UnreadUnheard, Misread, Misled, Unstored, Unheard, Unanswered, Unsealed, Untold, Halfway}
+use Rattle.mail_loop.specs.Hindrance.{Hindrance, Clear, Refused, Textless, Unread, UnreadRefused, UnreadUnheard, Misread, Misled, Unstored, Unheard, Unanswered, Unsealed, Untold, Unwritten, UnwrittenUnheard, Halfway}
 
 -- the bytes of a console, and what they were read as
 pub record Reading : Type 0 where
@@ -47,6 +47,8 @@ of_console Unheard = console.Unheard
 of_console Unanswered = console.Unanswered
 of_console Unsealed = console.Unsealed
 of_console Untold = console.Untold
+of_console Unwritten = console.Unwritten
+of_console UnwrittenUnheard = console.UnwrittenUnheard
 of_console (Halfway h) = console.Clear
 
 -- the bytes of a console that came, read so, at a moment

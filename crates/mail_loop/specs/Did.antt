@@ -7,13 +7,14 @@ use Rattle.undo_outside.specs.Calls.{LinkTold, then_told}
 use Rattle.undo_outside.specs.Disk.{DiskTold}
 use Rattle.verb_bytes.specs.declared.journal.JournalRecord.{JournalRecord}
 use Rattle.desk_journal.specs.Lasting.{Lasting}
-use Rattle.desk_journal.specs.Reading.{Counted, Reads, RoseBy, none_read}
+use Rattle.desk_journal.specs.Reading.{Counted, RoseBy}
+use Rattle.mail_loop.specs.Counts.{Counts, none_counted, wanting}
 use Rattle.desk_journal.specs.Records.{snapshot_record}
 use Rattle.store_kept.specs.Kept.{Kept, snapshotted}
 use Rattle.mail_loop.specs.Asked.{HaveSealed}
 use Rattle.mail_loop.specs.ConsoleTurn.{AreSaid}
 use Rattle.mail_loop.specs.State.{Seat, Seats}
-use Rattle.mail_loop.specs.Machine.{Delivery, Arrives, IsMissed, IsLeftOut, Keeping, IsKept, IsPassed, IsUnkept, Reply, Answered, Delivered, Outcome, string_notes, reply_notes, remains, with_new_seat}
+use Rattle.mail_loop.specs.Machine.{Delivery, Arrives, IsMissed, IsLeftOut, Keeping, IsKept, IsPassed, IsUnkept, IsStarved, Reply, Answered, Delivered, Outcome, string_notes, reply_notes, remains, unwritten_by, with_new_seat}
 
 -- the link did this, and gave no event
 pub record Goes (old new : LinkTold) (notes : List LinkNote) : Type 0 where
@@ -94,14 +95,14 @@ WantsIn o before unclosed new notes more =
     ((notes ≡ []) × (unclosed ≡ 0) × (o.unsealed ≡ []) × (o.state.kept ≡ before)) ⊎ ((unclosed ≡ 1) × StopsAtClose more new)
 
 -- an event, before which this was kept, led to this outcome, and serving is asked to stop or not, or memory was wanted before the link had done all of it; S holds of the record
--- whose sealing failed and of what was not read, and what consoles' bytes were read as is so. Where memory was wanted no snapshot was taken.
-pub record Leads (S : List JournalRecord → Reads → Type 0) (unclosed : ℕ) (keeping : Keeping) (before : Kept) (o : Outcome) (old new : LinkTold) (kept : Kept) (seats : Seats) (result : Result Bool WantOfMemory) : Type 0 where
+-- whose sealing failed and of what was counted, and what consoles' bytes were read as is so. Where memory was wanted no snapshot was taken.
+pub record Leads (S : List JournalRecord → Counts → Type 0) (unclosed : ℕ) (keeping : Keeping) (before : Kept) (o : Outcome) (old new : LinkTold) (kept : Kept) (seats : Seats) (result : Result Bool WantOfMemory) : Type 0 where
   pub did : Did (WantsIn o before unclosed new) o.notes old new result
   pub kept_is : kept ≡ o.state.kept
   pub seats_are : MatchResult result (λ stops. (seats ≡ o.state.seats) × (stops ≡ o.consoles.stops)) (λ _. Unit {0})
   pub closed : MatchResult result (λ _. unclosed ≡ 0) (λ _. Unit {0})
   pub passed : MatchResult result (λ _. Unit {0}) (λ _. keeping ≡ IsPassed)
-  pub seals : S o.unsealed o.reads
+  pub seals : S o.unsealed o.counts
   pub read : AreSaid o.consoles.readings
 
 -- what an event leaves before its strings are sent, or memory was wanted for it or for the replies, and nothing was sealed
@@ -110,9 +111,9 @@ AnswersWith a kept seats view stops (Ok replies) =
     (kept ≡ a.state.kept) × (seats ≡ a.state.seats) × (view replies ≡ a.replies) × (stops replies ≡ a.consoles.stops)
 AnswersWith a kept seats view stops (Err e) = (kept ≡ a.state.kept) × (a.unsealed ≡ [])
 
--- S holds of the record whose sealing failed and of what was not read, and what consoles' bytes were read as is so
-abbrev pub Answers : {T : Type 0} → (List JournalRecord → Reads → Type 0) → Answered → Kept → Seats → (T → List Reply) → (T → Bool) → Result T WantOfMemory → Type 0
-Answers S a kept seats view stops result = AnswersWith a kept seats view stops result × S a.unsealed a.reads × AreSaid a.consoles.readings
+-- S holds of the record whose sealing failed and of what was counted, and what consoles' bytes were read as is so
+abbrev pub Answers : {T : Type 0} → (List JournalRecord → Counts → Type 0) → Answered → Kept → Seats → (T → List Reply) → (T → Bool) → Result T WantOfMemory → Type 0
+Answers S a kept seats view stops result = AnswersWith a kept seats view stops result × S a.unsealed a.counts × AreSaid a.consoles.readings
 
 -- a connection is opened with this seat, and these are its replies; or memory was wanted
 abbrev pub Opens : {T : Type 0} → ℕ → Seat → List Reply → Seats → Seats → (T → List Reply) → Result T WantOfMemory → Type 0
@@ -124,19 +125,22 @@ abbrev pub kept_by : Keeping → Kept → Kept
 kept_by IsKept kept = snapshotted kept
 kept_by IsPassed kept = kept
 kept_by IsUnkept kept = kept
+kept_by IsStarved kept = kept
 
 -- the record whose sealing failed then
 abbrev pub unkept_by : Keeping → Kept → List JournalRecord
 unkept_by IsKept kept = []
 unkept_by IsPassed kept = []
 unkept_by IsUnkept kept = snapshot_record kept ∷ []
+unkept_by IsStarved kept = []
 
 -- whether a snapshot of what an open desk keeps is due
 abbrev pub is_due_on : {D : Type 0} → Lasting D → Bool
 is_due_on desk = not desk.closed && nat_le 1024 desk.kept.marks.since
 
--- a desk took the snapshot that is due, or left it out, or its sealing failed; a closed desk stays as it was
+-- a desk took the snapshot that is due, or left it out, or its sealing failed; a write found no memory only where it is left out for that; a closed desk
+-- stays as it was
 pub record Keeps {D : Type 0} (told : D → DiskTold) (k : Keeping) (old new : Lasting D) : Type 0 where
   pub kept_is : new.kept ≡ (if is_due_on old then kept_by k old.kept else old.kept)
   pub closed : old.closed ≡ true → new ≡ old
-  pub seals : HaveSealed told old new (if is_due_on old then unkept_by k old.kept else []) none_read
+  pub seals : HaveSealed told old new (if is_due_on old then unkept_by k old.kept else []) (if is_due_on old then wanting (unwritten_by k) else none_counted)

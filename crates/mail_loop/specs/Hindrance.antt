@@ -7,7 +7,7 @@ use Rattle.verb_core.specs.declared.mailbox.Body.{Body}
 use Rattle.desk_journal.specs.Reading.{Reads, failed_once, none_read, wrong_once}
 use Rattle.store_kept.specs.Kept.{Kept}
 use Rattle.store_kept.specs.Texts.{texts_kept}
-use Rattle.mail_loop.specs.Asked.{Asking, does, fails, starves}
+use Rattle.mail_loop.specs.Asked.{Asking, does, fails, starves, unwritten}
 use Rattle.mail_loop.specs.Turn.{Turn, lost, unanswered}
 
 -- How a turn may go otherwise.
@@ -38,10 +38,14 @@ pub data Hindrance : Type 0 where
   Unsealed : Hindrance
   -- the same, and no memory was found for telling the client
   Untold : Hindrance
+  -- a write of what is asked found no memory, as the disk says, and the client is told; serving goes on
+  Unwritten : Hindrance
+  -- the same, and no memory was found for telling the client
+  UnwrittenUnheard : Hindrance
   -- what the outcome of an ask led to asking further goes so: that is a turn of its own, and the first stays done
   Halfway : Hindrance → Hindrance
 
--- What licenses a hindrance. Want of memory is free; the others are counted in the turn.
+-- What licenses a hindrance. Want of memory is free, but for that in a write, which the disk tells; the others are counted in the turn.
 pub data Licence : Type 0 where
   Free : Licence
   -- the count of failed reads rose
@@ -50,6 +54,8 @@ pub data Licence : Type 0 where
   FailedWrite : Licence
   -- a disk that is not honest gave another text than was stored
   WrongRead : Licence
+  -- the count of writes that found no memory rose
+  StarvedWrite : Licence
 
 -- a row of the table: what licenses a hindrance, and the turn that follows
 pub record Row (D : Type 0) : Type 0 where
@@ -61,26 +67,37 @@ is_failed_read Free = false
 is_failed_read FailedRead = true
 is_failed_read FailedWrite = false
 is_failed_read WrongRead = false
+is_failed_read StarvedWrite = false
 
 abbrev pub is_failed_write : Licence → Bool
 is_failed_write Free = false
 is_failed_write FailedRead = false
 is_failed_write FailedWrite = true
 is_failed_write WrongRead = false
+is_failed_write StarvedWrite = false
 
 abbrev pub is_wrong_read : Licence → Bool
 is_wrong_read Free = false
 is_wrong_read FailedRead = false
 is_wrong_read FailedWrite = false
 is_wrong_read WrongRead = true
+is_wrong_read StarvedWrite = false
+
+abbrev pub is_starved_write : Licence → Bool
+is_starved_write Free = false
+is_starved_write FailedRead = false
+is_starved_write FailedWrite = false
+is_starved_write WrongRead = false
+is_starved_write StarvedWrite = true
 
 -- A row says nothing that its licence does not let it say: with none it is the turn as it should be; a record was not sealed, a text was not read or was
--- another, only where that is licensed.
+-- another, and a write found no memory, only where that is licensed.
 pub record IsLicensed {D : Type 0} (clear : Turn D) (r : Row D) : Type 0 where
   pub goes : r.licence ≡ [] → r.follows ≡ clear
   pub writes : list_any is_failed_write r.licence ≡ false → r.follows.unsealed ≡ []
-  pub reads : list_any is_failed_read r.licence ≡ false → r.follows.reads.failed ≡ 0
-  pub wrong : list_any is_wrong_read r.licence ≡ false → r.follows.reads.wrong ≡ 0
+  pub reads : list_any is_failed_read r.licence ≡ false → r.follows.counts.reads.failed ≡ 0
+  pub wrong : list_any is_wrong_read r.licence ≡ false → r.follows.counts.reads.wrong ≡ 0
+  pub starved : list_any is_starved_write r.licence ≡ false → r.follows.counts.starved ≡ 0
 
 -- ---- the desk
 
@@ -119,6 +136,10 @@ misread texts desk = record desk { texts = λ bodies. Ok texts; reads = wrong_on
 abbrev pub without_items : Kept → Service → Service
 without_items kept desk = record desk { asked = starves kept }
 
+-- a write of what is asked finds no memory, and nothing changes
+abbrev pub without_writes : Kept → Service → Service
+without_writes kept desk = record desk { asked = unwritten kept }
+
 -- it seals nothing of what is asked
 abbrev pub without_seals : ℕ → Kept → Service → Service
 without_seals at kept desk = record desk { asked = fails at kept }
@@ -155,6 +176,8 @@ row Unheard at kept told turn = record { licence = Free ∷ []; follows = lost k
 row Unanswered at kept told turn = record { licence = Free ∷ []; follows = unanswered (turn (stopped (service at kept))) }
 row Unsealed at kept told turn = record { licence = FailedWrite ∷ []; follows = turn (without_seals at kept (service at kept)) }
 row Untold at kept told turn = record { licence = FailedWrite ∷ Free ∷ []; follows = unanswered (turn (stopped (without_seals at kept (service at kept)))) }
+row Unwritten at kept told turn = record { licence = StarvedWrite ∷ []; follows = turn (without_writes kept (service at kept)) }
+row UnwrittenUnheard at kept told turn = record { licence = StarvedWrite ∷ Free ∷ []; follows = unanswered (turn (stopped (without_writes kept (service at kept)))) }
 row {D} (Halfway h) at kept told turn =
     let other : Row D = row h at kept (lost kept) (λ desk. lost kept) in record { licence = other.licence; follows = turn (halfway h (service at kept)) }
 

@@ -12,7 +12,7 @@ use Rattle.undo_outside.specs.declared.event.LinkNote.{LinkNote}
 use Rattle.undo_outside.specs.declared.event.LinkNote.TheVariants.{Sent, Missed, Closed}
 use Rattle.verb_bytes.specs.declared.journal.JournalRecord.{JournalRecord}
 use Rattle.store_kept.specs.Kept.{snapshotted}
-use Rattle.desk_journal.specs.Reading.{Reads, none_read}
+use Rattle.mail_loop.specs.Counts.{Counts, both_counted, none_counted, wanting}
 use Rattle.desk_journal.specs.Records.{snapshot_record}
 use Rattle.console_head.specs.Request.{Stage}
 use Rattle.mail_loop.specs.declared.aftermath.Aftermath.{Aftermath}
@@ -39,6 +39,8 @@ pub data Keeping : Type 0 where
   IsPassed : Keeping
   -- it could not be sealed, and serving ends
   IsUnkept : Keeping
+  -- a write of it found no memory, as the disk says, and it is left out
+  IsStarved : Keeping
 
 -- What hinders an event: no memory for its bytes or its greeting, what hinders its turns, how each string goes, and how the snapshot that is due; and what a
 -- console's bytes are read as.
@@ -68,16 +70,16 @@ pub record Reply : Type 0 where
   pub closes : Bool
 
 -- what an event leaves before its strings are sent: the state, the replies by rising connection, the record whose sealing failed, where one did,
--- how many turns could not read a text or were given another, and what came of consoles
+-- how many turns could not read a text or were given another, or found no memory in a write, and what came of consoles
 pub record Answered : Type 0 where
   pub state : State
   pub replies : List Reply
   pub unsealed : List JournalRecord
-  pub reads : Reads
+  pub counts : Counts
   pub consoles : Consoles
 
 abbrev pub ignored : State → Answered
-ignored s = record { state = s; replies = []; unsealed = []; reads = none_read; consoles = no_consoles }
+ignored s = record { state = s; replies = []; unsealed = []; counts = none_counted; consoles = no_consoles }
 
 -- a reply in its place among others, by connection
 abbrev pub with_reply : Reply → List Reply → List Reply
@@ -109,13 +111,13 @@ heard conn h =
       state = record { kept = h.state.kept; seats = seats };
       replies = with_reply (record { conn = conn; said = h.said; closes = is_none h.seat }) (told_others conn h.aftermath seats);
       unsealed = h.unsealed;
-      reads = h.reads;
+      counts = h.counts;
       consoles = h.consoles;
     }
 
 -- no memory was found for the bytes that came: the connection is closed without an answer
 abbrev pub unfed : ℕ → State → Answered
-unfed conn s = heard conn (record { said = []; state = s; seat = None; aftermath = Quiet; unsealed = []; reads = none_read; consoles = no_consoles })
+unfed conn s = heard conn (record { said = []; state = s; seat = None; aftermath = Quiet; unsealed = []; counts = none_counted; consoles = no_consoles })
 
 -- bytes come over an open connection, and find memory or none
 abbrev pub hears : Bool → List Hindrance → Stage → ℕ → State → ℕ → Seat → List ℕ → Answered
@@ -133,17 +135,17 @@ greeted s conn seat greeting = record {
   state = record { kept = s.kept; seats = with_new_seat conn seat s.seats };
   replies = record { conn = conn; said = greeting; closes = false } ∷ [];
   unsealed = [];
-  reads = none_read;
+  counts = none_counted;
   consoles = no_consoles;
 }
 
 -- a connection is opened, and nothing is said
 abbrev pub opened : State → ℕ → Seat → Answered
-opened s conn seat = record { state = record { kept = s.kept; seats = with_new_seat conn seat s.seats }; replies = []; unsealed = []; reads = none_read; consoles = no_consoles }
+opened s conn seat = record { state = record { kept = s.kept; seats = with_new_seat conn seat s.seats }; replies = []; unsealed = []; counts = none_counted; consoles = no_consoles }
 
 -- no memory is found for a greeting: it is left out, and the connection is closed
 abbrev pub ungreeted : State → ℕ → Answered
-ungreeted s conn = record { state = s; replies = record { conn = conn; said = []; closes = true } ∷ []; unsealed = []; reads = none_read; consoles = no_consoles }
+ungreeted s conn = record { state = s; replies = record { conn = conn; said = []; closes = true } ∷ []; unsealed = []; counts = none_counted; consoles = no_consoles }
 
 -- a connection is opened, and its client is greeted where its role has a greeting and memory is found for that
 abbrev pub admitted : Bool → State → ℕ → Seat → Option (List ℕ) → Answered
@@ -217,16 +219,16 @@ delivered ds seats (r ∷ rs) =
     record { seats = more.seats; notes = reply_notes d r ++ more.notes }
 
 -- what an event leaves: the state, what the link did for it, the record whose sealing failed, where one did, how many turns could not read a
--- text or were given another, and what came of consoles
+-- text or were given another, how many writes found no memory, and what came of consoles
 pub record Outcome : Type 0 where
   pub state : State
   pub notes : List LinkNote
   pub unsealed : List JournalRecord
-  pub reads : Reads
+  pub counts : Counts
   pub consoles : Consoles
 
 abbrev pub outcome : Answered → Delivered → Outcome
-outcome a d = record { state = record { kept = a.state.kept; seats = d.seats }; notes = d.notes; unsealed = a.unsealed; reads = a.reads; consoles = a.consoles }
+outcome a d = record { state = record { kept = a.state.kept; seats = d.seats }; notes = d.notes; unsealed = a.unsealed; counts = a.counts; consoles = a.consoles }
 
 -- the end of the events
 abbrev pub is_end : What → Bool
@@ -241,11 +243,19 @@ is_end NoEvent = false
 abbrev pub is_snapshot_due : Outcome → Bool
 is_snapshot_due o = is_empty o.unsealed && nat_le 1024 o.state.kept.marks.since
 
+-- how many writes of a snapshot that is due found no memory
+abbrev pub unwritten_by : Keeping → ℕ
+unwritten_by IsKept = 0
+unwritten_by IsPassed = 0
+unwritten_by IsUnkept = 0
+unwritten_by IsStarved = 1
+
 -- the snapshot that is due is taken, left out, or could not be sealed
 abbrev pub with_snapshot : Keeping → Outcome → Outcome
 with_snapshot IsKept o = if is_snapshot_due o then record o { state = record { kept = snapshotted o.state.kept; seats = o.state.seats } } else o
 with_snapshot IsPassed o = o
 with_snapshot IsUnkept o = if is_snapshot_due o then record o { unsealed = snapshot_record o.state.kept ∷ [] } else o
+with_snapshot IsStarved o = if is_snapshot_due o then record o { counts = both_counted o.counts (wanting 1) } else o
 
 -- an event: its turns, its strings, and then the snapshot that is due
 abbrev pub happens : Hindrances → State → Event → Outcome

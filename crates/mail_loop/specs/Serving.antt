@@ -9,7 +9,8 @@ use Rattle.mail_loop.specs.declared.serve.ServeFault.{ServeFault}
 use Rattle.mail_loop.specs.declared.serve.ServeFault.TheVariants.{Link, Disk, Turns, NoMemory}
 use Rattle.store_kept.specs.Kept.{Kept}
 use Rattle.verb_bytes.specs.declared.journal.JournalRecord.{JournalRecord}
-use Rattle.desk_journal.specs.Reading.{Counted, Reads, RoseBy, both_read, none_read}
+use Rattle.desk_journal.specs.Reading.{Counted, Reads, RoseBy}
+use Rattle.mail_loop.specs.Counts.{Counts, both_counted, none_counted}
 use Rattle.mail_loop.specs.State.{State}
 use Rattle.mail_loop.specs.ConsoleTurn.{AreSaid, Consoles, Reading, both, no_consoles}
 use Rattle.mail_loop.specs.Machine.{Hindrances, IsPassed, Outcome, happens, is_end}
@@ -20,22 +21,22 @@ pub record Step : Type 0 where
   pub event : Event
   pub hindrances : Hindrances
 
--- an outcome after what the link did before, the record that was not sealed then, what was not read, and what came of consoles
-abbrev pub after_notes : List LinkNote → List JournalRecord → Reads → Consoles → Outcome → Outcome
-after_notes notes unsealed reads consoles o = record {
+-- an outcome after what the link did before, the record that was not sealed then, what was counted, and what came of consoles
+abbrev pub after_notes : List LinkNote → List JournalRecord → Counts → Consoles → Outcome → Outcome
+after_notes notes unsealed counts consoles o = record {
   state = o.state;
   notes = notes ++ o.notes;
   unsealed = unsealed ++ o.unsealed;
-  reads = both_read reads o.reads;
+  counts = both_counted counts o.counts;
   consoles = both consoles o.consoles;
 }
 
 -- what steps leave, one after the other
 abbrev pub run : List Step → State → Outcome
-run [] s = record { state = s; notes = []; unsealed = []; reads = none_read; consoles = no_consoles }
+run [] s = record { state = s; notes = []; unsealed = []; counts = none_counted; consoles = no_consoles }
 run (step ∷ steps) s =
     let o = happens step.hindrances s step.event in
-    after_notes (Came step.event ∷ o.notes) o.unsealed o.reads o.consoles (run steps o.state)
+    after_notes (Came step.event ∷ o.notes) o.unsealed o.counts o.consoles (run steps o.state)
 
 -- nothing served yet: no connection is open
 abbrev pub at_first : Kept → State
@@ -54,9 +55,17 @@ pub record Serves (steps : List Step) (old : Kept) (notes : List LinkNote) (new 
 abbrev pub unsealed_in : List Step → Kept → List JournalRecord
 unsealed_in steps old = (run steps (at_first old)).unsealed
 
+-- what was counted in these steps
+abbrev pub counts_in : List Step → Kept → Counts
+counts_in steps old = (run steps (at_first old)).counts
+
 -- how many turns of these steps could not read a text, and how many were given another than was stored
 abbrev pub reads_in : List Step → Kept → Reads
-reads_in steps old = (run steps (at_first old)).reads
+reads_in steps old = (counts_in steps old).reads
+
+-- how many writes found no memory in these steps
+abbrev pub starved_in : List Step → Kept → ℕ
+starved_in steps old = (counts_in steps old).starved
 
 -- what consoles' bytes were read as in these steps
 abbrev pub readings_in : List Step → Kept → List Reading

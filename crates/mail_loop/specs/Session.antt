@@ -1,5 +1,5 @@
 -- A session, whatever it speaks: what it answers, what the desk does for that, and the turn that comes of both.
-use Rattle.std.specs.Prelude.{◌≡◌, ℕ, Bool, true, false, List, [], ◌++◌, length, option_map, unwrap_or, Option, None, Result, Err}
+use Rattle.std.specs.Prelude.{◌≡◌, ℕ, ◌+◌, Bool, true, false, List, [], ◌++◌, length, option_map, unwrap_or, Option, None, Result, Err}
 use Rattle.undo_base.specs.declared.keys.User.{User}
 use Rattle.seal_log.specs.declared.fault.ReadFault.{ReadFault}
 use Rattle.verb_core.specs.declared.ask.SubmitFault.{SubmitFault}
@@ -18,7 +18,8 @@ use Rattle.mail_loop.specs.Afterwards.{gone_between}
 use Rattle.mail_loop.specs.Asked.{Asked}
 use Rattle.mail_loop.specs.Hindrance.{Hindrance, IsLicensed, Row, Service, row, service, under}
 use Rattle.mail_loop.specs.State.{Seats}
-use Rattle.mail_loop.specs.Turn.{Turn, says, ends}
+use Rattle.mail_loop.specs.Counts.{wanting}
+use Rattle.mail_loop.specs.Turn.{Turn, ends, reading, says}
 
 -- what comes of a unit of the stream, of texts or of an outcome, and the dialog after it
 pub record Took (D : Type 0) : Type 0 where
@@ -95,15 +96,16 @@ settled_as (Submit asked) kept d = says [] kept d
 
 -- the dialog is told what became of its ask, with the store and the stamps after it
 abbrev pub settled : {D : Type 0} → Speech D → D → Asked → Turn D
-settled speech d a = let t = speech.settle (store_of a.kept) a.kept.stamps d a.outcome in record (settled_as t.out a.kept t.dialog) { unsealed = a.unsealed }
+settled speech d a = let t = speech.settle (store_of a.kept) a.kept.stamps d a.outcome in record (settled_as t.out a.kept t.dialog) { unsealed = a.unsealed; counts = wanting a.starved }
 
 -- and the mailboxes are known that are gone then
 abbrev pub done : {D : Type 0} → Speech D → Kept → D → Asked → Turn D
 done speech kept d a = record (settled speech d a) { gone = gone_between kept a.kept }
 
 -- the turn of a further ask, behind that of the first
-abbrev pub behind : {D : Type 0} → List BoxId → List JournalRecord → Turn D → Turn D
-behind gone unsealed t = record t { gone = gone ++ t.gone; unsealed = unsealed ++ t.unsealed }
+abbrev pub behind : {D : Type 0} → List BoxId → List JournalRecord → ℕ → Turn D → Turn D
+behind gone unsealed starved t =
+    record t { gone = gone ++ t.gone; unsealed = unsealed ++ t.unsealed; counts = record { reads = t.counts.reads; starved = starved + t.counts.starved } }
 
 -- what the dialog gives of an outcome is answered; or it is a further ask, whose turn follows, hindered or not, and which leads to no other
 abbrev pub pursued_as : {D : Type 0} → Speech D → Service → Kept → D → Asked → Out → D → Turn D
@@ -111,7 +113,7 @@ pursued_as speech desk kept d a (Say said) e = done speech kept d a
 pursued_as speech desk kept d a (Read bodies) e = done speech kept d a
 pursued_as speech desk kept d a (Bye said) e = done speech kept d a
 pursued_as speech desk kept d a (Submit asked) e =
-    behind (gone_between kept a.kept) a.unsealed (under desk.further desk.at a.kept (λ later. done speech a.kept e (later.asked (speech.user e) asked)))
+    behind (gone_between kept a.kept) a.unsealed a.starved (under desk.further desk.at a.kept (λ later. done speech a.kept e (later.asked (speech.user e) asked)))
 
 -- what comes of an ask
 abbrev pub pursued : {D : Type 0} → Speech D → Service → Kept → D → Asked → Turn D
@@ -128,7 +130,7 @@ submits speech desk kept (Submit asked) d = pursued speech desk kept d (desk.ask
 abbrev pub followed : {D : Type 0} → Speech D → Service → Kept → Out → D → Turn D
 followed speech desk kept (Say said) d = says said kept d
 followed speech desk kept (Bye said) d = ends said kept
-followed speech desk kept (Read bodies) d = let t = speech.heard d (desk.texts bodies) in record (submits speech desk kept t.out t.dialog) { reads = desk.reads }
+followed speech desk kept (Read bodies) d = let t = speech.heard d (desk.texts bodies) in reading desk.reads (submits speech desk kept t.out t.dialog)
 followed speech desk kept (Submit asked) d = pursued speech desk kept d (desk.asked (speech.user d) asked)
 
 -- a unit of the stream, at a moment and beside the other connections

@@ -14,7 +14,7 @@ use Rattle.imap_stream.specs.declared.next.Next.TheVariants.{NotYet}
 use Rattle.imap_session.specs.declared.dialog.Dialog.{Dialog as ImapDialog}
 use Rattle.pop_session.specs.declared.dialog.Dialog.{Dialog as PopDialog}
 use Rattle.verb_bytes.specs.declared.journal.JournalRecord.{JournalRecord}
-use Rattle.desk_journal.specs.Reading.{Reads, both_read, none_read}
+use Rattle.mail_loop.specs.Counts.{Counts, both_counted, none_counted}
 use Rattle.console_head.specs.Request.{Stage}
 use Rattle.mail_loop.specs.State.{Seat, Smtp, Imap, Http, Pop, State, beside}
 use Rattle.mail_loop.specs.Turn.{Turn}
@@ -28,34 +28,34 @@ use Rattle.mail_loop.specs.declared.aftermath.Aftermath.{Aftermath}
 use Rattle.mail_loop.specs.Afterwards.{taking}
 
 -- What turns leave: what they say, the state, the dialog after them or none where the connection is closed, the mailboxes that they took away, the
--- record whose sealing failed, where one did, and how many could not read a text or were given another.
+-- record whose sealing failed, where one did, and how many could not read a text or were given another, or found no memory in a write.
 pub record Outcome (D : Type 0) : Type 0 where
   pub said : List ℕ
   pub state : State
   pub dialog : Option D
   pub gone : List BoxId
   pub unsealed : List JournalRecord
-  pub reads : Reads
+  pub counts : Counts
 
 -- no turn yet
 abbrev pub none_yet : {D : Type 0} → State → D → Outcome D
-none_yet s d = record { said = []; state = s; dialog = Some d; gone = []; unsealed = []; reads = none_read }
+none_yet s d = record { said = []; state = s; dialog = Some d; gone = []; unsealed = []; counts = none_counted }
 
 -- what turns leave after what earlier ones said
-abbrev pub after : {D : Type 0} → List ℕ → List BoxId → List JournalRecord → Reads → Outcome D → Outcome D
-after said gone unsealed reads o = record {
+abbrev pub after : {D : Type 0} → List ℕ → List BoxId → List JournalRecord → Counts → Outcome D → Outcome D
+after said gone unsealed counts o = record {
   said = said ++ o.said;
   state = o.state;
   dialog = o.dialog;
   gone = gone ++ o.gone;
   unsealed = unsealed ++ o.unsealed;
-  reads = both_read reads o.reads;
+  counts = both_counted counts o.counts;
 }
 
 -- the turns after a turn, while the connection is open
 abbrev pub goes_on : {D : Type 0} → Outcome D → Option D → (State → D → Outcome D) → Outcome D
 goes_on o None more = record o { dialog = None }
-goes_on o (Some d) more = after o.said o.gone o.unsealed o.reads (more o.state d)
+goes_on o (Some d) more = after o.said o.gone o.unsealed o.counts (more o.state d)
 
 -- Turns, one after the other, each hindered or not. `one` is a turn of this kind of session.
 abbrev pub turns : {D U : Type 0} → (Hindrance → State → D → U → Outcome D) → List Hindrance → State → D → List U → Outcome D
@@ -66,7 +66,7 @@ turns one hs s d (u ∷ us) =
 
 -- a turn touches no other connection; those that it changes are told at the event's end
 abbrev pub outcome_of : {D : Type 0} → State → Turn D → Outcome D
-outcome_of s t = record { said = t.said; state = record { kept = t.kept; seats = s.seats }; dialog = t.dialog; gone = t.gone; unsealed = t.unsealed; reads = t.reads }
+outcome_of s t = record { said = t.said; state = record { kept = t.kept; seats = s.seats }; dialog = t.dialog; gone = t.gone; unsealed = t.unsealed; counts = t.counts }
 
 -- a turn of a connection's session, at a moment: a unit of its stream, beside the other connections
 abbrev pub turn_of : {D U : Type 0} → Session D U → ℕ → ℕ → Hindrance → State → D → U → Outcome D
@@ -85,18 +85,19 @@ abbrev pub pop_turn : ℕ → ℕ → Hindrance → State → PopDialog → Smtp
 pop_turn at conn h s d line = turn_of pop_session at conn h s d line
 
 -- what comes of a connection's stream: what it is told, the state, its seat after that or none where it is closed, what follows for the other
--- connections, the record whose sealing failed, where one did, how many could not read a text or were given another, and what came of consoles
+-- connections, the record whose sealing failed, where one did, how many could not read a text or were given another, or found no memory in a write,
+-- and what came of consoles
 pub record Heard : Type 0 where
   pub said : List ℕ
   pub state : State
   pub seat : Option Seat
   pub aftermath : Aftermath
   pub unsealed : List JournalRecord
-  pub reads : Reads
+  pub counts : Counts
   pub consoles : Consoles
 
 abbrev pub heard_by : {D : Type 0} → (D → Seat) → Outcome D → Heard
-heard_by seat o = record { said = o.said; state = o.state; seat = option_map seat o.dialog; aftermath = taking o.gone; unsealed = o.unsealed; reads = o.reads; consoles = no_consoles }
+heard_by seat o = record { said = o.said; state = o.state; seat = option_map seat o.dialog; aftermath = taking o.gone; unsealed = o.unsealed; counts = o.counts; consoles = no_consoles }
 
 -- the turns of a mail client's lines; what follows the last line stays unserved
 abbrev pub hears_lines : List Hindrance → ℕ → State → ℕ → Dialog → List ℕ → Heard
@@ -120,7 +121,7 @@ hears_console hs stage at s bytes =
       seat = option_map Http (left_by t.after bytes);
       aftermath = (sequel_of t.after).aftermath;
       unsealed = t.unsealed;
-      reads = t.reads;
+      counts = record { reads = t.reads; starved = t.starved };
       consoles = record { readings = record { bytes = bytes; stage = stage } ∷ []; stops = (sequel_of t.after).stops };
     }
 

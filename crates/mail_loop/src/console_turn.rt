@@ -1,10 +1,10 @@
 //! The turn of a console: its session answers one request over the desk.
 ghost use Rattle.std.specs.Prelude.{◌≡◌, ◌≤◌, Bool, List, false};
 ghost use Rattle.verb_bytes.specs.declared.journal.JournalRecord.{JournalRecord};
-ghost use Rattle.desk_journal.specs.Reading.{Reads};
 ghost use Rattle.console_head.specs.Request.{Stage};
 ghost use Rattle.mail_loop.specs.State.{Http as HttpSeat, Seats};
 ghost use Rattle.mail_loop.specs.Asked.{HaveSealed};
+ghost use Rattle.mail_loop.specs.Counts.{Counts};
 ghost use Rattle.mail_loop.specs.ConsoleTurn.{AreSaid, Reading, sequel_of};
 ghost use Rattle.mail_loop.specs.Hindrance.{Hindrance};
 ghost use Rattle.mail_loop.specs.Machine.{hears};
@@ -79,10 +79,10 @@ pub fn hear_console<R: Threads + Sync, D: Disk + Drop, G: Gate>(
     requires moment { at ≤ 253402300799 }
     requires sealed { desk.old.closed ≡ false }
     ensures house { desk.new.kept.house ≡ desk.old.kept.house }
-    ensures heard { (seats : Seats) → (no_memory : Bool) × (hs : List Hindrance) × (stage : Stage) × (failed : List JournalRecord) × (reads : Reads) ×
-        HaveSealed D.told desk.old desk.new failed reads × (readings : List Reading) × AreSaid readings ×
+    ensures heard { (seats : Seats) → (no_memory : Bool) × (hs : List Hindrance) × (stage : Stage) × (failed : List JournalRecord) × (counts : Counts) ×
+        HaveSealed D.told desk.old desk.new failed counts × (readings : List Reading) × AreSaid readings ×
         (hears no_memory hs stage at (record { kept = desk.old.kept; seats = seats }) conn (HttpSeat console.old) bytes.now
-        ≡ answered_alone conn result desk.new.kept failed reads readings (HttpSeat console.new) seats) }
+        ≡ answered_alone conn result desk.new.kept failed counts readings (HttpSeat console.new) seats) }
 {
     seals_join::<D>();
     let answer = console.hear(rt, alloc, desk, at, gate, bytes);

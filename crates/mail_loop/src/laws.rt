@@ -44,7 +44,7 @@ pub fn turns_are_of_the_whole_stream()
 
 /// What a hindered turn of a mail client, a mail reader or a fetching client says is licensed: what nothing licenses is the turn as it should be; a record was not sealed only under a hindrance that a failed
 /// write licenses, a text was not read only under one that a failed read licenses, and was another than was stored only where the disk gave
-/// it. How many there are in a turn the desk's counts tell (`HaveSealed`).
+/// it, and a write found no memory only under one that the disk's want licenses. How many there are in a turn the desk's counts tell (`HaveSealed`).
 pub fn hindrances_are_licensed()
     ensures client { (h : Hindrance) (at : ℕ) (kept : Kept) (others : Seats) (d : TheDialog) (line : TheLine) → IsLicensedRow smtp_session h at kept others d line }
     ensures fetching { (h : Hindrance) (at : ℕ) (kept : Kept) (others : Seats) (d : TheFetcher) (line : TheLine) → IsLicensedRow pop_session h at kept others d line }
@@ -61,8 +61,8 @@ pub fn asks_take_away()
 {}
 
 /// What was answered before a moment is in every image of that moment and of each later one. Serving went through a course, from a desk that
-/// holds its texts, whose disk was settled behind records that leave what it kept. Then for each step of the course: since the moment at which
-/// its strings were sent, each image that a crash may leave stands for those records and all that were sealed by then, which leave what the
+/// holds its texts, whose disk was settled behind records that leave what it kept. Then for each step of the course: since the moment
+/// behind its turns, each image that a crash may leave stands for those records and all that were sealed by then, which leave what the
 /// machine keeps then, and maybe for more behind them, and all of them can stand. In the link's log a step's strings stand behind its event,
 /// and that behind what was done for the steps before.
 pub fn answered_is_kept<D: Disk>()

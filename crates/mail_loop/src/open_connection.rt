@@ -4,12 +4,12 @@ ghost use Rattle.std.specs.List.{list_any};
 ghost use Rattle.verb_core.specs.declared.mailbox.BoxId.{BoxId as TheBoxId};
 ghost use Rattle.imap_session.specs.Dialog.{holds, is_at_home, is_free};
 ghost use Rattle.verb_bytes.specs.declared.journal.JournalRecord.{JournalRecord};
-ghost use Rattle.desk_journal.specs.Reading.{Reads};
 ghost use Rattle.mail_loop.specs.PopTurn.{is_fetching, user_at};
 ghost use Rattle.mail_loop.specs.State.{Seats, Smtp as SmtpSeat, Imap as ImapSeat, role_of};
 ghost use Rattle.mail_loop.specs.Roles.{row_of};
 ghost use Rattle.mail_loop.specs.SmtpTurn as smtp;
 ghost use Rattle.mail_loop.specs.Asked.{HaveSealed};
+ghost use Rattle.mail_loop.specs.Counts.{Counts};
 ghost use Rattle.mail_loop.specs.Hindrance.{Hindrance};
 ghost use Rattle.mail_loop.specs.Turns.{hears_lines, hears_commands};
 ghost use Rattle.console_head.specs.Request.{Stage};
@@ -198,8 +198,8 @@ fn serve_lines<D: Disk + Drop>(
     requires free { smtp.is_free dialog.old ≡ true }
     ensures free { smtp.is_free dialog.new ≡ true }
     ensures house { desk.new.kept.house ≡ desk.old.kept.house }
-    ensures turns { (seats : Seats) → (hs : List Hindrance) × (failed : List JournalRecord) × (reads : Reads) × HaveSealed D.told desk.old desk.new failed reads ×
-        Tells (hears_lines hs at (record { kept = desk.old.kept; seats = seats }) conn dialog.old unserved.old) seats conn result desk.new.kept failed reads (SmtpSeat unserved.new dialog.new) }
+    ensures turns { (seats : Seats) → (hs : List Hindrance) × (failed : List JournalRecord) × (counts : Counts) × HaveSealed D.told desk.old desk.new failed counts ×
+        Tells (hears_lines hs at (record { kept = desk.old.kept; seats = seats }) conn dialog.old unserved.old) seats conn result desk.new.kept failed counts (SmtpSeat unserved.new dialog.new) }
 {
     seals_join::<D>();
     let mut reply = empty_reply(alloc, conn, false);
@@ -234,10 +234,10 @@ fn hear_smtp<D: Disk + Drop>(
     requires free { smtp.is_free dialog.old ≡ true }
     ensures free { smtp.is_free dialog.new ≡ true }
     ensures house { desk.new.kept.house ≡ desk.old.kept.house }
-    ensures heard { (seats : Seats) → (no_memory : Bool) × (hs : List Hindrance) × (stage : Stage) × (failed : List JournalRecord) × (reads : Reads) ×
-        HaveSealed D.told desk.old desk.new failed reads × (readings : List Reading) × AreSaid readings ×
+    ensures heard { (seats : Seats) → (no_memory : Bool) × (hs : List Hindrance) × (stage : Stage) × (failed : List JournalRecord) × (counts : Counts) ×
+        HaveSealed D.told desk.old desk.new failed counts × (readings : List Reading) × AreSaid readings ×
         (hears no_memory hs stage at (record { kept = desk.old.kept; seats = seats }) conn (SmtpSeat unserved.old dialog.old) bytes.now
-        ≡ answered_alone conn result desk.new.kept failed reads readings (SmtpSeat unserved.new dialog.new) seats) }
+        ≡ answered_alone conn result desk.new.kept failed counts readings (SmtpSeat unserved.new dialog.new) seats) }
 {
     seals_join::<D>();
     match unserved.feed(bytes) {
@@ -269,8 +269,8 @@ fn serve_commands<D: Disk + Drop>(
     ensures free { is_free dialog.new ≡ true }
     ensures home { is_at_home desk.new.kept.house dialog.new ≡ true }
     ensures house { desk.new.kept.house ≡ desk.old.kept.house }
-    ensures turns { (seats : Seats) → (hs : List Hindrance) × (failed : List JournalRecord) × (reads : Reads) × HaveSealed D.told desk.old desk.new failed reads ×
-        Tells (hears_commands hs at (record { kept = desk.old.kept; seats = seats }) conn dialog.old stream.old) seats conn result desk.new.kept failed reads (ImapSeat stream.new dialog.new) }
+    ensures turns { (seats : Seats) → (hs : List Hindrance) × (failed : List JournalRecord) × (counts : Counts) × HaveSealed D.told desk.old desk.new failed counts ×
+        Tells (hears_commands hs at (record { kept = desk.old.kept; seats = seats }) conn dialog.old stream.old) seats conn result desk.new.kept failed counts (ImapSeat stream.new dialog.new) }
 {
     seals_join::<D>();
     let mut reply = empty_reply(alloc, conn, false);
@@ -310,10 +310,10 @@ fn hear_imap<D: Disk + Drop>(
     ensures free { is_free dialog.new ≡ true }
     ensures home { is_at_home desk.new.kept.house dialog.new ≡ true }
     ensures house { desk.new.kept.house ≡ desk.old.kept.house }
-    ensures heard { (seats : Seats) → (no_memory : Bool) × (hs : List Hindrance) × (stage : Stage) × (failed : List JournalRecord) × (reads : Reads) ×
-        HaveSealed D.told desk.old desk.new failed reads × (readings : List Reading) × AreSaid readings ×
+    ensures heard { (seats : Seats) → (no_memory : Bool) × (hs : List Hindrance) × (stage : Stage) × (failed : List JournalRecord) × (counts : Counts) ×
+        HaveSealed D.told desk.old desk.new failed counts × (readings : List Reading) × AreSaid readings ×
         (hears no_memory hs stage at (record { kept = desk.old.kept; seats = seats }) conn (ImapSeat stream.old dialog.old) bytes.now
-        ≡ answered_alone conn result desk.new.kept failed reads readings (ImapSeat stream.new dialog.new) seats) }
+        ≡ answered_alone conn result desk.new.kept failed counts readings (ImapSeat stream.new dialog.new) seats) }
 {
     seals_join::<D>();
     match stream.feed(bytes) {
@@ -340,10 +340,10 @@ pub fn hear<R: Threads + Sync, D: Disk + Drop, G: Gate>(
     requires home { IsHome desk.old.kept.house connection.old }
     ensures home { IsHome desk.new.kept.house connection.new }
     ensures house { desk.new.kept.house ≡ desk.old.kept.house }
-    ensures heard { (seats : Seats) → seat_at conn seats ≡ Some connection.old → AreInUse conn seats connection.old in_use.now → (no_memory : Bool) × (hs : List Hindrance) × (stage : Stage) × (failed : List JournalRecord) × (reads : Reads) ×
-        HaveSealed D.told desk.old desk.new failed reads × (readings : List Reading) × AreSaid readings ×
+    ensures heard { (seats : Seats) → seat_at conn seats ≡ Some connection.old → AreInUse conn seats connection.old in_use.now → (no_memory : Bool) × (hs : List Hindrance) × (stage : Stage) × (failed : List JournalRecord) × (counts : Counts) ×
+        HaveSealed D.told desk.old desk.new failed counts × (readings : List Reading) × AreSaid readings ×
         (hears no_memory hs stage at (record { kept = desk.old.kept; seats = seats }) conn connection.old bytes.now
-        ≡ answered_alone conn result desk.new.kept failed reads readings connection.new seats) }
+        ≡ answered_alone conn result desk.new.kept failed counts readings connection.new seats) }
 {
     match &mut connection.kind {
         Kind::Smtp { unserved, dialog } => {

@@ -13,7 +13,7 @@ ghost use Rattle.verb_core.specs.declared.conf.House.{House as TheHouse};
 ghost use Rattle.mail_loop.specs.Roles.{row_of};
 ghost use Rattle.mail_loop.specs.Stands.{AreHome, IsHome, letter_of, replies_of};
 ghost use Rattle.mail_loop.specs.Did.{AreLicensed, Told, Replied, Sends, Leads, Answers, Opens, Keeps, is_due_on, unclosed_by};
-ghost use Rattle.mail_loop.specs.Serving.{Step, ServedOver, ended_as, is_disk, reads_in, unsealed_in};
+ghost use Rattle.mail_loop.specs.Serving.{Step, ServedOver, counts_in, ended_as, is_disk, unsealed_in};
 ghost use Rattle.mail_loop.specs.Acknowledged.{GoesThrough, WentThrough};
 
 use crate::letters::{Letter, alone, letters_of, room_for_letters};
@@ -372,7 +372,7 @@ fn serve_each<R: Threads + Sync, L: Link, D: Disk + Drop, G: Gate>(
     requires sealed { desk.old.closed ≡ false }
     ensures serves { (steps : List Step) × (notes : List LinkNote) ×
         ServedOver turns steps notes (L.told link.old) (L.told link.new) desk.old.kept desk.new.kept result ×
-        HaveSealed D.told desk.old desk.new (unsealed_in steps desk.old.kept) (reads_in steps desk.old.kept) × WentThrough D.told steps desk.old desk.new }
+        HaveSealed D.told desk.old desk.new (unsealed_in steps desk.old.kept) (counts_in steps desk.old.kept) × WentThrough D.told steps desk.old desk.new }
     ensures closed { desk.new.closed ≡ is_disk result }
 {
     seals_join::<D>();
@@ -402,7 +402,8 @@ fn serve_each<R: Threads + Sync, L: Link, D: Disk + Drop, G: Gate>(
 }
 
 /// Serves the events of a link until the end comes or a console asks it to stop, at most so many, and takes a snapshot after an
-/// event, the end too, where one is due. What was answered stays: `answered_is_kept` says so of the desks that serving goes through. A text that can't be read is told to who asked for it, and serving goes on. Whatever came, over a disk
+/// event, the end too, where one is due. What was answered stays: `answered_is_kept` says so of the desks that serving goes through. A text that can't be read is told to who asked for it, and serving goes on. In each step the
+/// disk counts just as many failed reads, and writes that found no memory, as the machine has in it. Whatever came, over a disk
 /// that holds the texts as they were stored the store is at last what the items in force leave, and no UID names another message
 /// or another text than before (RFC 3501, section 2.3.1.1).
 pub fn serve_events<R: Threads + Sync, L: Link, D: Disk + Drop, G: Gate>(
@@ -416,7 +417,7 @@ pub fn serve_events<R: Threads + Sync, L: Link, D: Disk + Drop, G: Gate>(
     requires sealed { desk.old.closed ≡ false }
     ensures serves { (steps : List Step) × (notes : List LinkNote) ×
         ServedOver turns steps notes (L.told link.old) (L.told link.new) desk.old.kept desk.new.kept result ×
-        HaveSealed D.told desk.old desk.new (unsealed_in steps desk.old.kept) (reads_in steps desk.old.kept) × WentThrough D.told steps desk.old desk.new }
+        HaveSealed D.told desk.old desk.new (unsealed_in steps desk.old.kept) (counts_in steps desk.old.kept) × WentThrough D.told steps desk.old desk.new }
     ensures closed { desk.new.closed ≡ is_disk result }
     ensures runs { HoldsTexts D.told desk.old → IsRun desk.new.kept }
     ensures uids { HoldsTexts D.told desk.old → UidsLast desk.old.kept desk.new.kept }

@@ -8,19 +8,20 @@ use Rattle.store_kept.specs.Kept.{IsRun}
 use Rattle.desk_journal.specs.Lasting.{Lasting}
 use Rattle.time_desk.specs.Opening.{Starts}
 use Rattle.desk_journal.specs.Stored.{HoldsTexts}
-use Rattle.desk_journal.specs.Reading.{HaveRead}
+use Rattle.desk_journal.specs.Reading.{Counted, HaveRead}
 use Rattle.desk_journal.specs.Sealing.{Seals}
 use Rattle.mail_loop.specs.declared.serve.ServeFault.{ServeFault}
 use Rattle.mail_loop.specs.declared.serve.ServeFault.TheVariants.{Disk}
-use Rattle.mail_loop.specs.Serving.{Step, ServedOver, reads_in, unsealed_in}
+use Rattle.mail_loop.specs.Serving.{Step, ServedOver, reads_in, starved_in, unsealed_in}
 use Rattle.mail_loop.specs.Acknowledged.{AnswersLast, WentThrough}
 use Rattle.mail_proxy.specs.Opening.{OpensNone}
 use Rattle.mail_proxy.specs.Script.{IsKeptWell, Journals, last_line, status_of}
 use Rattle.mail_proxy.specs.Texts.{End}
 
 -- How the events of a link were served over a desk: the machine's steps for those that came, what the link did, what was sealed, where what was not
--- sealed is what these steps say, how often a text could not be read or was not the one that was stored, what is to be answered and written, which
--- desks serving went through, and what holds of what is kept at last where the disk held the texts.
+-- sealed is what these steps say, how often a text could not be read or was not the one that was stored, how many writes found no memory, just as many
+-- as these steps say, what is to be answered and written, which desks serving went through, and what holds of what is kept at last where the disk held
+-- the texts.
 pub record ServesLink {D : Type 0} (told : D → DiskTold) (link link' : LinkTold) (first last : Lasting D) (status : ℕ) (output : List ℕ) : Type 0 where
   pub outcome : Result (Unit {0}) ServeFault
   pub notes : List LinkNote
@@ -31,6 +32,7 @@ pub record ServesLink {D : Type 0} (told : D → DiskTold) (link link' : LinkTol
   pub output_is : output ≡ last_line outcome
   pub seals : Seals told added (unsealed_in steps first.kept) first last
   pub read : HaveRead told first last (reads_in steps first.kept)
+  pub starved : Counted (starved_in steps first.kept) (told first.disk).starved (told last.disk).starved
   pub disk_fault : outcome ≡ Err Disk → WriteFailed (told first.disk) (told last.disk)
   pub through : WentThrough told steps first last
   pub well : HoldsTexts told first → IsKeptWell first.kept last.kept

@@ -10,8 +10,10 @@ returns-then-upgraded g c =
 pub returns-in-Ok : goal.returns-in-Ok
 returns-in-Ok g c =
     upgrade_sealed g.D.Disk.told c.args.at c.args.desk.now c.upgrade.new.self c.tell_only.result (sym c.upgraded.ensures ∙ c.if-upgraded.false) c.in-Ok.ensures.ok c.upgrade.ensures.reads
+    c.in-Ok.ensures.wants.ok
     (c.tell_only.ensures upgraded_data c.upgraded_json-in-Ok.ensures)
 
 pub returns-in-Err : goal.returns-in-Err
 returns-in-Err g c =
-    upgrade_not_sealed g.D.Disk.told c.args.at c.args.desk.now c.upgrade.new.self c.in-Err.fault c.tell_fault.result (sym c.upgraded.ensures ∙ c.if-upgraded.false) c.in-Err.ensures.why c.upgrade.ensures.reads c.tell_fault.ensures
+    upgrade_not_sealed g.D.Disk.told c.args.at c.args.desk.now c.upgrade.new.self c.in-Err.fault c.tell_fault.result (sym c.upgraded.ensures ∙ c.if-upgraded.false) c.in-Err.ensures.why c.upgrade.ensures.reads
+    c.in-Err.ensures.wants c.tell_fault.ensures

@@ -3,7 +3,7 @@ use Rattle.imap_stream.specs.Commands.{Heard}
 use Rattle.mail_loop.specs.State.{Imap, State}
 use Rattle.mail_loop.specs.Turns.{hears_commands, hears_seat}
 use Rattle.mail_loop.specs.Took.{Tells}
-use Rattle.desk_journal.specs.Reading.{none_read}
+use Rattle.mail_loop.specs.Counts.{none_counted}
 use Rattle.mail_loop.specs.Asked.{HaveSealed}
 use Rattle.mail_loop.proofs.Sealed.{unsealed}
 use Rattle.mail_loop.proofs.Stretch.{going, heard_alone, unfed_alone}
@@ -27,5 +27,5 @@ returns-in-Err-clause-heard g c seats =
     let seat = Imap c.args.stream.now c.args.dialog.now in
     let seat' = Imap c.feed.new.self c.args.dialog.now in
     going (HaveSealed g.D.Disk.told c.args.desk.now c.args.desk.now) c.args.at kept seats c.args.conn seat c.args.bytes.now c.empty_reply.result c.going_on-in-Err.result kept seat'
-    c.going_on-in-Err.ensures true [] (Ok None) [] none_read (unsealed g.D.Disk.told c.seals_join.ensures.nothing c.args.desk.now)
+    c.going_on-in-Err.ensures true [] (Ok None) [] none_counted (unsealed g.D.Disk.told c.seals_join.ensures.nothing c.args.desk.now)
     (unfed_alone [] (Ok None) c.args.at kept seats c.args.conn seat seat' c.args.bytes.now c.empty_reply.result c.empty_reply.ensures)

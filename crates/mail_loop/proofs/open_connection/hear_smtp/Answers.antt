@@ -2,7 +2,7 @@ use Rattle.std.proofs.Common.{List, None, Ok, [], false, subst, true, ℕ}
 use Rattle.mail_loop.specs.State.{Smtp, State}
 use Rattle.mail_loop.specs.Turns.{hears_lines, hears_seat}
 use Rattle.mail_loop.specs.Took.{Tells}
-use Rattle.desk_journal.specs.Reading.{none_read}
+use Rattle.mail_loop.specs.Counts.{none_counted}
 use Rattle.mail_loop.specs.Asked.{HaveSealed}
 use Rattle.mail_loop.proofs.Sealed.{unsealed}
 use Rattle.mail_loop.proofs.Stretch.{going, heard_alone, unfed_alone}
@@ -26,5 +26,5 @@ returns-in-Err-clause-heard g c seats =
     let seat = Smtp c.args.unserved.now c.args.dialog.now in
     let seat' = Smtp c.feed.new.self c.args.dialog.now in
     going (HaveSealed g.D.Disk.told c.args.desk.now c.args.desk.now) c.args.at kept seats c.args.conn seat c.args.bytes.now c.empty_reply.result c.going_on-in-Err.result kept seat'
-    c.going_on-in-Err.ensures true [] (Ok None) [] none_read (unsealed g.D.Disk.told c.seals_join.ensures.nothing c.args.desk.now)
+    c.going_on-in-Err.ensures true [] (Ok None) [] none_counted (unsealed g.D.Disk.told c.seals_join.ensures.nothing c.args.desk.now)
     (unfed_alone [] (Ok None) c.args.at kept seats c.args.conn seat seat' c.args.bytes.now c.empty_reply.result c.empty_reply.ensures)

@@ -5,7 +5,7 @@ use Rattle.imap_stream.specs.declared.next.Next.TheVariants.{NotYet}
 use Rattle.mail_loop.specs.declared.reply.Reply.{Reply}
 use Rattle.imap_session.specs.Dialog.{is_view_current}
 use Rattle.store_kept.specs.Kept.{store_of}
-use Rattle.desk_journal.specs.Reading.{both_read, none_read}
+use Rattle.mail_loop.specs.Counts.{both_counted, none_counted}
 use Rattle.mail_loop.specs.Asked.{HaveSealed}
 use Rattle.mail_loop.specs.State.{Imap, beside}
 use Rattle.mail_loop.proofs.Nexts.{is_emptied, none_taken, some_last, taken}
@@ -27,7 +27,7 @@ loop-next-init g c =
       house = refl;
       rest = refl;
       open' = c.requires.sealed;
-      far = (none_read, unsealed g.D.Disk.told c.seals_join.ensures.nothing c.args.desk.now, λ seats. so_far_none (next_at c.args.at c.args.conn) seats c.args.desk.now.kept c.args.dialog.now all c.args.conn reply.result reply.ensures);
+      far = (none_counted, unsealed g.D.Disk.told c.seals_join.ensures.nothing c.args.desk.now, λ seats. so_far_none (next_at c.args.at c.args.conn) seats c.args.desk.now.kept c.args.dialog.now all c.args.conn reply.result reply.ensures);
     }
 
 pub returns-then-is_not_yet-clause-turns : goal.returns-then-is_not_yet-clause-turns
@@ -72,13 +72,13 @@ returns-then-reply-clause-turns g c seats =
     let told = g.D.Disk.told in
     let S = HaveSealed told l.desk new.desk in
     let last = next_at c.args.at c.args.conn [] turn.0 l.desk.kept l.dialog c.in-Ok.next in
-    told_by (next_at c.args.at c.args.conn) (Imap (emptied stream)) seats kept d all c.args.conn new.reply new.desk.kept last.unsealed (both_read l.invariant.far.0 last.reads) (Imap c.next.new.self new.session) None (HaveSealed told c.args.desk.now new.desk) ((turn.1 []).conn ∙ l.invariant.conn)
+    told_by (next_at c.args.at c.args.conn) (Imap (emptied stream)) seats kept d all c.args.conn new.reply new.desk.kept last.unsealed (both_counted l.invariant.far.0 last.counts) (Imap c.next.new.self new.session) None (HaveSealed told c.args.desk.now new.desk) ((turn.1 []).conn ∙ l.invariant.conn)
     (closed_after S (next_at c.args.at c.args.conn) seats kept d all l.desk.kept l.dialog c.in-Ok.next (c.next.new.self.said ++ NotYet ∷ [])
     new.desk.kept new.session l.reply new.reply l.invariant.far.0
     (subst (λ (nexts : List Next). SoFar (next_at c.args.at c.args.conn) seats kept d all l.reply l.invariant.far.0 l.desk.kept l.dialog (nexts ++ NotYet ∷ [])) some.0 (l.invariant.far.2 seats))
     turn.0 (turn.1 (beside c.args.conn seats)) c.if-reply.true)
     (seat_goes new.reply.closes (Imap c.next.new.self new.session) c.if-reply.true)
-    (chained told c.seals_join.ensures.then c.args.desk.now l.desk new.desk last.unsealed l.invariant.far.0 last.reads l.invariant.far.1 (turn.1 []).seals)
+    (chained told c.seals_join.ensures.then c.args.desk.now l.desk new.desk last.unsealed l.invariant.far.0 last.counts l.invariant.far.1 (turn.1 []).seals)
 
 pub loop-next-preserved : goal.loop-next-preserved
 loop-next-preserved g c =
@@ -93,7 +93,7 @@ loop-next-preserved g c =
     let told = g.D.Disk.told in
     let S = HaveSealed told l.desk new.desk in
     let last = next_at c.args.at c.args.conn [] turn.0 l.desk.kept l.dialog c.in-Ok.next in
-    let reads = both_read l.invariant.far.0 last.reads in
+    let counts = both_counted l.invariant.far.0 last.counts in
     let sealed = none_unsealed S (next_at c.args.at c.args.conn [] turn.0 l.desk.kept l.dialog c.in-Ok.next) l.reply new.desk.kept new.session new.reply (turn.1 []) c.if-reply.false in
     record {
       stays = c.if-reply.false;
@@ -103,10 +103,10 @@ loop-next-preserved g c =
       current = c.take_next.ensures.current;
       house = c.take_next.ensures.house ∙ l.invariant.house;
       rest = sym some.1 ∙ l.invariant.rest;
-      open' = still_open told l.desk new.desk last.reads l.invariant.open' sealed;
+      open' = still_open told l.desk new.desk last.counts l.invariant.open' sealed;
       far = (
-        reads,
-        chained told c.seals_join.ensures.then c.args.desk.now l.desk new.desk [] l.invariant.far.0 last.reads l.invariant.far.1 sealed,
+        counts,
+        chained told c.seals_join.ensures.then c.args.desk.now l.desk new.desk [] l.invariant.far.0 last.counts l.invariant.far.1 sealed,
         λ seats.
             so_far_more S (next_at c.args.at c.args.conn) seats kept d all l.desk.kept l.dialog c.in-Ok.next (c.next.new.self.said ++ NotYet ∷ [])
             new.desk.kept new.session l.reply new.reply l.invariant.far.0

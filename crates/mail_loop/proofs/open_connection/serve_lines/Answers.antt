@@ -3,7 +3,7 @@ use Rattle.smtp_lines.specs.declared.line.SmtpLine.{SmtpLine}
 use Rattle.smtp_lines.specs.Lines.{rest_of}
 use Rattle.smtp_lines.specs.Line.{smtp_lines_of}
 use Rattle.mail_loop.specs.declared.reply.Reply.{Reply}
-use Rattle.desk_journal.specs.Reading.{both_read, none_read}
+use Rattle.mail_loop.specs.Counts.{both_counted, none_counted}
 use Rattle.mail_loop.specs.Asked.{HaveSealed}
 use Rattle.mail_loop.specs.State.{Smtp, beside}
 use Rattle.mail_loop.proofs.Sealed.{chained, none_unsealed, still_open, unsealed}
@@ -21,7 +21,7 @@ loop-line-init g c =
       house = refl;
       rest = refl;
       open' = c.requires.sealed;
-      far = (none_read, unsealed g.D.Disk.told c.seals_join.ensures.nothing c.args.desk.now, λ seats. so_far_none (line_at c.args.at c.args.conn) seats c.args.desk.now.kept c.args.dialog.now (smtp_lines_of c.args.unserved.now) c.args.conn reply.result reply.ensures);
+      far = (none_counted, unsealed g.D.Disk.told c.seals_join.ensures.nothing c.args.desk.now, λ seats. so_far_none (line_at c.args.at c.args.conn) seats c.args.desk.now.kept c.args.dialog.now (smtp_lines_of c.args.unserved.now) c.args.conn reply.result reply.ensures);
     }
 
 pub returns-in-Ok-None-clause-turns : goal.returns-in-Ok-None-clause-turns
@@ -63,13 +63,13 @@ returns-then-reply-clause-turns g c seats =
     let told = g.D.Disk.told in
     let S = HaveSealed told l.desk new.desk in
     let last = line_at c.args.at c.args.conn [] turn.0 l.desk.kept l.dialog c.in-Ok-Some.line in
-    told_by (line_at c.args.at c.args.conn) (Smtp (rest_of stream)) seats kept d (smtp_lines_of stream) c.args.conn new.reply new.desk.kept last.unsealed (both_read l.invariant.far.0 last.reads) (Smtp c.next.new.self new.session) None (HaveSealed told c.args.desk.now new.desk) ((turn.1 []).conn ∙ l.invariant.conn)
+    told_by (line_at c.args.at c.args.conn) (Smtp (rest_of stream)) seats kept d (smtp_lines_of stream) c.args.conn new.reply new.desk.kept last.unsealed (both_counted l.invariant.far.0 last.counts) (Smtp c.next.new.self new.session) None (HaveSealed told c.args.desk.now new.desk) ((turn.1 []).conn ∙ l.invariant.conn)
     (closed_after S (line_at c.args.at c.args.conn) seats kept d (smtp_lines_of stream) l.desk.kept l.dialog c.in-Ok-Some.line (smtp_lines_of c.next.new.self)
     new.desk.kept new.session l.reply new.reply l.invariant.far.0
     (subst (λ (ls : List SmtpLine). SoFar (line_at c.args.at c.args.conn) seats kept d (smtp_lines_of stream) l.reply l.invariant.far.0 l.desk.kept l.dialog ls) takes.0 (l.invariant.far.2 seats))
     turn.0 (turn.1 (beside c.args.conn seats)) c.if-reply.true)
     (seat_goes new.reply.closes (Smtp c.next.new.self new.session) c.if-reply.true)
-    (chained told c.seals_join.ensures.then c.args.desk.now l.desk new.desk last.unsealed l.invariant.far.0 last.reads l.invariant.far.1 (turn.1 []).seals)
+    (chained told c.seals_join.ensures.then c.args.desk.now l.desk new.desk last.unsealed l.invariant.far.0 last.counts l.invariant.far.1 (turn.1 []).seals)
 
 pub loop-line-preserved : goal.loop-line-preserved
 loop-line-preserved g c =
@@ -83,7 +83,7 @@ loop-line-preserved g c =
     let told = g.D.Disk.told in
     let S = HaveSealed told l.desk new.desk in
     let last = line_at c.args.at c.args.conn [] turn.0 l.desk.kept l.dialog c.in-Ok-Some.line in
-    let reads = both_read l.invariant.far.0 last.reads in
+    let counts = both_counted l.invariant.far.0 last.counts in
     let sealed = none_unsealed S (line_at c.args.at c.args.conn [] turn.0 l.desk.kept l.dialog c.in-Ok-Some.line) l.reply new.desk.kept new.session new.reply (turn.1 []) c.if-reply.false in
     record {
       stays = c.if-reply.false;
@@ -91,10 +91,10 @@ loop-line-preserved g c =
       free = c.take_line.ensures.free;
       house = c.take_line.ensures.house ∙ l.invariant.house;
       rest = sym takes.1 ∙ l.invariant.rest;
-      open' = still_open told l.desk new.desk last.reads l.invariant.open' sealed;
+      open' = still_open told l.desk new.desk last.counts l.invariant.open' sealed;
       far = (
-        reads,
-        chained told c.seals_join.ensures.then c.args.desk.now l.desk new.desk [] l.invariant.far.0 last.reads l.invariant.far.1 sealed,
+        counts,
+        chained told c.seals_join.ensures.then c.args.desk.now l.desk new.desk [] l.invariant.far.0 last.counts l.invariant.far.1 sealed,
         λ seats.
             so_far_more S (line_at c.args.at c.args.conn) seats kept d (smtp_lines_of stream) l.desk.kept l.dialog c.in-Ok-Some.line (smtp_lines_of c.next.new.self)
             new.desk.kept new.session l.reply new.reply l.invariant.far.0

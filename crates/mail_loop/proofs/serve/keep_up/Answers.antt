@@ -8,8 +8,8 @@ returns-then-not-is_due-clause-keeps g c = (IsPassed, none_due g.D.Disk.told c.s
 
 pub returns-in-Ok-clause-keeps : goal.returns-in-Ok-clause-keeps
 returns-in-Ok-clause-keeps g c =
-    (IsKept, snapshot_keeps g.D.Disk.told c.args.desk.now c.snapshot.new.self (sym c.is_due.ensures ∙ c.if-not-is_due.false) c.in-Ok.ensures.ok c.in-Ok.ensures.sealed c.snapshot.ensures.reads)
+    (IsKept, snapshot_keeps g.D.Disk.told c.args.desk.now c.snapshot.new.self (sym c.is_due.ensures ∙ c.if-not-is_due.false) c.in-Ok.ensures.ok c.in-Ok.ensures.sealed c.snapshot.ensures.reads c.in-Ok.ensures.wants.ok)
 
 pub returns-in-Err-clause-keeps : goal.returns-in-Err-clause-keeps
 returns-in-Err-clause-keeps g c =
-    snapshot_passed g.D.Disk.told c.args.desk.now c.snapshot.new.self c.in-Err.field-0 (sym c.is_due.ensures ∙ c.if-not-is_due.false) c.in-Err.ensures.err c.in-Err.ensures.why c.snapshot.ensures.reads
+    snapshot_passed g.D.Disk.told c.args.desk.now c.snapshot.new.self c.in-Err.field-0 (sym c.is_due.ensures ∙ c.if-not-is_due.false) c.in-Err.ensures.err c.in-Err.ensures.why c.snapshot.ensures.reads c.in-Err.ensures.wants

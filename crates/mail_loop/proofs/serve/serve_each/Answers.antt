@@ -41,10 +41,10 @@ returns-then-is_end_of-clause-serves g c =
     l.invariant.served c.loop-test.true c.in-Ok.ensures ends
     (leads_end (HaveSealed disk l.desk new) (HaveSealed disk l.desk l.desk) (λ (h : Hindrances). GoesThrough disk s (record { event = event; hindrances = h }) l.desk new) (told c.next.new.self) s event new.kept k (is_due_on l.desk)
     ends due keeps.kept_is keeps.seals (unsealed disk c.seals_join.ensures.nothing l.desk)
-    (λ ds j. went_end disk c.seals_join.ensures.nothing s event ends (record { unfed = false; turns = []; stage = Ok None; deliveries = ds; keeping = j }) refl refl refl k l.desk new l.invariant.open' refl keeps))
+    (λ ds. went_end disk c.seals_join.ensures.nothing s event ends (record { unfed = false; turns = []; stage = Ok None; deliveries = ds; keeping = k }) refl refl refl k refl l.desk new l.invariant.open' refl keeps))
     c.end_serving.ensures.ends
-    (λ open' failed reads seals. all_sealed disk l.desk new failed reads l.invariant.open' open' seals)
-    (λ shut failed reads seals. some_unsealed disk l.desk new failed reads l.invariant.open' shut seals)
+    (λ open' failed counts seals. all_sealed disk l.desk new failed counts l.invariant.open' open' seals)
+    (λ shut failed counts seals. some_unsealed disk l.desk new failed counts l.invariant.open' shut seals)
     (chained disk c.seals_join.ensures.then first l.desk new)
     (λ steps h through is kept went. one_more disk first l.desk new s event steps h through is kept went)
 
@@ -62,7 +62,7 @@ returns-then-is_over-clause-serves g c =
     (λ (h : Hindrances). GoesThrough disk (record { kept = l.desk.kept; seats = l.connections.entries }) (record { event = c.in-Ok.event; hindrances = h }) l.desk new.desk) (λ (q : List Step). WentThrough disk q c.args.desk.now new.desk) l.counter c.args.turns (told c.args.link.now) (told l.link) (told c.next.new.self) (told new.link) c.args.desk.now.kept
     new.desk.kept (record { kept = l.desk.kept; seats = l.connections.entries }) new.connections.entries c.in-Ok.event sent.result l.invariant.served c.loop-test.true c.in-Ok.ensures
     sent.ensures.leads
-    (λ failed reads seals. some_unsealed disk l.desk new.desk failed reads l.invariant.open' (sym c.is_over.ensures ∙ c.if-is_over.true) seals)
+    (λ failed counts seals. some_unsealed disk l.desk new.desk failed counts l.invariant.open' (sym c.is_over.ensures ∙ c.if-is_over.true) seals)
     (chained disk c.seals_join.ensures.then c.args.desk.now l.desk new.desk)
     (λ steps h through is kept went. one_more disk c.args.desk.now l.desk new.desk (record { kept = l.desk.kept; seats = l.connections.entries }) c.in-Ok.event steps h through is kept went)
 
@@ -77,7 +77,7 @@ returns-in-Err-clause-serves g c =
     (λ (h : Hindrances). GoesThrough disk (record { kept = l.desk.kept; seats = l.connections.entries }) (record { event = c.in-Ok.event; hindrances = h }) l.desk new.desk) (λ (q : List Step). WentThrough disk q c.args.desk.now new.desk) l.counter c.args.turns (told c.args.link.now) (told l.link) (told c.next.new.self) (told new.link) c.args.desk.now.kept
     new.desk.kept (record { kept = l.desk.kept; seats = l.connections.entries }) new.connections.entries c.in-Ok.event sent.result _ l.invariant.served c.loop-test.true c.in-Ok.ensures
     (sym c.is_end_of.ensures ∙ c.if-is_end_of.false) sent.ensures.leads c.in-Err.is
-    (λ failed reads seals. all_sealed disk l.desk new.desk failed reads l.invariant.open' (sym c.is_over.ensures ∙ c.if-is_over.false) seals)
+    (λ failed counts seals. all_sealed disk l.desk new.desk failed counts l.invariant.open' (sym c.is_over.ensures ∙ c.if-is_over.false) seals)
     (chained disk c.seals_join.ensures.then c.args.desk.now l.desk new.desk)
     (λ steps h through is kept went. one_more disk c.args.desk.now l.desk new.desk (record { kept = l.desk.kept; seats = l.connections.entries }) c.in-Ok.event steps h through is kept went)
 
@@ -92,7 +92,7 @@ returns-then-stops-clause-serves g c =
     (λ (h : Hindrances). GoesThrough disk (record { kept = l.desk.kept; seats = l.connections.entries }) (record { event = c.in-Ok.event; hindrances = h }) l.desk new.desk) (λ (q : List Step). WentThrough disk q c.args.desk.now new.desk) l.counter c.args.turns (told c.args.link.now) (told l.link) (told c.next.new.self) (told new.link) c.args.desk.now.kept
     new.desk.kept (record { kept = l.desk.kept; seats = l.connections.entries }) new.connections.entries c.in-Ok.event sent.result c.in-Ok-sent.stops l.invariant.served c.loop-test.true c.in-Ok.ensures
     (inr (sym c.is_end_of.ensures ∙ c.if-is_end_of.false, c.if-stops.true)) sent.ensures.leads c.in-Ok-sent.is
-    (λ failed reads seals. all_sealed disk l.desk new.desk failed reads l.invariant.open' (sym c.is_over.ensures ∙ c.if-is_over.false) seals)
+    (λ failed counts seals. all_sealed disk l.desk new.desk failed counts l.invariant.open' (sym c.is_over.ensures ∙ c.if-is_over.false) seals)
     (chained disk c.seals_join.ensures.then c.args.desk.now l.desk new.desk)
     (λ steps h through is kept went. one_more disk c.args.desk.now l.desk new.desk (record { kept = l.desk.kept; seats = l.connections.entries }) c.in-Ok.event steps h through is kept went)
 
@@ -109,7 +109,7 @@ loop-preserved g c =
           (λ (h : Hindrances). GoesThrough disk (record { kept = l.desk.kept; seats = l.connections.entries }) (record { event = c.in-Ok.event; hindrances = h }) l.desk new.desk) (λ (q : List Step). WentThrough disk q c.args.desk.now new.desk) l.counter (told c.args.link.now) (told l.link) (told c.next.new.self) (told new.link) c.args.desk.now.kept
           new.desk.kept s new.connections.entries c.in-Ok.event sent.result c.in-Ok-sent.stops
           l.invariant.served c.in-Ok.ensures (sym c.is_end_of.ensures ∙ c.if-is_end_of.false) sent.ensures.leads c.in-Ok-sent.is c.if-stops.false
-          (λ failed reads seals. all_sealed disk l.desk new.desk failed reads l.invariant.open' (sym c.is_over.ensures ∙ c.if-is_over.false) seals)
+          (λ failed counts seals. all_sealed disk l.desk new.desk failed counts l.invariant.open' (sym c.is_over.ensures ∙ c.if-is_over.false) seals)
           (chained disk c.seals_join.ensures.then c.args.desk.now l.desk new.desk)
           (λ steps h through is kept went. one_more disk c.args.desk.now l.desk new.desk (record { kept = l.desk.kept; seats = l.connections.entries }) c.in-Ok.event steps h through is kept went);
       home = sent.ensures.home;

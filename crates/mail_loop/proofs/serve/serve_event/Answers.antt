@@ -3,12 +3,12 @@ use Rattle.std.proofs.lemmas.Result.{err_from_is_err_and}
 use Rattle.mail_loop.specs.Asked.{HaveSealed}
 use Rattle.verb_core.specs.declared.conf.House.{House}
 use Rattle.mail_loop.specs.Did.{is_due_on, unkept_by}
-use Rattle.mail_loop.specs.Machine.{Hindrances, answered}
+use Rattle.mail_loop.specs.Machine.{Hindrances, IsPassed, answered, unwritten_by}
 use Rattle.mail_loop.specs.Acknowledged.{GoesThrough}
 use Rattle.mail_loop.specs.Stands.{AreHome, replies_of}
 use Rattle.mail_loop.specs.State.{State}
 use Rattle.mail_loop.proofs.Sealed.{kept_sealed, open_as}
-use Rattle.mail_loop.proofs.Courses.{went_alone, went_on}
+use Rattle.mail_loop.proofs.Courses.{passed_on, went_alone, went_on}
 use Rattle.mail_loop.proofs.Events.{leads_starved, leads_by, leads_cut, leads_on}
 use Rattle.mail_loop.proofs.serve.serve_event.Goals as goal
 
@@ -23,7 +23,7 @@ returns-in_err-answer-clause-leads g c =
     let s : State = record { kept = old.kept; seats = c.args.connections.now.entries } in
     leads_starved (HaveSealed disk old new) (λ (h : Hindrances). GoesThrough disk s (record { event = c.args.event.now; hindrances = h }) old new) (told c.args.link.now) s c.args.event.now b hs stage new.kept
     c.answer_event.new.connections.entries p.0 c.from_residual.result p.1 a.0.0 a.0.1 c.in_err-answer.ensures.undone a.1 a.2
-    (λ ds k. went_alone disk c.seals_join.ensures.nothing s (record { event = c.args.event.now; hindrances = record { unfed = b; turns = hs; stage = stage; deliveries = ds; keeping = k } }) old new c.requires.sealed a.1 a.0.0)
+    (λ ds. went_alone disk c.seals_join.ensures.nothing s (record { event = c.args.event.now; hindrances = record { unfed = b; turns = hs; stage = stage; deliveries = ds; keeping = IsPassed } }) old new (passed_on disk new) c.requires.sealed a.1 a.0.0)
 
 pub returns-in-Ok-clause-leads : goal.returns-in-Ok-clause-leads
 returns-in-Ok-clause-leads g c =
@@ -42,10 +42,10 @@ returns-in-Ok-clause-leads g c =
     (leads_by (HaveSealed disk old mid) (told c.args.link.now) (told c.deliver_all.new.link) s c.args.event.now b hs stage
     mid.kept c.answer_event.new.connections.entries c.deliver_all.new.connections.entries (replies_of c.as_slice.result.now) c.in_ok-answer.answer.stops c.deliver_all.result tt
     a.0.0 a.0.1 (ap replies_of c.as_slice.ensures.value ∙ a.0.2) a.0.3 c.deliver_all.ensures.sends c.in-Ok.is a.1 a.2)
-    (λ j. sym (open_as disk old mid made.unsealed made.reads c.requires.sealed a.1) j && nat_le 1024 (sym kept_is j).marks.since)
+    (λ j. sym (open_as disk old mid made.unsealed made.counts c.requires.sealed a.1) j && nat_le 1024 (sym kept_is j).marks.since)
     keeps.kept_is
-    (kept_sealed disk c.seals_join.ensures.then old mid new made.unsealed (unkept_by k mid.kept) made.reads (nat_le 1024 mid.kept.marks.since) c.requires.sealed a.1 keeps.seals keeps.closed)
-    (λ ds j. went_on disk c.seals_join.ensures.nothing s (record { event = c.args.event.now; hindrances = record { unfed = b; turns = hs; stage = stage; deliveries = ds; keeping = j } }) k old mid new c.requires.sealed a.1 kept_is keeps)
+    (kept_sealed disk c.seals_join.ensures.then old mid new made.unsealed (unkept_by k mid.kept) made.counts (unwritten_by k) (nat_le 1024 mid.kept.marks.since) c.requires.sealed a.1 keeps.seals keeps.closed)
+    (λ ds. went_on disk c.seals_join.ensures.nothing s (record { event = c.args.event.now; hindrances = record { unfed = b; turns = hs; stage = stage; deliveries = ds; keeping = k } }) k old mid new refl c.requires.sealed a.1 kept_is keeps)
 
 pub returns-clause-leads : goal.returns-clause-leads
 returns-clause-leads g c =
@@ -58,7 +58,7 @@ returns-clause-leads g c =
     leads_cut (HaveSealed disk old new) (λ (h : Hindrances). GoesThrough disk s (record { event = c.args.event.now; hindrances = h }) old new) (told c.args.link.now) (told c.deliver_all.new.link) s c.args.event.now b hs stage
     new.kept c.answer_event.new.connections.entries c.deliver_all.new.connections.entries (replies_of c.as_slice.result.now) c.deliver_all.result _ _
     a.0.0 a.0.1 (ap replies_of c.as_slice.ensures.value ∙ a.0.2) c.deliver_all.ensures.sends c.in-Err.is a.1 a.2
-    (λ ds k. went_alone disk c.seals_join.ensures.nothing s (record { event = c.args.event.now; hindrances = record { unfed = b; turns = hs; stage = stage; deliveries = ds; keeping = k } }) old new c.requires.sealed a.1 a.0.0)
+    (λ ds. went_alone disk c.seals_join.ensures.nothing s (record { event = c.args.event.now; hindrances = record { unfed = b; turns = hs; stage = stage; deliveries = ds; keeping = IsPassed } }) old new (passed_on disk new) c.requires.sealed a.1 a.0.0)
 
 pub returns-in-Ok-clause-home : goal.returns-in-Ok-clause-home
 returns-in-Ok-clause-home g c =

@@ -4,7 +4,7 @@ use Rattle.undo_base.specs.declared.keys.User.{User}
 use Rattle.verb_core.specs.Live.{is_users}
 use Rattle.verb_core.specs.Store.{is_known}
 use Rattle.verb_core.specs.declared.ask.Ask.{Ask}
-use Rattle.desk_journal.specs.Reading.{none_read}
+use Rattle.mail_loop.specs.Counts.{none_counted}
 use Rattle.mail_loop.specs.Asked.{HaveSealed}
 use Rattle.mail_loop.specs.Took.{SettlesOrAsks}
 use Rattle.mail_loop.proofs.Commands.{asker_known, asker_of, home_in}
@@ -57,7 +57,7 @@ submit_further-requires-clause-sealed g c =
     let told = g.D.Disk.told in
     let kept = c.args.desk.now.kept in
     let asks = subst (λ (o : Option Ask). SettlesOrAsks g.S.Speaks.speech submit.result submit.new.desk.kept c.args.session.now submit.new.reply c.settle.new.session c.settle.new.reply o) c.in-Some.is c.settle.ensures.settled in
-    still_open told c.args.desk.now submit.new.desk none_read c.requires.sealed
+    still_open told c.args.desk.now submit.new.desk none_counted c.requires.sealed
     (sealed_before g.S.Speaks.speech (HaveSealed told c.args.desk.now submit.new.desk) c.args.at kept submit.new.desk.kept c.asker.result c.args.ask c.in-Some.further c.args.session.now c.settle.new.session submit.result
     c.requires.due submit.ensures.did asks.0)
 

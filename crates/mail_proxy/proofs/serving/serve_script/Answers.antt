@@ -6,7 +6,7 @@ use Rattle.mail_proxy.proofs.serving.serve_script.Goals as goal
 
 pub returns-in-Ok : goal.returns-in-Ok
 returns-in-Ok g c =
-    let (steps, notes, over, (added, seals, read), through) = c.serve_events-ended.ensures.serves in
+    let (steps, notes, over, (added, seals, counted), through) = c.serve_events-ended.ensures.serves in
     let ended = c.serve_events-ended.result in
     let outcome = c.outcome_over-served.result in
     let told = g.D.Disk.told in
@@ -19,7 +19,8 @@ returns-in-Ok g c =
       tells = tells_by outcome notes c.log.result.now c.plan_of.result.status c.plan_of.result.body (line_text c.plan_of.result.last)
           c.plan_of.ensures.status (c.plan_of.ensures.body ∙ c.in-Ok.ensures) (log_notes c.log.result.now over c.new-link.ensures.log c.log.ensures) c.plan_of.ensures.last;
       seals = seals;
-      read = read;
+      read = counted.reads;
+      starved = counted.starved;
       disk_fault = disk_failed told added (unsealed_in steps c.args.desk.now.kept) c.args.desk.now c.serve_events-ended.new.desk _ ended outcome seals c.requires c.serve_events-ended.ensures.closed c.outcome_over-served.ensures;
       through = through;
       well = λ holds. record { runs = c.serve_events-ended.ensures.runs holds; uids = c.serve_events-ended.ensures.uids holds };
@@ -27,7 +28,7 @@ returns-in-Ok g c =
 
 pub returns : goal.returns
 returns g c =
-    let (steps, notes, over, (added, seals, read), through) = c.serve_events-ended.ensures.serves in
+    let (steps, notes, over, (added, seals, counted), through) = c.serve_events-ended.ensures.serves in
     let ended = c.serve_events-ended.result in
     let outcome = c.outcome_over-served.result in
     let told = g.D.Disk.told in
@@ -40,7 +41,8 @@ returns g c =
       tells = tells_last outcome c.or_starved.result notes c.plan_of-in-Err.result.status c.plan_of-in-Err.result.body (line_text c.plan_of-in-Err.result.last)
           c.or_starved.ensures c.plan_of-in-Err.ensures.status (c.plan_of-in-Err.ensures.body ∙ c.new.ensures) c.plan_of-in-Err.ensures.last;
       seals = seals;
-      read = read;
+      read = counted.reads;
+      starved = counted.starved;
       disk_fault = disk_failed told added (unsealed_in steps c.args.desk.now.kept) c.args.desk.now c.serve_events-ended.new.desk _ ended outcome seals c.requires c.serve_events-ended.ensures.closed c.outcome_over-served.ensures;
       through = through;
       well = λ holds. record { runs = c.serve_events-ended.ensures.runs holds; uids = c.serve_events-ended.ensures.uids holds };
