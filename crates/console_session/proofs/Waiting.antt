@@ -1,5 +1,5 @@
 -- A connection stays open only while its bytes are not yet a request.
-use Rattle.std.proofs.Common.{◌≡◌, ◌<◌, ℕ, true, false, Bool, List, ◌++◌, Option, None, Some, Result, Ok, Err, length, refl, sym, ap, subst, ◌∙◌}
+use Rattle.std.proofs.Common.{◌≡◌, ◌<◌, ℕ, true, false, Bool, List, ◌++◌, Option, None, Some, Ok, Err, length, refl, sym, ap, subst, ◌∙◌}
 use Rattle.std.specs.Prelude.{nat_lt, if◌then◌else◌}
 use Rattle.undo_outside.specs.Disk.{DiskTold}
 use Rattle.verb_core.specs.declared.conf.House.{House}
@@ -11,13 +11,9 @@ use Rattle.cycle_rules.specs.Asking.{Due, Repeats, NoPoint, NoNumbers, Rewinds, 
 use Rattle.repair_desk.specs.Repairs.{position}
 use Rattle.desk_journal.specs.Lasting.{Lasting}
 use Rattle.console_head.specs.Request.{Says, Stage}
-use Rattle.console_http.specs.declared.request.Asked.{Asked}
-use Rattle.console_http.specs.declared.request.Asked.TheVariants.{NotYet, Whole}
-use Rattle.console_http.specs.declared.request.HttpRefused.{HttpRefused}
 use Rattle.console_http.specs.declared.request.Route.{Route}
 use Rattle.console_http.specs.declared.request.Route.TheVariants as route
 use Rattle.console_http.specs.Routes.{Choice, route_of}
-use Rattle.console_session.specs.declared.reply.After.{After}
 use Rattle.console_session.specs.declared.reply.After.TheVariants.{Closes, Fails, Rewinds as IsRewound, Stops, Upgrades, Waits}
 use Rattle.console_session.specs.declared.reply.Reply.{Reply}
 use Rattle.console_replies.specs.Bodies.{upgraded_data}

@@ -97,7 +97,7 @@ module _ {D : Type 0} (told : D → DiskTold) where
 
   -- nor is one due of a closed desk
   shut_on : (k : Keeping) (desk : Lasting D) → desk.closed ≡ true → unwritten_on k desk ≡ 0
-  shut_on k desk shut = ap (λ (b : Bool). if not b && nat_le 1024 desk.kept.marks.since then unwritten_by k else 0) shut
+  shut_on k desk shut = ap {B = ℕ} (λ (b : Bool). if not b && nat_le 1024 desk.kept.marks.since then unwritten_by k else 0) shut
 
   -- the strings of a step were sent, or none, and no snapshot was taken behind them
   pub went_alone : Nothing told → (s : State) (step : Step) (old mid : Lasting D) → unwritten_on step.hindrances.keeping mid ≡ 0 → old.closed ≡ false → HaveSealed told old mid (turned s step).unsealed (turned s step).counts

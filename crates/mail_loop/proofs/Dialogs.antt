@@ -27,10 +27,9 @@ use Rattle.mail_loop.specs.declared.out.Out.TheVariants.{Say, Read, Submit, Bye}
 use Rattle.mail_loop.specs.declared.reply.Reply.{Reply}
 use Rattle.mail_loop.specs.Afterwards.{gone_between}
 use Rattle.mail_loop.specs.Asked.{Asked, asked_as, unsealed_as, unwritten}
-use Rattle.mail_loop.specs.State.{Seats}
 use Rattle.mail_loop.specs.Turn.{Turn, ends, lost, reading, says, unanswered}
-use Rattle.mail_loop.specs.Session.{IsBye, Session, Speech, Took, behind, done, followed, hindered, is_answer, is_home, is_said, pursued, pursued_as, served, settled, settled_as, submits, took}
-use Rattle.mail_loop.specs.Hindrance.{Hindrance, Clear, Refused as IsToldWant, Textless, Unread, UnreadRefused, UnreadUnheard, Misread, Misled, Unstored, Unheard, Unanswered, Unsealed, Untold, Unwritten, UnwrittenUnheard, Halfway, Service, halfway, last_hindrance, misread, row, service, stopped, under, unread, unread_unsaid, without_items, without_seals, without_texts, without_writes}
+use Rattle.mail_loop.specs.Session.{IsBye, Speech, Took, behind, done, followed, is_answer, is_home, is_said, pursued, pursued_as, settled, settled_as, submits, took}
+use Rattle.mail_loop.specs.Hindrance.{Hindrance, Clear, Refused as IsToldWant, Textless, Unread, UnreadRefused, UnreadUnheard, Misread, Misled, Unstored, Unheard, Unanswered, Unsealed, Untold, Unwritten, UnwrittenUnheard, Halfway, Service, halfway, last_hindrance, misread, service, stopped, under, unread, unread_unsaid, without_items, without_seals, without_texts, without_writes}
 use Rattle.mail_loop.specs.Took.{Adds, AsksAs, IsAwaitedLast, IsDueNext, IsLast, IsNone, IsOnlySaid, IsTold, ReadsNone, ReadsStarved, Settles, SettlesAgain, SettlesOrAsks, Submits, Takes, TakesTexts, Wrote, asked_in, given, reads_of}
 use Rattle.mail_loop.proofs.Refusals.{due_or_starved}
 use Rattle.mail_loop.proofs.Telling.{closed, lifted, starved_too, told_last, told_nothing, told_whole, unsealed_too}

@@ -1,5 +1,5 @@
 //! What a mail reader's turns are turns of, what licenses a hindrance, which mailbox an ask takes away, and that what was answered stays.
-ghost use Rattle.std.specs.Prelude.{◌≡◌, ◌++◌, ◌∷◌, [], ℕ, is_some, Err, IsTrue, List, Ok, Option, Some};
+ghost use Rattle.std.specs.Prelude.{◌≡◌, ◌++◌, ◌∷◌, [], ℕ, is_some, Err, List, Ok, Option, Some};
 ghost use Rattle.undo_base.specs.declared.keys.User.{User as TheUser};
 ghost use Rattle.verb_core.specs.declared.ask.Ask.{Ask as TheAsk};
 ghost use Rattle.verb_core.specs.declared.ask.Refused.{Refused};

@@ -1,5 +1,5 @@
 -- When each status of `run` comes, and what is written then.
-use Rattle.std.specs.Prelude.{◌≡◌, ◌≢◌, ◌≤◌, ◌⊎◌, ℕ, ◌^◌, Bool, true, false, List, [], ◌++◌, length, MatchBool, nat_lt, Option, None, Some, is_some, Result, Ok, Err}
+use Rattle.std.specs.Prelude.{◌≡◌, ◌≢◌, ◌≤◌, ◌⊎◌, ℕ, ◌^◌, true, false, List, [], ◌++◌, length, MatchBool, nat_lt, Option, is_some, Result, Ok, Err}
 use Rattle.undo_outside.specs.declared.event.Event.{Event}
 use Rattle.undo_outside.specs.declared.event.LinkNote.{LinkNote}
 use Rattle.undo_outside.specs.Calls.{LinkTold, SourceTold, SinkTold}

@@ -1,5 +1,5 @@
 -- Which status is due, where the text and the disk tell what they hold.
-use Rattle.std.specs.Prelude.{◌≡◌, ◌≢◌, ◌⊎◌, ℕ, false, List, length, nat_lt, Option, None, Some, is_some, Ok, Err}
+use Rattle.std.specs.Prelude.{◌≡◌, ◌≢◌, ◌⊎◌, ℕ, false, List, length, nat_lt, Option, Some, is_some, Ok, Err}
 use Rattle.undo_outside.specs.declared.event.Event.{Event}
 use Rattle.undo_outside.specs.Disk.{DiskTold}
 use Rattle.verb_core.specs.declared.conf.Conf.{Conf}

@@ -20,6 +20,12 @@ returns-then-is_err-clause-did g c =
     did_submit g.D.Disk.told c.args.at c.args.by c.args.ask c.args.desk.now submit.new.self submit.result c.requires.sealed submit.ensures.reads
     submit.ensures.ok submit.ensures.sealed submit.ensures.err submit.ensures.why submit.ensures.fed submit.ensures.wants
 
+pub returns-else-is_err-clause-did : goal.returns-else-is_err-clause-did
+returns-else-is_err-clause-did g c =
+    let submit = c.submit-outcome in
+    did_submit g.D.Disk.told c.args.at c.args.by c.args.ask c.args.desk.now submit.new.self submit.result c.requires.sealed submit.ensures.reads
+    submit.ensures.ok submit.ensures.sealed submit.ensures.err submit.ensures.why submit.ensures.fed submit.ensures.wants
+
 pub returns-then-is_err-clause-noted : goal.returns-then-is_err-clause-noted
 returns-then-is_err-clause-noted g c =
     let submit = c.submit-outcome in
