@@ -33,14 +33,15 @@ pub struct ConsoleSession {
 }
 
 impl Model for ConsoleSession {
-    ghost use Rattle.std.specs.Prelude.{List, ℕ};
+    ghost use Rattle.std.specs.Prelude.{◌≡◌, List, ℕ};
+    ghost use Rattle.console_session.specs.declared.session.ConsoleSession.TheInside.{Inside};
     ghost use Rattle.console_session.specs.Hearing.{StaysKnown};
 
     ghost Value = { List ℕ };
 
     ghost view = { λ s. s.came };
 
-    ghost invariant = { λ s. StaysKnown s.coming s.came };
+    ghost invariant = { λ s. StaysKnown s.coming s.came × ((other : Inside) → s ≡ record other { came = s.came; coming = s.coming }) };
 }
 
 /// Answers a route.

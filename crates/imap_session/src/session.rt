@@ -27,7 +27,9 @@ pub struct ImapSession {
 }
 
 impl Model for ImapSession {
+    ghost use Rattle.std.specs.Prelude.{◌≡◌};
     ghost use Rattle.imap_session.specs.declared.dialog.Dialog.{Dialog as TheDialog};
+    ghost use Rattle.imap_session.specs.declared.session.ImapSession.TheInside.{Inside};
     ghost use Rattle.imap_session.specs.Sound.{IsSound};
     ghost use Rattle.search_verb.specs.contracts.building.Search as search;
     ghost use Rattle.std.specs.Coded.{codes};
@@ -38,7 +40,7 @@ impl Model for ImapSession {
 
     ghost view = { λ s. s.dialog };
 
-    ghost invariant = { λ s. IsSound s.dialog };
+    ghost invariant = { λ s. IsSound s.dialog × ((other : Inside) → s ≡ record other { dialog = s.dialog }) };
 }
 
 impl ImapSession {
