@@ -173,7 +173,7 @@ module _ {D : Type 0} (told : D → DiskTold) where
       → HaveSealed told a c (if not b.closed && due then unkept else failed) (if not b.closed && due then both_counted r (wanting n) else r)
   kept_sealed join a b c failed unkept r n due open' first second stays =
       elim b.closed as (λ x. b.closed ≡ x → HaveSealed told b c (if not x && due then unkept else []) (if not x && due then wanting n else none_counted)
-          → HaveSealed told a c (if not x && due then unkept else failed) (if not x && due then both_counted r (wanting n) else r)) [
+      → HaveSealed told a c (if not x && due then unkept else failed) (if not x && due then both_counted r (wanting n) else r)) [
         | true ↦ λ e more. subst (λ (d : Lasting D). HaveSealed told a d failed r) (sym (stays e)) first
         | false ↦ λ e more.
             let none = all_sealed a b failed r open' e first in

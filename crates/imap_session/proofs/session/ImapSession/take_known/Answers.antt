@@ -8,9 +8,11 @@ use Rattle.imap_session.proofs.Settled.{dialog_after, out_after}
 use Rattle.imap_session.proofs.session.ImapSession.take_known.Goals as goal
 
 pub invariant_of-self : goal.invariant_of-self
-invariant_of-self c =
-    (dialog_after c.obey.result (turn c.args.house.now c.args.store.now.store (size_of c.args.sizes.now.notes) c.args.deep c.self.inside.dialog c.args.command.now) (without_memory c.args.command.now.what c.self.inside.dialog) c.obey.new.dialog c.obey.ensures.ok c.obey.ensures.err IsSound
-    (fine_obey c.args.house.now c.args.store.now.store c.self.inside.dialog c.self.invariant.0 (subst (λ (d : Dialog). is_free d ≡ true) (sym c.self.view_is) c.requires.free) (size_of c.args.sizes.now.notes) c.args.deep c.args.command.now.tag c.args.command.now.what c.requires.valid).sound (fine_left c.args.house.now c.self.inside.dialog c.args.command.now.what c.self.invariant.0).sound, λ other. refl)
+invariant_of-self c = (
+  dialog_after c.obey.result (turn c.args.house.now c.args.store.now.store (size_of c.args.sizes.now.notes) c.args.deep c.self.inside.dialog c.args.command.now) (without_memory c.args.command.now.what c.self.inside.dialog) c.obey.new.dialog c.obey.ensures.ok c.obey.ensures.err IsSound
+      (fine_obey c.args.house.now c.args.store.now.store c.self.inside.dialog c.self.invariant.0 (subst (λ (d : Dialog). is_free d ≡ true) (sym c.self.view_is) c.requires.free) (size_of c.args.sizes.now.notes) c.args.deep c.args.command.now.tag c.args.command.now.what c.requires.valid).sound (fine_left c.args.house.now c.self.inside.dialog c.args.command.now.what c.self.invariant.0).sound,
+  λ other. refl,
+)
 
 pub returns-clause-next : goal.returns-clause-next
 returns-clause-next c =

@@ -6,9 +6,11 @@ use Rattle.pop_session.proofs.Turns.{dialog_after, fine_heard, out_after}
 use Rattle.pop_session.proofs.session.PopSession.read.Goals as goal
 
 pub invariant_of-self : goal.invariant_of-self
-invariant_of-self c =
-    (dialog_after c.hear.result (heard c.self.inside.dialog c.args.text.now) c.self.inside.dialog c.hear.new.dialog c.hear.ensures.ok c.hear.ensures.err IsSound
-    (fine_heard c.self.inside.dialog c.args.text.now c.self.invariant.0 (subst (λ (d : Dialog). is_reading d ≡ true) (sym c.self.view_is) c.requires)).sound c.self.invariant.0, λ other. refl)
+invariant_of-self c = (
+  dialog_after c.hear.result (heard c.self.inside.dialog c.args.text.now) c.self.inside.dialog c.hear.new.dialog c.hear.ensures.ok c.hear.ensures.err IsSound
+      (fine_heard c.self.inside.dialog c.args.text.now c.self.invariant.0 (subst (λ (d : Dialog). is_reading d ≡ true) (sym c.self.view_is) c.requires)).sound c.self.invariant.0,
+  λ other. refl,
+)
 
 pub returns-clause-next : goal.returns-clause-next
 returns-clause-next c =
