@@ -1,5 +1,5 @@
 -- The desks that serving goes through, and what crashes leave since.
-use Rattle.std.specs.Prelude.{IsSome, nat_le, ◌&&◌, option_and_then, if◌then◌else◌}
+use Rattle.std.specs.Prelude.{IsSome, option_and_then}
 use Rattle.std.proofs.Common.{◌≡◌, ◌⊎◌, ◌≤◌, ℕ, zero, suc, Bool, true, false, not, ◌||◌, List, [], ◌∷◌, ◌++◌, take, Some, None, Option, Ok, refl, ap, sym, subst, ◌∙◌, inl}
 use Rattle.std.proofs.lemmas.List.{append-nil, append_assoc, length-map, map-append, take-map}
 use Rattle.undo_outside.specs.Disk.{DiskTold, IsHonest}
@@ -19,13 +19,13 @@ use Rattle.desk_journal.specs.Stored.{HoldsTexts}
 use Rattle.mail_loop.specs.Asked.{HaveSealed}
 use Rattle.desk_journal.specs.Reading.{Counted, HaveRead, Reads}
 use Rattle.mail_loop.specs.Did.{Keeps, is_due_on}
-use Rattle.mail_loop.specs.Machine.{Answered, Hindrances, Keeping, IsPassed, answered, happens, ignored, is_end, unwritten_by}
+use Rattle.mail_loop.specs.Machine.{Answered, Hindrances, Keeping, answered, happens, ignored, is_end, unwritten_by}
 use Rattle.mail_loop.specs.State.{State}
 use Rattle.mail_loop.specs.Serving.{Step, at_first, ended_as, is_disk, run}
 use Rattle.mail_loop.specs.Acknowledged.{AnswersLast, Course, GoesThrough, Lasts, Stretch, Went, WentThrough, behind, sealed_in, steps_of, turned}
 use Rattle.mail_loop.proofs.Events.{end_ignored}
 use Rattle.mail_loop.proofs.Links.{counted_none}
-use Rattle.mail_loop.proofs.Sealed.{Nothing, Then, nothing_read, unread_if, unsealed, wanting_if}
+use Rattle.mail_loop.proofs.Sealed.{Nothing, Then, nothing_read, shut_on, unread_if, unsealed, unwritten_on, wanting_if}
 
 -- ---- what records leave
 
@@ -86,18 +86,6 @@ module _ {D : Type 0} (told : D → DiskTold) where
   same_sealed nothing a = nothing a a (record { kept = refl; notes = refl; marks = refl; disk = refl; gate = refl; closed = refl })
 
   -- ---- one step
-
-  -- how many writes of the snapshot found no memory, where one is due on a desk
-  abbrev unwritten_on : Keeping → Lasting D → ℕ
-  unwritten_on k desk = if is_due_on desk then unwritten_by k else 0
-
-  -- none, where it was passed over
-  pub passed_on : (desk : Lasting D) → unwritten_on IsPassed desk ≡ 0
-  passed_on desk = elim (is_due_on desk) as (λ b. (if b then unwritten_by IsPassed else 0) ≡ 0) [ true ↦ refl | false ↦ refl ]
-
-  -- nor is one due of a closed desk
-  shut_on : (k : Keeping) (desk : Lasting D) → desk.closed ≡ true → unwritten_on k desk ≡ 0
-  shut_on k desk shut = ap {B = ℕ} (λ (b : Bool). if not b && nat_le 1024 desk.kept.marks.since then unwritten_by k else 0) shut
 
   -- the strings of a step were sent, or none, and no snapshot was taken behind them
   pub went_alone : Nothing told → (s : State) (step : Step) (old mid : Lasting D) → unwritten_on step.hindrances.keeping mid ≡ 0 → old.closed ≡ false → HaveSealed told old mid (turned s step).unsealed (turned s step).counts

@@ -49,7 +49,7 @@ counts_regroup a b c =
     λ j. record { reads = record { failed = failed j; wrong = wrong j }; starved = starved j }
 
 -- behind what was counted before, where a snapshot is due and where none is
-added_if : (due : Bool) (c : Counts) (n : ℕ) → both_counted c (if due then wanting n else none_counted) ≡ (if due then both_counted c (wanting n) else c)
+pub added_if : (due : Bool) (c : Counts) (n : ℕ) → both_counted c (if due then wanting n else none_counted) ≡ (if due then both_counted c (wanting n) else c)
 added_if true c n = refl
 added_if false c n = none_before c
 
@@ -60,6 +60,18 @@ wanting_if false n = refl
 pub unread_if : (due : Bool) (n : ℕ) → (if due then wanting n else none_counted).reads ≡ none_read
 unread_if true n = refl
 unread_if false n = refl
+
+-- how many writes of the snapshot found no memory, where one is due on a desk
+abbrev pub unwritten_on : {D : Type 0} → Keeping → Lasting D → ℕ
+unwritten_on k desk = if is_due_on desk then unwritten_by k else 0
+
+-- none, where it was passed over
+pub passed_on : {D : Type 0} → (desk : Lasting D) → unwritten_on IsPassed desk ≡ 0
+passed_on desk = elim (is_due_on desk) as (λ b. (if b then unwritten_by IsPassed else 0) ≡ 0) [ true ↦ refl | false ↦ refl ]
+
+-- nor is one due of a closed desk
+pub shut_on : {D : Type 0} → (k : Keeping) (desk : Lasting D) → desk.closed ≡ true → unwritten_on k desk ≡ 0
+shut_on k desk shut = ap {B = ℕ} (λ (b : Bool). if not b && nat_le 1024 desk.kept.marks.since then unwritten_by k else 0) shut
 
 module _ {D : Type 0} (told : D → DiskTold) where
   -- a desk that was not written to sealed nothing

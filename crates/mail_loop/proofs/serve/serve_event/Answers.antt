@@ -7,8 +7,8 @@ use Rattle.mail_loop.specs.Machine.{Hindrances, IsPassed, answered, unwritten_by
 use Rattle.mail_loop.specs.Acknowledged.{GoesThrough}
 use Rattle.mail_loop.specs.Stands.{AreHome, replies_of}
 use Rattle.mail_loop.specs.State.{State}
-use Rattle.mail_loop.proofs.Sealed.{kept_sealed, open_as}
-use Rattle.mail_loop.proofs.Courses.{passed_on, went_alone, went_on}
+use Rattle.mail_loop.proofs.Sealed.{kept_sealed, open_as, passed_on}
+use Rattle.mail_loop.proofs.Courses.{went_alone, went_on}
 use Rattle.mail_loop.proofs.Events.{leads_starved, leads_by, leads_cut, leads_on}
 use Rattle.mail_loop.proofs.serve.serve_event.Goals as goal
 
@@ -23,7 +23,7 @@ returns-in_err-answer-clause-leads g c =
     let s : State = record { kept = old.kept; seats = c.args.connections.now.entries } in
     leads_starved (HaveSealed disk old new) (λ (h : Hindrances). GoesThrough disk s (record { event = c.args.event.now; hindrances = h }) old new) (told c.args.link.now) s c.args.event.now b hs stage new.kept
     c.answer_event.new.connections.entries p.0 c.from_residual.result p.1 a.0.0 a.0.1 c.in_err-answer.ensures.undone a.1 a.2
-    (λ ds. went_alone disk c.seals_join.ensures.nothing s (record { event = c.args.event.now; hindrances = record { unfed = b; turns = hs; stage = stage; deliveries = ds; keeping = IsPassed } }) old new (passed_on disk new) c.requires.sealed a.1 a.0.0)
+    (λ ds. went_alone disk c.seals_join.ensures.nothing s (record { event = c.args.event.now; hindrances = record { unfed = b; turns = hs; stage = stage; deliveries = ds; keeping = IsPassed } }) old new (passed_on new) c.requires.sealed a.1 a.0.0)
 
 pub returns-in-Ok-clause-leads : goal.returns-in-Ok-clause-leads
 returns-in-Ok-clause-leads g c =
@@ -58,7 +58,7 @@ returns-clause-leads g c =
     leads_cut (HaveSealed disk old new) (λ (h : Hindrances). GoesThrough disk s (record { event = c.args.event.now; hindrances = h }) old new) (told c.args.link.now) (told c.deliver_all.new.link) s c.args.event.now b hs stage
     new.kept c.answer_event.new.connections.entries c.deliver_all.new.connections.entries (replies_of c.as_slice.result.now) c.deliver_all.result _ _
     a.0.0 a.0.1 (ap replies_of c.as_slice.ensures.value ∙ a.0.2) c.deliver_all.ensures.sends c.in-Err.is a.1 a.2
-    (λ ds. went_alone disk c.seals_join.ensures.nothing s (record { event = c.args.event.now; hindrances = record { unfed = b; turns = hs; stage = stage; deliveries = ds; keeping = IsPassed } }) old new (passed_on disk new) c.requires.sealed a.1 a.0.0)
+    (λ ds. went_alone disk c.seals_join.ensures.nothing s (record { event = c.args.event.now; hindrances = record { unfed = b; turns = hs; stage = stage; deliveries = ds; keeping = IsPassed } }) old new (passed_on new) c.requires.sealed a.1 a.0.0)
 
 pub returns-in-Ok-clause-home : goal.returns-in-Ok-clause-home
 returns-in-Ok-clause-home g c =
