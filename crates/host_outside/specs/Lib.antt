@@ -2,5 +2,6 @@ pub mod FileDisk
 pub mod Files
 pub mod LoopLink
 pub mod Ports
+pub mod Queue
 pub mod Seats
 pub mod Streams

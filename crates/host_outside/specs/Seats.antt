@@ -1,5 +1,5 @@
 -- What happens at the seats of connections.
-use Rattle.std.specs.Prelude.{◌≡◌, ◌<◌, ◌+◌, nat_lt, nat_le, if◌then◌else◌, ℕ, zero, suc, min, Bool, List, length, take, slice_index_or, slice_set, Option, Some, None, is_none, IsSome, IfSome, IsSomeAnd}
+use Rattle.std.specs.Prelude.{◌≡◌, ◌<◌, ◌+◌, nat_lt, if◌then◌else◌, ℕ, zero, suc, min, Bool, List, length, take, slice_index_or, slice_set, Option, Some, None, is_none, IsSome, IfSome, IsSomeAnd}
 use Rattle.undo_outside.specs.declared.event.What.{What}
 use Rattle.undo_outside.specs.declared.event.What.TheVariants.{Bytes, Left}
 use Rattle.host_outside.specs.declared.connection.Connection.{Connection}
@@ -50,10 +50,6 @@ Ends before after = IfSome before.connection (λ _. IsSomeAnd after.connection (
 -- the seat behind this one, by turns
 abbrev pub seat_behind : ℕ → ℕ
 seat_behind place = if nat_lt place 999 then place + 1 else 0
-
--- the longest sleep so many milliseconds after the last event, in microseconds
-abbrev pub longest_sleep : ℕ → ℕ
-longest_sleep quiet = if nat_le quiet 1000 then 1000 else (if nat_le quiet 60000 then 10000 else 65536)
 
 -- what an event tells of what came into the buffer
 abbrev pub told_of : Received → List ℕ → Option What

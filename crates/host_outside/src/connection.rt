@@ -60,6 +60,11 @@ impl<S> Connection<S> {
         self.is_over
     }
 
+    /// It was closed here, or the other side left.
+    pub(crate) fn is_ending(&self) -> bool {
+        self.ends_at.is_some()
+    }
+
     /// How many logins were refused before one was done.
     pub(crate) fn refused(&self) -> usize {
         self.refused

@@ -19,6 +19,8 @@ mod locks;
 mod logins;
 mod loop_link;
 mod path_file;
+mod queue;
+mod readiness;
 mod sockets;
 mod starting;
 mod streams;

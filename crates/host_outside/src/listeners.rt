@@ -1,10 +1,12 @@
-//! The ports on which connections come, of this machine alone.
+//! The ports on which connections come, of this machine alone, and what the system tells of them and of the connections.
 ghost use Rattle.std.specs.Prelude.{◌≡◌, ◌∷◌, [], ◌++◌, true, Ok, IfOk, IfSome, map, slice_get};
 ghost use Rattle.std.specs.Option.{option_map};
 ghost use Rattle.undo_outside.specs.declared.event.Role.TheVariants.{Pop};
 ghost use Rattle.host_outside.specs.Ports.{AskedFor, Row, row_of, rows_of, row_at};
 
+use crate::readiness::Readiness;
 use crate::telling::{meaning, name_of};
+use mio::event::Iter;
 use std::alloc::Global;
 use std::net::{Ipv4Addr, Net, OpenListener, TcpListener};
 use std::os::fd::AsRawFd;
@@ -14,6 +16,9 @@ use undo_outside::Role;
 
 /// So many connections may wait at a port until they are taken, or as many as the system lets: std asks for 128.
 const MOST_WAITING: i32 = 4096;
+
+/// The number under which the system tells of the ports: no seat has it.
+const PORTS: usize = usize::MAX;
 
 /// A port, what is spoken there, and what listens.
 #[derive(Drop)]
@@ -37,6 +42,8 @@ pub(crate) struct Arrived<S> {
 #[derive(Drop)]
 pub(crate) struct Listeners<L> {
     ports: Vec<Port<L>>,
+    /// The system tells of these ports, and of the connections that are added.
+    readiness: Readiness,
 }
 
 impl<L: OpenListener> Port<L> {
@@ -59,9 +66,9 @@ impl<L: OpenListener> Port<L> {
     }
 }
 
-impl<L: OpenListener> Listeners<L> {
+impl<L: OpenListener + AsRawFd> Listeners<L> {
     /// Listens on these ports, of SMTP, IMAP and HTTP, and on one of POP3 where that is given. For port 0 the system chooses
-    /// one. Where one can't be had a line on standard error says which, and why.
+    /// one. Where one can't be had, or the system can't tell what comes, a line on standard error says which, and why.
     pub(crate) fn open<R: Net<Listener = L> + Eprint>(
         net: &R,
         alloc: Global,
@@ -73,8 +80,12 @@ impl<L: OpenListener> Listeners<L> {
         ensures { IfOk result (λ listeners. IfSome listeners (AskedFor ports pop)) }
     {
         let (smtp, imap, http) = ports;
+        let Some(readiness) = readiness_of(net, alloc)? else {
+            return Ok(None);
+        };
         let mut them = Listeners {
             ports: Vec::new(alloc),
+            readiness,
         };
         let all = them.add(net, Role::Smtp, smtp)?
             && them.add(net, Role::Imap, imap)?
@@ -94,7 +105,7 @@ impl<L: OpenListener> Listeners<L> {
         L: Drop,
         ensures { result ≡ Ok true → map row_of self.new.ports.items ≡ map row_of self.old.ports.items ++ (role, asked) ∷ [] }
     {
-        match listen(net, role, asked) {
+        match listen(net, &self.readiness, role, asked) {
             Some(port) => {
                 self.ports.push(port)?;
                 Ok(true)
@@ -117,6 +128,21 @@ impl<L: OpenListener> Listeners<L> {
             Some(asked) => self.add(net, Role::Pop, asked),
             None => Ok(true),
         }
+    }
+
+    /// The system tells of this connection from now on, under the number of its seat.
+    pub(crate) fn attend<S: AsRawFd>(&self, stream: &S, place: usize) -> io::Result<()> {
+        self.readiness.add(stream, place)
+    }
+
+    /// Waits until the system tells of a port or a connection, for so many milliseconds at most.
+    pub(crate) fn wait(&mut self, millis: u64) -> io::Result<()> {
+        self.readiness.wait(millis)
+    }
+
+    /// The seats, and `PORTS`, of which the last wait was told.
+    pub(crate) fn told(&self) -> Iter<'_> {
+        self.readiness.told()
     }
 
     /// The port whose turn it is, if it is that of one.
@@ -142,10 +168,26 @@ impl<L> fmt::Display for Listeners<L> {
     }
 }
 
-fn listen<R: Net + Eprint>(net: &R, role: Role, asked: u16) -> Option<Port<R::Listener>>
+/// What the system tells of sockets. Where it can't a line on standard error says why.
+fn readiness_of<R: Net + Eprint>(net: &R, alloc: Global) -> Result<Option<Readiness>, NoMemory> {
+    match Readiness::open(net, alloc)? {
+        Ok(readiness) => Ok(Some(readiness)),
+        Err(error) => {
+            let _told = eprintln!(net; "undomail: what comes cannot be waited for: {error}");
+            Ok(None)
+        }
+    }
+}
+
+fn listen<R: Net + Eprint>(
+    net: &R,
+    readiness: &Readiness,
+    role: Role,
+    asked: u16,
+) -> Option<Port<R::Listener>>
     ensures { IfSome result (λ port. row_of port ≡ (role, asked)) }
 {
-    match try_listen(net, role, asked) {
+    match try_listen(net, readiness, role, asked) {
         Ok(port) => Some(port),
         Err(error) => {
             let whose = name_of(role);
@@ -158,12 +200,18 @@ fn listen<R: Net + Eprint>(net: &R, role: Role, asked: u16) -> Option<Port<R::Li
     }
 }
 
-fn try_listen<R: Net>(net: &R, role: Role, asked: u16) -> io::Result<Port<R::Listener>>
+fn try_listen<R: Net>(
+    net: &R,
+    readiness: &Readiness,
+    role: Role,
+    asked: u16,
+) -> io::Result<Port<R::Listener>>
     ensures { IfOk result (λ port. row_of port ≡ (role, asked)) }
 {
     let listener = TcpListener::bind(net, (Ipv4Addr::LOCALHOST, asked))?;
     listener.set_nonblocking(true)?;
     let _lengthened = libc::net::listen(listener.as_raw_fd(), MOST_WAITING);
+    readiness.add(&listener, PORTS)?;
     let number = listener.local_addr()?.port();
     Ok(Port {
         role,

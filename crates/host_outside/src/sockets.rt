@@ -1,8 +1,9 @@
-//! The listeners and the connections, visited in rounds: those that were active lately in each, the others by turns.
-ghost use Rattle.std.specs.Prelude.{◌≡◌, ◌<◌, ◌≤◌, ◌+◌, ◌-◌, ◌*◌, ◌^◌, ℕ, true, false, IfOk, IfSome, IfNone, IsNone, None, Some, Ok, length, max, min, take, position};
+//! The listeners and the connections, visited in rounds: where the system tells of something, and the others by turns.
+ghost use Rattle.std.specs.Prelude.{◌≡◌, ◌<◌, ◌≤◌, ◌+◌, ℕ, true, false, IfOk, IfSome, IfNone, IsNone, None, Some, Ok, length, min, take, position};
 ghost use Rattle.std.specs.Option.{option_map, option_and_then};
 ghost use Rattle.host_outside.specs.Ports.{AskedFor, Row, row_at};
 ghost use Rattle.host_outside.specs.Ports as seats;
+ghost use Rattle.host_outside.specs.Queue.{longest_wait};
 ghost use Rattle.host_outside.specs.Seats.{Ends, Fills, Gives, Hears, IsLeft, IsSent, Receives, SatBefore, Turns, is_free, told_of};
 ghost use Rattle.host_outside.specs.declared.connection.Received.TheVariants as came;
 ghost use Rattle.host_outside.specs.Seats as spec;
@@ -10,12 +11,13 @@ ghost use Rattle.undo_outside.specs.declared.event.What.TheVariants.{Joined};
 
 use crate::connection::{Connection, Received};
 use crate::listeners::{Arrived, Listeners};
+use crate::queue::Queue;
 use crate::telling::{Throttle, name_of, second};
 use std::alloc::Global;
 use std::io::{self, ErrorKind, Read, Write};
+use std::mem;
 use std::net::{Net, OpenStream, SocketAddr};
-use std::time::{Clock, Duration};
-use std::{mem, thread};
+use std::time::Clock;
 use undo_base::{LAST_MOMENT, NoMemory, Text};
 use undo_outside::{Event, Role, What};
 
@@ -25,49 +27,37 @@ const SEATS: usize = 1000;
 /// The first so many are for all, the others for the console alone.
 const SEATS_FOR_ALL: usize = 984;
 
-/// The most visits of a round: the listeners, those that were active lately, and a turn through all seats.
-const MOST_VISITS: usize = 2003;
+/// The most visits of a round: the listeners, those that were called, and a turn through all seats.
+const MOST_VISITS: usize = 2005;
 
 /// The most bytes of one event.
 const MOST_BYTES: usize = 4096;
 
-/// So many rounds without an event, with a sleep after each, give an idle one, even where the clock can't be read.
+/// So many rounds without an event, with a wait after each, give an idle one, even where the clock can't be read.
 const MOST_ROUNDS: u64 = 2048;
 
 /// After so many milliseconds without an event an idle one is given.
 const IDLE: u64 = 1000;
 
-/// The sleep after something came or went, in microseconds. While nothing does, each sleep is twice the one before.
-const SHORTEST_SLEEP: u64 = 64;
+/// After so many milliseconds all seats are gone through, for those whose connection ends.
+const SWEEP: u64 = 1000;
 
-/// The longest sleep within a second of the last event, in microseconds.
-const SLEEP_WITHIN_A_SECOND: u64 = 1000;
-
-/// The longest sleep within a minute of the last event, in microseconds.
-const SLEEP_WITHIN_A_MINUTE: u64 = 10_000;
-
-/// The longest sleep, in microseconds.
-const LONGEST_SLEEP: u64 = 65_536;
-
-/// For so many seconds after it was active a connection is visited in each round.
-const LIVELY: u64 = 2;
+/// Each time that they were gone through so often the others are visited too, whatever the system tells of them.
+const WHOLE_SWEEP: u64 = 8;
 
 /// A place for a connection, whose number is that of the place, counted from 1.
 #[derive(Drop)]
 struct Seat<S> {
     connection: Option<Connection<S>>,
-    /// Where it stands in the list of those that were active lately: the second at which it leaves that.
-    lively_until: Option<u64>,
 }
 
 impl<S: Drop> Seat<S> {
-    /// Nobody has the seat any more where its connection is over.
-    fn free(&mut self)
+    /// Nobody has the seat any more where its connection is over. Answers whether it was.
+    fn free(&mut self) -> bool
         ensures over { IfSome self.old.connection (λ connection. connection.is_over ≡ true → self.new.connection ≡ None) }
         ensures kept { IfSome self.old.connection (λ connection. connection.is_over ≡ false → self.new.connection ≡ self.old.connection) }
         ensures empty { IsNone self.old.connection → self.new.connection ≡ None }
         ensures same { SatBefore self.old self.new }
-        ensures lively { self.new.lively_until ≡ self.old.lively_until }
     {
         let is_over = match &self.connection {
             Some(connection) => connection.is_over(),
@@ -76,16 +66,7 @@ impl<S: Drop> Seat<S> {
         if is_over {
             self.connection = None;
         }
-    }
-
-    /// Its connection has just been active. `lively` is the list of those that were.
-    fn enliven(&mut self, lively: &mut Vec<usize>, place: usize, now: u64)
-        ensures { self.new.connection ≡ self.old.connection }
-    {
-        if self.lively_until.is_none() && lively.push(place).is_err() {
-            return;
-        }
-        self.lively_until = Some((now / 1000).saturating_add(LIVELY));
+        is_over
     }
 }
 
@@ -119,6 +100,14 @@ impl<S: Read + Write + OpenStream + Drop> Seat<S> {
         }
     }
 
+    /// Its connection has ended, and goes on until all is sent and the other side has left, or it is given up.
+    fn is_ending(&self) -> bool {
+        match &self.connection {
+            Some(connection) => connection.is_ending(),
+            None => false,
+        }
+    }
+
     fn is_console(&self) -> bool {
         match &self.connection {
             Some(connection) => connection.is_console(),
@@ -141,16 +130,6 @@ impl<S: Read + Write + OpenStream + Drop> Seat<S> {
         has_moved || !matches!(received, Received::Nothing)
     }
 
-    /// Ends a visit, at which its connection was active or not.
-    fn settle(&mut self, is_active: bool, lively: &mut Vec<usize>, place: usize, now: u64)
-        ensures { SatBefore self.old self.new }
-    {
-        self.free();
-        if is_active {
-            self.enliven(lively, place, now);
-        }
-    }
-
     /// Ends its connection, if there is one.
     fn end(&mut self, now: u64)
         ensures { Ends self.old self.new }
@@ -165,9 +144,9 @@ impl<S: Read + Write + OpenStream + Drop> Seat<S> {
 enum Turn {
     /// That of the listener at a place.
     Listener(usize),
-    /// A place in the list of those that were active lately.
-    Lively(usize),
-    /// The next of the other seats.
+    /// That of the next that was called.
+    Called,
+    /// That of the next of all seats.
     Other,
     /// Nobody's: the round is over.
     Over,
@@ -185,32 +164,21 @@ pub(crate) struct Sockets<R: Net> {
     seats: Vec<Seat<R::Stream>>,
     /// Where the next bytes are read into.
     spare: Vec<u8>,
-    /// The seats whose connections were active lately, each once. One that found no room here is among the others.
-    lively: Vec<usize>,
-    /// The listener that is looked at next, the first being 0.
+    /// The seats that may have something.
+    queue: Queue,
+    /// The listener that is looked at next, the first being 0: behind the last until somebody may wait there.
     listener: usize,
-    /// When the listeners were last begun with, in milliseconds of a clock that is not set back.
-    listened: u64,
-    /// How many lively seats were visited in this round.
-    visited: usize,
-    /// How many seats were gone through in this round.
+    /// When the system was last asked what there is, in milliseconds of a clock that is not set back.
+    looked: u64,
+    /// When all seats were last begun to be gone through, in milliseconds of that clock, and how often they were.
+    swept: u64,
+    sweeps: u64,
+    /// How many of them were gone through since.
     passed: usize,
-    /// How many of these were visited, since a connection sits there that was not active lately.
-    visited_others: usize,
-    /// How many of these are visited in this round.
-    share: usize,
-    /// When this round began, in milliseconds of that clock.
-    begun: u64,
     /// The seat that is gone through next.
     place: usize,
-    /// The next sleep, in microseconds.
-    sleep: u64,
-    /// When the last event but an idle one was, in milliseconds of a clock that is not set back.
-    last: u64,
     /// The moment of the last event.
     at: u64,
-    /// Something came in this round.
-    is_busy: bool,
     /// The seat of a console whose answer goes out before the next event.
     answered: Option<usize>,
     /// Lets the lines pass on logins that were refused, and on connections that can't be taken.
@@ -236,19 +204,14 @@ impl<R: Net + Clock + Eprint> Sockets<R> {
             listeners: None,
             seats: Vec::new(alloc),
             spare: Vec::new(alloc),
-            lively: Vec::new(alloc),
+            queue: Queue::new(alloc),
             listener: 0,
-            listened: 0,
-            visited: 0,
-            passed: 0,
-            visited_others: 0,
-            share: SEATS,
-            begun: 0,
+            looked: 0,
+            swept: 0,
+            sweeps: 0,
+            passed: SEATS,
             place: 0,
-            sleep: SHORTEST_SLEEP,
-            last: 0,
             at: 0,
-            is_busy: false,
             answered: None,
             refusals: Throttle::new(),
             lost: Throttle::new(),
@@ -287,15 +250,15 @@ impl<R: Net + Clock + Eprint> Sockets<R> {
         for _ in 0..MOST_ROUNDS {
             let now = self.millis();
             if let Some(event) = self.go_round(now) {
-                self.sleep = SHORTEST_SLEEP;
-                self.last = now;
-                self.is_busy = true;
                 return Ok(Some(event));
             }
-            if now.saturating_sub(begun) >= IDLE {
+            let quiet = now.saturating_sub(begun);
+            if quiet >= IDLE {
                 break;
             }
-            self.end_round(now);
+            if self.end_round(quiet).is_err() {
+                return Ok(None);
+            }
         }
         Ok(Some(self.event(0, What::Idle)))
     }
@@ -308,22 +271,53 @@ impl<R: Net + Clock + Eprint> Sockets<R> {
         }
     }
 
-    /// Behind a round in which something came there is no sleep.
-    fn end_round(&mut self, now: u64) {
-        if self.is_busy {
-            self.is_busy = false;
+    /// Waits until there is something, and begins the next round. This is so many milliseconds after the last event.
+    fn end_round(&mut self, quiet: u64) -> io::Result<()> {
+        self.hear(self.pause(quiet))?;
+        let now = self.millis();
+        self.looked = now;
+        self.queue.begin_round();
+        if now.saturating_sub(self.swept) >= SWEEP {
+            self.sweep(now);
+        }
+        Ok(())
+    }
+
+    /// How long to wait for something, in milliseconds.
+    fn pause(&self, quiet: u64) -> u64
+        ensures { result ≡ longest_wait self.now.queue quiet }
+    {
+        if self.queue.is_empty() {
+            IDLE.saturating_sub(quiet)
         } else {
-            self.rest(now);
+            0
         }
     }
 
-    /// Sleeps, the longer the longer nothing came or went.
-    fn rest(&mut self, now: u64)
-        ensures { self.new ≡ record self.old { sleep = min (spec.longest_sleep (now - self.old.last)) (min (self.old.sleep * 2) (2 ^ 64 - 1)) } }
-    {
-        thread::sleep(&self.rt, Duration::from_micros(self.sleep));
-        let most = longest_sleep(now.saturating_sub(self.last));
-        self.sleep = most.min(self.sleep.saturating_mul(2));
+    /// Waits until the system tells of something, for so many milliseconds at most, and calls the seats of which it does.
+    fn hear(&mut self, millis: u64) -> io::Result<()> {
+        let Some(listeners) = &mut self.listeners else {
+            return Ok(());
+        };
+        listeners.wait(millis)?;
+        for event in listeners.told() {
+            let place = event.token().0;
+            if place < SEATS {
+                self.queue.wake(place);
+            } else {
+                self.listener = 0;
+            }
+        }
+        Ok(())
+    }
+
+    /// All seats are gone through from now on. Where no seat was free, or a connection could not be taken, the listeners are
+    /// tried again.
+    fn sweep(&mut self, now: u64) {
+        self.swept = now;
+        self.sweeps = self.sweeps.wrapping_add(1);
+        self.passed = 0;
+        self.listener = 0;
     }
 
     /// Takes all the memory that the next event may need.
@@ -333,31 +327,28 @@ impl<R: Net + Clock + Eprint> Sockets<R> {
         }
         if self.seats.is_empty() {
             self.seats = make_seats(self.alloc)?;
-            self.lively.reserve(SEATS)?;
+            self.queue.make(SEATS)?;
         }
         Ok(())
     }
 
-    /// In each millisecond the listeners come first, so that whoever comes is taken in before others are heard.
-    fn begin_listeners(&mut self, now: u64) {
-        if now != self.listened {
-            self.listened = now;
-            self.listener = 0;
+    /// In each millisecond the system is asked, so that whoever comes is taken in before others are heard.
+    fn look(&mut self, now: u64) {
+        if now != self.looked {
+            self.looked = now;
+            let _heard_later = self.hear(0);
         }
     }
 
     /// Goes on with the round until one has an event, or the round is over.
     fn go_round(&mut self, now: u64) -> Option<Event> {
-        self.begin_listeners(now);
+        self.look(now);
         for _ in 0..MOST_VISITS {
             let event = match self.turn() {
-                Turn::Listener(index) => self.visit_listener(index, now),
-                Turn::Lively(index) => self.visit_lively(index, now),
+                Turn::Listener(index) => self.visit_listener(index),
+                Turn::Called => self.visit_called(now),
                 Turn::Other => self.visit_other(now),
-                Turn::Over => {
-                    self.begin_round(now);
-                    return None;
-                }
+                Turn::Over => return None,
             };
             if event.is_some() {
                 return event;
@@ -366,45 +357,29 @@ impl<R: Net + Clock + Eprint> Sockets<R> {
         None
     }
 
-    /// In a round come the listeners, then all seats that were active lately, and then some of the others, by turns.
+    /// In a round come the listeners, then all that were called, and then, where it is time, those that nobody called.
     fn turn(&self) -> Turn {
         match self.listener {
             index if self.role_at(index).is_some() => Turn::Listener(index),
-            _ if self.visited < self.lively.len() => Turn::Lively(self.visited),
-            _ if self.passed < SEATS && self.visited_others < self.share => Turn::Other,
+            _ if self.queue.is_due() => Turn::Called,
+            _ if self.passed < SEATS => Turn::Other,
             _ => Turn::Over,
         }
     }
 
-    fn begin_round(&mut self, now: u64) {
-        self.share = share(now.saturating_sub(self.begun));
-        self.begun = now;
-        self.listener = 0;
-        self.visited = 0;
-        self.passed = 0;
-        self.visited_others = 0;
-    }
-
     /// A listener stays next until nobody waits there.
-    fn visit_listener(&mut self, index: usize, now: u64) -> Option<Event> {
-        let event = self.accept(index, now);
+    fn visit_listener(&mut self, index: usize) -> Option<Event> {
+        let event = self.accept(index);
         if event.is_none() {
             self.listener = self.listener.saturating_add(1);
         }
         event
     }
 
-    /// Visits one that was active lately, or takes it off the list when that is too long ago.
-    fn visit_lively(&mut self, index: usize, now: u64) -> Option<Event> {
-        self.visited = self.visited.saturating_add(1);
-        let place = *self.lively.get(index)?;
-        let seat = self.seats.get_mut(place)?;
-        if seat.lively_until.is_some_and(|until| until > now / 1000) {
-            return self.receive(place, now);
-        }
-        seat.lively_until = None;
-        self.lively.swap_remove(index);
-        None
+    /// Visits the next that was called. It is called again where its connection is active.
+    fn visit_called(&mut self, now: u64) -> Option<Event> {
+        let place = self.queue.next()?;
+        self.receive(place, now)
     }
 
     /// Whose seat's turn it is, which is then that of the seat behind.
@@ -418,14 +393,14 @@ impl<R: Net + Clock + Eprint> Sockets<R> {
         place
     }
 
-    /// Goes to the next seat, and visits it unless it is empty or on the list.
+    /// Goes to the next seat, and visits it where its connection ends, or the others are visited too.
     fn visit_other(&mut self, now: u64) -> Option<Event> {
         let place = self.go_on();
         let seat = self.seats.get(place)?;
-        if seat.connection.is_none() || seat.lively_until.is_some() {
+        let is_whole = self.sweeps % WHOLE_SWEEP == 0;
+        if seat.connection.is_none() || self.queue.has(place) || !is_whole && !seat.is_ending() {
             return None;
         }
-        self.visited_others = self.visited_others.saturating_add(1);
         self.receive(place, now)
     }
 
@@ -437,7 +412,7 @@ impl<R: Net + Clock + Eprint> Sockets<R> {
     }
 
     /// Takes in a connection that waits at a port, under the lowest free number. The last sixteen are the console's.
-    fn accept(&mut self, index: usize, now: u64) -> Option<Event>
+    fn accept(&mut self, index: usize) -> Option<Event>
         ensures { IfSome result (λ event. (row : Row) × (place : ℕ) × (option_and_then (row_at index) self.old.listeners ≡ Some row)
             × (event.what ≡ Joined row.0) × (event.conn ≡ place + 1) × (place < seats.seats_of row.0)
             × (position is_free self.old.seats.items ≡ Some place) × Turns place (Fills row) self.old.seats.items self.new.seats.items) }
@@ -446,7 +421,7 @@ impl<R: Net + Clock + Eprint> Sockets<R> {
         let place = self.free_seat(role)?;
         let number = number_of(place)?;
         let arrived = self.arrived(index)?;
-        if !self.seat(place, arrived, now) {
+        if !self.seat(place, arrived) {
             return None;
         }
         Some(self.event(number, What::Joined(role)))
@@ -465,9 +440,12 @@ impl<R: Net + Clock + Eprint> Sockets<R> {
     }
 
     /// Gives a connection that came a seat. Answers whether it sits there now.
-    fn seat(&mut self, place: usize, arrived: Arrived<R::Stream>, now: u64) -> bool
+    fn seat(&mut self, place: usize, arrived: Arrived<R::Stream>) -> bool
         ensures { result ≡ true → Turns place (Fills (arrived.role, arrived.port)) self.old.seats.items self.new.seats.items }
     {
+        if !self.attends(&arrived.stream, place) {
+            return false;
+        }
         let Ok(connection) = Connection::new(self.alloc, arrived) else {
             return false;
         };
@@ -475,8 +453,24 @@ impl<R: Net + Clock + Eprint> Sockets<R> {
             return false;
         };
         seat.connection = Some(connection);
-        seat.enliven(&mut self.lively, place, now);
+        self.queue.enliven(place);
         true
+    }
+
+    /// The system tells of this connection from now on. Answers whether it does.
+    fn attends(&mut self, stream: &R::Stream, place: usize) -> bool
+        ensures { self.new ≡ record self.old { lost = self.new.lost } }
+    {
+        let Some(listeners) = &self.listeners else {
+            return false;
+        };
+        match listeners.attend(stream, place) {
+            Ok(()) => true,
+            Err(error) => {
+                self.tell_lost(&error);
+                false
+            }
+        }
     }
 
     /// The next connection that waits at the port of a listener, if one does.
@@ -537,17 +531,21 @@ impl<R: Net + Clock + Eprint> Sockets<R> {
         let seat = self.seats.get_mut(place)?;
         let received = seat.receive(now, &mut self.spare);
         let is_active = seat.is_active(&received);
-        seat.settle(is_active, &mut self.lively, place, now);
-        self.wake(is_active);
+        let is_left = seat.free();
+        self.settle(place, is_active, is_left);
         Some(received)
     }
 
-    /// The next sleep is a short one where something came or went.
-    fn wake(&mut self, is_active: bool)
-        ensures { self.new ≡ record self.old { sleep = self.new.sleep } }
+    /// Ends a visit, at which the seat's connection was active or not, and was left or not: then whoever waits at a port may
+    /// have the seat.
+    fn settle(&mut self, place: usize, is_active: bool, is_left: bool)
+        ensures { self.new ≡ record self.old { queue = self.new.queue; listener = self.new.listener } }
     {
         if is_active {
-            self.sleep = SHORTEST_SLEEP;
+            self.queue.enliven(place);
+        }
+        if is_left {
+            self.listener = 0;
         }
     }
 
@@ -647,7 +645,10 @@ impl<R: Net + Clock + Eprint> Sockets<R> {
         ensures { result ≡ Ok true → Turns place (IsSent R.Stream.contents bytes.now) self.old.seats.items self.new.seats.items }
     {
         match self.seats.get_mut(place) {
-            Some(seat) => seat.send(bytes),
+            Some(seat) => {
+                self.queue.call(place);
+                seat.send(bytes)
+            }
             None => Ok(false),
         }
     }
@@ -671,6 +672,7 @@ impl<R: Net + Clock + Eprint> Sockets<R> {
         if let Some(seat) = self.seats.get_mut(place) {
             let is_console = seat.is_console();
             seat.end(now);
+            self.queue.call(place);
             if is_console {
                 self.answered = Some(place);
             }
@@ -723,37 +725,11 @@ fn first_free<S>(seats: &[Seat<S>]) -> Option<usize>
     seats.iter().position(|seat| seat.connection.is_none())
 }
 
-/// The longest sleep so many milliseconds after the last event, in microseconds.
-fn longest_sleep(quiet: u64) -> u64
-    ensures { result ≡ spec.longest_sleep quiet }
-{
-    match quiet {
-        0..=1000 => SLEEP_WITHIN_A_SECOND,
-        1001..=60_000 => SLEEP_WITHIN_A_MINUTE,
-        _ => LONGEST_SLEEP,
-    }
-}
-
-/// How many of those that were not active lately are visited in the round after one that took so many milliseconds.
-fn share(elapsed: u64) -> usize
-    ensures some { 32 ≤ result }
-    ensures all { 63 ≤ elapsed → result ≡ 1000 }
-{
-    match elapsed {
-        0..=1 => 32,
-        2..=62 => elapsed as usize * 16,
-        _ => SEATS,
-    }
-}
-
 /// Seats for all numbers, from 1 on.
 fn make_seats<S: Drop>(alloc: Global) -> Result<Vec<Seat<S>>, NoMemory> {
     let mut seats = Vec::new(alloc);
     for _ in 0..SEATS {
-        seats.push(Seat {
-            connection: None,
-            lively_until: None,
-        })?;
+        seats.push(Seat { connection: None })?;
     }
     Ok(seats)
 }

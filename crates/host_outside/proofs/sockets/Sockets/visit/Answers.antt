@@ -7,17 +7,17 @@ pub returns : goal.returns
 returns g c =
     let buffer = c.receive-received.new.buf in
     let spare = c.args.self.now.spare in
-    let is_buffer = ap (λ s. s.spare.items) c.wake.ensures
+    let is_buffer = ap (λ s. s.spare.items) c.settle.ensures
     ∙ take_at buffer (drop (length buffer) spare.items) spare.len (c.receive-received.auto.buf ∙ c.deref_mut.ensures.len) in
     record {
       before = c.in_ok-seat.seat.now;
-      after = c.settle.new.self;
+      after = c.free-is_left.new.self;
       stood = record { within = search rules; is = c.in_ok-seat.ensures.value };
-      changed = ap (λ s. s.seats.items) c.wake.ensures;
+      changed = ap (λ s. s.seats.items) c.settle.ensures;
       turned = record {
         given = λ count e.
             subst (λ bytes. Gives g.R.Stream.Write.contents g.R.Stream.Read.remaining c.in_ok-seat.seat.now bytes count)
             (sym is_buffer) (c.receive-received.ensures.given count e);
-        left = λ e connection sits. c.receive-received.ensures.left e connection (c.settle.ensures connection sits);
+        left = λ e connection sits. c.receive-received.ensures.left e connection (c.free-is_left.ensures.same connection sits);
       };
     }

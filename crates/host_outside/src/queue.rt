@@ -1,0 +1,183 @@
+//! The seats that may have something, in the order in which they are visited.
+ghost use Rattle.std.specs.Prelude.{◌≡◌, ◌∷◌, [], IfNone, IfSome};
+ghost use Rattle.host_outside.specs.Queue.{Adds, all_of, due_of, is_calm};
+
+use std::alloc::Global;
+use std::collections::VecDeque;
+use undo_base::NoMemory;
+
+/// What is known of a place.
+#[derive(Drop)]
+struct Mark {
+    /// It stands in the queue.
+    is_called: bool,
+    /// The last round in which it was active.
+    active: u64,
+}
+
+/// A queue of places, each once, that is gone through in rounds: who stands in it as a round begins is visited in it.
+#[derive(Drop)]
+pub(crate) struct Queue {
+    /// Those that are visited before all others, still in this round.
+    first: VecDeque<usize>,
+    rest: VecDeque<usize>,
+    /// So many of the rest are still to be visited in this round.
+    due: usize,
+    /// The number of this round.
+    round: u64,
+    marks: Vec<Mark>,
+}
+
+impl Queue {
+    /// Of no places yet.
+    pub(crate) fn new(alloc: Global) -> Queue
+        ensures { all_of result ≡ [] }
+    {
+        Queue {
+            first: VecDeque::new(alloc),
+            rest: VecDeque::new(alloc),
+            due: 0,
+            round: 0,
+            marks: Vec::new(alloc),
+        }
+    }
+
+    /// Takes the memory for so many places, from 0 on.
+    pub(crate) fn make(&mut self, count: usize) -> Result<(), NoMemory>
+        ensures { all_of self.new ≡ all_of self.old }
+    {
+        self.first.reserve(count)?;
+        self.rest.reserve(count)?;
+        self.marks = marks_of(*self.marks.allocator(), count)?;
+        Ok(())
+    }
+
+    /// Whether nobody stands in it.
+    pub(crate) fn is_empty(&self) -> bool
+        ensures { result ≡ is_calm self.now }
+    {
+        self.first.is_empty() && self.rest.is_empty()
+    }
+
+    /// Whether a place stands in it.
+    pub(crate) fn has(&self, place: usize) -> bool {
+        self.marks.get(place).is_some_and(|mark| mark.is_called)
+    }
+
+    /// A place is visited in the next round, behind those that are called already.
+    pub(crate) fn call(&mut self, place: usize) {
+        if !self.has(place) {
+            let is_called = self.push(place);
+            self.mark(place, is_called);
+        }
+    }
+
+    /// A place has just been active: there may be more.
+    pub(crate) fn enliven(&mut self, place: usize) {
+        let round = self.round;
+        if let Some(mark) = self.marks.get_mut(place) {
+            mark.active = round;
+        }
+        self.call(place);
+    }
+
+    /// There is something at a place. One that was not active in this round comes first in it.
+    pub(crate) fn wake(&mut self, place: usize) {
+        if self.has(place) || self.was_active(place) {
+            self.call(place);
+        } else {
+            let is_called = self.push_first(place);
+            self.mark(place, is_called);
+        }
+    }
+
+    fn was_active(&self, place: usize) -> bool {
+        let round = self.round;
+        self.marks
+            .get(place)
+            .is_some_and(|mark| mark.active >= round)
+    }
+
+    fn mark(&mut self, place: usize, is_called: bool)
+        ensures { self.new ≡ record self.old { marks = self.new.marks } }
+    {
+        if let Some(mark) = self.marks.get_mut(place) {
+            mark.is_called = is_called;
+        }
+    }
+
+    /// Adds a place behind all others, for the next round. Answers whether there was memory for it.
+    fn push(&mut self, place: usize) -> bool
+        ensures rest { Adds result place self.old.rest.items self.new.rest.items }
+        ensures others { self.new ≡ record self.old { rest = self.new.rest } }
+    {
+        self.rest.push_back(place).is_ok()
+    }
+
+    /// Adds a place before the rest, for this round. Answers whether there was memory for it.
+    fn push_first(&mut self, place: usize) -> bool
+        ensures first { Adds result place self.old.first.items self.new.first.items }
+        ensures others { self.new ≡ record self.old { first = self.new.first } }
+    {
+        self.first.push_back(place).is_ok()
+    }
+
+    /// Whether a place is left for this round.
+    pub(crate) fn is_due(&self) -> bool {
+        self.due > 0 || !self.first.is_empty()
+    }
+
+    /// Takes out the next place of this round, if there is one left.
+    pub(crate) fn next(&mut self) -> Option<usize>
+        ensures some { IfSome result (λ place. due_of self.old ≡ place ∷ due_of self.new) }
+        ensures none { IfNone result (due_of self.old ≡ []) }
+    {
+        let place = self.pop()?;
+        self.mark(place, false);
+        Some(place)
+    }
+
+    fn pop(&mut self) -> Option<usize>
+        ensures some { IfSome result (λ place. due_of self.old ≡ place ∷ due_of self.new) }
+        ensures none { IfNone result (due_of self.old ≡ []) }
+    {
+        match self.first.pop_front() {
+            Some(place) => Some(place),
+            None => self.pop_of_rest(),
+        }
+    }
+
+    /// The next place of the rest, if it is due in this round.
+    fn pop_of_rest(&mut self) -> Option<usize>
+        requires { self.old.first.items ≡ [] }
+        ensures some { IfSome result (λ place. due_of self.old ≡ place ∷ due_of self.new) }
+        ensures none { IfNone result (due_of self.old ≡ []) }
+    {
+        if self.due == 0 {
+            return None;
+        }
+        self.due -= 1;
+        self.rest.pop_front()
+    }
+
+    /// Whoever stands in it now is visited in this round.
+    pub(crate) fn begin_round(&mut self)
+        ensures due { due_of self.new ≡ all_of self.new }
+        ensures kept { all_of self.new ≡ all_of self.old }
+    {
+        self.round = self.round.saturating_add(1);
+        self.due = self.rest.len();
+    }
+}
+
+/// Of so many places, none called yet.
+fn marks_of(alloc: Global, count: usize) -> Result<Vec<Mark>, NoMemory> {
+    let mut marks = Vec::new(alloc);
+    for _ in 0..count {
+        marks.push(Mark {
+            is_called: false,
+            active: 0,
+        })?;
+    }
+    Ok(marks)
+}

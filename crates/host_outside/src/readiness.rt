@@ -1,0 +1,53 @@
+//! What the system tells of sockets: each time that something comes over one, or that it takes again what waits for it.
+use mio::event::Iter;
+use mio::unix::SourceFd;
+use mio::{Events, Interest, Poll, Token};
+use std::alloc::Global;
+use std::io;
+use std::net::Net;
+use std::os::fd::{AsRawFd, RawFd};
+use std::time::Duration;
+use undo_base::NoMemory;
+
+/// So many sockets are told of at a time: as many as there can be.
+const MOST_TOLD: usize = 1024;
+
+/// The sockets of which the system tells. One that is closed is told of no more.
+#[derive(Drop)]
+pub(crate) struct Readiness {
+    poll: Poll,
+    told: Events,
+}
+
+impl Readiness {
+    /// Of no sockets yet. Where the system has no such thing to give, this tells why.
+    pub(crate) fn open<R: Net>(net: &R, alloc: Global) -> Result<io::Result<Readiness>, NoMemory> {
+        let told = Events::with_capacity(alloc, MOST_TOLD)?;
+        match Poll::new(net) {
+            Ok(poll) => Ok(Ok(Readiness { poll, told })),
+            Err(error) => Ok(Err(error)),
+        }
+    }
+
+    /// From now on it is told of this socket, under this number: at once where something is there, and after a call that found
+    /// nothing more, or no more room, as soon as there is.
+    pub(crate) fn add<S: AsRawFd>(&self, socket: &S, number: usize) -> io::Result<()> {
+        let descriptor: RawFd = socket.as_raw_fd();
+        self.poll.registry().register(
+            &mut SourceFd(&descriptor),
+            Token(number),
+            Interest::READABLE | Interest::WRITABLE,
+        )
+    }
+
+    /// Waits until a socket is told of, for so many milliseconds at most.
+    pub(crate) fn wait(&mut self, millis: u64) -> io::Result<()> {
+        self.poll
+            .poll(&mut self.told, Some(Duration::from_millis(millis)))
+    }
+
+    /// The sockets that the last wait told of. There may be nothing there all the same.
+    pub(crate) fn told(&self) -> Iter<'_> {
+        self.told.iter()
+    }
+}
