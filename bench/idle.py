@@ -1,8 +1,7 @@
 #!/usr/bin/env python3
 """What an idle `undomail serve` uses of a processor, with so many connections that say nothing (half of SMTP, half of IMAP).
 
-usage: bench/idle.py PROGRAM [CONNECTIONS]      500 by default; shares over 5, 20, 40, 20 and 20 seconds, one behind the other: in the first minute the
-                                                link looks more often for what comes
+usage: bench/idle.py PROGRAM [CONNECTIONS]      500 by default; shares over 5, 20, 40, 20 and 20 seconds, one behind the other
 """
 import os, socket, subprocess, sys, tempfile, time
 
