@@ -1,4 +1,4 @@
-use Rattle.std.proofs.Common.{◌&&◌, ap, nat_le, subst, sym, ◌∙◌}
+use Rattle.std.proofs.Common.{◌&&◌, ap, nat_le, refl, subst, sym, ◌∙◌}
 use Rattle.std.proofs.lemmas.Result.{err_from_is_err_and}
 use Rattle.mail_loop.specs.Asked.{HaveSealed}
 use Rattle.verb_core.specs.declared.conf.House.{House}
