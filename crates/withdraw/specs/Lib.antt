@@ -1,0 +1,3 @@
+pub mod Unediting
+pub mod Coming
+pub mod Lookups
