@@ -61,6 +61,13 @@ class Wire:
                 try: it.shutdown(socket.SHUT_RDWR)
                 except OSError: pass
     def lines(self): return open(self.path, encoding='latin-1').read().splitlines()
+    def rests(self, seconds=5, at_most=120):
+        """Waits until nothing was said for a while, and the last word was the store's."""
+        before, begun, first = None, time.monotonic(), time.monotonic()
+        while time.monotonic() < min(begun + seconds, first + at_most):
+            now = os.path.getsize(self.path)
+            if now != before or not (last := self.lines()[-1:]) or '> ' in last[0][:6]: before, begun = now, time.monotonic()
+            time.sleep(.3)
     def asked(self, since=0): return [line.partition('> ')[2] for line in self.lines()[since:] if re.match(r'\d+> ', line)]
     def refused(self):
         """The commands that were answered NO or BAD, each with its answer, and how often."""
@@ -223,20 +230,29 @@ def mbsync_before(it):
     rc = written(it.at('rc'), f'IMAPAccount a\nHost 127.0.0.1\nPort {it.port}\nUser {it.user}\nPass pw\nSSLType None\nAuthMechs LOGIN\n\nIMAPStore far\nAccount a\n\nMaildirStore near\nPath m/\nInbox m/INBOX\nSubFolders Verbatim\n\nChannel c\nFar :far:\nNear :near:\nPatterns *\nCreate Both\nRemove None\nExpunge Both\nSyncState *\n')
     ran(['mbsync', '-c', rc, '-a'], it.home)
 
+def offlineimap_runs(it, creates='yes'):
+    rc = written(it.at('rc'), f'[general]\naccounts = a\nmetadata = {it.at("meta")}\n[Account a]\nlocalrepository = l\nremoterepository = r\n[Repository l]\ntype = Maildir\nlocalfolders = {it.at("mail")}\nsep = /\n[Repository r]\ntype = IMAP\nremotehost = 127.0.0.1\nremoteport = {it.port}\nremoteuser = {it.user}\nremotepass = pw\nssl = no\nstarttls = no\nauth_mechanisms = LOGIN\ncreatefolders = {creates}\n')
+    return ran(['offlineimap', '-c', rc, '-o', '-u', 'basic'], it.home, (0, 1))
+
 def offlineimap(it):
-    runs = lambda: ran(['offlineimap', '-c', it.at('rc'), '-o', '-u', 'basic'], it.home, (0, 1))
-    yield from pulls(it, it.at('mail'), runs, PLAIN)
+    runs, folder = lambda: offlineimap_runs(it), it.at('mail')
+    yield from pulls(it, folder, runs, PLAIN)
     others = [name for name in ODD if name not in PLAIN]
     it.makes(others)
     since = len(it.wire.lines())
     it.changes_nothing(runs)
     yield f'names with a quote or a backslash: asks {next(line for line in it.wire.asked(since) if "hi" in line).partition(" ")[2]}, is refused, and goes on'
-    for name in others: it.does(('delete', quoted(name)))
-    yield from renamed(it, it.at('mail'), runs)
+    for name in others: it.does(('delete', quoted(name))); shutil.rmtree(os.path.join(folder, name))
+    left(folder, 'Home/2007', 16)
+    true('refused', 'Mailbox exists' in runs() and 'Home/2007' not in it.boxes())
+    it.makes(['Home/2007'])
+    runs()
+    same('once it is there', ['letter 16'], it.subjects('Home/2007'))
+    yield 'a new folder below one that is there: asks CREATE of that one first, is refused (`NO Mailbox exists.`) and ends; once another program has made it the letter goes'
+    yield from renamed(it, folder, lambda: offlineimap_runs(it, 'no'))
+    yield 'with `createfolders = no`: else it would make the old names again'
 
-def offlineimap_before(it):
-    rc = written(it.at('rc'), f'[general]\naccounts = a\nmetadata = {it.at("meta")}\n[Account a]\nlocalrepository = l\nremoterepository = r\n[Repository l]\ntype = Maildir\nlocalfolders = {it.at("mail")}\nsep = /\n[Repository r]\ntype = IMAP\nremotehost = 127.0.0.1\nremoteport = {it.port}\nremoteuser = {it.user}\nremotepass = pw\nssl = no\nstarttls = no\nauth_mechanisms = LOGIN\n')
-    ran(['offlineimap', '-c', rc, '-o', '-u', 'basic'], it.home)
+def offlineimap_before(it): offlineimap_runs(it)
 
 def mutt(it):
     rc = written(it.at('rc'), f'set imap_authenticators="login" ssl_starttls=no ssl_force_tls=no\nset imap_user={it.user} imap_pass=pw\nset folder=imap://127.0.0.1:{it.port}/ spoolfile=imap://127.0.0.1:{it.port}/INBOX\nset confirmappend=no confirmcreate=no delete=yes quit=yes move=no wait_key=no mark_old=no\nset record= postponed= timeout=5 imap_keepalive=0 sleep_time=0 beep=no\n')
@@ -347,8 +363,9 @@ def thunderbird(it):
     counts = one.mail('at("INBOX").getNewMessages(messages, null); await until(() => given[0].every(it => at(it).getTotalMessages(false) == 1)); return given[0].map(it => at(it).getTotalMessages(false))', [name for name in ODD if name not in missing])
     same('odd names', ([], [1] * len(ODD)), (missing, counts))
     yield f'{len(ODD)} odd names by LIST and STATUS'
-    one.mail('for (const name of given[0]) { at("Work").createSubfolder(name, messages); await until(() => root.descendants.some(it => it.name == name)); }', [decoded(name)[4:] for name in ODD if name.count('/') == 1 and len(name) < 199] + [decoded(name)[5:] for name in ODD if len(name) == 200])
-    within('its own odd names', 60, lambda: {'Work' + name[3:] for name in ODD if name.count('/') == 1 and len(name) < 199} | {'Work/' + name[5:] for name in ODD if len(name) == 200} <= set(it.boxes()))
+    own = [name[4:] if len(name) < 199 else name[5:] for name in ODD if name.count('/') == 1]   # `Work` has an octet more than `Old`
+    one.mail('for (const name of given[0]) { at("Work").createSubfolder(name, messages); await until(() => root.descendants.some(it => it.name == name)); }', list(map(decoded, own)))
+    within('its own odd names', 60, lambda: {f'Work/{name}' for name in own} <= set(it.boxes()))
     yield 'makes odd names itself'
     one.mail('at("House").deleteSelf(messages); await until(() => at("Trash/House/2006/June"))')
     within('in the trash', 60, lambda: 'Trash/House/2006/June' in it.boxes() and 'House' not in it.boxes())
@@ -363,7 +380,7 @@ def thunderbird(it):
 
 def windowed_before(it):
     it.kept['screen'] = screen = windows.Screen(it.home)
-    it.kept['it'] = one = {'sylpheed': windows.Sylpheed, 'claws': windows.Claws}[it.user](screen, it.port, it.user, 'pw').start()
+    it.kept['it'] = one = {'sylpheed': windows.Sylpheed, 'claws': windows.Claws}[it.user](screen, it.port, it.user, 'pw', it.wire.rests).start()
     it.makes(['Flat.box'])
     one.rescans()
     true(f'the list before: {one.lists()}', 'Flat.box' in one.lists())
@@ -373,10 +390,10 @@ def windowed(it):
     """Sylpheed and Claws Mail, worked by their menus."""
     one = it.kept['it']
     it.makes(['Work/2005/May']); it.puts('Work/2005/May', 9)
-    for time in ('once', 'twice'):
+    for times in ('once', 'twice'):
         one.told(); one.rescans()
         shown = set(TREE) <= set(one.lists())
-        yield f'over the upgrade, not started again, its list read anew {time}: {"shows the tree that another session made" if shown else "shows only " + ", ".join(one.lists())}{"; it said " + str(said) if (said := one.told()) else ""}'
+        yield f'over the upgrade, not started again, its list read anew {times}: {"shows the tree that another session made" if shown else "shows only " + ", ".join(one.lists())}{"; it said " + str(said) if (said := one.told()) else ""}'
         if shown: break
     if not shown:
         one.stop(); one.start(); one.rescans()
@@ -403,10 +420,10 @@ def windowed(it):
     yield f'new mail in the innermost, and {len(ODD)} odd names with a letter each, by LIST and STATUS'
     for name in ODD:
         if name.count('/') > 1: continue
-        leaf = decoded(name)[4:] if len(name) < 199 else decoded(name)[5:]
-        said = one.makes('Work', leaf)
-        if not (made := 'Work/' + (name[4:] if len(name) < 199 else name[5:]) in it.boxes()) or said: yield f'makes {leaf[:30]} itself: {"yes" if made else "no"}{", and says " + str(said)[:300] if said else ""}'
-    yield f'makes odd names itself: {", ".join(sorted(name[:24] for name in it.boxes() if name.startswith("Work/") and name not in TREE))}'
+        name = name[4:] if len(name) < 199 else name[5:]   # `Work` has an octet more than `Old`
+        same(f'{name} is made', [], one.makes('Work', decoded(name)))
+        within(f'Work/{name} is there', 60, lambda: 'Work/' + name in it.boxes())
+    yield 'makes odd names itself'
     if said := one.deletes('House'):
         same('what is there', True, 'House/2006/June' in it.boxes())
         yield f'asked to delete a tree it says {said[0][:200]}'

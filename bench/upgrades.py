@@ -1,7 +1,7 @@
 #!/usr/bin/env python3
 """POST /upgrade beside 1,000 mail readers: with bodies that are none, on a disk without room, twice at once, once more, and on a disk that fails.
 
-usage: bench/upgrades.py PROGRAM      (wants strace, and mount for the disk without room; each is told where it is not tried)
+usage: bench/upgrades.py PROGRAM [PART ..]      PART: of beside_all, without_room (wants mount) and on_a_disk_that_fails (wants strace)
 
 Of the 1,000 connections that are served 984 are for mail: two mail clients within a transaction, two fetching clients who have marked a message, and 980 mail readers,
 who have not logged in, have logged in, have selected a mailbox, or stand within a command or a literal. Twenty more mail readers wait for a place. Looked at is what each
@@ -28,7 +28,12 @@ def joined(port):
     it.setsockopt(socket.IPPROTO_TCP, socket.TCP_NODELAY, 1)
     return it
 
-def rest(it): return b''.join(iter(lambda: it.recv(65536), b''))
+def rest(it):
+    """All that still comes, until it is closed or, by a program that has ended, reset."""
+    got = b''
+    with contextlib.suppress(ConnectionResetError):
+        while more := it.recv(65536): got += more
+    return got
 
 def until(it, end):
     got = b''
@@ -199,12 +204,13 @@ def on_a_disk_that_fails(folder):
         print(f'a disk whose {call} fails: one of two is told so, the other and {len(crowd.readers)} mail readers are closed without a word, the program ends with 5; the next run has {"it" if count else "it not"}, and does it when asked again', flush=True)
 
 def main():
-    if len(sys.argv) != 2: sys.exit(__doc__)
+    if len(sys.argv) < 2: sys.exit(__doc__)
     hard = resource.getrlimit(resource.RLIMIT_NOFILE)[1]
     resource.setrlimit(resource.RLIMIT_NOFILE, (min(4096, hard) if hard != resource.RLIM_INFINITY else 4096, hard))
     stores.PROGRAM = os.path.abspath(sys.argv[1])
     with tempfile.TemporaryDirectory(prefix='upgrades-') as folder:
-        for it in (beside_all, without_room, on_a_disk_that_fails): it(folder)
+        for it in (beside_all, without_room, on_a_disk_that_fails):
+            if not sys.argv[2:] or it.__name__ in sys.argv[2:]: it(folder)
 
 if __name__ == '__main__':
     signal.signal(signal.SIGTERM, lambda *_: sys.exit(143))   # so that what was started is stopped

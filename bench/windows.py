@@ -1,5 +1,5 @@
 """Programs with windows, worked from without: a screen of their own (Xvfb), GTK's by what they tell screen readers, Thunderbird by its remote control."""
-import atexit, contextlib, json, os, shutil, signal, socket, subprocess, time, xml.etree.ElementTree
+import atexit, contextlib, json, os, re, shutil, signal, socket, subprocess, time, xml.etree.ElementTree
 
 HERE = os.path.dirname(os.path.abspath(__file__))
 
@@ -61,8 +61,8 @@ class Reader:
 class Sylpheed:
     """A Sylpheed with one account, worked by its menus and its list of mailboxes."""
     name, folder = 'Sylpheed', '.sylpheed-2.0'
-    def __init__(self, screen, port, user, password):
-        self.screen, self.user, self.reader = screen, user, Reader(screen)
+    def __init__(self, screen, port, user, password, rests):
+        self.screen, self.user, self.rests, self.reader = screen, user, rests, Reader(screen)
         at = os.path.join(screen.home, self.folder)
         os.makedirs(at, exist_ok=True)
         with open(os.path.join(at, 'accountrc'), 'w', opener=lambda name, how: os.open(name, how, 0o600)) as out: out.write(
@@ -88,7 +88,7 @@ class Sylpheed:
         cells = [it for it in self.reader.asks('cells', title or self.name)]
         rows, found, above = [], [], []
         for name, x, y, width, height in cells:
-            if x >= 0 and not (title is None and x > 450): rows.append([name, x, y, []])
+            if x >= 0 and not (title is None and x > 450): rows.append([re.sub(r' \(\d+\)$', '', name), x, y, []])   # beside it stands how many are unread
             elif rows and x < 0: rows[-1][3].append(name)
         for name, x, y, numbers in sorted(rows, key=lambda it: it[2]):
             while above and above[-1][1] >= x: above.pop()
@@ -122,10 +122,10 @@ class Sylpheed:
     def rescans(self):
         self.asks('', 'Rebuild folder tree')
         self.answers('Rebuild folder tree', 'Yes')
-        time.sleep(4)
+        self.rests()
     def checks(self):
         self.asks('', 'Check for new messages in all mailboxes')
-        time.sleep(8)
+        self.rests()
     def makes(self, above, name):
         self.asks(above, 'Create new folder...')
         self.answers('New folder', 'OK', name)
@@ -171,15 +171,15 @@ class Claws(Sylpheed):
     def lists(self): return self.kept()
     def clicks(self, name, title=None, button=1):
         if title: return super().clicks(name, title, button)
-        if not name: self.screen.does('mousemove', 60, 138, 'click', 1)   # the account stands above all
+        if not name: self.screen.does('mousemove', 80, 153, 'click', 1)   # the account stands above all
         else: subprocess.run(['claws-mail', '--select', f'#imap/{self.user}/{name}'], env=self.screen.env(), cwd=self.screen.home, timeout=60, stdout=subprocess.DEVNULL, stderr=subprocess.DEVNULL)
         time.sleep(4)
     def asks(self, name, key):
         self.clicks(name)
         self.screen.does('key', 'shift+F10'); time.sleep(1.5)
         self.screen.does('key', key); time.sleep(1)
-    def rescans(self): self.asks('', 'h'); time.sleep(8)
-    def checks(self): self.asks('', 'c'); time.sleep(10)
+    def rescans(self): self.asks('', 'h'); self.rests()
+    def checks(self): self.asks('', 'c'); self.rests()
     def makes(self, above, name):
         self.asks(above, 'n')
         self.answers('New folder', 'OK', name)
@@ -195,9 +195,15 @@ class Claws(Sylpheed):
         self.answers('Delete folder', 'Delete')
         time.sleep(3)
         return self.told()
+    def stop(self):
+        self.screen.does('key', 'ctrl+q'); time.sleep(2)
+        with contextlib.suppress(Gone): self.reader.asks('press', 'Exit', 'OK')
+        try: self.process.wait(90)
+        except subprocess.TimeoutExpired: pass
+        self.screen.ends(self.process)
     def copies(self, box, letter, uid, to):
         self.clicks(f'{box}/{uid}')
-        self.reader.does('menu', self.name, 'Copy...')
+        self.screen.does('key', 'ctrl+shift+o')   # its menu's item waits for the window that it opens, and no screen reader is answered meanwhile
         self.reader.window('Select', 60)
         self.clicks(to, 'Select')
         self.reader.does('press', 'Select', 'OK')
