@@ -250,7 +250,7 @@ def offlineimap(it):
     same('once it is there', ['letter 16'], it.subjects('Home/2007'))
     yield 'a new folder below one that is there: asks CREATE of that one first, is refused (`NO Mailbox exists.`) and ends; once another program has made it the letter goes'
     yield from renamed(it, folder, lambda: offlineimap_runs(it, 'no'))
-    yield 'with `createfolders = no`: else it would make the old names again'
+    yield 'both with `createfolders = no`'
 
 def offlineimap_before(it): offlineimap_runs(it)
 
