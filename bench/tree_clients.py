@@ -7,7 +7,8 @@ xdotool too)
 
 Each program has a user of its own with three letters in INBOX. Programs that keep a list of mailboxes are run before the upgrade and over it. Names with a quote, a
 backslash, a space, an umlaut and of 200 octets are among the mailboxes, through LIST and STATUS and back. What goes over the wire is kept and read: a further run may ask
-nothing that changes a store. Prints a line for each program and check, and which commands were refused; status 0 only where each did all of it.
+nothing that changes a store. Prints a line for each program and check, and which commands were refused; status 0 only where each did all of it. With KEEP=FOLDER what
+each program left, its wire and, where a check failed, a picture of its screen are copied there.
 """
 import collections, imaplib, os, re, shutil, signal, smtplib, socket, subprocess, sys, tempfile, threading, time, urllib.parse
 
@@ -331,18 +332,23 @@ def thunderbird_before(it):
     true('the list before', one.mail('server.performExpand(messages); await until(() => at("Flat.box")); return all()').count('Flat.box') == 1)
     yield 'before the upgrade: lists what is there'
 
+def shown(one, names):
+    """What Thunderbird shows once its account is unfolded: it is waited for these mailboxes."""
+    return one.mail('server.performExpand(messages); await until(() => given[0].every(it => at(it)), 120); return all()', sorted(names))
+
 def thunderbird(it):
-    one = it.kept['it']
-    def shows(names, does='server.performExpand(messages);'):
-        """Waits until it shows these mailboxes, after something is done."""
-        return one.mail(does + 'await until(() => given[0].every(it => at(it)) , 120); return all()', sorted(names))
+    for part in (thunderbird_upgraded, thunderbird_tree, thunderbird_odd, thunderbird_ends): yield from part(it, it.kept['it'])
+
+def thunderbird_upgraded(it, one):
     it.makes(['Work/2005/May']); it.puts('Work/2005/May', 9)
-    got = shows(TREE)
+    got = shown(one, TREE)
     yield f'over the upgrade, not started again: {"shows the tree that another session made" if set(TREE) <= set(got) else "shows only " + ", ".join(got)}'
     if not set(TREE) <= set(got):
         one.stop(); one.start()
-        same('after a start', [], sorted(set(TREE) - set(shows(TREE))))
+        same('after a start', [], sorted(set(TREE) - set(shown(one, TREE))))
         yield 'started again: shows the tree'
+
+def thunderbird_tree(it, one):
     one.mail('root.createSubfolder("Home", messages); await until(() => at("Home")); at("Home").createSubfolder("2006", messages); await until(() => at("Home/2006")); at("Home/2006").createSubfolder("June", messages); await until(() => at("Home/2006/June"))')
     within('made', 60, lambda: 'Home/2006/June' in it.boxes())
     yield 'makes three, one in the other'
@@ -357,9 +363,11 @@ def thunderbird(it):
     one.mail('const box = at("House/2006/June"); box.updateFolder(messages); await until(() => [...box.messages].length == 2); box.markMessagesFlagged([...box.messages].slice(0, 1), true)')
     within('flagged', 60, lambda: [flags for flags, _ in it.mail('House/2006/June')][0].count('\\Flagged') == 1)
     yield 'is told of new mail in the innermost; a flag goes there'
+
+def thunderbird_odd(it, one):
     it.makes(ODD)
     for name in ODD: it.puts(name, 7)
-    missing = sorted(set(ODD) - set(shows(ODD)))
+    missing = sorted(set(ODD) - set(shown(one, ODD)))
     counts = one.mail('at("INBOX").getNewMessages(messages, null); await until(() => given[0].every(it => at(it).getTotalMessages(false) == 1)); return given[0].map(it => at(it).getTotalMessages(false))', [name for name in ODD if name not in missing])
     same('odd names', ([], [1] * len(ODD)), (missing, counts))
     yield f'{len(ODD)} odd names by LIST and STATUS'
@@ -367,6 +375,8 @@ def thunderbird(it):
     one.mail('for (const name of given[0]) { at("Work").createSubfolder(name, messages); await until(() => root.descendants.some(it => it.name == name)); }', list(map(decoded, own)))
     within('its own odd names', 60, lambda: {f'Work/{name}' for name in own} <= set(it.boxes()))
     yield 'makes odd names itself'
+
+def thunderbird_ends(it, one):
     one.mail('at("House").deleteSelf(messages); await until(() => at("Trash/House/2006/June"))')
     within('in the trash', 60, lambda: 'Trash/House/2006/June' in it.boxes() and 'House' not in it.boxes())
     one.mail('at("Trash").emptyTrash(null); await until(() => !at("Trash/House"))')
@@ -388,17 +398,21 @@ def windowed_before(it):
 
 def windowed(it):
     """Sylpheed and Claws Mail, worked by their menus."""
-    one = it.kept['it']
+    for part in (windowed_upgraded, windowed_tree, windowed_odd, windowed_ends): yield from part(it, it.kept['it'])
+
+def windowed_upgraded(it, one):
     it.makes(['Work/2005/May']); it.puts('Work/2005/May', 9)
     for times in ('once', 'twice'):
         one.told(); one.rescans()
-        shown = set(TREE) <= set(one.lists())
-        yield f'over the upgrade, not started again, its list read anew {times}: {"shows the tree that another session made" if shown else "shows only " + ", ".join(one.lists())}{"; it said " + str(said) if (said := one.told()) else ""}'
-        if shown: break
-    if not shown:
+        there = set(TREE) <= set(one.lists())
+        yield f'over the upgrade, not started again, its list read anew {times}: {"shows the tree that another session made" if there else "shows only " + ", ".join(one.lists())}{"; it said " + str(said) if (said := one.told()) else ""}'
+        if there: break
+    if not there:
         one.stop(); one.start(); one.rescans()
         same('after a start', [], sorted(set(TREE) - set(one.lists())))
         yield 'started again: shows the tree'
+
+def windowed_tree(it, one):
     for above, name in (('', 'Home'), ('Home', '2006'), ('Home/2006', 'June')): same(f'{name} is made', [], one.makes(above, name))
     within('made', 60, lambda: 'Home/2006/June' in it.boxes())
     yield 'makes three, one in the other'
@@ -409,6 +423,8 @@ def windowed(it):
     within('renamed', 60, lambda: it.subjects('House/2006/June') == ['letter 1'] and 'Home' not in it.boxes())
     same('its list', ([], True), ([name for name in one.lists() if name.startswith('Home')], 'House/2006/June' in one.lists()))
     yield 'renames the outermost, and shows all under their new names'
+
+def windowed_odd(it, one):
     it.makes(ODD)
     for name in ODD: it.puts(name, 7)
     it.puts('House/2006/June', 21)
@@ -424,6 +440,8 @@ def windowed(it):
         same(f'{name} is made', [], one.makes('Work', decoded(name)))
         within(f'Work/{name} is there', 60, lambda: 'Work/' + name in it.boxes())
     yield 'makes odd names itself'
+
+def windowed_ends(it, one):
     if said := one.deletes('House'):
         same('what is there', True, 'House/2006/June' in it.boxes())
         yield f'asked to delete a tree it says {said[0][:200]}'
