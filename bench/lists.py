@@ -1,9 +1,9 @@
 #!/usr/bin/env python3
 """LIST over names in a tree: milliseconds for an answer, of 10 names, of 1,000 that stand flat, and of 1,000 that stand three deep, on an upgraded store.
 
-usage: bench/lists.py PROGRAM [FOLDER]      FOLDER decides which disk is meant (/dev/shm): a LIST is recorded, with two syncs
+usage: bench/lists.py PROGRAM [COUNT [FOLDER]]      FOLDER decides which disk is meant (/dev/shm): a LIST is recorded, with two syncs
 
-Three users of one store, asked by turns over a socket each, 100 times in each of three rounds: the middle of each round, the octets of the answer, and how many times
+Three users of one store, asked by turns over a socket each, COUNT times (100) in each of three rounds: the middle of each round, the octets of the answer, and how many times
 the middle of that of 10 names it is. Then patterns that are dear to look for in 998 names of 200 octets: the program's own milliseconds for one, the least of three.
 """
 import os, signal, socket, statistics, sys, tempfile, time
@@ -46,8 +46,8 @@ def own(pid):
 
 def main():
     if len(sys.argv) < 2: sys.exit(__doc__)
-    stores.PROGRAM = os.path.abspath(sys.argv[1])
-    with tempfile.TemporaryDirectory(prefix='lists-', dir=sys.argv[2] if len(sys.argv) > 2 else '/dev/shm') as folder:
+    stores.PROGRAM, count = os.path.abspath(sys.argv[1]), int(sys.argv[2]) if len(sys.argv) > 2 else 100
+    with tempfile.TemporaryDirectory(prefix='lists-', dir=sys.argv[3] if len(sys.argv) > 3 else '/dev/shm') as folder:
         store = Store(folder, text=stores.house([(name, 'pw') for name in (*TREES, 'long')]).replace('"ann"', '"few"').replace('"bob"', '"flat"')).start()
         try:
             store.asks('/upgrade', {})
@@ -59,7 +59,7 @@ def main():
                 took, said = {user: [] for user in TREES}, {}
                 for _ in range(3):
                     each = {user: [] for user in TREES}
-                    for _ in range(100):
+                    for _ in range(count):
                         for user, it in them.items():
                             begun = time.perf_counter()
                             said[user] = it.asks(f'LIST "" {pattern}')
