@@ -15,7 +15,7 @@ import concurrent.futures, os, subprocess, sys, tempfile
 
 PATH, NET, SEATS = 'crates/host_outside/src/path_file.rt', 'crates/host_outside/src/connection.rt', 'crates/host_outside/src/sockets.rt'
 PORTS, MAIN = 'crates/host_outside/src/listeners.rt', 'crates/undomail/src/main.rt'
-LINK, TELLING, LOGINS = 'crates/host_outside/src/loop_link.rt', 'crates/host_outside/src/telling.rt', 'crates/host_outside/src/logins.rt'
+LINK, TELLING, LOGINS, TOLD = 'crates/host_outside/src/loop_link.rt', 'crates/host_outside/src/telling.rt', 'crates/host_outside/src/logins.rt', 'crates/host_outside/src/readiness.rt'
 REPLY, CLIENT, READER = 'crates/mail_loop/src/reply.rt', 'crates/mail_loop/src/smtp_turn.rt', 'crates/mail_loop/src/imap_turn.rt'
 CONSOLE, DIALOG = 'crates/console_session/src/reply.rt', 'crates/smtp_session/src/dialog.rt'
 WRONG = {
@@ -44,8 +44,10 @@ WRONG = {
     'past-the-hundredth-unheard': (SEATS, 'let received = self.visit(place, now)?;', 'if place >= 100 {\n            return None;\n        }\n        let received = self.visit(place, now)?;'),
     'answers-are-lost-after-a-half-close': (NET, 'self.end(now);\n            self.go_on_ending(now, buf);', 'self.end(now);\n            self.is_over = true;'),
     'clock-is-an-hour-off': (SEATS, 'LAST_MOMENT.min(time.as_secs())', 'LAST_MOMENT.min(time.as_secs().saturating_add(3600))'),
-    'no-sleep': (SEATS, '        thread::sleep(&self.rt, Duration::from_micros(self.sleep));\n', ''),
-    'slow-to-wake': (SEATS, 'let most = longest_sleep(', 'let most = 1000 * longest_sleep('),
+    'no-wait': (SEATS, 'self.hear(self.pause(quiet))?;', 'self.hear(self.pause(quiet).min(0))?;'),
+    'slow-to-wake': (TOLD, 'Interest::READABLE | Interest::WRITABLE', 'Interest::WRITABLE'),
+    'a-port-is-not-told-of': (PORTS, '    readiness.add(&listener, PORTS)?;\n', ''),
+    'seats-are-not-gone-through': (SEATS, 'if now.saturating_sub(self.swept) >= SWEEP {', 'if false {'),
     'few-wait-at-a-port': (PORTS, 'libc::net::listen(listener.as_raw_fd(), MOST_WAITING)', 'libc::net::listen(listener.as_raw_fd(), 128)'),
     'imap-port-is-heard-on-the-smtp-listener': (PORTS, 'self.ports.get(place)', 'self.ports.get(if place == 1 { 0 } else { place })'),
     'closed-connection-stays-open': (LINK, '        self.sockets.close(conn);\n', ''),
@@ -58,9 +60,9 @@ WRONG = {
     'given-up-after-a-second': (NET, 'const LINGER: u64 = 10;', 'const LINGER: u64 = 1;'),
     'never-given-up': (NET, 'if self.ends_at.is_some_and(|end| end <= now) {', 'if false {'),
     'much-waits': (NET, 'const MOST_WAITING: usize = 67_108_864;', 'const MOST_WAITING: usize = 1_067_108_864;'),
-    'listeners-wait-for-the-end-of-a-round': (SEATS, '        if now != self.listened {\n', '        if false {\n'),
-    'seats-are-never-free-again': (SEATS, '        self.free();\n', ''),
-    'past-the-900th-unheard-after-a-silence': (SEATS, 'if seat.connection.is_none() || seat.lively_until.is_some() {', 'if place > 900 || seat.connection.is_none() || seat.lively_until.is_some() {'),
+    'listeners-wait-for-the-end-of-a-round': (SEATS, '        if now != self.looked {\n', '        if false {\n'),
+    'seats-are-never-free-again': (SEATS, 'let is_left = seat.free();', 'let is_left = false;'),
+    'past-the-300th-wait-for-a-sweep': (SEATS, 'if place < SEATS {\n                self.queue.wake', 'if place < 300 {\n                self.queue.wake'),
     'no-seat-is-the-consoles': (SEATS, 'const SEATS_FOR_ALL: usize = 984;', 'const SEATS_FOR_ALL: usize = 1000;'),
     'wrong-passwords-are-not-said': (SEATS, 'if self.refused(place) > refused {', 'if self.refused(place) < refused {'),
     'every-wrong-password-is-said': (TELLING, 'Some(last) if last == second => {', 'Some(last) if last == second && false => {'),
