@@ -1,5 +1,5 @@
-//! Mail that comes, what ann asks of her mailboxes, and what the operator does.
-ghost use Rattle.std.specs.Prelude.{◌≡◌, IfOk, true, false};
+//! Mail that comes, and what the operator does.
+ghost use Rattle.std.specs.Prelude.{◌≡◌, IfOk, false};
 ghost use Rattle.verb_core.specs.Live.{is_users};
 ghost use Rattle.desk_tests.specs.Acts.{NamesTheFirst};
 
@@ -63,56 +63,6 @@ pub(crate) fn mailed(
     desk: &mut Desk<MemDisk>,
 ) -> Result<Result<u32, SubmitFault>, Fail> {
     mailed_to(alloc, desk, "ann")
-}
-
-/// Asks for something by ann, and tells the number of the item.
-fn asked(alloc: Global, desk: &mut Desk<MemDisk>, ask: Ask) -> Result<u32, SubmitFault>
-    requires { is_users ask ≡ true }
-{
-    desk.stands();
-    number_of(desk.submit(alloc, NOW, Some(User(0)), ask))
-}
-
-/// Makes a mailbox of ann, and tells the number of the item.
-pub(crate) fn created(
-    alloc: Global,
-    desk: &mut Desk<MemDisk>,
-    mailbox: &str,
-) -> Result<Result<u32, SubmitFault>, Fail> {
-    let mailbox = Name::read(alloc, mailbox.as_bytes())?;
-    Ok(asked(alloc, desk, Ask::Create { mailbox }))
-}
-
-/// Renames a mailbox of ann, and tells the number of the item.
-pub(crate) fn renamed(
-    alloc: Global,
-    desk: &mut Desk<MemDisk>,
-    mailbox: &str,
-    target: &str,
-) -> Result<Result<u32, SubmitFault>, Fail> {
-    let mailbox = Name::read(alloc, mailbox.as_bytes())?;
-    let target = Name::read(alloc, target.as_bytes())?;
-    Ok(asked(alloc, desk, Ask::Rename { mailbox, target }))
-}
-
-/// Takes a mailbox of ann away, and tells the number of the item.
-pub(crate) fn deleted(
-    alloc: Global,
-    desk: &mut Desk<MemDisk>,
-    mailbox: &str,
-) -> Result<Result<u32, SubmitFault>, Fail> {
-    let mailbox = Name::read(alloc, mailbox.as_bytes())?;
-    Ok(asked(alloc, desk, Ask::Delete { mailbox }))
-}
-
-/// The stamp of a mailbox of ann, where it is there.
-pub(crate) fn stamp(
-    alloc: Global,
-    desk: &Desk<MemDisk>,
-    mailbox: &str,
-) -> Result<Option<u32>, Fail> {
-    let mailbox = Name::read(alloc, mailbox.as_bytes())?;
-    Ok(desk.stamp(User(0), &mailbox))
 }
 
 /// Sets an alias, and tells the number of the act.

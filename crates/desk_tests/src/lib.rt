@@ -2,9 +2,8 @@
 //! conversation shows is what a desk that was closed still answers.
 //!
 //! `desks` starts desks over disks in memory; `asks` and `cycles` ask them; `failing` has the tests of calls that fail,
-//! `upgrading` those of the upgrade, `inferiors` those of names with superiors, and `levels`, with the gates of `gates`, those of
-//! what a cycle's workers pass. `counting` has what a cycle leaves of the step counter, which has no bytes: a function whose
-//! contract says it.
+//! `upgrading` those of the upgrade, and `levels`, with the gates of `gates`, those of what a cycle's workers pass. `counting` has what a cycle leaves of the step
+//! counter, which has no bytes: a function whose contract says it.
 #![tactic(auto)]
 
 #[cfg(test)]
@@ -18,8 +17,6 @@ mod desks;
 mod failing;
 #[cfg(test)]
 mod gates;
-#[cfg(test)]
-mod inferiors;
 #[cfg(test)]
 mod levels;
 #[cfg(test)]
