@@ -1,3 +1,5 @@
 pub mod Judging
+pub mod Repairing
 pub mod Cycles
 pub mod Asking
+pub mod Withdrawals

@@ -1,6 +1,9 @@
-//! What a cycle is: definitions alone, which the cycle in memory and the journal's records share.
+//! What a cycle and a withdrawal are: definitions alone, which the cycle in memory and the journal's records share.
 //!
-//! In specs/, `Judging` says which later items are told of and what they show afterwards, `Cycles` what a cycle leaves, line by
-//! line, and `Asking` what is due to a request and what is kept after it. No function stands here: mail_cycle works a cycle out, and
-//! desk_journal says what its record leaves, side by side.
+//! In specs/, `Judging` says which later items are told of and what they show afterwards, `Repairing` what is left when items are
+//! performed again in the place of the timeline, line by line, `Cycles` what a cycle so performs, `Asking` what is due to a request
+//! and what is kept after it, and `Withdrawals` the same of taking the last cycle back. `laws` says that what a cycle leaves can be
+//! withdrawn. No other function stands here: mail_cycle works a cycle out, and desk_journal says what its record leaves, side by side.
 #![tactic(auto)]
+
+pub mod laws;

@@ -91,7 +91,7 @@ abbrev pub IsOld : List Item → Body → ℕ → ℕ → Deed → Type 0
 IsOld t body number rev deed = ((number == body.origin) && (rev == body.rev) && is_some (text_in deed)) ≡ true → text_of t body ≡ text_in deed
 
 -- each item of a timeline does
-all_old : (body : Body) (t : List Item) → NumbersApart t → AllByRecursion (λ (i : Item). IsOld t body i.number i.rev i.deed) t
+pub all_old : (body : Body) (t : List Item) → NumbersApart t → AllByRecursion (λ (i : Item). IsOld t body i.number i.rev i.deed) t
 all_old body [] apart = tt
 all_old body (i ∷ t) apart = by (brings body i) refl (all_old body t apart.1)
   where

@@ -1,5 +1,5 @@
 -- What is kept of a store in use: all that is needed to have it again, and to go on.
-use Rattle.std.specs.Prelude.{◌≡◌, ℕ, ◌+◌, ◌-◌, nat_le, nat_lt, Bool, true, false, List, [], ◌∷◌, ◌++◌, length, get_or, filter, Option}
+use Rattle.std.specs.Prelude.{◌≡◌, ℕ, ◌+◌, ◌-◌, ◌==◌, nat_le, nat_lt, if◌then◌else◌, Bool, true, false, List, [], ◌∷◌, ◌++◌, length, get_or, filter, Option, Some, None, option_and_then}
 use Rattle.std.specs.declared.cmp.Ordering.{Ordering}
 use Rattle.std.specs.Ordering.{nat_cmp}
 use Rattle.std.specs.Cmp.Lexicographic.{slice_cmp}
@@ -14,10 +14,11 @@ use Rattle.verb_core.specs.Store.{MailStore, opening}
 use Rattle.verb_core.specs.Step.{run, step}
 use Rattle.verb_core.specs.Stamps.{opening_stamps, stamps_after}
 use Rattle.paradox.specs.declared.reports.Report.{Report}
+use Rattle.withdraw.specs.declared.undone.UndoneBehind.{UndoneBehind}
 
--- ---- the reports of cycles
+-- ---- the reports of cycles and withdrawals
 
--- each cycle's report by the key of its request
+-- each one's report by the key of its request
 abbrev pub Reports : Type 0
 Reports = List (List ℕ × Report)
 
@@ -29,7 +30,7 @@ key_cmp a b = slice_cmp nat_cmp a b
 abbrev pub is_by_key : Reports → Bool
 is_by_key reports = rows.is_sorted key_cmp reports
 
--- the report of the cycle that was asked for under a key
+-- the report of the cycle or withdrawal that was asked for under a key
 abbrev pub report_of : Reports → List ℕ → Option Report
 report_of reports key = rows.find key_cmp key reports
 
@@ -69,7 +70,7 @@ passed m = record m { since = 0; taken = m.taken + 1 }
 abbrev pub not_behind : ℕ → List ℕ → List ℕ
 not_behind place places = filter (λ (p : ℕ). nat_le p place) places
 
--- a cycle at a place let so many items enter: no snapshot behind the place can serve
+-- a cycle or a withdrawal at a place let so many items enter: no snapshot behind the place can serve
 abbrev pub rewound : ℕ → ℕ → Marks → Marks
 rewound place n m = record m { since = m.since + n; places = not_behind place m.places }
 
@@ -80,7 +81,8 @@ newest_at place places = get_or (not_behind place places) (length (not_behind pl
 -- ---- what is kept
 
 -- the house, the configuration at first, the store before the first item, the store that is there, the items in force in order,
--- the stamp of each mailbox, the next number, the reports of cycles, the snapshots, and whether names may have superiors
+-- the stamp of each mailbox, the next number, the reports of cycles, the snapshots, whether names may have superiors, and what the
+-- last of all cycles and withdrawals left to be withdrawn, where it is a cycle
 pub record Kept : Type 0 where
   pub house : House
   pub opening : Conf
@@ -92,6 +94,7 @@ pub record Kept : Type 0 where
   pub reports : Reports
   pub marks : Marks
   pub deep : Bool
+  pub undone : Option UndoneBehind
 
 -- what a store in use begins with: its house, the configuration at first, and the base, the store before the first item
 pub record Origin : Type 0 where
@@ -104,8 +107,8 @@ abbrev pub opening_origin : House → Conf → Origin
 opening_origin house conf = record { house = house; opening = conf; base = opening house conf }
 
 -- what is kept, by where it began
-abbrev pub kept_from : Origin → MailStore → List Item → List (BoxId × ℕ) → ℕ → Reports → Marks → Bool → Kept
-kept_from origin store timeline stamps next reports marks deep = record {
+abbrev pub kept_from : Origin → MailStore → List Item → List (BoxId × ℕ) → ℕ → Reports → Marks → Bool → Option UndoneBehind → Kept
+kept_from origin store timeline stamps next reports marks deep undone = record {
   house = origin.house;
   opening = origin.opening;
   base = origin.base;
@@ -116,6 +119,7 @@ kept_from origin store timeline stamps next reports marks deep = record {
   reports = reports;
   marks = marks;
   deep = deep;
+  undone = undone;
 }
 
 -- what it began with
@@ -151,7 +155,15 @@ new_desk house conf = record {
   reports = [];
   marks = no_marks;
   deep = false;
+  undone = None;
 }
+
+-- what the last cycle left to be withdrawn, where that cycle has the number
+abbrev pub undone_as : ℕ → UndoneBehind → Option UndoneBehind
+undone_as cycle last = if last.cycle == cycle then Some last else None
+
+abbrev pub undone_of : Kept → ℕ → Option UndoneBehind
+undone_of kept cycle = option_and_then (undone_as cycle) kept.undone
 
 -- the item is performed, and is the last of those in force
 abbrev pub performed : Kept → Item → Kept

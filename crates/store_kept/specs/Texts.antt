@@ -1,5 +1,5 @@
 -- Where the texts of what is kept come from.
-use Rattle.std.specs.Prelude.{ℕ, Bool, List, [], map, is_some, Option, None, unwrap_or}
+use Rattle.std.specs.Prelude.{ℕ, Bool, List, [], ◌++◌, map, is_some, Option, Some, None, unwrap_or}
 use Rattle.std.specs.List.{list_all}
 use Rattle.verb_core.specs.declared.item.Item.{Item}
 use Rattle.verb_core.specs.declared.mailbox.Body.{Body}
@@ -9,6 +9,7 @@ use Rattle.verb_core.specs.declared.mailbox.Mailbox.{Mailbox}
 use Rattle.verb_core.specs.Deeds.{is_notice}
 use Rattle.verb_core.specs.Items.{text_of}
 use Rattle.verb_core.specs.Store.{MailStore}
+use Rattle.withdraw.specs.declared.undone.UndoneBehind.{UndoneBehind}
 use Rattle.store_kept.specs.Kept.{Kept}
 
 -- whether a test passes at the body of each entry
@@ -38,9 +39,18 @@ has_text_kept kept body = is_some (text_kept kept body)
 abbrev pub texts_kept : Kept → List Body → List (List ℕ)
 texts_kept kept bodies = map (λ (body : Body). unwrap_or (text_kept kept body) []) bodies
 
--- the items whose texts may be asked for: those in force
+-- the items that can come back: those that stood behind the point of the cycle that can be withdrawn, if one can
+abbrev pub items_behind : Option UndoneBehind → List Item
+items_behind None = []
+items_behind (Some last) = last.later
+
+-- the items whose texts may be asked for: those in force, and those that can come back
 abbrev pub items_asked : Kept → List Item
-items_asked kept = kept.timeline
+items_asked kept = kept.timeline ++ items_behind kept.undone
+
+-- the text of a body that is kept, or that can come back: over all that happens a body has one of these at most
+abbrev pub text_at_hand : Kept → Body → Option (List ℕ)
+text_at_hand kept body = text_among kept (items_asked kept) body
 
 -- whether an item's text is in memory: a cycle makes a notice's, and no record has it
 abbrev pub is_in_memory : Item → Bool

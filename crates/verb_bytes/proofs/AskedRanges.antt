@@ -30,7 +30,7 @@ use Rattle.verb_core.specs.declared.item.Deed.TheVariants.{Deliver, Append, Fetc
 use Rattle.verb_core.specs.declared.item.Shown.{Shown}
 use Rattle.verb_core.specs.declared.item.Shown.TheVariants.{Nothing, Seen, Names as Named, Count, Done, Copied, Put, Left, Way as Went, Moved}
 use Rattle.verb_bytes.specs.declared.journal.CycleAsk.{CycleAsk}
-use Rattle.verb_bytes.specs.declared.journal.JournalRecord.TheVariants.{Verb, Operator, Cycle, Snapshot, Upgrade}
+use Rattle.verb_bytes.specs.declared.journal.JournalRecord.TheVariants.{Verb, Operator, Cycle, Snapshot, Upgrade, Withdraw}
 use Rattle.verb_bytes.specs.declared.write.TheConstants.{ALL_FLAGS, MOST_BODY, NOBODY}
 use Rattle.verb_bytes.specs.Fields.{Field, are_in_range, ◌&◌, only_if, byte_field, key_field, name_field, field_name_field, list_fields, option_fields, bool_field, flags_field, flags_code, u32_field, user_field, actor_field, worth, most_of_four, most_of_eight, record_kind, act_kind}
 use Rattle.verb_bytes.specs.Spelling.{HasSpelling, act_fields, alias_fields, ask_fields, deed_fields, entry_fields, filter_fields, how_field, key_list, replace_fields, row_fields, scope_fields, scoped_fields, shown_fields, shown_kind, sight_fields, store_fields, way_field}
@@ -173,6 +173,13 @@ snapshot_is_spelled items conf rows items_le aliases filters all = by_scopes (ar
 
 pub upgrade_is_spelled : (at : ℕ) → at ≤ LAST_MOMENT → HasSpelling (Upgrade at)
 upgrade_is_spelled at at_le = in_range_both _ _ (record_kind_fits 5 (omega arith)) (number_fits w64 LAST_MOMENT at at_le)
+
+pub withdraw_is_spelled : (number at : ℕ) (key : List ℕ) (of : ℕ) → number ≤ most_of_four → at ≤ LAST_MOMENT → IsName key → of ≤ most_of_four → HasSpelling (Withdraw number at key of)
+withdraw_is_spelled number at key of number_le at_le named of_le =
+    in_range_both _ _ (record_kind_fits 7 (omega arith))
+    (in_range_both _ _ (u32_fits number number_le)
+    (in_range_both _ _ (number_fits w64 LAST_MOMENT at at_le)
+    (in_range_both _ _ (name_fits key named) (u32_fits of of_le))))
 
 -- ---- items
 

@@ -11,8 +11,8 @@ use Rattle.verb_core.specs.declared.item.Shown.{Shown}
 use Rattle.verb_core.specs.declared.item.Shown.TheVariants.{Nothing, Seen, Names as Named, Count, Done, Copied, Put, Left, Way as Went, Moved}
 use Rattle.verb_core.specs.Items.{has_form, keys_in}
 use Rattle.verb_bytes.specs.declared.journal.CycleAsk.{CycleAsk}
-use Rattle.verb_bytes.specs.declared.journal.JournalRecord.TheVariants.{Verb, Cycle}
-use Rattle.verb_bytes.specs.Fields.{are_in_range, byte_field, record_kind, u32_field, moment_field, actor_field, only_if, ◌&◌}
+use Rattle.verb_bytes.specs.declared.journal.JournalRecord.TheVariants.{Verb, Cycle, Withdraw}
+use Rattle.verb_bytes.specs.Fields.{are_in_range, byte_field, record_kind, u32_field, moment_field, actor_field, name_field, only_if, ◌&◌}
 use Rattle.verb_bytes.specs.Spelling.{HasSpelling, ask_fields, deed_fields, item_fields, key_list, shown_fields, shown_fields_within, shown_kind}
 use Rattle.verb_bytes.proofs.Exact.{and_true}
 use Rattle.verb_bytes.proofs.FieldLaws.{byte_bounds}
@@ -109,9 +109,14 @@ only_true t h = and_true t h
 pub no_rev : (i : Item) → HasSpelling (Verb i) → i.rev ≡ 0
 no_rev i fits = eqb-true i.rev 0 (only_true (i.rev == 0) (others_in_range (shown_fields (shown_kind i.deed) i.shown) (only_if (i.rev == 0)) (from_shown i fits)))
 
--- ---- cycles
+-- ---- cycles and withdrawals
 
 pub cycle_moment : (number at : ℕ) (ask : CycleAsk) → HasSpelling (Cycle number at ask) → at ≤ LAST_MOMENT
 cycle_moment number at ask fits =
     let behind = others_in_range (record_kind 3) (u32_field number & moment_field at & ask_fields ask) fits in
     number_in_range w64 LAST_MOMENT at (first_in_range (moment_field at) (ask_fields ask) (others_in_range (u32_field number) (moment_field at & ask_fields ask) behind))
+
+pub withdraw_moment : (number at : ℕ) (key : List ℕ) (of : ℕ) → HasSpelling (Withdraw number at key of) → at ≤ LAST_MOMENT
+withdraw_moment number at key of fits =
+    let behind = others_in_range (record_kind 7) (u32_field number & moment_field at & name_field key & u32_field of) fits in
+    number_in_range w64 LAST_MOMENT at (first_in_range (moment_field at) (name_field key & u32_field of) (others_in_range (u32_field number) (moment_field at & name_field key & u32_field of) behind))

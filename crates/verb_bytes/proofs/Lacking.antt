@@ -9,7 +9,7 @@ use Rattle.verb_core.specs.declared.conf.Conf.{Conf}
 use Rattle.verb_core.specs.declared.mailbox.BoxId.{BoxId}
 use Rattle.verb_core.specs.declared.mailbox.Mailbox.{Mailbox}
 use Rattle.verb_bytes.specs.declared.journal.JournalRecord.{JournalRecord}
-use Rattle.verb_bytes.specs.declared.journal.JournalRecord.TheVariants.{Format, Verb, Operator, Cycle, Snapshot, Upgrade}
+use Rattle.verb_bytes.specs.declared.journal.JournalRecord.TheVariants.{Format, Verb, Operator, Cycle, Snapshot, Upgrade, Withdraw}
 use Rattle.verb_bytes.specs.declared.kinds.TheConstants.{LAST_RECORD}
 use Rattle.verb_bytes.specs.Fields.{Field, bytes_of, are_in_range, ◌&◌, any_list_fields, record_kind, u32_field}
 use Rattle.verb_bytes.specs.Spelling.{aliases_fields, record_fields, row_fields}
@@ -95,6 +95,7 @@ record_reads x rest fits = by_scopes x (has_scopes x) refl fits
     scoped (Operator a b c) h fits = absurd cc
     scoped (Cycle a b c) h fits = absurd cc
     scoped (Upgrade a) h fits = absurd cc
+    scoped (Withdraw a b c d) h fits = absurd cc
 
     by_scopes : (x : JournalRecord) (t : Bool) → has_scopes x ≡ t → are_in_range (record_fields x) ≡ true → record_at (bytes_of (record_fields x) ++ rest) ≡ Ok (x, rest)
     by_scopes x true h fits = scoped x h fits

@@ -30,7 +30,7 @@ use Rattle.verb_core.specs.Filters.{is_of_body, are_of_body}
 use Rattle.verb_bytes.specs.declared.kinds.TheConstants.{LAST_RECORD, LAST_ACT, LAST_DEED, LAST_SHOWN}
 use Rattle.verb_bytes.specs.declared.write.TheConstants.{ALL_FLAGS, LAST_USER, MOST_BODY}
 use Rattle.verb_bytes.specs.declared.journal.JournalRecord.{JournalRecord}
-use Rattle.verb_bytes.specs.declared.journal.JournalRecord.TheVariants.{Format, Verb, Operator, Cycle, Snapshot, Upgrade}
+use Rattle.verb_bytes.specs.declared.journal.JournalRecord.TheVariants.{Format, Verb, Operator, Cycle, Snapshot, Upgrade, Withdraw}
 use Rattle.verb_bytes.specs.Fields.{Field, bytes_of, are_in_range, ◌&◌, only_if, byte_field, number_field, name_field, list_fields, bool_field, flags_field, flags_code, u32_field, u64_field, moment_field, any_text_field, body_field, user_field, any_list_fields, most_of_four, most_of_eight, record_kind, act_kind, deed_kind}
 use Rattle.verb_bytes.specs.Spelling.{key_list, account_fields, alias_fields, aliases_fields, filter_fields, scope_fields, scoped_fields, entry_fields, row_fields, how_field, deed_fields, deed_fields_within, sight_fields, way_field, shown_kind, shown_fields, shown_fields_within, item_fields, act_fields, replace_fields, ask_fields, house_fields, record_fields}
 use Rattle.verb_bytes.specs.Readers.{Reader, ◌>>=◌, done, read1, read2, read3, read4, read5, list_at, nth_case, choice_at, byte_at, bool_at, name_at, actor_at, u32_at, moment_at, flags_of, flags_at, user_of, user_at}
@@ -534,7 +534,7 @@ record_each = (
         only3 u32_exact moment_exact ask_exact Cycle _ (λ a b c. refl),
         (
           body_snapshot_only,
-          (only1 moment_exact Upgrade _ (λ a. refl), (scoped_snapshot_only, tt)),
+          (only1 moment_exact Upgrade _ (λ a. refl), (scoped_snapshot_only, (only4 u32_exact moment_exact name_exact u32_exact Withdraw _ (λ a b c d. refl), tt))),
         ),
       ),
     ),
@@ -548,7 +548,7 @@ record_only = only_step (byte_exact 0 LAST_RECORD (omega arith)) (λ n. nth_case
     let all : length record_cases ≡ suc LAST_RECORD = refl in
     only_case record_cases 0 (n - 0) n (Chosen 0 LAST_RECORD record_fields) record_each (omega arith) (omega arith))
 
--- ---- the kinds, with any reader of the last
+-- ---- the kinds, with any reader of a snapshot of the kind with scopes
 
 abbrev pub cases_with : Reader JournalRecord → List (Reader JournalRecord)
 cases_with last =
@@ -559,6 +559,7 @@ cases_with last =
     ∷ snapshot_at (any_list_at filter_at)
     ∷ read1 Upgrade moment_at
     ∷ last
+    ∷ read4 Withdraw u32_at moment_at name_at u32_at
     ∷ []
 
 abbrev pub record_with : Reader JournalRecord → Reader JournalRecord
@@ -575,7 +576,7 @@ each_with last h = (
         only3 u32_exact moment_exact ask_exact Cycle _ (λ a b c. tt),
         (
           only_weaker body_snapshot_only _ (λ c fs q. tt),
-          (only1 moment_exact Upgrade _ (λ a. tt), (h, tt)),
+          (only1 moment_exact Upgrade _ (λ a. tt), (h, (only4 u32_exact moment_exact name_exact u32_exact Withdraw _ (λ a b c d. tt), tt))),
         ),
       ),
     ),
@@ -603,8 +604,9 @@ again_with last only (Snapshot items conf rows) h =
     subst (λ (fs : List Field). Again (record_with last) (Snapshot items conf rows) fs) (of_the_whole_text items conf.aliases conf.filters rows (all_of_body (are_of_body conf.filters) h))
     (case_with last only 4 (Snapshot items conf rows) _ (again4 u32_exact aliases_exact body_list_exact rows_exact snapshot_of items conf.aliases conf.filters rows))
 again_with last only (Upgrade a) h = case_with last only 5 (Upgrade a) _ (again1 moment_exact Upgrade a)
+again_with last only (Withdraw a b c d) h = case_with last only 7 (Withdraw a b c d) _ (again4 u32_exact moment_exact name_exact u32_exact Withdraw a b c d)
 
--- ---- the last kind, whatever the scopes of its filters are
+-- ---- that kind, whatever the scopes of its filters are
 
 abbrev pub any_scopes_at : Reader JournalRecord
 any_scopes_at = snapshot_at (any_list_at (scoped_at scope_at))
@@ -629,6 +631,7 @@ plain_again x = by_scopes x (has_scopes x) refl
     scoped (Operator a b c) h = absurd cc
     scoped (Cycle a b c) h = absurd cc
     scoped (Upgrade a) h = absurd cc
+    scoped (Withdraw a b c d) h = absurd cc
 
     by_scopes : (x : JournalRecord) (t : Bool) → has_scopes x ≡ t → Again (record_with any_scopes_at) x (record_fields x)
     by_scopes x true h = scoped x h

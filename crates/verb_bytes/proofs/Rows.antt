@@ -5,7 +5,7 @@ use Rattle.verb_core.specs.declared.conf.Scope.{Scope}
 use Rattle.verb_core.specs.declared.conf.Scope.TheVariants as scope
 use Rattle.verb_core.specs.declared.item.Act.TheVariants.{SetFilter}
 use Rattle.verb_bytes.specs.declared.journal.JournalRecord.{JournalRecord}
-use Rattle.verb_bytes.specs.declared.journal.JournalRecord.TheVariants.{Operator, Snapshot, Upgrade}
+use Rattle.verb_bytes.specs.declared.journal.JournalRecord.TheVariants.{Operator, Snapshot, Upgrade, Withdraw}
 use Rattle.verb_bytes.specs.Fields.{bytes_of, byte_field, number_field, name_field, field_name_field}
 use Rattle.verb_bytes.specs.Readers.{byte_at, number_at, name_at, field_name_at, times}
 use Rattle.verb_bytes.specs.Reading.{first_refused}
@@ -46,6 +46,10 @@ a_filter_of_the_whole_text = refl
 an_upgrade : record_bytes (Upgrade 1105092000) ≡ 5 ∷ moment
 unfolding bytes_of byte_field number_field
 an_upgrade = refl
+
+a_withdrawal : record_bytes (Withdraw 9 1105092000 (codes "w1") 7) ≡ 7 ∷ 0 ∷ 0 ∷ 0 ∷ 9 ∷ moment ++ 2 ∷ 119 ∷ 49 ∷ 0 ∷ 0 ∷ 0 ∷ 7 ∷ []
+unfolding bytes_of byte_field number_field name_field
+a_withdrawal = refl
 
 -- snapshots of no mailbox, whose filters look at the whole text, or not all of them
 abbrev snapshot : List Filter → JournalRecord

@@ -28,7 +28,7 @@ use Rattle.verb_core.specs.Names.{is_empty}
 use Rattle.verb_core.specs.Filters.{is_of_body, are_of_body}
 use Rattle.verb_bytes.specs.declared.journal.CycleAsk.{CycleAsk}
 use Rattle.verb_bytes.specs.declared.journal.JournalRecord.{JournalRecord}
-use Rattle.verb_bytes.specs.declared.journal.JournalRecord.TheVariants.{Format, Verb, Operator, Cycle, Snapshot, Upgrade}
+use Rattle.verb_bytes.specs.declared.journal.JournalRecord.TheVariants.{Format, Verb, Operator, Cycle, Snapshot, Upgrade, Withdraw}
 use Rattle.verb_bytes.specs.declared.write.TheConstants.{MOST_BODY}
 use Rattle.verb_bytes.specs.Fields.{Field, bytes_of, are_in_range, ◌&◌, only_if, byte_field, name_field, field_name_field, text_field, key_field, list_fields, option_fields, bool_field, flags_field, u32_field, u64_field, moment_field, any_text_field, body_field, user_field, actor_field, any_list_fields, record_kind, act_kind, deed_kind}
 
@@ -182,6 +182,7 @@ record_fields (Operator number at a) = record_kind 2 & u32_field number & moment
 record_fields (Cycle number at ask) = record_kind 3 & u32_field number & moment_field at & ask_fields ask
 record_fields (Snapshot items conf rows) = snapshot_fields items conf rows
 record_fields (Upgrade at) = record_kind 5 & moment_field at
+record_fields (Withdraw number at key of) = record_kind 7 & u32_field number & moment_field at & name_field key & u32_field of
 
 -- each of its fields is in its range
 abbrev pub HasSpelling : JournalRecord → Type 0

@@ -1,8 +1,8 @@
 //! Records, read from their bytes.
 ghost use Rattle.std.specs.Prelude.{◌≡◌, ◌≤◌, ◌-◌, Ok};
 ghost use Rattle.verb_bytes.specs.declared.journal.JournalRecord.{JournalRecord};
-ghost use Rattle.verb_bytes.specs.declared.journal.JournalRecord.TheVariants.{Verb, Operator, Cycle, Upgrade};
-ghost use Rattle.verb_bytes.specs.Readers.{Gives, nth_case, read1, read3, u32_at, moment_at};
+ghost use Rattle.verb_bytes.specs.declared.journal.JournalRecord.TheVariants.{Verb, Operator, Cycle, Upgrade, Withdraw};
+ghost use Rattle.verb_bytes.specs.Readers.{Gives, nth_case, read1, read3, read4, u32_at, moment_at, name_at};
 ghost use Rattle.verb_bytes.specs.Decoding.{Decodes, IsThis};
 ghost use Rattle.verb_bytes.specs.Reading.{record_cases, record_at, any_list_at, filter_at, scoped_filters_at, snapshot_at, act_at, item_at, cycle_ask_at, AnswersAll};
 ghost use Rattle.verb_bytes.specs.Spelling.{Spells};
@@ -75,6 +75,21 @@ fn read_upgrade(cursor: &mut Cursor<'_>) -> Result<JournalRecord, Stop>
     Ok(JournalRecord::Upgrade { at })
 }
 
+fn read_withdraw(alloc: Global, cursor: &mut Cursor<'_>) -> Result<JournalRecord, Stop>
+    ensures { Gives (read4 Withdraw u32_at moment_at name_at u32_at) cursor.old.rest.now cursor.new.rest.now result }
+{
+    let number = cursor.u32(u32::MAX)?;
+    let at = cursor.u64(LAST_MOMENT)?;
+    let key = cursor.name(alloc)?;
+    let of = cursor.u32(u32::MAX)?;
+    Ok(JournalRecord::Withdraw {
+        number,
+        at,
+        key,
+        of,
+    })
+}
+
 fn read_scoped_snapshot(alloc: Global, cursor: &mut Cursor<'_>) -> Result<JournalRecord, Stop>
     ensures { Gives (snapshot_at scoped_filters_at) cursor.old.rest.now cursor.new.rest.now result }
 {
@@ -108,7 +123,8 @@ fn read_case(alloc: Global, kind: u8, cursor: &mut Cursor<'_>) -> Result<Journal
         3 => read_cycle(alloc, cursor),
         4 => read_snapshot(alloc, cursor),
         5 => read_upgrade(cursor),
-        _ => read_scoped_snapshot(alloc, cursor),
+        6 => read_scoped_snapshot(alloc, cursor),
+        _ => read_withdraw(alloc, cursor),
     }
 }
 

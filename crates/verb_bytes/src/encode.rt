@@ -1,6 +1,6 @@
 //! Records, written as their bytes.
 ghost use Rattle.std.specs.Prelude.{◌≡◌, IfOk};
-ghost use Rattle.verb_bytes.specs.declared.journal.JournalRecord.TheVariants.{Verb, Operator, Cycle, Snapshot, Upgrade};
+ghost use Rattle.verb_bytes.specs.declared.journal.JournalRecord.TheVariants.{Verb, Operator, Cycle, Snapshot, Upgrade, Withdraw};
 ghost use Rattle.verb_bytes.specs.Spelling.{ask_fields, filter_fields, scoped_fields, store_fields, record_fields, record_bytes, HasSpelling};
 ghost use Rattle.verb_bytes.specs.Writing.{Encodes, Puts};
 
@@ -11,7 +11,7 @@ use crate::settings::put_house;
 use crate::write::{Unwritten, put_name, put_u32, put_u64};
 use crate::{CycleAsk, JournalRecord};
 use std::alloc::Global;
-use undo_base::{LAST_MOMENT, NoMemory, Text};
+use undo_base::{LAST_MOMENT, Name, NoMemory, Text};
 use verb_core::{Act, BoxId, Conf, Item, Mailbox, are_of_body};
 
 #[tactic(auto, using(crate::proofs::Puts::list_steps))]
@@ -112,6 +112,17 @@ fn put_upgrade(at: u64, out: &mut Text) -> Result<(), Unwritten>
 }
 
 #[tactic(auto, using(crate::proofs::Puts::list_steps))]
+fn put_withdraw(number: u32, at: u64, key: &Name, of: u32, out: &mut Text) -> Result<(), Unwritten>
+    ensures { Puts (record_fields (Withdraw number at key.now of)) out.old out.new result }
+{
+    put_record_kind(out, 7)?;
+    put_u32(out, u32::MAX, number)?;
+    put_u64(out, LAST_MOMENT, at)?;
+    put_name(out, key)?;
+    put_u32(out, u32::MAX, of)
+}
+
+#[tactic(auto, using(crate::proofs::Puts::list_steps))]
 fn put_record(what: &JournalRecord, out: &mut Text) -> Result<(), Unwritten>
     ensures { Puts (record_fields what.now) out.old out.new result }
 {
@@ -130,6 +141,12 @@ fn put_record(what: &JournalRecord, out: &mut Text) -> Result<(), Unwritten>
             out,
         ),
         JournalRecord::Upgrade { at } => put_upgrade(*at, out),
+        JournalRecord::Withdraw {
+            number,
+            at,
+            key,
+            of,
+        } => put_withdraw(*number, *at, key, *of, out),
     }
 }
 
@@ -189,6 +206,21 @@ pub fn spell_upgrade(alloc: Global, at: u64) -> Result<Text, Unwritten>
 {
     let mut out = Text::new(alloc);
     put_upgrade(at, &mut out)?;
+    Ok(out)
+}
+
+/// The same of the record of a withdrawal.
+pub fn spell_withdraw(
+    alloc: Global,
+    number: u32,
+    at: u64,
+    key: &Name,
+    of: u32,
+) -> Result<Text, Unwritten>
+    ensures { Encodes (Withdraw number at key.now of) result }
+{
+    let mut out = Text::new(alloc);
+    put_withdraw(number, at, key, of, &mut out)?;
     Ok(out)
 }
 

@@ -18,13 +18,34 @@ pub struct CycleAsk {
     pub inserts: Acts,
 }
 
-/// One record. A `Verb` is a user's item, with rev 0; from an `Upgrade` on names may have superiors.
+/// One record. A `Verb` is a user's item, with rev 0; from an `Upgrade` on names may have superiors; a `Withdraw` takes back the
+/// cycle of the number `of`.
 #[derive(Drop)]
 pub enum JournalRecord {
     Format(House, Conf),
     Verb(Item),
-    Operator { number: u32, at: u64, act: Act },
-    Cycle { number: u32, at: u64, ask: CycleAsk },
-    Snapshot { items: u32, conf: Conf, rows: Rows },
-    Upgrade { at: u64 },
+    Operator {
+        number: u32,
+        at: u64,
+        act: Act,
+    },
+    Cycle {
+        number: u32,
+        at: u64,
+        ask: CycleAsk,
+    },
+    Snapshot {
+        items: u32,
+        conf: Conf,
+        rows: Rows,
+    },
+    Upgrade {
+        at: u64,
+    },
+    Withdraw {
+        number: u32,
+        at: u64,
+        key: Name,
+        of: u32,
+    },
 }

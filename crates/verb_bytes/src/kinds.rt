@@ -9,7 +9,7 @@ use crate::write::{Unwritten, put_byte};
 use undo_base::Text;
 
 /// The last kind of record. The first is 0.
-pub(crate) const LAST_RECORD: u8 = 6;
+pub(crate) const LAST_RECORD: u8 = 7;
 
 /// The last act of the operator. The first is 1.
 pub(crate) const LAST_ACT: u8 = 7;

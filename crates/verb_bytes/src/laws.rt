@@ -2,6 +2,7 @@
 ghost use Rattle.std.specs.Prelude.{◌≡◌, ℕ, ◌≤◌, ◌⊎◌, List, IsTrue, length};
 ghost use Rattle.std.specs.List.{AllZip};
 ghost use Rattle.undo_base.specs.declared.limits.TheConstants.{LAST_MOMENT, MOST_KEYS};
+ghost use Rattle.undo_base.specs.Name.{IsName};
 ghost use Rattle.verb_core.specs.declared.conf.Conf.{Conf};
 ghost use Rattle.verb_core.specs.declared.conf.House.{House};
 ghost use Rattle.verb_core.specs.declared.mailbox.BoxId.{BoxId};
@@ -11,7 +12,7 @@ ghost use Rattle.verb_core.specs.declared.item.Item.{Item};
 ghost use Rattle.verb_core.specs.Items.{has_form, keys_in};
 ghost use Rattle.verb_bytes.specs.declared.journal.CycleAsk.{CycleAsk};
 ghost use Rattle.verb_bytes.specs.declared.journal.JournalRecord.{JournalRecord};
-ghost use Rattle.verb_bytes.specs.declared.journal.JournalRecord.TheVariants.{Format, Verb, Operator, Cycle, Snapshot, Upgrade};
+ghost use Rattle.verb_bytes.specs.declared.journal.JournalRecord.TheVariants.{Format, Verb, Operator, Cycle, Snapshot, Upgrade, Withdraw};
 ghost use Rattle.verb_bytes.specs.Decoding.{IsBytes, IsRefused, IsRefusedAt, IsSpelled};
 ghost use Rattle.verb_bytes.specs.Fields.{most_of_four};
 ghost use Rattle.verb_bytes.specs.Limits.{delivery, AreMany, IsAct, IsAlias, IsAsked, IsCycleAsk, IsFilter, IsMail, IsOpening, IsRow};
@@ -62,6 +63,11 @@ pub fn upgrades_have_spellings()
     ensures { (at : ℕ) → at ≤ LAST_MOMENT → HasSpelling (Upgrade at) }
 {}
 
+/// A withdrawal has a spelling.
+pub fn withdrawals_have_spellings()
+    ensures { (number at : ℕ) (key : List ℕ) (of : ℕ) → number ≤ most_of_four → at ≤ LAST_MOMENT → IsName key → of ≤ most_of_four → HasSpelling (Withdraw number at key of) }
+{}
+
 /// The item of a record that has a spelling shows what its deed shows, has few keys and no rev.
 pub fn spelled_items_are_formed()
     ensures form { (item : Item) → HasSpelling (Verb item) → IsTrue (has_form item.deed item.shown) }
@@ -72,6 +78,11 @@ pub fn spelled_items_are_formed()
 /// The moment of a cycle whose record has a spelling is within the years that dates can say.
 pub fn spelled_cycles_have_moments()
     ensures { (number at : ℕ) (ask : CycleAsk) → HasSpelling (Cycle number at ask) → at ≤ LAST_MOMENT }
+{}
+
+/// The same of a withdrawal.
+pub fn spelled_withdrawals_have_moments()
+    ensures { (number at : ℕ) (key : List ℕ) (of : ℕ) → HasSpelling (Withdraw number at key of) → at ≤ LAST_MOMENT }
 {}
 
 /// Each text of a record lies in its bytes at its place, in order.

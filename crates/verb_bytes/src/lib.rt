@@ -32,6 +32,7 @@ mod write;
 pub use decode::{BadBytes, decode_record};
 pub use encode::{
     encode_record, spell_act, spell_cycle, spell_item, spell_record, spell_snapshot, spell_upgrade,
+    spell_withdraw,
 };
 pub use journal::{Acts, CycleAsk, JournalRecord, Replaces};
 pub use places::{

@@ -4,7 +4,6 @@
 //! present timeline: `numbered` finds what an item shows at present by its number. In specs/, `Unediting` is the timeline without the
 //! cycle, and `Coming` what holds of what the cycle left beside the items in force since. What carries the crate: `unedit` answers
 //! `unedited`, and `unedit_behind` the same list but for its front, by `laws`, which has what holds of every such timeline.
-//! The program does not withdraw cycles yet: nothing calls this crate.
 #![tactic(auto)]
 
 pub mod laws;

@@ -22,7 +22,10 @@ returns-in-4 c = this_case 0 record_cases c.args.cursor.now.rest.now c.read_snap
 pub returns-in-5 : goal.returns-in-5
 returns-in-5 c = this_case 0 record_cases c.args.cursor.now.rest.now c.read_upgrade.new.cursor.rest.now c.args.kind 5 c.read_upgrade.result c.in-5.is c.read_upgrade.ensures
 
+pub returns-in-6 : goal.returns-in-6
+returns-in-6 c = this_case 0 record_cases c.args.cursor.now.rest.now c.read_scoped_snapshot.new.cursor.rest.now c.args.kind 6 c.read_scoped_snapshot.result c.in-6.is c.read_scoped_snapshot.ensures
+
 pub returns-in_default : goal.returns-in_default
 returns-in_default c =
     let last : c.args.kind ≡ LAST_RECORD = omega arith in
-    this_case 0 record_cases c.args.cursor.now.rest.now c.read_scoped_snapshot.new.cursor.rest.now c.args.kind LAST_RECORD c.read_scoped_snapshot.result last c.read_scoped_snapshot.ensures
+    this_case 0 record_cases c.args.cursor.now.rest.now c.read_withdraw.new.cursor.rest.now c.args.kind LAST_RECORD c.read_withdraw.result last c.read_withdraw.ensures
