@@ -1,25 +1,38 @@
--- What a client knows of mail by UID lasts over items and cycles.
-use Rattle.std.proofs.Common.{◌≡◌, ◌≢◌, ℕ, ◌<◌, ◌≤◌, ◌==◌, Bool, true, false, ◌&&◌, cond, arith, refl, sym, ◌∙◌, ap, subst, List, [], ◌∷◌, ◌++◌, find, map, Option, Some, None, is_some, option_and_then, unwrap_or, eqb-true}
+-- What a client knows of mail by UID lasts over items, cycles and withdrawals.
+use Rattle.std.proofs.Common.{◌≡◌, ◌≢◌, ℕ, ◌<◌, ◌≤◌, ◌==◌, Bool, true, false, ◌&&◌, cond, arith, refl, sym, ◌∙◌, ap, subst, inl, inr, List, [], ◌∷◌, ◌++◌, drop, find, length, map, take, Option, Some, None, is_some, option_and_then, unwrap_or, eqb-true}
+use Rattle.std.specs.Prelude.{◌⊎◌}
 use Rattle.std.specs.Cmp.{first_so}
+use Rattle.std.specs.Option.{option_or}
+use Rattle.std.proofs.lemmas.List.{append-nil, take-append-drop}
+use Rattle.std.proofs.lemmas.List.Folds.{find-append}
 use Rattle.verb_core.specs.declared.item.Item.{Item}
 use Rattle.verb_core.specs.declared.mailbox.Body.{Body}
 use Rattle.verb_core.specs.declared.mailbox.BoxId.{BoxId}
 use Rattle.verb_core.specs.declared.mailbox.Mailbox.{Mailbox}
 use Rattle.verb_core.specs.Boxes.{has_row, row_at}
-use Rattle.verb_core.specs.Items.{NumbersApart, text_in, text_of}
+use Rattle.verb_core.specs.Items.{IsTimeline, NumbersApart, text_in, text_of}
 use Rattle.verb_core.specs.Step.{Boxes, run, step}
 use Rattle.verb_core.specs.Store.{IsValid}
 use Rattle.verb_core.proofs.StampLaws.{stamp-each}
 use Rattle.verb_bytes.specs.declared.journal.CycleAsk.{CycleAsk}
+use Rattle.withdraw.specs.declared.undone.UndoneBehind.{UndoneBehind}
+use Rattle.withdraw.specs.Coming.{CanComeBack, TextsComeBack}
+use Rattle.withdraw.proofs.Back.{timeline_back}
+use Rattle.withdraw.proofs.Texts.{texts_back}
 use Rattle.store_kept.specs.Kept.{Kept, Marks, mailbox_at, performed, stamp_at, store_of, upgraded}
+use Rattle.store_kept.specs.Texts.{items_behind}
+use Rattle.store_kept.proofs.Coming.{kept_at_hand}
 use Rattle.repair_desk.specs.Renewals.{extends_one, stamp_after}
 use Rattle.repair_desk.specs.Repairs.{position}
 use Rattle.repair_desk.proofs.Extended.{each, itself, transitive}
 use Rattle.repair_desk.proofs.Growth.{step_extends}
+use Rattle.repair_desk.proofs.Points.{within}
 use Rattle.cycle_rules.specs.Asking.{Due, NoNumbers, NoPoint, Repeats, Rewinds, after_cycle, due_anew, due_at}
 use Rattle.cycle_rules.specs.Cycles.{Cycled, cycled_at, leaves_numbers, timeline_at}
-use Rattle.mail_cycle.specs.Permanence.{StampsLast, TextsLast, UidsLast}
-use Rattle.mail_cycle.proofs.Left.{left_texts}
+use Rattle.cycle_rules.specs.Withdrawals.{after_withdrawal, restored_items, unedit_of, withdrawn_at}
+use Rattle.mail_cycle.specs.Permanence.{StampsLast, TextsLast, TextsStay, UidsLast, UidsStay}
+use Rattle.mail_cycle.proofs.Left.{left_texts, repaired_texts}
+use Rattle.mail_cycle.proofs.Made.{through_stays}
 
 -- ---- no step, and two steps
 
@@ -73,20 +86,24 @@ lasts_on a b c first second =
 
 -- ---- an item
 
+-- whether an item brought the text of a body
+abbrev brings : Body → Item → Bool
+brings body i = (i.number == body.origin) && (i.rev == body.rev) && is_some (text_in i.deed)
+
+abbrev text_found : Option Item → Option (List ℕ)
+text_found o = option_and_then (λ (i : Item). text_in i.deed) o
+
 -- the text of a body that another item brought
-text_before : (body : Body) (text : List ℕ) (i : Item) (t : List Item) → i.number ≢ body.origin → text_of (t ++ i ∷ []) body ≡ Some text → text_of t body ≡ Some text
-text_before body text i [] apart e = by ((i.number == body.origin) && (i.rev == body.rev) && is_some (text_in i.deed)) refl e
+text_before : (body : Body) (text : List ℕ) (i : Item) (t more : List Item) → i.number ≢ body.origin → text_of ((t ++ i ∷ []) ++ more) body ≡ Some text → text_of (t ++ more) body ≡ Some text
+text_before body text i [] more apart e = by (brings body i) refl e
   where
-    by : (b : Bool) → ((i.number == body.origin) && (i.rev == body.rev) && is_some (text_in i.deed)) ≡ b → option_and_then (λ (j : Item). text_in j.deed) (cond b (Some i) None) ≡ Some text → text_of [] body ≡ Some text
+    by : (b : Bool) → brings body i ≡ b → text_found (cond b (Some i) (find (brings body) more)) ≡ Some text → text_of more body ≡ Some text
     by true here is = absurd (apart (eqb-true i.number body.origin (first_so (i.number == body.origin) (i.rev == body.rev) (first_so _ (is_some (text_in i.deed)) here))))
     by false here is = is
-text_before body text i (j ∷ t) apart e = by ((j.number == body.origin) && (j.rev == body.rev) && is_some (text_in j.deed)) e (text_before body text i t apart)
+text_before body text i (j ∷ t) more apart e = by (brings body j) e (text_before body text i t more apart)
   where
-    brings : Item → Bool
-    brings x = (x.number == body.origin) && (x.rev == body.rev) && is_some (text_in x.deed)
-
-    by : (b : Bool) → option_and_then (λ (x : Item). text_in x.deed) (cond b (Some j) (find brings (t ++ i ∷ []))) ≡ Some text → (text_of (t ++ i ∷ []) body ≡ Some text → text_of t body ≡ Some text)
-        → option_and_then (λ (x : Item). text_in x.deed) (cond b (Some j) (find brings t)) ≡ Some text
+    by : (b : Bool) → text_found (cond b (Some j) (find (brings body) ((t ++ i ∷ []) ++ more))) ≡ Some text → (text_of ((t ++ i ∷ []) ++ more) body ≡ Some text → text_of (t ++ more) body ≡ Some text)
+        → text_found (cond b (Some j) (find (brings body) (t ++ more))) ≡ Some text
     by true is rest = is
     by false is rest = rest is
 
@@ -103,7 +120,7 @@ module _ (s : Kept) (i : Item) (valid : IsValid (store_of s)) (named : map (λ (
       by false there after is = let same : i.number ≡ stamp = cc in absurd (omega arith)
 
   item_texts : TextsLast s (performed s i)
-  item_texts body text origin rev is = text_before body text i s.timeline (λ same. absurd (omega arith)) is
+  item_texts body text origin rev is = text_before body text i s.timeline (items_behind s.undone) (λ same. absurd (omega arith)) is
 
   pub lasts_performed : UidsLast s (performed s i)
   lasts_performed = record { next = omega arith; stamps = item_stamps; texts = item_texts }
@@ -120,6 +137,27 @@ stamp_kept before stamps c stamp id m below is = by (extends_one (row_at id befo
     by true None e = absurd (omega arith)
     by true (Some old) e = (ap (λ n. Some n) e, refl)
 
+-- a text is of the first items, or none of these brings it
+in_parts : (body : Body) (text : List ℕ) (xs ys : List Item) → text_of (xs ++ ys) body ≡ Some text → (text_of xs body ≡ Some text) ⊎ ((find (brings body) xs ≡ None) × (text_of ys body ≡ Some text))
+in_parts body text xs ys e = by (find (brings body) xs) refl (sym (ap text_found (find-append (brings body) xs ys)) ∙ e)
+  where
+    by : (o : Option Item) → find (brings body) xs ≡ o → text_found (option_or o (find (brings body) ys)) ≡ Some text → (text_of xs body ≡ Some text) ⊎ ((find (brings body) xs ≡ None) × (text_of ys body ≡ Some text))
+    by None none is = inr (none, is)
+    by (Some i) here is = inl (ap text_found here ∙ is)
+
+none_first : (body : Body) (xs ys : List Item) → find (brings body) (xs ++ ys) ≡ None → find (brings body) xs ≡ None
+none_first body xs ys e = by (find (brings body) xs) (sym (find-append (brings body) xs ys) ∙ e)
+  where
+    by : (o : Option Item) → option_or o (find (brings body) ys) ≡ None → o ≡ None
+    by None is = refl
+    by (Some i) is = is
+
+-- what stood behind a place, where none of the items through it brings it
+rest_text : (body : Body) (text : List ℕ) (place : ℕ) (t : List Item) → find (brings body) (take place t) ≡ None → text_of (drop place t) body ≡ Some text → text_of t body ≡ Some text
+rest_text body text place t none e =
+    subst (λ (items : List Item). text_of items body ≡ Some text) (take-append-drop place t)
+    (ap text_found (find-append (brings body) (take place t) (drop place t)) ∙ ap (λ (o : Option Item). text_found (option_or o (find (brings body) (drop place t)))) none ∙ e)
+
 module _ (s : Kept) (at : ℕ) (ask : CycleAsk) (apart : NumbersApart s.timeline) where
   cycle_stamps : (place : ℕ) → StampsLast s (after_cycle s ask (cycled_at s at ask place))
   cycle_stamps place id stamp m below stamped mail =
@@ -127,11 +165,20 @@ module _ (s : Kept) (at : ℕ) (ask : CycleAsk) (apart : NumbersApart s.timeline
       let one : Some (stamp_after (store_of s).boxes s.stamps s.next (id, m)) ≡ Some stamp = sym (each (store_of s).boxes after s.stamps s.next id m mail) ∙ stamped in
       stamp_kept (store_of s).boxes s.stamps s.next stamp id m below (let same : stamp_after (store_of s).boxes s.stamps s.next (id, m) ≡ stamp = cc in same)
 
-  cycle_texts : (place : ℕ) → TextsLast s (after_cycle s ask (cycled_at s at ask place))
-  cycle_texts place body text origin rev is = left_texts s at ask place body text apart (omega arith) (λ same. absurd (omega arith)) is
+  -- a text that is at hand afterwards is one of the items that are left, or of those that stood behind the point
+  cycle_texts : (place : ℕ) → place ≤ length s.timeline → TextsLast s (after_cycle s ask (cycled_at s at ask place))
+  cycle_texts place le body text origin rev is = kept_at_hand s body text (of_parts (in_parts body text (timeline_at s at ask place) (drop place s.timeline) is))
+    where
+      front_none : find (brings body) (timeline_at s at ask place) ≡ None → find (brings body) (take place s.timeline) ≡ None
+      front_none none = subst (λ (items : List Item). find (brings body) items ≡ None) (through_stays s at ask place le)
+          (none_first body (take place (timeline_at s at ask place)) (drop place (timeline_at s at ask place)) (ap (find (brings body)) (take-append-drop place (timeline_at s at ask place)) ∙ none))
 
-  lasts_at : (place : ℕ) → UidsLast s (after_cycle s ask (cycled_at s at ask place))
-  lasts_at place = record { next = omega arith; stamps = cycle_stamps place; texts = cycle_texts place }
+      of_parts : (text_of (timeline_at s at ask place) body ≡ Some text) ⊎ ((find (brings body) (timeline_at s at ask place) ≡ None) × (text_of (drop place s.timeline) body ≡ Some text)) → text_of s.timeline body ≡ Some text
+      of_parts (inl left) = left_texts s at ask place body text apart (omega arith) (λ same. absurd (omega arith)) left
+      of_parts (inr later) = rest_text body text place s.timeline (front_none later.0) later.1
+
+  lasts_at : (place : ℕ) → place ≤ length s.timeline → UidsLast s (after_cycle s ask (cycled_at s at ask place))
+  lasts_at place le = record { next = omega arith; stamps = cycle_stamps place; texts = cycle_texts place le }
 
   abbrev LastsBy : Due → Type 0
   LastsBy (Repeats report) = Unit {0}
@@ -139,10 +186,73 @@ module _ (s : Kept) (at : ℕ) (ask : CycleAsk) (apart : NumbersApart s.timeline
   LastsBy NoNumbers = Unit {0}
   LastsBy (Rewinds due) = UidsLast s (after_cycle s ask due)
 
-  by_place : (o : Option ℕ) → LastsBy (due_at s at ask o)
-  by_place None = tt
-  by_place (Some place) = elim (leaves_numbers s ask) as (λ b. LastsBy (cond b (Rewinds (cycled_at s at ask place)) NoNumbers)) [ true ↦ lasts_at place | false ↦ tt ]
+  by_place : (o : Option ℕ) → position s.timeline ask.point ≡ o → LastsBy (due_at s at ask o)
+  by_place None there = tt
+  by_place (Some place) there =
+      elim (leaves_numbers s ask) as (λ b. LastsBy (cond b (Rewinds (cycled_at s at ask place)) NoNumbers)) [ true ↦ lasts_at place (within s.timeline ask.point place there) | false ↦ tt ]
 
 -- what a cycle leaves lasts
 pub lasts_cycled : (s : Kept) (at : ℕ) (ask : CycleAsk) (due : Cycled) → NumbersApart s.timeline → due_anew s at ask ≡ Rewinds due → UidsLast s (after_cycle s ask due)
-lasts_cycled s at ask due apart is = subst (LastsBy s at ask apart) is (by_place s at ask apart (position s.timeline ask.point))
+lasts_cycled s at ask due apart is = subst (LastsBy s at ask apart) is (by_place s at ask apart (position s.timeline ask.point) refl)
+
+-- ---- a withdrawal
+
+-- what comes back was at hand
+pub lasts_withdrawn : (s : Kept) (at : ℕ) (key : List ℕ) (last : UndoneBehind) → IsTimeline s.house s.timeline → s.undone ≡ Some last → CanComeBack s.house s.timeline last → TextsComeBack s.timeline last
+    → UidsLast s (after_withdrawal s key (withdrawn_at s at last))
+lasts_withdrawn s at key last timeline is back texts = record { next = omega arith; stamps = stamps_then; texts = texts_then }
+  where
+    led : Boxes
+    led = (run s.base (withdrawn_at s at last).timeline).boxes
+
+    stamps_then : StampsLast s (after_withdrawal s key (withdrawn_at s at last))
+    stamps_then id stamp m below stamped mail =
+        let one : Some (stamp_after (store_of s).boxes s.stamps s.next (id, m)) ≡ Some stamp = sym (each (store_of s).boxes led s.stamps s.next id m mail) ∙ stamped in
+        stamp_kept (store_of s).boxes s.stamps s.next stamp id m below (let same : stamp_after (store_of s).boxes s.stamps s.next (id, m) ≡ stamp = cc in same)
+
+    texts_then : TextsLast s (after_withdrawal s key (withdrawn_at s at last))
+    texts_then body text origin rev at_hand =
+        let left : text_of (withdrawn_at s at last).timeline body ≡ Some text = subst (λ (items : List Item). text_of items body ≡ Some text) (append-nil (withdrawn_at s at last).timeline) at_hand in
+        let whole : IsTimeline s.house (restored_items s last) = timeline_back s.house s.timeline last back timeline in
+        subst (λ (o : Option UndoneBehind). text_of (s.timeline ++ items_behind o) body ≡ Some text) (sym is)
+        (texts_back s.house s.timeline last body text timeline back texts (repaired_texts s at (unedit_of s last) body text whole.apart (omega arith) left))
+
+-- ---- no text comes back but by a withdrawal
+
+pub stay_itself : (s : Kept) → TextsStay s s
+stay_itself s body text origin rev is = is
+
+pub stay_marked : (s : Kept) (marks : Marks) → TextsStay s (record s { marks = marks })
+stay_marked s marks body text origin rev is = is
+
+pub stay_upgraded : (s : Kept) → TextsStay s (upgraded s)
+stay_upgraded s body text origin rev is = is
+
+pub stay_on : (a b c : Kept) → a.next ≤ b.next → TextsStay a b → TextsStay b c → TextsStay a c
+stay_on a b c rises first second body text origin rev is = first body text origin rev (second body text (omega arith) (omega arith) is)
+
+pub stay_performed : (s : Kept) (i : Item) → i.number ≡ s.next → TextsStay s (performed s i)
+stay_performed s i number body text origin rev is =
+    subst (λ (items : List Item). text_of items body ≡ Some text) (append-nil s.timeline)
+    (text_before body text i s.timeline [] (λ same. absurd (omega arith)) (subst (λ (items : List Item). text_of items body ≡ Some text) (sym (append-nil (s.timeline ++ i ∷ []))) is))
+
+module _ (s : Kept) (at : ℕ) (ask : CycleAsk) (apart : NumbersApart s.timeline) where
+  stay_at : (place : ℕ) → TextsStay s (after_cycle s ask (cycled_at s at ask place))
+  stay_at place body text origin rev is = left_texts s at ask place body text apart (omega arith) (λ same. absurd (omega arith)) is
+
+  abbrev StayBy : Due → Type 0
+  StayBy (Repeats report) = Unit {0}
+  StayBy NoPoint = Unit {0}
+  StayBy NoNumbers = Unit {0}
+  StayBy (Rewinds due) = TextsStay s (after_cycle s ask due)
+
+  stay_by_place : (o : Option ℕ) → StayBy (due_at s at ask o)
+  stay_by_place None = tt
+  stay_by_place (Some place) = elim (leaves_numbers s ask) as (λ b. StayBy (cond b (Rewinds (cycled_at s at ask place)) NoNumbers)) [ true ↦ stay_at place | false ↦ tt ]
+
+pub stay_cycled : (s : Kept) (at : ℕ) (ask : CycleAsk) (due : Cycled) → NumbersApart s.timeline → due_anew s at ask ≡ Rewinds due → TextsStay s (after_cycle s ask due)
+stay_cycled s at ask due apart is = subst (StayBy s at ask apart) is (stay_by_place s at ask apart (position s.timeline ask.point))
+
+-- what a client knows lasts with them
+pub uids_stay_on : (a b c : Kept) → UidsStay a b → UidsStay b c → UidsStay a c
+uids_stay_on a b c first second = (lasts_on a b c first.0 second.0, stay_on a b c first.0.next first.1 second.1)

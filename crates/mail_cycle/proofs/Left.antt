@@ -28,11 +28,13 @@ use Rattle.paradox.specs.Answers.{looks_at_texts}
 use Rattle.repair_desk.specs.Repairs.{are_known, edited_at, inserted, is_among, kept as kept_later, position, repaired, replaced_by, text_asked}
 use Rattle.repair_desk.proofs.Everywhere.{all_apart, all_below, all_formed, everywhere, inserted_above, joined, of_numbers, rest_of, revs_below, taken, weaker}
 use Rattle.repair_desk.proofs.Extended.{below as stamps_below}
-use Rattle.repair_desk.proofs.Texts.{IsOld, found_old, higher_old, new_old}
+use Rattle.repair_desk.proofs.Texts.{IsOld, all_old, found_old, higher_old, new_old}
 use Rattle.cycle_rules.specs.Asking.{Due, NoNumbers, NoPoint, Repeats, Rewinds, due_anew, due_at}
-use Rattle.cycle_rules.specs.Cycles.{Cycled, broken_at, compared_at, cycled_at, front_of, kept_at, leaves_numbers, notice_items, repaired_items, report_at, stamps_at, timeline_at, told_at}
-use Rattle.mail_cycle.specs.Comparing.{broken_by, compared_from, cycled_by, cycled_from, reached_from, stamps_by, timeline_by, timeline_from, told_by}
+use Rattle.cycle_rules.specs.Cycles.{broken_at, compared_at, cycled_at, front_of, kept_at, leaves_numbers, repair_of, repaired_items, report_at, stamps_at, timeline_at, told_at}
+use Rattle.cycle_rules.specs.Repairing.{Cycled, Repair, compared_in, front_in, kept_in, leaves_numbers_for, notice_items, timeline_in, told_in}
+use Rattle.mail_cycle.specs.Comparing.{broken_by, compared_from, reached_from, reworked_by, reworked_from, stamps_by, timeline_by, timeline_from, told_by}
 use Rattle.mail_cycle.specs.Leaving.{GoesOn, GoesOnAt}
+use Rattle.mail_cycle.specs.Tasks.{GoesWith}
 use Rattle.cycle_rules.specs.Judging.{judged, shown_after, shown_by, told as tell}
 use Rattle.store_kept.specs.Bases.{HasBase}
 use Rattle.store_kept.specs.Kept.{Kept, store_of}
@@ -140,40 +142,40 @@ both_apart last (i ∷ a) b first second low high = (
 
 -- ---- the whole
 
-module _ (s : Kept) (at : ℕ) (ask : CycleAsk) (place : ℕ) (items : List Item) (now : List Shown) (after : MailStore) where
+module _ (s : Kept) (at : ℕ) (repair : Repair) (items : List Item) (now : List Shown) (after : MailStore) where
   abbrev last : ℕ
-  last = s.next + length ask.inserts
+  last = s.next + repair.acts
 
   abbrev told : List Item
-  told = told_by s at ask place now
+  told = told_by s at repair now
 
   abbrev kept : List Item
-  kept = shown_after (front_of ask place) items now
+  kept = shown_after (front_in repair) items now
 
   abbrev cycled : Cycled
-  cycled = cycled_by s at ask place items now after
+  cycled = reworked_by s at repair items now after
 
-  formed_by : AllByRecursion (IsWellFormed s.house) kept → AllByRecursion (IsWellFormed s.house) (timeline_by s at ask place items now)
+  formed_by : AllByRecursion (IsWellFormed s.house) kept → AllByRecursion (IsWellFormed s.house) (timeline_by s at repair items now)
   formed_by formed = joined (IsWellFormed s.house) kept told formed (told_formed s.house last at s.next _)
 
   kept_low : AllByRecursion (λ (i : Item). i.number ≤ last) items → AllByRecursion (λ (i : Item). i.number ≤ last) kept
-  kept_low low = shown_numbers (λ n. n ≤ last) (front_of ask place) items now low
+  kept_low low = shown_numbers (λ n. n ≤ last) (front_in repair) items now low
 
-  below_by : AllByRecursion (λ (i : Item). i.number ≤ last) items → AllByRecursion (λ (i : Item). i.number < cycled.next) (timeline_by s at ask place items now)
+  below_by : AllByRecursion (λ (i : Item). i.number ≤ last) items → AllByRecursion (λ (i : Item). i.number < cycled.next) (timeline_by s at repair items now)
   below_by low = joined (λ (i : Item). i.number < cycled.next) kept told
       (weaker (λ (i : Item). i.number ≤ last) (λ (i : Item). i.number < cycled.next) (λ i le. omega arith) kept (kept_low low))
       (notices_below cycled.next last at _ (omega arith))
 
-  timeline_left : AllByRecursion (IsWellFormed s.house) kept → NumbersApart items → AllByRecursion (λ (i : Item). i.number ≤ last) items → IsTimeline s.house (timeline_by s at ask place items now)
+  timeline_left : AllByRecursion (IsWellFormed s.house) kept → NumbersApart items → AllByRecursion (λ (i : Item). i.number ≤ last) items → IsTimeline s.house (timeline_by s at repair items now)
   timeline_left formed apart low = record {
     formed = formed_by formed;
-    apart = both_apart last kept told (shown_apart (front_of ask place) items now apart) (notices_apart last at _) (kept_low low) (above last last at _ (omega arith));
+    apart = both_apart last kept told (shown_apart (front_in repair) items now apart) (notices_apart last at _) (kept_low low) (above last last at _ (omega arith));
   }
 
-  revs_by : AllByRecursion (λ (i : Item). i.rev ≤ s.next) items → AllByRecursion (λ (i : Item). i.rev < cycled.next) (timeline_by s at ask place items now)
+  revs_by : AllByRecursion (λ (i : Item). i.rev ≤ s.next) items → AllByRecursion (λ (i : Item). i.rev < cycled.next) (timeline_by s at repair items now)
   revs_by low = joined (λ (i : Item). i.rev < cycled.next) kept told
       (weaker (λ (i : Item). i.rev ≤ s.next) (λ (i : Item). i.rev < cycled.next) (λ i le. omega arith) kept
-      (shown_revs (λ n. n ≤ s.next) (front_of ask place) items now low))
+      (shown_revs (λ n. n ≤ s.next) (front_in repair) items now low))
       (notice_revs cycled.next last at _ (omega arith))
 
   names : (rows : Boxes) (f : BoxId × Mailbox → ℕ) → map (λ (r : BoxId × ℕ). r.0) (map (λ (r : BoxId × Mailbox). (r.0, f r)) rows) ≡ map (λ (r : BoxId × Mailbox). r.0) rows
@@ -186,22 +188,22 @@ module _ (s : Kept) (at : ℕ) (ask : CycleAsk) (place : ℕ) (items : List Item
   rises_by : s.next < cycled.next
   rises_by = omega arith
 
-  next_by : leaves_numbers s ask ≡ true → cycled.next ≤ 4194303
+  next_by : leaves_numbers_for s repair.acts ≡ true → cycled.next ≤ 4194303
   next_by left =
-      let room = leb-true (s.next + 1 + length ask.inserts + length s.house.accounts) 4194303 left in
-      let few = few_told s.house last s.next at (broken_by s ask place now) in
+      let room = leb-true (s.next + 1 + repair.acts + length s.house.accounts) 4194303 left in
+      let few = few_told s.house last s.next at (broken_by repair now) in
       omega arith
 
   -- what holds of the numbers of the items, and of each number to come
-  numbers_by : (P : ℕ → Type 0) → AllByRecursion (λ (i : Item). P i.number) items → ((n : ℕ) → s.next < n → P n) → AllByRecursion (λ (i : Item). P i.number) (timeline_by s at ask place items now)
-  numbers_by P all higher = joined (λ (i : Item). P i.number) kept told (shown_numbers P (front_of ask place) items now all)
+  numbers_by : (P : ℕ → Type 0) → AllByRecursion (λ (i : Item). P i.number) items → ((n : ℕ) → s.next < n → P n) → AllByRecursion (λ (i : Item). P i.number) (timeline_by s at repair items now)
+  numbers_by P all higher = joined (λ (i : Item). P i.number) kept told (shown_numbers P (front_in repair) items now all)
       (weaker (λ (j : Item). s.next < j.number) (λ (j : Item). P j.number) (λ j more. higher j.number more) told (above s.next last at _ (omega arith)))
 
   -- they stand on the base
-  base_by : HasBase s → IsTimeline s.house (timeline_by s at ask place items now) → AllByRecursion (λ (i : Item). IsFresh i.number s.base) items → IsBase (timeline_by s at ask place items now) s.base
+  base_by : HasBase s → IsTimeline s.house (timeline_by s at repair items now) → AllByRecursion (λ (i : Item). IsFresh i.number s.base) items → IsBase (timeline_by s at repair items now) s.base
   base_by base timeline fresh = record {
     valid = base.stands.valid;
-    timeline = subst (λ (h : House). IsTimeline h (timeline_by s at ask place items now)) (sym base.house_is) timeline;
+    timeline = subst (λ (h : House). IsTimeline h (timeline_by s at repair items now)) (sym base.house_is) timeline;
     once = base.stands.once;
     fresh = numbers_by (λ (n : ℕ). IsFresh n s.base) fresh (λ n more. base.beyond n (omega (arith, more)));
   }
@@ -224,47 +226,46 @@ repaired_numbers P s at ask place all higher =
 fresh_repaired : (s : Kept) (at : ℕ) (ask : CycleAsk) (place : ℕ) → HasBase s → AllByRecursion (λ (i : Item). IsFresh i.number s.base) (repaired_items s at ask place)
 fresh_repaired s at ask place base = repaired_numbers (λ (n : ℕ). IsFresh n s.base) s at ask place base.stands.fresh (λ n more. base.beyond n (omega (arith, more)))
 
--- ---- items as they were read
-
-module _ (s : Kept) (at : ℕ) (ask : CycleAsk) (place : ℕ) (heard : List Item) (all : AllHeard (repaired_items s at ask place) heard) where
-  heard_formed : AllByRecursion (IsWellFormed s.house) s.timeline → are_known s.house ask.inserts ≡ true → AllByRecursion (IsWellFormed s.house) heard
-  heard_formed formed known = formed_heard s.house (repaired_items s at ask place) heard all (all_formed s.house s.timeline ask s.next at place formed known)
-
-  heard_low : AllByRecursion (λ (i : Item). i.number < s.next) s.timeline → AllByRecursion (λ (i : Item). i.number ≤ s.next + length ask.inserts) heard
-  heard_low below = numbers_heard (λ n. n ≤ s.next + length ask.inserts) (repaired_items s at ask place) heard all (all_below s.timeline ask s.next at place below)
-
-  heard_revs_low : AllByRecursion (λ (i : Item). i.rev < s.next) s.timeline → AllByRecursion (λ (i : Item). i.rev ≤ s.next) heard
-  heard_revs_low below = revs_heard (λ n. n ≤ s.next) (repaired_items s at ask place) heard all (revs_below s.timeline ask s.next at place below)
+-- a cycle's repair can be gone on with
+pub asked_goes : (s : Kept) (at : ℕ) (ask : CycleAsk) (place : ℕ) → IsTimeline s.house s.timeline → AllByRecursion (λ (i : Item). i.number < s.next) s.timeline → are_known s.house ask.inserts ≡ true
+    → GoesWith s (repair_of s at ask place)
+asked_goes s at ask place timeline below known = record {
+  timeline = record { formed = all_formed s.house s.timeline ask s.next at place timeline.formed known; apart = all_apart s.timeline ask s.next at place timeline.apart below };
+  low = all_below s.timeline ask s.next at place below;
+  base = fresh_repaired s at ask place;
+}
 
 -- what is left from a beginning can be gone on with
-module _ (s : Kept) (at : ℕ) (ask : CycleAsk) (place : ℕ) (first : MailStore) (count : ℕ) (heard : List Item) where
+module _ (s : Kept) (at : ℕ) (repair : Repair) (first : MailStore) (count : ℕ) (heard : List Item) where
   abbrev now_from : List Shown
-  now_from = compared_from ask place first count heard
+  now_from = compared_from repair first count heard
 
   abbrev after_from : MailStore
-  after_from = reached_from s at ask place first count heard
+  after_from = reached_from s at repair first count heard
 
-  pub left_from : IsTimeline s.house s.timeline → AllByRecursion (λ (i : Item). i.number < s.next) s.timeline → AllByRecursion (λ (r : BoxId × ℕ). r.1 < s.next) s.stamps
-      → are_known s.house ask.inserts ≡ true → count ≤ place → AllHeard (repaired_items s at ask place) heard → leaves_numbers s ask ≡ true
-      → GoesOnAt s after_from (cycled_from s at ask place first count heard)
-  left_from timeline below fresh known few all left = record {
+  pub left_from : GoesWith s repair → AllByRecursion (λ (r : BoxId × ℕ). r.1 < s.next) s.stamps → count ≤ repair.place → AllHeard repair.items heard → leaves_numbers_for s repair.acts ≡ true
+      → GoesOnAt s after_from (reworked_from s at repair first count heard)
+  left_from goes fresh few all left = record {
     timeline = timeline_is;
-    base = λ base. base_by s at ask place heard now_from after_from base timeline_is (numbers_heard (λ (n : ℕ). IsFresh n s.base) (repaired_items s at ask place) heard all (fresh_repaired s at ask place base));
-    below = below_by s at ask place heard now_from after_from (heard_low s at ask place heard all below);
-    named = named_by s at ask place heard now_from after_from;
-    fresh = fresh_by s at ask place heard now_from after_from fresh;
-    rises = rises_by s at ask place heard now_from after_from;
-    next = next_by s at ask place heard now_from after_from left;
+    base = λ base. base_by s at repair heard now_from after_from base timeline_is (numbers_heard (λ (n : ℕ). IsFresh n s.base) repair.items heard all (goes.base base));
+    below = below_by s at repair heard now_from after_from low;
+    named = named_by s at repair heard now_from after_from;
+    fresh = fresh_by s at repair heard now_from after_from fresh;
+    rises = rises_by s at repair heard now_from after_from;
+    next = next_by s at repair heard now_from after_from left;
   }
     where
-      timeline_is : IsTimeline s.house (timeline_from s at ask place first count heard)
-      timeline_is = timeline_left s at ask place heard now_from after_from
-          (formed_from s.house first count (front_of ask place) (front_of ask place - count) heard (omega (arith, few)) (heard_formed s at ask place heard all timeline.formed known))
-          (apart_heard (repaired_items s at ask place) heard all (all_apart s.timeline ask s.next at place timeline.apart below)) (heard_low s at ask place heard all below)
+      low : AllByRecursion (λ (i : Item). i.number ≤ s.next + repair.acts) heard
+      low = numbers_heard (λ n. n ≤ s.next + repair.acts) repair.items heard all goes.low
 
-  pub left_from_revs : AllByRecursion (λ (i : Item). i.rev < s.next) s.timeline → AllHeard (repaired_items s at ask place) heard
-      → AllByRecursion (λ (i : Item). i.rev < (cycled_from s at ask place first count heard).next) (timeline_from s at ask place first count heard)
-  left_from_revs below all = revs_by s at ask place heard now_from after_from (heard_revs_low s at ask place heard all below)
+      timeline_is : IsTimeline s.house (timeline_from s at repair first count heard)
+      timeline_is = timeline_left s at repair heard now_from after_from
+          (formed_from s.house first count (front_in repair) (front_in repair - count) heard (omega (arith, few)) (formed_heard s.house repair.items heard all goes.timeline.formed))
+          (apart_heard repair.items heard all goes.timeline.apart) low
+
+  pub left_from_revs : AllByRecursion (λ (i : Item). i.rev ≤ s.next) repair.items → AllHeard repair.items heard
+      → AllByRecursion (λ (i : Item). i.rev < (reworked_from s at repair first count heard).next) (timeline_from s at repair first count heard)
+  left_from_revs below all = revs_by s at repair heard now_from after_from (revs_heard (λ n. n ≤ s.next) repair.items heard all below)
 
 -- ---- the repaired items themselves
 
@@ -282,32 +283,32 @@ module _ (s : Kept) (at : ℕ) (ask : CycleAsk) (place : ℕ) where
   at_formed formed known = shown_formed s.house s.base (front_of ask place) items (all_formed s.house s.timeline ask s.next at place formed known)
 
   pub left_formed : AllByRecursion (IsWellFormed s.house) s.timeline → are_known s.house ask.inserts ≡ true → AllByRecursion (IsWellFormed s.house) (timeline_at s at ask place)
-  left_formed formed known = formed_by s at ask place items shown_then after (at_formed formed known)
+  left_formed formed known = formed_by s at (repair_of s at ask place) items shown_then after (at_formed formed known)
 
   pub left_below : AllByRecursion (λ (i : Item). i.number < s.next) s.timeline → AllByRecursion (λ (i : Item). i.number < (cycled_at s at ask place).next) (timeline_at s at ask place)
-  left_below below = below_by s at ask place items shown_then after (all_below s.timeline ask s.next at place below)
+  left_below below = below_by s at (repair_of s at ask place) items shown_then after (all_below s.timeline ask s.next at place below)
 
   pub left_timeline : IsTimeline s.house s.timeline → AllByRecursion (λ (i : Item). i.number < s.next) s.timeline → are_known s.house ask.inserts ≡ true → IsTimeline s.house (timeline_at s at ask place)
-  left_timeline is below known = timeline_left s at ask place items shown_then after (at_formed is.formed known) (all_apart s.timeline ask s.next at place is.apart below)
+  left_timeline is below known = timeline_left s at (repair_of s at ask place) items shown_then after (at_formed is.formed known) (all_apart s.timeline ask s.next at place is.apart below)
       (all_below s.timeline ask s.next at place below)
 
   pub left_base : HasBase s → IsTimeline s.house (timeline_at s at ask place) → IsBase (timeline_at s at ask place) s.base
-  left_base base timeline = base_by s at ask place items shown_then after base timeline (fresh_repaired s at ask place base)
+  left_base base timeline = base_by s at (repair_of s at ask place) items shown_then after base timeline (fresh_repaired s at ask place base)
 
   pub left_revs : AllByRecursion (λ (i : Item). i.rev < s.next) s.timeline → AllByRecursion (λ (i : Item). i.rev < (cycled_at s at ask place).next) (timeline_at s at ask place)
-  left_revs below = revs_by s at ask place items shown_then after (revs_below s.timeline ask s.next at place below)
+  left_revs below = revs_by s at (repair_of s at ask place) items shown_then after (revs_below s.timeline ask s.next at place below)
 
   pub left_named : map (λ (r : BoxId × ℕ). r.0) (stamps_at s at ask place) ≡ map (λ (r : BoxId × Mailbox). r.0) (run s.base (timeline_at s at ask place)).boxes
-  left_named = named_by s at ask place items shown_then after
+  left_named = named_by s at (repair_of s at ask place) items shown_then after
 
   pub left_rises : s.next < (cycled_at s at ask place).next
-  left_rises = rises_by s at ask place items shown_then after
+  left_rises = rises_by s at (repair_of s at ask place) items shown_then after
 
   pub left_next : leaves_numbers s ask ≡ true → (cycled_at s at ask place).next ≤ 4194303
-  left_next left = next_by s at ask place items shown_then after left
+  left_next left = next_by s at (repair_of s at ask place) items shown_then after left
 
   pub left_fresh : AllByRecursion (λ (r : BoxId × ℕ). r.1 < s.next) s.stamps → AllByRecursion (λ (r : BoxId × ℕ). r.1 < (cycled_at s at ask place).next) (stamps_at s at ask place)
-  left_fresh fresh = fresh_by s at ask place items shown_then after fresh
+  left_fresh fresh = fresh_by s at (repair_of s at ask place) items shown_then after fresh
 
   -- how many items there are
   pub length_repaired : place ≤ length s.timeline → length items ≡ place + length ask.inserts + (edited_at s.timeline ask s.next at place).kept
@@ -376,6 +377,17 @@ left_texts s at ask place body text apart low differs new =
     (joined Old (kept_at s at ask place) (told_at s at ask place)
     (shown_all (IsOld s.timeline body) (front_of ask place) (repaired_items s at ask place) (compared_at s at ask place) (new_old s.timeline ask s.next at place body apart low differs))
     (weaker (λ (j : Item). s.next < j.number) Old (λ j higher. higher_old s.timeline body s.next low j higher) (told_at s at ask place) (above s.next (s.next + length ask.inserts) at _ (omega arith))))
+    new
+
+-- a text of the items that a repair leaves is one of those that it performs, but for those of its notices
+pub repaired_texts : (s : Kept) (at : ℕ) (repair : Repair) (body : Body) (text : List ℕ) → NumbersApart repair.items → body.origin ≤ s.next
+    → text_of (timeline_in s at repair) body ≡ Some text → text_of repair.items body ≡ Some text
+repaired_texts s at repair body text apart low new =
+    let Old : Item → Type 0 = λ i. IsOld repair.items body i.number i.rev i.deed in
+    found_old repair.items body text (timeline_in s at repair)
+    (joined Old (kept_in s repair) (told_in s at repair)
+    (shown_all (IsOld repair.items body) (front_in repair) repair.items (compared_in s repair) (all_old body repair.items apart))
+    (weaker (λ (j : Item). s.next < j.number) Old (λ j higher. higher_old repair.items body s.next low j higher) (told_in s at repair) (above s.next (s.next + repair.acts) at _ (omega arith))))
     new
 
 -- ---- a cycle that asks for nothing

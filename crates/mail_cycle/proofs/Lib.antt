@@ -7,3 +7,4 @@ pub mod Lasting
 pub mod Made
 pub mod Parted
 pub mod Told
+pub mod Withdrawn

@@ -1,8 +1,7 @@
--- The cycle as it is worked out: by what came of performing the repaired items, from a store to which the first of them led, and
+-- A repair as it is worked out: by what came of performing the repaired items, from a store to which the first of them led, and
 -- over items as they were read, of which texts of deliveries may be others. Over the repaired items themselves, from the base on,
--- it is the cycle.
+-- it is the repair.
 use Rattle.std.specs.Prelude.{ℕ, ◌+◌, ◌-◌, List, ◌++◌, drop, length}
-use Rattle.verb_bytes.specs.declared.journal.CycleAsk.{CycleAsk}
 use Rattle.verb_core.specs.declared.item.Item.{Item}
 use Rattle.verb_core.specs.declared.item.Shown.{Shown}
 use Rattle.verb_core.specs.declared.mailbox.BoxId.{BoxId}
@@ -12,75 +11,76 @@ use Rattle.paradox.specs.Letters.{notices}
 use Rattle.paradox.specs.declared.reports.BrokenItem.{BrokenItem}
 use Rattle.paradox.specs.declared.reports.Report.{Report}
 use Rattle.store_kept.specs.Kept.{Kept, store_of}
-use Rattle.repair_desk.specs.Repairs.{edited_at, numbers_of}
+use Rattle.repair_desk.specs.Repairs.{numbers_of}
 use Rattle.repair_desk.specs.Renewals.{renewed}
-use Rattle.cycle_rules.specs.Cycles.{Cycled, front_of, notice_items, renewed_by}
+use Rattle.cycle_rules.specs.Repairing.{Cycled, Repair, front_in, notice_items, renewed_by}
 use Rattle.cycle_rules.specs.Judging.{judged, shown_after}
 
 -- ---- by what each later item that stays shows now, and the store behind the notices
 
 -- the broken and withdrawn items
-abbrev pub broken_by : Kept → CycleAsk → ℕ → List Shown → List BrokenItem
-broken_by s ask place now = judged ask.drops (drop place s.timeline) now
+abbrev pub broken_by : Repair → List Shown → List BrokenItem
+broken_by repair now = judged repair.drops repair.before now
 
 -- the notices, as items
-abbrev pub told_by : Kept → ℕ → CycleAsk → ℕ → List Shown → List Item
-told_by s at ask place now = notice_items (s.next + length ask.inserts) at (notices s.house s.next at (broken_by s ask place now))
+abbrev pub told_by : Kept → ℕ → Repair → List Shown → List Item
+told_by s at repair now = notice_items (s.next + repair.acts) at (notices s.house s.next at (broken_by repair now))
 
 -- the items in force: those that were performed, and the notices
-abbrev pub timeline_by : Kept → ℕ → CycleAsk → ℕ → List Item → List Shown → List Item
-timeline_by s at ask place items now = shown_after (front_of ask place) items now ++ told_by s at ask place now
+abbrev pub timeline_by : Kept → ℕ → Repair → List Item → List Shown → List Item
+timeline_by s at repair items now = shown_after (front_in repair) items now ++ told_by s at repair now
 
 -- the stamps, by the store before and the store after
 abbrev pub stamps_by : Kept → MailStore → List (BoxId × ℕ)
 stamps_by s after = renewed (store_of s).boxes after.boxes s.stamps s.next
 
-abbrev pub report_by : Kept → ℕ → CycleAsk → ℕ → List Shown → MailStore → Report
-report_by s at ask place now after = record {
+abbrev pub report_by : Kept → ℕ → Repair → List Shown → MailStore → Report
+report_by s at repair now after = record {
   cycle = s.next;
-  point = ask.point;
-  kept = (edited_at s.timeline ask s.next at place).kept;
-  broken = broken_by s ask place now;
-  notices = numbers_of (told_by s at ask place now);
+  point = repair.point;
+  kept = repair.kept;
+  broken = broken_by repair now;
+  notices = numbers_of (told_by s at repair now);
   renewed = renewed_by s.next (stamps_by s after);
-  unmatched = (edited_at s.timeline ask s.next at place).unmatched;
+  unmatched = repair.unmatched;
 }
 
-abbrev pub cycled_by : Kept → ℕ → CycleAsk → ℕ → List Item → List Shown → MailStore → Cycled
-cycled_by s at ask place items now after = record {
-  place = place;
-  timeline = timeline_by s at ask place items now;
+abbrev pub reworked_by : Kept → ℕ → Repair → List Item → List Shown → MailStore → Cycled
+reworked_by s at repair items now after = record {
+  place = repair.place;
+  timeline = timeline_by s at repair items now;
+  placed = length repair.items;
   stamps = stamps_by s after;
-  next = s.next + 1 + length ask.inserts + length (told_by s at ask place now);
-  entered = length ask.inserts + length (told_by s at ask place now);
-  report = report_by s at ask place now after;
+  next = s.next + 1 + repair.acts + length (told_by s at repair now);
+  entered = repair.acts + length (told_by s at repair now);
+  report = report_by s at repair now after;
 }
 
 -- ---- from a beginning: a store on which the items behind the first so many are performed, as they were read
 
 -- what each later item that stays shows now
-abbrev pub compared_from : CycleAsk → ℕ → MailStore → ℕ → List Item → List Shown
-compared_from ask place first count items = drop (front_of ask place - count) (answers first (drop count items))
+abbrev pub compared_from : Repair → MailStore → ℕ → List Item → List Shown
+compared_from repair first count items = drop (front_in repair - count) (answers first (drop count items))
 
 -- the items in force
-abbrev pub timeline_from : Kept → ℕ → CycleAsk → ℕ → MailStore → ℕ → List Item → List Item
-timeline_from s at ask place first count items = timeline_by s at ask place items (compared_from ask place first count items)
+abbrev pub timeline_from : Kept → ℕ → Repair → MailStore → ℕ → List Item → List Item
+timeline_from s at repair first count items = timeline_by s at repair items (compared_from repair first count items)
 
 -- the store that those behind the beginning lead to
-abbrev pub reached_from : Kept → ℕ → CycleAsk → ℕ → MailStore → ℕ → List Item → MailStore
-reached_from s at ask place first count items = run first (drop count (timeline_from s at ask place first count items))
+abbrev pub reached_from : Kept → ℕ → Repair → MailStore → ℕ → List Item → MailStore
+reached_from s at repair first count items = run first (drop count (timeline_from s at repair first count items))
 
--- the cycle from there
-abbrev pub cycled_from : Kept → ℕ → CycleAsk → ℕ → MailStore → ℕ → List Item → Cycled
-cycled_from s at ask place first count items = cycled_by s at ask place items (compared_from ask place first count items) (reached_from s at ask place first count items)
+-- the repair from there
+abbrev pub reworked_from : Kept → ℕ → Repair → MailStore → ℕ → List Item → Cycled
+reworked_from s at repair first count items = reworked_by s at repair items (compared_from repair first count items) (reached_from s at repair first count items)
 
 -- ---- from the base on, over the items as they were read
 
-abbrev pub compared_with : Kept → CycleAsk → ℕ → List Item → List Shown
-compared_with s ask place items = drop (front_of ask place) (answers s.base items)
+abbrev pub compared_with : Kept → Repair → List Item → List Shown
+compared_with s repair items = drop (front_in repair) (answers s.base items)
 
-abbrev pub timeline_with : Kept → ℕ → CycleAsk → ℕ → List Item → List Item
-timeline_with s at ask place items = timeline_by s at ask place items (compared_with s ask place items)
+abbrev pub timeline_with : Kept → ℕ → Repair → List Item → List Item
+timeline_with s at repair items = timeline_by s at repair items (compared_with s repair items)
 
-abbrev pub cycled_with : Kept → ℕ → CycleAsk → ℕ → List Item → Cycled
-cycled_with s at ask place items = cycled_by s at ask place items (compared_with s ask place items) (run s.base (timeline_with s at ask place items))
+abbrev pub reworked_with : Kept → ℕ → Repair → List Item → Cycled
+reworked_with s at repair items = reworked_by s at repair items (compared_with s repair items) (run s.base (timeline_with s at repair items))

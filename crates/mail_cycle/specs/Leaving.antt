@@ -1,5 +1,5 @@
--- What a cycle leaves in memory, and what holds of it.
-use Rattle.std.specs.Prelude.{◌≡◌, ℕ, ◌<◌, ◌≤◌, ◌++◌, List, map, take, Some, IsTrue}
+-- What a repair leaves in memory, and what holds of it.
+use Rattle.std.specs.Prelude.{◌≡◌, ℕ, ◌<◌, ◌≤◌, ◌++◌, List, length, map, take}
 use Rattle.std.specs.List.{AllByRecursion}
 use Rattle.undo_base.specs.declared.limits.TheConstants.{LAST_NUMBER}
 use Rattle.verb_core.specs.declared.item.Item.{Item}
@@ -9,23 +9,22 @@ use Rattle.verb_core.specs.Fates.{IsBase}
 use Rattle.verb_core.specs.Items.{IsTimeline}
 use Rattle.verb_core.specs.Step.{run}
 use Rattle.verb_core.specs.Store.{IsValid, MailStore}
-use Rattle.verb_bytes.specs.declared.journal.CycleAsk.{CycleAsk}
 use Rattle.stored_items.specs.Stored.{AllHeard}
 use Rattle.store_kept.specs.Bases.{HasBase}
 use Rattle.store_kept.specs.Kept.{Kept}
 use Rattle.mail_cycle.specs.declared.settling.Rewound.{Rewound}
-use Rattle.repair_desk.specs.Repairs.{position}
-use Rattle.cycle_rules.specs.Cycles.{Cycled, leaves_numbers, repaired_items}
-use Rattle.mail_cycle.specs.Comparing.{cycled_from, reached_from}
+use Rattle.cycle_rules.specs.Repairing.{Cycled, Repair}
+use Rattle.mail_cycle.specs.Comparing.{reached_from, reworked_from}
 
 -- the items in force that it leaves: the first ones of those before, and those behind them
 abbrev pub items_left : List Item → Rewound → List Item
 items_left before made = take made.from before ++ made.behind
 
--- all parts are those of the cycle, over the items in force before, and the store is the one to which it led
+-- all parts are those that are due, over the items in force before, and the store is the one to which it led
 pub record LeavesAt (before : List Item) (after : MailStore) (due : Cycled) (made : Rewound) : Type 0 where
   pub place : made.place ≡ due.place
   pub timeline : items_left before made ≡ due.timeline
+  pub placed : made.placed ≡ due.placed
   pub stamps : made.stamps ≡ due.stamps
   pub next : made.next ≡ due.next
   pub entered : made.entered ≡ due.entered
@@ -39,28 +38,26 @@ Leaves s due made = LeavesAt s.timeline (run s.base due.timeline) due made
 
 -- From a beginning, a store and a count: the repaired items behind the first so many were performed on the store as they were
 -- read. Only texts of deliveries may be others, and they are none where what is read is what was stored; the first so many are as
--- they were, and stay where they are. What is left is the cycle over these items, behind a place of the timeline.
-pub record IsMadeFrom (s : Kept) (at : ℕ) (ask : CycleAsk) (place : ℕ) (first : MailStore) (count : ℕ) (honest : Type 0) (made : Rewound) : Type 0 where
+-- they were, and stay where they are. What is left is the repair over these items.
+pub record IsMadeFrom (s : Kept) (at : ℕ) (repair : Repair) (first : MailStore) (count : ℕ) (honest : Type 0) (made : Rewound) : Type 0 where
   pub heard : List Item
-  pub all : AllHeard (repaired_items s at ask place) heard
-  pub same : honest → heard ≡ repaired_items s at ask place
+  pub all : AllHeard repair.items heard
+  pub same : honest → heard ≡ repair.items
   pub front : take count heard ≡ take count s.timeline
   pub from : made.from ≡ count
-  pub leaves : LeavesAt s.timeline (reached_from s at ask place first count heard) (cycled_from s at ask place first count heard) made
+  pub leaves : LeavesAt s.timeline (reached_from s at repair first count heard) (reworked_from s at repair first count heard) made
 
--- The same behind the place of the point, which the timeline has, with numbers left, from a beginning at or before it: a valid
--- store of the house, and the one to which the first so many items led, where what is read is what was stored.
-pub record IsMade (s : Kept) (at : ℕ) (ask : CycleAsk) (honest : Type 0) (made : Rewound) : Type 0 where
-  pub place : ℕ
-  pub is_place : position s.timeline ask.point ≡ Some place
-  pub numbers : IsTrue (leaves_numbers s ask)
+-- The same from some beginning at or before the place: a valid store of the house, and the one to which the first so many items led,
+-- where what is read is what was stored.
+pub record IsMade (s : Kept) (at : ℕ) (repair : Repair) (honest : Type 0) (made : Rewound) : Type 0 where
+  pub place : repair.place ≤ length s.timeline
   pub first : MailStore
   pub count : ℕ
-  pub few : count ≤ place
+  pub few : count ≤ repair.place
   pub valid : IsValid first
   pub house : first.house ≡ s.house
   pub led : honest → first ≡ run s.base (take count s.timeline)
-  pub made_from : IsMadeFrom s at ask place first count honest made
+  pub made_from : IsMadeFrom s at repair first count honest made
 
 -- what is left can be gone on with: the items are a timeline with numbers below the next one, the stamps name the mailboxes and
 -- are below it too, it has risen and is one that an item can have, and the items stand on the base, if it carries those before

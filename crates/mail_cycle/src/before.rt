@@ -7,7 +7,8 @@ ghost use Rattle.verb_core.specs.Items.{IsWellFormed};
 ghost use Rattle.verb_core.specs.Store.{IsValid, is_house};
 ghost use Rattle.store_kept.specs.Kept.{store_of};
 ghost use Rattle.repair_desk.specs.Renewals.{renewed};
-ghost use Rattle.repair_desk.specs.Repairs.{are_known, edited_behind, position};
+ghost use Rattle.repair_desk.specs.Repairs.{edited_behind, position};
+ghost use Rattle.mail_cycle.specs.Begun.{IsBegun};
 
 use box_store::Store;
 use paradox::Report;
@@ -33,19 +34,19 @@ pub struct Before<'a> {
 }
 
 impl<'a> Model for Before<'a> {
-    ghost use Rattle.std.specs.Prelude.{false};
+    ghost use Rattle.std.specs.Prelude.{None, false};
     ghost use Rattle.mail_cycle.specs.Begun.{IsBegun};
     ghost use Rattle.store_kept.specs.Kept.{Kept, kept_from, no_marks};
 
     ghost Value = { Kept };
 
-    ghost view = { λ b. kept_from b.base.now b.store.now.store b.timeline.now b.stamps.now b.next b.reports.now no_marks false };
+    ghost view = { λ b. kept_from b.base.now b.store.now.store b.timeline.now b.stamps.now b.next b.reports.now no_marks false None };
 
-    ghost invariant = { λ b. IsBegun (kept_from b.base.now b.store.now.store b.timeline.now b.stamps.now b.next b.reports.now no_marks false) };
+    ghost invariant = { λ b. IsBegun (kept_from b.base.now b.store.now.store b.timeline.now b.stamps.now b.next b.reports.now no_marks false None) };
 }
 
 impl<'a> Before<'a> {
-    ghost use Rattle.std.specs.Prelude.{false};
+    ghost use Rattle.std.specs.Prelude.{None, false};
     ghost use Rattle.store_kept.specs.Kept.{kept_from, no_marks};
 
     /// A store in use.
@@ -62,7 +63,7 @@ impl<'a> Before<'a> {
         requires formed { AllByRecursion (IsWellFormed base.now.house) timeline.now }
         requires named { map (λ (r : TheBoxId × ℕ). r.0) stamps.now ≡ map (λ (r : TheBoxId × TheMailbox). r.0) store.now.store.boxes }
         requires next { next ≤ 4194304 }
-        ensures { result ≡ kept_from base.now store.now.store timeline.now stamps.now next reports.now no_marks false }
+        ensures { result ≡ kept_from base.now store.now.store timeline.now stamps.now next reports.now no_marks false None }
     {
         Before {
             base,
@@ -72,6 +73,13 @@ impl<'a> Before<'a> {
             next,
             reports,
         }
+    }
+
+    /// What holds of each: this does nothing.
+    pub(crate) fn stands(&self)
+        ensures { IsBegun self.now }
+    {
+        let _ = &self.next;
     }
 
     pub(crate) fn house(&self) -> &House
@@ -134,14 +142,12 @@ impl<'a> Before<'a> {
         requires from { from ≤ place }
         requires place { place ≤ length self.now.timeline }
         requires numbers { self.now.next + length ask.now.inserts ≤ LAST_NUMBER }
-        requires acts { IsTrue (are_known self.now.house ask.now.inserts) }
-        ensures edited { IfOk result (λ edited. edited ≡ edited_behind self.now.timeline ask.now self.now.next at from place) }
-        ensures formed { IfOk result (λ edited. AllByRecursion (IsWellFormed self.now.house) edited.items) }
+        ensures { IfOk result (λ edited. edited ≡ edited_behind self.now.timeline ask.now self.now.next at from place) }
     {
         edit_behind(alloc, self.timeline, ask, self.next, at, from, place)
     }
 
-    /// The stamps of the mailboxes that a store has after the cycle.
+    /// The stamps of the mailboxes that a store has afterwards.
     pub(crate) fn renewed(&self, alloc: Global, after: &Store) -> Result<Stamps, NoMemory>
         ensures { IfOk result (λ stamps. stamps ≡ renewed (store_of self.now).boxes after.now.store.boxes self.now.stamps self.now.next) }
     {

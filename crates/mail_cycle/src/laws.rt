@@ -15,11 +15,18 @@ ghost use Rattle.paradox.specs.declared.reports.BrokenItem.{BrokenItem};
 ghost use Rattle.stored_items.specs.Stored.{AllHeard};
 ghost use Rattle.repair_desk.specs.Repairs.{are_known, is_among, is_dropped, numbers_of};
 ghost use Rattle.cycle_rules.specs.Asking.{Rewinds, after_cycle, due_anew};
-ghost use Rattle.cycle_rules.specs.Cycles.{Cycled, broken_at, cycled_at, leaves_numbers, repaired_items, report_at, stamps_at, timeline_at};
-ghost use Rattle.mail_cycle.specs.Comparing.{cycled_from, cycled_with, reached_from, timeline_from, timeline_with};
+ghost use Rattle.cycle_rules.specs.Cycles.{broken_at, cycled_at, leaves_numbers, repair_of, report_at, stamps_at, timeline_at};
+ghost use Rattle.cycle_rules.specs.Repairing.{Cycled, Repair, leaves_numbers_for};
+ghost use Rattle.mail_cycle.specs.Comparing.{reached_from, reworked_from, reworked_with, timeline_from, timeline_with};
 ghost use Rattle.mail_cycle.specs.Leaving.{GoesOn, GoesOnAt};
-ghost use Rattle.mail_cycle.specs.Permanence.{UidsLast};
+ghost use Rattle.mail_cycle.specs.Tasks.{GoesWith};
+ghost use Rattle.mail_cycle.specs.Permanence.{TextsStay, UidsLast};
 ghost use Rattle.mail_cycle.specs.Places.{items_before, reason_at, shown_at, tellings};
+ghost use Rattle.cycle_rules.specs.Withdrawals.{after_withdrawal, unedit_of, withdrawn_at};
+ghost use Rattle.withdraw.specs.declared.undone.UndoneBehind.{UndoneBehind};
+ghost use Rattle.withdraw.specs.Coming.{CanComeBack, TextsComeBack};
+ghost use Rattle.store_kept.specs.Bases.{HasBase};
+ghost use Rattle.store_kept.specs.Coming.{Comes, HasUndone, HasUndoneTexts};
 ghost use Rattle.store_kept.specs.Kept.{Kept, Marks, performed, store_of, upgraded};
 
 /// What a cycle leaves can be gone on with: the items are well formed, their numbers distinct and below the next one, the
@@ -42,26 +49,48 @@ pub fn cycles_leave_states()
     ensures due { (s : Kept) (at : ℕ) (ask : CycleAsk) (due : Cycled) → IsTimeline s.house s.timeline →
         AllByRecursion (λ (i : Item). i.number < s.next) s.timeline → AllByRecursion (λ (r : BoxId × ℕ). r.1 < s.next) s.stamps →
         IsTrue (are_known s.house ask.inserts) → due_anew s at ask ≡ Rewinds due → GoesOn s due }
-    ensures from { (s : Kept) (at : ℕ) (ask : CycleAsk) (place : ℕ) (first : MailStore) (count : ℕ) (heard : List Item) → IsTimeline s.house s.timeline →
-        AllByRecursion (λ (i : Item). i.number < s.next) s.timeline → AllByRecursion (λ (r : BoxId × ℕ). r.1 < s.next) s.stamps →
-        IsTrue (are_known s.house ask.inserts) → count ≤ place → AllHeard (repaired_items s at ask place) heard → leaves_numbers s ask ≡ true →
-        GoesOnAt s (reached_from s at ask place first count heard) (cycled_from s at ask place first count heard) }
-    ensures from_revs { (s : Kept) (at : ℕ) (ask : CycleAsk) (place : ℕ) (first : MailStore) (count : ℕ) (heard : List Item) → AllByRecursion (λ (i : Item). i.rev < s.next) s.timeline →
-        AllHeard (repaired_items s at ask place) heard →
-        AllByRecursion (λ (i : Item). i.rev < (cycled_from s at ask place first count heard).next) (timeline_from s at ask place first count heard) }
+    ensures goes { (s : Kept) (at : ℕ) (ask : CycleAsk) (place : ℕ) → IsTimeline s.house s.timeline →
+        AllByRecursion (λ (i : Item). i.number < s.next) s.timeline → IsTrue (are_known s.house ask.inserts) → GoesWith s (repair_of s at ask place) }
 {}
 
-/// From a beginning at or before the point: the items through it are as they were, and where its store is the one to which they
+/// So can what any repair leaves whose items are a timeline and whose numbers are left, with whatever texts of deliveries were read,
+/// and from whatever store it began at or before its place.
+pub fn repairs_leave_states()
+    ensures from { (s : Kept) (at : ℕ) (repair : Repair) (first : MailStore) (count : ℕ) (heard : List Item) → GoesWith s repair →
+        AllByRecursion (λ (r : BoxId × ℕ). r.1 < s.next) s.stamps → count ≤ repair.place → AllHeard repair.items heard → leaves_numbers_for s repair.acts ≡ true →
+        GoesOnAt s (reached_from s at repair first count heard) (reworked_from s at repair first count heard) }
+    ensures from_revs { (s : Kept) (at : ℕ) (repair : Repair) (first : MailStore) (count : ℕ) (heard : List Item) → AllByRecursion (λ (i : Item). i.rev ≤ s.next) repair.items →
+        AllHeard repair.items heard →
+        AllByRecursion (λ (i : Item). i.rev < (reworked_from s at repair first count heard).next) (timeline_from s at repair first count heard) }
+{}
+
+/// What a withdrawal leaves can be gone on with, where what the last cycle left can come back; and what a cycle leaves can.
+pub fn withdrawals_leave_states()
+    ensures goes { (s : Kept) (last : UndoneBehind) → IsTimeline s.house s.timeline → Comes s.house s.base s.timeline s.next last →
+        AllByRecursion (λ (i : Item). i.number < s.next) s.timeline → GoesWith s (unedit_of s last) }
+    ensures due { (s : Kept) (last : UndoneBehind) → IsTimeline s.house s.timeline → Comes s.house s.base s.timeline s.next last → (at : ℕ) →
+        AllByRecursion (λ (i : Item). i.number < s.next) s.timeline → AllByRecursion (λ (r : BoxId × ℕ). r.1 < s.next) s.stamps →
+        leaves_numbers_for s 0 ≡ true → GoesOn s (withdrawn_at s at last) }
+    ensures revs { (s : Kept) (last : UndoneBehind) → IsTimeline s.house s.timeline → Comes s.house s.base s.timeline s.next last → (at : ℕ) →
+        TextsComeBack s.timeline last → AllByRecursion (λ (i : Item). i.rev < s.next) s.timeline →
+        AllByRecursion (λ (i : Item). i.rev < (withdrawn_at s at last).next) (withdrawn_at s at last).timeline }
+    ensures comes { (s : Kept) (at : ℕ) (ask : CycleAsk) → IsTimeline s.house s.timeline → AllByRecursion (λ (i : Item). i.number < s.next) s.timeline →
+        (due : Cycled) → IsTrue (are_known s.house ask.inserts) → HasBase s → due_anew s at ask ≡ Rewinds due → HasUndone (after_cycle s ask due) }
+    ensures texts_come { (s : Kept) (at : ℕ) (ask : CycleAsk) → IsTimeline s.house s.timeline → AllByRecursion (λ (i : Item). i.number < s.next) s.timeline →
+        (due : Cycled) → AllByRecursion (λ (i : Item). i.rev < s.next) s.timeline → due_anew s at ask ≡ Rewinds due → HasUndoneTexts (after_cycle s ask due) }
+{}
+
+/// From a beginning at or before its place: the items through it are as they were, and where its store is the one to which they
 /// led, all is as from the first item on.
-pub fn cycles_begin_anywhere()
-    ensures front { (s : Kept) (at : ℕ) (ask : CycleAsk) (place : ℕ) (first : MailStore) (count : ℕ) (heard : List Item) → count ≤ place → place ≤ length s.timeline →
-        take count heard ≡ take count s.timeline → take count (timeline_from s at ask place first count heard) ≡ take count s.timeline }
-    ensures alike { (s : Kept) (at : ℕ) (ask : CycleAsk) (place : ℕ) (first : MailStore) (count : ℕ) (heard : List Item) → count ≤ place → place ≤ length s.timeline →
+pub fn repairs_begin_anywhere()
+    ensures front { (s : Kept) (at : ℕ) (repair : Repair) (first : MailStore) (count : ℕ) (heard : List Item) → count ≤ repair.place → repair.place ≤ length s.timeline →
+        take count heard ≡ take count s.timeline → take count (timeline_from s at repair first count heard) ≡ take count s.timeline }
+    ensures alike { (s : Kept) (at : ℕ) (repair : Repair) (first : MailStore) (count : ℕ) (heard : List Item) → count ≤ repair.place → repair.place ≤ length s.timeline →
         take count heard ≡ take count s.timeline → first ≡ run s.base (take count s.timeline) →
-        cycled_from s at ask place first count heard ≡ cycled_with s at ask place heard }
-    ensures store { (s : Kept) (at : ℕ) (ask : CycleAsk) (place : ℕ) (first : MailStore) (count : ℕ) (heard : List Item) → count ≤ place → place ≤ length s.timeline →
+        reworked_from s at repair first count heard ≡ reworked_with s at repair heard }
+    ensures store { (s : Kept) (at : ℕ) (repair : Repair) (first : MailStore) (count : ℕ) (heard : List Item) → count ≤ repair.place → repair.place ≤ length s.timeline →
         take count heard ≡ take count s.timeline → first ≡ run s.base (take count s.timeline) →
-        reached_from s at ask place first count heard ≡ run s.base (timeline_with s at ask place heard) }
+        reached_from s at repair first count heard ≡ run s.base (timeline_with s at repair heard) }
 {}
 
 /// The new timeline has the items through the point, the acts that come in, the later items that stay, and the notices: one to
@@ -113,7 +142,8 @@ pub fn answers_that_are_shown_hold()
 {}
 
 /// What a client that keeps mail by UID knows lasts: over no step at all, over two that follow one another, over each item
-/// with the next number, over each cycle, over an upgrade, and whatever is known of snapshots (RFC 3501, section 2.3.1.1).
+/// with the next number, over each cycle and each withdrawal, over an upgrade, and whatever is known of snapshots (RFC 3501, section
+/// 2.3.1.1).
 pub fn uids_last()
     ensures itself { (s : Kept) → UidsLast s s }
     ensures followed { (a b c : Kept) → UidsLast a b → UidsLast b c → UidsLast a c }
@@ -121,6 +151,19 @@ pub fn uids_last()
         UidsLast s (performed s i) }
     ensures cycle { (s : Kept) (at : ℕ) (ask : CycleAsk) (due : Cycled) → NumbersApart s.timeline → due_anew s at ask ≡ Rewinds due →
         UidsLast s (after_cycle s ask due) }
+    ensures withdrawal { (s : Kept) (at : ℕ) (key : List ℕ) (last : UndoneBehind) → IsTimeline s.house s.timeline → s.undone ≡ Some last →
+        CanComeBack s.house s.timeline last → TextsComeBack s.timeline last → UidsLast s (after_withdrawal s key (withdrawn_at s at last)) }
     ensures upgrade { (s : Kept) → UidsLast s (upgraded s) }
     ensures marks { (s : Kept) (marks : Marks) → UidsLast s (record s { marks = marks }) }
+{}
+
+/// A text that a client may ask for stays what it was, over all but a withdrawal: none comes back that was taken away.
+pub fn texts_stay()
+    ensures itself { (s : Kept) → TextsStay s s }
+    ensures followed { (a b c : Kept) → a.next ≤ b.next → TextsStay a b → TextsStay b c → TextsStay a c }
+    ensures item { (s : Kept) (i : Item) → i.number ≡ s.next → TextsStay s (performed s i) }
+    ensures cycle { (s : Kept) (at : ℕ) (ask : CycleAsk) (due : Cycled) → NumbersApart s.timeline → due_anew s at ask ≡ Rewinds due →
+        TextsStay s (after_cycle s ask due) }
+    ensures upgrade { (s : Kept) → TextsStay s (upgraded s) }
+    ensures marks { (s : Kept) (marks : Marks) → TextsStay s (record s { marks = marks }) }
 {}

@@ -1,52 +1,53 @@
-//! The end of a cycle: what replayed items show is compared with what users were shown, users are told, and all is put together.
-ghost use Rattle.std.specs.Prelude.{◌≡◌, ◌+◌, ◌-◌, ◌≤◌, ◌++◌, drop, length, take, IfOk, IsTrue, OnErr, OnOk};
+//! The end of a repair: what replayed items show is compared with what users were shown, users are told, and all is put together.
+ghost use Rattle.std.specs.Prelude.{◌≡◌, ◌+◌, ◌-◌, ◌≤◌, ◌++◌, drop, length, IfOk, OnErr, OnOk};
 ghost use Rattle.std.specs.List.{AllByRecursion};
 ghost use Rattle.verb_core.specs.Items.{IsWellFormed};
-ghost use Rattle.verb_core.specs.Step.{answers, run, step};
-ghost use Rattle.verb_core.specs.Store.{IsValid, MailStore};
+ghost use Rattle.verb_core.specs.Step.{run, step};
+ghost use Rattle.verb_core.specs.Store.{IsValid};
 ghost use Rattle.store_kept.specs.Kept.{store_of};
 ghost use Rattle.repair_desk.specs.Renewals.{renewed as renewed_stamps};
-ghost use Rattle.repair_desk.specs.Repairs.{edited_at};
-ghost use Rattle.cycle_rules.specs.Cycles.{leaves_numbers, renewed_by as renewed_in};
-ghost use Rattle.mail_cycle.specs.Comparing.{cycled_from, reached_from};
+ghost use Rattle.cycle_rules.specs.Repairing.{renewed_by as renewed_in};
 ghost use Rattle.cycle_rules.specs.Judging.{shown_after};
-ghost use Rattle.mail_cycle.specs.Leaving.{LeavesAt};
+ghost use Rattle.mail_cycle.specs.Reaching.{AreRepairs, Settles};
 
-use crate::Before;
 use crate::judge::behind;
 use crate::report::renewed_by;
 use crate::running::Replayed;
 use crate::showing::show;
 use crate::telling::{Told, tell_users};
+use crate::{Before, Due};
 use box_store::{Steps, Store};
 use paradox::{BrokenList, Renewals, Report};
 use std::alloc::Global;
 use std::sync::ledger::Ledger;
 use stored_items::{StoredItem, StoredItems};
-use undo_base::{LAST_MOMENT, LAST_NUMBER, NoMemory, Numbers};
-use verb_bytes::CycleAsk;
+use undo_base::{NoMemory, Numbers};
 use verb_core::laws::steps_keep_validity;
 use verb_core::{Item, Items, Shown, Stamps};
 
-/// What a cycle leaves: the store, the place of its point, how many of the first items stay as they are and the items in force
-/// behind them, the stamp of each mailbox, the next number, how many items entered, acts and notices, and the report.
+/// What a repair leaves: the store, the place behind which all is performed anew, how many of the first items stay as they are and
+/// the items in force behind them, how many stand before its notices, the stamp of each mailbox, the next number, how many items
+/// entered, acts and notices, and the report.
 #[derive(Drop)]
 pub struct Rewound {
     pub store: Store,
     pub place: u32,
     pub from: usize,
     pub behind: StoredItems,
+    pub placed: u32,
     pub stamps: Stamps,
     pub next: u32,
     pub entered: u32,
     pub report: Report,
 }
 
-/// What is told of the repairs: how many of the later items stayed, and the asked numbers that did nothing.
+/// What is told of a repair: how many of the first items stay where they are, how many of the later items stayed, and the asked
+/// numbers that did nothing.
 #[derive(Drop)]
-pub struct Repairs {
-    pub kept: u32,
-    pub unmatched: Numbers,
+pub(crate) struct Repairs {
+    pub(crate) from: usize,
+    pub(crate) kept: u32,
+    pub(crate) unmatched: Numbers,
 }
 
 /// Items, and notices behind them.
@@ -142,7 +143,7 @@ fn performed<L: Ledger>(
     }
 }
 
-/// The stamps after the cycle, and the mailboxes to which it gave one.
+/// The stamps afterwards, and the mailboxes to which the repair gave one.
 #[derive(Drop)]
 struct Marks {
     stamps: Stamps,
@@ -198,12 +199,13 @@ fn lead<L: Ledger>(
     }
 }
 
-/// What is told of a cycle, but for the stamps, with the place of its point, how many of the first items stay, the next number,
-/// and how many items entered.
+/// What is told of a repair, but for the stamps, with its place, how many of the first items stay, how many stand before the notices,
+/// the next number, and how many items entered.
 #[derive(Drop)]
 struct Found {
     place: u32,
     from: usize,
+    placed: u32,
     next: u32,
     entered: u32,
     kept: u32,
@@ -223,6 +225,7 @@ fn finish(
     ensures store { IfOk result (λ made. made.store.store ≡ led.store.store) }
     ensures from { IfOk result (λ made. made.from ≡ found.from) }
     ensures behind { IfOk result (λ made. made.behind ≡ led.items) }
+    ensures placed { IfOk result (λ made. made.placed ≡ found.placed) }
     ensures stamps { IfOk result (λ made. made.stamps ≡ renewed_stamps (store_of before.now).boxes made.store.store.boxes before.now.stamps before.now.next) }
     ensures place { IfOk result (λ made. made.place ≡ found.place) }
     ensures next { IfOk result (λ made. made.next ≡ found.next) }
@@ -243,6 +246,7 @@ fn finish(
             place: found.place,
             from: found.from,
             behind: led.items,
+            placed: found.placed,
             stamps: marks.stamps,
             next: found.next,
             entered: found.entered,
@@ -270,97 +274,93 @@ fn short(place: usize) -> Result<u32, NoMemory>
     }
 }
 
+/// How many items two counts are, in 32 bits.
+fn both(first: usize, second: usize) -> Result<u32, NoMemory>
+    ensures { IfOk result (λ count. count ≡ first + second) }
+{
+    match first.checked_add(second) {
+        Some(count) => short(count),
+        None => Err(NoMemory),
+    }
+}
+
 /// Puts all together by what users are told, with the notices performed. The replayed items are those behind the first so many.
 fn close<L: Ledger>(
     alloc: Global,
-    before: &Before<'_>,
-    ask: &CycleAsk,
-    place: usize,
-    from: usize,
+    due: &Due<'_>,
     repairs: Repairs,
     replayed: Replayed,
     told: Told,
     steps: &mut Steps<L>,
 ) -> Result<Rewound, NoMemory>
-    requires numbers { before.now.next + 1 + length ask.now.inserts + length before.now.house.accounts ≤ LAST_NUMBER }
-    requires place { place ≤ length before.now.timeline }
-    requires from { from ≤ place }
+    requires from { repairs.from ≤ due.now.repair.place }
     requires valid { IsValid replayed.store.store }
-    requires few { length told.numbers ≤ length before.now.house.accounts }
+    requires few { length told.numbers ≤ length due.now.kept.house.accounts }
     requires formed { AllByRecursion (IsWellFormed replayed.store.store.house) told.notices }
     ensures store { IfOk result (λ made. made.store.store ≡ run replayed.store.store told.notices) }
     ensures valid { IfOk result (λ made. IsValid made.store.store) }
-    ensures from { IfOk result (λ made. made.from ≡ from) }
-    ensures behind { IfOk result (λ made. made.behind ≡ shown_after (place + length ask.now.inserts - from) replayed.items (drop (length ask.now.inserts) replayed.shows) ++ told.notices) }
-    ensures stamps { IfOk result (λ made. made.stamps ≡ renewed_stamps (store_of before.now).boxes made.store.store.boxes before.now.stamps before.now.next) }
-    ensures place { IfOk result (λ made. made.place ≡ place) }
-    ensures next { IfOk result (λ made. made.next ≡ before.now.next + 1 + length ask.now.inserts + length told.numbers) }
-    ensures entered { IfOk result (λ made. made.entered ≡ length ask.now.inserts + length told.numbers) }
+    ensures from { IfOk result (λ made. made.from ≡ repairs.from) }
+    ensures behind { IfOk result (λ made. made.behind ≡ shown_after (due.now.repair.place + due.now.repair.acts - repairs.from) replayed.items (drop due.now.repair.acts replayed.shows) ++ told.notices) }
+    ensures placed { IfOk result (λ made. made.placed ≡ repairs.from + length replayed.items) }
+    ensures stamps { IfOk result (λ made. made.stamps ≡ renewed_stamps (store_of due.now.kept).boxes made.store.store.boxes due.now.kept.stamps due.now.kept.next) }
+    ensures place { IfOk result (λ made. made.place ≡ due.now.repair.place) }
+    ensures next { IfOk result (λ made. made.next ≡ due.now.kept.next + 1 + due.now.repair.acts + length told.numbers) }
+    ensures entered { IfOk result (λ made. made.entered ≡ due.now.repair.acts + length told.numbers) }
     ensures report { IfOk result (λ made. made.report ≡ record {
-      cycle = before.now.next;
-      point = ask.now.point;
+      cycle = due.now.kept.next;
+      point = due.now.repair.point;
       kept = repairs.kept;
       broken = told.broken;
       notices = told.numbers;
-      renewed = renewed_in before.now.next made.stamps;
+      renewed = renewed_in due.now.kept.next made.stamps;
       unmatched = repairs.unmatched;
     }) }
     ensures steps { IfOk result (λ made. steps.new ≤ steps.old + length told.notices) }
     ensures most { OnErr result (steps.new ≤ steps.old + length told.notices) }
 {
-    let inserts = ask.inserts.len();
-    let front = before.front_with(place, inserts) - from;
-    let entered = inserts as u32 + told.numbers.len() as u32;
+    due.stands();
+    let acts = due.acts();
+    let front = due.front() - repairs.from;
+    let entered = acts as u32 + told.numbers.len() as u32;
     let found = Found {
-        place: short(place)?,
-        from,
-        next: before.next() + 1 + entered,
+        place: short(due.place())?,
+        from: repairs.from,
+        placed: both(repairs.from, replayed.items.len())?,
+        next: due.before().next() + 1 + entered,
         entered,
         kept: repairs.kept,
         broken: told.broken,
         notices: told.numbers,
         unmatched: repairs.unmatched,
     };
-    match lead(alloc, front, inserts, replayed, told.notices, steps) {
-        Ok(led) => finish(alloc, before, ask.point, led, found),
+    match lead(alloc, front, acts, replayed, told.notices, steps) {
+        Ok(led) => finish(alloc, due.before(), due.point(), led, found),
         Err(NoMemory) => Err(NoMemory),
     }
 }
 
-/// What the cycle leaves behind a place, from the repaired items behind a beginning as they were read, the store that they lead to
-/// and the answers that those behind the place gave: the broken and the withdrawn items, what the broken ones show, the notices, which are
+/// What a repair leaves, from the repaired items behind a beginning as they were read, the store that they lead to and the answers
+/// that those behind the place gave: the broken and the withdrawn items, what the broken ones show, the notices, which are
 /// performed, the stamps and the report. The items before the beginning stay as they are. In time that grows as the items behind
 /// the beginning, those of the timeline behind the place, and the mailboxes.
-pub fn settle<L: Ledger>(
+pub(crate) fn settle<L: Ledger>(
     alloc: Global,
-    before: &Before<'_>,
-    at: u64,
-    ask: &CycleAsk,
-    place: usize,
-    from: usize,
+    due: &Due<'_>,
     repairs: Repairs,
     replayed: Replayed,
     steps: &mut Steps<L>,
 ) -> Result<Rewound, NoMemory>
-    requires moment { at ≤ LAST_MOMENT }
-    requires numbers { IsTrue (leaves_numbers before.now ask.now) }
-    requires place { place ≤ length before.now.timeline }
-    requires kept { repairs.kept ≡ (edited_at before.now.timeline ask.now before.now.next at place).kept }
-    requires unmatched { repairs.unmatched ≡ (edited_at before.now.timeline ask.now before.now.next at place).unmatched }
+    requires repairs { AreRepairs due.now repairs }
     requires valid { IsValid replayed.store.store }
-    requires house { replayed.store.store.house ≡ before.now.house }
-    requires from { from ≤ place }
-    ensures from { IfOk result (λ made. made.from ≡ from) }
-    ensures made { (first : MailStore) → replayed.store.store ≡ run first replayed.items → replayed.shows ≡ drop (place - from) (answers first replayed.items) →
-        IfOk result (LeavesAt before.now.timeline (reached_from before.now at ask.now place first from (take from before.now.timeline ++ replayed.items))
-        (cycled_from before.now at ask.now place first from (take from before.now.timeline ++ replayed.items))) }
+    requires house { replayed.store.store.house ≡ due.now.kept.house }
+    requires long { repairs.from + length replayed.items ≡ length due.now.repair.items }
+    ensures settles { Settles due.now repairs.from replayed.items replayed result }
     ensures steps { IfOk result (λ made. steps.new ≤ steps.old + length made.report.notices) }
-    ensures most { OnErr result (steps.new ≤ steps.old + length before.now.house.accounts) }
+    ensures most { OnErr result (steps.new ≤ steps.old + length due.now.kept.house.accounts) }
 {
-    match tell_users(alloc, before, at, ask, place, replayed.shows.as_slice()) {
-        Ok(told) => close(
-            alloc, before, ask, place, from, repairs, replayed, told, steps,
-        ),
+    due.stands();
+    match tell_users(alloc, due, replayed.shows.as_slice()) {
+        Ok(told) => close(alloc, due, repairs, replayed, told, steps),
         Err(NoMemory) => Err(NoMemory),
     }
 }

@@ -2,6 +2,7 @@ use Rattle.std.proofs.Common.{◌∙◌, ◌-◌, List, ap, arith, length, subst
 use Rattle.std.proofs.lemmas.List.{length-take-le}
 use Rattle.std.specs.List.{AllByRecursion}
 use Rattle.verb_core.specs.declared.item.Item.{Item}
+use Rattle.stored_items.specs.Stored.{AllHeard}
 use Rattle.replay_crew.specs.Hearing.{HoldsOf, StoresOf}
 use Rattle.replay_crew.proofs.Loops.{at_err}
 use Rattle.mail_cycle.proofs.Told.{all_held, all_stored, front_told}
@@ -14,13 +15,21 @@ replay_in_order-requires-clause-held g c =
     let items = c.args.edited.items in
     subst (AllByRecursion (HoldsOf told)) (sym c.in-Ok.ensures.front) (all_held told (take rest items) (front_told told rest items c.requires.texts))
 
-pub returns-in_ok-made-in-Ok-clause-same : goal.returns-in_ok-made-in-Ok-clause-same
-returns-in_ok-made-in-Ok-clause-same g c = λ is.
+pub returns-in_ok-made-in-Ok-clause-passes : goal.returns-in_ok-made-in-Ok-clause-passes
+returns-in_ok-made-in-Ok-clause-passes g c =
     let told = g.B.Bodies.told c.args.bodies.now in
     let rest = c.args.place - c.args.first.count in
     let items = c.args.edited.items in
-    c.in_ok-made-in-Ok.ensures.same is (subst (AllByRecursion (StoresOf told)) (sym c.in-Ok.ensures.front) (all_stored told (take rest items) is (front_told told rest items c.requires.texts)))
-    ∙ c.in-Ok.ensures.front
+    let made = c.in_ok-made-in-Ok.made in
+    let done = c.in_ok-made-in-Ok.ensures in
+    let front = c.in-Ok.ensures.front in
+    record {
+      heard = subst (λ (t : List Item). AllHeard t made.items) front done.heard;
+      same = λ is. done.same is (subst (AllByRecursion (StoresOf told)) (sym front) (all_stored told (take rest items) is (front_told told rest items c.requires.texts))) ∙ front;
+      store = done.store;
+      valid = done.valid;
+      later = c.in-Ok.ensures.later;
+    }
 
 pub returns-in_err-made-in-Ok-clause-most : goal.returns-in_err-made-in-Ok-clause-most
 returns-in_err-made-in-Ok-clause-most g c =
