@@ -1,5 +1,5 @@
 -- The texts of bodies, by the items that brought them.
-use Rattle.std.proofs.Common.{◌≡◌, ◌≢◌, ℕ, ◌==◌, Bool, true, false, ◌&&◌, cond, List, [], ◌∷◌, ◌++◌, length, map, find, Option, None, Some, is_some, option_map, option_and_then, refl, ap, sym, ◌∙◌, arith}
+use Rattle.std.proofs.Common.{◌≡◌, ◌≢◌, ℕ, zero, suc, ◌==◌, Bool, true, false, ◌&&◌, cond, List, [], ◌∷◌, ◌++◌, drop, length, map, find, Option, None, Some, is_some, option_map, option_and_then, refl, ap, sym, ◌∙◌, arith}
 use Rattle.std.specs.List.{AllByRecursion}
 use Rattle.std.specs.Cmp.{second_so}
 use Rattle.std.proofs.lemmas.Bool.Decides.{nat_tests}
@@ -13,6 +13,7 @@ use Rattle.shelf.specs.declared.note.Note.{Note}
 use Rattle.shelf.specs.Notes.{note_of, same_body, size_of}
 use Rattle.stored_items.specs.Stored.{stored}
 use Rattle.stored_items.proofs.Whole.{notice_kept}
+use Rattle.mail_desk.specs.Noting.{IsNotedIn}
 use Rattle.mail_desk.specs.Timeline.{item_of, body_of, has_text, notice_text_of, notice_told_by, told_by, unshown, NotesText, SizesOf}
 use Rattle.mail_desk.proofs.Timelines.{all_weaker, unequal}
 
@@ -183,20 +184,72 @@ none_either : (b : Bool) → ◌≡◌ {A = Option (List ℕ)} (cond b None None
 none_either true = refl
 none_either false = refl
 
--- the sizes of the texts that were there, and of the one that an item of another number brings
-pub sizes_on : (t : List Item) (i : Item) (place : Place) (from : ℕ) (old new : List (Body × Note)) → AllByRecursion (λ (j : Item). i.number ≢ j.number) t
-    → (o : Option (List ℕ)) → text_in i.deed ≡ o → NotesText o (body_of i) place from old new → SizesOf old t → SizesOf new (t ++ i ∷ [])
-sizes_on t i place from old new others None brought noted sizes body =
-    ap (λ (n : List (Body × Note)). size_of n body) noted ∙ sizes body
-    ∙ ap (option_map length) (sym (text_more t i body ∙ ap (λ o. cond (is_some (text_of t body)) (text_of t body) o) (text_single i body ∙ ap (λ o. cond (same_body (body_of i) body) o None) brought ∙ none_either (same_body (body_of i) body)) ∙ or_none (text_of t body)))
-sizes_on t i place from old new others (Some text) brought noted sizes body =
+-- the text of the first items, or else of those behind
+pub text_joined : (t later : List Item) (body : Body) → text_of (t ++ later) body ≡ cond (is_some (text_of t body)) (text_of t body) (text_of later body)
+text_joined [] later body = refl
+text_joined (j ∷ t) later body =
+    through (λ (k : Item). text_in k.deed) (brings body j) j (find (brings body) (t ++ later))
+    ∙ ap (cond (brings body j) (text_in j.deed)) (text_joined t later body)
+    ∙ first_or (brings body j) (text_in j.deed) (text_of t body) (text_of later body) (λ e. second_so ((j.number == body.origin) && (j.rev == body.rev)) (is_some (text_in j.deed)) e)
+    ∙ ap (λ (o : Option (List ℕ)). cond (is_some o) o (text_of later body)) (sym (through (λ (k : Item). text_in k.deed) (brings body j) j (find (brings body) t)))
+
+-- an item that says nothing of a body leaves its text there
+text_between : (t later : List Item) (i : Item) (body : Body) → text_of (i ∷ []) body ≡ None → text_of ((t ++ i ∷ []) ++ later) body ≡ text_of (t ++ later) body
+text_between t later i body none =
+    let same : text_of (t ++ i ∷ []) body ≡ text_of t body = text_more t i body ∙ ap (λ (o : Option (List ℕ)). cond (is_some (text_of t body)) (text_of t body) o) none ∙ or_none (text_of t body) in
+    text_joined (t ++ i ∷ []) later body
+    ∙ ap (λ (o : Option (List ℕ)). cond (is_some o) o (text_of later body)) same
+    ∙ sym (text_joined t later body)
+
+-- an item of another number than those before it tells its text
+text_within : (t later : List Item) (i : Item) (body : Body) (text : List ℕ) → text_of t body ≡ None → text_of (i ∷ []) body ≡ Some text → text_of ((t ++ i ∷ []) ++ later) body ≡ Some text
+text_within t later i body text none here =
+    let own : text_of (t ++ i ∷ []) body ≡ Some text = text_more t i body ∙ ap (λ (o : Option (List ℕ)). cond (is_some o) o (text_of (i ∷ []) body)) none ∙ here in
+    text_joined (t ++ i ∷ []) later body ∙ ap (λ (o : Option (List ℕ)). cond (is_some o) o (text_of later body)) own
+
+-- the sizes of the texts that were there, and of the one that an item brings whose number is another than those before it
+pub sizes_on : (t later : List Item) (i : Item) (place : Place) (from : ℕ) (old new : List (Body × Note)) → AllByRecursion (λ (j : Item). i.number ≢ j.number) t
+    → (o : Option (List ℕ)) → text_in i.deed ≡ o → NotesText o (body_of i) place from old new → SizesOf old (t ++ later) → SizesOf new ((t ++ i ∷ []) ++ later)
+sizes_on t later i place from old new others None brought noted sizes body =
+    let none : text_of (i ∷ []) body ≡ None = text_single i body ∙ ap (λ o. cond (same_body (body_of i) body) o None) brought ∙ none_either (same_body (body_of i) body) in
+    ap (λ (n : List (Body × Note)). size_of n body) noted ∙ sizes body ∙ ap (option_map length) (sym (text_between t later i body none))
+sizes_on t later i place from old new others (Some text) brought noted sizes body =
+    let own : text_of (i ∷ []) body ≡ cond (same_body (body_of i) body) (Some text) None = text_single i body ∙ ap (λ o. cond (same_body (body_of i) body) o None) brought in
     ap (option_map (λ (note : Note). note.length)) (noted body)
     ∙ mapped (λ (note : Note). note.length) (same_body (body_of i) body) (Some (record { place = place; from = from; length = length text })) (note_of old body)
-    ∙ elim (same_body (body_of i) body) as (λ b. same_body (body_of i) body ≡ b → cond b (Some (length text)) (size_of old body) ≡ option_map length (cond (is_some (text_of t body)) (text_of t body) (cond b (Some text) None))) [
-      | true ↦ λ e.
+    ∙ elim (same_body (body_of i) body) as (λ b. same_body (body_of i) body ≡ b → text_of (i ∷ []) body ≡ cond b (Some text) None → cond b (Some (length text)) (size_of old body) ≡ option_map length (text_of ((t ++ i ∷ []) ++ later) body)) [
+      | true ↦ λ e here.
           let same : i.number ≡ body.origin = grind (arith, nat_tests) in
-          let none : text_of t body ≡ None = none_numbered t body i.number others same in
-          ap (λ (o : Option (List ℕ)). option_map length (cond (is_some o) o (Some text))) (sym none)
-      | false ↦ λ e. sizes body ∙ ap (option_map length) (sym (or_none (text_of t body)))
-    ] refl
-    ∙ ap (option_map length) (sym (text_more t i body ∙ ap (λ o. cond (is_some (text_of t body)) (text_of t body) o) (text_single i body ∙ ap (λ o. cond (same_body (body_of i) body) o None) brought)))
+          ap (option_map length) (sym (text_within t later i body text (none_numbered t body i.number others same) here))
+      | false ↦ λ e here. sizes body ∙ ap (option_map length) (sym (text_between t later i body here))
+    ] refl own
+
+-- ---- notes
+
+-- of the first items
+pub all_first : {X : Type 0} (P : X → Type 0) (xs ys : List X) → AllByRecursion P (xs ++ ys) → AllByRecursion P xs
+all_first P [] ys all = tt
+all_first P (x ∷ xs) ys all = (all.0, all_first P xs ys all.1)
+
+-- and of the last
+pub all_last : {X : Type 0} (P : X → Type 0) (xs ys : List X) → AllByRecursion P (xs ++ ys) → AllByRecursion P ys
+all_last P [] ys all = all
+all_last P (x ∷ xs) ys all = all_last P xs ys all.1
+
+pub all_dropped : {X : Type 0} (P : X → Type 0) (n : ℕ) (xs : List X) → AllByRecursion P xs → AllByRecursion P (drop n xs)
+all_dropped P zero xs all = all
+all_dropped P (suc n) [] all = tt
+all_dropped P (suc n) (x ∷ xs) all = all_dropped P n xs all.1
+
+-- what has a size has a note
+measured : {A : Type 0} (f : A → ℕ) (o : Option A) → is_some (option_map f o) ≡ is_some o
+measured f None = refl
+measured f (Some x) = refl
+
+-- where sizes are noted the texts of the items have notes
+pub all_noted : (notes : List (Body × Note)) (t later : List Item) → SizesOf notes (t ++ later) → AllByRecursion (IsNotedIn notes) t
+all_noted notes t later sizes =
+    all_weaker (λ (i : Item). is_some (text_in i.deed) ≡ true → has_text (t ++ later) (body_of i) ≡ true) (IsNotedIn notes)
+    (λ (i : Item) own some.
+    sym (measured (λ (note : Note). note.length) (note_of notes (body_of i))) ∙ ap is_some (sizes (body_of i)) ∙ measured length (text_of (t ++ later) (body_of i)) ∙ own some)
+    t (all_first (λ (i : Item). is_some (text_in i.deed) ≡ true → has_text (t ++ later) (body_of i) ≡ true) t later (own_texts (t ++ later)))

@@ -1,5 +1,5 @@
 -- The desk at first, and what every desk has.
-use Rattle.std.proofs.Common.{◌≡◌, ℕ, ◌-◌, ◌<◌, ◌≤◌, Bool, true, false, ◌&&◌, List, [], ◌∷◌, map, flat_map, option_map, is_some, refl, ap, sym, ◌∙◌, arith, length, nat_le}
+use Rattle.std.proofs.Common.{◌≡◌, ℕ, ◌-◌, ◌<◌, ◌≤◌, Bool, true, false, None, ◌&&◌, List, [], ◌∷◌, map, flat_map, option_map, is_some, refl, ap, sym, ◌∙◌, arith, length, nat_le}
 use Rattle.std.specs.List.{AllByRecursion, list_all}
 use Rattle.std.specs.Cmp.{first_so, second_so}
 use Rattle.std.proofs.lemmas.Bool.{leb-true}
@@ -45,10 +45,10 @@ first_bounds house sound =
 -- the parts of a new desk, as they were made
 pub new_desk_is : (origin : Origin) (store : MailStore) (stamps : List (BoxId × ℕ)) (first : ℕ) (timeline : List Item) (reports : Reports) (marks : List (ℕ × Place)) → origin ≡ opening_origin origin.house origin.opening
     → store ≡ origin.base → stamps ≡ opening_stamps origin.base → first ≡ origin.house.first → timeline ≡ [] → reports ≡ [] → marks ≡ []
-    → kept_from origin store timeline stamps first reports (marks_kept 0 0 marks) false ≡ new_desk origin.house origin.opening
+    → kept_from origin store timeline stamps first reports (marks_kept 0 0 marks) false None ≡ new_desk origin.house origin.opening
 new_desk_is origin store stamps first timeline reports marks made stored stamped numbered empty none unmarked =
-    (λ j. kept_from origin (stored j) (empty j) (stamped j) (numbered j) (none j) (marks_kept 0 0 (unmarked j)) false)
-    ∙ ap (λ (o : Origin). kept_from (record origin { base = o.base }) o.base [] (opening_stamps o.base) origin.house.first [] (marks_kept 0 0 []) false) made
+    (λ j. kept_from origin (stored j) (empty j) (stamped j) (numbered j) (none j) (marks_kept 0 0 (unmarked j)) false None)
+    ∙ ap (λ (o : Origin). kept_from (record origin { base = o.base }) o.base [] (opening_stamps o.base) origin.house.first [] (marks_kept 0 0 []) false None) made
 
 -- the opening store carries any timeline
 pub base_opening : (house : House) (conf : Conf) → is_house house ≡ true → list_all (λ a. list_all (is_known house) a.users) conf.aliases ≡ true → HasBase (new_desk house conf)
@@ -86,6 +86,7 @@ new_desk_holds house conf sound aliases filters valid named =
       below = tt;
       reports = refl;
       texts = empty_boxes (has_text []) (users_of house);
+      undone = tt;
     }
 
 -- it is a desk still where names may have superiors
@@ -106,6 +107,7 @@ upgraded_holds kept is = record {
   below = is.below;
   reports = is.reports;
   texts = is.texts;
+  undone = is.undone;
 }
 
 -- nothing is noted, and no item brought a text

@@ -31,6 +31,7 @@ use Rattle.mail_desk.specs.Desk.{IsDesk}
 use Rattle.store_kept.specs.Kept.{Kept, performed}
 use Rattle.mail_desk.specs.Timeline.{body_of, has_text, unshown}
 use Rattle.store_kept.specs.Bases.{HasBase}
+use Rattle.store_kept.specs.Coming.{HasUndone}
 use Rattle.store_kept.specs.Texts.{all_bodies, has_text_among, text_before as text_at_first}
 use Rattle.mail_desk.proofs.BodyTexts.{has_unshown, own_texts, text_added, text_before, text_behind, text_stays}
 use Rattle.mail_desk.proofs.Bases.{base_goes_on}
@@ -217,10 +218,14 @@ fresh_on : (number next : ℕ) (boxes : Boxes) (stamps : List (BoxId × ℕ)) �
 fresh_on number next [] stamps is below = tt
 fresh_on number next (b ∷ boxes) stamps is below = (fresh_at number next b.0 stamps is below, fresh_on number next boxes stamps is below)
 
+-- what can be withdrawn can be once an item more was performed
+abbrev pub UndoneStays : Type 0
+UndoneStays = (kept : Kept) (item : Item) → item.number ≡ kept.next → HasUndone kept → HasUndone (performed kept item)
+
 -- what is kept with an item more
-pub desk_goes_on : MailIsKept → StepsKeep → StampsAreNamed → (kept : Kept) (item : Item) → IsDesk kept → IsWellFormed kept.house item → item.number ≡ kept.next → kept.next < 4194304
+pub desk_goes_on : MailIsKept → StepsKeep → StampsAreNamed → UndoneStays → (kept : Kept) (item : Item) → IsDesk kept → IsWellFormed kept.house item → item.number ≡ kept.next → kept.next < 4194304
     → IsDesk (performed kept item)
-desk_goes_on keeps stays named kept item is in_house number left =
+desk_goes_on keeps stays named undone kept item is in_house number left =
     let formed : IsWellFormed kept.store.house item = subst (λ (h : House). IsWellFormed h item) (sym is.house_is) in_house in
     let since : kept.marks.since ≤ kept.next = is.since in
     record {
@@ -239,6 +244,7 @@ desk_goes_on keeps stays named kept item is in_house number left =
       below = below_on kept.next kept.timeline item is.below number;
       reports = is.reports;
       texts = step_known keeps (has_text (kept.timeline ++ item ∷ [])) kept.store item is.valid formed (more_known kept.timeline item kept.store.boxes is.texts) (text_added kept.timeline item);
+      undone = undone kept item number is.undone;
     }
 
 -- ---- the base

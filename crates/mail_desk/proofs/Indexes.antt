@@ -185,6 +185,13 @@ still_kept rows kept t front n index le are is =
     subst (λ (rs : List (ℕ × ℕ)). HasPlaces rs front (length front)) (sym are)
     (subst (λ (f : List Item). HasPlaces (filter (λ (r : ℕ × ℕ). nat_lt r.1 n) rows) f (length f)) (sym is) (places_kept rows t n index le))
 
+-- the first of the first ones
+pub taken_twice : {X : Type 0} (n m : ℕ) (xs : List X) → n ≤ m → take n (take m xs) ≡ take n xs
+taken_twice zero m xs le = refl
+taken_twice (suc n) zero xs le = absurd (omega (arith, le))
+taken_twice (suc n) (suc m) [] le = refl
+taken_twice (suc n) (suc m) (x ∷ xs) le = ap (λ (t : List _). x ∷ t) (taken_twice n m xs (omega (arith, le)))
+
 -- sorted they are an index
 pub index_sorted : (rows sorted : List (ℕ × ℕ)) (t : List Item) → HasPlaces rows t (length t) → IsNonDecreasingBy (λ (r : ℕ × ℕ). r.0) sorted → IsPermutation rows sorted → IsIndex sorted t
 index_sorted rows sorted t places ordered same = record {

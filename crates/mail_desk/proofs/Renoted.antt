@@ -1,5 +1,5 @@
 -- Where the texts of items in any order lie after a cycle.
-use Rattle.std.proofs.Common.{◌≡◌, ◌≢◌, inl, inr, ℕ, ◌+◌, ◌<◌, ◌==◌, Bool, true, false, ◌&&◌, cond, List, [], ◌∷◌, length, find, get_or, Option, None, Some, is_some, option_map, option_and_then, Result, Ok, Err, IfOk, refl, ap, sym, subst, ◌∙◌, arith}
+use Rattle.std.proofs.Common.{◌≡◌, ◌≢◌, inl, inr, ℕ, ◌+◌, ◌<◌, ◌==◌, Bool, true, false, ◌&&◌, cond, List, [], ◌∷◌, ◌++◌, length, find, get_or, Option, None, Some, is_some, option_map, option_and_then, Result, Ok, Err, IfOk, refl, ap, sym, subst, ◌∙◌, arith}
 use Rattle.std.specs.List.{All, AllByRecursion, Contains, cons_option}
 use Rattle.std.specs.List.Sorted.{IsPermutation}
 use Rattle.std.specs.Option.{option_or}
@@ -7,7 +7,7 @@ use Rattle.std.specs.Cmp.{first_so}
 use Rattle.std.proofs.lemmas.Bool.{cases_order}
 use Rattle.std.proofs.lemmas.Bool.Decides.{nat_tests}
 use Rattle.std.proofs.lemmas.List.{get_or_default}
-use Rattle.std.proofs.lemmas.List.Elements.{All-contains, All-from_recursion, Contains-append_right, Contains-get_or}
+use Rattle.std.proofs.lemmas.List.Elements.{All-contains, All-from_recursion, Contains-append_right, Contains-get_or, filter_map-append}
 use Rattle.std.proofs.lemmas.List.Sorted.{All-permutation, Contains-permutation}
 use Rattle.verb_core.specs.declared.item.Item.{Item}
 use Rattle.verb_core.specs.declared.mailbox.Body.{Body}
@@ -16,10 +16,10 @@ use Rattle.verb_core.specs.Items.{NumbersApart, text_in, text_of}
 use Rattle.shelf.specs.declared.note.Note.{Note}
 use Rattle.shelf.specs.Notes.{Noted, note_of, same_body}
 use Rattle.mail_desk.specs.declared.noting.Fresh.{Fresh}
-use Rattle.mail_desk.specs.Noting.{IsNotedBy, Knows, note_by, noted_by, notice_note, renoted, rows_by}
-use Rattle.mail_desk.specs.Timeline.{SizesOf, body_of, item_of, notice_text_of, notice_told_by}
-use Rattle.mail_desk.proofs.BodyTexts.{brings, itself, through}
-use Rattle.mail_desk.proofs.Timelines.{unequal}
+use Rattle.mail_desk.specs.Noting.{IsNotedBy, IsNotedIn, Knows, note_by, noted_by, notice_note, renoted, rows_by}
+use Rattle.mail_desk.specs.Timeline.{SizesOf, body_of, has_text, item_of, notice_text_of, notice_told_by}
+use Rattle.mail_desk.proofs.BodyTexts.{all_first, all_last, brings, itself, own_texts, text_joined, through}
+use Rattle.mail_desk.proofs.Timelines.{all_joined, all_weaker, unequal}
 
 abbrev Row : Type 0
 Row = Body × Note
@@ -181,13 +181,95 @@ module _ (old : List Row) (fresh : Fresh) where
         | false ↦ λ own told. let row = text_row t body text noted.1 told in (row.0, later (noted_by old fresh i) (rows_by old fresh t) (body, row.0) row.1)
       ] refl (sym (through (λ (k : Item). text_in k.deed) (brings body i) i (find (brings body) t)) ∙ e)
 
+  -- ---- and those that can come back
+
+  some_of : {A : Type 0} (o : Option A) → is_some o ≡ true → (x : A) × (o ≡ Some x)
+  some_of None some = absurd (let wrong : false ≡ true = some in cc)
+  some_of (Some x) some = (x, refl)
+
+  had_first : (i : Item) (text : List ℕ) (note : Note) → note_of old (body_of i) ≡ Some note → note_by old fresh i text ≡ Some note
+  had_first i text note had = ap (λ (o : Option Note). option_or o (option_or (note_of fresh.shelf.notes (body_of i)) (cond (is_notice i.deed) (Some (notice_note fresh.place text)) None))) had
+
+  -- a note that was there has the length of the text
+  had_length : (t : List Item) (body : Body) (text : List ℕ) (note : Note) → AllByRecursion (IsNotedBy old fresh) t → text_of t body ≡ Some text → note_of old body ≡ Some note → note.length ≡ length text
+  had_length [] body text note noted e had = absurd (let wrong : ◌≡◌ {A = Option (List ℕ)} None (Some text) = e in cc)
+  had_length (i ∷ t) body text note noted e had =
+      elim (brings body i) as (λ b. brings body i ≡ b → cond b (text_in i.deed) (text_of t body) ≡ Some text → note.length ≡ length text) [
+        | true ↦ λ own told.
+            let is : body_of i ≡ body = same_is (body_of i) body (first_so (same_body (body_of i) body) (is_some (text_in i.deed)) own) in
+            let row = noted_row i text told noted.0 in
+            let same : ◌≡◌ {A = Option Note} (Some note) (Some row.0) = sym (had_first i text note (ap (note_of old) is ∙ had)) ∙ row.1 in
+            let one : note ≡ row.0 = cc in
+            ap (λ (n : Note). n.length) one ∙ row.3
+        | false ↦ λ own told. had_length t body text note noted.1 told had
+      ] refl (sym (through (λ (k : Item). text_in k.deed) (brings body i) i (find (brings body) t)) ∙ e)
+
+  -- the item of a body's number is among the first ones, where they have its text
+  item_before : (t later : List Item) (body : Body) → is_some (text_of t body) ≡ true → item_of (t ++ later) body.origin ≡ item_of t body.origin
+  item_before [] later body some = absurd (let wrong : false ≡ true = some in cc)
+  item_before (i ∷ t) later body some =
+      elim (i.number == body.origin) as (λ b. is_some (cond (b && (i.rev == body.rev) && is_some (text_in i.deed)) (text_in i.deed) (text_of t body)) ≡ true → cond b (Some i) (item_of (t ++ later) body.origin) ≡ cond b (Some i) (item_of t body.origin)) [
+        | true ↦ λ has. refl
+        | false ↦ λ has. item_before t later body has
+      ] (sym (ap is_some (through (λ (k : Item). text_in k.deed) (brings body i) i (find (brings body) t))) ∙ some)
+
+  -- a row that is right is so with more items behind
+  right_before : (t later : List Item) (r : Row) → IsRight t r → IsRight (t ++ later) r
+  right_before t later r right =
+      let told = some_text (text_of t r.0) r.1.length right.1 in
+      let text : text_of (t ++ later) r.0 ≡ text_of t r.0 = text_joined t later r.0 ∙ ap (λ (b : Bool). cond b (text_of t r.0) (text_of later r.0)) told in
+      let notice : notice_text_of (t ++ later) r.0 ≡ notice_text_of t r.0 = ap (option_and_then (notice_told_by r.0)) (item_before t later r.0 told) in
+      ((λ j. by_texts r.0 (text j) (notice j)) ∙ right.0, ap (option_map length) text ∙ right.1)
+    where
+      some_text : (o : Option (List ℕ)) (n : ℕ) → option_map length o ≡ Some n → is_some o ≡ true
+      some_text None n e = absurd (let wrong : ◌≡◌ {A = Option ℕ} None (Some n) = e in cc)
+      some_text (Some text) n e = refl
+
+  -- the row of an item whose text had a note
+  right_had : (t : List Item) (i : Item) (text : List ℕ) (note : Note) → AllByRecursion (IsNotedBy old fresh) t → note_by old fresh i text ≡ Some note → is_some (note_of old (body_of i)) ≡ true → has_text t (body_of i) ≡ true
+      → IsRight t (body_of i, note)
+  right_had t i text note noted by some has =
+      let had = some_of (note_of old (body_of i)) some in
+      let told = some_of (text_of t (body_of i)) has in
+      let same : ◌≡◌ {A = Option Note} (Some had.0) (Some note) = sym (had_first i text had.0 had.1) ∙ by in
+      let one : had.0 ≡ note = cc in
+      let mine : note_of old (body_of i) ≡ Some note = had.1 ∙ ap Some one in (
+        ap (λ (o : Option (List ℕ)). by_texts (body_of i) o (notice_text_of t (body_of i))) told.1
+            ∙ ap (λ (o : Option Note). option_or o (option_or (note_of fresh.shelf.notes (body_of i)) (option_map (notice_note fresh.place) (notice_text_of t (body_of i))))) mine,
+        ap (option_map length) told.1 ∙ ap Some (sym (had_length t (body_of i) told.0 note noted told.1 mine)),
+      )
+
+  right_behind : (t : List Item) → AllByRecursion (IsNotedBy old fresh) t → (later : List Item) → AllByRecursion (IsNotedBy old fresh) later → AllByRecursion (IsNotedIn old) later
+      → AllByRecursion (λ (i : Item). is_some (text_in i.deed) ≡ true → has_text t (body_of i) ≡ true) later → AllByRecursion (IsRight t) (rows_by old fresh later)
+  right_behind t all [] noted had own = tt
+  right_behind t all (i ∷ later) noted had own = by (text_in i.deed) refl (right_behind t all later noted.1 had.1 own.1)
+    where
+      by : (o : Option (List ℕ)) → text_in i.deed ≡ o → AllByRecursion (IsRight t) (rows_by old fresh later) → AllByRecursion (IsRight t) (cons_option (noted_by old fresh i) (rows_by old fresh later))
+      by None brought rest =
+          subst (λ (q : Option Row). AllByRecursion (IsRight t) (cons_option q (rows_by old fresh later)))
+          (sym (ap (option_and_then (λ (text : List ℕ). option_map (λ (note : Note). (body_of i, note)) (note_by old fresh i text))) brought)) rest
+      by (Some text) brought rest =
+          let row = noted_row i text brought noted.0 in
+          let some : is_some (text_in i.deed) ≡ true = ap is_some brought in
+          subst (λ (q : Option Row). AllByRecursion (IsRight t) (cons_option q (rows_by old fresh later))) (sym row.2)
+          (right_had t i text row.0 all row.1 (had.0 some) (own.0 some), rest)
+
+  -- the rows of all
+  right_all : (t later : List Item) → NumbersApart t → AllByRecursion (IsNotedBy old fresh) (t ++ later) → AllByRecursion (IsNotedIn old) later → AllByRecursion (IsRight (t ++ later)) (rows_by old fresh (t ++ later))
+  right_all t later apart noted had =
+      subst (AllByRecursion (IsRight (t ++ later))) (sym (filter_map-append (noted_by old fresh) t later))
+      (all_joined (IsRight (t ++ later)) (rows_by old fresh t) (rows_by old fresh later)
+      (all_weaker (IsRight t) (IsRight (t ++ later)) (right_before t later) (rows_by old fresh t) (right_rows t apart (all_first (IsNotedBy old fresh) t later noted)))
+      (right_behind (t ++ later) noted later (all_last (IsNotedBy old fresh) t later noted) had
+      (all_last (λ (i : Item). is_some (text_in i.deed) ≡ true → has_text (t ++ later) (body_of i) ≡ true) t later (own_texts (t ++ later)))))
+
   -- in any order they tell the notes that are due
-  notes_in_any_order : (t : List Item) (rows : List Row) (notes : List Row) → NumbersApart t → AllByRecursion (IsNotedBy old fresh) t → IsPermutation (rows_by old fresh t) rows → Knows notes rows (length rows)
+  notes_in_any_order : (t : List Item) (rows : List Row) (notes : List Row) → AllByRecursion (IsRight t) (rows_by old fresh t) → AllByRecursion (IsNotedBy old fresh) t → IsPermutation (rows_by old fresh t) rows → Knows notes rows (length rows)
       → (body : Body) → (note_of notes body ≡ renoted old fresh t body) × (option_map (λ (note : Note). note.length) (note_of notes body) ≡ option_map length (text_of t body))
-  notes_in_any_order t rows notes apart noted same knows body = by (note_of notes body) (text_of t body) refl refl
+  notes_in_any_order t rows notes rights noted same knows body = by (note_of notes body) (text_of t body) refl refl
     where
       right : All (IsRight t) rows
-      right = All-permutation (IsRight t) (rows_by old fresh t) rows same (All-from_recursion (IsRight t) (rows_by old fresh t) (right_rows t apart noted))
+      right = All-permutation (IsRight t) (rows_by old fresh t) rows same (All-from_recursion (IsRight t) (rows_by old fresh t) rights)
 
       by : (o : Option Note) (p : Option (List ℕ)) → note_of notes body ≡ o → text_of t body ≡ p
           → (note_of notes body ≡ renoted old fresh t body) × (option_map (λ (note : Note). note.length) (note_of notes body) ≡ option_map length (text_of t body))
@@ -202,13 +284,15 @@ module _ (old : List Row) (fresh : Fresh) where
           absurd (let wrong : false ≡ true = ap is_some (sym e) ∙ some in cc)
 
   -- a shelf that was made of them
-  pub notes_over : {W : Type 0} (r : Result Noted W) (t : List Item) (rows sorted : List Row) → NumbersApart t → AllByRecursion (IsNotedBy old fresh) t → rows ≡ rows_by old fresh t → IsPermutation rows sorted
-      → IfOk r (λ shelf. Knows shelf.notes sorted (length sorted)) → IfOk r (λ shelf. (body : Body) → note_of shelf.notes body ≡ renoted old fresh t body)
-  notes_over (Ok shelf) t rows sorted apart noted is same knows = λ body. (notes_in_any_order t sorted shelf.notes apart noted (subst (λ (rs : List Row). IsPermutation rs sorted) is same) knows body).0
-  notes_over (Err why) t rows sorted apart noted is same knows = tt
+  pub notes_over : {W : Type 0} (r : Result Noted W) (t later : List Item) (rows sorted : List Row) → NumbersApart t → AllByRecursion (IsNotedIn old) later → AllByRecursion (IsNotedBy old fresh) (t ++ later) → rows ≡ rows_by old fresh (t ++ later) → IsPermutation rows sorted
+      → IfOk r (λ shelf. Knows shelf.notes sorted (length sorted)) → IfOk r (λ shelf. (body : Body) → note_of shelf.notes body ≡ renoted old fresh (t ++ later) body)
+  notes_over (Ok shelf) t later rows sorted apart had noted is same knows =
+      λ body. (notes_in_any_order (t ++ later) sorted shelf.notes (right_all t later apart noted had) noted (subst (λ (rs : List Row). IsPermutation rs sorted) is same) knows body).0
+  notes_over (Err why) t later rows sorted apart had noted is same knows = tt
 
   -- and the sizes of the texts
-  pub sizes_over : {W : Type 0} (r : Result Noted W) (t : List Item) (rows sorted : List Row) → NumbersApart t → AllByRecursion (IsNotedBy old fresh) t → rows ≡ rows_by old fresh t → IsPermutation rows sorted
-      → IfOk r (λ shelf. Knows shelf.notes sorted (length sorted)) → IfOk r (λ shelf. SizesOf shelf.notes t)
-  sizes_over (Ok shelf) t rows sorted apart noted is same knows = λ body. (notes_in_any_order t sorted shelf.notes apart noted (subst (λ (rs : List Row). IsPermutation rs sorted) is same) knows body).1
-  sizes_over (Err why) t rows sorted apart noted is same knows = tt
+  pub sizes_over : {W : Type 0} (r : Result Noted W) (t later : List Item) (rows sorted : List Row) → NumbersApart t → AllByRecursion (IsNotedIn old) later → AllByRecursion (IsNotedBy old fresh) (t ++ later) → rows ≡ rows_by old fresh (t ++ later) → IsPermutation rows sorted
+      → IfOk r (λ shelf. Knows shelf.notes sorted (length sorted)) → IfOk r (λ shelf. SizesOf shelf.notes (t ++ later))
+  sizes_over (Ok shelf) t later rows sorted apart had noted is same knows =
+      λ body. (notes_in_any_order (t ++ later) sorted shelf.notes (right_all t later apart noted had) noted (subst (λ (rs : List Row). IsPermutation rs sorted) is same) knows body).1
+  sizes_over (Err why) t later rows sorted apart had noted is same knows = tt

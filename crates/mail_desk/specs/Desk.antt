@@ -12,6 +12,7 @@ use Rattle.verb_core.specs.declared.mailbox.Mailbox.{Mailbox}
 use Rattle.verb_core.specs.Items.{IsWellFormed, NumbersApart}
 use Rattle.verb_core.specs.Store.{IsValid, is_house, is_known}
 use Rattle.store_kept.specs.Bases.{HasBase}
+use Rattle.store_kept.specs.Coming.{HasUndone}
 use Rattle.store_kept.specs.Kept.{Kept, is_by_key, performed, store_of}
 use Rattle.store_kept.specs.Texts.{all_bodies, has_text_kept}
 use Rattle.verb_core.specs.Live.{live}
@@ -33,6 +34,7 @@ pub record IsDesk (kept : Kept) : Type 0 where
   pub below : AllByRecursion (λ (i : Item). i.number < kept.next) kept.timeline
   pub reports : IsTrue (is_by_key kept.reports)
   pub texts : IsTrue (all_bodies (has_text_kept kept) kept.store.boxes)
+  pub undone : HasUndone kept
 
 -- what became of an ask: the item or why there is none, and what is kept
 pub record Submitted : Type 0 where

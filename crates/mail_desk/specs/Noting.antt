@@ -1,5 +1,5 @@
 -- Where the texts of a timeline lie after a cycle.
-use Rattle.std.specs.Prelude.{◌≡◌, ℕ, ◌<◌, true, List, length, get_or, is_some, filter_map, Option, Some, None, if◌then◌else◌, option_map, option_and_then}
+use Rattle.std.specs.Prelude.{◌≡◌, ℕ, ◌<◌, true, IsTrue, List, length, get_or, is_some, filter_map, Option, Some, None, if◌then◌else◌, option_map, option_and_then}
 use Rattle.std.specs.List.{Contains}
 use Rattle.std.specs.Option.{option_or}
 use Rattle.verb_core.specs.declared.item.Item.{Item}
@@ -39,6 +39,10 @@ rows_by old fresh t = filter_map (noted_by old fresh) t
 -- an item's text has a note, of its length
 abbrev pub IsNotedBy : List (Body × Note) → Fresh → Item → Type 0
 IsNotedBy old fresh i = option_map (λ (row : Body × Note). row.1.length) (noted_by old fresh i) ≡ option_map length (text_in i.deed)
+
+-- the text of an item has a note, where it brings one
+abbrev pub IsNotedIn : List (Body × Note) → Item → Type 0
+IsNotedIn notes i = IsTrue (is_some (text_in i.deed)) → IsTrue (is_some (note_of notes (body_of i)))
 
 -- a shelf has the notes of the first so many rows, and none that no row tells
 pub record Knows (notes : List (Body × Note)) (rows : List (Body × Note)) (count : ℕ) : Type 0 where

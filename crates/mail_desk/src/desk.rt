@@ -7,9 +7,10 @@ ghost use Rattle.verb_core.specs.declared.mailbox.Mailbox.{Mailbox as TheMailbox
 ghost use Rattle.verb_core.specs.Boxes.{box_of, row_at};
 ghost use Rattle.seal_log.specs.declared.place.Place.{Place as ThePlace};
 ghost use Rattle.verb_core.specs.Items.{IsTimeline};
-ghost use Rattle.store_kept.specs.Kept.{is_by_key, new_desk, opening_origin, origin_of, report_of as report_in, store_of, upgraded};
+ghost use Rattle.store_kept.specs.Coming.{HasUndone};
+ghost use Rattle.store_kept.specs.Kept.{is_by_key, new_desk, opening_origin, origin_of, report_of as report_in, store_of, undone_of, upgraded};
 ghost use Rattle.store_kept.specs.Bases.{HasBase};
-ghost use Rattle.store_kept.specs.Texts.{all_bodies, has_text_kept};
+ghost use Rattle.store_kept.specs.Texts.{all_bodies, has_text_kept, items_asked};
 ghost use Rattle.verb_core.specs.Stamps.{opening_stamps};
 ghost use Rattle.verb_core.specs.Store.{IsValid, is_house, is_known};
 ghost use Rattle.mail_desk.specs.Timeline.{SizesOf, has_sizes};
@@ -25,10 +26,12 @@ use store_kept::{Base, report_of};
 use undo_base::{Name, NoMemory, User};
 use verb_core::laws::stamps_name_mailboxes;
 use verb_core::{BoxId, Conf, House, Mailbox, Stamps};
+use withdraw::UndoneBehind;
 
 /// What it begins with, the store, the items in force in order, the stamp of each mailbox, the next
 /// number, each cycle's report by the key of its request, where each text and each snapshot lies, and how many items entered
-/// since the last snapshot, how many snapshots there are, and whether names may have superiors.
+/// since the last snapshot, how many snapshots there are, whether names may have superiors, and what the last cycle left to be
+/// withdrawn.
 #[derive(Drop)]
 pub struct Desk {
     pub(crate) base: Base,
@@ -41,19 +44,21 @@ pub struct Desk {
     pub(crate) since: u32,
     pub(crate) taken: u64,
     pub(crate) deep: bool,
+    pub(crate) undone: Option<UndoneBehind>,
 }
 
 impl Model for Desk {
-    ghost use Rattle.std.specs.Prelude.{◌-◌, vec_len, vec_capacity};
+    ghost use Rattle.std.specs.Prelude.{◌-◌, ◌++◌, vec_len, vec_capacity};
     ghost use Rattle.mail_desk.specs.Desk.{IsDesk};
     ghost use Rattle.mail_desk.specs.Held.{Held, marks_kept};
     ghost use Rattle.mail_desk.specs.Timeline.{SizesOf};
     ghost use Rattle.store_kept.specs.Kept.{kept_from};
+    ghost use Rattle.store_kept.specs.Texts.{items_behind};
 
     ghost Value = { Held };
 
     ghost view = { λ d. record {
-      kept = kept_from d.base d.store.store d.timeline.items d.stamps d.next d.reports.items (marks_kept d.since d.taken d.shelf.marks) d.deep;
+      kept = kept_from d.base d.store.store d.timeline.items d.stamps d.next d.reports.items (marks_kept d.since d.taken d.shelf.marks) d.deep d.undone;
       notes = d.shelf.notes;
       marks = d.shelf.marks;
       room = record {
@@ -66,8 +71,8 @@ impl Model for Desk {
     } };
 
     ghost invariant = { λ d. record {
-      desk : IsDesk (kept_from d.base d.store.store d.timeline.items d.stamps d.next d.reports.items (marks_kept d.since d.taken d.shelf.marks) d.deep);
-      sizes : SizesOf d.shelf.notes d.timeline.items;
+      desk : IsDesk (kept_from d.base d.store.store d.timeline.items d.stamps d.next d.reports.items (marks_kept d.since d.taken d.shelf.marks) d.deep d.undone);
+      sizes : SizesOf d.shelf.notes (d.timeline.items ++ items_behind d.undone);
     } };
 }
 
@@ -136,6 +141,7 @@ fn begun(alloc: Global, base: Base, store: Store, stamps: Stamps) -> Desk
         since: 0,
         taken: 0,
         deep: false,
+        undone: None,
     }
 }
 
@@ -234,10 +240,10 @@ impl Desk {
         find_stamp(self.stamps.as_slice(), user, name)
     }
 
-    /// Where the text of each body lies that has one, and its size.
+    /// Where the text of each body lies that has one or can come back, and its size.
     pub fn shelf(&self) -> &Shelf
         ensures notes { result.now.notes ≡ self.now.notes }
-        ensures sizes { SizesOf result.now.notes self.now.kept.timeline }
+        ensures sizes { SizesOf result.now.notes (items_asked self.now.kept) }
         ensures known { IsTrue (has_sizes result.now.notes (store_of self.now.kept).boxes) }
     {
         &self.shelf
@@ -262,6 +268,17 @@ impl Desk {
         ensures { option_copied result ≡ report_in self.now.kept.reports key.now }
     {
         report_of(self.reports.as_slice(), key)
+    }
+
+    /// What the last cycle left to be withdrawn, where the cycle has this number. It takes no memory.
+    pub fn undone(&self, cycle: u32) -> Option<&UndoneBehind>
+        ensures { option_copied result ≡ undone_of self.now.kept cycle }
+    {
+        match &self.undone {
+            Some(last) if last.cycle == cycle => Some(last),
+            Some(_) => None,
+            None => None,
+        }
     }
 
     /// Whether names may have superiors. It takes no memory.
@@ -295,8 +312,9 @@ impl Desk {
         ensures next { self.now.kept.next ≤ 4194304 }
         ensures reports { IsTrue (is_by_key self.now.kept.reports) }
         ensures texts { IsTrue (all_bodies (has_text_kept self.now.kept) (store_of self.now.kept).boxes) }
-        ensures sizes { SizesOf self.now.notes self.now.kept.timeline }
+        ensures sizes { SizesOf self.now.notes (items_asked self.now.kept) }
         ensures since { self.now.kept.marks.since ≤ self.now.kept.next }
+        ensures undone { HasUndone self.now.kept }
         ensures places { self.now.kept.marks.places ≡ map (λ (m : ℕ × ThePlace). m.0) self.now.marks }
     {
         let _shelf = &self.shelf;

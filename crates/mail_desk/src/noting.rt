@@ -8,7 +8,7 @@ ghost use Rattle.verb_core.specs.Deeds.{is_notice as is_of_notice};
 ghost use Rattle.verb_core.specs.Items.{NumbersApart, text_in};
 ghost use Rattle.shelf.specs.declared.note.Note.{Note as TheNote};
 ghost use Rattle.shelf.specs.Notes.{note_of, same_body};
-ghost use Rattle.mail_desk.specs.Noting.{IsNotedBy, Knows, note_by, renoted, rows_by};
+ghost use Rattle.mail_desk.specs.Noting.{IsNotedBy, IsNotedIn, Knows, note_by, renoted, rows_by};
 ghost use Rattle.mail_desk.specs.Timeline.{NotesText, SizesOf, body_of};
 
 use seal_log::Place;
@@ -152,20 +152,22 @@ fn push_bodies(
     Ok(())
 }
 
-/// The bodies of the texts that items bring, and others behind them, in the order of the items.
+/// The bodies of the texts that items bring, others behind them, and more behind those, in the order of the items.
 fn noted_bodies(
     alloc: Global,
     old: &Shelf,
     fresh: &Fresh,
     front: &[StoredItem],
     behind: &[StoredItem],
+    later: &[StoredItem],
 ) -> Result<NotedBodies, NoMemory>
-    ensures rows { IfOk result (λ rows. rows.items ≡ rows_by old.now.notes fresh.now (front.now ++ behind.now)) }
-    ensures noted { OnOk result (AllByRecursion (IsNotedBy old.now.notes fresh.now) (front.now ++ behind.now)) }
+    ensures rows { IfOk result (λ rows. rows.items ≡ rows_by old.now.notes fresh.now ((front.now ++ behind.now) ++ later.now)) }
+    ensures noted { OnOk result (AllByRecursion (IsNotedBy old.now.notes fresh.now) ((front.now ++ behind.now) ++ later.now)) }
 {
     let mut rows = Vec::new(alloc);
     push_bodies(&mut rows, old, fresh, front)?;
     push_bodies(&mut rows, old, fresh, behind)?;
+    push_bodies(&mut rows, old, fresh, later)?;
     Ok(rows)
 }
 
@@ -196,20 +198,23 @@ fn shelved(alloc: Global, rows: &[(Body, Note)]) -> Result<Shelf, NoMemory>
     Ok(shelf)
 }
 
-/// Where the texts of all items lie, those of the first ones and of those behind them: where they lay before, or else in a cycle's own record; a notice's text is noted with the
-/// record's place, from 0. Where a note has another length than its text it finds no memory.
+/// Where the texts of all items lie, those of the first ones, of those behind them, and of those that can come back, which lay somewhere
+/// before: where they lay before, or else in a cycle's own record; a notice's text is noted with the record's place, from 0. Where a
+/// note has another length than its text it finds no memory.
 pub(crate) fn noted_anew(
     alloc: Global,
     old: &Shelf,
     fresh: &Fresh,
     front: &[StoredItem],
     behind: &[StoredItem],
+    later: &[StoredItem],
 ) -> Result<Shelf, NoMemory>
-    requires { NumbersApart (front.now ++ behind.now) }
-    ensures notes { IfOk result (λ shelf. (body : TheBody) → note_of shelf.notes body ≡ renoted old.now.notes fresh.now (front.now ++ behind.now) body) }
-    ensures sizes { IfOk result (λ shelf. SizesOf shelf.notes (front.now ++ behind.now)) }
+    requires apart { NumbersApart (front.now ++ behind.now) }
+    requires noted { AllByRecursion (IsNotedIn old.now.notes) later.now }
+    ensures notes { IfOk result (λ shelf. (body : TheBody) → note_of shelf.notes body ≡ renoted old.now.notes fresh.now ((front.now ++ behind.now) ++ later.now) body) }
+    ensures sizes { IfOk result (λ shelf. SizesOf shelf.notes ((front.now ++ behind.now) ++ later.now)) }
 {
-    let mut rows = noted_bodies(alloc, old, fresh, front, behind)?;
+    let mut rows = noted_bodies(alloc, old, fresh, front, behind, later)?;
     sort_bodies(&mut rows);
     shelved(alloc, rows.as_slice())
 }

@@ -1,5 +1,5 @@
 //! Items in order, found by their numbers.
-ghost use Rattle.std.specs.Prelude.{◌≡◌, ◌<◌, ◌≤◌, ℕ, [], ◌∷◌, ◌++◌, ◌+◌, filter, length, nat_lt, take, OnOk, option_copied, vec_len, vec_capacity};
+ghost use Rattle.std.specs.Prelude.{◌≡◌, ◌<◌, ◌≤◌, ℕ, [], ◌∷◌, ◌++◌, ◌+◌, ◌-◌, drop, filter, length, nat_lt, take, OnOk, option_copied, vec_len, vec_capacity};
 ghost use Rattle.std.specs.List.{AllByRecursion};
 ghost use Rattle.std.specs.List.Sorted.{IsNonDecreasingBy, IsPermutation};
 ghost use Rattle.verb_core.specs.declared.item.Item.{Item as TheItem};
@@ -116,17 +116,30 @@ impl Numbered {
         Ok(())
     }
 
-    /// Keeps the first so many items, and puts others behind them, for which there is room, in any order of numbers. It takes no
-    /// memory.
-    pub(crate) fn go_on(&mut self, from: usize, behind: StoredItems)
-        requires from { from ≤ length self.old.items }
+    /// Keeps the first so many items, and puts others behind them, for which there is room, in any order of numbers. Those that stood
+    /// behind a place, which is no less, are given away, in a list that has room for them. It takes no memory.
+    pub(crate) fn go_on(
+        &mut self,
+        from: usize,
+        behind: StoredItems,
+        place: usize,
+        later: Vec<StoredItem>,
+    ) -> Vec<StoredItem>
+        requires from { from ≤ place }
+        requires place { place ≤ length self.old.items }
         requires room { length behind ≤ self.old.room }
-        ensures { self.new.items ≡ take from self.old.items ++ behind }
+        requires none { later.items ≡ [] }
+        requires more { vec_len later + (length self.old.items - place) ≤ vec_capacity later }
+        ensures items { self.new.items ≡ take from self.old.items ++ behind }
+        ensures later { result.items ≡ drop place self.old.items }
     {
+        let mut later = later;
+        move_behind(&mut self.items, place, &mut later);
         keep_places(&mut self.places, from);
         self.items.truncate(from);
         place_all(&mut self.items, &mut self.places, behind);
         sort(&mut self.places);
+        later
     }
 
     /// Adds an item of a higher number than all before it, for which there is room.
@@ -175,6 +188,19 @@ fn place_all(items: &mut Vec<StoredItem>, places: &mut Vec<(u32, usize)>, more: 
 {
     for item in more.into_vec() {
         place_one(items, places, item);
+    }
+}
+
+/// Moves the items behind a place behind others, where there is room for them.
+fn move_behind(items: &mut Vec<StoredItem>, place: usize, into: &mut Vec<StoredItem>)
+    requires place { place ≤ length items.old.items }
+    requires room { vec_len into.old + (length items.old.items - place) ≤ vec_capacity into.old }
+    ensures items { items.new.items ≡ take place items.old.items }
+    ensures capacity { vec_capacity items.new ≡ vec_capacity items.old }
+    ensures into { into.new.items ≡ into.old.items ++ drop place items.old.items }
+{
+    for item in items.drain(place..) {
+        into.push_reserved(item);
     }
 }
 

@@ -25,6 +25,7 @@ use shelf::Shelf;
 use std::alloc::Global;
 use std::marker::Brand;
 use std::sync::ledger::{Blank, Ledger};
+use store_kept::laws::what_can_come_back_stays;
 use stored_items::StoredItem;
 use stored_items::laws::{stored_items_are_formed, stored_items_do_alike};
 use undo_base::{NoMemory, User};
@@ -374,6 +375,7 @@ impl Desk {
         steps_keep_validity();
         stamps_name_mailboxes();
         mail_is_kept();
+        what_can_come_back_stays();
         apply_alone(&mut self.store, effect);
         change_stamps(&mut self.stamps, stamps);
         note_text(&mut self.shelf, &item, place, from);

@@ -1,19 +1,13 @@
-//! The outcome of a cycle: made ready, and put in place.
-ghost use Rattle.std.specs.Prelude.{◌≡◌, ℕ, ◌+◌, ◌<◌, ◌≤◌, ◌++◌, length, map, take, IfOk, OnOk, IsTrue, Ok, vec_len, vec_capacity};
+//! What a repair leaves: made ready, and put in place.
+ghost use Rattle.std.specs.Prelude.{◌≡◌, ◌+◌, ◌-◌, ◌<◌, ◌≤◌, [], length, if◌then◌else◌, Some, None, IfOk, OnOk, Ok, vec_len, vec_capacity};
 ghost use Rattle.std.specs.List.{AllByRecursion};
-ghost use Rattle.verb_core.specs.declared.item.Item.{Item as TheItem};
 ghost use Rattle.verb_core.specs.declared.mailbox.Body.{Body as TheBody};
-ghost use Rattle.verb_core.specs.declared.mailbox.BoxId.{BoxId as TheBoxId};
-ghost use Rattle.verb_core.specs.declared.mailbox.Mailbox.{Mailbox as TheMailbox};
-ghost use Rattle.verb_core.specs.Fates.{IsBase};
-ghost use Rattle.verb_core.specs.Items.{IsTimeline, NumbersApart};
-ghost use Rattle.verb_core.specs.Store.{IsValid};
+ghost use Rattle.verb_core.specs.Items.{NumbersApart};
 ghost use Rattle.shelf.specs.Marks.{marks_at_or_before};
 ghost use Rattle.shelf.specs.Notes.{note_of};
-ghost use Rattle.store_kept.specs.Kept.{rewound, with_report};
-ghost use Rattle.store_kept.specs.Texts.{all_bodies, has_text_among};
-ghost use Rattle.mail_desk.specs.Noting.{renoted};
-ghost use Rattle.mail_desk.specs.Remaking.{CanReplace, remade_as};
+ghost use Rattle.store_kept.specs.Texts.{items_behind};
+ghost use Rattle.mail_desk.specs.Noting.{IsNotedIn, renoted};
+ghost use Rattle.mail_desk.specs.Remaking.{CanReplace, FitsIn, LeavesUndone, Remakes, asked_left, remade_as, timeline_left, undone_left};
 ghost use Rattle.mail_desk.specs.Timeline.{SizesOf};
 
 use crate::Desk;
@@ -24,112 +18,174 @@ use paradox::Report;
 use shelf::Shelf;
 use std::alloc::Global;
 use store_kept::put_report;
-use stored_items::StoredItems;
+use stored_items::{StoredItem, StoredItems};
 use undo_base::{Name, NoMemory};
 use verb_core::Stamps;
+use withdraw::UndoneBehind;
 
-/// What a cycle leaves, with all that a desk keeps beside it: it can be put in place with no memory taken. The first so many
-/// items stay where they are on the desk, and those behind them come in.
+/// What a repair leaves of a desk: the store, how many of the first items stay where they are and those behind them, the stamp of each
+/// mailbox, the next number, the place behind which all is performed anew, how many items stand before its notices, how many entered,
+/// the report, and whether it can be withdrawn.
+#[derive(Drop)]
+pub struct Left {
+    pub store: Store,
+    pub from: usize,
+    pub behind: StoredItems,
+    pub stamps: Stamps,
+    pub next: u32,
+    pub place: u32,
+    pub placed: u32,
+    pub entered: u32,
+    pub report: Report,
+    pub undoes: bool,
+}
+
+/// The same under the key of its request, with where the texts lie, and room for the items behind the place, where they are to be
+/// kept: it can be put in place with no memory taken.
 #[derive(Drop)]
 pub struct Remade {
-    pub(crate) store: Store,
-    pub(crate) from: usize,
-    pub(crate) behind: StoredItems,
-    pub(crate) stamps: Stamps,
-    pub(crate) next: u32,
+    pub(crate) left: Left,
     pub(crate) key: Name,
-    pub(crate) report: Report,
     pub(crate) shelf: Shelf,
-    pub(crate) place: u32,
-    pub(crate) entered: u32,
+    pub(crate) later: Vec<StoredItem>,
 }
 
 impl Remade {
     /// What the cycle reports.
     pub fn report(&self) -> &Report
-        ensures { result.now ≡ self.now.report }
+        ensures { result.now ≡ self.now.left.report }
     {
-        &self.report
+        &self.left.report
     }
 }
 
-/// Makes room for one report more, and for so many items as stand behind the first so many, and notes where the texts of all
-/// of these lie.
+/// The items behind its place, where they are to be kept.
+fn later_in<'a>(items: &'a [StoredItem], left: &Left) -> &'a [StoredItem]
+    requires { left.now.place ≤ length items.now }
+    ensures { result.now ≡ items_behind (undone_left items.now left.now) }
+{
+    if left.undoes {
+        return items.split_at(left.place as usize).1;
+    }
+    items.split_at(items.len()).1
+}
+
+/// Where the texts of all items lie that may be asked for afterwards.
+fn noted_over(
+    alloc: Global,
+    items: &[StoredItem],
+    old: &Shelf,
+    fresh: &Fresh,
+    left: &Left,
+) -> Result<Shelf, NoMemory>
+    requires from { left.now.from ≤ length items.now }
+    requires place { left.now.place ≤ length items.now }
+    requires apart { NumbersApart (timeline_left items.now left.now) }
+    requires noted { AllByRecursion (IsNotedIn old.now.notes) items.now }
+    ensures notes { IfOk result (λ shelf. (body : TheBody) → note_of shelf.notes body ≡ renoted old.now.notes fresh.now (asked_left items.now left.now) body) }
+    ensures sizes { IfOk result (λ shelf. SizesOf shelf.notes (asked_left items.now left.now)) }
+{
+    let later = later_in(items, left);
+    noted_anew(
+        alloc,
+        old,
+        fresh,
+        items.split_at(left.from).0,
+        left.behind.as_slice(),
+        later,
+    )
+}
+
+/// Makes room for one report more, and for the items that come in, and notes where the texts of all items lie that may be asked for
+/// afterwards.
 fn noted_with_room(
     alloc: Global,
     reports: &mut Vec<(Name, Report)>,
     timeline: &mut Numbered,
     old: &Shelf,
     fresh: &Fresh,
-    from: usize,
-    behind: &StoredItems,
+    left: &Left,
 ) -> Result<Shelf, NoMemory>
-    requires from { from ≤ length timeline.old.items }
-    requires apart { NumbersApart (take from timeline.old.items ++ behind.now) }
+    requires from { left.now.from ≤ length timeline.old.items }
+    requires place { left.now.place ≤ length timeline.old.items }
+    requires apart { NumbersApart (timeline_left timeline.old.items left.now) }
+    requires noted { AllByRecursion (IsNotedIn old.now.notes) timeline.old.items }
     ensures same { reports.new.items ≡ reports.old.items }
     ensures items { timeline.new.items ≡ timeline.old.items }
     ensures room { OnOk result (vec_len reports.new < vec_capacity reports.new) }
-    ensures places { OnOk result (length behind.now ≤ timeline.new.room) }
-    ensures notes { IfOk result (λ shelf. (body : TheBody) → note_of shelf.notes body ≡ renoted old.now.notes fresh.now (take from timeline.old.items ++ behind.now) body) }
-    ensures sizes { IfOk result (λ shelf. SizesOf shelf.notes (take from timeline.old.items ++ behind.now)) }
+    ensures places { OnOk result (length left.now.behind ≤ timeline.new.room) }
+    ensures notes { IfOk result (λ shelf. (body : TheBody) → note_of shelf.notes body ≡ renoted old.now.notes fresh.now (asked_left timeline.old.items left.now) body) }
+    ensures sizes { IfOk result (λ shelf. SizesOf shelf.notes (asked_left timeline.old.items left.now)) }
 {
     reports.reserve(1)?;
-    timeline.make_room_for(behind.len())?;
-    noted_anew(
-        alloc,
-        old,
-        fresh,
-        timeline.as_slice().split_at(from).0,
-        behind.as_slice(),
-    )
+    timeline.make_room_for(left.behind.len())?;
+    noted_over(alloc, timeline.as_slice(), old, fresh, left)
 }
 
-/// The outcome of a cycle with its items and notes.
-fn completed(
-    store: Store,
-    from: usize,
-    behind: StoredItems,
-    stamps: Stamps,
-    next: u32,
-    key: Name,
-    report: Report,
-    place: u32,
-    entered: u32,
-    shelf: Result<Shelf, NoMemory>,
-) -> Result<Remade, NoMemory>
-    ensures shelf { IfOk result (λ made. shelf ≡ Ok made.shelf) }
-    ensures store { IfOk result (λ made. made.store ≡ store) }
-    ensures from { IfOk result (λ made. made.from ≡ from) }
-    ensures behind { IfOk result (λ made. made.behind ≡ behind) }
-    ensures stamps { IfOk result (λ made. made.stamps ≡ stamps) }
-    ensures next { IfOk result (λ made. made.next ≡ next) }
-    ensures key { IfOk result (λ made. made.key ≡ key) }
-    ensures report { IfOk result (λ made. made.report ≡ report) }
-    ensures place { IfOk result (λ made. made.place ≡ place) }
-    ensures entered { IfOk result (λ made. made.entered ≡ entered) }
+/// Room for the items behind a place.
+fn room_behind(alloc: Global, items: usize, place: u32) -> Result<Vec<StoredItem>, NoMemory>
+    requires { place ≤ items }
+    ensures none { IfOk result (λ later. later.items ≡ []) }
+    ensures room { IfOk result (λ later. vec_len later + (items - place) ≤ vec_capacity later) }
 {
-    match shelf {
-        Ok(shelf) => Ok(Remade {
-            store,
-            from,
-            behind,
-            stamps,
-            next,
-            key,
-            report,
-            shelf,
-            place,
-            entered,
-        }),
+    Ok(Vec::with_capacity(alloc, items - place as usize)?)
+}
+
+/// What is left, with its notes and room for what it leaves to be withdrawn.
+fn completed(
+    alloc: Global,
+    key: Name,
+    left: Left,
+    shelf: Result<Shelf, NoMemory>,
+    items: usize,
+) -> Result<Remade, NoMemory>
+    requires { left.place ≤ items }
+    ensures shelf { IfOk result (λ made. shelf ≡ Ok made.shelf) }
+    ensures left { IfOk result (λ made. made.left ≡ left) }
+    ensures key { IfOk result (λ made. made.key ≡ key) }
+    ensures none { IfOk result (λ made. made.later.items ≡ []) }
+    ensures room { IfOk result (λ made. vec_len made.later + (items - left.place) ≤ vec_capacity made.later) }
+{
+    let shelf = match shelf {
+        Ok(shelf) => shelf,
         Err(NoMemory) => {
-            drop(store);
-            drop(behind);
-            drop(stamps);
+            drop(left);
             drop(key);
-            drop(report);
-            Err(NoMemory)
+            return Err(NoMemory);
         }
+    };
+    match room_behind(alloc, items, left.place) {
+        Ok(later) => Ok(Remade {
+            left,
+            key,
+            shelf,
+            later,
+        }),
+        Err(NoMemory) => Err(NoMemory),
     }
+}
+
+/// What a cycle leaves to be withdrawn.
+fn undone(
+    left: bool,
+    report: &Report,
+    later: Vec<StoredItem>,
+    position: u32,
+    placed: u32,
+) -> Option<UndoneBehind>
+    ensures { result ≡ (if left then Some (record { cycle = report.now.cycle; point = report.now.point; later = later.items; position = position; placed = placed }) else None) }
+{
+    if left {
+        return Some(UndoneBehind {
+            cycle: report.cycle,
+            point: report.point,
+            later: StoredItems::from_vec(later),
+            position,
+            placed,
+        });
+    }
+    drop(later);
+    None
 }
 
 /// Puts a value in the place of another.
@@ -140,43 +196,22 @@ fn put<T: Drop>(place: &mut T, value: T)
 }
 
 impl Desk {
-    /// Makes the outcome of a cycle ready, which leaves the first so many items as they are and others behind them, in any order
-    /// of numbers: where the texts of all lie, and room for the items and for its report under the key of its request. A text
-    /// keeps the note that its body had; another lies in the cycle's own record, and a notice's, which no record holds, is noted
-    /// there from 0. The cycle is behind that place, and let so many items enter. The desk stays as it was but for its room.
+    /// Makes what a repair leaves ready, under the key of its request: where the texts of all items lie that may be asked for
+    /// afterwards, in any order of numbers, and room for the items and for the report. A text keeps the note that its body had; another lies in the repair's own record, and
+    /// a notice's, which no record holds, is noted there from 0. The desk stays as it was but for its room.
     pub fn remake(
         &mut self,
         alloc: Global,
-        store: Store,
-        from: usize,
-        behind: StoredItems,
-        stamps: Stamps,
-        next: u32,
         key: Name,
-        report: Report,
+        left: Left,
         fresh: &Fresh,
-        place: u32,
-        entered: u32,
     ) -> Result<Remade, NoMemory>
-        requires house { store.store.house ≡ self.old.kept.house }
-        requires valid { IsValid store.store }
-        requires from { from ≤ length self.old.kept.timeline }
-        requires texts { IsTrue (all_bodies (has_text_among self.old.kept (take from self.old.kept.timeline ++ behind)) store.store.boxes) }
-        requires timeline { IsTimeline self.old.kept.house (take from self.old.kept.timeline ++ behind) }
-        requires below { AllByRecursion (λ (i : TheItem). i.number < next) (take from self.old.kept.timeline ++ behind) }
-        requires named { map (λ (r : TheBoxId × ℕ). r.0) stamps ≡ map (λ (r : TheBoxId × TheMailbox). r.0) store.store.boxes }
-        requires fresh { AllByRecursion (λ (r : TheBoxId × ℕ). r.1 < next) stamps }
-        requires rises { self.old.kept.next + entered < next }
-        requires next { next ≤ 4194304 }
-        requires base { IsBase (take from self.old.kept.timeline ++ behind) self.old.kept.base }
+        requires fits { FitsIn self.old.kept left }
+        requires undone { LeavesUndone self.old.kept left }
         ensures kept { self.new.kept ≡ self.old.kept }
         ensures same { self.new.notes ≡ self.old.notes }
         ensures marks { self.new.marks ≡ self.old.marks }
-        ensures made { IfOk result (λ made. remade_as self.old.kept made ≡ record self.old.kept { store = store.store; timeline = take from self.old.kept.timeline ++ behind; stamps = stamps; next = next; reports = with_report key report self.old.kept.reports; marks = rewound place entered self.old.kept.marks }) }
-        ensures place { IfOk result (λ made. made.place ≡ place) }
-        ensures report { IfOk result (λ made. made.report ≡ report) }
-        ensures notes { IfOk result (λ made. (body : TheBody) → note_of made.shelf.notes body ≡ renoted self.old.notes fresh.now (take from self.old.kept.timeline ++ behind) body) }
-        ensures ready { IfOk result (λ made. CanReplace made self.new) }
+        ensures remakes { IfOk result (Remakes self.old self.new key left fresh.now) }
     {
         let shelf = noted_with_room(
             alloc,
@@ -184,36 +219,43 @@ impl Desk {
             &mut self.timeline,
             &self.shelf,
             fresh,
-            from,
-            &behind,
+            &left,
         );
-        completed(
-            store, from, behind, stamps, next, key, report, place, entered, shelf,
-        )
+        completed(alloc, key, left, shelf, self.timeline.as_slice().len())
     }
 
-    /// Puts the outcome of a cycle in place, and forgets the snapshots behind its place. The first items stay where they are. It
+    /// Puts what a repair leaves in place, and forgets the snapshots behind its place. The first items stay where they are. It
     /// takes no memory.
     pub fn replace(&mut self, remade: Remade)
         requires { CanReplace remade self.old }
         ensures kept { self.new.kept ≡ remade_as self.old.kept remade }
         ensures notes { self.new.notes ≡ remade.shelf.notes }
-        ensures marks { self.new.marks ≡ marks_at_or_before remade.place self.old.marks }
+        ensures marks { self.new.marks ≡ marks_at_or_before remade.left.place self.old.marks }
     {
         let Remade {
+            left,
+            key,
+            shelf,
+            later,
+        } = remade;
+        let Left {
             store,
             from,
             behind,
             stamps,
             next,
-            key,
-            report,
-            shelf,
             place,
+            placed,
             entered,
-        } = remade;
+            report,
+            undoes,
+        } = left;
         put(&mut self.store, store);
-        self.timeline.go_on(from, behind);
+        let later = self.timeline.go_on(from, behind, place as usize, later);
+        put(
+            &mut self.undone,
+            undone(undoes, &report, later, place, placed),
+        );
         put(&mut self.stamps, stamps);
         self.shelf.take_notes(shelf);
         self.shelf.forget_after(place);

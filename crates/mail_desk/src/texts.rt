@@ -2,7 +2,7 @@
 ghost use Rattle.std.specs.Prelude.{◌≡◌, Some, None, List, ℕ, is_some, length, take, option_copied, option_map, if◌then◌else◌};
 ghost use Rattle.verb_core.specs.Items.{NumbersApart};
 ghost use Rattle.mail_desk.specs.Timeline.{has_text, notice_text_of, notice_told_by, noted_of, rev_of, told_by};
-ghost use Rattle.store_kept.specs.Texts.{has_text_among, has_text_kept, text_kept};
+ghost use Rattle.store_kept.specs.Texts.{has_text_among, has_text_kept, text_at_hand, text_kept};
 
 use crate::Desk;
 use crate::numbered::Numbered;
@@ -112,11 +112,11 @@ impl Desk {
         find_notice(&self.timeline, body)
     }
 
-    /// Where the text of a body lies that an item in force brings, which is no notice. It takes no memory.
+    /// Where the text of a body lies that has one or can come back, unless a notice in force brings it. It takes no memory.
     pub fn note(&self, body: Body) -> Option<Note>
         ensures value { result ≡ noted_of self.now.kept.timeline self.now.notes body }
         ensures size { option_map (λ note. note.length) result
-            ≡ (if is_some (notice_text_of self.now.kept.timeline body) then None else option_map length (text_kept self.now.kept body)) }
+            ≡ (if is_some (notice_text_of self.now.kept.timeline body) then None else option_map length (text_at_hand self.now.kept body)) }
     {
         match self.notice(body) {
             Some(_) => None,

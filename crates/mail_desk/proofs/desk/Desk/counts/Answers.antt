@@ -29,7 +29,7 @@ pub returns : goal.returns
 returns c =
     let d = c.self.inside in
     let desk = c.self.invariant.desk in
-    let kept : Kept = kept_from d.base d.store.store d.timeline.items d.stamps d.next d.reports.items (marks_kept d.since d.taken d.shelf.marks) d.deep in
+    let kept : Kept = kept_from d.base d.store.store d.timeline.items d.stamps d.next d.reports.items (marks_kept d.since d.taken d.shelf.marks) d.deep d.undone in
     let by_name : c.messages_in.result ≡ min (sum_by (λ (r : BoxId × ℕ). length (mail_at r.0 d.store.store.boxes)) d.stamps) most =
     subst (λ (rows : List (BoxId × ℕ)). c.messages_in.result ≡ min (sum_by (λ (r : BoxId × ℕ). length (mail_at r.0 d.store.store.boxes)) rows) most) c.as_slice-2.ensures c.messages_in.ensures in
     let notices = c.notices_in.ensures ∙ ap (count_by (λ (i : Item). is_notice i.deed)) c.as_slice-3.ensures in

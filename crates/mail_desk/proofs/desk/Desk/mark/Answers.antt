@@ -10,7 +10,7 @@ with_places kept places = record kept { marks = record kept.marks { places = pla
 pub returns-clause-kept : goal.returns-clause-kept
 returns-clause-kept c =
     let d = c.self-2.inside in
-    ap (with_places (kept_from d.base d.store.store d.timeline.items d.stamps d.next d.reports.items (marks_kept d.since d.taken d.shelf.marks) d.deep)) c.keep.ensures.positions
+    ap (with_places (kept_from d.base d.store.store d.timeline.items d.stamps d.next d.reports.items (marks_kept d.since d.taken d.shelf.marks) d.deep d.undone)) c.keep.ensures.positions
     ∙ ap (λ (h : Held). with_places h.kept (placed c.len-position.result h.kept.marks.places)) c.self-2.view_is
     ∙ ap (λ (k : Kept). with_places k (placed c.len-position.result k.marks.places)) c.count_mark.ensures.kept
     ∙ ap (λ (n : ℕ). with_places (record c.args.self.now.kept { marks = passed c.args.self.now.kept.marks }) (placed n c.args.self.now.kept.marks.places))

@@ -1,4 +1,4 @@
-use Rattle.std.proofs.Common.{◌≡◌, ◌<◌, List, IfOk, ap, subst, sym, ◌∙◌, ◌-◌, length, option_map, vec_len, vec_capacity}
+use Rattle.std.proofs.Common.{◌≡◌, ◌<◌, ◌++◌, List, IfOk, ap, subst, sym, ◌∙◌, ◌-◌, length, option_map, vec_len, vec_capacity}
 use Rattle.verb_core.specs.declared.conf.House.{House}
 use Rattle.verb_core.specs.declared.item.Item.{Item}
 use Rattle.verb_core.specs.declared.mailbox.Body.{Body}
@@ -9,6 +9,7 @@ use Rattle.mail_desk.specs.Desk.{IsDesk}
 use Rattle.mail_desk.specs.Entering.{CanEnter}
 use Rattle.mail_desk.specs.Held.{Held, marks_kept}
 use Rattle.store_kept.specs.Kept.{Kept, kept_from}
+use Rattle.store_kept.specs.Texts.{items_behind}
 use Rattle.mail_desk.proofs.Readied.{can_enter}
 use Rattle.mail_desk.proofs.desk.Desk.ready_item.Goals as goal
 
@@ -21,19 +22,19 @@ pub invariant_of-self : goal.invariant_of-self
 invariant_of-self c =
     let d = c.self.inside in
     let made = c.make_ready.ensures in
-    let same : ◌≡◌ {A = Kept} (kept_from d.base c.make_ready.new.store.store c.make_ready.new.timeline.items d.stamps d.next d.reports.items (marks_kept d.since d.taken c.make_ready.new.shelf.marks) d.deep) (kept_from d.base d.store.store d.timeline.items d.stamps d.next d.reports.items (marks_kept d.since d.taken d.shelf.marks) d.deep) =
-    λ j. kept_from d.base (made.store j) (made.timeline j) d.stamps d.next d.reports.items (marks_kept d.since d.taken (made.marks j)) d.deep in
+    let same : ◌≡◌ {A = Kept} (kept_from d.base c.make_ready.new.store.store c.make_ready.new.timeline.items d.stamps d.next d.reports.items (marks_kept d.since d.taken c.make_ready.new.shelf.marks) d.deep d.undone) (kept_from d.base d.store.store d.timeline.items d.stamps d.next d.reports.items (marks_kept d.since d.taken d.shelf.marks) d.deep d.undone) =
+    λ j. kept_from d.base (made.store j) (made.timeline j) d.stamps d.next d.reports.items (marks_kept d.since d.taken (made.marks j)) d.deep d.undone in
     record {
       desk = subst (λ (k : Kept). IsDesk k) (sym same) c.self.invariant.desk;
-      sizes = λ body. ap (λ (n : List (Body × Note)). size_of n body) made.shelf ∙ c.self.invariant.sizes body ∙ ap (λ (t : List Item). option_map length (text_of t body)) (sym made.timeline);
+      sizes = λ body. ap (λ (n : List (Body × Note)). size_of n body) made.shelf ∙ c.self.invariant.sizes body ∙ ap (λ (t : List Item). option_map length (text_of (t ++ items_behind d.undone) body)) (sym made.timeline);
     }
 
 pub returns-clause-kept : goal.returns-clause-kept
 returns-clause-kept c =
     let d = c.self.inside in
     let made = c.make_ready.ensures in
-    let same : ◌≡◌ {A = Kept} (kept_from d.base c.make_ready.new.store.store c.make_ready.new.timeline.items d.stamps d.next d.reports.items (marks_kept d.since d.taken c.make_ready.new.shelf.marks) d.deep) (kept_from d.base d.store.store d.timeline.items d.stamps d.next d.reports.items (marks_kept d.since d.taken d.shelf.marks) d.deep) =
-    λ j. kept_from d.base (made.store j) (made.timeline j) d.stamps d.next d.reports.items (marks_kept d.since d.taken (made.marks j)) d.deep in
+    let same : ◌≡◌ {A = Kept} (kept_from d.base c.make_ready.new.store.store c.make_ready.new.timeline.items d.stamps d.next d.reports.items (marks_kept d.since d.taken c.make_ready.new.shelf.marks) d.deep d.undone) (kept_from d.base d.store.store d.timeline.items d.stamps d.next d.reports.items (marks_kept d.since d.taken d.shelf.marks) d.deep d.undone) =
+    λ j. kept_from d.base (made.store j) (made.timeline j) d.stamps d.next d.reports.items (marks_kept d.since d.taken (made.marks j)) d.deep d.undone in
     same ∙ ap (λ (h : Held). h.kept) c.self.view_is
 
 pub returns-clause-ready : goal.returns-clause-ready
@@ -41,10 +42,10 @@ returns-clause-ready c =
     let d = c.self.inside in
     let new = c.make_ready.new in
     let made = c.make_ready.ensures in
-    let kept : Kept = kept_from d.base d.store.store d.timeline.items d.stamps d.next d.reports.items (marks_kept d.since d.taken d.shelf.marks) d.deep in
+    let kept : Kept = kept_from d.base d.store.store d.timeline.items d.stamps d.next d.reports.items (marks_kept d.since d.taken d.shelf.marks) d.deep d.undone in
     let held : Held = record { kept = kept; notes = new.shelf.notes; marks = new.shelf.marks; room = record { store = new.store; items = new.timeline.room; notes = new.shelf.room; reports = vec_capacity d.reports - vec_len d.reports; marks = new.shelf.keeps } } in
-    let same : ◌≡◌ {A = Kept} kept (kept_from d.base new.store.store new.timeline.items d.stamps d.next d.reports.items (marks_kept d.since d.taken new.shelf.marks) d.deep) =
-    sym (λ j. kept_from d.base (made.store j) (made.timeline j) d.stamps d.next d.reports.items (marks_kept d.since d.taken (made.marks j)) d.deep) in
+    let same : ◌≡◌ {A = Kept} kept (kept_from d.base new.store.store new.timeline.items d.stamps d.next d.reports.items (marks_kept d.since d.taken new.shelf.marks) d.deep d.undone) =
+    sym (λ j. kept_from d.base (made.store j) (made.timeline j) d.stamps d.next d.reports.items (marks_kept d.since d.taken (made.marks j)) d.deep d.undone) in
     subst (λ (k : Kept). IfOk c.make_ready.result (λ ready. CanEnter ready (record {
       kept = k;
       notes = new.shelf.notes;
