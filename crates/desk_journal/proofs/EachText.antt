@@ -1,5 +1,6 @@
 -- The texts of bodies, one after the other.
-use Rattle.std.proofs.Common.{◌≡◌, ◌+◌, ◌<◌, ◌∙◌, ℕ, zero, suc, List, ◌∷◌, ◌++◌, length, take, get_or, unwrap_or, refl, ap, sym, arith, []}
+use Rattle.std.proofs.Common.{◌≡◌, ◌+◌, ◌<◌, ◌∙◌, ◌||◌, ℕ, Bool, true, false, zero, suc, List, ◌∷◌, ◌++◌, length, take, get_or, unwrap_or, refl, ap, sym, arith, []}
+use Rattle.std.specs.List.{list_any}
 use Rattle.std.proofs.lemmas.List.{map-append}
 use Rattle.verb_core.specs.declared.mailbox.Body.{Body}
 use Rattle.verb_core.specs.Items.{text_of}
@@ -22,3 +23,35 @@ texts_next t bodies k d old new less so_far more =
     more ∙ ap (λ (l : List (List ℕ)). l ++ texts_of t (get_or bodies k d ∷ [])) so_far
     ∙ sym (map-append (λ (body : Body). unwrap_or (text_of t body) []) (take k bodies) (get_or bodies k d ∷ []))
     ∙ ap (texts_of t) (sym (take_next k bodies d less) ∙ ap (λ (n : ℕ). take n bodies) (one_more k))
+
+-- ---- where no element passes
+
+none_either : (a b : Bool) → (a || b) ≡ false → (a ≡ false) × (b ≡ false)
+none_either true b e = absurd (let wrong : ◌≡◌ {A = Bool} true false = e in cc)
+none_either false b e = (refl, e)
+
+none_of : (a b : Bool) → a ≡ false → b ≡ false → (a || b) ≡ false
+none_of a b e f = ap (λ c. c || b) e ∙ f
+
+-- none of the first ones does
+pub none_front : {X : Type 0} (test : X → Bool) (xs : List X) (k : ℕ) → list_any test xs ≡ false → list_any test (take k xs) ≡ false
+none_front test xs zero none = refl
+none_front test [] (suc k) none = refl
+none_front test (x ∷ xs) (suc k) none =
+    let apart = none_either (test x) (list_any test xs) none in
+    none_of (test x) (list_any test (take k xs)) apart.0 (none_front test xs k apart.1)
+
+-- nor does the one at a place
+pub none_item : {X : Type 0} (test : X → Bool) (xs : List X) (k : ℕ) (d : X) → k < length xs → list_any test xs ≡ false → test (get_or xs k d) ≡ false
+none_item test [] k d less none = absurd (omega arith)
+none_item test (x ∷ xs) zero d less none = (none_either (test x) (list_any test xs) none).0
+none_item test (x ∷ xs) (suc k) d less none = none_item test xs k d (omega arith) (none_either (test x) (list_any test xs) none).1
+
+-- the same of the first ones and the next
+pub none_next : {X : Type 0} (test : X → Bool) (xs : List X) (k : ℕ) (d : X) → k < length xs → list_any test (take (suc k) xs) ≡ false → (list_any test (take k xs) ≡ false) × (test (get_or xs k d) ≡ false)
+none_next test [] k d less none = absurd (omega arith)
+none_next test (x ∷ xs) zero d less none = (refl, (none_either (test x) (list_any test (take zero xs)) none).0)
+none_next test (x ∷ xs) (suc k) d less none =
+    let apart = none_either (test x) (list_any test (take (suc k) xs)) none in
+    let rest = none_next test xs k d (omega arith) apart.1 in
+    (none_of (test x) (list_any test (take k xs)) apart.0 rest.0, rest.1)

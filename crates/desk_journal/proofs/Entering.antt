@@ -31,7 +31,7 @@ unfolding are_in_range only_if
 no_rev i fits =
     let shown = shown_fields (shown_kind i.deed) i.shown in
     let fields = deed_fields i.deed & shown & only_if (i.rev == 0) in
-    let behind = others_in_range (actor_field i.by) fields (others_in_range (moment_field i.at) (actor_field i.by & fields) (others_in_range (u32_field i.number) (moment_field i.at & actor_field i.by & fields) (others_in_range (byte_field 0 6 1) (item_fields i) fits))) in
+    let behind = others_in_range (actor_field i.by) fields (others_in_range (moment_field i.at) (actor_field i.by & fields) (others_in_range (u32_field i.number) (moment_field i.at & actor_field i.by & fields) (others_in_range (byte_field 0 7 1) (item_fields i) fits))) in
     let last = others_in_range shown (only_if (i.rev == 0)) (others_in_range (deed_fields i.deed) (shown & only_if (i.rev == 0)) behind) in
     eqb-true i.rev 0 (first_so (i.rev == 0) true last)
 

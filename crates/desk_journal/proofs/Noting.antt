@@ -56,19 +56,32 @@ other_note None b other place from old new less noted = ap (λ (n : List (Body �
 other_note (Some own) b other place from old new less noted =
     noted other ∙ ap (λ (t : Bool). cond t (Some (record { place = place; from = from; length = length own })) (note_of old other)) (apart b other less)
 
--- An item comes whose number is above those before it, and its text is noted: each text is noted as before, and its own so.
-pub entered : (P : Note → List ℕ → Type 0) (t : List Item) (i : Item) (place : Place) (from : ℕ) (old new : List (Body × Note))
+-- other items keep their notes
+others_noted : (P : Note → List ℕ → Type 0) (t : List Item) (i : Item) (place : Place) (from : ℕ) (old new : List (Body × Note))
     → AllByRecursion (λ (j : Item). j.number < i.number) t → NotesText (text_in i.deed) (body_of i) place from old new
-    → AllByRecursion (HasNote P old) t
-    → ((text : List ℕ) → recorded_in i ≡ Some text → P (record { place = place; from = from; length = length text }) text)
-    → AllByRecursion (HasNote P new) (t ++ i ∷ [])
-entered P [] i place from old new below noted all own = (
-  (λ text is. (record { place = place; from = from; length = length text }, own_note (text_in i.deed) (body_of i) place from old new text (recorded_is i text is) noted, own text is)),
-  all,
-)
-entered P (j ∷ t) i place from old new below noted all own = (
+    → AllByRecursion (HasNote P old) t → AllByRecursion (HasNote P new) t
+others_noted P [] i place from old new below noted all = all
+others_noted P (j ∷ t) i place from old new below noted all = (
   (λ text is.
       let found : (note : Note) × (note_of old (body_of j) ≡ Some note) × P note text = all.0 text is in
       (found.0, other_note (text_in i.deed) (body_of i) (body_of j) place from old new below.0 noted ∙ found.1, found.2)),
-  entered P t i place from old new below.1 noted all.1 own,
+  others_noted P t i place from old new below.1 noted all.1,
+)
+
+-- An item comes behind the first ones, whose number is above those of all others, and its text is noted: each text is noted as
+-- before, and its own so.
+pub entered : (P : Note → List ℕ → Type 0) (t behind : List Item) (i : Item) (place : Place) (from : ℕ) (old new : List (Body × Note))
+    → AllByRecursion (λ (j : Item). j.number < i.number) (t ++ behind) → NotesText (text_in i.deed) (body_of i) place from old new
+    → AllByRecursion (HasNote P old) (t ++ behind)
+    → ((text : List ℕ) → recorded_in i ≡ Some text → P (record { place = place; from = from; length = length text }) text)
+    → AllByRecursion (HasNote P new) ((t ++ i ∷ []) ++ behind)
+entered P [] behind i place from old new below noted all own = (
+  (λ text is. (record { place = place; from = from; length = length text }, own_note (text_in i.deed) (body_of i) place from old new text (recorded_is i text is) noted, own text is)),
+  others_noted P behind i place from old new below noted all,
+)
+entered P (j ∷ t) behind i place from old new below noted all own = (
+  (λ text is.
+      let found : (note : Note) × (note_of old (body_of j) ≡ Some note) × P note text = all.0 text is in
+      (found.0, other_note (text_in i.deed) (body_of i) (body_of j) place from old new below.0 noted ∙ found.1, found.2)),
+  entered P t behind i place from old new below.1 noted all.1 own,
 )

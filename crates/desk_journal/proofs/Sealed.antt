@@ -12,14 +12,17 @@ use Rattle.verb_core.specs.declared.mailbox.Body.{Body}
 use Rattle.verb_bytes.specs.declared.journal.JournalRecord.{JournalRecord}
 use Rattle.verb_bytes.specs.Spelling.{record_bytes}
 use Rattle.shelf.specs.declared.note.Note.{Note}
+use Rattle.store_kept.specs.Coming.{HasUndone, HasUndoneTexts}
 use Rattle.store_kept.specs.Kept.{IsRun, Kept, performed}
+use Rattle.store_kept.specs.Texts.{items_asked}
+use Rattle.store_kept.proofs.Coming.{texts_on}
 use Rattle.mail_desk.specs.Held.{Held}
 use Rattle.desk_journal.specs.Lasting.{JournalTold, Lasting, lasting}
 use Rattle.desk_journal.specs.Permanence.{RevsBelow}
 use Rattle.desk_journal.specs.Reading.{IsStill}
 use Rattle.desk_journal.specs.Records.{after_record, after_records, all_true, is_true}
 use Rattle.desk_journal.specs.Sealing.{ReadNoTexts, IsRecordOf, Seals, SealsPayloads}
-use Rattle.desk_journal.specs.Stored.{HoldsTexts, MarkedBefore, MarksLie, NotedBefore, NotesTexts, TextsLie}
+use Rattle.desk_journal.specs.Stored.{HoldsTexts, MarkedBefore, MarksLie, NotesTexts, TextsNoted, TextsStored}
 use Rattle.desk_journal.specs.Telling.{IsOnlyRead}
 use Rattle.desk_journal.proofs.Holding.{holds_closed, holds_same, holds_sealed, noted_later}
 use Rattle.desk_journal.proofs.Marking.{marked_later, marks_entered}
@@ -40,17 +43,17 @@ lies_longer payloads more gate count payload at = record {
 
 -- the same of a desk whose journal grew by a record that was performed
 pub noted_on : (gate next : ℕ) (bytes : List ℕ) (before after : Held) → next ≡ gate + 5 + length bytes → NotesTexts (gate + 5 + length bytes) (record { gate = gate; length = length bytes }) bytes before after
-    → NotedBefore gate before.notes before.kept.timeline → NotedBefore next after.notes after.kept.timeline
+    → TextsNoted gate before.notes before.kept → TextsNoted next after.notes after.kept
 noted_on gate next bytes before after is notes noted =
-    subst (λ n. NotedBefore n after.notes after.kept.timeline) (sym is)
-    (notes.before (noted_later gate (gate + 5 + length bytes) before.notes before.kept.timeline (omega arith) noted))
+    subst (λ n. TextsNoted n after.notes after.kept) (sym is)
+    (notes.before (noted_later gate (gate + 5 + length bytes) before.notes (items_asked before.kept) (omega arith) noted))
 
 -- the same of a desk to which nothing was done
 pub noted_same : (gate next : ℕ) (before after : Held) → next ≡ gate → after.kept ≡ before.kept → after.notes ≡ before.notes
-    → NotedBefore gate before.notes before.kept.timeline → NotedBefore next after.notes after.kept.timeline
+    → TextsNoted gate before.notes before.kept → TextsNoted next after.notes after.kept
 noted_same gate next before after is kept notes noted =
-    subst (λ n. NotedBefore n after.notes after.kept.timeline) (sym is)
-    (subst (λ (k : Kept). NotedBefore gate after.notes k.timeline) (sym kept) (subst (λ (n : List (Body × Note)). NotedBefore gate n before.kept.timeline) (sym notes) noted))
+    subst (λ n. TextsNoted n after.notes after.kept) (sym is)
+    (subst (TextsNoted gate after.notes) (sym kept) (subst (λ (n : List (Body × Note)). TextsNoted gate n before.kept) (sym notes) noted))
 
 -- ---- marks
 
@@ -81,8 +84,9 @@ module _ {D : Type 0} (told : D → DiskTold) where
         payloads = holds.payloads;
         texts = record {
           held = settled_holds (told new.disk) new.gate holds.payloads settled;
-          lie = subst (λ (k : Kept). TextsLie holds.payloads after.notes k.timeline) (sym kept) (subst (λ (n : List (Body × Note)). TextsLie holds.payloads n before.kept.timeline) (sym notes) holds.texts.lie);
+          lie = subst (TextsStored holds.payloads after.notes) (sym kept) (subst (λ (n : List (Body × Note)). TextsStored holds.payloads n before.kept) (sym notes) holds.texts.lie);
           revs = subst RevsBelow (sym kept) holds.texts.revs;
+          back = subst HasUndoneTexts (sym kept) holds.texts.back;
           runs = subst IsRun (sym kept) holds.texts.runs;
           marks = subst (λ (k : Kept). MarksLie holds.payloads k after.marks) (sym kept) (subst (λ (m : List (ℕ × Place)). MarksLie holds.payloads before.kept m) (sym marks) holds.texts.marks);
         };
@@ -161,15 +165,16 @@ module _ {D : Type 0} (told : D → DiskTold) where
   -- ---- an item
 
   -- the record of an item was sealed, and the item was entered
-  pub item_sealed : (what : JournalRecord) (bytes : List ℕ) (item : Item) (before after : Held) (old new : JournalTold D) → item.rev ≡ 0 → IsRecordOf what bytes before.kept item
+  pub item_sealed : (what : JournalRecord) (bytes : List ℕ) (item : Item) (before after : Held) (old new : JournalTold D) → HasUndone before.kept → item.number ≡ before.kept.next → item.rev ≡ 0 → IsRecordOf what bytes before.kept item
       → SealsPayloads (bytes ∷ []) [] (told old.disk) (told new.disk) old.gate new.gate → old.closed ≡ false → new.closed ≡ false → after.kept ≡ performed before.kept item → after.marks ≡ before.marks
       → NotesTexts (old.gate + 5 + length bytes) (record { gate = old.gate; length = length bytes }) bytes before after
       → Seals told (what ∷ []) [] (lasting before old) (lasting after new)
-  item_sealed what bytes item before after old new none made seals open_ still done same noted =
+  item_sealed what bytes item before after old new undone number none made seals open_ still done same noted =
       let can : after_record before.kept what ≡ Some after.kept = made.can_stand ∙ ap Some (sym done) in
       seals_one what bytes before after old new made.bytes_are made.truth seals open_ still (ap (λ (k : Kept). k.house) done) (λ why. can)
       (λ holds. holds_sealed told (lasting before old) (lasting after new) bytes lies_longer open_ (λ payloads settled. seals.settled payloads settled refl)
-      (λ payloads lies all. noted.lie payloads lies all) (λ revs. subst RevsBelow (sym done) (item_revs before.kept item none revs))
+      (λ payloads lies all. noted.lie payloads lies all) (λ revs back. subst RevsBelow (sym done) (item_revs before.kept item none revs))
+      (λ revs back. subst HasUndoneTexts (sym done) (texts_on before.kept.house before.kept.base before.kept.timeline before.kept.next item before.kept.undone number undone back))
       (λ runs. subst IsRun (sym done) (item_runs before.kept item runs))
       (λ payloads lies runs all. subst (MarksLie payloads after.kept) (sym same)
       (marks_entered payloads before.kept after.kept item before.marks (ap (λ (k : Kept). k.base) done) (ap (λ (k : Kept). k.timeline) done) all)) holds)

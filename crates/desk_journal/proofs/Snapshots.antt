@@ -13,12 +13,14 @@ use Rattle.shelf.specs.declared.note.Note.{Note}
 use Rattle.verb_core.specs.declared.mailbox.Body.{Body}
 use Rattle.box_store.specs.Making.{makes_store, store_of_rows}
 use Rattle.mail_desk.specs.Held.{Held}
+use Rattle.store_kept.specs.Coming.{HasUndoneTexts}
 use Rattle.store_kept.specs.Kept.{IsRun, Kept, passed, snapshotted, store_of}
+use Rattle.store_kept.specs.Texts.{items_asked}
 use Rattle.desk_journal.specs.Lasting.{JournalTold, Lasting, lasting}
 use Rattle.desk_journal.specs.Permanence.{RevsBelow}
 use Rattle.desk_journal.specs.Records.{after_kept, after_record, can_keep, is_spelled, snapshot_record}
 use Rattle.desk_journal.specs.Sealing.{IsRecordTo, Seals, SealsPayloads}
-use Rattle.desk_journal.specs.Stored.{MarkedBefore, MarksLie, NotedBefore, TextsLie}
+use Rattle.desk_journal.specs.Stored.{MarkedBefore, MarksLie, TextsNoted, TextsStored}
 use Rattle.desk_journal.specs.Submitting.{SealsNone, Snapshots, SnapshotsNone}
 use Rattle.desk_journal.proofs.Holding.{holds_sealed, noted_later}
 use Rattle.desk_journal.proofs.Marking.{marked_later, marks_kept, marks_snapshotted, marks_with}
@@ -44,10 +46,10 @@ snapshot_record_of kept bytes is makes spelled = record { bytes_are = sym is; ca
 
 -- each text is noted before the later gate
 pub noted_snapshot : (gate next : ℕ) (bytes : List ℕ) (before after : Held) → next ≡ gate + 5 + length bytes → after.kept ≡ snapshotted before.kept → after.notes ≡ before.notes
-    → NotedBefore gate before.notes before.kept.timeline → NotedBefore next after.notes after.kept.timeline
+    → TextsNoted gate before.notes before.kept → TextsNoted next after.notes after.kept
 noted_snapshot gate next bytes before after is kept notes noted =
-    subst (λ (k : Kept). NotedBefore next after.notes k.timeline) (sym kept) (subst (λ (n : List (Body × Note)). NotedBefore next n before.kept.timeline) (sym notes)
-    (noted_later gate next before.notes before.kept.timeline (omega (arith, is)) noted))
+    subst (TextsNoted next after.notes) (sym kept) (subst (λ (n : List (Body × Note)). TextsNoted next n before.kept) (sym notes)
+    (noted_later gate next before.notes (items_asked before.kept) (omega (arith, is)) noted))
 
 -- it is marked before the later gate
 pub marked_snapshot : (gate next n : ℕ) (bytes : List ℕ) (before after : List (ℕ × Place)) → next ≡ gate + 5 + length bytes → after ≡ with_mark n (record { gate = gate; length = length bytes }) before
@@ -67,8 +69,9 @@ module _ {D : Type 0} (told : D → DiskTold) where
       seals_one told (snapshot_record kept) bytes before after old new made.bytes_are made.truth seals open_ still (ap (λ (k : Kept). k.house) done)
       (λ why. made.can_stand ∙ ap Some (sym done))
       (holds_sealed told (lasting before old) (lasting after new) bytes lies_longer open_ (λ payloads settled. seals.settled payloads settled refl)
-      (λ payloads lies all. subst (λ n. TextsLie payloads n after.kept.timeline) (sym notes) (subst (λ (k : Kept). TextsLie payloads before.notes k.timeline) (sym done) all))
-      (λ revs. subst RevsBelow (sym done) revs)
+      (λ payloads lies all. subst (λ (n : List (Body × Note)). TextsStored payloads n after.kept) (sym notes) (subst (TextsStored payloads before.notes) (sym done) all))
+      (λ revs back. subst RevsBelow (sym done) revs)
+      (λ revs back. subst HasUndoneTexts (sym done) back)
       (λ runs. subst IsRun (sym done) runs)
       (λ payloads lies runs all. subst (MarksLie payloads after.kept) (sym marks)
       (marks_kept payloads kept after.kept (with_mark (length kept.timeline) (record { gate = old.gate; length = length bytes }) before.marks) (ap (λ (k : Kept). k.base) done) (ap (λ (k : Kept). k.timeline) done)

@@ -1,8 +1,10 @@
--- Which texts can be read: those of the items of a timeline.
-use Rattle.std.proofs.Common.{◌≡◌, ℕ, ◌+◌, ◌<◌, ◌≤◌, ◌==◌, Bool, true, false, cond, nat_le, nat_lt, List, ◌∷◌, length, find, Option, None, Some, Result, Ok, Err, IfOk, is_some, option_map, option_and_then, refl, ap, sym, subst, ◌∙◌, arith, []}
+-- Which texts can be read: those that records have of the items that may be asked for.
+use Rattle.std.proofs.Common.{◌≡◌, ◌≢◌, ℕ, ◌+◌, ◌≤◌, ◌==◌, ◌&&◌, Bool, true, false, cond, nat_le, List, ◌∷◌, ◌++◌, find, Option, None, Some, Result, Ok, Err, IfOk, is_some, option_and_then, refl, ap, sym, subst, ◌∙◌, arith, [], eqb-true}
+use Rattle.std.specs.Cmp.{first_so, second_so}
 use Rattle.std.specs.List.{AllByRecursion}
-use Rattle.std.specs.Option.{option_map_or}
+use Rattle.std.specs.Option.{option_map_or, option_or}
 use Rattle.std.proofs.lemmas.Bool.Decides.{nat_tests}
+use Rattle.std.proofs.lemmas.List.Folds.{find-append}
 use Rattle.undo_outside.specs.Disk.{DiskTold}
 use Rattle.seal_log.specs.Settled.{ReadsAlone}
 use Rattle.verb_core.specs.declared.item.Item.{Item}
@@ -11,12 +13,13 @@ use Rattle.verb_core.specs.Deeds.{is_notice}
 use Rattle.verb_core.specs.Items.{NumbersApart, text_in, text_of}
 use Rattle.shelf.specs.declared.note.Note.{Note}
 use Rattle.shelf.specs.Notes.{LiesBefore, note_of}
-use Rattle.repair_desk.specs.Repairs.{kept}
+use Rattle.store_kept.specs.Kept.{Kept}
+use Rattle.store_kept.specs.Texts.{has_text_kept, items_asked, items_behind, text_at_hand, text_kept}
 use Rattle.mail_desk.specs.Held.{Held}
-use Rattle.mail_desk.specs.Timeline.{SizesOf, body_of, has_text, item_of, noted_of, notice_text_of, notice_told_by, told_by}
-use Rattle.mail_desk.proofs.BodyTexts.{text_by_item}
-use Rattle.desk_journal.specs.Stored.{HasNote, IsBefore, NotedBefore}
-use Rattle.desk_journal.specs.Telling.{HoldsHeld, is_readable}
+use Rattle.mail_desk.specs.Timeline.{body_of, has_text, item_of, noted_of, notice_text_of, notice_told_by, told_by}
+use Rattle.desk_journal.specs.Stored.{HasNote, IsBefore, TextsNoted, is_recorded, item_with, recorded_in}
+use Rattle.desk_journal.specs.Telling.{HoldsHeld, is_readable, noted_in}
+use Rattle.desk_journal.proofs.Noting.{recorded_is}
 
 -- ---- items of a timeline
 
@@ -38,55 +41,131 @@ item_passes q (j ∷ t) i is =
       | false ↦ λ e is. item_passes q t i is
     ] refl is
 
--- ---- notes
+-- ---- items that bring a text
 
-some_none : {A B : Type 0} (f : A → B) (o : Option A) (b : B) → Some b ≡ option_map f o → o ≡ None → ⊥
-some_none f None b is none = absurd (cc is)
-some_none f (Some a) b is none = absurd (cc none)
+-- whether an item brings the text of a body
+abbrev brings : Body → Item → Bool
+brings body i = (i.number == body.origin) && (i.rev == body.rev) && is_some (text_in i.deed)
+
+-- what that says of it
+pub record Brought (body : Body) (i : Item) : Type 0 where
+  pub number : i.number ≡ body.origin
+  pub rev : i.rev ≡ body.rev
+  pub text : is_some (text_in i.deed) ≡ true
+
+brought_by : (body : Body) (i : Item) → brings body i ≡ true → Brought body i
+brought_by body i e =
+    let first : ((i.number == body.origin) && (i.rev == body.rev)) ≡ true = first_so ((i.number == body.origin) && (i.rev == body.rev)) (is_some (text_in i.deed)) e in
+    record {
+      number = eqb-true i.number body.origin (first_so (i.number == body.origin) (i.rev == body.rev) first);
+      rev = eqb-true i.rev body.rev (second_so (i.number == body.origin) (i.rev == body.rev) first);
+      text = second_so ((i.number == body.origin) && (i.rev == body.rev)) (is_some (text_in i.deed)) e;
+    }
+
+-- the item that was found brings it
+pub found_brings : (t : List Item) (body : Body) (i : Item) → item_with t body ≡ Some i → Brought body i
+found_brings t body i is = brought_by body i (item_passes (brings body) t i is)
 
 body_is : (i : Item) (body : Body) → i.number ≡ body.origin → i.rev ≡ body.rev → body_of i ≡ body
 body_is i body number rev = λ k. record { origin = number k; rev = rev k }
 
--- a note that no notice has is that of the text of an item
-module _ (P : Note → List ℕ → Type 0) (t : List Item) (notes : List (Body × Note)) (apart : NumbersApart t) (sizes : SizesOf notes t) (all : AllByRecursion (HasNote P notes) t) (body : Body) (note : Note) where
-  abbrev HasText : Type 0
-  HasText = (text : List ℕ) × (text_of t body ≡ Some text) × P note text
+-- what is found among the first items is found among all
+pub found_front : (t more : List Item) (body : Body) (i : Item) → item_with t body ≡ Some i → item_with (t ++ more) body ≡ Some i
+found_front t more body i is = find-append (brings body) t more ∙ ap (λ (o : Option Item). option_or o (item_with more body)) is
 
-  -- a noted body has a text
-  textless : note_of notes body ≡ Some note → text_of t body ≡ None → ⊥
-  textless noted none = some_none length (text_of t body) note.length (ap (option_map (λ (n : Note). n.length)) (sym noted) ∙ sizes body) none
+-- where the item of the body's number is a notice with its text, that item is found, and no record has the text
+pub notice_first : (t more : List Item) (body : Body) (text : List ℕ) → notice_text_of t body ≡ Some text → is_recorded (t ++ more) body ≡ false
+notice_first [] more body text is = absurd (cc is)
+notice_first (i ∷ t) more body text is = elim (i.number == body.origin) as (λ b. option_and_then (notice_told_by body) (cond b (Some i) (item_of t body.origin)) ≡ Some text
+    → is_some (option_and_then recorded_in (cond (b && (i.rev == body.rev) && is_some (text_in i.deed)) (Some i) (item_with (t ++ more) body))) ≡ false) [
+      | true ↦ λ e. own (is_notice i.deed) refl e
+      | false ↦ λ e. notice_first t more body text e
+    ] is
+  where
+    rev_of : (same : Bool) (o : Option (List ℕ)) (rest : Option Item) → cond same o None ≡ Some text → recorded_in i ≡ None → is_some (option_and_then recorded_in (cond (same && is_some o) (Some i) rest)) ≡ false
+    rev_of true (Some x) rest told none = ap is_some none
+    rev_of true None rest told none = absurd (cc told)
+    rev_of false o rest told none = absurd (cc told)
 
-  of_text : (i : Item) → item_of t body.origin ≡ Some i → note_of notes body ≡ Some note → is_notice i.deed ≡ false → (i.rev == body.rev) ≡ true
-      → (o : Option (List ℕ)) → text_in i.deed ≡ o → text_of t body ≡ o → HasText
-  of_text i found noted none same None is none_of = absurd (textless noted none_of)
-  of_text i found noted none same (Some text) is text_is =
-      let number : i.number ≡ body.origin = let passes : (i.number == body.origin) ≡ true = item_passes (λ (j : Item). j.number == body.origin) t i found in grind (arith, nat_tests) in
-      let rev : i.rev ≡ body.rev = grind (arith, nat_tests) in
-      let told = item_has (HasNote P notes) (λ (j : Item). j.number == body.origin) t i all found text (ap (λ b. cond b None (text_in i.deed)) none ∙ is) in
-      let at : note_of notes body ≡ Some told.0 = ap (note_of notes) (sym (body_is i body number rev)) ∙ told.1 in
-      let one : told.0 ≡ note = cc (sym at ∙ noted) in
-      (text, text_is, subst (λ (n : Note). P n text) one told.2)
+    own : (b : Bool) → is_notice i.deed ≡ b → cond b (told_by body i) None ≡ Some text
+        → is_some (option_and_then recorded_in (cond ((i.rev == body.rev) && is_some (text_in i.deed)) (Some i) (item_with (t ++ more) body))) ≡ false
+    own true e told = rev_of (i.rev == body.rev) (text_in i.deed) (item_with (t ++ more) body) told (ap (λ b. cond b None (text_in i.deed)) e)
+    own false e told = absurd (cc told)
 
-  of_rev : (i : Item) → item_of t body.origin ≡ Some i → note_of notes body ≡ Some note → is_notice i.deed ≡ false → (b : Bool) → (i.rev == body.rev) ≡ b
-      → text_of t body ≡ cond b (text_in i.deed) None → HasText
-  of_rev i found noted none false same is = absurd (textless noted is)
-  of_rev i found noted none true same is = of_text i found noted none same (text_in i.deed) refl is
+-- an item of a timeline that brings a text is the one of its number
+number_found : (t : List Item) (body : Body) (i : Item) → NumbersApart t → item_with t body ≡ Some i → item_of t body.origin ≡ Some i
+number_found [] body i apart is = absurd (cc is)
+number_found (j ∷ t) body i apart is = elim (brings body j) as (λ b. brings body j ≡ b → cond b (Some j) (item_with t body) ≡ Some i → cond (j.number == body.origin) (Some j) (item_of t body.origin) ≡ Some i) [
+  | true ↦ λ e is.
+      let number : j.number ≡ body.origin = (brought_by body j e).number in
+      let here : (j.number == body.origin) ≡ true = grind (arith, nat_tests) in
+      ap (λ b. cond b (Some j) (item_of t body.origin)) here ∙ is
+  | false ↦ λ e is.
+      let other : j.number ≢ i.number = item_has (λ (k : Item). j.number ≢ k.number) (brings body) t i apart.0 is in
+      let number : i.number ≡ body.origin = (found_brings t body i is).number in
+      let there : (j.number == body.origin) ≡ false = grind (arith, nat_tests) in
+      ap (λ b. cond b (Some j) (item_of t body.origin)) there ∙ number_found t body i apart.1 is
+] refl is
 
-  of_notice : (i : Item) → (o : Option (List ℕ)) → told_by body i ≡ o → cond (is_some o) None (note_of notes body) ≡ Some note → text_of t body ≡ o → HasText
-  of_notice i None is noted text = absurd (textless noted text)
-  of_notice i (Some told) is noted text = absurd (cc noted)
+-- its text, where it is no notice
+recorded_plain : (i : Item) → is_notice i.deed ≡ false → recorded_in i ≡ text_in i.deed
+recorded_plain i plain = ap (λ b. cond b None (text_in i.deed)) plain
 
-  of_item : (o : Option Item) → item_of t body.origin ≡ o → cond (is_some (option_and_then (notice_told_by body) o)) None (note_of notes body) ≡ Some note
-      → text_of t body ≡ option_and_then (told_by body) o → HasText
-  of_item None found noted text = absurd (textless noted text)
-  of_item (Some i) found noted text =
-      elim (is_notice i.deed) as (λ b. is_notice i.deed ≡ b → cond (is_some (cond b (told_by body i) None)) None (note_of notes body) ≡ Some note → HasText) [
-        | true ↦ λ e noted. of_notice i (told_by body i) refl noted text
-        | false ↦ λ e noted. of_rev i found noted e (i.rev == body.rev) refl text
-      ] refl noted
+-- ---- notes
 
-  pub noted_text_is : noted_of t notes body ≡ Some note → HasText
-  noted_text_is noted = of_item (item_of t body.origin) refl noted (text_by_item t apart body)
+-- a text that a record has among these items, with its note, and so
+pub record Recorded (P : Note → List ℕ → Type 0) (t : List Item) (notes : List (Body × Note)) (body : Body) : Type 0 where
+  pub note : Note
+  pub noted : note_of notes body ≡ Some note
+  pub text : List ℕ
+  pub text_is : text_of t body ≡ Some text
+  pub lies : P note text
+
+module _ (P : Note → List ℕ → Type 0) (t : List Item) (notes : List (Body × Note)) (all : AllByRecursion (HasNote P notes) t) (body : Body) where
+  by_text : (i : Item) → item_with t body ≡ Some i → (o : Option (List ℕ)) → recorded_in i ≡ o → is_some o ≡ true → Recorded P t notes body
+  by_text i found None own is = absurd (cc is)
+  by_text i found (Some text) own is =
+      let brought = found_brings t body i found in
+      let told = item_has (HasNote P notes) (brings body) t i all found text own in
+      record {
+        note = told.0;
+        noted = ap (note_of notes) (sym (body_is i body brought.number brought.rev)) ∙ told.1;
+        text = text;
+        text_is = ap (option_and_then (λ (j : Item). text_in j.deed)) found ∙ recorded_is i text own;
+        lies = told.2;
+      }
+
+  by_item : (o : Option Item) → item_with t body ≡ o → is_some (option_and_then recorded_in o) ≡ true → Recorded P t notes body
+  by_item None found is = absurd (cc is)
+  by_item (Some i) found is = by_text i found (recorded_in i) refl is
+
+  pub recorded_note : is_recorded t body ≡ true → Recorded P t notes body
+  recorded_note is = by_item (item_with t body) refl is
+
+-- where it lies
+pub noted_is : (held : Held) (body : Body) (gate : ℕ) → option_map_or (is_readable gate) (noted_in held body) false ≡ true → noted_of held.kept.timeline held.notes body ≡ noted_in held body
+noted_is held body gate can = by (is_recorded (items_asked held.kept) body) refl can
+  where
+    plain : (o : Option (List ℕ)) → notice_text_of held.kept.timeline body ≡ o → is_recorded (items_asked held.kept) body ≡ true → cond (is_some o) None (note_of held.notes body) ≡ note_of held.notes body
+    plain None e is = refl
+    plain (Some text) e is = absurd (let wrong : ◌≡◌ {A = Bool} true false = sym is ∙ notice_first held.kept.timeline (items_behind held.kept.undone) body text e in cc)
+
+    by : (b : Bool) → is_recorded (items_asked held.kept) body ≡ b → option_map_or (is_readable gate) (cond b (note_of held.notes body) None) false ≡ true
+        → noted_of held.kept.timeline held.notes body ≡ cond b (note_of held.notes body) None
+    by false is can = absurd (cc can)
+    by true is can = plain (notice_text_of held.kept.timeline body) refl is
+
+-- a note that is told of is that of a text
+pub noted_text_is : (P : Note → List ℕ → Type 0) (held : Held) (body : Body) (note : Note) → AllByRecursion (HasNote P held.notes) (items_asked held.kept) → noted_in held body ≡ Some note
+    → (text : List ℕ) × (text_at_hand held.kept body ≡ Some text) × P note text
+noted_text_is P held body note all is = by (is_recorded (items_asked held.kept) body) refl is
+  where
+    by : (b : Bool) → is_recorded (items_asked held.kept) body ≡ b → cond b (note_of held.notes body) None ≡ Some note → (text : List ℕ) × (text_at_hand held.kept body ≡ Some text) × P note text
+    by false e is = absurd (cc is)
+    by true e is =
+        let noted = recorded_note P (items_asked held.kept) held.notes all body e in
+        let one : noted.note ≡ note = cc (sym noted.noted ∙ is) in
+        (noted.text, noted.text_is, subst (λ (n : Note). P n noted.text) one noted.lies)
 
 -- what is read where a text lies is that text
 pub read_text : {W : Type 0} (result : Result (List ℕ) W) (found : Option (List ℕ)) (bytes text : List ℕ) → IfOk result (λ t. t ≡ bytes) → bytes ≡ text → found ≡ Some text → IfOk result (λ t. found ≡ Some t)
@@ -95,33 +174,63 @@ read_text (Err fault) found bytes text read is has = tt
 
 -- ---- what is told
 
--- a note before a gate that lies on the disk can be read
-pub readable : (gate size : ℕ) (note : Note) → gate < size → LiesBefore gate note → is_readable gate size note ≡ true
-readable gate size note end lies =
-    let first : nat_lt gate size ≡ true = grind (arith, nat_tests) in
+-- a note before a gate can be read
+pub readable : (gate : ℕ) (note : Note) → LiesBefore gate note → is_readable gate note ≡ true
+readable gate note lies =
     let place : note.place.gate + 5 + note.place.length ≤ gate = lies.place in
     let second : nat_le (note.place.gate + 5 + note.place.length) gate ≡ true = grind (arith, nat_tests) in
     let range : note.from + note.length ≤ note.place.length = lies.range in
     let third : nat_le (note.from + note.length) note.place.length ≡ true = grind (arith, nat_tests) in
-    rw first (rw second third)
+    rw second third
 
-no_text : (o : Option (List ℕ)) → None ≡ option_map length o → is_some o ≡ true → ⊥
-no_text None is some = absurd (cc some)
-no_text (Some text) is some = absurd (cc is)
-
--- the text of a body that has one, which no notice brings, can be read
-pub can_read : (gate size : ℕ) (held : Held) (body : Body) → NumbersApart held.kept.timeline → SizesOf held.notes held.kept.timeline → gate < size → NotedBefore gate held.notes held.kept.timeline
-    → notice_text_of held.kept.timeline body ≡ None → has_text held.kept.timeline body ≡ true → option_map_or (is_readable gate size) (noted_of held.kept.timeline held.notes body) false ≡ true
-can_read gate size held body apart sizes end_is noted none has = by_note (note_of held.notes body) refl
+-- the text of a body of the timeline that no notice brings lies in a record
+pub recorded_kept : (t : List Item) (body : Body) → NumbersApart t → notice_text_of t body ≡ None → has_text t body ≡ true → (i : Item) × (item_with t body ≡ Some i) × (is_some (recorded_in i) ≡ true)
+recorded_kept t body apart none has = by (item_with t body) refl has
   where
-    noted_is : noted_of held.kept.timeline held.notes body ≡ note_of held.notes body
-    noted_is = ap (λ (o : Option (List ℕ)). cond (is_some o) None (note_of held.notes body)) none
+    plain : (i : Item) → item_with t body ≡ Some i → (b : Bool) → is_notice i.deed ≡ b → is_some (recorded_in i) ≡ true
+    plain i found false e = ap is_some (recorded_plain i e) ∙ (found_brings t body i found).text
+    plain i found true e =
+        let brought = found_brings t body i found in
+        let here : (i.rev == body.rev) ≡ true = let rev : i.rev ≡ body.rev = brought.rev in grind (arith, nat_tests) in
+        let told : notice_text_of t body ≡ text_in i.deed =
+        ap (option_and_then (notice_told_by body)) (number_found t body i apart found) ∙ ap (λ b. cond b (told_by body i) None) e ∙ ap (λ b. cond b (text_in i.deed) None) here in
+        absurd (let wrong : ◌≡◌ {A = Bool} true false = sym brought.text ∙ ap is_some (sym told ∙ none) in cc)
 
-    by_note : (o : Option Note) → note_of held.notes body ≡ o → option_map_or (is_readable gate size) (noted_of held.kept.timeline held.notes body) false ≡ true
-    by_note None is = absurd (no_text (text_of held.kept.timeline body) (sym (ap (option_map (λ (n : Note). n.length)) is) ∙ sizes body) has)
-    by_note (Some note) is =
-        let told = noted_text_is (IsBefore gate) held.kept.timeline held.notes apart sizes noted body note (noted_is ∙ is) in
-        ap (λ (o : Option Note). option_map_or (is_readable gate size) o false) (noted_is ∙ is) ∙ readable gate size note end_is told.2.lies
+    by : (o : Option Item) → item_with t body ≡ o → is_some (option_and_then (λ (i : Item). text_in i.deed) o) ≡ true → (i : Item) × (item_with t body ≡ Some i) × (is_some (recorded_in i) ≡ true)
+    by None found has = absurd (cc has)
+    by (Some i) found has = (i, found, plain i found (is_notice i.deed) refl)
+
+pub kept_recorded : (t : List Item) (body : Body) → NumbersApart t → notice_text_of t body ≡ None → has_text t body ≡ true → is_recorded t body ≡ true
+kept_recorded t body apart none has =
+    let found = recorded_kept t body apart none has in
+    ap (λ (o : Option Item). is_some (option_and_then recorded_in o)) found.1 ∙ found.2
+
+-- a text that a record has, of an item that may be asked for, can be read
+pub recorded_readable : (gate : ℕ) (held : Held) (body : Body) → TextsNoted gate held.notes held.kept → is_recorded (items_asked held.kept) body ≡ true
+    → option_map_or (is_readable gate) (noted_in held body) false ≡ true
+recorded_readable gate held body noted is =
+    let told = recorded_note (IsBefore gate) (items_asked held.kept) held.notes noted body is in
+    ap (λ b. option_map_or (is_readable gate) (cond b (note_of held.notes body) None) false) is
+    ∙ ap (λ (o : Option Note). option_map_or (is_readable gate) o false) told.noted ∙ readable gate told.note told.lies.lies
+
+-- so can the text of a body of the timeline that no notice brings
+pub can_read : (gate : ℕ) (held : Held) (body : Body) → NumbersApart held.kept.timeline → TextsNoted gate held.notes held.kept
+    → notice_text_of held.kept.timeline body ≡ None → has_text held.kept.timeline body ≡ true → option_map_or (is_readable gate) (noted_in held body) false ≡ true
+can_read gate held body apart noted none has =
+    let found = recorded_kept held.kept.timeline body apart none has in
+    recorded_readable gate held body noted
+    (ap (λ (o : Option Item). is_some (option_and_then recorded_in o)) (found_front held.kept.timeline (items_behind held.kept.undone) body found.0 found.1) ∙ found.2)
+
+-- the text at hand of a body that is kept is what is kept
+pub kept_at_hand : {W : Type 0} (result : Result (List ℕ) W) (kept : Kept) (body : Body) → has_text_kept kept body ≡ true → IfOk result (λ text. text_at_hand kept body ≡ Some text)
+    → IfOk result (λ text. text_kept kept body ≡ Some text)
+kept_at_hand (Err why) kept body has at = tt
+kept_at_hand (Ok text) kept body has at = by (item_with kept.timeline body) refl has
+  where
+    by : (o : Option Item) → item_with kept.timeline body ≡ o → is_some (option_and_then (λ (i : Item). text_in i.deed) o) ≡ true → text_kept kept body ≡ Some text
+    by None found has = absurd (cc has)
+    by (Some i) found has =
+        ap (option_and_then (λ (j : Item). text_in j.deed)) (found ∙ sym (found_front kept.timeline (items_behind kept.undone) body i found)) ∙ at
 
 -- ---- reading goes on
 
@@ -133,6 +242,7 @@ held_on old new held reads holds = (
     held = record { honest = reads.reads.honest holds.1.held.honest; front = λ c image. holds.1.held.front c (reads.reads.images holds.1.held.honest c image) };
     lie = holds.1.lie;
     revs = holds.1.revs;
+    back = holds.1.back;
     runs = holds.1.runs;
     marks = holds.1.marks;
   },

@@ -18,7 +18,7 @@ use Rattle.verb_bytes.specs.declared.journal.JournalRecord.TheVariants.{Format, 
 use Rattle.house_text.specs.Beginning.{can_begin}
 use Rattle.store_kept.specs.Kept.{Kept, new_desk, store_of}
 use Rattle.mail_desk.proofs.Readied.{asked_is}
-use Rattle.desk_journal.specs.Records.{after_record, after_records, all_true, are_true, behind, is_spelled, is_true, opening_state, record_code, snapshot_record, state, true_record}
+use Rattle.desk_journal.specs.Records.{after_record, after_records, all_true, are_true, is_spelled, is_true, opening_state, record_code, snapshot_record, state, true_record}
 use Rattle.desk_journal.specs.Sameness.{is_same, same_codes}
 
 -- ---- the test

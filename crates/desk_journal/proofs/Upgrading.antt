@@ -5,16 +5,17 @@ use Rattle.verb_bytes.specs.declared.journal.JournalRecord.TheVariants.{Upgrade}
 use Rattle.verb_bytes.specs.Spelling.{record_bytes}
 use Rattle.seal_log.specs.declared.fault.SealFault.{SealFault}
 use Rattle.seal_log.specs.declared.fault.SealFault.TheVariants as log_faults
-use Rattle.seal_log.specs.declared.place.Place.{Place}
 use Rattle.shelf.specs.declared.note.Note.{Note}
 use Rattle.verb_core.specs.declared.mailbox.Body.{Body}
 use Rattle.mail_desk.specs.Held.{Held}
+use Rattle.store_kept.specs.Coming.{HasUndoneTexts}
 use Rattle.store_kept.specs.Kept.{IsRun, Kept, upgraded}
+use Rattle.store_kept.specs.Texts.{items_asked}
 use Rattle.desk_journal.specs.Lasting.{JournalTold, Lasting, lasting}
 use Rattle.desk_journal.specs.Permanence.{RevsBelow}
 use Rattle.desk_journal.specs.Records.{after_record, is_spelled}
-use Rattle.desk_journal.specs.Sealing.{IsRecordTo, Seals, SealsPayloads}
-use Rattle.desk_journal.specs.Stored.{MarksLie, NotedBefore, TextsLie}
+use Rattle.desk_journal.specs.Sealing.{IsRecordTo, SealsPayloads}
+use Rattle.desk_journal.specs.Stored.{MarksLie, TextsNoted, TextsStored}
 use Rattle.desk_journal.specs.Submitting.{SealsNone, Upgrades, UpgradesNone, UpgradesOnce}
 use Rattle.desk_journal.proofs.Holding.{holds_sealed, noted_later}
 use Rattle.desk_journal.proofs.Marking.{marks_kept}
@@ -40,10 +41,10 @@ upgrade_is kept new at is = by (is_spelled (Upgrade at)) kept.deep is
 
 -- each text is noted before the later gate
 pub noted_upgrade : (gate next : ℕ) (bytes : List ℕ) (before after : Held) → next ≡ gate + 5 + length bytes → after.kept ≡ upgraded before.kept → after.notes ≡ before.notes
-    → NotedBefore gate before.notes before.kept.timeline → NotedBefore next after.notes after.kept.timeline
+    → TextsNoted gate before.notes before.kept → TextsNoted next after.notes after.kept
 noted_upgrade gate next bytes before after is kept notes noted =
-    subst (λ (k : Kept). NotedBefore next after.notes k.timeline) (sym kept) (subst (λ (n : List (Body × Note)). NotedBefore next n before.kept.timeline) (sym notes)
-    (noted_later gate next before.notes before.kept.timeline (omega (arith, is)) noted))
+    subst (TextsNoted next after.notes) (sym kept) (subst (λ (n : List (Body × Note)). TextsNoted next n before.kept) (sym notes)
+    (noted_later gate next before.notes (items_asked before.kept) (omega (arith, is)) noted))
 
 -- one that is deep is as an upgrade leaves it
 pub upgraded_again : (kept : Kept) → kept.deep ≡ true → kept ≡ upgraded kept
@@ -61,8 +62,9 @@ module _ {D : Type 0} (told : D → DiskTold) where
     seals_one told (Upgrade at) bytes before after old new made.bytes_are made.truth seals open_ still (ap (λ (k : Kept). k.house) done)
         (λ why. made.can_stand ∙ ap Some (sym done))
         (holds_sealed told (lasting before old) (lasting after new) bytes lies_longer open_ (λ payloads settled. seals.settled payloads settled refl)
-        (λ payloads lies all. subst (λ n. TextsLie payloads n after.kept.timeline) (sym notes) (subst (λ (k : Kept). TextsLie payloads before.notes k.timeline) (sym done) all))
-        (λ revs. subst RevsBelow (sym done) revs)
+        (λ payloads lies all. subst (λ (n : List (Body × Note)). TextsStored payloads n after.kept) (sym notes) (subst (TextsStored payloads before.notes) (sym done) all))
+        (λ revs back. subst RevsBelow (sym done) revs)
+        (λ revs back. subst HasUndoneTexts (sym done) back)
         (λ runs. subst IsRun (sym done) runs)
         (λ payloads lies runs all. subst (MarksLie payloads after.kept) (sym marks)
         (marks_kept payloads before.kept after.kept before.marks (ap (λ (k : Kept). k.base) done) (ap (λ (k : Kept). k.timeline) done) all))),

@@ -4,7 +4,6 @@ use Rattle.verb_core.specs.declared.mailbox.Body.{Body}
 use Rattle.shelf.specs.declared.note.Note.{Note}
 use Rattle.seal_log.specs.declared.place.Place.{Place}
 use Rattle.seal_log.specs.declared.log.Log.{Log}
-use Rattle.seal_log.specs.Log.{last_gate}
 use Rattle.mail_desk.specs.Held.{Held, Room}
 use Rattle.store_kept.specs.Kept.{Kept}
 
@@ -19,15 +18,20 @@ pub record Lasting (D : Type 0) : Type 0 where
   pub gate : ℕ
   pub closed : Bool
 
+-- a disk, and the gate at which the journal on it ends, up to which it is read
+pub record PastTold (D : Type 0) : Type 0 where
+  pub disk : D
+  pub end : ℕ
+
 -- the part of it that is the journal
 pub record JournalTold (D : Type 0) : Type 0 where
   pub disk : D
   pub gate : ℕ
   pub closed : Bool
 
--- of a disk, and the end of the journal on it
-abbrev pub journal_of : {D : Type 0} → D → Log → JournalTold D
-journal_of disk log = record { disk = disk; gate = last_gate log; closed = log.closed }
+-- of a disk, the end of the journal on it, and its log
+abbrev pub journal_of : {D : Type 0} → PastTold D → Log → JournalTold D
+journal_of past log = record { disk = past.disk; gate = past.end; closed = log.closed }
 
 -- of a desk in memory and its journal
 abbrev pub lasting : {D : Type 0} → Held → JournalTold D → Lasting D

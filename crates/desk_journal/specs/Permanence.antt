@@ -14,6 +14,7 @@ use Rattle.verb_core.specs.Items.{IsTimeline}
 use Rattle.verb_core.specs.Step.{run}
 use Rattle.verb_core.specs.Store.{is_house, is_known}
 use Rattle.store_kept.specs.Bases.{HasBase}
+use Rattle.store_kept.specs.Coming.{HasUndone}
 use Rattle.store_kept.specs.Kept.{IsRun, Kept, stamp_at, store_of}
 use Rattle.store_kept.specs.Texts.{text_kept}
 
@@ -43,7 +44,7 @@ message_at kept id stamp uid = if has_stamp kept id stamp then option_map (messa
 -- ---- what holds of all that is kept
 
 -- The base carries it, and the store is what its items leave; they are well formed, with distinct numbers below the next one; its
--- stamps name the mailboxes, and are below the next number too.
+-- stamps name the mailboxes, and are below the next number too; and what the last cycle left to be withdrawn can come back.
 pub record IsSound (kept : Kept) : Type 0 where
   pub house : IsTrue (is_house kept.house)
   pub aliases : IsTrue (list_all (λ a. list_all (is_known kept.house) a.users) kept.opening.aliases)
@@ -53,6 +54,7 @@ pub record IsSound (kept : Kept) : Type 0 where
   pub below : AllByRecursion (λ (i : Item). i.number < kept.next) kept.timeline
   pub named : map (λ (r : BoxId × ℕ). r.0) kept.stamps ≡ map (λ (r : BoxId × Mailbox). r.0) (store_of kept).boxes
   pub fresh : AllByRecursion (λ (r : BoxId × ℕ). r.1 < kept.next) kept.stamps
+  pub undone : HasUndone kept
 
 -- each text has a rev below the next number: 0, or the number of the cycle that replaced it
 abbrev pub RevsBelow : Kept → Type 0

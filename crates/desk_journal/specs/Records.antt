@@ -1,5 +1,5 @@
 -- Records, what they leave one after the other, and when one can stand.
-use Rattle.std.specs.Prelude.{◌≡◌, ℕ, ◌==◌, nat_lt, Bool, true, false, ◌&&◌, not, List, [], ◌∷◌, map, length, nat_le, is_some, Option, Some, None, option_and_then, if◌then◌else◌}
+use Rattle.std.specs.Prelude.{◌≡◌, ℕ, ◌==◌, nat_lt, Bool, true, false, ◌&&◌, not, List, [], ◌∷◌, map, length, nat_le, is_some, Option, Some, None, option_and_then, option_map, if◌then◌else◌}
 use Rattle.std.specs.Coded.{Coded, codes}
 use Rattle.std.specs.List.{list_all, cons_option}
 use Rattle.std.specs.Option.{option_map_or}
@@ -14,14 +14,17 @@ use Rattle.verb_core.specs.Live.{answered}
 use Rattle.verb_core.specs.Store.{is_known}
 use Rattle.verb_bytes.specs.declared.journal.CycleAsk.{CycleAsk}
 use Rattle.verb_bytes.specs.declared.journal.JournalRecord.{JournalRecord}
-use Rattle.verb_bytes.specs.declared.journal.JournalRecord.TheVariants.{Format, Verb, Operator, Cycle, Snapshot, Upgrade}
+use Rattle.verb_bytes.specs.declared.journal.JournalRecord.TheVariants.{Format, Verb, Operator, Cycle, Snapshot, Upgrade, Withdraw}
 use Rattle.verb_bytes.specs.Fields.{are_in_range}
 use Rattle.verb_bytes.specs.Spelling.{record_bytes, record_fields}
 use Rattle.seal_log.specs.Journal.{StandsFor}
+use Rattle.withdraw.specs.declared.undone.UndoneBehind.{UndoneBehind}
 use Rattle.box_store.specs.Making.{makes_store}
-use Rattle.store_kept.specs.Kept.{Kept, new_desk, passed, performed, snapshotted, store_of, upgraded}
+use Rattle.store_kept.specs.Kept.{Kept, new_desk, passed, performed, snapshotted, store_of, undone_of, upgraded}
 use Rattle.repair_desk.specs.Repairs.{are_known, position}
 use Rattle.cycle_rules.specs.Asking.{Due, Repeats, NoPoint, NoNumbers, Rewinds, after_cycle, cycle_due}
+use Rattle.cycle_rules.specs.Cycles.{Cycled}
+use Rattle.cycle_rules.specs.Withdrawals.{after_withdrawal, withdraw_due}
 use Rattle.house_text.specs.Beginning.{can_begin}
 use Rattle.desk_journal.specs.Sameness.{is_same}
 
@@ -49,9 +52,23 @@ is_cycle what = is_some (cycle_in what)
 abbrev pub is_snapshot : JournalRecord → Bool
 is_snapshot what = is_some (snapshot_in what)
 
--- the place of the timeline that a record goes back to, where it goes back: behind it all is performed anew
+-- whether a record goes back to a place and performs all behind it anew: it is a cycle or a withdrawal
+abbrev pub is_rewind : JournalRecord → Bool
+is_rewind (Cycle number at ask) = true
+is_rewind (Withdraw number at key of) = true
+is_rewind _ = false
+
+-- whether a record is a withdrawal
+abbrev pub is_withdrawal : JournalRecord → Bool
+is_withdrawal (Withdraw number at key of) = true
+is_withdrawal _ = false
+
+-- the place of the timeline that a record goes back to, where it goes back: behind it all is performed anew. A withdrawal goes back
+-- to the point of its cycle
 abbrev pub place_rewound_to : Kept → JournalRecord → Option ℕ
-place_rewound_to kept what = option_and_then (λ ask. position kept.timeline ask.point) (cycle_in what)
+place_rewound_to kept (Cycle number at ask) = position kept.timeline ask.point
+place_rewound_to kept (Withdraw number at key of) = option_map (λ (last : UndoneBehind). last.position) (undone_of kept of)
+place_rewound_to kept _ = None
 
 -- ---- one record
 
@@ -79,12 +96,13 @@ is_spelled what = are_in_range (record_fields what)
 abbrev pub after_item : Kept → JournalRecord → Item → Option Kept
 after_item kept what item = if is_spelled what && can_follow kept item then Some (performed kept item) else None
 
--- what is kept after a request for a cycle, where a cycle is due: its key is new, its point known, and numbers are left
-abbrev pub after_due : Kept → CycleAsk → Due → Option Kept
-after_due kept ask (Repeats report) = None
-after_due kept ask NoPoint = None
-after_due kept ask NoNumbers = None
-after_due kept ask (Rewinds due) = Some (after_cycle kept ask due)
+-- what is kept after a request for a cycle or a withdrawal, where one is due: its key is new, what it goes back to is there, and
+-- numbers are left
+abbrev pub after_due : (Cycled → Kept) → Due → Option Kept
+after_due after (Repeats report) = None
+after_due after NoPoint = None
+after_due after NoNumbers = None
+after_due after (Rewinds due) = Some (after due)
 
 -- whether a cycle can follow: it has the next number, and the users that its acts name are known
 abbrev pub can_rewind : Kept → ℕ → CycleAsk → Bool
@@ -93,7 +111,12 @@ can_rewind kept number ask = (number == kept.next) && are_known kept.house ask.i
 -- what is kept after the record of a cycle, where it can stand
 abbrev pub after_cycle_record : Kept → ℕ → ℕ → CycleAsk → Option Kept
 after_cycle_record kept number at ask =
-    if is_spelled (Cycle number at ask) && can_rewind kept number ask then after_due kept ask (cycle_due kept at ask) else None
+    if is_spelled (Cycle number at ask) && can_rewind kept number ask then after_due (after_cycle kept ask) (cycle_due kept at ask) else None
+
+-- what is kept after the record of a withdrawal, where it can stand: it has the next number
+abbrev pub after_withdraw_record : Kept → ℕ → ℕ → List ℕ → ℕ → Option Kept
+after_withdraw_record kept number at key of =
+    if is_spelled (Withdraw number at key of) && (number == kept.next) then after_due (after_withdrawal kept key) (withdraw_due kept at key of) else None
 
 -- the snapshot of what is kept: how many items are in force, and the store that they leave
 abbrev pub snapshot_record : Kept → JournalRecord
@@ -138,6 +161,7 @@ after_record kept (Operator number at act) = after_item kept (Operator number at
 after_record kept (Cycle number at ask) = after_cycle_record kept number at ask
 after_record kept (Snapshot items conf rows) = after_snapshot kept items conf rows
 after_record kept (Upgrade at) = after_upgrade kept at
+after_record kept (Withdraw number at key of) = after_withdraw_record kept number at key of
 after_record kept _ = None
 
 -- ---- many

@@ -1,5 +1,5 @@
 -- What a call seals.
-use Rattle.std.specs.Prelude.{◌≡◌, ◌≤◌, ◌⊎◌, ℕ, ◌||◌, Bool, true, false, not, IsSome, IsTrue, List, [], ◌∷◌, ◌++◌, Some}
+use Rattle.std.specs.Prelude.{◌≡◌, ◌≤◌, ◌⊎◌, ℕ, ◌||◌, Bool, false, not, IsSome, IsTrue, List, [], ◌∷◌, ◌++◌, Some}
 use Rattle.std.specs.List.{list_any}
 use Rattle.undo_outside.specs.Disk.{DiskTold, WriteFailed}
 use Rattle.undo_outside.specs.Moments.{LeavesOnly}
@@ -11,7 +11,7 @@ use Rattle.verb_bytes.specs.declared.journal.JournalRecord.{JournalRecord}
 use Rattle.verb_bytes.specs.Spelling.{record_bytes}
 use Rattle.store_kept.specs.Kept.{Kept, performed}
 use Rattle.desk_journal.specs.Lasting.{Lasting}
-use Rattle.desk_journal.specs.Records.{after_record, after_records, all_true, is_cycle, is_true, payloads_of}
+use Rattle.desk_journal.specs.Records.{after_record, after_records, all_true, is_rewind, is_true, payloads_of}
 use Rattle.desk_journal.specs.Stored.{HoldsTexts}
 
 -- a record that can stand, and is true: these are its bytes, and this is what it leaves
@@ -43,17 +43,17 @@ pub record SealsPayloads (added failed : List (List ℕ)) (old new : DiskTold) (
   pub reliable : new.is_reliable ≡ old.is_reliable
   pub honest : old.honest → new.honest
 
--- whether a record's performing reads texts: a cycle performs items with the texts that the disk gives
+-- whether a record's performing reads texts: a cycle or a withdrawal performs items with the texts that the disk gives
 abbrev pub reads_texts : JournalRecord → Bool
-reads_texts what = is_cycle what
+reads_texts what = is_rewind what
 
 -- none of the records performs anything with texts that are read
 abbrev pub ReadNoTexts : List JournalRecord → Type 0
 ReadNoTexts records = list_any reads_texts records ≡ false
 
 -- The same of records and a desk: each could stand and is true, what is kept is what the sealed ones leave, and the desk is
--- closed from then on where one failed. A cycle performs items with the texts that are read: what it leaves is told where those
--- are what was stored.
+-- closed from then on where one failed. A cycle or a withdrawal performs items with the texts that are read: what it leaves is told
+-- where those are what was stored.
 pub record Seals {D : Type 0} (told : D → DiskTold) (added failed : List JournalRecord) (old new : Lasting D) : Type 0 where
   pub kept : HoldsTexts told old ⊎ ReadNoTexts added → after_records old.kept added ≡ Some new.kept
   pub house : new.kept.house ≡ old.kept.house

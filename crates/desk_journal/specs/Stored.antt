@@ -1,5 +1,5 @@
 -- Where the texts of what is kept lie in the journal.
-use Rattle.std.specs.Prelude.{◌≡◌, ◌≤◌, ◌+◌, ℕ, false, List, length, take, Option, Some, None, if◌then◌else◌}
+use Rattle.std.specs.Prelude.{◌≡◌, ◌≤◌, ◌+◌, ◌==◌, ◌&&◌, ℕ, Bool, false, List, length, take, find, [], Option, Some, None, is_some, option_and_then, if◌then◌else◌}
 use Rattle.std.specs.List.{AllByRecursion}
 use Rattle.undo_outside.specs.Disk.{DiskTold}
 use Rattle.verb_core.specs.Items.{text_in}
@@ -21,6 +21,7 @@ use Rattle.mail_desk.specs.Held.{Held}
 use Rattle.mail_desk.specs.Noting.{renoted}
 use Rattle.mail_desk.specs.declared.noting.Fresh.{Fresh}
 use Rattle.mail_desk.specs.Timeline.{body_of}
+use Rattle.store_kept.specs.Coming.{HasUndoneTexts}
 use Rattle.store_kept.specs.Kept.{IsRun, Kept}
 use Rattle.store_kept.specs.Texts.{is_in_memory, items_asked}
 use Rattle.desk_journal.specs.Lasting.{Lasting}
@@ -29,6 +30,14 @@ use Rattle.desk_journal.specs.Permanence.{RevsBelow}
 -- the text that an item has in a record: none where it is in memory
 abbrev pub recorded_in : Item → Option (List ℕ)
 recorded_in i = if is_in_memory i then None else text_in i.deed
+
+-- the item among these that brings the text of a body: the first of its number and rev that has one
+abbrev pub item_with : List Item → Body → Option Item
+item_with t body = find (λ (i : Item). (i.number == body.origin) && (i.rev == body.rev) && is_some (text_in i.deed)) t
+
+-- whether a record has the text of a body that one of these items brings: there is one, and it is not in memory
+abbrev pub is_recorded : List Item → Body → Bool
+is_recorded t body = is_some (option_and_then recorded_in (item_with t body))
 
 -- ---- one text
 
@@ -89,6 +98,11 @@ MarksLie payloads kept marks = AllByRecursion (MarkLies payloads kept) marks
 abbrev pub MarkedBefore : ℕ → List (ℕ × Place) → Type 0
 MarkedBefore gate marks = AllByRecursion (λ (m : ℕ × Place). m.1.gate + 5 + m.1.length ≤ gate) marks
 
+-- each text that may be asked for, and each snapshot, is noted as lying before a gate
+pub record AreNoted (gate : ℕ) (held : Held) : Type 0 where
+  pub noted : TextsNoted gate held.notes held.kept
+  pub marked : MarkedBefore gate held.marks
+
 -- ---- an item
 
 -- What becomes of the notes when a record is performed whose bytes lie at a place before a gate: if each text was noted so,
@@ -125,19 +139,24 @@ pub record IsFresh (c at : ℕ) (ask : CycleAsk) (place : Place) (bytes : List �
 abbrev pub Renotes : List (Body × Note) → Fresh → List Item → List (Body × Note) → Type 0
 Renotes old fresh timeline new = (body : Body) → note_of new body ≡ renoted old fresh timeline body
 
+-- the same where the record at a place brings none
+abbrev pub NotesNone : Place → List (Body × Note) → List Item → List (Body × Note) → Type 0
+NotesNone place old timeline new = (fresh : Fresh) × (fresh.place ≡ place) × (fresh.shelf.notes ≡ []) × Renotes old fresh timeline new
+
 -- the same of the cycle c at a moment, where its record lies at a place
 abbrev pub NotesCycle : ℕ → ℕ → CycleAsk → Place → List (Body × Note) → List Item → List (Body × Note) → Type 0
 NotesCycle c at ask place old timeline new = (fresh : Fresh) × IsFresh c at ask place (record_bytes (Cycle c at ask)) fresh × Renotes old fresh timeline new
 
 -- ---- the disk
 
--- Each image of the disk begins with these payloads, and in them each text of what is kept lies where it is noted, and each
--- snapshot where it is marked: what is read is what was stored, and the store is what the items in force leave. So the disk is
--- honest.
+-- Each image of the disk begins with these payloads, and in them each text that may be asked for lies where it is noted, and each
+-- snapshot where it is marked: what is read is what was stored, the store is what the items in force leave, and what can come back
+-- has its texts still. So the disk is honest.
 pub record TextsHeld (disk : DiskTold) (payloads : List (List ℕ)) (kept : Kept) (notes : List (Body × Note)) (snapshots : List (ℕ × Place)) : Type 0 where
   pub held : Holds disk payloads
   pub lie : TextsStored payloads notes kept
   pub revs : RevsBelow kept
+  pub back : HasUndoneTexts kept
   pub runs : IsRun kept
   pub marks : MarksLie payloads kept snapshots
 

@@ -1,5 +1,5 @@
-//! Where the texts lie that a cycle brings: in its own record.
-ghost use Rattle.std.specs.Prelude.{◌≡◌, ◌+◌, ◌≢◌, ℕ, List, length, take, drop, IfOk, OnOk};
+//! Where the texts lie that a record brings: in the record itself. A withdrawal brings none.
+ghost use Rattle.std.specs.Prelude.{◌≡◌, ◌+◌, ◌≢◌, ℕ, [], List, length, take, drop, IfOk, OnOk};
 ghost use Rattle.std.specs.List.{AllZip};
 ghost use Rattle.verb_core.specs.declared.item.Deed.TheVariants.{Act as Acts};
 ghost use Rattle.verb_core.specs.Items.{text_in};
@@ -200,4 +200,15 @@ pub fn fresh_of(alloc: Global, number: u32, ask: &CycleAsk, place: Place) -> Res
     set_out(alloc, &mut shelf, number, ask, place)?;
     note_ask(&mut shelf, number, ask, spots.as_slice(), place)?;
     Ok(Fresh { place, shelf })
+}
+
+/// The place of a record that brings no texts.
+pub fn no_fresh(alloc: Global, place: Place) -> Fresh
+    ensures place { result.place ≡ place }
+    ensures none { result.shelf.notes ≡ [] }
+{
+    Fresh {
+        place,
+        shelf: Shelf::new(alloc),
+    }
 }

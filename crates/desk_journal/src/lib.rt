@@ -1,6 +1,6 @@
 //! The journal of a desk: what each call on a desk in memory seals in it, and what its records leave.
 //!
-//! `on_disk` has the journal on a disk, `seal` seals the record of an item, and `spelling` makes the bytes of each. `make` begins a
+//! `on_disk` has the journal on a disk, `past` what lies before a gate of it, `seal` seals the record of an item, and `spelling` makes the bytes of each. `make` begins a
 //! journal; `submit`, `act`, `snapshot` and `upgrade` do what users and the operator ask of a desk in memory and its open journal; `texts`
 //! reads the texts of bodies, `read_texts` is the texts of a desk for whoever performs its items once more, with those that a
 //! request brings (`new_texts`), and `fresh` says where those lie that a cycle brings. `fault` says why a desk is not made and an act not done, and `laws` what holds of runs of
@@ -19,6 +19,7 @@ pub mod laws;
 mod make;
 mod new_texts;
 mod on_disk;
+mod past;
 mod read_texts;
 mod seal;
 mod snapshot;
@@ -29,13 +30,14 @@ mod upgrade;
 
 pub use act::{act_open, item_of};
 pub use fault::{ActFault, MakeFault};
-pub use fresh::fresh_of;
+pub use fresh::{fresh_of, no_fresh};
 pub use make::make_parts;
 pub use new_texts::NewTexts;
 pub use on_disk::Journal;
+pub use past::Past;
 pub use read_texts::Reading;
 pub use seal::seal_bytes;
 pub use snapshot::snapshot_open;
-pub use spelling::cycle_bytes;
+pub use spelling::{cycle_bytes, withdraw_bytes};
 pub use submit::submit_open;
 pub use upgrade::upgrade_open;

@@ -7,12 +7,11 @@ use std::alloc::Global;
 use std::collections::BTreeMap;
 use std::marker::Model;
 use undo_base::{NoMemory, Text};
-use verb_bytes::Replaces;
 
 /// The texts that a request asks for, found by number in time that grows as the logarithm of how many there are.
 #[derive(Drop)]
 pub struct NewTexts<'a> {
-    replaces: &'a Replaces,
+    replaces: &'a [(u32, Text)],
     places: BTreeMap<u32, usize>,
 }
 
@@ -50,10 +49,10 @@ fn text_at(replaces: &[(u32, Text)], place: usize) -> Option<&Text>
 
 impl<'a> NewTexts<'a> {
     /// The texts of a request.
-    pub fn of(alloc: Global, replaces: &'a Replaces) -> Result<NewTexts<'a>, NoMemory>
+    pub fn of(alloc: Global, replaces: &'a [(u32, Text)]) -> Result<NewTexts<'a>, NoMemory>
         ensures { IfOk result (λ texts. texts ≡ replaces.now) }
     {
-        let places = last_places(alloc, replaces.as_slice())?;
+        let places = last_places(alloc, replaces)?;
         Ok(NewTexts { replaces, places })
     }
 
@@ -62,7 +61,7 @@ impl<'a> NewTexts<'a> {
         ensures { option_copied result ≡ text_asked self.now number }
     {
         match self.places.get(&number) {
-            Some(place) => text_at(self.replaces.as_slice(), *place),
+            Some(place) => text_at(self.replaces, *place),
             None => None,
         }
     }

@@ -5,62 +5,32 @@ ghost use Rattle.seal_log.specs.Log.{last_gate};
 ghost use Rattle.seal_log.specs.Settled.{Holds, IsSettled};
 ghost use Rattle.desk_journal.specs.Sealing.{SealsPayloads};
 
+use crate::past::Past;
 use seal_log::{Log, Place, SealFault};
 use std::alloc::Global;
 use std::marker::Model;
 use undo_base::Text;
 use undo_outside::Disk;
 
-/// A disk, and the end of the journal that lies on it.
+/// A journal on a disk.
 #[derive(Drop)]
 pub struct Journal<D: Disk> {
-    /// The disk.
-    pub disk: D,
-    /// The end of the journal.
+    /// What lies before its last gate.
+    pub past: Past<D>,
+    /// Its end.
     pub log: Log,
 }
 
 impl<D: Disk> Model for Journal<D> {
-    ghost use Rattle.std.specs.Prelude.{◌<◌};
+    ghost use Rattle.std.specs.Prelude.{◌≡◌};
     ghost use Rattle.seal_log.specs.Log.{last_gate};
     ghost use Rattle.desk_journal.specs.Lasting.{JournalTold, journal_of};
 
     ghost Value = { JournalTold D };
 
-    ghost view = { λ j. journal_of j.disk j.log };
+    ghost view = { λ j. journal_of j.past j.log };
 
-    ghost invariant = { λ j. last_gate j.log < (D.told j.disk).size };
-}
-
-/// Seals a payload.
-fn seal_payload<D: Disk>(
-    alloc: Global,
-    log: &mut Log,
-    disk: &mut D,
-    payload: &Text,
-) -> Result<(), SealFault>
-    requires end { last_gate log.old < (D.told disk.old).size }
-    requires open { log.old.closed ≡ false }
-    ensures ok { OnOk result (SealsPayloads (payload.now ∷ []) [] (D.told disk.old) (D.told disk.new) (last_gate log.old) (last_gate log.new)) }
-    ensures failed { IsErrOf result SealFault.Disk
-        → SealsPayloads [] (payload.now ∷ []) (D.told disk.old) (D.told disk.new) (last_gate log.old) (last_gate log.new) }
-    ensures no_memory { IsErrOf result SealFault.NoMemory
-        → SealsPayloads [] [] (D.told disk.old) (D.told disk.new) (last_gate log.old) (last_gate log.new) }
-    ensures reads { (D.told disk.new).failed_reads ≡ (D.told disk.old).failed_reads }
-    ensures wants { SealWants D.told disk.old disk.new result }
-    ensures not_closed { IsErrOf result SealFault.Closed → ⊥ }
-    ensures still_open { OnOk result (log.new.closed ≡ false) }
-    ensures open_again { IsErrOf result SealFault.NoMemory → log.new.closed ≡ false }
-    ensures closes { IsErrOf result SealFault.Disk → log.new.closed ≡ true }
-    ensures next { OnOk result (last_gate log.new ≡ last_gate log.old + 5 + length payload.now) }
-    ensures err { OnErr result (last_gate log.new ≡ last_gate log.old) }
-    ensures held { (payloads : List (List ℕ)) → IsSettled (D.told disk.old) (last_gate log.old) payloads → Holds (D.told disk.new) payloads }
-    ensures within { last_gate log.new < (D.told disk.new).size }
-{
-    match log.seal(alloc, disk, payload.bytes()) {
-        Ok(_) => Ok(()),
-        Err(fault) => Err(fault),
-    }
+    ghost invariant = { λ j. last_gate j.log ≡ j.past.end };
 }
 
 impl<D: Disk> Journal<D> {
@@ -71,7 +41,10 @@ impl<D: Disk> Journal<D> {
         ensures gate { result.gate ≡ last_gate log }
         ensures closed { result.closed ≡ log.closed }
     {
-        Journal { disk, log }
+        Journal {
+            past: Past::at(disk, log.last_gate()),
+            log,
+        }
     }
 
     /// Whether a write or a sync failed.
@@ -85,7 +58,7 @@ impl<D: Disk> Journal<D> {
     pub fn stands(&self)
         ensures { self.now.gate < (D.told self.now.disk).size }
     {
-        let _ = &self.disk;
+        self.past.stands();
     }
 
     /// Where the next payload will lie.
@@ -93,7 +66,7 @@ impl<D: Disk> Journal<D> {
         ensures { result ≡ record { gate = self.now.gate; length = length payload.now } }
     {
         Place {
-            gate: self.log.last_gate(),
+            gate: self.past.end(),
             length: payload.bytes().len() as u32,
         }
     }
@@ -116,15 +89,15 @@ impl<D: Disk> Journal<D> {
         ensures err { OnErr result (self.new.gate ≡ self.old.gate) }
         ensures held { (payloads : List (List ℕ)) → IsSettled (D.told self.old.disk) self.old.gate payloads → Holds (D.told self.new.disk) payloads }
     {
-        seal_payload(alloc, &mut self.log, &mut self.disk, payload)
+        self.past.seal(alloc, &mut self.log, payload)
     }
 
     /// The disk as it is.
     pub fn into_disk(self) -> D
         ensures { result ≡ self.disk }
     {
-        let Journal { disk, log } = self;
+        let Journal { past, log } = self;
         drop(log);
-        disk
+        past.into_disk()
     }
 }

@@ -1,30 +1,28 @@
 //! The texts of a desk, read where they lie in its journal.
-ghost use Rattle.std.specs.Prelude.{◌≡◌, ◌+◌, ◌≤◌, Some, true, false, option_copied, IfOk, OnOk, IfErr, IsErrOf};
+ghost use Rattle.std.specs.Prelude.{◌≡◌, ◌+◌, ◌≤◌, ℕ, Some, true, false, option_copied, IfOk, OnOk, IfErr, IsErrOf};
 ghost use Rattle.std.specs.Option.{option_map_or};
 ghost use Rattle.verb_core.specs.Texts.{Rose};
 ghost use Rattle.seal_log.specs.Causes.{ReadAtCause};
-ghost use Rattle.seal_log.specs.Settled.{ReadsAlone};
-ghost use Rattle.mail_desk.specs.Timeline.{noted_of};
-ghost use Rattle.desk_journal.specs.Telling.{HoldsHeld, LeadsOn, ReadsOn, asked_of, is_readable, reading_told};
+ghost use Rattle.desk_journal.specs.Telling.{HoldsHeld, IsPastRead, LeadsOn, ReadsOn, asked_of, is_readable, noted_in, reading_told};
 ghost use Rattle.desk_journal.specs.Going.{leads_on, leads_to_itself};
-ghost use Rattle.store_kept.specs.Texts.{text_kept};
+ghost use Rattle.store_kept.specs.Texts.{text_at_hand};
 
 use crate::new_texts::NewTexts;
+use crate::past::Past;
 use mail_desk::Desk;
-use seal_log::{ReadFault, read_before};
+use seal_log::ReadFault;
+use shelf::Note;
 use std::alloc::Global;
 use undo_base::{Copies, NoMemory, Text};
 use undo_outside::Disk;
 use verb_core::{Bodies, BodiesFault, Body};
 
-/// The texts that the items of a desk bring, read in the journal that ends at a gate of a disk; and beside them those that a
+/// The texts that the items of a desk bring, read in the journal before a gate; and beside them those that a
 /// request for a cycle asks for, whose record is not sealed yet. Once a read failed the disk is left alone.
 #[derive(Drop)]
 pub struct Reading<'a, D: Disk> {
-    /// The disk.
-    pub disk: &'a mut D,
-    /// The gate at which the journal ends.
-    pub end: u64,
+    /// What lies before the gate.
+    pub past: &'a mut Past<D>,
     /// The desk.
     pub desk: &'a Desk,
     /// The texts that the request asks for.
@@ -46,22 +44,27 @@ fn asked<'a>(replaces: &'a NewTexts<'_>, cycle: u32, body: Body) -> Option<&'a T
     }
 }
 
-/// Reads the text of a body where it was noted, in a journal that ends at a gate.
+/// Where the text of a body lies, where it can be read.
+fn note_in(desk: &Desk, body: Body) -> Option<Note>
+    ensures { (gate : ℕ) → option_map_or (is_readable gate) (noted_in desk.now body) false ≡ true → result ≡ noted_in desk.now body }
+{
+    desk.note(body)
+}
+
+/// Reads the text of a body where it was noted.
 pub fn read_noted<D: Disk>(
     alloc: Global,
-    disk: &mut D,
-    end: u64,
+    past: &mut Past<D>,
     desk: &Desk,
     body: Body,
 ) -> Result<Text, ReadFault>
-    requires { option_map_or (is_readable end (D.told disk.old).size) (noted_of desk.now.kept.timeline desk.now.notes body) false ≡ true }
-    ensures text { HoldsHeld (D.told disk.old) desk.now → IfOk result (λ text. text_kept desk.now.kept body ≡ Some text) }
-    ensures cause { ReadAtCause (D.told disk.old) (D.told disk.new) result }
-    ensures reads { ReadsAlone (D.told disk.old) (D.told disk.new) }
+    requires { option_map_or (is_readable past.old.end) (noted_in desk.now body) false ≡ true }
+    ensures text { HoldsHeld (D.told past.old.disk) desk.now → IfOk result (λ text. text_at_hand desk.now.kept body ≡ Some text) }
+    ensures cause { ReadAtCause (D.told past.old.disk) (D.told past.new.disk) result }
+    ensures still { IsPastRead D.told past.old past.new }
 {
-    desk.stands();
-    match desk.note(body) {
-        Some(note) => read_before(alloc, disk, end, note.place, note.from, note.length),
+    match note_in(desk, body) {
+        Some(note) => past.read(alloc, note.place, note.from, note.length),
         None => unreachable!(),
     }
 }
@@ -69,25 +72,24 @@ pub fn read_noted<D: Disk>(
 /// The same, where no read failed before.
 fn read_once<D: Disk>(
     alloc: Global,
-    disk: &mut D,
+    past: &mut Past<D>,
     failed: &mut u64,
-    end: u64,
     desk: &Desk,
     body: Body,
 ) -> Result<Text, BodiesFault>
-    requires { option_map_or (is_readable end (D.told disk.old).size) (noted_of desk.now.kept.timeline desk.now.notes body) false ≡ true }
-    ensures text { HoldsHeld (D.told disk.old) desk.now → IfOk result (λ text. text_kept desk.now.kept body ≡ Some text) }
+    requires { option_map_or (is_readable past.old.end) (noted_in desk.now body) false ≡ true }
+    ensures text { HoldsHeld (D.told past.old.disk) desk.now → IfOk result (λ text. text_at_hand desk.now.kept body ≡ Some text) }
     ensures same { OnOk result (failed.new ≡ failed.old) }
     ensures rises { IsErrOf result BodiesFault.Failed → Rose failed.old failed.new }
     ensures once { failed.new ≤ failed.old + 1 }
     ensures no_memory { IsErrOf result BodiesFault.NoMemory → failed.new ≡ failed.old }
-    ensures reads { ReadsOn D.told disk.old disk.new failed.old failed.new }
+    ensures reads { ReadsOn D.told past.old past.new failed.old failed.new }
 {
     if *failed > 0 {
         *failed = failed.saturating_add(1);
         return Err(BodiesFault::Failed);
     }
-    match read_noted(alloc, disk, end, desk, body) {
+    match read_noted(alloc, past, desk, body) {
         Ok(text) => Ok(text),
         Err(ReadFault::Disk) => {
             *failed = 1;
@@ -116,14 +118,7 @@ impl<'a, D: Disk> Bodies for Reading<'a, D> {
     fn text(&mut self, alloc: Global, body: Body) -> Result<Text, BodiesFault> {
         match asked(self.replaces, self.cycle, body) {
             Some(text) => copied(alloc, text),
-            None => read_once(
-                alloc,
-                self.disk,
-                &mut self.failed,
-                self.end,
-                self.desk,
-                body,
-            ),
+            None => read_once(alloc, self.past, &mut self.failed, self.desk, body),
         }
     }
 
@@ -135,22 +130,19 @@ impl<'a, D: Disk> Bodies for Reading<'a, D> {
 impl<'a, D: Disk> Reading<'a, D> {
     /// The texts of a desk, and those that the request for a cycle of that number asks for.
     pub fn of(
-        disk: &'a mut D,
-        end: u64,
+        past: &'a mut Past<D>,
         desk: &'a Desk,
         replaces: &'a NewTexts<'a>,
         cycle: u32,
     ) -> Reading<'a, D>
-        ensures disk { (result.disk.ghost_name ≡ disk.entry.ghost_name) × (result.disk.now ≡ disk.old) }
-        ensures end { result.end ≡ end }
+        ensures past { (result.past.ghost_name ≡ past.entry.ghost_name) × (result.past.now ≡ past.old) }
         ensures desk { result.desk.now ≡ desk.now }
         ensures replaces { result.replaces.now ≡ replaces.now }
         ensures cycle { result.cycle ≡ cycle }
         ensures failed { result.failed ≡ 0 }
     {
         Reading {
-            disk,
-            end,
+            past,
             desk,
             replaces,
             cycle,

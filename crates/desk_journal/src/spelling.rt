@@ -1,14 +1,14 @@
 //! The bytes of records.
 ghost use Rattle.std.specs.Prelude.{◌≡◌, IsTrue, IfOk, OnOk};
-ghost use Rattle.verb_bytes.specs.declared.journal.JournalRecord.TheVariants.{Format, Verb, Operator, Cycle, Upgrade};
+ghost use Rattle.verb_bytes.specs.declared.journal.JournalRecord.TheVariants.{Format, Verb, Operator, Cycle, Upgrade, Withdraw};
 ghost use Rattle.verb_bytes.specs.Spelling.{record_bytes};
 ghost use Rattle.desk_journal.specs.Records.{is_spelled};
 
 use std::alloc::Global;
-use undo_base::{Copies, NoMemory, Text};
+use undo_base::{Copies, Name, NoMemory, Text};
 use verb_bytes::{
     CycleAsk, JournalRecord, Unwritten, spell_act, spell_cycle, spell_item, spell_record,
-    spell_upgrade,
+    spell_upgrade, spell_withdraw,
 };
 use verb_core::{Act, Conf, House, Item};
 
@@ -54,6 +54,24 @@ pub fn upgrade_bytes(alloc: Global, at: u64) -> Result<Text, NoMemory>
     ensures bytes { IfOk result (λ text. text ≡ record_bytes (Upgrade at)) }
 {
     match spell_upgrade(alloc, at) {
+        Ok(bytes) => Ok(bytes),
+        Err(Unwritten::Unspelled) => Err(NoMemory),
+        Err(Unwritten::NoMemory) => Err(NoMemory),
+    }
+}
+
+/// The same of a withdrawal.
+pub fn withdraw_bytes(
+    alloc: Global,
+    number: u32,
+    at: u64,
+    key: &Name,
+    of: u32,
+) -> Result<Text, NoMemory>
+    ensures spelled { OnOk result (IsTrue (is_spelled (Withdraw number at key.now of))) }
+    ensures bytes { IfOk result (λ text. text ≡ record_bytes (Withdraw number at key.now of)) }
+{
+    match spell_withdraw(alloc, number, at, key, of) {
         Ok(bytes) => Ok(bytes),
         Err(Unwritten::Unspelled) => Err(NoMemory),
         Err(Unwritten::NoMemory) => Err(NoMemory),

@@ -1,7 +1,8 @@
-use Rattle.std.proofs.Common.{Err, [], ◌∷◌, ap, ◌∙◌, refl}
+use Rattle.std.proofs.Common.{Err, [], ◌∷◌, ap, ◌∙◌, refl, subst, sym}
 use Rattle.verb_core.specs.Deeds.{act_item}
 use Rattle.verb_bytes.specs.declared.journal.JournalRecord.TheVariants.{Operator}
 use Rattle.verb_core.specs.declared.item.Item.{Item}
+use Rattle.store_kept.specs.Coming.{HasUndone}
 use Rattle.store_kept.specs.Kept.{performed}
 use Rattle.mail_desk.specs.Held.{Held}
 use Rattle.desk_journal.specs.Lasting.{lasting}
@@ -21,7 +22,7 @@ returns-in-Ok-seal_found-clause-ok g c =
     let sealed = c.in-Ok-seal_found.ensures.sealed in
     seals_from g.D.Disk.told (what ∷ []) [] c.args.desk.now mid c.args.journal.now (lasting new.desk new.journal) c.in-Ok.ensures.kept c.in-Ok.ensures.notes c.in-Ok.ensures.marks
     (item_sealed g.D.Disk.told what found.bytes found.ready.item mid new.desk c.args.journal.now new.journal
-    (ap (λ (i : Item). i.rev) c.in-Ok.ensures.item)
+    (subst HasUndone (sym c.in-Ok.ensures.kept) c.stands.ensures.undone) c.in-Ok.ensures.ready.number (ap (λ (i : Item). i.rev) c.in-Ok.ensures.item)
     (record_as what found.bytes c.args.desk.now.kept mid.kept (act_item c.args.desk.now.kept.next c.args.at c.args.act) found.ready.item c.in-Ok.ensures.kept c.in-Ok.ensures.item c.in-Ok.ensures.record)
     sealed.ok c.requires.open sealed.still_open c.in-Ok-seal_found.ensures.performed c.in-Ok-seal_found.ensures.marks c.in-Ok-seal_found.ensures.noted)
 

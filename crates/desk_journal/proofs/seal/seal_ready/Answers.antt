@@ -1,10 +1,8 @@
-use Rattle.std.proofs.Common.{◌+◌, length, ap, arith, refl, subst}
+use Rattle.std.proofs.Common.{◌+◌, length, arith, refl, subst}
 use Rattle.verb_core.specs.Items.{text_in}
 use Rattle.seal_log.specs.declared.place.Place.{Place}
-use Rattle.store_kept.specs.Kept.{Kept}
 use Rattle.mail_desk.specs.Timeline.{NotesText, body_of}
-use Rattle.mail_desk.proofs.Timelines.{lower}
-use Rattle.desk_journal.proofs.Holding.{entered_notes}
+use Rattle.desk_journal.proofs.Holding.{asked_below, entered_notes}
 use Rattle.desk_journal.proofs.Noting.{recorded_is}
 use Rattle.desk_journal.proofs.seal.seal_ready.Goals as goal
 
@@ -17,6 +15,6 @@ returns-in-Ok-clause-noted g c =
     let place : Place = record { gate = c.args.journal.now.gate; length = length bytes } in
     entered_notes (place.gate + 5 + length bytes) place bytes c.args.from old c.enter.new.self item (omega arith) refl
     (λ text own. let lies = c.requires.lies text (recorded_is item text own) in (lies.within, lies.is))
-    (lower old.kept.next old.kept.timeline item c.stands.ensures.below c.requires.ready.number)
-    (ap (λ (k : Kept). k.timeline) c.enter.ensures.kept)
+    (asked_below old.kept item c.requires.ready.number c.stands.ensures.below c.stands.ensures.undone)
+    c.enter.ensures.kept
     (subst (λ (p : Place). NotesText (text_in item.deed) (body_of item) p c.args.from old.notes c.enter.new.self.notes) c.next_place-place.ensures c.enter.ensures.notes)

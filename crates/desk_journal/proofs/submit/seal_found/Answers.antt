@@ -14,7 +14,7 @@ fault_of-requires g c = λ is. c.in-Err.ensures.sealed.never (ap Err is)
 pub returns-in-Ok-clause-ok : goal.returns-in-Ok-clause-ok
 returns-in-Ok-clause-ok g c =
     item_sealed g.D.Disk.told (Verb c.args.found.ready.item) c.args.found.bytes c.args.found.ready.item c.args.desk.now c.seal_ready.new.desk c.args.journal.now c.seal_ready.new.journal
-    (stood_rev c.args.desk.now.kept (performed c.args.desk.now.kept c.args.found.ready.item) c.args.found.ready.item c.requires.record.can_stand)
+    c.stands.ensures.undone c.requires.ready.number (stood_rev c.args.desk.now.kept (performed c.args.desk.now.kept c.args.found.ready.item) c.args.found.ready.item c.requires.record.can_stand)
     c.requires.record c.in-Ok.ensures.sealed.ok c.requires.open c.in-Ok.ensures.sealed.still_open c.in-Ok.ensures.performed c.in-Ok.ensures.marks c.in-Ok.ensures.noted
 
 pub returns-in-Ok-clause-noted : goal.returns-in-Ok-clause-noted

@@ -1,6 +1,8 @@
-use Rattle.std.proofs.Common.{◌∙◌, arith}
-use Rattle.seal_log.proofs.Uses.{reads_joined}
-use Rattle.desk_journal.proofs.EachText.{texts_next}
+use Rattle.std.proofs.Common.{◌≡◌, false, take, sym, subst, ◌∙◌, arith}
+use Rattle.std.specs.List.{list_any}
+use Rattle.desk_journal.specs.Going.{read_on}
+use Rattle.desk_journal.specs.Stored.{is_recorded}
+use Rattle.desk_journal.proofs.EachText.{none_front, none_item, none_next, one_more, texts_next}
 use Rattle.desk_journal.proofs.Telling.{held_on}
 use Rattle.desk_journal.proofs.texts.texts_at.Goals as goal
 
@@ -9,10 +11,23 @@ loop-body-preserved g c =
     let so_far = c.loop-body.invariant in
     let done = c.in_ok-push_at.ensures in
     record {
-      reads = reads_joined (g.D.Disk.told c.args.disk.now) (g.D.Disk.told c.loop-body.disk) (g.D.Disk.told c.push_at.new.disk) so_far.reads done.reads;
+      still = read_on g.D.Disk.told c.args.past.now c.loop-body.past c.push_at.new.past so_far.still done.still;
       none_failed = done.cause.ok ∙ so_far.none_failed;
+      alone = λ none.
+          let apart = none_next (is_recorded c.args.desk.now.kept.timeline) c.args.bodies.now c.loop-body.body-index _ (omega arith)
+          (subst (λ n. list_any (is_recorded c.args.desk.now.kept.timeline) (take n c.args.bodies.now) ≡ false) (sym (one_more c.loop-body.body-index)) none) in
+          done.alone apart.1 ∙ so_far.alone apart.0;
       count = omega (arith, done.count, so_far.count);
       texts = λ holds.
           texts_next c.args.desk.now.kept.timeline c.args.bodies.now c.loop-body.body-index _ c.loop-body.texts c.push_at.new.texts (omega arith) (so_far.texts holds)
-          (done.texts (held_on (g.D.Disk.told c.args.disk.now) (g.D.Disk.told c.loop-body.disk) c.args.desk.now so_far.reads holds));
+          (done.texts (held_on (g.D.Disk.told c.args.past.now.disk) (g.D.Disk.told c.loop-body.past.disk) c.args.desk.now so_far.still.reads holds));
     }
+
+-- where no record has one of the texts, nothing was read
+pub returns-in_err-push_at-clause-alone : goal.returns-in_err-push_at-clause-alone
+returns-in_err-push_at-clause-alone g c = λ none.
+    c.in_err-push_at.ensures.alone (none_item (is_recorded c.args.desk.now.kept.timeline) c.args.bodies.now c.loop-body.body-index _ (omega arith) none)
+    ∙ c.loop-body.invariant.alone (none_front (is_recorded c.args.desk.now.kept.timeline) c.args.bodies.now c.loop-body.body-index none)
+
+pub returns-clause-alone : goal.returns-clause-alone
+returns-clause-alone g c = λ none. c.loop-body.invariant.alone (none_front (is_recorded c.args.desk.now.kept.timeline) c.args.bodies.now c.loop-body.body-index none)

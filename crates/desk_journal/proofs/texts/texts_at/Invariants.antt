@@ -1,14 +1,16 @@
-use Rattle.std.proofs.Common.{◌≡◌, take, length}
-use Rattle.seal_log.specs.Settled.{ReadsAlone}
+use Rattle.std.proofs.Common.{◌≡◌, false, take, length}
+use Rattle.std.specs.List.{list_any}
 use Rattle.mail_desk.specs.Timeline.{texts_of}
-use Rattle.desk_journal.specs.Telling.{HoldsHeld}
+use Rattle.desk_journal.specs.Stored.{is_recorded}
+use Rattle.desk_journal.specs.Telling.{HoldsHeld, IsPastRead}
 use Rattle.desk_journal.proofs.texts.texts_at.Given as goal
 
--- the disk was only read, and the texts are those of the bodies so far
+-- the disk was only read, where a record has the text of one of the bodies so far, and the texts are those of these bodies
 abbrev pub invariant-loop-body : goal.invariant-loop-body
 invariant-loop-body g l = record {
-  reads : ReadsAlone (g.D.Disk.told l.fn.disk) (g.D.Disk.told l.disk);
-  none_failed : (g.D.Disk.told l.disk).failed_reads ≡ (g.D.Disk.told l.fn.disk).failed_reads;
+  still : IsPastRead g.D.Disk.told l.fn.past l.past;
+  none_failed : (g.D.Disk.told l.past.disk).failed_reads ≡ (g.D.Disk.told l.fn.past.disk).failed_reads;
+  alone : list_any (is_recorded l.desk.kept.timeline) (take l.body-index l.bodies) ≡ false → l.past ≡ l.fn.past;
   count : length l.texts ≡ l.body-index;
-  texts : HoldsHeld (g.D.Disk.told l.fn.disk) l.desk → l.texts ≡ texts_of l.desk.kept.timeline (take l.body-index l.bodies);
+  texts : HoldsHeld (g.D.Disk.told l.fn.past.disk) l.desk → l.texts ≡ texts_of l.desk.kept.timeline (take l.body-index l.bodies);
 }
