@@ -1,22 +1,48 @@
--- How many items a cycle performs at most that is refused.
-use Rattle.std.proofs.Common.{◌≡◌, ◌∙◌, ℕ, ◌+◌, ◌-◌, ◌≤◌, arith, Bool, true, false, cond, ap, subst, List, [], ◌∷◌, drop, length, Option, Some, None, Result, Ok, Err}
+-- How many items a repair leaves, and how many a cycle performs at most that is refused.
+use Rattle.std.proofs.Common.{◌≡◌, ◌∙◌, ℕ, ◌+◌, ◌-◌, ◌≤◌, arith, Bool, true, false, cond, refl, sym, ap, subst, suc, List, [], ◌∷◌, ◌++◌, drop, length, Option, Some, None, Result, Ok, Err}
 use Rattle.std.specs.Prelude.{OnErr, filter, not}
-use Rattle.std.proofs.lemmas.List.{length-drop, length-map}
+use Rattle.std.proofs.lemmas.List.{length-append, length-drop, length-map}
 use Rattle.verb_core.specs.declared.item.Item.{Item}
+use Rattle.verb_core.specs.Store.{MailStore}
 use Rattle.verb_bytes.specs.declared.journal.CycleAsk.{CycleAsk}
 use Rattle.paradox.specs.declared.reports.Report.{Report}
+use Rattle.stored_items.specs.Stored.{AllHeard}
 use Rattle.store_kept.specs.Kept.{Kept, newest_at}
-use Rattle.repair_desk.specs.Repairs.{edited_at, is_dropped, position}
+use Rattle.repair_desk.specs.Repairs.{edited_at, is_dropped, numbers_of, position}
 use Rattle.repair_desk.proofs.Points.{within}
 use Rattle.cycle_rules.specs.Asking.{Due, NoNumbers, NoPoint, Repeats, Rewinds, due_anew, due_at}
-use Rattle.cycle_rules.specs.Cycles.{Cycled, cycled_at, leaves_numbers}
+use Rattle.cycle_rules.specs.Cycles.{cycled_at, leaves_numbers, repair_of}
+use Rattle.cycle_rules.specs.Repairing.{Cycled, Repair, front_in}
+use Rattle.cycle_rules.specs.Judging.{shown_after}
 use Rattle.mail_cycle.specs.Comparing.{broken_by, compared_from, told_by}
-use Rattle.mail_cycle.specs.Leaving.{IsMade, items_left}
+use Rattle.mail_cycle.specs.Leaving.{IsMadeFrom, items_left}
 use Rattle.mail_cycle.specs.declared.settling.Rewound.{Rewound}
 use Rattle.mail_cycle.proofs.Cycled.{few_told}
-use Rattle.mail_cycle.proofs.Left.{left_few}
-use Rattle.time_desk.specs.Cycling.{most_performed, most_tried}
-use Rattle.time_desk.proofs.Rewinding.{made_length}
+use Rattle.mail_cycle.proofs.Left.{left_few, length_repaired}
+use Rattle.time_desk.specs.Cycling.{IsCycled, most_performed, most_tried}
+use Rattle.time_desk.proofs.Marking.{length_shown}
+
+-- items as they were read are as many
+heard_length : (items heard : List Item) → AllHeard items heard → length heard ≡ length items
+heard_length [] [] all = refl
+heard_length [] (h ∷ hs) all = absurd all
+heard_length (i ∷ items) [] all = absurd all
+heard_length (i ∷ items) (h ∷ hs) all = ap suc (heard_length items hs all.1)
+
+-- it has the items through the place, the acts that come in, the later ones that stay, and the notices
+pub made_length : (kept : Kept) (at : ℕ) (repair : Repair) (first : MailStore) (count : ℕ) (honest : Type 0) (made : Rewound) → length repair.items ≡ repair.place + repair.acts + repair.kept → IsMadeFrom kept at repair first count honest made
+    → length (items_left kept.timeline made) ≡ repair.place + repair.acts + made.report.kept + length made.report.notices
+made_length kept at repair first count honest made long is =
+    let now = compared_from repair first count is.heard in
+    let told = told_by kept at repair now in
+    ap (λ (t : List Item). length t) is.leaves.timeline
+    ∙ whole (length (shown_after (front_in repair) is.heard now ++ told)) (length (shown_after (front_in repair) is.heard now)) (length is.heard) (length repair.items)
+    repair.place repair.acts repair.kept (length told) (length (numbers_of told))
+    (length-append (shown_after (front_in repair) is.heard now) told) (length_shown (front_in repair) is.heard now) (heard_length repair.items is.heard is.all) long (length-map told (λ (i : Item). i.number))
+    ∙ ap (λ (r : Report). repair.place + repair.acts + r.kept + length r.notices) (sym is.leaves.report)
+  where
+    whole : (all shown heard items a b c d e : ℕ) → all ≡ shown + d → shown ≡ heard → heard ≡ items → items ≡ a + b + c → e ≡ d → all ≡ a + b + c + e
+    whole all shown heard items a b c d e p q r s t = omega arith
 
 -- what holds anyway holds where there is a refusal
 pub any_err : {T E P : Type 0} (result : Result T E) → P → OnErr result P
@@ -41,36 +67,25 @@ module _ (kept : Kept) (at : ℕ) (ask : CycleAsk) (place : ℕ) where
       let few : stay ≤ length (drop place kept.timeline) = fewer (λ (i : Item). not (is_dropped ask i)) (drop place kept.timeline) in
       omega (arith, few, length-drop place kept.timeline, le)
 
-  -- behind the newest snapshot
-  pub tried_from : {T E : Type 0} (result : Result T E) (old new count : ℕ) → count ≡ newest_at place kept.marks.places
-      → OnErr result (new ≤ old + (place - count) + length ask.inserts + stay + length kept.house.accounts) → OnErr result (new ≤ old + most_tried kept ask (cycled_at kept at ask place))
-  tried_from (Ok x) old new count is le = tt
-  tried_from (Err e) old new count is le =
-      regroup old new (place - newest_at place kept.marks.places) (length ask.inserts) stay (length kept.house.accounts)
-      (subst (λ (n : ℕ). new ≤ old + (place - n) + length ask.inserts + stay + length kept.house.accounts) is le)
-    where
-      regroup : (a b c d e f : ℕ) → b ≤ a + c + d + e + f → b ≤ a + (c + d + e + f)
-      regroup a b c d e f le = omega arith
-
-  -- from any beginning
-  pub few_from : {T E : Type 0} (result : Result T E) (old new count : ℕ) → place ≤ length kept.timeline
-      → OnErr result (new ≤ old + (place - count) + length ask.inserts + stay + length kept.house.accounts)
-      → OnErr result (new ≤ old + length kept.timeline + length ask.inserts + length kept.house.accounts)
-  few_from (Ok x) old new count there le = tt
-  few_from (Err e) old new count there le = omega (arith, stay_few there, le)
+  -- the repaired items are no more than those in force and the acts
+  pub repaired_few : place ≤ length kept.timeline → length (repair_of kept at ask place).items ≤ length kept.timeline + length ask.inserts
+  repaired_few le = omega (arith, length_repaired kept at ask place le, stay_few le)
 
 -- what was made has no more items
-pub made_few : (kept : Kept) (at : ℕ) (ask : CycleAsk) (told : Type 0) (made : Rewound) → IsMade kept at ask told made
+pub made_few : (kept : Kept) (at : ℕ) (ask : CycleAsk) (told : Type 0) (made : Rewound) → IsCycled kept at ask told made
     → length (items_left kept.timeline made) ≤ length kept.timeline + length ask.inserts + length kept.house.accounts
-made_few kept at ask told made is =
-    let place = is.place in
-    let le : place ≤ length kept.timeline = within kept.timeline ask.point place is.is_place in
-    let now = compared_from ask place is.first is.count is.made_from.heard in
-    let all : length (items_left kept.timeline made) ≡ place + length ask.inserts + made.report.kept + length made.report.notices = made_length kept at ask place is.first is.count told made le is.made_from in
+made_few kept at ask told made cycled =
+    let place = cycled.place in
+    let is = cycled.is_made in
+    let repair = repair_of kept at ask place in
+    let le : place ≤ length kept.timeline = within kept.timeline ask.point place cycled.is_place in
+    let now = compared_from repair is.first is.count is.made_from.heard in
+    let all : length (items_left kept.timeline made) ≡ place + length ask.inserts + made.report.kept + length made.report.notices =
+    made_length kept at repair is.first is.count told made (length_repaired kept at ask place le) is.made_from in
     let stayed : made.report.kept ≡ (edited_at kept.timeline ask kept.next at place).kept = ap (λ (r : Report). r.kept) is.made_from.leaves.report in
-    let notices : length made.report.notices ≡ length (told_by kept at ask place now) =
-    ap (λ (r : Report). length r.notices) is.made_from.leaves.report ∙ length-map (told_by kept at ask place now) (λ (i : Item). i.number) in
-    let few : length (told_by kept at ask place now) ≤ length kept.house.accounts = few_told kept.house (kept.next + length ask.inserts) kept.next at (broken_by kept ask place now) in
+    let notices : length made.report.notices ≡ length (told_by kept at repair now) =
+    ap (λ (r : Report). length r.notices) is.made_from.leaves.report ∙ length-map (told_by kept at repair now) (λ (i : Item). i.number) in
+    let few : length (told_by kept at repair now) ≤ length kept.house.accounts = few_told kept.house (kept.next + length ask.inserts) kept.next at (broken_by repair now) in
     omega (arith, all, stayed, notices, few, stay_few kept at ask place le)
 
 -- a cycle that is due tells each account once at most

@@ -14,6 +14,7 @@ use Rattle.seal_log.specs.Journal.{LiesAt}
 use Rattle.shelf.specs.Marks.{with_mark}
 use Rattle.mail_desk.specs.Held.{Held}
 use Rattle.mail_desk.specs.Timeline.{NotesText, body_of}
+use Rattle.store_kept.specs.Coming.{HasUndone}
 use Rattle.store_kept.specs.Kept.{Kept}
 use Rattle.verb_bytes.specs.declared.journal.JournalRecord.TheVariants.{Snapshot}
 use Rattle.verb_bytes.specs.Places.{IsTextAt}
@@ -24,7 +25,7 @@ use Rattle.desk_journal.specs.Stored.{KeepsMarks, MarkedBefore, MarksLie, NotesT
 use Rattle.desk_journal.proofs.Marking.{marks_entered, marks_kept, marks_snapshotted, marks_with}
 use Rattle.desk_journal.proofs.Truth.{true_is}
 use Rattle.desk_journal.proofs.Noting.{recorded_is}
-use Rattle.desk_journal.proofs.Holding.{entered_notes}
+use Rattle.desk_journal.proofs.Holding.{asked_below, entered_notes}
 
 -- ---- an item more
 
@@ -32,17 +33,17 @@ use Rattle.desk_journal.proofs.Holding.{entered_notes}
 pub entered_record : (gate : ℕ) (place : Place) (bytes : List ℕ) (from : ℕ) (old new : Held) (i : Item) (r : Result Bool NoMemory)
     → place.gate + 5 + place.length ≤ gate → place.length ≡ length bytes
     → ((text : List ℕ) → text_in i.deed ≡ Some text → IsTextAt bytes from text)
-    → AllByRecursion (λ (j : Item). j.number < old.kept.next) old.kept.timeline
+    → AllByRecursion (λ (j : Item). j.number < old.kept.next) old.kept.timeline → HasUndone old.kept
     → IfOk r (λ stood. Enters old.kept i stood new.kept) → IfOk r (λ stood. stood ≡ true → NotesText (text_in i.deed) (body_of i) place from old.notes new.notes)
     → IfOk r (λ stood. stood ≡ true → NotesTexts gate place bytes old new)
-entered_record gate place bytes from old new i (Ok true) within long stands below enters noted =
+entered_record gate place bytes from old new i (Ok true) within long stands below undone enters noted =
     let same : (i.number == old.kept.next) ≡ true = first_so (i.number == old.kept.next) (nat_lt old.kept.next 4194304) (first_so ((i.number == old.kept.next) && nat_lt old.kept.next 4194304) (is_formed old.kept.house i) enters.0) in
     let number : i.number ≡ old.kept.next = grind (arith, nat_tests) in
     λ e. entered_notes gate place bytes from old new i within long
     (λ text own. let at : IsTextAt bytes from text = stands text (recorded_is i text own) in (at.within, at.is))
-    (subst (λ (n : ℕ). AllByRecursion (λ (j : Item). j.number < n) old.kept.timeline) (sym number) below) (ap (λ (k : Kept). k.timeline) enters.1) (noted refl)
-entered_record gate place bytes from old new i (Ok false) within long stands below enters noted = λ e. absurd (let wrong : ◌≡◌ {A = Bool} false true = e in cc)
-entered_record gate place bytes from old new i (Err why) within long stands below enters noted = tt
+    (asked_below old.kept i number below undone) enters.1 (noted refl)
+entered_record gate place bytes from old new i (Ok false) within long stands below undone enters noted = λ e. absurd (let wrong : ◌≡◌ {A = Bool} false true = e in cc)
+entered_record gate place bytes from old new i (Err why) within long stands below undone enters noted = tt
 
 -- the snapshots stay marked when the item of a record is entered
 pub entered_marks : (gate : ℕ) (place : Place) (bytes : List ℕ) (old new : Held) (i : Item) (r : Result Bool NoMemory)

@@ -20,7 +20,8 @@ use Rattle.store_kept.specs.Kept.{Kept, mailbox_at, stamp_at, store_of}
 use Rattle.repair_desk.specs.Renewals.{extends, extends_one, is_old, same_mail}
 use Rattle.mail_cycle.specs.Permanence.{UidsLast}
 use Rattle.mail_desk.specs.Timeline.{has_text}
-use Rattle.store_kept.specs.Texts.{all_bodies}
+use Rattle.store_kept.specs.Texts.{all_bodies, text_at_hand}
+use Rattle.store_kept.proofs.Coming.{kept_at_hand}
 use Rattle.desk_journal.specs.Permanence.{IsSound, Message, RevsBelow, entry_at, message_at, message_of}
 
 -- ---- rows
@@ -218,6 +219,7 @@ one_message a b id stamp uid m n sound revs valid texts_a texts_b lasts first se
     let had = text_there a.timeline (store_of a).boxes id uid old.box old.entry texts_a old.there old.found in
     let has = text_there b.timeline (store_of b).boxes id uid new.box new.entry texts_b new.there new.found in
     let given = text_below a.timeline a.next old.entry.body had.0 sound.below revs had.1 in
-    let kept : text_of a.timeline old.entry.body ≡ Some has.0 = lasts.texts old.entry.body has.0 given.0 given.1 (ap (text_of b.timeline) (sym body) ∙ has.1) in
+    let at_hand : text_at_hand a old.entry.body ≡ Some has.0 = lasts.texts old.entry.body has.0 given.0 given.1 (kept_at_hand b old.entry.body has.0 (ap (text_of b.timeline) (sym body) ∙ has.1)) in
+    let kept : text_of a.timeline old.entry.body ≡ Some has.0 = had.1 ∙ sym (kept_at_hand a old.entry.body had.0 had.1) ∙ at_hand in
     let text : text_of a.timeline old.entry.body ≡ text_of b.timeline new.entry.body = kept ∙ sym has.1 in
     sym old.is ∙ (λ j. record { key = sym key j; text = text j }) ∙ new.is

@@ -1,5 +1,5 @@
 -- An image opens in one way.
-use Rattle.std.proofs.Common.{◌≡◌, ◌⊎◌, inl, inr, ℕ, ◌<◌, ◌∷◌, ◌++◌, ◌∙◌, [], List, Bool, true, false, ◌&&◌, not, Option, Some, None, Result, Ok, Err, length, is_some, IsTrue, refl, sym, ap, subst, arith, append_assoc, length-append}
+use Rattle.std.proofs.Common.{◌≡◌, ◌⊎◌, inl, inr, ℕ, ◌<◌, ◌==◌, ◌∷◌, ◌++◌, ◌∙◌, [], List, Bool, true, false, ◌&&◌, not, Option, Some, None, Result, Ok, Err, length, is_some, IsTrue, refl, sym, ap, subst, arith, append_assoc, length-append}
 use Rattle.std.proofs.lemmas.List.{append-nil}
 use Rattle.std.specs.Prelude.{option_and_then, if◌then◌else◌}
 use Rattle.std.specs.List.{AllByRecursion}
@@ -10,17 +10,18 @@ use Rattle.verb_core.specs.declared.mailbox.BoxId.{BoxId}
 use Rattle.verb_core.specs.declared.mailbox.Mailbox.{Mailbox}
 use Rattle.verb_bytes.specs.declared.journal.CycleAsk.{CycleAsk}
 use Rattle.verb_bytes.specs.declared.journal.JournalRecord.{JournalRecord}
-use Rattle.verb_bytes.specs.declared.journal.JournalRecord.TheVariants.{Format, Verb, Operator, Cycle, Snapshot, Upgrade}
+use Rattle.verb_bytes.specs.declared.journal.JournalRecord.TheVariants.{Format, Verb, Operator, Cycle, Snapshot, Upgrade, Withdraw}
 use Rattle.verb_bytes.specs.Spelling.{HasSpelling, Spells, record_bytes}
 use Rattle.seal_log.specs.Journal.{frame, sealed, BeginsClosed, IsPayload, StandsFor}
 use Rattle.seal_log.specs.Loading.{BeginsCut, GoesOn, IsNotFormatted}
 use Rattle.store_kept.specs.Kept.{Kept, performed, new_desk, upgraded}
-use Rattle.cycle_rules.specs.Asking.{cycle_due}
+use Rattle.cycle_rules.specs.Asking.{after_cycle, cycle_due}
+use Rattle.cycle_rules.specs.Withdrawals.{after_withdrawal, withdraw_due}
 use Rattle.house_text.specs.Beginning.{can_begin}
 use Rattle.time_desk.specs.declared.fault.StartFault.{StartFault}
 use Rattle.time_desk.specs.declared.fault.StartFault.TheVariants.{NotFormatted, Damaged, Disk, NoMemory}
 use Rattle.time_desk.specs.Opening.{BeginsBroken, IsDamaged, OpensAs}
-use Rattle.desk_journal.specs.Records.{Leaves, after_cycle_record, after_due, after_item, after_kept, after_record, after_records, after_snapshot, can_follow, can_keep, can_rewind, first_state, is_spelled, payloads_of, state}
+use Rattle.desk_journal.specs.Records.{Leaves, after_cycle_record, after_due, after_item, after_kept, after_record, after_records, after_snapshot, after_withdraw_record, can_follow, can_keep, can_rewind, first_state, is_spelled, payloads_of, state}
 use Rattle.time_desk.proofs.Standings.{state_push}
 
 -- each of the records can stand: they leave something, or there are none
@@ -39,7 +40,7 @@ item_spelled kept what item = elim (is_spelled what) as (λ b. is_some (if b && 
 cycle_spelled : (kept : Kept) (number at : ℕ) (ask : CycleAsk) → IsTrue (is_some (after_cycle_record kept number at ask)) → HasSpelling (Cycle number at ask)
 cycle_spelled kept number at ask = by_test (is_spelled (Cycle number at ask))
   where
-    by_test : (b : Bool) → is_some (if b && can_rewind kept number ask then after_due kept ask (cycle_due kept at ask) else None) ≡ true → b ≡ true
+    by_test : (b : Bool) → is_some (if b && can_rewind kept number ask then after_due (after_cycle kept ask) (cycle_due kept at ask) else None) ≡ true → b ≡ true
     by_test true h = refl
     by_test false h = h
 
@@ -57,12 +58,20 @@ upgrade_spelled kept at = by_test (is_spelled (Upgrade at))
     by_test true h = refl
     by_test false h = h
 
+withdraw_spelled : (kept : Kept) (number at : ℕ) (key : List ℕ) (of : ℕ) → IsTrue (is_some (after_withdraw_record kept number at key of)) → HasSpelling (Withdraw number at key of)
+withdraw_spelled kept number at key of = by_test (is_spelled (Withdraw number at key of))
+  where
+    by_test : (b : Bool) → is_some (if b && (number == kept.next) then after_due (after_withdrawal kept key) (withdraw_due kept at key of) else None) ≡ true → b ≡ true
+    by_test true h = refl
+    by_test false h = h
+
 record_spelled : (kept : Kept) (r : JournalRecord) → IsTrue (is_some (after_record kept r)) → HasSpelling r
 record_spelled kept (Verb item) h = item_spelled kept (Verb item) item h
 record_spelled kept (Operator number at act) h = item_spelled kept (Operator number at act) (act_item number at act) h
 record_spelled kept (Cycle number at ask) h = cycle_spelled kept number at ask h
 record_spelled kept (Snapshot items conf rows) h = snapshot_spelled kept items conf rows h
 record_spelled kept (Upgrade at) h = upgrade_spelled kept at h
+record_spelled kept (Withdraw number at key of) h = withdraw_spelled kept number at key of h
 record_spelled kept _ h = absurd (cc h)
 
 first_spelled : (r : JournalRecord) → IsTrue (is_some (first_state r)) → HasSpelling r

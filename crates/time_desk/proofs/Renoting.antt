@@ -1,10 +1,11 @@
 -- Where texts lie after a cycle.
-use Rattle.std.proofs.Common.{◌≡◌, ◌≢◌, ℕ, zero, suc, ◌+◌, ◌<◌, ◌≤◌, Bool, true, false, ◌&&◌, ◌==◌, cond, List, [], ◌∷◌, length, take, drop, not, Option, None, Some, is_some, refl, ap, sym, subst, ◌∙◌, arith}
+use Rattle.std.proofs.Common.{◌≡◌, ◌≢◌, ℕ, zero, suc, ◌+◌, ◌<◌, ◌≤◌, Bool, true, false, ◌&&◌, ◌==◌, cond, List, [], ◌∷◌, ◌++◌, find, length, take, drop, not, Option, None, Some, is_some, refl, ap, sym, subst, ◌∙◌, arith}
 use Rattle.std.specs.Prelude.{option_map, option_and_then, is_none, IsTrue}
-use Rattle.std.specs.Cmp.{first_so}
+use Rattle.std.specs.Cmp.{first_so, second_so}
 use Rattle.std.specs.List.{AllByRecursion}
 use Rattle.std.specs.Option.{option_or}
 use Rattle.std.proofs.lemmas.Bool.Decides.{nat_tests}
+use Rattle.std.proofs.lemmas.List.{take-append-drop}
 use Rattle.undo_base.specs.declared.keys.User.{User}
 use Rattle.verb_core.specs.Deeds.{is_notice, with_text}
 use Rattle.verb_core.specs.Items.{NumbersApart, text_in, text_of}
@@ -21,28 +22,152 @@ use Rattle.shelf.specs.declared.note.Note.{Note}
 use Rattle.shelf.specs.Notes.{LiesBefore, note_of, size_of}
 use Rattle.paradox.specs.Answers.{broken}
 use Rattle.stored_items.specs.Stored.{AllHeard, IsHeard, stored_deed}
-use Rattle.cycle_rules.specs.Cycles.{notice_item, notice_items, repaired_items}
+use Rattle.cycle_rules.specs.Cycles.{repair_of, repaired_items}
+use Rattle.cycle_rules.specs.Repairing.{Repair, notice_item, notice_items}
 use Rattle.mail_cycle.specs.Comparing.{compared_from, timeline_by}
 use Rattle.cycle_rules.specs.Judging.{shown_after, shown_by}
 use Rattle.repair_desk.specs.Repairs.{are_known, inserted, is_dropped, kept, new_timeline, repaired, replaced_by, takes_text, text_asked}
 use Rattle.repair_desk.proofs.Everywhere.{everywhere, inserted_above, joined, mapped, passing, rest_of, taken, weaker}
 use Rattle.mail_desk.specs.declared.noting.Fresh.{Fresh}
 use Rattle.verb_bytes.specs.declared.journal.JournalRecord.TheVariants.{Cycle}
-use Rattle.verb_bytes.specs.Spelling.{record_bytes}
-use Rattle.mail_cycle.specs.Leaving.{IsMade, items_left}
+use Rattle.mail_cycle.specs.Leaving.{items_left}
+use Rattle.time_desk.specs.Cycling.{IsCycled, asked_then}
 use Rattle.mail_cycle.specs.declared.settling.Rewound.{Rewound}
 use Rattle.mail_desk.specs.Held.{Held}
 use Rattle.mail_desk.specs.Timeline.{SizesOf, body_of, notice_text_of}
 use Rattle.mail_desk.specs.Noting.{notice_note}
+use Rattle.withdraw.specs.declared.undone.UndoneBehind.{UndoneBehind}
+use Rattle.withdraw.specs.Coming.{IsSameIf}
+use Rattle.withdraw.proofs.Shown.{apart_from}
+use Rattle.store_kept.specs.Coming.{ComesIf, HasUndone, HasUndoneTexts, TextsComeIf}
 use Rattle.store_kept.specs.Kept.{Kept, report_of}
+use Rattle.store_kept.specs.Texts.{items_asked, items_behind}
 use Rattle.paradox.specs.declared.reports.Report.{Report}
-use Rattle.cycle_rules.specs.Asking.{cycle_due, due_anew, due_by}
+use Rattle.cycle_rules.specs.Asking.{after_cycle, cycle_due, due_anew, due_by}
 use Rattle.desk_journal.specs.Records.{after_cycle_record, after_due, can_rewind, is_spelled}
 use Rattle.desk_journal.specs.Permanence.{RevsBelow}
-use Rattle.desk_journal.specs.Stored.{HasNote, IsBefore, IsFresh, IsStored, LiesIn, NotedBefore, NotesCycle, Renotes, TextsLie, recorded_in}
+use Rattle.desk_journal.specs.Stored.{HasNote, IsBefore, IsFresh, IsStored, LiesIn, NotedBefore, Renotes, TextsLie, TextsNoted, TextsStored, recorded_in}
 use Rattle.desk_journal.proofs.Noting.{Moves, has_note_moves, recorded_is}
 
+-- ---- lists
+
+pub zipped : (P Q : Item → Type 0) (t : List Item) → AllByRecursion P t → AllByRecursion Q t → AllByRecursion (λ (i : Item). P i × Q i) t
+zipped P Q [] a b = tt
+zipped P Q (i ∷ t) a b = ((a.0, b.0), zipped P Q t a.1 b.1)
+
+pub first_part : (P : Item → Type 0) (a b : List Item) → AllByRecursion P (a ++ b) → AllByRecursion P a
+first_part P [] b all = tt
+first_part P (i ∷ a) b all = (all.0, first_part P a b all.1)
+
+pub second_part : (P : Item → Type 0) (a b : List Item) → AllByRecursion P (a ++ b) → AllByRecursion P b
+second_part P [] b all = all
+second_part P (i ∷ a) b all = second_part P a b all.1
+
+always : (P : Item → Type 0) → ((i : Item) → P i) → (t : List Item) → AllByRecursion P t
+always P any [] = tt
+always P any (i ∷ t) = (any i, always P any t)
+
+-- what holds of each of some beside each of others, the other way round
+pub turned : (R : Item → Item → Type 0) (xs ys : List Item) → AllByRecursion (λ (y : Item). AllByRecursion (R y) xs) ys → AllByRecursion (λ (x : Item). AllByRecursion (λ (y : Item). R y x) ys) xs
+turned R [] ys all = tt
+turned R (x ∷ xs) ys all = (heads ys all, turned R xs ys (tails ys all))
+  where
+    heads : (zs : List Item) → AllByRecursion (λ (y : Item). AllByRecursion (R y) (x ∷ xs)) zs → AllByRecursion (λ (y : Item). R y x) zs
+    heads [] all = tt
+    heads (z ∷ zs) all = (all.0.0, heads zs all.1)
+
+    tails : (zs : List Item) → AllByRecursion (λ (y : Item). AllByRecursion (R y) (x ∷ xs)) zs → AllByRecursion (λ (y : Item). AllByRecursion (R y) xs) zs
+    tails [] all = tt
+    tails (z ∷ zs) all = (all.0.1, tails zs all.1)
+
+second_apart : (a b : List Item) → NumbersApart (a ++ b) → NumbersApart b
+second_apart [] b apart = apart
+second_apart (i ∷ a) b apart = second_apart a b apart.1
+
+pub apart_rest : (n : ℕ) (t : List Item) → NumbersApart t → NumbersApart (drop n t)
+apart_rest zero t apart = apart
+apart_rest (suc n) [] apart = apart
+apart_rest (suc n) (i ∷ t) apart = apart_rest n t apart.1
+
 -- ---- the text of a body
+
+through : {A B : Type 0} (f : A → Option B) (b : Bool) (x : A) (o : Option A) → option_and_then f (cond b (Some x) o) ≡ cond b (f x) (option_and_then f o)
+through f true x o = refl
+through f false x o = refl
+
+-- whether an item brings it
+abbrev pub brings : Body → Item → Bool
+brings body i = (i.number == body.origin) && (i.rev == body.rev) && is_some (text_in i.deed)
+
+brings_some : (body : Body) (i : Item) → brings body i ≡ true → is_some (text_in i.deed) ≡ true
+brings_some body i is = second_so ((i.number == body.origin) && (i.rev == body.rev)) (is_some (text_in i.deed)) is
+
+brings_own : (body : Body) (i : Item) → brings body i ≡ true → body_of i ≡ body
+brings_own body i is =
+    let both : ((i.number == body.origin) && (i.rev == body.rev)) ≡ true = first_so ((i.number == body.origin) && (i.rev == body.rev)) (is_some (text_in i.deed)) is in
+    let number : (i.number == body.origin) ≡ true = first_so (i.number == body.origin) (i.rev == body.rev) both in
+    let rev : (i.rev == body.rev) ≡ true = second_so (i.number == body.origin) (i.rev == body.rev) both in
+    let origin_is : i.number ≡ body.origin = grind (arith, nat_tests) in
+    let rev_is : i.rev ≡ body.rev = grind (arith, nat_tests) in
+    λ k. record { origin = origin_is k; rev = rev_is k }
+
+pub brings_own_item : (i : Item) → is_some (text_in i.deed) ≡ true → brings (body_of i) i ≡ true
+brings_own_item i some =
+    let number : (i.number == i.number) ≡ true = grind (arith, nat_tests) in
+    let rev : (i.rev == i.rev) ≡ true = grind (arith, nat_tests) in
+    ap (λ b. b && (i.rev == i.rev) && is_some (text_in i.deed)) number ∙ ap (λ b. b && is_some (text_in i.deed)) rev ∙ some
+
+-- it is that of the first item that brings it
+pub text_step : (i : Item) (t : List Item) (body : Body) → text_of (i ∷ t) body ≡ cond (brings body i) (text_in i.deed) (text_of t body)
+text_step i t body = through (λ (j : Item). text_in j.deed) (brings body i) i (find (brings body) t)
+
+-- of one list behind another: the first list's, if it has one
+text_first : (a b : List Item) (body : Body) (text : List ℕ) → text_of a body ≡ Some text → text_of (a ++ b) body ≡ Some text
+text_first [] b body text is = absurd (cc is)
+text_first (i ∷ a) b body text is = text_step i (a ++ b) body ∙ by (brings body i) (text_in i.deed) (text_of a body) (text_of (a ++ b) body) (sym (text_step i a body) ∙ is) (text_first a b body text)
+  where
+    by : (t : Bool) (o rest whole : Option (List ℕ)) → cond t o rest ≡ Some text → (rest ≡ Some text → whole ≡ Some text) → cond t o whole ≡ Some text
+    by true o rest whole is more = is
+    by false o rest whole is more = more is
+
+-- else the second's
+text_second : (a b : List Item) (body : Body) → text_of a body ≡ None → text_of (a ++ b) body ≡ text_of b body
+text_second [] b body none = refl
+text_second (i ∷ a) b body none = text_step i (a ++ b) body ∙ by (brings body i) (text_in i.deed) (text_of a body) (text_of (a ++ b) body) (text_of b body) (brings_some body i) (sym (text_step i a body) ∙ none) (text_second a b body)
+  where
+    by : (t : Bool) (o rest whole last : Option (List ℕ)) → (t ≡ true → is_some o ≡ true) → cond t o rest ≡ None → (rest ≡ None → whole ≡ last) → cond t o whole ≡ last
+    by true None rest whole last own none more = absurd (let wrong : ◌≡◌ {A = Bool} false true = own refl in cc)
+    by true (Some text) rest whole last own none more = absurd (cc none)
+    by false o rest whole last own none more = more none
+
+-- so there is one where the second list has one
+pub text_some : (a b : List Item) (body : Body) → is_some (text_of b body) ≡ true → is_some (text_of (a ++ b) body) ≡ true
+text_some [] b body some = some
+text_some (i ∷ a) b body some = ap is_some (text_step i (a ++ b) body) ∙ by (brings body i) (text_in i.deed) (text_of (a ++ b) body) (brings_some body i) (text_some a b body some)
+  where
+    by : (t : Bool) (o rest : Option (List ℕ)) → (t ≡ true → is_some o ≡ true) → is_some rest ≡ true → is_some (cond t o rest) ≡ true
+    by true o rest own more = own refl
+    by false o rest own more = more
+
+-- and an item of the list brings it
+text_item : (Q : Item → Type 0) (t : List Item) (body : Body) (text : List ℕ) → AllByRecursion Q t → text_of t body ≡ Some text → (j : Item) × Q j × (body_of j ≡ body) × (text_in j.deed ≡ Some text)
+text_item Q [] body text all is = absurd (cc is)
+text_item Q (i ∷ t) body text all is = elim (brings body i) as (λ b. brings body i ≡ b → (j : Item) × Q j × (body_of j ≡ body) × (text_in j.deed ≡ Some text)) [
+  | true ↦ λ e. (i, all.0, brings_own body i e, ap (λ b. cond b (text_in i.deed) (text_of t body)) (sym e) ∙ sym (text_step i t body) ∙ is)
+  | false ↦ λ e. text_item Q t body text all.1 (ap (λ b. cond b (text_in i.deed) (text_of t body)) (sym e) ∙ sym (text_step i t body) ∙ is)
+] refl
+
+-- none where each item has another rev
+none_revved : (t : List Item) (body : Body) → AllByRecursion (λ (j : Item). j.rev < body.rev) t → text_of t body ≡ None
+none_revved [] body below = refl
+none_revved (j ∷ t) body below =
+    let less : j.rev < body.rev = below.0 in
+    let no : (j.rev == body.rev) ≡ false = grind (arith, nat_tests) in
+    text_step j t body ∙ ap (λ b. cond b (text_in j.deed) (text_of t body)) (unlike (j.number == body.origin) (j.rev == body.rev) (is_some (text_in j.deed)) no) ∙ none_revved t body below.1
+  where
+    unlike : (x y z : Bool) → y ≡ false → (x && y && z) ≡ false
+    unlike true y z e = ap (λ b. b && z) e
+    unlike false y z e = refl
 
 none_numbered : (t : List Item) (body : Body) → AllByRecursion (λ (j : Item). j.number ≢ body.origin) t → text_of t body ≡ None
 none_numbered [] body apart = refl
@@ -96,7 +221,7 @@ note_after old fresh body = option_or (note_of old body) (note_of fresh.shelf.no
 abbrev pub IsFound : (Note → List ℕ → Type 0) → List (Body × Note) → Fresh → Item → Type 0
 IsFound P old fresh i = (text : List ℕ) → recorded_in i ≡ Some text → (note : Note) × (note_after old fresh (body_of i) ≡ Some note) × P note text
 
-found_old : (P : Note → List ℕ → Type 0) (old : List (Body × Note)) (fresh : Fresh) (i : Item) → HasNote P old i → IsFound P old fresh i
+pub found_old : (P : Note → List ℕ → Type 0) (old : List (Body × Note)) (fresh : Fresh) (i : Item) → HasNote P old i → IsFound P old fresh i
 found_old P old fresh i has text is =
     let noted : (note : Note) × (note_of old (body_of i) ≡ Some note) × P note text = has text is in
     (noted.0, ap (λ (o : Option Note). option_or o (note_of fresh.shelf.notes (body_of i))) noted.1, noted.2)
@@ -137,17 +262,41 @@ recorded_some _ takes = absurd (let wrong : ◌≡◌ {A = Bool} false true = ta
 abbrev pub IsStale : (Note → List ℕ → Type 0) → List (Body × Note) → ℕ → Item → Type 0
 IsStale P old c i = takes_text i.deed ≡ true → (text : List ℕ) (n : Note) → note_of old (record { origin = i.number; rev = c }) ≡ Some n → P n text
 
--- where revs are below c there is none
-none_stale : (P : Note → List ℕ → Type 0) (old : List (Body × Note)) (t : List Item) (c : ℕ) (i : Item) → ((body : Body) → size_of old body ≡ option_map length (text_of t body))
-    → OneRev t i → i.rev < c → IsStale P old c i
-none_stale P old t c i sizes one less takes text n is =
+-- where no text is under it there is none
+none_stale : (P : Note → List ℕ → Type 0) (old : List (Body × Note)) (asked : List Item) (c : ℕ) (i : Item) → SizesOf old asked → text_of asked (record { origin = i.number; rev = c }) ≡ None → IsStale P old c i
+none_stale P old asked c i sizes none takes text n is =
+    absurd (let wrong : ◌≡◌ {A = Option Note} None (Some n) = sym (no_note old asked (record { origin = i.number; rev = c }) (sizes (record { origin = i.number; rev = c })) none) ∙ is in cc)
+
+-- as where revs are below c, also those of items that can come back
+none_under : (t back : List Item) (c : ℕ) (i : Item) → OneRev t i → i.rev < c → AllByRecursion (λ (j : Item). j.rev < c) back → text_of (t ++ back) (record { origin = i.number; rev = c }) ≡ None
+none_under t back c i one less low =
     let other : (i.rev == c) ≡ false = grind (arith, nat_tests) in
-    absurd (let wrong : ◌≡◌ {A = Option Note} None (Some n) = sym (no_note old t (record { origin = i.number; rev = c }) (sizes (record { origin = i.number; rev = c })) (one c other)) ∙ is in cc)
+    text_second t back (record { origin = i.number; rev = c }) (one c other) ∙ none_revved back (record { origin = i.number; rev = c }) low
+
+-- an item is a notice exactly where another of its number is
+abbrev pub IsAlike : Item → Item → Type 0
+IsAlike i j = j.number ≡ i.number → is_notice j.deed ≡ is_notice i.deed
+
+notice_textless : (d : Deed) → is_notice (with_text [] d) ≡ is_notice d
+unfolding is_notice
+notice_textless (Deliver from to text) = refl
+notice_textless (Append mailbox flags moment text) = refl
+notice_textless (Acts (Give user mailbox text)) = refl
+notice_textless (Notice user text) = refl
+notice_textless _ = refl
+
+plain : (d : Deed) → takes_text d ≡ true → is_notice d ≡ false
+unfolding is_notice
+plain (Deliver from to text) takes = refl
+plain (Append mailbox flags moment text) takes = refl
+plain (Acts (Give user mailbox text)) takes = refl
+plain (Notice user text) takes = absurd (let wrong : ◌≡◌ {A = Bool} false true = takes in cc)
+plain _ takes = absurd (let wrong : ◌≡◌ {A = Bool} false true = takes in cc)
 
 -- and what is told of the note alone holds of each
-any_stale : (P : Note → List ℕ → Type 0) (old : List (Body × Note)) (t : List Item) (c : ℕ) (i : Item) → ((n : Note) (a b : List ℕ) → P n a → P n b)
-    → ((body : Body) → size_of old body ≡ option_map length (text_of t body)) → OneRev t i → HasNote P old i → IsStale P old c i
-any_stale P old t c i free sizes one has takes text n is = elim (i.rev == c) as (λ b. (i.rev == c) ≡ b → P n text) [
+any_stale : (P : Note → List ℕ → Type 0) (old : List (Body × Note)) (t back : List Item) (c : ℕ) (i : Item) → ((n : Note) (a b : List ℕ) → P n a → P n b)
+    → SizesOf old (t ++ back) → OneRev t i → HasNote P old i → AllByRecursion (HasNote P old) back → AllByRecursion (IsAlike i) back → IsStale P old c i
+any_stale P old t back c i free sizes one has later alike takes text n is = elim (i.rev == c) as (λ b. (i.rev == c) ≡ b → P n text) [
   | true ↦ λ e.
       let same : i.rev ≡ c = grind (arith, nat_tests) in
       let own : (t : List ℕ) × (recorded_in i ≡ Some t) = recorded_some i.deed takes in
@@ -155,8 +304,74 @@ any_stale P old t c i free sizes one has takes text n is = elim (i.rev == c) as 
       let here : note_of old (record { origin = i.number; rev = c }) ≡ Some noted.0 = subst (λ (r : ℕ). note_of old (record { origin = i.number; rev = r }) ≡ Some noted.0) same noted.1 in
       let note : noted.0 ≡ n = let both : ◌≡◌ {A = Option Note} (Some noted.0) (Some n) = sym here ∙ is in cc in
       free n own.0 text (subst (λ (m : Note). P m own.0) note noted.2)
-  | false ↦ λ e. absurd (let wrong : ◌≡◌ {A = Option Note} None (Some n) = sym (no_note old t (record { origin = i.number; rev = c }) (sizes (record { origin = i.number; rev = c })) (one c e)) ∙ is in cc)
+  | false ↦ λ e. other (text_second t back (record { origin = i.number; rev = c }) (one c e))
 ] refl
+  where
+    of_item : (own : List ℕ) → (j : Item) × (HasNote P old j × IsAlike i j) × (body_of j ≡ record { origin = i.number; rev = c }) × (text_in j.deed ≡ Some own) → P n text
+    of_item own found =
+        let number : found.0.number ≡ i.number = ap (λ (b : Body). b.origin) found.2 in
+        let told : recorded_in found.0 ≡ Some own = ap (λ b. cond b None (text_in found.0.deed)) (found.1.1 number ∙ plain i.deed takes) ∙ found.3 in
+        let noted : (m : Note) × (note_of old (body_of found.0) ≡ Some m) × P m own = found.1.0 own told in
+        let here : note_of old (record { origin = i.number; rev = c }) ≡ Some noted.0 = ap (note_of old) (sym found.2) ∙ noted.1 in
+        let note : noted.0 ≡ n = let both : ◌≡◌ {A = Option Note} (Some noted.0) (Some n) = sym here ∙ is in cc in
+        free n own text (subst (λ (m : Note). P m own) note noted.2)
+
+    by_text : (o : Option (List ℕ)) → text_of back (record { origin = i.number; rev = c }) ≡ o → text_of (t ++ back) (record { origin = i.number; rev = c }) ≡ o → P n text
+    by_text None none whole = absurd (let wrong : ◌≡◌ {A = Option Note} None (Some n) = sym (no_note old (t ++ back) (record { origin = i.number; rev = c }) (sizes (record { origin = i.number; rev = c })) whole) ∙ is in cc)
+    by_text (Some own) here whole = of_item own (text_item (λ (j : Item). HasNote P old j × IsAlike i j) back (record { origin = i.number; rev = c }) own (zipped (HasNote P old) (IsAlike i) back later alike) here)
+
+    other : text_of (t ++ back) (record { origin = i.number; rev = c }) ≡ text_of back (record { origin = i.number; rev = c }) → P n text
+    other same = by_text (text_of back (record { origin = i.number; rev = c })) refl same
+
+-- ---- the items that can come back
+
+-- each is a notice exactly where the item in force of its number is
+pub all_alike : (s : Kept) → HasUndone s → AllByRecursion (λ (i : Item). AllByRecursion (IsAlike i) (items_behind s.undone)) s.timeline
+all_alike s comes = by s.undone comes
+  where
+    by : (o : Option UndoneBehind) → ComesIf s.house s.base s.timeline s.next o → AllByRecursion (λ (i : Item). AllByRecursion (IsAlike i) (items_behind o)) s.timeline
+    by None comes = always (λ (i : Item). Unit {0}) (λ i. tt) s.timeline
+    by (Some last) comes =
+        let back = comes.back in
+        let front : AllByRecursion (λ (i : Item). AllByRecursion (IsAlike i) last.later) (take last.position s.timeline) =
+        weaker (λ (i : Item). AllByRecursion (λ (j : Item). i.number ≢ j.number) last.later) (λ (i : Item). AllByRecursion (IsAlike i) last.later)
+        (λ i ne. weaker (λ (j : Item). i.number ≢ j.number) (IsAlike i) (λ j n same. absurd (n (sym same))) last.later ne) (take last.position s.timeline)
+        (turned (λ (j i : Item). i.number ≢ j.number) (take last.position s.timeline) last.later (apart_from (take last.position s.timeline) last.later back.before.apart)) in
+        let rest : AllByRecursion (λ (i : Item). AllByRecursion (IsAlike i) last.later) (drop last.position s.timeline) =
+        weaker (λ (i : Item). AllByRecursion (λ (j : Item). IsSameIf j i) last.later) (λ (i : Item). AllByRecursion (IsAlike i) last.later)
+        (λ i same. weaker (λ (j : Item). IsSameIf j i) (IsAlike i)
+        (λ j is number. sym (notice_textless j.deed) ∙ ap is_notice (sym (is (sym number)).but_text) ∙ notice_textless i.deed) last.later same) (drop last.position s.timeline)
+        (turned IsSameIf (drop last.position s.timeline) last.later back.same) in
+        subst (AllByRecursion (λ (i : Item). AllByRecursion (IsAlike i) last.later)) (take-append-drop last.position s.timeline)
+        (joined (λ (i : Item). AllByRecursion (IsAlike i) last.later) (take last.position s.timeline) (drop last.position s.timeline) front rest)
+
+-- their numbers are distinct
+pub back_apart : (s : Kept) → HasUndone s → NumbersApart (items_behind s.undone)
+back_apart s comes = by s.undone comes
+  where
+    by : (o : Option UndoneBehind) → ComesIf s.house s.base s.timeline s.next o → NumbersApart (items_behind o)
+    by None comes = tt
+    by (Some last) comes = second_apart (take last.position s.timeline) last.later comes.back.before.apart
+
+-- their numbers are below the next one
+pub back_below : (s : Kept) → HasUndone s → AllByRecursion (λ (j : Item). j.number < s.next) (items_behind s.undone)
+back_below s comes = by s.undone comes
+  where
+    by : (o : Option UndoneBehind) → ComesIf s.house s.base s.timeline s.next o → AllByRecursion (λ (j : Item). j.number < s.next) (items_behind o)
+    by None comes = tt
+    by (Some last) comes =
+        weaker (λ (j : Item). j.number < last.cycle) (λ (j : Item). j.number < s.next) (λ j less. let low : j.number < last.cycle = less in omega (arith, comes.cycle, low)) last.later comes.back.older
+
+-- and their revs, where the texts were read as they were stored
+pub back_revs : (s : Kept) → HasUndone s → HasUndoneTexts s → AllByRecursion (λ (j : Item). j.rev < s.next) (items_behind s.undone)
+back_revs s comes texts = by s.undone comes texts
+  where
+    by : (o : Option UndoneBehind) → ComesIf s.house s.base s.timeline s.next o → TextsComeIf s.timeline o → AllByRecursion (λ (j : Item). j.rev < s.next) (items_behind o)
+    by None comes texts = tt
+    by (Some last) comes texts =
+        weaker (λ (j : Item). j.rev < last.cycle) (λ (j : Item). j.rev < s.next) (λ j less. let low : j.rev < last.cycle = less in omega (arith, comes.cycle, low)) last.later texts.older
+
+-- ---- an item that gets another text
 
 found_repaired : (P : Note → List ℕ → Type 0) (old : List (Body × Note)) (fresh : Fresh) (ask : CycleAsk) (c : ℕ)
     → ((number : ℕ) (text : List ℕ) → text_asked ask.replaces number ≡ Some text → (note : Note) × (note_of fresh.shelf.notes (record { origin = number; rev = c }) ≡ Some note) × P note text)
@@ -172,7 +387,7 @@ found_repaired P old fresh ask c lies i holds = elim (text_asked ask.replaces i.
 -- ---- the acts that come in
 
 found_given : (P : Note → List ℕ → Type 0) (old : List (Body × Note)) (fresh : Fresh) (t : List Item) (c : ℕ) (s : List Item)
-    → ((body : Body) → size_of old body ≡ option_map length (text_of t body)) → AllByRecursion (λ (j : Item). j.number < c) t
+    → SizesOf old t → AllByRecursion (λ (j : Item). j.number < c) t
     → AllByRecursion (λ (j : Item). c < j.number) s → AllByRecursion (HasNote P fresh.shelf.notes) s → AllByRecursion (IsFound P old fresh) s
 found_given P old fresh t c [] sizes below above has = tt
 found_given P old fresh t c (j ∷ s) sizes below above has =
@@ -218,7 +433,7 @@ found_heard P old fresh i h free heard found text is =
     let noted : (note : Note) × (note_after old fresh (body_of i) ≡ Some note) × P note own.0 = found own.0 own.1 in
     (noted.0, subst (λ (b : Body). note_after old fresh b ≡ Some noted.0) (sym (ap body_of heard.stored_is)) noted.1, free noted.0 own.0 text noted.2)
 
-all_heard : (P : Note → List ℕ → Type 0) (old : List (Body × Note)) (fresh : Fresh) (items heard : List Item) → ((n : Note) (a b : List ℕ) → P n a → P n b) → AllHeard items heard
+pub all_heard : (P : Note → List ℕ → Type 0) (old : List (Body × Note)) (fresh : Fresh) (items heard : List Item) → ((n : Note) (a b : List ℕ) → P n a → P n b) → AllHeard items heard
     → AllByRecursion (IsFound P old fresh) items → AllByRecursion (IsFound P old fresh) heard
 all_heard P old fresh [] [] free heard all = tt
 all_heard P old fresh [] (h ∷ hs) free heard all = absurd heard
@@ -247,21 +462,17 @@ notices_found P old fresh number at (n ∷ ns) = (notice_found P old fresh (numb
 -- ---- the notes after the cycle
 
 -- an item's own text is the one under its body
-abbrev OwnText : List Item → Item → Type 0
+abbrev pub OwnText : List Item → Item → Type 0
 OwnText t i = (text : List ℕ) → text_in i.deed ≡ Some text → text_of t (body_of i) ≡ Some text
 
 own_first : (i : Item) (t : List Item) → OwnText (i ∷ t) i
 own_first i t text is =
     let number : (i.number == i.number) ≡ true = grind (arith, nat_tests) in
     let rev : (i.rev == i.rev) ≡ true = grind (arith, nat_tests) in
-    through (λ (j : Item). text_in j.deed) ((i.number == i.number) && (i.rev == i.rev) && is_some (text_in i.deed)) i _
+    text_step i t (body_of i)
     ∙ ap (λ (b : Bool). cond (b && (i.rev == i.rev) && is_some (text_in i.deed)) (text_in i.deed) (text_of t (body_of i))) number
     ∙ ap (λ (b : Bool). cond (b && is_some (text_in i.deed)) (text_in i.deed) (text_of t (body_of i))) rev
     ∙ ap (λ (o : Option (List ℕ)). cond (is_some o) o (text_of t (body_of i))) is
-  where
-    through : {A B : Type 0} (f : A → Option B) (b : Bool) (x : A) (o : Option A) → option_and_then f (cond b (Some x) o) ≡ cond b (f x) (option_and_then f o)
-    through f true x o = refl
-    through f false x o = refl
 
 own_later : (i j : Item) (t : List Item) → i.number ≢ j.number → OwnText t j → OwnText (i ∷ t) j
 own_later i j t ne own text is =
@@ -272,7 +483,7 @@ own_later_all : (i : Item) (t s : List Item) → AllByRecursion (λ (j : Item). 
 own_later_all i t [] apart all = tt
 own_later_all i t (j ∷ s) apart all = (own_later i j t apart.0 all.0, own_later_all i t s apart.1 all.1)
 
-own_texts : (t : List Item) → NumbersApart t → AllByRecursion (OwnText t) t
+pub own_texts : (t : List Item) → NumbersApart t → AllByRecursion (OwnText t) t
 own_texts [] apart = tt
 own_texts (i ∷ t) apart = (own_first i t, own_later_all i t t apart.0 (own_texts t apart.1))
 
@@ -292,13 +503,13 @@ noted_anew P old new fresh t i renotes own found text is =
       noted.2,
     )
 
-all_noted : (P : Note → List ℕ → Type 0) (old new : List (Body × Note)) (fresh : Fresh) (t s : List Item) → Renotes old fresh t new → AllByRecursion (OwnText t) s → AllByRecursion (IsFound P old fresh) s
+pub all_noted : (P : Note → List ℕ → Type 0) (old new : List (Body × Note)) (fresh : Fresh) (t s : List Item) → Renotes old fresh t new → AllByRecursion (OwnText t) s → AllByRecursion (IsFound P old fresh) s
     → AllByRecursion (HasNote P new) s
 all_noted P old new fresh t [] renotes own found = tt
 all_noted P old new fresh t (i ∷ s) renotes own found = (noted_anew P old new fresh t i renotes own.0 found.0, all_noted P old new fresh t s renotes own.1 found.1)
 
 -- a note before a gate has its text's length, where sizes are noted
-sized : (gate : ℕ) (new : List (Body × Note)) (t s : List Item) → ((body : Body) → size_of new body ≡ option_map length (text_of t body)) → AllByRecursion (OwnText t) s
+pub sized : (gate : ℕ) (new : List (Body × Note)) (t s : List Item) → SizesOf new t → AllByRecursion (OwnText t) s
     → AllByRecursion (HasNote (λ note text. LiesBefore gate note) new) s → AllByRecursion (HasNote (IsBefore gate) new) s
 sized gate new t [] sizes own all = tt
 sized gate new t (i ∷ s) sizes own all = (
@@ -310,130 +521,171 @@ sized gate new t (i ∷ s) sizes own all = (
   sized gate new t s sizes own.1 all.1,
 )
 
+-- ---- the items that stood behind a place
+
+kept_note : (told : Option (List ℕ)) (o rest : Option Note) (note : Note) → is_some told ≡ true → o ≡ Some note → option_and_then (λ (text : List ℕ). option_or o rest) told ≡ Some note
+kept_note None o rest note some is = absurd (let wrong : ◌≡◌ {A = Bool} false true = some in cc)
+kept_note (Some text) None rest note some is = absurd (cc is)
+kept_note (Some text) (Some n) rest note some is = is
+
+-- where they can come back each is noted as it was
+behind_noted : (P : Note → List ℕ → Type 0) (old new : List (Body × Note)) (fresh : Fresh) (t later s : List Item) → Renotes old fresh (t ++ later) new → AllByRecursion (OwnText later) s → AllByRecursion (HasNote P old) s
+    → AllByRecursion (HasNote P new) s
+behind_noted P old new fresh t later [] renotes own has = tt
+behind_noted P old new fresh t later (i ∷ s) renotes own has = (one, behind_noted P old new fresh t later s renotes own.1 has.1)
+  where
+    one : HasNote P new i
+    one text is =
+        let noted : (note : Note) × (note_of old (body_of i) ≡ Some note) × P note text = has.0 text is in
+        let some : is_some (text_of (t ++ later) (body_of i)) ≡ true = text_some t later (body_of i) (ap is_some (own.0 text (recorded_is i text is))) in
+        (noted.0, renotes (body_of i) ∙ kept_note (text_of (t ++ later) (body_of i)) (note_of old (body_of i)) _ noted.0 some noted.1, noted.2)
+
+-- an item's own text is the one under its body, whatever stands behind the list
+own_before : (t later : List Item) → NumbersApart t → AllByRecursion (OwnText (t ++ later)) t
+own_before t later apart = weaker (OwnText t) (OwnText (t ++ later)) (λ i own text is. text_first t later (body_of i) text (own text is)) t (own_texts t apart)
+
 -- ---- the whole
 
-zipped : (P Q : Item → Type 0) (t : List Item) → AllByRecursion P t → AllByRecursion Q t → AllByRecursion (λ (i : Item). P i × Q i) t
-zipped P Q [] a b = tt
-zipped P Q (i ∷ t) a b = ((a.0, b.0), zipped P Q t a.1 b.1)
-
-after_heard : (P : Note → List ℕ → Type 0) (old : List (Body × Note)) (fresh : Fresh) (s : Kept) (at : ℕ) (ask : CycleAsk) (place : ℕ) (heard : List Item) (now : List Shown)
-    → AllByRecursion (IsFound P old fresh) heard → AllByRecursion (IsFound P old fresh) (timeline_by s at ask place heard now)
-after_heard P old fresh s at ask place heard now all =
+pub after_heard : (P : Note → List ℕ → Type 0) (old : List (Body × Note)) (fresh : Fresh) (s : Kept) (at : ℕ) (repair : Repair) (heard : List Item) (now : List Shown)
+    → AllByRecursion (IsFound P old fresh) heard → AllByRecursion (IsFound P old fresh) (timeline_by s at repair heard now)
+after_heard P old fresh s at repair heard now all =
     joined (IsFound P old fresh) _ _ (shown_holds (IsFound P old fresh) (λ i now found. found) _ heard _ all) (notices_found P old fresh _ at _)
 
-given_found : (P : Note → List ℕ → Type 0) (old : List (Body × Note)) (fresh : Fresh) (s : Kept) (at : ℕ) (ask : CycleAsk) (where_ : Place) (bytes : List ℕ)
-    → Moves (LiesIn where_ bytes) P → IsFresh s.next at ask where_ bytes fresh → ((body : Body) → size_of old body ≡ option_map length (text_of s.timeline body))
-    → AllByRecursion (λ (j : Item). j.number < s.next) s.timeline → AllByRecursion (IsFound P old fresh) (inserted s.next at ask.inserts)
-given_found P old fresh s at ask where_ bytes moves is sizes below =
-    found_given P old fresh s.timeline s.next (inserted s.next at ask.inserts) sizes below (inserted_above s.next s.next at ask.inserts (omega arith))
-    (has_note_moves (LiesIn where_ bytes) P fresh.shelf.notes (inserted s.next at ask.inserts) moves is.given)
+module _ (old new : List (Body × Note)) (fresh : Fresh) (s : Kept) (at : ℕ) (ask : CycleAsk) (place : ℕ) (where_ : Place) (bytes : List ℕ) (is : IsFresh s.next at ask where_ bytes fresh)
+    (sizes : SizesOf old (items_asked s)) (apart : NumbersApart s.timeline) (below : AllByRecursion (λ (j : Item). j.number < s.next) s.timeline) (comes : HasUndone s) where
+  abbrev Back : List Item
+  Back = items_behind s.undone
 
-replaced_lies : (P : Note → List ℕ → Type 0) (fresh : Fresh) (c at : ℕ) (ask : CycleAsk) (where_ : Place) (bytes : List ℕ) → Moves (LiesIn where_ bytes) P → IsFresh c at ask where_ bytes fresh
-    → (number : ℕ) (text : List ℕ) → text_asked ask.replaces number ≡ Some text → (note : Note) × (note_of fresh.shelf.notes (record { origin = number; rev = c }) ≡ Some note) × P note text
-replaced_lies P fresh c at ask where_ bytes moves is number text asked =
-    let noted : (note : Note) × (note_of fresh.shelf.notes (record { origin = number; rev = c }) ≡ Some note) × LiesIn where_ bytes note text = is.replaced number text asked in
-    (noted.0, noted.1, moves noted.0 text noted.2)
+  given_found : (P : Note → List ℕ → Type 0) → Moves (LiesIn where_ bytes) P → AllByRecursion (IsFound P old fresh) (inserted s.next at ask.inserts)
+  given_found P moves =
+      found_given P old fresh (items_asked s) s.next (inserted s.next at ask.inserts) sizes (joined (λ (j : Item). j.number < s.next) s.timeline Back below (back_below s comes))
+      (inserted_above s.next s.next at ask.inserts (omega arith))
+      (has_note_moves (LiesIn where_ bytes) P fresh.shelf.notes (inserted s.next at ask.inserts) moves is.given)
 
--- Where each text was noted before a gate, and the cycle's record lies before it, each text is noted so after the cycle,
--- whatever was read.
-pub cycle_noted : (gate : ℕ) (old new : List (Body × Note)) (fresh : Fresh) (s : Kept) (at : ℕ) (ask : CycleAsk) (place : ℕ) (heard : List Item) (now : List Shown) (where_ : Place) (bytes : List ℕ)
-    → where_.gate + 5 + where_.length ≤ gate → where_.length ≡ length bytes → IsFresh s.next at ask where_ bytes fresh
-    → ((body : Body) → size_of old body ≡ option_map length (text_of s.timeline body)) → NumbersApart s.timeline → AllByRecursion (λ (j : Item). j.number < s.next) s.timeline
-    → AllHeard (repaired_items s at ask place) heard → NumbersApart (timeline_by s at ask place heard now)
-    → Renotes old fresh (timeline_by s at ask place heard now) new → ((body : Body) → size_of new body ≡ option_map length (text_of (timeline_by s at ask place heard now) body))
-    → NotedBefore gate old s.timeline → NotedBefore gate new (timeline_by s at ask place heard now)
-cycle_noted gate old new fresh s at ask place heard now where_ bytes within long is sizes apart below hears apart' renotes sizes' noted =
-    let P : Note → List ℕ → Type 0 = λ note text. LiesBefore gate note in
-    let free : (n : Note) (a b : List ℕ) → P n a → P n b = λ n a b h. h in
-    let moves : Moves (LiesIn where_ bytes) P = λ note text lies. record {
-      place = subst (λ (p : Place). p.gate + 5 + p.length ≤ gate) (sym lies.place_is) within;
-      range = subst (λ (p : Place). note.from + note.length ≤ p.length) (sym lies.place_is) (subst (λ (n : ℕ). note.from + note.length ≤ n) (sym long) lies.within);
-    } in
-    let has : AllByRecursion (HasNote P old) s.timeline = has_note_moves (IsBefore gate) P old s.timeline (λ note text is. is.lies) noted in
-    let stale : AllByRecursion (IsStale P old s.next) s.timeline =
-    weaker (λ (i : Item). OneRev s.timeline i × HasNote P old i) (IsStale P old s.next) (λ i h. any_stale P old s.timeline s.next i free sizes h.0 h.1) s.timeline
-    (zipped (OneRev s.timeline) (HasNote P old) s.timeline (one_rev s.timeline apart) has) in
-    let found : AllByRecursion (IsFound P old fresh) (repaired_items s at ask place) =
-    found_all P old fresh s.timeline ask s.next at place (replaced_lies P fresh s.next at ask where_ bytes moves is)
-    (zipped (HasNote P old) (IsStale P old s.next) s.timeline has stale) (given_found P old fresh s at ask where_ bytes moves is sizes below) in
-    let own : AllByRecursion (OwnText (timeline_by s at ask place heard now)) (timeline_by s at ask place heard now) = own_texts (timeline_by s at ask place heard now) apart' in
-    sized gate new (timeline_by s at ask place heard now) (timeline_by s at ask place heard now) sizes' own
-    (all_noted P old new fresh (timeline_by s at ask place heard now) (timeline_by s at ask place heard now) renotes own
-    (after_heard P old fresh s at ask place heard now (all_heard P old fresh (repaired_items s at ask place) heard free hears found)))
+  replaced_lies : (P : Note → List ℕ → Type 0) → Moves (LiesIn where_ bytes) P → (number : ℕ) (text : List ℕ) → text_asked ask.replaces number ≡ Some text
+      → (note : Note) × (note_of fresh.shelf.notes (record { origin = number; rev = s.next }) ≡ Some note) × P note text
+  replaced_lies P moves number text asked =
+      let noted : (note : Note) × (note_of fresh.shelf.notes (record { origin = number; rev = s.next }) ≡ Some note) × LiesIn where_ bytes note text = is.replaced number text asked in
+      (noted.0, noted.1, moves noted.0 text noted.2)
 
--- Where each text lay where it was noted, so does each after the cycle, where the texts were read as they were stored.
-pub cycle_lies : (payloads : List (List ℕ)) (old new : List (Body × Note)) (fresh : Fresh) (s : Kept) (at : ℕ) (ask : CycleAsk) (place : ℕ) (now : List Shown) (where_ : Place) (bytes : List ℕ)
-    → LiesAt payloads where_.gate where_.length bytes → IsFresh s.next at ask where_ bytes fresh
-    → ((body : Body) → size_of old body ≡ option_map length (text_of s.timeline body)) → NumbersApart s.timeline → AllByRecursion (λ (j : Item). j.number < s.next) s.timeline → RevsBelow s
-    → NumbersApart (timeline_by s at ask place (repaired_items s at ask place) now) → Renotes old fresh (timeline_by s at ask place (repaired_items s at ask place) now) new
-    → TextsLie payloads old s.timeline → TextsLie payloads new (timeline_by s at ask place (repaired_items s at ask place) now)
-cycle_lies payloads old new fresh s at ask place now where_ bytes lies is sizes apart below revs apart' renotes all =
-    let P : Note → List ℕ → Type 0 = IsStored payloads in
-    let moves : Moves (LiesIn where_ bytes) P = λ note text own. record {
-      payload = bytes;
-      lies = subst (λ (p : Place). LiesAt payloads p.gate p.length bytes) (sym own.place_is) lies;
-      bytes = own.is;
-    } in
-    let stale : AllByRecursion (IsStale P old s.next) s.timeline =
-    weaker (λ (i : Item). OneRev s.timeline i × (i.rev < s.next)) (IsStale P old s.next) (λ i h. none_stale P old s.timeline s.next i sizes h.0 h.1) s.timeline
-    (zipped (OneRev s.timeline) (λ (i : Item). i.rev < s.next) s.timeline (one_rev s.timeline apart) revs) in
-    let found : AllByRecursion (IsFound P old fresh) (repaired_items s at ask place) =
-    found_all P old fresh s.timeline ask s.next at place (replaced_lies P fresh s.next at ask where_ bytes moves is)
-    (zipped (HasNote P old) (IsStale P old s.next) s.timeline all stale) (given_found P old fresh s at ask where_ bytes moves is sizes below) in
-    all_noted P old new fresh (timeline_by s at ask place (repaired_items s at ask place) now) (timeline_by s at ask place (repaired_items s at ask place) now) renotes
-    (own_texts (timeline_by s at ask place (repaired_items s at ask place) now) apart')
-    (after_heard P old fresh s at ask place (repaired_items s at ask place) now found)
+  -- each text of the repaired items is found
+  repaired_found : (P : Note → List ℕ → Type 0) → Moves (LiesIn where_ bytes) P → AllByRecursion (HasNote P old) s.timeline → AllByRecursion (IsStale P old s.next) s.timeline
+      → AllByRecursion (IsFound P old fresh) (repaired_items s at ask place)
+  repaired_found P moves has stale =
+      found_all P old fresh s.timeline ask s.next at place (replaced_lies P moves) (zipped (HasNote P old) (IsStale P old s.next) s.timeline has stale) (given_found P moves)
+
+  -- Where each text was noted before a gate, and the cycle's record lies before it, each text is noted so after the cycle,
+  -- whatever was read, also of those that can come back then.
+  module _ (heard : List Item) (now : List Shown) (apart' : NumbersApart (timeline_by s at (repair_of s at ask place) heard now)) where
+    abbrev Then : List Item
+    Then = timeline_by s at (repair_of s at ask place) heard now
+
+    pub cycle_noted : (gate : ℕ) → where_.gate + 5 + where_.length ≤ gate → where_.length ≡ length bytes → AllHeard (repaired_items s at ask place) heard
+        → Renotes old fresh (Then ++ drop place s.timeline) new → SizesOf new (Then ++ drop place s.timeline)
+        → NotedBefore gate old (items_asked s) → NotedBefore gate new (Then ++ drop place s.timeline)
+    cycle_noted gate within long hears renotes sizes' noted =
+        let P : Note → List ℕ → Type 0 = λ note text. LiesBefore gate note in
+        let free : (n : Note) (a b : List ℕ) → P n a → P n b = λ n a b h. h in
+        let moves : Moves (LiesIn where_ bytes) P = λ note text lies. record {
+          place = subst (λ (p : Place). p.gate + 5 + p.length ≤ gate) (sym lies.place_is) within;
+          range = subst (λ (p : Place). note.from + note.length ≤ p.length) (sym lies.place_is) (subst (λ (n : ℕ). note.from + note.length ≤ n) (sym long) lies.within);
+        } in
+        let all : AllByRecursion (HasNote P old) (items_asked s) = has_note_moves (IsBefore gate) P old (items_asked s) (λ note text is. is.lies) noted in
+        let has : AllByRecursion (HasNote P old) s.timeline = first_part (HasNote P old) s.timeline Back all in
+        let stale : AllByRecursion (IsStale P old s.next) s.timeline =
+        weaker (λ (i : Item). (OneRev s.timeline i × HasNote P old i) × AllByRecursion (IsAlike i) Back) (IsStale P old s.next)
+        (λ i h. any_stale P old s.timeline Back s.next i free sizes h.0.0 h.0.1 (second_part (HasNote P old) s.timeline Back all) h.1) s.timeline
+        (zipped (λ (i : Item). OneRev s.timeline i × HasNote P old i) (λ (i : Item). AllByRecursion (IsAlike i) Back) s.timeline
+        (zipped (OneRev s.timeline) (HasNote P old) s.timeline (one_rev s.timeline apart) has) (all_alike s comes)) in
+        let later : List Item = drop place s.timeline in
+        let own : AllByRecursion (OwnText (Then ++ later)) Then = own_before Then later apart' in
+        joined (HasNote (IsBefore gate) new) Then later
+        (sized gate new (Then ++ later) Then sizes' own
+        (all_noted P old new fresh (Then ++ later) Then renotes own
+        (after_heard P old fresh s at (repair_of s at ask place) heard now (all_heard P old fresh (repaired_items s at ask place) heard free hears (repaired_found P moves has stale)))))
+        (behind_noted (IsBefore gate) old new fresh Then later later renotes (own_texts later (apart_rest place s.timeline apart))
+        (rest_of (HasNote (IsBefore gate) old) place s.timeline (first_part (HasNote (IsBefore gate) old) s.timeline Back noted)))
+
+  -- Where each text lay where it was noted, so does each after the cycle, where the texts were read as they were stored.
+  module _ (now : List Shown) (apart' : NumbersApart (timeline_by s at (repair_of s at ask place) (repaired_items s at ask place) now)) where
+    abbrev Stored : List Item
+    Stored = timeline_by s at (repair_of s at ask place) (repaired_items s at ask place) now
+
+    pub cycle_lies : (payloads : List (List ℕ)) → LiesAt payloads where_.gate where_.length bytes → RevsBelow s → HasUndoneTexts s → Renotes old fresh (Stored ++ drop place s.timeline) new
+        → TextsLie payloads old (items_asked s) → TextsLie payloads new (Stored ++ drop place s.timeline)
+    cycle_lies payloads lies revs texts renotes all =
+        let P : Note → List ℕ → Type 0 = IsStored payloads in
+        let moves : Moves (LiesIn where_ bytes) P = λ note text own. record {
+          payload = bytes;
+          lies = subst (λ (p : Place). LiesAt payloads p.gate p.length bytes) (sym own.place_is) lies;
+          bytes = own.is;
+        } in
+        let has : AllByRecursion (HasNote P old) s.timeline = first_part (HasNote P old) s.timeline Back all in
+        let stale : AllByRecursion (IsStale P old s.next) s.timeline =
+        weaker (λ (i : Item). OneRev s.timeline i × (i.rev < s.next)) (IsStale P old s.next)
+        (λ i h. none_stale P old (items_asked s) s.next i sizes (none_under s.timeline Back s.next i h.0 h.1 (back_revs s comes texts))) s.timeline
+        (zipped (OneRev s.timeline) (λ (i : Item). i.rev < s.next) s.timeline (one_rev s.timeline apart) revs) in
+        let later : List Item = drop place s.timeline in
+        joined (HasNote P new) Stored later
+        (all_noted P old new fresh (Stored ++ later) Stored renotes (own_before Stored later apart')
+        (after_heard P old fresh s at (repair_of s at ask place) (repaired_items s at ask place) now (repaired_found P moves has stale)))
+        (behind_noted P old new fresh Stored later later renotes (own_texts later (apart_rest place s.timeline apart)) (rest_of (HasNote P old) place s.timeline has))
 
 -- ---- a cycle in memory, put in place
 
 -- what the later items show then, as they were read
-abbrev pub shown_made : (s : Kept) (at : ℕ) (ask : CycleAsk) (honest : Type 0) (made : Rewound) → IsMade s at ask honest made → List Shown
-shown_made s at ask honest made is = compared_from ask is.place is.first is.count is.made_from.heard
+abbrev pub shown_made : (s : Kept) (at : ℕ) (ask : CycleAsk) (honest : Type 0) (made : Rewound) → IsCycled s at ask honest made → List Shown
+shown_made s at ask honest made is = compared_from (repair_of s at ask is.place) is.is_made.first is.is_made.count is.is_made.made_from.heard
 
 -- the timeline that it leaves is that of the items as they were read
-pub made_timeline : (s : Kept) (at : ℕ) (ask : CycleAsk) (honest : Type 0) (made : Rewound) (is : IsMade s at ask honest made) → items_left s.timeline made ≡ timeline_by s at ask is.place is.made_from.heard (shown_made s at ask honest made is)
-made_timeline s at ask honest made is = is.made_from.leaves.timeline
+pub made_timeline : (s : Kept) (at : ℕ) (ask : CycleAsk) (honest : Type 0) (made : Rewound) (is : IsCycled s at ask honest made) → items_left s.timeline made ≡ timeline_by s at (repair_of s at ask is.place) is.is_made.made_from.heard (shown_made s at ask honest made is)
+made_timeline s at ask honest made is = is.is_made.made_from.leaves.timeline
 
 -- and where what was read is what was stored, that of the repaired items
-pub made_timeline_of : (s : Kept) (at : ℕ) (ask : CycleAsk) (honest : Type 0) (made : Rewound) (is : IsMade s at ask honest made) → honest
-    → items_left s.timeline made ≡ timeline_by s at ask is.place (repaired_items s at ask is.place) (shown_made s at ask honest made is)
+pub made_timeline_of : (s : Kept) (at : ℕ) (ask : CycleAsk) (honest : Type 0) (made : Rewound) (is : IsCycled s at ask honest made) → honest
+    → items_left s.timeline made ≡ timeline_by s at (repair_of s at ask is.place) (repaired_items s at ask is.place) (shown_made s at ask honest made is)
 made_timeline_of s at ask honest made is truth =
-    made_timeline s at ask honest made is ∙ ap (λ (t : List Item). timeline_by s at ask is.place t (shown_made s at ask honest made is)) (is.made_from.same truth)
+    made_timeline s at ask honest made is ∙ ap (λ (t : List Item). timeline_by s at (repair_of s at ask is.place) t (shown_made s at ask honest made is)) (is.is_made.made_from.same truth)
 
-pub put_noted : (gate : ℕ) (old new : Held) (at : ℕ) (ask : CycleAsk) (honest : Type 0) (made : Rewound) (where_ : Place)
-    → where_.gate + 5 + where_.length ≤ gate → where_.length ≡ length (record_bytes (Cycle old.kept.next at ask))
-    → IsMade old.kept at ask honest made → NumbersApart (items_left old.kept.timeline made) → new.kept.timeline ≡ items_left old.kept.timeline made
-    → SizesOf old.notes old.kept.timeline → NumbersApart old.kept.timeline → AllByRecursion (λ (j : Item). j.number < old.kept.next) old.kept.timeline
-    → NotesCycle old.kept.next at ask where_ old.notes (items_left old.kept.timeline made) new.notes → SizesOf new.notes new.kept.timeline
-    → NotedBefore gate old.notes old.kept.timeline → NotedBefore gate new.notes new.kept.timeline
-put_noted gate old new at ask honest made where_ within long is apart' put sizes apart below notes sizes' noted =
-    let now : items_left old.kept.timeline made ≡ timeline_by old.kept at ask is.place is.made_from.heard (shown_made old.kept at ask honest made is) = made_timeline old.kept at ask honest made is in
-    subst (λ (t : List Item). NotedBefore gate new.notes t) (sym (put ∙ now))
-    (cycle_noted gate old.notes new.notes notes.0 old.kept at ask is.place is.made_from.heard (shown_made old.kept at ask honest made is) where_ (record_bytes (Cycle old.kept.next at ask)) within long notes.1 sizes apart below is.made_from.all
-    (subst NumbersApart now apart') (subst (λ (t : List Item). Renotes old.notes notes.0 t new.notes) now notes.2) (subst (λ (t : List Item). SizesOf new.notes t) (put ∙ now) sizes') noted)
+-- with those that stood behind its place
+pub made_asked : (s : Kept) (at : ℕ) (ask : CycleAsk) (honest : Type 0) (made : Rewound) (is : IsCycled s at ask honest made) (t : List Item) → items_left s.timeline made ≡ t → asked_then s true made ≡ t ++ drop is.place s.timeline
+made_asked s at ask honest made is t left = λ j. left j ++ drop (is.is_made.made_from.leaves.place j) s.timeline
 
-pub put_lies : (payloads : List (List ℕ)) (old new : Held) (at : ℕ) (ask : CycleAsk) (honest : Type 0) (made : Rewound) (where_ : Place)
-    → LiesAt payloads where_.gate where_.length (record_bytes (Cycle old.kept.next at ask))
-    → honest → IsMade old.kept at ask honest made → NumbersApart (items_left old.kept.timeline made) → new.kept.timeline ≡ items_left old.kept.timeline made
-    → SizesOf old.notes old.kept.timeline → NumbersApart old.kept.timeline → AllByRecursion (λ (j : Item). j.number < old.kept.next) old.kept.timeline → RevsBelow old.kept
-    → NotesCycle old.kept.next at ask where_ old.notes (items_left old.kept.timeline made) new.notes
-    → TextsLie payloads old.notes old.kept.timeline → TextsLie payloads new.notes new.kept.timeline
-put_lies payloads old new at ask honest made where_ lies truth is apart' put sizes apart below revs notes all =
-    let now : items_left old.kept.timeline made ≡ timeline_by old.kept at ask is.place (repaired_items old.kept at ask is.place) (shown_made old.kept at ask honest made is) =
-    made_timeline_of old.kept at ask honest made is truth in
-    subst (λ (t : List Item). TextsLie payloads new.notes t) (sym (put ∙ now))
-    (cycle_lies payloads old.notes new.notes notes.0 old.kept at ask is.place (shown_made old.kept at ask honest made is) where_ (record_bytes (Cycle old.kept.next at ask)) lies notes.1 sizes apart below revs
-    (subst NumbersApart now apart') (subst (λ (t : List Item). Renotes old.notes notes.0 t new.notes) now notes.2) all)
+module _ (old new : Held) (at : ℕ) (ask : CycleAsk) (honest : Type 0) (made : Rewound) (where_ : Place) (bytes : List ℕ) (fresh : Fresh) (is_fresh : IsFresh old.kept.next at ask where_ bytes fresh)
+    (is : IsCycled old.kept at ask honest made) (apart' : NumbersApart (items_left old.kept.timeline made)) (put : items_asked new.kept ≡ asked_then old.kept true made)
+    (sizes : SizesOf old.notes (items_asked old.kept)) (apart : NumbersApart old.kept.timeline) (below : AllByRecursion (λ (j : Item). j.number < old.kept.next) old.kept.timeline) (comes : HasUndone old.kept)
+    (renotes : Renotes old.notes fresh (asked_then old.kept true made) new.notes) where
+  pub put_noted : (gate : ℕ) → where_.gate + 5 + where_.length ≤ gate → where_.length ≡ length bytes → SizesOf new.notes (asked_then old.kept true made)
+      → TextsNoted gate old.notes old.kept → TextsNoted gate new.notes new.kept
+  put_noted gate within long sizes' noted =
+      let heard = is.is_made.made_from.heard in
+      let now = shown_made old.kept at ask honest made is in
+      let left = made_timeline old.kept at ask honest made is in
+      let asked : asked_then old.kept true made ≡ timeline_by old.kept at (repair_of old.kept at ask is.place) heard now ++ drop is.place old.kept.timeline = made_asked old.kept at ask honest made is _ left in
+      subst (NotedBefore gate new.notes) (sym (put ∙ asked))
+      (cycle_noted old.notes new.notes fresh old.kept at ask is.place where_ bytes is_fresh sizes apart below comes heard now (subst NumbersApart left apart') gate within long is.is_made.made_from.all
+      (subst (λ (t : List Item). Renotes old.notes fresh t new.notes) asked renotes) (subst (SizesOf new.notes) asked sizes') noted)
+
+  pub put_lies : (payloads : List (List ℕ)) → LiesAt payloads where_.gate where_.length bytes → honest → RevsBelow old.kept → HasUndoneTexts old.kept
+      → TextsStored payloads old.notes old.kept → TextsStored payloads new.notes new.kept
+  put_lies payloads lies truth revs texts all =
+      let now = shown_made old.kept at ask honest made is in
+      let left = made_timeline_of old.kept at ask honest made is truth in
+      let asked : asked_then old.kept true made ≡ timeline_by old.kept at (repair_of old.kept at ask is.place) (repaired_items old.kept at ask is.place) now ++ drop is.place old.kept.timeline =
+      made_asked old.kept at ask honest made is _ left in
+      subst (TextsLie payloads new.notes) (sym (put ∙ asked))
+      (cycle_lies old.notes new.notes fresh old.kept at ask is.place where_ bytes is_fresh sizes apart below comes now (subst NumbersApart left apart') payloads lies revs texts
+      (subst (λ (t : List Item). Renotes old.notes fresh t new.notes) asked renotes) all)
 
 -- ---- the record of a cycle
 
 -- where the cycle can follow under a new key, what its record leaves is what is due under a new key
 pub cycle_follows : (kept : Kept) (number at : ℕ) (ask : CycleAsk) → IsTrue (is_spelled (Cycle number at ask)) → can_rewind kept number ask ≡ true → is_none (report_of kept.reports ask.key) ≡ true
-    → after_cycle_record kept number at ask ≡ after_due kept ask (due_anew kept at ask)
+    → after_cycle_record kept number at ask ≡ after_due (after_cycle kept ask) (due_anew kept at ask)
 cycle_follows kept number at ask spelled can new =
-    ap (λ (b : Bool). cond (b && can_rewind kept number ask) (after_due kept ask (cycle_due kept at ask)) None) spelled
-    ∙ ap (λ (b : Bool). cond b (after_due kept ask (cycle_due kept at ask)) None) can
-    ∙ ap (λ (o : Option Report). after_due kept ask (due_by o (due_anew kept at ask))) (none_is (report_of kept.reports ask.key) new)
+    ap (λ (b : Bool). cond (b && can_rewind kept number ask) (after_due (after_cycle kept ask) (cycle_due kept at ask)) None) spelled
+    ∙ ap (λ (b : Bool). cond b (after_due (after_cycle kept ask) (cycle_due kept at ask)) None) can
+    ∙ ap (λ (o : Option Report). after_due (after_cycle kept ask) (due_by o (due_anew kept at ask))) (none_is (report_of kept.reports ask.key) new)
   where
     none_is : {A : Type 0} (o : Option A) → is_none o ≡ true → o ≡ None
     none_is None e = refl

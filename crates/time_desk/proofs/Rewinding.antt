@@ -1,10 +1,11 @@
 -- What becomes of a request for a cycle, from what a cycle leaves in memory and what became of sealing it.
 use Rattle.std.proofs.Common.{◌≡◌, ◌<◌, ◌≤◌, ◌-◌, suc, ◌∷◌, ◌++◌, ◌∙◌, ◌&&◌, [], ℕ, take, drop, List, Bool, true, false, Option, Some, None, Result, Ok, Err, IfOk, OnOk, inl, inr, map, refl, sym, ap, subst, arith}
-use Rattle.std.specs.Prelude.{◌⊎◌, ◌+◌, ◌||◌, if◌then◌else◌, is_none, option_and_then, length, IsSome, IsTrue}
+use Rattle.std.specs.Prelude.{◌⊎◌, ◌+◌, OnErr, if◌then◌else◌, is_none, option_and_then, length, IsSome, IsTrue}
 use Rattle.std.proofs.lemmas.List.{length-append, length-map, length-take-le, take-append-drop}
 use Rattle.cycle_rules.specs.Judging.{shown_after}
 use Rattle.std.proofs.lemmas.Bool.{eq-eqb}
 use Rattle.std.specs.List.{AllByRecursion}
+use Rattle.undo_base.specs.declared.keys.User.{User}
 use Rattle.undo_outside.specs.Disk.{DiskTold, IsHonest}
 use Rattle.seal_log.specs.declared.place.Place.{Place}
 use Rattle.seal_log.specs.Journal.{LiesAt}
@@ -12,12 +13,12 @@ use Rattle.shelf.specs.declared.note.Note.{Note}
 use Rattle.seal_log.specs.declared.fault.SealFault.{SealFault}
 use Rattle.seal_log.specs.declared.fault.SealFault.TheVariants as log_faults
 use Rattle.seal_log.specs.Settled.{ReadsAlone}
-use Rattle.verb_core.specs.declared.item.Act.{Act}
 use Rattle.verb_core.specs.declared.item.Item.{Item}
+use Rattle.verb_core.specs.declared.item.Shown.{Shown}
 use Rattle.verb_core.specs.declared.mailbox.BoxId.{BoxId}
 use Rattle.verb_core.specs.declared.mailbox.Mailbox.{Mailbox}
 use Rattle.verb_core.specs.declared.mailbox.Body.{Body}
-use Rattle.verb_core.specs.Fates.{IsBase}
+use Rattle.verb_core.specs.Fates.{IsBase, IsFresh as IsNewTo}
 use Rattle.verb_core.specs.Items.{IsTimeline, IsWellFormed, NumbersApart}
 use Rattle.verb_core.specs.Step.{run}
 use Rattle.verb_core.specs.Store.{IsValid, MailStore}
@@ -25,46 +26,62 @@ use Rattle.verb_core.proofs.Joins.{run_house}
 use Rattle.verb_bytes.specs.declared.journal.CycleAsk.{CycleAsk}
 use Rattle.verb_bytes.specs.declared.journal.JournalRecord.TheVariants.{Cycle}
 use Rattle.verb_bytes.specs.Spelling.{record_bytes}
+use Rattle.paradox.specs.Letters.{notices}
 use Rattle.paradox.specs.declared.reports.Report.{Report}
 use Rattle.store_kept.specs.Bases.{HasBase}
+use Rattle.store_kept.specs.Coming.{HasUndone}
 use Rattle.store_kept.specs.Kept.{IsRun, Kept, newest_at, report_of, rewound, with_report}
+use Rattle.store_kept.specs.Texts.{all_bodies, items_asked}
 use Rattle.shelf.specs.Marks.{marks_at_or_before}
 use Rattle.stored_items.specs.Stored.{AllHeard}
-use Rattle.repair_desk.specs.Repairs.{are_known, inserted, kept as stays, numbers_of, position, repaired}
+use Rattle.repair_desk.specs.Repairs.{are_known, numbers_of, position}
 use Rattle.repair_desk.proofs.Everywhere.{rest_of}
+use Rattle.repair_desk.proofs.Points.{within as within_point}
 use Rattle.mail_cycle.specs.declared.refused.CycleRefused.{CycleRefused}
 use Rattle.mail_cycle.specs.declared.refused.CycleRefused.TheVariants as refusals
 use Rattle.mail_cycle.specs.declared.settling.Rewound.{Rewound}
-use Rattle.cycle_rules.specs.Asking.{Due, IsRewinds, NoNumbers, NoPoint, Repeats, Rewinds, after_cycle, cycle_due, due_anew, due_by}
-use Rattle.cycle_rules.specs.Cycles.{Cycled, cycled_at, front_of, leaves_numbers, repaired_items}
-use Rattle.mail_cycle.specs.Comparing.{compared_from, cycled_from, reached_from, timeline_by, timeline_from, told_by}
+use Rattle.cycle_rules.specs.Asking.{Due, IsRewinds, NoNumbers, NoPoint, Repeats, Rewinds, after_cycle, cycle_due, due_anew, due_by, undone_at}
+use Rattle.cycle_rules.specs.Cycles.{cycled_at, front_of, repair_of, repaired_items}
+use Rattle.cycle_rules.specs.Repairing.{Cycled, Repair, notice_items, reworked}
+use Rattle.cycle_rules.specs.Withdrawals.{after_withdrawal}
+use Rattle.withdraw.specs.declared.undone.UndoneBehind.{UndoneBehind}
+use Rattle.withdraw.specs.Coming.{CanComeBack}
+use Rattle.mail_cycle.specs.Comparing.{broken_by, compared_from, reached_from, reworked_from, timeline_by, timeline_from, told_by}
 use Rattle.mail_cycle.specs.Leaving.{GoesOnAt, IsMade, IsMadeFrom, Leaves, LeavesAt, items_left}
 use Rattle.mail_cycle.specs.Refusing.{IsRefusalOf}
+use Rattle.mail_cycle.specs.Tasks.{GoesWith, IsCycle, IsTask, Task}
+use Rattle.mail_cycle.proofs.Made.{made_whole}
+use Rattle.replay_crew.specs.Hearing.{Counts}
+use Rattle.verb_core.specs.declared.bodies.BodiesFault.{BodiesFault}
+use Rattle.verb_core.specs.declared.bodies.BodiesFault.TheVariants as bodies_faults
 use Rattle.time_desk.specs.declared.fault.CycleFault.{CycleFault}
 use Rattle.time_desk.specs.declared.fault.CycleFault.TheVariants as cycle_faults
-use Rattle.time_desk.specs.Cycling.{Cycles, CyclesAs, CyclesBy, CyclesNone, IsCycleOutcomeOf, IsFit, IsTold, Redoes, RedoesCause, RenotesAs, StarvesBy, TriesNone, after_rewound, most_performed}
+use Rattle.time_desk.specs.Cycling.{CanBeUndone, CanRework, Cycles, CyclesAs, CyclesBy, CyclesNone, IsCycleOutcomeOf, IsCycled, IsFit, IsTold, Redoes, RedoesCause, RedoesCycle, RenotesAs, Reworks, StarvesBy, Tries, TriesNone, after_rewound, asked_then, most_begun, most_reworked, most_tried}
+use Rattle.time_desk.specs.Planning.{BodiesCause}
 use Rattle.mail_desk.specs.Held.{Held}
 use Rattle.mail_desk.specs.Timeline.{SizesOf, has_text}
-use Rattle.store_kept.specs.Texts.{all_bodies}
-use Rattle.desk_journal.specs.Lasting.{JournalTold, Lasting, lasting}
+use Rattle.seal_log.specs.declared.log.Log.{Log}
+use Rattle.desk_journal.specs.Lasting.{JournalTold, Lasting, PastTold, journal_of, lasting}
+use Rattle.desk_journal.specs.declared.read_texts.Reading.{Reading}
+use Rattle.desk_journal.specs.Going.{read_on}
 use Rattle.desk_journal.specs.Permanence.{IsSound}
 use Rattle.desk_journal.specs.Reading.{IsStill, ReadsWell}
 use Rattle.desk_journal.specs.Records.{after_cycle_record, after_due, after_record, can_rewind, is_spelled}
 use Rattle.desk_journal.specs.Sealing.{ReadNoTexts, IsRecordTo, Seals, SealsPayloads}
-use Rattle.desk_journal.specs.Stored.{HoldsTexts, IsFresh, MarksLie, NotedBefore, Renotes, TextsLie, store_at}
+use Rattle.desk_journal.specs.Stored.{HoldsTexts, IsFresh, MarksLie, TextsNoted, TextsStored, store_at}
 use Rattle.mail_cycle.specs.declared.beginning.Beginning.{Beginning}
-use Rattle.time_desk.specs.Serving.{CanServe, Serves, unmarked}
+use Rattle.time_desk.specs.Serving.{CanServe, IsNewest, Serves, unmarked}
 use Rattle.desk_journal.specs.Submitting.{SealsBytes, SealsNone, SealsNothing}
-use Rattle.desk_journal.specs.Telling.{HoldsHeld, IsOnlyRead}
-use Rattle.desk_journal.proofs.Holding.{holds_sealed, noted_later}
-use Rattle.desk_journal.proofs.Payloads.{none_read, payloads_then}
-use Rattle.time_desk.proofs.Marking.{length_shown, made_marks}
-use Rattle.time_desk.proofs.Renoting.{cycle_lies, cycle_noted, made_timeline, made_timeline_of, shown_made}
-use Rattle.desk_journal.proofs.Runs.{seals_nothing, seals_still, seals_then, still_holds}
-use Rattle.desk_journal.proofs.Sealed.{lies_longer}
-use Rattle.time_desk.proofs.Soundness.{revs_on}
-use Rattle.desk_journal.proofs.Submits.{not_sealed}
-use Rattle.desk_journal.proofs.Truth.{cycle_true, one_true}
+use Rattle.desk_journal.specs.Telling.{HoldsHeld, IsOnlyRead, IsPastRead, LeadsOn, reading_told}
+use Rattle.desk_journal.proofs.Telling.{held_on}
+use Rattle.time_desk.proofs.Telling.{bodies_cause, cause_later, honest_as, tells_asked}
+use Rattle.desk_journal.proofs.Holding.{noted_later}
+use Rattle.time_desk.proofs.Bounding.{made_length, repaired_few}
+use Rattle.time_desk.proofs.Marking.{made_marks}
+use Rattle.time_desk.proofs.Renoting.{made_timeline, put_lies, put_noted, shown_made}
+use Rattle.time_desk.proofs.Repaired.{nothing_sealed, record_sealed, record_unsealed}
+use Rattle.time_desk.proofs.Standings.{if_err}
+use Rattle.desk_journal.proofs.Truth.{cycle_true}
 
 -- ---- what a cycle leaves in memory
 
@@ -72,49 +89,17 @@ use Rattle.desk_journal.proofs.Truth.{cycle_true, one_true}
 abbrev pub BodiesOn : Type 0
 BodiesOn = (base : MailStore) (front t : List Item) → IsValid base → AllByRecursion (IsWellFormed base.house) t → IsTrue (all_bodies (has_text front) base.boxes) → IsTrue (all_bodies (has_text (front ++ t)) (run base t).boxes)
 
--- it has the items through the place, the acts that come in, the later ones that stay, and the notices
-heard_length : (items heard : List Item) → AllHeard items heard → length heard ≡ length items
-heard_length [] [] all = refl
-heard_length [] (h ∷ hs) all = absurd all
-heard_length (i ∷ items) [] all = absurd all
-heard_length (i ∷ items) (h ∷ hs) all = ap suc (heard_length items hs all.1)
-
--- each act is an item, and each later item that stays
-acts_length : (c at : ℕ) (acts : List Act) → length (inserted c at acts) ≡ length acts
-acts_length c at [] = refl
-acts_length c at (act ∷ acts) = ap suc (acts_length (c + 1) at acts)
-
-repaired_length : (kept : Kept) (at : ℕ) (ask : CycleAsk) (place : ℕ) → place ≤ length kept.timeline → length (repaired_items kept at ask place) ≡ place + length ask.inserts + length (stays ask (drop place kept.timeline))
-repaired_length kept at ask place within =
-    let front = take place kept.timeline in
-    let acts = inserted kept.next at ask.inserts in
-    let later = map (repaired ask kept.next) (stays ask (drop place kept.timeline)) in
-    omega (arith, length-append front (acts ++ later), length-append acts later, length-append (front ++ acts) later, length-append front acts, length-take-le place kept.timeline within, acts_length kept.next at ask.inserts, length-map (stays ask (drop place kept.timeline)) (repaired ask kept.next))
-
-pub made_length : (kept : Kept) (at : ℕ) (ask : CycleAsk) (place : ℕ) (first : MailStore) (count : ℕ) (honest : Type 0) (made : Rewound) → place ≤ length kept.timeline → IsMadeFrom kept at ask place first count honest made
-    → length (items_left kept.timeline made) ≡ place + length ask.inserts + made.report.kept + length made.report.notices
-made_length kept at ask place first count honest made within is =
-    let now = compared_from ask place first count is.heard in
-    ap (λ (t : List Item). length t) is.leaves.timeline
-    ∙ whole (length (shown_after (front_of ask place) is.heard now ++ told_by kept at ask place now)) (length (shown_after (front_of ask place) is.heard now)) (length is.heard) (length (repaired_items kept at ask place))
-    place (length ask.inserts) (length (stays ask (drop place kept.timeline))) (length (told_by kept at ask place now)) (length (numbers_of (told_by kept at ask place now)))
-    (length-append (shown_after (front_of ask place) is.heard now) (told_by kept at ask place now)) (length_shown (front_of ask place) is.heard now) (heard_length (repaired_items kept at ask place) is.heard is.all)
-    (repaired_length kept at ask place within) (length-map (told_by kept at ask place now) (λ (i : Item). i.number))
-    ∙ ap (λ (r : Report). place + length ask.inserts + r.kept + length r.notices) (sym is.leaves.report)
-  where
-    whole : (all shown heard items a b c d e : ℕ) → all ≡ shown + d → shown ≡ heard → heard ≡ items → items ≡ a + b + c → e ≡ d → all ≡ a + b + c + e
-    whole all shown heard items a b c d e p q r s t = omega arith
-
 -- what is left can be put in place
-module _ (kept : Kept) (at : ℕ) (ask : CycleAsk) (place : ℕ) (first : MailStore) (count : ℕ) (heard : List Item) (made : Rewound) where
+module _ (kept : Kept) (at : ℕ) (repair : Repair) (first : MailStore) (count : ℕ) (heard : List Item) (made : Rewound) where
   abbrev Timeline : List Item
-  Timeline = timeline_from kept at ask place first count heard
+  Timeline = timeline_from kept at repair first count heard
 
-  pub fits : BodiesOn → HasBase kept → made.from ≡ count → count ≤ place → LeavesAt kept.timeline (reached_from kept at ask place first count heard) (cycled_from kept at ask place first count heard) made
-      → GoesOnAt kept (reached_from kept at ask place first count heard) (cycled_from kept at ask place first count heard)
-      → place ≤ length kept.timeline → CanServe kept count first → take count Timeline ≡ take count kept.timeline → IsFit kept made
+  pub fits : BodiesOn → HasBase kept → made.from ≡ count → count ≤ repair.place → LeavesAt kept.timeline (reached_from kept at repair first count heard) (reworked_from kept at repair first count heard) made
+      → GoesOnAt kept (reached_from kept at repair first count heard) (reworked_from kept at repair first count heard)
+      → repair.place ≤ length kept.timeline → CanServe kept count first → take count Timeline ≡ take count kept.timeline → IsFit kept made
   fits bodies base stays few leaves goes within serves front = record {
-    from = subst (λ (n : ℕ). n ≤ length kept.timeline) (sym stays) (omega arith);
+    from = subst (λ (n : ℕ). n ≤ made.place) (sym stays) (subst (λ (n : ℕ). count ≤ n) (sym leaves.place) few);
+    place = subst (λ (n : ℕ). n ≤ length kept.timeline) (sym leaves.place) within;
     house = ap (λ (s : MailStore). s.house) leaves.store ∙ run_house first (drop count Timeline) ∙ serves.house;
     texts = subst (λ (t : List Item). IsTrue (all_bodies (has_text t) made.store.store.boxes)) (sym leaves.timeline)
         (subst (λ (s : MailStore). IsTrue (all_bodies (has_text Timeline) s.boxes)) (sym leaves.store)
@@ -126,15 +111,13 @@ module _ (kept : Kept) (at : ℕ) (ask : CycleAsk) (place : ℕ) (first : MailSt
     base = subst (λ (t : List Item). IsBase t kept.base) (sym leaves.timeline) (goes.base base);
     timeline = subst (IsTimeline kept.house) (sym leaves.timeline) goes.timeline;
     below = subst (λ (n : ℕ). AllByRecursion (λ (i : Item). i.number < n) (items_left kept.timeline made)) (sym leaves.next)
-        (subst (AllByRecursion (λ (i : Item). i.number < (cycled_from kept at ask place first count heard).next)) (sym leaves.timeline) goes.below);
+        (subst (AllByRecursion (λ (i : Item). i.number < (reworked_from kept at repair first count heard).next)) (sym leaves.timeline) goes.below);
     named = ap (map (λ (r : BoxId × ℕ). r.0)) leaves.stamps ∙ goes.named ∙ ap (λ (s : MailStore). map (λ (r : BoxId × Mailbox). r.0) s.boxes) (sym leaves.store);
     fresh = subst (λ (n : ℕ). AllByRecursion (λ (r : BoxId × ℕ). r.1 < n) made.stamps) (sym leaves.next)
-        (subst (AllByRecursion (λ (r : BoxId × ℕ). r.1 < (cycled_from kept at ask place first count heard).next)) (sym leaves.stamps) goes.fresh);
-    rises = subst (λ (n : ℕ). kept.next < n) (sym leaves.next) goes.rises;
+        (subst (AllByRecursion (λ (r : BoxId × ℕ). r.1 < (reworked_from kept at repair first count heard).next)) (sym leaves.stamps) goes.fresh);
+    rises = subst (λ (n : ℕ). kept.next + n < made.next) (sym leaves.entered) (subst (λ (n : ℕ). kept.next + (reworked_from kept at repair first count heard).entered < n) (sym leaves.next)
+        (one_more kept.next repair.acts (length (told_by kept at repair (compared_from repair first count heard)))));
     next = below_end made.next (subst (λ (n : ℕ). n ≤ 4194303) (sym leaves.next) goes.next);
-    place = subst (λ (n : ℕ). n ≤ length kept.timeline) (sym leaves.place) within;
-    entered = subst (λ (n : ℕ). kept.next + n < made.next) (sym leaves.entered) (subst (λ (n : ℕ). kept.next + (cycled_from kept at ask place first count heard).entered < n) (sym leaves.next)
-        (one_more kept.next (length ask.inserts) (length (told_by kept at ask place (compared_from ask place first count heard)))));
   }
     where
       below_end : (n : ℕ) → n ≤ 4194303 → n ≤ 4194304
@@ -143,54 +126,152 @@ module _ (kept : Kept) (at : ℕ) (ask : CycleAsk) (place : ℕ) (first : MailSt
       one_more : (a b c : ℕ) → a + (b + c) < a + 1 + b + c
       one_more a b c = omega arith
 
--- what a cycle is told of what is kept makes it
-module _ (kept before : Kept) (at : ℕ) (ask : CycleAsk) (place : ℕ) (first : MailStore) (count : ℕ) where
-  unmarked_made : (honest : Type 0) (made : Rewound) → IsMadeFrom (unmarked kept) at ask place first count honest made → IsMadeFrom kept at ask place first count honest made
-  unmarked_made honest made is = record { heard = is.heard; all = is.all; same = is.same; front = is.front; from = is.from; leaves = is.leaves }
-
-  pub made_as : {E : Type 0} (told was : Type 0) (result : Result Rewound E) → before ≡ unmarked kept → was ≡ told → IfOk result (IsMadeFrom before at ask place first count was) → IfOk result (IsMadeFrom kept at ask place first count told)
-  made_as told was (Ok m) same told_is made = unmarked_made told m (subst (λ (k : Kept). IsMadeFrom k at ask place first count told m) same (subst (λ (t : Type 0). IsMadeFrom before at ask place first count t m) told_is made))
-  made_as told was (Err e) same told_is made = tt
-
-  pub done_as : {E : Type 0} (result : Result Rewound E) → before ≡ unmarked kept → first ≡ store_at kept count
-      → (first ≡ run before.base (take count before.timeline) → IfOk result (Leaves before (cycled_at before at ask place))) → IfOk result (Leaves kept (cycled_at kept at ask place))
-  done_as result same led done =
-      by result (subst (λ (k : Kept). first ≡ run k.base (take count k.timeline) → IfOk result (Leaves k (cycled_at k at ask place))) same done led)
-    where
-      by : {E : Type 0} (r : Result Rewound E) → IfOk r (Leaves (unmarked kept) (cycled_at (unmarked kept) at ask place)) → IfOk r (Leaves kept (cycled_at kept at ask place))
-      by (Ok m) is = is
-      by (Err e) is = tt
-
-  pub fits_made : {E : Type 0} (was : Type 0) (result : Result Rewound E) → before ≡ unmarked kept → IfOk result (IsMadeFrom before at ask place first count was) → BodiesOn → HasBase kept → count ≤ place → place ≤ length kept.timeline → CanServe kept count first
-      → ((heard : List Item) → AllHeard (repaired_items kept at ask place) heard → GoesOnAt kept (reached_from kept at ask place first count heard) (cycled_from kept at ask place first count heard))
-      → ((heard : List Item) → take count heard ≡ take count kept.timeline → take count (timeline_from kept at ask place first count heard) ≡ take count kept.timeline)
-      → IfOk result (IsFit kept)
-  fits_made was (Ok m) same made bodies base few within serves goes front =
-      let is = unmarked_made was m (subst (λ (k : Kept). IsMadeFrom k at ask place first count was m) same made) in
-      fits kept at ask place first count is.heard m bodies base is.from few is.leaves (goes is.heard is.all) within serves (front is.heard is.front)
-  fits_made was (Err e) same made bodies base few within serves goes front = tt
-
 -- where the same is known of more
-pub made_from_weaker : (kept : Kept) (at : ℕ) (ask : CycleAsk) (place : ℕ) (first : MailStore) (count : ℕ) (told more : Type 0) (made : Rewound) → (more → told) → IsMadeFrom kept at ask place first count told made
-    → IsMadeFrom kept at ask place first count more made
-made_from_weaker kept at ask place first count told more made so is = record { heard = is.heard; all = is.all; same = λ m. is.same (so m); front = is.front; from = is.from; leaves = is.leaves }
-
-pub made_weaker : (kept : Kept) (at : ℕ) (ask : CycleAsk) (told more : Type 0) (made : Rewound) → (more → told) → IsMade kept at ask told made → IsMade kept at ask more made
-made_weaker kept at ask told more made so is = record {
+pub made_weaker : (kept : Kept) (at : ℕ) (repair : Repair) (told more : Type 0) (made : Rewound) → (more → told) → IsMade kept at repair told made → IsMade kept at repair more made
+made_weaker kept at repair told more made so is = record {
   place = is.place;
-  is_place = is.is_place;
-  numbers = is.numbers;
   first = is.first;
   count = is.count;
   few = is.few;
   valid = is.valid;
   house = is.house;
   led = λ m. is.led (so m);
-  made_from = made_from_weaker kept at ask is.place is.first is.count told more made so is.made_from;
+  made_from = record { heard = is.made_from.heard; all = is.made_from.all; same = λ m. is.made_from.same (so m); front = is.made_from.front; from = is.made_from.from; leaves = is.made_from.leaves };
 }
 
-pub redoes_weaker : (kept : Kept) (at : ℕ) (ask : CycleAsk) (told more : Type 0) (made : Rewound) → (more → told) → Redoes kept at ask told made → Redoes kept at ask more made
-redoes_weaker kept at ask told more made so (due, due_is, leaves) = (due, due_is, λ m. leaves (so m))
+pub cycled_weaker : (kept : Kept) (at : ℕ) (ask : CycleAsk) (told more : Type 0) (made : Rewound) → (more → told) → IsCycled kept at ask told made → IsCycled kept at ask more made
+cycled_weaker kept at ask told more made so is = record { place = is.place; is_place = is.is_place; due = is.due; is_made = made_weaker kept at (repair_of kept at ask is.place) told more made so is.is_made }
+
+-- what is left of a cycle in memory, where the texts were told as they were stored
+pub cycled_redoes : (kept : Kept) (at : ℕ) (ask : CycleAsk) (told : Type 0) (made : Rewound) → IsCycled kept at ask told made → Redoes kept at ask told made
+cycled_redoes kept at ask told made is = (cycled_at kept at ask is.place, is.due, λ t. made_whole kept at (repair_of kept at ask is.place) told made is.is_made t)
+
+-- ---- a repair in memory, from a beginning that can serve
+
+module _ {D : Type 0} (told : D → DiskTold) (held : Held) (t : Task) (task : IsTask t) (old : PastTold D) (can : CanRework told held old.end t) (first : Beginning) (serves : Serves held.kept t.repair.place first) where
+  abbrev Holds : Type 0
+  Holds = HoldsHeld (told old.disk) held
+
+  within : t.repair.place ≤ length held.kept.timeline
+  within = subst (λ (k : Kept). t.repair.place ≤ length k.timeline) can.kept task.place
+
+  -- it is of the desk, whatever is known of its snapshots
+  of_desk : (was : Type 0) (made : Rewound) → (Holds → was) → IsMadeFrom t.kept t.at t.repair first.store.store first.count was made → IsMadeFrom held.kept t.at t.repair first.store.store first.count Holds made
+  of_desk was made so made_from =
+      let is = subst (λ (k : Kept). IsMadeFrom k t.at t.repair first.store.store first.count was made) can.kept made_from in
+      record { heard = is.heard; all = is.all; same = λ h. is.same (so h); front = is.front; from = is.from; leaves = is.leaves }
+
+  whole_made : (was : Type 0) (made : Rewound) → (Holds → was) → (Holds → first.store.store ≡ store_at held.kept first.count) → IsMadeFrom t.kept t.at t.repair first.store.store first.count was made
+      → IsMade held.kept t.at t.repair Holds made
+  whole_made was made so led made_from = record {
+    place = within;
+    first = first.store.store;
+    count = first.count;
+    few = serves.few;
+    valid = serves.serves.valid;
+    house = serves.serves.house;
+    led = led;
+    made_from = of_desk was made so made_from;
+  }
+
+  -- what came of it
+  pub reworks : (mid : PastTold D) (r s : Reading D) (before after : ℕ) (result : Result Rewound BodiesFault) → BodiesOn → HasBase held.kept
+      → ((heard : List Item) → AllHeard t.repair.items heard → GoesOnAt held.kept (reached_from held.kept t.at t.repair first.store.store first.count heard) (reworked_from held.kept t.at t.repair first.store.store first.count heard))
+      → ((heard : List Item) → take first.count heard ≡ take first.count held.kept.timeline → take first.count (timeline_from held.kept t.at t.repair first.store.store first.count heard) ≡ take first.count held.kept.timeline)
+      → (Holds → IsNewest held.kept t.repair.place first) → IsPastRead told old mid → (told mid.disk).failed_reads ≡ (told old.disk).failed_reads
+      → r.past.now ≡ mid → r.desk.now ≡ held → r.failed ≡ 0 → LeadsOn told r s → Counts (reading_told told r) (reading_told told s) result
+      → IfOk result (IsMadeFrom t.kept t.at t.repair first.store.store first.count (reading_told told r).honest)
+      → IfOk result (λ made. after ≤ before + (t.repair.place - first.count) + t.repair.acts + made.report.kept + length made.report.notices)
+      → OnErr result (after ≤ before + (t.repair.place - first.count) + t.repair.acts + t.repair.kept + length t.kept.house.accounts)
+      → Reworks told held t old s.past.now before after result
+  reworks mid r s before after result bodies base goes front newest still same past_is held_is none leads counts made steps most = record {
+    made = made_then result made;
+    fit = fit_then result made;
+    cause = cause_later told (told old.disk) (told mid.disk) (told s.past.now.disk) result same still.reads.reads.reliable
+        (subst (λ (p : PastTold D). BodiesCause (told p.disk) (told s.past.now.disk) result) past_is (bodies_cause told r s result leads none counts));
+    still = read_on told old mid s.past.now still (subst (λ (p : PastTold D). IsPastRead told p s.past.now) past_is leads.reads.still);
+    few = λ h. few_then result made steps h;
+    most = λ h. most_then result most h;
+    any = any_then result most;
+    steps = steps_then result made steps;
+  }
+    where
+      honest : Holds → (reading_told told r).honest
+      honest h = honest_as told r mid held past_is held_is (held_on (told old.disk) (told mid.disk) held still.reads h)
+
+      made_then : (x : Result Rewound BodiesFault) → IfOk x (IsMadeFrom t.kept t.at t.repair first.store.store first.count (reading_told told r).honest) → IfOk x (IsMade held.kept t.at t.repair Holds)
+      made_then (Ok m) is = whole_made (reading_told told r).honest m honest (λ h. (newest h).store) is
+      made_then (Err e) is = tt
+
+      fit_then : (x : Result Rewound BodiesFault) → IfOk x (IsMadeFrom t.kept t.at t.repair first.store.store first.count (reading_told told r).honest) → IfOk x (IsFit held.kept)
+      fit_then (Ok m) made_from =
+          let is = of_desk (reading_told told r).honest m honest made_from in
+          fits held.kept t.at t.repair first.store.store first.count is.heard m bodies base is.from serves.few is.leaves (goes is.heard is.all) within serves.serves (front is.heard is.front)
+      fit_then (Err e) made_from = tt
+
+      regroup : (a b c d e f : ℕ) → b ≤ a + c + d + e + f → b ≤ a + (c + d + e + f)
+      regroup a b c d e f le = omega arith
+
+      few_then : (x : Result Rewound BodiesFault) → IfOk x (IsMadeFrom t.kept t.at t.repair first.store.store first.count (reading_told told r).honest)
+          → IfOk x (λ made. after ≤ before + (t.repair.place - first.count) + t.repair.acts + made.report.kept + length made.report.notices) → Holds
+          → OnOk x (after ≤ before + most_reworked held.kept t.repair.acts (reworked held.kept t.at t.repair))
+      few_then (Ok m) made_from steps h =
+          let leaves = made_whole held.kept t.at t.repair Holds m (whole_made (reading_told told r).honest m honest (λ h. (newest h).store) made_from) h in
+          let due = reworked held.kept t.at t.repair in
+          regroup before after (t.repair.place - newest_at t.repair.place held.kept.marks.places) t.repair.acts due.report.kept (length due.report.notices)
+          (subst (λ (report : Report). after ≤ before + (t.repair.place - newest_at t.repair.place held.kept.marks.places) + t.repair.acts + report.kept + length report.notices) leaves.report
+          (subst (λ (n : ℕ). after ≤ before + (t.repair.place - n) + t.repair.acts + m.report.kept + length m.report.notices) (newest h).count steps))
+      few_then (Err e) made_from steps h = tt
+
+      of_house : after ≤ before + (t.repair.place - first.count) + t.repair.acts + t.repair.kept + length t.kept.house.accounts
+          → after ≤ before + (t.repair.place - first.count) + t.repair.acts + t.repair.kept + length held.kept.house.accounts
+      of_house le = subst (λ (k : Kept). after ≤ before + (t.repair.place - first.count) + t.repair.acts + t.repair.kept + length k.house.accounts) can.kept le
+
+      most_then : (x : Result Rewound BodiesFault) → OnErr x (after ≤ before + (t.repair.place - first.count) + t.repair.acts + t.repair.kept + length t.kept.house.accounts) → Holds
+          → OnErr x (after ≤ before + most_begun held.kept t.repair.acts (reworked held.kept t.at t.repair))
+      most_then (Ok m) most h = tt
+      most_then (Err e) most h =
+          regroup before after (t.repair.place - newest_at t.repair.place held.kept.marks.places) t.repair.acts t.repair.kept (length held.kept.house.accounts)
+          (subst (λ (n : ℕ). after ≤ before + (t.repair.place - n) + t.repair.acts + t.repair.kept + length held.kept.house.accounts) (newest h).count (of_house most))
+
+      any_then : (x : Result Rewound BodiesFault) → OnErr x (after ≤ before + (t.repair.place - first.count) + t.repair.acts + t.repair.kept + length t.kept.house.accounts)
+          → OnErr x (after ≤ before + length t.repair.items + length held.kept.house.accounts)
+      any_then (Ok m) most = tt
+      any_then (Err e) most = omega (arith, task.long, of_house most)
+
+      steps_then : (x : Result Rewound BodiesFault) → IfOk x (IsMadeFrom t.kept t.at t.repair first.store.store first.count (reading_told told r).honest)
+          → IfOk x (λ made. after ≤ before + (t.repair.place - first.count) + t.repair.acts + made.report.kept + length made.report.notices) → IfOk x (λ made. after ≤ before + length (items_left held.kept.timeline made))
+      steps_then (Ok m) made_from steps =
+          let is = of_desk (reading_told told r).honest m honest made_from in
+          let items = made_length held.kept t.at t.repair first.store.store first.count Holds m task.long is in
+          omega (arith, items, steps)
+      steps_then (Err e) made_from steps = tt
+
+-- a fault of reading is of one cause, whatever was to be read
+pub cause_of : (T U : Type 0) (old new : DiskTold) (why : BodiesFault) → BodiesCause {T = T} old new (Err why) → BodiesCause {T = U} old new (Err why)
+cause_of T U old new bodies_faults.Failed cause = cause
+cause_of T U old new bodies_faults.NoMemory cause = cause
+
+-- nothing was performed: a read failed before, or no memory was found
+pub reworks_none : {D : Type 0} (told : D → DiskTold) (held : Held) (t : Task) (old mid : PastTold D) (steps : ℕ) (result : Result Rewound BodiesFault) (fault why : BodiesFault) → result ≡ Err fault → fault ≡ why
+    → BodiesCause {T = Rewound} (told old.disk) (told mid.disk) (Err why) → IsPastRead told old mid → Reworks told held t old mid steps steps result
+reworks_none told held t old mid steps result fault why is fault_is cause still =
+    let whole : result ≡ Err why = cc (is, fault_is) in
+    subst (Reworks told held t old mid steps steps) (sym whole) (record {
+      made = tt;
+      fit = tt;
+      cause = cause;
+      still = still;
+      few = λ h. tt;
+      most = λ h. omega arith;
+      any = omega arith;
+      steps = tt;
+    })
+
+-- a fault by another name
+pub reworks_as : {D : Type 0} (told : D → DiskTold) (held : Held) (t : Task) (old new : PastTold D) (before after : ℕ) (fault why : BodiesFault) → fault ≡ why → Reworks told held t old new before after (Err fault)
+    → Reworks told held t old new before after (Err why)
+reworks_as told held t old new before after fault why same done = subst (λ (f : BodiesFault). Reworks told held t old new before after (Err f)) same done
 
 -- why there is none, told of what is kept but for the snapshots
 pub refused_as : (kept : Kept) (ask : CycleAsk) (due : Due) (refused : CycleRefused) → IsRefusalOf (unmarked kept) ask due refused → IsRefusalOf kept ask due refused
@@ -206,63 +287,129 @@ none_read_for disk kept ask due (refusals.Numbers next) is undue = refl
 none_read_for disk kept ask due refusals.Disk is undue = absurd (undue is)
 none_read_for disk kept ask due refusals.NoMemory is undue = refl
 
--- from a beginning that can serve
-module _ (kept : Kept) (at : ℕ) (ask : CycleAsk) (place : ℕ) (first : Beginning) where
-  pub all_made : {E : Type 0} (told was : Type 0) (result : Result Rewound E) → position kept.timeline ask.point ≡ Some place → leaves_numbers kept ask ≡ true → Serves kept place first
-      → (told → first.store.store ≡ store_at kept first.count) → (told → was) → IfOk result (IsMadeFrom kept at ask place first.store.store first.count was) → IfOk result (IsMade kept at ask told)
-  all_made told was (Ok m) is_place numbers serves led so made = record {
-    place = place;
-    is_place = is_place;
-    numbers = numbers;
-    first = first.store.store;
-    count = first.count;
-    few = serves.few;
-    valid = serves.serves.valid;
-    house = serves.serves.house;
-    led = led;
-    made_from = made_from_weaker kept at ask place first.store.store first.count was told m so made;
+-- ---- a cycle in memory
+
+-- of what a desk begins with
+pub of_begun : (before kept : Kept) (at : ℕ) (ask : CycleAsk) (t : Task) → before ≡ kept → IsCycle before at ask t → IsCycle kept at ask t
+of_begun before kept at ask t same is = subst (λ (k : Kept). IsCycle k at ask t) same is
+
+-- it can be performed
+pub asked_can : {D : Type 0} (told : D → DiskTold) (held : Held) (gate at : ℕ) (ask : CycleAsk) (t : Task) → IsCycle (unmarked held.kept) at ask t
+    → ((place : ℕ) → GoesWith held.kept (repair_of held.kept at ask place)) → NumbersApart held.kept.timeline → TextsNoted gate held.notes held.kept → HasUndone held.kept → CanRework told held gate t
+asked_can told held gate at ask t is goes apart noted comes = subst (CanRework told held gate) (sym is.task) (record {
+  kept = refl;
+  goes = goes is.place;
+  tells = tells_asked told held gate at ask is.place apart noted comes;
+})
+
+one_due : (a b : Cycled) → Rewinds a ≡ Rewinds b → a ≡ b
+one_due a b e = cc
+
+module _ {D : Type 0} (told : D → DiskTold) (held : Held) (at : ℕ) (ask : CycleAsk) where
+  -- what came of a cycle that is due
+  pub cycle_redone : (t : Task) (old new : PastTold D) (same : Type 0) (before after : ℕ) (made : Rewound) → IsCycle (unmarked held.kept) at ask t → Reworks told held t old new before after (Ok made)
+      → ((honest : Type 0) (cycled : IsCycled held.kept at ask honest made) → CanBeUndone held.kept true made)
+      → RedoesCycle told held at ask old.disk new.disk same before after (Ok made)
+  cycle_redone t old new same before after made is done undone = record {
+    alone = record {
+      cycled = was_cycled;
+      fit = done.fit;
+      undone = undone (HoldsHeld (told old.disk) held) was_cycled;
+      refused = tt;
+      cause = done.cause;
+    };
+    untouched = tt;
+    few = λ due due_is h.
+        subst (λ (d : Cycled). after ≤ before + most_reworked held.kept (length ask.inserts) d) (one_due (cycled_at held.kept at ask is.place) due (sym is.due ∙ due_is))
+        (subst (λ (u : Task). after ≤ before + most_reworked held.kept u.repair.acts (reworked held.kept u.at u.repair)) is.task (done.few h));
+    most = λ due due_is h. tt;
+    any = tt;
+    steps = done.steps;
   }
-  all_made told was (Err e) is_place numbers serves led so made = tt
-
-  -- how many items were performed: behind the newest snapshot
-  pub most_steps : {E : Type 0} (result : Result Rewound E) (old new : ℕ) → first.count ≡ newest_at place kept.marks.places → IfOk result (Leaves kept (cycled_at kept at ask place))
-      → IfOk result (λ made. new ≤ old + (place - first.count) + length ask.inserts + made.report.kept + length made.report.notices)
-      → OnOk result (new ≤ old + most_performed kept ask (cycled_at kept at ask place))
-  most_steps (Ok m) old new count leaves steps =
-      regroup old new (place - newest_at place kept.marks.places) (length ask.inserts) (cycled_at kept at ask place).report.kept (length (cycled_at kept at ask place).report.notices)
-      (subst (λ (r : Report). new ≤ old + (place - newest_at place kept.marks.places) + length ask.inserts + r.kept + length r.notices) leaves.report
-      (subst (λ (n : ℕ). new ≤ old + (place - n) + length ask.inserts + m.report.kept + length m.report.notices) count steps))
     where
-      regroup : (a b c d e f : ℕ) → b ≤ a + c + d + e + f → b ≤ a + (c + d + e + f)
-      regroup a b c d e f le = omega arith
-  most_steps (Err e) old new count leaves steps = tt
+      was_cycled : IsCycled held.kept at ask (HoldsHeld (told old.disk) held) made
+      was_cycled = record { place = is.place; is_place = is.is_place; due = is.due; is_made = subst (λ (u : Task). IsMade held.kept u.at u.repair (HoldsHeld (told old.disk) held) made) is.task done.made }
 
-  -- at most those of the new timeline
-  pub few_steps : {E : Type 0} (told : Type 0) (result : Result Rewound E) (old new : ℕ) → place ≤ length kept.timeline → IfOk result (IsMadeFrom kept at ask place first.store.store first.count told)
-      → IfOk result (λ made. new ≤ old + (place - first.count) + length ask.inserts + made.report.kept + length made.report.notices) → IfOk result (λ made. new ≤ old + length (items_left kept.timeline made))
-  few_steps told (Ok m) old new within made steps =
-      let items : length (items_left kept.timeline m) ≡ place + length ask.inserts + m.report.kept + length m.report.notices = made_length kept at ask place first.store.store first.count told m within made in
-      omega (arith, items, steps)
-  few_steps told (Err e) old new within made steps = tt
+  -- how much of one that failed was performed
+  most_failed : (t : Task) (old new : PastTold D) (before after : ℕ) (fault : BodiesFault) → IsCycle (unmarked held.kept) at ask t → Reworks told held t old new before after (Err fault)
+      → (due : Cycled) → due_anew held.kept at ask ≡ Rewinds due → HoldsHeld (told old.disk) held → after ≤ before + most_tried held.kept ask due
+  most_failed t old new before after fault is done due due_is h =
+      subst (λ (d : Cycled). after ≤ before + most_begun held.kept (length ask.inserts) d) (one_due (cycled_at held.kept at ask is.place) due (sym is.due ∙ due_is))
+      (subst (λ (u : Task). after ≤ before + most_begun held.kept u.repair.acts (reworked held.kept u.at u.repair)) is.task (done.most h))
+
+  any_failed : (t : Task) (old new : PastTold D) (before after : ℕ) (fault : BodiesFault) → IsCycle (unmarked held.kept) at ask t → Reworks told held t old new before after (Err fault)
+      → after ≤ before + length held.kept.timeline + length ask.inserts + length held.kept.house.accounts
+  any_failed t old new before after fault is done =
+      let all : after ≤ before + length (repair_of held.kept at ask is.place).items + length held.kept.house.accounts =
+      subst (λ (u : Task). after ≤ before + length u.repair.items + length held.kept.house.accounts) is.task done.any in
+      omega (arith, all, repaired_few held.kept at ask is.place (within_point held.kept.timeline ask.point is.place is.is_place))
+
+  -- a read failed, or no memory was found
+  pub cycle_failed : (t : Task) (old new : PastTold D) (same : Type 0) (before after : ℕ) → IsCycle (unmarked held.kept) at ask t → Reworks told held t old new before after (Err bodies_faults.Failed)
+      → RedoesCycle told held at ask old.disk new.disk same before after (Err refusals.Disk)
+  cycle_failed t old new same before after is done = record {
+    alone = record { cycled = tt; fit = tt; undone = tt; refused = rewinds_due is; cause = done.cause };
+    untouched = λ undue. absurd (undue (rewinds_due is));
+    few = λ due due_is h. tt;
+    most = most_failed t old new before after bodies_faults.Failed is done;
+    any = any_failed t old new before after bodies_faults.Failed is done;
+    steps = tt;
+  }
+    where
+      rewinds_due : IsCycle (unmarked held.kept) at ask t → IsRewinds (due_anew held.kept at ask)
+      rewinds_due is = subst IsRewinds (sym is.due) tt
+
+  pub cycle_wanting : (t : Task) (old new : PastTold D) (same : Type 0) (before after : ℕ) → IsCycle (unmarked held.kept) at ask t → Reworks told held t old new before after (Err bodies_faults.NoMemory)
+      → RedoesCycle told held at ask old.disk new.disk same before after (Err refusals.NoMemory)
+  cycle_wanting t old new same before after is done = record {
+    alone = record { cycled = tt; fit = tt; undone = tt; refused = rewinds_due is; cause = done.cause };
+    untouched = λ undue. absurd (undue (rewinds_due is));
+    few = λ due due_is h. tt;
+    most = most_failed t old new before after bodies_faults.NoMemory is done;
+    any = any_failed t old new before after bodies_faults.NoMemory is done;
+    steps = tt;
+  }
+    where
+      rewinds_due : IsCycle (unmarked held.kept) at ask t → IsRewinds (due_anew held.kept at ask)
+      rewinds_due is = subst IsRewinds (sym is.due) tt
+
+  -- none is due
+  pub cycle_undue : (disk : D) (same : Type 0) (steps : ℕ) (refused : CycleRefused) → IsRefusalOf (unmarked held.kept) ask (due_anew (unmarked held.kept) at ask) refused → (IsRewinds (due_anew (unmarked held.kept) at ask) → ⊥) → same
+      → RedoesCycle told held at ask disk disk same steps steps (Err refused)
+  cycle_undue disk same steps refused refusal undue untouched = record {
+    alone = record { cycled = tt; fit = tt; undone = tt; refused = refused_as held.kept ask (due_anew held.kept at ask) refused refusal; cause = none_read_for (told disk) (unmarked held.kept) ask (due_anew (unmarked held.kept) at ask) refused refusal undue };
+    untouched = λ u. untouched;
+    few = λ due due_is h. tt;
+    most = λ due due_is h. omega arith;
+    any = omega arith;
+    steps = tt;
+  }
+
+-- the same of a journal, before its gate
+pub cycle_through : {D : Type 0} (told : D → DiskTold) (held : Held) (at : ℕ) (ask : CycleAsk) (old : JournalTold D) (past new : PastTold D) (log : Log) (before after : ℕ) (result : Result Rewound CycleRefused) → journal_of past log ≡ old
+    → RedoesCycle told held at ask past.disk new.disk (new ≡ past) before after result → RedoesCycle told held at ask old.disk new.disk (journal_of new log ≡ old) before after result
+cycle_through {D = D} told held at ask old past new log before after result is redoes =
+    subst (λ (j : JournalTold D). RedoesCycle told held at ask j.disk new.disk (journal_of new log ≡ j) before after result) is (record {
+      alone = redoes.alone;
+      untouched = if_err result _ _ (λ refused same undue. ap (λ (p : PastTold D). journal_of p log) (same undue)) redoes.untouched;
+      few = redoes.few;
+      most = redoes.most;
+      any = redoes.any;
+      steps = redoes.steps;
+    })
 
 -- ---- the notes that it leaves
 
-apart_made : (kept : Kept) (at : ℕ) (ask : CycleAsk) (told : Type 0) (made : Rewound) (is : IsMade kept at ask told made) → IsFit kept made → NumbersApart (timeline_by kept at ask is.place is.made_from.heard (shown_made kept at ask told made is))
-apart_made kept at ask told made is fit = subst NumbersApart (made_timeline kept at ask told made is) fit.timeline.apart
-
-pub cycle_notes : (gate next : ℕ) (before : Held) (at : ℕ) (ask : CycleAsk) (told : Type 0) (made : Rewound) (bytes : List ℕ) (notes : List (Body × Note)) → next ≡ gate + 5 + length bytes → bytes ≡ record_bytes (Cycle before.kept.next at ask)
-    → SizesOf before.notes before.kept.timeline → NumbersApart before.kept.timeline → AllByRecursion (λ (i : Item). i.number < before.kept.next) before.kept.timeline → IsFit before.kept made → IsMade before.kept at ask told made → RenotesAs before ask at (record { gate = gate; length = length bytes }) made notes → SizesOf notes (items_left before.kept.timeline made)
-    → NotedBefore gate before.notes before.kept.timeline → NotedBefore next notes (items_left before.kept.timeline made)
-cycle_notes gate next before at ask told made bytes notes next_is bytes_are sizes apart below fit is renotes sizes' noted =
+pub cycle_notes : (gate next : ℕ) (before after : Held) (at : ℕ) (ask : CycleAsk) (told : Type 0) (made : Rewound) (bytes : List ℕ) → next ≡ gate + 5 + length bytes → bytes ≡ record_bytes (Cycle before.kept.next at ask)
+    → IsCycled before.kept at ask told made → IsFit before.kept made → items_asked after.kept ≡ asked_then before.kept true made
+    → SizesOf before.notes (items_asked before.kept) → NumbersApart before.kept.timeline → AllByRecursion (λ (i : Item). i.number < before.kept.next) before.kept.timeline → HasUndone before.kept
+    → RenotesAs before ask at (record { gate = gate; length = length bytes }) made after.notes → SizesOf after.notes (asked_then before.kept true made)
+    → TextsNoted gate before.notes before.kept → TextsNoted next after.notes after.kept
+cycle_notes gate next before after at ask told made bytes next_is bytes_are is fit put sizes apart below comes renotes sizes' noted =
     let where_ : Place = record { gate = gate; length = length bytes } in
-    let now = shown_made before.kept at ask told made is in
-    let timeline : items_left before.kept.timeline made ≡ timeline_by before.kept at ask is.place is.made_from.heard now = made_timeline before.kept at ask told made is in
-    subst (NotedBefore next notes) (sym timeline)
-    (cycle_noted next before.notes notes renotes.fresh before.kept at ask is.place is.made_from.heard now where_ bytes (omega (arith, next_is)) refl
-    (subst (λ (b : List ℕ). IsFresh before.kept.next at ask where_ b renotes.fresh) (sym bytes_are) renotes.is_fresh)
-    sizes apart below is.made_from.all (apart_made before.kept at ask told made is fit)
-    (subst (λ (t : List Item). Renotes before.notes renotes.fresh t notes) timeline renotes.renotes) (subst (SizesOf notes) timeline sizes')
-    (noted_later gate next before.notes before.kept.timeline (omega (arith, next_is)) noted))
+    put_noted before after at ask told made where_ bytes renotes.fresh (subst (λ (b : List ℕ). IsFresh before.kept.next at ask where_ b renotes.fresh) (sym bytes_are) renotes.is_fresh)
+    is fit.timeline.apart put sizes apart below comes renotes.renotes next (omega (arith, next_is)) refl sizes'
+    (noted_later gate next before.notes (items_asked before.kept) (omega (arith, next_is)) noted)
 
 -- what was found is noted at the place of its own bytes
 pub found_there : {T W : Type 0} (result : Result T W) (Q : Place → T → Type 0) (bytes_in : T → List ℕ) (place : Place) (gate : ℕ) (bytes : List ℕ) → place ≡ record { gate = gate; length = length bytes }
@@ -272,15 +419,70 @@ found_there (Ok found) Q bytes_in place gate bytes place_is bytes_are holds =
 found_there (Err why) Q bytes_in place gate bytes place_is bytes_are holds = tt
 
 -- what is kept then is what is kept after the cycle
-pub after_is : (kept : Kept) (ask : CycleAsk) (due : Cycled) (made : Rewound) → Leaves kept due made → after_cycle kept ask due ≡ after_rewound kept ask.key made
-after_is kept ask due made leaves = λ j. record kept {
+pub after_is : (kept : Kept) (at : ℕ) (ask : CycleAsk) (place : ℕ) (made : Rewound) → Leaves kept (cycled_at kept at ask place) made
+    → after_cycle kept ask (cycled_at kept at ask place) ≡ after_rewound kept ask.key true made
+after_is kept at ask place made leaves = λ j. record kept {
   store = sym leaves.store j;
   timeline = sym leaves.timeline j;
   stamps = sym leaves.stamps j;
   next = sym leaves.next j;
   reports = with_report ask.key (sym leaves.report j) kept.reports;
   marks = rewound (sym leaves.place j) (sym leaves.entered j) kept.marks;
+  undone = Some (record {
+    cycle = (sym leaves.report j).cycle;
+    point = (sym leaves.report j).point;
+    later = drop (sym leaves.place j) kept.timeline;
+    position = sym leaves.place j;
+    placed = sym leaves.placed j;
+  });
 }
+
+-- and so after the withdrawal, which can't be withdrawn
+pub after_withdrawal_is : (kept : Kept) (key : List ℕ) (due : Cycled) (made : Rewound) → Leaves kept due made → after_withdrawal kept key due ≡ after_rewound kept key false made
+after_withdrawal_is kept key due made leaves = λ j. record kept {
+  store = sym leaves.store j;
+  timeline = sym leaves.timeline j;
+  stamps = sym leaves.stamps j;
+  next = sym leaves.next j;
+  reports = with_report key (sym leaves.report j) kept.reports;
+  marks = rewound (sym leaves.place j) (sym leaves.entered j) kept.marks;
+  undone = None;
+}
+
+-- what the cycle leaves to be withdrawn can come back, whatever was read
+pub can_be_undone : (kept : Kept) (at : ℕ) (ask : CycleAsk) (honest : Type 0) (made : Rewound) (is : IsCycled kept at ask honest made) → kept.next < made.next → AllByRecursion (λ (i : Item). IsNewTo i.number kept.base) kept.timeline
+    → CanComeBack kept.house (timeline_by kept at (repair_of kept at ask is.place) is.is_made.made_from.heard (shown_made kept at ask honest made is)) (undone_at kept ask is.place (length (repaired_items kept at ask is.place)))
+    → CanBeUndone kept true made
+can_be_undone kept at ask honest made is rises fresh back =
+    let leaves = is.is_made.made_from.leaves in
+    let last : UndoneBehind = record { cycle = made.report.cycle; point = made.report.point; later = drop made.place kept.timeline; position = made.place; placed = made.placed } in
+    let last_is : undone_at kept ask is.place (length (repaired_items kept at ask is.place)) ≡ last = λ j. record {
+      cycle = (sym leaves.report j).cycle;
+      point = (sym leaves.report j).point;
+      later = drop (sym leaves.place j) kept.timeline;
+      position = sym leaves.place j;
+      placed = sym leaves.placed j;
+    } in
+    record {
+      cycle = subst (λ (r : Report). r.cycle < made.next) (sym leaves.report) rises;
+      back = subst (CanComeBack kept.house (items_left kept.timeline made)) last_is (subst (λ (t : List Item). CanComeBack kept.house t (undone_at kept ask is.place (length (repaired_items kept at ask is.place)))) (sym (made_timeline kept at ask honest made is)) back);
+      fresh = rest_of (λ (i : Item). IsNewTo i.number kept.base) made.place kept.timeline fresh;
+    }
+
+-- as what stood behind the point of any cycle can
+abbrev pub ComesBack : Type 0
+ComesBack = (s : Kept) (at : ℕ) (ask : CycleAsk) (place : ℕ) (heard : List Item) (now : List Shown) (told : List (User × List ℕ)) → place ≤ length s.timeline →
+    IsTimeline s.house s.timeline → AllByRecursion (λ (i : Item). i.number < s.next) s.timeline → AllHeard (repaired_items s at ask place) heard →
+    IsTimeline s.house (shown_after (front_of ask place) heard now ++ notice_items (s.next + length ask.inserts) at told) →
+    CanComeBack s.house (shown_after (front_of ask place) heard now ++ notice_items (s.next + length ask.inserts) at told) (undone_at s ask place (length (repaired_items s at ask place)))
+
+pub comes_back : ComesBack → (kept : Kept) (at : ℕ) (ask : CycleAsk) (honest : Type 0) (made : Rewound) → IsCycled kept at ask honest made → IsFit kept made → HasBase kept → IsTimeline kept.house kept.timeline
+    → AllByRecursion (λ (i : Item). i.number < kept.next) kept.timeline → CanBeUndone kept true made
+comes_back law kept at ask honest made is fit base timeline below =
+    let now = shown_made kept at ask honest made is in
+    can_be_undone kept at ask honest made is (omega (arith, fit.rises)) base.stands.fresh
+    (law kept at ask is.place is.is_made.made_from.heard now (notices kept.house kept.next at (broken_by (repair_of kept at ask is.place) now)) is.is_made.place timeline below is.is_made.made_from.all
+    (subst (IsTimeline kept.house) (made_timeline kept at ask honest made is) fit.timeline))
 
 -- ---- what is due
 
@@ -293,9 +495,9 @@ pub due_again : (kept : Kept) (at : ℕ) (ask : CycleAsk) (report : Report) → 
 due_again kept at ask report had = ap (λ (r : Option Report). due_by r (due_anew kept at ask)) had
 
 -- a cycle that is refused for more than a read that failed, and want of memory, is not due
-pub none_after : (kept : Kept) (ask : CycleAsk) (due : Due) (refused : CycleRefused) → IsRefusalOf kept ask due refused → (refused ≡ refusals.NoMemory → ⊥) → (refused ≡ refusals.Disk → ⊥) → after_due kept ask due ≡ None
-none_after kept ask due (refusals.Point given) refusal more disk = ap (after_due kept ask) refusal.0
-none_after kept ask due (refusals.Numbers next) refusal more disk = ap (after_due kept ask) refusal.0
+pub none_after : (kept : Kept) (ask : CycleAsk) (due : Due) (refused : CycleRefused) → IsRefusalOf kept ask due refused → (refused ≡ refusals.NoMemory → ⊥) → (refused ≡ refusals.Disk → ⊥) → after_due (after_cycle kept ask) due ≡ None
+none_after kept ask due (refusals.Point given) refusal more disk = ap (after_due (after_cycle kept ask)) refusal.0
+none_after kept ask due (refusals.Numbers next) refusal more disk = ap (after_due (after_cycle kept ask)) refusal.0
 none_after kept ask due refusals.Disk refusal more disk = absurd (disk refl)
 none_after kept ask due refusals.NoMemory refusal more disk = absurd (more refl)
 
@@ -303,11 +505,11 @@ none_after kept ask due refusals.NoMemory refusal more disk = absurd (more refl)
 
 -- what the record comes to, where it has a spelling and the next number, and its users are known
 pub record_after : (kept : Kept) (at : ℕ) (ask : CycleAsk) → is_spelled (Cycle kept.next at ask) ≡ true → are_known kept.house ask.inserts ≡ true
-    → after_record kept (Cycle kept.next at ask) ≡ after_due kept ask (cycle_due kept at ask)
+    → after_record kept (Cycle kept.next at ask) ≡ after_due (after_cycle kept ask) (cycle_due kept at ask)
 record_after kept at ask spelled known =
-    ap (λ (b : Bool). if b && can_rewind kept kept.next ask then after_due kept ask (cycle_due kept at ask) else None) spelled
-    ∙ ap (λ (b : Bool). if b && are_known kept.house ask.inserts then after_due kept ask (cycle_due kept at ask) else None) (eq-eqb kept.next kept.next refl)
-    ∙ ap (λ (b : Bool). if b then after_due kept ask (cycle_due kept at ask) else None) known
+    ap (λ (b : Bool). if b && can_rewind kept kept.next ask then after_due (after_cycle kept ask) (cycle_due kept at ask) else None) spelled
+    ∙ ap (λ (b : Bool). if b && are_known kept.house ask.inserts then after_due (after_cycle kept ask) (cycle_due kept at ask) else None) (eq-eqb kept.next kept.next refl)
+    ∙ ap (λ (b : Bool). if b then after_due (after_cycle kept ask) (cycle_due kept at ask) else None) known
 
 -- the record of a cycle that is due
 pub record_is : (kept : Kept) (at : ℕ) (ask : CycleAsk) (due : Cycled) (bytes : List ℕ) → report_of kept.reports ask.key ≡ None → due_anew kept at ask ≡ Rewinds due
@@ -315,7 +517,7 @@ pub record_is : (kept : Kept) (at : ℕ) (ask : CycleAsk) (due : Cycled) (bytes 
     → IsRecordTo (Cycle kept.next at ask) bytes kept (after_cycle kept ask due)
 record_is kept at ask due bytes new due_is bytes_are spelled known = record {
   bytes_are = sym bytes_are;
-  can_stand = record_after kept at ask spelled known ∙ ap (after_due kept ask) (due_new kept at ask new ∙ due_is);
+  can_stand = record_after kept at ask spelled known ∙ ap (after_due (after_cycle kept ask)) (due_new kept at ask new ∙ due_is);
   truth = cycle_true kept kept.next at ask;
 }
 
@@ -325,6 +527,11 @@ record_is kept at ask due bytes new due_is bytes_are spelled known = record {
 pub any_ok : {T E P : Type 0} (result : Result T E) → P → OnOk result P
 any_ok (Ok x) holds = holds
 any_ok (Err e) holds = tt
+
+-- steps are counted by the items in force
+pub steps_kept : {T E : Type 0} (result : Result T E) (before after : ℕ) (items : List Item) (made : Rewound) (now : List Item) → after ≤ before + length (items_left items made) → OnOk result (now ≡ items_left items made) → OnOk result (after ≤ before + length now)
+steps_kept (Ok x) before after items made now steps are = subst (λ (t : List Item). after ≤ before + length t) (sym are) steps
+steps_kept (Err e) before after items made now steps are = tt
 
 -- why there is no cycle, of a trial
 pub tries_none : (kept : Kept) (at : ℕ) (ask : CycleAsk) (old new : DiskTold) (refused : CycleRefused) (fault : CycleFault) → IsRefusalOf kept ask (due_anew kept at ask) refused
@@ -350,12 +557,13 @@ module _ {D : Type 0} (told : D → DiskTold) where
   -- a cycle that was sealed and put in place
   pub cycled : (at : ℕ) (ask : CycleAsk) (first new : Lasting D) (made : Rewound) (report : Report)
       → report_of first.kept.reports ask.key ≡ None → CyclesAs told first at ask made → first.closed ≡ false → report ≡ made.report
-      → new.kept ≡ after_rewound first.kept ask.key made → Seals told (Cycle first.kept.next at ask ∷ []) [] first new → Cycles told at ask first new report
+      → new.kept ≡ after_rewound first.kept ask.key true made → Seals told (Cycle first.kept.next at ask ∷ []) [] first new → Cycles told at ask first new report
   cycled at ask first new made report anew red open_ report_is kept_is seals =
-      let due = red.redoes.0 in
-      subst (CyclesBy told at ask first new report) (sym (due_new first.kept at ask anew ∙ red.redoes.1)) (
+      let is = red.is_made in
+      let leaves = made_whole first.kept at (repair_of first.kept at ask is.place) (HoldsTexts told first) made is.is_made in
+      subst (CyclesBy told at ask first new report) (sym (due_new first.kept at ask anew ∙ is.due)) (
         open_,
-        λ holds. (report_is ∙ (red.redoes.2 holds).report, kept_is ∙ sym (after_is first.kept ask due made (red.redoes.2 holds))),
+        λ holds. (report_is ∙ (leaves holds).report, kept_is ∙ sym (after_is first.kept at ask is.place made (leaves holds))),
         seals,
       )
 
@@ -402,77 +610,48 @@ module _ {D : Type 0} (told : D → DiskTold) (disk : D) (before after : Held) (
   abbrev First : Lasting D
   First = lasting before (record old { disk = disk })
 
-  read_still : IsStill told First (lasting before old)
-  read_still = record { kept = refl; notes = refl; marks = refl; room = refl; gate = refl; closed = refl; reads = reads }
-
   module _ (red : CyclesAs told First at ask made) (anew : report_of before.kept.reports ask.key ≡ None) (bytes_are : bytes ≡ record_bytes (Cycle before.kept.next at ask))
       (spelled : is_spelled (Cycle before.kept.next at ask) ≡ true) (known : are_known before.kept.house ask.inserts ≡ true) (open_ : old.closed ≡ false) where
-    due_record : IsRecordTo (Cycle before.kept.next at ask) bytes before.kept (after_cycle before.kept ask red.redoes.0)
-    due_record = record_is before.kept at ask red.redoes.0 bytes anew red.redoes.1 bytes_are spelled known
+    due_record : IsRecordTo (Cycle before.kept.next at ask) bytes before.kept (after_cycle before.kept ask (cycled_at before.kept at ask red.is_made.place))
+    due_record = record_is before.kept at ask (cycled_at before.kept at ask red.is_made.place) bytes anew red.is_made.due bytes_are spelled known
 
     -- its record was sealed, and what it leaves was put in place
-    pub cycle_sealed : SealsPayloads (bytes ∷ []) [] (told old.disk) (told new.disk) old.gate new.gate → new.closed ≡ false → (IsRun before.kept → IsSound before.kept) → SizesOf before.notes before.kept.timeline → IsFit before.kept made
-        → after.kept ≡ after_rewound before.kept ask.key made → after.marks ≡ marks_at_or_before made.place before.marks → RenotesAs before ask at (record { gate = old.gate; length = length bytes }) made after.notes
+    pub cycle_sealed : SealsPayloads (bytes ∷ []) [] (told old.disk) (told new.disk) old.gate new.gate → new.closed ≡ false → (IsRun before.kept → IsSound before.kept) → SizesOf before.notes (items_asked before.kept) → IsFit before.kept made
+        → after.kept ≡ after_rewound before.kept ask.key true made → after.marks ≡ marks_at_or_before made.place before.marks → RenotesAs before ask at (record { gate = old.gate; length = length bytes }) made after.notes
         → Seals told (Cycle before.kept.next at ask ∷ []) [] First (lasting after new)
-    cycle_sealed seals still sound sizes fit kept_is marks_are renotes = record {
-      kept = λ why. ap (option_and_then Some) (can why);
-      house = ap (λ (k : Kept). k.house) kept_is;
-      could = refl;
-      truth = λ why. one_true before.kept (Cycle before.kept.next at ask) due_record.truth;
-      closed = still ∙ sym (ap (λ b. b || false) open_);
-      on_disk = subst (λ (b : List ℕ). SealsPayloads (b ∷ []) [] (told disk) (told new.disk) old.gate new.gate) bytes_are
-          (payloads_then [] (bytes ∷ []) [] (told disk) (told old.disk) (told new.disk) old.gate old.gate new.gate (none_read (told disk) (told old.disk) old.gate reads) seals);
-      texts = λ holds.
-          holds_sealed told (lasting before old) (lasting after new) bytes lies_longer open_ (λ payloads settled. seals.settled payloads settled refl)
-          (lies holds) (revs_on (Cycle before.kept.next at ask) before.kept after.kept (sound holds.texts.runs) (can (inl holds))) (λ runs. run_after holds) (marked holds)
-          (still_holds told First (lasting before old) read_still holds);
-    }
+    cycle_sealed seals still sound sizes fit kept_is marks_are renotes =
+        record_sealed told disk before after old new (Cycle before.kept.next at ask) bytes reads open_ (sym bytes_are) due_record.truth (λ none. let wrong : ◌≡◌ {A = Bool} true false = none in cc)
+        (λ holds. due_record.can_stand ∙ ap Some (left_is holds)) (ap (λ (k : Kept). k.house) kept_is) seals still sound (λ holds. subst IsRun (left_is holds) refl) lies marked
       where
-        can : HoldsTexts told First ⊎ ReadNoTexts (Cycle before.kept.next at ask ∷ []) → after_record before.kept (Cycle before.kept.next at ask) ≡ Some after.kept
-        can (inl holds) = due_record.can_stand ∙ ap Some (after_is before.kept ask red.redoes.0 made (red.redoes.2 holds) ∙ sym kept_is)
-        can (inr none) = absurd (let wrong : true ≡ false = none in cc)
-
-        run_after : HoldsTexts told First → IsRun after.kept
-        run_after holds = subst IsRun (after_is before.kept ask red.redoes.0 made (red.redoes.2 holds) ∙ sym kept_is) refl
+        left_is : HoldsTexts told First → after_cycle before.kept ask (cycled_at before.kept at ask red.is_made.place) ≡ after.kept
+        left_is holds =
+            let is = red.is_made in
+            after_is before.kept at ask is.place made (made_whole before.kept at (repair_of before.kept at ask is.place) (HoldsTexts told First) made is.is_made holds) ∙ sym kept_is
 
         marked : HoldsTexts told First → (payloads : List (List ℕ)) → LiesAt payloads old.gate (length bytes) bytes → IsRun before.kept → MarksLie payloads before.kept before.marks → MarksLie payloads after.kept after.marks
         marked holds payloads at_place runs all = subst (MarksLie payloads after.kept) (sym marks_are)
             (made_marks payloads before.kept after.kept at ask (HoldsTexts told First) made before.marks holds red.is_made (ap (λ (k : Kept). k.base) kept_is) (ap (λ (k : Kept). k.timeline) kept_is) all)
 
-        lies : HoldsTexts told First → (payloads : List (List ℕ)) → LiesAt payloads old.gate (length bytes) bytes → TextsLie payloads before.notes before.kept.timeline → TextsLie payloads after.notes after.kept.timeline
+        lies : HoldsTexts told First → (payloads : List (List ℕ)) → LiesAt payloads old.gate (length bytes) bytes → TextsStored payloads before.notes before.kept → TextsStored payloads after.notes after.kept
         lies holds payloads at_place all =
-            let is = red.is_made in
             let where_ : Place = record { gate = old.gate; length = length bytes } in
-            let now = shown_made before.kept at ask (HoldsTexts told First) made is in
-            let timeline : items_left before.kept.timeline made ≡ timeline_by before.kept at ask is.place (repaired_items before.kept at ask is.place) now = made_timeline_of before.kept at ask (HoldsTexts told First) made is holds in
             let whole = sound holds.texts.runs in
-            subst (TextsLie payloads after.notes) (sym (ap (λ (k : Kept). k.timeline) kept_is ∙ timeline))
-            (cycle_lies payloads before.notes after.notes renotes.fresh before.kept at ask is.place now where_ bytes at_place
-            (subst (λ (b : List ℕ). IsFresh before.kept.next at ask where_ b renotes.fresh) (sym bytes_are) renotes.is_fresh)
-            sizes whole.timeline.apart whole.below holds.texts.revs (subst NumbersApart timeline fit.timeline.apart)
-            (subst (λ (t : List Item). Renotes before.notes renotes.fresh t after.notes) timeline renotes.renotes) all)
+            put_lies before after at ask (HoldsTexts told First) made where_ bytes renotes.fresh (subst (λ (b : List ℕ). IsFresh before.kept.next at ask where_ b renotes.fresh) (sym bytes_are) renotes.is_fresh)
+            red.is_made fit.timeline.apart (ap items_asked kept_is) sizes whole.timeline.apart whole.below whole.undone renotes.renotes payloads at_place holds holds.texts.revs holds.texts.back all
 
     -- it was not
     pub cycle_unsealed : {X : Type 0} (fault : SealFault) (out : CycleFault) → SealsBytes {X = X} told bytes old new (Err fault) → (told old.disk).failed_reads ≡ (told disk).failed_reads → after.kept ≡ before.kept → after.notes ≡ before.notes → after.marks ≡ before.marks → IsCycleOutcomeOf fault out
         → CyclesNone told at ask First (lasting after new) out
     cycle_unsealed fault out sealed well kept notes marks is =
-        cycles_none told at ask First (lasting after new) red.redoes.0 fault out anew red.redoes.1 open_ is
-        (later fault (not_sealed told (Cycle before.kept.next at ask) bytes (after_cycle before.kept ask red.redoes.0) before after old new fault due_record kept notes marks open_ sealed))
+        cycles_none told at ask First (lasting after new) (cycled_at before.kept at ask red.is_made.place) fault out anew red.is_made.due open_ is
+        (record_unsealed told disk before after old new (Cycle before.kept.next at ask) bytes reads open_ (after_cycle before.kept ask (cycled_at before.kept at ask red.is_made.place)) fault due_record sealed kept notes marks)
         (sealed.reads ∙ well)
-      where
-        later : (f : SealFault) → SealsNone told (Cycle before.kept.next at ask) (lasting before old) (lasting after new) f → SealsNone told (Cycle before.kept.next at ask) First (lasting after new) f
-        later log_faults.Disk none = seals_then told [] [] (Cycle before.kept.next at ask ∷ []) First (lasting before old) (lasting after new) (seals_still told First (lasting before old) read_still) none
-        later log_faults.NoMemory none = seals_then told [] [] [] First (lasting before old) (lasting after new) (seals_still told First (lasting before old) read_still) none
-        later log_faults.Closed none = none
 
   -- there was no memory for what is to be put in place
   pub cycle_starved : CyclesAs told First at ask made → report_of before.kept.reports ask.key ≡ None → old.closed ≡ false → ((d : D) → (told d).honest → IsHonest (told d)) → (told old.disk).failed_reads ≡ (told disk).failed_reads → after.kept ≡ before.kept → after.notes ≡ before.notes → after.marks ≡ before.marks
       → CyclesNone told at ask First (lasting after old) cycle_faults.NoMemory
   cycle_starved red anew open_ truth well kept notes marks =
-      starved told at ask First (lasting after old) red.redoes.0 anew red.redoes.1 open_
-      (seals_then told [] [] [] First (lasting before old) (lasting after old) (seals_still told First (lasting before old) read_still)
-      (seals_nothing told truth (lasting before old) (lasting after old) (record { kept = kept; notes = notes; marks = marks; disk = refl; gate = refl; closed = refl })))
-      well
+      starved told at ask First (lasting after old) (cycled_at before.kept at ask red.is_made.place) anew red.is_made.due open_ (nothing_sealed told disk before after old old (Cycle before.kept.next at ask) bytes reads open_ truth kept notes marks) well
 
 -- ---- a journal that was read
 
@@ -485,15 +664,21 @@ module _ {D : Type 0} (told : D → DiskTold) where
   pub holds_held : (held : Held) (journal : JournalTold D) → HoldsTexts told (lasting held journal) → HoldsHeld (told journal.disk) held
   holds_held held journal holds = (holds.payloads, holds.texts)
 
-  pub cycles_as : (held : Held) (old new : JournalTold D) (at : ℕ) (ask : CycleAsk) (made : Rewound) → Redoes held.kept at ask (HoldsHeld (told old.disk) held) made → IsMade held.kept at ask (HoldsHeld (told old.disk) held) made
+  pub cycles_as : (held : Held) (old new : JournalTold D) (at : ℕ) (ask : CycleAsk) (made : Rewound) → IsCycled held.kept at ask (HoldsHeld (told old.disk) held) made
       → CyclesAs told (lasting held (record new { disk = old.disk })) at ask made
-  cycles_as held old new at ask made redone is = record {
-    redoes = redoes_weaker held.kept at ask (HoldsHeld (told old.disk) held) (HoldsTexts told (lasting held (record new { disk = old.disk }))) made (holds_held held (record new { disk = old.disk })) redone;
-    is_made = made_weaker held.kept at ask (HoldsHeld (told old.disk) held) (HoldsTexts told (lasting held (record new { disk = old.disk }))) made (holds_held held (record new { disk = old.disk })) is;
-  }
+  cycles_as held old new at ask made is =
+      let now = cycled_weaker held.kept at ask (HoldsHeld (told old.disk) held) (HoldsTexts told (lasting held (record new { disk = old.disk }))) made (holds_held held (record new { disk = old.disk })) is in
+      record { redoes = cycled_redoes held.kept at ask (HoldsTexts told (lasting held (record new { disk = old.disk }))) made now; is_made = now }
 
-  pub made_unread : (kept : Kept) (at : ℕ) (ask : CycleAsk) (was : Type 0) (made : Rewound) → IsMade kept at ask was made → IsMade kept at ask ⊥ made
-  made_unread kept at ask was made is = made_weaker kept at ask was ⊥ made (λ never. absurd never) is
+  -- a trial
+  pub cycle_tried : (held : Held) (journal : JournalTold D) (at : ℕ) (ask : CycleAsk) (made : Rewound) (report : Report) → IsCycled held.kept at ask (HoldsHeld (told journal.disk) held) made → report ≡ made.report
+      → Tries held.kept at ask (HoldsTexts told (lasting held journal)) report
+  cycle_tried held journal at ask made report is report_is =
+      let redone = cycled_redoes held.kept at ask (HoldsHeld (told journal.disk) held) made is in
+      (redone.0, redone.1, λ h. report_is ∙ (redone.2 (holds_held held journal h)).report)
+
+  pub made_unread : (kept : Kept) (at : ℕ) (ask : CycleAsk) (was : Type 0) (made : Rewound) → IsCycled kept at ask was made → IsCycled kept at ask ⊥ made
+  made_unread kept at ask was made is = cycled_weaker kept at ask was ⊥ made (λ never. absurd never) is
 
 -- ---- a record of a cycle that is read
 
@@ -501,7 +686,7 @@ module _ {D : Type 0} (told : D → DiskTold) where
 pub unfit_after : (kept : Kept) (number at : ℕ) (ask : CycleAsk) → can_rewind kept number ask ≡ false → after_cycle_record kept number at ask ≡ None
 unfit_after kept number at ask unfit = by_cases (is_spelled (Cycle number at ask)) (can_rewind kept number ask) unfit
   where
-    by_cases : (spelled fit : Bool) → fit ≡ false → (if spelled && fit then after_due kept ask (cycle_due kept at ask) else None) ≡ None
+    by_cases : (spelled fit : Bool) → fit ≡ false → (if spelled && fit then after_due (after_cycle kept ask) (cycle_due kept at ask) else None) ≡ None
     by_cases true true e = absurd (cc e)
     by_cases true false e = refl
     by_cases false fit e = refl
@@ -509,18 +694,18 @@ unfit_after kept number at ask unfit = by_cases (is_spelled (Cycle number at ask
 pub had_after : (kept : Kept) (number at : ℕ) (ask : CycleAsk) → is_none (report_of kept.reports ask.key) ≡ false → after_cycle_record kept number at ask ≡ None
 had_after kept number at ask had = by_report (report_of kept.reports ask.key) (is_spelled (Cycle number at ask) && can_rewind kept number ask) had
   where
-    by_report : (found : Option Report) (can : Bool) → is_none found ≡ false → (if can then after_due kept ask (due_by found (due_anew kept at ask)) else None) ≡ None
+    by_report : (found : Option Report) (can : Bool) → is_none found ≡ false → (if can then after_due (after_cycle kept ask) (due_by found (due_anew kept at ask)) else None) ≡ None
     by_report None can e = absurd (cc e)
     by_report (Some report) true e = refl
     by_report (Some report) false e = refl
 
 -- else it comes to what is due
 pub fit_after : (kept : Kept) (number at : ℕ) (ask : CycleAsk) → is_spelled (Cycle number at ask) ≡ true → can_rewind kept number ask ≡ true → is_none (report_of kept.reports ask.key) ≡ true
-    → after_cycle_record kept number at ask ≡ after_due kept ask (due_anew kept at ask)
+    → after_cycle_record kept number at ask ≡ after_due (after_cycle kept ask) (due_anew kept at ask)
 fit_after kept number at ask spelled fit anew =
-    ap (λ (b : Bool). if b && can_rewind kept number ask then after_due kept ask (cycle_due kept at ask) else None) spelled
-    ∙ ap (λ (b : Bool). if b then after_due kept ask (cycle_due kept at ask) else None) fit
-    ∙ ap (after_due kept ask) (due_new kept at ask (none_is (report_of kept.reports ask.key) anew))
+    ap (λ (b : Bool). if b && can_rewind kept number ask then after_due (after_cycle kept ask) (cycle_due kept at ask) else None) spelled
+    ∙ ap (λ (b : Bool). if b then after_due (after_cycle kept ask) (cycle_due kept at ask) else None) fit
+    ∙ ap (after_due (after_cycle kept ask)) (due_new kept at ask (none_is (report_of kept.reports ask.key) anew))
   where
     none_is : (found : Option Report) → is_none found ≡ true → found ≡ None
     none_is None e = refl

@@ -2,7 +2,7 @@
 use Rattle.std.proofs.Common.{◌≡◌, inl, inr, ℕ, zero, suc, ◌+◌, ◌-◌, ◌<◌, ◌≤◌, ◌∷◌, ◌++◌, ◌∙◌, ◌&&◌, not, List, Bool, true, false, Option, Some, None, Result, Ok, Err, length, take, drop, get_or, refl, sym, ap, subst, arith, append_assoc, append-nil, length-append, []}
 use Rattle.std.proofs.lemmas.List.{map-append, take_all}
 use Rattle.std.proofs.lemmas.List.Concat.{flat_map-append}
-use Rattle.std.specs.Prelude.{bytes_eq, option_and_then, if◌then◌else◌, IfOk, IfErr, slice_get}
+use Rattle.std.specs.Prelude.{bytes_eq, option_and_then, if◌then◌else◌, IfOk, IfErr, OnOk, slice_get}
 use Rattle.std.specs.List.{slice_range}
 use Rattle.std.proofs.lemmas.Bool.Decides.{same_from_decides}
 use Rattle.std.proofs.lemmas.Slice.Eq.{bytes_eq-Decides}
@@ -14,10 +14,13 @@ use Rattle.std.specs.Int.{w32, to_be_bytes}
 use Rattle.verb_bytes.specs.declared.journal.JournalRecord.{JournalRecord}
 use Rattle.verb_bytes.specs.declared.journal.JournalRecord.TheVariants.{Snapshot, Upgrade}
 use Rattle.verb_bytes.specs.Spelling.{HasSpelling, Spells, record_bytes}
+use Rattle.seal_log.specs.declared.fault.ReadFault.{ReadFault}
 use Rattle.seal_log.specs.declared.place.Place.{Place}
+use Rattle.mail_desk.specs.Held.{Held}
 use Rattle.seal_log.specs.Journal.{frame, sealed, LiesAt}
 use Rattle.seal_log.specs.Loading.{places_from}
 use Rattle.store_kept.specs.Kept.{Kept, passed, performed, snapshotted, upgraded}
+use Rattle.desk_journal.specs.Stored.{AreNoted, MarkedBefore, TextsNoted}
 use Rattle.desk_journal.proofs.Truth.{true_as, true_is}
 use Rattle.time_desk.specs.declared.fault.StartFault.{StartFault}
 use Rattle.time_desk.specs.declared.fault.StartFault.TheVariants.{NotFormatted, Damaged, Disk, NoMemory}
@@ -83,6 +86,21 @@ if_ok (Err e) P Q more h = h
 pub if_err : {T E : Type 0} (r : Result T E) (P Q : E → Type 0) → ((e : E) → P e → Q e) → IfErr r P → IfErr r Q
 if_err (Ok x) P Q more h = h
 if_err (Err e) P Q more h = more e h
+
+-- more is known where a call gave something
+pub on_ok : {T E P Q : Type 0} (r : Result T E) → (P → Q) → OnOk r P → OnOk r Q
+on_ok (Ok x) more h = more h
+on_ok (Err e) more h = h
+
+-- of a result that says whether a record stood
+pub when_stood : {P : Type 0} (X Y Z : Type 0) (r : Result Bool ReadFault) → (X → Y → Z → P) → IfOk r (λ stood. (stood ≡ true) × X) → OnOk r Y → OnOk r Z → IfOk r (λ stood. stood ≡ true → P)
+when_stood X Y Z (Ok stood) f x y z = λ e. f x.1 y z
+when_stood X Y Z (Err why) f x y z = tt
+
+pub both_told : (gate : ℕ) (held : Held) (r : Result Bool ReadFault) → IfOk r (λ stood. stood ≡ true → TextsNoted gate held.notes held.kept) → IfOk r (λ stood. stood ≡ true → MarkedBefore gate held.marks)
+    → IfOk r (λ stood. stood ≡ true → AreNoted gate held)
+both_told gate held (Ok stood) noted marked = λ e. record { noted = noted e; marked = marked e }
+both_told gate held (Err why) noted marked = tt
 
 -- all of a payload
 pub whole_range : (payload : List ℕ) (count : ℕ) → count ≡ length payload → slice_range payload 0 (0 + count) ≡ payload

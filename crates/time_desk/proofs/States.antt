@@ -1,5 +1,5 @@
 -- What holds over all that a journal's records leave.
-use Rattle.std.proofs.Common.{◌≡◌, ◌≢◌, ℕ, ◌+◌, ◌<◌, true, false, List, [], ◌∷◌, ◌++◌, length, Some, is_some, sym, ap, ◌∙◌, subst, arith}
+use Rattle.std.proofs.Common.{◌≡◌, ◌≢◌, ℕ, ◌+◌, ◌<◌, true, false, refl, List, [], ◌∷◌, ◌++◌, length, Some, is_some, sym, ap, ◌∙◌, subst, arith}
 use Rattle.std.specs.Prelude.{IfOk, IsTrue, OnErr, OnOk, Result, Ok, Err}
 use Rattle.std.specs.List.{AllByRecursion, list_any}
 use Rattle.undo_base.specs.declared.keys.User.{User}
@@ -20,21 +20,26 @@ use Rattle.verb_core.proofs.Deliveries.{arrives-step}
 use Rattle.verb_core.proofs.Joins.{run_house}
 use Rattle.verb_bytes.specs.declared.journal.CycleAsk.{CycleAsk}
 use Rattle.verb_bytes.specs.declared.journal.JournalRecord.{JournalRecord}
-use Rattle.verb_bytes.specs.declared.journal.JournalRecord.TheVariants.{Cycle}
+use Rattle.verb_bytes.specs.declared.journal.JournalRecord.TheVariants.{Cycle, Withdraw}
 use Rattle.paradox.specs.declared.reports.Report.{Report}
+use Rattle.store_kept.specs.Coming.{HasUndoneTexts}
 use Rattle.store_kept.specs.Kept.{Kept, stamp_at, store_of}
-use Rattle.cycle_rules.specs.Asking.{Due, NoNumbers, NoPoint, Repeats, Rewinds, cycle_due}
-use Rattle.mail_cycle.specs.Permanence.{UidsLast}
+use Rattle.cycle_rules.specs.Asking.{Due, NoNumbers, NoPoint, Repeats, Rewinds, after_cycle, cycle_due}
+use Rattle.cycle_rules.specs.Cycles.{Cycled}
+use Rattle.cycle_rules.specs.Withdrawals.{after_withdrawal, withdraw_due}
+use Rattle.mail_cycle.specs.Permanence.{UidsLast, UidsStay}
 use Rattle.mail_desk.specs.Timeline.{has_text}
 use Rattle.store_kept.specs.Texts.{all_bodies}
-use Rattle.time_desk.specs.Cycling.{Cycles, CyclesBy}
+use Rattle.time_desk.specs.Cycling.{Cycles, DoesBy}
+use Rattle.time_desk.specs.Withdrawing.{Withdraws}
 use Rattle.desk_journal.specs.Lasting.{Lasting}
-use Rattle.desk_journal.specs.Sealing.{ReadNoTexts, Seals}
+use Rattle.desk_journal.specs.Sealing.{Seals}
 use Rattle.desk_journal.specs.Stored.{HoldsTexts}
-use Rattle.std.proofs.Common.{inl, inr}
+use Rattle.std.proofs.Common.{inl}
 use Rattle.desk_journal.specs.Permanence.{Arrives, IsAccounted, IsSound, Message, RevsBelow, message_at}
-use Rattle.desk_journal.specs.Records.{after_records, state}
+use Rattle.desk_journal.specs.Records.{after_records, is_withdrawal, state}
 use Rattle.time_desk.proofs.Accounts.{once_some, one_fate, sound_valid, stray_given}
+use Rattle.time_desk.proofs.Lasts.{lasts_kept, stay_kept}
 use Rattle.time_desk.proofs.Messages.{one_message, stamp_below, stamped_there, text_there, there}
 use Rattle.desk_journal.proofs.Runs.{state_append}
 use Rattle.time_desk.proofs.Soundness.{records_follow, state_holds}
@@ -70,7 +75,7 @@ pub one_message_of : BodiesHaveTexts → (front more : List JournalRecord) (a b 
 one_message_of texts front more a b id stamp uid m n first second =
     let old = state_holds front a first in
     let follows = records_follow more a b old.0 (behind front more a b first second) in
-    one_message_kept texts a b id stamp uid m n old.0 old.1 follows.sound follows.lasts
+    one_message_kept texts a b id stamp uid m n old.0 old.1 follows.sound (follows.lasts old.1 old.2)
 
 -- a stamp that a mailbox lost is not its stamp again
 pub lost_of : (a b c : Kept) (id : BoxId) (stamp : ℕ) → IsSound a → IsSound c → UidsLast a b → UidsLast b c → stamp_at a id ≡ Some stamp → stamp_at b id ≢ Some stamp → stamp_at c id ≢ Some stamp
@@ -85,8 +90,9 @@ pub lost_behind : (front mid more : List JournalRecord) (a b c : Kept) (id : Box
 lost_behind front mid more a b c id stamp first second third =
     let old = state_holds front a first in
     let follows = records_follow mid a b old.0 (behind front mid a b first second) in
+    let texts = follows.texts old.1 old.2 in
     let last = records_follow more b c follows.sound (behind (front ++ mid) more b c second third) in
-    lost_of a b c id stamp old.0 last.sound follows.lasts last.lasts
+    lost_of a b c id stamp old.0 last.sound (follows.lasts old.1 old.2) (last.lasts texts.0 texts.1)
 
 -- ---- fates
 
@@ -128,34 +134,37 @@ module _ (records : List JournalRecord) (kept : Kept) (is : state records ≡ So
 
 -- what a client knows by UID lasts over more records
 abbrev pub LetsUidsLast : Type 0
-LetsUidsLast = (old new : Kept) (more : List JournalRecord) → IsSound old → after_records old more ≡ Some new → UidsLast old new
+LetsUidsLast = (old new : Kept) (more : List JournalRecord) → IsSound old → RevsBelow old → HasUndoneTexts old → after_records old more ≡ Some new → UidsLast old new
 
-module _ (law : LetsUidsLast) where
-  -- over none
-  pub lasts_same : (old new : Kept) → IsSound old → new ≡ old → UidsLast old new
-  lasts_same old new sound same = law old new [] sound (ap (λ (k : Kept). Some k) (sym same))
+-- and no text comes back over records of which none is a withdrawal
+abbrev pub LetsTextsStay : Type 0
+LetsTextsStay = (old new : Kept) (more : List JournalRecord) → IsSound old → after_records old more ≡ Some new → list_any is_withdrawal more ≡ false → UidsStay old new
 
-  module _ {D : Type 0} (told : D → DiskTold) where
-    -- over a call that sealed records, or left what is kept as it was
-    pub lasts_sealed : {T E : Type 0} (result : Result T E) (added : T → List JournalRecord) (old new : Lasting D) → ((x : T) → ReadNoTexts (added x)) → IsSound old.kept → IfOk result (λ x. Seals told (added x) [] old new)
-        → OnErr result (new.kept ≡ old.kept) → UidsLast old.kept new.kept
-    lasts_sealed (Ok x) added old new plain sound seals same = law old.kept new.kept (added x) sound (seals.kept (inr (plain x)))
-    lasts_sealed (Err e) added old new plain sound seals same = lasts_same old.kept new.kept sound same
+-- what holds of what is kept over a call that sealed the record of a request that was due, or nothing
+done_by : {D : Type 0} (told : D → DiskTold) (P : Kept → Type 0) (what : JournalRecord) (after : Cycled → Kept) (old new : Lasting D) (report : Report) (due : Due) → P old.kept → (Seals told (what ∷ []) [] old new → P new.kept)
+    → DoesBy told what after old new report due → P new.kept
+done_by told P what after old new report (Repeats earlier) none one done = subst (λ (l : Lasting _). P l.kept) (sym done.1) none
+done_by told P what after old new report NoPoint none one done = absurd done
+done_by told P what after old new report NoNumbers none one done = absurd done
+done_by told P what after old new report (Rewinds due) none one done = one done.2
 
-    -- the same of one record
-    pub lasts_operated : {T E : Type 0} (result : Result T E) (added : List JournalRecord) (old new : Lasting D) → ReadNoTexts added → IsSound old.kept → OnOk result (Seals told added [] old new)
-        → OnErr result (new.kept ≡ old.kept) → UidsLast old.kept new.kept
-    lasts_operated (Ok x) added old new plain sound seals same = law old.kept new.kept added sound (seals.kept (inr plain))
-    lasts_operated (Err e) added old new plain sound seals same = lasts_same old.kept new.kept sound same
+module _ (lasts : LetsUidsLast) where
+  one_lasts : {D : Type 0} (told : D → DiskTold) (what : JournalRecord) (old new : Lasting D) → HoldsTexts told old → IsSound old.kept → Seals told (what ∷ []) [] old new → UidsLast old.kept new.kept
+  one_lasts told what old new holds sound seals = lasts old.kept new.kept (what ∷ []) sound holds.texts.revs holds.texts.back (seals.kept (inl holds))
 
-    lasts_by : (at : ℕ) (ask : CycleAsk) (old new : Lasting D) (report : Report) (due : Due) → HoldsTexts told old → IsSound old.kept → CyclesBy told at ask old new report due → UidsLast old.kept new.kept
-    lasts_by at ask old new report (Repeats earlier) holds sound done = lasts_same old.kept new.kept sound (ap (λ (l : Lasting D). l.kept) done.1)
-    lasts_by at ask old new report NoPoint holds sound done = absurd done
-    lasts_by at ask old new report NoNumbers holds sound done = absurd done
-    lasts_by at ask old new report (Rewinds due) holds sound done = law old.kept new.kept (Cycle old.kept.next at ask ∷ []) sound (done.2.kept (inl holds))
+  -- over a withdrawal
+  pub lasts_withdrawn : {D E : Type 0} (told : D → DiskTold) (at : ℕ) (key : List ℕ) (of : ℕ) (result : Result Report E) (old new : Lasting D) → HoldsTexts told old → IsSound old.kept
+      → IfOk result (λ report. Withdraws told at key of old new report) → OnErr result (new.kept ≡ old.kept) → UidsLast old.kept new.kept
+  lasts_withdrawn told at key of (Ok report) old new holds sound done same =
+      let what = Withdraw old.kept.next at key of in
+      done_by told (UidsLast old.kept) what (after_withdrawal old.kept key) old new report (withdraw_due old.kept at key of) (lasts_kept old.kept old.kept refl) (one_lasts told what old new holds sound) done
+  lasts_withdrawn told at key of (Err e) old new holds sound done same = lasts_kept old.kept new.kept same
 
-    -- over a cycle
-    pub lasts_rewound : {E : Type 0} (at : ℕ) (ask : CycleAsk) (result : Result Report E) (old new : Lasting D) → HoldsTexts told old → IsSound old.kept → IfOk result (λ report. Cycles told at ask old new report)
-        → OnErr result (new.kept ≡ old.kept) → UidsLast old.kept new.kept
-    lasts_rewound at ask (Ok report) old new holds sound done same = lasts_by at ask old new report (cycle_due old.kept at ask) holds sound done
-    lasts_rewound at ask (Err e) old new holds sound done same = lasts_same old.kept new.kept sound same
+-- over a cycle, and no text comes back
+pub stays_rewound : LetsTextsStay → {D E : Type 0} (told : D → DiskTold) (at : ℕ) (ask : CycleAsk) (result : Result Report E) (old new : Lasting D) → HoldsTexts told old → IsSound old.kept
+    → IfOk result (λ report. Cycles told at ask old new report) → OnErr result (new.kept ≡ old.kept) → UidsStay old.kept new.kept
+stays_rewound stays told at ask (Ok report) old new holds sound done same =
+    let what = Cycle old.kept.next at ask in
+    done_by told (UidsStay old.kept) what (after_cycle old.kept ask) old new report (cycle_due old.kept at ask) (stay_kept old.kept old.kept refl)
+    (λ seals. stays old.kept new.kept (what ∷ []) sound (seals.kept (inl holds)) refl) done
+stays_rewound stays told at ask (Err e) old new holds sound done same = stay_kept old.kept new.kept same

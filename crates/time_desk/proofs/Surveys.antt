@@ -1,8 +1,9 @@
 -- What a survey of a disk and the records that are read say of the image.
-use Rattle.std.proofs.Common.{◌≡◌, inl, inr, Result, Ok, Err, ℕ, ◌<◌, ◌∷◌, ◌++◌, ◌∙◌, [], List, Bool, true, false, length, refl, sym, ap, subst, arith, append_assoc, length-append}
+use Rattle.std.proofs.Common.{◌≡◌, inl, inr, Result, Ok, Err, ℕ, ◌+◌, ◌<◌, ◌≤◌, ◌∷◌, ◌++◌, ◌∙◌, [], List, Bool, true, false, length, refl, sym, ap, subst, arith, append_assoc, length-append}
 use Rattle.std.proofs.lemmas.List.Concat.{flat_map-append}
 use Rattle.std.specs.List.{AllByRecursion}
-use Rattle.std.specs.Prelude.{IfOk, OnOk}
+use Rattle.std.specs.Prelude.{IfErr, IfOk}
+use Rattle.undo_outside.specs.Calls.{Rose}
 use Rattle.undo_outside.specs.Disk.{DiskTold, IsHonest}
 use Rattle.undo_outside.specs.Moments.{LeavesOnly}
 use Rattle.undo_outside.proofs.Moments.{images_now, joined}
@@ -15,9 +16,9 @@ use Rattle.seal_log.specs.Settled.{IsSettled, ReadsAlone}
 use Rattle.store_kept.specs.Kept.{Kept}
 use Rattle.time_desk.specs.declared.fault.StartFault.{StartFault}
 use Rattle.time_desk.specs.declared.fault.StartFault.TheVariants.{NotFormatted, Damaged, Disk, NoMemory}
-use Rattle.time_desk.specs.Opening.{IsDamaged, IsStarted, Refuses, Starts}
+use Rattle.time_desk.specs.Opening.{FaultCounts, Finds, IsDamaged, IsStarted, Refuses, Starts}
 use Rattle.desk_journal.specs.Records.{payloads_of}
-use Rattle.time_desk.specs.Standing.{BreaksAt, BreaksFor, Fails, SpellsAll}
+use Rattle.time_desk.specs.Standing.{BreaksAt, BreaksFor, Fails, ReadCounts, SpellsAll}
 use Rattle.verb_core.specs.declared.mailbox.Body.{Body}
 use Rattle.shelf.specs.declared.note.Note.{Note}
 use Rattle.desk_journal.specs.Stored.{SettledTexts, TextsHeld}
@@ -131,17 +132,45 @@ module _ (image : List ℕ) (disk : DiskTold) (gate : ℕ) (places : List Place)
 
 -- ---- a disk that was surveyed, and then read
 
-pub starts_when : {T : Type 0} (kept : T → Kept) (gate : T → ℕ) (old mid new : DiskTold) (r : Result T StartFault) → (mid.honest → IsHonest mid)
-    → (old.honest → IfOk r (λ t. IsStarted old.content new (kept t) (gate t))) → OnOk r (new.failed_reads ≡ mid.failed_reads)
-    → SameCounts old mid → ReadsAlone mid new → mid.is_reliable ≡ old.is_reliable → (old.honest → LeavesOnly old mid old.images)
+pub starts_when : {T X : Type 0} (kept : T → Kept) (gate : T → ℕ) (new : T → DiskTold) (old mid : DiskTold) (r : Result T X) → (mid.honest → IsHonest mid)
+    → (old.honest → IfOk r (λ t. IsStarted old.content (new t) (kept t) (gate t))) → IfOk r (λ t. (new t).failed_reads ≡ mid.failed_reads)
+    → SameCounts old mid → IfOk r (λ t. ReadsAlone mid (new t)) → mid.is_reliable ≡ old.is_reliable → (old.honest → LeavesOnly old mid old.images)
     → mid.size ≡ old.size → (old.honest → mid.honest) → (old.honest → mid.content ≡ old.content) → (old.size ≡ 0 → ⊥)
-    → IfOk r (λ t. Starts old new (Ok (kept t, gate t)))
-starts_when kept gate old mid new (Err e) truth found ok counts reads reliable moment size honest content some = tt
-starts_when kept gate old mid new (Ok t) truth found ok counts reads reliable moment size honest content some = record {
+    → IfOk r (λ t. Starts old (new t) (Ok (kept t, gate t)))
+starts_when kept gate new old mid (Err e) truth found ok counts reads reliable moment size honest content some = tt
+starts_when kept gate new old mid (Ok t) truth found ok counts reads reliable moment size honest content some = record {
   found = found;
   counts = record { reads = ok ∙ counts.reads; writes = reads.reads.writes ∙ counts.writes };
   reliable = reads.reads.reliable ∙ reliable;
-  any_moment = λ is. joined old mid new old.images mid.images old.images (moment is) (reads.reads.any_moment (honest is)) (λ c now. now) (images_now old mid old.images (moment is) (truth (honest is)));
+  any_moment = λ is. joined old mid (new t) old.images mid.images old.images (moment is) (reads.reads.any_moment (honest is)) (λ c now. now) (images_now old mid old.images (moment is) (truth (honest is)));
+  size = reads.reads.size ∙ size;
+  honest = λ is. reads.reads.honest (honest is);
+  content = λ is _. reads.reads.content (honest is) ∙ content is;
+  empty = λ none. absurd (some none);
+}
+
+-- why it does not open
+counts_later : (old mid new : DiskTold) (fault : StartFault) → SameCounts old mid → mid.is_reliable ≡ old.is_reliable → ReadsAlone mid new → ReadCounts mid new fault → FaultCounts old new fault
+counts_later old mid new NotFormatted counts reliable reads same = record { reads = same ∙ counts.reads; writes = reads.reads.writes ∙ counts.writes }
+counts_later old mid new (Damaged place) counts reliable reads same = record { reads = same ∙ counts.reads; writes = reads.reads.writes ∙ counts.writes }
+counts_later old mid new Disk counts reliable reads failed =
+    inl (subst (λ (n : ℕ). Rose n new.failed_reads) counts.reads failed.0, subst (λ (n : ℕ). new.failed_reads ≤ n + 1) counts.reads failed.1, failed.2, sym reliable ∙ failed.3)
+counts_later old mid new NoMemory counts reliable reads same = record { reads = same ∙ counts.reads; writes = reads.reads.writes ∙ counts.writes }
+
+found_refused : (old new : DiskTold) (fault : StartFault) → Refuses old.content fault → Finds old.content new (Err fault)
+found_refused old new fault is = is
+
+pub refused_when : {T X : Type 0} (disk : X → DiskTold) (fault : X → StartFault) (old mid : DiskTold) (r : Result T X) → (mid.honest → IsHonest mid)
+    → (old.honest → IfErr r (λ x. Refuses old.content (fault x))) → IfErr r (λ x. ReadCounts mid (disk x) (fault x))
+    → SameCounts old mid → IfErr r (λ x. ReadsAlone mid (disk x)) → mid.is_reliable ≡ old.is_reliable → (old.honest → LeavesOnly old mid old.images)
+    → mid.size ≡ old.size → (old.honest → mid.honest) → (old.honest → mid.content ≡ old.content) → (old.size ≡ 0 → ⊥)
+    → IfErr r (λ x. Starts old (disk x) (Err (fault x)))
+refused_when disk fault old mid (Ok t) truth found fails counts reads reliable moment size honest content some = tt
+refused_when disk fault old mid (Err x) truth found fails counts reads reliable moment size honest content some = record {
+  found = λ is. found_refused old (disk x) (fault x) (found is);
+  counts = counts_later old mid (disk x) (fault x) counts reliable reads fails;
+  reliable = reads.reads.reliable ∙ reliable;
+  any_moment = λ is. joined old mid (disk x) old.images mid.images old.images (moment is) (reads.reads.any_moment (honest is)) (λ c now. now) (images_now old mid old.images (moment is) (truth (honest is)));
   size = reads.reads.size ∙ size;
   honest = λ is. reads.reads.honest (honest is);
   content = λ is _. reads.reads.content (honest is) ∙ content is;

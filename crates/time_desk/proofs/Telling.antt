@@ -1,5 +1,5 @@
 -- Which texts are told while the journal is read: those of the items of a timeline, and those that a request asks for.
-use Rattle.std.proofs.Common.{◌≡◌, ◌≢◌, ℕ, zero, suc, ◌+◌, ◌<◌, ◌==◌, Bool, true, false, not, ◌||◌, cond, List, ◌∷◌, ◌++◌, length, map, filter, take, drop, Option, None, Some, Result, Ok, Err, is_some, option_and_then, refl, ap, sym, subst, ◌∙◌, arith, []}
+use Rattle.std.proofs.Common.{◌≡◌, ◌≢◌, ℕ, zero, suc, ◌+◌, ◌<◌, ◌≤◌, ◌==◌, Bool, true, false, not, ◌||◌, cond, List, ◌∷◌, ◌++◌, length, map, filter, take, drop, Option, None, Some, Result, Ok, Err, is_some, option_and_then, refl, ap, sym, subst, ◌∙◌, arith, []}
 use Rattle.std.specs.List.{AllByRecursion}
 use Rattle.std.specs.Option.{option_map_or, option_or}
 use Rattle.std.proofs.lemmas.Bool.Decides.{nat_tests}
@@ -11,7 +11,7 @@ use Rattle.verb_core.specs.declared.item.Act.TheVariants.{Give}
 use Rattle.verb_core.specs.declared.item.Item.{Item}
 use Rattle.verb_core.specs.declared.mailbox.Body.{Body}
 use Rattle.verb_core.specs.Deeds.{is_notice, with_text}
-use Rattle.verb_core.specs.Items.{NumbersApart, text_in, text_of}
+use Rattle.verb_core.specs.Items.{IsTimeline, NumbersApart, text_in, text_of}
 use Rattle.verb_core.specs.Texts.{BodiesTold, Rose}
 use Rattle.stored_items.specs.Stored.{needs_text}
 use Rattle.verb_bytes.specs.declared.journal.CycleAsk.{CycleAsk}
@@ -20,18 +20,28 @@ use Rattle.shelf.specs.Notes.{note_of}
 use Rattle.repair_desk.specs.Repairs.{inserted, is_dropped, kept, new_timeline, repaired, replaced_by, takes_text, text_asked}
 use Rattle.cycle_rules.specs.Cycles.{repaired_items}
 use Rattle.replay_crew.specs.Hearing.{Counts, TellsAll, TellsOf}
-use Rattle.store_kept.specs.Kept.{Kept}
 use Rattle.verb_core.specs.declared.bodies.BodiesFault.{BodiesFault}
 use Rattle.verb_core.specs.declared.bodies.BodiesFault.TheVariants as bodies_faults
 use Rattle.time_desk.specs.Planning.{BodiesCause}
 use Rattle.mail_desk.specs.Held.{Held}
-use Rattle.mail_desk.specs.Timeline.{body_of, item_of, noted_of, notice_told_by, told_by}
+use Rattle.withdraw.specs.declared.undone.UndoneBehind.{UndoneBehind}
+use Rattle.withdraw.specs.Coming.{TextsComeBack}
+use Rattle.withdraw.proofs.Texts.{texts_back}
+use Rattle.store_kept.specs.Coming.{Comes, ComesIf, HasUndone, HasUndoneTexts, TextsComeIf}
+use Rattle.store_kept.specs.Kept.{Kept}
+use Rattle.store_kept.specs.Texts.{items_asked, items_behind, text_at_hand}
+use Rattle.store_kept.proofs.Coming.{kept_at_hand}
+use Rattle.cycle_rules.specs.Withdrawals.{restored_items}
+use Rattle.mail_desk.specs.Timeline.{body_of, item_of, told_by}
 use Rattle.mail_desk.proofs.BodyTexts.{text_by_item}
-use Rattle.desk_journal.specs.Stored.{HasNote, IsBefore, NotedBefore}
-use Rattle.time_desk.specs.Serving.{unmarked}
+use Rattle.desk_journal.specs.Stored.{IsBefore, TextsNoted, is_recorded, item_with, recorded_in}
 use Rattle.desk_journal.specs.declared.read_texts.Reading.{Reading}
-use Rattle.desk_journal.specs.Telling.{HoldsHeld, LeadsOn, reading_told, asked_of, is_readable, is_told, text_told}
-use Rattle.desk_journal.proofs.Telling.{item_has, readable}
+use Rattle.desk_journal.specs.Lasting.{PastTold}
+use Rattle.desk_journal.specs.Telling.{HoldsHeld, LeadsOn, reading_told, asked_of, is_readable, is_told, noted_in, text_told, told_first}
+use Rattle.desk_journal.proofs.Telling.{found_brings, item_has, readable, recorded_note}
+use Rattle.repair_desk.proofs.Everywhere.{joined, weaker}
+use Rattle.time_desk.proofs.Renoting.{IsAlike, all_alike, back_apart, brings, brings_own_item, first_part, text_some, text_step, turned, zipped}
+use Rattle.time_desk.proofs.Restored.{asked_behind, restored_holds}
 
 -- ---- items of a timeline
 
@@ -52,19 +62,58 @@ own_items (i ∷ t) apart =
         let other : (i.number == j.number) ≡ false = let apart : i.number ≢ j.number = others.0 in grind (arith, nat_tests) in
         (rw other all.0, later s others.1 all.1)
 
--- ---- notes
-
--- the body of an item that is no notice has its note
-pub item_noted : (t : List Item) (notes : List (Body × Note)) (i : Item) → item_of t i.number ≡ Some i → is_notice i.deed ≡ false → noted_of t notes (body_of i) ≡ note_of notes (body_of i)
-item_noted t notes i own none =
-    ap (λ (o : Option Item). cond (is_some (option_and_then (notice_told_by (body_of i)) o)) None (note_of notes (body_of i))) own
-    ∙ ap (λ b. cond (is_some (cond b (told_by (body_of i) i) None)) None (note_of notes (body_of i))) none
-
--- and its text
+-- its text
 pub item_text : (t : List Item) (i : Item) → NumbersApart t → item_of t i.number ≡ Some i → text_of t (body_of i) ≡ text_in i.deed
 item_text t i apart own =
     let here : (i.rev == i.rev) ≡ true = grind (arith, nat_tests) in
     text_by_item t apart (body_of i) ∙ ap (option_and_then (told_by (body_of i))) own ∙ ap (λ b. cond b (text_in i.deed) None) here
+
+-- ---- texts that a record has
+
+-- the text of an item is one among all
+some_own : (t : List Item) → AllByRecursion (λ (i : Item). is_some (text_in i.deed) ≡ true → is_some (text_of t (body_of i)) ≡ true) t
+some_own [] = tt
+some_own (i ∷ t) = (
+  λ some. ap is_some (text_step i t (body_of i) ∙ ap (λ b. cond b (text_in i.deed) (text_of t (body_of i))) (brings_own_item i some)) ∙ some,
+  weaker (λ (j : Item). is_some (text_in j.deed) ≡ true → is_some (text_of t (body_of j)) ≡ true) (λ (j : Item). is_some (text_in j.deed) ≡ true → is_some (text_of (i ∷ t) (body_of j)) ≡ true)
+      (λ j has some. text_some (i ∷ []) t (body_of j) (has some)) t (some_own t),
+)
+
+-- items of one number in a list are one
+same_in : (t : List Item) → NumbersApart t → AllByRecursion (λ (i : Item). AllByRecursion (IsAlike i) t) t
+same_in t apart =
+    let Own : Item → Type 0 = λ i. item_of t i.number ≡ Some i in
+    weaker Own (λ (i : Item). AllByRecursion (IsAlike i) t)
+    (λ i own. weaker Own (IsAlike i) (λ j other same.
+    let both : ◌≡◌ {A = Option Item} (Some j) (Some i) = sym (subst (λ (n : ℕ). item_of t n ≡ Some j) same other) ∙ own in
+    let one : j ≡ i = cc in
+    ap (λ (k : Item). is_notice k.deed) one) t (own_items t apart)) t (own_items t apart)
+
+-- so are those that may be asked for
+all_same : (kept : Kept) → NumbersApart kept.timeline → HasUndone kept → AllByRecursion (λ (i : Item). AllByRecursion (IsAlike i) (items_asked kept)) (items_asked kept)
+all_same kept apart comes =
+    let back = items_behind kept.undone in
+    let across : AllByRecursion (λ (i : Item). AllByRecursion (IsAlike i) back) kept.timeline = all_alike kept comes in
+    let other : AllByRecursion (λ (j : Item). AllByRecursion (IsAlike j) kept.timeline) back =
+    weaker (λ (j : Item). AllByRecursion (λ (i : Item). IsAlike i j) kept.timeline) (λ (j : Item). AllByRecursion (IsAlike j) kept.timeline)
+    (λ j alike. weaker (λ (i : Item). IsAlike i j) (IsAlike j) (λ i is same. sym (is (sym same))) kept.timeline alike) back (turned IsAlike back kept.timeline across) in
+    let Both : Item → Type 0 = λ i. AllByRecursion (IsAlike i) (items_asked kept) in
+    joined Both kept.timeline back
+    (weaker (λ (i : Item). AllByRecursion (IsAlike i) kept.timeline × AllByRecursion (IsAlike i) back) Both (λ i alike. joined (IsAlike i) kept.timeline back alike.0 alike.1) kept.timeline
+    (zipped (λ (i : Item). AllByRecursion (IsAlike i) kept.timeline) (λ (i : Item). AllByRecursion (IsAlike i) back) kept.timeline (same_in kept.timeline apart) across))
+    (weaker (λ (i : Item). AllByRecursion (IsAlike i) kept.timeline × AllByRecursion (IsAlike i) back) Both (λ i alike. joined (IsAlike i) kept.timeline back alike.0 alike.1) back
+    (zipped (λ (i : Item). AllByRecursion (IsAlike i) kept.timeline) (λ (i : Item). AllByRecursion (IsAlike i) back) back other (same_in back (back_apart kept comes))))
+
+-- a text lies in a record where each item of its number is no notice
+recorded_where : (t : List Item) (i : Item) → is_some (text_of t (body_of i)) ≡ true → AllByRecursion (λ (j : Item). j.number ≡ i.number → is_notice j.deed ≡ false) t → is_recorded t (body_of i) ≡ true
+recorded_where t i some plain = by (item_with t (body_of i)) refl some
+  where
+    by : (o : Option Item) → item_with t (body_of i) ≡ o → is_some (option_and_then (λ (j : Item). text_in j.deed) o) ≡ true → is_some (option_and_then recorded_in (item_with t (body_of i))) ≡ true
+    by None found has = absurd (let wrong : ◌≡◌ {A = Bool} false true = has in cc)
+    by (Some j) found has =
+        let brought = found_brings t (body_of i) j found in
+        let none : is_notice j.deed ≡ false = item_has (λ (k : Item). k.number ≡ i.number → is_notice k.deed ≡ false) (brings (body_of i)) t j plain found brought.number in
+        ap (λ (o : Option Item). is_some (option_and_then recorded_in o)) found ∙ ap (λ b. is_some (cond b None (text_in j.deed))) none ∙ has
 
 -- ---- what is told
 
@@ -91,38 +140,61 @@ act_needs_none : (acts : List Act) (number at : ℕ) (told : BodiesTold) → Tel
 act_needs_none [] number at told = tt
 act_needs_none (act ∷ acts) number at told = ((λ needs. absurd (cc needs)), act_needs_none acts (number + 1) at told)
 
-module _ (held : Held) (gate size c : ℕ) (replaces : List (ℕ × List ℕ)) (honest : Type 0) (faults : ℕ) (apart : NumbersApart held.kept.timeline) (end_is : gate < size) (noted : NotedBefore gate held.notes held.kept.timeline)
+has_some : (d : Deed) → needs_text d ≡ true → is_some (text_in d) ≡ true
+has_some (Deliver from to text) needs = refl
+has_some d needs = absurd (cc needs)
+
+or_true : (a b : Bool) → b ≡ true → (a || b) ≡ true
+or_true true b is = refl
+or_true false b is = is
+
+-- the text of a delivery lies in a record
+abbrev IsToldOf : Kept → Item → Type 0
+IsToldOf kept i = needs_text i.deed ≡ true → is_recorded (items_asked kept) (body_of i) ≡ true
+
+all_told : (kept : Kept) → NumbersApart kept.timeline → HasUndone kept → AllByRecursion (IsToldOf kept) (items_asked kept)
+all_told kept apart comes =
+    let t = items_asked kept in
+    let Found : Item → Type 0 = λ i. is_some (text_in i.deed) ≡ true → is_some (text_of t (body_of i)) ≡ true in
+    weaker (λ (i : Item). Found i × AllByRecursion (IsAlike i) t) (IsToldOf kept)
+    (λ i both needs. recorded_where t i (both.0 (has_some i.deed needs)) (weaker (IsAlike i) (λ (j : Item). j.number ≡ i.number → is_notice j.deed ≡ false) (λ j alike same. alike same ∙ delivery_plain i.deed needs) t both.1)) t
+    (zipped Found (λ (i : Item). AllByRecursion (IsAlike i) t) t (some_own t) (all_same kept apart comes))
+
+module _ (held : Held) (gate c : ℕ) (replaces : List (ℕ × List ℕ)) (noted : TextsNoted gate held.notes held.kept) where
+  -- a text that a record has can be read
+  note_readable : (body : Body) → is_recorded (items_asked held.kept) body ≡ true → option_map_or (is_readable gate) (noted_in held body) false ≡ true
+  note_readable body is =
+      let told = recorded_note (IsBefore gate) (items_asked held.kept) held.notes noted body is in
+      ap (λ b. option_map_or (is_readable gate) (cond b (note_of held.notes body) None) false) is ∙ ap (λ (o : Option Note). option_map_or (is_readable gate) o false) told.noted ∙ readable gate told.note told.lies.lies
+
+  can_be_read : (i : Item) → IsToldOf held.kept i → needs_text i.deed ≡ true → is_told held gate c replaces (body_of i) ≡ true
+  can_be_read i told needs = or_true (is_some (asked_of c replaces (body_of i))) (option_map_or (is_readable gate) (noted_in held (body_of i)) false) (note_readable (body_of i) (told needs))
+
+-- ---- the items of a timeline, and of a cycle
+
+module _ (held : Held) (gate c : ℕ) (replaces : List (ℕ × List ℕ)) (honest : Type 0) (faults : ℕ) (apart : NumbersApart held.kept.timeline) (noted : TextsNoted gate held.notes held.kept) (comes : HasUndone held.kept)
     (revs : honest → AllByRecursion (λ (i : Item). i.rev < c) held.kept.timeline) where
   abbrev Told : BodiesTold
-  Told = record { holds = is_told held gate size c replaces; texts = text_told held c replaces; honest = honest; faults = faults }
+  Told = record { holds = is_told held gate c replaces; texts = text_told held c replaces; honest = honest; faults = faults }
 
   abbrev Own : Item → Type 0
   Own i = item_of held.kept.timeline i.number ≡ Some i
 
-  -- the text of an item that stays as it is
-  note_readable : (i : Item) → Own i → is_notice i.deed ≡ false → (o : Option (List ℕ)) → text_in i.deed ≡ o → is_some o ≡ true
-      → option_map_or (is_readable gate size) (noted_of held.kept.timeline held.notes (body_of i)) false ≡ true
-  note_readable i own plain None is some = absurd (cc some)
-  note_readable i own plain (Some text) is some =
-      let told = item_has (HasNote (IsBefore gate) held.notes) (λ (j : Item). j.number == i.number) held.kept.timeline i noted own text (ap (λ b. cond b None (text_in i.deed)) plain ∙ is) in
-      ap (λ (o : Option Note). option_map_or (is_readable gate size) o false) (item_noted held.kept.timeline held.notes i own plain ∙ told.1) ∙ readable gate size told.0 end_is told.2.lies
+  -- an item that stays as it is
+  own_told : (i : Item) → Own i → IsToldOf held.kept i
+  own_told i own = item_has (IsToldOf held.kept) (λ (j : Item). j.number == i.number) held.kept.timeline i (first_part (IsToldOf held.kept) held.kept.timeline (items_behind held.kept.undone) (all_told held.kept apart comes)) own
 
-  or_true : (a b : Bool) → b ≡ true → (a || b) ≡ true
-  or_true true b is = refl
-  or_true false b is = is
-
-  has_some : (d : Deed) → needs_text d ≡ true → is_some (text_in d) ≡ true
-  has_some (Deliver from to text) needs = refl
-  has_some d needs = absurd (cc needs)
+  at_hand : (i : Item) → Own i → (o : Option (List ℕ)) → text_in i.deed ≡ o → is_some o ≡ true → text_at_hand held.kept (body_of i) ≡ text_in i.deed
+  at_hand i own None is some = absurd (let wrong : ◌≡◌ {A = Bool} false true = some in cc)
+  at_hand i own (Some text) is some = kept_at_hand held.kept (body_of i) text (item_text held.kept.timeline i apart own ∙ is) ∙ sym is
 
   tells_own : (i : Item) → Own i → TellsOf Told i
   tells_own i own needs = (
-    or_true (is_some (asked_of c replaces (body_of i))) (option_map_or (is_readable gate size) (noted_of held.kept.timeline held.notes (body_of i)) false)
-        (note_readable i own (delivery_plain i.deed needs) (text_in i.deed) refl (has_some i.deed needs)),
+    can_be_read held gate c replaces noted i (own_told i own) needs,
     λ told.
         let low : i.rev < c = item_has (λ (j : Item). j.rev < c) (λ (j : Item). j.number == i.number) held.kept.timeline i (revs told) own in
         let other : (i.rev == c) ≡ false = grind (arith, nat_tests) in
-        ap (λ b. option_or (cond b (text_asked replaces i.number) None) (text_of held.kept.timeline (body_of i))) other ∙ item_text held.kept.timeline i apart own,
+        ap (λ b. option_or (cond b (text_asked replaces i.number) None) (text_at_hand held.kept (body_of i))) other ∙ at_hand i own (text_in i.deed) refl (has_some i.deed needs),
   )
 
   -- the text of an item that gets another
@@ -131,8 +203,8 @@ module _ (held : Held) (gate size c : ℕ) (replaces : List (ℕ × List ℕ)) (
       let here : (c == c) ≡ true = grind (arith, nat_tests) in
       let at : asked_of c replaces (record { origin = i.number; rev = c }) ≡ Some text = ap (λ b. cond b (text_asked replaces i.number) None) here ∙ asked in
       let before = needed_before i.deed text needs in (
-        ap (λ (o : Option (List ℕ)). is_some o || option_map_or (is_readable gate size) (noted_of held.kept.timeline held.notes (record { origin = i.number; rev = c })) false) at,
-        λ told. ap (λ (o : Option (List ℕ)). option_or o (text_of held.kept.timeline (record { origin = i.number; rev = c }))) at ∙ sym (replaced_text i.deed text before).1,
+        ap (λ (o : Option (List ℕ)). is_some o || option_map_or (is_readable gate) (noted_in held (record { origin = i.number; rev = c })) false) at,
+        λ told. ap (λ (o : Option (List ℕ)). option_or o (text_at_hand held.kept (record { origin = i.number; rev = c }))) at ∙ sym (replaced_text i.deed text before).1,
       )
 
   tells_repaired : (i : Item) → Own i → (o : Option (List ℕ)) → text_asked replaces i.number ≡ o → TellsOf Told (replaced_by c i o)
@@ -170,27 +242,27 @@ all_made P Q f so [] all = tt
 all_made P Q f so (x ∷ xs) all = (so x all.0, all_made P Q f so xs all.1)
 
 -- the texts of the items through a place, and of all that a cycle performs
-pub tells_front : (held : Held) (gate size c : ℕ) (replaces : List (ℕ × List ℕ)) (honest : Type 0) (faults : ℕ) → NumbersApart held.kept.timeline → gate < size → NotedBefore gate held.notes held.kept.timeline
+pub tells_front : (held : Held) (gate c : ℕ) (replaces : List (ℕ × List ℕ)) (honest : Type 0) (faults : ℕ) → NumbersApart held.kept.timeline → TextsNoted gate held.notes held.kept → HasUndone held.kept
     → (honest → AllByRecursion (λ (i : Item). i.rev < c) held.kept.timeline) → (place : ℕ)
-    → TellsAll (record { holds = is_told held gate size c replaces; texts = text_told held c replaces; honest = honest; faults = faults }) (take place held.kept.timeline)
-tells_front held gate size c replaces honest faults apart end_is noted revs place =
-    all_taken (TellsOf (record { holds = is_told held gate size c replaces; texts = text_told held c replaces; honest = honest; faults = faults })) place held.kept.timeline
-    (all_mapped (λ (i : Item). item_of held.kept.timeline i.number ≡ Some i) (TellsOf (record { holds = is_told held gate size c replaces; texts = text_told held c replaces; honest = honest; faults = faults })) held.kept.timeline
-    (tells_own held gate size c replaces honest faults apart end_is noted revs) (own_items held.kept.timeline apart))
+    → TellsAll (record { holds = is_told held gate c replaces; texts = text_told held c replaces; honest = honest; faults = faults }) (take place held.kept.timeline)
+tells_front held gate c replaces honest faults apart noted comes revs place =
+    all_taken (TellsOf (record { holds = is_told held gate c replaces; texts = text_told held c replaces; honest = honest; faults = faults })) place held.kept.timeline
+    (all_mapped (λ (i : Item). item_of held.kept.timeline i.number ≡ Some i) (TellsOf (record { holds = is_told held gate c replaces; texts = text_told held c replaces; honest = honest; faults = faults })) held.kept.timeline
+    (tells_own held gate c replaces honest faults apart noted comes revs) (own_items held.kept.timeline apart))
 
-pub tells_cycle : (held : Held) (gate size at : ℕ) (ask : CycleAsk) (honest : Type 0) (faults : ℕ) → NumbersApart held.kept.timeline → gate < size → NotedBefore gate held.notes held.kept.timeline
+pub tells_cycle : (held : Held) (gate at : ℕ) (ask : CycleAsk) (honest : Type 0) (faults : ℕ) → NumbersApart held.kept.timeline → TextsNoted gate held.notes held.kept → HasUndone held.kept
     → (honest → AllByRecursion (λ (i : Item). i.rev < held.kept.next) held.kept.timeline) → (place : ℕ)
-    → TellsAll (record { holds = is_told held gate size held.kept.next ask.replaces; texts = text_told held held.kept.next ask.replaces; honest = honest; faults = faults })
+    → TellsAll (record { holds = is_told held gate held.kept.next ask.replaces; texts = text_told held held.kept.next ask.replaces; honest = honest; faults = faults })
     (new_timeline held.kept.timeline ask held.kept.next at place)
-tells_cycle held gate size at ask honest faults apart end_is noted revs place =
-    let told : BodiesTold = record { holds = is_told held gate size held.kept.next ask.replaces; texts = text_told held held.kept.next ask.replaces; honest = honest; faults = faults } in
+tells_cycle held gate at ask honest faults apart noted comes revs place =
+    let told : BodiesTold = record { holds = is_told held gate held.kept.next ask.replaces; texts = text_told held held.kept.next ask.replaces; honest = honest; faults = faults } in
     let own = own_items held.kept.timeline apart in
     all_joined (TellsOf told) (take place held.kept.timeline ++ inserted held.kept.next at ask.inserts) (map (repaired ask held.kept.next) (kept ask (drop place held.kept.timeline)))
     (all_joined (TellsOf told) (take place held.kept.timeline) (inserted held.kept.next at ask.inserts)
-    (tells_front held gate size held.kept.next ask.replaces honest faults apart end_is noted revs place)
+    (tells_front held gate held.kept.next ask.replaces honest faults apart noted comes revs place)
     (act_needs_none ask.inserts held.kept.next at told))
     (all_made (λ (i : Item). item_of held.kept.timeline i.number ≡ Some i) (TellsOf told) (repaired ask held.kept.next)
-    (λ i own. tells_repaired held gate size held.kept.next ask.replaces honest faults apart end_is noted revs i own (text_asked ask.replaces i.number) refl)
+    (λ i own. tells_repaired held gate held.kept.next ask.replaces honest faults apart noted comes revs i own (text_asked ask.replaces i.number) refl)
     (kept ask (drop place held.kept.timeline))
     (all_kept (λ (i : Item). item_of held.kept.timeline i.number ≡ Some i) (λ i. not (is_dropped ask i)) (drop place held.kept.timeline)
     (all_dropped (λ (i : Item). item_of held.kept.timeline i.number ≡ Some i) place held.kept.timeline own)))
@@ -204,49 +276,87 @@ take_all (x ∷ xs) = ap (λ l. x ∷ l) (take_all xs)
 -- ---- a reading
 
 module _ {D : Type 0} (told : D → DiskTold) where
-  -- what a reading of a desk tells of itself
-  abbrev pub told_over : DiskTold → Held → ℕ → ℕ → List (ℕ × List ℕ) → BodiesTold
-  told_over disk held gate c replaces = record { holds = is_told held gate disk.size c replaces; texts = text_told held c replaces; honest = HoldsHeld disk held; faults = 0 }
-
-  pub told_as : (r : Reading D) (disk : D) (held : Held) (gate c : ℕ) (replaces : List (ℕ × List ℕ)) → r.disk.now ≡ disk → r.end ≡ gate → r.desk.now ≡ held → r.replaces.now ≡ replaces → r.cycle ≡ c → r.failed ≡ 0
-      → reading_told told r ≡ told_over (told disk) held gate c replaces
-  told_as r disk held gate c replaces disk_is end_is held_is replaces_are cycle_is none = λ j. record {
-    holds = is_told (held_is j) (end_is j) (told (disk_is j)).size (cycle_is j) (replaces_are j);
+  pub told_as : (r : Reading D) (past : PastTold D) (held : Held) (c : ℕ) (replaces : List (ℕ × List ℕ)) → r.past.now ≡ past → r.desk.now ≡ held → r.replaces.now ≡ replaces → r.cycle ≡ c → r.failed ≡ 0
+      → reading_told told r ≡ told_first told past held c replaces
+  told_as r past held c replaces past_is held_is replaces_are cycle_is none = λ j. record {
+    holds = is_told (held_is j) (past_is j).end (cycle_is j) (replaces_are j);
     texts = text_told (held_is j) (cycle_is j) (replaces_are j);
-    honest = HoldsHeld (told (disk_is j)) (held_is j);
+    honest = HoldsHeld (told (past_is j).disk) (held_is j);
     faults = none j;
   }
 
   -- no read failed, or one did
-  pub none_failed : (old new : Reading D) → LeadsOn told old new → old.failed ≡ 0 → new.failed ≡ old.failed → (told new.disk.now).failed_reads ≡ (told old.disk.now).failed_reads
+  pub none_failed : (old new : Reading D) → LeadsOn told old new → old.failed ≡ 0 → new.failed ≡ old.failed → (told new.past.now.disk).failed_reads ≡ (told old.past.now.disk).failed_reads
   none_failed old new leads none same = (leads.reads.well (same ∙ none)).1
 
-  pub one_failed : (old new : Reading D) → LeadsOn told old new → old.failed ≡ 0 → Rose old.failed new.failed → ReadFailed (told old.disk.now) (told new.disk.now)
+  pub one_failed : (old new : Reading D) → LeadsOn told old new → old.failed ≡ 0 → Rose old.failed new.failed → ReadFailed (told old.past.now.disk) (told new.past.now.disk)
   one_failed old new leads none rose = leads.reads.fails none (omega (arith, none, rose.1))
 
-  -- all that a cycle performs is told, and all that leads to a place of the timeline
-  pub tells_repaired_items : (r : Reading D) (disk : D) (held : Held) (gate at : ℕ) (ask : CycleAsk) (before : Kept) → r.disk.now ≡ disk → r.end ≡ gate → r.desk.now ≡ held → r.replaces.now ≡ ask.replaces → r.cycle ≡ held.kept.next → r.failed ≡ 0
-      → before ≡ unmarked held.kept → NumbersApart held.kept.timeline → gate < (told disk).size → NotedBefore gate held.notes held.kept.timeline → (place count : ℕ)
-      → TellsAll (reading_told told r) (drop count (repaired_items before at ask place))
-  tells_repaired_items r disk held gate at ask before disk_is end_is held_is replaces_are cycle_is none same apart within noted place count =
-      subst (λ (k : Kept). TellsAll (reading_told told r) (drop count (repaired_items k at ask place))) (sym same)
-      (all_dropped (TellsOf (reading_told told r)) count (repaired_items held.kept at ask place)
-      (subst (λ (t : BodiesTold). TellsAll t (repaired_items held.kept at ask place)) (sym (told_as r disk held gate held.kept.next ask.replaces disk_is end_is held_is replaces_are cycle_is none))
-      (tells_cycle held gate (told disk).size at ask (HoldsHeld (told disk) held) 0 apart within noted (λ holds. holds.1.revs) place)))
+  -- all that a repair performs is told
+  pub tells_items : (r : Reading D) (past : PastTold D) (held : Held) (gate : ℕ) (texts : List (ℕ × List ℕ)) (items : List Item) (count : ℕ) → r.past.now ≡ past → r.desk.now ≡ held → r.replaces.now ≡ texts → r.cycle ≡ held.kept.next → r.failed ≡ 0
+      → past.end ≡ gate → ((disk : D) → TellsAll (told_first told (record { disk = disk; end = gate }) held held.kept.next texts) items) → TellsAll (reading_told told r) (drop count items)
+  tells_items r past held gate texts items count past_is held_is replaces_are cycle_is none end_is tells =
+      all_dropped (TellsOf (reading_told told r)) count items
+      (subst (λ (t : BodiesTold). TellsAll t items) (sym (told_as r past held held.kept.next texts past_is held_is replaces_are cycle_is none))
+      (subst (λ (n : ℕ). TellsAll (told_first told (record { disk = past.disk; end = n }) held held.kept.next texts) items) (sym end_is) (tells past.disk)))
 
-  pub tells_timeline : (r : Reading D) (disk : D) (held : Held) (gate : ℕ) (replaces : List (ℕ × List ℕ)) → r.disk.now ≡ disk → r.end ≡ gate → r.desk.now ≡ held → r.replaces.now ≡ replaces → r.cycle ≡ held.kept.next → r.failed ≡ 0
-      → NumbersApart held.kept.timeline → gate < (told disk).size → NotedBefore gate held.notes held.kept.timeline → TellsAll (reading_told told r) held.kept.timeline
-  tells_timeline r disk held gate replaces disk_is end_is held_is replaces_are cycle_is none apart within noted =
-      subst (λ (t : BodiesTold). TellsAll t held.kept.timeline) (sym (told_as r disk held gate held.kept.next replaces disk_is end_is held_is replaces_are cycle_is none))
-      (subst (TellsAll (told_over (told disk) held gate held.kept.next replaces)) (take_all held.kept.timeline)
-      (tells_front held gate (told disk).size held.kept.next replaces (HoldsHeld (told disk) held) 0 apart within noted (λ holds. holds.1.revs) (length held.kept.timeline)))
+  -- so is all that a cycle performs
+  pub tells_asked : (held : Held) (gate at : ℕ) (ask : CycleAsk) (place : ℕ) → NumbersApart held.kept.timeline → TextsNoted gate held.notes held.kept → HasUndone held.kept
+      → (disk : D) → TellsAll (told_first told (record { disk = disk; end = gate }) held held.kept.next ask.replaces) (repaired_items held.kept at ask place)
+  tells_asked held gate at ask place apart noted comes disk = tells_cycle held gate at ask (HoldsHeld (told disk) held) 0 apart noted comes (λ holds. holds.1.revs) place
+
+  -- and all that a withdrawal performs
+  pub tells_restored : (held : Held) (gate : ℕ) (last : UndoneBehind) → held.kept.undone ≡ Some last → HasUndone held.kept → IsTimeline held.kept.house held.kept.timeline → NumbersApart (restored_items held.kept last)
+      → TextsNoted gate held.notes held.kept → (disk : D) → TellsAll (told_first told (record { disk = disk; end = gate }) held held.kept.next []) (restored_items held.kept last)
+  tells_restored held gate last is comes timeline apart noted disk =
+      let kept = held.kept in
+      let items = restored_items kept last in
+      let told_of = all_told kept timeline.apart comes in
+      let Own : Item → Type 0 = λ i. item_of items i.number ≡ Some i in
+      let each : AllByRecursion (IsToldOf kept) items =
+      restored_holds (IsToldOf kept) (λ i now told. told) kept last (first_part (IsToldOf kept) kept.timeline (items_behind kept.undone) told_of) (asked_behind (IsToldOf kept) kept last is told_of) in
+      weaker (λ (i : Item). IsToldOf kept i × Own i) (TellsOf (told_first told (record { disk = disk; end = gate }) held held.kept.next []))
+      (λ i both needs. (
+        can_be_read held gate kept.next [] noted i both.0 needs,
+        λ holds. none_asked (i.rev == kept.next) (text_at_hand kept (body_of i)) ∙ at_hand i (holds.1.back) both.1 (text_in i.deed) refl (has_some i.deed needs),
+      )) items
+      (zipped (IsToldOf kept) Own items each (own_items items apart))
+    where
+      none_asked : (b : Bool) (o : Option (List ℕ)) → option_or (cond b None None) o ≡ o
+      none_asked true o = refl
+      none_asked false o = refl
+
+      at_hand : (i : Item) → HasUndoneTexts held.kept → item_of (restored_items held.kept last) i.number ≡ Some i → (o : Option (List ℕ)) → text_in i.deed ≡ o → is_some o ≡ true → text_at_hand held.kept (body_of i) ≡ text_in i.deed
+      at_hand i texts own None has some = absurd (let wrong : ◌≡◌ {A = Bool} false true = some in cc)
+      at_hand i texts own (Some text) has some =
+          let kept = held.kept in
+          let back : Comes kept.house kept.base kept.timeline kept.next last = subst (ComesIf kept.house kept.base kept.timeline kept.next) is comes in
+          let old : TextsComeBack kept.timeline last = subst (TextsComeIf kept.timeline) is texts in
+          subst (λ (o : Option UndoneBehind). text_of (kept.timeline ++ items_behind o) (body_of i) ≡ Some text) (sym is)
+          (texts_back kept.house kept.timeline last (body_of i) text timeline back.back old (item_text (restored_items kept last) i apart own ∙ has))
+          ∙ sym has
+
+  -- and all that leads to a place of the timeline
+  pub tells_timeline : (r : Reading D) (past : PastTold D) (held : Held) (replaces : List (ℕ × List ℕ)) → r.past.now ≡ past → r.desk.now ≡ held → r.replaces.now ≡ replaces → r.cycle ≡ held.kept.next → r.failed ≡ 0
+      → NumbersApart held.kept.timeline → TextsNoted past.end held.notes held.kept → HasUndone held.kept → TellsAll (reading_told told r) held.kept.timeline
+  tells_timeline r past held replaces past_is held_is replaces_are cycle_is none apart noted comes =
+      subst (λ (t : BodiesTold). TellsAll t held.kept.timeline) (sym (told_as r past held held.kept.next replaces past_is held_is replaces_are cycle_is none))
+      (subst (TellsAll (told_first told past held held.kept.next replaces)) (take_all held.kept.timeline)
+      (tells_front held past.end held.kept.next replaces (HoldsHeld (told past.disk) held) 0 apart noted comes (λ holds. holds.1.revs) (length held.kept.timeline)))
 
   -- a read failed exactly where a use of a reading says so
   pub bodies_cause : {X : Type 0} (old new : Reading D) (result : Result X BodiesFault) → LeadsOn told old new → old.failed ≡ 0 → Counts (reading_told told old) (reading_told told new) result
-      → BodiesCause (told old.disk.now) (told new.disk.now) result
+      → BodiesCause (told old.past.now.disk) (told new.past.now.disk) result
   bodies_cause old new (Ok x) leads none same = none_failed old new leads none same
   bodies_cause old new (Err bodies_faults.Failed) leads none rose = one_failed old new leads none rose
   bodies_cause old new (Err bodies_faults.NoMemory) leads none same = none_failed old new leads none same
 
-  pub honest_as : (r : Reading D) (disk : D) (held : Held) → r.disk.now ≡ disk → r.desk.now ≡ held → HoldsHeld (told disk) held → HoldsHeld (told r.disk.now) r.desk.now
-  honest_as r disk held disk_is held_is holds = subst (λ (h : Held). HoldsHeld (told r.disk.now) h) (sym held_is) (subst (λ (d : D). HoldsHeld (told d) held) (sym disk_is) holds)
+  -- behind reads that did not fail
+  pub cause_later : {X : Type 0} (old mid new : DiskTold) (result : Result X BodiesFault) → mid.failed_reads ≡ old.failed_reads → mid.is_reliable ≡ old.is_reliable → BodiesCause mid new result → BodiesCause old new result
+  cause_later old mid new (Ok x) same reliable is = is ∙ same
+  cause_later old mid new (Err bodies_faults.Failed) same reliable failed =
+      (subst (λ (n : ℕ). Rose n new.failed_reads) same failed.0, subst (λ (n : ℕ). new.failed_reads ≤ n + 1) same failed.1, failed.2, sym reliable ∙ failed.3)
+  cause_later old mid new (Err bodies_faults.NoMemory) same reliable is = is ∙ same
+
+  pub honest_as : (r : Reading D) (past : PastTold D) (held : Held) → r.past.now ≡ past → r.desk.now ≡ held → HoldsHeld (told past.disk) held → HoldsHeld (told r.past.now.disk) r.desk.now
+  honest_as r past held past_is held_is holds = subst (λ (h : Held). HoldsHeld (told r.past.now.disk) h) (sym held_is) (subst (λ (p : PastTold D). HoldsHeld (told p.disk) held) (sym past_is) holds)

@@ -1,23 +1,24 @@
 -- What becomes of a request for a cycle.
-use Rattle.std.specs.Prelude.{◌≡◌, ◌⊎◌, ◌<◌, ◌≤◌, ◌+◌, ◌-◌, ℕ, false, [], ◌∷◌, List, length, map, None, Result, Ok, Err, IsTrue}
-use Rattle.std.specs.List.{AllByRecursion}
+use Rattle.std.specs.Prelude.{◌≡◌, ◌⊎◌, ◌≤◌, ◌+◌, ◌-◌, ℕ, Bool, true, false, [], ◌∷◌, List, length, None, Some, Result, Ok, Err, IfErr, IfOk, OnErr, OnOk, IsTrue}
 use Rattle.undo_outside.specs.Disk.{DiskTold, ReadFailed, WriteStarved}
-use Rattle.verb_core.specs.declared.item.Item.{Item}
+use Rattle.verb_core.specs.declared.bodies.BodiesFault.{BodiesFault}
 use Rattle.verb_core.specs.declared.mailbox.Body.{Body}
-use Rattle.verb_core.specs.declared.mailbox.BoxId.{BoxId}
-use Rattle.verb_core.specs.declared.mailbox.Mailbox.{Mailbox}
-use Rattle.verb_core.specs.Fates.{IsBase}
-use Rattle.verb_core.specs.Items.{IsTimeline}
-use Rattle.verb_core.specs.Store.{IsValid}
 use Rattle.verb_bytes.specs.declared.journal.CycleAsk.{CycleAsk}
+use Rattle.verb_bytes.specs.declared.journal.JournalRecord.{JournalRecord}
 use Rattle.verb_bytes.specs.declared.journal.JournalRecord.TheVariants.{Cycle}
 use Rattle.verb_bytes.specs.Spelling.{record_bytes}
 use Rattle.paradox.specs.declared.reports.Report.{Report}
-use Rattle.store_kept.specs.Kept.{Kept, newest_at, report_of, rewound, with_report}
-use Rattle.store_kept.specs.Texts.{all_bodies, has_text_among}
+use Rattle.store_kept.specs.Kept.{Kept, newest_at, report_of}
+use Rattle.store_kept.specs.Texts.{items_asked}
+use Rattle.verb_core.specs.declared.item.Item.{Item}
+use Rattle.repair_desk.specs.Repairs.{position}
+use Rattle.replay_crew.specs.Hearing.{TellsAll}
 use Rattle.cycle_rules.specs.Asking.{Due, IsRewinds, Repeats, NoPoint, NoNumbers, Rewinds, after_cycle, cycle_due, due_anew}
-use Rattle.cycle_rules.specs.Cycles.{Cycled}
+use Rattle.cycle_rules.specs.Cycles.{cycled_at, repair_of}
+use Rattle.cycle_rules.specs.Repairing.{Cycled, reworked}
 use Rattle.mail_cycle.specs.Leaving.{IsMade, Leaves, items_left}
+use Rattle.mail_cycle.specs.Refusing.{IsRefusalOf}
+use Rattle.mail_cycle.specs.Tasks.{GoesWith, Task}
 use Rattle.mail_cycle.specs.declared.settling.Rewound.{Rewound}
 use Rattle.mail_cycle.specs.declared.refused.CycleRefused.{CycleRefused}
 use Rattle.mail_cycle.specs.declared.refused.CycleRefused.TheVariants as refusals
@@ -26,18 +27,92 @@ use Rattle.seal_log.specs.Causes.{Fed}
 use Rattle.seal_log.specs.Settled.{ReadsAlone}
 use Rattle.shelf.specs.declared.note.Note.{Note}
 use Rattle.mail_desk.specs.declared.noting.Fresh.{Fresh}
+use Rattle.mail_desk.specs.declared.remake.Left.{Left}
 use Rattle.mail_desk.specs.Held.{Held}
+use Rattle.mail_desk.specs.Remaking.{FitsIn, LeavesUndone, left_as}
 use Rattle.seal_log.specs.declared.fault.SealFault.{SealFault}
 use Rattle.seal_log.specs.declared.fault.SealFault.TheVariants as log_faults
 use Rattle.time_desk.specs.declared.fault.CycleFault.{CycleFault}
 use Rattle.time_desk.specs.declared.fault.CycleFault.TheVariants.{Point, Numbers, Disk, NoMemory, Closed}
-use Rattle.desk_journal.specs.Lasting.{Lasting}
+use Rattle.time_desk.specs.Planning.{BodiesCause}
+use Rattle.time_desk.specs.Serving.{unmarked}
+use Rattle.desk_journal.specs.Lasting.{Lasting, PastTold}
 use Rattle.desk_journal.specs.Reading.{IsStill, ReadsWell}
 use Rattle.desk_journal.specs.Sealing.{Seals}
 use Rattle.desk_journal.specs.Stored.{HoldsTexts, IsFresh, Renotes}
 use Rattle.desk_journal.specs.Submitting.{SealsNothing}
+use Rattle.desk_journal.specs.Telling.{HoldsHeld, IsPastRead, told_first}
+
+-- ---- a repair in memory
+
+-- what it leaves, as a desk takes it, where it can be withdrawn and where it can't
+abbrev pub left_of : Bool → Rewound → Left
+left_of undoes made = record {
+  store = made.store;
+  from = made.from;
+  behind = made.behind;
+  stamps = made.stamps;
+  next = made.next;
+  place = made.place;
+  placed = made.placed;
+  entered = made.entered;
+  report = made.report;
+  undoes = undoes;
+}
+
+-- it can be put in the place of what is kept
+abbrev pub IsFit : Kept → Rewound → Type 0
+IsFit kept made = FitsIn kept (left_of false made)
+
+-- and what it leaves to be withdrawn can come back
+abbrev pub CanBeUndone : Kept → Bool → Rewound → Type 0
+CanBeUndone kept undoes made = LeavesUndone kept (left_of undoes made)
+
+-- what is kept where it is put in place, under a key
+abbrev pub after_rewound : Kept → List ℕ → Bool → Rewound → Kept
+after_rewound kept key undoes made = left_as kept key (left_of undoes made)
+
+-- the items whose texts may be asked for then
+abbrev pub asked_then : Kept → Bool → Rewound → List Item
+asked_then kept undoes made = items_asked (after_rewound kept [] undoes made)
+
+-- how many items a repair with so many acts performs at most: those through the place behind the newest snapshot there, the acts
+-- that come in, the later items that stay, and the notices
+abbrev pub most_reworked : Kept → ℕ → Cycled → ℕ
+most_reworked kept acts due = (due.place - newest_at due.place kept.marks.places) + acts + due.report.kept + length due.report.notices
+
+-- how many at most where it fails after all, for want of memory or at the disk: these, with a notice for each account
+abbrev pub most_begun : Kept → ℕ → Cycled → ℕ
+most_begun kept acts due = (due.place - newest_at due.place kept.marks.places) + acts + due.report.kept + length kept.house.accounts
+
+-- A repair of what is kept can be performed in memory: what it leaves can be gone on with, and the text of each of its items is one
+-- that it brings, or can be read before a gate, whatever the disk.
+pub record CanRework {D : Type 0} (told : D → DiskTold) (held : Held) (gate : ℕ) (t : Task) : Type 0 where
+  pub kept : t.kept ≡ unmarked held.kept
+  pub goes : GoesWith held.kept t.repair
+  pub tells : (disk : D) → TellsAll (told_first told (record { disk = disk; end = gate }) held held.kept.next t.texts) t.repair.items
+
+-- What comes of it: what is left in memory is made of the items as they were read, and can be put in place; or a read failed exactly
+-- where that is why there is none. The disk was read alone, and steps were counted from the newest snapshot on, also where there is
+-- none: no item was performed twice.
+pub record Reworks {D : Type 0} (told : D → DiskTold) (held : Held) (t : Task) (old new : PastTold D) (before after : ℕ) (result : Result Rewound BodiesFault) : Type 0 where
+  pub made : IfOk result (IsMade held.kept t.at t.repair (HoldsHeld (told old.disk) held))
+  pub fit : IfOk result (IsFit held.kept)
+  pub cause : BodiesCause (told old.disk) (told new.disk) result
+  pub still : IsPastRead told old new
+  pub few : HoldsHeld (told old.disk) held → OnOk result (after ≤ before + most_reworked held.kept t.repair.acts (reworked held.kept t.at t.repair))
+  pub most : HoldsHeld (told old.disk) held → OnErr result (after ≤ before + most_begun held.kept t.repair.acts (reworked held.kept t.at t.repair))
+  pub any : OnErr result (after ≤ before + length t.repair.items + length held.kept.house.accounts)
+  pub steps : IfOk result (λ made. after ≤ before + length (items_left held.kept.timeline made))
 
 -- ---- a cycle in memory
+
+-- a cycle is due under a new key, and this was made of its items as they were read
+pub record IsCycled (kept : Kept) (at : ℕ) (ask : CycleAsk) (honest : Type 0) (made : Rewound) : Type 0 where
+  pub place : ℕ
+  pub is_place : position kept.timeline ask.point ≡ Some place
+  pub due : due_anew kept at ask ≡ Rewinds (cycled_at kept at ask place)
+  pub is_made : IsMade kept at (repair_of kept at ask place) honest made
 
 -- a cycle is due under a new key; and where the texts are told as they were stored, what is left in memory is what it leaves
 abbrev pub Redoes : Kept → ℕ → CycleAsk → Type 0 → Rewound → Type 0
@@ -51,38 +126,36 @@ RedoesCause old new (Err (refusals.Numbers next)) = new.failed_reads ≡ old.fai
 RedoesCause old new (Err refusals.Disk) = ReadFailed old new
 RedoesCause old new (Err refusals.NoMemory) = new.failed_reads ≡ old.failed_reads
 
--- what is left in memory can be put in the place of what is kept: each mailbox's texts are in force
-pub record IsFit (kept : Kept) (made : Rewound) : Type 0 where
-  pub house : made.store.store.house ≡ kept.house
-  pub from : made.from ≤ length kept.timeline
-  pub texts : IsTrue (all_bodies (has_text_among kept (items_left kept.timeline made)) made.store.store.boxes)
-  pub valid : IsValid made.store.store
-  pub timeline : IsTimeline kept.house (items_left kept.timeline made)
-  pub below : AllByRecursion (λ (i : Item). i.number < made.next) (items_left kept.timeline made)
-  pub named : map (λ (r : BoxId × ℕ). r.0) made.stamps ≡ map (λ (r : BoxId × Mailbox). r.0) made.store.store.boxes
-  pub fresh : AllByRecursion (λ (r : BoxId × ℕ). r.1 < made.next) made.stamps
-  pub rises : kept.next < made.next
-  pub next : made.next ≤ 4194304
-  pub place : made.place ≤ length kept.timeline
-  pub entered : kept.next + made.entered < made.next
-  pub base : IsBase (items_left kept.timeline made) kept.base
+-- What comes of a request for a cycle in memory, with nothing counted: the cycle that is due, or why there is none.
+pub record RedoesAlone {D : Type 0} (told : D → DiskTold) (held : Held) (at : ℕ) (ask : CycleAsk) (old new : D) (result : Result Rewound CycleRefused) : Type 0 where
+  pub cycled : IfOk result (IsCycled held.kept at ask (HoldsHeld (told old) held))
+  pub fit : IfOk result (IsFit held.kept)
+  pub undone : IfOk result (CanBeUndone held.kept true)
+  pub refused : IfErr result (IsRefusalOf held.kept ask (due_anew held.kept at ask))
+  pub cause : RedoesCause (told old) (told new) result
 
--- what is kept where it is put in place, under a key
-abbrev pub after_rewound : Kept → List ℕ → Rewound → Kept
-after_rewound kept key made = record kept {
-  store = made.store.store;
-  timeline = items_left kept.timeline made;
-  stamps = made.stamps;
-  next = made.next;
-  reports = with_report key made.report kept.reports;
-  marks = rewound made.place made.entered kept.marks;
-}
+-- how many items a cycle performs at most
+abbrev pub most_performed : Kept → CycleAsk → Cycled → ℕ
+most_performed kept ask due = most_reworked kept (length ask.inserts) due
+
+-- how many at most where it is refused after all
+abbrev pub most_tried : Kept → CycleAsk → Cycled → ℕ
+most_tried kept ask due = most_begun kept (length ask.inserts) due
+
+-- The same with its steps; where none is due nothing was touched.
+pub record RedoesCycle {D : Type 0} (told : D → DiskTold) (held : Held) (at : ℕ) (ask : CycleAsk) (old new : D) (same : Type 0) (before after : ℕ) (result : Result Rewound CycleRefused) : Type 0 where
+  pub alone : RedoesAlone told held at ask old new result
+  pub untouched : IfErr result (λ refused. (IsRewinds (due_anew held.kept at ask) → ⊥) → same)
+  pub few : (due : Cycled) → due_anew held.kept at ask ≡ Rewinds due → HoldsHeld (told old) held → OnOk result (after ≤ before + most_performed held.kept ask due)
+  pub most : (due : Cycled) → due_anew held.kept at ask ≡ Rewinds due → HoldsHeld (told old) held → OnErr result (after ≤ before + most_tried held.kept ask due)
+  pub any : OnErr result (after ≤ before + length held.kept.timeline + length ask.inserts + length held.kept.house.accounts)
+  pub steps : IfOk result (λ made. after ≤ before + length (items_left held.kept.timeline made))
 
 -- where the texts lie after a cycle whose record is to lie at a place
 pub record RenotesAs (old : Held) (ask : CycleAsk) (at : ℕ) (place : Place) (made : Rewound) (notes : List (Body × Note)) : Type 0 where
   pub fresh : Fresh
   pub is_fresh : IsFresh old.kept.next at ask place (record_bytes (Cycle old.kept.next at ask)) fresh
-  pub renotes : Renotes old.notes fresh (items_left old.kept.timeline made) notes
+  pub renotes : Renotes old.notes fresh (asked_then old.kept true made) notes
 
 -- a refusal of a cycle in memory, as it is told
 abbrev pub IsTold : CycleRefused → CycleFault → Type 0
@@ -114,32 +187,24 @@ TriesNone kept at ask old new Closed = ⊥
 
 -- ---- a cycle
 
--- how many items a cycle performs at most: those through the point behind the newest snapshot there, the acts that come in, the
--- later items that stay, and the notices
-abbrev pub most_performed : Kept → CycleAsk → Cycled → ℕ
-most_performed kept ask due =
-    (due.place - newest_at due.place kept.marks.places) + length ask.inserts + due.report.kept + length due.report.notices
-
--- how many at most where it is refused after all, for want of memory or at the disk: these, with a notice for each account
-abbrev pub most_tried : Kept → CycleAsk → Cycled → ℕ
-most_tried kept ask due =
-    (due.place - newest_at due.place kept.marks.places) + length ask.inserts + due.report.kept + length kept.house.accounts
-
 module _ {D : Type 0} (told : D → DiskTold) where
-  -- By what is due: a key that a cycle had is answered with that cycle's report, and nothing changes; else the one record of
-  -- the cycle is sealed, and where the texts lie on the disk as they are noted, what is kept is what the cycle leaves.
+  -- By what is due to a request that a record is of: a key that a cycle or a withdrawal had is answered with its report, and nothing
+  -- changes; else the one record is sealed, and where the texts lie on the disk as they are noted, what is kept is what it leaves.
+  abbrev pub DoesBy : JournalRecord → (Cycled → Kept) → Lasting D → Lasting D → Report → Due → Type 0
+  DoesBy what after old new report (Repeats earlier) = (report ≡ earlier) × (new ≡ old)
+  DoesBy what after old new report NoPoint = ⊥
+  DoesBy what after old new report NoNumbers = ⊥
+  DoesBy what after old new report (Rewinds due) =
+      (old.closed ≡ false) × (HoldsTexts told old → (report ≡ due.report) × (new.kept ≡ after due)) × Seals told (what ∷ []) [] old new
+
+  -- of a cycle
   abbrev pub CyclesBy : ℕ → CycleAsk → Lasting D → Lasting D → Report → Due → Type 0
-  CyclesBy at ask old new report (Repeats earlier) = (report ≡ earlier) × (new ≡ old)
-  CyclesBy at ask old new report NoPoint = ⊥
-  CyclesBy at ask old new report NoNumbers = ⊥
-  CyclesBy at ask old new report (Rewinds due) =
-      (old.closed ≡ false) × (HoldsTexts told old → (report ≡ due.report) × (new.kept ≡ after_cycle old.kept ask due))
-      × Seals told (Cycle old.kept.next at ask ∷ []) [] old new
+  CyclesBy at ask old new report due = DoesBy (Cycle old.kept.next at ask) (after_cycle old.kept ask) old new report due
 
   -- what is left in memory was made of the items as they were read from a first desk on
   pub record CyclesAs (first : Lasting D) (at : ℕ) (ask : CycleAsk) (made : Rewound) : Type 0 where
     pub redoes : Redoes first.kept at ask (HoldsTexts told first) made
-    pub is_made : IsMade first.kept at ask (HoldsTexts told first) made
+    pub is_made : IsCycled first.kept at ask (HoldsTexts told first) made
 
   -- a request at a moment that is answered with a report
   abbrev pub Cycles : ℕ → CycleAsk → Lasting D → Lasting D → Report → Type 0
@@ -153,14 +218,19 @@ module _ {D : Type 0} (told : D → DiskTold) where
   StarvesBy old new NoNumbers = ⊥
   StarvesBy old new (Rewinds due) = (old.closed ≡ false) × SealsNothing told old new × ReadsWell told old new
 
-  -- a cycle is due, and the sealing of its record failed, behind reads that did not
-  abbrev pub FailsToCycle : ℕ → CycleAsk → Lasting D → Lasting D → Type 0
-  FailsToCycle at ask old new =
-      (due : Cycled) × (cycle_due old.kept at ask ≡ Rewinds due) × Seals told [] (Cycle old.kept.next at ask ∷ []) old new × ReadsWell told old new
+  -- one is due, and the sealing of its record failed, behind reads that did not
+  abbrev pub FailsToSeal : JournalRecord → Lasting D → Lasting D → Due → Type 0
+  FailsToSeal what old new asked = (due : Cycled) × (asked ≡ Rewinds due) × Seals told [] (what ∷ []) old new × ReadsWell told old new
 
-  -- a cycle is due, and a read of a text failed: nothing was sealed, and nothing changed
+  abbrev pub FailsToCycle : ℕ → CycleAsk → Lasting D → Lasting D → Type 0
+  FailsToCycle at ask old new = FailsToSeal (Cycle old.kept.next at ask) old new (cycle_due old.kept at ask)
+
+  -- one is due, and a read of a text failed: nothing was sealed, and nothing changed
+  abbrev pub FailsToReadFor : Lasting D → Lasting D → Due → Type 0
+  FailsToReadFor old new asked = IsRewinds asked × IsStill told old new × ReadFailed (told old.disk) (told new.disk)
+
   abbrev pub FailsToRead : ℕ → CycleAsk → Lasting D → Lasting D → Type 0
-  FailsToRead at ask old new = IsRewinds (cycle_due old.kept at ask) × IsStill told old new × ReadFailed (told old.disk) (told new.disk)
+  FailsToRead at ask old new = FailsToReadFor old new (cycle_due old.kept at ask)
 
   -- Why a request has no report: the point or the numbers are missing, exactly where that is due; or the record was not
   -- sealed, and the desk is closed, or a text was not read, and it stays open; or no memory was found; or the desk was closed,

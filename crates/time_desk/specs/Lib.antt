@@ -1,4 +1,5 @@
 pub mod Cycling
+pub mod Withdrawing
 pub mod Serving
 pub mod Planning
 pub mod Opening

@@ -40,9 +40,9 @@ abbrev pub FindsLast : Kept → List (ℕ × Place) → Option Beginning → Typ
 FindsLast kept marks None = newest marks ≡ None
 FindsLast kept marks (Some first) = (place : Place) × (newest marks ≡ Some (first.count, place)) × (first.store.store ≡ store_at kept first.count)
 
--- what a cycle is told of what is kept: all but the snapshots and whether names may have superiors
+-- what a cycle is told of what is kept: all but the snapshots, whether names may have superiors, and what can be withdrawn
 abbrev pub unmarked : Kept → Kept
-unmarked kept = record kept { marks = no_marks; deep = false }
+unmarked kept = record kept { marks = no_marks; deep = false; undone = None }
 
 -- ---- what reads give of a snapshot
 

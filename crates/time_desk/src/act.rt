@@ -8,7 +8,7 @@ ghost use Rattle.verb_core.specs.Store.{is_known};
 ghost use Rattle.verb_bytes.specs.declared.journal.JournalRecord.TheVariants.{Operator};
 ghost use Rattle.seal_log.specs.Causes.{Fed};
 ghost use Rattle.store_kept.specs.Kept.{performed};
-ghost use Rattle.mail_cycle.specs.Permanence.{UidsLast};
+ghost use Rattle.mail_cycle.specs.Permanence.{UidsStay};
 ghost use Rattle.desk_journal.specs.Reading.{ReadsWell};
 ghost use Rattle.desk_journal.specs.Sealing.{Seals};
 ghost use Rattle.desk_journal.specs.Submitting.{ActWants, ActsNone};
@@ -34,7 +34,7 @@ impl<D: Disk> Desk<D> {
         ensures fed { OnOk result (Fed (D.told self.old.disk) (D.told self.new.disk)) }
         ensures wants { IfErr result (λ fault. ActWants D.told self.old.disk self.new.disk fault) }
         ensures closed { IsErrOf result ActFault.Closed ↔ IsTrue self.old.closed }
-        ensures uids { UidsLast self.old.kept self.new.kept }
+        ensures uids { UidsStay self.old.kept self.new.kept }
     {
         self.stands();
         if self.journal.is_closed() {

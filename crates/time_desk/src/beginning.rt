@@ -6,18 +6,19 @@ ghost use Rattle.verb_bytes.specs.declared.journal.JournalRecord.{JournalRecord 
 ghost use Rattle.verb_bytes.specs.Spelling.{HasSpelling, Spells, record_bytes};
 ghost use Rattle.seal_log.specs.Causes.{ReadAtCause};
 ghost use Rattle.seal_log.specs.Journal.{LiesAt};
-ghost use Rattle.seal_log.specs.Settled.{Holds, ReadsAlone};
+ghost use Rattle.seal_log.specs.Settled.{Holds};
 ghost use Rattle.time_desk.specs.Serving.{BeginsBy, CanServe, FindsLast, FindsNewest, IsNewest, Serves, ServesBy, SpelledBy, bytes_at, can_serve as serves, rows_in, store_from, store_in};
 ghost use Rattle.desk_journal.specs.Stored.{MarkLies, MarkedBefore, MarksLie, store_at};
-ghost use Rattle.desk_journal.specs.Telling.{HoldsHeld};
+ghost use Rattle.desk_journal.specs.Telling.{HoldsHeld, IsPastRead};
 ghost use Rattle.store_kept.specs.Texts.{all_bodies, has_text_among};
 
 use crate::redo::begun;
 use box_store::{RowsRefused, Store, makes_store, rows_make_valid_stores};
+use desk_journal::Past;
 use mail_cycle::{Beginning, opened};
 use mail_desk::Desk;
 use mail_desk::laws::{bases_carry, bodies_have_texts};
-use seal_log::{Place, ReadFault, read_before};
+use seal_log::{Place, ReadFault};
 use std::alloc::Global;
 use undo_base::{NoMemory, Text};
 use undo_outside::Disk;
@@ -42,19 +43,17 @@ fn record_of(alloc: Global, payload: &Text) -> Result<Option<JournalRecord>, Rea
 /// The record at a place, where its payload spells one.
 fn record_at<D: Disk>(
     alloc: Global,
-    disk: &mut D,
-    end: u64,
+    past: &mut Past<D>,
     place: Place,
 ) -> Result<Option<JournalRecord>, ReadFault>
-    requires end { end < (D.told disk.old).size }
-    requires place { place.gate + 5 + place.length ≤ end }
-    ensures found { (payloads : List (List ℕ)) (what : TheRecord) → Holds (D.told disk.old) payloads → HasSpelling what
+    requires place { place.gate + 5 + place.length ≤ past.old.end }
+    ensures found { (payloads : List (List ℕ)) (what : TheRecord) → Holds (D.told past.old.disk) payloads → HasSpelling what
         → LiesAt payloads place.gate place.length (record_bytes what) → IfOk result (λ found. found ≡ Some what) }
-    ensures read { (D.told disk.old).honest → IfOk result (SpelledBy (bytes_at (D.told disk.old) place)) }
-    ensures cause { ReadAtCause (D.told disk.old) (D.told disk.new) result }
-    ensures reads { ReadsAlone (D.told disk.old) (D.told disk.new) }
+    ensures read { (D.told past.old.disk).honest → IfOk result (SpelledBy (bytes_at (D.told past.old.disk) place)) }
+    ensures cause { ReadAtCause (D.told past.old.disk) (D.told past.new.disk) result }
+    ensures still { IsPastRead D.told past.old past.new }
 {
-    match read_before(alloc, disk, end, place, 0, place.length) {
+    match past.read(alloc, place, 0, place.length) {
         Ok(payload) => record_of(alloc, &payload),
         Err(fault) => Err(fault),
     }
@@ -159,26 +158,24 @@ fn store_of_record(
 /// The store of the snapshot that is marked, where it can serve.
 fn marked_store<D: Disk>(
     alloc: Global,
-    disk: &mut D,
-    end: u64,
+    past: &mut Past<D>,
     desk: &Desk,
     count: u32,
     place: Place,
 ) -> Result<Option<Store>, ReadFault>
-    requires end { end < (D.told disk.old).size }
-    requires place { place.gate + 5 + place.length ≤ end }
+    requires place { place.gate + 5 + place.length ≤ past.old.end }
     ensures serves { IfOk result (λ found. IfSome found (λ store. CanServe desk.now.kept count store.store)) }
-    ensures found { (payloads : List (List ℕ)) → Holds (D.told disk.old) payloads → MarkLies payloads desk.now.kept (count, place)
+    ensures found { (payloads : List (List ℕ)) → Holds (D.told past.old.disk) payloads → MarkLies payloads desk.now.kept (count, place)
         → IfOk result (λ found. option_map (λ store. store.store) found ≡ Some (store_at desk.now.kept count)) }
-    ensures read { (D.told disk.old).honest
-        → IfOk result (λ found. ServesBy desk.now.kept count (bytes_at (D.told disk.old) place) (option_map (λ store. store.store) found)) }
-    ensures cause { ReadAtCause (D.told disk.old) (D.told disk.new) result }
-    ensures reads { ReadsAlone (D.told disk.old) (D.told disk.new) }
+    ensures read { (D.told past.old.disk).honest
+        → IfOk result (λ found. ServesBy desk.now.kept count (bytes_at (D.told past.old.disk) place) (option_map (λ store. store.store) found)) }
+    ensures cause { ReadAtCause (D.told past.old.disk) (D.told past.new.disk) result }
+    ensures still { IsPastRead D.told past.old past.new }
 {
     fronts_serve(desk);
     rows_make_valid_stores();
     one_spelling();
-    match record_at(alloc, disk, end, place) {
+    match record_at(alloc, past, place) {
         Ok(Some(what)) => store_of_record(alloc, desk, count, what),
         Ok(None) => Ok(None),
         Err(fault) => Err(fault),
@@ -188,24 +185,22 @@ fn marked_store<D: Disk>(
 /// The newest of the snapshots that are marked, the last that can serve: each one behind it is passed over.
 fn newest<D: Disk>(
     alloc: Global,
-    disk: &mut D,
-    end: u64,
+    past: &mut Past<D>,
     desk: &Desk,
     marks: &[(u32, Place)],
 ) -> Result<Option<Beginning>, ReadFault>
-    requires end { end < (D.told disk.old).size }
-    requires marked { MarkedBefore end marks.now }
+    requires marked { MarkedBefore past.old.end marks.now }
     ensures serves { IfOk result (λ found. IfSome found (λ first. CanServe desk.now.kept first.count first.store.store)) }
     ensures few { (place : ℕ) → AllByRecursion (λ (m : ℕ × Place). m.0 ≤ place) marks.now → IfOk result (λ found. IfSome found (λ first. first.count ≤ place)) }
-    ensures newest { (payloads : List (List ℕ)) → Holds (D.told disk.old) payloads → MarksLie payloads desk.now.kept marks.now
+    ensures newest { (payloads : List (List ℕ)) → Holds (D.told past.old.disk) payloads → MarksLie payloads desk.now.kept marks.now
         → IfOk result (FindsLast desk.now.kept marks.now) }
-    ensures passes { (D.told disk.old).honest → IfOk result (FindsNewest (D.told disk.old) desk.now.kept marks.now) }
-    ensures cause { ReadAtCause (D.told disk.old) (D.told disk.new) result }
-    ensures reads { ReadsAlone (D.told disk.old) (D.told disk.new) }
+    ensures passes { (D.told past.old.disk).honest → IfOk result (FindsNewest (D.told past.old.disk) desk.now.kept marks.now) }
+    ensures cause { ReadAtCause (D.told past.old.disk) (D.told past.new.disk) result }
+    ensures still { IsPastRead D.told past.old past.new }
 {
     for i in (0..marks.len()).rev() {
         let (count, place) = marks[i];
-        match marked_store(alloc, disk, end, desk, count, place) {
+        match marked_store(alloc, past, desk, count, place) {
             Ok(Some(store)) => {
                 return Ok(Some(Beginning {
                     store,
@@ -246,23 +241,21 @@ fn position_of(desk: &Desk, place: usize) -> u32
 /// bytes, read back, are no snapshot that makes a store of the house is passed over for the next older one.
 pub(crate) fn beginning<D: Disk>(
     alloc: Global,
-    disk: &mut D,
-    end: u64,
+    past: &mut Past<D>,
     desk: &Desk,
     place: usize,
 ) -> Result<Beginning, ReadFault>
-    requires end { end < (D.told disk.old).size }
-    requires marked { MarkedBefore end desk.now.marks }
+    requires marked { MarkedBefore past.old.end desk.now.marks }
     requires place { place ≤ length desk.now.kept.timeline }
     ensures serves { IfOk result (Serves desk.now.kept place) }
-    ensures newest { HoldsHeld (D.told disk.old) desk.now → IfOk result (IsNewest desk.now.kept place) }
-    ensures passes { (D.told disk.old).honest → IfOk result (BeginsBy (D.told disk.old) desk.now place) }
-    ensures cause { ReadAtCause (D.told disk.old) (D.told disk.new) result }
-    ensures reads { ReadsAlone (D.told disk.old) (D.told disk.new) }
+    ensures newest { HoldsHeld (D.told past.old.disk) desk.now → IfOk result (IsNewest desk.now.kept place) }
+    ensures passes { (D.told past.old.disk).honest → IfOk result (BeginsBy (D.told past.old.disk) desk.now place) }
+    ensures cause { ReadAtCause (D.told past.old.disk) (D.told past.new.disk) result }
+    ensures still { IsPastRead D.told past.old past.new }
 {
     desk.stands();
     let marks = desk.marks_at_or_before(position_of(desk, place));
-    match newest(alloc, disk, end, desk, marks) {
+    match newest(alloc, past, desk, marks) {
         Ok(Some(first)) => Ok(first),
         Ok(None) => at_first(alloc, desk),
         Err(fault) => Err(fault),

@@ -1,5 +1,5 @@
 //! What the operator asks of the past: a cycle, and a trial of one.
-ghost use Rattle.std.specs.Prelude.{◌≡◌, ◌+◌, ◌≤◌, ℕ, false, None, length, option_copied, IsTrue, IsSome, IfOk, OnOk, IfErr, OnErr};
+ghost use Rattle.std.specs.Prelude.{◌≡◌, ◌+◌, ◌≤◌, ℕ, true, false, None, length, option_copied, IsTrue, IsSome, IfOk, OnOk, IfErr, OnErr};
 ghost use Rattle.seal_log.specs.Causes.{Fed};
 ghost use Rattle.seal_log.specs.Settled.{ReadsAlone};
 ghost use Rattle.verb_bytes.specs.declared.journal.JournalRecord.TheVariants.{Cycle};
@@ -8,23 +8,21 @@ ghost use Rattle.shelf.specs.Marks.{marks_at_or_before};
 ghost use Rattle.paradox.specs.declared.reports.Report.{Report as TheReport};
 ghost use Rattle.store_kept.specs.Kept.{report_of};
 ghost use Rattle.repair_desk.specs.Repairs.{are_known};
-ghost use Rattle.cycle_rules.specs.Asking.{IsRewinds, Rewinds, cycle_due, due_anew, Repeats};
+ghost use Rattle.cycle_rules.specs.Asking.{Rewinds, cycle_due, due_anew, Repeats};
 ghost use Rattle.cycle_rules.specs.Cycles.{Cycled};
-ghost use Rattle.mail_cycle.specs.Leaving.{IsMade, items_left};
-ghost use Rattle.mail_cycle.specs.Permanence.{UidsLast};
-ghost use Rattle.mail_cycle.specs.Refusing.{IsRefusalOf};
+ghost use Rattle.mail_cycle.specs.Leaving.{items_left};
+ghost use Rattle.mail_cycle.specs.Permanence.{UidsStay};
 ghost use Rattle.mail_desk.specs.Remaking.{CanReplace, remade_as};
-ghost use Rattle.time_desk.specs.Cycling.{CycleWants, Cycles, CyclesAs, CyclesNone, IsCycleOutcomeOf, IsFit, IsTold, Redoes, RedoesCause, RenotesAs, Tries, TriesNone, after_rewound, most_performed, most_tried};
+ghost use Rattle.time_desk.specs.Cycling.{CanBeUndone, CycleWants, Cycles, CyclesAs, CyclesNone, IsCycleOutcomeOf, IsCycled, IsFit, IsTold, RenotesAs, Tries, TriesNone, after_rewound, asked_then, most_performed, most_tried};
 ghost use Rattle.desk_journal.specs.Lasting.{lasting};
 ghost use Rattle.desk_journal.specs.Reading.{IsStill, ReadsWell};
 ghost use Rattle.desk_journal.specs.Records.{is_spelled};
-ghost use Rattle.desk_journal.specs.Stored.{HoldsTexts, MarkedBefore, TextsNoted, Renotes};
+ghost use Rattle.desk_journal.specs.Stored.{AreNoted, HoldsTexts, Renotes};
 ghost use Rattle.desk_journal.specs.Submitting.{SealsBytes};
-ghost use Rattle.desk_journal.specs.Telling.{HoldsHeld, IsOnlyRead};
 
 use crate::permanence::records_let_uids_last;
-use crate::redo::{key_in, remade, rewound, rewound_alone};
-use crate::{CycleFault, Desk};
+use crate::redo::{key_in, remade};
+use crate::{CycleFault, Desk, redo};
 use box_store::Steps;
 use desk_journal::{Journal, cycle_bytes, fresh_of, seal_bytes};
 use mail_cycle::{CycleRefused, Rewound};
@@ -39,7 +37,7 @@ use undo_outside::{Disk, Gate};
 use verb_bytes::CycleAsk;
 
 /// A copy of the report of the cycle that was asked for under a key.
-fn known_report(
+pub(crate) fn known_report(
     alloc: Global,
     desk: &mail_desk::Desk,
     key: &Name,
@@ -73,18 +71,18 @@ fn report_in(made: Rewound) -> Report
     report
 }
 
-/// What a cycle leaves, ready to be put in place, a copy of its report, and the bytes of its record.
+/// What a repair leaves, ready to be put in place, a copy of its report, and the bytes of its record.
 #[derive(Drop)]
-struct Found {
-    remade: Remade,
-    report: Report,
-    bytes: Text,
+pub(crate) struct Found {
+    pub(crate) remade: Remade,
+    pub(crate) report: Report,
+    pub(crate) bytes: Text,
 }
 
 /// A copy of the report beside what is ready.
 fn with_report(alloc: Global, made: Remade, bytes: Text) -> Result<Found, NoMemory>
     ensures remade { IfOk result (λ found. found.remade ≡ made) }
-    ensures report { IfOk result (λ found. found.report ≡ made.report) }
+    ensures report { IfOk result (λ found. found.report ≡ made.left.report) }
     ensures bytes { IfOk result (λ found. found.bytes ≡ bytes) }
 {
     match made.report().copy(alloc) {
@@ -101,27 +99,29 @@ fn with_report(alloc: Global, made: Remade, bytes: Text) -> Result<Found, NoMemo
     }
 }
 
-/// What a cycle leaves, made ready under a key, beside the bytes of its record.
-fn ready_with(
+/// What a repair leaves, made ready under a key, beside the bytes of its record.
+pub(crate) fn ready_with(
     alloc: Global,
     desk: &mut mail_desk::Desk,
     key: Name,
+    undoes: bool,
     made: Rewound,
     fresh: &Fresh,
     bytes: Text,
 ) -> Result<Found, NoMemory>
-    requires { IsFit desk.old.kept made }
+    requires fit { IsFit desk.old.kept made }
+    requires undone { CanBeUndone desk.old.kept undoes made }
     ensures kept { desk.new.kept ≡ desk.old.kept }
     ensures same { desk.new.notes ≡ desk.old.notes }
     ensures same_marks { desk.new.marks ≡ desk.old.marks }
-    ensures made { IfOk result (λ found. remade_as desk.old.kept found.remade ≡ after_rewound desk.old.kept key made) }
+    ensures made { IfOk result (λ found. remade_as desk.old.kept found.remade ≡ after_rewound desk.old.kept key undoes made) }
     ensures report { IfOk result (λ found. found.report ≡ made.report) }
-    ensures notes { IfOk result (λ found. Renotes desk.old.notes fresh.now (items_left desk.old.kept.timeline made) found.remade.shelf.notes) }
-    ensures place { IfOk result (λ found. found.remade.place ≡ made.place) }
+    ensures notes { IfOk result (λ found. Renotes desk.old.notes fresh.now (asked_then desk.old.kept undoes made) found.remade.shelf.notes) }
+    ensures place { IfOk result (λ found. found.remade.left.place ≡ made.place) }
     ensures ready { IfOk result (λ found. CanReplace found.remade desk.new) }
     ensures bytes { IfOk result (λ found. found.bytes ≡ bytes) }
 {
-    match remade(alloc, desk, key, made, fresh) {
+    match remade(alloc, desk, key, undoes, made, fresh) {
         Ok(remade) => with_report(alloc, remade, bytes),
         Err(NoMemory) => {
             drop(bytes);
@@ -139,19 +139,20 @@ fn ready_at(
     place: Place,
     bytes: Text,
 ) -> Result<Found, NoMemory>
-    requires { IsFit desk.old.kept made }
+    requires fit { IsFit desk.old.kept made }
+    requires undone { CanBeUndone desk.old.kept true made }
     ensures kept { desk.new.kept ≡ desk.old.kept }
     ensures same { desk.new.notes ≡ desk.old.notes }
     ensures same_marks { desk.new.marks ≡ desk.old.marks }
-    ensures made { IfOk result (λ found. remade_as desk.old.kept found.remade ≡ after_rewound desk.old.kept ask.key made) }
+    ensures made { IfOk result (λ found. remade_as desk.old.kept found.remade ≡ after_rewound desk.old.kept ask.key true made) }
     ensures report { IfOk result (λ found. found.report ≡ made.report) }
     ensures notes { (at : ℕ) → IfOk result (λ found. RenotesAs desk.old ask at place made found.remade.shelf.notes) }
-    ensures place { IfOk result (λ found. found.remade.place ≡ made.place) }
+    ensures place { IfOk result (λ found. found.remade.left.place ≡ made.place) }
     ensures ready { IfOk result (λ found. CanReplace found.remade desk.new) }
     ensures bytes { IfOk result (λ found. found.bytes ≡ bytes) }
 {
     match fresh_of(alloc, desk.next(), &ask, place) {
-        Ok(fresh) => ready_with(alloc, desk, key_in(ask), made, &fresh, bytes),
+        Ok(fresh) => ready_with(alloc, desk, key_in(ask), true, made, &fresh, bytes),
         Err(NoMemory) => {
             drop(ask);
             drop(made);
@@ -170,14 +171,15 @@ fn ready_cycle<D: Disk>(
     ask: CycleAsk,
     made: Rewound,
 ) -> Result<Found, NoMemory>
-    requires { IsFit desk.old.kept made }
+    requires fit { IsFit desk.old.kept made }
+    requires undone { CanBeUndone desk.old.kept true made }
     ensures kept { desk.new.kept ≡ desk.old.kept }
     ensures same { desk.new.notes ≡ desk.old.notes }
     ensures same_marks { desk.new.marks ≡ desk.old.marks }
-    ensures made { IfOk result (λ found. remade_as desk.old.kept found.remade ≡ after_rewound desk.old.kept ask.key made) }
+    ensures made { IfOk result (λ found. remade_as desk.old.kept found.remade ≡ after_rewound desk.old.kept ask.key true made) }
     ensures report { IfOk result (λ found. found.report ≡ made.report) }
     ensures notes { IfOk result (λ found. RenotesAs desk.old ask at (record { gate = journal.now.gate; length = length found.bytes }) made found.remade.shelf.notes) }
-    ensures place { IfOk result (λ found. found.remade.place ≡ made.place) }
+    ensures place { IfOk result (λ found. found.remade.left.place ≡ made.place) }
     ensures ready { IfOk result (λ found. CanReplace found.remade desk.new) }
     ensures bytes { IfOk result (λ found. found.bytes ≡ record_bytes (Cycle desk.old.kept.next at ask)) }
     ensures spelled { OnOk result (IsTrue (is_spelled (Cycle desk.old.kept.next at ask))) }
@@ -195,7 +197,7 @@ fn ready_cycle<D: Disk>(
     }
 }
 
-/// Seals a cycle for which all is ready, and then puts what it leaves in place.
+/// Seals a record for which all is ready, and then puts what it leaves in place.
 fn seal_remade<D: Disk>(
     alloc: Global,
     journal: &mut Journal<D>,
@@ -208,7 +210,7 @@ fn seal_remade<D: Disk>(
     ensures sealed { SealsBytes D.told bytes.now journal.old journal.new result }
     ensures kept { OnOk result (desk.new.kept ≡ remade_as desk.old.kept remade) }
     ensures notes { OnOk result (desk.new.notes ≡ remade.shelf.notes) }
-    ensures marks { OnOk result (desk.new.marks ≡ marks_at_or_before remade.place desk.old.marks) }
+    ensures marks { OnOk result (desk.new.marks ≡ marks_at_or_before remade.left.place desk.old.marks) }
     ensures same { OnErr result (desk.new ≡ desk.old) }
 {
     match seal_bytes(alloc, journal, bytes) {
@@ -224,7 +226,7 @@ fn seal_remade<D: Disk>(
 }
 
 /// The same, with the report for which there is a copy.
-fn seal_found<D: Disk>(
+pub(crate) fn seal_found<D: Disk>(
     alloc: Global,
     journal: &mut Journal<D>,
     desk: &mut mail_desk::Desk,
@@ -236,7 +238,7 @@ fn seal_found<D: Disk>(
     ensures sealed { SealsBytes D.told found.bytes journal.old journal.new result }
     ensures kept { OnOk result (desk.new.kept ≡ remade_as desk.old.kept found.remade) }
     ensures notes { OnOk result (desk.new.notes ≡ found.remade.shelf.notes) }
-    ensures marks { OnOk result (desk.new.marks ≡ marks_at_or_before found.remade.place desk.old.marks) }
+    ensures marks { OnOk result (desk.new.marks ≡ marks_at_or_before found.remade.left.place desk.old.marks) }
     ensures same { OnErr result (desk.new ≡ desk.old) }
 {
     let Found {
@@ -290,12 +292,11 @@ fn cycle_made<D: Disk>(
     requires known { IsTrue (are_known desk.old.kept.house ask.inserts) }
     requires anew { report_of desk.old.kept.reports ask.key ≡ None }
     requires fit { IsFit desk.old.kept made }
-    requires noted { TextsNoted journal.old.gate desk.old.notes desk.old.kept }
-    requires marked { MarkedBefore journal.old.gate desk.old.marks }
+    requires undone { CanBeUndone desk.old.kept true made }
+    requires noted { AreNoted journal.old.gate desk.old }
     ensures done { (disk : D) → ReadsAlone (D.told disk) (D.told journal.old.disk) → CyclesAs D.told (lasting desk.old (record journal.old { disk = disk })) at ask made
         → IfOk result (λ report. Cycles D.told at ask (lasting desk.old (record journal.old { disk = disk })) (lasting desk.new journal.new) report) }
-    ensures noted { IsMade desk.old.kept at ask ⊥ made → TextsNoted journal.new.gate desk.new.notes desk.new.kept }
-    ensures marked { MarkedBefore journal.new.gate desk.new.marks }
+    ensures noted { IsCycled desk.old.kept at ask ⊥ made → AreNoted journal.new.gate desk.new }
     ensures timeline { OnOk result (desk.new.kept.timeline ≡ items_left desk.old.kept.timeline made) }
     ensures err { OnErr result (desk.new.kept ≡ desk.old.kept) }
     ensures notes { OnErr result (desk.new.notes ≡ desk.old.notes) }
@@ -317,79 +318,6 @@ fn cycle_made<D: Disk>(
     }
 }
 
-/// What the cycle leaves that is due under a new key: nothing was written.
-fn rewound_in<R: Threads + Sync, G: Gate, D: Disk, L: Ledger>(
-    rt: &R,
-    alloc: Global,
-    journal: &mut Journal<D>,
-    desk: &mail_desk::Desk,
-    at: u64,
-    ask: &CycleAsk,
-    gate: &G,
-    steps: &mut Steps<L>,
-) -> Result<Rewound, CycleRefused>
-    requires noted { TextsNoted journal.old.gate desk.now.notes desk.now.kept }
-    requires marked { MarkedBefore journal.old.gate desk.now.marks }
-    requires moment { at ≤ LAST_MOMENT }
-    requires known { IsTrue (are_known desk.now.kept.house ask.now.inserts) }
-    ensures due { IfOk result (Redoes desk.now.kept at ask.now (HoldsHeld (D.told journal.old.disk) desk.now)) }
-    ensures made { IfOk result (IsMade desk.now.kept at ask.now (HoldsHeld (D.told journal.old.disk) desk.now)) }
-    ensures fit { IfOk result (IsFit desk.now.kept) }
-    ensures refused { IfErr result (IsRefusalOf desk.now.kept ask.now (due_anew desk.now.kept at ask.now)) }
-    ensures untouched { IfErr result (λ refused. (IsRewinds (due_anew desk.now.kept at ask.now) → ⊥) → journal.new ≡ journal.old) }
-    ensures cause { RedoesCause (D.told journal.old.disk) (D.told journal.new.disk) result }
-    ensures still { IsOnlyRead D.told journal.old journal.new }
-    ensures rewinds { (due : Cycled) → due_anew desk.now.kept at ask.now ≡ Rewinds due → HoldsHeld (D.told journal.old.disk) desk.now
-        → OnOk result (steps.new ≤ steps.old + most_performed desk.now.kept ask.now due) }
-    ensures most { (due : Cycled) → due_anew desk.now.kept at ask.now ≡ Rewinds due → HoldsHeld (D.told journal.old.disk) desk.now
-        → OnErr result (steps.new ≤ steps.old + most_tried desk.now.kept ask.now due) }
-    ensures few { OnErr result (steps.new ≤ steps.old + length desk.now.kept.timeline + length ask.now.inserts + length desk.now.kept.house.accounts) }
-    ensures steps { IfOk result (λ made. steps.new ≤ steps.old + length (items_left desk.now.kept.timeline made)) }
-{
-    rewound(
-        rt,
-        alloc,
-        &mut journal.disk,
-        journal.log.last_gate(),
-        desk,
-        at,
-        ask,
-        gate,
-        steps,
-    )
-}
-
-/// The same, with nothing counted.
-fn rewound_alone_in<R: Threads + Sync, G: Gate, D: Disk>(
-    rt: &R,
-    alloc: Global,
-    journal: &mut Journal<D>,
-    desk: &mail_desk::Desk,
-    at: u64,
-    ask: &CycleAsk,
-    gate: &G,
-) -> Result<Rewound, CycleRefused>
-    requires noted { TextsNoted journal.old.gate desk.now.notes desk.now.kept }
-    requires marked { MarkedBefore journal.old.gate desk.now.marks }
-    requires moment { at ≤ LAST_MOMENT }
-    requires known { IsTrue (are_known desk.now.kept.house ask.now.inserts) }
-    ensures due { IfOk result (Redoes desk.now.kept at ask.now (HoldsHeld (D.told journal.old.disk) desk.now)) }
-    ensures refused { IfErr result (IsRefusalOf desk.now.kept ask.now (due_anew desk.now.kept at ask.now)) }
-    ensures cause { RedoesCause (D.told journal.old.disk) (D.told journal.new.disk) result }
-    ensures still { IsOnlyRead D.told journal.old journal.new }
-{
-    rewound_alone(
-        rt,
-        alloc,
-        &mut journal.disk,
-        journal.log.last_gate(),
-        desk,
-        at,
-        ask,
-        gate,
-    )
-}
-
 /// Does a cycle under a new key on a desk that is not closed.
 fn cycle_open<R: Threads + Sync, G: Gate, D: Disk, L: Ledger>(
     rt: &R,
@@ -405,11 +333,9 @@ fn cycle_open<R: Threads + Sync, G: Gate, D: Disk, L: Ledger>(
     requires open { journal.old.closed ≡ false }
     requires known { IsTrue (are_known desk.old.kept.house ask.inserts) }
     requires anew { report_of desk.old.kept.reports ask.key ≡ None }
-    requires noted { TextsNoted journal.old.gate desk.old.notes desk.old.kept }
-    requires marked { MarkedBefore journal.old.gate desk.old.marks }
+    requires noted { AreNoted journal.old.gate desk.old }
     ensures done { IfOk result (λ report. Cycles D.told at ask (lasting desk.old journal.old) (lasting desk.new journal.new) report) }
-    ensures noted { TextsNoted journal.new.gate desk.new.notes desk.new.kept }
-    ensures marked { MarkedBefore journal.new.gate desk.new.marks }
+    ensures noted { AreNoted journal.new.gate desk.new }
     ensures err { OnErr result (desk.new.kept ≡ desk.old.kept) }
     ensures notes { OnErr result (desk.new.notes ≡ desk.old.notes) }
     ensures marks { OnErr result (desk.new.marks ≡ desk.old.marks) }
@@ -424,7 +350,7 @@ fn cycle_open<R: Threads + Sync, G: Gate, D: Disk, L: Ledger>(
     ensures wants { IfErr result (λ fault. CycleWants D.told journal.old.disk journal.new.disk fault) }
     ensures steps { OnOk result (steps.new ≤ steps.old + length desk.new.kept.timeline) }
 {
-    match rewound_in(rt, alloc, journal, desk, at, &ask, gate, steps) {
+    match redo::cycle(rt, alloc, journal, desk, at, &ask, gate, steps) {
         Ok(made) => cycle_made(alloc, journal, desk, at, ask, made),
         Err(refused) => {
             drop(ask);
@@ -447,11 +373,9 @@ fn cycle_anew<R: Threads + Sync, G: Gate, D: Disk, L: Ledger>(
     requires moment { at ≤ LAST_MOMENT }
     requires known { IsTrue (are_known desk.old.kept.house ask.inserts) }
     requires anew { report_of desk.old.kept.reports ask.key ≡ None }
-    requires noted { TextsNoted journal.old.gate desk.old.notes desk.old.kept }
-    requires marked { MarkedBefore journal.old.gate desk.old.marks }
+    requires noted { AreNoted journal.old.gate desk.old }
     ensures done { IfOk result (λ report. Cycles D.told at ask (lasting desk.old journal.old) (lasting desk.new journal.new) report) }
-    ensures noted { TextsNoted journal.new.gate desk.new.notes desk.new.kept }
-    ensures marked { MarkedBefore journal.new.gate desk.new.marks }
+    ensures noted { AreNoted journal.new.gate desk.new }
     ensures err { OnErr result (desk.new.kept ≡ desk.old.kept) }
     ensures notes { OnErr result (desk.new.notes ≡ desk.old.notes) }
     ensures marks { OnErr result (desk.new.marks ≡ desk.old.marks) }
@@ -516,7 +440,7 @@ impl<D: Disk> Desk<D> {
         ensures wants { IfErr result (λ fault. CycleWants D.told self.old.disk self.new.disk fault) }
         ensures steps { OnOk result (steps.new ≤ steps.old + length self.new.kept.timeline) }
         ensures once { (earlier : TheReport) → cycle_due self.old.kept at ask ≡ Repeats earlier → steps.new ≡ steps.old }
-        ensures uids { HoldsTexts D.told self.old → UidsLast self.old.kept self.new.kept }
+        ensures uids { HoldsTexts D.told self.old → UidsStay self.old.kept self.new.kept }
     {
         self.stands();
         records_let_uids_last();
@@ -558,7 +482,7 @@ impl<D: Disk> Desk<D> {
         ensures same { OnOk result ((D.told self.new.disk).failed_reads ≡ (D.told self.old.disk).failed_reads) }
         ensures still { IsStill D.told self.old self.new }
     {
-        match rewound_alone_in(rt, alloc, &mut self.journal, &self.desk, at, ask, gate) {
+        match redo::cycle_alone(rt, alloc, &mut self.journal, &self.desk, at, ask, gate) {
             Ok(made) => Ok(report_in(made)),
             Err(refused) => Err(refused_as(refused)),
         }

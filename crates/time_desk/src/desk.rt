@@ -9,12 +9,13 @@ ghost use Rattle.verb_core.specs.Boxes.{box_of, row_at};
 ghost use Rattle.verb_core.specs.Items.{IsTimeline};
 ghost use Rattle.verb_core.specs.Store.{IsValid, is_house, is_known};
 ghost use Rattle.store_kept.specs.Bases.{HasBase};
+ghost use Rattle.store_kept.specs.Coming.{HasUndone};
 ghost use Rattle.seal_log.specs.declared.place.Place.{Place as ThePlace};
 ghost use Rattle.shelf.specs.Notes.{size_of};
 ghost use Rattle.store_digest.specs.Snapshots.{digest_of};
 ghost use Rattle.mail_desk.specs.Counting.{counts_of, listed, page};
 ghost use Rattle.store_kept.specs.Kept.{IsRun, is_by_key, store_of};
-ghost use Rattle.store_kept.specs.Texts.{all_bodies, has_text_kept, text_kept};
+ghost use Rattle.store_kept.specs.Texts.{all_bodies, has_text_kept, text_at_hand};
 ghost use Rattle.mail_desk.specs.Timeline.{has_sizes, has_text, rev_of};
 ghost use Rattle.desk_journal.specs.Permanence.{IsSound};
 ghost use Rattle.desk_journal.specs.Stored.{MarkedBefore, TextsNoted};
@@ -40,16 +41,13 @@ pub struct Desk<D: Disk> {
 
 impl<D: Disk> Model for Desk<D> {
     ghost use Rattle.desk_journal.specs.Lasting.{Lasting, lasting};
-    ghost use Rattle.desk_journal.specs.Stored.{MarkedBefore, TextsNoted};
+    ghost use Rattle.desk_journal.specs.Stored.{AreNoted};
 
     ghost Value = { Lasting D };
 
     ghost view = { λ d. lasting d.desk d.journal };
 
-    ghost invariant = { λ d. record {
-      noted : TextsNoted d.journal.gate d.desk.notes d.desk.kept;
-      marked : MarkedBefore d.journal.gate d.desk.marks;
-    } };
+    ghost invariant = { λ d. AreNoted d.journal.gate d.desk };
 }
 
 impl<D: Disk> Desk<D> {
@@ -109,7 +107,7 @@ impl<D: Disk> Desk<D> {
     /// Where the text of each body lies, and its size.
     pub fn shelf(&self) -> &Shelf
         ensures value { result.now.notes ≡ self.now.notes }
-        ensures sizes { (body : TheBody) → size_of result.now.notes body ≡ option_map length (text_kept self.now.kept body) }
+        ensures sizes { (body : TheBody) → size_of result.now.notes body ≡ option_map length (text_at_hand self.now.kept body) }
         ensures known { IsTrue (has_sizes result.now.notes (store_of self.now.kept).boxes) }
     {
         self.desk.shelf()
@@ -180,6 +178,7 @@ impl<D: Disk> Desk<D> {
         ensures next { self.now.kept.next ≤ 4194304 }
         ensures reports { IsTrue (is_by_key self.now.kept.reports) }
         ensures texts { IsTrue (all_bodies (has_text_kept self.now.kept) (store_of self.now.kept).boxes) }
+        ensures undone { HasUndone self.now.kept }
         ensures sound { IsRun self.now.kept → IsSound self.now.kept }
         ensures within { self.now.gate < (D.told self.now.disk).size }
         ensures noted { TextsNoted self.now.gate self.now.notes self.now.kept }

@@ -1,4 +1,4 @@
-//! Why a desk was not started, and why a cycle was not done.
+//! Why a desk was not started, and why a cycle or a withdrawal was not done.
 
 /// Why a desk was not started.
 #[derive(Clone, Copy, Debug, PartialEq, Eq)]
@@ -23,6 +23,21 @@ pub enum CycleFault {
     Numbers { next: u32 },
     /// A write or a sync failed in this call, and the desk is closed from then on; or a read failed, and it stays open. Of a try
     /// and of a plan it is always a read.
+    Disk,
+    NoMemory,
+    /// A write or a sync failed earlier.
+    Closed,
+}
+
+/// Why a request for a withdrawal has no report. But for `NoMemory` the first that holds is told, in this order: `Closed`, `Cycle`,
+/// `Numbers`, `Disk`. A key that a cycle or a withdrawal had is answered before all of them.
+#[derive(Clone, Copy, Debug, PartialEq, Eq)]
+pub enum WithdrawFault {
+    /// No cycle has this number, or a cycle or a withdrawal came after it.
+    Cycle { given: u32 },
+    /// Too few numbers are left for the withdrawal and a notice to each user: the next would be this one.
+    Numbers { next: u32 },
+    /// A write or a sync failed in this call, and the desk is closed from then on; or a read failed, and it stays open.
     Disk,
     NoMemory,
     /// A write or a sync failed earlier.

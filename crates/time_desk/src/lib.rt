@@ -3,18 +3,18 @@
 //! `desk` has the desk over its journal, and tells its parts. `make` begins a journal, `start` reads one, with `standing` for the
 //! records that can stand, and `openings` has the law that an image opens in one way. `submit` and `act` take what users and the
 //! operator ask, `snapshot` keeps the store of a moment, `upgrade` lets names have superiors, and `texts` reads the texts of bodies, each by what desk_journal does;
-//! `cycle` does what the operator asks of the past, with `redo` for a cycle in memory and `beginning` for what it begins with;
-//! `again` performs a journal's cycles again; `plan` tells which later items could be done side by side; and `fault` says why a desk is not started and a cycle not done.
+//! `cycle` does what the operator asks of the past, and `withdrawal` takes the last cycle back, with `redo` for a repair in memory,
+//! also of a journal's cycles and withdrawals that are performed again, and `beginning` for what it begins with; `plan` tells which
+//! later items could be done side by side; and `fault` says why a desk is not started and a cycle not done.
 //! `permanence` has the laws that no UID ever names two messages, and that each message is accounted for; `laws` passes on what
 //! desk_journal says of runs of calls. In specs/, `Opening` says what an image opens as, `Standing` how its records are read,
-//! `Cycling` what becomes of a request for a cycle and `Serving` what that begins with, and `Planning` what the plan of later
-//! items is; all else is said in desk_journal.
+//! `Cycling` what becomes of a request for a cycle, `Withdrawing` of one for a withdrawal, `Serving` what these begin with, and
+//! `Planning` what the plan of later items is; all else is said in desk_journal.
 //! What carries the crate: `Desk::submit` and `Desk::act`, by `Seals`, `Desk::cycle`, by `Cycles`, `Desk::start`, by `Starts`,
 //! and the laws of `permanence`.
 #![tactic(auto)]
 
 mod act;
-mod again;
 mod beginning;
 mod cycle;
 mod desk;
@@ -31,9 +31,10 @@ mod start;
 mod submit;
 mod texts;
 mod upgrade;
+mod withdrawal;
 
 pub use desk::Desk;
 pub use desk_journal::{ActFault, MakeFault};
-pub use fault::{CycleFault, StartFault};
+pub use fault::{CycleFault, StartFault, WithdrawFault};
 pub use openings::one_opening;
 pub use plan::items_are_resolved_in_turn;

@@ -1,7 +1,7 @@
 //! What a mail client that keeps mail by UID may rely on, and what an operator who must account for every message: over all
-//! that a journal's records leave, with any number of cycles and reopenings. These functions do nothing: their contracts are
+//! that a journal's records leave, with any number of cycles, withdrawals and reopenings. These functions do nothing: their contracts are
 //! laws of the definitions.
-ghost use Rattle.std.specs.Prelude.{◌≡◌, ◌≢◌, ℕ, List, ◌∷◌, ◌++◌, true, false, Some, IsSome};
+ghost use Rattle.std.specs.Prelude.{◌≡◌, ◌≢◌, ℕ, List, ◌∷◌, ◌++◌, false, true, Some, IsSome};
 ghost use Rattle.std.specs.List.{list_any};
 ghost use Rattle.undo_base.specs.declared.keys.Key.{Key};
 ghost use Rattle.undo_base.specs.declared.keys.User.{User};
@@ -14,31 +14,41 @@ ghost use Rattle.verb_core.specs.Recipients.{recipients, some_unknown};
 ghost use Rattle.verb_core.specs.Step.{run};
 ghost use Rattle.verb_core.specs.Store.{opening};
 ghost use Rattle.verb_bytes.specs.declared.journal.JournalRecord.{JournalRecord};
-ghost use Rattle.mail_cycle.specs.Permanence.{UidsLast};
+ghost use Rattle.mail_cycle.specs.Permanence.{UidsLast, UidsStay};
+ghost use Rattle.store_kept.specs.Coming.{HasUndoneTexts};
 ghost use Rattle.store_kept.specs.Kept.{IsRun, Kept, stamp_at};
 ghost use Rattle.desk_journal.specs.Permanence.{Arrives, IsAccounted, IsSound, Message, RevsBelow, message_at};
-ghost use Rattle.desk_journal.specs.Records.{after_records, state};
+ghost use Rattle.desk_journal.specs.Records.{after_records, is_withdrawal, state};
 
 use mail_desk::laws::bodies_have_texts;
 
-/// What a journal's records leave is sound, each text has a rev below the next number, and the store is what the items in force
-/// leave, performed one after the other, from the opening store on.
+/// What a journal's records leave is sound, each text has a rev below the next number, the texts of what the last cycle left to be
+/// withdrawn can come back, and the store is what the items in force leave, performed one after the other, from the opening store
+/// on.
 pub fn states_are_sound()
     ensures sound { (records : List JournalRecord) (kept : Kept) → state records ≡ Some kept → IsSound kept }
     ensures revs { (records : List JournalRecord) (kept : Kept) → state records ≡ Some kept → RevsBelow kept }
+    ensures back { (records : List JournalRecord) (kept : Kept) → state records ≡ Some kept → HasUndoneTexts kept }
     ensures runs { (records : List JournalRecord) (kept : Kept) → state records ≡ Some kept → IsRun kept }
     ensures opening { (records : List JournalRecord) (kept : Kept) → state records ≡ Some kept → kept.base ≡ opening kept.house kept.opening }
 {}
 
-/// Whatever records come next, what is kept stays sound, and what a client knows by UID lasts.
+/// Whatever records come next, what is kept stays sound, its texts stay where they are known to, and what a client knows by UID
+/// lasts. A text comes back by a withdrawal alone.
 pub fn records_let_uids_last()
-    ensures lasts { (old new : Kept) (more : List JournalRecord) → IsSound old → after_records old more ≡ Some new → UidsLast old new }
+    ensures lasts { (old new : Kept) (more : List JournalRecord) → IsSound old → RevsBelow old → HasUndoneTexts old →
+        after_records old more ≡ Some new → UidsLast old new }
+    ensures stays { (old new : Kept) (more : List JournalRecord) → IsSound old → after_records old more ≡ Some new →
+        list_any is_withdrawal more ≡ false → UidsStay old new }
     ensures sound { (old new : Kept) (more : List JournalRecord) → IsSound old → after_records old more ≡ Some new → IsSound new }
-    ensures revs { (old new : Kept) (more : List JournalRecord) → IsSound old → RevsBelow old → after_records old more ≡ Some new → RevsBelow new }
+    ensures revs { (old new : Kept) (more : List JournalRecord) → IsSound old → RevsBelow old → HasUndoneTexts old →
+        after_records old more ≡ Some new → RevsBelow new }
+    ensures back { (old new : Kept) (more : List JournalRecord) → IsSound old → RevsBelow old → HasUndoneTexts old →
+        after_records old more ≡ Some new → HasUndoneTexts new }
 {}
 
 /// A user, name, UIDVALIDITY and UID never name two messages or two contents (RFC 3501, section 2.3.1.1): not behind whatever
-/// more records, verbs, acts and cycles, and not of two desks that let UIDs last. Each message that is named has a text.
+/// more records, verbs, acts, cycles and withdrawals, and not of two desks that let UIDs last. Each message that is named has a text.
 pub fn uids_name_one_message()
     ensures records { (front more : List JournalRecord) (old new : Kept) (id : BoxId) (stamp uid : ℕ) (m n : Message) →
         state front ≡ Some old → state (front ++ more) ≡ Some new →

@@ -1,7 +1,6 @@
 //! What the operator asks of the items later than a point: which of them could be done side by side.
 ghost use Rattle.std.specs.Prelude.{◌≡◌, ◌++◌, ◌∷◌, [], List, ◌<◌, ◌≤◌, length, map, take, drop, IfErr, IfOk, OnOk};
 ghost use Rattle.std.specs.List.{AllByRecursion};
-ghost use Rattle.seal_log.specs.Settled.{ReadsAlone};
 ghost use Rattle.verb_core.specs.Items.{IsWellFormed};
 ghost use Rattle.verb_core.specs.Step.{run};
 ghost use Rattle.verb_core.specs.declared.item.Item.{Item as TheItem};
@@ -16,13 +15,13 @@ ghost use Rattle.time_desk.specs.Planning.{BodiesCause, Plans, PlansNone, plan_a
 ghost use Rattle.desk_journal.specs.Reading.{IsStill};
 ghost use Rattle.time_desk.specs.Serving.{Serves};
 ghost use Rattle.desk_journal.specs.Stored.{HoldsTexts, MarkedBefore, TextsNoted, store_at};
-ghost use Rattle.desk_journal.specs.Telling.{HoldsHeld, IsOnlyRead};
+ghost use Rattle.desk_journal.specs.Telling.{HoldsHeld, IsOnlyRead, IsPastRead};
 
 use crate::beginning::beginning;
 use crate::redo::new_texts;
 use crate::{CycleFault, Desk};
 use box_store::Store;
-use desk_journal::{Journal, Reading};
+use desk_journal::{Journal, Past, Reading};
 use mail_cycle::Beginning;
 use repair_desk::position_of;
 use replay_crew::{ResolvedList, resolve, touch_all};
@@ -33,7 +32,6 @@ use stored_items::StoredItem;
 use touch_rules::TouchList;
 use undo_base::{Copies, NoMemory, Numbers, Text};
 use undo_outside::Disk;
-use verb_bytes::Replaces;
 use verb_core::{Bodies, BodiesFault};
 
 /// Copies of items.
@@ -157,76 +155,45 @@ fn plan_behind<B: Bodies>(
     plan_items(alloc, &first.store, bodies, items, place - first.count)
 }
 
-/// The same, with texts read in the journal that ends at a gate of a disk.
+/// The same, with texts read before a gate.
 fn plan_reading<D: Disk>(
     alloc: Global,
-    disk: &mut D,
-    end: u64,
+    past: &mut Past<D>,
     desk: &mail_desk::Desk,
     first: &Beginning,
     place: usize,
 ) -> Result<Text, BodiesFault>
-    requires end { end < (D.told disk.old).size }
-    requires noted { TextsNoted end desk.now.notes desk.now.kept }
+    requires noted { TextsNoted past.old.end desk.now.notes desk.now.kept }
     requires place { place ≤ length desk.now.kept.timeline }
     requires serves { Serves desk.now.kept place first.now }
-    ensures text { HoldsHeld (D.told disk.old) desk.now → first.now.store.store ≡ store_at desk.now.kept first.now.count → IfOk result (λ text. text ≡ plan_at desk.now.kept place) }
-    ensures cause { BodiesCause (D.told disk.old) (D.told disk.new) result }
-    ensures reads { ReadsAlone (D.told disk.old) (D.told disk.new) }
+    ensures text { HoldsHeld (D.told past.old.disk) desk.now → first.now.store.store ≡ store_at desk.now.kept first.now.count → IfOk result (λ text. text ≡ plan_at desk.now.kept place) }
+    ensures cause { BodiesCause (D.told past.old.disk) (D.told past.new.disk) result }
+    ensures still { IsPastRead D.told past.old past.new }
 {
     desk.stands();
-    let none = Replaces::new(alloc);
-    let texts = new_texts(alloc, &none)?;
-    let mut bodies = Reading::of(disk, end, desk, &texts, desk.next());
+    let texts = new_texts(alloc, &[])?;
+    let mut bodies = Reading::of(past, desk, &texts, desk.next());
     plan_behind(alloc, desk, first, &mut bodies, place)
 }
 
 /// The same from the newest snapshot that can serve.
 fn plan_from_newest<D: Disk>(
     alloc: Global,
-    disk: &mut D,
-    end: u64,
+    past: &mut Past<D>,
     desk: &mail_desk::Desk,
     place: usize,
 ) -> Result<Text, BodiesFault>
-    requires end { end < (D.told disk.old).size }
-    requires noted { TextsNoted end desk.now.notes desk.now.kept }
-    requires marked { MarkedBefore end desk.now.marks }
+    requires noted { TextsNoted past.old.end desk.now.notes desk.now.kept }
+    requires marked { MarkedBefore past.old.end desk.now.marks }
     requires place { place ≤ length desk.now.kept.timeline }
-    ensures text { HoldsHeld (D.told disk.old) desk.now → IfOk result (λ text. text ≡ plan_at desk.now.kept place) }
-    ensures cause { BodiesCause (D.told disk.old) (D.told disk.new) result }
-    ensures reads { ReadsAlone (D.told disk.old) (D.told disk.new) }
+    ensures text { HoldsHeld (D.told past.old.disk) desk.now → IfOk result (λ text. text ≡ plan_at desk.now.kept place) }
+    ensures cause { BodiesCause (D.told past.old.disk) (D.told past.new.disk) result }
+    ensures still { IsPastRead D.told past.old past.new }
 {
-    match beginning(alloc, disk, end, desk, place) {
-        Ok(first) => plan_reading(alloc, disk, end, desk, &first, place),
+    match beginning(alloc, past, desk, place) {
+        Ok(first) => plan_reading(alloc, past, desk, &first, place),
         Err(ReadFault::Disk) => Err(BodiesFault::Failed),
         Err(ReadFault::NoMemory) => Err(BodiesFault::NoMemory),
-    }
-}
-
-/// The plan of the items later than a point.
-fn plan_of_point<D: Disk>(
-    alloc: Global,
-    disk: &mut D,
-    end: u64,
-    desk: &mail_desk::Desk,
-    point: u32,
-) -> Result<Text, CycleFault>
-    requires end { end < (D.told disk.old).size }
-    requires noted { TextsNoted end desk.now.notes desk.now.kept }
-    requires marked { MarkedBefore end desk.now.marks }
-    ensures text { IfOk result (Plans desk.now.kept point (HoldsHeld (D.told disk.old) desk.now)) }
-    ensures why { IfErr result (PlansNone desk.now.kept point (D.told disk.old) (D.told disk.new)) }
-    ensures ok { OnOk result ((D.told disk.new).failed_reads ≡ (D.told disk.old).failed_reads) }
-    ensures reads { ReadsAlone (D.told disk.old) (D.told disk.new) }
-{
-    let Some(place) = position_of(desk.all_items(), point) else {
-        return Err(CycleFault::Point { given: point });
-    };
-    match plan_from_newest(alloc, disk, end, desk, place) {
-        Ok(text) => Ok(text),
-        Err(BodiesFault::Failed) => Err(CycleFault::Disk),
-        Err(BodiesFault::NoMemory) => Err(CycleFault::NoMemory),
     }
 }
 
@@ -250,13 +217,14 @@ fn plan_in<D: Disk>(
     ensures ok { OnOk result ((D.told journal.new.disk).failed_reads ≡ (D.told journal.old.disk).failed_reads) }
     ensures still { IsOnlyRead D.told journal.old journal.new }
 {
-    plan_of_point(
-        alloc,
-        &mut journal.disk,
-        journal.log.last_gate(),
-        desk,
-        point,
-    )
+    let Some(place) = position_of(desk.all_items(), point) else {
+        return Err(CycleFault::Point { given: point });
+    };
+    match plan_from_newest(alloc, &mut journal.past, desk, place) {
+        Ok(text) => Ok(text),
+        Err(BodiesFault::Failed) => Err(CycleFault::Disk),
+        Err(BodiesFault::NoMemory) => Err(CycleFault::NoMemory),
+    }
 }
 
 impl<D: Disk> Desk<D> {

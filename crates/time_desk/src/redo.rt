@@ -1,36 +1,41 @@
-//! A cycle in memory, beside the desk.
-ghost use Rattle.std.specs.Prelude.{◌≡◌, ◌<◌, ◌+◌, ◌-◌, ◌≤◌, Some, length, IsTrue, IfOk, IfErr, OnErr, OnOk};
-ghost use Rattle.seal_log.specs.Settled.{ReadsAlone};
-ghost use Rattle.repair_desk.specs.Repairs.{are_known, edited_at, position};
-ghost use Rattle.cycle_rules.specs.Asking.{IsRewinds, Rewinds, due_anew};
-ghost use Rattle.cycle_rules.specs.Cycles.{Cycled, cycled_at, leaves_numbers};
-ghost use Rattle.mail_cycle.specs.Leaving.{IsMade, IsMadeFrom, Leaves, items_left};
-ghost use Rattle.mail_cycle.specs.Refusing.{IsRefusalOf};
+//! A repair in memory, beside the desk: of a cycle, of a trial of one, of a withdrawal, and of those of the journal that are performed
+//! again where a desk is started, one item after the other, since there are no workers.
+ghost use Rattle.std.specs.Prelude.{◌≡◌, ◌<◌, ◌≤◌, ℕ, Some, IsTrue, IfOk, IfErr};
+ghost use Rattle.store_kept.specs.Kept.{undone_of};
+ghost use Rattle.repair_desk.specs.Repairs.{are_known};
+ghost use Rattle.mail_cycle.specs.Tasks.{Begins};
 ghost use Rattle.mail_desk.specs.Remaking.{CanReplace, remade_as};
-ghost use Rattle.time_desk.specs.Cycling.{IsFit, Redoes, RedoesCause, after_rewound, most_performed, most_tried};
+ghost use Rattle.time_desk.specs.Cycling.{CanBeUndone, CanRework, IsFit, RedoesAlone, RedoesCycle, Reworks, after_rewound, asked_then};
 ghost use Rattle.time_desk.specs.Planning.{BodiesCause};
-ghost use Rattle.time_desk.specs.Serving.{Serves, unmarked};
-ghost use Rattle.desk_journal.specs.Stored.{MarkedBefore, TextsNoted, Renotes, store_at};
-ghost use Rattle.desk_journal.specs.Telling.{HoldsHeld};
+ghost use Rattle.time_desk.specs.Serving.{IsNewest, Serves, unmarked};
+ghost use Rattle.time_desk.specs.Withdrawing.{WithdrawsAlone, WithdrawsInSteps};
+ghost use Rattle.desk_journal.specs.Stored.{AreNoted, MarkedBefore, Renotes};
+ghost use Rattle.desk_journal.specs.Telling.{HoldsHeld, IsOnlyRead, IsPastRead};
 
 use crate::beginning::beginning;
 use box_store::Steps;
-use desk_journal::{NewTexts, Reading};
-use mail_cycle::laws::{cycles_begin_anywhere, cycles_leave_states};
-use mail_cycle::{Before, Beginning, CycleRefused, Rewound, cycle_from, due_place};
+use cycle_rules::laws::cycles_can_be_withdrawn;
+use desk_journal::{Journal, NewTexts, Past, Reading};
+use mail_cycle::laws::{
+    cycles_leave_states, repairs_begin_anywhere, repairs_leave_states, withdrawals_leave_states,
+};
+use mail_cycle::{
+    Before, Beginning, CycleRefused, Due, Rewound, rework_by_levels, rework_in_order,
+};
 use mail_desk::laws::bodies_have_texts;
-use mail_desk::{Desk, Fresh, Remade};
+use mail_desk::{Desk, Fresh, Left, Remade};
 use seal_log::ReadFault;
 use std::alloc::Global;
 use std::marker::Brand;
 use std::sync::ledger::{Blank, Ledger};
 use std::thread::Threads;
-use undo_base::{LAST_MOMENT, Name, NoMemory};
+use undo_base::{LAST_MOMENT, Name, NoMemory, Text};
 use undo_outside::{Disk, Gate};
-use verb_bytes::{CycleAsk, Replaces};
+use verb_bytes::CycleAsk;
 use verb_core::BodiesFault;
+use withdraw::UndoneBehind;
 
-/// What a cycle begins with.
+/// What a repair begins with.
 pub(crate) fn begun(desk: &Desk) -> Before<'_>
     ensures { result ≡ unmarked desk.now.kept }
 {
@@ -45,10 +50,10 @@ pub(crate) fn begun(desk: &Desk) -> Before<'_>
     )
 }
 
-/// The texts that a request asks for, to be read beside those of the journal.
+/// The texts that a request brings, to be read beside those of the journal.
 pub(crate) fn new_texts<'a>(
     alloc: Global,
-    replaces: &'a Replaces,
+    replaces: &'a [(u32, Text)],
 ) -> Result<NewTexts<'a>, BodiesFault>
     ensures texts { IfOk result (λ texts. texts ≡ replaces.now) }
     ensures memory { IfErr result (λ fault. fault ≡ BodiesFault.NoMemory) }
@@ -59,132 +64,98 @@ pub(crate) fn new_texts<'a>(
     }
 }
 
-/// What the cycle leaves behind a place, from a beginning on: the desk stays as it is. Texts are read in the journal that ends
-/// at a gate of a disk.
-fn rewound_from<R: Threads + Sync, G: Gate, D: Disk, L: Ledger>(
-    rt: &R,
+/// What a repair begins to perform with: the newest snapshot that can serve.
+fn prepared<D: Disk>(
     alloc: Global,
-    disk: &mut D,
-    end: u64,
+    past: &mut Past<D>,
     desk: &Desk,
-    first: Beginning,
-    at: u64,
-    ask: &CycleAsk,
-    place: usize,
-    gate: &G,
-    steps: &mut Steps<L>,
-) -> Result<Rewound, BodiesFault>
-    requires end { end < (D.told disk.old).size }
-    requires noted { TextsNoted end desk.now.notes desk.now.kept }
-    requires serves { Serves desk.now.kept place first }
-    requires place { place ≤ length desk.now.kept.timeline }
-    requires numbers { IsTrue (leaves_numbers desk.now.kept ask.now) }
-    requires moment { at ≤ LAST_MOMENT }
-    requires known { IsTrue (are_known desk.now.kept.house ask.now.inserts) }
-    ensures made { IfOk result (IsMadeFrom desk.now.kept at ask.now place first.store.store first.count (HoldsHeld (D.told disk.old) desk.now)) }
-    ensures done { HoldsHeld (D.told disk.old) desk.now → first.store.store ≡ store_at desk.now.kept first.count → IfOk result (Leaves desk.now.kept (cycled_at desk.now.kept at ask.now place)) }
-    ensures fit { IfOk result (IsFit desk.now.kept) }
-    ensures cause { BodiesCause (D.told disk.old) (D.told disk.new) result }
-    ensures reads { ReadsAlone (D.told disk.old) (D.told disk.new) }
-    ensures steps { IfOk result (λ made. steps.new ≤ steps.old + (place - first.count) + length ask.now.inserts + made.report.kept + length made.report.notices) }
-    ensures most { OnErr result (steps.new ≤ steps.old + (place - first.count) + length ask.now.inserts + (edited_at desk.now.kept.timeline ask.now desk.now.kept.next at place).kept + length desk.now.kept.house.accounts) }
+    due: &Due<'_>,
+) -> Result<Beginning, BodiesFault>
+    requires marked { MarkedBefore past.old.end desk.now.marks }
+    requires kept { due.now.kept ≡ unmarked desk.now.kept }
+    ensures serves { IfOk result (Serves desk.now.kept due.now.repair.place) }
+    ensures begins { IfOk result (Begins due.now) }
+    ensures newest { HoldsHeld (D.told past.old.disk) desk.now → IfOk result (IsNewest desk.now.kept due.now.repair.place) }
+    ensures cause { BodiesCause (D.told past.old.disk) (D.told past.new.disk) result }
+    ensures still { IsPastRead D.told past.old past.new }
 {
-    desk.stands();
-    cycles_leave_states();
-    cycles_begin_anywhere();
-    bodies_have_texts();
-    let texts = new_texts(alloc, &ask.replaces)?;
-    let mut bodies = Reading::of(disk, end, desk, &texts, desk.next());
-    cycle_from(
-        rt,
-        alloc,
-        &begun(desk),
-        first,
-        &mut bodies,
-        at,
-        ask,
-        place,
-        gate,
-        steps,
-    )
-}
-
-/// The same from the newest snapshot that can serve.
-fn rewound_at<R: Threads + Sync, G: Gate, D: Disk, L: Ledger>(
-    rt: &R,
-    alloc: Global,
-    disk: &mut D,
-    end: u64,
-    desk: &Desk,
-    at: u64,
-    ask: &CycleAsk,
-    place: usize,
-    gate: &G,
-    steps: &mut Steps<L>,
-) -> Result<Rewound, BodiesFault>
-    requires end { end < (D.told disk.old).size }
-    requires noted { TextsNoted end desk.now.notes desk.now.kept }
-    requires marked { MarkedBefore end desk.now.marks }
-    requires is_place { position desk.now.kept.timeline ask.now.point ≡ Some place }
-    requires place { place ≤ length desk.now.kept.timeline }
-    requires numbers { IsTrue (leaves_numbers desk.now.kept ask.now) }
-    requires moment { at ≤ LAST_MOMENT }
-    requires known { IsTrue (are_known desk.now.kept.house ask.now.inserts) }
-    ensures done { HoldsHeld (D.told disk.old) desk.now → IfOk result (Leaves desk.now.kept (cycled_at desk.now.kept at ask.now place)) }
-    ensures made { IfOk result (IsMade desk.now.kept at ask.now (HoldsHeld (D.told disk.old) desk.now)) }
-    ensures fit { IfOk result (IsFit desk.now.kept) }
-    ensures cause { BodiesCause (D.told disk.old) (D.told disk.new) result }
-    ensures reads { ReadsAlone (D.told disk.old) (D.told disk.new) }
-    ensures rewinds { HoldsHeld (D.told disk.old) desk.now
-        → OnOk result (steps.new ≤ steps.old + most_performed desk.now.kept ask.now (cycled_at desk.now.kept at ask.now place)) }
-    ensures most { HoldsHeld (D.told disk.old) desk.now
-        → OnErr result (steps.new ≤ steps.old + most_tried desk.now.kept ask.now (cycled_at desk.now.kept at ask.now place)) }
-    ensures few { OnErr result (steps.new ≤ steps.old + length desk.now.kept.timeline + length ask.now.inserts + length desk.now.kept.house.accounts) }
-    ensures steps { IfOk result (λ made. steps.new ≤ steps.old + length (items_left desk.now.kept.timeline made)) }
-{
-    desk.stands();
-    match beginning(alloc, disk, end, desk, place) {
-        Ok(first) => rewound_from(
-            rt, alloc, disk, end, desk, first, at, ask, place, gate, steps,
-        ),
+    match beginning(alloc, past, desk, due.place()) {
+        Ok(first) => Ok(first),
         Err(ReadFault::Disk) => Err(BodiesFault::Failed),
         Err(ReadFault::NoMemory) => Err(BodiesFault::NoMemory),
     }
 }
 
-/// What the cycle leaves that is due under a new key.
+/// What a repair leaves that is due, worked out level by level: the desk stays as it is. Texts are read before a gate.
 pub(crate) fn rewound<R: Threads + Sync, G: Gate, D: Disk, L: Ledger>(
     rt: &R,
     alloc: Global,
-    disk: &mut D,
-    end: u64,
+    past: &mut Past<D>,
+    desk: &Desk,
+    due: &Due<'_>,
+    gate: &G,
+    steps: &mut Steps<L>,
+) -> Result<Rewound, BodiesFault>
+    requires noted { AreNoted past.old.end desk.now }
+    requires can { CanRework D.told desk.now past.old.end due.now }
+    ensures { Reworks D.told desk.now due.now past.old past.new steps.old steps.new result }
+{
+    desk.stands();
+    due.stands();
+    repairs_leave_states();
+    repairs_begin_anywhere();
+    bodies_have_texts();
+    let first = prepared(alloc, past, desk, due)?;
+    let texts = new_texts(alloc, due.texts())?;
+    let mut bodies = Reading::of(past, desk, &texts, desk.next());
+    rework_by_levels(rt, alloc, due, first, &mut bodies, gate, steps)
+}
+
+/// The same, one item after the other.
+fn again<D: Disk, L: Ledger>(
+    alloc: Global,
+    past: &mut Past<D>,
+    desk: &Desk,
+    due: &Due<'_>,
+    steps: &mut Steps<L>,
+) -> Result<Rewound, BodiesFault>
+    requires noted { AreNoted past.old.end desk.now }
+    requires can { CanRework D.told desk.now past.old.end due.now }
+    ensures { Reworks D.told desk.now due.now past.old past.new steps.old steps.new result }
+{
+    desk.stands();
+    due.stands();
+    repairs_leave_states();
+    repairs_begin_anywhere();
+    bodies_have_texts();
+    let first = prepared(alloc, past, desk, due)?;
+    let texts = new_texts(alloc, due.texts())?;
+    let mut bodies = Reading::of(past, desk, &texts, desk.next());
+    rework_in_order(alloc, due, first, &mut bodies, steps)
+}
+
+/// What the cycle leaves that is due at a moment under a new key. Texts are read before a gate.
+fn cycle_before<R: Threads + Sync, G: Gate, D: Disk, L: Ledger>(
+    rt: &R,
+    alloc: Global,
+    past: &mut Past<D>,
     desk: &Desk,
     at: u64,
     ask: &CycleAsk,
     gate: &G,
     steps: &mut Steps<L>,
 ) -> Result<Rewound, CycleRefused>
-    requires end { end < (D.told disk.old).size }
-    requires noted { TextsNoted end desk.now.notes desk.now.kept }
-    requires marked { MarkedBefore end desk.now.marks }
+    requires noted { AreNoted past.old.end desk.now }
     requires moment { at ≤ LAST_MOMENT }
     requires known { IsTrue (are_known desk.now.kept.house ask.now.inserts) }
-    ensures due { IfOk result (Redoes desk.now.kept at ask.now (HoldsHeld (D.told disk.old) desk.now)) }
-    ensures made { IfOk result (IsMade desk.now.kept at ask.now (HoldsHeld (D.told disk.old) desk.now)) }
-    ensures fit { IfOk result (IsFit desk.now.kept) }
-    ensures refused { IfErr result (IsRefusalOf desk.now.kept ask.now (due_anew desk.now.kept at ask.now)) }
-    ensures untouched { IfErr result (λ refused. (IsRewinds (due_anew desk.now.kept at ask.now) → ⊥) → disk.new ≡ disk.old) }
-    ensures cause { RedoesCause (D.told disk.old) (D.told disk.new) result }
-    ensures reads { ReadsAlone (D.told disk.old) (D.told disk.new) }
-    ensures rewinds { (due : Cycled) → due_anew desk.now.kept at ask.now ≡ Rewinds due → HoldsHeld (D.told disk.old) desk.now
-        → OnOk result (steps.new ≤ steps.old + most_performed desk.now.kept ask.now due) }
-    ensures most { (due : Cycled) → due_anew desk.now.kept at ask.now ≡ Rewinds due → HoldsHeld (D.told disk.old) desk.now
-        → OnErr result (steps.new ≤ steps.old + most_tried desk.now.kept ask.now due) }
-    ensures few { OnErr result (steps.new ≤ steps.old + length desk.now.kept.timeline + length ask.now.inserts + length desk.now.kept.house.accounts) }
-    ensures steps { IfOk result (λ made. steps.new ≤ steps.old + length (items_left desk.now.kept.timeline made)) }
+    ensures redoes { RedoesCycle D.told desk.now at ask.now past.old.disk past.new.disk (past.new ≡ past.old) steps.old steps.new result }
+    ensures still { IsPastRead D.told past.old past.new }
 {
-    match due_place(&begun(desk), ask) {
-        Ok(place) => match rewound_at(rt, alloc, disk, end, desk, at, ask, place, gate, steps) {
+    desk.stands();
+    cycles_leave_states();
+    cycles_can_be_withdrawn();
+    match Due::cycle(begun(desk), at, ask) {
+        Ok(due) => match rewound(rt, alloc, past, desk, &due, gate, steps) {
             Ok(made) => Ok(made),
             Err(BodiesFault::Failed) => Err(CycleRefused::Disk),
             Err(BodiesFault::NoMemory) => Err(CycleRefused::NoMemory),
@@ -193,12 +164,31 @@ pub(crate) fn rewound<R: Threads + Sync, G: Gate, D: Disk, L: Ledger>(
     }
 }
 
-/// The same over a counter that is made of the blank ledger.
-fn rewound_over<R: Threads + Sync, G: Gate, D: Disk, L: Ledger>(
+/// The same of a journal.
+pub(crate) fn cycle<R: Threads + Sync, G: Gate, D: Disk, L: Ledger>(
     rt: &R,
     alloc: Global,
-    disk: &mut D,
-    end: u64,
+    journal: &mut Journal<D>,
+    desk: &Desk,
+    at: u64,
+    ask: &CycleAsk,
+    gate: &G,
+    steps: &mut Steps<L>,
+) -> Result<Rewound, CycleRefused>
+    requires noted { AreNoted journal.old.gate desk.now }
+    requires moment { at ≤ LAST_MOMENT }
+    requires known { IsTrue (are_known desk.now.kept.house ask.now.inserts) }
+    ensures redoes { RedoesCycle D.told desk.now at ask.now journal.old.disk journal.new.disk (journal.new ≡ journal.old) steps.old steps.new result }
+    ensures still { IsOnlyRead D.told journal.old journal.new }
+{
+    cycle_before(rt, alloc, &mut journal.past, desk, at, ask, gate, steps)
+}
+
+/// The same over a counter that is made of the blank ledger.
+fn cycle_over<R: Threads + Sync, G: Gate, D: Disk, L: Ledger>(
+    rt: &R,
+    alloc: Global,
+    journal: &mut Journal<D>,
     desk: &Desk,
     at: u64,
     ask: &CycleAsk,
@@ -208,64 +198,204 @@ fn rewound_over<R: Threads + Sync, G: Gate, D: Disk, L: Ledger>(
     requires name { blank.name ≡ L.name }
     requires parts { blank.parts ≡ L.parts }
     requires some { 0 < blank.parts }
-    requires end { end < (D.told disk.old).size }
-    requires noted { TextsNoted end desk.now.notes desk.now.kept }
-    requires marked { MarkedBefore end desk.now.marks }
+    requires noted { AreNoted journal.old.gate desk.now }
     requires moment { at ≤ LAST_MOMENT }
     requires known { IsTrue (are_known desk.now.kept.house ask.now.inserts) }
-    ensures due { IfOk result (Redoes desk.now.kept at ask.now (HoldsHeld (D.told disk.old) desk.now)) }
-    ensures made { IfOk result (IsMade desk.now.kept at ask.now (HoldsHeld (D.told disk.old) desk.now)) }
-    ensures fit { IfOk result (IsFit desk.now.kept) }
-    ensures refused { IfErr result (IsRefusalOf desk.now.kept ask.now (due_anew desk.now.kept at ask.now)) }
-    ensures cause { RedoesCause (D.told disk.old) (D.told disk.new) result }
-    ensures reads { ReadsAlone (D.told disk.old) (D.told disk.new) }
+    ensures redoes { RedoesAlone D.told desk.now at ask.now journal.old.disk journal.new.disk result }
+    ensures still { IsOnlyRead D.told journal.old journal.new }
 {
     let mut steps: Steps<L> = Steps::new(blank);
-    rewound(rt, alloc, disk, end, desk, at, ask, gate, &mut steps)
+    cycle(rt, alloc, journal, desk, at, ask, gate, &mut steps)
 }
 
 /// The same, with nothing counted.
-pub(crate) fn rewound_alone<R: Threads + Sync, G: Gate, D: Disk>(
+pub(crate) fn cycle_alone<R: Threads + Sync, G: Gate, D: Disk>(
     rt: &R,
     alloc: Global,
-    disk: &mut D,
-    end: u64,
+    journal: &mut Journal<D>,
     desk: &Desk,
     at: u64,
     ask: &CycleAsk,
     gate: &G,
 ) -> Result<Rewound, CycleRefused>
-    requires end { end < (D.told disk.old).size }
-    requires noted { TextsNoted end desk.now.notes desk.now.kept }
-    requires marked { MarkedBefore end desk.now.marks }
+    requires noted { AreNoted journal.old.gate desk.now }
     requires moment { at ≤ LAST_MOMENT }
     requires known { IsTrue (are_known desk.now.kept.house ask.now.inserts) }
-    ensures due { IfOk result (Redoes desk.now.kept at ask.now (HoldsHeld (D.told disk.old) desk.now)) }
-    ensures made { IfOk result (IsMade desk.now.kept at ask.now (HoldsHeld (D.told disk.old) desk.now)) }
-    ensures fit { IfOk result (IsFit desk.now.kept) }
-    ensures refused { IfErr result (IsRefusalOf desk.now.kept ask.now (due_anew desk.now.kept at ask.now)) }
-    ensures cause { RedoesCause (D.told disk.old) (D.told disk.new) result }
-    ensures reads { ReadsAlone (D.told disk.old) (D.told disk.new) }
+    ensures redoes { RedoesAlone D.told desk.now at ask.now journal.old.disk journal.new.disk result }
+    ensures still { IsOnlyRead D.told journal.old journal.new }
 {
-    rewound_over::<R, G, D, Brand>(rt, alloc, disk, end, desk, at, ask, gate, Blank::new(1))
+    cycle_over::<R, G, D, Brand>(rt, alloc, journal, desk, at, ask, gate, Blank::new(1))
 }
 
-/// Makes what a cycle leaves ready to be put in place, under a key.
+/// What the cycle leaves that is due, performed again with nothing counted, over a counter that is made of the blank ledger.
+fn again_over<D: Disk, L: Ledger>(
+    alloc: Global,
+    past: &mut Past<D>,
+    desk: &Desk,
+    at: u64,
+    ask: &CycleAsk,
+    blank: Blank,
+) -> Result<Rewound, CycleRefused>
+    requires name { blank.name ≡ L.name }
+    requires parts { blank.parts ≡ L.parts }
+    requires some { 0 < blank.parts }
+    requires noted { AreNoted past.old.end desk.now }
+    requires moment { at ≤ LAST_MOMENT }
+    requires known { IsTrue (are_known desk.now.kept.house ask.now.inserts) }
+    ensures redoes { RedoesAlone D.told desk.now at ask.now past.old.disk past.new.disk result }
+    ensures still { IsPastRead D.told past.old past.new }
+{
+    desk.stands();
+    cycles_leave_states();
+    cycles_can_be_withdrawn();
+    let mut steps: Steps<L> = Steps::new(blank);
+    match Due::cycle(begun(desk), at, ask) {
+        Ok(due) => match again(alloc, past, desk, &due, &mut steps) {
+            Ok(made) => Ok(made),
+            Err(BodiesFault::Failed) => Err(CycleRefused::Disk),
+            Err(BodiesFault::NoMemory) => Err(CycleRefused::NoMemory),
+        },
+        Err(refused) => Err(refused),
+    }
+}
+
+/// What the cycle leaves that is due, performed again.
+pub(crate) fn cycle_again<D: Disk>(
+    alloc: Global,
+    past: &mut Past<D>,
+    desk: &Desk,
+    at: u64,
+    ask: &CycleAsk,
+) -> Result<Rewound, CycleRefused>
+    requires noted { AreNoted past.old.end desk.now }
+    requires moment { at ≤ LAST_MOMENT }
+    requires known { IsTrue (are_known desk.now.kept.house ask.now.inserts) }
+    ensures redoes { RedoesAlone D.told desk.now at ask.now past.old.disk past.new.disk result }
+    ensures still { IsPastRead D.told past.old past.new }
+{
+    again_over::<D, Brand>(alloc, past, desk, at, ask, Blank::new(1))
+}
+
+/// What the withdrawal of the last cycle leaves that is due at a moment under a new key. Texts are read before a gate.
+fn withdrawal_before<R: Threads + Sync, G: Gate, D: Disk, L: Ledger>(
+    rt: &R,
+    alloc: Global,
+    past: &mut Past<D>,
+    desk: &Desk,
+    at: u64,
+    last: &UndoneBehind,
+    gate: &G,
+    steps: &mut Steps<L>,
+) -> Result<Rewound, CycleRefused>
+    requires last { desk.now.kept.undone ≡ Some last.now }
+    requires noted { AreNoted past.old.end desk.now }
+    requires moment { at ≤ LAST_MOMENT }
+    ensures redoes { (of : ℕ) → undone_of desk.now.kept of ≡ Some last.now → WithdrawsInSteps D.told desk.now at of past.old.disk past.new.disk (past.new ≡ past.old) steps.old steps.new result }
+    ensures still { IsPastRead D.told past.old past.new }
+{
+    desk.stands();
+    withdrawals_leave_states();
+    match Due::withdrawal(alloc, begun(desk), at, last) {
+        Ok(due) => match rewound(rt, alloc, past, desk, &due, gate, steps) {
+            Ok(made) => Ok(made),
+            Err(BodiesFault::Failed) => Err(CycleRefused::Disk),
+            Err(BodiesFault::NoMemory) => Err(CycleRefused::NoMemory),
+        },
+        Err(refused) => Err(refused),
+    }
+}
+
+/// The same of a journal, where the cycle has this number.
+pub(crate) fn withdrawal<R: Threads + Sync, G: Gate, D: Disk, L: Ledger>(
+    rt: &R,
+    alloc: Global,
+    journal: &mut Journal<D>,
+    desk: &Desk,
+    at: u64,
+    of: u32,
+    gate: &G,
+    steps: &mut Steps<L>,
+) -> Result<Rewound, CycleRefused>
+    requires noted { AreNoted journal.old.gate desk.now }
+    requires moment { at ≤ LAST_MOMENT }
+    ensures redoes { WithdrawsInSteps D.told desk.now at of journal.old.disk journal.new.disk (journal.new ≡ journal.old) steps.old steps.new result }
+    ensures still { IsOnlyRead D.told journal.old journal.new }
+{
+    match desk.undone(of) {
+        Some(last) => withdrawal_before(rt, alloc, &mut journal.past, desk, at, last, gate, steps),
+        None => Err(CycleRefused::Point { given: of }),
+    }
+}
+
+/// What the withdrawal of the last cycle leaves that is due, performed again with nothing counted, over a counter that is made of the
+/// blank ledger.
+fn withdrawal_over<D: Disk, L: Ledger>(
+    alloc: Global,
+    past: &mut Past<D>,
+    desk: &Desk,
+    at: u64,
+    last: &UndoneBehind,
+    blank: Blank,
+) -> Result<Rewound, CycleRefused>
+    requires name { blank.name ≡ L.name }
+    requires parts { blank.parts ≡ L.parts }
+    requires some { 0 < blank.parts }
+    requires last { desk.now.kept.undone ≡ Some last.now }
+    requires noted { AreNoted past.old.end desk.now }
+    requires moment { at ≤ LAST_MOMENT }
+    ensures redoes { (of : ℕ) → undone_of desk.now.kept of ≡ Some last.now → WithdrawsAlone D.told desk.now at of past.old.disk past.new.disk result }
+    ensures still { IsPastRead D.told past.old past.new }
+{
+    desk.stands();
+    withdrawals_leave_states();
+    let mut steps: Steps<L> = Steps::new(blank);
+    match Due::withdrawal(alloc, begun(desk), at, last) {
+        Ok(due) => match again(alloc, past, desk, &due, &mut steps) {
+            Ok(made) => Ok(made),
+            Err(BodiesFault::Failed) => Err(CycleRefused::Disk),
+            Err(BodiesFault::NoMemory) => Err(CycleRefused::NoMemory),
+        },
+        Err(refused) => Err(refused),
+    }
+}
+
+/// The same, where the cycle has this number.
+pub(crate) fn withdrawal_again<D: Disk>(
+    alloc: Global,
+    past: &mut Past<D>,
+    desk: &Desk,
+    at: u64,
+    of: u32,
+) -> Result<Rewound, CycleRefused>
+    requires noted { AreNoted past.old.end desk.now }
+    requires moment { at ≤ LAST_MOMENT }
+    ensures redoes { WithdrawsAlone D.told desk.now at of past.old.disk past.new.disk result }
+    ensures still { IsPastRead D.told past.old past.new }
+{
+    match desk.undone(of) {
+        Some(last) => withdrawal_over::<D, Brand>(alloc, past, desk, at, last, Blank::new(1)),
+        None => Err(CycleRefused::Point { given: of }),
+    }
+}
+
+/// Makes what a repair leaves ready to be put in place, under a key, where it can be withdrawn and where it can't.
 pub(crate) fn remade(
     alloc: Global,
     desk: &mut Desk,
     key: Name,
+    undoes: bool,
     made: Rewound,
     fresh: &Fresh,
 ) -> Result<Remade, NoMemory>
-    requires { IsFit desk.old.kept made }
+    requires fit { IsFit desk.old.kept made }
+    requires undone { CanBeUndone desk.old.kept undoes made }
     ensures kept { desk.new.kept ≡ desk.old.kept }
     ensures same { desk.new.notes ≡ desk.old.notes }
     ensures same_marks { desk.new.marks ≡ desk.old.marks }
-    ensures made { IfOk result (λ remade. remade_as desk.old.kept remade ≡ after_rewound desk.old.kept key made) }
-    ensures report { IfOk result (λ remade. remade.report ≡ made.report) }
-    ensures notes { IfOk result (λ remade. Renotes desk.old.notes fresh.now (items_left desk.old.kept.timeline made) remade.shelf.notes) }
-    ensures place { IfOk result (λ remade. remade.place ≡ made.place) }
+    ensures made { IfOk result (λ remade. remade_as desk.old.kept remade ≡ after_rewound desk.old.kept key undoes made) }
+    ensures report { IfOk result (λ remade. remade.left.report ≡ made.report) }
+    ensures notes { IfOk result (λ remade. Renotes desk.old.notes fresh.now (asked_then desk.old.kept undoes made) remade.shelf.notes) }
+    ensures place { IfOk result (λ remade. remade.left.place ≡ made.place) }
     ensures ready { IfOk result (λ remade. CanReplace remade desk.new) }
 {
     let Rewound {
@@ -273,14 +403,26 @@ pub(crate) fn remade(
         place,
         from,
         behind,
+        placed,
         stamps,
         next,
         entered,
         report,
+        ..
     } = made;
-    desk.remake(
-        alloc, store, from, behind, stamps, next, key, report, fresh, place, entered,
-    )
+    let left = Left {
+        store,
+        from,
+        behind,
+        stamps,
+        next,
+        place,
+        placed,
+        entered,
+        report,
+        undoes,
+    };
+    desk.remake(alloc, key, left, fresh)
 }
 
 /// The key of a request.

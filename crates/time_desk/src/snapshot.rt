@@ -2,7 +2,7 @@
 ghost use Rattle.std.specs.Prelude.{◌≡◌, ◌↔◌, [], ◌∷◌, length, IsTrue, IfOk, OnOk, IfErr, OnErr, IsErrOf};
 ghost use Rattle.seal_log.specs.Causes.{SealWants};
 ghost use Rattle.store_kept.specs.Kept.{snapshotted};
-ghost use Rattle.mail_cycle.specs.Permanence.{UidsLast};
+ghost use Rattle.mail_cycle.specs.Permanence.{UidsStay};
 ghost use Rattle.desk_journal.specs.Records.{snapshot_record};
 ghost use Rattle.desk_journal.specs.Reading.{ReadsWell};
 ghost use Rattle.desk_journal.specs.Sealing.{Seals};
@@ -35,7 +35,7 @@ impl<D: Disk> Desk<D> {
         ensures reads { ReadsWell D.told self.old self.new }
         ensures wants { SealWants D.told self.old.disk self.new.disk result }
         ensures closed { IsErrOf result SealFault.Closed ↔ IsTrue self.old.closed }
-        ensures uids { UidsLast self.old.kept self.new.kept }
+        ensures uids { UidsStay self.old.kept self.new.kept }
     {
         self.stands();
         if self.journal.is_closed() {

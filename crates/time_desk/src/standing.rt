@@ -1,28 +1,28 @@
 //! Records that can stand: the first of a journal, and each behind it, performed. Where the texts of a record lie is noted.
-ghost use Rattle.std.specs.Prelude.{◌≡◌, ◌≤◌, ◌<◌, ◌+◌, List, ℕ, true, false, bytes_eq, is_none, length, IsTrue, IfOk, OnOk, IsErrOf, option_map};
+ghost use Rattle.std.specs.Prelude.{◌≡◌, ◌==◌, ◌≤◌, ◌<◌, ◌+◌, List, ℕ, true, false, bytes_eq, is_none, length, IsTrue, IfOk, OnOk, IsErrOf, option_map};
 ghost use Rattle.std.specs.List.{list_all};
 ghost use Rattle.verb_core.specs.Items.{text_in, users_in};
 ghost use Rattle.verb_core.specs.Store.{is_known as knows};
-ghost use Rattle.verb_bytes.specs.declared.journal.JournalRecord.TheVariants.{Cycle, Operator, Snapshot, Upgrade, Verb};
+ghost use Rattle.verb_bytes.specs.declared.journal.JournalRecord.TheVariants.{Cycle, Operator, Snapshot, Upgrade, Verb, Withdraw};
 ghost use Rattle.verb_bytes.specs.Spelling.{HasSpelling, record_bytes};
 ghost use Rattle.seal_log.specs.Causes.{ReadAtCause};
 ghost use Rattle.seal_log.specs.Journal.{LiesAt};
-ghost use Rattle.seal_log.specs.Settled.{ReadsAlone};
 ghost use Rattle.store_kept.specs.Kept.{report_of};
+ghost use Rattle.store_kept.specs.Texts.{items_asked};
 ghost use Rattle.shelf.specs.Marks.{marks_at_or_before};
 ghost use Rattle.repair_desk.specs.Repairs.{are_known as acts_name_known};
-ghost use Rattle.cycle_rules.specs.Asking.{due_anew};
-ghost use Rattle.mail_cycle.specs.Leaving.{items_left};
+ghost use Rattle.cycle_rules.specs.Asking.{after_cycle, due_anew};
+ghost use Rattle.cycle_rules.specs.Withdrawals.{after_withdrawal, withdraw_due_anew};
 ghost use Rattle.mail_desk.specs.Timeline.{NotesText, SizesOf, body_of};
-ghost use Rattle.time_desk.specs.Cycling.{IsFit, after_rewound};
-ghost use Rattle.desk_journal.specs.Records.{format_of, after_cycle_record, after_due, after_record, can_follow as follows, can_keep as keeps, can_rewind as rewinds, first_state, is_true as tells_all, snapshot_record};
+ghost use Rattle.time_desk.specs.Cycling.{CanBeUndone, IsFit, after_rewound, asked_then};
+ghost use Rattle.desk_journal.specs.Records.{format_of, after_cycle_record, after_due, after_record, after_withdraw_record, can_follow as follows, can_keep as keeps, can_rewind as rewinds, first_state, is_true as tells_all, snapshot_record};
 ghost use Rattle.time_desk.specs.Standing.{Enters, IsFormed, Performs, begun, has_users as uses, is_actor, kept_as, marked_as};
-ghost use Rattle.desk_journal.specs.Stored.{KeepsMarks, MarkedBefore, MarksLie, TextsNoted, NotesCycle, NotesTexts, Renotes, TextsHeld, TextsStored};
+ghost use Rattle.desk_journal.specs.Stored.{AreNoted, KeepsMarks, MarksLie, NotesCycle, NotesNone, NotesTexts, Renotes, TextsHeld, TextsStored};
+ghost use Rattle.desk_journal.specs.Telling.{IsPastRead};
 
-use crate::again::performed_again;
-use crate::redo::{key_in, remade};
+use crate::redo::{cycle_again, key_in, remade, withdrawal_again};
 use box_store::makes_store;
-use desk_journal::{fresh_of, item_of};
+use desk_journal::{Past, fresh_of, item_of, no_fresh};
 use house_text::can_begin;
 use mail_cycle::{CycleRefused, Rewound};
 use mail_desk::{Desk, Fresh};
@@ -31,7 +31,10 @@ use std::alloc::Global;
 use store_digest::snapshot_text;
 use undo_base::{LAST_MOMENT, LAST_NUMBER, Name, NoMemory, Text, User};
 use undo_outside::Disk;
-use verb_bytes::laws::{one_spelling, spelled_cycles_have_moments, spelled_items_are_formed};
+use verb_bytes::laws::{
+    one_spelling, spelled_cycles_have_moments, spelled_items_are_formed,
+    spelled_withdrawals_have_moments,
+};
 use verb_bytes::{
     CycleAsk, JournalRecord, Unwritten, act_text_from, item_text_from, spell_snapshot,
 };
@@ -253,22 +256,24 @@ fn is_new(desk: &Desk, key: &Name) -> bool
     desk.report(key).is_none()
 }
 
-/// Puts what a cycle leaves in place, with the notes of its texts.
+/// Puts what a repair leaves in place, with the notes of its texts.
 fn replace_with(
     alloc: Global,
     desk: &mut Desk,
     key: Name,
+    undoes: bool,
     made: Rewound,
     fresh: Fresh,
 ) -> Result<bool, ReadFault>
-    requires { IsFit desk.old.kept made }
-    ensures kept { IfOk result (λ stood. (stood ≡ true) × (desk.new.kept ≡ after_rewound desk.old.kept key made)) }
-    ensures notes { OnOk result (Renotes desk.old.notes fresh (items_left desk.old.kept.timeline made) desk.new.notes) }
-    ensures sizes { OnOk result (SizesOf desk.new.notes desk.new.kept.timeline) }
+    requires fit { IsFit desk.old.kept made }
+    requires undone { CanBeUndone desk.old.kept undoes made }
+    ensures kept { IfOk result (λ stood. (stood ≡ true) × (desk.new.kept ≡ after_rewound desk.old.kept key undoes made)) }
+    ensures notes { OnOk result (Renotes desk.old.notes fresh (asked_then desk.old.kept undoes made) desk.new.notes) }
+    ensures sizes { OnOk result (SizesOf desk.new.notes (items_asked desk.new.kept)) }
     ensures marks { OnOk result (desk.new.marks ≡ marks_at_or_before made.place desk.old.marks) }
     ensures never { IsErrOf result ReadFault.Disk → ⊥ }
 {
-    let remade = remade(alloc, desk, key, made, &fresh);
+    let remade = remade(alloc, desk, key, undoes, made, &fresh);
     drop(fresh);
     match remade {
         Ok(remade) => {
@@ -288,15 +293,16 @@ fn put_in_place(
     made: Rewound,
     place: Place,
 ) -> Result<bool, ReadFault>
-    requires { IsFit desk.old.kept made }
-    ensures kept { IfOk result (λ stood. (stood ≡ true) × (desk.new.kept ≡ after_rewound desk.old.kept ask.key made)) }
-    ensures notes { (at : ℕ) → OnOk result (NotesCycle desk.old.kept.next at ask place desk.old.notes (items_left desk.old.kept.timeline made) desk.new.notes) }
-    ensures sizes { OnOk result (SizesOf desk.new.notes desk.new.kept.timeline) }
+    requires fit { IsFit desk.old.kept made }
+    requires undone { CanBeUndone desk.old.kept true made }
+    ensures kept { IfOk result (λ stood. (stood ≡ true) × (desk.new.kept ≡ after_rewound desk.old.kept ask.key true made)) }
+    ensures notes { (at : ℕ) → OnOk result (NotesCycle desk.old.kept.next at ask place desk.old.notes (asked_then desk.old.kept true made) desk.new.notes) }
+    ensures sizes { OnOk result (SizesOf desk.new.notes (items_asked desk.new.kept)) }
     ensures marks { OnOk result (desk.new.marks ≡ marks_at_or_before made.place desk.old.marks) }
     ensures never { IsErrOf result ReadFault.Disk → ⊥ }
 {
     match fresh_of(alloc, desk.next(), &ask, place) {
-        Ok(fresh) => replace_with(alloc, desk, key_in(ask), made, fresh),
+        Ok(fresh) => replace_with(alloc, desk, key_in(ask), true, made, fresh),
         Err(NoMemory) => {
             drop(ask);
             drop(made);
@@ -323,8 +329,7 @@ fn none_due(refused: CycleRefused) -> Result<bool, ReadFault>
 /// Performs a cycle under a new key, where its point is known and numbers are left.
 fn rewind_anew<D: Disk>(
     alloc: Global,
-    disk: &mut D,
-    end: u64,
+    past: &mut Past<D>,
     desk: &mut Desk,
     at: u64,
     ask: CycleAsk,
@@ -332,26 +337,23 @@ fn rewind_anew<D: Disk>(
 ) -> Result<bool, ReadFault>
     requires moment { at ≤ LAST_MOMENT }
     requires known { IsTrue (acts_name_known desk.old.kept.house ask.inserts) }
-    requires end { end < (D.told disk.old).size }
-    requires noted { TextsNoted end desk.old.notes desk.old.kept }
-    requires marked { MarkedBefore end desk.old.marks }
-    requires place { place.gate + 5 + place.length ≤ end }
+    requires noted { AreNoted past.old.end desk.old }
+    requires place { place.gate + 5 + place.length ≤ past.old.end }
     requires long { place.length ≡ length (record_bytes (Cycle desk.old.kept.next at ask)) }
-    ensures performed { (payloads : List (List ℕ)) → TextsHeld (D.told disk.old) payloads desk.old.kept desk.old.notes desk.old.marks
-        → IfOk result (λ stood. Performs (after_due desk.old.kept ask (due_anew desk.old.kept at ask)) stood desk.new.kept) }
-    ensures texts { (payloads : List (List ℕ)) → TextsHeld (D.told disk.old) payloads desk.old.kept desk.old.notes desk.old.marks
+    ensures performed { (payloads : List (List ℕ)) → TextsHeld (D.told past.old.disk) payloads desk.old.kept desk.old.notes desk.old.marks
+        → IfOk result (λ stood. Performs (after_due (after_cycle desk.old.kept ask) (due_anew desk.old.kept at ask)) stood desk.new.kept) }
+    ensures texts { (payloads : List (List ℕ)) → TextsHeld (D.told past.old.disk) payloads desk.old.kept desk.old.notes desk.old.marks
         → LiesAt payloads place.gate place.length (record_bytes (Cycle desk.old.kept.next at ask))
         → IfOk result (λ stood. stood ≡ true → TextsStored payloads desk.new.notes desk.new.kept) }
-    ensures marks { (payloads : List (List ℕ)) → TextsHeld (D.told disk.old) payloads desk.old.kept desk.old.notes desk.old.marks
+    ensures marks { (payloads : List (List ℕ)) → TextsHeld (D.told past.old.disk) payloads desk.old.kept desk.old.notes desk.old.marks
         → LiesAt payloads place.gate place.length (record_bytes (Cycle desk.old.kept.next at ask))
         → IfOk result (λ stood. stood ≡ true → MarksLie payloads desk.new.kept desk.new.marks) }
-    ensures noted { IfOk result (λ stood. stood ≡ true → TextsNoted end desk.new.notes desk.new.kept) }
-    ensures marked { IfOk result (λ stood. stood ≡ true → MarkedBefore end desk.new.marks) }
-    ensures reads { ReadsAlone (D.told disk.old) (D.told disk.new) }
-    ensures cause { ReadAtCause (D.told disk.old) (D.told disk.new) result }
+    ensures noted { IfOk result (λ stood. stood ≡ true → AreNoted past.old.end desk.new) }
+    ensures still { IsPastRead D.told past.old past.new }
+    ensures cause { ReadAtCause (D.told past.old.disk) (D.told past.new.disk) result }
 {
     desk.stands();
-    match performed_again(alloc, disk, end, desk, at, &ask) {
+    match cycle_again(alloc, past, desk, at, &ask) {
         Ok(made) => put_in_place(alloc, desk, ask, made, place),
         Err(refused) => {
             drop(ask);
@@ -364,8 +366,7 @@ fn rewind_anew<D: Disk>(
 /// numbers are left. Texts of deliveries are read where they lie.
 fn rewind<D: Disk>(
     alloc: Global,
-    disk: &mut D,
-    end: u64,
+    past: &mut Past<D>,
     desk: &mut Desk,
     number: u32,
     at: u64,
@@ -373,30 +374,118 @@ fn rewind<D: Disk>(
     place: Place,
 ) -> Result<bool, ReadFault>
     requires spelled { HasSpelling (Cycle number at ask) }
-    requires end { end < (D.told disk.old).size }
-    requires noted { TextsNoted end desk.old.notes desk.old.kept }
-    requires marked { MarkedBefore end desk.old.marks }
-    requires place { place.gate + 5 + place.length ≤ end }
+    requires noted { AreNoted past.old.end desk.old }
+    requires place { place.gate + 5 + place.length ≤ past.old.end }
     requires long { place.length ≡ length (record_bytes (Cycle number at ask)) }
-    ensures performed { (payloads : List (List ℕ)) → TextsHeld (D.told disk.old) payloads desk.old.kept desk.old.notes desk.old.marks
+    ensures performed { (payloads : List (List ℕ)) → TextsHeld (D.told past.old.disk) payloads desk.old.kept desk.old.notes desk.old.marks
         → IfOk result (λ stood. Performs (after_cycle_record desk.old.kept number at ask) stood desk.new.kept) }
-    ensures texts { (payloads : List (List ℕ)) → TextsHeld (D.told disk.old) payloads desk.old.kept desk.old.notes desk.old.marks
+    ensures texts { (payloads : List (List ℕ)) → TextsHeld (D.told past.old.disk) payloads desk.old.kept desk.old.notes desk.old.marks
         → LiesAt payloads place.gate place.length (record_bytes (Cycle number at ask))
         → IfOk result (λ stood. stood ≡ true → TextsStored payloads desk.new.notes desk.new.kept) }
-    ensures marks { (payloads : List (List ℕ)) → TextsHeld (D.told disk.old) payloads desk.old.kept desk.old.notes desk.old.marks
+    ensures marks { (payloads : List (List ℕ)) → TextsHeld (D.told past.old.disk) payloads desk.old.kept desk.old.notes desk.old.marks
         → LiesAt payloads place.gate place.length (record_bytes (Cycle number at ask))
         → IfOk result (λ stood. stood ≡ true → MarksLie payloads desk.new.kept desk.new.marks) }
-    ensures noted { IfOk result (λ stood. stood ≡ true → TextsNoted end desk.new.notes desk.new.kept) }
-    ensures marked { IfOk result (λ stood. stood ≡ true → MarkedBefore end desk.new.marks) }
-    ensures reads { ReadsAlone (D.told disk.old) (D.told disk.new) }
-    ensures cause { ReadAtCause (D.told disk.old) (D.told disk.new) result }
+    ensures noted { IfOk result (λ stood. stood ≡ true → AreNoted past.old.end desk.new) }
+    ensures still { IsPastRead D.told past.old past.new }
+    ensures cause { ReadAtCause (D.told past.old.disk) (D.told past.new.disk) result }
 {
     spelled_cycles_have_moments();
     if !can_rewind(desk, number, &ask) || !is_new(desk, &ask.key) {
         drop(ask);
         return Ok(false);
     }
-    rewind_anew(alloc, disk, end, desk, at, ask, place)
+    rewind_anew(alloc, past, desk, at, ask, place)
+}
+
+// ---- a withdrawal
+
+/// Puts what a withdrawal leaves in place: its record brings no texts.
+fn put_back(
+    alloc: Global,
+    desk: &mut Desk,
+    key: Name,
+    made: Rewound,
+    place: Place,
+) -> Result<bool, ReadFault>
+    requires { IsFit desk.old.kept made }
+    ensures kept { IfOk result (λ stood. (stood ≡ true) × (desk.new.kept ≡ after_rewound desk.old.kept key false made)) }
+    ensures notes { OnOk result (NotesNone place desk.old.notes (asked_then desk.old.kept false made) desk.new.notes) }
+    ensures sizes { OnOk result (SizesOf desk.new.notes (items_asked desk.new.kept)) }
+    ensures marks { OnOk result (desk.new.marks ≡ marks_at_or_before made.place desk.old.marks) }
+    ensures never { IsErrOf result ReadFault.Disk → ⊥ }
+{
+    replace_with(alloc, desk, key, false, made, no_fresh(alloc, place))
+}
+
+/// Whether a number is the next one.
+fn is_next(desk: &Desk, number: u32) -> bool
+    ensures { result ≡ (number == desk.now.kept.next) }
+{
+    number == desk.next()
+}
+
+/// Performs a withdrawal under a new key, where its cycle is the last of all cycles and withdrawals, and numbers are left.
+fn withdraw_anew<D: Disk>(
+    alloc: Global,
+    past: &mut Past<D>,
+    desk: &mut Desk,
+    at: u64,
+    key: Name,
+    of: u32,
+    place: Place,
+) -> Result<bool, ReadFault>
+    requires moment { at ≤ LAST_MOMENT }
+    requires noted { AreNoted past.old.end desk.old }
+    ensures performed { (payloads : List (List ℕ)) → TextsHeld (D.told past.old.disk) payloads desk.old.kept desk.old.notes desk.old.marks
+        → IfOk result (λ stood. Performs (after_due (after_withdrawal desk.old.kept key) (withdraw_due_anew desk.old.kept at of)) stood desk.new.kept) }
+    ensures texts { (payloads : List (List ℕ)) → TextsHeld (D.told past.old.disk) payloads desk.old.kept desk.old.notes desk.old.marks
+        → IfOk result (λ stood. stood ≡ true → TextsStored payloads desk.new.notes desk.new.kept) }
+    ensures marks { (payloads : List (List ℕ)) → TextsHeld (D.told past.old.disk) payloads desk.old.kept desk.old.notes desk.old.marks
+        → IfOk result (λ stood. stood ≡ true → MarksLie payloads desk.new.kept desk.new.marks) }
+    ensures noted { IfOk result (λ stood. stood ≡ true → AreNoted past.old.end desk.new) }
+    ensures still { IsPastRead D.told past.old past.new }
+    ensures cause { ReadAtCause (D.told past.old.disk) (D.told past.new.disk) result }
+{
+    desk.stands();
+    match withdrawal_again(alloc, past, desk, at, of) {
+        Ok(made) => put_back(alloc, desk, key, made, place),
+        Err(refused) => {
+            drop(key);
+            none_due(refused)
+        }
+    }
+}
+
+/// Performs a withdrawal, where it can stand: its number is the next, its key is new, its cycle is the last of all cycles and
+/// withdrawals, and numbers are left. Texts of deliveries are read where they lie.
+fn withdraw<D: Disk>(
+    alloc: Global,
+    past: &mut Past<D>,
+    desk: &mut Desk,
+    number: u32,
+    at: u64,
+    key: Name,
+    of: u32,
+    place: Place,
+) -> Result<bool, ReadFault>
+    requires spelled { HasSpelling (Withdraw number at key of) }
+    requires noted { AreNoted past.old.end desk.old }
+    ensures performed { (payloads : List (List ℕ)) → TextsHeld (D.told past.old.disk) payloads desk.old.kept desk.old.notes desk.old.marks
+        → IfOk result (λ stood. Performs (after_withdraw_record desk.old.kept number at key of) stood desk.new.kept) }
+    ensures texts { (payloads : List (List ℕ)) → TextsHeld (D.told past.old.disk) payloads desk.old.kept desk.old.notes desk.old.marks
+        → IfOk result (λ stood. stood ≡ true → TextsStored payloads desk.new.notes desk.new.kept) }
+    ensures marks { (payloads : List (List ℕ)) → TextsHeld (D.told past.old.disk) payloads desk.old.kept desk.old.notes desk.old.marks
+        → IfOk result (λ stood. stood ≡ true → MarksLie payloads desk.new.kept desk.new.marks) }
+    ensures noted { IfOk result (λ stood. stood ≡ true → AreNoted past.old.end desk.new) }
+    ensures still { IsPastRead D.told past.old past.new }
+    ensures cause { ReadAtCause (D.told past.old.disk) (D.told past.new.disk) result }
+{
+    spelled_withdrawals_have_moments();
+    if !is_next(desk, number) || !is_new(desk, &key) {
+        drop(key);
+        return Ok(false);
+    }
+    withdraw_anew(alloc, past, desk, at, key, of, place)
 }
 
 // ---- a snapshot
@@ -478,7 +567,7 @@ fn keep(
     requires spelled { HasSpelling (Snapshot items conf.now rows.now) }
     requires place { place.gate + 5 + place.length ≤ end }
     ensures entered { IfOk result (λ stood. Performs (after_record desk.old.kept (Snapshot items conf.now rows.now)) stood desk.new.kept) }
-    ensures still { IfOk result (λ stood. stood ≡ true → (desk.new.notes ≡ desk.old.notes) × (desk.new.kept.timeline ≡ desk.old.kept.timeline)) }
+    ensures still { IfOk result (λ stood. stood ≡ true → (desk.new.notes ≡ desk.old.notes) × (items_asked desk.new.kept ≡ items_asked desk.old.kept)) }
     ensures marked { IfOk result (λ stood. stood ≡ true → KeepsMarks end place (record_bytes (Snapshot items conf.now rows.now)) desk.old desk.new) }
 {
     if !can_keep(desk, items, conf, rows) {
@@ -503,7 +592,7 @@ fn enter_snapshot(
     requires spelled { HasSpelling (Snapshot items conf rows) }
     requires place { place.gate + 5 + place.length ≤ end }
     ensures entered { IfOk result (λ stood. Performs (after_record desk.old.kept (Snapshot items conf rows)) stood desk.new.kept) }
-    ensures still { IfOk result (λ stood. stood ≡ true → (desk.new.notes ≡ desk.old.notes) × (desk.new.kept.timeline ≡ desk.old.kept.timeline)) }
+    ensures still { IfOk result (λ stood. stood ≡ true → (desk.new.notes ≡ desk.old.notes) × (items_asked desk.new.kept ≡ items_asked desk.old.kept)) }
     ensures marked { IfOk result (λ stood. stood ≡ true → KeepsMarks end place (record_bytes (Snapshot items conf rows)) desk.old desk.new) }
 {
     let kept = keep(alloc, desk, end, items, &conf, rows.as_slice(), place);
@@ -520,6 +609,7 @@ fn enter_upgrade(desk: &mut Desk, at: u64) -> bool
     ensures entered { Performs (after_record desk.old.kept (Upgrade at)) result desk.new.kept }
     ensures base { desk.new.kept.base ≡ desk.old.kept.base }
     ensures timeline { desk.new.kept.timeline ≡ desk.old.kept.timeline }
+    ensures asked { items_asked desk.new.kept ≡ items_asked desk.old.kept }
     ensures notes { desk.new.notes ≡ desk.old.notes }
     ensures marks { desk.new.marks ≡ desk.old.marks }
 {
@@ -548,46 +638,54 @@ fn without_reads(stood: Result<bool, NoMemory>) -> Result<bool, ReadFault>
 /// has are noted.
 pub(crate) fn follow<D: Disk>(
     alloc: Global,
-    disk: &mut D,
-    end: u64,
+    past: &mut Past<D>,
     desk: &mut Desk,
     what: JournalRecord,
     place: Place,
 ) -> Result<bool, ReadFault>
     requires spelled { HasSpelling what }
-    requires end { end < (D.told disk.old).size }
-    requires noted { TextsNoted end desk.old.notes desk.old.kept }
-    requires marked { MarkedBefore end desk.old.marks }
-    requires place { place.gate + 5 + place.length ≤ end }
+    requires noted { AreNoted past.old.end desk.old }
+    requires place { place.gate + 5 + place.length ≤ past.old.end }
     requires long { place.length ≡ length (record_bytes what) }
-    ensures performed { (payloads : List (List ℕ)) → TextsHeld (D.told disk.old) payloads desk.old.kept desk.old.notes desk.old.marks
+    ensures performed { (payloads : List (List ℕ)) → TextsHeld (D.told past.old.disk) payloads desk.old.kept desk.old.notes desk.old.marks
         → IfOk result (λ stood. Performs (after_record desk.old.kept what) stood desk.new.kept) }
-    ensures texts { (payloads : List (List ℕ)) → TextsHeld (D.told disk.old) payloads desk.old.kept desk.old.notes desk.old.marks
+    ensures texts { (payloads : List (List ℕ)) → TextsHeld (D.told past.old.disk) payloads desk.old.kept desk.old.notes desk.old.marks
         → LiesAt payloads place.gate place.length (record_bytes what)
         → IfOk result (λ stood. stood ≡ true → TextsStored payloads desk.new.notes desk.new.kept) }
-    ensures marks { (payloads : List (List ℕ)) → TextsHeld (D.told disk.old) payloads desk.old.kept desk.old.notes desk.old.marks
+    ensures marks { (payloads : List (List ℕ)) → TextsHeld (D.told past.old.disk) payloads desk.old.kept desk.old.notes desk.old.marks
         → LiesAt payloads place.gate place.length (record_bytes what)
         → IfOk result (λ stood. stood ≡ true → MarksLie payloads desk.new.kept desk.new.marks) }
-    ensures noted { IfOk result (λ stood. stood ≡ true → TextsNoted end desk.new.notes desk.new.kept) }
-    ensures marked { IfOk result (λ stood. stood ≡ true → MarkedBefore end desk.new.marks) }
-    ensures reads { ReadsAlone (D.told disk.old) (D.told disk.new) }
-    ensures cause { ReadAtCause (D.told disk.old) (D.told disk.new) result }
+    ensures noted { IfOk result (λ stood. stood ≡ true → AreNoted past.old.end desk.new) }
+    ensures still { IsPastRead D.told past.old past.new }
+    ensures cause { ReadAtCause (D.told past.old.disk) (D.told past.new.disk) result }
 {
     match what {
-        JournalRecord::Verb(item) => without_reads(enter_verb(alloc, desk, end, item, place)),
+        JournalRecord::Verb(item) => without_reads(enter_verb(
+            alloc,
+            desk,
+            past.end(),
+            item,
+            place,
+        )),
         JournalRecord::Operator { number, at, act } => {
-            without_reads(enter_act(alloc, desk, end, number, at, act, place))
+            without_reads(enter_act(alloc, desk, past.end(), number, at, act, place))
         }
         JournalRecord::Cycle { number, at, ask } => {
-            rewind(alloc, disk, end, desk, number, at, ask, place)
+            rewind(alloc, past, desk, number, at, ask, place)
         }
+        JournalRecord::Withdraw {
+            number,
+            at,
+            key,
+            of,
+        } => withdraw(alloc, past, desk, number, at, key, of, place),
         JournalRecord::Format(house, conf) => {
             drop(house);
             drop(conf);
             Ok(false)
         }
         JournalRecord::Snapshot { items, conf, rows } => {
-            without_reads(enter_snapshot(alloc, desk, end, items, conf, rows, place))
+            without_reads(enter_snapshot(alloc, desk, past.end(), items, conf, rows, place))
         }
         JournalRecord::Upgrade { at } => Ok(enter_upgrade(desk, at)),
     }

@@ -8,18 +8,20 @@ ghost use Rattle.seal_log.specs.Loading.{places_from};
 ghost use Rattle.seal_log.specs.Loads.{IsSurveyed};
 ghost use Rattle.seal_log.specs.Log.{end_gate, is_cut, last_gate, leaves_open};
 ghost use Rattle.seal_log.specs.Settled.{Holds, ReadsAlone};
+ghost use Rattle.store_kept.specs.Coming.{HasUndoneTexts};
 ghost use Rattle.store_kept.specs.Kept.{IsRun, Kept};
 ghost use Rattle.desk_journal.specs.Permanence.{RevsBelow};
 ghost use Rattle.time_desk.specs.Opening.{IsStarted, Refuses, Starts};
 ghost use Rattle.desk_journal.specs.Records.{after_record, first_state};
 ghost use Rattle.time_desk.specs.Standing.{BreaksFor, Fails, FailsPayload, FailsReading, FrontBreaksFor, LeadsTo, Opens, Performed, ReadCounts, SpellsAll, SpellsNothing, StopsFor};
-ghost use Rattle.desk_journal.specs.Stored.{HoldsTexts, MarkedBefore, TextsNoted, SettledTexts, TextsHeld};
+ghost use Rattle.desk_journal.specs.Stored.{AreNoted, HoldsTexts, SettledTexts, TextsHeld};
+ghost use Rattle.desk_journal.specs.Telling.{IsPastRead};
 
 use crate::permanence::records_let_uids_last;
 use crate::standing::{begin, follow};
 use crate::{Desk, StartFault};
-use desk_journal::Journal;
-use seal_log::{End, LoadFault, Log, Place, ReadFault, Survey, read_before, survey};
+use desk_journal::{Journal, Past};
+use seal_log::{End, LoadFault, Log, Place, ReadFault, Survey, survey};
 use std::alloc::Global;
 use undo_base::{NoMemory, Text, after};
 use undo_outside::Disk;
@@ -57,23 +59,21 @@ fn decoded_at(alloc: Global, payload: &Text, place: Place) -> Result<JournalReco
 /// The record at a place.
 fn record_at<D: Disk>(
     alloc: Global,
-    disk: &mut D,
-    end: u64,
+    past: &mut Past<D>,
     place: Place,
 ) -> Result<JournalRecord, StartFault>
-    requires end { end < (D.told disk.old).size }
-    requires place { place.gate + 5 + place.length ≤ end }
+    requires place { place.gate + 5 + place.length ≤ past.old.end }
     ensures spelled { IfOk result HasSpelling }
     ensures long { IfOk result (λ what. place.length ≡ length (record_bytes what)) }
-    ensures read { (payloads : List (List ℕ)) (payload : List ℕ) → Holds (D.told disk.old) payloads
+    ensures read { (payloads : List (List ℕ)) (payload : List ℕ) → Holds (D.told past.old.disk) payloads
         → LiesAt payloads place.gate place.length payload → IfOk result (λ what. Spells what payload) }
-    ensures bad { (payloads : List (List ℕ)) (payload : List ℕ) → Holds (D.told disk.old) payloads
+    ensures bad { (payloads : List (List ℕ)) (payload : List ℕ) → Holds (D.told past.old.disk) payloads
         → LiesAt payloads place.gate place.length payload → IfErr result (SpellsNothing payload place.gate) }
-    ensures reads { ReadsAlone (D.told disk.old) (D.told disk.new) }
-    ensures ok { OnOk result ((D.told disk.new).failed_reads ≡ (D.told disk.old).failed_reads) }
-    ensures fault { IfErr result (ReadCounts (D.told disk.old) (D.told disk.new)) }
+    ensures still { IsPastRead D.told past.old past.new }
+    ensures ok { OnOk result ((D.told past.new.disk).failed_reads ≡ (D.told past.old.disk).failed_reads) }
+    ensures fault { IfErr result (ReadCounts (D.told past.old.disk) (D.told past.new.disk)) }
 {
-    match read_before(alloc, disk, end, place, 0, place.length) {
+    match past.read(alloc, place, 0, place.length) {
         Ok(payload) => decoded_at(alloc, &payload, place),
         Err(ReadFault::Disk) => Err(StartFault::Disk),
         Err(ReadFault::NoMemory) => Err(StartFault::NoMemory),
@@ -84,7 +84,7 @@ fn record_at<D: Disk>(
 fn begun(alloc: Global, what: JournalRecord, gate: u64) -> Result<mail_desk::Desk, StartFault>
     requires { HasSpelling what }
     ensures first { IfOk result (λ desk. first_state what ≡ Some desk.kept) }
-    ensures none { IfOk result (λ desk. (desk.kept.timeline ≡ []) × (desk.marks ≡ [])) }
+    ensures none { IfOk result (λ desk. (desk.kept.timeline ≡ []) × (desk.kept.undone ≡ None) × (desk.marks ≡ [])) }
     ensures runs { IfOk result (λ desk. IsRun desk.kept) }
     ensures bad { IfErr result (Fails (first_state what ≡ None) gate) }
 {
@@ -101,24 +101,22 @@ fn begun(alloc: Global, what: JournalRecord, gate: u64) -> Result<mail_desk::Des
 /// Reads a first record, and begins a desk with it.
 fn begin_with<D: Disk>(
     alloc: Global,
-    disk: &mut D,
-    end: u64,
+    past: &mut Past<D>,
     place: Place,
 ) -> Result<mail_desk::Desk, StartFault>
-    requires end { end < (D.told disk.old).size }
-    requires place { place.gate + 5 + place.length ≤ end }
-    ensures performed { (payloads : List (List ℕ)) (payload : List ℕ) → Holds (D.told disk.old) payloads
+    requires place { place.gate + 5 + place.length ≤ past.old.end }
+    ensures performed { (payloads : List (List ℕ)) (payload : List ℕ) → Holds (D.told past.old.disk) payloads
         → LiesAt payloads place.gate place.length payload → IfOk result (λ desk. Performed first_state payload desk.kept) }
-    ensures none { IfOk result (λ desk. (desk.kept.timeline ≡ []) × (desk.marks ≡ [])) }
+    ensures none { IfOk result (λ desk. (desk.kept.timeline ≡ []) × (desk.kept.undone ≡ None) × (desk.marks ≡ [])) }
     ensures runs { IfOk result (λ desk. IsRun desk.kept) }
-    ensures bad { (payloads : List (List ℕ)) (payload : List ℕ) → Holds (D.told disk.old) payloads
+    ensures bad { (payloads : List (List ℕ)) (payload : List ℕ) → Holds (D.told past.old.disk) payloads
         → LiesAt payloads place.gate place.length payload → IfErr result (FailsPayload first_state payload place.gate) }
-    ensures reads { ReadsAlone (D.told disk.old) (D.told disk.new) }
-    ensures ok { OnOk result ((D.told disk.new).failed_reads ≡ (D.told disk.old).failed_reads) }
-    ensures fault { IfErr result (ReadCounts (D.told disk.old) (D.told disk.new)) }
+    ensures still { IsPastRead D.told past.old past.new }
+    ensures ok { OnOk result ((D.told past.new.disk).failed_reads ≡ (D.told past.old.disk).failed_reads) }
+    ensures fault { IfErr result (ReadCounts (D.told past.old.disk) (D.told past.new.disk)) }
 {
     one_spelling();
-    match record_at(alloc, disk, end, place) {
+    match record_at(alloc, past, place) {
         Ok(what) => begun(alloc, what, place.gate),
         Err(fault) => Err(fault),
     }
@@ -134,33 +132,33 @@ fn first(places: &[Place]) -> Place
 /// Reads the records that a journal opens with, one, and begins a desk with them; and tells how many they are.
 fn begin_at<D: Disk>(
     alloc: Global,
-    disk: &mut D,
-    end: u64,
+    past: &mut Past<D>,
     places: &[Place],
 ) -> Result<(mail_desk::Desk, usize), StartFault>
     requires some { 0 < length places.now }
-    requires end { end < (D.told disk.old).size }
-    requires places { All (λ place. place.gate + 5 + place.length ≤ end) places.now }
-    ensures opened { (payloads : List (List ℕ)) → Holds (D.told disk.old) payloads → places.now ≡ places_from 0 payloads
+    requires places { All (λ place. place.gate + 5 + place.length ≤ past.old.end) places.now }
+    ensures opened { (payloads : List (List ℕ)) → Holds (D.told past.old.disk) payloads → places.now ≡ places_from 0 payloads
         → IfOk result (λ front. Opens payloads front.0.kept (drop front.1 places.now)) }
     ensures few { IfOk result (λ front. front.1 ≤ length places.now) }
-    ensures none { IfOk result (λ front. (front.0.kept.timeline ≡ []) × (front.0.marks ≡ [])) }
+    ensures none { IfOk result (λ front. (front.0.kept.timeline ≡ []) × (front.0.kept.undone ≡ None) × (front.0.marks ≡ [])) }
     ensures runs { IfOk result (λ front. IsRun front.0.kept) }
-    ensures bad { (payloads : List (List ℕ)) → Holds (D.told disk.old) payloads → places.now ≡ places_from 0 payloads
+    ensures bad { (payloads : List (List ℕ)) → Holds (D.told past.old.disk) payloads → places.now ≡ places_from 0 payloads
         → IfErr result (FrontBreaksFor payloads) }
-    ensures reads { ReadsAlone (D.told disk.old) (D.told disk.new) }
-    ensures ok { OnOk result ((D.told disk.new).failed_reads ≡ (D.told disk.old).failed_reads) }
-    ensures fault { IfErr result (ReadCounts (D.told disk.old) (D.told disk.new)) }
+    ensures still { IsPastRead D.told past.old past.new }
+    ensures ok { OnOk result ((D.told past.new.disk).failed_reads ≡ (D.told past.old.disk).failed_reads) }
+    ensures fault { IfErr result (ReadCounts (D.told past.old.disk) (D.told past.new.disk)) }
 {
-    match begin_with(alloc, disk, end, first(places)) {
+    match begin_with(alloc, past, first(places)) {
         Ok(desk) => Ok((desk, 1)),
         Err(fault) => Err(fault),
     }
 }
 
-/// Revs stay below the next number when records are performed, and the store stays what the items leave.
+/// Revs stay below the next number when records are performed, texts that can come back still can, and the store stays what the
+/// items leave.
 fn revs_stay(desk: &mail_desk::Desk)
-    ensures revs { (what : TheRecord) (next : Kept) → IsRun desk.now.kept → RevsBelow desk.now.kept → after_record desk.now.kept what ≡ Some next → RevsBelow next }
+    ensures revs { (what : TheRecord) (next : Kept) → IsRun desk.now.kept → RevsBelow desk.now.kept → HasUndoneTexts desk.now.kept → after_record desk.now.kept what ≡ Some next → RevsBelow next }
+    ensures back { (what : TheRecord) (next : Kept) → IsRun desk.now.kept → RevsBelow desk.now.kept → HasUndoneTexts desk.now.kept → after_record desk.now.kept what ≡ Some next → HasUndoneTexts next }
     ensures runs { (what : TheRecord) (next : Kept) → IsRun desk.now.kept → after_record desk.now.kept what ≡ Some next → IsRun next }
 {
     desk.stands();
@@ -170,33 +168,29 @@ fn revs_stay(desk: &mail_desk::Desk)
 /// Performs a record; where it can't stand its gate is told.
 fn performed<D: Disk>(
     alloc: Global,
-    disk: &mut D,
-    end: u64,
+    past: &mut Past<D>,
     desk: &mut mail_desk::Desk,
     what: JournalRecord,
     place: Place,
 ) -> Result<(), StartFault>
     requires spelled { HasSpelling what }
-    requires end { end < (D.told disk.old).size }
-    requires noted { TextsNoted end desk.old.notes desk.old.kept }
-    requires marked { MarkedBefore end desk.old.marks }
-    requires place { place.gate + 5 + place.length ≤ end }
+    requires noted { AreNoted past.old.end desk.old }
+    requires place { place.gate + 5 + place.length ≤ past.old.end }
     requires long { place.length ≡ length (record_bytes what) }
-    ensures next { (payloads : List (List ℕ)) → TextsHeld (D.told disk.old) payloads desk.old.kept desk.old.notes desk.old.marks
+    ensures next { (payloads : List (List ℕ)) → TextsHeld (D.told past.old.disk) payloads desk.old.kept desk.old.notes desk.old.marks
         → OnOk result (after_record desk.old.kept what ≡ Some desk.new.kept) }
-    ensures bad { (payloads : List (List ℕ)) → TextsHeld (D.told disk.old) payloads desk.old.kept desk.old.notes desk.old.marks
+    ensures bad { (payloads : List (List ℕ)) → TextsHeld (D.told past.old.disk) payloads desk.old.kept desk.old.notes desk.old.marks
         → IfErr result (FailsReading (after_record desk.old.kept what ≡ None) place.gate) }
-    ensures texts { (payloads : List (List ℕ)) → TextsHeld (D.told disk.old) payloads desk.old.kept desk.old.notes desk.old.marks
+    ensures texts { (payloads : List (List ℕ)) → TextsHeld (D.told past.old.disk) payloads desk.old.kept desk.old.notes desk.old.marks
         → LiesAt payloads place.gate place.length (record_bytes what)
-        → OnOk result (TextsHeld (D.told disk.new) payloads desk.new.kept desk.new.notes desk.new.marks) }
-    ensures noted { OnOk result (TextsNoted end desk.new.notes desk.new.kept) }
-    ensures marked { OnOk result (MarkedBefore end desk.new.marks) }
-    ensures reads { ReadsAlone (D.told disk.old) (D.told disk.new) }
-    ensures ok { OnOk result ((D.told disk.new).failed_reads ≡ (D.told disk.old).failed_reads) }
-    ensures fault { IfErr result (ReadCounts (D.told disk.old) (D.told disk.new)) }
+        → OnOk result (TextsHeld (D.told past.new.disk) payloads desk.new.kept desk.new.notes desk.new.marks) }
+    ensures noted { OnOk result (AreNoted past.old.end desk.new) }
+    ensures still { IsPastRead D.told past.old past.new }
+    ensures ok { OnOk result ((D.told past.new.disk).failed_reads ≡ (D.told past.old.disk).failed_reads) }
+    ensures fault { IfErr result (ReadCounts (D.told past.old.disk) (D.told past.new.disk)) }
 {
     revs_stay(desk);
-    match follow(alloc, disk, end, desk, what, place) {
+    match follow(alloc, past, desk, what, place) {
         Ok(stood) => {
             if stood {
                 return Ok(());
@@ -211,33 +205,29 @@ fn performed<D: Disk>(
 /// Reads the record at a place, and performs it.
 fn perform_at<D: Disk>(
     alloc: Global,
-    disk: &mut D,
-    end: u64,
+    past: &mut Past<D>,
     place: Place,
     desk: &mut mail_desk::Desk,
 ) -> Result<(), StartFault>
-    requires end { end < (D.told disk.old).size }
-    requires noted { TextsNoted end desk.old.notes desk.old.kept }
-    requires marked { MarkedBefore end desk.old.marks }
-    requires place { place.gate + 5 + place.length ≤ end }
-    ensures performed { (payloads : List (List ℕ)) (payload : List ℕ) → TextsHeld (D.told disk.old) payloads desk.old.kept desk.old.notes desk.old.marks
+    requires noted { AreNoted past.old.end desk.old }
+    requires place { place.gate + 5 + place.length ≤ past.old.end }
+    ensures performed { (payloads : List (List ℕ)) (payload : List ℕ) → TextsHeld (D.told past.old.disk) payloads desk.old.kept desk.old.notes desk.old.marks
         → LiesAt payloads place.gate place.length payload
         → OnOk result (Performed (after_record desk.old.kept) payload desk.new.kept) }
-    ensures bad { (payloads : List (List ℕ)) (payload : List ℕ) → TextsHeld (D.told disk.old) payloads desk.old.kept desk.old.notes desk.old.marks
+    ensures bad { (payloads : List (List ℕ)) (payload : List ℕ) → TextsHeld (D.told past.old.disk) payloads desk.old.kept desk.old.notes desk.old.marks
         → LiesAt payloads place.gate place.length payload
         → IfErr result (FailsPayload (after_record desk.old.kept) payload place.gate) }
-    ensures texts { (payloads : List (List ℕ)) (payload : List ℕ) → TextsHeld (D.told disk.old) payloads desk.old.kept desk.old.notes desk.old.marks
+    ensures texts { (payloads : List (List ℕ)) (payload : List ℕ) → TextsHeld (D.told past.old.disk) payloads desk.old.kept desk.old.notes desk.old.marks
         → LiesAt payloads place.gate place.length payload
-        → OnOk result (TextsHeld (D.told disk.new) payloads desk.new.kept desk.new.notes desk.new.marks) }
-    ensures noted { OnOk result (TextsNoted end desk.new.notes desk.new.kept) }
-    ensures marked { OnOk result (MarkedBefore end desk.new.marks) }
-    ensures reads { ReadsAlone (D.told disk.old) (D.told disk.new) }
-    ensures ok { OnOk result ((D.told disk.new).failed_reads ≡ (D.told disk.old).failed_reads) }
-    ensures fault { IfErr result (ReadCounts (D.told disk.old) (D.told disk.new)) }
+        → OnOk result (TextsHeld (D.told past.new.disk) payloads desk.new.kept desk.new.notes desk.new.marks) }
+    ensures noted { OnOk result (AreNoted past.old.end desk.new) }
+    ensures still { IsPastRead D.told past.old past.new }
+    ensures ok { OnOk result ((D.told past.new.disk).failed_reads ≡ (D.told past.old.disk).failed_reads) }
+    ensures fault { IfErr result (ReadCounts (D.told past.old.disk) (D.told past.new.disk)) }
 {
     one_spelling();
-    match record_at(alloc, disk, end, place) {
-        Ok(what) => performed(alloc, disk, end, desk, what, place),
+    match record_at(alloc, past, place) {
+        Ok(what) => performed(alloc, past, desk, what, place),
         Err(fault) => Err(fault),
     }
 }
@@ -247,31 +237,27 @@ fn perform_at<D: Disk>(
 /// Reads the records at places, and performs one after the other, up to the first that can't stand.
 fn perform_all<D: Disk>(
     alloc: Global,
-    disk: &mut D,
-    end: u64,
+    past: &mut Past<D>,
     places: &[Place],
     desk: &mut mail_desk::Desk,
 ) -> Result<(), StartFault>
-    requires end { end < (D.told disk.old).size }
-    requires places { All (λ place. place.gate + 5 + place.length ≤ end) places.now }
-    requires noted { TextsNoted end desk.old.notes desk.old.kept }
-    requires marked { MarkedBefore end desk.old.marks }
-    ensures performed { (before payloads : List (List ℕ)) → TextsHeld (D.told disk.old) (before ++ payloads) desk.old.kept desk.old.notes desk.old.marks
+    requires places { All (λ place. place.gate + 5 + place.length ≤ past.old.end) places.now }
+    requires noted { AreNoted past.old.end desk.old }
+    ensures performed { (before payloads : List (List ℕ)) → TextsHeld (D.told past.old.disk) (before ++ payloads) desk.old.kept desk.old.notes desk.old.marks
         → places.now ≡ places_from (length (sealed before)) payloads → OnOk result (LeadsTo desk.old.kept payloads desk.new.kept) }
-    ensures texts { (before payloads : List (List ℕ)) → TextsHeld (D.told disk.old) (before ++ payloads) desk.old.kept desk.old.notes desk.old.marks
+    ensures texts { (before payloads : List (List ℕ)) → TextsHeld (D.told past.old.disk) (before ++ payloads) desk.old.kept desk.old.notes desk.old.marks
         → places.now ≡ places_from (length (sealed before)) payloads
-        → OnOk result (TextsHeld (D.told disk.new) (before ++ payloads) desk.new.kept desk.new.notes desk.new.marks) }
-    ensures noted { OnOk result (TextsNoted end desk.new.notes desk.new.kept) }
-    ensures marked { OnOk result (MarkedBefore end desk.new.marks) }
-    ensures bad { (before payloads : List (List ℕ)) → TextsHeld (D.told disk.old) (before ++ payloads) desk.old.kept desk.old.notes desk.old.marks
+        → OnOk result (TextsHeld (D.told past.new.disk) (before ++ payloads) desk.new.kept desk.new.notes desk.new.marks) }
+    ensures noted { OnOk result (AreNoted past.old.end desk.new) }
+    ensures bad { (before payloads : List (List ℕ)) → TextsHeld (D.told past.old.disk) (before ++ payloads) desk.old.kept desk.old.notes desk.old.marks
         → places.now ≡ places_from (length (sealed before)) payloads
         → IfErr result (StopsFor desk.old.kept (length (sealed before)) payloads) }
-    ensures reads { ReadsAlone (D.told disk.old) (D.told disk.new) }
-    ensures ok { OnOk result ((D.told disk.new).failed_reads ≡ (D.told disk.old).failed_reads) }
-    ensures fault { IfErr result (ReadCounts (D.told disk.old) (D.told disk.new)) }
+    ensures still { IsPastRead D.told past.old past.new }
+    ensures ok { OnOk result ((D.told past.new.disk).failed_reads ≡ (D.told past.old.disk).failed_reads) }
+    ensures fault { IfErr result (ReadCounts (D.told past.old.disk) (D.told past.new.disk)) }
 {
     for place in places {
-        match perform_at(alloc, disk, end, *place, desk) {
+        match perform_at(alloc, past, *place, desk) {
             Ok(()) => {}
             Err(fault) => return Err(fault),
         }
@@ -282,31 +268,27 @@ fn perform_all<D: Disk>(
 /// The desk, with the records at more places performed.
 fn followed_by<D: Disk>(
     alloc: Global,
-    disk: &mut D,
-    end: u64,
+    past: &mut Past<D>,
     places: &[Place],
     desk: mail_desk::Desk,
 ) -> Result<mail_desk::Desk, StartFault>
-    requires end { end < (D.told disk.old).size }
-    requires places { All (λ place. place.gate + 5 + place.length ≤ end) places.now }
-    requires noted { TextsNoted end desk.notes desk.kept }
-    requires marked { MarkedBefore end desk.marks }
-    ensures performed { (before payloads : List (List ℕ)) → TextsHeld (D.told disk.old) (before ++ payloads) desk.kept desk.notes desk.marks
+    requires places { All (λ place. place.gate + 5 + place.length ≤ past.old.end) places.now }
+    requires noted { AreNoted past.old.end desk }
+    ensures performed { (before payloads : List (List ℕ)) → TextsHeld (D.told past.old.disk) (before ++ payloads) desk.kept desk.notes desk.marks
         → places.now ≡ places_from (length (sealed before)) payloads → IfOk result (λ led. LeadsTo desk.kept payloads led.kept) }
-    ensures texts { (before payloads : List (List ℕ)) → TextsHeld (D.told disk.old) (before ++ payloads) desk.kept desk.notes desk.marks
+    ensures texts { (before payloads : List (List ℕ)) → TextsHeld (D.told past.old.disk) (before ++ payloads) desk.kept desk.notes desk.marks
         → places.now ≡ places_from (length (sealed before)) payloads
-        → IfOk result (λ led. TextsHeld (D.told disk.new) (before ++ payloads) led.kept led.notes led.marks) }
-    ensures noted { IfOk result (λ led. TextsNoted end led.notes led.kept) }
-    ensures marked { IfOk result (λ led. MarkedBefore end led.marks) }
-    ensures bad { (before payloads : List (List ℕ)) → TextsHeld (D.told disk.old) (before ++ payloads) desk.kept desk.notes desk.marks
+        → IfOk result (λ led. TextsHeld (D.told past.new.disk) (before ++ payloads) led.kept led.notes led.marks) }
+    ensures noted { IfOk result (AreNoted past.old.end) }
+    ensures bad { (before payloads : List (List ℕ)) → TextsHeld (D.told past.old.disk) (before ++ payloads) desk.kept desk.notes desk.marks
         → places.now ≡ places_from (length (sealed before)) payloads
         → IfErr result (StopsFor desk.kept (length (sealed before)) payloads) }
-    ensures reads { ReadsAlone (D.told disk.old) (D.told disk.new) }
-    ensures ok { OnOk result ((D.told disk.new).failed_reads ≡ (D.told disk.old).failed_reads) }
-    ensures fault { IfErr result (ReadCounts (D.told disk.old) (D.told disk.new)) }
+    ensures still { IsPastRead D.told past.old past.new }
+    ensures ok { OnOk result ((D.told past.new.disk).failed_reads ≡ (D.told past.old.disk).failed_reads) }
+    ensures fault { IfErr result (ReadCounts (D.told past.old.disk) (D.told past.new.disk)) }
 {
     let mut desk = desk;
-    match perform_all(alloc, disk, end, places, &mut desk) {
+    match perform_all(alloc, past, places, &mut desk) {
         Ok(()) => Ok(desk),
         Err(fault) => {
             drop(desk);
@@ -318,27 +300,24 @@ fn followed_by<D: Disk>(
 /// The desk that the records at all places of a journal leave.
 fn read_all<D: Disk>(
     alloc: Global,
-    disk: &mut D,
-    end: u64,
+    past: &mut Past<D>,
     places: &[Place],
 ) -> Result<mail_desk::Desk, StartFault>
     requires some { 0 < length places.now }
-    requires end { end < (D.told disk.old).size }
-    requires places { All (λ place. place.gate + 5 + place.length ≤ end) places.now }
-    ensures read { (payloads : List (List ℕ)) → Holds (D.told disk.old) payloads → places.now ≡ places_from 0 payloads
+    requires places { All (λ place. place.gate + 5 + place.length ≤ past.old.end) places.now }
+    ensures read { (payloads : List (List ℕ)) → Holds (D.told past.old.disk) payloads → places.now ≡ places_from 0 payloads
         → IfOk result (λ desk. SpellsAll payloads desk.kept) }
-    ensures texts { (payloads : List (List ℕ)) → Holds (D.told disk.old) payloads → places.now ≡ places_from 0 payloads
-        → IfOk result (λ desk. TextsHeld (D.told disk.new) payloads desk.kept desk.notes desk.marks) }
-    ensures noted { IfOk result (λ desk. TextsNoted end desk.notes desk.kept) }
-    ensures marked { IfOk result (λ desk. MarkedBefore end desk.marks) }
-    ensures bad { (payloads : List (List ℕ)) → Holds (D.told disk.old) payloads → places.now ≡ places_from 0 payloads
+    ensures texts { (payloads : List (List ℕ)) → Holds (D.told past.old.disk) payloads → places.now ≡ places_from 0 payloads
+        → IfOk result (λ desk. TextsHeld (D.told past.new.disk) payloads desk.kept desk.notes desk.marks) }
+    ensures noted { IfOk result (AreNoted past.old.end) }
+    ensures bad { (payloads : List (List ℕ)) → Holds (D.told past.old.disk) payloads → places.now ≡ places_from 0 payloads
         → IfErr result (BreaksFor payloads) }
-    ensures reads { ReadsAlone (D.told disk.old) (D.told disk.new) }
-    ensures ok { OnOk result ((D.told disk.new).failed_reads ≡ (D.told disk.old).failed_reads) }
-    ensures fault { IfErr result (ReadCounts (D.told disk.old) (D.told disk.new)) }
+    ensures still { IsPastRead D.told past.old past.new }
+    ensures ok { OnOk result ((D.told past.new.disk).failed_reads ≡ (D.told past.old.disk).failed_reads) }
+    ensures fault { IfErr result (ReadCounts (D.told past.old.disk) (D.told past.new.disk)) }
 {
-    match begin_at(alloc, disk, end, places) {
-        Ok((desk, count)) => followed_by(alloc, disk, end, after(places, count), desk),
+    match begin_at(alloc, past, places) {
+        Ok((desk, count)) => followed_by(alloc, past, after(places, count), desk),
         Err(fault) => Err(fault),
     }
 }
@@ -375,31 +354,30 @@ fn ended(end: End, desk: mail_desk::Desk) -> Result<(Log, mail_desk::Desk), Star
 /// The same of what was seen of a journal.
 fn opened_from<D: Disk>(
     alloc: Global,
-    disk: &mut D,
+    past: &mut Past<D>,
     seen: Survey,
 ) -> Result<(Log, mail_desk::Desk), StartFault>
-    requires end { end_gate seen.end < (D.told disk.old).size }
-    requires places { All (λ place. place.gate + 5 + place.length ≤ end_gate seen.end) seen.places }
+    requires end { end_gate seen.end ≡ past.old.end }
+    requires places { All (λ place. place.gate + 5 + place.length ≤ past.old.end) seen.places }
     requires open { leaves_open seen.end ≡ true }
-    ensures found { (image : List ℕ) → IsSurveyed image (D.told disk.old) (end_gate seen.end) seen.places (is_cut seen.end)
-        → IfOk result (λ parts. IsStarted image (D.told disk.new) parts.1.kept (last_gate parts.0)) }
-    ensures texts { (image : List ℕ) → IsSurveyed image (D.told disk.old) (end_gate seen.end) seen.places (is_cut seen.end)
-        → IfOk result (λ parts. SettledTexts (D.told disk.new) (last_gate parts.0) parts.1.kept parts.1.notes parts.1.marks) }
-    ensures noted { IfOk result (λ parts. TextsNoted (last_gate parts.0) parts.1.notes parts.1.kept) }
-    ensures marked { IfOk result (λ parts. MarkedBefore (last_gate parts.0) parts.1.marks) }
-    ensures bad { (image : List ℕ) → IsSurveyed image (D.told disk.old) (end_gate seen.end) seen.places (is_cut seen.end)
+    ensures found { (image : List ℕ) → IsSurveyed image (D.told past.old.disk) (end_gate seen.end) seen.places (is_cut seen.end)
+        → IfOk result (λ parts. IsStarted image (D.told past.new.disk) parts.1.kept (last_gate parts.0)) }
+    ensures texts { (image : List ℕ) → IsSurveyed image (D.told past.old.disk) (end_gate seen.end) seen.places (is_cut seen.end)
+        → IfOk result (λ parts. SettledTexts (D.told past.new.disk) (last_gate parts.0) parts.1.kept parts.1.notes parts.1.marks) }
+    ensures noted { IfOk result (λ parts. AreNoted (last_gate parts.0) parts.1) }
+    ensures bad { (image : List ℕ) → IsSurveyed image (D.told past.old.disk) (end_gate seen.end) seen.places (is_cut seen.end)
         → IfErr result (Refuses image) }
-    ensures reads { ReadsAlone (D.told disk.old) (D.told disk.new) }
-    ensures ok { OnOk result ((D.told disk.new).failed_reads ≡ (D.told disk.old).failed_reads) }
-    ensures fault { IfErr result (ReadCounts (D.told disk.old) (D.told disk.new)) }
+    ensures still { IsPastRead D.told past.old past.new }
+    ensures ok { OnOk result ((D.told past.new.disk).failed_reads ≡ (D.told past.old.disk).failed_reads) }
+    ensures fault { IfErr result (ReadCounts (D.told past.old.disk) (D.told past.new.disk)) }
     ensures open { IfOk result (λ parts. parts.0.closed ≡ false) }
-    ensures within { IfOk result (λ parts. last_gate parts.0 < (D.told disk.new).size) }
+    ensures gate { IfOk result (λ parts. last_gate parts.0 ≡ past.old.end) }
 {
     let Survey { places, end } = seen;
     if places.is_empty() {
         return Err(StartFault::Damaged { place: end.gate() });
     }
-    match read_all(alloc, disk, end.gate(), places.as_slice()) {
+    match read_all(alloc, past, places.as_slice()) {
         Ok(desk) => ended(end, desk),
         Err(fault) => {
             drop(end);
@@ -408,23 +386,30 @@ fn opened_from<D: Disk>(
     }
 }
 
-/// The end of the journal on a disk, and the desk that its records leave.
-fn opened<D: Disk>(alloc: Global, disk: &mut D) -> Result<(Log, mail_desk::Desk), StartFault>
-    ensures started { IfOk result (λ parts. Starts (D.told disk.old) (D.told disk.new) (Ok (parts.1.kept, last_gate parts.0))) }
-    ensures texts { (D.told disk.old).honest
-        → IfOk result (λ parts. SettledTexts (D.told disk.new) (last_gate parts.0) parts.1.kept parts.1.notes parts.1.marks) }
-    ensures noted { IfOk result (λ parts. TextsNoted (last_gate parts.0) parts.1.notes parts.1.kept) }
-    ensures marked { IfOk result (λ parts. MarkedBefore (last_gate parts.0) parts.1.marks) }
-    ensures refused { IfErr result (λ fault. Starts (D.told disk.old) (D.told disk.new) (Err fault)) }
-    ensures open { IfOk result (λ parts. parts.0.closed ≡ false) }
-    ensures within { IfOk result (λ parts. last_gate parts.0 < (D.told disk.new).size) }
+/// The desk that the records of a journal leave, of which this was seen.
+fn opened<D: Disk>(alloc: Global, disk: D, seen: Survey) -> Result<Desk<D>, (D, StartFault)>
+    requires end { end_gate seen.end < (D.told disk).size }
+    requires places { All (λ place. place.gate + 5 + place.length ≤ end_gate seen.end) seen.places }
+    requires open { leaves_open seen.end ≡ true }
+    ensures found { (image : List ℕ) → IsSurveyed image (D.told disk) (end_gate seen.end) seen.places (is_cut seen.end)
+        → IfOk result (λ desk. IsStarted image (D.told desk.disk) desk.kept desk.gate) }
+    ensures texts { (image : List ℕ) → IsSurveyed image (D.told disk) (end_gate seen.end) seen.places (is_cut seen.end)
+        → IfOk result (λ desk. SettledTexts (D.told desk.disk) desk.gate desk.kept desk.notes desk.marks) }
+    ensures bad { (image : List ℕ) → IsSurveyed image (D.told disk) (end_gate seen.end) seen.places (is_cut seen.end)
+        → IfErr result (λ refused. Refuses image refused.1) }
+    ensures reads { IfOk result (λ desk. ReadsAlone (D.told disk) (D.told desk.disk)) }
+    ensures read { IfErr result (λ refused. ReadsAlone (D.told disk) (D.told refused.0)) }
+    ensures ok { IfOk result (λ desk. (D.told desk.disk).failed_reads ≡ (D.told disk).failed_reads) }
+    ensures fault { IfErr result (λ refused. ReadCounts (D.told disk) (D.told refused.0) refused.1) }
+    ensures open { IfOk result (λ desk. desk.closed ≡ false) }
 {
-    match survey(alloc, disk) {
-        Ok(seen) => opened_from(alloc, disk, seen),
-        Err(LoadFault::NotFormatted) => Err(StartFault::NotFormatted),
-        Err(LoadFault::Damaged { .. }) => unreachable!(),
-        Err(LoadFault::Disk) => Err(StartFault::Disk),
-        Err(LoadFault::NoMemory) => Err(StartFault::NoMemory),
+    let mut past = Past::at(disk, seen.end.gate());
+    match opened_from(alloc, &mut past, seen) {
+        Ok((log, desk)) => Ok(Desk {
+            journal: Journal::at(past.into_disk(), log),
+            desk,
+        }),
+        Err(fault) => Err((past.into_disk(), fault)),
     }
 }
 
@@ -437,12 +422,12 @@ impl<D: Disk> Desk<D> {
         ensures open { IfOk result (λ desk. desk.closed ≡ false) }
     {
         let mut disk = disk;
-        match opened(alloc, &mut disk) {
-            Ok((log, desk)) => Ok(Desk {
-                journal: Journal::at(disk, log),
-                desk,
-            }),
-            Err(fault) => Err((disk, fault)),
+        match survey(alloc, &mut disk) {
+            Ok(seen) => opened(alloc, disk, seen),
+            Err(LoadFault::NotFormatted) => Err((disk, StartFault::NotFormatted)),
+            Err(LoadFault::Damaged { .. }) => unreachable!(),
+            Err(LoadFault::Disk) => Err((disk, StartFault::Disk)),
+            Err(LoadFault::NoMemory) => Err((disk, StartFault::NoMemory)),
         }
     }
 }

@@ -7,7 +7,7 @@ ghost use Rattle.verb_bytes.specs.declared.journal.JournalRecord.TheVariants.{Ve
 ghost use Rattle.seal_log.specs.Causes.{Fed};
 ghost use Rattle.store_kept.specs.Kept.{store_of};
 ghost use Rattle.mail_desk.specs.Desk.{submitted};
-ghost use Rattle.mail_cycle.specs.Permanence.{UidsLast};
+ghost use Rattle.mail_cycle.specs.Permanence.{UidsStay};
 ghost use Rattle.desk_journal.specs.Reading.{ReadsWell};
 ghost use Rattle.desk_journal.specs.Sealing.{Seals};
 ghost use Rattle.desk_journal.specs.Submitting.{SubmitWants, SubmitsNone, WritesNone};
@@ -43,7 +43,7 @@ impl<D: Disk> Desk<D> {
         ensures fed { OnOk result (Fed (D.told self.old.disk) (D.told self.new.disk)) }
         ensures wants { IfErr result (λ fault. SubmitWants D.told self.old.disk self.new.disk fault) }
         ensures closed { IsErrOf result SubmitFault.Closed ↔ IsTrue self.old.closed }
-        ensures uids { UidsLast self.old.kept self.new.kept }
+        ensures uids { UidsStay self.old.kept self.new.kept }
     {
         self.stands();
         if self.journal.is_closed() {

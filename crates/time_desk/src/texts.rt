@@ -1,9 +1,9 @@
 //! The texts of bodies: a notice's is in memory, and any other is read where it lies in the journal.
-ghost use Rattle.std.specs.Prelude.{◌≡◌, length, is_some, IsTrue, IfOk};
-ghost use Rattle.std.specs.List.{list_all};
+ghost use Rattle.std.specs.Prelude.{◌≡◌, false, length, is_some, IsTrue, IfOk, IsErrOf};
+ghost use Rattle.std.specs.List.{list_all, list_any};
 ghost use Rattle.seal_log.specs.Causes.{ReadAtCause};
 ghost use Rattle.desk_journal.specs.Reading.{IsStill};
-ghost use Rattle.desk_journal.specs.Stored.{HoldsTexts};
+ghost use Rattle.desk_journal.specs.Stored.{HoldsTexts, is_recorded};
 ghost use Rattle.store_kept.specs.Texts.{has_text_kept, text_kept, texts_kept};
 
 use crate::Desk;
@@ -21,6 +21,9 @@ impl<D: Disk> Desk<D> {
         ensures found { HoldsTexts D.told self.old → IfOk result (λ found. found ≡ text_kept self.old.kept body) }
         ensures cause { ReadAtCause (D.told self.old.disk) (D.told self.new.disk) result }
         ensures still { IsStill D.told self.old self.new }
+        // It is read only where a record has the text.
+        ensures due { IsErrOf result ReadFault.Disk → IsTrue (is_recorded self.old.kept.timeline body) }
+        ensures alone { is_recorded self.old.kept.timeline body ≡ false → self.new ≡ self.old }
     {
         self.journal.found(alloc, &self.desk, body)
     }
@@ -32,6 +35,8 @@ impl<D: Disk> Desk<D> {
         ensures texts { HoldsTexts D.told self.old → IfOk result (λ texts. texts ≡ texts_kept self.old.kept bodies.now) }
         ensures cause { ReadAtCause (D.told self.old.disk) (D.told self.new.disk) result }
         ensures still { IsStill D.told self.old self.new }
+        ensures due { IsErrOf result ReadFault.Disk → IsTrue (list_any (is_recorded self.old.kept.timeline) bodies.now) }
+        ensures alone { list_any (is_recorded self.old.kept.timeline) bodies.now ≡ false → self.new ≡ self.old }
     {
         self.journal.texts(alloc, &self.desk, bodies)
     }

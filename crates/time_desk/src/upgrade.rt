@@ -2,7 +2,7 @@
 ghost use Rattle.std.specs.Prelude.{◌≡◌, ◌↔◌, true, false, IsTrue, OnOk, IfErr, OnErr, IsErrOf};
 ghost use Rattle.seal_log.specs.Causes.{SealWants};
 ghost use Rattle.store_kept.specs.Kept.{upgraded};
-ghost use Rattle.mail_cycle.specs.Permanence.{UidsLast};
+ghost use Rattle.mail_cycle.specs.Permanence.{UidsStay};
 ghost use Rattle.desk_journal.specs.Reading.{ReadsWell};
 ghost use Rattle.desk_journal.specs.Submitting.{UpgradesNone, UpgradesOnce};
 
@@ -33,7 +33,7 @@ impl<D: Disk> Desk<D> {
         ensures reads { ReadsWell D.told self.old self.new }
         ensures wants { SealWants D.told self.old.disk self.new.disk result }
         ensures closed { IsErrOf result SealFault.Closed ↔ (IsTrue self.old.closed × (self.old.kept.deep ≡ false)) }
-        ensures uids { UidsLast self.old.kept self.new.kept }
+        ensures uids { UidsStay self.old.kept self.new.kept }
     {
         if self.desk.deep() {
             return Ok(());

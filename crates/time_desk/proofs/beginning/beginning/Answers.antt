@@ -8,9 +8,8 @@ use Rattle.desk_journal.proofs.Marking.{marked_front, marks_passed}
 use Rattle.time_desk.proofs.Servings.{Mark, all_before, begins_first, found_newest, found_none, serves_first, some_has}
 use Rattle.time_desk.proofs.beginning.beginning.Goals as goal
 
-pub newest-requires-clause-marked : goal.newest-requires-clause-marked
-newest-requires-clause-marked g c =
-    subst (MarkedBefore c.args.end) (sym c.marks_at_or_before-marks.ensures.marks) (marked_front c.args.end c.position_of.result c.args.desk.now.marks c.requires.marked)
+pub newest-requires : goal.newest-requires
+newest-requires g c = record { marked = subst (MarkedBefore c.args.past.now.end) (sym c.marks_at_or_before-marks.ensures.marks) (marked_front c.args.past.now.end c.position_of.result c.args.desk.now.marks c.requires.marked) }
 
 pub returns-in-Ok-Some-clause-serves : goal.returns-in-Ok-Some-clause-serves
 returns-in-Ok-Some-clause-serves g c =
@@ -45,7 +44,7 @@ returns-in-Ok-None-clause-newest g c = λ holds.
 pub returns-in-Ok-Some-clause-passes : goal.returns-in-Ok-Some-clause-passes
 returns-in-Ok-Some-clause-passes g c = λ honest.
     let desk = c.args.desk.now in
-    let disk = g.D.Disk.told c.args.disk.now in
+    let disk = g.D.Disk.told c.args.past.now.disk in
     let ms_are : c.marks_at_or_before-marks.result.now ≡ marks_at_or_before c.args.place desk.marks = c.marks_at_or_before-marks.ensures.marks ∙ ap (λ n. marks_at_or_before n desk.marks) c.position_of.ensures in
     inl (subst (λ (ms : List Mark). IsLastToServe disk desk.kept ms c.in-Ok-Some.first) ms_are
     (subst (FindsNewest disk desk.kept c.marks_at_or_before-marks.result.now) c.in-Ok-Some.field-0-is (c.in-Ok-Some.ensures.passes honest)))
@@ -53,7 +52,7 @@ returns-in-Ok-Some-clause-passes g c = λ honest.
 pub returns-in-Ok-None-clause-passes : goal.returns-in-Ok-None-clause-passes
 returns-in-Ok-None-clause-passes g c = λ honest.
     let desk = c.args.desk.now in
-    let disk = g.D.Disk.told c.args.disk.now in
+    let disk = g.D.Disk.told c.args.past.now.disk in
     let ms_are : c.marks_at_or_before-marks.result.now ≡ marks_at_or_before c.args.place desk.marks = c.marks_at_or_before-marks.ensures.marks ∙ ap (λ n. marks_at_or_before n desk.marks) c.position_of.ensures in
     begins_first disk desk c.args.place c.at_first.result
     (subst (NoneServes disk desk.kept) ms_are (subst (FindsNewest disk desk.kept c.marks_at_or_before-marks.result.now) c.in-Ok-None.field-0-is (c.in-Ok-None.ensures.passes honest)))

@@ -21,7 +21,7 @@ returns-in-Ok-Some-clause-found g c = λ payloads held lies.
 pub returns-in-Ok-Some-clause-read : goal.returns-in-Ok-Some-clause-read
 returns-in-Ok-Some-clause-read g c = λ honest.
     let kept = c.args.desk.now.kept in
-    let bytes = bytes_at (g.D.Disk.told c.args.disk.now) c.args.place in
+    let bytes = bytes_at (g.D.Disk.told c.args.past.now.disk) c.args.place in
     let spells = subst (SpelledBy bytes) c.in-Ok-Some.field-0-is (c.in-Ok-Some.ensures.read honest) in
     if_ok c.store_of_record.result _ _
     (λ found is. serves_by c.one_spelling.ensures.one_record kept c.args.count bytes c.in-Ok-Some.what spells (option_map {T = Store} {U = MailStore} (λ store. store.store) found) is)
@@ -35,4 +35,4 @@ returns-in-Ok-None-clause-found g c = λ payloads held lies.
 
 pub returns-in-Ok-None-clause-read : goal.returns-in-Ok-None-clause-read
 returns-in-Ok-None-clause-read g c = λ honest what spells.
-    absurd (subst (SpelledBy (bytes_at (g.D.Disk.told c.args.disk.now) c.args.place)) c.in-Ok-None.field-0-is (c.in-Ok-None.ensures.read honest) what spells)
+    absurd (subst (SpelledBy (bytes_at (g.D.Disk.told c.args.past.now.disk) c.args.place)) c.in-Ok-None.field-0-is (c.in-Ok-None.ensures.read honest) what spells)

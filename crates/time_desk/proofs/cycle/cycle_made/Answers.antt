@@ -1,13 +1,13 @@
-use Rattle.std.proofs.Common.{◌∙◌, ◌++◌, Err, [], length, ap, inl, arith, refl, sym, subst, take}
+use Rattle.std.proofs.Common.{◌∙◌, Err, [], true, length, ap, inl, arith, refl, sym, subst}
 use Rattle.store_kept.specs.Kept.{Kept}
 use Rattle.shelf.specs.Marks.{marks_at_or_before}
-use Rattle.mail_cycle.specs.Leaving.{items_left}
+use Rattle.store_kept.specs.Texts.{items_asked}
 use Rattle.mail_desk.specs.Held.{Held}
 use Rattle.mail_desk.specs.Remaking.{remade_as}
 use Rattle.mail_desk.specs.Timeline.{SizesOf}
-use Rattle.time_desk.specs.Cycling.{RenotesAs}
+use Rattle.time_desk.specs.Cycling.{RenotesAs, asked_then}
 use Rattle.desk_journal.specs.Lasting.{lasting}
-use Rattle.desk_journal.specs.Stored.{MarkedBefore, NotedBefore}
+use Rattle.desk_journal.specs.Stored.{MarkedBefore}
 use Rattle.time_desk.proofs.Rewinding.{cycle_notes, cycle_sealed, cycle_starved, cycle_unsealed, cycled}
 use Rattle.seal_log.proofs.Uses.{reads_none}
 use Rattle.desk_journal.proofs.Sealed.{marked_same, noted_same}
@@ -30,50 +30,46 @@ returns-in-Ok-seal_found-clause-done g c = λ disk reads red.
     c.requires.anew red c.requires.open (done.report ∙ c.in-Ok.ensures.report) kept_is
     (cycle_sealed g.D.Disk.told disk c.args.desk.now new.desk c.args.journal.now new.journal c.args.at c.args.ask c.args.made found.bytes reads red c.requires.anew c.in-Ok.ensures.bytes c.in-Ok.ensures.spelled c.requires.known c.requires.open
     done.sealed.ok done.sealed.still_open
-    (λ runs. record { house = told.house; aliases = told.aliases; base = told.base; runs = runs; timeline = told.timeline; below = told.below; named = told.named; fresh = told.fresh }) told.sizes c.requires.fit kept_is
+    (λ runs. record { house = told.house; aliases = told.aliases; base = told.base; runs = runs; timeline = told.timeline; below = told.below; named = told.named; fresh = told.fresh; undone = told.undone }) told.sizes c.requires.fit kept_is
     (done.marks ∙ (λ j. marks_at_or_before (c.in-Ok.ensures.place j) (c.in-Ok.ensures.same_marks j)))
     (subst (λ notes. RenotesAs c.args.desk.now c.args.ask c.args.at (record { gate = c.args.journal.now.gate; length = length found.bytes }) c.args.made notes) (sym done.notes) c.in-Ok.ensures.notes))
 
 pub returns-in-Ok-seal_found-clause-noted : goal.returns-in-Ok-seal_found-clause-noted
-returns-in-Ok-seal_found-clause-noted g c = λ is.
-    let found = c.in-Ok.found in
-    let done = c.in-Ok-seal_found.ensures in
-    let new = c.seal_found.new in
-    let told = c.stands.ensures in
-    let kept_is = done.kept ∙ ap (λ (k : Kept). remade_as k found.remade) c.in-Ok.ensures.kept ∙ c.in-Ok.ensures.made in
-    subst (λ (k : Kept). NotedBefore new.journal.gate new.desk.notes k.timeline) (sym kept_is)
-    (subst (λ notes. NotedBefore new.journal.gate notes (items_left c.args.desk.now.kept.timeline c.args.made)) (sym done.notes)
-    (cycle_notes c.args.journal.now.gate new.journal.gate c.args.desk.now c.args.at c.args.ask ⊥ c.args.made found.bytes found.remade.shelf.notes done.sealed.next c.in-Ok.ensures.bytes told.sizes
-    told.timeline.apart told.below c.requires.fit is c.in-Ok.ensures.notes
-    (subst (SizesOf found.remade.shelf.notes) (ap (λ (k : Kept). k.timeline) c.in-Ok.ensures.made)
-    (subst (λ (k : Kept). SizesOf found.remade.shelf.notes (take found.remade.from k.timeline ++ found.remade.behind)) c.in-Ok.ensures.kept c.in-Ok.ensures.ready.sizes)) c.requires.noted))
+returns-in-Ok-seal_found-clause-noted g c = λ is. record {
+  noted = (let found = c.in-Ok.found in
+      let done = c.in-Ok-seal_found.ensures in
+      let old = c.args.desk.now in
+      let new = c.seal_found.new in
+      let told = c.stands.ensures in
+      let kept_is = done.kept ∙ ap (λ (k : Kept). remade_as k found.remade) c.in-Ok.ensures.kept ∙ c.in-Ok.ensures.made in
+      cycle_notes c.args.journal.now.gate new.journal.gate old new.desk c.args.at c.args.ask ⊥ c.args.made found.bytes done.sealed.next c.in-Ok.ensures.bytes is c.requires.fit (ap items_asked kept_is)
+      told.sizes told.timeline.apart told.below told.undone
+      (subst (λ notes. RenotesAs old c.args.ask c.args.at (record { gate = c.args.journal.now.gate; length = length found.bytes }) c.args.made notes) (sym done.notes) c.in-Ok.ensures.notes)
+      (subst (λ notes. SizesOf notes (asked_then old.kept true c.args.made)) (sym done.notes)
+      (subst (SizesOf found.remade.shelf.notes) (ap items_asked c.in-Ok.ensures.made)
+      (subst (λ (k : Kept). SizesOf found.remade.shelf.notes (items_asked (remade_as k found.remade))) c.in-Ok.ensures.kept c.in-Ok.ensures.ready.sizes)))
+      c.requires.noted.noted);
+  marked = (let old = c.args.desk.now in
+      let new = c.seal_found.new in
+      let gate = c.args.journal.now.gate in
+      subst (MarkedBefore new.journal.gate) (sym (c.in-Ok-seal_found.ensures.marks ∙ (λ j. marks_at_or_before (c.in-Ok.ensures.place j) (c.in-Ok.ensures.same_marks j))))
+      (marked_front new.journal.gate c.args.made.place old.marks (marked_later gate new.journal.gate old.marks (omega (arith, c.in-Ok-seal_found.ensures.sealed.next)) c.requires.noted.marked)));
+}
 
 pub returns-in-Err-seal_found-clause-noted : goal.returns-in-Err-seal_found-clause-noted
-returns-in-Err-seal_found-clause-noted g c = λ is.
-    let done = c.in-Err-seal_found.ensures in
-    noted_same c.args.journal.now.gate c.seal_found.new.journal.gate c.args.desk.now c.seal_found.new.desk done.sealed.err
-    (ap (λ (h : Held). h.kept) done.same ∙ c.in-Ok.ensures.kept) (ap (λ (h : Held). h.notes) done.same ∙ c.in-Ok.ensures.same) c.requires.noted
+returns-in-Err-seal_found-clause-noted g c = λ is. record {
+  noted = (let done = c.in-Err-seal_found.ensures in
+      noted_same c.args.journal.now.gate c.seal_found.new.journal.gate c.args.desk.now c.seal_found.new.desk done.sealed.err
+      (ap (λ (h : Held). h.kept) done.same ∙ c.in-Ok.ensures.kept) (ap (λ (h : Held). h.notes) done.same ∙ c.in-Ok.ensures.same) c.requires.noted.noted);
+  marked = (let done = c.in-Err-seal_found.ensures in
+      marked_same c.args.journal.now.gate c.seal_found.new.journal.gate c.args.desk.now c.seal_found.new.desk done.sealed.err (ap (λ (h : Held). h.marks) done.same ∙ c.in-Ok.ensures.same_marks) c.requires.noted.marked);
+}
 
 pub returns-in-Err-clause-noted : goal.returns-in-Err-clause-noted
-returns-in-Err-clause-noted g c = λ is.
-    noted_same c.args.journal.now.gate c.args.journal.now.gate c.args.desk.now c.ready_cycle.new.desk refl c.in-Err.ensures.kept c.in-Err.ensures.same c.requires.noted
-
-pub returns-in-Ok-seal_found-clause-marked : goal.returns-in-Ok-seal_found-clause-marked
-returns-in-Ok-seal_found-clause-marked g c =
-    let old = c.args.desk.now in
-    let new = c.seal_found.new in
-    let gate = c.args.journal.now.gate in
-    subst (MarkedBefore new.journal.gate) (sym (c.in-Ok-seal_found.ensures.marks ∙ (λ j. marks_at_or_before (c.in-Ok.ensures.place j) (c.in-Ok.ensures.same_marks j))))
-    (marked_front new.journal.gate c.args.made.place old.marks (marked_later gate new.journal.gate old.marks (omega (arith, c.in-Ok-seal_found.ensures.sealed.next)) c.requires.marked))
-
-pub returns-in-Err-seal_found-clause-marked : goal.returns-in-Err-seal_found-clause-marked
-returns-in-Err-seal_found-clause-marked g c =
-    let done = c.in-Err-seal_found.ensures in
-    marked_same c.args.journal.now.gate c.seal_found.new.journal.gate c.args.desk.now c.seal_found.new.desk done.sealed.err (ap (λ (h : Held). h.marks) done.same ∙ c.in-Ok.ensures.same_marks) c.requires.marked
-
-pub returns-in-Err-clause-marked : goal.returns-in-Err-clause-marked
-returns-in-Err-clause-marked g c =
-    marked_same c.args.journal.now.gate c.args.journal.now.gate c.args.desk.now c.ready_cycle.new.desk refl c.in-Err.ensures.same_marks c.requires.marked
+returns-in-Err-clause-noted g c = λ is. record {
+  noted = (noted_same c.args.journal.now.gate c.args.journal.now.gate c.args.desk.now c.ready_cycle.new.desk refl c.in-Err.ensures.kept c.in-Err.ensures.same c.requires.noted.noted);
+  marked = (marked_same c.args.journal.now.gate c.args.journal.now.gate c.args.desk.now c.ready_cycle.new.desk refl c.in-Err.ensures.same_marks c.requires.noted.marked);
+}
 
 pub returns-in-Err-seal_found-clause-why : goal.returns-in-Err-seal_found-clause-why
 returns-in-Err-seal_found-clause-why g c = λ disk reads well red.

@@ -7,8 +7,11 @@ returns-clause-sound c = λ records kept is. (state_holds records kept is).0
 pub returns-clause-revs : goal.returns-clause-revs
 returns-clause-revs c = λ records kept is. (state_holds records kept is).1
 
+pub returns-clause-back : goal.returns-clause-back
+returns-clause-back c = λ records kept is. (state_holds records kept is).2
+
 pub returns-clause-runs : goal.returns-clause-runs
 returns-clause-runs c = λ records kept is. (state_holds records kept is).0.runs
 
 pub returns-clause-opening : goal.returns-clause-opening
-returns-clause-opening c = λ records kept is. (state_holds records kept is).2
+returns-clause-opening c = λ records kept is. (state_holds records kept is).3

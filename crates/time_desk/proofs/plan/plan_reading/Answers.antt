@@ -5,4 +5,4 @@ use Rattle.time_desk.proofs.plan.plan_reading.Goals as goal
 pub plan_behind-requires-clause-texts : goal.plan_behind-requires-clause-texts
 plan_behind-requires-clause-texts g c =
     let r = c.of-bodies.ensures in
-    tells_timeline g.D.Disk.told c.of-bodies.result c.args.disk.now c.args.desk.now c.args.end _ r.disk.1 r.end r.desk r.replaces (r.cycle ∙ c.next.ensures) r.failed c.stands.ensures.timeline.apart c.requires.end c.requires.noted
+    tells_timeline g.D.Disk.told c.of-bodies.result c.args.past.now c.args.desk.now _ r.past.1 r.desk r.replaces (r.cycle ∙ c.next.ensures) r.failed c.stands.ensures.timeline.apart c.requires.noted c.stands.ensures.undone

@@ -8,8 +8,10 @@ use Rattle.time_desk.proofs.start.begun.Goals as goal
 
 pub returns-in-Ok-Some-clause-none : goal.returns-in-Ok-Some-clause-none
 returns-in-Ok-Some-clause-none c =
-    let is : first_state c.args.what ≡ Some c.in-Ok-Some.desk.kept = sym c.in-Ok-Some.ensures ∙ ap (option_map {T = Held} {U = Kept} (λ d. d.kept)) c.in-Ok-Some.field-0-is in (
-      first_none c.args.what c.in-Ok-Some.desk.kept is,
+    let is : first_state c.args.what ≡ Some c.in-Ok-Some.desk.kept = sym c.in-Ok-Some.ensures ∙ ap (option_map {T = Held} {U = Kept} (λ d. d.kept)) c.in-Ok-Some.field-0-is in
+    let none = first_none c.args.what c.in-Ok-Some.desk.kept is in (
+      none.0,
+      none.1,
       none_marked c.in-Ok-Some.desk.marks (sym c.stands.ensures.places ∙ (first_unmarked c.args.what c.in-Ok-Some.desk.kept is).0),
     )
 

@@ -1,13 +1,17 @@
-use Rattle.std.proofs.Common.{arith}
-use Rattle.seal_log.specs.Log.{last_gate}
-use Rattle.time_desk.proofs.Surveys.{starts_when}
+use Rattle.std.proofs.Common.{◌∙◌, ℕ, List, subst, sym}
+use Rattle.seal_log.specs.Loads.{IsSurveyed}
+use Rattle.seal_log.specs.Log.{end_gate, is_cut, last_gate}
+use Rattle.desk_journal.specs.Stored.{SettledTexts}
 use Rattle.time_desk.proofs.start.opened.Goals as goal
 
-pub returns-in-Ok-clause-started : goal.returns-in-Ok-clause-started
-returns-in-Ok-clause-started g c =
-    let old = g.D.Disk.told c.args.disk.now in
-    let mid = g.D.Disk.told c.survey.new.disk in
-    starts_when (λ parts. parts.1.kept) (λ parts. last_gate parts.0) old mid (g.D.Disk.told c.opened_from.new.disk) c.opened_from.result (g.met.D.Disk.tells_truth c.survey.new.disk)
-    (λ is. c.opened_from.ensures.found old.content (c.in-Ok.ensures.found is)) c.opened_from.ensures.ok c.in-Ok.ensures.cause.ok c.opened_from.ensures.reads c.in-Ok.ensures.cause.reliable
-    c.in-Ok.ensures.any_moment c.in-Ok.ensures.size c.in-Ok.ensures.honest (λ is. c.in-Ok.ensures.content is (λ wrong. absurd (cc wrong)))
-    (λ none. let within = c.in-Ok.ensures.within in let size = c.in-Ok.ensures.size in absurd (omega arith))
+pub returns-in-Ok-clause-texts : goal.returns-in-Ok-clause-texts
+returns-in-Ok-clause-texts g c image seen =
+    let told = g.D.Disk.told in
+    let desk = c.in-Ok.desk in
+    let here = c.in-Ok.ensures.texts image (subst (λ (d : g.row.D.Denot). IsSurveyed image (told d) (end_gate c.args.seen.end) c.args.seen.places (is_cut c.args.seen.end)) (sym c.at-past.ensures.disk) seen) in
+    subst (λ (n : ℕ). SettledTexts (told c.at.result.disk) n desk.kept desk.notes desk.marks) (sym c.at.ensures.gate)
+    (subst (λ (d : g.row.D.Denot). SettledTexts (told d) (last_gate c.in-Ok.log) desk.kept desk.notes desk.marks) (sym (c.at.ensures.disk ∙ c.into_disk.ensures)) here)
+
+pub returns-in-Err-clause-bad : goal.returns-in-Err-clause-bad
+returns-in-Err-clause-bad g c image seen =
+    c.in-Err.ensures.bad image (subst (λ (d : g.row.D.Denot). IsSurveyed image (g.D.Disk.told d) (end_gate c.args.seen.end) c.args.seen.places (is_cut c.args.seen.end)) (sym c.at-past.ensures.disk) seen)

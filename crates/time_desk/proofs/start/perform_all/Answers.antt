@@ -1,5 +1,6 @@
-use Rattle.std.proofs.Common.{◌++◌, ◌∙◌, length, get_or}
-use Rattle.seal_log.proofs.Uses.{reads_joined}
+use Rattle.std.proofs.Common.{◌++◌, ◌∙◌, ℕ, length, get_or, subst, sym}
+use Rattle.desk_journal.specs.Going.{read_on}
+use Rattle.desk_journal.specs.Stored.{AreNoted}
 use Rattle.seal_log.specs.Journal.{sealed}
 use Rattle.time_desk.proofs.Standings.{leads_all, leads_step, lies_behind, nth_of, stops_step}
 use Rattle.time_desk.proofs.start.perform_all.Goals as goal
@@ -16,7 +17,7 @@ returns-in-Err-clause-bad g c before payloads texts are =
 
 pub loop-place-preserved : goal.loop-place-preserved
 loop-place-preserved g c = record {
-  reads = reads_joined (g.D.Disk.told c.args.disk.now) (g.D.Disk.told c.loop-place.disk) (g.D.Disk.told c.perform_at.new.disk) c.loop-place.invariant.reads c.perform_at.ensures.reads;
+  still = read_on g.D.Disk.told c.args.past.now c.loop-place.past c.perform_at.new.past c.loop-place.invariant.still c.perform_at.ensures.still;
   none_failed = c.in-Ok.ensures.ok ∙ c.loop-place.invariant.none_failed;
   led = λ before payloads texts are.
       let gate = length (sealed before) in
@@ -31,8 +32,7 @@ loop-place-preserved g c = record {
       let place = get_or c.args.places.now i (record { gate = 0; length = 0 }) in
       let nth = nth_of (length (sealed before)) payloads c.args.places.now i (record { gate = 0; length = 0 }) are c.loop-place-test.true in
       c.in-Ok.ensures.texts (before ++ payloads) nth.payload (c.loop-place.invariant.texts before payloads texts are) (lies_behind before payloads i place nth);
-  noted = c.in-Ok.ensures.noted;
-  marked = c.in-Ok.ensures.marked;
+  noted = subst (λ (n : ℕ). AreNoted n c.perform_at.new.desk) (sym c.perform_at.ensures.still.end) c.in-Ok.ensures.noted;
 }
 
 pub returns-clause-performed : goal.returns-clause-performed

@@ -13,9 +13,10 @@ returns-then-stood-clause-texts g c payloads texts lies =
     let next : after_record c.args.desk.now.kept c.args.what ≡ Some c.follow.new.desk.kept =
     subst (λ (b : Bool). Performs (after_record c.args.desk.now.kept c.args.what) b c.follow.new.desk.kept) c.if-stood.true (c.in-Ok.ensures.performed payloads texts) in
     record {
-      held = holds_on (g.D.Disk.told c.args.disk.now) (g.D.Disk.told c.follow.new.disk) payloads c.follow.ensures.reads texts.held;
+      held = holds_on (g.D.Disk.told c.args.past.now.disk) (g.D.Disk.told c.follow.new.past.disk) payloads c.follow.ensures.still.reads texts.held;
       lie = c.in-Ok.ensures.texts payloads texts lies c.if-stood.true;
-      revs = c.revs_stay.ensures.revs c.args.what c.follow.new.desk.kept texts.runs texts.revs next;
+      revs = c.revs_stay.ensures.revs c.args.what c.follow.new.desk.kept texts.runs texts.revs texts.back next;
+      back = c.revs_stay.ensures.back c.args.what c.follow.new.desk.kept texts.runs texts.revs texts.back next;
       runs = c.revs_stay.ensures.runs c.args.what c.follow.new.desk.kept texts.runs next;
       marks = c.in-Ok.ensures.marks payloads texts lies c.if-stood.true;
     }

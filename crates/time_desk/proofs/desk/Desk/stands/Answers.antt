@@ -16,4 +16,5 @@ returns-clause-sound g c =
       below = told.below;
       named = told.named;
       fresh = told.fresh;
+      undone = told.undone;
     })

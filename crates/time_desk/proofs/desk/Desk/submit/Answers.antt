@@ -2,11 +2,11 @@ use Rattle.std.proofs.Common.{◌≡◌, IfErr, IfOk, Ok, refl, subst, sym}
 use Rattle.verb_core.specs.Live.{live}
 use Rattle.verb_bytes.specs.declared.journal.JournalRecord.TheVariants.{Verb}
 use Rattle.store_kept.specs.Kept.{store_of}
-use Rattle.mail_cycle.specs.Permanence.{UidsLast}
+use Rattle.mail_cycle.specs.Permanence.{UidsStay}
 use Rattle.mail_desk.specs.Desk.{submitted}
 use Rattle.desk_journal.specs.Lasting.{Lasting, lasting}
 use Rattle.desk_journal.specs.Submitting.{SubmitWants, SubmitsNone, WritesNone}
-use Rattle.time_desk.proofs.Lasts.{IsNamed, call_lasts, lasts_kept}
+use Rattle.time_desk.proofs.Lasts.{IsNamed, call_lasts, stay_kept}
 use Rattle.time_desk.proofs.desk.Desk.submit.Goals as goal
 
 pub returns-clause-ok : goal.returns-clause-ok
@@ -27,14 +27,14 @@ returns-clause-writes_none g c =
     subst (λ (l : Lasting g.row.D.Denot). WritesNone tried.result l (lasting tried.new.desk tried.new.journal)) c.self.view_is tried.ensures.writes_none
 
 pub returns-then-is_closed-clause-uids : goal.returns-then-is_closed-clause-uids
-returns-then-is_closed-clause-uids g c = lasts_kept _ _ refl
+returns-then-is_closed-clause-uids g c = stay_kept _ _ refl
 
 -- what was sealed lets UIDs last
 pub returns-clause-uids : goal.returns-clause-uids
 returns-clause-uids g c =
     let tried = c.submit_open in
     let named = subst (λ (l : Lasting g.row.D.Denot). IsNamed l.kept) (sym c.self.view_is) (c.stands.ensures.valid, c.stands.ensures.named) in
-    subst (λ (l : Lasting g.row.D.Denot). UidsLast l.kept tried.new.desk.kept) c.self.view_is
+    subst (λ (l : Lasting g.row.D.Denot). UidsStay l.kept tried.new.desk.kept) c.self.view_is
     (call_lasts g.D.Disk.told tried.result (λ item. Verb item) (lasting c.self.inside.desk c.self.inside.journal) (lasting tried.new.desk tried.new.journal) (λ item. refl)
     named tried.ensures.sealed tried.ensures.err)
 

@@ -1,10 +1,10 @@
 use Rattle.std.proofs.Common.{◌≡◌, ◌∙◌, true, inl, OnOk, refl, subst, sym}
-use Rattle.mail_cycle.specs.Permanence.{UidsLast}
+use Rattle.mail_cycle.specs.Permanence.{UidsStay}
 use Rattle.store_kept.specs.Kept.{Kept, upgraded}
 use Rattle.desk_journal.specs.Lasting.{Lasting, lasting}
 use Rattle.desk_journal.specs.Submitting.{UpgradesOnce}
 use Rattle.desk_journal.proofs.Upgrading.{upgraded_again, upgraded_once}
-use Rattle.time_desk.proofs.Lasts.{lasts_kept, upgrades_last}
+use Rattle.time_desk.proofs.Lasts.{stay_kept, upgrades_last}
 use Rattle.time_desk.proofs.desk.Desk.upgrade.Goals as goal
 
 -- where names may have superiors already nothing changes
@@ -16,10 +16,10 @@ returns-then-deep-clause-kept g c =
     subst (λ (l : Lasting g.row.D.Denot). l.kept ≡ upgraded l.kept) c.self.view_is (upgraded_again c.self.inside.desk.kept (sym c.deep.ensures ∙ c.if-deep.true))
 
 pub returns-then-deep-clause-uids : goal.returns-then-deep-clause-uids
-returns-then-deep-clause-uids g c = lasts_kept _ _ refl
+returns-then-deep-clause-uids g c = stay_kept _ _ refl
 
 pub returns-then-is_closed-clause-uids : goal.returns-then-is_closed-clause-uids
-returns-then-is_closed-clause-uids g c = lasts_kept _ _ refl
+returns-then-is_closed-clause-uids g c = stay_kept _ _ refl
 
 -- else a record was sealed
 pub returns-clause-ok : goal.returns-clause-ok
@@ -33,5 +33,5 @@ pub returns-clause-uids : goal.returns-clause-uids
 returns-clause-uids g c =
     let tried = c.upgrade_open in
     let inside = c.self.inside in
-    subst (λ (l : Lasting g.row.D.Denot). UidsLast l.kept tried.new.desk.kept) c.self.view_is
+    subst (λ (l : Lasting g.row.D.Denot). UidsStay l.kept tried.new.desk.kept) c.self.view_is
     (upgrades_last tried.result inside.desk.kept tried.new.desk.kept tried.ensures.kept tried.ensures.err)
