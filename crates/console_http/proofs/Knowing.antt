@@ -4,6 +4,7 @@ use Rattle.std.specs.Prelude.{Result, Ok, Err, IsTrue, option_and_then, option_m
 use Rattle.std.specs.List.{AllByRecursion, list_all, after_first, before_first}
 use Rattle.std.specs.Str.{bytes_eq}
 use Rattle.undo_base.specs.declared.keys.User.{User}
+use Rattle.undo_base.specs.Name.{IsName}
 use Rattle.serde_json.specs.Data.{Data}
 use Rattle.verb_core.specs.declared.conf.House.{House}
 use Rattle.verb_core.specs.declared.item.Act.{Act}
@@ -13,6 +14,7 @@ use Rattle.verb_core.specs.Items.{users_in}
 use Rattle.verb_core.specs.Recipients.{user_named}
 use Rattle.verb_core.specs.Store.{is_house, is_known}
 use Rattle.verb_bytes.specs.declared.journal.CycleAsk.{CycleAsk}
+use Rattle.verb_bytes.proofs.AskedRanges.{withdraw_is_spelled}
 use Rattle.console_head.specs.Request.{Request}
 use Rattle.console_http.specs.declared.pages.Page.{Page}
 use Rattle.console_http.specs.declared.pages.Page.TheVariants as page
@@ -25,13 +27,13 @@ use Rattle.console_http.specs.declared.request.Route.TheVariants as route
 use Rattle.console_http.specs.Parts.{box_name, is_slash, part_of}
 use Rattle.console_http.specs.Members.{has_members, value_of}
 use Rattle.console_http.specs.Acts.{act_in}
-use Rattle.console_http.specs.Cycles.{cycle_in, try_in}
+use Rattle.console_http.specs.Cycles.{cycle_in, try_in, withdraw_in}
 use Rattle.console_http.specs.Routes.{Choice, alone, asked_plainly, box_in, front_of, method_of, number_in, page_of, route_at, route_on, said, taken}
 use Rattle.repair_desk.specs.Repairs.{are_known}
 use Rattle.console_http.specs.Requests.{AskKnows, AskRecords, Asks, IsRecordable, KnowsUsers}
 use Rattle.console_http.proofs.Bodies.{request_fits}
 use Rattle.console_http.proofs.Each.{Each, Anything, anything, each_then, each_map, each_if}
-use Rattle.console_http.proofs.Made.{IsMade, IsAsk, act_in_made, cycle_in_made, try_in_made}
+use Rattle.console_http.proofs.Made.{IsMade, IsAsk, IsWithdrawal, act_in_made, cycle_in_made, try_in_made, withdraw_in_made}
 use Rattle.console_http.proofs.Recording.{act_recorded, ask_recorded}
 
 -- ---- what a route is made of
@@ -49,6 +51,7 @@ MadeOf house (route.Try ask) = IsAsk house ask
 MadeOf house route.Snapshot = Unit {0}
 MadeOf house route.Stop = Unit {0}
 MadeOf house route.Upgrade = Unit {0}
+MadeOf house (route.Withdraw key of) = IsName key × (of ≤ 4294967295)
 
 abbrev ChoiceMade : House → Choice → Type 0
 ChoiceMade house (Ok route) = MadeOf house route
@@ -104,6 +107,9 @@ on_page house page.Stop parts body few = alone_made house (Ok route.Stop) parts 
 on_page house page.Upgrade parts body few =
     let asked = asked_plainly route.Upgrade body in
     alone_made house (said asked) parts (said_made house asked (plainly_made house route.Upgrade body tt))
+on_page house page.Withdraw parts body few =
+    let asked = option_map (λ (a : List ℕ × ℕ). route.Withdraw a.0 a.1) (withdraw_in body) in
+    alone_made house (said asked) parts (said_made house asked (each_map IsWithdrawal (MadeOf house) (λ (a : List ℕ × ℕ). route.Withdraw a.0 a.1) (λ a h. h) (withdraw_in body) (withdraw_in_made body)))
 
 at_page : (house : House) (r : Request) (o : Option Page) → length r.body ≤ 4194304 → ChoiceMade house (route_at house r o)
 at_page house r None few = tt
@@ -141,6 +147,7 @@ route_knows house (route.Try ask) made = acts_know house ask.inserts made.insert
 route_knows house route.Snapshot made = tt
 route_knows house route.Stop made = tt
 route_knows house route.Upgrade made = tt
+route_knows house (route.Withdraw key of) made = tt
 
 pub ask_knows : (house : House) (bytes : List ℕ) (asked : Result Asked HttpRefused) → Asks house bytes asked → AskKnows house asked
 ask_knows house bytes (Ok NotYet) asks = tt
@@ -163,6 +170,7 @@ route_recorded house number at (route.Try ask) is n t made = ask_recorded house 
 route_recorded house number at route.Snapshot is n t made = tt
 route_recorded house number at route.Stop is n t made = tt
 route_recorded house number at route.Upgrade is n t made = tt
+route_recorded house number at (route.Withdraw key of) is n t made = withdraw_is_spelled number at key of n t made.0 made.1
 
 pub ask_records : (house : House) (bytes : List ℕ) (asked : Result Asked HttpRefused) (number at : ℕ) → IsTrue (is_house house) → number ≤ 4294967295 → at ≤ 253402300799
     → Asks house bytes asked → AskRecords number at asked

@@ -26,7 +26,7 @@ use Rattle.console_http.specs.declared.acts.Word.TheVariants as word
 use Rattle.console_http.specs.Parts.{name_of, box_name, local_of, field_of}
 use Rattle.console_http.specs.Members.{at_most, body_at, box_at, each_of, field_at, file_at, file_in, has_members, list_at, local_at, name_at, number_at, short_text, some_users, text_at, text_in, told_bytes, user_at, user_in, users_at, users_in, value_of, whole_number}
 use Rattle.console_http.specs.Acts.{act_by, act_in, act_of, act_sized, alias_of, filter_of, give_of, plain_scope, remove_of, scope_at, scope_in, scope_named, size_of, unalias_of, unfilter_of, word_of}
-use Rattle.console_http.specs.Cycles.{ask_of, cycle_in, cycle_of, drops_at, has_cycle_members, inserts_at, key_at, key_of, replace_of, replaces_at, try_in, try_of}
+use Rattle.console_http.specs.Cycles.{ask_of, cycle_in, cycle_of, drops_at, has_cycle_members, inserts_at, key_at, key_of, replace_of, replaces_at, try_in, try_of, withdraw_in, withdraw_of}
 use Rattle.console_http.proofs.Each.{Each, Anything, anything, each_then, each_map, each_weaker, each_if, each_when}
 use Rattle.undo_base.proofs.Names.{name_is}
 use Rattle.console_http.proofs.Names.{name_named, box_named, local_named}
@@ -77,6 +77,10 @@ pub record IsAsk (house : House) (ask : CycleAsk) : Type 0 where
   pub drops : AreMany IsFew ask.drops
   pub replaces : AreMany IsReplace ask.replaces
   pub inserts : AreMany (IsMade house) ask.inserts
+
+-- what a withdrawal is made of
+abbrev pub IsWithdrawal : List ℕ × ℕ → Type 0
+IsWithdrawal a = IsName a.0 × IsFew a.1
 
 -- ---- members
 
@@ -313,6 +317,17 @@ cycle_made house d small =
 
 try_made : (house : House) (d : Data) → IsSmall d → Each (IsAsk house) (try_of house d)
 try_made house d small = each_if (IsAsk house) (has_cycle_members d) (ask_of house (codes "-") d) (ask_made house (codes "-") d (name_is (codes "-") refl) small)
+
+withdraw_made : (d : Data) → Each IsWithdrawal (withdraw_of d)
+withdraw_made d =
+    let asked = λ (key : List ℕ). option_map (λ (of : ℕ). (key, of)) (number_at (codes "of") 4294967295 d) in
+    each_if IsWithdrawal (has_members 2 d) (option_and_then asked (key_at d))
+    (each_then IsName IsWithdrawal asked
+    (λ key named. each_map IsFew IsWithdrawal (λ (of : ℕ). (key, of)) (λ of few. (named, few)) (number_at (codes "of") 4294967295 d) (number_at_made (codes "of") 4294967295 d))
+    (key_at d) (key_at_made d))
+
+pub withdraw_in_made : (body : List ℕ) → Each IsWithdrawal (withdraw_in body)
+withdraw_in_made body = each_then {A = Data} Anything IsWithdrawal withdraw_of (λ d h. withdraw_made d) (value_of body) (anything (value_of body))
 
 -- ---- bodies
 

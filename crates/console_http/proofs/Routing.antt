@@ -20,7 +20,7 @@ use Rattle.console_http.specs.declared.request.Route.{Route as Taken}
 use Rattle.console_http.specs.declared.request.Route.TheVariants as route
 use Rattle.console_http.specs.Parts.{is_slash, part_of}
 use Rattle.console_http.specs.Acts.{act_in}
-use Rattle.console_http.specs.Cycles.{cycle_in, try_in}
+use Rattle.console_http.specs.Cycles.{cycle_in, try_in, withdraw_in}
 use Rattle.console_http.specs.Routes.{Choice, all_pages, alone, asked_plainly, box_in, front_of, method_of, number_in, page_of, route_at, route_of, route_on, said, taken}
 use Rattle.console_http.specs.Pages.{AreBytes, entry_of, is_alone, page_at, page_rows, route_by}
 use Rattle.console_http.proofs.Rows.{Plain, seek-part, seek-all, seek-along}
@@ -82,6 +82,7 @@ finds_alone page.Try e = refl
 finds_alone page.Snapshot e = refl
 finds_alone page.Stop e = refl
 finds_alone page.Upgrade e = refl
+finds_alone page.Withdraw e = refl
 
 -- a path that has no parts, and a page whose row has none
 by_none : (p : Page) (choice : Choice) → is_alone p ≡ true → (parts : List ℕ) → (alone choice parts ≡ Err Route) ⊎ (page_at (front_of p ++ parts) ≡ Some p)
@@ -116,6 +117,7 @@ on_row house page.Try parts body h = by_none page.Try (said (option_map (λ ask.
 on_row house page.Snapshot parts body h = by_none page.Snapshot (Ok route.Snapshot) refl parts
 on_row house page.Stop parts body h = by_none page.Stop (Ok route.Stop) refl parts
 on_row house page.Upgrade parts body h = by_none page.Upgrade (said (asked_plainly route.Upgrade body)) refl parts
+on_row house page.Withdraw parts body h = by_none page.Withdraw (said (option_map (λ (a : List ℕ × ℕ). route.Withdraw a.0 a.1) (withdraw_in body))) refl parts
 
 -- ---- a request
 
@@ -163,6 +165,7 @@ page_front page.Try rest = refl
 page_front page.Snapshot rest = refl
 page_front page.Stop rest = refl
 page_front page.Upgrade rest = refl
+page_front page.Withdraw rest = refl
 
 by_routed : (house : House) (r : Request) (o : Option Page) → IsRouted house r o → None ≡ page_at r.target → route_at house r o ≡ Err Route
 by_routed house r o (inl none) e = none

@@ -1,4 +1,4 @@
--- What is asked of a cycle as a JSON object.
+-- What is asked of a cycle, and of a withdrawal, as a JSON object.
 use Rattle.std.specs.Prelude.{ℕ, ◌+◌, Bool, List, length, nat_le, codes, Option, None, option_and_then, option_map, if◌then◌else◌}
 use Rattle.serde_json.specs.Data.{Data}
 use Rattle.verb_core.specs.declared.conf.House.{House}
@@ -54,6 +54,12 @@ cycle_of house d = if has_cycle_members d then option_and_then (λ key. ask_of h
 abbrev pub try_of : House → Data → Option CycleAsk
 try_of house d = if has_cycle_members d then ask_of house (codes "-") d else None
 
+-- a withdrawal: an object with a key and a cycle's number, and no other members
+abbrev pub withdraw_of : Data → Option (List ℕ × ℕ)
+withdraw_of d =
+    if has_members 2 d then option_and_then (λ key. option_map (λ of. (key, of)) (number_at (codes "of") 4294967295 d)) (key_at d)
+    else None
+
 -- the cycle that a body is
 abbrev pub cycle_in : House → List ℕ → Option CycleAsk
 cycle_in house body = option_and_then (cycle_of house) (value_of body)
@@ -61,3 +67,7 @@ cycle_in house body = option_and_then (cycle_of house) (value_of body)
 -- the try that a body is
 abbrev pub try_in : House → List ℕ → Option CycleAsk
 try_in house body = option_and_then (try_of house) (value_of body)
+
+-- the withdrawal that a body is
+abbrev pub withdraw_in : List ℕ → Option (List ℕ × ℕ)
+withdraw_in body = option_and_then withdraw_of (value_of body)

@@ -25,6 +25,7 @@ text_of page.Try = codes "/try"
 text_of page.Snapshot = codes "/snapshot"
 text_of page.Stop = codes "/stop"
 text_of page.Upgrade = codes "/upgrade"
+text_of page.Withdraw = codes "/withdraw"
 
 -- its tokens: bytes, and what takes the rest of a path or a part of it
 abbrev pub pattern_of : Page → List ℕ
@@ -40,6 +41,7 @@ pattern_of page.Try = codes "/try"
 pattern_of page.Snapshot = codes "/snapshot"
 pattern_of page.Stop = codes "/stop"
 pattern_of page.Upgrade = codes "/upgrade"
+pattern_of page.Withdraw = codes "/withdraw"
 
 -- a page whose path has no parts
 abbrev pub is_alone : Page → Bool
@@ -63,6 +65,7 @@ names_of page.Try = []
 names_of page.Snapshot = []
 names_of page.Stop = []
 names_of page.Upgrade = []
+names_of page.Withdraw = []
 
 abbrev pub entry_of : Page → RouteOf Page
 entry_of page = record { pattern = pattern_of page; text = text_of page; names = names_of page; value = page }
@@ -73,15 +76,15 @@ row_of page = (pattern_of page, entry_of page)
 -- ---- the rows as they come in
 
 abbrev pub acting_rows : RowsOf (RouteOf Page)
-acting_rows = row_of page.Act ∷ row_of page.Cycle ∷ row_of page.Snapshot ∷ row_of page.Stop ∷ row_of page.Try ∷ row_of page.Upgrade ∷ []
+acting_rows = row_of page.Act ∷ row_of page.Cycle ∷ row_of page.Snapshot ∷ row_of page.Stop ∷ row_of page.Try ∷ row_of page.Upgrade ∷ row_of page.Withdraw ∷ []
 
 abbrev pub whole_rows : RowsOf (RouteOf Page)
-whole_rows = row_of page.Act ∷ row_of page.Conf ∷ row_of page.Cycle ∷ row_of page.Snapshot ∷ row_of page.Status ∷ row_of page.Stop ∷ row_of page.Try ∷ row_of page.Upgrade ∷ []
+whole_rows = row_of page.Act ∷ row_of page.Conf ∷ row_of page.Cycle ∷ row_of page.Snapshot ∷ row_of page.Status ∷ row_of page.Stop ∷ row_of page.Try ∷ row_of page.Upgrade ∷ row_of page.Withdraw ∷ []
 
 abbrev pub page_rows : RowsOf (RouteOf Page)
 page_rows =
     row_of page.Act ∷ row_of page.Body ∷ row_of page.Box ∷ row_of page.Conf ∷ row_of page.Cycle ∷ row_of page.Plan ∷ row_of page.Snapshot ∷ row_of page.Status
-    ∷ row_of page.Stop ∷ row_of page.Timeline ∷ row_of page.Try ∷ row_of page.Upgrade ∷ []
+    ∷ row_of page.Stop ∷ row_of page.Timeline ∷ row_of page.Try ∷ row_of page.Upgrade ∷ row_of page.Withdraw ∷ []
 
 -- each is below 256
 abbrev pub AreBytes : List ℕ → Type 0

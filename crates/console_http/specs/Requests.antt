@@ -6,7 +6,7 @@ use Rattle.verb_core.specs.declared.item.Deed.TheVariants.{Act as Acts}
 use Rattle.verb_core.specs.Items.{users_in}
 use Rattle.verb_core.specs.Store.{is_known}
 use Rattle.verb_bytes.specs.Spelling.{HasSpelling}
-use Rattle.verb_bytes.specs.declared.journal.JournalRecord.TheVariants.{Operator, Cycle}
+use Rattle.verb_bytes.specs.declared.journal.JournalRecord.TheVariants.{Operator, Cycle, Withdraw}
 use Rattle.repair_desk.specs.Repairs.{are_known}
 use Rattle.console_head.specs.Request.{Request, Says}
 use Rattle.console_head.specs.declared.request.HeadRefused.{HeadRefused}
@@ -88,6 +88,7 @@ KnowsUsers house (route.Try ask) = IsTrue (are_known house ask.inserts)
 KnowsUsers house route.Snapshot = Unit {0}
 KnowsUsers house route.Stop = Unit {0}
 KnowsUsers house route.Upgrade = Unit {0}
+KnowsUsers house (route.Withdraw key of) = Unit {0}
 
 abbrev pub AskKnows : House → Result Asked HttpRefused → Type 0
 AskKnows house (Ok NotYet) = Unit {0}
@@ -108,6 +109,7 @@ IsRecordable number at (route.Try ask) = HasSpelling (Cycle number at ask)
 IsRecordable number at route.Snapshot = Unit {0}
 IsRecordable number at route.Stop = Unit {0}
 IsRecordable number at route.Upgrade = Unit {0}
+IsRecordable number at (route.Withdraw key of) = HasSpelling (Withdraw number at key of)
 
 abbrev pub AskRecords : ℕ → ℕ → Result Asked HttpRefused → Type 0
 AskRecords number at (Ok NotYet) = Unit {0}

@@ -8,13 +8,13 @@ use Rattle.console_head.specs.Request.{Request}
 use Rattle.console_http.specs.declared.pages.Page.{Page}
 use Rattle.console_http.specs.declared.pages.Page.TheVariants as page
 use Rattle.console_http.specs.declared.request.Route.{Route as Taken}
-use Rattle.console_http.specs.declared.request.Route.TheVariants.{Status, Timeline, Box, Body, Conf, Plan, Act, Cycle, Try, Snapshot, Stop, Upgrade}
+use Rattle.console_http.specs.declared.request.Route.TheVariants.{Status, Timeline, Box, Body, Conf, Plan, Act, Cycle, Try, Snapshot, Stop, Upgrade, Withdraw}
 use Rattle.console_http.specs.declared.request.HttpRefused.{HttpRefused}
 use Rattle.console_http.specs.declared.request.HttpRefused.TheVariants.{Route, Json}
 use Rattle.console_http.specs.Parts.{part_of, number32, box_name, is_slash}
 use Rattle.console_http.specs.Members.{has_members, value_of}
 use Rattle.console_http.specs.Acts.{act_in}
-use Rattle.console_http.specs.Cycles.{cycle_in, try_in}
+use Rattle.console_http.specs.Cycles.{cycle_in, try_in, withdraw_in}
 
 -- what stands before the parts of a page's path
 abbrev pub front_of : Page → List ℕ
@@ -30,10 +30,11 @@ front_of page.Try = codes "/try"
 front_of page.Snapshot = codes "/snapshot"
 front_of page.Stop = codes "/stop"
 front_of page.Upgrade = codes "/upgrade"
+front_of page.Withdraw = codes "/withdraw"
 
 abbrev pub all_pages : List Page
 all_pages = page.Status ∷ page.Timeline ∷ page.Box ∷ page.Body ∷ page.Conf ∷ page.Plan ∷ page.Act ∷ page.Cycle ∷ page.Try ∷ page.Snapshot ∷ page.Stop ∷ page.Upgrade
-    ∷ []
+    ∷ page.Withdraw ∷ []
 
 -- the page whose front the path has
 abbrev pub page_of : List ℕ → Option Page
@@ -52,6 +53,7 @@ method_of page.Try = codes "POST"
 method_of page.Snapshot = codes "POST"
 method_of page.Stop = codes "POST"
 method_of page.Upgrade = codes "POST"
+method_of page.Withdraw = codes "POST"
 
 abbrev pub Choice : Type 0
 Choice = Result Taken HttpRefused
@@ -99,6 +101,7 @@ route_on house page.Try parts body = alone (said (option_map (λ ask. Try ask) (
 route_on house page.Snapshot parts body = alone (Ok Snapshot) parts
 route_on house page.Stop parts body = alone (Ok Stop) parts
 route_on house page.Upgrade parts body = alone (said (asked_plainly Upgrade body)) parts
+route_on house page.Withdraw parts body = alone (said (option_map (λ (asked : List ℕ × ℕ). Withdraw asked.0 asked.1) (withdraw_in body))) parts
 
 abbrev pub route_at : House → Request → Option Page → Choice
 route_at house r None = Err Route

@@ -1,4 +1,4 @@
-//! What is asked of a cycle.
+//! What is asked of a cycle, and of a withdrawal.
 ghost use Rattle.std.specs.Prelude.{◌≡◌, IsTrue, IfOk};
 ghost use Rattle.serde_json.specs.View.{view, items_view};
 ghost use Rattle.verb_core.specs.Store.{is_house};
@@ -17,7 +17,7 @@ use undo_base::{Name, NoMemory, Numbers, Text};
 use verb_bytes::{Acts, CycleAsk, Replaces};
 use verb_core::House;
 
-/// How many bytes the key of a cycle has at most.
+/// How many bytes the key of a cycle or a withdrawal has at most.
 const MOST_KEY: usize = 64;
 
 /// How many of the members are among those of a cycle.
@@ -210,6 +210,22 @@ fn tried_from(alloc: Global, house: &House, value: &Value) -> Result<Option<Cycl
     read_ask(alloc, house, key, value)
 }
 
+/// The withdrawal that a value is: an object with a key and a cycle's number, and no other members.
+fn withdraw_from(alloc: Global, value: &Value) -> Result<Option<(Name, u32)>, NoMemory>
+    ensures { IfOk result (λ asked. asked ≡ spec.withdraw_of (view value.now)) }
+{
+    if !has_members(value, 2) {
+        return Ok(None);
+    }
+    let Some(key) = key_at(alloc, value)? else {
+        return Ok(None);
+    };
+    let Some(of) = number_at(value, "of", 4_294_967_295) else {
+        return Ok(None);
+    };
+    Ok(Some((key, of as u32)))
+}
+
 /// The cycle that a body is.
 pub fn read_cycle(alloc: Global, house: &House, body: &[u8]) -> Result<Option<CycleAsk>, NoMemory>
     requires { IsTrue (is_house house.now) }
@@ -229,5 +245,15 @@ pub fn read_try(alloc: Global, house: &House, body: &[u8]) -> Result<Option<Cycl
     match read_value(alloc, body)? {
         None => Ok(None),
         Some(value) => tried_from(alloc, house, &value),
+    }
+}
+
+/// The withdrawal that a body is.
+pub fn read_withdraw(alloc: Global, body: &[u8]) -> Result<Option<(Name, u32)>, NoMemory>
+    ensures { IfOk result (λ asked. asked ≡ spec.withdraw_in body.now) }
+{
+    match read_value(alloc, body)? {
+        None => Ok(None),
+        Some(value) => withdraw_from(alloc, &value),
     }
 }

@@ -22,6 +22,7 @@ pub enum Page {
     Snapshot,
     Stop,
     Upgrade,
+    Withdraw,
 }
 
 impl Page {
@@ -42,6 +43,7 @@ impl Page {
             Page::Snapshot => b"/snapshot",
             Page::Stop => b"/stop",
             Page::Upgrade => b"/upgrade",
+            Page::Withdraw => b"/withdraw",
         }
     }
 
@@ -52,8 +54,13 @@ impl Page {
         match self {
             Page::Status | Page::Timeline | Page::Box | Page::Body | Page::Conf | Page::Plan =>
                 b"GET",
-            Page::Act | Page::Cycle | Page::Try | Page::Snapshot | Page::Stop | Page::Upgrade =>
-                b"POST",
+            Page::Act
+            | Page::Cycle
+            | Page::Try
+            | Page::Snapshot
+            | Page::Stop
+            | Page::Upgrade
+            | Page::Withdraw => b"POST",
         }
     }
 }
@@ -67,6 +74,7 @@ fn add_acting(router: &mut Router<Page>) -> Result<(), InsertError>
     router.insert("/snapshot", Page::Snapshot)?;
     router.insert("/stop", Page::Stop)?;
     router.insert("/upgrade", Page::Upgrade)?;
+    router.insert("/withdraw", Page::Withdraw)?;
     Ok(())
 }
 

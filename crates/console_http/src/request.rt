@@ -4,13 +4,13 @@ ghost use Rattle.verb_core.specs.Store.{is_house};
 ghost use Rattle.console_head.specs.Coming.{IsKnown, looked_at};
 ghost use Rattle.console_head.specs.Seen.{parts_seen};
 ghost use Rattle.console_http.specs.Acts.{act_in};
-ghost use Rattle.console_http.specs.Cycles.{cycle_in, try_in};
+ghost use Rattle.console_http.specs.Cycles.{cycle_in, try_in, withdraw_in};
 ghost use Rattle.console_http.specs.Pages.{route_by};
 ghost use Rattle.console_http.specs.Routes.{number_in, box_in, alone as alone_at, taken, said as said_of, asked_plainly, route_on, route_of};
 ghost use Rattle.console_http.specs.Requests.{Asks, AsksOf, Found, Learns, told_of};
 
 use crate::acts::read_act;
-use crate::cycles::{read_cycle, read_try};
+use crate::cycles::{read_cycle, read_try, read_withdraw};
 use crate::members::{has_members, read_value};
 use crate::pages::{Page, find_page};
 use crate::parts::{before_slash, behind_slash, find_user, read_box, read_number, read_part};
@@ -35,6 +35,7 @@ pub enum Route {
     Snapshot,
     Stop,
     Upgrade,
+    Withdraw { key: Name, of: u32 },
 }
 
 /// What the bytes of a connection ask, if they are a request already.
@@ -216,6 +217,15 @@ fn read_upgrade(alloc: Global, parts: &[u8], body: &[u8]) -> Result<Route, HttpR
     said(plainly(alloc, Route::Upgrade, body)?)
 }
 
+fn read_withdrawn(alloc: Global, parts: &[u8], body: &[u8]) -> Result<Route, HttpRefused>
+    ensures { Found (alone_at (said_of (option_map (λ (asked : List ℕ × ℕ). Route.Withdraw asked.0 asked.1) (withdraw_in body.now))) parts.now) result }
+{
+    if !parts.is_empty() {
+        return Err(HttpRefused::Route);
+    }
+    said(read_withdraw(alloc, body)?.map(|(key, of)| Route::Withdraw { key, of }))
+}
+
 /// The route of a page, by the parts of its path and the body.
 fn read_parts(
     alloc: Global,
@@ -240,6 +250,7 @@ fn read_parts(
         Page::Snapshot => alone(Route::Snapshot, parts),
         Page::Stop => alone(Route::Stop, parts),
         Page::Upgrade => read_upgrade(alloc, parts, body),
+        Page::Withdraw => read_withdrawn(alloc, parts, body),
     }
 }
 

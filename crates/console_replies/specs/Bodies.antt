@@ -49,6 +49,10 @@ error_data word = object (member (codes "error") (string (word_text word)) no_me
 abbrev pub point_data : ℕ → Data
 point_data given = object (member (codes "error") (string (codes "point")) (member (codes "given") (counted given) no_members))
 
+-- a cycle that is not the last of all cycles and withdrawals
+abbrev pub uncycled_data : ℕ → Data
+uncycled_data given = object (member (codes "error") (string (codes "cycle")) (member (codes "given") (counted given) no_members))
+
 -- numbers that are used up
 abbrev pub numbers_data : ℕ → Data
 numbers_data next = object (member (codes "error") (string (codes "numbers")) (member (codes "next") (counted next) no_members))

@@ -2,7 +2,7 @@
 ghost use Rattle.std.specs.Prelude.{◌≡◌, IfOk, string_bytes};
 ghost use Rattle.serde_json.specs.View.{view};
 ghost use Rattle.serde_json.specs.Written.{compact_text};
-ghost use Rattle.console_replies.specs.Bodies.{status_data, body_data, number_data, items_data, stopped_data, upgraded_data, word_text, error_data, point_data, numbers_data};
+ghost use Rattle.console_replies.specs.Bodies.{status_data, body_data, number_data, items_data, stopped_data, upgraded_data, word_text, error_data, point_data, uncycled_data, numbers_data};
 
 use crate::text::text_of;
 use base64::engine::general_purpose::STANDARD;
@@ -154,6 +154,19 @@ pub fn point_json(alloc: Global, given: u32) -> Result<Text, NoMemory>
     ensures { IfOk result (λ text. text ≡ compact_text (point_data given)) }
 {
     text_of(alloc, point_value(alloc, given)?)
+}
+
+fn uncycled_value(alloc: Global, given: u32) -> Result<Value, AllocError>
+    ensures { IfOk result (λ v. view v ≡ uncycled_data given) }
+{
+    json!(in alloc; {"error": "cycle", "given": given})
+}
+
+/// The body of a refusal of the cycle that is to be withdrawn.
+pub fn uncycled_json(alloc: Global, given: u32) -> Result<Text, NoMemory>
+    ensures { IfOk result (λ text. text ≡ compact_text (uncycled_data given)) }
+{
+    text_of(alloc, uncycled_value(alloc, given)?)
 }
 
 fn numbers_value(alloc: Global, next: u32) -> Result<Value, AllocError>

@@ -16,7 +16,7 @@ mod timeline;
 
 pub use bodies::{
     Counts, ErrorWord, body_json, error_json, items_json, number_json, numbers_json, point_json,
-    status_json, stopped_json, upgraded_json,
+    status_json, stopped_json, uncycled_json, upgraded_json,
 };
 pub use confs::conf_json;
 pub use mailboxes::box_json;

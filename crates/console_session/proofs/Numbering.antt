@@ -1,4 +1,4 @@
--- Numbers of acts, and keys that no cycle had.
+-- Numbers of acts, and keys that no cycle and no withdrawal had.
 use Rattle.std.proofs.Common.{◌≡◌, ◌&&◌, ℕ, ◌<◌, Bool, true, false, ◌==◌, List, [], ◌∷◌, Option, Some, None, refl, sym, ◌∙◌, subst, arith}
 use Rattle.std.specs.Prelude.{nat_lt, option_and_then, if◌then◌else◌}
 use Rattle.std.proofs.lemmas.Bool.Decides.{nat_tests}
@@ -7,10 +7,12 @@ use Rattle.verb_bytes.specs.declared.journal.CycleAsk.{CycleAsk}
 use Rattle.verb_bytes.specs.declared.journal.JournalRecord.{JournalRecord}
 use Rattle.verb_bytes.specs.declared.journal.JournalRecord.TheVariants.{Operator}
 use Rattle.paradox.specs.declared.reports.Report.{Report}
-use Rattle.store_kept.specs.Kept.{performed, report_of, Kept}
+use Rattle.store_kept.specs.Kept.{performed, report_of, undone_of, Kept}
 use Rattle.repair_desk.specs.Repairs.{position}
 use Rattle.cycle_rules.specs.Asking.{Due, Repeats, NoPoint, NoNumbers, Rewinds as IsDue, cycle_due, due_anew, due_at, due_by}
 use Rattle.cycle_rules.specs.Cycles.{cycled_at, leaves_numbers}
+use Rattle.cycle_rules.specs.Repairing.{leaves_numbers_for}
+use Rattle.cycle_rules.specs.Withdrawals.{withdraw_due, withdraw_due_anew, withdraw_due_at, withdrawn_at}
 use Rattle.verb_core.specs.Deeds.{act_item}
 use Rattle.desk_journal.specs.Records.{after_record, after_records, is_formed, is_spelled}
 use Rattle.console_session.specs.Turn.{done, failed, numbered, numberless}
@@ -64,7 +66,7 @@ less_is n lt = grind (arith, nat_tests, lt)
 
 -- ---- keys
 
--- no cycle had the key
+-- no cycle and no withdrawal had the key
 abbrev pub IsNew : Due → Type 0
 IsNew (Repeats report) = ⊥
 IsNew NoPoint = Unit {0}
@@ -78,3 +80,11 @@ new_at kept at ask (Some place) = elim (leaves_numbers kept ask) as (λ b. IsNew
 pub fresh_is_new : (kept : Kept) (at : ℕ) (ask : CycleAsk) → report_of kept.reports ask.key ≡ None → IsNew (cycle_due kept at ask)
 fresh_is_new kept at ask e =
     subst (λ (o : Option Report). IsNew (due_by o (due_anew kept at ask))) (sym e) (new_at kept at ask (position kept.timeline ask.point))
+
+pub fresh_withdrawal_is_new : (kept : Kept) (at : ℕ) (key : List ℕ) (of : ℕ) → report_of kept.reports key ≡ None → IsNew (withdraw_due kept at key of)
+fresh_withdrawal_is_new kept at key of e =
+    subst (λ (o : Option Report). IsNew (due_by o (withdraw_due_anew kept at of))) (sym e)
+    (elim (undone_of kept of) as (λ o. IsNew (withdraw_due_at kept at o)) [
+      | None ↦ tt
+      | Some last ↦ elim (leaves_numbers_for kept 0) as (λ b. IsNew (if b then IsDue (withdrawn_at kept at last) else NoNumbers)) [ true ↦ tt | false ↦ tt ]
+    ])

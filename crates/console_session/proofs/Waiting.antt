@@ -5,9 +5,12 @@ use Rattle.undo_outside.specs.Disk.{DiskTold}
 use Rattle.verb_core.specs.declared.conf.House.{House}
 use Rattle.verb_core.specs.declared.item.Act.{Act}
 use Rattle.verb_bytes.specs.declared.journal.CycleAsk.{CycleAsk}
-use Rattle.verb_bytes.specs.declared.journal.JournalRecord.TheVariants.{Operator, Upgrade}
+use Rattle.verb_bytes.specs.declared.journal.JournalRecord.{JournalRecord}
+use Rattle.verb_bytes.specs.declared.journal.JournalRecord.TheVariants.{Operator, Cycle, Upgrade, Withdraw}
 use Rattle.store_kept.specs.Kept.{Kept}
-use Rattle.cycle_rules.specs.Asking.{Due, Repeats, NoPoint, NoNumbers, Rewinds, cycle_due, due_anew}
+use Rattle.cycle_rules.specs.Asking.{Due, Repeats, NoPoint, NoNumbers, Rewinds, after_cycle, cycle_due, due_anew}
+use Rattle.cycle_rules.specs.Cycles.{Cycled}
+use Rattle.cycle_rules.specs.Withdrawals.{after_withdrawal, withdraw_due}
 use Rattle.repair_desk.specs.Repairs.{position}
 use Rattle.desk_journal.specs.Lasting.{Lasting}
 use Rattle.console_head.specs.Request.{Says, Stage}
@@ -17,10 +20,10 @@ use Rattle.console_http.specs.Routes.{Choice, route_of}
 use Rattle.console_session.specs.declared.reply.After.TheVariants.{Closes, Fails, Rewinds as IsRewound, Stops, Upgrades, Waits}
 use Rattle.console_session.specs.declared.reply.Reply.{Reply}
 use Rattle.console_replies.specs.Bodies.{upgraded_data}
-use Rattle.console_session.specs.Answers.{answer, body_found}
+use Rattle.console_session.specs.Answers.{Answer, answer, body_found, pointless, uncycled}
 use Rattle.console_session.specs.Hearing.{Hears, AreServed, IsUnfed}
 use Rattle.console_session.specs.Turn.{Turn, asked_of, chosen, done, failed, numberless, tells, upgrade_done}
-use Rattle.console_session.specs.Hindrance.{Hindrance, Clear, Refused, Unheard, Unanswered, Unsealed, Untold, Unwritten, UnwrittenUnheard, Unread, UnreadRefused, UnreadUnheard, Misread, acted_under, cycled_under, found_under, hindered, read_under, rewound_under, routed_under, sealed_under, told_under, tried_under, upgraded_under}
+use Rattle.console_session.specs.Hindrance.{Hindrance, Clear, Refused, Unheard, Unanswered, Unsealed, Untold, Unwritten, UnwrittenUnheard, Unread, UnreadRefused, UnreadUnheard, Misread, acted_under, found_under, gone_back_under, hindered, read_under, rewound_under, routed_under, sealed_under, told_under, tried_under, upgraded_under}
 
 -- what follows is not that more bytes are waited for
 abbrev Ends : Turn → Type 0
@@ -108,11 +111,11 @@ act_ends h at kept act = by_left (nat_lt kept.next 4194304)
     by_left true = sealed_ends h kept (done at kept act) (failed kept (Operator kept.next at act)) closing failing
     by_left false = told_ends h kept (numberless kept) closing
 
-cycle_ends : (h : Hindrance) (at : ℕ) (kept : Kept) (ask : CycleAsk) (due : Due) → Ends (cycled_under h at kept ask due)
-cycle_ends h at kept ask (Repeats report) = told_ends h kept _ closing
-cycle_ends h at kept ask NoPoint = told_ends h kept _ closing
-cycle_ends h at kept ask NoNumbers = told_ends h kept _ closing
-cycle_ends h at kept ask (Rewinds due) = rewound_ends h kept _ _ rewinding failing
+back_ends : (h : Hindrance) (kept : Kept) (missing : Answer) (what : JournalRecord) (left : Cycled → Kept) (due : Due) → Ends (gone_back_under h kept missing what left due)
+back_ends h kept missing what left (Repeats report) = told_ends h kept _ closing
+back_ends h kept missing what left NoPoint = told_ends h kept _ closing
+back_ends h kept missing what left NoNumbers = told_ends h kept _ closing
+back_ends h kept missing what left (Rewinds due) = rewound_ends h kept _ _ rewinding failing
 
 try_ends : (h : Hindrance) (kept : Kept) (ask : CycleAsk) (due : Due) → Ends (tried_under h kept ask due)
 try_ends h kept ask (Repeats report) = told_ends h kept _ closing
@@ -135,11 +138,12 @@ route_ends h at kept (route.Body number) = found_ends h kept (body_found kept.ti
 route_ends h at kept route.Conf = told_ends h kept _ closing
 route_ends h at kept (route.Plan point) = found_ends h kept (position kept.timeline point) _ closing
 route_ends h at kept (route.Act act) = act_ends h at kept act
-route_ends h at kept (route.Cycle ask) = cycle_ends h at kept ask (cycle_due kept at ask)
+route_ends h at kept (route.Cycle ask) = back_ends h kept (pointless ask.point) (Cycle kept.next at ask) (after_cycle kept ask) (cycle_due kept at ask)
 route_ends h at kept (route.Try ask) = try_ends h kept ask (due_anew kept at ask)
 route_ends h at kept route.Snapshot = sealed_ends h kept _ _ closing failing
 route_ends h at kept route.Stop = told_ends h kept _ stopping
 route_ends h at kept route.Upgrade = upgrade_ends h at kept
+route_ends h at kept (route.Withdraw key of) = back_ends h kept (uncycled of) (Withdraw kept.next at key of) (after_withdrawal kept key) (withdraw_due kept at key of)
 
 -- a turn behind which more bytes are waited for is that of bytes that are not yet a request
 pub waits_for_more : (house : House) (h : Hindrance) (at : ℕ) (kept : Kept) (stage : Stage) → (hindered h at kept (asked_of house stage)).after ≡ Waits → stage ≡ Ok None

@@ -17,7 +17,7 @@ use Rattle.console_http.specs.declared.request.HttpRefused.{HttpRefused}
 use Rattle.console_http.specs.declared.request.HttpRefused.TheVariants as why
 use Rattle.console_replies.specs.declared.bodies.Counts.{Counts}
 use Rattle.console_replies.specs.declared.bodies.ErrorWord.TheVariants as word
-use Rattle.console_replies.specs.Bodies.{status_data, body_data, error_data, point_data}
+use Rattle.console_replies.specs.Bodies.{status_data, body_data, error_data, point_data, uncycled_data}
 use Rattle.console_replies.specs.Confs.{conf_data}
 use Rattle.console_replies.specs.Mailboxes.{box_data}
 use Rattle.console_replies.specs.Reply.{reply_of}
@@ -101,9 +101,17 @@ body_answer kept number = found (body_found kept.timeline number)
 abbrev pub conf_answer : Kept → Answer
 conf_answer kept = answer 200 (conf_data kept.house (store_of kept).conf)
 
+-- the timeline does not have the point
+abbrev pub pointless : ℕ → Answer
+pointless given = answer 422 (point_data given)
+
+-- the cycle that is to be withdrawn is not the last of all cycles and withdrawals
+abbrev pub uncycled : ℕ → Answer
+uncycled given = answer 422 (uncycled_data given)
+
 -- a plan of what could run side by side, or that the timeline does not have its point
 abbrev pub planned : ℕ → Option (List ℕ) → Answer
-planned point None = answer 422 (point_data point)
+planned point None = pointless point
 planned point (Some text) = told_plainly text
 
 abbrev pub plan_answer : Kept → ℕ → Answer

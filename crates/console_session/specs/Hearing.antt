@@ -9,6 +9,8 @@ use Rattle.desk_journal.specs.declared.fault.ActFault.{ActFault}
 use Rattle.desk_journal.specs.declared.fault.ActFault.TheVariants as fault
 use Rattle.time_desk.specs.declared.fault.CycleFault.{CycleFault}
 use Rattle.time_desk.specs.declared.fault.CycleFault.TheVariants as cycle_fault
+use Rattle.time_desk.specs.declared.fault.WithdrawFault.{WithdrawFault}
+use Rattle.time_desk.specs.declared.fault.WithdrawFault.TheVariants as withdraw_fault
 use Rattle.desk_journal.specs.Lasting.{Lasting}
 use Rattle.desk_journal.specs.Reading.{Counted, HaveRead, IsStill, ReadsWell}
 use Rattle.desk_journal.specs.Sealing.{Seals}
@@ -20,11 +22,11 @@ use Rattle.console_http.specs.declared.request.Asked.{Asked}
 use Rattle.console_http.specs.declared.request.HttpRefused.{HttpRefused}
 use Rattle.console_http.specs.declared.request.HttpRefused.TheVariants.{NoMemory}
 use Rattle.console_replies.specs.declared.bodies.ErrorWord.TheVariants.{Disk}
-use Rattle.console_replies.specs.Bodies.{error_data, numbers_data, point_data}
+use Rattle.console_replies.specs.Bodies.{error_data, numbers_data}
 use Rattle.console_session.specs.declared.reply.After.{After}
 use Rattle.console_session.specs.declared.reply.After.TheVariants.{Waits, Closes, Stops, Fails, Rewinds, Upgrades}
 use Rattle.console_session.specs.declared.reply.Reply.{Reply}
-use Rattle.console_session.specs.Answers.{Answer, answer, answer_text, refused}
+use Rattle.console_session.specs.Answers.{Answer, answer, answer_text, pointless, refused, uncycled}
 use Rattle.console_session.specs.Turn.{Turn, asked_of, turn}
 use Rattle.console_session.specs.Hindrance.{Hindrance, hindered}
 
@@ -78,11 +80,19 @@ TellsDiskFault false r = TellsUnread r
 
 -- why a cycle was not done, or not tried, or a plan not made is told, over a desk that is closed then or is not
 abbrev pub TellsCycleFault : Bool → CycleFault → Reply → Type 0
-TellsCycleFault closed (cycle_fault.Point given) r = Tells (answer 422 (point_data given)) Closes r
+TellsCycleFault closed (cycle_fault.Point given) r = Tells (pointless given) Closes r
 TellsCycleFault closed (cycle_fault.Numbers next) r = Tells (answer 507 (numbers_data next)) Closes r
 TellsCycleFault closed cycle_fault.Disk r = TellsDiskFault closed r
 TellsCycleFault closed cycle_fault.NoMemory r = Starves r
 TellsCycleFault closed cycle_fault.Closed r = ⊥
+
+-- why a cycle was not withdrawn is told, over a desk that is closed then or is not
+abbrev pub TellsWithdrawFault : Bool → WithdrawFault → Reply → Type 0
+TellsWithdrawFault closed (withdraw_fault.Cycle given) r = Tells (uncycled given) Closes r
+TellsWithdrawFault closed (withdraw_fault.Numbers next) r = Tells (answer 507 (numbers_data next)) Closes r
+TellsWithdrawFault closed withdraw_fault.Disk r = TellsDiskFault closed r
+TellsWithdrawFault closed withdraw_fault.NoMemory r = Starves r
+TellsWithdrawFault closed withdraw_fault.Closed r = ⊥
 
 -- ---- turns
 

@@ -2,9 +2,12 @@
 use Rattle.std.specs.Prelude.{ℕ, List, [], nat_lt, Option, None, Some, Result, Ok, Err, if◌then◌else◌}
 use Rattle.verb_core.specs.declared.item.Act.{Act}
 use Rattle.verb_bytes.specs.declared.journal.CycleAsk.{CycleAsk}
-use Rattle.verb_bytes.specs.declared.journal.JournalRecord.TheVariants.{Operator, Cycle, Upgrade}
+use Rattle.verb_bytes.specs.declared.journal.JournalRecord.{JournalRecord}
+use Rattle.verb_bytes.specs.declared.journal.JournalRecord.TheVariants.{Operator, Cycle, Upgrade, Withdraw}
 use Rattle.store_kept.specs.Kept.{Kept}
-use Rattle.cycle_rules.specs.Asking.{Due, Repeats, NoPoint, NoNumbers, Rewinds, cycle_due, due_anew}
+use Rattle.cycle_rules.specs.Asking.{Due, Repeats, NoPoint, NoNumbers, Rewinds, after_cycle, cycle_due, due_anew}
+use Rattle.cycle_rules.specs.Cycles.{Cycled}
+use Rattle.cycle_rules.specs.Withdrawals.{after_withdrawal, withdraw_due}
 use Rattle.repair_desk.specs.Repairs.{position}
 use Rattle.desk_journal.specs.Reading.{failed_once, none_read, wrong_once}
 use Rattle.desk_journal.specs.Records.{snapshot_record}
@@ -17,8 +20,8 @@ use Rattle.console_http.specs.declared.request.Route.TheVariants as route
 use Rattle.console_replies.specs.declared.bodies.ErrorWord.TheVariants as word
 use Rattle.console_replies.specs.Bodies.{error_data, upgraded_data}
 use Rattle.console_session.specs.declared.reply.After.TheVariants.{Closes}
-use Rattle.console_session.specs.Answers.{answer, body_found, refused}
-use Rattle.console_session.specs.Turn.{Turn, waits, tells, done, failed, kept_as_it_is, numberless, pointless, reported, rewound, routed, upgrade_done}
+use Rattle.console_session.specs.Answers.{Answer, answer, body_found, pointless, refused, uncycled}
+use Rattle.console_session.specs.Turn.{Turn, waits, tells, done, failed, kept_as_it_is, numberless, reported, rewound, routed, upgrade_done}
 
 -- How a turn may go otherwise.
 pub data Hindrance : Type 0 where
@@ -28,13 +31,13 @@ pub data Hindrance : Type 0 where
   Refused : Hindrance
   -- the same, and no memory was found for telling the operator
   Unheard : Hindrance
-  -- no memory was found for the answer to an act, a cycle, a snapshot or an upgrade that is done
+  -- no memory was found for the answer to an act, a cycle, a withdrawal, a snapshot or an upgrade that is done
   Unanswered : Hindrance
-  -- an act, a cycle, a snapshot or an upgrade could not be sealed: the operator is told, and serving ends
+  -- an act, a cycle, a withdrawal, a snapshot or an upgrade could not be sealed: the operator is told, and serving ends
   Unsealed : Hindrance
   -- the same, and no memory was found for telling the operator
   Untold : Hindrance
-  -- no memory was found in a write of an act, a cycle, a snapshot or an upgrade, as the disk says, and the operator is told; nothing was sealed
+  -- no memory was found in a write of an act, a cycle, a withdrawal, a snapshot or an upgrade, as the disk says, and the operator is told; nothing was sealed
   Unwritten : Hindrance
   -- the same, and no memory was found for telling the operator
   UnwrittenUnheard : Hindrance
@@ -44,7 +47,7 @@ pub data Hindrance : Type 0 where
   UnreadRefused : Hindrance
   -- the same, and no memory was found for telling the operator anything
   UnreadUnheard : Hindrance
-  -- A text was read that is not the one that was stored: so this is said, and where a cycle is done this is kept.
+  -- A text was read that is not the one that was stored: so this is said, and where a cycle or a withdrawal is done this is kept.
   Misread : List ℕ → Kept → Hindrance
 
 -- the connection closes with no answer
@@ -145,17 +148,23 @@ abbrev pub acted_under : Hindrance → ℕ → Kept → Act → Turn
 acted_under h at kept act =
     if nat_lt kept.next 4194304 then sealed_under h kept (done at kept act) (failed kept (Operator kept.next at act)) else told_under h kept (numberless kept)
 
--- what becomes of a request for a cycle, by what is due to it
+-- what becomes of a request for a cycle or a withdrawal, by what is due to it
+abbrev pub gone_back_under : Hindrance → Kept → Answer → JournalRecord → (Cycled → Kept) → Due → Turn
+gone_back_under h kept missing what left (Repeats report) = told_under h kept (reported kept report)
+gone_back_under h kept missing what left NoPoint = told_under h kept (tells missing Closes kept)
+gone_back_under h kept missing what left NoNumbers = told_under h kept (numberless kept)
+gone_back_under h kept missing what left (Rewinds due) = rewound_under h kept (rewound kept what left due) (failed kept what)
+
 abbrev pub cycled_under : Hindrance → ℕ → Kept → CycleAsk → Due → Turn
-cycled_under h at kept ask (Repeats report) = told_under h kept (reported kept report)
-cycled_under h at kept ask NoPoint = told_under h kept (pointless kept ask.point)
-cycled_under h at kept ask NoNumbers = told_under h kept (numberless kept)
-cycled_under h at kept ask (Rewinds due) = rewound_under h kept (rewound at kept ask due) (failed kept (Cycle kept.next at ask))
+cycled_under h at kept ask due = gone_back_under h kept (pointless ask.point) (Cycle kept.next at ask) (after_cycle kept ask) due
+
+abbrev pub withdrawn_under : Hindrance → ℕ → Kept → List ℕ → ℕ → Due → Turn
+withdrawn_under h at kept key of due = gone_back_under h kept (uncycled of) (Withdraw kept.next at key of) (after_withdrawal kept key) due
 
 -- what becomes of a cycle that is only tried
 abbrev pub tried_under : Hindrance → Kept → CycleAsk → Due → Turn
 tried_under h kept ask (Repeats report) = told_under h kept (reported kept report)
-tried_under h kept ask NoPoint = told_under h kept (pointless kept ask.point)
+tried_under h kept ask NoPoint = told_under h kept (tells (pointless ask.point) Closes kept)
 tried_under h kept ask NoNumbers = told_under h kept (numberless kept)
 tried_under h kept ask (Rewinds due) = read_under h kept (reported kept due.report)
 
@@ -177,6 +186,7 @@ routed_under h at kept (route.Try ask) = tried_under h kept ask (due_anew kept a
 routed_under h at kept route.Snapshot = sealed_under h kept (kept_as_it_is kept) (failed kept (snapshot_record kept))
 routed_under h at kept route.Stop = told_under h kept (routed at kept route.Stop)
 routed_under h at kept route.Upgrade = upgraded_under h at kept
+routed_under h at kept (route.Withdraw key of) = withdrawn_under h at kept key of (withdraw_due kept at key of)
 
 -- a turn, hindered or not; bytes that are not yet a request want no memory
 abbrev pub hindered : Hindrance → ℕ → Kept → Result Asked HttpRefused → Turn

@@ -4,11 +4,12 @@ use Rattle.verb_core.specs.declared.conf.House.{House}
 use Rattle.verb_core.specs.declared.item.Act.{Act}
 use Rattle.verb_bytes.specs.declared.journal.CycleAsk.{CycleAsk}
 use Rattle.verb_bytes.specs.declared.journal.JournalRecord.{JournalRecord}
-use Rattle.verb_bytes.specs.declared.journal.JournalRecord.TheVariants.{Operator, Cycle, Upgrade}
+use Rattle.verb_bytes.specs.declared.journal.JournalRecord.TheVariants.{Operator, Cycle, Upgrade, Withdraw}
 use Rattle.paradox.specs.declared.reports.Report.{Report}
 use Rattle.store_kept.specs.Kept.{performed, snapshotted, upgraded, Kept}
 use Rattle.cycle_rules.specs.Asking.{Due, Repeats, NoPoint, NoNumbers, Rewinds as IsDue, after_cycle, cycle_due, due_anew}
 use Rattle.cycle_rules.specs.Cycles.{Cycled}
+use Rattle.cycle_rules.specs.Withdrawals.{after_withdrawal, withdraw_due}
 use Rattle.verb_core.specs.Deeds.{act_item}
 use Rattle.desk_journal.specs.Reading.{Reads, none_read}
 use Rattle.desk_journal.specs.Records.{snapshot_record}
@@ -21,11 +22,11 @@ use Rattle.console_http.specs.declared.request.Route.TheVariants as route
 use Rattle.console_http.specs.Requests.{told_of}
 use Rattle.console_http.specs.Routes.{Choice, route_of}
 use Rattle.console_replies.specs.declared.bodies.ErrorWord.TheVariants as word
-use Rattle.console_replies.specs.Bodies.{error_data, items_data, number_data, numbers_data, point_data, stopped_data, upgraded_data}
+use Rattle.console_replies.specs.Bodies.{error_data, items_data, number_data, numbers_data, stopped_data, upgraded_data}
 use Rattle.console_replies.specs.Reports.{report_data}
 use Rattle.console_session.specs.declared.reply.After.{After}
 use Rattle.console_session.specs.declared.reply.After.TheVariants.{Waits, Closes, Stops, Fails, Rewinds, Upgrades}
-use Rattle.console_session.specs.Answers.{Answer, answer, answer_text, body_answer, box_answer, conf_answer, plan_answer, refused, status_answer, timeline_answer}
+use Rattle.console_session.specs.Answers.{Answer, answer, answer_text, body_answer, box_answer, conf_answer, plan_answer, pointless, refused, status_answer, timeline_answer, uncycled}
 
 -- what a turn says, what is kept after it, what follows, the record that was sealed in it, or that could not be, whether a text could not be
 -- read, or another was read than was stored, and in how many writes no memory was found
@@ -80,39 +81,44 @@ failed kept what = record {
 abbrev pub numbered : Kept → Turn → Turn
 numbered kept t = if nat_lt kept.next 4194304 then t else numberless kept
 
--- ---- cycles
+-- ---- cycles and withdrawals
 
--- a cycle is told by its report, and changes nothing
+-- one is told by its report, and changes nothing
 abbrev pub reported : Kept → Report → Turn
 reported kept report = tells (answer 200 (report_data kept.house report)) Closes kept
 
--- the timeline does not have the point
-abbrev pub pointless : Kept → ℕ → Turn
-pointless kept given = tells (answer 422 (point_data given)) Closes kept
-
--- a cycle is done, and answered with its report
-abbrev pub rewound : ℕ → Kept → CycleAsk → Cycled → Turn
-rewound at kept ask due = record {
+-- one is done: its record is sealed, what it leaves is kept, and it is answered with its report
+abbrev pub rewound : Kept → JournalRecord → (Cycled → Kept) → Cycled → Turn
+rewound kept what left due = record {
   said = answer_text (answer 200 (report_data kept.house due.report));
-  kept = after_cycle kept ask due;
+  kept = left due;
   after = Rewinds;
-  sealed = Cycle kept.next at ask ∷ [];
+  sealed = what ∷ [];
   unsealed = [];
   reads = none_read;
   starved = 0;
 }
 
--- what becomes of a request for a cycle, by what is due to it
-abbrev pub cycled : ℕ → Kept → CycleAsk → Due → Turn
-cycled at kept ask (Repeats report) = reported kept report
-cycled at kept ask NoPoint = pointless kept ask.point
-cycled at kept ask NoNumbers = numberless kept
-cycled at kept ask (IsDue due) = rewound at kept ask due
+-- what becomes of a request for one, by what is due to it: a report is told again; or what it goes back to is not there, and this is
+-- told; or too few numbers are left; or it is done
+abbrev pub gone_back : Kept → Answer → JournalRecord → (Cycled → Kept) → Due → Turn
+gone_back kept missing what left (Repeats report) = reported kept report
+gone_back kept missing what left NoPoint = tells missing Closes kept
+gone_back kept missing what left NoNumbers = numberless kept
+gone_back kept missing what left (IsDue due) = rewound kept what left due
 
--- the same of a cycle that is only tried: it is told, and not done
+-- of a request for a cycle
+abbrev pub cycled : ℕ → Kept → CycleAsk → Due → Turn
+cycled at kept ask due = gone_back kept (pointless ask.point) (Cycle kept.next at ask) (after_cycle kept ask) due
+
+-- of a request for a withdrawal
+abbrev pub withdrawn : ℕ → Kept → List ℕ → ℕ → Due → Turn
+withdrawn at kept key of due = gone_back kept (uncycled of) (Withdraw kept.next at key of) (after_withdrawal kept key) due
+
+-- what becomes of a cycle that is only tried: it is told, and not done
 abbrev pub tried : Kept → CycleAsk → Due → Turn
 tried kept ask (Repeats report) = reported kept report
-tried kept ask NoPoint = pointless kept ask.point
+tried kept ask NoPoint = tells (pointless ask.point) Closes kept
 tried kept ask NoNumbers = numberless kept
 tried kept ask (IsDue due) = reported kept due.report
 
@@ -164,6 +170,7 @@ routed at kept (route.Try ask) = tried kept ask (due_anew kept at ask)
 routed at kept route.Snapshot = kept_as_it_is kept
 routed at kept route.Stop = tells (answer 200 stopped_data) Stops kept
 routed at kept route.Upgrade = upgraded_once at kept
+routed at kept (route.Withdraw key of) = withdrawn at kept key of (withdraw_due kept at key of)
 
 -- the turn of what is asked at a moment
 abbrev pub turn : ℕ → Kept → Result Asked HttpRefused → Turn

@@ -28,7 +28,7 @@ use verb_bytes::CycleAsk;
 
 /// Tells of a fault of the disk: of a record that could not be sealed where the desk is closed, else of a text that could not
 /// be read.
-fn tell_disk_fault(alloc: Global, closed: bool) -> Reply
+pub(crate) fn tell_disk_fault(alloc: Global, closed: bool) -> Reply
     ensures { TellsDiskFault closed result }
 {
     if closed {
@@ -52,8 +52,8 @@ pub(crate) fn tell_fault(alloc: Global, fault: CycleFault, closed: bool) -> Repl
     }
 }
 
-/// Tells the report of a cycle that changes nothing now.
-fn tell_report<D: Disk>(alloc: Global, desk: &Desk<D>, report: &Report) -> Reply
+/// Tells the report of a cycle or a withdrawal that changes nothing now.
+pub(crate) fn tell_report<D: Disk>(alloc: Global, desk: &Desk<D>, report: &Report) -> Reply
     ensures { Tells (answer 200 (report_data desk.now.kept.house report.now)) after.Closes result }
 {
     tell(
@@ -136,7 +136,7 @@ fn rewind<D: Disk, R: Threads + Sync, G: Gate>(
     }
 }
 
-/// POST /cycle. A key that an earlier cycle had is answered with that cycle's report.
+/// POST /cycle. A key that an earlier cycle or withdrawal had is answered with its report.
 pub fn cycle<D: Disk, R: Threads + Sync, G: Gate>(
     rt: &R,
     alloc: Global,

@@ -21,9 +21,9 @@ pub enum After {
     Closes,
     /// The connection is closed, and serving ends as it was asked to.
     Stops,
-    /// The connection is closed. An act or a cycle could not be sealed, and serving ends with that. A text that could not be read ends nothing more than the connection.
+    /// The connection is closed. A record could not be sealed, and serving ends with that. A text that could not be read ends nothing more than the connection.
     Fails,
-    /// The connection is closed. A cycle was done: each mail reader's connection is told that the store was rewound, and closed.
+    /// The connection is closed. A cycle or a withdrawal was done: each mail reader's connection is told that the store was rewound, and closed.
     Rewinds,
     /// The connection is closed. The store was upgraded: each mail reader's connection is told that, and closed.
     Upgrades,

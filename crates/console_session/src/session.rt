@@ -13,6 +13,7 @@ use crate::routes::{
 };
 use crate::snapshot::snapshot;
 use crate::upgrade::upgrade;
+use crate::withdrawal::withdraw;
 use console_head::laws::what_waits_is_bounded;
 use console_http::laws::acts_name_known_users;
 use console_http::{Asked, Coming, HttpRefused, Route, read_coming};
@@ -72,6 +73,7 @@ fn follow<D: Disk, R: Threads + Sync, G: Gate>(
         Route::Snapshot => snapshot(alloc, desk),
         Route::Stop => tell(alloc, 200, stopped_json(alloc), After::Stops),
         Route::Upgrade => upgrade(alloc, desk, at),
+        Route::Withdraw { key, of } => withdraw(rt, alloc, desk, at, &key, of, gate),
     }
 }
 

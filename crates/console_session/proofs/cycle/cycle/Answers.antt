@@ -1,5 +1,5 @@
 use Rattle.std.proofs.Common.{sym}
-use Rattle.console_session.proofs.Turns.{cycle_known}
+use Rattle.console_session.proofs.Rewinding.{cycle_known}
 use Rattle.console_session.proofs.cycle.cycle.Goals as goal
 
 pub returns-in-Some : goal.returns-in-Some

@@ -4,7 +4,7 @@ use Rattle.console_replies.specs.Reports.{report_data}
 use Rattle.console_session.specs.declared.reply.After.TheVariants.{Rewinds}
 use Rattle.console_session.specs.Answers.{answer}
 use Rattle.console_session.specs.Hearing.{TellsCycleFault, TellsOnly}
-use Rattle.console_session.proofs.Turns.{cycle_done, cycle_not_done}
+use Rattle.console_session.proofs.Rewinding.{cycle_done, cycle_not_done}
 use Rattle.console_session.proofs.cycle.rewind.Goals as goal
 
 pub returns-in-Ok : goal.returns-in-Ok

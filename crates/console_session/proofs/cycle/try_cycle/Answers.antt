@@ -1,4 +1,4 @@
-use Rattle.console_session.proofs.Turns.{try_not_told, try_told}
+use Rattle.console_session.proofs.Rewinding.{try_not_told, try_told}
 use Rattle.console_session.proofs.cycle.try_cycle.Goals as goal
 
 pub returns-in-Ok : goal.returns-in-Ok

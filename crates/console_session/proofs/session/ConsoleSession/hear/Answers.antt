@@ -1,7 +1,7 @@
 use Rattle.std.proofs.Common.{◌≡◌, ◌<◌, ℕ, List, ◌++◌, ap, length, sym, ◌∙◌, subst}
 use Rattle.verb_core.specs.declared.conf.House.{House}
 use Rattle.console_http.specs.Requests.{AskKnows, Asks}
-use Rattle.console_session.proofs.Turns.{heard, serves_closed}
+use Rattle.console_session.proofs.Requests.{heard, serves_closed}
 use Rattle.console_session.proofs.Waiting.{few_wait}
 use Rattle.console_session.proofs.session.ConsoleSession.hear.Goals as goal
 

@@ -1,0 +1,134 @@
+//! Withdrawals of the last cycle: sealed, put in place and then answered.
+ghost use Rattle.std.specs.Prelude.{◌≡◌, ◌≤◌, ◌<◌, IfOk, OnOk, IfErr, None, Ok, false};
+ghost use Rattle.store_kept.specs.Kept.{report_of};
+ghost use Rattle.seal_log.specs.Causes.{Fed};
+ghost use Rattle.time_desk.specs.Withdrawing.{WithdrawalWants, Withdraws, WithdrawsNone};
+ghost use Rattle.desk_journal.specs.Reading.{ReadsWell};
+ghost use Rattle.console_http.specs.declared.request.Asked.TheVariants.{Whole};
+ghost use Rattle.console_http.specs.declared.request.Route.TheVariants as route;
+ghost use Rattle.console_session.specs.Hearing.{Serves, TellsWithdrawFault};
+
+use crate::cycle::{tell_disk_fault, tell_report};
+use crate::reply::{After, Reply, starve, tell, tell_only};
+use box_store::Steps;
+use console_replies::{numbers_json, report_json, uncycled_json};
+use paradox::Report;
+use std::alloc::Global;
+use std::marker::Brand;
+use std::sync::ledger::{Blank, Ledger};
+use std::thread::Threads;
+use time_desk::laws::seals_join;
+use time_desk::{Desk, WithdrawFault};
+use undo_base::{LAST_MOMENT, Name};
+use undo_outside::{Disk, Gate};
+
+/// Tells why a cycle was not withdrawn, over a desk that is closed or is not.
+fn tell_fault(alloc: Global, fault: WithdrawFault, closed: bool) -> Reply
+    requires { fault ≡ WithdrawFault.Closed → ⊥ }
+    ensures { TellsWithdrawFault closed fault result }
+{
+    match fault {
+        WithdrawFault::Cycle { given } => {
+            tell(alloc, 422, uncycled_json(alloc, given), After::Closes)
+        }
+        WithdrawFault::Numbers { next } => {
+            tell(alloc, 507, numbers_json(alloc, next), After::Closes)
+        }
+        WithdrawFault::Disk => tell_disk_fault(alloc, closed),
+        WithdrawFault::NoMemory => starve(alloc),
+        WithdrawFault::Closed => unreachable!(),
+    }
+}
+
+/// Asks the desk for a withdrawal over a counter that is made of the blank ledger.
+fn withdraw_over<D: Disk, R: Threads + Sync, G: Gate, L: Ledger>(
+    rt: &R,
+    alloc: Global,
+    desk: &mut Desk<D>,
+    at: u64,
+    key: &Name,
+    of: u32,
+    gate: &G,
+    blank: Blank,
+) -> Result<Report, WithdrawFault>
+    requires name { blank.name ≡ L.name }
+    requires parts { blank.parts ≡ L.parts }
+    requires some { 0 < blank.parts }
+    requires moment { at ≤ LAST_MOMENT }
+    ensures done { IfOk result (λ report. Withdraws D.told at key.now of desk.old desk.new report) }
+    ensures why { IfErr result (λ fault. WithdrawsNone D.told at key.now of desk.old desk.new fault) }
+    ensures same { OnOk result (ReadsWell D.told desk.old desk.new) }
+    ensures fed { OnOk result (Fed (D.told desk.old.disk) (D.told desk.new.disk)) }
+    ensures wants { IfErr result (λ fault. WithdrawalWants D.told desk.old.disk desk.new.disk fault) }
+{
+    let mut steps: Steps<L> = Steps::new(blank);
+    desk.withdraw(rt, alloc, at, key, of, gate, &mut steps)
+}
+
+/// Asks the desk for a withdrawal, and counts nothing.
+fn withdraw_desk<D: Disk, R: Threads + Sync, G: Gate>(
+    rt: &R,
+    alloc: Global,
+    desk: &mut Desk<D>,
+    at: u64,
+    key: &Name,
+    of: u32,
+    gate: &G,
+) -> Result<Report, WithdrawFault>
+    requires { at ≤ LAST_MOMENT }
+    ensures done { IfOk result (λ report. Withdraws D.told at key.now of desk.old desk.new report) }
+    ensures why { IfErr result (λ fault. WithdrawsNone D.told at key.now of desk.old desk.new fault) }
+    ensures same { OnOk result (ReadsWell D.told desk.old desk.new) }
+    ensures fed { OnOk result (Fed (D.told desk.old.disk) (D.told desk.new.disk)) }
+    ensures wants { IfErr result (λ fault. WithdrawalWants D.told desk.old.disk desk.new.disk fault) }
+{
+    withdraw_over::<D, R, G, Brand>(rt, alloc, desk, at, key, of, gate, Blank::new(1))
+}
+
+/// A withdrawal under a new key.
+fn withdraw_anew<D: Disk, R: Threads + Sync, G: Gate>(
+    rt: &R,
+    alloc: Global,
+    desk: &mut Desk<D>,
+    at: u64,
+    key: &Name,
+    of: u32,
+    gate: &G,
+) -> Reply
+    requires open { desk.old.closed ≡ false }
+    requires moment { at ≤ LAST_MOMENT }
+    requires fresh { report_of desk.old.kept.reports key.now ≡ None }
+    ensures { Serves D.told at (Ok (Whole (route.Withdraw key.now of))) desk.old desk.new result }
+{
+    seals_join::<D>();
+    match withdraw_desk(rt, alloc, desk, at, key, of, gate) {
+        Ok(report) => tell_only(
+            alloc,
+            200,
+            report_json(alloc, &report, desk.house()),
+            After::Rewinds,
+        ),
+        Err(fault) => tell_fault(alloc, fault, desk.closed()),
+    }
+}
+
+/// POST /withdraw. A key that an earlier cycle or withdrawal had is answered with its report.
+pub fn withdraw<D: Disk, R: Threads + Sync, G: Gate>(
+    rt: &R,
+    alloc: Global,
+    desk: &mut Desk<D>,
+    at: u64,
+    key: &Name,
+    of: u32,
+    gate: &G,
+) -> Reply
+    requires open { desk.old.closed ≡ false }
+    requires moment { at ≤ LAST_MOMENT }
+    ensures { Serves D.told at (Ok (Whole (route.Withdraw key.now of))) desk.old desk.new result }
+{
+    seals_join::<D>();
+    match desk.report(key) {
+        Some(report) => tell_report(alloc, desk, report),
+        None => withdraw_anew(rt, alloc, desk, at, key, of, gate),
+    }
+}
