@@ -26,7 +26,7 @@ pub data Hindrance : Type 0 where
   UnreadUnheard : Hindrance
   -- the disk gave these texts, which are not those that were stored; beside that it goes so
   Misread : List (List ℕ) → Hindrance → Hindrance
-  -- the disk gave a console's request another text than was stored: so this is said, and where a cycle is done this is kept
+  -- the disk gave a console's request another text than was stored: so this is said, and where a cycle or a withdrawal is done this is kept
   Misled : List ℕ → Kept → Hindrance
   -- no memory was found for what is asked of the desk, or for telling why that is refused, and the client is told
   Unstored : Hindrance

@@ -11,7 +11,7 @@ use Rattle.verb_core.specs.declared.mailbox.BoxId.{BoxId}
 use Rattle.verb_core.specs.Store.{MailStore, is_known}
 use Rattle.verb_bytes.specs.declared.journal.JournalRecord.{JournalRecord}
 use Rattle.store_kept.specs.Kept.{Kept, store_of}
-use Rattle.store_kept.specs.Texts.{text_kept}
+use Rattle.store_kept.specs.Texts.{text_at_hand}
 use Rattle.mail_loop.specs.declared.out.Out.{Out}
 use Rattle.mail_loop.specs.declared.out.Out.TheVariants.{Say, Read, Submit, Bye}
 use Rattle.mail_loop.specs.Afterwards.{gone_between}
@@ -81,9 +81,9 @@ pub record Session (D U : Type 0) : Type 0 where
 abbrev pub is_home : {D : Type 0} → Speech D → House → D → Bool
 is_home speech house d = unwrap_or (option_map (is_known house) (speech.user d)) true
 
--- how long a body is that an item in force brought
+-- how long a body is that an item in force brought, or one that can come back
 abbrev pub size_in : Kept → Body → Option ℕ
-size_in kept body = option_map length (text_kept kept body)
+size_in kept body = option_map length (text_at_hand kept body)
 
 -- ---- the turn
 

@@ -1,9 +1,13 @@
 //! The serving loop.
 ghost use Rattle.std.specs.Prelude.{◌≡◌, ◌≤◌, ◌∷◌, ℕ, Bool, List, Ok, Err, IfOk, IfErr, OnErr, false, [], length};
+ghost use Rattle.std.specs.List.{list_any};
 ghost use Rattle.console_head.specs.Request.{Stage};
 ghost use Rattle.undo_outside.specs.declared.event.LinkNote.{LinkNote};
+ghost use Rattle.verb_bytes.specs.declared.journal.JournalRecord.{JournalRecord};
 ghost use Rattle.store_kept.specs.Kept.{IsRun};
-ghost use Rattle.mail_cycle.specs.Permanence.{UidsLast};
+ghost use Rattle.mail_cycle.specs.Permanence.{UidsLast, UidsStay};
+ghost use Rattle.desk_journal.specs.Records.{is_withdrawal};
+ghost use Rattle.desk_journal.specs.Sealing.{Seals};
 ghost use Rattle.desk_journal.specs.Stored.{HoldsTexts};
 ghost use Rattle.mail_loop.specs.Asked.{HaveSealed};
 ghost use Rattle.mail_loop.specs.Hindrance.{Hindrance};
@@ -421,6 +425,9 @@ pub fn serve_events<R: Threads + Sync, L: Link, D: Disk + Drop, G: Gate>(
     ensures closed { desk.new.closed ≡ is_disk result }
     ensures runs { HoldsTexts D.told desk.old → IsRun desk.new.kept }
     ensures uids { HoldsTexts D.told desk.old → UidsLast desk.old.kept desk.new.kept }
+    // Where no withdrawal was sealed, no text comes back that was taken away.
+    ensures stays { (added failed : List JournalRecord) → Seals D.told added failed desk.old desk.new → HoldsTexts D.told desk.old
+        → list_any is_withdrawal added ≡ false → UidsStay desk.old.kept desk.new.kept }
 {
     desk.stands();
     records_let_uids_last();

@@ -1,14 +1,17 @@
 -- What the command `serve` answers, and what it leaves of the link and of the disk.
-use Rattle.std.specs.Prelude.{◌≡◌, ◌⊎◌, ℕ, ◌^◌, List, Result, Ok, Err}
+use Rattle.std.specs.Prelude.{◌≡◌, ◌⊎◌, ℕ, ◌^◌, false, List, Result, Ok, Err}
+use Rattle.std.specs.List.{list_any}
 use Rattle.undo_outside.specs.declared.event.LinkNote.{LinkNote}
 use Rattle.undo_outside.specs.Calls.{LinkTold}
 use Rattle.undo_outside.specs.Disk.{DiskTold, WriteFailed}
 use Rattle.verb_bytes.specs.declared.journal.JournalRecord.{JournalRecord}
 use Rattle.store_kept.specs.Kept.{IsRun}
+use Rattle.mail_cycle.specs.Permanence.{UidsStay}
 use Rattle.desk_journal.specs.Lasting.{Lasting}
 use Rattle.time_desk.specs.Opening.{Starts}
 use Rattle.desk_journal.specs.Stored.{HoldsTexts}
 use Rattle.desk_journal.specs.Reading.{Counted, HaveRead}
+use Rattle.desk_journal.specs.Records.{is_withdrawal}
 use Rattle.desk_journal.specs.Sealing.{Seals}
 use Rattle.mail_loop.specs.declared.serve.ServeFault.{ServeFault}
 use Rattle.mail_loop.specs.declared.serve.ServeFault.TheVariants.{Disk}
@@ -20,8 +23,8 @@ use Rattle.mail_proxy.specs.Texts.{End}
 
 -- How the events of a link were served over a desk: the machine's steps for those that came, what the link did, what was sealed, where what was not
 -- sealed is what these steps say, how often a text could not be read or was not the one that was stored, how many writes found no memory, just as many
--- as these steps say, what is to be answered and written, which desks serving went through, and what holds of what is kept at last where the disk held
--- the texts.
+-- as these steps say, what is to be answered and written, which desks serving went through, what holds of what is kept at last where the disk held
+-- the texts, and that no text comes back where no withdrawal was sealed.
 pub record ServesLink {D : Type 0} (told : D → DiskTold) (link link' : LinkTold) (first last : Lasting D) (status : ℕ) (output : List ℕ) : Type 0 where
   pub outcome : Result (Unit {0}) ServeFault
   pub notes : List LinkNote
@@ -36,6 +39,7 @@ pub record ServesLink {D : Type 0} (told : D → DiskTold) (link link' : LinkTol
   pub disk_fault : outcome ≡ Err Disk → WriteFailed (told first.disk) (told last.disk)
   pub through : WentThrough told steps first last
   pub well : HoldsTexts told first → IsKeptWell first.kept last.kept
+  pub stays : HoldsTexts told first → list_any is_withdrawal added ≡ false → UidsStay first.kept last.kept
 
 module _ {D : Type 0} (told : D → DiskTold) where
   -- The events are served over the desk of a store that was opened, and then the disk gets no call more. On an honest disk the desk

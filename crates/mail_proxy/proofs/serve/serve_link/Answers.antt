@@ -23,4 +23,5 @@ returns g c =
       disk_fault = disk_fails told added (unsealed_in steps c.args.desk.now.kept) c.args.desk.now c.serve_events-served.new.desk outcome seals c.requires c.serve_events-served.ensures.closed;
       through = through;
       well = λ holds. record { runs = c.serve_events-served.ensures.runs holds; uids = c.serve_events-served.ensures.uids holds };
+      stays = c.serve_events-served.ensures.stays added (unsealed_in steps c.args.desk.now.kept) seals;
     }

@@ -24,6 +24,7 @@ returns-in-Ok g c =
       disk_fault = disk_failed told added (unsealed_in steps c.args.desk.now.kept) c.args.desk.now c.serve_events-ended.new.desk _ ended outcome seals c.requires c.serve_events-ended.ensures.closed c.outcome_over-served.ensures;
       through = through;
       well = λ holds. record { runs = c.serve_events-ended.ensures.runs holds; uids = c.serve_events-ended.ensures.uids holds };
+      stays = c.serve_events-ended.ensures.stays added (unsealed_in steps c.args.desk.now.kept) seals;
     }
 
 pub returns : goal.returns
@@ -46,4 +47,5 @@ returns g c =
       disk_fault = disk_failed told added (unsealed_in steps c.args.desk.now.kept) c.args.desk.now c.serve_events-ended.new.desk _ ended outcome seals c.requires c.serve_events-ended.ensures.closed c.outcome_over-served.ensures;
       through = through;
       well = λ holds. record { runs = c.serve_events-ended.ensures.runs holds; uids = c.serve_events-ended.ensures.uids holds };
+      stays = c.serve_events-ended.ensures.stays added (unsealed_in steps c.args.desk.now.kept) seals;
     }
